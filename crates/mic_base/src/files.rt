@@ -4,13 +4,16 @@ ghost use Rattle.mic_base.specs.Files.{Contents, HasFileCause, Reads, Writes};
 use std::alloc::Global;
 use thiserror::Error;
 
+/// The most bytes of a file that is read.
+pub const MOST_BYTES: usize = 1_048_576;
+
 /// Why a file was not read or written.
 #[derive(Clone, Copy, Debug, PartialEq, Eq, Error)]
 pub enum FileError {
     /// The file is missing, or could not be reached.
     #[error("file failed")]
     Failed,
-    /// The file has more than 1,048,576 bytes.
+    /// The file has more than `MOST_BYTES`.
     #[error("file too long")]
     TooLong,
     #[error("out of memory")]
@@ -25,7 +28,7 @@ pub trait Files {
     /// How often they have failed.
     ghost faults: { Self → ℕ };
 
-    /// The contents of a file of at most 1,048,576 bytes.
+    /// The contents of a file of at most `MOST_BYTES`.
     fn read_file(&mut self, alloc: Global, name: &str) -> Result<Vec<u8>, FileError>
         ensures same { contents self.new ≡ contents self.old }
         ensures reads { Reads (contents self.old) name.now result }

@@ -9,6 +9,7 @@ pub mod number;
 pub mod plain;
 pub mod sink;
 pub mod source;
+pub mod standard;
 
 pub use files::{FileError, Files};
 pub use line::Line;
@@ -18,3 +19,7 @@ pub use number::{Number, NumberError};
 pub use plain::{PlainSink, PlainSource};
 pub use sink::{Sink, SinkFailed};
 pub use source::{Source, SourceFailed};
+pub use standard::{StdFiles, StdSink, StdSource};
+
+#[cfg(test)]
+mod tests;

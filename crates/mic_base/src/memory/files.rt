@@ -5,11 +5,9 @@ ghost use Rattle.mic_base.specs.Files.{HasFileCause, KeepsOthers, most_bytes, Re
 ghost use Rattle.mic_base.specs.Numbering.{next_number};
 
 use super::calls::Calls;
-use crate::files::{FileError, Files};
+use crate::files::{FileError, Files, MOST_BYTES};
 use std::alloc::{AllocError, Global};
 use std::collections::BTreeMap;
-
-const MOST: usize = 1_048_576;
 
 /// Files in memory. The calls of `read_file` and `write_file` that are numbered in `failing`, from 1, fail, and so do
 /// reads of a missing file.
@@ -114,7 +112,7 @@ fn copied(alloc: Global, bytes: &[u8]) -> Result<Vec<u8>, FileError>
     ensures long { IsErrOf result FileError.TooLong ↔ (most_bytes < length bytes.now) }
     ensures never { result ≢ Err FileError.Failed }
 {
-    if bytes.len() > MOST {
+    if bytes.len() > MOST_BYTES {
         return Err(FileError::TooLong);
     }
     match Vec::from_slice(alloc, bytes) {
