@@ -142,13 +142,17 @@ impl Bus {
     }
 
     /// The byte at a byte address.
+    #[tactic(auto, unfolding(crate::specs::World::fetch_refusal))]
     pub fn fetch_byte(&self, byte: u32) -> Result<u8, BusFault>
         ensures ok { IfOk result (λ value. value ≡ byte_in self.now.words byte) }
         ensures allowed { OnOk result (fetch_refusal (length self.now.words) byte ≡ None) }
         ensures err { IfErr result (λ e. refused_by (fetch_refusal (length self.now.words) byte) ≡ Some e) }
     {
-        self.check_fetch(byte)?;
-        Ok(self.byte(byte))
+        if ((byte / 4) as usize) < self.words.len() {
+            Ok(self.byte(byte))
+        } else {
+            Err(BusFault::OutOfMap(byte / 4))
+        }
     }
 
     /// The memory word at a word address.
@@ -159,19 +163,27 @@ impl Bus {
         ensures err { IfErr result (λ e. refused_by (word_refusal (length self.now.words) at) ≡ Some e) }
     {
         if (at as usize) < self.words.len() {
-            Ok(self.words[at as usize])
+            Ok(self.word(at))
         } else {
             Err(BusFault::OutOfMap(at))
         }
     }
 
-    /// The byte at a byte address that a fetch may have.
-    #[tactic(auto, unfolding(crate::specs::World::fetch_refusal, crate::specs::World::byte_in))]
+    /// The memory word there.
+    pub fn word(&self, at: u32) -> u32
+        requires { at < length self.now.words }
+        ensures { result ≡ slice_index self.now.words at }
+    {
+        self.words[at as usize]
+    }
+
+    /// The byte at a byte address of the memory.
+    #[tactic(auto, using(crate::proofs::Bytes::shifted_byte))]
     pub fn byte(&self, byte: u32) -> u8
-        requires { fetch_refusal (length self.now.words) byte ≡ None }
+        requires { byte / 4 < length self.now.words }
         ensures { result ≡ byte_in self.now.words byte }
     {
-        let word = self.words[(byte / 4) as usize];
+        let word = self.word(byte / 4);
         ((word >> (8 * (3 - byte % 4))) % 256) as u8
     }
 
