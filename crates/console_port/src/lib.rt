@@ -1,0 +1,8 @@
+//! Memory words and a console behind one address, between a source and a sink of bytes.
+#![tactic(auto)]
+
+pub mod fault;
+pub mod map;
+
+pub use fault::BusFault;
+pub use map::MemoryMap;
