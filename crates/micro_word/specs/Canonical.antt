@@ -1,0 +1,83 @@
+-- Which statements have a word, and which numbers are one's word.
+use Rattle.std.specs.Prelude.{◌≡◌, ℕ, Bool, true, false, not, ◌&&◌, ◌||◌, ◌==◌, nat_lt, is_some, if◌then◌else◌, Option, Some, None, IsTrue}
+use Rattle.micro_word.specs.declared.statement.Machine.{Machine}
+use Rattle.micro_word.specs.declared.statement.Machine.TheVariants.{Mic1, Mic2}
+use Rattle.micro_word.specs.declared.statement.AluOp.{AluOp}
+use Rattle.micro_word.specs.declared.statement.AluOp.TheVariants as ops
+use Rattle.micro_word.specs.declared.statement.BusSource.{BusSource}
+use Rattle.micro_word.specs.declared.statement.BusSource.TheVariants as bus
+use Rattle.micro_word.specs.declared.statement.PlacedNext.{PlacedNext}
+use Rattle.micro_word.specs.declared.statement.PlacedNext.TheVariants as nexts
+use Rattle.micro_word.specs.declared.statement.Part.{Part}
+use Rattle.micro_word.specs.declared.statement.Placed.{Placed}
+use Rattle.micro_word.specs.Coding.{row, source_code, word_of, statement_of}
+
+-- A, NOT A and A+1 are not used on Mic-2
+abbrev pub has_operation : Machine → AluOp → Bool
+has_operation Mic1 op = true
+has_operation Mic2 ops.A = false
+has_operation Mic2 ops.NotA = false
+has_operation Mic2 ops.IncA = false
+has_operation Mic2 _ = true
+
+abbrev pub is_h : BusSource → Bool
+is_h bus.H = true
+is_h _ = false
+
+abbrev pub may_be_a : Machine → BusSource → Bool
+may_be_a Mic1 source = is_h source
+may_be_a Mic2 source = is_some (source_code Mic2 source)
+
+abbrev pub may_be_b : Machine → BusSource → Bool
+may_be_b machine source = is_some (source_code machine source)
+
+-- a source that may stand there where the operation uses the side, and nothing otherwise
+abbrev pub fits_side : Bool → (BusSource → Bool) → Option BusSource → Bool
+fits_side used may None = not used
+fits_side used may (Some source) = used && may source
+
+-- MBR1 or MBR1U
+abbrev pub is_byte : Option BusSource → Bool
+is_byte (Some bus.Mbr1) = true
+is_byte (Some bus.Mbr1u) = true
+is_byte _ = false
+
+-- MBR2 or MBR2U
+abbrev pub is_pair : Option BusSource → Bool
+is_pair (Some bus.Mbr2) = true
+is_pair (Some bus.Mbr2u) = true
+is_pair _ = false
+
+-- one byte and two bytes of the queue in one word
+abbrev pub is_mixed : Option BusSource → Option BusSource → Bool
+is_mixed a b = (is_byte a && is_pair b) || (is_pair a && is_byte b)
+
+-- a fetch stands on Mic-1 alone
+abbrev pub may_fetch : Machine → Bool → Bool
+may_fetch Mic1 fetch = true
+may_fetch Mic2 fetch = not fetch
+
+abbrev pub is_part : Machine → Part → Bool
+is_part machine p =
+    nat_lt p.dests 512 && has_operation machine p.op && fits_side (row p.op).uses_a (may_be_a machine) p.a
+    && fits_side (row p.op).uses_b (may_be_b machine) p.b && not (is_mixed p.a p.b) && may_fetch machine p.fetch
+
+abbrev pub is_next : PlacedNext → Bool
+is_next (nexts.Goto to) = nat_lt to 512
+is_next (nexts.Dispatch high) = true
+is_next (nexts.Branch test low) = nat_lt low 256
+
+-- a statement that has a word on the machine
+abbrev pub is_valid : Machine → Placed → Bool
+is_valid machine p = is_part machine p.part && is_next p.next
+
+-- a number is canonical where it is the word of a valid statement
+abbrev pub IsCanonical : Machine → ℕ → Type 0
+IsCanonical machine word = (p : Placed) × IsTrue (is_valid machine p) × (word_of machine p ≡ word)
+
+-- the same as a test
+unfoldable pub is_canonical : Machine → ℕ → Bool
+is_canonical machine word = is_valid machine (statement_of machine word) && word_of machine (statement_of machine word) == word
+
+abbrev pub decoded_as : Machine → ℕ → Option Placed
+decoded_as machine word = if is_canonical machine word then Some (statement_of machine word) else None
