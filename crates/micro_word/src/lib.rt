@@ -5,7 +5,10 @@ pub mod codes;
 pub mod layout;
 pub mod operation;
 pub mod statement;
+pub mod valid;
+pub mod word;
 
 pub use layout::Fields;
 pub use operation::Row;
 pub use statement::{AluOp, BusSource, Machine, Mem, Part, Placed, PlacedNext, Shift, Test};
+pub use word::{Word1, Word2, decode1, decode2, encode1, encode2};
