@@ -1,5 +1,5 @@
 -- The instruction table: chapter 4 of the book, with this profile's codes for IN, OUT, ERR and HALT, and each machine's cycles.
-use Rattle.std.specs.Prelude.{◌≡◌, ◌⊎◌, ℕ, ◌+◌, ◌*◌, ◌/◌, ◌%◌, Bool, true, false, if◌then◌else◌, nat_le, ◌==◌, List, [], ◌∷◌, ◌++◌, length, slice_index, Option, Some, None, codes}
+use Rattle.std.specs.Prelude.{◌≡◌, ◌≤◌, ◌⊎◌, ℕ, ◌+◌, ◌*◌, ◌/◌, ◌%◌, Bool, true, false, if◌then◌else◌, nat_le, ◌==◌, List, [], ◌∷◌, ◌++◌, length, slice_index, Option, Some, None, codes}
 use Rattle.std.specs.Int.{w8, w16, cast_signed, cast_unsigned}
 use Rattle.ijvm_definition.specs.declared.instr.Instr.{Instr}
 use Rattle.ijvm_definition.specs.declared.instr.Instr.TheVariants.{Nop, Bipush, LdcW, Iload, Istore, Pop, Dup, Swap, Iadd, Isub, Iand, Iinc, Ifeq, Iflt, IfIcmpeq, Goto, Ireturn, Ior, Invokevirtual, WideIload, WideIstore, In, Out, Err, Halt}
@@ -116,6 +116,11 @@ size_of r = length (bytes_of r)
 -- these bytes are read as this instruction: 80 is a second spelling of IOR
 abbrev pub Spells : List ℕ → Instr → Type 0
 Spells bytes i = (bytes ≡ spelling i) ⊎ ((i ≡ Ior) × (bytes ≡ 0x80 ∷ []))
+
+-- these bytes stand at this address of a text
+abbrev pub StandAt : List ℕ → ℕ → List ℕ → Type 0
+StandAt text at [] = at ≤ length text
+StandAt text at (byte ∷ bytes) = (slice_index text at ≡ byte) × StandAt text (at + 1) bytes
 
 -- the instruction that begins with these four bytes, of which it may need fewer
 unfoldable pub of_bytes : ℕ → ℕ → ℕ → ℕ → Option Instr

@@ -4,3 +4,4 @@ pub mod Frames
 pub mod Step
 pub mod Cost
 pub mod Run
+pub mod Safe
