@@ -1,0 +1,11 @@
+//! Addresses for the statements of a microprogram, the control store that they make, and its file.
+#![tactic(auto)]
+
+pub mod constraints;
+mod clash;
+pub mod pair;
+pub mod refusal;
+
+pub use constraints::Constraints;
+pub use pair::Pair;
+pub use refusal::PlaceError;
