@@ -16,14 +16,22 @@ pub record IsFirst (test : ℕ → Bool) (n s : ℕ) : Type 0 where
   pub passes : test s ≡ true
   pub lowest : Never test s
 
--- no two numbers below n pass
-abbrev pub NeverTwo : (ℕ → ℕ → Bool) → ℕ → Type 0
-NeverTwo test n = (s t : ℕ) → s < t → t < n → test s t ≡ false
+-- no number from s + 1 up to n passes with s
+abbrev pub NeverWith : (ℕ → ℕ → Bool) → ℕ → ℕ → Type 0
+NeverWith test n s = (t : ℕ) → s < t → t < n → test s t ≡ false
 
--- s and t are the lowest two below n that pass: the lower s comes first, then the lower t
-pub record IsFirstTwo (test : ℕ → ℕ → Bool) (n s t : ℕ) : Type 0 where
+-- t is the lowest number behind s that passes with it
+pub record IsFirstWith (test : ℕ → ℕ → Bool) (n s t : ℕ) : Type 0 where
   pub ordered : s < t
   pub inside : t < n
   pub passes : test s t ≡ true
-  pub lowest : (u v : ℕ) → u < s → u < v → v < n → test u v ≡ false
-  pub next : (v : ℕ) → s < v → v < t → test s v ≡ false
+  pub lowest : NeverWith test t s
+
+-- no two numbers below n pass
+abbrev pub NeverTwo : (ℕ → ℕ → Bool) → ℕ → Type 0
+NeverTwo test n = (s : ℕ) → NeverWith test n s
+
+-- s is the lowest number that passes with a later one, and t the lowest such later one
+pub record IsFirstTwo (test : ℕ → ℕ → Bool) (n s t : ℕ) : Type 0 where
+  pub first : IsFirstWith test n s t
+  pub lowest : (u : ℕ) → u < s → NeverWith test n u

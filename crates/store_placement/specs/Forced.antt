@@ -1,6 +1,5 @@
 -- The addresses that fixed statements force: their own, and those of their partners.
-use Rattle.std.specs.Prelude.{ℕ, ◌+◌, ◌-◌, ◌==◌, Bool, false, if◌then◌else◌, List, [], ◌∷◌, Option, Some, None, length}
-use Rattle.std.specs.List.{filter_map}
+use Rattle.std.specs.Prelude.{ℕ, ◌+◌, ◌-◌, ◌==◌, Bool, false, if◌then◌else◌, List, [], ◌∷◌, Option, Some, None, length, map}
 use Rattle.std.specs.Option.{option_map, option_or}
 use Rattle.store_placement.specs.declared.pair.Pair.{Pair}
 use Rattle.store_placement.specs.Demands.{fixed_at}
@@ -26,6 +25,6 @@ same_address (Some a) (Some b) = a == b
 same_address (Some a) None = false
 same_address None b = false
 
--- the addresses that are taken so
-unfoldable pub forced_addresses : List (Option ℕ) → List Pair → List ℕ
-forced_addresses fixed pairs = filter_map (forced fixed pairs) (below (length fixed))
+-- what each statement is forced to, in order
+unfoldable pub all_forced : List (Option ℕ) → List Pair → List (Option ℕ)
+all_forced fixed pairs = map (forced fixed pairs) (below (length fixed))

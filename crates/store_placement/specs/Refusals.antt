@@ -6,7 +6,7 @@ use Rattle.store_placement.specs.declared.refusal.PlaceError.{PlaceError}
 use Rattle.store_placement.specs.declared.refusal.PlaceError.TheVariants as errors
 use Rattle.store_placement.specs.Demands.{Demands, fixed_at}
 use Rattle.store_placement.specs.First.{Never, IsFirst, NeverTwo, IsFirstTwo}
-use Rattle.store_placement.specs.Forced.{forced, forced_addresses, same_address}
+use Rattle.store_placement.specs.Forced.{forced, all_forced, same_address}
 use Rattle.store_placement.specs.Chosen.{open_pairs, free_lows}
 
 abbrev pub same_pair : Pair → Pair → Bool
@@ -49,11 +49,15 @@ are_split None b = false
 abbrev pub is_pair_of : ℕ → ℕ → Pair → Bool
 is_pair_of s t p = (p.yes == s) && (p.no == t) || (p.yes == t) && (p.no == s)
 
--- the statements are forced to one address, or are the targets of a pair that is fixed apart
+-- s and t are the targets of a pair that is fixed so
+unfoldable pub split_apart : List (Option ℕ) → List Pair → ℕ → ℕ → Bool
+split_apart fixed pairs s t =
+    list_any (λ p. is_pair_of s t p && are_split (fixed_at fixed p.yes) (fixed_at fixed p.no)) pairs
+
+-- the statements are forced to one address, or a pair of them is fixed apart
 unfoldable pub collide : List (Option ℕ) → List Pair → ℕ → ℕ → Bool
 collide fixed pairs s t =
-    same_address (forced fixed pairs s) (forced fixed pairs t)
-    || list_any (λ p. is_pair_of s t p && are_split (fixed_at fixed p.yes) (fixed_at fixed p.no)) pairs
+    same_address (forced fixed pairs s) (forced fixed pairs t) || split_apart fixed pairs s t
 
 -- each refusal, where no earlier one holds
 abbrev pub Refuses : Demands → PlaceError → Type 0
@@ -69,4 +73,4 @@ Refuses d errors.NoRoom =
     Never (clashes d.pairs) (length d.fixed)
     × Never (in_wrong_half d.fixed d.pairs) (length d.fixed)
     × NeverTwo (collide d.fixed d.pairs) (length d.fixed)
-    × (length (free_lows (forced_addresses d.fixed d.pairs)) < length (open_pairs d.fixed d.pairs))
+    × (length (free_lows (all_forced d.fixed d.pairs)) < length (open_pairs d.fixed d.pairs))

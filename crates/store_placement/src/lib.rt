@@ -1,8 +1,10 @@
 //! Addresses for the statements of a microprogram, the control store that they make, and its file.
 #![tactic(auto)]
 
+pub mod collision;
 pub mod constraints;
 mod clash;
+pub mod forced;
 pub mod pair;
 pub mod refusal;
 
