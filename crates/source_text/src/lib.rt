@@ -1,0 +1,2 @@
+//! Texts of lines: what their lines, comments and tokens are, and which line is refused first.
+#![tactic(auto)]
