@@ -189,7 +189,7 @@ impl PlacedNext {
 }
 
 /// The canonical code for nothing.
-fn code_for_nothing(machine: Machine) -> u8
+pub(crate) fn code_for_nothing(machine: Machine) -> u8
     ensures { result ≡ idle_code machine }
 {
     match machine {
