@@ -1,6 +1,7 @@
 //! A microinstruction: its structured form, its word on each machine, and the control store.
 #![tactic(auto)]
 
+pub mod canonical;
 pub mod codes;
 pub mod laws;
 pub mod layout;
