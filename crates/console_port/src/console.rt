@@ -46,6 +46,7 @@ impl Console {
         ensures lost { IsErrOf result BusFault.WriteFault → IsLost (K.held sink.old) self.old.kept (K.held sink.new) self.new.kept }
         ensures fault { IfErr result IsFault }
 
+        ensures emptied { OnErr result (self.new.kept ≡ []) }
         ensures asked { self.old.ended ≡ false → self.new.kept ≡ [] }
         ensures asked_no_more { self.old.ended ≡ true → (result ≡ Ok 0) × (self.new ≡ self.old) × (source.new ≡ source.old) × (sink.new ≡ sink.old) }
         ensures nothing_kept { self.old.kept ≡ [] → sink.new ≡ sink.old }
