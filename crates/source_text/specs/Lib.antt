@@ -1,0 +1,4 @@
+pub mod Content
+pub mod Tokens
+pub mod Reading
+pub mod Walk

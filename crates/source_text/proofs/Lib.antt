@@ -1,0 +1,4 @@
+pub mod Lexing
+pub mod Walking
+pub mod Cutting
+pub mod Comments
