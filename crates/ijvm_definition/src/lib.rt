@@ -1,10 +1,12 @@
 //! IJVM as a definition and as a plain machine that computes it: instructions, images, frames, and what each instruction does and costs.
 #![tactic(auto)]
 
+pub mod decode;
 pub mod instr;
 pub mod row;
 pub mod run;
 
+pub use decode::decode_at;
 pub use instr::Instr;
 pub use row::{Cost, Flow, Operands, Row};
 pub use run::RunEnd;
