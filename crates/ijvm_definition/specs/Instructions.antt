@@ -1,5 +1,5 @@
 -- The instruction table: chapter 4 of the book, with this profile's codes for IN, OUT, ERR and HALT, and each machine's cycles.
-use Rattle.std.specs.Prelude.{◌≡◌, ◌≤◌, ◌⊎◌, ℕ, ℤ, ◌+◌, ◌*◌, ◌/◌, ◌%◌, Bool, true, false, if◌then◌else◌, nat_le, ◌==◌, List, [], ◌∷◌, ◌++◌, length, slice_index, Option, Some, None, codes}
+use Rattle.std.specs.Prelude.{◌≡◌, ◌≤◌, ◌<◌, ◌⊎◌, FitsSigned, ℕ, ℤ, ◌+◌, ◌*◌, ◌/◌, ◌%◌, Bool, true, false, if◌then◌else◌, nat_le, ◌==◌, List, [], ◌∷◌, ◌++◌, length, slice_index, Option, Some, None, codes}
 use Rattle.std.specs.Int.{w8, w16, cast_signed, cast_unsigned}
 use Rattle.ijvm_definition.specs.declared.instr.Instr.{Instr}
 use Rattle.ijvm_definition.specs.declared.instr.Instr.TheVariants.{Nop, Bipush, LdcW, Iload, Istore, Pop, Dup, Swap, Iadd, Isub, Iand, Iinc, Ifeq, Iflt, IfIcmpeq, Goto, Ireturn, Ior, Invokevirtual, WideIload, WideIstore, In, Out, Err, Halt}
@@ -100,6 +100,18 @@ operand_bytes (Local k) = k ∷ []
 operand_bytes (LocalByte k b) = k ∷ cast_unsigned w8 b ∷ []
 operand_bytes (Index k) = two_bytes k
 operand_bytes (Offset o) = two_bytes (cast_unsigned w16 o)
+
+-- the operands' numbers are in the ranges of their types
+abbrev pub AreInRange : Operands → Type 0
+AreInRange NoOperands = Unit {0}
+AreInRange (Byte b) = FitsSigned w8 b
+AreInRange (Local k) = k < 256
+AreInRange (LocalByte k b) = (k < 256) × FitsSigned w8 b
+AreInRange (Index k) = k < 65536
+AreInRange (Offset o) = FitsSigned w16 o
+
+abbrev pub IsInstr : Instr → Type 0
+IsInstr i = AreInRange (row_of i).operands
 
 -- the prefix of a row's opcode
 abbrev pub prefix : Bool → List ℕ
