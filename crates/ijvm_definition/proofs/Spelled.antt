@@ -1,6 +1,7 @@
 -- Instructions and their bytes are each other's, but for the second spelling of IOR.
-use Rattle.std.proofs.Common.{◌≡◌, ◌⊎◌, ◌<◌, ◌≤◌, ℕ, zero, suc, All, ℤ, nat_le, FitsSigned, ◌+◌, ◌*◌, ◌/◌, ◌%◌, Bool, true, false, if◌then◌else◌, ◌==◌, List, [], ◌∷◌, length, take, slice_index, Option, Some, None, refl, sym, ap, ◌∙◌, inl, inr, arith, rules, subst}
+use Rattle.std.proofs.Common.{◌≡◌, ◌⊎◌, ◌<◌, ◌≤◌, ℕ, zero, suc, All, ℤ, nat_le, FitsSigned, ◌+◌, ◌*◌, ◌/◌, ◌%◌, Bool, true, false, if◌then◌else◌, ◌==◌, List, [], ◌∷◌, ◌++◌, length, take, drop, append_assoc, length-append, slice_index, Option, Some, None, refl, sym, ap, ◌∙◌, inl, inr, arith, rules, subst}
 use Rattle.std.proofs.lemmas.Bool.Decides.{nat_tests}
+use Rattle.std.proofs.lemmas.List.{drop_more}
 use Rattle.std.specs.Int.{w8, w16, cast_signed, cast_unsigned}
 use Rattle.std.proofs.lemmas.Int.{of_z-to_z, to_z-of_z}
 use Rattle.ijvm_definition.specs.declared.instr.Instr.{Instr}
@@ -310,3 +311,46 @@ instr_at-spelled text at i bytes real spells stands =
       inl e ↦ whole_spelled text at i real (subst (StandAt text at) e stands)
     | inr e ↦ rw e.0 (whole_second text at (subst (StandAt text at) e.1 stands))
     ]
+
+-- bytes that stand at an address are a part of the text
+pub stand_take : (text : List ℕ) (at : ℕ) (bytes : List ℕ) → StandAt text at bytes → take (length bytes) (drop at text) ≡ bytes
+stand_take text at [] h = refl
+stand_take text at (x ∷ xs) h =
+    let fits : at + 1 + length xs ≤ length text = stand_fits text (at + 1) xs h.1 in
+    let inside : at < length text = omega arith in
+    let more : drop at text ≡ slice_index text at ∷ drop (at + 1) text = drop_more text at 0 inside in
+    let rest : take (length xs) (drop (at + 1) text) ≡ xs = stand_take text (at + 1) xs h.1 in
+    let first : slice_index text at ≡ x = h.0 in
+    rw (more, first, rest) refl
+
+-- a part of a text stands there
+pub part_stands : (before bytes after : List ℕ) → StandAt (before ++ (bytes ++ after)) (length before) bytes
+part_stands before [] after = omega (arith, length-append before after)
+part_stands before (x ∷ xs) after =
+    let whole_text : (before ++ x ∷ []) ++ (xs ++ after) ≡ before ++ (x ∷ (xs ++ after)) = append_assoc before (x ∷ []) (xs ++ after) in
+    let place : length (before ++ x ∷ []) ≡ length before + 1 = length-append before (x ∷ []) in
+    let rest : StandAt ((before ++ x ∷ []) ++ (xs ++ after)) (length (before ++ x ∷ [])) xs = part_stands (before ++ x ∷ []) xs after in
+    (get_or-append_seam before x (xs ++ after), subst (λ (at : ℕ). StandAt (before ++ (x ∷ (xs ++ after))) at xs) place (subst (λ (text : List ℕ). StandAt text (length (before ++ x ∷ [])) xs) whole_text rest))
+  where
+    get_or-append_seam : (before : List ℕ) (x : ℕ) (after : List ℕ) → slice_index (before ++ x ∷ after) (length before) ≡ x
+    get_or-append_seam [] x after = refl
+    get_or-append_seam (y ∷ ys) x after = get_or-append_seam ys x after
+
+-- both spellings have the instruction's size
+pub length-spelled : (i : Instr) (bytes : List ℕ) → Spells bytes i → length bytes ≡ size_of (row_of i)
+length-spelled i bytes spells = elim spells [ inl e ↦ ap length e | inr e ↦ rw (e.0, e.1) refl ]
+
+-- what an instruction's bytes and anything behind them are read as
+pub front-decoded : (bytes : List ℕ) (i : Instr) (front rest : List ℕ) → IsInstr i → Spells front i → bytes ≡ front ++ rest → instr_at bytes 0 ≡ Some i
+front-decoded bytes i front rest real spells e =
+    instr_at-spelled bytes 0 i front real spells (subst (λ (text : List ℕ). StandAt text 0 front) (sym e) (part_stands [] front rest))
+
+-- the front of what is read
+pub decoded-front : (bytes : List ℕ) (i : Instr) → All (λ (b : ℕ). b < 256) bytes → instr_at bytes 0 ≡ Some i →
+    Spells (take (size_of (row_of i)) bytes) i × (size_of (row_of i) ≤ length bytes)
+decoded-front bytes i small e =
+    let read : (front : List ℕ) × Spells front i × StandAt bytes 0 front × (length front ≡ size_of (row_of i)) = instr_at-read bytes 0 i small e in
+    let part : take (length read.0) bytes ≡ read.0 = stand_take bytes 0 read.0 read.2 in
+    let fits : 0 + length read.0 ≤ length bytes = stand_fits bytes 0 read.0 read.2 in
+    let size : length read.0 ≡ size_of (row_of i) = read.3 in
+    (subst (λ (n : ℕ). Spells (take n bytes) i) size (subst (λ (xs : List ℕ). Spells xs i) (sym part) read.1), omega arith)

@@ -2,11 +2,13 @@
 #![tactic(auto)]
 
 pub mod decode;
+pub mod encode;
 pub mod instr;
 pub mod row;
 pub mod run;
 
-pub use decode::decode_at;
+pub use decode::{decode_at, decode_instr};
+pub use encode::encode_instr;
 pub use instr::Instr;
 pub use row::{Cost, Flow, Operands, Row};
 pub use run::RunEnd;
