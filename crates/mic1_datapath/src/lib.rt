@@ -1,0 +1,6 @@
+//! Mic-1 as a clocked machine: control bits, buses, ALU and shifter, and loads that arrive a cycle later. Its four calls are one microstep, which assigns whole words.
+#![tactic(auto)]
+
+pub mod micro;
+
+pub use micro::Micro;
