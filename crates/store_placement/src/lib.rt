@@ -5,6 +5,8 @@ pub mod collision;
 pub mod constraints;
 mod clash;
 pub mod forced;
+pub mod free;
+pub mod open;
 pub mod pair;
 pub mod refusal;
 
