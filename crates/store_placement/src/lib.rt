@@ -9,6 +9,7 @@ pub mod free;
 pub mod open;
 pub mod pair;
 pub mod refusal;
+pub mod steps;
 
 pub use constraints::Constraints;
 pub use pair::Pair;
