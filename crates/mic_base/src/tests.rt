@@ -64,6 +64,7 @@ fn names_are_names(rt: HostRuntime) {
 }
 
 #[test]
+#[tactic(auto, using(crate::proofs::DigitLemmas::decimal_lengths))]
 fn lines_hold_their_parts(rt: HostRuntime) {
     let mut line = Line::new();
     line.text("at ");
