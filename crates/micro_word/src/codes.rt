@@ -53,7 +53,10 @@ impl Mem {
 fn first_with_code(sources: &[BusSource], machine: Machine, code: u8) -> Option<BusSource>
     ensures { result ≡ find (λ source. is_code code (source_code machine source)) sources.now }
 {
-    sources.iter().copied().find(|source| source.has_code(machine, code))
+    sources
+        .iter()
+        .copied()
+        .find(|source| source.has_code(machine, code))
 }
 
 impl BusSource {
