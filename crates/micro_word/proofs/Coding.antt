@@ -1,6 +1,6 @@
 -- A valid statement is the one that its word's fields name, and a canonical word is that of the statement that its fields name.
 use Rattle.std.proofs.Common.{◌≡◌, ℕ, ◌<◌, Bool, true, false, not, ◌==◌, nat_lt, if◌then◌else◌, Option, Some, None, unwrap_or, is_some, IfSome, IfNone, IsTrue, refl, sym, ap, ◌∙◌, subst}
-use Rattle.micro_word.proofs.Tests.{both, join, below, above}
+use Rattle.micro_word.proofs.Conditions.{both, join, below, above}
 use Rattle.micro_word.proofs.Sums.{Fitting, fields-word, fields_fit, word_with-lt, word-fields}
 use Rattle.micro_word.proofs.Parts.{row_back, gates_back, shift_back, shift_bits-shift_of, mem_back, mem_bits-mem_of, fetch_bit-lt, fetch_back, fetch_bit-back, bit_may_fetch, bus_back, bus_side, side-lt, side_fits, bus_code-back, a_back, a_side, a_code-lt, side_a_fits, a_code-back, NextBack, next_back, TargetBack, target_back}
 use Rattle.micro_word.specs.Layout.{word_with, fields_of}

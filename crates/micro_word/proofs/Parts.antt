@@ -1,7 +1,7 @@
 -- The codes of the parts, there and back.
 use Rattle.std.proofs.Common.{◌≡◌, ℕ, zero, suc, ◌<◌, Bool, true, false, is_some, ◌||◌, ◌==◌, nat_lt, if◌then◌else◌, Option, Some, None, unwrap_or, IsTrue, refl, sym, ap, ◌∙◌, subst, arith}
 use Rattle.std.proofs.lemmas.Bool.Decides.{nat_tests}
-use Rattle.micro_word.proofs.Tests.{both, equal, below, above, found}
+use Rattle.micro_word.proofs.Conditions.{both, equal, below, above, found}
 use Rattle.micro_word.proofs.Sums.{fetch_end, a_end}
 use Rattle.micro_word.specs.Coding.{row, row_of, op_of, operations, shift_bits, shift_of, mem_bits, mem_of, fetch_bit, source_code, sources, is_code, bus_code, source_of, idle_code, a_code, a_of, jam_bits, addr_bits, next_of}
 use Rattle.micro_word.specs.Canonical.{is_h, may_be_a, may_be_b, fits_side, may_fetch, is_next, is_side, is_side_a, is_target, is_one_at_most}
