@@ -1,12 +1,13 @@
 //! A machine with its control store and its bus, clocked, counted and ended.
 
+ghost use Rattle.mic_base.specs.Causes.{Rose};
 ghost use Rattle.mic_base.specs.Streams.{Holds};
 ghost use Rattle.std.specs.Prelude.{◌≡◌, ◌≢◌, ◌⊎◌, [], ◌<◌, ◌≤◌, ◌+◌, ◌^◌, ℕ, List, Option, None, Some, IsOk, OnOk, OnErr, IfErr, IsSome, IsTrue, is_some, if◌then◌else◌, true, false, length};
 ghost use Rattle.console_port.specs.World.{World};
 ghost use Rattle.console_port.specs.Bus.{Shows, Stands};
-ghost use Rattle.console_port.specs.Console.{IsFault, HasFaultCause};
+ghost use Rattle.console_port.specs.Console.{IsFault, IsLost, HasFaultCause};
 ghost use Rattle.mic_clock.specs.Meaning.{Meaning, Phase, AtRest};
-ghost use Rattle.mic_clock.specs.Run.{MicroRun, Buses, start_counts, start_buses, start_run, turn, turns, bounded, word_at, end_before, counts_after, counts_ended, last_cycles, IsLeg, IsClocking};
+ghost use Rattle.mic_clock.specs.Run.{MicroRun, Buses, start_counts, start_buses, start_run, turn, turns, bounded, word_at, end_before, counts_after, counts_ended, buses_of, last_cycles, IsLeg, IsClocking};
 ghost use Rattle.mic_clock.specs.Board.{ShowsRun, IsLedTo, IsCut, IsCutByRead, IsCutByWrite, Leads, NoFault, HasEndCause, end_by, tick_of};
 
 use crate::buses::{Computed, Drive};
@@ -108,9 +109,7 @@ impl<M: Clocked> Board<M> {
             × (self.new.counts ≡ counts_after M.meaning self.old.counts (M.meaning.drives (word_at M.meaning self.old.store.words (M.state self.old.machine)) (M.state self.old.machine)).stalled (M.state self.new.machine)) }
         ensures room { self.new.end ≡ None → self.old.counts.cycles < last_cycles self.old.counts.boundary + 1024 }
         ensures still { IsSome self.new.end → (self.new.counts.cycles ≡ self.old.counts.cycles) × (self.new.counts.boundary ≡ self.old.counts.boundary) }
-        ensures buses { self.new.buses ≡ (if is_some self.new.end then self.old.buses else record {
-            drive = M.meaning.drives (word_at M.meaning self.old.store.words (M.state self.old.machine)) (M.state self.old.machine);
-            computed = M.meaning.computes (word_at M.meaning self.old.store.words (M.state self.old.machine)) (M.state self.old.machine) }) }
+        ensures buses { self.new.buses ≡ buses_of M.meaning self.old.store.words (M.state self.old.machine) self.old.buses self.new.end }
     {
         if let Some(end) = self.end {
             return Tick::Ended(end);
@@ -137,6 +136,81 @@ impl<M: Clocked> Board<M> {
                 Tick::Ended(end)
             }
         }
+    }
+
+    // The test of the bound, and whether the board goes on.
+    fn goes_on(&mut self, bound: u64) -> bool
+        ensures stays { result ≡ true → (self.new ≡ self.old) × (self.old.end ≡ None) }
+        ensures below { result ≡ true → M.meaning.is_boundary (M.state self.old.machine) ≡ true → self.old.counts.cycles < bound }
+        ensures bounded { (left held : Option (List ℕ)) (r : MicroRun M.State) → ShowsRun M.state left held self.old r → ShowsRun M.state left held self.new (bounded M.meaning (Some bound) r) }
+        ensures world { (r : MicroRun M.State) → (bounded M.meaning (Some bound) r).world ≡ r.world }
+        ensures same { self.new ≡ record self.old { end = self.new.end } }
+        ensures stops { result ≡ false → IsSome self.new.end }
+        ensures ended { (e : End) → self.old.end ≡ Some e → self.new ≡ self.old }
+        ensures by { self.old.end ≡ None → result ≡ false → self.new.end ≡ Some End.Bound }
+    {
+        if self.end.is_none() && self.counts.cycles >= bound && self.machine.at_boundary() {
+            self.end = Some(End::Bound);
+        }
+        self.end.is_none()
+    }
+
+    // One turn, with the test of the bound before it.
+    fn step<S: Source, K: Sink>(&mut self, bound: u64, source: &mut S, sink: &mut K)
+        requires { self.old.counts.cycles ≤ 2 ^ 62 + 4096 }
+        ensures turn { NoFault self.old.end self.new.end → IsLedTo M.state (S.left source.old) (K.held sink.old) self.old (S.left source.new) self.new
+            (λ r rest. ShowsRun M.state (S.left source.new) (K.held sink.new) self.new (turn M.meaning self.old.store.words (bounded M.meaning (Some bound) r)) × ((turn M.meaning self.old.store.words (bounded M.meaning (Some bound) r)).world.untaken ≡ rest)) }
+        ensures cut { (e : BusFault) → self.old.end ≡ None → IsFault e → self.new.end ≡ Some (end_by e) → IsCut M.state M.meaning (S.left source.old) (K.held sink.old) self.old (S.left source.new) (K.held sink.new) self.new e }
+        ensures on { (e : BusFault) → self.old.end ≡ None → IsFault e → self.new.end ≡ Some (end_by e) → (left held : Option (List ℕ)) (r : MicroRun M.State) → ShowsRun M.state left held self.old r → (bounded M.meaning (Some bound) r).end ≡ None }
+        ensures keeps { (front : List ℕ) → Holds front (K.held sink.old) → Holds front (K.held sink.new) }
+        ensures cause { HasEndCause (S.faults source.old) (S.faults source.new) (K.faults sink.old) (K.faults sink.new) self.old.end self.new.end }
+        ensures still { IsSome self.new.end → (self.new.counts.cycles ≡ self.old.counts.cycles) × (self.new.counts.boundary ≡ self.old.counts.boundary) }
+        ensures room { self.new.end ≡ None → self.old.counts.cycles < last_cycles self.old.counts.boundary + 1024 }
+        ensures clocked { self.new.end ≡ None → (end_before M.meaning (M.state self.old.machine) self.old.counts ≡ None)
+            × (self.new.counts ≡ counts_after M.meaning self.old.counts (M.meaning.drives (word_at M.meaning self.old.store.words (M.state self.old.machine)) (M.state self.old.machine)).stalled (M.state self.new.machine)) }
+        ensures below { self.new.end ≡ None → M.meaning.is_boundary (M.state self.old.machine) ≡ true → self.old.counts.cycles < bound }
+        ensures buses { self.new.buses ≡ buses_of M.meaning self.old.store.words (M.state self.old.machine) self.old.buses self.new.end }
+        ensures store { self.new.store ≡ self.old.store }
+    {
+        if self.goes_on(bound) {
+            self.cycle(source, sink);
+        }
+    }
+
+    // Flushes the console, and tells whether that was done. Where it fails, the end is a write fault.
+    fn finish<K: Sink>(&mut self, sink: &mut K) -> bool
+        requires { IsSome self.old.end }
+        ensures done { result ≡ true → (self.new.end ≡ self.old.end) × ((left : Option (List ℕ)) (r : MicroRun M.State) → ShowsRun M.state left (K.held sink.old) self.old r → ShowsRun M.state left (K.held sink.new) self.new r) }
+        ensures lost { result ≡ false → (self.new.end ≡ Some End.WriteFault) × IsLost (K.held sink.old) self.old.bus.console.kept (K.held sink.new) self.new.bus.console.kept }
+        ensures empty { self.old.bus.console.kept ≡ [] → (result ≡ true) × (self.new ≡ self.old) × (sink.new ≡ sink.old) }
+        ensures same { self.new ≡ record self.old { bus = self.new.bus; end = self.new.end } }
+        ensures memory { self.new.bus.words ≡ self.old.bus.words }
+        ensures input { self.new.bus.console.ended ≡ self.old.bus.console.ended }
+        ensures kept { self.new.bus.console.kept ≡ [] }
+        ensures keeps { (front : List ℕ) → Holds front (K.held sink.old) → Holds front (K.held sink.new) }
+        ensures cause { (result ≡ false → Rose (K.faults sink.old) (K.faults sink.new)) × (result ≡ true → K.faults sink.new ≡ K.faults sink.old) × (K.faults sink.old ≤ K.faults sink.new) }
+    {
+        let done = self.bus.flush(sink).is_ok();
+        if !done {
+            self.end = Some(End::WriteFault);
+        }
+        done
+    }
+
+    /// Puts what the console keeps to the sink, at any time.
+    pub fn flush<K: Sink>(&mut self, sink: &mut K) -> Result<(), BusFault>
+        ensures same { self.new ≡ record self.old { bus = self.new.bus } }
+        ensures ok { OnOk result ((left : Option (List ℕ)) (r : MicroRun M.State) → ShowsRun M.state left (K.held sink.old) self.old r → ShowsRun M.state left (K.held sink.new) self.new r) }
+        ensures err { (left : Option (List ℕ)) → IfErr result (Stands left (K.held sink.old) self.old.bus left (K.held sink.new) self.new.bus) }
+        ensures fault { IfErr result (λ e. e ≡ BusFault.WriteFault) }
+        ensures kept { self.new.bus.console.kept ≡ [] }
+        ensures empty { self.old.bus.console.kept ≡ [] → IsOk result × (self.new ≡ self.old) × (sink.new ≡ sink.old) }
+        ensures memory { self.new.bus.words ≡ self.old.bus.words }
+        ensures input { self.new.bus.console.ended ≡ self.old.bus.console.ended }
+        ensures keeps { (front : List ℕ) → Holds front (K.held sink.old) → Holds front (K.held sink.new) }
+        ensures cause { HasFaultCause 0 0 (K.faults sink.old) (K.faults sink.new) result }
+    {
+        self.bus.flush(sink)
     }
 
     pub fn registers(&self) -> Registers
