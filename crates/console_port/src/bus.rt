@@ -194,7 +194,7 @@ impl Bus {
         ensures ended { self.new.console.ended ≡ self.old.console.ended }
         ensures words { self.new.words ≡ self.old.words }
         ensures ok { OnOk result ((left : Option (List ℕ)) (w : World) → Shows left (K.held sink.old) self.old w → Shows left (K.held sink.new) self.new w) }
-        ensures empty { self.old.console.kept ≡ [] → IsOk result × (sink.new ≡ sink.old) }
+        ensures empty { self.old.console.kept ≡ [] → IsOk result × (self.new ≡ self.old) × (sink.new ≡ sink.old) }
         ensures err { (left : Option (List ℕ)) → IfErr result (Stands left (K.held sink.old) self.old left (K.held sink.new) self.new) }
         ensures lost { OnErr result (IsLost (K.held sink.old) self.old.console.kept (K.held sink.new) self.new.console.kept) }
         ensures fault { IfErr result (λ e. e ≡ BusFault.WriteFault) }
