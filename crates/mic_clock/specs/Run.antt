@@ -138,9 +138,9 @@ module _ {State : Type 0} (m : Meaning State) (words : List ℕ) where
   abbrev pub turns : Option ℕ → ℕ → MicroRun State → MicroRun State
   turns bound n r = iterate (λ x. turn (bounded m bound x)) n r
 
-  -- that the next turn clocks a microstep, or refuses one
-  pub record IsClocking (r : MicroRun State) : Type 0 where
-    pub running : r.end ≡ None
+  -- that the next turn comes to a microstep
+  pub record IsClocking (bound : Option ℕ) (r : MicroRun State) : Type 0 where
+    pub running : (bounded m bound r).end ≡ None
     pub no_end : end_before m r.state r.counts ≡ None
 
   -- that a run is inside an instruction

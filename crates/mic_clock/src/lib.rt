@@ -3,7 +3,9 @@
 
 pub mod buses;
 pub mod clocked;
+pub mod counting;
 pub mod counts;
+pub mod cycle;
 pub mod end;
 pub mod registers;
 pub mod word;

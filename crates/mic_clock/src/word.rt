@@ -16,8 +16,7 @@ pub trait MicroWord: Sized {
         ensures none { IfNone result (IsWord bits → ⊥) };
 
     fn bits(&self) -> u64
-        ensures value { result ≡ number self.now }
-        ensures word { IsWord result };
+        ensures { result ≡ number self.now };
 }
 
 impl MicroWord for Word1 {
