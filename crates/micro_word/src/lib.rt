@@ -1,6 +1,7 @@
 //! A microinstruction: its structured form, its word on each machine, and the control store.
 #![tactic(auto)]
 
+pub mod canonical;
 pub mod codes;
 pub mod laws;
 pub mod layout;
@@ -16,3 +17,6 @@ pub use operation::Row;
 pub use statement::{AluOp, BusSource, Machine, Mem, Part, Placed, PlacedNext, Shift, Test};
 pub use store::Store;
 pub use word::{Word1, Word2, decode1, decode2, encode1, encode2};
+
+#[cfg(test)]
+mod tests;

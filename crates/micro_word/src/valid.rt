@@ -5,7 +5,7 @@ ghost use Rattle.micro_word.specs.Canonical.{has_operation, is_h, may_be_a, may_
 
 use crate::statement::{AluOp, BusSource, Machine, Part, Placed, PlacedNext};
 
-fn has(machine: Machine, op: AluOp) -> bool
+pub(crate) fn has(machine: Machine, op: AluOp) -> bool
     ensures { result ≡ has_operation machine op }
 {
     match machine {
@@ -59,7 +59,7 @@ fn is_two_bytes(source: Option<BusSource>) -> bool
     }
 }
 
-fn mixes(a: Option<BusSource>, b: Option<BusSource>) -> bool
+pub(crate) fn mixes(a: Option<BusSource>, b: Option<BusSource>) -> bool
     ensures { result ≡ is_mixed a b }
 {
     (is_one_byte(a) && is_two_bytes(b)) || (is_two_bytes(a) && is_one_byte(b))
