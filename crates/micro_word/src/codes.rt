@@ -1,7 +1,7 @@
 //! The code of each part of a statement, and the part of each code.
-ghost use Rattle.std.specs.Prelude.{◌≡◌, ◌<◌, ◌==◌, if◌then◌else◌, IsTrue};
+ghost use Rattle.std.specs.Prelude.{◌≡◌, ◌==◌, find, if◌then◌else◌};
 ghost use Rattle.micro_word.specs.declared.statement.Machine.TheVariants.{Mic1, Mic2};
-ghost use Rattle.micro_word.specs.Coding.{shift_bits, shift_of, mem_bits, mem_of, fetch_bit, source_code, bus_code, idle_code, source_of, a_code, a_of, jam_bits, addr_bits, next_of, codes, named};
+ghost use Rattle.micro_word.specs.Coding.{shift_bits, shift_of, mem_bits, mem_of, fetch_bit, source_code, is_code, bus_code, idle_code, source_of, a_code, a_of, jam_bits, addr_bits, next_of, codes, named};
 
 use crate::layout::Fields;
 use crate::statement::{AluOp, BusSource, Machine, Mem, Part, Placed, PlacedNext, Shift, Test};
@@ -50,7 +50,33 @@ impl Mem {
     }
 }
 
+fn first_with_code(sources: &[BusSource], machine: Machine, code: u8) -> Option<BusSource>
+    ensures { result ≡ find (λ source. is_code code (source_code machine source)) sources.now }
+{
+    sources
+        .iter()
+        .copied()
+        .find(|source| source.has_code(machine, code))
+}
+
 impl BusSource {
+    pub const ALL: [BusSource; 14] = [
+        BusSource::Mdr,
+        BusSource::Pc,
+        BusSource::Mbr,
+        BusSource::Mbru,
+        BusSource::Sp,
+        BusSource::Lv,
+        BusSource::Cpp,
+        BusSource::Tos,
+        BusSource::Opc,
+        BusSource::Mbr1,
+        BusSource::Mbr1u,
+        BusSource::Mbr2,
+        BusSource::Mbr2u,
+        BusSource::H,
+    ];
+
     /// The code on the B bus of Mic-1.
     fn code1(self) -> Option<u8>
         ensures { result ≡ source_code Mic1 self }
@@ -100,40 +126,12 @@ impl BusSource {
         }
     }
 
-    fn of_code1(code: u8) -> Option<BusSource>
-        ensures { result ≡ source_of Mic1 code }
+    fn has_code(self, machine: Machine, code: u8) -> bool
+        ensures { result ≡ is_code code (source_code machine self) }
     {
-        match code {
-            0 => Some(BusSource::Mdr),
-            1 => Some(BusSource::Pc),
-            2 => Some(BusSource::Mbr),
-            3 => Some(BusSource::Mbru),
-            4 => Some(BusSource::Sp),
-            5 => Some(BusSource::Lv),
-            6 => Some(BusSource::Cpp),
-            7 => Some(BusSource::Tos),
-            8 => Some(BusSource::Opc),
-            _ => None,
-        }
-    }
-
-    fn of_code2(code: u8) -> Option<BusSource>
-        ensures { result ≡ source_of Mic2 code }
-    {
-        match code {
-            0 => Some(BusSource::Mdr),
-            1 => Some(BusSource::Pc),
-            2 => Some(BusSource::Mbr1),
-            3 => Some(BusSource::Mbr1u),
-            4 => Some(BusSource::Sp),
-            5 => Some(BusSource::Lv),
-            6 => Some(BusSource::Cpp),
-            7 => Some(BusSource::Tos),
-            8 => Some(BusSource::Opc),
-            9 => Some(BusSource::Mbr2),
-            10 => Some(BusSource::Mbr2u),
-            11 => Some(BusSource::H),
-            _ => None,
+        match self.code(machine) {
+            None => false,
+            Some(other) => code == other,
         }
     }
 
@@ -141,10 +139,7 @@ impl BusSource {
     pub fn of_code(machine: Machine, code: u8) -> Option<BusSource>
         ensures { result ≡ source_of machine code }
     {
-        match machine {
-            Machine::Mic1 => BusSource::of_code1(code),
-            Machine::Mic2 => BusSource::of_code2(code),
-        }
+        first_with_code(&BusSource::ALL, machine, code)
     }
 }
 
@@ -189,7 +184,7 @@ impl PlacedNext {
 }
 
 /// The canonical code for nothing.
-fn code_for_nothing(machine: Machine) -> u8
+pub(crate) fn code_for_nothing(machine: Machine) -> u8
     ensures { result ≡ idle_code machine }
 {
     match machine {
