@@ -1,0 +1,7 @@
+pub mod Instructions
+pub mod Image
+pub mod Frames
+pub mod Step
+pub mod Cost
+pub mod Run
+pub mod Safe

@@ -1,0 +1,3 @@
+pub mod Microstep
+pub mod Jam
+pub mod Access

@@ -1,0 +1,16 @@
+//! Machines clocked in four calls, and a board that runs any of them.
+#![tactic(auto)]
+
+pub mod buses;
+pub mod clocked;
+pub mod counts;
+pub mod end;
+pub mod registers;
+pub mod word;
+
+pub use buses::{Computed, Drive};
+pub use clocked::Clocked;
+pub use counts::{Boundary, Counts};
+pub use end::{End, Tick};
+pub use registers::{Registers, Start, Tail};
+pub use word::MicroWord;
