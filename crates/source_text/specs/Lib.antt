@@ -2,3 +2,4 @@ pub mod Content
 pub mod Tokens
 pub mod Reading
 pub mod Walk
+pub mod Runs
