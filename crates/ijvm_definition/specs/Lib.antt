@@ -5,3 +5,4 @@ pub mod Step
 pub mod Cost
 pub mod Run
 pub mod Safe
+pub mod Text
