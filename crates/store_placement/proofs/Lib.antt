@@ -1,2 +1,6 @@
+pub mod Among
+pub mod Apart
 pub mod Below
+pub mod ClearPairs
+pub mod ForcedBy
 pub mod ForcedLemmas
