@@ -4,3 +4,5 @@ pub mod Below
 pub mod ClearPairs
 pub mod ForcedBy
 pub mod ForcedLemmas
+pub mod NoPlacement
+pub mod OpenPairs
