@@ -1,6 +1,7 @@
 pub mod Among
 pub mod Apart
 pub mod Below
+pub mod ChosenPlacement
 pub mod ClearPairs
 pub mod ForcedBy
 pub mod ForcedLemmas
