@@ -7,3 +7,4 @@ pub mod ForcedBy
 pub mod ForcedLemmas
 pub mod NoPlacement
 pub mod OpenPairs
+pub mod StepsLemmas
