@@ -1,0 +1,8 @@
+pub mod Instructions
+pub mod Image
+pub mod Frames
+pub mod Step
+pub mod Cost
+pub mod Run
+pub mod Safe
+pub mod Text
