@@ -6,3 +6,4 @@ pub mod Cost
 pub mod Run
 pub mod Safe
 pub mod Text
+pub mod ImageFile
