@@ -2,6 +2,7 @@ pub mod Among
 pub mod Apart
 pub mod Below
 pub mod ChosenPlacement
+pub mod Choice
 pub mod ClearPairs
 pub mod ForcedBy
 pub mod ForcedLemmas
