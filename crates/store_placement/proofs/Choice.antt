@@ -167,3 +167,36 @@ steps_chosen {fixed} {pairs} clear enough =
         ∙ (ap (λ xs. take (length xs) (free_addresses (placed_of fixed pairs))) (sym (singles_are h))
         ∙ ap (λ xs. take (length last) (free_addresses xs)) (sym (before_is h))))
     }
+
+-- two chosen placements agree on each statement
+others_agree : {d : Demands} {f g : ℕ → ℕ} → AreClear d.fixed d.pairs → IsChosen d f → IsChosen d g → (s : ℕ) → s < length d.fixed → is_single d.fixed d.pairs s ≡ false → f s ≡ g s
+others_agree {d} {f} {g} c by_f by_g s inside is =
+    let pairs = open_pairs d.fixed d.pairs in
+    let low_agrees : (p : Pair) → Among p pairs → f p.no ≡ g p.no = same_map (λ q. f q.no) (λ q. g q.no) pairs (by_f.lows ∙ sym by_g.lows) in
+    elim (placed_by {d = d} c s is) [
+      | ByForce a e ↦ by_f.keeps_forced s a inside e ∙ sym (by_g.keeps_forced s a inside e)
+      | ByLow p among low ↦ ap f (sym low) ∙ (low_agrees p among ∙ ap g low)
+      | ByHigh p among high ↦
+          let of_f = All-among (λ q. f q.yes ≡ f q.no + 256) pairs p by_f.highs among in
+          let of_g = All-among (λ q. g q.yes ≡ g q.no + 256) pairs p by_g.highs among in
+          ap f (sym high) ∙ (of_f ∙ (ap (λ a. a + 256) (low_agrees p among) ∙ (sym of_g ∙ ap g high)))
+      ]
+
+before_agree : {d : Demands} {f g : ℕ → ℕ} → AreClear d.fixed d.pairs → IsChosen d f → IsChosen d g → before_singles d f ≡ before_singles d g
+unfolding before_singles
+before_agree {d} {f} {g} c by_f by_g =
+    map_same (λ s. cond (is_single d.fixed d.pairs s) None (Some (f s))) (λ s. cond (is_single d.fixed d.pairs s) None (Some (g s))) (below (length d.fixed)) (λ s among.
+      elim (is_single d.fixed d.pairs s) as (λ b. is_single d.fixed d.pairs s ≡ b → cond b None (Some (f s)) ≡ cond b None (Some (g s))) [
+        | true ↦ λ is. refl
+        | false ↦ λ is. ap Some (others_agree c by_f by_g s (among-below (length d.fixed) s among) is)
+        ] refl)
+
+pub chosen_agree : {d : Demands} {f g : ℕ → ℕ} → AreClear d.fixed d.pairs → IsChosen d f → IsChosen d g → (s : ℕ) → s < length d.fixed → f s ≡ g s
+unfolding singles
+chosen_agree {d} {f} {g} c by_f by_g s inside =
+    let last = singles d.fixed d.pairs in
+    elim (is_single d.fixed d.pairs s) as (λ b. is_single d.fixed d.pairs s ≡ b → f s ≡ g s) [
+      | true ↦ λ is. same_map f g last (by_f.rest ∙ (ap (λ xs. take (length last) (free_addresses xs)) (before_agree c by_f by_g) ∙ sym by_g.rest)) s
+          (among_filter (is_single d.fixed d.pairs) (below (length d.fixed)) s (among_below (length d.fixed) s inside) is)
+      | false ↦ λ is. others_agree c by_f by_g s inside is
+      ] refl

@@ -7,5 +7,6 @@ pub mod ClearPairs
 pub mod ForcedBy
 pub mod ForcedLemmas
 pub mod NoPlacement
+pub mod OneRefusal
 pub mod OpenPairs
 pub mod StepsLemmas
