@@ -4,7 +4,7 @@ use Rattle.std.proofs.lemmas.Bool.Decides.{nat_tests}
 use Rattle.micro_word.proofs.Sums.{Fitting, fetch_end, a_end, fields-word}
 use Rattle.micro_word.specs.Layout.{fields_of}
 use Rattle.micro_word.specs.Coding.{row, op_of, shift_bits, shift_of, mem_bits, mem_of, fetch_bit, source_code, bus_code, source_of, a_code, a_of, jam_bits, addr_bits, next_of, codes, named, word_of, statement_of}
-use Rattle.micro_word.specs.Canonical.{has_operation, is_h, may_be_a, may_be_b, fits_side, is_mixed, may_fetch, is_next, is_valid, IsCanonical, is_canonical, decoded_as}
+use Rattle.micro_word.specs.Canonical.{has_operation, is_h, may_be_a, may_be_b, fits_side, is_mixed, may_fetch, is_next, is_valid, IsCanonical, is_canonical, decoded_as, Spells}
 use Rattle.micro_word.specs.declared.statement.Machine.{Machine}
 use Rattle.micro_word.specs.declared.statement.Machine.TheVariants.{Mic1, Mic2}
 use Rattle.micro_word.specs.declared.statement.AluOp.{AluOp}
@@ -296,28 +296,22 @@ canonical-word machine p h =
     let e : statement_of machine (word_of machine p) ≡ p = statement-word machine p h in
     join _ _ (subst (λ (q : Placed). IsTrue (is_valid machine q)) (sym e) h) (same _ _ (ap (word_of machine) e))
 
--- what a canonical number is
-pub record Coded (machine : Machine) (word : ℕ) : Type 0 where
-  pub valid : IsTrue (is_valid machine (statement_of machine word))
-  pub word_is : word_of machine (statement_of machine word) ≡ word
-  pub fields : fields_of machine word ≡ codes machine (statement_of machine word)
-
-pub coded : (machine : Machine) (word : ℕ) → IsTrue (is_canonical machine word) → Coded machine word
+pub spells : (machine : Machine) (word : ℕ) → IsTrue (is_canonical machine word) → Spells machine word (statement_of machine word)
 unfolding is_canonical
-coded machine word h =
+spells machine word h =
     let parts = both _ _ h in
-    let is : word_of machine (statement_of machine word) ≡ word = equal _ _ parts.1 in
+    let whole : word_of machine (statement_of machine word) ≡ word = equal _ _ parts.1 in
     record {
       valid = parts.0;
-      word_is = is;
-      fields = ap (fields_of machine) (sym is) ∙ fields-code machine (statement_of machine word) parts.0;
+      whole = whole;
+      fields = ap (fields_of machine) (sym whole) ∙ fields-code machine (statement_of machine word) parts.0;
     }
 
 pub is_the_word : (machine : Machine) (word : ℕ) → IsTrue (is_canonical machine word) → IsCanonical machine word
-is_the_word machine word h = let c : Coded machine word = coded machine word h in (statement_of machine word, c.valid, c.word_is)
+is_the_word machine word h = let c : Spells machine word (statement_of machine word) = spells machine word h in (statement_of machine word, c.valid, c.whole)
 
 known_by : (machine : Machine) (w : ℕ) (b : Bool) → is_canonical machine w ≡ b → IfSome (if b then Some (statement_of machine w) else None) (λ p. IsTrue (is_valid machine p) × (word_of machine p ≡ w))
-known_by machine w true e = let c : Coded machine w = coded machine w e in (c.valid, c.word_is)
+known_by machine w true e = let c : Spells machine w (statement_of machine w) = spells machine w e in (c.valid, c.whole)
 known_by machine w false e = tt
 
 pub known : (machine : Machine) (w : ℕ) → IfSome (decoded_as machine w) (λ p. IsTrue (is_valid machine p) × (word_of machine p ≡ w))

@@ -10,7 +10,8 @@ use Rattle.micro_word.specs.declared.statement.PlacedNext.{PlacedNext}
 use Rattle.micro_word.specs.declared.statement.PlacedNext.TheVariants as nexts
 use Rattle.micro_word.specs.declared.statement.Part.{Part}
 use Rattle.micro_word.specs.declared.statement.Placed.{Placed}
-use Rattle.micro_word.specs.Coding.{row, source_code, word_of, statement_of}
+use Rattle.micro_word.specs.Layout.{fields_of}
+use Rattle.micro_word.specs.Coding.{row, source_code, codes, word_of, statement_of}
 
 -- A, NOT A and A+1 are not used on Mic-2
 abbrev pub has_operation : Machine → AluOp → Bool
@@ -81,3 +82,9 @@ is_canonical machine word = is_valid machine (statement_of machine word) && word
 
 abbrev pub decoded_as : Machine → ℕ → Option Placed
 decoded_as machine word = if is_canonical machine word then Some (statement_of machine word) else None
+
+-- a canonical number: its fields are the codes of a valid statement, whose word it is
+pub record Spells (machine : Machine) (word : ℕ) (p : Placed) : Type 0 where
+  pub valid : IsTrue (is_valid machine p)
+  pub whole : word_of machine p ≡ word
+  pub fields : fields_of machine word ≡ codes machine p
