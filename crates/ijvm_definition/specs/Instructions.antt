@@ -1,5 +1,5 @@
 -- The instruction table: chapter 4 of the book, with this profile's codes for IN, OUT, ERR and HALT, and each machine's cycles.
-use Rattle.std.specs.Prelude.{◌≡◌, ◌⊎◌, ℕ, ◌+◌, ◌*◌, ◌/◌, ◌%◌, Bool, true, false, if◌then◌else◌, nat_le, ◌==◌, List, [], ◌∷◌, ◌++◌, length, slice_index, Option, Some, None, codes}
+use Rattle.std.specs.Prelude.{◌≡◌, ◌≤◌, ◌<◌, ◌⊎◌, FitsSigned, ℕ, ℤ, ◌+◌, ◌*◌, ◌/◌, ◌%◌, Bool, true, false, if◌then◌else◌, nat_le, ◌==◌, List, [], ◌∷◌, ◌++◌, length, slice_index, Option, Some, None, codes}
 use Rattle.std.specs.Int.{w8, w16, cast_signed, cast_unsigned}
 use Rattle.ijvm_definition.specs.declared.instr.Instr.{Instr}
 use Rattle.ijvm_definition.specs.declared.instr.Instr.TheVariants.{Nop, Bipush, LdcW, Iload, Istore, Pop, Dup, Swap, Iadd, Isub, Iand, Iinc, Ifeq, Iflt, IfIcmpeq, Goto, Ireturn, Ior, Invokevirtual, WideIload, WideIstore, In, Out, Err, Halt}
@@ -28,6 +28,11 @@ plain opcode needs gives mic1 mic2 =
       mic2 = Always mic2;
     }
 
+-- a branch: its opcode, what it needs, its offset, and its cycles on Mic-1 and Mic-2, each taken and not
+abbrev pub branch : ℕ → ℕ → ℤ → ℕ → ℕ → ℕ → ℕ → Row
+branch opcode needs offset taken1 not1 taken2 not2 =
+    record (plain opcode needs 0 0 0) { operands = Offset offset; flow = Branch offset; mic1 = IfTaken taken1 not1; mic2 = IfTaken taken2 not2 }
+
 -- the table
 abbrev pub row_of : Instr → Row
 row_of Nop = plain 0x00 0 0 2 1
@@ -42,9 +47,9 @@ row_of Iadd = plain 0x60 2 1 4 3
 row_of Isub = plain 0x64 2 1 4 3
 row_of Iand = plain 0x7E 2 1 4 3
 row_of (Iinc k b) = record (plain 0x84 0 0 7 3) { operands = LocalByte k b; reads = Some k }
-row_of (Ifeq o) = record (plain 0x99 1 0 0 0) { operands = Offset o; flow = Branch o; mic1 = IfTaken 11 8; mic2 = IfTaken 8 6 }
-row_of (Iflt o) = record (plain 0x9B 1 0 0 0) { operands = Offset o; flow = Branch o; mic1 = IfTaken 11 8; mic2 = IfTaken 8 6 }
-row_of (IfIcmpeq o) = record (plain 0x9F 2 0 0 0) { operands = Offset o; flow = Branch o; mic1 = IfTaken 13 10; mic2 = IfTaken 10 8 }
+row_of (Ifeq o) = branch 0x99 1 o 11 8 8 6
+row_of (Iflt o) = branch 0x9B 1 o 11 8 8 6
+row_of (IfIcmpeq o) = branch 0x9F 2 o 13 10 10 8
 row_of (Goto o) = record (plain 0xA7 0 0 7 4) { operands = Offset o; flow = Jump o }
 row_of Ireturn = record (plain 0xAC 1 0 9 8) { flow = Return }
 row_of Ior = plain 0xB0 2 1 4 3
@@ -96,6 +101,18 @@ operand_bytes (LocalByte k b) = k ∷ cast_unsigned w8 b ∷ []
 operand_bytes (Index k) = two_bytes k
 operand_bytes (Offset o) = two_bytes (cast_unsigned w16 o)
 
+-- the operands' numbers are in the ranges of their types
+abbrev pub AreInRange : Operands → Type 0
+AreInRange NoOperands = Unit {0}
+AreInRange (Byte b) = FitsSigned w8 b
+AreInRange (Local k) = k < 256
+AreInRange (LocalByte k b) = (k < 256) × FitsSigned w8 b
+AreInRange (Index k) = k < 65536
+AreInRange (Offset o) = FitsSigned w16 o
+
+abbrev pub IsInstr : Instr → Type 0
+IsInstr i = AreInRange (row_of i).operands
+
 -- the prefix of a row's opcode
 abbrev pub prefix : Bool → List ℕ
 prefix true = 0xC4 ∷ []
@@ -116,6 +133,11 @@ size_of r = length (bytes_of r)
 -- these bytes are read as this instruction: 80 is a second spelling of IOR
 abbrev pub Spells : List ℕ → Instr → Type 0
 Spells bytes i = (bytes ≡ spelling i) ⊎ ((i ≡ Ior) × (bytes ≡ 0x80 ∷ []))
+
+-- these bytes stand at this address of a text
+abbrev pub StandAt : List ℕ → ℕ → List ℕ → Type 0
+StandAt text at [] = at ≤ length text
+StandAt text at (byte ∷ bytes) = (slice_index text at ≡ byte) × StandAt text (at + 1) bytes
 
 -- the instruction that begins with these four bytes, of which it may need fewer
 unfoldable pub of_bytes : ℕ → ℕ → ℕ → ℕ → Option Instr

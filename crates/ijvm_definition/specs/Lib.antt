@@ -4,3 +4,6 @@ pub mod Frames
 pub mod Step
 pub mod Cost
 pub mod Run
+pub mod Safe
+pub mod Text
+pub mod ImageFile

@@ -1,5 +1,5 @@
 -- The definition's run: from boundary to boundary, an instruction each, until it ends.
-use Rattle.std.specs.Prelude.{◌≡◌, ◌≢◌, ℕ, zero, suc, ◌+◌, Bool, true, false, nat_le, List, Option, Some, None}
+use Rattle.std.specs.Prelude.{◌≡◌, ℕ, zero, suc, ◌+◌, Bool, true, false, nat_le, List, Option, Some, None}
 use Rattle.micro_word.specs.declared.statement.Machine.{Machine}
 use Rattle.ijvm_definition.specs.declared.run.RunEnd.{RunEnd}
 use Rattle.ijvm_definition.specs.declared.run.RunEnd.TheVariants as ends
@@ -85,8 +85,3 @@ after more Stuck = None
 abbrev pub state_after : ImageView → ℕ → ℕ → State → Option State
 state_after image stack_end zero s = Some s
 state_after image stack_end (suc k) s = after (state_after image stack_end k) (outcome image stack_end s)
-
--- no state of the run, with so many locals of main, lacks what its instruction needs
-abbrev pub IsSafe : ImageView → ℕ → ℕ → Type 0
-IsSafe image stack_end main_locals =
-    (k : ℕ) (input : List ℕ) (s : State) → state_after image stack_end k (start_of main_locals input) ≡ Some s → outcome image stack_end s ≢ Stuck
