@@ -47,8 +47,11 @@ operations =
     ∷ ops.And ∷ ops.Or ∷ ops.Zero ∷ ops.One ∷ ops.MinusOne ∷ []
 
 -- the operation of six bits, where they are a row
+abbrev pub row_of : ℕ → Option AluOp
+row_of gates = find (λ op. gates == (row op).gates) operations
+
 abbrev pub op_of : ℕ → AluOp
-op_of gates = unwrap_or (find (λ op. gates == (row op).gates) operations) ops.MinusOne
+op_of gates = unwrap_or (row_of gates) ops.MinusOne
 
 -- SLL8 and SRA1
 abbrev pub shift_bits : Shift → ℕ
