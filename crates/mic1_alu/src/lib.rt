@@ -3,6 +3,12 @@
 
 pub mod controls;
 pub mod gates;
+pub mod shifter;
+pub mod table;
+#[cfg(test)]
+mod tests;
 
 pub use controls::Controls;
-pub use gates::AluOut;
+pub use gates::{AluOut, alu};
+pub use shifter::shift;
+pub use table::each_row_computes;
