@@ -1,5 +1,5 @@
 -- A board between a source and a sink shows where a run stands; how the run goes on, and where a fault cuts it.
-use Rattle.std.specs.Prelude.{◌≡◌, ◌≢◌, ◌⊎◌, Bool, true, ℕ, ◌+◌, ◌≤◌, ◌==◌, if◌then◌else◌, List, [], ◌++◌, Option, Some, None, IfSome, IsSome, is_some, IsTrue}
+use Rattle.std.specs.Prelude.{◌≡◌, ◌≢◌, ◌⊎◌, ℕ, ◌+◌, ◌≤◌, ◌==◌, if◌then◌else◌, List, [], ◌++◌, Option, Some, None, IfSome, IsSome, is_some, IsTrue}
 use Rattle.console_port.specs.Bus.{Shows, Stands}
 use Rattle.console_port.specs.Console.{Untaken}
 use Rattle.console_port.specs.declared.fault.BusFault.{BusFault}
@@ -66,38 +66,31 @@ module _ {M State : Type 0} (state : M → State) where
       pub reads : e ≡ ReadFault → IsTrue (m.reads_console (word_at m board.store.words (state board.machine)) (state board.machine))
       pub uses : e ≡ WriteFault → IsTrue (m.uses_console (word_at m board.store.words (state board.machine)) (state board.machine))
 
-    module _ (words : List ℕ) (bound : Option ℕ) (left held : Option (List ℕ)) (board : BoardView M) (old : Buses) (n : ℕ) (r : MicroRun State) (rest : List ℕ) where
-      -- n turns lead here
-      pub record Reaches : Type 0 where
-        pub shows : ShowsRun left held board (turns m words bound n r)
-        pub untaken : (turns m words bound n r).world.untaken ≡ rest
-        pub buses : board.buses ≡ buses m words bound n r old
-
-      -- n turns lead here, where a failing source cut the run: its next step reads the console
-      pub record ReachesRead : Type 0 where
-        pub its_state : (turns m words bound n r).state ≡ state board.machine
-        pub world : Shows left held board.bus (turns m words bound n r).world
-        pub counts : (turns m words bound n r).counts ≡ board.counts
-        pub untaken : (turns m words bound n r).world.untaken ≡ rest
-        pub buses : board.buses ≡ buses m words bound n r old
+    module _ (words : List ℕ) (bound : Option ℕ) where
+      -- a failing source cut the run: its next step reads the console
+      pub record IsCutByRead (left held : Option (List ℕ)) (board : BoardView M) (r : MicroRun State) : Type 0 where
+        pub its_state : r.state ≡ state board.machine
+        pub world : Shows left held board.bus r.world
+        pub counts : r.counts ≡ board.counts
         pub kept : board.bus.console.kept ≡ []
-        pub next : IsClocking m words bound (turns m words bound n r)
-        pub reads : IsTrue (m.reads_console (word_at m words (turns m words bound n r).state) (turns m words bound n r).state)
+        pub next : IsClocking m words bound r
+        pub reads : IsTrue (m.reads_console (word_at m words r.state) r.state)
 
-      -- n turns lead here, where a failing sink cut the run: its next step reads or writes the console, or it has ended. The sink has a front of what was given.
-      pub record ReachesWrite : Type 0 where
-        pub its_state : (turns m words bound n r).state ≡ state board.machine
-        pub memory : (turns m words bound n r).world.words ≡ board.bus.words
-        pub counts : (turns m words bound n r).counts ≡ board.counts
-        pub may_be : Untaken left board.bus.console.ended (turns m words bound n r).world.untaken
+      -- A failing sink cut the run: its next step reads or writes the console, or it has ended. The sink has a front of what was given.
+      pub record IsCutByWrite (left held : Option (List ℕ)) (board : BoardView M) (r : MicroRun State) : Type 0 where
+        pub its_state : r.state ≡ state board.machine
+        pub memory : r.world.words ≡ board.bus.words
+        pub untaken : Untaken left board.bus.console.ended r.world.untaken
+        pub counts : r.counts ≡ board.counts
+        pub kept : board.bus.console.kept ≡ []
+        pub front : IfSome held (λ h. (more : List ℕ) × (r.world.given ≡ h ++ more))
+        pub next : (IsClocking m words bound r × IsTrue (m.uses_console (word_at m words r.state) r.state)) ⊎ IsSome r.end
+
+      -- n turns lead here, with these bytes untaken
+      pub record Leads (board : BoardView M) (old : Buses) (rest : List ℕ) (n : ℕ) (r : MicroRun State) (IsHere : MicroRun State → Type 0) : Type 0 where
+        pub here : IsHere (turns m words bound n r)
         pub untaken : (turns m words bound n r).world.untaken ≡ rest
         pub buses : board.buses ≡ buses m words bound n r old
-        pub kept : board.bus.console.kept ≡ []
-        pub front : IfSome held (λ h. (more : List ℕ) × ((turns m words bound n r).world.given ≡ h ++ more))
-        pub next :
-          (IsClocking m words bound (turns m words bound n r)
-              × IsTrue (m.uses_console (word_at m words (turns m words bound n r).state) (turns m words bound n r).state))
-          ⊎ IsSome (turns m words bound n r).end
 
 -- instructions and stalls are no more than cycles, no boundary is ahead of them, and none is more than 1,024 cycles back
 pub record AreCounts (c : Counts) (end : Option End) : Type 0 where

@@ -1,15 +1,17 @@
 //! Machines clocked in four calls, and a board that runs any of them.
 #![tactic(auto)]
 
+pub mod board;
 pub mod buses;
 pub mod clocked;
-pub mod counting;
+mod counting;
 pub mod counts;
-pub mod cycle;
+mod cycle;
 pub mod end;
 pub mod registers;
 pub mod word;
 
+pub use board::Board;
 pub use buses::{Computed, Drive};
 pub use clocked::Clocked;
 pub use counts::{Boundary, Counts};

@@ -11,7 +11,7 @@ use crate::statement::{Machine, Placed};
 use std::marker::Model;
 
 /// A canonical word of Mic-1.
-#[derive(Clone, Copy)]
+#[derive(Clone, Copy, Debug, PartialEq, Eq)]
 pub struct Word1 {
     bits: u64,
 }
@@ -31,7 +31,7 @@ impl Model for Word1 {
 }
 
 /// A canonical word of Mic-2.
-#[derive(Clone, Copy)]
+#[derive(Clone, Copy, Debug, PartialEq, Eq)]
 pub struct Word2 {
     bits: u64,
 }

@@ -1,0 +1,17 @@
+-- What each statement is forced to, read from the list.
+use Rattle.std.proofs.Common.{◌≡◌, ℕ, ◌<◌, List, Option, None, length, map, get_or, arith}
+use Rattle.std.proofs.lemmas.List.FromFn.{get_or-map-range_with_len}
+use Rattle.store_placement.specs.declared.pair.Pair.{Pair}
+use Rattle.store_placement.specs.First.{below}
+use Rattle.store_placement.specs.Forced.{forced, all_forced}
+use Rattle.store_placement.proofs.Below.{length-map_below}
+
+pub length-all_forced : (fixed : List (Option ℕ)) (pairs : List Pair) → length (all_forced fixed pairs) ≡ length fixed
+unfolding all_forced
+length-all_forced fixed pairs = length-map_below (forced fixed pairs) (length fixed)
+
+pub at_all_forced : (fixed : List (Option ℕ)) (pairs : List Pair) (s : ℕ) (d : Option ℕ) → s < length fixed → get_or (all_forced fixed pairs) s d ≡ forced fixed pairs s
+unfolding all_forced below
+at_all_forced fixed pairs s d h = get_or-map-range_with_len (forced fixed pairs) 0 (length fixed) s s d h (omega arith)
+
+pub ruleset all_forceds = (length-all_forced, at_all_forced)

@@ -1,0 +1,6 @@
+use Rattle.store_placement.specs.First.{Never}
+use Rattle.store_placement.specs.Refusals.{clashes}
+use Rattle.store_placement.proofs.clash.first_clash.Given as goal
+
+abbrev pub invariant-loop-s : goal.invariant-loop-s
+invariant-loop-s l = Never (clashes l.pairs) l.s

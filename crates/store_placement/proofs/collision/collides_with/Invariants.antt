@@ -1,0 +1,6 @@
+use Rattle.store_placement.specs.First.{NeverWith}
+use Rattle.store_placement.specs.Refusals.{collide}
+use Rattle.store_placement.proofs.collision.collides_with.Given as goal
+
+abbrev pub invariant-loop-t : goal.invariant-loop-t
+invariant-loop-t l = NeverWith (collide l.fixed l.pairs) l.t l.s

@@ -1,0 +1,6 @@
+use Rattle.std.proofs.Common.{◌≡◌, drop}
+use Rattle.store_placement.specs.Forced.{given}
+use Rattle.store_placement.proofs.forced.given.Given as goal
+
+abbrev pub invariant-loop-pair : goal.invariant-loop-pair
+invariant-loop-pair l = given l.fixed l.s (drop l.pair-index l.pairs) ≡ given l.fixed l.s l.pairs

@@ -1,0 +1,7 @@
+pub mod Chosen
+pub mod Demands
+pub mod First
+pub mod Forced
+pub mod Placement
+pub mod Refusals
+pub mod Steps

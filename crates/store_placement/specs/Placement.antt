@@ -1,0 +1,12 @@
+-- A placement: any map from the statements to addresses that gives no address twice and keeps fixed addresses and pairs.
+use Rattle.std.specs.Prelude.{◌≡◌, ◌<◌, ℕ, ◌+◌, Some, length, All}
+use Rattle.store_placement.specs.Demands.{Demands, fixed_at}
+
+pub record IsPlacement (d : Demands) (address : ℕ → ℕ) : Type 0 where
+  pub in_store : (s : ℕ) → s < length d.fixed → address s < 512
+  pub apart : (s t : ℕ) → s < length d.fixed → t < length d.fixed → address s ≡ address t → s ≡ t
+  pub keeps_fixed : (s a : ℕ) → fixed_at d.fixed s ≡ Some a → address s ≡ a
+  pub keeps_pairs : All (λ p. address p.yes ≡ address p.no + 256) d.pairs
+
+abbrev pub HasPlacement : Demands → Type 0
+HasPlacement d = (address : ℕ → ℕ) × IsPlacement d address

@@ -1,0 +1,58 @@
+ghost use Rattle.std.specs.Prelude.{◌≡◌, ◌<◌, ◌+◌, [], ◌∷◌, ◌++◌, length};
+ghost use Rattle.std.specs.Option.{ForSome};
+ghost use Rattle.store_placement.specs.Demands.{Demands, AreWithin};
+
+use crate::pair::Pair;
+use arrayvec::ArrayVec;
+use std::marker::Model;
+
+/// What a placement has to keep: each statement's fixed address, if it has one, and the pairs.
+#[derive(Drop)]
+pub struct Constraints {
+    fixed: ArrayVec<Option<u16>, 512>,
+    pairs: ArrayVec<Pair, 513>,
+}
+
+impl Model for Constraints {
+    ghost use Rattle.store_placement.specs.Demands.{Demands, AreWithin};
+
+    ghost Value = { Demands };
+
+    ghost view = { λ c. record { fixed = c.fixed.items; pairs = c.pairs.items } };
+
+    ghost invariant = { λ c. AreWithin c.fixed.items c.pairs.items };
+}
+
+impl Constraints {
+    /// No statement and no pair.
+    pub fn new() -> Constraints
+        ensures fixed { result.fixed ≡ [] }
+        ensures pairs { result.pairs ≡ [] }
+    {
+        Constraints {
+            fixed: ArrayVec::new(),
+            pairs: ArrayVec::new(),
+        }
+    }
+
+    /// Adds the next statement, with the address that it is fixed at.
+    pub fn add(&mut self, fixed: Option<u16>)
+        requires room { length self.old.fixed < 512 }
+        requires address { ForSome fixed (λ a. a < 512) }
+        ensures fixed { self.new.fixed ≡ self.old.fixed ++ fixed ∷ [] }
+        ensures pairs { self.new.pairs ≡ self.old.pairs }
+    {
+        self.fixed.push(fixed);
+    }
+
+    /// Adds the targets of a conditional, which are statements that were added.
+    pub fn pair(&mut self, pair: Pair)
+        requires room { length self.old.pairs < 513 }
+        requires yes { pair.yes < length self.old.fixed }
+        requires no { pair.no < length self.old.fixed }
+        ensures fixed { self.new.fixed ≡ self.old.fixed }
+        ensures pairs { self.new.pairs ≡ self.old.pairs ++ pair ∷ [] }
+    {
+        self.pairs.push(pair);
+    }
+}
