@@ -2,7 +2,8 @@
 use Rattle.std.proofs.Common.{◌≡◌, ◌≢◌, ◌⊎◌, ◌<◌, ◌≤◌, ◌^◌, ◌&&◌, ◌||◌, not, nat_le, nat_lt, All, ℕ, zero, suc, ◌+◌, ◌-◌, ◌*◌, ◌/◌, ◌%◌, Bool, true, false, if◌then◌else◌, ◌==◌, List, [], ◌∷◌, ◌++◌, length, take, drop, append_assoc, append-nil, add-one, add-zero, length-append, slice_index, slice_range, Option, Some, None, Result, Ok, Err, IfOk, IfErr, refl, sym, ap, ap₂, ◌∙◌, inl, inr, arith, rules, subst}
 use Rattle.std.specs.List.{flat_map}
 use Rattle.std.proofs.lemmas.Bool.Decides.{nat_tests}
-use Rattle.std.proofs.lemmas.List.{drop_more, length-drop, length-take-le, drop-drop, drop_all, take-append-drop}
+use Rattle.std.proofs.lemmas.Grind.{flat_map-append}
+use Rattle.std.proofs.lemmas.List.{drop_more, take_more, length-drop, length-take-le, drop-drop, drop_all, take-append-drop}
 use Rattle.std.proofs.Math.Seq.{drop-append_seam, take-append_seam}
 use Rattle.ijvm_definition.specs.declared.reader.Block.{Block}
 use Rattle.ijvm_definition.specs.declared.image.ImageError.{ImageError}
@@ -128,7 +129,7 @@ part_read file place bytes rest e =
     let many : place + length bytes - place ≡ length bytes = omega arith in
     rw (many, e) (take-append_seam bytes rest)
 
-length-words : (ws : List ℕ) → length (flat_map word_bytes ws) ≡ 4 * length ws
+pub length-words : (ws : List ℕ) → length (flat_map word_bytes ws) ≡ 4 * length ws
 length-words [] = refl
 length-words (w ∷ ws) = let e : length (flat_map word_bytes ws) ≡ 4 * length ws = length-words ws in omega arith
 
@@ -466,3 +467,8 @@ read-reads file (Err e) ok err image fits is =
   where
     bad : ImageError → Result ImageView ImageError
     bad e = Err e
+
+-- the bytes of one word more
+pub flat_words-more : (words : List ℕ) (i : ℕ) → i < length words → flat_map word_bytes (take (i + 1) words) ≡ flat_map word_bytes (take i words) ++ word_bytes (slice_index words i)
+flat_words-more words i inside =
+    ap (flat_map word_bytes) (take_more words i 0 inside) ∙ flat_map-append word_bytes (take i words) (slice_index words i ∷ [])

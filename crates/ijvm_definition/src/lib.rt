@@ -9,6 +9,7 @@ pub mod print;
 pub mod reader;
 pub mod row;
 pub mod run;
+pub mod writer;
 
 pub use decode::{decode_at, decode_instr};
 pub use encode::encode_instr;
@@ -18,3 +19,4 @@ pub use print::{name, print_instr, print_name, target_of};
 pub use reader::read_image;
 pub use row::{Cost, Flow, Operands, Row};
 pub use run::RunEnd;
+pub use writer::write_image;
