@@ -1,9 +1,9 @@
 -- A bus between a source and a sink shows a world; what an access leads to, and what stands after an Err.
-use Rattle.std.specs.Prelude.{◌≡◌, ◌≢◌, ◌⊎◌, ℕ, ◌+◌, ◌*◌, ◌/◌, ◌≤◌, ◌<◌, List, length, slice_index, Option, Some, Result, Err}
+use Rattle.std.specs.Prelude.{◌≡◌, ◌≢◌, ℕ, List, [], slice_get, Option}
 use Rattle.std.specs.Option.{option_map}
 use Rattle.console_port.specs.View.{BusView}
-use Rattle.console_port.specs.World.{World, Refusal, fault_of, byte_in}
-use Rattle.console_port.specs.Console.{Untaken, Given, IsLost}
+use Rattle.console_port.specs.World.{World, Refusal, fault_of}
+use Rattle.console_port.specs.Console.{Untaken, Given, IsLost, IsFault}
 use Rattle.console_port.specs.declared.fault.BusFault.{BusFault}
 use Rattle.console_port.specs.declared.fault.BusFault.TheVariants.{WriteFault}
 
@@ -19,13 +19,18 @@ IsLed left held bus left' held' bus' leads =
     (untaken : List ℕ) × Untaken left bus.console.ended untaken ×
     ((w : World) → Shows left held bus w → w.untaken ≡ untaken → (v : World) × leads w v × Shows left' held' bus' v × (v.untaken ≡ rest))
 
--- after an Err: no memory word is changed, and but for a write that failed the same world is shown
+-- after an Err: no memory word is changed, and but for a write that failed the same world is shown; after a fault nothing is kept
 pub record Stands (left held : Option (List ℕ)) (bus : BusView) (left' held' : Option (List ℕ)) (bus' : BusView) (e : BusFault) : Type 0 where
   pub words : bus'.words ≡ bus.words
   pub same : e ≢ WriteFault → (w : World) → Shows left held bus w → Shows left' held' bus' w
   pub untaken : left' ≡ left
   pub ended : bus'.console.ended ≡ bus.console.ended
+  pub emptied : IsFault e → bus'.console.kept ≡ []
   pub lost : e ≡ WriteFault → IsLost held bus.console.kept held' bus'.console.kept
+
+-- no word but the one there is changed
+abbrev pub ChangesOnly : ℕ → List ℕ → List ℕ → Type 0
+ChangesOnly at old new = (a : ℕ) → a ≢ at → slice_get new a ≡ slice_get old a
 
 -- what a refused access answers, where it is refused
 abbrev pub refused_by : Option Refusal → Option BusFault

@@ -2,7 +2,7 @@
 
 ghost use Rattle.mic_base.specs.Streams.{Holds};
 ghost use Rattle.std.specs.Prelude.{◌/◌, ◌≡◌, ◌≢◌, ◌≤◌, ◌<◌, ◌+◌, [], ℕ, List, Option, Some, None, Ok, Err, false, length, replicate, slice_get, slice_index, slice_set, IsOk, IfOk, OnOk, OnErr, IfErr, IsErrOf};
-ghost use Rattle.console_port.specs.Bus.{Shows, Stands, IsLed, refused_by};
+ghost use Rattle.console_port.specs.Bus.{Shows, Stands, IsLed, ChangesOnly, refused_by};
 ghost use Rattle.console_port.specs.Console.{IsLost, IsFault, HasFaultCause};
 ghost use Rattle.console_port.specs.World.{World, Refusal, fault_of, console_at, read_refusal, write_refusal, word_refusal, fetch_refusal, byte_in, read_value, after_read, after_write};
 
@@ -125,6 +125,7 @@ impl Bus {
         ensures err { (left : Option (List ℕ)) → IfErr result (Stands left (K.held sink.old) self.old left (K.held sink.new) self.new) }
         ensures fault { IfErr result (λ e. write_refusal (length self.old.words) at ≡ None → (at ≡ console_at) × (e ≡ BusFault.WriteFault)) }
         ensures size { length self.new.words ≡ length self.old.words }
+        ensures others { ChangesOnly at self.old.words self.new.words }
         ensures keeps { (front : List ℕ) → Holds front (K.held sink.old) → Holds front (K.held sink.new) }
         ensures cause { HasFaultCause 0 0 (K.faults sink.old) (K.faults sink.new) result }
     {
@@ -193,7 +194,7 @@ impl Bus {
         ensures ended { self.new.console.ended ≡ self.old.console.ended }
         ensures words { self.new.words ≡ self.old.words }
         ensures ok { OnOk result ((left : Option (List ℕ)) (w : World) → Shows left (K.held sink.old) self.old w → Shows left (K.held sink.new) self.new w) }
-        ensures empty { self.old.console.kept ≡ [] → IsOk result × (sink.new ≡ sink.old) }
+        ensures empty { self.old.console.kept ≡ [] → IsOk result × (self.new ≡ self.old) × (sink.new ≡ sink.old) }
         ensures err { (left : Option (List ℕ)) → IfErr result (Stands left (K.held sink.old) self.old left (K.held sink.new) self.new) }
         ensures lost { OnErr result (IsLost (K.held sink.old) self.old.console.kept (K.held sink.new) self.new.console.kept) }
         ensures fault { IfErr result (λ e. e ≡ BusFault.WriteFault) }

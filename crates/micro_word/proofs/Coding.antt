@@ -1,219 +1,19 @@
--- A valid statement is the one that its word's fields name.
-use Rattle.std.proofs.Common.{◌≡◌, ℕ, ◌<◌, Bool, true, false, not, is_some, ◌&&◌, ◌==◌, nat_lt, if◌then◌else◌, Option, Some, None, IfSome, IfNone, IsTrue, refl, sym, ap, ◌∙◌, subst, arith}
-use Rattle.std.proofs.lemmas.Bool.Decides.{nat_tests}
-use Rattle.micro_word.proofs.Sums.{Fitting, fetch_end, a_end, fields-word}
-use Rattle.micro_word.specs.Layout.{fields_of}
-use Rattle.micro_word.specs.Coding.{row, op_of, shift_bits, shift_of, mem_bits, mem_of, fetch_bit, source_code, bus_code, source_of, a_code, a_of, jam_bits, addr_bits, next_of, codes, named, word_of, statement_of}
-use Rattle.micro_word.specs.Canonical.{has_operation, is_h, may_be_a, may_be_b, fits_side, is_mixed, may_fetch, is_next, is_valid, IsCanonical, is_canonical, decoded_as, Spells}
+-- A valid statement is the one that its word's fields name, and a canonical word is that of the statement that its fields name.
+use Rattle.std.proofs.Common.{◌≡◌, ℕ, ◌<◌, Bool, true, false, not, ◌==◌, nat_lt, if◌then◌else◌, Option, Some, None, unwrap_or, is_some, IfSome, IfNone, IsTrue, refl, sym, ap, ◌∙◌, subst}
+use Rattle.micro_word.proofs.Conditions.{both, join, below, above}
+use Rattle.micro_word.proofs.Sums.{Fitting, fields-word, fields_fit, word_with-lt, word-fields}
+use Rattle.micro_word.proofs.Parts.{row_back, gates_back, shift_back, shift_bits-shift_of, mem_back, mem_bits-mem_of, fetch_bit-lt, fetch_back, fetch_bit-back, bit_may_fetch, bus_back, bus_side, side-lt, side_fits, bus_code-back, a_back, a_side, a_code-lt, side_a_fits, a_code-back, NextBack, next_back, TargetBack, target_back}
+use Rattle.micro_word.specs.Layout.{word_with, fields_of}
+use Rattle.micro_word.specs.Coding.{row, row_of, op_of, shift_bits, shift_of, mem_bits, mem_of, fetch_bit, bus_code, source_of, a_code, a_of, codes, named, word_of, statement_of}
+use Rattle.micro_word.specs.Canonical.{has_operation, may_be_a, may_be_b, fits_side, is_mixed, may_fetch, is_next, is_valid, IsCanonical, is_row, is_side, is_side_a, are_apart, is_target, is_one_at_most, are_canonical, word_end, is_canonical, decoded_as, Spells}
 use Rattle.micro_word.specs.declared.statement.Machine.{Machine}
 use Rattle.micro_word.specs.declared.statement.Machine.TheVariants.{Mic1, Mic2}
 use Rattle.micro_word.specs.declared.statement.AluOp.{AluOp}
 use Rattle.micro_word.specs.declared.statement.AluOp.TheVariants as ops
 use Rattle.micro_word.specs.declared.statement.BusSource.{BusSource}
 use Rattle.micro_word.specs.declared.statement.BusSource.TheVariants as bus
-use Rattle.micro_word.specs.declared.statement.Shift.{Shift}
-use Rattle.micro_word.specs.declared.statement.Shift.TheVariants as shifts
-use Rattle.micro_word.specs.declared.statement.Mem.{Mem}
-use Rattle.micro_word.specs.declared.statement.Mem.TheVariants as mems
-use Rattle.micro_word.specs.declared.statement.Test.TheVariants as tests
-use Rattle.micro_word.specs.declared.statement.PlacedNext.{PlacedNext}
-use Rattle.micro_word.specs.declared.statement.PlacedNext.TheVariants as nexts
 use Rattle.micro_word.specs.declared.statement.Placed.{Placed}
-
-gates-lt : (op : AluOp) → (row op).gates < 64
-gates-lt ops.A = omega arith
-gates-lt ops.B = omega arith
-gates-lt ops.NotA = omega arith
-gates-lt ops.NotB = omega arith
-gates-lt ops.Sum = omega arith
-gates-lt ops.SumInc = omega arith
-gates-lt ops.IncA = omega arith
-gates-lt ops.IncB = omega arith
-gates-lt ops.Sub = omega arith
-gates-lt ops.DecB = omega arith
-gates-lt ops.NegA = omega arith
-gates-lt ops.And = omega arith
-gates-lt ops.Or = omega arith
-gates-lt ops.Zero = omega arith
-gates-lt ops.One = omega arith
-gates-lt ops.MinusOne = omega arith
-
-op_back : (op : AluOp) → op_of (row op).gates ≡ op
-op_back ops.A = refl
-op_back ops.B = refl
-op_back ops.NotA = refl
-op_back ops.NotB = refl
-op_back ops.Sum = refl
-op_back ops.SumInc = refl
-op_back ops.IncA = refl
-op_back ops.IncB = refl
-op_back ops.Sub = refl
-op_back ops.DecB = refl
-op_back ops.NegA = refl
-op_back ops.And = refl
-op_back ops.Or = refl
-op_back ops.Zero = refl
-op_back ops.One = refl
-op_back ops.MinusOne = refl
-
-shift_bits-lt : (s : Shift) → shift_bits s < 4
-shift_bits-lt shifts.None = omega arith
-shift_bits-lt shifts.Left8 = omega arith
-shift_bits-lt shifts.Right1 = omega arith
-
-shift_back : (s : Shift) → shift_of (shift_bits s) ≡ s
-shift_back shifts.None = refl
-shift_back shifts.Left8 = refl
-shift_back shifts.Right1 = refl
-
-mem_bits-lt : (m : Mem) → mem_bits m < 4
-mem_bits-lt mems.None = omega arith
-mem_bits-lt mems.Read = omega arith
-mem_bits-lt mems.Write = omega arith
-
-mem_back : (m : Mem) → mem_of (mem_bits m) ≡ m
-mem_back mems.None = refl
-mem_back mems.Read = refl
-mem_back mems.Write = refl
-
-fetch_bit-lt : (machine : Machine) (fetch : Bool) → fetch_bit machine fetch < fetch_end machine
-fetch_bit-lt Mic1 true = omega arith
-fetch_bit-lt Mic1 false = omega arith
-fetch_bit-lt Mic2 fetch = omega arith
-
-fetch_back : (machine : Machine) (fetch : Bool) → IsTrue (may_fetch machine fetch) → (fetch_bit machine fetch == 1) ≡ fetch
-fetch_back Mic1 true h = refl
-fetch_back Mic1 false h = refl
-fetch_back Mic2 true h = cc
-fetch_back Mic2 false h = refl
-
--- a code is that of its source, and no source has it where the option is none
-code_back : (machine : Machine) (source : BusSource) → IsTrue (is_some (source_code machine source)) → source_of machine (bus_code machine (Some source)) ≡ Some source
-code_back Mic1 bus.Mdr h = refl
-code_back Mic1 bus.Pc h = refl
-code_back Mic1 bus.Mbr h = refl
-code_back Mic1 bus.Mbru h = refl
-code_back Mic1 bus.Sp h = refl
-code_back Mic1 bus.Lv h = refl
-code_back Mic1 bus.Cpp h = refl
-code_back Mic1 bus.Tos h = refl
-code_back Mic1 bus.Opc h = refl
-code_back Mic1 bus.Mbr1 h = cc
-code_back Mic1 bus.Mbr1u h = cc
-code_back Mic1 bus.Mbr2 h = cc
-code_back Mic1 bus.Mbr2u h = cc
-code_back Mic1 bus.H h = cc
-code_back Mic2 bus.Mdr h = refl
-code_back Mic2 bus.Pc h = refl
-code_back Mic2 bus.Mbr h = cc
-code_back Mic2 bus.Mbru h = cc
-code_back Mic2 bus.Sp h = refl
-code_back Mic2 bus.Lv h = refl
-code_back Mic2 bus.Cpp h = refl
-code_back Mic2 bus.Tos h = refl
-code_back Mic2 bus.Opc h = refl
-code_back Mic2 bus.Mbr1 h = refl
-code_back Mic2 bus.Mbr1u h = refl
-code_back Mic2 bus.Mbr2 h = refl
-code_back Mic2 bus.Mbr2u h = refl
-code_back Mic2 bus.H h = refl
-
-idle_back : (machine : Machine) → source_of machine (bus_code machine None) ≡ None
-idle_back Mic1 = refl
-idle_back Mic2 = refl
-
-source_code-lt : (machine : Machine) (source : BusSource) → bus_code machine (Some source) < 16
-source_code-lt Mic1 bus.Mdr = omega arith
-source_code-lt Mic1 bus.Pc = omega arith
-source_code-lt Mic1 bus.Mbr = omega arith
-source_code-lt Mic1 bus.Mbru = omega arith
-source_code-lt Mic1 bus.Sp = omega arith
-source_code-lt Mic1 bus.Lv = omega arith
-source_code-lt Mic1 bus.Cpp = omega arith
-source_code-lt Mic1 bus.Tos = omega arith
-source_code-lt Mic1 bus.Opc = omega arith
-source_code-lt Mic1 bus.Mbr1 = omega arith
-source_code-lt Mic1 bus.Mbr1u = omega arith
-source_code-lt Mic1 bus.Mbr2 = omega arith
-source_code-lt Mic1 bus.Mbr2u = omega arith
-source_code-lt Mic1 bus.H = omega arith
-source_code-lt Mic2 bus.Mdr = omega arith
-source_code-lt Mic2 bus.Pc = omega arith
-source_code-lt Mic2 bus.Mbr = omega arith
-source_code-lt Mic2 bus.Mbru = omega arith
-source_code-lt Mic2 bus.Sp = omega arith
-source_code-lt Mic2 bus.Lv = omega arith
-source_code-lt Mic2 bus.Cpp = omega arith
-source_code-lt Mic2 bus.Tos = omega arith
-source_code-lt Mic2 bus.Opc = omega arith
-source_code-lt Mic2 bus.Mbr1 = omega arith
-source_code-lt Mic2 bus.Mbr1u = omega arith
-source_code-lt Mic2 bus.Mbr2 = omega arith
-source_code-lt Mic2 bus.Mbr2u = omega arith
-source_code-lt Mic2 bus.H = omega arith
-
-bus_code-lt : (machine : Machine) (source : Option BusSource) → bus_code machine source < 16
-bus_code-lt Mic1 None = omega arith
-bus_code-lt Mic2 None = omega arith
-bus_code-lt machine (Some source) = source_code-lt machine source
-
-both : (a b : Bool) → IsTrue (a && b) → IsTrue a × IsTrue b
-both true true h = (refl, refl)
-both true false h = cc
-both false b h = cc
-
-bus_back : (machine : Machine) (used : Bool) (source : Option BusSource) → IsTrue (fits_side used (may_be_b machine) source) → source_of machine (bus_code machine source) ≡ source
-bus_back machine used None h = idle_back machine
-bus_back machine used (Some source) h = code_back machine source (both used (is_some (source_code machine source)) h).1
-
-a_code-lt : (machine : Machine) (a : Option BusSource) → a_code machine a < a_end machine
-a_code-lt Mic1 a = omega arith
-a_code-lt Mic2 a = bus_code-lt Mic2 a
-
-h_is : (source : BusSource) → IsTrue (is_h source) → Some bus.H ≡ Some source
-h_is bus.Mdr h = cc
-h_is bus.Pc h = cc
-h_is bus.Mbr h = cc
-h_is bus.Mbru h = cc
-h_is bus.Sp h = cc
-h_is bus.Lv h = cc
-h_is bus.Cpp h = cc
-h_is bus.Tos h = cc
-h_is bus.Opc h = cc
-h_is bus.Mbr1 h = cc
-h_is bus.Mbr1u h = cc
-h_is bus.Mbr2 h = cc
-h_is bus.Mbr2u h = cc
-h_is bus.H h = refl
-
-h_side : (used : Bool) (a : Option BusSource) → IsTrue (fits_side used is_h a) → (if used then Some bus.H else None) ≡ a
-h_side true None h = cc
-h_side true (Some source) h = h_is source h
-h_side false None h = refl
-h_side false (Some source) h = cc
-
-a_back : (machine : Machine) (op : AluOp) (a : Option BusSource) → IsTrue (fits_side (row op).uses_a (may_be_a machine) a) → a_of machine op (a_code machine a) ≡ a
-a_back Mic1 op a h = h_side (row op).uses_a a h
-a_back Mic2 op a h = bus_back Mic2 (row op).uses_a a h
-
-jam_bits-lt : (n : PlacedNext) → jam_bits n < 8
-jam_bits-lt (nexts.Goto to) = omega arith
-jam_bits-lt (nexts.Dispatch high) = omega arith
-jam_bits-lt (nexts.Branch tests.N low) = omega arith
-jam_bits-lt (nexts.Branch tests.Z low) = omega arith
-
-addr_bits-lt : (n : PlacedNext) → IsTrue (is_next n) → addr_bits n < 512
-addr_bits-lt (nexts.Goto to) h = grind (arith, nat_tests)
-addr_bits-lt (nexts.Dispatch true) h = omega arith
-addr_bits-lt (nexts.Dispatch false) h = omega arith
-addr_bits-lt (nexts.Branch test low) h = grind (arith, nat_tests)
-
-next_back : (n : PlacedNext) → next_of (jam_bits n) (addr_bits n) ≡ n
-next_back (nexts.Goto to) = refl
-next_back (nexts.Dispatch true) = refl
-next_back (nexts.Dispatch false) = refl
-next_back (nexts.Branch tests.N low) = refl
-next_back (nexts.Branch tests.Z low) = refl
+use Rattle.micro_word.specs.declared.layout.Fields.{Fields}
 
 -- what a valid statement meets
 pub record Valid (machine : Machine) (p : Placed) : Type 0 where
@@ -235,25 +35,81 @@ valid machine p h =
     let two = both _ _ three.0 in
     record { dests = two.0; op = two.1; a = three.1; b = four.1; apart = five.1; fetch = six.1; next = all.1 }
 
-pub fitting : (machine : Machine) (p : Placed) → IsTrue (is_valid machine p) → Fitting machine (codes machine p)
-fitting machine p h =
-    let v : Valid machine p = valid machine p h in
+is_valid_by : (machine : Machine) (p : Placed) → Valid machine p → IsTrue (is_valid machine p)
+is_valid_by machine p v = join _ _ (join _ _ (join _ _ (join _ _ (join _ _ (join _ _ v.dests v.op) v.a) v.b) v.apart) v.fetch) v.next
+
+-- what the fields of a canonical word meet
+record Conditions (machine : Machine) (f : Fields) : Type 0 where
+  is_a_row : IsTrue (is_row machine f.gates)
+  shift : IsTrue (is_one_at_most f.shift)
+  a : IsTrue (is_side_a machine (row (op_of f.gates)).uses_a f.a)
+  b : IsTrue (is_side machine (row (op_of f.gates)).uses_b f.b)
+  apart : IsTrue (are_apart machine f.a f.b)
+  mem : IsTrue (is_one_at_most f.mem)
+  target : IsTrue (is_target f.jam f.addr)
+
+conditions : (machine : Machine) (f : Fields) → IsTrue (are_canonical machine f) → Conditions machine f
+conditions machine f h =
+    let six = both _ _ h in
+    let five = both _ _ six.0 in
+    let four = both _ _ five.0 in
+    let three = both _ _ four.0 in
+    let two = both _ _ three.0 in
+    let one = both _ _ two.0 in
+    record { is_a_row = one.0; shift = one.1; a = two.1; b = three.1; apart = four.1; mem = five.1; target = six.1 }
+
+are_canonical_by : (machine : Machine) (f : Fields) → Conditions machine f → IsTrue (are_canonical machine f)
+are_canonical_by machine f c = join _ _ (join _ _ (join _ _ (join _ _ (join _ _ (join _ _ c.is_a_row c.shift) c.a) c.b) c.apart) c.mem) c.target
+
+-- Statements
+
+fitting : (machine : Machine) (p : Placed) → Valid machine p → Fitting machine (codes machine p)
+fitting machine p v =
+    let n : NextBack p.next = next_back p.next v.next in
     record {
-      in_addr = addr_bits-lt p.next v.next;
-      in_jam = jam_bits-lt p.next;
-      in_shift = shift_bits-lt p.part.shift;
-      in_gates = gates-lt p.part.op;
-      in_c = grind (arith, nat_tests, v.dests);
-      in_mem = mem_bits-lt p.part.mem;
+      in_addr = n.in_addr;
+      in_jam = n.in_jam;
+      in_shift = (shift_back p.part.shift).fits;
+      in_gates = (row_back p.part.op).fits;
+      in_c = below p.part.dests 512 v.dests;
+      in_mem = (mem_back p.part.mem).fits;
       in_fetch = fetch_bit-lt machine p.part.fetch;
-      in_a = a_code-lt machine p.part.a;
-      in_b = bus_code-lt machine p.part.b;
+      in_a = a_code-lt machine p.part.op p.part.a v.a;
+      in_b = side-lt machine (row p.part.op).uses_b _ (bus_side machine (row p.part.op).uses_b p.part.b v.b);
     }
 
+op_back : (op : AluOp) → op_of (row op).gates ≡ op
+op_back op = ap (λ (o : Option AluOp). unwrap_or o ops.MinusOne) (row_back op).is_found
+
+row_of_op : (machine : Machine) (op : AluOp) → IsTrue (has_operation machine op) → IsTrue (is_row machine (row op).gates)
+row_of_op machine op h =
+    join _ _ (subst (λ (o : Option AluOp). IsTrue (is_some o)) (sym (row_back op).is_found) refl)
+    (subst (λ (o : AluOp). IsTrue (has_operation machine o)) (sym (op_back op)) h)
+
+apart_codes : (machine : Machine) (used_a used_b : Bool) (a b : Option BusSource) → IsTrue (fits_side used_a (may_be_a machine) a) →
+    IsTrue (fits_side used_b (may_be_b machine) b) → IsTrue (not (is_mixed a b)) → IsTrue (are_apart machine (a_code machine a) (bus_code machine b))
+apart_codes Mic1 used_a used_b a b h k e = refl
+apart_codes Mic2 used_a used_b a b h k e =
+    subst (λ (x : Option BusSource). IsTrue (not (is_mixed x (source_of Mic2 (bus_code Mic2 b))))) (sym (bus_back Mic2 used_a a h))
+    (subst (λ (y : Option BusSource). IsTrue (not (is_mixed a y))) (sym (bus_back Mic2 used_b b k)) e)
+
+-- the codes of a valid statement meet the conditions
+canonical_codes : (machine : Machine) (p : Placed) → Valid machine p → IsTrue (are_canonical machine (codes machine p))
+canonical_codes machine p v =
+    let op : p.part.op ≡ op_of (row p.part.op).gates = sym (op_back p.part.op) in
+    are_canonical_by machine (codes machine p) (record {
+      is_a_row = row_of_op machine p.part.op v.op;
+      shift = (shift_back p.part.shift).one;
+      a = subst (λ (o : AluOp). IsTrue (is_side_a machine (row o).uses_a (a_code machine p.part.a))) op (a_side machine p.part.op p.part.a v.a);
+      b = subst (λ (o : AluOp). IsTrue (is_side machine (row o).uses_b (bus_code machine p.part.b))) op (bus_side machine (row p.part.op).uses_b p.part.b v.b);
+      apart = apart_codes machine (row p.part.op).uses_a (row p.part.op).uses_b p.part.a p.part.b v.a v.b v.apart;
+      mem = (mem_back p.part.mem).one;
+      target = (next_back p.next v.next).target;
+    })
+
 -- a valid statement is the one that its codes name
-pub named-codes : (machine : Machine) (p : Placed) → IsTrue (is_valid machine p) → named machine (codes machine p) ≡ p
-named-codes machine p h =
-    let v : Valid machine p = valid machine p h in
+named-codes : (machine : Machine) (p : Placed) → Valid machine p → named machine (codes machine p) ≡ p
+named-codes machine p v =
     let op : op_of (row p.part.op).gates ≡ p.part.op = op_back p.part.op in
     let a : a_of machine (op_of (row p.part.op).gates) (a_code machine p.part.a) ≡ p.part.a =
     ap (λ (o : AluOp). a_of machine o (a_code machine p.part.a)) op ∙ a_back machine p.part.op p.part.a v.a in
@@ -264,54 +120,89 @@ named-codes machine p h =
         op = op i;
         a = a i;
         b = b i;
-        shift = shift_back p.part.shift i;
-        mem = mem_back p.part.mem i;
+        shift = (shift_back p.part.shift).is_back i;
+        mem = (mem_back p.part.mem).is_back i;
         fetch = fetch_back machine p.part.fetch v.fetch i;
       };
-      next = next_back p.next i;
+      next = (next_back p.next v.next).is_back i;
     }
 
-pub fields-code : (machine : Machine) (p : Placed) → IsTrue (is_valid machine p) → fields_of machine (word_of machine p) ≡ codes machine p
-fields-code machine p h = fields-word machine (codes machine p) (fitting machine p h)
+fields-code : (machine : Machine) (p : Placed) → Valid machine p → fields_of machine (word_of machine p) ≡ codes machine p
+fields-code machine p v = fields-word machine (codes machine p) (fitting machine p v)
 
 pub statement-word : (machine : Machine) (p : Placed) → IsTrue (is_valid machine p) → statement_of machine (word_of machine p) ≡ p
 unfolding statement_of
-statement-word machine p h = ap (named machine) (fields-code machine p h) ∙ named-codes machine p h
-
-same : (a b : ℕ) → a ≡ b → IsTrue (a == b)
-same a b h = grind (arith, nat_tests)
-
-equal : (a b : ℕ) → IsTrue (a == b) → a ≡ b
-equal a b h = grind (arith, nat_tests)
-
-join : (a b : Bool) → IsTrue a → IsTrue b → IsTrue (a && b)
-join true true h k = refl
-join true false h k = cc
-join false b h k = cc
+statement-word machine p h = let v : Valid machine p = valid machine p h in ap (named machine) (fields-code machine p v) ∙ named-codes machine p v
 
 -- the word of a valid statement is canonical
 pub canonical-word : (machine : Machine) (p : Placed) → IsTrue (is_valid machine p) → IsTrue (is_canonical machine (word_of machine p))
 unfolding is_canonical
 canonical-word machine p h =
-    let e : statement_of machine (word_of machine p) ≡ p = statement-word machine p h in
-    join _ _ (subst (λ (q : Placed). IsTrue (is_valid machine q)) (sym e) h) (same _ _ (ap (word_of machine) e))
+    let v : Valid machine p = valid machine p h in
+    let short : word_of machine p < word_end machine = word_with-lt machine (codes machine p) (fitting machine p v) in
+    join _ _ (above (word_of machine p) (word_end machine) short)
+    (subst (λ (f : Fields). IsTrue (are_canonical machine f)) (sym (fields-code machine p v)) (canonical_codes machine p v))
 
+-- Words
+
+apart_h : (used : Bool) (b : Option BusSource) → IsTrue (not (is_mixed (if used then Some bus.H else None) b))
+apart_h true b = refl
+apart_h false b = refl
+
+apart_named : (machine : Machine) (op : AluOp) (a b : ℕ) → IsTrue (are_apart machine a b) → IsTrue (not (is_mixed (a_of machine op a) (source_of machine b)))
+apart_named Mic1 op a b h = apart_h (row op).uses_a (source_of Mic1 b)
+apart_named Mic2 op a b h = h
+
+-- fields that meet the conditions name a valid statement
+named_valid : (machine : Machine) (f : Fields) → Fitting machine f → Conditions machine f → IsTrue (is_valid machine (named machine f))
+named_valid machine f fit c =
+    let op : AluOp = op_of f.gates in
+    let found = both (is_some (row_of f.gates)) (has_operation machine op) c.is_a_row in
+    is_valid_by machine (named machine f) (record {
+      dests = above f.c 512 fit.in_c;
+      op = found.1;
+      a = side_a_fits machine op f.a c.a;
+      b = side_fits machine (row op).uses_b f.b c.b;
+      apart = apart_named machine op f.a f.b c.apart;
+      fetch = bit_may_fetch machine f.fetch fit.in_fetch;
+      next = (target_back f.jam f.addr fit.in_jam fit.in_addr c.target).valid;
+    })
+
+-- they are its codes
+codes-named : (machine : Machine) (f : Fields) → Fitting machine f → Conditions machine f → codes machine (named machine f) ≡ f
+codes-named machine f fit c =
+    let op : AluOp = op_of f.gates in
+    let t : TargetBack f.jam f.addr = target_back f.jam f.addr fit.in_jam fit.in_addr c.target in
+    let gates : (row op).gates ≡ f.gates = gates_back f.gates (both _ _ c.is_a_row).0 in
+    let shift : shift_bits (shift_of f.shift) ≡ f.shift = shift_bits-shift_of f.shift fit.in_shift c.shift in
+    let mem : mem_bits (mem_of f.mem) ≡ f.mem = mem_bits-mem_of f.mem fit.in_mem c.mem in
+    let fetch : fetch_bit machine (f.fetch == 1) ≡ f.fetch = fetch_bit-back machine f.fetch fit.in_fetch in
+    let a : a_code machine (a_of machine op f.a) ≡ f.a = a_code-back machine op f.a fit.in_a c.a in
+    let b : bus_code machine (source_of machine f.b) ≡ f.b = bus_code-back machine (row op).uses_b f.b c.b in
+    λ i. record { addr = t.its_addr i; jam = t.its_jam i; shift = shift i; gates = gates i; c = f.c; mem = mem i; fetch = fetch i; a = a i; b = b i }
+
+-- a canonical word spells the statement that its fields name
 pub spells : (machine : Machine) (word : ℕ) → IsTrue (is_canonical machine word) → Spells machine word (statement_of machine word)
-unfolding is_canonical
+unfolding is_canonical statement_of
 spells machine word h =
-    let parts = both _ _ h in
-    let whole : word_of machine (statement_of machine word) ≡ word = equal _ _ parts.1 in
+    let parts = both (nat_lt word (word_end machine)) (are_canonical machine (fields_of machine word)) h in
+    let short : word < word_end machine = below word (word_end machine) parts.0 in
+    let fit : Fitting machine (fields_of machine word) = fields_fit machine word in
+    let c : Conditions machine (fields_of machine word) = conditions machine (fields_of machine word) parts.1 in
+    let fields : codes machine (named machine (fields_of machine word)) ≡ fields_of machine word = codes-named machine (fields_of machine word) fit c in
     record {
-      valid = parts.0;
-      whole = whole;
-      fields = ap (fields_of machine) (sym whole) ∙ fields-code machine (statement_of machine word) parts.0;
+      valid = named_valid machine (fields_of machine word) fit c;
+      whole = ap (word_with machine) fields ∙ word-fields machine word short;
+      fields = sym fields;
     }
 
 pub is_the_word : (machine : Machine) (word : ℕ) → IsTrue (is_canonical machine word) → IsCanonical machine word
-is_the_word machine word h = let c : Spells machine word (statement_of machine word) = spells machine word h in (statement_of machine word, c.valid, c.whole)
+is_the_word machine word h = let s : Spells machine word (statement_of machine word) = spells machine word h in (statement_of machine word, s.valid, s.whole)
+
+-- Decoding
 
 known_by : (machine : Machine) (w : ℕ) (b : Bool) → is_canonical machine w ≡ b → IfSome (if b then Some (statement_of machine w) else None) (λ p. IsTrue (is_valid machine p) × (word_of machine p ≡ w))
-known_by machine w true e = let c : Spells machine w (statement_of machine w) = spells machine w e in (c.valid, c.whole)
+known_by machine w true e = let s : Spells machine w (statement_of machine w) = spells machine w e in (s.valid, s.whole)
 known_by machine w false e = tt
 
 pub known : (machine : Machine) (w : ℕ) → IfSome (decoded_as machine w) (λ p. IsTrue (is_valid machine p) × (word_of machine p ≡ w))

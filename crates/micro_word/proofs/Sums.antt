@@ -1,4 +1,5 @@
 -- The fields of a sum of fields.
+use Rattle.micro_word.specs.Canonical.{word_end}
 use Rattle.std.proofs.Common.{◌≡◌, ℕ, ◌/◌, ◌%◌, ◌^◌, ◌<◌, arith}
 use Rattle.micro_word.specs.Layout.{word_with, fields_of}
 use Rattle.micro_word.specs.declared.statement.Machine.{Machine}
@@ -49,3 +50,37 @@ fields-word Mic2 f h =
     let a : (word_with Mic2 f) / 2 ^ 4 % 16 ≡ f.a = omega arith in
     let b : (word_with Mic2 f) % 16 ≡ f.b = omega arith in
     λ i. record { addr = addr i; jam = jam i; shift = shift i; gates = gates i; c = c i; mem = mem i; fetch = fetch i; a = a i; b = b i }
+
+pub fields_fit : (machine : Machine) (word : ℕ) → Fitting machine (fields_of machine word)
+fields_fit Mic1 word =
+    record {
+      in_addr = omega arith;
+      in_jam = omega arith;
+      in_shift = omega arith;
+      in_gates = omega arith;
+      in_c = omega arith;
+      in_mem = omega arith;
+      in_fetch = omega arith;
+      in_a = omega arith;
+      in_b = omega arith;
+    }
+fields_fit Mic2 word =
+    record {
+      in_addr = omega arith;
+      in_jam = omega arith;
+      in_shift = omega arith;
+      in_gates = omega arith;
+      in_c = omega arith;
+      in_mem = omega arith;
+      in_fetch = omega arith;
+      in_a = omega arith;
+      in_b = omega arith;
+    }
+
+pub word_with-lt : (machine : Machine) (f : Fields) → Fitting machine f → word_with machine f < word_end machine
+word_with-lt Mic1 f h = omega arith
+word_with-lt Mic2 f h = omega arith
+
+pub word-fields : (machine : Machine) (word : ℕ) → word < word_end machine → word_with machine (fields_of machine word) ≡ word
+word-fields Mic1 word h = omega arith
+word-fields Mic2 word h = omega arith

@@ -1,4 +1,4 @@
--- How a placed statement stands in a word: the code of each of its parts, and the part of each code.
+-- How a placed statement stands in a word, by chapter 4: the code of each of its parts, and the part of each code.
 use Rattle.std.specs.Prelude.{ℕ, Bool, true, false, ◌==◌, if◌then◌else◌, List, [], ◌∷◌, find, Option, Some, None, unwrap_or}
 use Rattle.micro_word.specs.declared.statement.Machine.{Machine}
 use Rattle.micro_word.specs.declared.statement.Machine.TheVariants.{Mic1, Mic2}
@@ -47,8 +47,11 @@ operations =
     ∷ ops.And ∷ ops.Or ∷ ops.Zero ∷ ops.One ∷ ops.MinusOne ∷ []
 
 -- the operation of six bits, where they are a row
+abbrev pub row_of : ℕ → Option AluOp
+row_of gates = find (λ op. gates == (row op).gates) operations
+
 abbrev pub op_of : ℕ → AluOp
-op_of gates = unwrap_or (find (λ op. gates == (row op).gates) operations) ops.MinusOne
+op_of gates = unwrap_or (row_of gates) ops.MinusOne
 
 -- SLL8 and SRA1
 abbrev pub shift_bits : Shift → ℕ

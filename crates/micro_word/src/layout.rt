@@ -1,16 +1,4 @@
-//! The fields of a word, as chapter 4 of the book draws them, the most significant first:
-//!
-//! ```text
-//!         Addr  JAM  shift  gates   C   mem  FETCH   A   B
-//!   Mic-1   9    3     2      6     9    2     1         4     36 bits
-//!   Mic-2   9    3     2      6     9    2           4   4     39 bits
-//!
-//!   JAM    JMPC JAMN JAMZ
-//!   shift  SLL8 SRA1
-//!   gates  F0 F1 ENA ENB INVA INC
-//!   C      H OPC TOS CPP LV SP PC MDR MAR
-//!   mem    WRITE READ
-//! ```
+//! The fields of a word.
 ghost use Rattle.std.specs.Prelude.{◌≡◌, ◌<◌, ◌/◌, ◌%◌, ◌^◌};
 ghost use Rattle.micro_word.specs.declared.statement.Machine.TheVariants.{Mic1, Mic2};
 ghost use Rattle.micro_word.specs.Layout.{fields_of, word_with};
@@ -19,10 +7,15 @@ ghost use Rattle.micro_word.specs.Layout.{fields_of, word_with};
 #[derive(Clone, Copy, Debug, PartialEq, Eq)]
 pub struct Fields {
     pub addr: u16,
+    /// JMPC JAMN JAMZ
     pub jam: u8,
+    /// SLL8 SRA1
     pub shift: u8,
+    /// F0 F1 ENA ENB INVA INC
     pub gates: u8,
+    /// H OPC TOS CPP LV SP PC MDR MAR
     pub c: u16,
+    /// WRITE READ
     pub mem: u8,
     pub fetch: u8,
     pub a: u8,

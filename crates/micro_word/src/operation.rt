@@ -1,6 +1,6 @@
 //! The table of operations.
 ghost use Rattle.std.specs.Prelude.{◌≡◌, ◌==◌, find};
-ghost use Rattle.micro_word.specs.Coding.{row, op_of};
+ghost use Rattle.micro_word.specs.Coding.{row, row_of, op_of};
 
 use crate::statement::AluOp;
 
@@ -23,7 +23,7 @@ const fn entry(gates: u8, uses_a: bool, uses_b: bool) -> Row
     }
 }
 
-fn with_gates(ops: &[AluOp], gates: u8) -> Option<AluOp>
+fn first_with_gates(ops: &[AluOp], gates: u8) -> Option<AluOp>
     ensures { result ≡ find (λ op. gates == (row op).gates) ops.now }
 {
     ops.iter().copied().find(|op| gates == op.row().gates)
@@ -73,13 +73,17 @@ impl AluOp {
         }
     }
 
+    /// The operation of six bits; none where they are no row of the table.
+    pub fn with_gates(gates: u8) -> Option<AluOp>
+        ensures { result ≡ row_of gates }
+    {
+        first_with_gates(&AluOp::ALL, gates)
+    }
+
     /// The operation of six bits that are a row of the table.
     pub fn of_gates(gates: u8) -> AluOp
         ensures { result ≡ op_of gates }
     {
-        match with_gates(&AluOp::ALL, gates) {
-            Some(op) => op,
-            None => AluOp::MinusOne,
-        }
+        AluOp::with_gates(gates).unwrap_or(AluOp::MinusOne)
     }
 }

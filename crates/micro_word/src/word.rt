@@ -1,17 +1,17 @@
 //! The words of both machines, each exactly one statement's.
-ghost use Rattle.std.specs.Prelude.{◌≡◌, IsTrue, Some, None, IfSome, IfNone};
+ghost use Rattle.std.specs.Prelude.{◌≡◌, nat_lt, IsTrue, Some, None, IfSome, IfNone};
 ghost use Rattle.micro_word.specs.declared.statement.Machine.TheVariants.{Mic1, Mic2};
 ghost use Rattle.micro_word.specs.declared.statement.Placed.{Placed};
 ghost use Rattle.micro_word.specs.Layout.{fields_of};
 ghost use Rattle.micro_word.specs.Coding.{word_of, statement_of};
-ghost use Rattle.micro_word.specs.Canonical.{is_valid, IsCanonical, is_canonical, decoded_as};
+ghost use Rattle.micro_word.specs.Canonical.{is_valid, IsCanonical, is_canonical, decoded_as, word_end};
 
 use crate::layout::{Fields, fields1, fields2, word_with1, word_with2};
 use crate::statement::{Machine, Placed};
 use std::marker::Model;
 
 /// A canonical word of Mic-1.
-#[derive(Clone, Copy)]
+#[derive(Clone, Copy, Debug, PartialEq, Eq)]
 pub struct Word1 {
     bits: u64,
 }
@@ -31,7 +31,7 @@ impl Model for Word1 {
 }
 
 /// A canonical word of Mic-2.
-#[derive(Clone, Copy)]
+#[derive(Clone, Copy, Debug, PartialEq, Eq)]
 pub struct Word2 {
     bits: u64,
 }
@@ -69,19 +69,22 @@ fn fields(machine: Machine, bits: u64) -> Fields
     }
 }
 
-#[tactic(auto, unfolding(crate::specs::Coding::statement_of))]
-fn named_by(machine: Machine, bits: u64) -> Placed
-    ensures { result ≡ statement_of machine bits }
+fn is_short(machine: Machine, bits: u64) -> bool
+    ensures { result ≡ nat_lt bits (word_end machine) }
 {
-    fields(machine, bits).placed(machine)
+    match machine {
+        Machine::Mic1 => bits < 1 << 36,
+        Machine::Mic2 => bits < 1 << 39,
+    }
 }
 
+#[tactic(auto, unfolding(crate::specs::Coding::statement_of, crate::specs::Canonical::is_canonical))]
 fn decoded(machine: Machine, bits: u64) -> Option<Placed>
     ensures { result ≡ decoded_as machine bits }
 {
-    let placed = named_by(machine, bits);
-    if placed.valid(machine) && bits_of(machine, &placed) == bits {
-        Some(placed)
+    let fields = fields(machine, bits);
+    if is_short(machine, bits) && fields.canonical(machine) {
+        Some(fields.placed(machine))
     } else {
         None
     }
