@@ -3,6 +3,7 @@
 
 pub mod decode;
 pub mod encode;
+mod frame;
 pub mod image;
 pub mod instr;
 pub mod print;
