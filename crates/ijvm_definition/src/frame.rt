@@ -1,9 +1,10 @@
 //! A frame of the plain machine.
 
-ghost use Rattle.std.specs.Prelude.{◌≡◌, ◌≢◌, ◌+◌, ◌<◌, ◌≤◌, ◌^◌, [], ◌∷◌, ℕ, List, length, reverse, replicate, slice_get, slice_set, drop, Some, None, IfOk, OnOk, OnErr, IsSome, IfSome};
+ghost use Rattle.std.specs.Prelude.{◌≡◌, ◌≢◌, ◌+◌, ◌<◌, ◌≤◌, ◌^◌, [], ◌∷◌, ◌++◌, ℕ, List, length, reverse, replicate, map, take, slice_get, slice_set, drop, Some, None, IfOk, OnOk, OnErr, IfSome, vec_len};
 ghost use Rattle.std.specs.Bool.{OnTrue};
 ghost use Rattle.ijvm_definition.specs.Frames.{Frame as FrameView, kept_words, top_of};
 ghost use Rattle.std.specs.Option.{option_flatten};
+ghost use Rattle.ijvm_definition.specs.Step.{called, onto};
 ghost use Rattle.ijvm_definition.specs.Machine.{has_own};
 
 use std::alloc::{AllocError, Global};
@@ -30,6 +31,47 @@ fn set_last(values: &mut Vec<u32>, value: u32)
 {
     let last = values.len() - 1;
     values[last] = value;
+}
+
+#[tactic(auto, using(crate::proofs::Stacks::drop_reverse))]
+fn drop_last(values: &mut Vec<u32>, count: usize)
+    requires { count ≤ vec_len values.old }
+    ensures { reverse values.new.items ≡ drop count (reverse values.old.items) }
+{
+    values.truncate(values.len() - count);
+}
+
+/// Appends locals that are set.
+fn push_set(locals: &mut Vec<Option<u32>>, values: &[u32]) -> Result<(), AllocError>
+    ensures { OnOk result (locals.new.items ≡ locals.old.items ++ map Some values.now) }
+{
+    for value in values {
+        locals.push(Some(*value))?;
+    }
+    Ok(())
+}
+
+/// Appends locals that are not set.
+fn push_unset(locals: &mut Vec<Option<u32>>, count: u16) -> Result<(), AllocError>
+    ensures { OnOk result (locals.new.items ≡ locals.old.items ++ replicate count None) }
+{
+    for _ in 0..count {
+        locals.push(None)?;
+    }
+    Ok(())
+}
+
+/// The locals of a method that is called with the last operands.
+fn method_locals(alloc: Global, operands: &[u32], params: u16, others: u16) -> Result<Vec<Option<u32>>, AllocError>
+    requires { params ≤ length operands.now }
+    ensures { IfOk result (λ locals. locals.items ≡ None ∷ onto (take params (reverse operands.now)) (replicate others None)) }
+{
+    let from = operands.len() - params as usize;
+    let mut locals = Vec::with_capacity(alloc, 1 + params as usize + others as usize)?;
+    locals.push(None)?;
+    push_set(&mut locals, &operands[from..])?;
+    push_unset(&mut locals, others)?;
+    Ok(locals)
 }
 
 impl Frame {
@@ -106,5 +148,26 @@ impl Frame {
         }
         self.locals[index as usize] = Some(value);
         true
+    }
+
+    /// The frame of a method that is called with the last operands.
+    pub fn called(&self, alloc: Global, params: u16, others: u16, back: u32) -> Result<Frame, AllocError>
+        requires { params ≤ length self.now.operands }
+        ensures { IfOk result (λ f. f ≡ called (take params self.now.operands) others back) }
+    {
+        let locals = method_locals(alloc, &self.operands, params, others)?;
+        Ok(Frame {
+            locals,
+            operands: Vec::new(alloc),
+            back: Some(back),
+        })
+    }
+
+    /// Takes the last operands away.
+    pub fn discard(&mut self, count: usize)
+        requires { count ≤ length self.old.operands }
+        ensures { self.new ≡ record self.old { operands = drop count self.old.operands } }
+    {
+        drop_last(&mut self.operands, count);
     }
 }
