@@ -1,4 +1,4 @@
-use Rattle.std.proofs.Common.{◌≡◌, ℕ, Option, List, slice_index, subst, ap, ◌∙◌}
+use Rattle.std.proofs.Common.{◌≡◌, ℕ, Option, Err, List, slice_index, subst, ap, ◌∙◌}
 use Rattle.store_placement.specs.declared.pair.Pair.{Pair}
 use Rattle.store_placement.specs.declared.refusal.PlaceError.{PlaceError}
 use Rattle.store_placement.specs.Chosen.{IsChosenList}
@@ -6,6 +6,7 @@ use Rattle.store_placement.specs.Demands.{Demands, AreWithin}
 use Rattle.store_placement.specs.Placement.{HasPlacement}
 use Rattle.store_placement.specs.Refusals.{Refuses}
 use Rattle.store_placement.proofs.NoPlacement.{refused}
+use Rattle.store_placement.proofs.OneRefusal.{one_refusal}
 use Rattle.store_placement.proofs.chosen.place.Goals as goal
 
 made : List (Option ℕ) → List Pair → Demands
@@ -41,3 +42,16 @@ returns-in-Err-clause-ok c =
     let same = same_demands d inside.fixed.items c.deref.result.now inside.pairs.items c.deref-2.result.now f p c.constraints.view_is in
     let P : Demands → Type 0 = λ e. Refuses e c.in-Err.e in
     (λ is. cc, λ has. absurd (refused d (within d inside.fixed.items inside.pairs.items c.constraints.invariant c.constraints.view_is) c.in-Err.e (subst P same c.in-Err.ensures) has))
+
+pub returns-in-Err-clause-err : goal.returns-in-Err-clause-err
+unfolding made
+returns-in-Err-clause-err c =
+    let d = c.args.constraints.now in
+    let inside = c.constraints.inside in
+    let f : c.deref.result.now ≡ inside.fixed.items = cc in
+    let p : c.deref-2.result.now ≡ inside.pairs.items = cc in
+    let same = same_demands d inside.fixed.items c.deref.result.now inside.pairs.items c.deref-2.result.now f p c.constraints.view_is in
+    let P : Demands → Type 0 = λ e. Refuses e c.in-Err.e in
+    let here : Refuses d c.in-Err.e = subst P same c.in-Err.ensures in
+    let Q : PlaceError → Type 0 = λ e. Refuses d e in
+    λ e. (λ is. let equal : c.in-Err.e ≡ e = cc in subst Q equal here, λ is. ap Err (one_refusal d c.in-Err.e e here is))
