@@ -1,6 +1,23 @@
 //! A microinstruction: its structured form, its word on each machine, and the control store.
 #![tactic(auto)]
 
+mod bus;
+mod canonical;
+mod codes;
+mod laws;
+pub mod layout;
+mod operation;
 pub mod statement;
+mod store;
+mod valid;
+mod word;
 
+pub use laws::{statement_law, word_law};
+pub use layout::{Fields, fields1, fields2, word_with1, word_with2};
+pub use operation::Row;
 pub use statement::{AluOp, BusSource, Machine, Mem, Part, Placed, PlacedNext, Shift, Test};
+pub use store::Store;
+pub use word::{Word1, Word2, decode1, decode2, encode1, encode2};
+
+#[cfg(test)]
+mod tests;

@@ -1,0 +1,37 @@
+-- A bus between a source and a sink shows a world; what an access leads to, and what stands after an Err.
+use Rattle.std.specs.Prelude.{◌≡◌, ◌≢◌, ℕ, List, [], slice_get, Option}
+use Rattle.std.specs.Option.{option_map}
+use Rattle.console_port.specs.View.{BusView}
+use Rattle.console_port.specs.World.{World, Refusal, fault_of}
+use Rattle.console_port.specs.Console.{Untaken, Given, IsLost, IsFault}
+use Rattle.console_port.specs.declared.fault.BusFault.{BusFault}
+use Rattle.console_port.specs.declared.fault.BusFault.TheVariants.{WriteFault}
+
+pub record Shows (left held : Option (List ℕ)) (bus : BusView) (w : World) : Type 0 where
+  pub words : w.words ≡ bus.words
+  pub untaken : Untaken left bus.console.ended w.untaken
+  pub given : Given held bus.console.kept w.given
+
+-- Whatever may be left after a call, something may have been left before it from which the call leads the world there.
+abbrev pub IsLed : Option (List ℕ) → Option (List ℕ) → BusView → Option (List ℕ) → Option (List ℕ) → BusView → (World → World → Type 0) → Type 0
+IsLed left held bus left' held' bus' leads =
+    (rest : List ℕ) → Untaken left' bus'.console.ended rest →
+    (untaken : List ℕ) × Untaken left bus.console.ended untaken ×
+    ((w : World) → Shows left held bus w → w.untaken ≡ untaken → (v : World) × leads w v × Shows left' held' bus' v × (v.untaken ≡ rest))
+
+-- after an Err: no memory word is changed, and but for a write that failed the same world is shown; after a fault nothing is kept
+pub record Stands (left held : Option (List ℕ)) (bus : BusView) (left' held' : Option (List ℕ)) (bus' : BusView) (e : BusFault) : Type 0 where
+  pub words : bus'.words ≡ bus.words
+  pub same : e ≢ WriteFault → (w : World) → Shows left held bus w → Shows left' held' bus' w
+  pub untaken : left' ≡ left
+  pub ended : bus'.console.ended ≡ bus.console.ended
+  pub emptied : IsFault e → bus'.console.kept ≡ []
+  pub lost : e ≡ WriteFault → IsLost held bus.console.kept held' bus'.console.kept
+
+-- no word but the one there is changed
+abbrev pub ChangesOnly : ℕ → List ℕ → List ℕ → Type 0
+ChangesOnly at old new = (a : ℕ) → a ≢ at → slice_get new a ≡ slice_get old a
+
+-- what a refused access answers, where it is refused
+abbrev pub refused_by : Option Refusal → Option BusFault
+refused_by refusal = option_map fault_of refusal

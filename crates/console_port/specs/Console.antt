@@ -1,0 +1,36 @@
+-- A console between a source and a sink: the world's bytes that the three show together, and what a fault leaves.
+use Rattle.std.specs.Prelude.{◌≡◌, ◌≢◌, ℕ, ◌≤◌, Bool, true, false, List, [], ◌++◌, take, Option, IfSome, Result, Err, IsErrOf}
+use Rattle.std.specs.Option.{option_map}
+use Rattle.mic_base.specs.Causes.{Rose}
+use Rattle.console_port.specs.declared.fault.BusFault.{BusFault}
+use Rattle.console_port.specs.declared.fault.BusFault.TheVariants.{ReadFault, WriteFault, StackLimit, OutOfMap}
+
+-- the untaken bytes may be these: none after the end was met, else what the source tells that it has left, where it tells
+abbrev pub Untaken : Option (List ℕ) → Bool → List ℕ → Type 0
+Untaken left true untaken = untaken ≡ []
+Untaken left false untaken = IfSome left (λ l. untaken ≡ l)
+
+-- the bytes given may be these: where the sink tells what it holds, that followed by the kept bytes
+abbrev pub Given : Option (List ℕ) → List ℕ → List ℕ → Type 0
+Given held kept given = IfSome held (λ h. given ≡ h ++ kept)
+
+-- after a write that failed: nothing is kept, and the sink has taken a prefix of what was
+pub record IsLost (held : Option (List ℕ)) (kept : List ℕ) (held' : Option (List ℕ)) (kept' : List ℕ) : Type 0 where
+  pub emptied : kept' ≡ []
+  pub prefix : (n : ℕ) × (held' ≡ option_map (λ h. h ++ take n kept) held)
+
+-- a fault of the source or the sink
+abbrev pub IsFault : BusFault → Type 0
+IsFault ReadFault = Unit {0}
+IsFault WriteFault = Unit {0}
+IsFault (StackLimit at) = ⊥
+IsFault (OutOfMap at) = ⊥
+
+-- a fault comes only where its object's count rose, and each count stays otherwise
+pub record HasFaultCause {T : Type 0} (source source' sink sink' : ℕ) (result : Result T BusFault) : Type 0 where
+  pub source_later : source ≤ source'
+  pub sink_later : sink ≤ sink'
+  pub read : IsErrOf result ReadFault → Rose source source'
+  pub write : IsErrOf result WriteFault → Rose sink sink'
+  pub source_same : result ≢ Err ReadFault → source' ≡ source
+  pub sink_same : result ≢ Err WriteFault → sink' ≡ sink

@@ -1,0 +1,206 @@
+//! Memory and console behind one address: what the wires of a machine reach.
+
+ghost use Rattle.mic_base.specs.Streams.{Holds};
+ghost use Rattle.std.specs.Prelude.{◌/◌, ◌≡◌, ◌≢◌, ◌≤◌, ◌<◌, ◌+◌, [], ℕ, List, Option, Some, None, Ok, Err, false, length, replicate, slice_get, slice_index, slice_set, IsOk, IfOk, OnOk, OnErr, IfErr, IsErrOf};
+ghost use Rattle.console_port.specs.Bus.{Shows, Stands, IsLed, ChangesOnly, refused_by};
+ghost use Rattle.console_port.specs.Console.{IsLost, IsFault, HasFaultCause};
+ghost use Rattle.console_port.specs.World.{World, Refusal, fault_of, console_at, read_refusal, write_refusal, word_refusal, fetch_refusal, byte_in, read_value, after_read, after_write};
+
+use crate::console::Console;
+use crate::fault::BusFault;
+use crate::map::MemoryMap;
+use mic_base::{Sink, Source};
+use std::alloc::{AllocError, Global};
+use std::marker::Model;
+
+const CONSOLE: u32 = 0xFFFF_FFFD;
+
+/// Memory words and a console. Each access says by the memory map what it reaches.
+#[derive(Drop)]
+pub struct Bus {
+    words: Vec<u32>,
+    console: Console,
+}
+
+impl Model for Bus {
+    ghost use Rattle.console_port.specs.View.{BusView};
+
+    ghost Value = { BusView };
+
+    ghost view = { λ b. record { words = b.words.items; console = b.console } };
+}
+
+impl Bus {
+    /// All words are 0.
+    pub fn new(alloc: Global, map: MemoryMap) -> Result<Bus, AllocError>
+        ensures words { IfOk result (λ bus. bus.words ≡ replicate map.stack_end 0) }
+        ensures kept { IfOk result (λ bus. bus.console.kept ≡ []) }
+        ensures ended { IfOk result (λ bus. bus.console.ended ≡ false) }
+    {
+        Ok(Bus {
+            words: vec![in alloc; 0; map.stack_end as usize]?,
+            console: Console::new(),
+        })
+    }
+
+    #[tactic(auto, unfolding(crate::specs::World::read_refusal))]
+    pub fn check_read(&self, at: u32) -> Result<(), BusFault>
+        ensures ok { OnOk result (read_refusal (length self.now.words) at ≡ None) }
+        ensures err { IfErr result (λ e. refused_by (read_refusal (length self.now.words) at) ≡ Some e) }
+    {
+        if (at as usize) < self.words.len() || at == CONSOLE {
+            Ok(())
+        } else {
+            Err(BusFault::OutOfMap(at))
+        }
+    }
+
+    #[tactic(auto, unfolding(crate::specs::World::write_refusal))]
+    pub fn check_write(&self, at: u32) -> Result<(), BusFault>
+        ensures ok { OnOk result (write_refusal (length self.now.words) at ≡ None) }
+        ensures err { IfErr result (λ e. refused_by (write_refusal (length self.now.words) at) ≡ Some e) }
+    {
+        if (at as usize) < self.words.len() || at == CONSOLE {
+            Ok(())
+        } else if at < 0x8000_0000 {
+            Err(BusFault::StackLimit(at))
+        } else {
+            Err(BusFault::OutOfMap(at))
+        }
+    }
+
+    /// Tests a fetch at a byte address.
+    #[tactic(auto, unfolding(crate::specs::World::fetch_refusal))]
+    pub fn check_fetch(&self, byte: u32) -> Result<(), BusFault>
+        ensures ok { OnOk result (fetch_refusal (length self.now.words) byte ≡ None) }
+        ensures err { IfErr result (λ e. refused_by (fetch_refusal (length self.now.words) byte) ≡ Some e) }
+    {
+        if ((byte / 4) as usize) < self.words.len() {
+            Ok(())
+        } else {
+            Err(BusFault::OutOfMap(byte / 4))
+        }
+    }
+
+    /// The memory word there, or none where no memory is.
+    pub fn peek(&self, at: u32) -> Option<u32>
+        ensures { result ≡ slice_get self.now.words at }
+    {
+        self.words.get(at as usize).copied()
+    }
+
+    #[tactic(auto, unfolding(crate::specs::World::read_refusal, crate::specs::World::read_value, crate::specs::World::untaken_after))]
+    pub fn read_word<S: Source, K: Sink>(
+        &mut self,
+        at: u32,
+        source: &mut S,
+        sink: &mut K,
+    ) -> Result<u32, BusFault>
+        ensures refused { (r : Refusal) → read_refusal (length self.old.words) at ≡ Some r → (result ≡ Err (fault_of r)) × (self.new ≡ self.old) × (source.new ≡ source.old) × (sink.new ≡ sink.old) }
+        ensures allowed { OnOk result (read_refusal (length self.old.words) at ≡ None) }
+        ensures ok { IfOk result (λ value. IsLed (S.left source.old) (K.held sink.old) self.old (S.left source.new) (K.held sink.new) self.new (λ w v. (value ≡ read_value (length self.old.words) w.words w.untaken at) × (v ≡ after_read (length self.old.words) w at))) }
+        ensures err { IfErr result (Stands (S.left source.old) (K.held sink.old) self.old (S.left source.new) (K.held sink.new) self.new) }
+        ensures fault { IfErr result (λ e. read_refusal (length self.old.words) at ≡ None → (at ≡ console_at) × IsFault e) }
+        ensures words { self.new.words ≡ self.old.words }
+        ensures keeps { (front : List ℕ) → Holds front (K.held sink.old) → Holds front (K.held sink.new) }
+        ensures cause { HasFaultCause (S.faults source.old) (S.faults source.new) (K.faults sink.old) (K.faults sink.new) result }
+    {
+        if (at as usize) < self.words.len() {
+            return Ok(self.words[at as usize]);
+        }
+        if at != CONSOLE {
+            return Err(BusFault::OutOfMap(at));
+        }
+        let byte = self.console.take(source, sink)?;
+        Ok(byte as u32)
+    }
+
+    #[tactic(auto, unfolding(crate::specs::World::write_refusal, crate::specs::World::given_after))]
+    pub fn write_word<K: Sink>(&mut self, at: u32, value: u32, sink: &mut K) -> Result<(), BusFault>
+        ensures refused { (r : Refusal) → write_refusal (length self.old.words) at ≡ Some r → (result ≡ Err (fault_of r)) × (self.new ≡ self.old) × (sink.new ≡ sink.old) }
+        ensures allowed { OnOk result (write_refusal (length self.old.words) at ≡ None) }
+        ensures ok { OnOk result ((left : Option (List ℕ)) (w : World) → Shows left (K.held sink.old) self.old w → Shows left (K.held sink.new) self.new (after_write (length self.old.words) w at value)) }
+        ensures words { OnOk result (self.new.words ≡ slice_set self.old.words at value) }
+        ensures ended { self.new.console.ended ≡ self.old.console.ended }
+        ensures err { (left : Option (List ℕ)) → IfErr result (Stands left (K.held sink.old) self.old left (K.held sink.new) self.new) }
+        ensures fault { IfErr result (λ e. write_refusal (length self.old.words) at ≡ None → (at ≡ console_at) × (e ≡ BusFault.WriteFault)) }
+        ensures size { length self.new.words ≡ length self.old.words }
+        ensures others { ChangesOnly at self.old.words self.new.words }
+        ensures keeps { (front : List ℕ) → Holds front (K.held sink.old) → Holds front (K.held sink.new) }
+        ensures cause { HasFaultCause 0 0 (K.faults sink.old) (K.faults sink.new) result }
+    {
+        if (at as usize) < self.words.len() {
+            self.words[at as usize] = value;
+            return Ok(());
+        }
+        if at != CONSOLE {
+            if at < 0x8000_0000 {
+                return Err(BusFault::StackLimit(at));
+            }
+            return Err(BusFault::OutOfMap(at));
+        }
+        self.console.give((value % 256) as u8, sink)
+    }
+
+    /// The byte at a byte address.
+    #[tactic(auto, unfolding(crate::specs::World::fetch_refusal))]
+    pub fn fetch_byte(&self, byte: u32) -> Result<u8, BusFault>
+        ensures ok { IfOk result (λ value. value ≡ byte_in self.now.words byte) }
+        ensures allowed { OnOk result (fetch_refusal (length self.now.words) byte ≡ None) }
+        ensures err { IfErr result (λ e. refused_by (fetch_refusal (length self.now.words) byte) ≡ Some e) }
+    {
+        if ((byte / 4) as usize) < self.words.len() {
+            Ok(self.byte(byte))
+        } else {
+            Err(BusFault::OutOfMap(byte / 4))
+        }
+    }
+
+    /// The memory word at a word address.
+    #[tactic(auto, unfolding(crate::specs::World::word_refusal))]
+    pub fn fetch_word(&self, at: u32) -> Result<u32, BusFault>
+        ensures ok { IfOk result (λ value. value ≡ slice_index self.now.words at) }
+        ensures allowed { OnOk result (word_refusal (length self.now.words) at ≡ None) }
+        ensures err { IfErr result (λ e. refused_by (word_refusal (length self.now.words) at) ≡ Some e) }
+    {
+        if (at as usize) < self.words.len() {
+            Ok(self.word(at))
+        } else {
+            Err(BusFault::OutOfMap(at))
+        }
+    }
+
+    /// The memory word there.
+    pub fn word(&self, at: u32) -> u32
+        requires { at < length self.now.words }
+        ensures { result ≡ slice_index self.now.words at }
+    {
+        self.words[at as usize]
+    }
+
+    /// The byte at a byte address of the memory.
+    #[tactic(auto, using(crate::proofs::Bytes::shifted_byte))]
+    pub fn byte(&self, byte: u32) -> u8
+        requires { byte / 4 < length self.now.words }
+        ensures { result ≡ byte_in self.now.words byte }
+    {
+        let word = self.word(byte / 4);
+        ((word >> (8 * (3 - byte % 4))) % 256) as u8
+    }
+
+    /// Puts the console's kept bytes to the sink.
+    pub fn flush<K: Sink>(&mut self, sink: &mut K) -> Result<(), BusFault>
+        ensures kept { self.new.console.kept ≡ [] }
+        ensures ended { self.new.console.ended ≡ self.old.console.ended }
+        ensures words { self.new.words ≡ self.old.words }
+        ensures ok { OnOk result ((left : Option (List ℕ)) (w : World) → Shows left (K.held sink.old) self.old w → Shows left (K.held sink.new) self.new w) }
+        ensures empty { self.old.console.kept ≡ [] → IsOk result × (self.new ≡ self.old) × (sink.new ≡ sink.old) }
+        ensures err { (left : Option (List ℕ)) → IfErr result (Stands left (K.held sink.old) self.old left (K.held sink.new) self.new) }
+        ensures lost { OnErr result (IsLost (K.held sink.old) self.old.console.kept (K.held sink.new) self.new.console.kept) }
+        ensures fault { IfErr result (λ e. e ≡ BusFault.WriteFault) }
+        ensures keeps { (front : List ℕ) → Holds front (K.held sink.old) → Holds front (K.held sink.new) }
+        ensures cause { HasFaultCause 0 0 (K.faults sink.old) (K.faults sink.new) result }
+    {
+        self.console.flush(sink)
+    }
+}

@@ -1,0 +1,13 @@
+//! Why an access is refused or fails.
+
+#[derive(Clone, Copy, Debug, PartialEq, Eq)]
+pub enum BusFault {
+    /// The source failed.
+    ReadFault,
+    /// The sink failed.
+    WriteFault,
+    /// A write behind the memory, at this word address.
+    StackLimit(u32),
+    /// No memory and no console at this word address.
+    OutOfMap(u32),
+}

@@ -1,0 +1,9 @@
+pub mod Instructions
+pub mod Image
+pub mod Frames
+pub mod Step
+pub mod Cost
+pub mod Run
+pub mod Safe
+pub mod Text
+pub mod ImageFile

@@ -1,0 +1,19 @@
+//! IJVM as a definition and as a plain machine that computes it: instructions, images, frames, and what each instruction does and costs.
+#![tactic(auto)]
+
+pub mod decode;
+pub mod encode;
+pub mod image;
+pub mod instr;
+pub mod print;
+pub mod read_image;
+pub mod row;
+pub mod run;
+
+pub use decode::{decode_at, decode_instr};
+pub use encode::encode_instr;
+pub use image::{Image, ImageError};
+pub use instr::Instr;
+pub use print::{name, print_instr, print_name, target_of};
+pub use row::{Cost, Flow, Operands, Row};
+pub use run::RunEnd;

@@ -1,0 +1,31 @@
+-- For each row of the table the gates give the operation's arithmetic.
+use Rattle.std.proofs.Common.{◌≡◌, ℕ, ◌-◌, ◌^◌, ◌<◌, refl, ◌∙◌, arith}
+use Rattle.std.specs.Int.Bits.{bit_xor, xor_zero_r, or_zero_r, xor_add_and}
+use Rattle.std.proofs.lemmas.Nat.{and_mask}
+use Rattle.micro_word.specs.Operation.{wrap, alu}
+use Rattle.mic1_alu.specs.Gates.{gates, controls_of}
+use Rattle.micro_word.specs.Coding.{row}
+use Rattle.micro_word.specs.declared.statement.AluOp.{AluOp}
+use Rattle.micro_word.specs.declared.statement.AluOp.TheVariants as ops
+
+xor_ones : (a : ℕ) → a < 2 ^ 32 → bit_xor a 4294967295 ≡ 4294967295 - a
+xor_ones a h = omega (arith, xor_add_and a 4294967295, and_mask a 32)
+
+pub each_row : (op : AluOp) (a b : ℕ) → a < 2 ^ 32 → b < 2 ^ 32 → gates (controls_of (row op).gates) a b ≡ alu op a b
+unfolding wrap
+each_row ops.A a b p q = simp (xor_zero_r, or_zero_r)
+each_row ops.B a b p q = refl
+each_row ops.NotA a b p q = or_zero_r (bit_xor a 4294967295) ∙ xor_ones a p
+each_row ops.NotB a b p q = refl
+each_row ops.Sum a b p q = rw (xor_zero_r a) (omega arith)
+each_row ops.SumInc a b p q = rw (xor_zero_r a) (omega arith)
+each_row ops.IncA a b p q = rw (xor_zero_r a) (omega arith)
+each_row ops.IncB a b p q = omega arith
+each_row ops.Sub a b p q = rw (xor_ones a p) (omega arith)
+each_row ops.DecB a b p q = omega arith
+each_row ops.NegA a b p q = rw (xor_ones a p) (omega arith)
+each_row ops.And a b p q = rw (xor_zero_r a) refl
+each_row ops.Or a b p q = rw (xor_zero_r a) refl
+each_row ops.Zero a b p q = refl
+each_row ops.One a b p q = refl
+each_row ops.MinusOne a b p q = refl

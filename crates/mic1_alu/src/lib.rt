@@ -1,0 +1,14 @@
+//! The ALU of both datapaths, from six control lines and two words, and the shifter behind it.
+#![tactic(auto)]
+
+pub mod controls;
+pub mod gates;
+pub mod shifter;
+pub mod table;
+#[cfg(test)]
+mod tests;
+
+pub use controls::Controls;
+pub use gates::{AluOut, alu};
+pub use shifter::shift;
+pub use table::each_row_computes;

@@ -1,0 +1,14 @@
+use Rattle.std.proofs.Common.{ℕ, ap, ◌∙◌, arith}
+use Rattle.mic1_alu.specs.Gates.{gates, controls_of}
+use Rattle.mic1_alu.specs.declared.controls.Controls.{Controls}
+use Rattle.micro_word.specs.declared.layout.Fields.{Fields}
+use Rattle.mic1_datapath.proofs.Bits.{operated}
+use Rattle.mic1_datapath.proofs.operate.operate.Goals as goal
+
+pub returns-clause-value : goal.returns-clause-value
+returns-clause-value c =
+    let a : ℕ = c.args.a in
+    let b : ℕ = c.args.b in
+    c.alu.ensures.value
+    ∙ ap (λ (k : Controls). gates k a b) (c.from_bits.ensures ∙ ap (λ (f : Fields). controls_of f.gates) c.fields1.ensures)
+    ∙ operated c.args.word c.requires a b (omega arith) (omega arith)

@@ -1,0 +1,11 @@
+use Rattle.std.proofs.Common.{ap, ◌∙◌}
+use Rattle.micro_word.specs.Coding.{statement_of, shift_of}
+use Rattle.micro_word.specs.Operation.{shifted}
+use Rattle.micro_word.specs.declared.layout.Fields.{Fields}
+use Rattle.micro_word.specs.declared.statement.Shift.{Shift}
+use Rattle.mic1_datapath.proofs.operate.shift_by.Goals as goal
+
+pub returns : goal.returns
+unfolding statement_of
+returns c =
+    c.shift.ensures ∙ ap (λ (s : Shift). shifted s c.args.value) (c.of_bits.ensures ∙ ap (λ (f : Fields). shift_of f.shift) c.fields1.ensures)

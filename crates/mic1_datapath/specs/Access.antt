@@ -1,0 +1,34 @@
+-- What the accesses of a cycle come to, with registers that are settled already.
+use Rattle.std.specs.Prelude.{◌≡◌, ℕ, Bool, true, false, List, Option, Some, None}
+use Rattle.console_port.specs.World.{World, byte_in}
+use Rattle.micro_word.specs.declared.statement.Mem.{Mem}
+use Rattle.micro_word.specs.declared.statement.Mem.TheVariants as mems
+use Rattle.mic1_datapath.specs.Microstep.{written, sampled, word_under_way, byte_under_way}
+use Rattle.mic1_datapath.specs.declared.micro.Micro.{Micro}
+
+-- the write or the read leads the world w to v, and this word is under way
+pub record IsTransfer (stack_end : ℕ) (mem : Mem) (m : Micro) (w : World) (word : Option ℕ) (v : World) : Type 0 where
+  pub its_word : word ≡ word_under_way stack_end mem m (written stack_end mem m w)
+  pub after : v ≡ sampled stack_end mem m (written stack_end mem m w)
+  pub words : v.words ≡ (written stack_end mem m w).words
+
+abbrev pub byte_sampled : Bool → List ℕ → ℕ → Option ℕ
+byte_sampled true words at = Some (byte_in words at)
+byte_sampled false words at = None
+
+-- all accesses lead the world w to v, and this word and this byte are under way
+pub record IsAccess (stack_end : ℕ) (mem : Mem) (fetch : Bool) (m : Micro) (w : World) (word byte : Option ℕ) (v : World) : Type 0 where
+  pub its_word : word ≡ word_under_way stack_end mem m (written stack_end mem m w)
+  pub its_byte : byte ≡ byte_under_way fetch m (written stack_end mem m w)
+  pub after : v ≡ sampled stack_end mem m (written stack_end mem m w)
+
+abbrev pub is_read : Mem → Bool
+is_read mems.Read = true
+is_read mems.Write = false
+is_read mems.None = false
+
+-- a read or a write
+abbrev pub is_access : Mem → Bool
+is_access mems.Read = true
+is_access mems.Write = true
+is_access mems.None = false

@@ -1,0 +1,140 @@
+-- The microstep of Mic-1 (chapter 4; the order of events at the clock edge is this profile's). A statement assigns whole words; `clock` is total, and `refusal` looks at addresses alone.
+use Rattle.std.specs.Prelude.{ℕ, ◌+◌, ◌/◌, ◌%◌, Bool, true, false, if◌then◌else◌, ◌==◌, Option, Some, None}
+use Rattle.micro_word.specs.Operation.{alu, shifted, is_negative, signed_byte}
+use Rattle.console_port.specs.World.{World, Refusal, after_write, after_read, read_value, byte_in, write_refusal, read_refusal, fetch_refusal}
+use Rattle.micro_word.specs.declared.statement.BusSource.{BusSource}
+use Rattle.micro_word.specs.declared.statement.BusSource.TheVariants as sources
+use Rattle.micro_word.specs.declared.statement.Mem.{Mem}
+use Rattle.micro_word.specs.declared.statement.Mem.TheVariants as mems
+use Rattle.micro_word.specs.declared.statement.Test.{Test}
+use Rattle.micro_word.specs.declared.statement.Test.TheVariants as tests
+use Rattle.micro_word.specs.declared.statement.PlacedNext.{PlacedNext}
+use Rattle.micro_word.specs.declared.statement.PlacedNext.TheVariants as nexts
+use Rattle.micro_word.specs.declared.statement.Part.{Part}
+use Rattle.micro_word.specs.declared.statement.Placed.{Placed}
+use Rattle.mic1_datapath.specs.declared.micro.Micro.{Micro}
+
+-- 1. The operation is done on H and on what is on the B bus, and its result is shifted.
+
+-- what is on the B bus, where 0 is when nothing drives it
+abbrev pub source : Option BusSource → Micro → ℕ
+source None m = 0
+source (Some sources.Mdr) m = m.mdr
+source (Some sources.Pc) m = m.pc
+source (Some sources.Mbr) m = signed_byte m.mbr
+source (Some sources.Mbru) m = m.mbr
+source (Some sources.Sp) m = m.sp
+source (Some sources.Lv) m = m.lv
+source (Some sources.Cpp) m = m.cpp
+source (Some sources.Tos) m = m.tos
+source (Some sources.Opc) m = m.opc
+source (Some sources.Mbr1) m = 0
+source (Some sources.Mbr1u) m = 0
+source (Some sources.Mbr2) m = 0
+source (Some sources.Mbr2u) m = 0
+source (Some sources.H) m = m.h
+
+-- the result, of which N and Z are taken
+abbrev pub result_of : Part → Micro → ℕ
+result_of part m = alu part.op m.h (source part.b m)
+
+-- 2. The destinations become the shifted result. Then an arriving word becomes MDR and an arriving byte MBR.
+
+-- whether the destination with this bit's worth is named: H 256, OPC, TOS, CPP, LV, SP, PC, MDR, MAR 1
+abbrev pub has : ℕ → ℕ → Bool
+has dests worth = dests / worth % 2 == 1
+
+abbrev pub arrived : Option ℕ → ℕ → ℕ
+arrived None x = x
+arrived (Some y) x = y
+
+abbrev pub assigned : ℕ → ℕ → Micro → Micro
+assigned dests v m =
+    record {
+      mar = if has dests 1 then v else m.mar;
+      mdr = arrived m.word (if has dests 2 then v else m.mdr);
+      pc = if has dests 4 then v else m.pc;
+      sp = if has dests 8 then v else m.sp;
+      lv = if has dests 16 then v else m.lv;
+      cpp = if has dests 32 then v else m.cpp;
+      tos = if has dests 64 then v else m.tos;
+      opc = if has dests 128 then v else m.opc;
+      h = if has dests 256 then v else m.h;
+      mbr = arrived m.byte m.mbr;
+      mpc = m.mpc;
+      word = None;
+      byte = None;
+      entry = m.entry;
+    }
+
+abbrev pub settled : Part → Micro → Micro
+settled part m = assigned part.dests (shifted part.shift (result_of part m)) m
+
+-- 3. A write stores the new MDR at the new MAR.
+
+abbrev pub written : ℕ → Mem → Micro → World → World
+written stack_end mems.Write m w = after_write stack_end w m.mar m.mdr
+written stack_end mems.Read m w = w
+written stack_end mems.None m w = w
+
+-- 4. A read samples the word at the new MAR, and a fetch the byte at the new PC, in the world after the write. They arrive at the next edge.
+
+abbrev pub word_under_way : ℕ → Mem → Micro → World → Option ℕ
+word_under_way stack_end mems.Read m w = Some (read_value stack_end w.words w.untaken m.mar)
+word_under_way stack_end mems.Write m w = None
+word_under_way stack_end mems.None m w = None
+
+abbrev pub byte_under_way : Bool → Micro → World → Option ℕ
+byte_under_way true m w = Some (byte_in w.words m.pc)
+byte_under_way false m w = None
+
+abbrev pub sampled : ℕ → Mem → Micro → World → World
+sampled stack_end mems.Read m w = after_read stack_end w m.mar
+sampled stack_end mems.Write m w = w
+sampled stack_end mems.None m w = w
+
+-- 5. MPC becomes the target, where a branch tests the result and a dispatch takes the new MBR.
+
+abbrev pub flag : Test → ℕ → Bool
+flag tests.N x = is_negative x
+flag tests.Z x = x == 0
+
+abbrev pub target : PlacedNext → ℕ → ℕ → ℕ
+target (nexts.Goto to) x mbr = to
+target (nexts.Dispatch high) x mbr = if high then mbr + 256 else mbr
+target (nexts.Branch test low) x mbr = if flag test x then low + 256 else low
+
+-- The five together, on a memory that has its words below `stack_end`. The state is settled already in `moved`, and x is the result.
+
+abbrev pub moved : ℕ → Placed → ℕ → Micro → World → Micro
+moved stack_end s x m w =
+    record m { mpc = target s.next x m.mbr; word = word_under_way stack_end s.part.mem m w; byte = byte_under_way s.part.fetch m w }
+
+abbrev pub clock : ℕ → Placed → Micro → World → Micro
+clock stack_end s m w =
+    moved stack_end s (result_of s.part m) (settled s.part m) (written stack_end s.part.mem (settled s.part m) w)
+
+abbrev pub world_after : ℕ → Placed → Micro → World → World
+world_after stack_end s m w =
+    sampled stack_end s.part.mem (settled s.part m) (written stack_end s.part.mem (settled s.part m) w)
+
+-- Why the step is refused, if it is: a write, a read and a fetch are looked at in this order.
+
+abbrev pub memory_refusal : ℕ → Mem → ℕ → Option Refusal
+memory_refusal stack_end mems.Write at = write_refusal stack_end at
+memory_refusal stack_end mems.Read at = read_refusal stack_end at
+memory_refusal stack_end mems.None at = None
+
+abbrev pub byte_refusal : ℕ → Bool → ℕ → Option Refusal
+byte_refusal stack_end true at = fetch_refusal stack_end at
+byte_refusal stack_end false at = None
+
+abbrev pub first_refusal : Option Refusal → Option Refusal → Option Refusal
+first_refusal (Some refusal) other = Some refusal
+first_refusal None other = other
+
+abbrev pub access_refusal : ℕ → Mem → Bool → Micro → Option Refusal
+access_refusal stack_end mem fetch m = first_refusal (memory_refusal stack_end mem m.mar) (byte_refusal stack_end fetch m.pc)
+
+abbrev pub refusal : ℕ → Placed → Micro → Option Refusal
+refusal stack_end s m = access_refusal stack_end s.part.mem s.part.fetch (settled s.part m)

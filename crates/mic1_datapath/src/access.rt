@@ -1,0 +1,114 @@
+//! The accesses of a cycle: their addresses are tested before anything is changed.
+
+ghost use Rattle.std.specs.Prelude.{◌≡◌, ◌==◌, ◌&&◌, ◌<◌, ℕ, Bool, List, Option, Some, None, length, OnOk, IfOk, IfErr, IsErrOf, IsTrue};
+ghost use Rattle.mic_base.specs.Streams.{Holds};
+ghost use Rattle.console_port.specs.World.{World, console_at};
+ghost use Rattle.console_port.specs.Bus.{Shows, Stands, IsLed, ChangesOnly, refused_by};
+ghost use Rattle.console_port.specs.Console.{IsFault, HasFaultCause};
+ghost use Rattle.mic1_datapath.specs.Microstep.{memory_refusal, byte_refusal, access_refusal, written, sampled, word_under_way};
+ghost use Rattle.mic1_datapath.specs.Access.{IsAccess, IsTransfer, byte_sampled, is_read, is_access};
+
+use crate::micro::Micro;
+use console_port::{Bus, BusFault};
+use mic_base::{Sink, Source};
+use micro_word::Mem;
+
+/// What is under way after a cycle.
+#[derive(Clone, Copy, Debug, PartialEq, Eq)]
+pub struct Sampled {
+    pub word: Option<u32>,
+    pub byte: Option<u8>,
+}
+
+fn check_memory(bus: &Bus, mem: Mem, at: u32) -> Result<(), BusFault>
+    ensures ok { OnOk result (memory_refusal (length bus.now.words) mem at ≡ None) }
+    ensures err { IfErr result (λ e. refused_by (memory_refusal (length bus.now.words) mem at) ≡ Some e) }
+{
+    match mem {
+        Mem::Write => bus.check_write(at),
+        Mem::Read => bus.check_read(at),
+        Mem::None => Ok(()),
+    }
+}
+
+fn check_fetch(bus: &Bus, fetch: bool, at: u32) -> Result<(), BusFault>
+    ensures ok { OnOk result (byte_refusal (length bus.now.words) fetch at ≡ None) }
+    ensures err { IfErr result (λ e. refused_by (byte_refusal (length bus.now.words) fetch at) ≡ Some e) }
+{
+    if fetch { bus.check_fetch(at) } else { Ok(()) }
+}
+
+fn check(bus: &Bus, mem: Mem, fetch: bool, m: &Micro) -> Result<(), BusFault>
+    ensures ok { OnOk result (access_refusal (length bus.now.words) mem fetch m.now ≡ None) }
+    ensures memory { OnOk result (memory_refusal (length bus.now.words) mem m.now.mar ≡ None) }
+    ensures fetch { OnOk result (byte_refusal (length bus.now.words) fetch m.now.pc ≡ None) }
+    ensures err { IfErr result (λ e. refused_by (access_refusal (length bus.now.words) mem fetch m.now) ≡ Some e) }
+{
+    check_memory(bus, mem, m.mar)?;
+    check_fetch(bus, fetch, m.pc)
+}
+
+/// Stores MDR at MAR, or takes the word there.
+fn transfer<S: Source, K: Sink>(
+    mem: Mem,
+    m: &Micro,
+    bus: &mut Bus,
+    source: &mut S,
+    sink: &mut K,
+) -> Result<Option<u32>, BusFault>
+    requires { memory_refusal (length bus.old.words) mem m.now.mar ≡ None }
+    ensures ok { IfOk result (λ word. IsLed (S.left source.old) (K.held sink.old) bus.old (S.left source.new) (K.held sink.new) bus.new (λ w v. IsTransfer (length bus.old.words) mem m.now w word v)) }
+    ensures others { OnOk result (ChangesOnly m.now.mar bus.old.words bus.new.words) }
+    ensures size { length bus.new.words ≡ length bus.old.words }
+    ensures fault { IfErr result IsFault }
+    ensures stands { IfErr result (Stands (S.left source.old) (K.held sink.old) bus.old (S.left source.new) (K.held sink.new) bus.new) }
+    ensures reads { IsErrOf result BusFault.ReadFault → IsTrue (is_read mem && m.now.mar == console_at) }
+    ensures uses { IsErrOf result BusFault.WriteFault → IsTrue (is_access mem && m.now.mar == console_at) }
+    ensures keeps { (front : List ℕ) → Holds front (K.held sink.old) → Holds front (K.held sink.new) }
+    ensures cause { HasFaultCause (S.faults source.old) (S.faults source.new) (K.faults sink.old) (K.faults sink.new) result }
+{
+    match mem {
+        Mem::Write => {
+            bus.write_word(m.mar, m.mdr, sink)?;
+            Ok(None)
+        }
+        Mem::Read => {
+            let word = bus.read_word(m.mar, source, sink)?;
+            Ok(Some(word))
+        }
+        Mem::None => Ok(None),
+    }
+}
+
+#[tactic(auto, unfolding(console_port::specs::World::fetch_refusal))]
+fn sample(bus: &Bus, fetch: bool, at: u32) -> Option<u8>
+    requires { byte_refusal (length bus.now.words) fetch at ≡ None }
+    ensures { result ≡ byte_sampled fetch bus.now.words at }
+{
+    if fetch { Some(bus.byte(at)) } else { None }
+}
+
+/// Does what a cycle does on the bus, with registers that are settled already.
+pub fn access<S: Source, K: Sink>(
+    mem: Mem,
+    fetch: bool,
+    m: &Micro,
+    bus: &mut Bus,
+    source: &mut S,
+    sink: &mut K,
+) -> Result<Sampled, BusFault>
+    ensures allowed { OnOk result (access_refusal (length bus.old.words) mem fetch m.now ≡ None) }
+    ensures ok { IfOk result (λ x. IsLed (S.left source.old) (K.held sink.old) bus.old (S.left source.new) (K.held sink.new) bus.new (λ w v. IsAccess (length bus.old.words) mem fetch m.now w x.word x.byte v)) }
+    ensures others { OnOk result (ChangesOnly m.now.mar bus.old.words bus.new.words) }
+    ensures refused { IfErr result (λ e. (IsFault e → ⊥) → refused_by (access_refusal (length bus.old.words) mem fetch m.now) ≡ Some e) }
+    ensures stands { IfErr result (Stands (S.left source.old) (K.held sink.old) bus.old (S.left source.new) (K.held sink.new) bus.new) }
+    ensures reads { IsErrOf result BusFault.ReadFault → IsTrue (is_read mem && m.now.mar == console_at) }
+    ensures uses { IsErrOf result BusFault.WriteFault → IsTrue (is_access mem && m.now.mar == console_at) }
+    ensures keeps { (front : List ℕ) → Holds front (K.held sink.old) → Holds front (K.held sink.new) }
+    ensures cause { HasFaultCause (S.faults source.old) (S.faults source.new) (K.faults sink.old) (K.faults sink.new) result }
+{
+    check(bus, mem, fetch, m)?;
+    let word = transfer(mem, m, bus, source, sink)?;
+    let byte = sample(bus, fetch, m.pc);
+    Ok(Sampled { word, byte })
+}

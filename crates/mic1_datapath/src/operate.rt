@@ -1,0 +1,28 @@
+//! What the ALU and the shifter do for a word's control bits.
+
+ghost use Rattle.std.specs.Prelude.{◌≡◌, ◌==◌, IsTrue};
+ghost use Rattle.micro_word.specs.declared.statement.Machine.TheVariants.{Mic1};
+ghost use Rattle.micro_word.specs.Canonical.{is_canonical};
+ghost use Rattle.micro_word.specs.Coding.{statement_of};
+ghost use Rattle.micro_word.specs.Operation.{alu, shifted, is_negative};
+
+use mic1_alu::{AluOut, Controls, alu as gates, shift};
+use micro_word::Shift;
+use micro_word::layout::fields1;
+
+/// What the gates give of the two buses.
+pub fn operate(word: u64, a: u32, b: u32) -> AluOut
+    requires { IsTrue (is_canonical Mic1 word) }
+    ensures value { result.value ≡ alu (statement_of Mic1 word).part.op a b }
+    ensures n { result.n ≡ is_negative result.value }
+    ensures z { result.z ≡ (result.value == 0) }
+{
+    gates(Controls::from_bits(fields1(word).gates), a, b)
+}
+
+/// What the shifter puts on the C bus.
+pub fn shift_by(word: u64, value: u32) -> u32
+    ensures { result ≡ shifted (statement_of Mic1 word).part.shift value }
+{
+    shift(Shift::of_bits(fields1(word).shift), value)
+}

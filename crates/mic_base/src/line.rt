@@ -1,0 +1,92 @@
+ghost use Rattle.std.specs.Prelude.{List, ℕ, ◌≡◌, ◌+◌, ◌^◌, ◌<◌, ◌≤◌, ◌++◌, ◌∷◌, [], length};
+ghost use Rattle.std.specs.Char.{digit_char};
+ghost use Rattle.std.specs.Fmt.{signed_decimal};
+ghost use Rattle.mic_base.specs.Digits.{hex_text};
+
+use arrayvec::ArrayString;
+use itoa::Buffer;
+use std::marker::Model;
+
+/// A text of at most 512 bytes.
+#[derive(Drop)]
+pub struct Line {
+    held: ArrayString<512>,
+}
+
+impl Model for Line {
+    ghost use Rattle.std.specs.Prelude.{List, ℕ, ◌≤◌, length};
+
+    ghost Value = { List ℕ };
+
+    ghost view = { λ line. line.held.bytes };
+
+    ghost invariant = { λ line. length line.held.bytes ≤ 512 };
+}
+
+impl Line {
+    pub fn new() -> Line
+        ensures { result ≡ [] }
+    {
+        Line {
+            held: ArrayString::new(),
+        }
+    }
+
+    pub fn text(&mut self, part: &str)
+        requires { length self.old + length part.now ≤ 512 }
+        ensures text { self.new ≡ self.old ++ part.now }
+        ensures len { length self.new ≡ length self.old + length part.now }
+    {
+        self.held.push_str(part);
+    }
+
+    /// Appends a value as just so many hexadecimal digits.
+    pub fn hex(&mut self, value: u64, digits: u8)
+        requires some { 1 ≤ digits }
+        requires few { digits ≤ 16 }
+        requires value { value < 16 ^ digits }
+        requires room { length self.old + digits ≤ 512 }
+        ensures text { self.new ≡ self.old ++ hex_text digits value }
+        ensures len { length self.new ≡ length self.old + digits }
+    {
+        if digits > 1 {
+            self.hex(value / 16, digits - 1);
+        }
+        self.digit(value % 16);
+    }
+
+    fn digit(&mut self, digit: u64)
+        requires small { digit < 16 }
+        requires room { length self.old < 512 }
+        ensures { self.new ≡ self.old ++ digit_char digit ∷ [] }
+    {
+        self.held.push(hex_digit(digit));
+    }
+
+    /// Appends a value in decimal digits, behind a `-` where it is below zero.
+    #[tactic(auto, using(crate::proofs::DigitLemmas::decimal_lengths))]
+    pub fn dec(&mut self, value: i64)
+        requires { length self.old + length (signed_decimal value) ≤ 512 }
+        ensures text { self.new ≡ self.old ++ signed_decimal value }
+        ensures len { length self.new ≡ length self.old + length (signed_decimal value) }
+        ensures short { length (signed_decimal value) ≤ 20 }
+    {
+        let mut buffer = Buffer::new();
+        self.text(buffer.format(value));
+    }
+
+    pub fn bytes(&self) -> &[u8]
+        ensures value { result.now ≡ self.now }
+        ensures fits { length result.now ≤ 512 }
+    {
+        self.held.as_str().as_bytes()
+    }
+}
+
+fn hex_digit(digit: u64) -> char
+    requires { digit < 16 }
+    ensures code { result ≡ digit_char digit }
+    ensures ascii { result < 128 }
+{
+    char::from_digit(digit as u32, 16).unwrap()
+}

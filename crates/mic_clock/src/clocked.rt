@@ -1,0 +1,105 @@
+//! What a board asks of a machine.
+
+ghost use Rattle.mic_base.specs.Streams.{Holds};
+ghost use Rattle.std.specs.Prelude.{◌≡◌, ◌≢◌, ◌<◌, ◌≤◌, ℕ, List, Option, Some, slice_index, slice_get, OnOk, OnErr, IfErr, IsErrOf, IsTrue, ◌↔◌};
+ghost use Rattle.console_port.specs.World.{World};
+ghost use Rattle.console_port.specs.Bus.{Shows, Stands, IsLed, ChangesOnly};
+ghost use Rattle.console_port.specs.Console.{IsFault, HasFaultCause};
+ghost use Rattle.mic_clock.specs.Meaning.{Meaning, Phase, AtRest, SetUp, Driven, Settled, Outcome, Done, fault_in};
+
+use crate::buses::{Computed, Drive};
+use crate::registers::{Registers, Start};
+use crate::word::MicroWord;
+use console_port::{Bus, BusFault};
+use mic_base::{Sink, Source};
+use micro_word::{Machine, Store};
+
+/// A machine that is clocked in four calls: `setup`, `drive`, `compute` and `edge`, in this order, are one microstep.
+pub trait Clocked {
+    /// The words of its control store.
+    type Word: MicroWord;
+
+    /// What a machine is between cycles.
+    ghost State: { Type 0 };
+
+    /// What its calls mean.
+    ghost meaning: { Meaning State };
+
+    ghost state: { Self → State };
+
+    ghost phase: { Self → Phase };
+
+    /// The word that was set up last.
+    ghost latched: { Self → ℕ };
+
+    fn machine(&self) -> Machine
+        ensures { result ≡ meaning.machine };
+
+    fn reset(&mut self, start: &Start)
+        requires { start.now.entry < 512 }
+        ensures state { state self.new ≡ meaning.initial start.now }
+        ensures phase { phase self.new ≡ AtRest };
+
+    /// Takes over the word at MPC.
+    fn setup(&mut self, store: &Store)
+        requires phase { phase self.old ≡ AtRest }
+        requires machine { store.now.machine ≡ meaning.machine }
+        ensures state { state self.new ≡ state self.old }
+        ensures phase { phase self.new ≡ SetUp }
+        ensures latched { latched self.new ≡ slice_index store.now.words (meaning.registers (state self.old)).mpc };
+
+    /// Drives the operand buses.
+    fn drive(&mut self) -> Drive
+        requires { phase self.old ≡ SetUp }
+        ensures state { state self.new ≡ state self.old }
+        ensures phase { phase self.new ≡ Driven }
+        ensures latched { latched self.new ≡ latched self.old }
+        ensures value { result ≡ meaning.drives (latched self.old) (state self.old) };
+
+    /// Lets the ALU and the shifter work.
+    fn compute(&mut self) -> Computed
+        requires { phase self.old ≡ Driven }
+        ensures state { state self.new ≡ state self.old }
+        ensures phase { phase self.new ≡ Settled }
+        ensures latched { latched self.new ≡ latched self.old }
+        ensures value { result ≡ meaning.computes (latched self.old) (state self.old) };
+
+    /// The clock edge. An Err leaves the machine's state.
+    fn edge<S: Source, K: Sink>(
+        &mut self,
+        bus: &mut Bus,
+        source: &mut S,
+        sink: &mut K,
+    ) -> Result<(), BusFault>
+        requires { phase self.old ≡ Settled }
+        ensures phase { phase self.new ≡ AtRest }
+        ensures ok { OnOk result (IsLed (S.left source.old) (K.held sink.old) bus.old (S.left source.new) (K.held sink.new) bus.new (λ w v. meaning.step (latched self.old) (state self.old) w ≡ Done (state self.new) v)) }
+        ensures others { OnOk result (ChangesOnly (meaning.registers (state self.new)).mar bus.old.words bus.new.words) }
+        ensures state { OnErr result (state self.new ≡ state self.old) }
+        ensures refused { IfErr result (λ e. (IsFault e → ⊥) → (w : World) → Shows (S.left source.old) (K.held sink.old) bus.old w → fault_in (meaning.step (latched self.old) (state self.old) w) ≡ Some e) }
+        ensures stands { IfErr result (Stands (S.left source.old) (K.held sink.old) bus.old (S.left source.new) (K.held sink.new) bus.new) }
+        ensures reads { IsErrOf result BusFault.ReadFault → IsTrue (meaning.reads_console (latched self.old) (state self.old)) }
+        ensures uses { IsErrOf result BusFault.WriteFault → IsTrue (meaning.uses_console (latched self.old) (state self.old)) }
+        ensures keeps { (front : List ℕ) → Holds front (K.held sink.old) → Holds front (K.held sink.new) }
+        ensures cause { HasFaultCause (S.faults source.old) (S.faults source.new) (K.faults sink.old) (K.faults sink.new) result };
+
+    fn registers(&self) -> Registers
+        ensures value { result ≡ meaning.registers (state self.now) }
+        ensures mpc { result.mpc < 512 };
+
+    /// Whether an instruction boundary is here.
+    fn at_boundary(&self) -> bool
+        ensures { result ≡ meaning.is_boundary (state self.now) };
+
+    /// The byte address of the instruction at a boundary.
+    fn instruction_address(&self) -> u32
+        ensures { result ≡ meaning.address (state self.now) };
+
+    /// The MPC of `registers`, for machines where all registers are many.
+    fn mpc(&self) -> u16
+        ensures value { result ≡ (meaning.registers (state self.now)).mpc }
+        ensures small { result < 512 }
+    {
+        self.registers().mpc
+    }
+}

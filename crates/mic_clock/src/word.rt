@@ -1,0 +1,54 @@
+//! A word of a control store, for each machine a type of its own.
+
+ghost use Rattle.std.specs.Prelude.{◌≡◌, ℕ, IfSome, IfNone};
+
+use micro_word::{Word1, Word2, decode1, decode2, encode1, encode2};
+
+/// A canonical word of one machine.
+pub trait MicroWord: Sized {
+    ghost number: { Self → ℕ };
+
+    ghost IsWord: { ℕ → Type 0 };
+
+    /// The word of these bits, or none where no word has them.
+    fn from_bits(bits: u64) -> Option<Self>
+        ensures word { IfSome result (λ w. (number w ≡ bits) × IsWord bits) }
+        ensures none { IfNone result (IsWord bits → ⊥) };
+
+    fn bits(&self) -> u64
+        ensures { result ≡ number self.now };
+}
+
+impl MicroWord for Word1 {
+    ghost use Rattle.micro_word.specs.declared.statement.Machine.TheVariants.{Mic1};
+    ghost use Rattle.micro_word.specs.Canonical.{IsCanonical};
+
+    ghost number = { λ w. w };
+
+    ghost IsWord = { IsCanonical Mic1 };
+
+    fn from_bits(bits: u64) -> Option<Word1> {
+        decode1(bits).map(|placed| encode1(&placed))
+    }
+
+    fn bits(&self) -> u64 {
+        self.bits()
+    }
+}
+
+impl MicroWord for Word2 {
+    ghost use Rattle.micro_word.specs.declared.statement.Machine.TheVariants.{Mic2};
+    ghost use Rattle.micro_word.specs.Canonical.{IsCanonical};
+
+    ghost number = { λ w. w };
+
+    ghost IsWord = { IsCanonical Mic2 };
+
+    fn from_bits(bits: u64) -> Option<Word2> {
+        decode2(bits).map(|placed| encode2(&placed))
+    }
+
+    fn bits(&self) -> u64 {
+        self.bits()
+    }
+}

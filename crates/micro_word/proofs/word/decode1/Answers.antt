@@ -1,0 +1,15 @@
+use Rattle.std.proofs.Common.{◌≡◌, IsTrue, Option, IfSome, sym, subst, ◌∙◌}
+use Rattle.micro_word.specs.declared.statement.Machine.TheVariants.{Mic1}
+use Rattle.micro_word.specs.declared.statement.Placed.{Placed}
+use Rattle.micro_word.specs.Coding.{word_of}
+use Rattle.micro_word.specs.Canonical.{is_valid}
+use Rattle.micro_word.proofs.Coding.{known, back, none}
+use Rattle.micro_word.proofs.word.decode1.Goals as goal
+
+pub returns : goal.returns
+returns c =
+    record {
+      known = subst (λ (r : Option Placed). IfSome r (λ p. IsTrue (is_valid Mic1 p) × (word_of Mic1 p ≡ c.args.bits))) (sym c.decoded.ensures) (known Mic1 c.args.bits);
+      back = λ p h e. c.decoded.ensures ∙ back Mic1 c.args.bits p h e;
+      none = none Mic1 c.args.bits c.decoded.result c.decoded.ensures;
+    }

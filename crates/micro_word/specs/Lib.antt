@@ -1,0 +1,5 @@
+pub mod Operation
+pub mod Layout
+pub mod Coding
+pub mod Canonical
+pub mod ControlStore

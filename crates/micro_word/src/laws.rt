@@ -1,0 +1,19 @@
+//! What the coding promises of all statements and of all numbers, for those who prove something above it.
+ghost use Rattle.std.specs.Prelude.{◌≡◌, ◌↔◌, ℕ, IsTrue};
+ghost use Rattle.micro_word.specs.declared.statement.Placed.{Placed};
+ghost use Rattle.micro_word.specs.Coding.{word_of, statement_of};
+ghost use Rattle.micro_word.specs.Canonical.{is_valid, is_canonical, IsCanonical, Spells};
+
+use crate::statement::Machine;
+
+/// The word of each valid statement is canonical, and its fields name that statement.
+pub fn statement_law(_machine: Machine)
+    ensures canonical { (p : Placed) → IsTrue (is_valid _machine p) → IsTrue (is_canonical _machine (word_of _machine p)) }
+    ensures statement { (p : Placed) → IsTrue (is_valid _machine p) → statement_of _machine (word_of _machine p) ≡ p }
+{}
+
+/// The test for a canonical number tells the words of valid statements, and each is spelled by its fields.
+pub fn word_law(_machine: Machine)
+    ensures canonical { (word : ℕ) → IsTrue (is_canonical _machine word) ↔ IsCanonical _machine word }
+    ensures spells { (word : ℕ) → IsTrue (is_canonical _machine word) → Spells _machine word (statement_of _machine word) }
+{}

@@ -1,0 +1,89 @@
+//! The table of operations.
+ghost use Rattle.std.specs.Prelude.{◌≡◌, ◌==◌, find};
+ghost use Rattle.micro_word.specs.Coding.{row, row_of, op_of};
+
+use crate::statement::AluOp;
+
+/// What the table says of an operation.
+#[derive(Clone, Copy, Debug, PartialEq, Eq)]
+pub struct Row {
+    /// F0 F1 ENA ENB INVA INC
+    pub gates: u8,
+    pub uses_a: bool,
+    pub uses_b: bool,
+}
+
+const fn entry(gates: u8, uses_a: bool, uses_b: bool) -> Row
+    ensures { result ≡ record { gates = gates; uses_a = uses_a; uses_b = uses_b } }
+{
+    Row {
+        gates,
+        uses_a,
+        uses_b,
+    }
+}
+
+fn first_with_gates(ops: &[AluOp], gates: u8) -> Option<AluOp>
+    ensures { result ≡ find (λ op. gates == (row op).gates) ops.now }
+{
+    ops.iter().copied().find(|op| gates == op.row().gates)
+}
+
+impl AluOp {
+    /// Every operation, in the table's order.
+    pub const ALL: [AluOp; 16] = [
+        AluOp::A,
+        AluOp::B,
+        AluOp::NotA,
+        AluOp::NotB,
+        AluOp::Sum,
+        AluOp::SumInc,
+        AluOp::IncA,
+        AluOp::IncB,
+        AluOp::Sub,
+        AluOp::DecB,
+        AluOp::NegA,
+        AluOp::And,
+        AluOp::Or,
+        AluOp::Zero,
+        AluOp::One,
+        AluOp::MinusOne,
+    ];
+
+    pub fn row(self) -> Row
+        ensures { result ≡ row self }
+    {
+        match self {
+            AluOp::A => entry(0b011000, true, false),
+            AluOp::B => entry(0b010100, false, true),
+            AluOp::NotA => entry(0b011010, true, false),
+            AluOp::NotB => entry(0b101100, false, true),
+            AluOp::Sum => entry(0b111100, true, true),
+            AluOp::SumInc => entry(0b111101, true, true),
+            AluOp::IncA => entry(0b111001, true, false),
+            AluOp::IncB => entry(0b110101, false, true),
+            AluOp::Sub => entry(0b111111, true, true),
+            AluOp::DecB => entry(0b110110, false, true),
+            AluOp::NegA => entry(0b111011, true, false),
+            AluOp::And => entry(0b001100, true, true),
+            AluOp::Or => entry(0b011100, true, true),
+            AluOp::Zero => entry(0b010000, false, false),
+            AluOp::One => entry(0b110001, false, false),
+            AluOp::MinusOne => entry(0b110010, false, false),
+        }
+    }
+
+    /// The operation of six bits; none where they are no row of the table.
+    pub fn with_gates(gates: u8) -> Option<AluOp>
+        ensures { result ≡ row_of gates }
+    {
+        first_with_gates(&AluOp::ALL, gates)
+    }
+
+    /// The operation of six bits that are a row of the table.
+    pub fn of_gates(gates: u8) -> AluOp
+        ensures { result ≡ op_of gates }
+    {
+        AluOp::with_gates(gates).unwrap_or(AluOp::MinusOne)
+    }
+}
