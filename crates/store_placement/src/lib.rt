@@ -7,6 +7,7 @@ mod clash;
 mod forced;
 mod free;
 mod open;
+mod demands;
 pub mod pair;
 pub mod chosen;
 pub mod placement;
@@ -14,6 +15,7 @@ pub mod refusal;
 mod steps;
 
 pub use constraints::Constraints;
+pub use demands::constraints_of;
 pub use pair::Pair;
 pub use chosen::place;
 pub use placement::Placement;
