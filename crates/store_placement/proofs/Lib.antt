@@ -9,4 +9,5 @@ pub mod ForcedLemmas
 pub mod NoPlacement
 pub mod OneRefusal
 pub mod OpenPairs
+pub mod ProgramLemmas
 pub mod StepsLemmas
