@@ -44,6 +44,13 @@ placed_next address number (nexts.Goto to) = placed.Goto (address to)
 placed_next address number (nexts.Dispatch high) = placed.Dispatch high
 placed_next address number (nexts.Branch test high low) = placed.Branch test (address low)
 
+-- the statements that it needs the addresses of are there
+abbrev pub LeadsInside : ℕ → ℕ → MalNext → Type 0
+LeadsInside count number nexts.Following = number + 1 < count
+LeadsInside count number (nexts.Goto to) = to < count
+LeadsInside count number (nexts.Dispatch high) = Unit {0}
+LeadsInside count number (nexts.Branch test high low) = low < count
+
 abbrev pub placed_statement : (ℕ → ℕ) → ℕ → Statement → Placed
 placed_statement address number s = record { part = s.part; next = placed_next address number s.next }
 
@@ -60,3 +67,16 @@ placed_default address (Some s) = placed_statement address 0 s
 pub record Decodes (machine : Machine) (word : ℕ) (p : Placed) : Type 0 where
   pub valid : IsTrue (is_valid machine p)
   pub whole : word_of machine p ≡ word
+
+-- each statement stands at its address, and what unused words hold at every other
+pub record IsFilled (program : Program) (addresses words : List ℕ) : Type 0 where
+  pub statements : (s : ℕ) (t : Statement) → slice_get program.statements s ≡ Some t →
+    Decodes program.machine (slice_index words (slice_index addresses s)) (placed_statement (slice_index addresses) s t)
+  pub others : (a : ℕ) → a < 512 → ((s : ℕ) → s < length program.statements → slice_index addresses s ≢ a) →
+    Decodes program.machine (slice_index words a) (placed_default (slice_index addresses) program.fallback)
+
+-- s is the one statement at the address
+pub record IsOnlyAt (addresses : List ℕ) (address s : ℕ) : Type 0 where
+  pub inside : s < length addresses
+  pub there : slice_index addresses s ≡ address
+  pub only : (t : ℕ) → t < length addresses → slice_index addresses t ≡ address → t ≡ s

@@ -4,6 +4,7 @@
 mod collision;
 pub mod constraints;
 mod clash;
+mod filling;
 mod forced;
 mod free;
 mod open;
@@ -16,6 +17,7 @@ mod steps;
 
 pub use constraints::Constraints;
 pub use demands::constraints_of;
+pub use filling::{fill, statement_at};
 pub use pair::Pair;
 pub use chosen::place;
 pub use placement::Placement;

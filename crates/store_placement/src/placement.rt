@@ -1,4 +1,4 @@
-ghost use Rattle.std.specs.Prelude.{◌≡◌, ◌<◌, ℕ, List, length, slice_index};
+ghost use Rattle.std.specs.Prelude.{◌≡◌, ◌≢◌, ◌<◌, ℕ, List, length, slice_index, IfSome, IfNone};
 
 use arrayvec::ArrayVec;
 use std::marker::Model;
@@ -28,5 +28,18 @@ impl Placement {
         ensures { result ≡ slice_index self.now s }
     {
         self.addresses[s as usize]
+    }
+
+    /// The first statement at the address.
+    pub(crate) fn statement_at(&self, address: u16) -> Option<u16>
+        ensures none { IfNone result ((s : ℕ) → s < length self.now → slice_index self.now s ≢ address) }
+        ensures some { IfSome result (λ s. (s < length self.now) × (slice_index self.now s ≡ address)) }
+    {
+        for s in 0..self.addresses.len() as u16 {
+            if self.addresses[s as usize] == address {
+                return Some(s);
+            }
+        }
+        None
     }
 }
