@@ -2,7 +2,9 @@
 #![tactic(auto)]
 
 mod sign;
+mod token;
 mod word;
 
 pub use sign::Sign;
+pub use token::{Token, reads_what_is_spelled, tokens_of};
 pub use word::Word;

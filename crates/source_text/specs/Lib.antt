@@ -1,0 +1,5 @@
+pub mod Content
+pub mod Tokens
+pub mod Reading
+pub mod Walk
+pub mod Runs

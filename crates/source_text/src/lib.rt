@@ -1,2 +1,12 @@
-//! Texts of lines: what their lines, comments and tokens are, and which line is refused first.
+//! Sources of lines: what their lines say, which tokens a line has, and which line is refused first.
 #![tactic(auto)]
+
+mod content;
+mod runs;
+mod tokens;
+mod walk;
+
+pub use content::{first_line, without_comment};
+pub use runs::name_len;
+pub use tokens::{Language, TokenError, tokens_of};
+pub use walk::{Reader, read_lines};

@@ -1,7 +1,7 @@
 -- Lists over the numbers below n, one number on.
-use Rattle.std.proofs.Common.{◌≡◌, ℕ, ◌+◌, ◌<◌, ◌≤◌, Bool, cond, List, [], ◌∷◌, ◌++◌, Option, length, map, filter, refl, sym, ap, ◌∙◌, arith}
+use Rattle.std.proofs.Common.{◌≡◌, ℕ, ◌+◌, ◌<◌, ◌≤◌, Bool, true, false, cond, List, [], ◌∷◌, ◌++◌, Option, Some, None, length, map, filter, refl, sym, ap, ◌∙◌, arith}
 use Rattle.std.specs.List.{filter_map, cons_option, range_with_len}
-use Rattle.std.proofs.lemmas.List.{map-id, map-append, length-map}
+use Rattle.std.proofs.lemmas.List.{append-nil, map-id, map-append, length-map}
 use Rattle.std.proofs.lemmas.List.FromFn.{map-range_with_len_more, length-range_with_len}
 use Rattle.std.proofs.lemmas.List.Elements.{filter-append, filter_map-append}
 use Rattle.store_placement.specs.First.{below}
@@ -25,10 +25,16 @@ pub length-map_below : {X : Type 0} (f : ℕ → X) (n : ℕ) → length (map f 
 unfolding below
 length-map_below f n = simp (length-map, length-range_with_len)
 
-pub filter-below_more : (p : ℕ → Bool) (n : ℕ) → filter p (below (n + 1)) ≡ filter p (below n) ++ cond (p n) (n ∷ []) []
-filter-below_more p n = rw below_more (filter-append p (below n) (n ∷ []))
+pub filter-below_kept : (p : ℕ → Bool) (n : ℕ) → p n ≡ true → filter p (below (n + 1)) ≡ filter p (below n) ++ n ∷ []
+filter-below_kept p n h = rw (below_more, filter-append) (ap (λ b. filter p (below n) ++ cond b (n ∷ []) []) h)
 
-pub filter_map-below_more : {X : Type 0} (f : ℕ → Option X) (n : ℕ) → filter_map f (below (n + 1)) ≡ filter_map f (below n) ++ cons_option (f n) []
-filter_map-below_more f n = rw below_more (filter_map-append f (below n) (n ∷ []))
+pub filter-below_dropped : (p : ℕ → Bool) (n : ℕ) → p n ≡ false → filter p (below (n + 1)) ≡ filter p (below n)
+filter-below_dropped p n h = rw (below_more, filter-append) (ap (λ b. filter p (below n) ++ cond b (n ∷ []) []) h ∙ append-nil (filter p (below n)))
 
-pub ruleset belows = (below_none, map-below_more, length-map_below, filter-below_more, filter_map-below_more)
+pub filter_map-below_kept : {X : Type 0} (f : ℕ → Option X) (n : ℕ) (x : X) → f n ≡ Some x → filter_map f (below (n + 1)) ≡ filter_map f (below n) ++ x ∷ []
+filter_map-below_kept f n x h = rw (below_more, filter_map-append) (ap (λ o. filter_map f (below n) ++ cons_option o []) h)
+
+pub filter_map-below_dropped : {X : Type 0} (f : ℕ → Option X) (n : ℕ) → f n ≡ None → filter_map f (below (n + 1)) ≡ filter_map f (below n)
+filter_map-below_dropped f n h = rw (below_more, filter_map-append) (ap (λ o. filter_map f (below n) ++ cons_option o []) h ∙ append-nil (filter_map f (below n)))
+
+pub ruleset belows = (below_none, map-below_more, length-map_below, filter-below_kept, filter-below_dropped, filter_map-below_kept, filter_map-below_dropped)

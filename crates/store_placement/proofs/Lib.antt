@@ -1,2 +1,10 @@
+pub mod Among
+pub mod Apart
 pub mod Below
+pub mod ChosenPlacement
+pub mod ClearPairs
+pub mod ForcedBy
 pub mod ForcedLemmas
+pub mod NoPlacement
+pub mod OpenPairs
+pub mod StepsLemmas

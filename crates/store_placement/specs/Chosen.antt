@@ -6,13 +6,19 @@ use Rattle.store_placement.specs.Demands.{Demands, fixed_at}
 use Rattle.store_placement.specs.First.{below}
 use Rattle.store_placement.specs.Forced.{forced, all_forced, same_address}
 
--- no statement is placed at a
-unfoldable pub is_free : List (Option ℕ) → ℕ → Bool
-is_free placed a = not (list_any (λ o. same_address o (Some a)) placed)
+-- a statement is placed at a
+unfoldable pub is_taken : List (Option ℕ) → ℕ → Bool
+is_taken placed a = list_any (λ o. same_address o (Some a)) placed
+
+abbrev pub is_free : List (Option ℕ) → ℕ → Bool
+is_free placed a = not (is_taken placed a)
+
+abbrev pub is_free_low : List (Option ℕ) → ℕ → Bool
+is_free_low placed a = is_free placed a && is_free placed (a + 256)
 
 -- the low addresses that are free and whose partners are free too, lowest first
 unfoldable pub free_lows : List (Option ℕ) → List ℕ
-free_lows placed = filter (λ a. is_free placed a && is_free placed (a + 256)) (below 256)
+free_lows placed = filter (is_free_low placed) (below 256)
 
 -- the free addresses, lowest first
 unfoldable pub free_addresses : List (Option ℕ) → List ℕ

@@ -4,3 +4,4 @@ pub mod First
 pub mod Forced
 pub mod Placement
 pub mod Refusals
+pub mod Steps

@@ -5,8 +5,11 @@ pub mod collision;
 pub mod constraints;
 mod clash;
 pub mod forced;
+pub mod free;
+pub mod open;
 pub mod pair;
 pub mod refusal;
+pub mod steps;
 
 pub use constraints::Constraints;
 pub use pair::Pair;

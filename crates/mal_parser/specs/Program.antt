@@ -1,0 +1,54 @@
+-- Programs of the microassembly language, and what holds of each.
+use Rattle.std.specs.Prelude.{◌≡◌, ℕ, ◌+◌, ◌<◌, ◌≤◌, false, List, length, slice_get, codes, option_and_then, Option, Some, None, IsTrue, IsSome, IfSome}
+use Rattle.micro_word.specs.declared.statement.Machine.{Machine}
+use Rattle.micro_word.specs.Canonical.{is_part}
+use Rattle.mal_tokens.specs.Words.{is_reserved}
+use Rattle.mal_parser.specs.declared.statement.Statement.{Statement}
+use Rattle.mal_parser.specs.declared.statement.MalNext.{MalNext}
+use Rattle.mal_parser.specs.declared.statement.MalNext.TheVariants as nexts
+
+-- what contracts see of a program
+pub record Program : Type 0 where
+  pub machine : Machine
+  pub statements : List Statement
+  pub fallback : Option Statement
+  pub entry : ℕ
+
+-- the label of the statement with this number
+abbrev pub label_at : List Statement → ℕ → Option (List ℕ)
+label_at statements s = option_and_then (λ t. t.label) (slice_get statements s)
+
+abbrev pub IsLabelled : List Statement → ℕ → Type 0
+IsLabelled statements s = IsSome (label_at statements s)
+
+-- the targets that are named are labelled statements
+abbrev pub HasTargets : List Statement → MalNext → Type 0
+HasTargets statements nexts.Following = Unit {0}
+HasTargets statements (nexts.Goto to) = IsLabelled statements to
+HasTargets statements (nexts.Dispatch high) = Unit {0}
+HasTargets statements (nexts.Branch test high low) = IsLabelled statements high × IsLabelled statements low
+
+-- the statement with this number may stand in the program
+pub record IsStatement (program : Program) (number : ℕ) (s : Statement) : Type 0 where
+  pub part : IsTrue (is_part program.machine s.part)
+  pub targets : HasTargets program.statements s.next
+  pub followed : s.next ≡ nexts.Following → number + 1 < length program.statements
+  pub label : IfSome s.label (λ name. is_reserved name ≡ false)
+  pub fixed : IfSome s.fixed (λ address. (address < 512) × IsSome s.label)
+
+-- what unused words hold
+pub record IsFallback (program : Program) (s : Statement) : Type 0 where
+  pub part : IsTrue (is_part program.machine s.part)
+  pub targets : HasTargets program.statements s.next
+  pub leads : s.next ≡ nexts.Following → ⊥
+  pub label : s.label ≡ None
+  pub fixed : s.fixed ≡ None
+
+-- 1 to 512 statements with different labels, each of which may stand there, and an entry labelled Main1
+pub record IsProgram (program : Program) : Type 0 where
+  pub some : 0 < length program.statements
+  pub few : length program.statements ≤ 512
+  pub statements : (number : ℕ) (s : Statement) → slice_get program.statements number ≡ Some s → IsStatement program number s
+  pub labels : (s t : ℕ) (name : List ℕ) → label_at program.statements s ≡ Some name → label_at program.statements t ≡ Some name → s ≡ t
+  pub fallback : IfSome program.fallback (IsFallback program)
+  pub entry : label_at program.statements program.entry ≡ Some (codes "Main1")

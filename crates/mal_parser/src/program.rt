@@ -1,0 +1,79 @@
+ghost use Rattle.std.specs.Prelude.{◌≡◌, ◌<◌, length, slice_get, option_copied, Some};
+ghost use Rattle.mal_parser.specs.Program.{IsProgram};
+
+use crate::statement::Statement;
+use micro_word::Machine;
+use std::marker::Model;
+
+/// A program of 1 to 512 statements, with the statement that unused words hold, where there is one.
+#[derive(Drop)]
+pub struct MalProgram {
+    machine: Machine,
+    statements: Vec<Statement>,
+    fallback: Option<Statement>,
+    entry: u16,
+}
+
+impl Model for MalProgram {
+    ghost use Rattle.mal_parser.specs.Program.{Program, IsProgram};
+
+    ghost Value = { Program };
+
+    ghost view = { λ p. record { machine = p.machine; statements = p.statements.items; fallback = p.fallback; entry = p.entry } };
+
+    ghost invariant = { λ p. IsProgram (record { machine = p.machine; statements = p.statements.items; fallback = p.fallback; entry = p.entry }) };
+}
+
+impl MalProgram {
+    pub fn new(
+        machine: Machine,
+        statements: Vec<Statement>,
+        fallback: Option<Statement>,
+        entry: u16,
+    ) -> MalProgram
+        requires { IsProgram (record { machine = machine; statements = statements.items; fallback = fallback; entry = entry }) }
+        ensures { result ≡ record { machine = machine; statements = statements.items; fallback = fallback; entry = entry } }
+    {
+        MalProgram {
+            machine,
+            statements,
+            fallback,
+            entry,
+        }
+    }
+
+    pub fn machine(&self) -> Machine
+        ensures { result ≡ self.now.machine }
+    {
+        self.machine
+    }
+
+    /// The number of statements.
+    pub fn len(&self) -> u16
+        ensures count { result ≡ length self.now.statements }
+        ensures program { IsProgram self.now }
+    {
+        self.statements.len() as u16
+    }
+
+    pub fn statement(&self, s: u16) -> &Statement
+        requires { s < length self.now.statements }
+        ensures { slice_get self.now.statements s ≡ Some result.now }
+    {
+        &self.statements[s as usize]
+    }
+
+    /// What unused words hold.
+    pub fn fallback(&self) -> Option<&Statement>
+        ensures { option_copied result ≡ self.now.fallback }
+    {
+        self.fallback.as_ref()
+    }
+
+    /// The number of the statement labelled Main1.
+    pub fn entry(&self) -> u16
+        ensures { result ≡ self.now.entry }
+    {
+        self.entry
+    }
+}

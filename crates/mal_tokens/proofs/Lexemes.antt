@@ -1,0 +1,337 @@
+-- What is spelled as a token is read as that token, and what is read as one is spelled so.
+use Rattle.std.specs.Bool.{passes}
+use Rattle.std.proofs.Common.{◌≡◌, ℕ, zero, suc, ◌+◌, ◌<◌, Bool, true, false, inl, inr, subst, List, [], ◌∷◌, ◌++◌, Option, Some, None, drop, take, length, refl, sym, ap, arith, eqb→eq}
+use Rattle.std.specs.Prelude.{Ok, Err, Result, ◌⊎◌, ℤ, not, ◌==◌, ◌||◌, ◌&&◌, codes, find, cond, nat_le, is_some}
+use Rattle.std.proofs.lemmas.Slice.Eq.{bytes_eq-Decides}
+use Rattle.std.specs.List.{list_all}
+use Rattle.std.specs.Str.{bytes_eq}
+use Rattle.mic_base.specs.Name.{begins_digit, is_name, is_name_byte}
+use Rattle.mic_base.specs.Number.{number_of}
+use Rattle.mic_base.specs.declared.number.NumberError.{NumberError}
+use Rattle.source_text.specs.Tokens.{is_blank}
+use Rattle.source_text.specs.Runs.{name_len, begins_with, ends_with}
+use Rattle.source_text.specs.Reading.{Agrees}
+use Rattle.source_text.proofs.Fronts.{run_all, run_passes, run_stops, ends_all}
+use Rattle.mal_tokens.specs.declared.word.Word.{Word}
+use Rattle.mal_tokens.specs.declared.word.Word.TheVariants as words
+use Rattle.mal_tokens.specs.declared.sign.Sign.{Sign}
+use Rattle.mal_tokens.specs.declared.sign.Sign.TheVariants as signs
+use Rattle.mal_tokens.specs.declared.token.Token.{Token}
+use Rattle.mal_tokens.specs.declared.token.Token.TheVariants as tokens
+use Rattle.mal_tokens.specs.Words.{word_text, sign_text, find_word, find_sign, all_words, all_signs, is_reserved}
+use Rattle.mal_tokens.specs.Tokens.{IsLexeme, Ends, mal}
+use Rattle.mal_tokens.specs.Reading.{begins, extent, lexer, number_token, sign_or, token_of, word_or_name}
+
+-- ---- the tables
+
+word_again : (w : Word) → find_word (word_text w) ≡ Some w
+word_again w = elim w as (λ w. find_word (word_text w) ≡ Some w) [
+  | words.Mar ↦ refl
+  | words.Mdr ↦ refl
+  | words.Pc ↦ refl
+  | words.Sp ↦ refl
+  | words.Lv ↦ refl
+  | words.Cpp ↦ refl
+  | words.Tos ↦ refl
+  | words.Opc ↦ refl
+  | words.H ↦ refl
+  | words.Mbr ↦ refl
+  | words.Mbru ↦ refl
+  | words.Mbr1 ↦ refl
+  | words.Mbr1u ↦ refl
+  | words.Mbr2 ↦ refl
+  | words.Mbr2u ↦ refl
+  | words.N ↦ refl
+  | words.Z ↦ refl
+  | words.And ↦ refl
+  | words.Or ↦ refl
+  | words.Not ↦ refl
+  | words.Rd ↦ refl
+  | words.Wr ↦ refl
+  | words.Fetch ↦ refl
+  | words.Goto ↦ refl
+  | words.If ↦ refl
+  | words.Else ↦ refl
+]
+
+sign_again : (s : Sign) → find_sign (sign_text s) ≡ Some s
+sign_again s = elim s as (λ s. find_sign (sign_text s) ≡ Some s) [
+  | signs.Equals ↦ refl
+  | signs.Plus ↦ refl
+  | signs.Minus ↦ refl
+  | signs.Semicolon ↦ refl
+  | signs.Colon ↦ refl
+  | signs.Open ↦ refl
+  | signs.Close ↦ refl
+  | signs.Left ↦ refl
+  | signs.Right ↦ refl
+  | signs.Label ↦ refl
+  | signs.Default ↦ refl
+]
+
+-- a reserved word has the form of a name
+word_named : (w : Word) → is_name (word_text w) ≡ true
+word_named w = elim w as (λ w. is_name (word_text w) ≡ true) [
+  | words.Mar ↦ refl
+  | words.Mdr ↦ refl
+  | words.Pc ↦ refl
+  | words.Sp ↦ refl
+  | words.Lv ↦ refl
+  | words.Cpp ↦ refl
+  | words.Tos ↦ refl
+  | words.Opc ↦ refl
+  | words.H ↦ refl
+  | words.Mbr ↦ refl
+  | words.Mbru ↦ refl
+  | words.Mbr1 ↦ refl
+  | words.Mbr1u ↦ refl
+  | words.Mbr2 ↦ refl
+  | words.Mbr2u ↦ refl
+  | words.N ↦ refl
+  | words.Z ↦ refl
+  | words.And ↦ refl
+  | words.Or ↦ refl
+  | words.Not ↦ refl
+  | words.Rd ↦ refl
+  | words.Wr ↦ refl
+  | words.Fetch ↦ refl
+  | words.Goto ↦ refl
+  | words.If ↦ refl
+  | words.Else ↦ refl
+]
+
+sign_dark : (s : Sign) → begins_with is_name_byte (sign_text s) ≡ false
+sign_dark s = elim s as (λ s. begins_with is_name_byte (sign_text s) ≡ false) [
+  | signs.Equals ↦ refl
+  | signs.Plus ↦ refl
+  | signs.Minus ↦ refl
+  | signs.Semicolon ↦ refl
+  | signs.Colon ↦ refl
+  | signs.Open ↦ refl
+  | signs.Close ↦ refl
+  | signs.Left ↦ refl
+  | signs.Right ↦ refl
+  | signs.Label ↦ refl
+  | signs.Default ↦ refl
+]
+
+sign_digit : (s : Sign) → begins_digit (sign_text s) ≡ false
+sign_digit s = elim s as (λ s. begins_digit (sign_text s) ≡ false) [
+  | signs.Equals ↦ refl
+  | signs.Plus ↦ refl
+  | signs.Minus ↦ refl
+  | signs.Semicolon ↦ refl
+  | signs.Colon ↦ refl
+  | signs.Open ↦ refl
+  | signs.Close ↦ refl
+  | signs.Left ↦ refl
+  | signs.Right ↦ refl
+  | signs.Label ↦ refl
+  | signs.Default ↦ refl
+]
+
+chosen : {A : Type 0} (b : Bool) (x y z : Option A) → cond b x y ≡ z → ((b ≡ true) × (x ≡ z)) ⊎ ((b ≡ false) × (y ≡ z))
+chosen true x y z h = inl (refl, h)
+chosen false x y z h = inr (refl, h)
+
+find_passes : {A : Type 0} (p : A → Bool) (xs : List A) (x : A) → find p xs ≡ Some x → p x ≡ true
+find_passes p [] x h = absurd (cc)
+find_passes p (y ∷ ys) x h = elim (chosen (p y) (Some y) (find p ys) (Some x) h) [
+  | inl w ↦ let e : y ≡ x = cc in subst (λ z. p z ≡ true) e w.0
+  | inr w ↦ find_passes p ys x w.1
+]
+
+found_word : (text : List ℕ) (w : Word) → find_word text ≡ Some w → text ≡ word_text w
+found_word text w h = sym ((bytes_eq-Decides (word_text w) text).0 (find_passes (λ w. bytes_eq (word_text w) text) all_words w h))
+
+found_sign : (text : List ℕ) (s : Sign) → find_sign text ≡ Some s → text ≡ sign_text s
+found_sign text s h = sym ((bytes_eq-Decides (sign_text s) text).0 (find_passes (λ s. bytes_eq (sign_text s) text) all_signs s h))
+
+-- no sign begins with a byte of a name
+no_sign : (text : List ℕ) → begins_with is_name_byte text ≡ true → find_sign text ≡ None
+no_sign text h = go (find_sign text) refl
+  where
+    go : (r : Option Sign) → find_sign text ≡ r → r ≡ None
+    go None e = refl
+    go (Some s) e = let f : text ≡ sign_text s = found_sign text s e in absurd (let k = sign_dark s in cc)
+
+and_parts : (a b : Bool) → (a && b) ≡ true → (a ≡ true) × (b ≡ true)
+and_parts true b h = (refl, h)
+and_parts false b h = absurd (cc)
+
+not_true : (a : Bool) → not a ≡ true → a ≡ false
+not_true true h = absurd (cc)
+not_true false h = refl
+
+-- what a name is
+record IsNamed (text : List ℕ) : Type 0 where
+  starts : begins_with is_name_byte text ≡ true
+  no_digit : begins_digit text ≡ false
+  all : list_all is_name_byte text ≡ true
+
+named : (text : List ℕ) → is_name text ≡ true → IsNamed text
+named text h =
+    let p = and_parts (nat_le 1 (length text)) (nat_le (length text) 64 && (list_all is_name_byte text && not (begins_digit text))) h in
+    let q = and_parts (nat_le (length text) 64) (list_all is_name_byte text && not (begins_digit text)) p.1 in
+    let r = and_parts (list_all is_name_byte text) (not (begins_digit text)) q.1 in
+    record { starts = first text p.0 r.0; no_digit = not_true (begins_digit text) r.1; all = r.0 }
+  where
+    first : (text : List ℕ) → nat_le 1 (length text) ≡ true → list_all is_name_byte text ≡ true → begins_with is_name_byte text ≡ true
+    first [] some all = absurd (cc)
+    first (b ∷ rest) some all = (and_parts (is_name_byte b) (list_all is_name_byte rest) all).0
+
+-- ---- what is spelled is read
+
+extent_all : (text rest : List ℕ) → begins_with is_name_byte text ≡ true → list_all is_name_byte text ≡ true → begins_with is_name_byte rest ≡ false → extent (text ++ rest) ≡ length text
+extent_all [] rest s h e = absurd (cc)
+extent_all (b ∷ text) rest s h e =
+    let t : list_all is_name_byte text ≡ true = rw s at h in
+    let r = run_all is_name_byte text rest t e in
+    rw s (omega (arith, r))
+
+far_name : (text rest : List ℕ) → begins_with is_name_byte text ≡ true → list_all is_name_byte text ≡ true → Ends text rest → extent (text ++ rest) ≡ length text
+far_name [] rest s h e = absurd (cc)
+far_name (b ∷ text) rest s h e = extent_all (b ∷ text) rest s h (e (ends_all is_name_byte b text h))
+
+far_sign : (s : Sign) (rest : List ℕ) → Ends (sign_text s) rest → extent (sign_text s ++ rest) ≡ length (sign_text s)
+far_sign s rest = elim s as (λ s. Ends (sign_text s) rest → extent (sign_text s ++ rest) ≡ length (sign_text s)) [
+  | signs.Equals ↦ λ _. refl
+  | signs.Plus ↦ λ _. refl
+  | signs.Minus ↦ λ _. refl
+  | signs.Semicolon ↦ λ _. refl
+  | signs.Colon ↦ λ _. refl
+  | signs.Open ↦ λ _. refl
+  | signs.Close ↦ λ _. refl
+  | signs.Left ↦ λ _. refl
+  | signs.Right ↦ λ _. refl
+  | signs.Label ↦ λ e. ap (λ n. n + 1) (run_all is_name_byte (codes "label") rest refl (e refl))
+  | signs.Default ↦ λ e. ap (λ n. n + 1) (run_all is_name_byte (codes "default") rest refl (e refl))
+]
+
+digit_name : (text : List ℕ) → begins_digit text ≡ true → begins_with is_name_byte text ≡ true
+digit_name [] h = absurd (cc)
+digit_name (b ∷ text) h = rw h refl
+
+far : (t : Token) (text rest : List ℕ) → IsLexeme t text → Ends text rest → extent (text ++ rest) ≡ length text
+far (tokens.Word w) text rest is e =
+    let n : IsNamed text = subst IsNamed (sym is) (named (word_text w) (word_named w)) in
+    far_name text rest n.starts n.all e
+far (tokens.Sign s) text rest is e = rw is (far_sign s rest (subst (λ x. Ends x rest) is e))
+far (tokens.Name m) text rest is e =
+    let n : IsNamed text = subst IsNamed (sym is.0) (named m is.1) in
+    far_name text rest n.starts n.all e
+far (tokens.Number v) text rest is e = far_name text rest (digit_name text is.0) is.1 e
+
+read_word : (w : Word) → token_of (word_text w) ≡ Some (tokens.Word w)
+read_word w =
+    let n = named (word_text w) (word_named w) in
+    rw (n.no_digit, no_sign (word_text w) n.starts, word_again w) refl
+
+read_name : (text : List ℕ) → is_name text ≡ true → is_reserved text ≡ false → token_of text ≡ Some (tokens.Name text)
+read_name text h free =
+    let n = named text h in
+    rw (n.no_digit, no_sign text n.starts) (go (find_word text) free)
+  where
+    go : (r : Option Word) → is_some r ≡ false → word_or_name text r ≡ Some (tokens.Name text)
+    go None e = rw h refl
+    go (Some w) e = absurd (cc)
+
+read : (t : Token) (text rest : List ℕ) → IsLexeme t text → Ends text rest → token_of text ≡ Some t
+read (tokens.Word w) text rest is e = rw is (read_word w)
+read (tokens.Sign s) text rest is e = rw is (rw (sign_digit s, sign_again s) refl)
+read (tokens.Name m) text rest is e = rw is.0 (read_name m is.1 is.2)
+read (tokens.Number v) text rest is e = let d = is.0 in let n = is.2 in rw (d, n) refl
+
+-- ---- what is read is spelled
+
+name_all : (b : ℕ) (rest : List ℕ) → is_name_byte b ≡ true → list_all is_name_byte (take (extent (b ∷ rest)) (b ∷ rest)) ≡ true
+name_all b rest h =
+    let k : name_len rest + 1 ≡ suc (name_len rest) = omega arith in
+    rw (h, k, h) (run_passes is_name_byte rest)
+
+stops : (b : ℕ) (rest : List ℕ) → begins_with is_name_byte (drop (name_len rest + 1) (b ∷ rest)) ≡ false
+stops b rest = let k : name_len rest + 1 ≡ suc (name_len rest) = omega arith in rw k (run_stops is_name_byte rest)
+
+pair_ends : (b : ℕ) (rest : List ℕ) → is_name_byte b ≡ false → begins b rest ≡ true → ends_with is_name_byte (take 2 (b ∷ rest)) ≡ false
+pair_ends b [] w h = w
+pair_ends b (c ∷ rest) w h = let e : c ≡ b = eqb→eq c b (passes (c == b) h) in rw e w
+
+ends_at : (b : ℕ) (rest : List ℕ) → Ends (take (extent (b ∷ rest)) (b ∷ rest)) (drop (extent (b ∷ rest)) (b ∷ rest))
+ends_at b rest = go (is_name_byte b) (b == 46) (b == 60 || b == 62) (begins b rest) refl refl
+  where
+    go : (w dot angle twice : Bool) → is_name_byte b ≡ w → begins b rest ≡ twice
+        → Ends (take (cond w (name_len rest + 1) (cond dot (name_len rest + 1) (cond (angle && twice) 2 1))) (b ∷ rest)) (drop (cond w (name_len rest + 1) (cond dot (name_len rest + 1) (cond (angle && twice) 2 1))) (b ∷ rest))
+    go true dot angle twice h k = λ _. stops b rest
+    go false true angle twice h k = λ _. stops b rest
+    go false false true true h k = λ e. absurd (let f = pair_ends b rest h k in cc)
+    go false false true false h k = λ e. absurd (cc)
+    go false false false twice h k = λ e. absurd (cc)
+
+is_number : (text : List ℕ) (r : Result ℤ NumberError) (t : Token) → number_of text ≡ r → begins_digit text ≡ true → list_all is_name_byte text ≡ true → number_token r ≡ Some t → IsLexeme t text
+is_number text (Ok v) t e d a h = let k : tokens.Number v ≡ t = cc in subst (λ t. IsLexeme t text) k (d, a, e)
+is_number text (Err x) t e d a h = absurd (cc)
+
+is_word : (text : List ℕ) (r : Option Word) (t : Token) → find_word text ≡ r → word_or_name text r ≡ Some t → IsLexeme t text
+is_word text (Some w) t e h = let k : tokens.Word w ≡ t = cc in subst (λ t. IsLexeme t text) k (found_word text w e)
+is_word text None t e h = elim (chosen (is_name text) (Some (tokens.Name text)) None (Some t) h) [
+  | inl w ↦ let k : tokens.Name text ≡ t = cc in subst (λ t. IsLexeme t text) k (refl, w.0, ap is_some e)
+  | inr w ↦ absurd (let z = w.1 in cc)
+]
+
+is_sign : (text : List ℕ) (r : Option Sign) (t : Token) → find_sign text ≡ r → sign_or text r ≡ Some t → IsLexeme t text
+is_sign text (Some s) t e h = let k : tokens.Sign s ≡ t = cc in subst (λ t. IsLexeme t text) k (found_sign text s e)
+is_sign text None t e h = is_word text (find_word text) t refl h
+
+is_lexeme : (text : List ℕ) (t : Token) → (begins_digit text ≡ true → list_all is_name_byte text ≡ true) → token_of text ≡ Some t → IsLexeme t text
+is_lexeme text t all h = elim (chosen (begins_digit text) (number_token (number_of text)) (sign_or text (find_sign text)) (Some t) h) [
+  | inl w ↦ is_number text (number_of text) t refl w.0 (all w.0) w.1
+  | inr w ↦ is_sign text (find_sign text) t refl w.1
+]
+
+digit_first : (b n : ℕ) (rest : List ℕ) → begins_digit (take n (b ∷ rest)) ≡ true → is_name_byte b ≡ true
+digit_first b zero rest h = absurd (cc)
+digit_first b (suc n) rest h = rw h refl
+
+-- ---- what the walk over tokens asks
+
+some : (b : ℕ) (rest : List ℕ) → 0 < extent (b ∷ rest)
+some b rest = go (is_name_byte b) (b == 46) ((b == 60 || b == 62) && begins b rest)
+  where
+    go : (w dot pair : Bool) → 0 < cond w (name_len rest + 1) (cond dot (name_len rest + 1) (cond pair 2 1))
+    go true dot pair = omega arith
+    go false true pair = omega arith
+    go false false true = omega arith
+    go false false false = omega arith
+
+no_name : (b : ℕ) (rest : List ℕ) → is_name_byte b ≡ false → is_name (b ∷ rest) ≡ false
+no_name b rest h = rw h (go (nat_le 1 (length (b ∷ rest))) (nat_le (length (b ∷ rest)) 64))
+  where
+    go : (x y : Bool) → (x && (y && false)) ≡ false
+    go true true = refl
+    go true false = refl
+    go false y = refl
+
+dark : (b : ℕ) (rest : List ℕ) (t : Token) → token_of (b ∷ rest) ≡ Some t → is_blank b ≡ false
+dark b rest t h = go (b == 32) (b == 9) refl refl
+  where
+    space : (x : ℕ) → x ≡ 32 → token_of (x ∷ rest) ≡ None
+    space x e = rw (e, no_name 32 rest refl) refl
+
+    tab : (x : ℕ) → x ≡ 9 → token_of (x ∷ rest) ≡ None
+    tab x e = rw (e, no_name 9 rest refl) refl
+
+    go : (x y : Bool) → (b == 32) ≡ x → (b == 9) ≡ y → (x || y) ≡ false
+    go true y e f = absurd (let k = space b (eqb→eq b 32 (passes (b == 32) e)) in cc)
+    go false true e f = absurd (let k = tab b (eqb→eq b 9 (passes (b == 9) f)) in cc)
+    go false false e f = refl
+
+pub agrees : Agrees mal lexer
+agrees = record {
+  far = far;
+  read = read;
+  spelled = λ b rest t h. is_lexeme (take (extent (b ∷ rest)) (b ∷ rest)) t (λ d. name_all b rest (digit_first b (extent (b ∷ rest)) rest d)) h;
+  ends = λ b rest t h. ends_at b rest;
+  some = some;
+  filled = refl;
+  dark = dark;
+}

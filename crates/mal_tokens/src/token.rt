@@ -1,0 +1,115 @@
+ghost use Rattle.std.specs.Prelude.{◌≡◌, ◌+◌, ◌<◌, ◌≤◌, ◌∷◌, ◌↔◌, None, Some, length, IfOk, IsErrOf, List, ℕ};
+ghost use Rattle.mic_base.specs.Name.{begins_digit, is_name_byte};
+ghost use Rattle.mic_base.specs.Number.{number_of};
+ghost use Rattle.source_text.specs.Runs.{begins_with};
+ghost use Rattle.mal_tokens.specs.Words.{find_word};
+ghost use Rattle.mal_tokens.specs.declared.token.Token.{Token};
+ghost use Rattle.mal_tokens.specs.Reading.{begins, number_token, read, word_or_name};
+ghost use Rattle.mal_tokens.specs.Tokens.{Spells};
+
+use crate::sign::Sign;
+use crate::word::Word;
+use mic_base::{Name, Number};
+use source_text::{Language, TokenError, name_len};
+use std::alloc::Global;
+
+/// A token of a line.
+#[derive(Clone, Copy)]
+pub enum Token {
+    Word(Word),
+    Sign(Sign),
+    Name(Name),
+    /// Its value is not below zero.
+    Number(i64),
+}
+
+/// The microassembly language.
+pub struct Mal;
+
+impl Language for Mal {
+    type Token = Token;
+
+    ghost use Rattle.mal_tokens.specs.Reading.{lexer};
+
+    ghost lexer = { lexer };
+
+    fn extent(first: u8, rest: &[u8]) -> usize {
+        if is_name_byte(first) || first == b'.' {
+            return name_len(rest) + 1;
+        }
+        if (first == b'<' || first == b'>') && begins(first, rest) {
+            return 2;
+        }
+        1
+    }
+
+    fn token(text: &[u8]) -> Option<Token> {
+        if begins_digit(text) {
+            return number_token(text);
+        }
+        match Sign::find(text) {
+            Some(sign) => Some(Token::Sign(sign)),
+            None => word_or_name(text),
+        }
+    }
+}
+
+fn is_name_byte(byte: u8) -> bool
+    ensures { result ≡ is_name_byte byte }
+{
+    byte.is_ascii_alphanumeric() || byte == b'_'
+}
+
+fn begins(first: u8, rest: &[u8]) -> bool
+    ensures { result ≡ begins first rest.now }
+{
+    match rest {
+        [] => false,
+        [second, ..] => *second == first,
+    }
+}
+
+fn begins_digit(text: &[u8]) -> bool
+    ensures { result ≡ begins_digit text.now }
+{
+    match text {
+        [] => false,
+        [first, ..] => first.is_ascii_digit(),
+    }
+}
+
+fn number_token(text: &[u8]) -> Option<Token>
+    ensures { result ≡ number_token (number_of text.now) }
+{
+    match Number::read(text) {
+        Ok(value) => Some(Token::Number(value)),
+        Err(_) => None,
+    }
+}
+
+fn word_or_name(text: &[u8]) -> Option<Token>
+    ensures { result ≡ word_or_name text.now (find_word text.now) }
+{
+    match Word::find(text) {
+        Some(word) => Some(Token::Word(word)),
+        None => match Name::new(text) {
+            Some(name) => Some(Token::Name(name)),
+            None => None,
+        },
+    }
+}
+
+/// The tokens of a line without its comment.
+#[tactic(auto, unfolding(crate::specs::Reading::read))]
+pub fn tokens_of(alloc: Global, line: &[u8]) -> Result<Vec<Token>, TokenError>
+    ensures ok { IfOk result (λ tokens. read line.now ≡ Some tokens.items) }
+    ensures bad { IsErrOf result TokenError.BadToken → read line.now ≡ None }
+{
+    source_text::tokens_of::<Mal>(alloc, line)
+}
+
+/// What is read is what the line spells: so a line spells at most one list of tokens, and BadToken comes exactly where
+/// it spells none.
+pub fn reads_what_is_spelled()
+    ensures { (line : List ℕ) (tokens : List Token) → (read line ≡ Some tokens) ↔ Spells line tokens }
+{}

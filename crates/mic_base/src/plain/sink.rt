@@ -1,0 +1,27 @@
+ghost use Rattle.std.specs.Prelude.{None};
+
+use crate::sink::{Sink, SinkFailed};
+
+/// Keeps nothing, tells nothing and never fails.
+#[derive(Clone, Copy, Debug, PartialEq, Eq)]
+pub struct PlainSink;
+
+impl PlainSink {
+    pub fn new() -> PlainSink {
+        PlainSink
+    }
+}
+
+impl Sink for PlainSink {
+    ghost held = { λ s. None };
+
+    ghost faults = { λ s. 0 };
+
+    fn put(&mut self, _piece: &[u8]) -> Result<(), SinkFailed> {
+        Ok(())
+    }
+
+    fn flush(&mut self) -> Result<(), SinkFailed> {
+        Ok(())
+    }
+}

@@ -1,0 +1,39 @@
+ghost use Rattle.std.specs.Prelude.{◌≡◌, ◌≤◌, List, ℕ, Some, drop, vec_len};
+
+use crate::source::{Source, SourceFailed};
+
+/// Bytes in memory, which it tells. It never fails.
+#[derive(Drop)]
+pub struct PlainSource {
+    bytes: Vec<u8>,
+    at: usize,
+    ghost within: { at ≤ vec_len bytes },
+}
+
+impl PlainSource {
+    ghost use Rattle.mic_base.specs.Plain.{plain_left};
+
+    pub fn new(bytes: Vec<u8>) -> PlainSource
+        ensures { plain_left result ≡ bytes.items }
+    {
+        PlainSource { bytes, at: 0 }
+    }
+}
+
+impl Source for PlainSource {
+    ghost use Rattle.mic_base.specs.Plain.{plain_left};
+
+    ghost left = { λ s. Some (drop s.at s.bytes.items) };
+
+    ghost faults = { λ s. 0 };
+
+    fn get(&mut self) -> Result<Option<u8>, SourceFailed> {
+        if self.at < self.bytes.len() {
+            let byte = self.bytes[self.at];
+            self.at += 1;
+            Ok(Some(byte))
+        } else {
+            Ok(None)
+        }
+    }
+}

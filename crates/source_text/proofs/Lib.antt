@@ -1,0 +1,5 @@
+pub mod Lexing
+pub mod Walking
+pub mod Cutting
+pub mod Comments
+pub mod Fronts

@@ -1,0 +1,36 @@
+use Rattle.std.proofs.Common.{◌≡◌, ◌+◌, ◌∷◌, List, ℕ, [], true, refl, ap, ◌∙◌, sym, arith, length, map}
+use Rattle.std.specs.Prelude.{◌==◌}
+use Rattle.std.specs.Str.Lines.{lines}
+use Rattle.std.proofs.lemmas.Bool.Decides.{nat_tests}
+use Rattle.source_text.specs.Content.{contents, without_comment}
+use Rattle.source_text.specs.Walk.{walk}
+use Rattle.source_text.proofs.Walking.{step_on, step_off, step_end}
+use Rattle.source_text.proofs.walk.read_lines.Goals as goal
+
+contents_more : (text line after said : List ℕ) → lines text ≡ line ∷ lines after → said ≡ without_comment line → contents text ≡ said ∷ contents after
+contents_more text line after said e s = ap (λ ls. map without_comment ls) e ∙ ap (λ w. w ∷ contents after) (sym s)
+
+contents_none : (text : List ℕ) → (length text == 0) ≡ true → contents text ≡ []
+contents_none [] h = refl
+contents_none (b ∷ rest) h = absurd (grind (arith, nat_tests))
+
+pub returns-in-Err-clause-err : goal.returns-in-Err-clause-err
+returns-in-Err-clause-err g c = λ free.
+    let e : contents c.loop-rest.rest.now ≡ c.without_comment.result.now ∷ contents c.first_line.result.1.now = contents_more c.loop-rest.rest.now c.first_line.result.0.now c.first_line.result.1.now c.without_comment.result.now c.first_line.ensures.value c.without_comment.ensures in
+    step_off g.R.Reader.step (c.loop-rest.number + 1) (g.R.Reader.state c.loop-rest.reader) c.without_comment.result.now (contents c.loop-rest.rest.now) (contents c.first_line.result.1.now) c.in-Err.refusal
+    (walk g.R.Reader.step 1 (g.R.Reader.state c.args.reader.now) (contents c.args.text.now)) e (c.in-Err.ensures.err free) c.loop-rest.invariant.1
+
+pub loop-rest-preserved : goal.loop-rest-preserved
+loop-rest-preserved g c =
+    let e : contents c.loop-rest.rest.now ≡ c.without_comment.result.now ∷ contents c.first_line.result.1.now = contents_more c.loop-rest.rest.now c.first_line.result.0.now c.first_line.result.1.now c.without_comment.result.now c.first_line.ensures.value c.without_comment.ensures in
+    let less = c.first_line.ensures.less in
+    let i = c.loop-rest.invariant.0 in (
+      omega (arith, less, i),
+      step_on g.R.Reader.step (c.loop-rest.number + 1) (g.R.Reader.state c.loop-rest.reader) (g.R.Reader.state c.line.new.self) c.without_comment.result.now (contents c.loop-rest.rest.now) (contents c.first_line.result.1.now)
+          (walk g.R.Reader.step 1 (g.R.Reader.state c.args.reader.now) (contents c.args.text.now)) e c.in-Ok.ensures.ok c.loop-rest.invariant.1,
+    )
+
+pub returns-clause-ok : goal.returns-clause-ok
+returns-clause-ok g c =
+    let none : contents c.loop-rest.rest.now ≡ [] = contents_none c.loop-rest.rest.now (sym c.is_empty.ensures ∙ c.loop-rest-test.false) in
+    step_end g.R.Reader.step (c.loop-rest.number + 1) (g.R.Reader.state c.loop-rest.reader) (contents c.loop-rest.rest.now) (walk g.R.Reader.step 1 (g.R.Reader.state c.args.reader.now) (contents c.args.text.now)) none c.loop-rest.invariant.1

@@ -1,0 +1,17 @@
+-- Runs of bytes that pass a test, such as the bytes of a name.
+use Rattle.std.specs.Prelude.{ℕ, Bool, false, List, [], ◌∷◌}
+use Rattle.std.specs.List.{prefix_len}
+use Rattle.mic_base.specs.Name.{is_name_byte}
+
+abbrev pub begins_with : (ℕ → Bool) → List ℕ → Bool
+begins_with passes [] = false
+begins_with passes (b ∷ rest) = passes b
+
+abbrev pub ends_with : (ℕ → Bool) → List ℕ → Bool
+ends_with passes [] = false
+ends_with passes (b ∷ []) = passes b
+ends_with passes (b ∷ c ∷ rest) = ends_with passes (c ∷ rest)
+
+-- how many letters, digits and `_` stand at the front
+abbrev pub name_len : List ℕ → ℕ
+name_len = prefix_len is_name_byte

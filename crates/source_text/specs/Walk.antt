@@ -1,0 +1,30 @@
+-- Reading a source line by line, each line from what those before it left, up to the first refusal.
+use Rattle.std.specs.Prelude.{◌≡◌, ℕ, ◌+◌, List, [], ◌∷◌, ◌++◌, length, Result, Ok, Err}
+
+-- what line `k` makes of what those before it left, or its refusal
+abbrev pub Step : Type 0 → Type 0 → Type 0
+Step S E = ℕ → S → List ℕ → Result S E
+
+abbrev pub go_on : {S E : Type 0} → (S → Result S E) → Result S E → Result S E
+go_on next (Ok s) = next s
+go_on next (Err e) = Err e
+
+-- the lines from line `k` on, or the first refusal
+unfoldable pub walk : {S E : Type 0} → Step S E → ℕ → S → List (List ℕ) → Result S E
+walk step k s [] = Ok s
+walk step k s (l ∷ ls) = go_on (λ t. walk step (k + 1) t ls) (step k s l)
+
+-- the lines from line `k` on lead from one state to the other, and none is refused
+abbrev pub Leads : {S E : Type 0} → Step S E → ℕ → S → List (List ℕ) → S → Type 0
+Leads step k s [] t = s ≡ t
+Leads {S} step k s (l ∷ ls) t = (u : S) × (step k s l ≡ Ok u) × Leads step (k + 1) u ls t
+
+-- one of the lines has this refusal, and none before it has one
+pub record FirstRefused {S E : Type 0} (step : Step S E) (k : ℕ) (s : S) (ls : List (List ℕ)) (e : E) : Type 0 where
+  pub front : List (List ℕ)
+  pub line : List ℕ
+  pub others : List (List ℕ)
+  pub before : S
+  pub split : ls ≡ front ++ line ∷ others
+  pub leads : Leads step k s front before
+  pub refused : step (k + length front) before line ≡ Err e

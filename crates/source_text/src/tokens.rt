@@ -1,0 +1,69 @@
+ghost use Rattle.std.specs.Prelude.{◌≡◌, ◌+◌, ◌≤◌, ◌<◌, ◌∷◌, length, IfOk, IsErrOf, None, Some};
+ghost use Rattle.source_text.specs.Reading.{lex};
+ghost use Rattle.source_text.specs.Tokens.{is_blank};
+
+use std::alloc::{AllocFailed, Global};
+
+/// Why a line has no tokens.
+#[derive(Clone, Copy, Debug, PartialEq, Eq)]
+pub enum TokenError {
+    BadToken,
+    OutOfMemory,
+}
+
+/// A language whose lines are read token by token.
+pub trait Language {
+    type Token: Drop;
+
+    ghost use Rattle.source_text.specs.Reading.{Lexer};
+
+    ghost lexer: { Lexer Self.Token };
+
+    /// How far the first token of a line reaches.
+    fn extent(first: u8, rest: &[u8]) -> usize
+        ensures value { result ≡ lexer.extent (first ∷ rest.now) }
+        ensures some { 0 < result }
+        ensures small { result ≤ length rest.now + 1 };
+
+    /// The token that is spelled so.
+    fn token(text: &[u8]) -> Option<Self::Token>
+        ensures { result ≡ lexer.token text.now };
+}
+
+/// The tokens of a line without its comment.
+pub fn tokens_of<L: Language>(alloc: Global, line: &[u8]) -> Result<Vec<L::Token>, TokenError>
+    ensures ok { IfOk result (λ tokens. lex L.lexer 0 line.now ≡ Some tokens.items) }
+    ensures bad { IsErrOf result TokenError.BadToken → lex L.lexer 0 line.now ≡ None }
+{
+    let mut tokens = Vec::new(alloc);
+    let mut rest = line;
+    while let Some((first, after)) = rest.split_first() {
+        if is_blank(*first) {
+            rest = after;
+            continue;
+        }
+        let (text, behind) = rest.split_at(L::extent(*first, after));
+        let Some(token) = L::token(text) else {
+            return Err(TokenError::BadToken);
+        };
+        tokens.push(token)?;
+        rest = behind;
+    }
+    Ok(tokens)
+}
+
+fn is_blank(byte: u8) -> bool
+    ensures { result ≡ is_blank byte }
+{
+    byte == b' ' || byte == b'\t'
+}
+
+impl<T: Drop> From<AllocFailed<T>> for TokenError {
+    ghost use Rattle.source_text.specs.declared.tokens.TokenError.TheVariants.{OutOfMemory};
+
+    ghost from_gives = { λ _ e. e ≡ OutOfMemory };
+
+    fn from(_: AllocFailed<T>) -> Self {
+        TokenError::OutOfMemory
+    }
+}

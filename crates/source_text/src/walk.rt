@@ -1,0 +1,48 @@
+ghost use Rattle.std.specs.Prelude.{◌≡◌, ◌<◌, ◌^◌, length, false, Ok, Err, OnOk, IfErr};
+ghost use Rattle.source_text.specs.Content.{contents};
+ghost use Rattle.source_text.specs.Walk.{walk};
+
+use crate::content::{first_line, without_comment};
+
+/// What reads the lines of a source, one after the other.
+pub trait Reader {
+    type Refusal;
+
+    ghost use Rattle.std.specs.Prelude.{Bool};
+    ghost use Rattle.source_text.specs.Walk.{Step};
+
+    /// What the lines so far have left.
+    ghost State: { Type 0 };
+
+    ghost state: { Self → State };
+
+    ghost step: { Step State Self.Refusal };
+
+    /// Want of memory, which may come at any line.
+    ghost is_memory: { Self.Refusal → Bool };
+
+    /// Reads a line, which comes without its comment.
+    fn line(&mut self, number: u32, line: &[u8]) -> Result<(), Self::Refusal>
+        ensures ok { OnOk result (step number (state self.old) line.now ≡ Ok (state self.new)) }
+        ensures err { IfErr result (λ e. is_memory e ≡ false → step number (state self.old) line.now ≡ Err e) };
+}
+
+/// Reads the lines of a text, up to the first refusal.
+pub fn read_lines<R: Reader>(reader: &mut R, text: &[u8]) -> Result<(), R::Refusal>
+    requires { length text.now < 2 ^ 32 }
+    ensures ok { OnOk result (walk R.step 1 (R.state reader.old) (contents text.now) ≡ Ok (R.state reader.new)) }
+    ensures err { IfErr result (λ e. R.is_memory e ≡ false → walk R.step 1 (R.state reader.old) (contents text.now) ≡ Err e) }
+{
+    let mut rest = text;
+    let mut number = 0;
+    while !rest.is_empty() {
+        number += 1;
+        let (line, after) = first_line(rest);
+        match reader.line(number, without_comment(line)) {
+            Ok(()) => {}
+            Err(refusal) => return Err(refusal),
+        }
+        rest = after;
+    }
+    Ok(())
+}

@@ -1,0 +1,8 @@
+use Rattle.std.proofs.Common.{◌≡◌, ◌≤◌, length}
+use Rattle.std.specs.List.{filter_map}
+use Rattle.store_placement.specs.First.{below}
+use Rattle.store_placement.specs.Chosen.{opened_by}
+use Rattle.store_placement.proofs.open.open_pairs.Given as goal
+
+abbrev pub invariant-loop-s : goal.invariant-loop-s
+invariant-loop-s l = (l.open.items ≡ filter_map (opened_by l.fixed l.pairs) (below l.s)) × (length l.open.items ≤ l.s)

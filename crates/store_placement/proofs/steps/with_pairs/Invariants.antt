@@ -1,0 +1,9 @@
+use Rattle.std.proofs.Common.{◌≡◌, None, map, slice_index_or}
+use Rattle.std.specs.Option.{option_or}
+use Rattle.store_placement.specs.First.{below}
+use Rattle.store_placement.specs.Steps.{pair_address}
+use Rattle.store_placement.proofs.steps.with_pairs.Given as goal
+
+abbrev pub invariant-loop-s : goal.invariant-loop-s
+invariant-loop-s l =
+    l.placed.items ≡ map (λ s. option_or (slice_index_or l.forced s None) (pair_address l.pairs l.lows s)) (below l.s)
