@@ -6,3 +6,5 @@ pub mod Cost
 pub mod Run
 pub mod Safe
 pub mod Text
+pub mod ImageFile
+pub mod Machine

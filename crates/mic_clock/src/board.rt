@@ -2,7 +2,7 @@
 
 ghost use Rattle.mic_base.specs.Causes.{Rose};
 ghost use Rattle.mic_base.specs.Streams.{Holds};
-ghost use Rattle.std.specs.Prelude.{◌≡◌, ◌≢◌, ◌⊎◌, [], ◌<◌, ◌≤◌, ◌+◌, ◌^◌, ℕ, List, Option, None, Some, IsOk, OnOk, OnErr, IfErr, IsSome, IsTrue, is_some, if◌then◌else◌, true, false, length};
+ghost use Rattle.std.specs.Prelude.{◌≡◌, ◌≢◌, ◌⊎◌, [], ◌<◌, ◌≤◌, ◌+◌, ◌^◌, ℕ, suc, List, Option, None, Some, IsOk, OnOk, OnErr, IfErr, IsSome, IsTrue, is_some, if◌then◌else◌, true, false, length};
 ghost use Rattle.console_port.specs.World.{World};
 ghost use Rattle.console_port.specs.Bus.{Shows, Stands};
 ghost use Rattle.console_port.specs.Console.{IsFault, IsLost, HasFaultCause};
@@ -138,6 +138,32 @@ impl<M: Clocked> Board<M> {
         }
     }
 
+    /// Turns up to the next boundary, which answers none, or up to the end.
+    pub fn instruction<S: Source, K: Sink>(&mut self, source: &mut S, sink: &mut K) -> Option<End>
+        requires { self.old.counts.cycles ≤ 2 ^ 62 + 1024 }
+        ensures run { self.old.end ≡ None → NoFault None self.new.end → IsLedTo M.state (S.left source.old) (K.held sink.old) self.old (S.left source.new) self.new
+            (λ r rest. (n : ℕ) × IsLeg M.meaning self.old.store.words n r × Leads M.state M.meaning self.old.store.words None self.new self.old.buses rest n r (ShowsRun M.state (S.left source.new) (K.held sink.new) self.new)) }
+        ensures read { self.old.end ≡ None → self.new.end ≡ Some End.ReadFault → IsLedTo M.state (S.left source.old) (K.held sink.old) self.old (S.left source.new) self.new
+            (λ r rest. (n : ℕ) × IsLeg M.meaning self.old.store.words (suc n) r × Leads M.state M.meaning self.old.store.words None self.new self.old.buses rest n r (IsCutByRead M.state M.meaning self.old.store.words None (S.left source.new) (K.held sink.new) self.new)) }
+        ensures write { self.old.end ≡ None → self.new.end ≡ Some End.WriteFault → IsLedTo M.state (S.left source.old) (K.held sink.old) self.old (S.left source.new) self.new
+            (λ r rest. (n : ℕ) × IsLeg M.meaning self.old.store.words (suc n) r × Leads M.state M.meaning self.old.store.words None self.new self.old.buses rest n r (IsCutByWrite M.state M.meaning self.old.store.words None (S.left source.new) (K.held sink.new) self.new)) }
+        ensures value { result ≡ self.new.end }
+        ensures boundary { result ≡ None → M.meaning.is_boundary (M.state self.new.machine) ≡ true }
+        ensures ended { (e : End) → self.old.end ≡ Some e → (self.new ≡ self.old) × (source.new ≡ source.old) × (sink.new ≡ sink.old) }
+        ensures store { self.new.store ≡ self.old.store }
+        ensures keeps { (front : List ℕ) → Holds front (K.held sink.old) → Holds front (K.held sink.new) }
+        ensures cause { HasEndCause (S.faults source.old) (S.faults source.new) (K.faults sink.old) (K.faults sink.new) self.old.end self.new.end }
+    {
+        if self.end.is_some() {
+            return self.end;
+        }
+        self.cycle(source, sink);
+        'inside: while self.end.is_none() && !self.machine.at_boundary() {
+            self.cycle(source, sink);
+        }
+        self.end
+    }
+
     // The test of the bound, and whether the board goes on.
     fn goes_on(&mut self, bound: u64) -> bool
         ensures stays { result ≡ true → (self.new ≡ self.old) × (self.old.end ≡ None) }
@@ -197,6 +223,56 @@ impl<M: Clocked> Board<M> {
         done
     }
 
+    /// Turns until the run ends, with the test of the bound before each, and then the flush.
+    pub fn run<S: Source, K: Sink>(&mut self, bound: u64, source: &mut S, sink: &mut K) -> End
+        requires bound { bound ≤ 2 ^ 62 }
+        requires cycles { self.old.counts.cycles ≤ 2 ^ 62 + 1024 }
+        ensures run { self.old.end ≡ None → NoFault None self.new.end → IsLedTo M.state (S.left source.old) (K.held sink.old) self.old (S.left source.new) self.new
+            (λ r rest. (n : ℕ) × Leads M.state M.meaning self.old.store.words (Some bound) self.new self.old.buses rest n r (ShowsRun M.state (S.left source.new) (K.held sink.new) self.new)) }
+        ensures read { self.old.end ≡ None → self.new.end ≡ Some End.ReadFault → IsLedTo M.state (S.left source.old) (K.held sink.old) self.old (S.left source.new) self.new
+            (λ r rest. (n : ℕ) × Leads M.state M.meaning self.old.store.words (Some bound) self.new self.old.buses rest n r (IsCutByRead M.state M.meaning self.old.store.words (Some bound) (S.left source.new) (K.held sink.new) self.new)) }
+        ensures write { self.old.end ≡ None → self.new.end ≡ Some End.WriteFault → IsLedTo M.state (S.left source.old) (K.held sink.old) self.old (S.left source.new) self.new
+            (λ r rest. (n : ℕ) × Leads M.state M.meaning self.old.store.words (Some bound) self.new self.old.buses rest n r (IsCutByWrite M.state M.meaning self.old.store.words (Some bound) (S.left source.new) (K.held sink.new) self.new)) }
+        ensures end { self.new.end ≡ Some result }
+        ensures ended { (e : End) → self.old.end ≡ Some e → (self.new ≡ self.old) × (source.new ≡ source.old) × (sink.new ≡ sink.old) }
+        ensures kept { self.old.end ≡ None → self.new.bus.console.kept ≡ [] }
+        ensures store { self.new.store ≡ self.old.store }
+        ensures keeps { (front : List ℕ) → Holds front (K.held sink.old) → Holds front (K.held sink.new) }
+        ensures cause { HasEndCause (S.faults source.old) (S.faults source.new) (K.faults sink.old) (K.faults sink.new) self.old.end self.new.end }
+    {
+        if let Some(end) = self.end {
+            return end;
+        }
+        'turns: while self.end.is_none() {
+            self.step(bound, source, sink);
+        }
+        self.finish(sink);
+        self.end.unwrap()
+    }
+
+    /// The test of the bound alone, with the flush where it ends the board.
+    pub fn stop_at<K: Sink>(&mut self, bound: u64, sink: &mut K) -> Option<End>
+        ensures run { (left : Option (List ℕ)) (r : MicroRun M.State) → ShowsRun M.state left (K.held sink.old) self.old r → NoFault self.old.end self.new.end → ShowsRun M.state left (K.held sink.new) self.new (bounded M.meaning (Some bound) r) }
+        ensures write { self.old.end ≡ None → self.new.end ≡ Some End.WriteFault → (left : Option (List ℕ)) (r : MicroRun M.State) → ShowsRun M.state left (K.held sink.old) self.old r →
+            IsCutByWrite M.state M.meaning self.old.store.words (Some bound) left (K.held sink.new) self.new (bounded M.meaning (Some bound) r) }
+        ensures value { result ≡ self.new.end }
+        ensures stays { result ≡ None → (self.new ≡ self.old) × (sink.new ≡ sink.old) }
+        ensures ended { (e : End) → self.old.end ≡ Some e → (self.new ≡ self.old) × (sink.new ≡ sink.old) }
+        ensures kept { self.old.end ≡ None → IsSome self.new.end → self.new.bus.console.kept ≡ [] }
+        ensures same { self.new ≡ record self.old { bus = self.new.bus; end = self.new.end } }
+        ensures keeps { (front : List ℕ) → Holds front (K.held sink.old) → Holds front (K.held sink.new) }
+        ensures cause { HasEndCause 0 0 (K.faults sink.old) (K.faults sink.new) self.old.end self.new.end }
+    {
+        if self.end.is_some() {
+            return self.end;
+        }
+        if self.goes_on(bound) {
+            return None;
+        }
+        self.finish(sink);
+        self.end
+    }
+
     /// Puts what the console keeps to the sink, at any time.
     pub fn flush<K: Sink>(&mut self, sink: &mut K) -> Result<(), BusFault>
         ensures same { self.new ≡ record self.old { bus = self.new.bus } }
@@ -251,3 +327,10 @@ impl<M: Clocked> Board<M> {
         self.computed
     }
 }
+
+/// A run has one end.
+pub fn one_end<M: Clocked>(_machine: &M)
+    ensures { (words : List ℕ) (bound : Option ℕ) (r : MicroRun M.State) (n k : ℕ) →
+        IsSome (turns M.meaning words bound n r).end → IsSome (turns M.meaning words bound k r).end →
+        turns M.meaning words bound n r ≡ turns M.meaning words bound k r }
+{}

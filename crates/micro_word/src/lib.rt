@@ -5,7 +5,7 @@ mod bus;
 mod canonical;
 mod codes;
 mod laws;
-mod layout;
+pub mod layout;
 mod operation;
 pub mod statement;
 mod store;

@@ -105,7 +105,7 @@ forced_taken d s a inside is =
       (ap (λ o. same_address o (Some a)) is ∙ eq-eqb a a refl)
 
 -- what places a statement
-data IsPlacedBy (d : Demands) (s : ℕ) : Type 0 where
+pub data IsPlacedBy (d : Demands) (s : ℕ) : Type 0 where
   ByForce : (a : ℕ) → forced d.fixed d.pairs s ≡ Some a → IsPlacedBy d s
   ByLow : (p : Pair) → Among p (open_pairs d.fixed d.pairs) → p.no ≡ s → IsPlacedBy d s
   ByHigh : (p : Pair) → Among p (open_pairs d.fixed d.pairs) → p.yes ≡ s → IsPlacedBy d s
@@ -118,7 +118,7 @@ stands_from fixed pairs s unfixed is =
       | false ↦ λ h. let wrong : true ≡ false = ap (λ o. is_none o && true) (sym unfixed) ∙ h in cc
       ] is)
 
-placed_by : {d : Demands} → AreClear d.fixed d.pairs → (s : ℕ) → is_single d.fixed d.pairs s ≡ false → IsPlacedBy d s
+pub placed_by : {d : Demands} → AreClear d.fixed d.pairs → (s : ℕ) → is_single d.fixed d.pairs s ≡ false → IsPlacedBy d s
 placed_by {d} c s is =
     elim (forced d.fixed d.pairs s) as (λ o. forced d.fixed d.pairs s ≡ o → IsPlacedBy d s) [
       | Some a ↦ λ e. ByForce a e

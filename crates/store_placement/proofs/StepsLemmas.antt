@@ -101,9 +101,6 @@ nones_take_le (Some a ∷ placed) (suc s) = nones_take_le placed s
 nones_take_le (None ∷ placed) (suc s) = let e = nones_take_le placed s in omega arith
 
 -- the statements without an address take the free ones in order
-unplaced : List (Option ℕ) → ℕ → Bool
-unplaced placed s = is_none (get_or placed s None)
-
 record TakeFree (placed : List (Option ℕ)) (free : List ℕ) (m : ℕ) : Type 0 where
   taken : map (λ s. get_or (filled placed free) s 0) (filter (λ s. is_none (get_or placed s None)) (below m)) ≡ take (nones (take m placed)) free
   count : length (filter (λ s. is_none (get_or placed s None)) (below m)) ≡ nones (take m placed)
