@@ -91,7 +91,7 @@ impl Console {
         ensures ended { self.new.ended ≡ self.old.ended }
         ensures kept { self.new.kept ≡ [] }
         ensures ok { OnOk result ((given : List ℕ) → Given (K.held sink.old) self.old.kept given → Given (K.held sink.new) self.new.kept given) }
-        ensures empty { self.old.kept ≡ [] → IsOk result × (sink.new ≡ sink.old) }
+        ensures empty { self.old.kept ≡ [] → IsOk result × (self.new ≡ self.old) × (sink.new ≡ sink.old) }
         ensures lost { OnErr result (IsLost (K.held sink.old) self.old.kept (K.held sink.new) self.new.kept) }
         ensures fault { IfErr result (λ e. e ≡ BusFault.WriteFault) }
         ensures keeps { (front : List ℕ) → Holds front (K.held sink.old) → Holds front (K.held sink.new) }

@@ -29,10 +29,10 @@ back8 : (b : ℕ) → b < 256 → cast_unsigned w8 (cast_signed w8 b) ≡ b
 back8 b h = of_z-to_z w8 b h
 
 -- two bytes are those of their number
-high : (b c : ℕ) → c < 256 → (256 * b + c) / 256 ≡ b
+pub high : (b c : ℕ) → c < 256 → (256 * b + c) / 256 ≡ b
 high b c h = omega arith
 
-low : (b c : ℕ) → c < 256 → (256 * b + c) % 256 ≡ c
+pub low : (b c : ℕ) → c < 256 → (256 * b + c) % 256 ≡ c
 low b c h = omega arith
 
 back16 : (b c : ℕ) → b < 256 → c < 256 → cast_unsigned w16 (cast_signed w16 (256 * b + c)) ≡ 256 * b + c
@@ -92,7 +92,7 @@ of_bytes-read a b c d i hb hc hd =
 whole_half : (n : ℕ) → 256 * (n / 256) + n % 256 ≡ n
 whole_half n = omega arith
 
-from_half : (n b c : ℕ) → b ≡ n / 256 → c ≡ n % 256 → 256 * b + c ≡ n
+pub from_half : (n b c : ℕ) → b ≡ n / 256 → c ≡ n % 256 → 256 * b + c ≡ n
 from_half n b c e f = rw (e, f, whole_half n) refl
 
 from_offset : (z : ℤ) (b c : ℕ) → FitsSigned w16 z → b ≡ cast_unsigned w16 z / 256 → c ≡ cast_unsigned w16 z % 256 → cast_signed w16 (256 * b + c) ≡ z
@@ -262,7 +262,7 @@ size_most Err = omega arith
 size_most Halt = omega arith
 
 
-byte_below : (text : List ℕ) (k : ℕ) → All (λ (b : ℕ). b < 256) text → slice_index text k < 256
+pub byte_below : (text : List ℕ) (k : ℕ) → All (λ (b : ℕ). b < 256) text → slice_index text k < 256
 byte_below [] k h = omega arith
 byte_below (x ∷ xs) zero h = h 0 0 (omega arith)
 byte_below (x ∷ xs) (suc k) h = byte_below xs k (λ j d below. h (suc j) d (omega arith))

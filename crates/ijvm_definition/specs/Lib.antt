@@ -5,3 +5,6 @@ pub mod Step
 pub mod Cost
 pub mod Run
 pub mod Safe
+pub mod Text
+pub mod ImageFile
+pub mod Machine

@@ -1,8 +1,8 @@
 -- The control bits of a canonical word do what its statement says.
-use Rattle.std.proofs.Common.{◌≡◌, ℕ, ◌+◌, ◌/◌, ◌%◌, ◌^◌, ◌<◌, Bool, true, false, ◌==◌, ◌||◌, ◌&&◌, if◌then◌else◌, IsTrue, nat_lt, refl, ap, ◌∙◌, arith}
+use Rattle.std.proofs.Common.{◌≡◌, ℕ, ◌^◌, ◌<◌, true, false, ◌==◌, IsTrue, refl, ap, ◌∙◌, arith}
 use Rattle.std.proofs.lemmas.Bool.Decides.{nat_tests}
 use Rattle.micro_word.specs.Canonical.{is_canonical, is_next, Spells}
-use Rattle.micro_word.specs.Coding.{statement_of, addr_bits, jam_bits, row}
+use Rattle.micro_word.specs.Coding.{statement_of, addr_bits, jam_bits}
 use Rattle.micro_word.specs.Layout.{fields_of}
 use Rattle.micro_word.specs.Operation.{alu, is_negative}
 use Rattle.micro_word.proofs.Coding.{spells, Valid, valid}

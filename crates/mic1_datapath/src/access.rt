@@ -3,7 +3,7 @@
 ghost use Rattle.std.specs.Prelude.{◌≡◌, ◌==◌, ◌&&◌, ◌<◌, ℕ, Bool, List, Option, Some, None, length, OnOk, IfOk, IfErr, IsErrOf, IsTrue};
 ghost use Rattle.mic_base.specs.Streams.{Holds};
 ghost use Rattle.console_port.specs.World.{World, console_at};
-ghost use Rattle.console_port.specs.Bus.{Shows, Stands, IsLed, refused_by};
+ghost use Rattle.console_port.specs.Bus.{Shows, Stands, IsLed, ChangesOnly, refused_by};
 ghost use Rattle.console_port.specs.Console.{IsFault, HasFaultCause};
 ghost use Rattle.mic1_datapath.specs.Microstep.{memory_refusal, byte_refusal, access_refusal, written, sampled, word_under_way};
 ghost use Rattle.mic1_datapath.specs.Access.{IsAccess, IsTransfer, byte_sampled, is_read, is_access};
@@ -58,6 +58,7 @@ fn transfer<S: Source, K: Sink>(
 ) -> Result<Option<u32>, BusFault>
     requires { memory_refusal (length bus.old.words) mem m.now.mar ≡ None }
     ensures ok { IfOk result (λ word. IsLed (S.left source.old) (K.held sink.old) bus.old (S.left source.new) (K.held sink.new) bus.new (λ w v. IsTransfer (length bus.old.words) mem m.now w word v)) }
+    ensures others { OnOk result (ChangesOnly m.now.mar bus.old.words bus.new.words) }
     ensures size { length bus.new.words ≡ length bus.old.words }
     ensures fault { IfErr result IsFault }
     ensures stands { IfErr result (Stands (S.left source.old) (K.held sink.old) bus.old (S.left source.new) (K.held sink.new) bus.new) }
@@ -98,6 +99,7 @@ pub fn access<S: Source, K: Sink>(
 ) -> Result<Sampled, BusFault>
     ensures allowed { OnOk result (access_refusal (length bus.old.words) mem fetch m.now ≡ None) }
     ensures ok { IfOk result (λ x. IsLed (S.left source.old) (K.held sink.old) bus.old (S.left source.new) (K.held sink.new) bus.new (λ w v. IsAccess (length bus.old.words) mem fetch m.now w x.word x.byte v)) }
+    ensures others { OnOk result (ChangesOnly m.now.mar bus.old.words bus.new.words) }
     ensures refused { IfErr result (λ e. (IsFault e → ⊥) → refused_by (access_refusal (length bus.old.words) mem fetch m.now) ≡ Some e) }
     ensures stands { IfErr result (Stands (S.left source.old) (K.held sink.old) bus.old (S.left source.new) (K.held sink.new) bus.new) }
     ensures reads { IsErrOf result BusFault.ReadFault → IsTrue (is_read mem && m.now.mar == console_at) }

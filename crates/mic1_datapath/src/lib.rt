@@ -3,9 +3,15 @@
 
 pub mod access;
 pub mod b_bus;
+pub mod laws;
+pub mod mic1;
 pub mod micro;
 pub mod next_address;
 pub mod operate;
+pub mod prepare;
 pub mod settle;
+pub mod stage;
 
+pub use laws::step_law;
+pub use mic1::Mic1;
 pub use micro::Micro;

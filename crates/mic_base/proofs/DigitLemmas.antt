@@ -1,5 +1,9 @@
-use Rattle.std.proofs.Common.{◌≡◌, ℕ, zero, suc, ◌+◌, ◌-◌, ◌*◌, ◌/◌, ◌%◌, ◌^◌, ◌≤◌, Bool, true, false, min, not, List, [], ◌∷◌, ◌++◌, length, None, refl, arith, inl, inr, length-append, add-one}
+use Rattle.std.proofs.Common.{◌≡◌, ℕ, zero, suc, ◌+◌, ◌-◌, ◌*◌, ◌/◌, ◌%◌, ◌^◌, ◌<◌, ◌≤◌, Bool, true, false, min, not, List, [], ◌∷◌, ◌++◌, length, None, refl, arith, inl, inr, length-append, add-one}
 use Rattle.std.proofs.Math.Nat.{mul-le-mul_left, pow-suc, pow-zero}
+use Rattle.std.proofs.Common.{ℤ, pos, negsuc, FitsSigned, w64}
+use Rattle.std.proofs.lemmas.Int.{ints}
+use Rattle.std.specs.Fmt.{decimal, signed_decimal}
+use Rattle.std.proofs.lemmas.Fmt.{length-decimal-le}
 use Rattle.std.specs.Char.{digit_char, digit_value}
 use Rattle.std.specs.List.{list_all, position, position_or_len}
 use Rattle.std.proofs.lemmas.Bool.{cases_lt, lt-ltb}
@@ -62,3 +66,16 @@ hex_text-push (suc n) value some = let before : suc n - 1 ≡ n = omega arith in
 pub hex_text-zero : (value : ℕ) → hex_text 0 value ≡ []
 unfolding hex_text
 hex_text-zero value = refl
+
+-- a number of 64 bits has at most 20 decimal digits
+pub decimal_short : (n : ℕ) → n < 2 ^ 64 → length (decimal n) ≤ 20
+decimal_short n small = length-decimal-le 20 n (omega arith) (omega arith) small
+
+-- and with its sign at most 20 bytes
+pub signed_decimal_short : (z : ℤ) → FitsSigned w64 z → length (signed_decimal z) ≤ 20
+signed_decimal_short (pos n) fits = decimal_short n (omega (arith, ints, fits))
+signed_decimal_short (negsuc n) fits =
+    let short = length-decimal-le 19 (suc n) (omega arith) (omega (arith, ints, fits)) (omega (arith, ints, fits)) in
+    omega (arith, short)
+
+pub ruleset decimal_lengths = (decimal_short, signed_decimal_short)

@@ -1,2 +1,3 @@
 pub mod DigitLemmas
 pub mod NameLemmas
+pub mod NumberLemmas

@@ -15,7 +15,7 @@ pub use files::{FileError, Files};
 pub use line::Line;
 pub use memory::{MemFiles, MemSink, MemSource};
 pub use name::Name;
-pub use number::{Number, NumberError};
+pub use number::{Number, NumberError, hex_is_read_back};
 pub use plain::{PlainSink, PlainSource};
 pub use sink::{Sink, SinkFailed};
 pub use source::{Source, SourceFailed};

@@ -34,7 +34,8 @@ impl Line {
 
     pub fn text(&mut self, part: &str)
         requires { length self.old + length part.now ≤ 512 }
-        ensures { self.new ≡ self.old ++ part.now }
+        ensures text { self.new ≡ self.old ++ part.now }
+        ensures len { length self.new ≡ length self.old + length part.now }
     {
         self.held.push_str(part);
     }
@@ -63,9 +64,12 @@ impl Line {
     }
 
     /// Appends a value in decimal digits, behind a `-` where it is below zero.
+    #[tactic(auto, using(crate::proofs::DigitLemmas::decimal_lengths))]
     pub fn dec(&mut self, value: i64)
         requires { length self.old + length (signed_decimal value) ≤ 512 }
-        ensures { self.new ≡ self.old ++ signed_decimal value }
+        ensures text { self.new ≡ self.old ++ signed_decimal value }
+        ensures len { length self.new ≡ length self.old + length (signed_decimal value) }
+        ensures short { length (signed_decimal value) ≤ 20 }
     {
         let mut buffer = Buffer::new();
         self.text(buffer.format(value));

@@ -1,7 +1,7 @@
-ghost use Rattle.std.specs.Prelude.{◌≡◌, ◌+◌, ◌^◌, ◌<◌, ◌≤◌, length, min, not, true};
+ghost use Rattle.std.specs.Prelude.{◌≡◌, ◌++◌, ◌+◌, codes, pos, ◌^◌, ◌<◌, ◌≤◌, ℕ, length, min, not, true};
 ghost use Rattle.std.specs.Char.{digit_value, is_digit};
 ghost use Rattle.std.specs.List.{list_all, position};
-ghost use Rattle.mic_base.specs.Digits.{value_of};
+ghost use Rattle.mic_base.specs.Digits.{hex_text, value_of};
 ghost use Rattle.mic_base.specs.Number.{base_of, begins_hex, begins_minus, digits_of, digits_read, number_of, quoted, signed, sized, unsigned_of};
 
 use thiserror::Error;
@@ -40,6 +40,12 @@ impl Number {
         read_digits(begins_minus(text), base_of(unsigned), place, digits)
     }
 }
+
+/// A law: behind `0x`, what `Line::hex` appends is read as its value.
+pub fn hex_is_read_back()
+    ensures { (digits value : ℕ) → 1 ≤ digits → value < 16 ^ digits → value < 2 ^ 32 →
+        number_of (codes "0x" ++ hex_text digits value) ≡ Ok (pos value) }
+{}
 
 fn quoted(text: &[u8]) -> Option<u8>
     ensures { result ≡ quoted text.now }

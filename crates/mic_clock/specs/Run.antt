@@ -1,5 +1,5 @@
 -- The clocked run of a machine over a world, turn by turn, with this profile's counts and ends.
-use Rattle.std.specs.Prelude.{◌≡◌, ℕ, zero, suc, ◌+◌, ◌-◌, ◌<◌, ◌≤◌, nat_le, ◌==◌, if◌then◌else◌, Bool, true, false, List, Option, Some, None, is_some, slice_index}
+use Rattle.std.specs.Prelude.{◌≡◌, ℕ, zero, suc, ◌+◌, ◌-◌, ◌<◌, nat_le, ◌==◌, if◌then◌else◌, Bool, true, false, List, Option, Some, None, is_some, slice_index}
 use Rattle.std.specs.Fn.{iterate}
 use Rattle.console_port.specs.World.{World, Refusal, StackLimit, OutOfMap}
 use Rattle.mic_clock.specs.declared.buses.Drive.{Drive}
@@ -138,9 +138,9 @@ module _ {State : Type 0} (m : Meaning State) (words : List ℕ) where
   abbrev pub turns : Option ℕ → ℕ → MicroRun State → MicroRun State
   turns bound n r = iterate (λ x. turn (bounded m bound x)) n r
 
-  -- that the next turn clocks a microstep, or refuses one
-  pub record IsClocking (r : MicroRun State) : Type 0 where
-    pub running : r.end ≡ None
+  -- that the next turn comes to a microstep
+  pub record IsClocking (bound : Option ℕ) (r : MicroRun State) : Type 0 where
+    pub running : (bounded m bound r).end ≡ None
     pub no_end : end_before m r.state r.counts ≡ None
 
   -- that a run is inside an instruction
@@ -148,16 +148,17 @@ module _ {State : Type 0} (m : Meaning State) (words : List ℕ) where
     pub running : r.end ≡ None
     pub no_boundary : m.is_boundary r.state ≡ false
 
-  -- n turns with no boundary and no end between them
-  abbrev pub IsLeg : ℕ → MicroRun State → Type 0
-  IsLeg n r = (k : ℕ) → 0 < k → k < n → IsInside (turns None k r)
+  -- n turns, at least one, with no boundary and no end between them
+  pub record IsLeg (n : ℕ) (r : MicroRun State) : Type 0 where
+    pub some : 0 < n
+    pub inside : (k : ℕ) → 0 < k → k < n → IsInside (turns None k r)
 
-  -- the bus values after a turn: an end leaves them
-  abbrev pub buses_after : MicroRun State → Buses → Buses
-  buses_after r old =
-      if is_some (turn r).end then old else record { drive = m.drives (word_at r.state) r.state; computed = m.computes (word_at r.state) r.state }
+  -- the bus values after a turn from this state: an end leaves them
+  abbrev pub buses_of : State → Buses → Option End → Buses
+  buses_of s old (Some e) = old
+  buses_of s old None = record { drive = m.drives (word_at s) s; computed = m.computes (word_at s) s }
 
   -- the bus values after so many turns
   abbrev pub buses : Option ℕ → ℕ → MicroRun State → Buses → Buses
   buses bound zero r old = old
-  buses bound (suc n) r old = buses_after (bounded m bound (turns bound n r)) (buses bound n r old)
+  buses bound (suc n) r old = buses_of (turns bound n r).state (buses bound n r old) (turns bound (suc n) r).end

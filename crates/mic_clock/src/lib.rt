@@ -1,13 +1,17 @@
 //! Machines clocked in four calls, and a board that runs any of them.
 #![tactic(auto)]
 
+pub mod board;
 pub mod buses;
 pub mod clocked;
+mod counting;
 pub mod counts;
+mod cycle;
 pub mod end;
 pub mod registers;
 pub mod word;
 
+pub use board::Board;
 pub use buses::{Computed, Drive};
 pub use clocked::Clocked;
 pub use counts::{Boundary, Counts};

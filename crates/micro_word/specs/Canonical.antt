@@ -1,4 +1,4 @@
--- Which statements have a word, and which numbers are one's word.
+-- Which statements have a word on a machine, and which numbers are the word of one. Each has one spelling: this profile's rule.
 use Rattle.std.specs.Prelude.{◌≡◌, ℕ, Bool, true, false, not, ◌&&◌, ◌||◌, ◌==◌, nat_lt, ◌^◌, is_some, if◌then◌else◌, Option, Some, None, IsTrue}
 use Rattle.micro_word.specs.declared.statement.Machine.{Machine}
 use Rattle.micro_word.specs.declared.statement.Machine.TheVariants.{Mic1, Mic2}
@@ -77,7 +77,7 @@ is_valid machine p = is_part machine p.part && is_next p.next
 abbrev pub IsCanonical : Machine → ℕ → Type 0
 IsCanonical machine word = (p : Placed) × IsTrue (is_valid machine p) × (word_of machine p ≡ word)
 
--- Told by the fields alone:
+-- The same, told by the fields.
 
 -- the six bits are a row of the table, on Mic-2 none of those that it does not use
 abbrev pub is_row : Machine → ℕ → Bool
@@ -114,6 +114,7 @@ abbrev pub word_end : Machine → ℕ
 word_end Mic1 = 2 ^ 36
 word_end Mic2 = 2 ^ 39
 
+-- no further bits, and the conditions on the fields
 unfoldable pub is_canonical : Machine → ℕ → Bool
 is_canonical machine word = nat_lt word (word_end machine) && are_canonical machine (fields_of machine word)
 

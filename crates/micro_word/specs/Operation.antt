@@ -42,7 +42,7 @@ unfoldable pub signed_byte : ℕ → ℕ
 signed_byte x = if nat_lt x 128 then x else x + 4294967040
 
 -- a signed number of two bytes, the high one first, as a word
-abbrev pub signed_pair : ℕ → ℕ → ℕ
+unfoldable pub signed_pair : ℕ → ℕ → ℕ
 signed_pair high low = if nat_lt high 128 then 256 * high + low else 256 * high + low + 4294901760
 
 -- what an operation gives of the words on its sides A and B

@@ -2,15 +2,15 @@
 ghost use Rattle.std.specs.Prelude.{◌≡◌};
 ghost use Rattle.micro_word.specs.Canonical.{is_row, is_side, is_side_a, are_apart, is_target, is_one_at_most, are_canonical};
 
-use crate::codes::code_for_nothing;
+use crate::bus::code_for_nothing;
 use crate::layout::Fields;
 use crate::statement::{AluOp, BusSource, Machine};
-use crate::valid::{has, mixes};
+use crate::valid::{has_operation, mixes};
 
 fn is_row_of(machine: Machine, gates: u8) -> bool
     ensures { result ≡ is_row machine gates }
 {
-    AluOp::with_gates(gates).is_some() && has(machine, AluOp::of_gates(gates))
+    AluOp::with_gates(gates).is_some() && has_operation(machine, AluOp::of_gates(gates))
 }
 
 fn fits_code(machine: Machine, used: bool, code: u8) -> bool

@@ -1,8 +1,8 @@
-//! The code of each part of a statement, and the part of each code.
-ghost use Rattle.std.specs.Prelude.{◌≡◌, ◌==◌, find, if◌then◌else◌};
-ghost use Rattle.micro_word.specs.declared.statement.Machine.TheVariants.{Mic1, Mic2};
-ghost use Rattle.micro_word.specs.Coding.{shift_bits, shift_of, mem_bits, mem_of, fetch_bit, source_code, is_code, bus_code, idle_code, source_of, a_code, a_of, jam_bits, addr_bits, next_of, codes, named};
+//! The fields that spell a statement, and the statement that fields name.
+ghost use Rattle.std.specs.Prelude.{◌≡◌, ◌==◌, if◌then◌else◌};
+ghost use Rattle.micro_word.specs.Coding.{shift_bits, shift_of, mem_bits, mem_of, fetch_bit, jam_bits, addr_bits, next_of, codes, named};
 
+use crate::bus::{code_of_a, code_on_bus, side_a};
 use crate::layout::Fields;
 use crate::statement::{AluOp, BusSource, Machine, Mem, Part, Placed, PlacedNext, Shift, Test};
 
@@ -50,99 +50,6 @@ impl Mem {
     }
 }
 
-fn first_with_code(sources: &[BusSource], machine: Machine, code: u8) -> Option<BusSource>
-    ensures { result ≡ find (λ source. is_code code (source_code machine source)) sources.now }
-{
-    sources
-        .iter()
-        .copied()
-        .find(|source| source.has_code(machine, code))
-}
-
-impl BusSource {
-    pub const ALL: [BusSource; 14] = [
-        BusSource::Mdr,
-        BusSource::Pc,
-        BusSource::Mbr,
-        BusSource::Mbru,
-        BusSource::Sp,
-        BusSource::Lv,
-        BusSource::Cpp,
-        BusSource::Tos,
-        BusSource::Opc,
-        BusSource::Mbr1,
-        BusSource::Mbr1u,
-        BusSource::Mbr2,
-        BusSource::Mbr2u,
-        BusSource::H,
-    ];
-
-    /// The code on the B bus of Mic-1.
-    fn code1(self) -> Option<u8>
-        ensures { result ≡ source_code Mic1 self }
-    {
-        match self {
-            BusSource::Mdr => Some(0),
-            BusSource::Pc => Some(1),
-            BusSource::Mbr => Some(2),
-            BusSource::Mbru => Some(3),
-            BusSource::Sp => Some(4),
-            BusSource::Lv => Some(5),
-            BusSource::Cpp => Some(6),
-            BusSource::Tos => Some(7),
-            BusSource::Opc => Some(8),
-            _ => None,
-        }
-    }
-
-    /// The code on either bus of Mic-2.
-    fn code2(self) -> Option<u8>
-        ensures { result ≡ source_code Mic2 self }
-    {
-        match self {
-            BusSource::Mdr => Some(0),
-            BusSource::Pc => Some(1),
-            BusSource::Mbr1 => Some(2),
-            BusSource::Mbr1u => Some(3),
-            BusSource::Sp => Some(4),
-            BusSource::Lv => Some(5),
-            BusSource::Cpp => Some(6),
-            BusSource::Tos => Some(7),
-            BusSource::Opc => Some(8),
-            BusSource::Mbr2 => Some(9),
-            BusSource::Mbr2u => Some(10),
-            BusSource::H => Some(11),
-            _ => None,
-        }
-    }
-
-    /// The code on a bus of the machine, where it has one.
-    pub fn code(self, machine: Machine) -> Option<u8>
-        ensures { result ≡ source_code machine self }
-    {
-        match machine {
-            Machine::Mic1 => self.code1(),
-            Machine::Mic2 => self.code2(),
-        }
-    }
-
-    fn has_code(self, machine: Machine, code: u8) -> bool
-        ensures { result ≡ is_code code (source_code machine self) }
-    {
-        match self.code(machine) {
-            None => false,
-            Some(other) => code == other,
-        }
-    }
-
-    /// The source of a code on a bus of the machine; none where the code drives nothing.
-    pub fn of_code(machine: Machine, code: u8) -> Option<BusSource>
-        ensures { result ≡ source_of machine code }
-    {
-        first_with_code(&BusSource::ALL, machine, code)
-    }
-}
-
 impl PlacedNext {
     fn jam(self) -> u8
         ensures { result ≡ jam_bits self }
@@ -180,50 +87,6 @@ impl PlacedNext {
                 no: addr,
             },
         }
-    }
-}
-
-/// The canonical code for nothing.
-pub(crate) fn code_for_nothing(machine: Machine) -> u8
-    ensures { result ≡ idle_code machine }
-{
-    match machine {
-        Machine::Mic1 => 9,
-        Machine::Mic2 => 12,
-    }
-}
-
-fn code_on_bus(machine: Machine, source: Option<BusSource>) -> u8
-    ensures { result ≡ bus_code machine source }
-{
-    match source {
-        None => code_for_nothing(machine),
-        Some(source) => match source.code(machine) {
-            None => code_for_nothing(machine),
-            Some(code) => code,
-        },
-    }
-}
-
-fn code_of_a(machine: Machine, a: Option<BusSource>) -> u8
-    ensures { result ≡ a_code machine a }
-{
-    match machine {
-        Machine::Mic1 => 0,
-        Machine::Mic2 => code_on_bus(Machine::Mic2, a),
-    }
-}
-
-fn side_a(machine: Machine, op: AluOp, code: u8) -> Option<BusSource>
-    ensures { result ≡ a_of machine op code }
-{
-    match machine {
-        Machine::Mic1 => if op.row().uses_a {
-            Some(BusSource::H)
-        } else {
-            None
-        },
-        Machine::Mic2 => BusSource::of_code(Machine::Mic2, code),
     }
 }
 

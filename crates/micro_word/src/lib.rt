@@ -1,18 +1,19 @@
 //! A microinstruction: its structured form, its word on each machine, and the control store.
 #![tactic(auto)]
 
-pub mod canonical;
-pub mod codes;
-pub mod laws;
+mod bus;
+mod canonical;
+mod codes;
+mod laws;
 pub mod layout;
-pub mod operation;
+mod operation;
 pub mod statement;
-pub mod store;
-pub mod valid;
-pub mod word;
+mod store;
+mod valid;
+mod word;
 
 pub use laws::{statement_law, word_law};
-pub use layout::Fields;
+pub use layout::{Fields, fields1, fields2, word_with1, word_with2};
 pub use operation::Row;
 pub use statement::{AluOp, BusSource, Machine, Mem, Part, Placed, PlacedNext, Shift, Test};
 pub use store::Store;

@@ -5,7 +5,7 @@ ghost use Rattle.micro_word.specs.Canonical.{has_operation, is_h, may_be_a, may_
 
 use crate::statement::{AluOp, BusSource, Machine, Part, Placed, PlacedNext};
 
-pub(crate) fn has(machine: Machine, op: AluOp) -> bool
+pub(crate) fn has_operation(machine: Machine, op: AluOp) -> bool
     ensures { result ≡ has_operation machine op }
 {
     match machine {
@@ -17,16 +17,24 @@ pub(crate) fn has(machine: Machine, op: AluOp) -> bool
     }
 }
 
+fn may_drive_a(machine: Machine, source: BusSource) -> bool
+    ensures { result ≡ may_be_a machine source }
+{
+    match machine {
+        Machine::Mic1 => match source {
+            BusSource::H => true,
+            _ => false,
+        },
+        Machine::Mic2 => source.code(Machine::Mic2).is_some(),
+    }
+}
+
 fn fits_a(machine: Machine, used: bool, a: Option<BusSource>) -> bool
     ensures { result ≡ fits_side used (may_be_a machine) a }
 {
     match a {
         None => !used,
-        Some(BusSource::H) => used,
-        Some(source) => match machine {
-            Machine::Mic1 => false,
-            Machine::Mic2 => used && source.code(Machine::Mic2).is_some(),
-        },
+        Some(source) => used && may_drive_a(machine, source),
     }
 }
 
@@ -81,7 +89,7 @@ impl Part {
     {
         let row = self.op.row();
         self.dests < 512
-            && has(machine, self.op)
+            && has_operation(machine, self.op)
             && fits_a(machine, row.uses_a, self.a)
             && fits_b(machine, row.uses_b, self.b)
             && !mixes(self.a, self.b)

@@ -1,2 +1,14 @@
+pub mod Among
+pub mod Apart
 pub mod Below
+pub mod ChosenPlacement
+pub mod Choice
+pub mod ClearPairs
+pub mod FillingLemmas
+pub mod ForcedBy
 pub mod ForcedLemmas
+pub mod NoPlacement
+pub mod OneRefusal
+pub mod OpenPairs
+pub mod ProgramLemmas
+pub mod StepsLemmas

@@ -1,4 +1,4 @@
-ghost use Rattle.std.specs.Prelude.{None};
+ghost use Rattle.std.specs.Prelude.{IsOk, None};
 
 use crate::sink::{Sink, SinkFailed};
 
@@ -17,11 +17,15 @@ impl Sink for PlainSink {
 
     ghost faults = { λ s. 0 };
 
-    fn put(&mut self, _piece: &[u8]) -> Result<(), SinkFailed> {
+    fn put(&mut self, _piece: &[u8]) -> Result<(), SinkFailed>
+        ensures { IsOk result }
+    {
         Ok(())
     }
 
-    fn flush(&mut self) -> Result<(), SinkFailed> {
+    fn flush(&mut self) -> Result<(), SinkFailed>
+        ensures { IsOk result }
+    {
         Ok(())
     }
 }

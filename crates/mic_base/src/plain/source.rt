@@ -1,4 +1,6 @@
-ghost use Rattle.std.specs.Prelude.{◌≡◌, ◌≤◌, List, ℕ, Some, drop, vec_len};
+ghost use Rattle.std.specs.Prelude.{◌≡◌, ◌≤◌, List, ℕ, Some, drop, vec_len, IsOk};
+ghost use Rattle.mic_base.specs.Causes.{HasCause};
+ghost use Rattle.mic_base.specs.Streams.{Takes};
 
 use crate::source::{Source, SourceFailed};
 
@@ -27,7 +29,11 @@ impl Source for PlainSource {
 
     ghost faults = { λ s. 0 };
 
-    fn get(&mut self) -> Result<Option<u8>, SourceFailed> {
+    fn get(&mut self) -> Result<Option<u8>, SourceFailed>
+        ensures takes { Takes (Some (plain_left self.old)) result (Some (plain_left self.new)) }
+        ensures cause { HasCause 0 0 result }
+        ensures never { IsOk result }
+    {
         if self.at < self.bytes.len() {
             let byte = self.bytes[self.at];
             self.at += 1;

@@ -1,4 +1,4 @@
-use Rattle.std.proofs.Common.{ap, ◌∙◌}
+use Rattle.std.proofs.Common.{◌∙◌}
 use Rattle.mic1_datapath.specs.Jam.{jammed}
 use Rattle.mic1_datapath.proofs.Bits.{addressed}
 use Rattle.mic1_datapath.proofs.next_address.next_address.Goals as goal

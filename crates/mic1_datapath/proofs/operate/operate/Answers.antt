@@ -1,4 +1,4 @@
-use Rattle.std.proofs.Common.{◌≡◌, ◌<◌, ℕ, ap, ◌∙◌, arith}
+use Rattle.std.proofs.Common.{ℕ, ap, ◌∙◌, arith}
 use Rattle.mic1_alu.specs.Gates.{gates, controls_of}
 use Rattle.mic1_alu.specs.declared.controls.Controls.{Controls}
 use Rattle.micro_word.specs.declared.layout.Fields.{Fields}

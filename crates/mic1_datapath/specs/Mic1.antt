@@ -1,0 +1,88 @@
+-- What Mic-1 means as a clocked machine: the microstep of the statement that a word spells.
+use Rattle.std.specs.Prelude.{ℕ, Bool, false, ◌&&◌, ◌==◌, Option, Some, None, length}
+use Rattle.console_port.specs.World.{World, Refusal, console_at}
+use Rattle.micro_word.specs.declared.statement.Placed.{Placed}
+use Rattle.micro_word.specs.declared.statement.Machine.TheVariants as machines
+use Rattle.micro_word.specs.Coding.{statement_of}
+use Rattle.micro_word.specs.Operation.{shifted, is_negative}
+use Rattle.mic_clock.specs.declared.buses.Drive.{Drive}
+use Rattle.mic_clock.specs.declared.buses.Computed.{Computed}
+use Rattle.mic_clock.specs.declared.registers.Registers.{Registers}
+use Rattle.mic_clock.specs.declared.registers.Start.{Start}
+use Rattle.mic_clock.specs.declared.registers.Tail.TheVariants.{Mbr}
+use Rattle.mic_clock.specs.Meaning.{Meaning, Outcome, Done, Refused}
+use Rattle.mic1_datapath.specs.Microstep.{source, result_of, settled, clock, world_after, refusal}
+use Rattle.mic1_datapath.specs.Access.{is_read, is_access}
+use Rattle.mic1_datapath.specs.declared.micro.Micro.{Micro}
+
+abbrev pub outcome : Option Refusal → Micro → World → Outcome Micro
+outcome (Some why) m w = Refused why
+outcome None m w = Done m w
+
+abbrev pub microstep : Placed → Micro → World → Outcome Micro
+microstep s m w = outcome (refusal (length w.words) s m) (clock (length w.words) s m w) (world_after (length w.words) s m w)
+
+unfoldable pub step_of_word : ℕ → Micro → World → Outcome Micro
+step_of_word word m w = microstep (statement_of machines.Mic1 word) m w
+
+abbrev pub initial : Start → Micro
+initial start =
+    record {
+      mar = 0;
+      mdr = 0;
+      pc = 0xFFFFFFFF;
+      sp = start.sp;
+      lv = 0x8000;
+      cpp = 0x4000;
+      tos = 0;
+      opc = 0;
+      h = 0;
+      mbr = 0;
+      mpc = start.entry;
+      word = None;
+      byte = None;
+      entry = start.entry;
+    }
+
+abbrev pub at_zero : Start
+at_zero = record { entry = 0; sp = 0; first = 0 }
+
+abbrev pub registers_of : Micro → Registers
+registers_of m =
+    record { mar = m.mar; mdr = m.mdr; pc = m.pc; sp = m.sp; lv = m.lv; cpp = m.cpp; tos = m.tos; opc = m.opc; h = m.h; mpc = m.mpc; tail = Mbr m.mbr }
+
+-- H and the B source
+unfoldable pub driven : ℕ → Micro → Drive
+driven word m = record { a = m.h; b = source (statement_of machines.Mic1 word).part.b m; stalled = false }
+
+-- the result with N and Z, and the shifted result
+unfoldable pub computed : ℕ → Micro → Computed
+computed word m =
+    let x = result_of (statement_of machines.Mic1 word).part m in
+    record { alu = record { value = x; n = is_negative x; z = x == 0 }; c = shifted (statement_of machines.Mic1 word).part.shift x }
+
+unfoldable pub reads_console : ℕ → Micro → Bool
+reads_console word m =
+    let part = (statement_of machines.Mic1 word).part in
+    is_read part.mem && (settled part m).mar == console_at
+
+unfoldable pub uses_console : ℕ → Micro → Bool
+uses_console word m =
+    let part = (statement_of machines.Mic1 word).part in
+    is_access part.mem && (settled part m).mar == console_at
+
+-- An instruction begins where MPC is the address of Main1, and PC is its address.
+abbrev pub mic1_meaning : Meaning Micro
+mic1_meaning =
+    record {
+      machine = machines.Mic1;
+      initial = initial;
+      step = step_of_word;
+      drives = driven;
+      computes = computed;
+      registers = registers_of;
+      is_boundary = λ m. m.mpc == m.entry;
+      address = λ m. m.pc;
+      reads_console = reads_console;
+      uses_console = uses_console;
+    }

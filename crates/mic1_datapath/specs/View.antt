@@ -1,0 +1,16 @@
+-- What contracts see of a Mic-1.
+use Rattle.std.specs.Prelude.{ℕ}
+use Rattle.mic_clock.specs.Meaning.{Phase}
+use Rattle.mic1_datapath.specs.Stage.{phase_of}
+use Rattle.mic1_datapath.specs.declared.micro.Micro.{Micro}
+use Rattle.mic1_datapath.specs.declared.mic1.Mic1.{Mic1}
+
+abbrev pub micro_of : Mic1 → Micro
+micro_of t = t.micro
+
+abbrev pub phase : Mic1 → Phase
+phase t = phase_of t.stage
+
+-- the microinstruction that was set up last
+abbrev pub word_of : Mic1 → ℕ
+word_of t = t.word

@@ -1,0 +1,8 @@
+/// Which of the four calls comes next.
+#[derive(Clone, Copy, Debug, PartialEq, Eq)]
+pub enum Stage {
+    Setup,
+    Drive,
+    Compute,
+    Edge,
+}

@@ -1,0 +1,111 @@
+-- Turns of a run.
+use Rattle.std.proofs.Common.{◌≡◌, ◌≢◌, ◌+◌, ◌∙◌, ap, zero, suc, zero-add, suc-add, add_comm, ℕ, List, Bool, Option, Some, None, IsSome, refl, sym, subst, rules}
+use Rattle.std.specs.Fn.{iterate}
+use Rattle.console_port.specs.World.{World, Refusal, StackLimit, OutOfMap, fault_of}
+use Rattle.console_port.specs.Bus.{Shows, Stands}
+use Rattle.console_port.specs.Console.{IsFault, Untaken}
+use Rattle.console_port.specs.declared.fault.BusFault.{BusFault}
+use Rattle.console_port.specs.declared.fault.BusFault.TheVariants as faults
+use Rattle.mic_clock.specs.declared.end.End.{End}
+use Rattle.mic_clock.specs.Meaning.{Meaning, Outcome, Done, Refused, fault_in}
+use Rattle.mic_clock.specs.Run.{MicroRun, word_at, end_of, end_before, stepped, gone, turn, turn_by, turns, bounded, bounded_by}
+use Rattle.mic_clock.specs.View.{BoardView}
+use Rattle.mic_clock.specs.Board.{ShowsRun, IsLedTo, NoFault, end_by}
+
+end_of-fault : (r : Refusal) → end_of r ≡ end_by (fault_of r)
+end_of-fault (StackLimit at) = refl
+end_of-fault (OutOfMap at) = refl
+
+-- a refusal and no fault ended the board
+pub no_fault : (e : BusFault) → NoFault None (Some (end_by e)) → IsFault e → ⊥
+no_fault faults.ReadFault q f = q
+no_fault faults.WriteFault q f = q
+no_fault (faults.StackLimit at) q f = f
+no_fault (faults.OutOfMap at) q f = f
+
+-- the run that a fault ended
+abbrev pub ended_by : {State : Type 0} → MicroRun State → BusFault → MicroRun State
+ended_by r e = record { state = r.state; world = r.world; counts = r.counts; end = Some (end_by e) }
+
+stepped-refused : {State : Type 0} (m : Meaning State) (words : List ℕ) (r : MicroRun State) (o : Outcome State) (e : BusFault) →
+    fault_in o ≡ Some e → stepped m words r o ≡ ended_by r e
+stepped-refused m words r (Done s w) e h = absurd (cc)
+stepped-refused m words r (Refused x) e h =
+    let is : fault_of x ≡ e = cc in
+    ap (λ (y : End). record { state = r.state; world = r.world; counts = r.counts; end = Some y }) (end_of-fault x ∙ ap end_by is)
+
+module _ {M State : Type 0} (state : M → State) (m : Meaning State) (left held left' held' : Option (List ℕ)) (board board' : BoardView M) (e : BusFault) where
+  pub turn-refused : (r : MicroRun State) → ShowsRun state left held board r → board.end ≡ None → end_before m (state board.machine) board.counts ≡ None →
+      ((w : World) → Shows left held board.bus w → fault_in (m.step (word_at m board.store.words (state board.machine)) (state board.machine) w) ≡ Some e) →
+      turn m board.store.words r ≡ ended_by r e
+  turn-refused r s going no_end refused =
+      let words = board.store.words in
+      let here : end_before m r.state r.counts ≡ None = rw (s.its_state, s.counts) no_end in
+      let is : fault_in (m.step (word_at m words r.state) r.state r.world) ≡ Some e = rw s.its_state (refused r.world s.world) in
+      ap (λ (x : Option End). turn_by m words x r) (s.its_end ∙ going) ∙ (ap (λ (x : Option End). gone m words x r) here ∙ stepped-refused m words r _ e is)
+
+  -- a refused microstep leaves the run where it was
+  pub led-refused : board.end ≡ None → end_before m (state board.machine) board.counts ≡ None →
+      ((w : World) → Shows left held board.bus w → fault_in (m.step (word_at m board.store.words (state board.machine)) (state board.machine) w) ≡ Some e) →
+      (IsFault e → ⊥) → Stands left held board.bus left' held' board'.bus e →
+      state board'.machine ≡ state board.machine → board'.counts ≡ board.counts → board'.end ≡ Some (end_by e) →
+      IsLedTo state left held board left' board' (λ r rest. ShowsRun state left' held' board' (turn m board.store.words r) × ((turn m board.store.words r).world.untaken ≡ rest))
+  led-refused going no_end refused other stands same_state same_counts ends rest fits = (
+    rest,
+    subst (λ (o : Option (List ℕ)). Untaken o board.bus.console.ended rest) stands.untaken (subst (λ (b : Bool). Untaken left' b rest) stands.ended fits),
+    λ r s is_rest.
+        let is = turn-refused r s going no_end refused in
+        let no_write : e ≢ faults.WriteFault = λ w. other (subst IsFault (sym w) tt) in (
+          subst (λ (x : MicroRun State). ShowsRun state left' held' board' x) (sym is)
+              (record { its_state = s.its_state ∙ sym same_state; world = stands.same no_write r.world s.world; counts = s.counts ∙ sym same_counts; its_end = sym ends }),
+          ap (λ (x : MicroRun State). x.world.untaken) is ∙ is_rest,
+        ),
+  )
+
+-- Turns counted from the last one.
+iterate-suc : {A : Type 0} (h : A → A) (n : ℕ) (x : A) → iterate h (suc n) x ≡ h (iterate h n x)
+iterate-suc h zero x = refl
+iterate-suc h (suc n) x = iterate-suc h n (h x)
+
+pub bounded_by-state : {State : Type 0} (m : Meaning State) (bound : ℕ) (end : Option End) (r : MicroRun State) → (bounded_by m end bound r).state ≡ r.state
+bounded_by-state m bound (Some e) r = refl
+bounded_by-state m bound None r = search rules
+
+pub bounded-state : {State : Type 0} (m : Meaning State) (bound : Option ℕ) (r : MicroRun State) → (bounded m bound r).state ≡ r.state
+bounded-state m None r = refl
+bounded-state m (Some bound) r = bounded_by-state m bound r.end r
+
+-- an ended run stays
+pub turn_by_ended : {State : Type 0} (m : Meaning State) (words : List ℕ) (end : Option End) (r : MicroRun State) → IsSome end → turn_by m words end r ≡ r
+turn_by_ended m words (Some e) r h = refl
+turn_by_ended m words None r h = cc
+
+bounded_by_ended : {State : Type 0} (m : Meaning State) (bound : ℕ) (end : Option End) (r : MicroRun State) → IsSome end → bounded_by m end bound r ≡ r
+bounded_by_ended m bound (Some e) r h = refl
+bounded_by_ended m bound None r h = cc
+
+bounded_ended : {State : Type 0} (m : Meaning State) (bound : Option ℕ) (r : MicroRun State) → IsSome r.end → bounded m bound r ≡ r
+bounded_ended m None r h = refl
+bounded_ended m (Some bound) r h = bounded_by_ended m bound r.end r h
+
+module _ {State : Type 0} (m : Meaning State) (words : List ℕ) (bound : Option ℕ) (r : MicroRun State) where
+  pub turns-suc : (n : ℕ) → turns m words bound (suc n) r ≡ turn m words (bounded m bound (turns m words bound n r))
+  turns-suc n = iterate-suc (λ (x : MicroRun State). turn m words (bounded m bound x)) n r
+
+  turns-still : (n : ℕ) → IsSome (turns m words bound n r).end → turns m words bound (suc n) r ≡ turns m words bound n r
+  turns-still n h =
+      let t : MicroRun State = turns m words bound n r in
+      let same : bounded m bound t ≡ t = bounded_ended m bound t h in
+      turns-suc n ∙ (ap (λ (x : MicroRun State). turn m words x) same ∙ turn_by_ended m words t.end t h)
+
+  turns-add : (k n : ℕ) → IsSome (turns m words bound n r).end → turns m words bound (k + n) r ≡ turns m words bound n r
+  turns-add zero n h = ap (λ (x : ℕ). turns m words bound x r) (zero-add n)
+  turns-add (suc k) n h =
+      let before : turns m words bound (k + n) r ≡ turns m words bound n r = turns-add k n h in
+      ap (λ (x : ℕ). turns m words bound x r) (suc-add k n)
+      ∙ (turns-still (k + n) (subst (λ (x : MicroRun State). IsSome x.end) (sym before) h) ∙ before)
+
+  -- two ended runs of one start are one
+  pub turns-one_end : (n k : ℕ) → IsSome (turns m words bound n r).end → IsSome (turns m words bound k r).end →
+      turns m words bound n r ≡ turns m words bound k r
+  turns-one_end n k h i = sym (turns-add k n h) ∙ (ap (λ (x : ℕ). turns m words bound x r) (add_comm k n) ∙ turns-add n k i)

@@ -1,0 +1,33 @@
+use Rattle.std.proofs.Common.{◌≡◌, List, [], ℕ, ◌+◌, ◌-◌, max, None, Some, is_some, if◌then◌else◌}
+use Rattle.mic_clock.specs.declared.end.End.TheVariants as ends
+use Rattle.mic_base.specs.Streams.{Holds}
+use Rattle.mic_clock.specs.Run.{last_cycles}
+use Rattle.mic_clock.specs.Board.{ShowsRun, IsLedTo, IsCutByRead, IsCutByWrite, Leads, NoFault, HasEndCause}
+use Rattle.mic_clock.proofs.InTime.{InTime}
+use Rattle.mic_clock.proofs.board.Board.run.Given as goal
+
+-- the turns so far lead here or are cut here, and the cycles stay within 1,024 of the last boundary
+abbrev pub invariant-turns : goal.invariant-turns
+invariant-turns g l =
+    let state = g.M.Clocked.state in
+    let m = g.M.Clocked.meaning in
+    let left = g.S.Source.left l.source in
+    let held = g.K.Sink.held l.sink in
+    let words = l.fn.self.store.words in
+    record {
+      run : NoFault None l.self.end → IsLedTo state (g.S.Source.left l.fn.source) (g.K.Sink.held l.fn.sink) l.fn.self left l.self
+          (λ r rest. (n : ℕ) × Leads state m words (Some l.bound) l.self l.fn.self.buses rest n r (ShowsRun state left held l.self));
+      read : l.self.end ≡ Some ends.ReadFault → IsLedTo state (g.S.Source.left l.fn.source) (g.K.Sink.held l.fn.sink) l.fn.self left l.self
+          (λ r rest. (n : ℕ) × Leads state m words (Some l.bound) l.self l.fn.self.buses rest n r (IsCutByRead state m words (Some l.bound) left held l.self));
+      write : l.self.end ≡ Some ends.WriteFault → IsLedTo state (g.S.Source.left l.fn.source) (g.K.Sink.held l.fn.sink) l.fn.self left l.self
+          (λ r rest. (n : ℕ) × Leads state m words (Some l.bound) l.self l.fn.self.buses rest n r (IsCutByWrite state m words (Some l.bound) left held l.self));
+      empty_read : l.self.end ≡ Some ends.ReadFault → l.self.bus.console.kept ≡ [];
+      empty_write : l.self.end ≡ Some ends.WriteFault → l.self.bus.console.kept ≡ [];
+      keeps : (front : List ℕ) → Holds front (g.K.Sink.held l.fn.sink) → Holds front held;
+      cause : HasEndCause (g.S.Source.faults l.fn.source) (g.S.Source.faults l.source) (g.K.Sink.faults l.fn.sink) (g.K.Sink.faults l.sink) None l.self.end;
+      store : l.self.store ≡ l.fn.self.store;
+      in_time : InTime (max l.bound (last_cycles l.fn.self.counts.boundary)) l.self.counts (m.is_boundary (state l.self.machine)) l.self.end;
+    }
+
+abbrev pub decreases-turns : goal.decreases-turns
+decreases-turns g l = if is_some l.self.end then 0 else max l.bound (last_cycles l.fn.self.counts.boundary) + 1025 - l.self.counts.cycles

@@ -1,0 +1,90 @@
+//! What a turn counts, and the ends that come before a cycle.
+
+ghost use Rattle.std.specs.Prelude.{◌≡◌, ◌<◌, ◌≤◌, ◌+◌, ◌^◌, IfNone};
+ghost use Rattle.mic_clock.specs.Board.{end_by};
+ghost use Rattle.mic_clock.specs.Run.{end_before, counts_after, counts_ended, last_cycles};
+
+use crate::clocked::Clocked;
+use crate::counts::{Boundary, Counts};
+use crate::end::End;
+use console_port::BusFault;
+
+const HALT: u16 = 0x0FF;
+
+const ERR: u16 = 0x0FE;
+
+const DRIFT: u64 = 1024;
+
+/// The end by a refusal or a fault.
+pub fn end_of(fault: BusFault) -> End
+    ensures { result ≡ end_by fault }
+{
+    match fault {
+        BusFault::ReadFault => End::ReadFault,
+        BusFault::WriteFault => End::WriteFault,
+        BusFault::StackLimit(_) => End::StackLimit,
+        BusFault::OutOfMap(at) => End::OutOfMap(at),
+    }
+}
+
+/// The end that comes before a cycle, if one does.
+pub fn end_before<M: Clocked>(machine: &M, counts: &Counts) -> Option<End>
+    requires { last_cycles counts.now.boundary ≤ counts.now.cycles }
+    ensures value { result ≡ end_before M.meaning (M.state machine.now) counts.now }
+    ensures room { IfNone result (counts.now.cycles < last_cycles counts.now.boundary + 1024) }
+{
+    let mpc = machine.mpc();
+    if mpc == HALT {
+        return Some(End::Halt);
+    }
+    if mpc == ERR {
+        return Some(End::Err);
+    }
+    let last = match counts.boundary {
+        Some(boundary) => boundary.cycles,
+        None => 0,
+    };
+    if DRIFT <= counts.cycles - last {
+        return Some(End::Adrift);
+    }
+    None
+}
+
+/// The counts after an end that comes before a cycle.
+pub fn ended_counts(counts: Counts, end: End) -> Counts
+    requires { counts.instructions ≤ 2 ^ 63 }
+    ensures { result ≡ counts_ended counts end }
+{
+    let mut counts = counts;
+    if matches!(end, End::Halt | End::Err) && counts.boundary.is_some() {
+        counts.instructions += 1;
+    }
+    counts
+}
+
+/// The counts after a clocked cycle.
+pub fn counted<M: Clocked>(counts: Counts, stalled: bool, machine: &M) -> Counts
+    requires cycles { counts.cycles ≤ 2 ^ 63 }
+    requires instructions { counts.instructions ≤ 2 ^ 63 }
+    requires stalls { counts.stalls ≤ 2 ^ 63 }
+    ensures { result ≡ counts_after M.meaning counts stalled (M.state machine.now) }
+{
+    let mut counts = counts;
+    counts.cycles += 1;
+    if stalled {
+        counts.stalls += 1;
+    }
+    if machine.at_boundary() {
+        if counts.boundary.is_some() {
+            counts.instructions += 1;
+        }
+        let registers = machine.registers();
+        counts.boundary = Some(Boundary {
+            cycles: counts.cycles,
+            at: machine.instruction_address(),
+            sp: registers.sp,
+            lv: registers.lv,
+        });
+    }
+    counts
+}
