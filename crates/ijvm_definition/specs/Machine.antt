@@ -1,7 +1,7 @@
 -- The plain machine: frames over an image. The console's bytes are not in it.
-use Rattle.std.specs.Prelude.{◌≡◌, ◌≤◌, ℕ, ◌&&◌, Bool, nat_lt, List, length}
+use Rattle.std.specs.Prelude.{◌≡◌, ◌≤◌, ℕ, ◌&&◌, Bool, true, false, nat_lt, List, [], ◌∷◌, length, slice_set, Option, Some, None}
 use Rattle.ijvm_definition.specs.Image.{ImageView}
-use Rattle.ijvm_definition.specs.Frames.{Frame, State}
+use Rattle.ijvm_definition.specs.Frames.{Frame, State, base, IsWord}
 use Rattle.ijvm_definition.specs.Step.{is_own}
 
 pub record MachineView : Type 0 where
@@ -16,6 +16,26 @@ pub record MachineView : Type 0 where
 abbrev pub state_of : MachineView → List ℕ → List ℕ → State
 state_of m untaken given = record { running = m.running; callers = m.callers; at = m.at; untaken = untaken; given = given }
 
+-- where the frames lie: the running one begins at this word address, and all end before the stack's end
+pub record ArePlaced (stack_end lv : ℕ) (running : Frame) (callers : List Frame) : Type 0 where
+  pub begins : lv ≡ base callers
+  pub fits : base (running ∷ callers) ≤ stack_end
+  pub word : IsWord stack_end
+
+-- the machine with other operands
+abbrev pub with_operands : MachineView → List ℕ → MachineView
+with_operands m operands = record m { running = record m.running { operands = operands } }
+
 -- a local that an instruction may store to
 abbrev pub has_own : Frame → ℕ → Bool
 has_own f k = is_own f.back k && nat_lt k (length f.locals)
+
+-- the last operand leaves, if there is one
+abbrev pub Pops : Option ℕ → Frame → Frame → Type 0
+Pops None old new = (old.operands ≡ []) × (new ≡ old)
+Pops (Some v) old new = old ≡ record new { operands = v ∷ new.operands }
+
+-- a value is stored to a local, if that is its own
+abbrev pub Stores : Bool → ℕ → ℕ → Frame → Frame → Type 0
+Stores true k v old new = (has_own old k ≡ true) × (new ≡ record old { locals = slice_set old.locals k (Some v) })
+Stores false k v old new = (has_own old k ≡ false) × (new ≡ old)

@@ -1,11 +1,10 @@
 //! A frame of the plain machine.
 
 ghost use Rattle.std.specs.Prelude.{◌≡◌, ◌≢◌, ◌+◌, ◌<◌, ◌≤◌, ◌^◌, [], ◌∷◌, ◌++◌, ℕ, List, length, reverse, replicate, map, take, slice_get, slice_set, drop, Some, None, IfOk, OnOk, OnErr, IfSome, vec_len};
-ghost use Rattle.std.specs.Bool.{OnTrue};
 ghost use Rattle.ijvm_definition.specs.Frames.{Frame as FrameView, kept_words, top_of};
 ghost use Rattle.std.specs.Option.{option_flatten};
 ghost use Rattle.ijvm_definition.specs.Step.{called, onto};
-ghost use Rattle.ijvm_definition.specs.Machine.{has_own};
+ghost use Rattle.ijvm_definition.specs.Machine.{Pops, Stores};
 
 use std::alloc::{AllocError, Global};
 use std::marker::Model;
@@ -109,8 +108,7 @@ impl Frame {
     }
 
     pub fn pop(&mut self) -> Option<u32>
-        ensures none { result ≡ None → self.old.operands ≡ [] }
-        ensures some { IfSome result (λ v. self.old ≡ record self.new { operands = v ∷ self.new.operands }) }
+        ensures { Pops result self.old self.new }
     {
         self.operands.pop()
     }
@@ -140,8 +138,7 @@ impl Frame {
 
     /// Stores to a local of its own; otherwise answers false and stores nothing.
     pub fn store(&mut self, index: u16, value: u32) -> bool
-        ensures is { result ≡ has_own self.old index }
-        ensures stored { OnTrue result (self.new ≡ record self.old { locals = slice_set self.old.locals index (Some value) }) }
+        ensures { Stores result index value self.old self.new }
     {
         if (self.back.is_some() && index == 0) || (index as usize) >= self.locals.len() {
             return false;

@@ -6,6 +6,7 @@ pub mod encode;
 mod frame;
 pub mod image;
 pub mod instr;
+mod machine;
 pub mod print;
 pub mod reader;
 pub mod row;

@@ -1,0 +1,134 @@
+//! The plain machine without its console.
+
+ghost use Rattle.std.specs.Prelude.{◌≡◌, ◌≢◌, ◌+◌, ◌<◌, ◌≤◌, ◌^◌, [], ◌∷◌, List, nat_le, reverse, slice_get, slice_set, drop, Some, None, IfOk, OnOk, OnErr, IfSome, IfNone};
+ghost use Rattle.std.specs.Option.{option_flatten};
+ghost use Rattle.ijvm_definition.specs.Instructions.{instr_at};
+ghost use Rattle.ijvm_definition.specs.Frames.{base, top_of};
+ghost use Rattle.ijvm_definition.specs.Machine.{MachineView, ArePlaced, with_operands, Pops, Stores};
+
+use crate::decode::decode_at;
+use crate::frame::Frame;
+use crate::image::Image;
+use crate::instr::Instr;
+use std::alloc::{AllocError, Global};
+use std::marker::Model;
+
+/// Frames over an image.
+#[derive(Drop)]
+pub struct Machine {
+    alloc: Global,
+    image: Image,
+    stack_end: u32,
+    running: Frame,
+    /// The nearest is the last.
+    callers: Vec<Frame>,
+    /// The byte address of the next instruction.
+    at: u32,
+    /// The word address at which the running frame begins.
+    lv: u32,
+}
+
+impl Model for Machine {
+    ghost Value = { MachineView };
+
+    ghost view = { λ m. record { image = m.image; stack_end = m.stack_end; running = m.running; callers = reverse m.callers.items; at = m.at } };
+
+    ghost invariant = { λ m. ArePlaced m.stack_end m.lv m.running (reverse m.callers.items) };
+}
+
+impl Machine {
+    pub fn address(&self) -> u32
+        ensures { result ≡ self.now.at }
+    {
+        self.at
+    }
+
+    /// The word address at which the running frame begins.
+    pub fn lv(&self) -> u32
+        ensures { result ≡ base self.now.callers }
+    {
+        self.lv
+    }
+
+    /// The word address behind the last operand.
+    pub fn end(&self) -> u32
+        ensures is { result ≡ base (self.now.running ∷ self.now.callers) }
+        ensures fits { result ≤ self.now.stack_end }
+    {
+        self.lv + self.running.words()
+    }
+
+    /// Whether so many more words fit below the stack's end.
+    pub fn has_room(&self, words: u32) -> bool
+        ensures { result ≡ nat_le (base (self.now.running ∷ self.now.callers) + words) self.now.stack_end }
+    {
+        words <= self.stack_end - self.end()
+    }
+
+    /// The whole instruction at the address.
+    pub fn next(&self) -> Option<Instr>
+        ensures { result ≡ instr_at self.now.image.text self.now.at }
+    {
+        decode_at(self.image.text(), self.at)
+    }
+
+    pub fn constant(&self, index: u16) -> Option<u32>
+        ensures { result ≡ slice_get self.now.image.pool index }
+    {
+        self.image.pool().get(index as usize).copied()
+    }
+
+    /// The last operand.
+    pub fn top(&self) -> Option<u32>
+        ensures { result ≡ top_of self.now.running.operands }
+    {
+        self.running.top()
+    }
+
+    #[tactic(auto, using(crate::proofs::Placed::placed_pop))]
+    pub fn pop(&mut self) -> Option<u32>
+        ensures popped { Pops result self.old.running self.new.running }
+        ensures rest { self.new ≡ record self.old { running = self.new.running } }
+    {
+        self.running.pop()
+    }
+
+    pub fn push(&mut self, value: u32) -> Result<(), AllocError>
+        requires { base (self.old.running ∷ self.old.callers) + 1 ≤ self.old.stack_end }
+        ensures ok { OnOk result (self.new ≡ with_operands self.old (value ∷ self.old.running.operands)) }
+        ensures err { OnErr result (self.new ≡ self.old) }
+    {
+        self.running.push(value)
+    }
+
+    /// Puts another value in the place of the last operand.
+    pub fn replace_top(&mut self, value: u32)
+        requires { self.old.running.operands ≢ [] }
+        ensures { self.new ≡ with_operands self.old (value ∷ drop 1 self.old.running.operands) }
+    {
+        self.running.replace_top(value);
+    }
+
+    /// The value of a local, if the running frame has it and it is set.
+    pub fn local(&self, index: u16) -> Option<u32>
+        ensures { result ≡ option_flatten (slice_get self.now.running.locals index) }
+    {
+        self.running.local(index)
+    }
+
+    #[tactic(auto, using(crate::proofs::Placed::placed_store))]
+    /// Stores to a local that is the running frame's own; otherwise answers false.
+    pub fn store(&mut self, index: u16, value: u32) -> bool
+        ensures stored { Stores result index value self.old.running self.new.running }
+        ensures rest { self.new ≡ record self.old { running = self.new.running } }
+    {
+        self.running.store(index, value)
+    }
+
+    /// Goes to another address.
+    pub fn go(&mut self, to: u32)
+        ensures { self.new ≡ record self.old { at = to } }
+    {
+        self.at = to;
+    }
+}
