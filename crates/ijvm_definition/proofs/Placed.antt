@@ -1,7 +1,8 @@
 -- Frames keep their places.
-use Rattle.std.proofs.Common.{◌≡◌, ◌≤◌, ℕ, ◌+◌, Bool, true, false, List, [], ◌∷◌, length, Option, Some, None, slice_set, sym, ap, ◌∙◌, subst, arith}
-use Rattle.std.proofs.lemmas.List.{length-set}
+use Rattle.std.proofs.Common.{◌≡◌, ◌≤◌, ℕ, ◌+◌, ◌-◌, take, drop, replicate, Bool, true, false, List, [], ◌∷◌, length, Option, Some, None, slice_set, sym, ap, ◌∙◌, subst, arith}
+use Rattle.std.proofs.lemmas.List.{length-set, length-drop, length-take-le, length-replicate}
 use Rattle.ijvm_definition.specs.Frames.{Frame, base, kept_words}
+use Rattle.ijvm_definition.specs.Step.{called, onto}
 use Rattle.ijvm_definition.specs.Machine.{ArePlaced, Pops, Stores}
 
 pub base_least : (fs : List Frame) → 0x8000 ≤ base fs
@@ -33,3 +34,33 @@ placed_store stack_end lv true k v old new callers p h =
     let back : new.back ≡ old.back = ap (λ (f : Frame). f.back) same in
     let many : length new.operands ≡ length old.operands = ap (λ (f : Frame). length f.operands) same in
     smaller stack_end lv old new callers locals back (omega arith) h
+
+length-onto : (ps : List ℕ) (locals : List (Option ℕ)) → length (onto ps locals) ≡ length ps + length locals
+length-onto [] locals = omega arith
+length-onto (p ∷ ps) locals =
+    let later : length (onto ps (Some p ∷ locals)) ≡ length ps + length (Some p ∷ locals) = length-onto ps (Some p ∷ locals) in
+    omega arith
+
+-- a called method's frame begins where the caller's operands now end
+pub placed_call : (stack_end lv lv' n others back : ℕ) (running caller frame : Frame) (callers : List Frame) → n + 1 ≤ length running.operands →
+    base (running ∷ callers) + others + 2 ≤ stack_end → caller ≡ record running { operands = drop (n + 1) running.operands } →
+    frame ≡ called (take n running.operands) others back → lv' ≡ lv + (length caller.locals + kept_words caller.back + length caller.operands) →
+    ArePlaced stack_end lv running callers → ArePlaced stack_end lv' frame (caller ∷ callers)
+placed_call stack_end lv lv' n others back running caller frame callers enough room is_caller is_frame begins h =
+    let locals : length caller.locals ≡ length running.locals = ap (λ (f : Frame). length f.locals) is_caller in
+    let kept : kept_words caller.back ≡ kept_words running.back = ap (λ (f : Frame). kept_words f.back) is_caller in
+    let fewer : length caller.operands ≡ length (drop (n + 1) running.operands) = ap (λ (f : Frame). length f.operands) is_caller in
+    let rest : length (drop (n + 1) running.operands) ≡ length running.operands - (n + 1) = length-drop (n + 1) running.operands in
+    let many : length (take n running.operands) ≡ n = length-take-le n running.operands (let e : n ≤ length running.operands = omega arith in e) in
+    let own : length (onto (take n running.operands) (replicate {A = Option ℕ} others None)) ≡ length (take n running.operands) + length (replicate {A = Option ℕ} others None) =
+        length-onto (take n running.operands) (replicate others None) in
+    let unset : length (replicate {A = Option ℕ} others None) ≡ others = length-replicate others None in
+    let size : length (called (take n running.operands) others back).locals ≡ 1 + n + others = omega arith in
+    let frame_size : length frame.locals ≡ 1 + n + others = ap (λ (f : Frame). length f.locals) is_frame ∙ size in
+    let frame_kept : kept_words frame.back ≡ 2 = ap (λ (f : Frame). kept_words f.back) is_frame in
+    let frame_empty : length frame.operands ≡ 0 = ap (λ (f : Frame). length f.operands) is_frame in
+    let old : base callers + length running.locals + kept_words running.back + length running.operands + others + 2 ≤ stack_end = room in
+    let at : lv ≡ base callers = h.begins in
+    let sum : base callers + length caller.locals + kept_words caller.back + length caller.operands + length frame.locals + kept_words frame.back + length frame.operands ≤ stack_end = omega arith in
+    record { begins = begins ∙ (let e : lv + (length caller.locals + kept_words caller.back + length caller.operands)
+            ≡ base callers + length caller.locals + kept_words caller.back + length caller.operands = omega arith in e); fits = sum; word = h.word }

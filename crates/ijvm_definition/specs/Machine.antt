@@ -1,8 +1,9 @@
 -- The plain machine: frames over an image. The console's bytes are not in it.
-use Rattle.std.specs.Prelude.{◌≡◌, ◌≤◌, ℕ, ◌&&◌, Bool, true, false, nat_lt, List, [], ◌∷◌, length, slice_set, Option, Some, None}
+use Rattle.std.specs.Prelude.{◌≡◌, ◌≤◌, ℕ, ◌&&◌, Bool, true, false, nat_lt, List, [], ◌∷◌, length, take, drop, ◌+◌, ◌-◌, slice_set, Option, Some, None}
+use Rattle.ijvm_definition.specs.declared.method.Method.{Method}
 use Rattle.ijvm_definition.specs.Image.{ImageView}
 use Rattle.ijvm_definition.specs.Frames.{Frame, State, base, IsWord}
-use Rattle.ijvm_definition.specs.Step.{is_own}
+use Rattle.ijvm_definition.specs.Step.{is_own, called}
 
 pub record MachineView : Type 0 where
   pub image : ImageView
@@ -21,6 +22,15 @@ pub record ArePlaced (stack_end lv : ℕ) (running : Frame) (callers : List Fram
   pub begins : lv ≡ base callers
   pub fits : base (running ∷ callers) ≤ stack_end
   pub word : IsWord stack_end
+
+-- the machine in a method that is called with the last operands
+abbrev pub in_call : MachineView → Method → MachineView
+in_call m method =
+    record m {
+      running = called (take (method.params - 1) m.running.operands) method.others (m.at + 3);
+      callers = record m.running { operands = drop (method.params - 1 + 1) m.running.operands } ∷ m.callers;
+      at = method.entry + 4;
+    }
 
 -- the machine with other operands
 abbrev pub with_operands : MachineView → List ℕ → MachineView

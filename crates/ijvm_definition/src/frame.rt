@@ -100,6 +100,13 @@ impl Frame {
         self.back
     }
 
+    /// How many operands it has.
+    pub fn depth(&self) -> usize
+        ensures { result ≡ length self.now.operands }
+    {
+        self.operands.len()
+    }
+
     /// The last operand.
     pub fn top(&self) -> Option<u32>
         ensures { result ≡ top_of self.now.operands }

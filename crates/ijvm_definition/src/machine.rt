@@ -1,17 +1,20 @@
 //! The plain machine without its console.
 
-ghost use Rattle.std.specs.Prelude.{◌≡◌, ◌≢◌, ◌+◌, ◌<◌, ◌≤◌, ◌^◌, [], ◌∷◌, List, nat_le, reverse, slice_get, slice_set, drop, Some, None, IfOk, OnOk, OnErr, IfSome, IfNone};
+ghost use Rattle.std.specs.Prelude.{◌≡◌, ◌≢◌, ◌↔◌, ◌+◌, ◌<◌, ◌≤◌, ◌^◌, [], ◌∷◌, List, nat_le, reverse, slice_get, slice_set, drop, Some, None, IfOk, OnOk, OnErr, IfSome, IsTrue, length};
 ghost use Rattle.std.specs.Option.{option_flatten};
 ghost use Rattle.ijvm_definition.specs.Instructions.{instr_at};
+ghost use Rattle.ijvm_definition.specs.Image.{method_at};
 ghost use Rattle.ijvm_definition.specs.Frames.{base, top_of};
-ghost use Rattle.ijvm_definition.specs.Machine.{MachineView, ArePlaced, with_operands, Pops, Stores};
+ghost use Rattle.ijvm_definition.specs.Machine.{MachineView, ArePlaced, with_operands, in_call, Pops, Stores};
 
 use crate::decode::decode_at;
 use crate::frame::Frame;
 use crate::image::Image;
 use crate::instr::Instr;
+use crate::method::Method;
 use std::alloc::{AllocError, Global};
 use std::marker::Model;
+use std::mem;
 
 /// Frames over an image.
 #[derive(Drop)]
@@ -130,5 +133,53 @@ impl Machine {
         ensures { self.new ≡ record self.old { at = to } }
     {
         self.at = to;
+    }
+
+    /// The return address of a method's frame.
+    pub fn back(&self) -> Option<u32>
+        ensures { result ≡ self.now.running.back }
+    {
+        self.running.back()
+    }
+
+    pub fn has_caller(&self) -> bool
+        ensures { IsTrue result ↔ (self.now.callers ≢ []) }
+    {
+        !self.callers.is_empty()
+    }
+
+    /// How many operands the running frame has.
+    pub fn depth(&self) -> usize
+        ensures { result ≡ length self.now.running.operands }
+    {
+        self.running.depth()
+    }
+
+    pub fn method(&self, index: u16) -> Option<Method>
+        ensures is { result ≡ method_at self.now.image.text (slice_get self.now.image.pool index) }
+        ensures inside { IfSome result (λ m. m.entry + 4 < 65536) }
+    {
+        self.image.method(index)
+    }
+
+    /// Calls a method with the last operands.
+    pub fn call(&mut self, method: Method) -> Result<(), AllocError>
+        requires object { 0 < method.params }
+        requires operands { method.params ≤ length self.old.running.operands }
+        requires room { base (self.old.running ∷ self.old.callers) + method.others + 2 ≤ self.old.stack_end }
+        requires entry { method.entry + 4 < 65536 }
+        requires back { self.old.at + 3 < 2 ^ 32 }
+        ensures ok { OnOk result (self.new ≡ in_call self.old method) }
+        ensures err { OnErr result (self.new ≡ self.old) }
+    {
+        let params = method.params - 1;
+        let frame = self.running.called(self.alloc, params, method.others, self.at + 3)?;
+        self.callers.reserve(1)?;
+        self.running.discard(params as usize + 1);
+        self.lv += self.running.words();
+        let caller = mem::replace(&mut self.running, frame);
+        self.callers.push(caller).unwrap();
+        self.at = method.entry + 4;
+        Ok(())
     }
 }
