@@ -1,6 +1,6 @@
 -- Frames keep their places.
-use Rattle.std.proofs.Common.{◌≡◌, ◌≤◌, ℕ, ◌+◌, ◌-◌, take, drop, replicate, Bool, true, false, List, [], ◌∷◌, length, Option, Some, None, slice_set, sym, ap, ◌∙◌, subst, arith}
-use Rattle.std.proofs.lemmas.List.{length-set, length-drop, length-take-le, length-replicate}
+use Rattle.std.proofs.Common.{◌≡◌, ◌≢◌, ◌≤◌, ◌<◌, ◌^◌, ◌++◌, reverse, refl, ℕ, ◌+◌, ◌-◌, take, drop, replicate, Bool, true, false, List, [], ◌∷◌, length, Option, Some, None, slice_set, sym, ap, ◌∙◌, subst, arith}
+use Rattle.std.proofs.lemmas.List.{reverse-append, length-set, length-drop, length-take-le, length-replicate}
 use Rattle.ijvm_definition.specs.Frames.{Frame, base, kept_words}
 use Rattle.ijvm_definition.specs.Step.{called, onto}
 use Rattle.ijvm_definition.specs.Machine.{ArePlaced, Pops, Stores}
@@ -64,3 +64,34 @@ placed_call stack_end lv lv' n others back running caller frame callers enough r
     let sum : base callers + length caller.locals + kept_words caller.back + length caller.operands + length frame.locals + kept_words frame.back + length frame.operands ≤ stack_end = omega arith in
     record { begins = begins ∙ (let e : lv + (length caller.locals + kept_words caller.back + length caller.operands)
             ≡ base callers + length caller.locals + kept_words caller.back + length caller.operands = omega arith in e); fits = sum; word = h.word }
+
+pub reverse_end : (fs : List Frame) (f : Frame) → reverse (fs ++ f ∷ []) ≡ f ∷ reverse fs
+reverse_end fs f = reverse-append fs (f ∷ [])
+
+-- what is known of a caller
+pub caller_words : (stack_end lv : ℕ) (running f : Frame) (callers fs : List Frame) → callers ≡ f ∷ fs → ArePlaced stack_end lv running callers →
+    (length f.locals + 2 + length f.operands < 2 ^ 32) × (length f.locals + kept_words f.back + length f.operands ≤ lv)
+caller_words stack_end lv running f callers fs e h =
+    let least : 0x8000 ≤ base fs = base_least fs in
+    let begins : lv ≡ base fs + length f.locals + kept_words f.back + length f.operands = h.begins ∙ ap base e in
+    let all : base callers + length running.locals + kept_words running.back + length running.operands ≤ stack_end = h.fits in
+    let word : stack_end < 2 ^ 32 = h.word in
+    let same : base callers ≡ base fs + length f.locals + kept_words f.back + length f.operands = ap base e in
+    (omega arith, omega arith)
+
+-- a caller's frame has the place that it had, and a word more
+pub placed_leave : (stack_end lv lv' v : ℕ) (running f new : Frame) (callers fs : List Frame) → callers ≡ f ∷ fs → running.back ≢ None → new ≡ record f { operands = v ∷ f.operands } →
+    lv' + (length f.locals + kept_words f.back + length f.operands) ≡ lv → ArePlaced stack_end lv running callers → ArePlaced stack_end lv' new fs
+placed_leave stack_end lv lv' v running f new callers fs e method is_new sum h =
+    let begins : lv ≡ base fs + length f.locals + kept_words f.back + length f.operands = h.begins ∙ ap base e in
+    let all : base callers + length running.locals + kept_words running.back + length running.operands ≤ stack_end = h.fits in
+    let same : base callers ≡ base fs + length f.locals + kept_words f.back + length f.operands = ap base e in
+    let kept : kept_words running.back ≡ 2 = two_kept running.back method in
+    let locals : length new.locals ≡ length f.locals = ap (λ (g : Frame). length g.locals) is_new in
+    let back : kept_words new.back ≡ kept_words f.back = ap (λ (g : Frame). kept_words g.back) is_new in
+    let more : length new.operands ≡ length (v ∷ f.operands) = ap (λ (g : Frame). length g.operands) is_new in
+    record { begins = omega arith; fits = omega arith; word = h.word }
+  where
+    two_kept : (back : Option ℕ) → back ≢ None → kept_words back ≡ 2
+    two_kept None n = absurd (n refl)
+    two_kept (Some r) n = refl

@@ -32,6 +32,10 @@ in_call m method =
       at = method.entry + 4;
     }
 
+-- the machine that has returned a value to a caller, at this address
+abbrev pub in_caller : MachineView → ℕ → ℕ → Frame → List Frame → MachineView
+in_caller m back value f fs = record m { running = record f { operands = value ∷ f.operands }; callers = fs; at = back }
+
 -- the machine with other operands
 abbrev pub with_operands : MachineView → List ℕ → MachineView
 with_operands m operands = record m { running = record m.running { operands = operands } }

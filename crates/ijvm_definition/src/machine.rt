@@ -1,11 +1,11 @@
 //! The plain machine without its console.
 
-ghost use Rattle.std.specs.Prelude.{◌≡◌, ◌≢◌, ◌↔◌, ◌+◌, ◌<◌, ◌≤◌, ◌^◌, [], ◌∷◌, List, nat_le, reverse, slice_get, slice_set, drop, Some, None, IfOk, OnOk, OnErr, IfSome, IsTrue, length};
+ghost use Rattle.std.specs.Prelude.{◌≡◌, ◌≢◌, ◌↔◌, ◌+◌, ◌<◌, ◌≤◌, ◌^◌, [], ◌∷◌, List, nat_le, reverse, slice_get, slice_set, drop, Some, None, IfOk, OnOk, OnErr, IfSome, IsTrue, length, vec_len, vec_capacity};
 ghost use Rattle.std.specs.Option.{option_flatten};
 ghost use Rattle.ijvm_definition.specs.Instructions.{instr_at};
 ghost use Rattle.ijvm_definition.specs.Image.{method_at};
-ghost use Rattle.ijvm_definition.specs.Frames.{base, top_of};
-ghost use Rattle.ijvm_definition.specs.Machine.{MachineView, ArePlaced, with_operands, in_call, Pops, Stores};
+ghost use Rattle.ijvm_definition.specs.Frames.{Frame, base, top_of};
+ghost use Rattle.ijvm_definition.specs.Machine.{MachineView, ArePlaced, with_operands, in_call, in_caller, Pops, Stores};
 
 use crate::decode::decode_at;
 use crate::frame::Frame;
@@ -37,6 +37,25 @@ impl Model for Machine {
     ghost view = { λ m. record { image = m.image; stack_end = m.stack_end; running = m.running; callers = reverse m.callers.items; at = m.at } };
 
     ghost invariant = { λ m. ArePlaced m.stack_end m.lv m.running (reverse m.callers.items) };
+}
+
+/// Takes the nearest caller away.
+#[tactic(auto, using(crate::proofs::Placed::reverse_end))]
+fn take_caller(callers: &mut Vec<Frame>) -> Frame
+    requires { reverse callers.old.items ≢ [] }
+    ensures caller { reverse callers.old.items ≡ result ∷ reverse callers.new.items }
+    ensures room { vec_len callers.new < vec_capacity callers.new }
+{
+    callers.pop().unwrap()
+}
+
+/// Puts the nearest caller back.
+#[tactic(auto, using(crate::proofs::Placed::reverse_end))]
+fn give_back(callers: &mut Vec<Frame>, caller: Frame)
+    requires { vec_len callers.old < vec_capacity callers.old }
+    ensures { reverse callers.new.items ≡ caller ∷ reverse callers.old.items }
+{
+    callers.push(caller).unwrap();
 }
 
 impl Machine {
@@ -180,6 +199,25 @@ impl Machine {
         let caller = mem::replace(&mut self.running, frame);
         self.callers.push(caller).unwrap();
         self.at = method.entry + 4;
+        Ok(())
+    }
+
+    /// Returns a value to the caller, at this address.
+    pub fn leave(&mut self, back: u32, value: u32) -> Result<(), AllocError>
+        requires caller { self.old.callers ≢ [] }
+        requires method { self.old.running.back ≢ None }
+        ensures ok { OnOk result ((f : Frame) (fs : List Frame) → self.old.callers ≡ f ∷ fs → self.new ≡ in_caller self.old back value f fs) }
+        ensures err { OnErr result (self.new ≡ self.old) }
+    {
+        let mut caller = take_caller(&mut self.callers);
+        let words = caller.words();
+        if let Err(error) = caller.push(value) {
+            give_back(&mut self.callers, caller);
+            return Err(error);
+        }
+        self.lv -= words;
+        self.running = caller;
+        self.at = back;
         Ok(())
     }
 }
