@@ -3,7 +3,7 @@ use Rattle.std.proofs.Common.{◌≡◌, ◌≢◌, ◌≤◌, ◌<◌, ◌^◌,
 use Rattle.std.proofs.lemmas.List.{reverse-append, length-set, length-drop, length-take-le, length-replicate}
 use Rattle.ijvm_definition.specs.Frames.{Frame, base, kept_words}
 use Rattle.ijvm_definition.specs.Step.{called, onto}
-use Rattle.ijvm_definition.specs.Machine.{ArePlaced, Pops, Stores}
+use Rattle.ijvm_definition.specs.Machine.{ArePlaced, Pops, Stores, Swaps}
 
 pub base_least : (fs : List Frame) → 0x8000 ≤ base fs
 base_least [] = omega arith
@@ -95,3 +95,20 @@ placed_leave stack_end lv lv' v running f new callers fs e method is_new sum h =
     two_kept : (back : Option ℕ) → back ≢ None → kept_words back ≡ 2
     two_kept None n = absurd (n refl)
     two_kept (Some r) n = refl
+
+pub placed_swap : (stack_end lv : ℕ) (r : Bool) (old new : Frame) (callers : List Frame) → Swaps r old new → ArePlaced stack_end lv old callers → ArePlaced stack_end lv new callers
+placed_swap stack_end lv false old new callers p h = subst (λ (f : Frame). ArePlaced stack_end lv f callers) (sym p.1) h
+placed_swap stack_end lv true old new callers p h =
+    let locals : length new.locals ≡ length old.locals = ap (λ (f : Frame). length f.locals) p.1 in
+    let back : new.back ≡ old.back = ap (λ (f : Frame). f.back) p.1 in
+    let was : length old.operands ≡ length (p.0.0 ∷ p.0.1 ∷ p.0.2) = ap length p.0.3 in
+    let is : length new.operands ≡ length (p.0.1 ∷ p.0.0 ∷ p.0.2) = ap length p.0.4 in
+    smaller stack_end lv old new callers locals back (omega arith) h
+
+pub placed_set : (stack_end lv k v : ℕ) (old new : Frame) (callers : List Frame) → new ≡ record old { locals = slice_set old.locals k (Some v) } →
+    ArePlaced stack_end lv old callers → ArePlaced stack_end lv new callers
+placed_set stack_end lv k v old new callers is h =
+    let locals : length new.locals ≡ length old.locals = ap (λ (f : Frame). length f.locals) is ∙ length-set old.locals k (Some v) in
+    let back : new.back ≡ old.back = ap (λ (f : Frame). f.back) is in
+    let many : length new.operands ≡ length old.operands = ap (λ (f : Frame). length f.operands) is in
+    smaller stack_end lv old new callers locals back (omega arith) h

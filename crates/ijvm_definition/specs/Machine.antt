@@ -1,9 +1,14 @@
 -- The plain machine: frames over an image. The console's bytes are not in it.
-use Rattle.std.specs.Prelude.{◌≡◌, ◌≤◌, ℕ, ◌&&◌, Bool, true, false, nat_lt, List, [], ◌∷◌, length, take, drop, ◌+◌, ◌-◌, slice_set, Option, Some, None}
+use Rattle.std.specs.Prelude.{◌≡◌, ◌≤◌, ◌<◌, ℕ, ◌&&◌, Bool, true, false, nat_lt, List, [], ◌∷◌, length, take, drop, ◌+◌, ◌-◌, slice_set, Option, Some, None, bit_and, bit_or}
 use Rattle.ijvm_definition.specs.declared.method.Method.{Method}
 use Rattle.ijvm_definition.specs.Image.{ImageView}
 use Rattle.ijvm_definition.specs.Frames.{Frame, State, base, IsWord}
-use Rattle.ijvm_definition.specs.Step.{is_own, called}
+use Rattle.micro_word.specs.Operation.{plus, minus}
+use Rattle.ijvm_definition.specs.declared.compute.Operator.{Operator}
+use Rattle.ijvm_definition.specs.declared.compute.Operator.TheVariants as operators
+use Rattle.ijvm_definition.specs.declared.compute.Effect.{Effect}
+use Rattle.ijvm_definition.specs.declared.compute.Effect.TheVariants as effects
+use Rattle.ijvm_definition.specs.Step.{Outcome, Goes, Limits, Stuck, is_own, called}
 
 pub record MachineView : Type 0 where
   pub image : ImageView
@@ -53,3 +58,28 @@ Pops (Some v) old new = old ≡ record new { operands = v ∷ new.operands }
 abbrev pub Stores : Bool → ℕ → ℕ → Frame → Frame → Type 0
 Stores true k v old new = (has_own old k ≡ true) × (new ≡ record old { locals = slice_set old.locals k (Some v) })
 Stores false k v old new = (has_own old k ≡ false) × (new ≡ old)
+
+-- what an effect is, of the state that it leaves
+abbrev pub outcome_of : Effect → State → Outcome
+outcome_of effects.Went s = Goes s
+outcome_of effects.StackLimit s = Limits s
+outcome_of effects.Stuck s = Stuck
+
+-- this comes of the old machine, and leaves the new one; the console's bytes stay
+abbrev pub Leads : (State → Outcome) → Effect → MachineView → MachineView → Type 0
+Leads does effect old new = (untaken given : List ℕ) → does (state_of old untaken given) ≡ outcome_of effect (state_of new untaken given)
+
+abbrev pub operate : Operator → ℕ → ℕ → ℕ
+operate operators.Add second top = plus second top
+operate operators.Subtract second top = minus second top
+operate operators.And second top = bit_and second top
+operate operators.Or second top = bit_or second top
+
+-- the first two of a list exchanged
+abbrev pub IsSwapped : List ℕ → List ℕ → Type 0
+IsSwapped old new = (y : ℕ) × (x : ℕ) × (rest : List ℕ) × (old ≡ y ∷ x ∷ rest) × (new ≡ x ∷ y ∷ rest)
+
+-- the last two operands are exchanged, if there are two
+abbrev pub Swaps : Bool → Frame → Frame → Type 0
+Swaps true old new = IsSwapped old.operands new.operands × (new ≡ record old { operands = new.operands })
+Swaps false old new = (length old.operands < 2) × (new ≡ old)

@@ -1,6 +1,7 @@
 //! IJVM as a definition and as a plain machine that computes it: instructions, images, frames, and what each instruction does and costs.
 #![tactic(auto)]
 
+mod compute;
 pub mod decode;
 pub mod encode;
 mod frame;

@@ -5,7 +5,7 @@ ghost use Rattle.std.specs.Option.{option_flatten};
 ghost use Rattle.ijvm_definition.specs.Instructions.{instr_at};
 ghost use Rattle.ijvm_definition.specs.Image.{method_at};
 ghost use Rattle.ijvm_definition.specs.Frames.{Frame, base, top_of};
-ghost use Rattle.ijvm_definition.specs.Machine.{MachineView, ArePlaced, with_operands, in_call, in_caller, Pops, Stores};
+ghost use Rattle.ijvm_definition.specs.Machine.{MachineView, ArePlaced, with_operands, in_call, in_caller, Pops, Stores, Swaps};
 
 use crate::decode::decode_at;
 use crate::frame::Frame;
@@ -131,11 +131,29 @@ impl Machine {
         self.running.replace_top(value);
     }
 
+    /// Exchanges the last two operands; otherwise, with fewer, answers false.
+    #[tactic(auto, using(crate::proofs::Placed::placed_swap))]
+    pub fn swap(&mut self) -> bool
+        ensures swapped { Swaps result self.old.running self.new.running }
+        ensures rest { self.new ≡ record self.old { running = self.new.running } }
+    {
+        self.running.swap()
+    }
+
     /// The value of a local, if the running frame has it and it is set.
     pub fn local(&self, index: u16) -> Option<u32>
-        ensures { result ≡ option_flatten (slice_get self.now.running.locals index) }
+        ensures is { result ≡ option_flatten (slice_get self.now.running.locals index) }
+        ensures inside { IfSome result (λ _. index < length self.now.running.locals) }
     {
         self.running.local(index)
+    }
+
+    #[tactic(auto, using(crate::proofs::Placed::placed_set))]
+    pub fn set_local(&mut self, index: u16, value: u32)
+        requires { index < length self.old.running.locals }
+        ensures { self.new ≡ record self.old { running = record self.old.running { locals = slice_set self.old.running.locals index (Some value) } } }
+    {
+        self.running.set_local(index, value);
     }
 
     #[tactic(auto, using(crate::proofs::Placed::placed_store))]
