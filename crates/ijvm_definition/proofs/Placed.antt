@@ -35,7 +35,7 @@ placed_store stack_end lv true k v old new callers p h =
     let many : length new.operands ≡ length old.operands = ap (λ (f : Frame). length f.operands) same in
     smaller stack_end lv old new callers locals back (omega arith) h
 
-length-onto : (ps : List ℕ) (locals : List (Option ℕ)) → length (onto ps locals) ≡ length ps + length locals
+pub length-onto : (ps : List ℕ) (locals : List (Option ℕ)) → length (onto ps locals) ≡ length ps + length locals
 length-onto [] locals = omega arith
 length-onto (p ∷ ps) locals =
     let later : length (onto ps (Some p ∷ locals)) ≡ length ps + length (Some p ∷ locals) = length-onto ps (Some p ∷ locals) in

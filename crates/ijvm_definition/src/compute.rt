@@ -1,11 +1,12 @@
 //! The instructions that do not need the console.
 
 ghost use Rattle.std.specs.Prelude.{◌≡◌, ◌==◌, ◌+◌, ◌<◌, ◌^◌, slice_get, IfOk, OnErr};
-ghost use Rattle.ijvm_definition.specs.Step.{pushed, pushed_constant, loaded, stored, increased, popped, doubled, swapped, combined, way, branched, compared, called_at, returned};
+ghost use Rattle.ijvm_definition.specs.Step.{Goes, moved, target, step, pushed, pushed_constant, loaded, stored, increased, popped, doubled, swapped, combined, way, branched, compared, called_at, returned};
 ghost use Rattle.ijvm_definition.specs.Image.{method_at};
 ghost use Rattle.micro_word.specs.Operation.{is_negative};
-ghost use Rattle.ijvm_definition.specs.Machine.{Leads, operate};
+ghost use Rattle.ijvm_definition.specs.Machine.{Leads, operate, NeedsNoConsole};
 
+use crate::instr::Instr;
 use crate::machine::Machine;
 use crate::print::target_of;
 use std::alloc::AllocError;
@@ -14,6 +15,8 @@ use std::alloc::AllocError;
 #[derive(Clone, Copy, Debug, PartialEq, Eq)]
 pub enum Effect {
     Went,
+    Halt,
+    Err,
     StackLimit,
     /// The machine lacks what the instruction needs.
     Stuck,
@@ -40,6 +43,22 @@ impl Operator {
             Operator::Or => second | top,
         }
     }
+}
+
+/// Goes on behind an instruction that does nothing else.
+fn pass(machine: &mut Machine) -> Effect
+    requires { machine.old.at + 1 < 2 ^ 32 }
+    ensures { Leads (λ s. Goes (moved s s.running.operands (s.at + 1))) result machine.old machine.new }
+{
+    machine.go(machine.address() + 1);
+    Effect::Went
+}
+
+fn jump(machine: &mut Machine, offset: i16) -> Effect
+    ensures { Leads (λ s. Goes (moved s s.running.operands (target s.at offset))) result machine.old machine.new }
+{
+    machine.go(target_of(machine.address(), offset));
+    Effect::Went
 }
 
 /// Pushes a value and goes on behind an instruction of this size.
@@ -247,4 +266,39 @@ pub fn return_top(machine: &mut Machine) -> Result<Effect, AllocError>
     }
     machine.leave(back, value)?;
     Ok(Effect::Went)
+}
+
+/// Does one instruction.
+pub fn compute(machine: &mut Machine, instr: Instr) -> Result<Effect, AllocError>
+    requires at { machine.old.at + 4 < 2 ^ 32 }
+    requires no_console { NeedsNoConsole instr }
+    ensures ok { IfOk result (λ e. Leads (step machine.old.image machine.old.stack_end instr) e machine.old machine.new) }
+    ensures err { OnErr result (machine.new ≡ machine.old) }
+{
+    match instr {
+        Instr::Nop => Ok(pass(machine)),
+        Instr::Bipush(b) => push(machine, i32::from(b).cast_unsigned(), 2),
+        Instr::LdcW(k) => push_constant(machine, k),
+        Instr::Iload(k) => load(machine, u16::from(k), 2),
+        Instr::Istore(k) => Ok(store(machine, u16::from(k), 2)),
+        Instr::Pop => Ok(discard(machine)),
+        Instr::Dup => double(machine),
+        Instr::Swap => Ok(swap(machine)),
+        Instr::Iadd => Ok(combine(machine, Operator::Add)),
+        Instr::Isub => Ok(combine(machine, Operator::Subtract)),
+        Instr::Iand => Ok(combine(machine, Operator::And)),
+        Instr::Iinc(k, b) => Ok(increase(machine, u16::from(k), b)),
+        Instr::Ifeq(o) => Ok(branch_if_zero(machine, o)),
+        Instr::Iflt(o) => Ok(branch_if_negative(machine, o)),
+        Instr::IfIcmpeq(o) => Ok(branch_if_equal(machine, o)),
+        Instr::Goto(o) => Ok(jump(machine, o)),
+        Instr::Ireturn => return_top(machine),
+        Instr::Ior => Ok(combine(machine, Operator::Or)),
+        Instr::Invokevirtual(k) => call(machine, k),
+        Instr::WideIload(k) => load(machine, k, 4),
+        Instr::WideIstore(k) => Ok(store(machine, k, 4)),
+        Instr::Err => Ok(Effect::Err),
+        Instr::Halt => Ok(Effect::Halt),
+        Instr::In | Instr::Out => unreachable!(),
+    }
 }
