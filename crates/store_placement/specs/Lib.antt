@@ -6,3 +6,4 @@ pub mod Placement
 pub mod Program
 pub mod Refusals
 pub mod Steps
+pub mod StoreFile

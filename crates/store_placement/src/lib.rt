@@ -14,6 +14,8 @@ pub mod chosen;
 pub mod placement;
 pub mod refusal;
 mod steps;
+mod store_error;
+mod store_file;
 
 pub use constraints::Constraints;
 pub use demands::constraints_of;
@@ -22,3 +24,5 @@ pub use pair::Pair;
 pub use chosen::place;
 pub use placement::Placement;
 pub use refusal::PlaceError;
+pub use store_error::StoreError;
+pub use store_file::{machine_of, store_bytes};
