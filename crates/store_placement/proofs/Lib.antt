@@ -12,3 +12,4 @@ pub mod OneRefusal
 pub mod OpenPairs
 pub mod ProgramLemmas
 pub mod StepsLemmas
+pub mod StoreFileLemmas

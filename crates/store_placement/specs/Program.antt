@@ -58,9 +58,13 @@ placed_statement address number s = record { part = s.part; next = placed_next a
 abbrev pub idle : Part
 idle = record { dests = 0; op = ops.Zero; a = None; b = None; shift = shifts.None; mem = mems.None; fetch = false }
 
+-- `goto` address 0x0FE, where a run ends by error
+abbrev pub goto_end : Placed
+goto_end = record { part = idle; next = placed.Goto 254 }
+
 -- what unused words hold: the statement of `.default`, or `goto` address 0x0FE where there is none
 abbrev pub placed_default : (ℕ → ℕ) → Option Statement → Placed
-placed_default address None = record { part = idle; next = placed.Goto 254 }
+placed_default address None = goto_end
 placed_default address (Some s) = placed_statement address 0 s
 
 -- the word decodes to the statement

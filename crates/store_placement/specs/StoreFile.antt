@@ -7,7 +7,7 @@ use Rattle.micro_word.specs.Canonical.{is_canonical}
 use Rattle.micro_word.specs.ControlStore.{ControlStore}
 use Rattle.store_placement.specs.declared.store_error.StoreError.{StoreError}
 use Rattle.store_placement.specs.declared.store_error.StoreError.TheVariants as errors
-use Rattle.store_placement.specs.First.{IsFirst}
+use Rattle.store_placement.specs.First.{Never, IsFirst}
 
 abbrev pub magic : Machine → List ℕ
 magic Mic1 = codes "MIC1"
@@ -46,3 +46,10 @@ RefusesFile bytes (errors.BadLength n) = (machine : Machine) × (machine_of byte
 RefusesFile bytes (errors.BadWord address) =
     (machine : Machine) × (machine_of bytes ≡ Some machine) × (length bytes ≡ 2564) × IsFirst (is_bad machine bytes) 512 address
 RefusesFile bytes errors.OutOfMemory = ⊥
+
+-- up to the address the words are those of the file, and canonical
+pub record IsReadFrom (bytes : List ℕ) (machine : Machine) (upto : ℕ) (s : ControlStore) : Type 0 where
+  pub machine_is : s.machine ≡ machine
+  pub full : length s.words ≡ 512
+  pub words : (address : ℕ) → address < upto → slice_index s.words address ≡ word_at bytes address
+  pub good : Never (is_bad machine bytes) upto

@@ -25,4 +25,4 @@ pub use chosen::place;
 pub use placement::Placement;
 pub use refusal::PlaceError;
 pub use store_error::StoreError;
-pub use store_file::{machine_of, store_bytes};
+pub use store_file::{machine_of, read_store, store_bytes};

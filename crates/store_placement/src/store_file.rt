@@ -5,8 +5,9 @@ ghost use Rattle.micro_word.specs.Canonical.{is_valid, is_canonical};
 ghost use Rattle.micro_word.specs.ControlStore.{ControlStore, IsStore};
 ghost use Rattle.store_placement.specs.declared.store_error.StoreError.{StoreError};
 ghost use Rattle.store_placement.specs.First.{IsFirst};
-ghost use Rattle.store_placement.specs.StoreFile.{magic, word_bytes, store_file, machine_of, number_at, word_at, is_bad, RefusesFile};
+ghost use Rattle.store_placement.specs.StoreFile.{magic, word_bytes, store_file, machine_of, number_at, word_at, is_bad, RefusesFile, IsReadFrom};
 
+use crate::filling::goto_end;
 use crate::store_error::StoreError;
 use micro_word::{Machine, Placed, Store, decode1, decode2, word_law};
 use std::alloc::{AllocError, Global};
@@ -79,5 +80,52 @@ fn decode(machine: Machine, word: u64) -> Option<Placed>
     match machine {
         Machine::Mic1 => decode1(word),
         Machine::Mic2 => decode2(word),
+    }
+}
+
+#[tactic(auto, unfolding(crate::specs::StoreFile::word_at))]
+fn word_at(bytes: &[u8], address: u16) -> u64
+    requires length { length bytes.now ≡ 2564 }
+    requires inside { address < 512 }
+    ensures { result ≡ word_at bytes.now address }
+{
+    number_at(bytes, 4 + 5 * address as usize)
+}
+
+/// The control store of these words, or the lowest address whose word is not canonical.
+fn read_words(machine: Machine, bytes: &[u8]) -> Result<Store, u16>
+    requires { length bytes.now ≡ 2564 }
+    ensures { MatchResult result (IsReadFrom bytes.now machine 512) (IsFirst (is_bad machine bytes.now) 512) }
+{
+    let mut store = Store::filled(machine, &goto_end());
+    for address in 0..512 {
+        match decode(machine, word_at(bytes, address)) {
+            Some(placed) => store.set(address, &placed),
+            None => return Err(address),
+        }
+    }
+    Ok(store)
+}
+
+/// The control store of a file. Every refusal but want of memory comes exactly where it is the first.
+pub fn read_store(alloc: Global, bytes: &[u8]) -> Result<Box<Store>, StoreError>
+    ensures ok { IfOk result (λ store. store_file store.value ≡ bytes.now) }
+    ensures back { (s : ControlStore) → IsStore s → bytes.now ≡ store_file s → MatchResult result (λ store. store.value ≡ s) (λ e. e ≡ StoreError.OutOfMemory) }
+    ensures refused { (e : StoreError) → RefusesFile bytes.now e → (result ≡ Err e) ⊎ (result ≡ Err StoreError.OutOfMemory) }
+    ensures cause { IfErr result (λ e. (e ≡ StoreError.OutOfMemory) ⊎ RefusesFile bytes.now e) }
+{
+    let Some(machine) = machine_of(bytes) else {
+        return Err(StoreError::BadMagic);
+    };
+    if bytes.len() != LENGTH {
+        return Err(StoreError::BadLength(bytes.len()));
+    }
+    let store = match read_words(machine, bytes) {
+        Ok(store) => store,
+        Err(address) => return Err(StoreError::BadWord(address)),
+    };
+    match Box::new(alloc, store) {
+        Ok(boxed) => Ok(boxed),
+        Err(_) => Err(StoreError::OutOfMemory),
     }
 }
