@@ -7,6 +7,7 @@ pub mod ClearPairs
 pub mod FillingLemmas
 pub mod ForcedBy
 pub mod ForcedLemmas
+pub mod ListedLemmas
 pub mod NoPlacement
 pub mod OneRefusal
 pub mod OpenPairs

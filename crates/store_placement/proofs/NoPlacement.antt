@@ -62,7 +62,7 @@ not_same_pair p q same h =
     let both : same_pair p q ≡ true = rw (eq-eqb p.yes q.yes (ap (λ (r : Pair). r.yes) same), eq-eqb p.no q.no (ap (λ (r : Pair). r.no) same)) refl in
     let wrong : true ≡ false = sym both ∙ h in cc
 
-no_clash : {d : Demands} {address : ℕ → ℕ} → AreWithin d.fixed d.pairs → IsPlacement d address → (s : ℕ) → clashes d.pairs s ≡ true → ⊥
+pub no_clash : {d : Demands} {address : ℕ → ℕ} → AreWithin d.fixed d.pairs → IsPlacement d address → (s : ℕ) → clashes d.pairs s ≡ true → ⊥
 unfolding clashes stands_twice
 no_clash {d} {address} within is s h = elim (either (stands_twice d.pairs s) (is_true_target d.pairs s && is_false_target d.pairs s) h) [
   | inl twice ↦

@@ -2,6 +2,7 @@ pub mod Chosen
 pub mod Demands
 pub mod First
 pub mod Forced
+pub mod Listed
 pub mod Placement
 pub mod Program
 pub mod Refusals
