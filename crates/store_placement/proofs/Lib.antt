@@ -4,6 +4,7 @@ pub mod Below
 pub mod ChosenPlacement
 pub mod Choice
 pub mod ClearPairs
+pub mod Different
 pub mod FillingLemmas
 pub mod ForcedBy
 pub mod ForcedLemmas

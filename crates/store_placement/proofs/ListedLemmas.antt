@@ -42,10 +42,10 @@ all_different : (others : List ℕ) → are_different others ≡ true → (s t :
 all_different others h s t in_s in_t same = elim (cases_lt s t) [
   | inl less ↦ absurd (different_at others h s t less in_t same)
   | inr more ↦ elim (cases_lt t s) [
-      | inl less ↦ absurd (different_at others h t s less in_s (sym same))
-      | inr equal ↦ omega arith
-      ]
+    | inl less ↦ absurd (different_at others h t s less in_s (sym same))
+    | inr equal ↦ omega arith
   ]
+]
 
 kept_is : (o : Option ℕ) (address a : ℕ) → is_kept o address ≡ true → o ≡ Some a → address ≡ a
 kept_is None address a h is = cc
@@ -55,9 +55,9 @@ pub listed_chosen : (d : Demands) (xs : List ℕ) → IsListed d xs → IsChosen
 listed_chosen d xs h =
     let count = h.count in
     let forced_at : (s a : ℕ) → s < length d.fixed → forced d.fixed d.pairs s ≡ Some a → slice_index xs s ≡ a = λ s a inside is.
-          kept_is (forced d.fixed d.pairs s) (slice_index xs s) a (all_of (λ t. is_kept (forced d.fixed d.pairs t) (slice_index xs t)) (below (length d.fixed)) s h.forced_kept (among_below (length d.fixed) s inside)) is in
+    kept_is (forced d.fixed d.pairs s) (slice_index xs s) a (all_of (λ t. is_kept (forced d.fixed d.pairs t) (slice_index xs t)) (below (length d.fixed)) s h.forced_kept (among_below (length d.fixed) s inside)) is in
     let pair_at : (p : Pair) → Among p d.pairs → slice_index xs p.yes ≡ slice_index xs p.no + 256 = λ p among.
-          eqb-true (slice_index xs p.yes) (slice_index xs p.no + 256) (all_of (λ q. eqb (slice_index xs q.yes) (slice_index xs q.no + 256)) d.pairs p h.pairs_kept among) in
+    eqb-true (slice_index xs p.yes) (slice_index xs p.no + 256) (all_of (λ q. eqb (slice_index xs q.yes) (slice_index xs q.no + 256)) d.pairs p h.pairs_kept among) in
     record {
       places = record {
         count = h.count;
@@ -65,15 +65,15 @@ listed_chosen d xs h =
           in_store = λ s inside. ltb-true (slice_index xs s) 512 (all_of (λ a. nat_lt a 512) xs (slice_index xs s) h.in_store (among_at xs s 0 (omega arith)));
           apart = λ s t in_s in_t same. all_different xs h.different s t (omega arith) (omega arith) same;
           keeps_fixed = λ s a is. forced_at s a (fixed_below d.fixed s a is) (forced_own d.fixed d.pairs s a is);
-          keeps_pairs = All-from_among (λ p. slice_index xs p.yes ≡ slice_index xs p.no + 256) d.pairs pair_at
-        }
+          keeps_pairs = All-from_among (λ p. slice_index xs p.yes ≡ slice_index xs p.no + 256) d.pairs pair_at;
+        };
       };
       chosen = record {
         keeps_forced = forced_at;
         lows = h.lows;
         highs = All-from_among (λ p. slice_index xs p.yes ≡ slice_index xs p.no + 256) (open_pairs d.fixed d.pairs) (λ p among. pair_at p (open_from d.fixed d.pairs p among).among);
-        rest = h.rest
-      }
+        rest = h.rest;
+      };
     }
 
 never_clash : {d : Demands} {address : ℕ → ℕ} → AreWithin d.fixed d.pairs → IsPlacement d address → Never (clashes d.pairs) (length d.fixed)
@@ -85,4 +85,4 @@ one_chosen d xs ys within by_xs by_ys =
     let count_xs = by_xs.places.count in
     let count_ys = by_ys.places.count in
     ext_get_or 0 xs ys (omega arith) (λ s less.
-      chosen_agree {d = d} {f = slice_index xs} {g = slice_index ys} (record { within = within; clear = never_clash within by_xs.places.places }) by_xs.chosen by_ys.chosen s (omega arith))
+    chosen_agree {d = d} {f = slice_index xs} {g = slice_index ys} (record { within = within; clear = never_clash within by_xs.places.places }) by_xs.chosen by_ys.chosen s (omega arith))

@@ -20,7 +20,7 @@ use Rattle.store_placement.proofs.Among.{true_left}
 
 -- the bytes from k on are five and the rest
 five_more : (bytes : List ℕ) (k : ℕ) → k + 5 ≤ length bytes →
-  drop k bytes ≡ slice_index bytes k ∷ (slice_index bytes (k + 1) ∷ (slice_index bytes (k + 2) ∷ (slice_index bytes (k + 3) ∷ (slice_index bytes (k + 4) ∷ drop (k + 5) bytes))))
+    drop k bytes ≡ slice_index bytes k ∷ (slice_index bytes (k + 1) ∷ (slice_index bytes (k + 2) ∷ (slice_index bytes (k + 3) ∷ (slice_index bytes (k + 4) ∷ drop (k + 5) bytes))))
 five_more bytes k h =
     let one = drop_more bytes k 0 (omega arith) in
     let two = drop_more bytes (k + 1) 0 (omega arith) in
@@ -31,7 +31,7 @@ five_more bytes k h =
 
 -- five bytes are those of their number
 bytes_again : (a b c d e : ℕ) → a < 256 → b < 256 → c < 256 → d < 256 → e < 256 →
-  word_bytes (a * 2 ^ 32 + b * 2 ^ 24 + c * 2 ^ 16 + d * 2 ^ 8 + e) ≡ a ∷ (b ∷ (c ∷ (d ∷ (e ∷ []))))
+    word_bytes (a * 2 ^ 32 + b * 2 ^ 24 + c * 2 ^ 16 + d * 2 ^ 8 + e) ≡ a ∷ (b ∷ (c ∷ (d ∷ (e ∷ []))))
 bytes_again a b c d e in_a in_b in_c in_d in_e =
     let n = a * 2 ^ 32 + b * 2 ^ 24 + c * 2 ^ 16 + d * 2 ^ 8 + e in
     let first : n / 2 ^ 32 % 256 ≡ a = omega arith in
@@ -48,8 +48,8 @@ rows (w ∷ words) bytes k size small are =
     let here : w ≡ number_at bytes k = are 0 (omega arith) ∙ ap (number_at bytes) start in
     let five = bytes_again (slice_index bytes k) (slice_index bytes (k + 1)) (slice_index bytes (k + 2)) (slice_index bytes (k + 3)) (slice_index bytes (k + 4)) (small k) (small (k + 1)) (small (k + 2)) (small (k + 3)) (small (k + 4)) in
     let rest : flat_map word_bytes words ≡ drop (k + 5) bytes = rows words bytes (k + 5) (omega arith) small (λ a less.
-          let place : k + 5 * suc a ≡ k + 5 + 5 * a = omega arith in
-          are (suc a) (omega arith) ∙ ap (number_at bytes) place) in
+    let place : k + 5 * suc a ≡ k + 5 + 5 * a = omega arith in
+    are (suc a) (omega arith) ∙ ap (number_at bytes) place) in
     ap (λ xs. xs ++ flat_map word_bytes words) (ap word_bytes here ∙ five)
     ∙ (ap (λ xs. slice_index bytes k ∷ (slice_index bytes (k + 1) ∷ (slice_index bytes (k + 2) ∷ (slice_index bytes (k + 3) ∷ (slice_index bytes (k + 4) ∷ xs))))) rest
     ∙ sym (five_more bytes k (omega arith)))
@@ -101,10 +101,10 @@ magic_is machine bytes h =
     elim (starts_with nat_eq bytes (magic Mic1)) as (λ b. starts_with nat_eq bytes (magic Mic1) ≡ b → cond b (Some Mic1) (cond (starts_with nat_eq bytes (magic Mic2)) (Some Mic2) None) ≡ Some machine → take 4 bytes ≡ magic machine) [
       | true ↦ λ e is. let same : Mic1 ≡ machine = cc in sym (same_text (magic Mic1) (take 4 bytes) (sym e)) ∙ ap magic same
       | false ↦ λ _. elim (starts_with nat_eq bytes (magic Mic2)) as (λ b. starts_with nat_eq bytes (magic Mic2) ≡ b → cond b (Some Mic2) None ≡ Some machine → take 4 bytes ≡ magic machine) [
-          | true ↦ λ e is. let same : Mic2 ≡ machine = cc in sym (same_text (magic Mic2) (take 4 bytes) (sym e)) ∙ ap magic same
-          | false ↦ λ e is. cc
-          ] refl
-      ] refl h
+        | true ↦ λ e is. let same : Mic2 ≡ machine = cc in sym (same_text (magic Mic2) (take 4 bytes) (sym e)) ∙ ap magic same
+        | false ↦ λ e is. cc
+      ] refl
+    ] refl h
 
 pub length-file : (s : ControlStore) → IsStore s → length (store_file s) ≡ 2564
 unfolding store_file
@@ -153,9 +153,9 @@ read_more bytes machine upto word s r inside is good same are h =
       machine_is = same ∙ h.machine_is;
       full = ap length are ∙ (length-set s.words upto word ∙ h.full);
       words = below_more (λ a. slice_index r.words a ≡ word_at bytes a) upto
-        (λ a less. let other : a ≢ upto = omega arith in ap (λ ws. slice_index ws a) are ∙ (get_or-set_other s.words upto a word 0 other ∙ h.words a less))
-        (ap (λ ws. slice_index ws upto) are ∙ (get_or-set_same s.words upto word 0 (omega arith) ∙ is));
-      good = below_more (λ a. is_bad machine bytes a ≡ false) upto h.good good
+          (λ a less. let other : a ≢ upto = omega arith in ap (λ ws. slice_index ws a) are ∙ (get_or-set_other s.words upto a word 0 other ∙ h.words a less))
+          (ap (λ ws. slice_index ws upto) are ∙ (get_or-set_same s.words upto word 0 (omega arith) ∙ is));
+      good = below_more (λ a. is_bad machine bytes a ≡ false) upto h.good good;
     }
 
 pub none_read : (bytes : List ℕ) (machine : Machine) (s : ControlStore) (word n : ℕ) → n ≡ 512 → s.machine ≡ machine → s.words ≡ replicate n word → IsReadFrom bytes machine 0 s
@@ -163,7 +163,7 @@ none_read bytes machine s word n size is are = record {
   machine_is = is;
   full = ap length are ∙ (length-replicate n word ∙ size);
   words = λ a less. absurd (omega arith);
-  good = λ a less. absurd (omega arith)
+  good = λ a less. absurd (omega arith);
 }
 
 -- a store's file has no bad word
@@ -186,6 +186,6 @@ one_store bytes machine s r is e small of read =
     let full = is.full in
     let full_too = read.full in
     let words : r.words ≡ s.words = ext_get_or 0 r.words s.words (omega arith) (λ a less.
-          read.words a (omega arith) ∙ (ap (λ xs. word_at xs a) e ∙ file_words s is (subst P e small) a (omega arith))) in
+    read.words a (omega arith) ∙ (ap (λ xs. word_at xs a) e ∙ file_words s is (subst P e small) a (omega arith))) in
     let made : Machine → List ℕ → ControlStore = λ m ws. record { machine = m; words = ws } in
     ap (λ m. made m r.words) (read.machine_is ∙ sym same) ∙ ap (made s.machine) words

@@ -22,6 +22,6 @@ pub record IsListed (d : Demands) (addresses : List ℕ) : Type 0 where
   pub forced_kept : list_all (λ s. is_kept (forced d.fixed d.pairs s) (slice_index addresses s)) (below (length d.fixed)) ≡ true
   pub pairs_kept : list_all (λ p. slice_index addresses p.yes == slice_index addresses p.no + 256) d.pairs ≡ true
   pub lows : let pairs = open_pairs d.fixed d.pairs in
-    map (λ p. slice_index addresses p.no) pairs ≡ take (length pairs) (free_lows (all_forced d.fixed d.pairs))
+      map (λ p. slice_index addresses p.no) pairs ≡ take (length pairs) (free_lows (all_forced d.fixed d.pairs))
   pub rest : let last = singles d.fixed d.pairs in
-    map (slice_index addresses) last ≡ take (length last) (free_addresses (before_singles d (slice_index addresses)))
+      map (slice_index addresses) last ≡ take (length last) (free_addresses (before_singles d (slice_index addresses)))

@@ -75,9 +75,9 @@ pub record Decodes (machine : Machine) (word : ℕ) (p : Placed) : Type 0 where
 -- each statement stands at its address, and what unused words hold at every other
 pub record IsFilled (program : Program) (addresses words : List ℕ) : Type 0 where
   pub statements : (s : ℕ) (t : Statement) → slice_get program.statements s ≡ Some t →
-    Decodes program.machine (slice_index words (slice_index addresses s)) (placed_statement (slice_index addresses) s t)
+      Decodes program.machine (slice_index words (slice_index addresses s)) (placed_statement (slice_index addresses) s t)
   pub others : (a : ℕ) → a < 512 → ((s : ℕ) → s < length program.statements → slice_index addresses s ≢ a) →
-    Decodes program.machine (slice_index words a) (placed_default (slice_index addresses) program.fallback)
+      Decodes program.machine (slice_index words a) (placed_default (slice_index addresses) program.fallback)
 
 -- s is the one statement at the address
 pub record IsOnlyAt (addresses : List ℕ) (address s : ℕ) : Type 0 where

@@ -85,7 +85,10 @@ pub fn fill(program: &MalProgram, placement: &Placement) -> Store
     let count = program.len();
     let mut store = Store::filled(program.machine(), &placed_default(program, placement));
     for s in 0..count {
-        store.set(placement.address(s), &placed_statement(program, placement, s));
+        store.set(
+            placement.address(s),
+            &placed_statement(program, placement, s),
+        );
     }
     store
 }
