@@ -9,7 +9,7 @@ ghost use Rattle.mic1_datapath.specs.Microstep.{target};
 ghost use Rattle.mic1_datapath.specs.Jam.{low_bits, high_bit, jammed};
 
 use mic1_alu::AluOut;
-use micro_word::layout::fields1;
+use micro_word::fields1;
 
 /// With JMPC the low bits are those of Addr OR MBR.
 fn low_part(addr: u16, jam: u8, mbr: u8) -> u16

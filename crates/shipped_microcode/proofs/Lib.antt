@@ -11,3 +11,6 @@ pub mod Instruction
 pub mod Whole
 pub mod Decoded
 pub mod Straights
+pub mod Built
+pub mod Boot
+pub mod Valid
