@@ -1,2 +1,4 @@
 pub mod Rows
 pub mod Checking
+pub mod Reaches
+pub mod Sounds

@@ -1,3 +1,4 @@
 pub mod Paths
 pub mod Facts
+pub mod Sound
 pub mod Search

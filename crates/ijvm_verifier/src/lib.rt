@@ -6,6 +6,8 @@ mod code;
 pub mod error;
 mod kept;
 pub mod kind;
+pub mod law;
 
 pub use error::VerifyError;
 pub use kind::Kind;
+pub use law::accepted_images_keep_sound;
