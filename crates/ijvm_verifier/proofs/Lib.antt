@@ -2,3 +2,4 @@ pub mod Rows
 pub mod Checking
 pub mod Reaches
 pub mod Sounds
+pub mod Keeping

@@ -7,6 +7,7 @@ pub mod error;
 mod kept;
 pub mod kind;
 pub mod law;
+mod search;
 
 pub use error::VerifyError;
 pub use kind::Kind;
