@@ -3,3 +3,5 @@ pub mod Checking
 pub mod Reaches
 pub mod Sounds
 pub mod Keeping
+pub mod Graphs
+pub mod Traces

@@ -4,10 +4,13 @@
 mod checks;
 mod code;
 pub mod error;
+mod graph;
 mod kept;
 pub mod kind;
 pub mod law;
+mod local_set;
 mod search;
+mod trace;
 
 pub use error::VerifyError;
 pub use kind::Kind;
