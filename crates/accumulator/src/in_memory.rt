@@ -32,7 +32,7 @@ pub fn run_in_memory(
     requires ended { bus.console.ended ≡ false }
     ensures run { NoFault None result.end → (rest : List ℕ) → Untaken (Some (source_left source.new)) result.bus.console.ended rest →
         (n : ℕ) × ShowsRun ⟦<Accumulator as Clocked>⟧.state (Some (source_left source.new)) (Some (sink_bytes sink.new)) result (turns meaning store.words (Some bound) n (start entry bus (source_left source.old) (sink_bytes sink.old)))
-            × ((turns meaning store.words (Some bound) n (start entry bus (source_left source.old) (sink_bytes sink.old))).world.untaken ≡ rest) }
+        × ((turns meaning store.words (Some bound) n (start entry bus (source_left source.old) (sink_bytes sink.old))).world.untaken ≡ rest) }
     ensures end { IsSome result.end }
 {
     let mut board = Board::new(Accumulator::new(), store, entry, 0, bus);

@@ -6,3 +6,6 @@ pub mod machine;
 
 pub use in_memory::run_in_memory;
 pub use machine::Accumulator;
+
+#[cfg(test)]
+mod tests;
