@@ -2,7 +2,6 @@ use Rattle.std.proofs.Common.{ap, ◌∙◌}
 use Rattle.micro_word.specs.Coding.{statement_of, shift_of}
 use Rattle.micro_word.specs.Operation.{shifted}
 use Rattle.micro_word.specs.declared.layout.Fields.{Fields}
-use Rattle.micro_word.specs.declared.statement.Shift.{Shift}
 use Rattle.mic1_datapath.proofs.operate.shift_by.Goals as goal
 
 pub returns : goal.returns
