@@ -1,10 +1,10 @@
-//! The instructions that do not need the console.
+//! The instructions that neither need the console nor end the run.
 
 ghost use Rattle.std.specs.Prelude.{◌≡◌, ◌==◌, ◌+◌, ◌<◌, ◌^◌, slice_get, IfOk, OnErr};
 ghost use Rattle.ijvm_definition.specs.Step.{Goes, moved, target, step, pushed, pushed_constant, loaded, stored, increased, popped, doubled, swapped, combined, way, branched, compared, called_at, returned};
 ghost use Rattle.ijvm_definition.specs.Image.{method_at};
 ghost use Rattle.micro_word.specs.Operation.{is_negative};
-ghost use Rattle.ijvm_definition.specs.Machine.{Leads, operate, NeedsNoConsole};
+ghost use Rattle.ijvm_definition.specs.Machine.{Leads, operate, IsComputed};
 
 use crate::instr::Instr;
 use crate::machine::Machine;
@@ -15,8 +15,6 @@ use std::alloc::AllocError;
 #[derive(Clone, Copy, Debug, PartialEq, Eq)]
 pub enum Effect {
     Went,
-    Halt,
-    Err,
     StackLimit,
     /// The machine lacks what the instruction needs.
     Stuck,
@@ -271,7 +269,7 @@ pub fn return_top(machine: &mut Machine) -> Result<Effect, AllocError>
 /// Does one instruction.
 pub fn compute(machine: &mut Machine, instr: Instr) -> Result<Effect, AllocError>
     requires at { machine.old.at + 4 < 2 ^ 32 }
-    requires no_console { NeedsNoConsole instr }
+    requires computed { IsComputed instr }
     ensures ok { IfOk result (λ e. Leads (step machine.old.image machine.old.stack_end instr) e machine.old machine.new) }
     ensures err { OnErr result (machine.new ≡ machine.old) }
 {
@@ -297,8 +295,6 @@ pub fn compute(machine: &mut Machine, instr: Instr) -> Result<Effect, AllocError
         Instr::Invokevirtual(k) => call(machine, k),
         Instr::WideIload(k) => load(machine, k, 4),
         Instr::WideIstore(k) => Ok(store(machine, k, 4)),
-        Instr::Err => Ok(Effect::Err),
-        Instr::Halt => Ok(Effect::Halt),
-        Instr::In | Instr::Out => unreachable!(),
+        Instr::In | Instr::Out | Instr::Err | Instr::Halt => unreachable!(),
     }
 }

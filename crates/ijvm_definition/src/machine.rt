@@ -89,7 +89,8 @@ impl Machine {
 
     /// The whole instruction at the address.
     pub fn next(&self) -> Option<Instr>
-        ensures { result ≡ instr_at self.now.image.text self.now.at }
+        ensures is { result ≡ instr_at self.now.image.text self.now.at }
+        ensures inside { IfSome result (λ _. self.now.at < 65536) }
     {
         decode_at(self.image.text(), self.at)
     }
