@@ -1,5 +1,5 @@
 -- The plain machine: frames over an image. The console's bytes are not in it.
-use Rattle.std.specs.Prelude.{◌≡◌, ◌≤◌, ◌<◌, ℕ, ◌&&◌, Bool, true, false, nat_lt, List, [], ◌∷◌, length, take, drop, ◌+◌, ◌-◌, slice_set, Option, Some, None, bit_and, bit_or}
+use Rattle.std.specs.Prelude.{◌≡◌, ◌≤◌, ◌<◌, ℕ, ◌&&◌, Bool, true, false, nat_lt, List, [], ◌∷◌, length, replicate, take, drop, ◌+◌, ◌-◌, slice_set, Option, Some, None, bit_and, bit_or}
 use Rattle.ijvm_definition.specs.declared.instr.Instr.{Instr}
 use Rattle.ijvm_definition.specs.declared.instr.Instr.TheVariants.{In, Out, Err, Halt}
 use Rattle.ijvm_definition.specs.declared.method.Method.{Method}
@@ -24,11 +24,27 @@ pub record MachineView : Type 0 where
 abbrev pub state_of : MachineView → List ℕ → List ℕ → State
 state_of m untaken given = record { running = m.running; callers = m.callers; at = m.at; untaken = untaken; given = given }
 
+-- the start of a run, with so many locals of main
+abbrev pub started : ImageView → ℕ → ℕ → MachineView
+started image stack_end main_locals =
+    record {
+      image = image;
+      stack_end = stack_end;
+      running = record { locals = replicate main_locals (Some 0); operands = []; back = None };
+      callers = [];
+      at = 0;
+    }
+
 -- where the frames lie: the running one begins at this word address, and all end before the stack's end
 pub record ArePlaced (stack_end lv : ℕ) (running : Frame) (callers : List Frame) : Type 0 where
   pub begins : lv ≡ base callers
   pub fits : base (running ∷ callers) ≤ stack_end
   pub word : IsWord stack_end
+
+-- the same image, and the same end of the stack
+pub record KeepsProgram (old new : MachineView) : Type 0 where
+  pub image : new.image ≡ old.image
+  pub stack_end : new.stack_end ≡ old.stack_end
 
 -- the machine in a method that is called with the last operands
 abbrev pub in_call : MachineView → Method → MachineView

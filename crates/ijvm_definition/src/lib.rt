@@ -19,7 +19,7 @@ pub mod writer;
 
 pub use decode::{decode_at, decode_instr};
 pub use encode::encode_instr;
-pub use frames::{StepEnd, StepError};
+pub use frames::{Frames, StepEnd, StepError};
 pub use image::{Image, ImageError};
 pub use instr::Instr;
 pub use method::Method;

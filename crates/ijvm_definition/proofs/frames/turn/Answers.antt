@@ -14,13 +14,18 @@ returns-in-Ok-write_out-clause-ok g c = λ rest u.
     let old : MachineView = c.args.machine.now in
     let new : MachineView = c.write_out.new.machine in
     let led = c.in-Ok-write_out.ensures.ok (g.S.Source.left c.args.source.now) rest u in
-    let found : instr_at old.image.text old.at ≡ Some Out = sym c.next.ensures.is ∙ c.in-Some.is ∙ ap some c.in-Out.is in
-    (led.0, led.1, λ given h.
-        let next = led.2 given h in
-        let outcome_is = outcome-at old Out led.0 given found ∙ next.2 in
-        (next.0, next.1,
+    let found : instr_at old.image.text old.at ≡ Some Out = sym c.next.ensures.is ∙ c.in-Some.is ∙ ap some c.in-Out.is in (
+      led.0,
+      led.1,
+      λ given h.
+          let next = led.2 given h in
+          let outcome_is = outcome-at old Out led.0 given found ∙ next.2 in (
+            next.0,
+            next.1,
             subst (λ (end : Option StepEnd). Turns end old new led.0 given rest next.0) (sym c.end_of-in-Ok-write_out.ensures)
-            (effect-turns c.in-Ok-write_out.effect old new led.0 given rest next.0 outcome_is)))
+                (effect-turns c.in-Ok-write_out.effect old new led.0 given rest next.0 outcome_is),
+          ),
+    )
   where
     some : Instr → Option Instr
     some i = Some i
