@@ -2,18 +2,21 @@
 
 ghost use Rattle.std.specs.Prelude.{◌≡◌, ◌+◌, ◌≤◌, [], ◌∷◌, ℕ, List, IfOk, IfErr, OnErr};
 ghost use Rattle.mic_base.specs.Streams.{Holds};
+ghost use Rattle.ijvm_definition.specs.Cost.{next_cost};
 ghost use Rattle.ijvm_definition.specs.Frames.{base, top_of};
 ghost use Rattle.ijvm_definition.specs.Safe.{NeverStuck, IsSafe};
 ghost use Rattle.ijvm_definition.specs.Machine.{MachineView, KeepsProgram, state_of, started};
 ghost use Rattle.ijvm_definition.specs.Steps.{IsLedOn, end_of, Does, Turns, IsCutOff, HasStepCause};
 
 use crate::compute::{Effect, compute};
+use crate::cost::cost_of;
 use crate::image::Image;
 use crate::instr::Instr;
 use crate::machine::PlainMachine;
 use crate::port::{read_in, write_out};
 use console_port::{Console, MemoryMap};
 use mic_base::{Sink, Source};
+use micro_word::Machine;
 use std::alloc::{AllocError, Global};
 use std::marker::Model;
 use thiserror::Error;
@@ -172,5 +175,12 @@ impl Frames {
         ensures { result ≡ top_of self.now.running.operands }
     {
         self.machine.top()
+    }
+
+    /// The cycles of the next instruction.
+    pub fn cost(&self, machine: Machine) -> u64
+        ensures { result ≡ next_cost self.now.image machine (state_of self.now [] []) }
+    {
+        cost_of(&self.machine, machine)
     }
 }

@@ -2,6 +2,7 @@
 #![tactic(auto)]
 
 mod compute;
+mod cost;
 pub mod decode;
 pub mod encode;
 mod frame;
