@@ -1,24 +1,24 @@
 -- What the steps of placing leave is the chosen placement, and there is only one.
-use Rattle.std.proofs.Common.{◌≡◌, ◌≢◌, ℕ, ◌+◌, ◌-◌, ◌<◌, ◌≤◌, Bool, true, false, cond, not, ◌&&◌, ◌||◌, ◌⊎◌, List, [], ◌∷◌, Option, Some, None, length, map, take, get_or, eqb, refl, sym, ap, subst, ◌∙◌, inl, inr, arith}
+use Rattle.std.proofs.Common.{◌≡◌, ℕ, ◌+◌, ◌<◌, ◌≤◌, Bool, true, false, cond, not, ◌&&◌, List, [], ◌∷◌, Option, Some, None, length, map, take, get_or, eqb, refl, sym, ap, subst, ◌∙◌, inl, inr, arith}
 use Rattle.std.specs.Prelude.{is_none}
 use Rattle.std.specs.Option.{option_or}
 use Rattle.std.specs.List.{list_any, All, filter, count_by}
 use Rattle.std.proofs.lemmas.Bool.{eq-eqb}
 use Rattle.std.proofs.lemmas.List.FromFn.{get_or-map-range_with_len, fill_by_all}
 use Rattle.store_placement.specs.declared.pair.Pair.{Pair}
-use Rattle.store_placement.specs.Demands.{Demands, AreWithin, IsOfStatements, fixed_at}
+use Rattle.store_placement.specs.Demands.{Demands, AreWithin, fixed_at}
 use Rattle.store_placement.specs.First.{below, Never, NeverTwo}
 use Rattle.store_placement.specs.Forced.{forced, all_forced}
 use Rattle.store_placement.specs.Refusals.{stands_in, clashes, in_wrong_half, collide}
 use Rattle.store_placement.specs.Chosen.{is_free_low, free_lows, free_addresses, open_pairs, is_single, singles, before_singles, IsChosen, IsChosenList}
 use Rattle.store_placement.specs.Steps.{pair_address, with_pairs, filled}
-use Rattle.store_placement.proofs.Among.{Among, All-among, All-from_among, any_at, any_none, none_of, left_or, right_or, among-below, among_below, among-filter, among_filter}
+use Rattle.store_placement.proofs.Among.{Among, All-among, All-from_among, none_of, left_or, right_or, among-below, among_below, among-filter, among_filter}
 use Rattle.store_placement.proofs.Below.{length-map_below}
 use Rattle.store_placement.proofs.ForcedLemmas.{length-all_forced, at_all_forced}
-use Rattle.store_placement.proofs.ClearPairs.{AreClear, of_statements, stands_cases, stands_yes, stands_no, one_role}
-use Rattle.store_placement.proofs.ForcedBy.{own_none, forced_none}
+use Rattle.store_placement.proofs.ClearPairs.{AreClear, of_statements, stands_yes, stands_no, one_role}
+use Rattle.store_placement.proofs.ForcedBy.{forced_none}
 use Rattle.store_placement.proofs.OpenPairs.{IsOpen, Apart-open, open_from, open_unforced}
-use Rattle.store_placement.proofs.ChosenPlacement.{AreApart, chosen_places, IsPlacedBy, ByForce, ByLow, ByHigh, placed_by}
+use Rattle.store_placement.proofs.ChosenPlacement.{AreApart, chosen_places, ByForce, ByLow, ByHigh, placed_by}
 use Rattle.store_placement.proofs.StepsLemmas.{at_low, pair_places, pair_misses, nones, nones-count, length-filled, filled_kept, rest_taken, free_enough}
 
 map_same : {X Y : Type 0} (f g : X → Y) (xs : List X) → ((x : X) → Among x xs → f x ≡ g x) → map f xs ≡ map g xs

@@ -1,21 +1,21 @@
 -- The chosen placement is a placement, where nothing is refused.
-use Rattle.std.proofs.Common.{◌≡◌, ◌≢◌, ℕ, ◌+◌, ◌-◌, ◌<◌, ◌≤◌, Bool, true, false, cond, not, ◌&&◌, ◌||◌, ◌⊎◌, List, [], ◌∷◌, Option, Some, None, length, map, take, eqb, ltb, refl, sym, ap, subst, ◌∙◌, inl, inr, arith}
+use Rattle.std.proofs.Common.{◌≡◌, ◌≢◌, ℕ, ◌+◌, ◌-◌, ◌<◌, Bool, true, false, cond, not, ◌&&◌, List, Option, Some, None, length, map, eqb, refl, sym, ap, subst, ◌∙◌, inl, inr, arith}
 use Rattle.std.specs.Prelude.{is_none}
-use Rattle.std.specs.List.{list_any, All, filter}
-use Rattle.std.proofs.lemmas.Bool.{eqb-true, eqb-false, eq-eqb, cases_lt, cases_eq}
+use Rattle.std.specs.List.{list_any, filter}
+use Rattle.std.proofs.lemmas.Bool.{eqb-true, eq-eqb, cases_lt, cases_eq}
 use Rattle.std.proofs.lemmas.List.{get_or_past}
 use Rattle.store_placement.specs.declared.pair.Pair.{Pair}
-use Rattle.store_placement.specs.Demands.{Demands, AreWithin, IsOfStatements, fixed_at}
+use Rattle.store_placement.specs.Demands.{Demands, fixed_at}
 use Rattle.store_placement.specs.First.{below, NeverTwo}
 use Rattle.store_placement.specs.Forced.{forced, all_forced, same_address}
 use Rattle.store_placement.specs.Refusals.{stands_in, is_pair_of, are_split, split_apart, collide}
 use Rattle.store_placement.specs.Chosen.{is_taken, is_free, is_free_low, free_lows, free_addresses, open_pairs, is_single, singles, before_singles, IsChosen}
 use Rattle.store_placement.specs.Placement.{IsPlacement}
-use Rattle.store_placement.proofs.Among.{Among, All-among, All-from_among, any_at, from_any, none_of, true_left, true_right, right_false, left_or, right_or, neither_left, neither_right, among-map, among_map, among-take, among-filter, among_filter, among-below, among_below}
+use Rattle.store_placement.proofs.Among.{Among, All-among, All-from_among, any_at, from_any, none_of, true_left, true_right, right_false, right_or, neither_left, neither_right, among_map, among-take, among-filter, among_filter, among-below, among_below}
 use Rattle.store_placement.proofs.Apart.{Apart, Apart-below, Apart-weaker, Apart-filter, Apart-take, same_from_map}
-use Rattle.store_placement.proofs.ClearPairs.{AreClear, AreHalved, of_statements, stands_cases, stands_yes, stands_no, one_role, fixed_high, fixed_low}
+use Rattle.store_placement.proofs.ClearPairs.{AreClear, AreHalved, of_statements, stands_cases, one_role, fixed_high, fixed_low}
 use Rattle.store_placement.proofs.ForcedBy.{IsForcedBy, Own, Above, Under, forced_cases, forced_own, own_none, forced_above, forced_under, partner_none}
-use Rattle.store_placement.proofs.OpenPairs.{IsOpen, open_from, among_open}
+use Rattle.store_placement.proofs.OpenPairs.{among_open}
 
 -- nothing is refused before the remaining pairs are counted
 pub record AreApart (fixed : List (Option ℕ)) (pairs : List Pair) : Type 0 where

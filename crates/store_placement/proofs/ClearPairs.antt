@@ -1,11 +1,10 @@
 -- What holds where no statement stands in two pairs or in both roles, none is fixed in the wrong half, and no two collide.
-use Rattle.std.proofs.Common.{◌≡◌, ℕ, ◌+◌, ◌-◌, ◌<◌, ◌≤◌, Bool, true, false, cond, not, ◌&&◌, ◌||◌, ◌⊎◌, List, [], ◌∷◌, Option, Some, None, length, eqb, ltb, refl, sym, ap, subst, ◌∙◌, inl, inr, arith}
-use Rattle.std.specs.List.{list_any}
+use Rattle.std.proofs.Common.{◌≡◌, ℕ, ◌<◌, ◌≤◌, Bool, true, false, cond, not, ◌&&◌, ◌⊎◌, List, Option, Some, length, eqb, refl, sym, ap, ◌∙◌, inl, inr, arith}
 use Rattle.std.proofs.lemmas.Bool.{eqb-true, eq-eqb, cases_lt, lt-ltb, le-ltb}
 use Rattle.store_placement.specs.declared.pair.Pair.{Pair}
 use Rattle.store_placement.specs.Demands.{AreWithin, IsOfStatements, fixed_at, same_pair}
-use Rattle.store_placement.specs.First.{Never, NeverTwo}
-use Rattle.store_placement.specs.Refusals.{stands_in, stands_beside, stands_twice, clashes, in_wrong_half, is_wrong, is_true_target, is_false_target, is_pair_of, are_split, split_apart, collide}
+use Rattle.store_placement.specs.First.{Never}
+use Rattle.store_placement.specs.Refusals.{stands_in, stands_beside, stands_twice, clashes, in_wrong_half, is_wrong, is_true_target, is_false_target}
 use Rattle.store_placement.proofs.Among.{Among, All-among, any_at, none_of, true_left, true_right, both_true, right_false, either, left_or, right_or, neither_left, neither_right}
 
 -- the pairs are of statements, and no statement clashes

@@ -1,23 +1,20 @@
 -- A program's statements at a placement have words, and a store is filled with them one by one.
-use Rattle.std.proofs.Common.{◌≡◌, ◌≢◌, ℕ, ◌+◌, ◌<◌, ◌≤◌, Bool, true, false, ◌&&◌, ◌⊎◌, List, [], ◌∷◌, ◌++◌, Option, Some, None, length, map, take, get_or, set, replicate, zero, suc, refl, sym, ap, subst, ◌∙◌, inl, inr, arith}
+use Rattle.std.proofs.Common.{◌≡◌, ◌≢◌, ℕ, ◌+◌, ◌<◌, true, List, [], ◌∷◌, ◌++◌, Option, Some, None, length, set, replicate, zero, suc, refl, sym, ap, subst, ◌∙◌, inl, inr, arith}
 use Rattle.std.specs.Prelude.{slice_get, slice_index, option_and_then, IsTrue}
-use Rattle.std.specs.List.{filter_map, All}
+use Rattle.std.specs.List.{filter_map}
 use Rattle.std.specs.Option.{option_to_list}
 use Rattle.std.proofs.lemmas.Bool.{lt-ltb, cases_eq}
 use Rattle.std.proofs.lemmas.List.{length-map, length-set, length-replicate, get_or-replicate, get_or-set_same, get_or-set_other}
 use Rattle.std.proofs.lemmas.Option.{slice_get_within, get_or_from_slice_get}
-use Rattle.micro_word.specs.declared.statement.Machine.{Machine}
-use Rattle.micro_word.specs.declared.statement.Placed.{Placed}
-use Rattle.micro_word.specs.declared.statement.Part.{Part}
 use Rattle.micro_word.specs.Coding.{word_of}
 use Rattle.micro_word.specs.Canonical.{is_valid, is_part, is_next}
 use Rattle.mal_parser.specs.declared.statement.Statement.{Statement}
 use Rattle.mal_parser.specs.declared.statement.MalNext.{MalNext}
 use Rattle.mal_parser.specs.declared.statement.MalNext.TheVariants as nexts
-use Rattle.mal_parser.specs.Program.{Program, IsProgram, IsStatement, IsFallback, HasTargets}
+use Rattle.mal_parser.specs.Program.{Program, IsProgram, HasTargets}
 use Rattle.store_placement.specs.declared.pair.Pair.{Pair}
-use Rattle.store_placement.specs.Placement.{IsPlacement, Places}
-use Rattle.store_placement.specs.Program.{demands_of, pair_of, statement_pair, placed_next, LeadsInside, placed_statement, placed_default, Decodes, IsFilled}
+use Rattle.store_placement.specs.Placement.{Places}
+use Rattle.store_placement.specs.Program.{demands_of, pair_of, statement_pair, placed_next, LeadsInside, placed_statement, placed_default, IsFilled}
 use Rattle.store_placement.proofs.Among.{Among, All-among, among_at, among_filter_map, both_true}
 use Rattle.store_placement.proofs.ProgramLemmas.{labelled_below, fallback_is}
 

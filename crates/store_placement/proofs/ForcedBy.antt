@@ -1,13 +1,13 @@
 -- What forces a statement to its address.
-use Rattle.std.proofs.Common.{◌≡◌, ℕ, ◌+◌, ◌-◌, ◌<◌, ◌≤◌, Bool, true, false, cond, ◌⊎◌, List, [], ◌∷◌, Option, Some, None, length, eqb, refl, sym, ap, subst, ◌∙◌, inl, inr, arith}
+use Rattle.std.proofs.Common.{◌≡◌, ℕ, ◌+◌, ◌-◌, true, false, cond, ◌⊎◌, List, [], ◌∷◌, Option, Some, None, eqb, refl, sym, ap, ◌∙◌, inl, inr}
 use Rattle.std.specs.Option.{option_or, option_map}
-use Rattle.std.proofs.lemmas.Bool.{eqb-true, eq-eqb, ne_eqb, cases_eq}
+use Rattle.std.proofs.lemmas.Bool.{eqb-true, eq-eqb, ne_eqb}
 use Rattle.store_placement.specs.declared.pair.Pair.{Pair}
 use Rattle.store_placement.specs.Demands.{fixed_at}
 use Rattle.store_placement.specs.Refusals.{stands_in}
 use Rattle.store_placement.specs.Forced.{given_by, given, forced}
 use Rattle.store_placement.proofs.Among.{Among, left_or, right_or}
-use Rattle.store_placement.proofs.ClearPairs.{AreClear, stands_cases, stands_yes, stands_no, one_pair, one_role}
+use Rattle.store_placement.proofs.ClearPairs.{AreClear, stands_cases, one_pair, one_role}
 
 -- its own address, or one 256 above or below its partner's
 pub data IsForcedBy (fixed : List (Option ℕ)) (pairs : List Pair) (s a : ℕ) : Type 0 where

@@ -1,16 +1,16 @@
 -- A list that computing tells to be the chosen placement is it, and no other list is.
-use Rattle.std.proofs.Common.{◌≡◌, ◌≢◌, ℕ, ◌+◌, ◌<◌, ◌≤◌, Bool, true, false, not, ◌&&◌, ◌⊎◌, List, [], ◌∷◌, Option, Some, None, length, map, take, get_or, zero, suc, eqb, refl, sym, ap, subst, ◌∙◌, inl, inr, arith}
+use Rattle.std.proofs.Common.{◌≡◌, ◌≢◌, ℕ, ◌+◌, ◌<◌, Bool, true, false, not, List, [], ◌∷◌, Option, Some, None, length, zero, suc, eqb, refl, sym, ap, ◌∙◌, inl, inr, arith}
 use Rattle.std.specs.Prelude.{slice_index, nat_lt}
-use Rattle.std.specs.List.{list_any, list_all, All}
+use Rattle.std.specs.List.{list_any, list_all}
 use Rattle.std.proofs.lemmas.Bool.{eqb-true, eq-eqb, ltb-true, cases_lt}
 use Rattle.std.proofs.lemmas.List.{ext_get_or}
 use Rattle.store_placement.specs.declared.pair.Pair.{Pair}
-use Rattle.store_placement.specs.Demands.{Demands, AreWithin, fixed_at}
+use Rattle.store_placement.specs.Demands.{Demands, AreWithin}
 use Rattle.store_placement.specs.First.{below, Never}
 use Rattle.store_placement.specs.Forced.{forced}
 use Rattle.store_placement.specs.Refusals.{clashes}
-use Rattle.store_placement.specs.Placement.{IsPlacement, Places}
-use Rattle.store_placement.specs.Chosen.{open_pairs, IsChosen, IsChosenList}
+use Rattle.store_placement.specs.Placement.{IsPlacement}
+use Rattle.store_placement.specs.Chosen.{open_pairs, IsChosenList}
 use Rattle.store_placement.specs.Listed.{are_different, is_kept, IsListed}
 use Rattle.store_placement.proofs.Among.{Among, All-from_among, among_at, among_below, true_left, true_right, none_of}
 use Rattle.store_placement.proofs.ForcedBy.{forced_own}

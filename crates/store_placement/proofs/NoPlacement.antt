@@ -1,21 +1,20 @@
 -- Where constraints are refused, there is no placement.
-use Rattle.std.proofs.Common.{◌≡◌, ◌≢◌, ℕ, ◌+◌, ◌-◌, ◌<◌, ◌≤◌, Bool, true, false, cond, not, ◌&&◌, ◌||◌, ◌⊎◌, List, [], ◌∷◌, Option, Some, None, length, map, eqb, ltb, refl, sym, ap, subst, ◌∙◌, inl, inr, arith}
-use Rattle.std.specs.List.{list_any}
+use Rattle.std.proofs.Common.{◌≡◌, ◌≢◌, ℕ, ◌+◌, ◌<◌, ◌≤◌, Bool, true, false, cond, not, ◌&&◌, List, Option, Some, None, length, map, eqb, ltb, refl, sym, ap, subst, ◌∙◌, inl, inr, arith}
 use Rattle.std.proofs.lemmas.Bool.{eqb-true, eqb-false, eq-eqb, ltb-true, ltb-false, false_from_ne_true}
 use Rattle.std.proofs.lemmas.List.{length-map}
 use Rattle.store_placement.specs.declared.pair.Pair.{Pair}
 use Rattle.store_placement.specs.declared.refusal.PlaceError.{PlaceError}
 use Rattle.store_placement.specs.declared.refusal.PlaceError.TheVariants as errors
-use Rattle.store_placement.specs.Demands.{Demands, AreWithin, IsOfStatements, fixed_at, same_pair}
-use Rattle.store_placement.specs.First.{below, IsFirst, IsFirstWith, IsFirstTwo}
+use Rattle.store_placement.specs.Demands.{Demands, AreWithin, fixed_at, same_pair}
+use Rattle.store_placement.specs.First.{below}
 use Rattle.store_placement.specs.Forced.{forced, all_forced, same_address}
 use Rattle.store_placement.specs.Refusals.{stands_in, stands_beside, stands_twice, clashes, in_wrong_half, is_wrong, is_true_target, is_false_target, is_pair_of, are_split, split_apart, collide, Refuses}
 use Rattle.store_placement.specs.Chosen.{is_taken, is_free_low, free_lows, open_pairs}
 use Rattle.store_placement.specs.Placement.{IsPlacement, HasPlacement}
-use Rattle.store_placement.proofs.Among.{Among, All-among, from_any, any_none, true_left, true_right, either, among-map, among-below, among_below, among_filter}
+use Rattle.store_placement.proofs.Among.{Among, All-among, from_any, true_left, true_right, either, among-map, among-below, among_below, among_filter}
 use Rattle.store_placement.proofs.Apart.{Apart, Apart-map, length-le_from_among}
 use Rattle.store_placement.proofs.ClearPairs.{AreClear, of_statements, stands_cases, stands_yes, stands_no, pair_is}
-use Rattle.store_placement.proofs.ForcedBy.{IsForcedBy, Own, Above, Under, forced_cases}
+use Rattle.store_placement.proofs.ForcedBy.{Own, Above, Under, forced_cases}
 use Rattle.store_placement.proofs.OpenPairs.{IsOpen, AreDisjoint, Apart-open, open_from, open_unforced}
 
 -- what a pair says of its targets' addresses

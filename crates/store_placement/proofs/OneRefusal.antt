@@ -1,10 +1,10 @@
 -- Constraints have one refusal at most.
-use Rattle.std.proofs.Common.{◌≡◌, ℕ, ◌+◌, ◌<◌, ◌≤◌, Bool, true, false, length, refl, sym, ap, ◌∙◌, inl, inr, arith}
+use Rattle.std.proofs.Common.{◌≡◌, ℕ, Bool, true, false, refl, sym, ap, ◌∙◌, inl, inr, arith}
 use Rattle.std.proofs.lemmas.Bool.{cases_lt}
 use Rattle.store_placement.specs.declared.refusal.PlaceError.{PlaceError}
 use Rattle.store_placement.specs.declared.refusal.PlaceError.TheVariants as errors
 use Rattle.store_placement.specs.Demands.{Demands}
-use Rattle.store_placement.specs.First.{Never, IsFirst, NeverWith, IsFirstWith, NeverTwo, IsFirstTwo}
+use Rattle.store_placement.specs.First.{Never, IsFirst, NeverTwo, IsFirstTwo}
 use Rattle.store_placement.specs.Refusals.{Refuses}
 
 contradict : (b : Bool) {X : Type 0} → b ≡ true → b ≡ false → X

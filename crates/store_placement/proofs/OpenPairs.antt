@@ -1,16 +1,15 @@
 -- The pairs that no fixed statement places.
-use Rattle.std.proofs.Common.{◌≡◌, ◌≢◌, ℕ, ◌+◌, ◌<◌, ◌≤◌, min, Bool, true, false, cond, ◌&&◌, ◌⊎◌, List, [], ◌∷◌, Option, Some, None, length, map, eqb, refl, sym, ap, subst, ◌∙◌, inl, inr, arith}
+use Rattle.std.proofs.Common.{◌≡◌, ◌≢◌, ℕ, ◌<◌, min, true, ◌&&◌, List, Option, Some, None, length, eqb, refl, sym, ap, ◌∙◌, inl, inr, arith}
 use Rattle.std.specs.Prelude.{is_none}
-use Rattle.std.specs.List.{filter_map, find}
 use Rattle.std.proofs.lemmas.Bool.{eqb-true, eq-eqb, cases_lt}
 use Rattle.store_placement.specs.declared.pair.Pair.{Pair}
-use Rattle.store_placement.specs.Demands.{AreWithin, IsOfStatements, fixed_at}
+use Rattle.store_placement.specs.Demands.{fixed_at}
 use Rattle.store_placement.specs.First.{below}
 use Rattle.store_placement.specs.Refusals.{stands_in}
 use Rattle.store_placement.specs.Forced.{forced}
 use Rattle.store_placement.specs.Chosen.{is_opened_by, opened_by, open_pairs}
-use Rattle.store_placement.proofs.Among.{Among, true_left, true_right, both_true, left_or, right_or, among-filter_map, among_filter_map, among-below, among_below, found, find_some}
-use Rattle.store_placement.proofs.Apart.{Apart, Apart-below, Apart-filter_map, Apart-weaker}
+use Rattle.store_placement.proofs.Among.{Among, true_left, true_right, left_or, right_or, among-filter_map, among_filter_map, among_below, found, find_some}
+use Rattle.store_placement.proofs.Apart.{Apart, Apart-below, Apart-filter_map}
 use Rattle.store_placement.proofs.ClearPairs.{AreClear, of_statements, stands_cases, stands_yes, stands_no, one_pair, one_role}
 use Rattle.store_placement.proofs.ForcedBy.{forced_none}
 

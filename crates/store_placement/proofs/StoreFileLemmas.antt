@@ -1,5 +1,5 @@
 -- Store files and the words that they hold.
-use Rattle.std.proofs.Common.{◌≡◌, ◌≢◌, ℕ, ◌+◌, ◌*◌, ◌/◌, ◌%◌, ◌^◌, ◌<◌, ◌≤◌, Bool, true, false, cond, not, ◌&&◌, ◌⊎◌, List, [], ◌∷◌, ◌++◌, Option, Some, None, length, map, take, drop, get_or, set, replicate, zero, suc, refl, sym, ap, subst, ◌∙◌, inl, inr, arith}
+use Rattle.std.proofs.Common.{◌≡◌, ◌≢◌, ℕ, ◌+◌, ◌*◌, ◌/◌, ◌%◌, ◌^◌, ◌<◌, ◌≤◌, true, false, cond, not, List, [], ◌∷◌, ◌++◌, Some, None, length, map, take, drop, set, replicate, suc, refl, sym, ap, subst, ◌∙◌, arith}
 use Rattle.std.specs.Prelude.{slice_index, IsTrue, nat_eq}
 use Rattle.std.specs.List.{flat_map, starts_with, range_with_len}
 use Rattle.std.proofs.lemmas.Bool.{ltb-true}
@@ -9,13 +9,10 @@ use Rattle.std.specs.Cmp.Lexicographic.{same_text}
 use Rattle.std.proofs.lemmas.List.FromFn.{length-map-range_with_len, get_or-map-range_with_len}
 use Rattle.micro_word.specs.declared.statement.Machine.{Machine}
 use Rattle.micro_word.specs.declared.statement.Machine.TheVariants.{Mic1, Mic2}
-use Rattle.micro_word.specs.Canonical.{is_canonical, are_canonical, word_end}
-use Rattle.micro_word.specs.Layout.{fields_of}
+use Rattle.micro_word.specs.Canonical.{is_canonical}
 use Rattle.micro_word.specs.ControlStore.{ControlStore, IsStore}
-use Rattle.store_placement.specs.declared.store_error.StoreError.{StoreError}
-use Rattle.store_placement.specs.declared.store_error.StoreError.TheVariants as errors
-use Rattle.store_placement.specs.First.{Never, IsFirst}
-use Rattle.store_placement.specs.StoreFile.{magic, word_bytes, store_file, machine_of, number_at, word_at, is_bad, RefusesFile, IsReadFrom}
+use Rattle.store_placement.specs.First.{IsFirst}
+use Rattle.store_placement.specs.StoreFile.{magic, word_bytes, store_file, machine_of, number_at, word_at, is_bad, IsReadFrom}
 use Rattle.store_placement.proofs.Among.{true_left}
 
 -- the bytes from k on are five and the rest

@@ -1,5 +1,5 @@
 -- A list of addresses that can be told to be the chosen placement by computing.
-use Rattle.std.specs.Prelude.{◌≡◌, ◌<◌, ℕ, ◌+◌, ◌==◌, Bool, true, not, ◌&&◌, List, [], ◌∷◌, Option, Some, None, length, map, take, slice_index, nat_lt}
+use Rattle.std.specs.Prelude.{◌≡◌, ℕ, ◌+◌, ◌==◌, Bool, true, not, ◌&&◌, List, [], ◌∷◌, Option, Some, None, length, map, take, slice_index, nat_lt}
 use Rattle.std.specs.List.{list_any, list_all}
 use Rattle.store_placement.specs.Demands.{Demands}
 use Rattle.store_placement.specs.First.{below}

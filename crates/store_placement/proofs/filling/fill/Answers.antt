@@ -1,10 +1,10 @@
-use Rattle.std.proofs.Common.{◌≡◌, ◌∙◌, ◌+◌, ℕ, List, Some, length, set, ap, subst, sym, refl, slice_index, arith}
-use Rattle.std.specs.Prelude.{IsTrue, slice_get}
+use Rattle.std.proofs.Common.{◌≡◌, ◌∙◌, ◌+◌, ℕ, List, length, set, ap, subst, sym, refl, slice_index, arith}
+use Rattle.std.specs.Prelude.{IsTrue}
 use Rattle.micro_word.specs.declared.statement.Machine.{Machine}
 use Rattle.micro_word.specs.declared.statement.Placed.{Placed}
 use Rattle.micro_word.specs.Coding.{word_of}
 use Rattle.micro_word.specs.Canonical.{is_valid}
-use Rattle.store_placement.specs.Program.{placed_statement, placed_default}
+use Rattle.store_placement.specs.Program.{placed_statement}
 use Rattle.store_placement.proofs.FillingLemmas.{IsFilledUpTo, placed_count, filled_none, filled_more, filled_all, element_at}
 use Rattle.store_placement.proofs.filling.fill.Goals as goal
 

@@ -1,4 +1,4 @@
-use Rattle.std.proofs.Common.{◌≡◌, false, not, refl, sym, ap, ◌∙◌, arith}
+use Rattle.std.proofs.Common.{◌≡◌, false, not, refl, sym, ap, ◌∙◌}
 use Rattle.micro_word.specs.declared.statement.Machine.{Machine}
 use Rattle.micro_word.specs.Coding.{word_of}
 use Rattle.micro_word.specs.Canonical.{is_canonical}
