@@ -14,3 +14,7 @@ pub mod Straights
 pub mod Built
 pub mod Boot
 pub mod Valid
+pub mod Accepted
+pub mod Output
+pub mod Carried
+pub mod Boards
