@@ -1,4 +1,5 @@
-ghost use Rattle.std.specs.Prelude.{◌≡◌, ◌≢◌, ◌≤◌, None};
+ghost use Rattle.std.specs.Prelude.{◌≡◌, ◌≢◌, ◌≤◌, ◌↔◌, None};
+ghost use Rattle.std.specs.IoError.{error_kind};
 ghost use Rattle.mic_base.specs.Causes.{Rose};
 
 use crate::files::{FileError, Files, MOST_BYTES};
@@ -15,14 +16,20 @@ pub struct StdFiles<R> {
 }
 
 impl<R> StdFiles<R> {
-    pub fn new(rt: R) -> StdFiles<R> {
+    ghost use Rattle.mic_base.specs.Standard.{runtime_of};
+
+    pub fn new(rt: R) -> StdFiles<R>
+        ensures { runtime_of result ≡ rt }
+    {
         StdFiles { rt, faults: 0 }
     }
 
+    /// What an error of the runtime is told as, a fault unless memory ran out.
     fn note(&mut self, error: io::Error) -> FileError
         ensures later { self.old.faults ≤ self.new.faults }
         ensures failed { result ≡ FileError.Failed → Rose self.old.faults self.new.faults }
         ensures quiet { result ≢ FileError.Failed → self.new.faults ≡ self.old.faults }
+        ensures memory { error_kind error ≡ ErrorKind.OutOfMemory ↔ (result ≡ FileError.OutOfMemory) }
         ensures never { result ≢ FileError.TooLong }
     {
         if error.kind() == ErrorKind::OutOfMemory {
