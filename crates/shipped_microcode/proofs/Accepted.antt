@@ -123,6 +123,9 @@ module _ (p : Program) (fits : length p.image.text ≤ 0x10000) (room : 0x10000 
     unstuck = λ s r e. unstuck_by s r.rest r.from r.enough e;
   }
 
+  abbrev pub GoesOrHalts : State → Type 0
+  GoesOrHalts s = ((to : State) × (outcome p.image p.stack_end s ≡ Goes to) × IsReady p.image.text to × (to.untaken ≡ s.untaken)) ⊎ (outcome p.image p.stack_end s ≡ Halts)
+
   -- an instruction that is not the last goes on
   pub record GoesOn (s : State) (i : Instr) (is : List Instr) : Type 0 where
     pub to : State
@@ -181,6 +184,32 @@ module _ (p : Program) (fits : length p.image.text ≤ 0x10000) (room : 0x10000 
             cheap = omega arith;
           }
   goes_on s r i is h enough = absurd h.1
+
+  -- where the run from a state goes on to, or that it halts
+  on_by : (s : State) (r : IsReady p.image.text s) (is : List Instr) → IsFrom p.image.text s.at is → underflow s.at (length s.running.operands) is ≡ None → GoesOrHalts s
+  on_by s r [] h enough = inr (outcome_is s Halt h.0)
+  on_by s r (i ∷ is) h enough = let g : GoesOn s i is = goes_on s r i is h enough in inl (g.to, g.goes, g.ready, g.untaken)
+
+  -- what is left of the input, after so many points
+  abbrev Leaves : ℕ → ℕ → Type 0
+  Leaves bound points = (at : Point) (f : Finish) → IsReady p.image.text at.state → finish_from p bound points at ≡ Some f → f.left.untaken ≡ at.state.untaken
+
+  some_finish : {f g : Finish} → Some f ≡ Some g → g ≡ f
+  some_finish e = cc
+
+  leaves_by : (bound points : ℕ) → Leaves bound points → (at : Point) (f : Finish) → IsReady p.image.text at.state → (t : Bool) → nat_le bound at.cycles ≡ t →
+      finish_from p bound (suc points) at ≡ Some f → f.left.untaken ≡ at.state.untaken
+  leaves_by bound points later at f r true t e =
+      ap (λ (g : Finish). g.left.untaken) (some_finish (sym (ap (after_test (finish_from p bound points) p at) t) ∙ e))
+  leaves_by bound points later at f r false t e = elim (on_by at.state r r.rest r.from r.enough) [
+    | inl g ↦ later (point_after p at g.0) f g.2 (sym (ap (after_test (finish_from p bound points) p at) t ∙ ap (after_outcome (finish_from p bound points) p at) g.1) ∙ e) ∙ g.3
+    | inr h ↦ ap (λ (g : Finish). g.left.untaken) (some_finish (sym (ap (after_test (finish_from p bound points) p at) t ∙ ap (after_outcome (finish_from p bound points) p at) h) ∙ e))
+  ]
+
+  -- the definition's run takes nothing of the input
+  pub leaves_input : (bound points : ℕ) → Leaves bound points
+  leaves_input bound zero at f r e = absurd (cc)
+  leaves_input bound (suc points) at f r e = leaves_by bound points (leaves_input bound points) at f r (nat_le bound at.cycles) refl e
 
   -- how a run ends that is not bounded before: by HALT, with the console's bytes untaken
   pub record HaltsAt (bound : ℕ) (at : Point) : Type 0 where

@@ -1,5 +1,5 @@
 -- What a board that was run over a text from its reset says of the run.
-use Rattle.std.proofs.Common.{◌≡◌, ◌⊎◌, ℕ, ◌+◌, ◌*◌, ◌≤◌, List, [], ◌++◌, length, replicate, Option, Some, None, IfSome, IsSome, Bool, true, false, refl, arith, sym, ◌∙◌, ap, subst, inl, inr, append_assoc}
+use Rattle.std.proofs.Common.{◌≡◌, ◌⊎◌, ℕ, ◌+◌, ◌*◌, ◌≤◌, List, [], ◌∷◌, ◌++◌, length, replicate, Option, Some, None, IfSome, IsSome, Bool, true, false, refl, arith, sym, ◌∙◌, ap, subst, inl, inr, append_assoc}
 use Rattle.std.proofs.lemmas.List.{append-nil, append_cancel_left}
 use Rattle.mic_base.specs.Streams.{Holds}
 use Rattle.console_port.specs.World.{World}
@@ -10,7 +10,7 @@ use Rattle.mic_clock.specs.View.{BoardView}
 use Rattle.mic_clock.specs.declared.end.End.{End}
 use Rattle.mic_clock.specs.declared.end.End.TheVariants as ends
 use Rattle.mic_clock.specs.Run.{MicroRun, turns}
-use Rattle.mic_clock.specs.Board.{ShowsRun, IsLedTo, Leads, IsCutByWrite as IsCut}
+use Rattle.mic_clock.specs.Board.{ShowsRun, IsLedTo, Leads, IsCutByRead, IsCutByWrite as IsCut}
 use Rattle.mic1_datapath.specs.declared.micro.Micro.{Micro}
 use Rattle.mic1_datapath.specs.declared.mic1.Mic1.{Mic1}
 use Rattle.mic1_datapath.specs.Mic1.{mic1_meaning}
@@ -20,8 +20,10 @@ use Rattle.shipped_microcode.specs.Shipped.{HasShipped}
 use Rattle.shipped_microcode.specs.Straight.{image_of}
 use Rattle.shipped_microcode.specs.Simulates.{IsEnd}
 use Rattle.shipped_microcode.specs.Headline.{told_of, reset_run, Begins, HasRun, IsCutByWrite, moment}
-use Rattle.shipped_microcode.proofs.Carried.{IsText, simulated, halted}
-use Rattle.shipped_microcode.proofs.Output.{Grows, front_of_end, same_end}
+use Rattle.shipped_microcode.proofs.Carried.{IsText, simulated, halted, size, keeps_input}
+use Rattle.shipped_microcode.proofs.Worlds.{same_end}
+use Rattle.shipped_microcode.proofs.Output.{Grows, front_of_end}
+use Rattle.shipped_microcode.proofs.Unread.{unread}
 
 -- some bytes that may be untaken
 abbrev pub rest_of : Option (List ℕ) → Bool → List ℕ
@@ -145,3 +147,18 @@ module _ (text : List ℕ) (known : IsText text) (bound : ℕ) (left held left' 
       let h = halted text known board0.bus.words s.loaded (told_of held) board.store.words has bound input far in
       let same : after to.0 input ≡ after h.0 input = same_end board.store.words bound to.0 h.0 e _ (reset_run 0 (world input)) (here.its_end ∙ ended) h.1 in
       sym here.its_end ∙ (ap (λ (r : MicroRun Micro). r.end) same ∙ h.1)
+
+  -- no read of the console cuts it, since none comes
+  pub uncut_by_read : IsLedTo micro_of left held board0 left' board
+      (λ r rest. (n : ℕ) × Leads micro_of mic1_meaning board.store.words (Some bound) board board0.buses rest n r (IsCutByRead micro_of mic1_meaning board.store.words (Some bound) left' held' board)) → ⊥
+  uncut_by_read led =
+      let l = led (rest_of left' board.bus.console.ended) (rest_fits left' board.bus.console.ended) in
+      let input : List ℕ = l.0 in
+      let to = l.2 (reset_run 0 (world input)) (shown input l.1) refl in
+      let here : IsCutByRead micro_of mic1_meaning board.store.words (Some bound) left' held' board (after to.0 input) = to.1.here in
+      let longer : List ℕ = input ++ 0 ∷ [] in
+      let sim = simulated text known board0.bus.words s.loaded (told_of held) board.store.words has bound longer in
+      let end = sim.ends sim.finishes.0 sim.finishes.1 in
+      unread board.store.words bound (reset_run 0 (world input)) (omega (arith, size text known board0.bus.words s.loaded (told_of held))) to.0 here.next here.reads
+      end.0 sim.finishes.0.end end.1.end
+      (end.1.untaken ∙ keeps_input text known board0.bus.words s.loaded (told_of held) board.store.words has bound longer sim.finishes.0 sim.finishes.1)

@@ -23,7 +23,7 @@ use Rattle.shipped_microcode.proofs.Instruction.{Law}
 use Rattle.shipped_microcode.proofs.Built.{Loads, law}
 use Rattle.shipped_microcode.proofs.Boot.{IsFresh, booted, quiet}
 use Rattle.shipped_microcode.proofs.Whole.{simulates}
-use Rattle.shipped_microcode.proofs.Accepted.{IsReady, accepts, HaltsAt, halts}
+use Rattle.shipped_microcode.proofs.Accepted.{IsReady, accepts, HaltsAt, halts, leaves_input}
 
 pub bytes_small : (text : List ℕ) → All (λ (b : ℕ). b < 256) text → (p : ℕ) → slice_index text p < 256
 bytes_small text small p = elim (cases_lt p (length text)) [
@@ -41,7 +41,7 @@ module _ (text : List ℕ) (known : IsText text) (words : List ℕ) (loaded : Is
   abbrev pub origin : Origin
   origin = record { words = words; given = before }
 
-  size : length words ≡ 0x10000
+  pub size : length words ≡ 0x10000
   size = loaded.size ∙ length-replicate {A = ℕ} 0x10000 0
 
   map : IsMap (length words)
@@ -79,3 +79,7 @@ module _ (text : List ℕ) (known : IsText text) (words : List ℕ) (loaded : Is
         let h : HaltsAt p known.fits (omega arith) bound (first_point 0 input) = halts p known.fits (omega arith) refl bound far r.rest (first_point 0 input) r refl (omega arith) in
         let e = simulated.ends h.finish (h.points, h.are) in
         (e.0, e.1.end ∙ ap (λ (x : RunEnd). Some (end_of x)) h.end)
+
+    -- the definition's run takes nothing of the input
+    pub keeps_input : (f : Finish) → EndsBy p bound (first_point 0 input) f → f.left.untaken ≡ input
+    keeps_input f e = leaves_input p known.fits (omega arith) bound e.0 (first_point 0 input) f (ready input) e.1

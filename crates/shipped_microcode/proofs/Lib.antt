@@ -15,6 +15,9 @@ pub mod Built
 pub mod Boot
 pub mod Valid
 pub mod Accepted
+pub mod Worlds
 pub mod Output
+pub mod Ahead
+pub mod Unread
 pub mod Carried
 pub mod Boards

@@ -8,3 +8,6 @@ mod straight;
 pub use run::{run_straight, straight_law};
 pub use store::{MAIN1, first_store};
 pub use straight::{StraightError, check_straight};
+
+#[cfg(test)]
+mod tests;

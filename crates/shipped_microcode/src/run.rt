@@ -1,6 +1,6 @@
 //! A board over a text of the straight form, and its run.
 
-ghost use Rattle.std.specs.Prelude.{◌≡◌, ◌≤◌, ◌+◌, ◌*◌, ◌<◌, ◌^◌, ℕ, List, [], Option, Some, None, length, replicate, All, IfOk, OnErr, IsSome, false};
+ghost use Rattle.std.specs.Prelude.{◌≡◌, ◌≢◌, ◌≤◌, ◌+◌, ◌*◌, ◌<◌, ◌^◌, ℕ, List, [], Option, Some, None, length, replicate, All, IfOk, OnErr, IsSome, false};
 ghost use Rattle.mic_base.specs.Streams.{Holds};
 ghost use Rattle.console_port.specs.World.{World};
 ghost use Rattle.console_port.specs.Bus.{Shows};
@@ -32,7 +32,7 @@ pub fn straight_law()
 {}
 
 /// A Mic-1 at its reset, over the first control store, with this text loaded.
-fn straight_board(alloc: Global, text: &[u8]) -> Result<Board<Mic1>, AllocError>
+pub(crate) fn straight_board(alloc: Global, text: &[u8]) -> Result<Board<Mic1>, AllocError>
     requires { length text.now ≤ 65536 }
     ensures start { IfOk result (λ board. (left held : Option (List ℕ)) (w : World) → Shows left held board.bus w → ShowsRun micro_of left held board (reset_run 0 w)) }
     ensures store { IfOk result (λ board. HasShipped board.store.words) }
@@ -61,6 +61,7 @@ pub fn run_straight<S: Source, K: Sink>(
     ensures ended { IfOk result (λ board. IsSome board.end) }
     ensures run { IfOk result (λ board. NoFault None board.end → HasRun (image_of text.now) 0 bound (S.left source.old) (K.held sink.old) (S.left source.new) (K.held sink.new) board) }
     ensures write { IfOk result (λ board. board.end ≡ Some End.WriteFault → IsCutByWrite (image_of text.now) 0 bound (S.left source.old) (K.held sink.old) (S.left source.new) (K.held sink.new) board) }
+    ensures unread { IfOk result (λ board. board.end ≢ Some End.ReadFault) }
     ensures halt { 2 + 8 * length text.now ≤ bound → IfOk result (λ board. NoFault None board.end → board.end ≡ Some End.Halt) }
     ensures cause { IfOk result (λ board. HasEndCause (S.faults source.old) (S.faults source.new) (K.faults sink.old) (K.faults sink.new) None board.end) }
     ensures none { OnErr result ((source.new ≡ source.old) × (sink.new ≡ sink.old)) }
