@@ -68,7 +68,7 @@ pub record Limited (top : ℕ) (left a to : State) : Type 0 where
   pub fits : base (frames_of a) ≤ top
   pub same : a ≡ to
 
-limited_goes : (top : ℕ) (left a to : State) → limited top left a ≡ Goes to → Limited top left a to
+pub limited_goes : (top : ℕ) (left a to : State) → limited top left a ≡ Goes to → Limited top left a to
 limited_goes top left a to h = by_test (nat_le (base (frames_of a)) top) refl h
   where
     by_test : (t : Bool) → nat_le (base (frames_of a)) top ≡ t → (if t then Goes a else Limits left) ≡ Goes to → Limited top left a to
@@ -93,7 +93,7 @@ pub record Combined (f : ℕ → ℕ → ℕ) (s : State) (xs : List ℕ) (to : 
   pub are : xs ≡ y ∷ x ∷ rest
   pub same : moved s (f x y ∷ rest) (s.at + 1) ≡ to
 
-combined_goes : (f : ℕ → ℕ → ℕ) (s : State) (xs : List ℕ) (to : State) → combined f s xs ≡ Goes to → Combined f s xs to
+pub combined_goes : (f : ℕ → ℕ → ℕ) (s : State) (xs : List ℕ) (to : State) → combined f s xs ≡ Goes to → Combined f s xs to
 combined_goes f s [] to h = absurd (cc)
 combined_goes f s (y ∷ []) to h = absurd (cc)
 combined_goes f s (y ∷ x ∷ rest) to h = record { y = y; x = x; rest = rest; are = refl; same = goes_same h }
@@ -104,19 +104,19 @@ pub record GivenOut (s : State) (xs : List ℕ) (to : State) : Type 0 where
   pub are : xs ≡ y ∷ rest
   pub same : record (moved s rest (s.at + 1)) { given = s.given ++ (y % 256) ∷ [] } ≡ to
 
-given_goes : (s : State) (xs : List ℕ) (to : State) → given_out s xs ≡ Goes to → GivenOut s xs to
+pub given_goes : (s : State) (xs : List ℕ) (to : State) → given_out s xs ≡ Goes to → GivenOut s xs to
 given_goes s [] to h = absurd (cc)
 given_goes s (y ∷ rest) to h = record { y = y; rest = rest; are = refl; same = goes_same h }
 
 -- which of the five an outcome is
-abbrev kind : Outcome → ℕ
+abbrev pub kind : Outcome → ℕ
 kind (Goes to) = 0
 kind Halts = 1
 kind Errs = 2
 kind (Limits left) = 3
 kind Stuck = 4
 
-limited_kind : (top : ℕ) (left a : State) → (kind (limited top left a) ≡ 0) ⊎ (kind (limited top left a) ≡ 3)
+pub limited_kind : (top : ℕ) (left a : State) → (kind (limited top left a) ≡ 0) ⊎ (kind (limited top left a) ≡ 3)
 limited_kind top left a = by_test (nat_le (base (frames_of a)) top)
   where
     by_test : (t : Bool) → (kind (if t then Goes a else Limits left) ≡ 0) ⊎ (kind (if t then Goes a else Limits left) ≡ 3)
