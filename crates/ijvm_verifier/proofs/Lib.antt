@@ -5,3 +5,4 @@ pub mod Sounds
 pub mod Keeping
 pub mod Graphs
 pub mod Traces
+pub mod Unsets

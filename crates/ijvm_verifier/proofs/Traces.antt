@@ -3,6 +3,7 @@ use Rattle.std.proofs.Common.{◌≡◌, ◌≢◌, ℕ, zero, suc, ◌+◌, ◌
 use Rattle.std.specs.Prelude.{slice_get, slice_set, Contains, ◌==◌, IfSome}
 use Rattle.std.specs.Int.{bit_at}
 use Rattle.std.proofs.lemmas.Bool.{cases_eq, eq-eqb, ne_eqb}
+use Rattle.std.proofs.lemmas.Nat.Bits.{bit_at-zero}
 use Rattle.std.proofs.lemmas.Option.{slice_get_within}
 use Rattle.std.proofs.lemmas.List.Elements.{Contains-append_left, Contains-push, Contains-push_cases}
 use Rattle.ijvm_verifier.specs.declared.graph.Node.{Node}
@@ -10,7 +11,7 @@ use Rattle.ijvm_verifier.specs.declared.local_set.LocalSet.{LocalSet}
 use Rattle.ijvm_verifier.specs.declared.trace.Mark.{Mark}
 use Rattle.ijvm_verifier.specs.LocalSet.{Has, IsIn}
 use Rattle.ijvm_verifier.specs.Graph.{LeadsTo, IsInside, Carries, Begin, Pass}
-use Rattle.ijvm_verifier.specs.Trace.{held, held_at, IsHeld, blanks, AreOlder, MarksMore, IsMarked, IsPassed, IsTracing, ReadsUnset, ReadsNone}
+use Rattle.ijvm_verifier.specs.Trace.{held, held_at, IsHeld, blanks, AreOlder, IsReady, MarksMore, IsMarked, IsPassed, Passes, IsTracing, ReadsUnset, ReadsNone}
 use Rattle.ijvm_verifier.proofs.Keeping.{get_set_same, get_set_other}
 
 pub held_get : (n : ℕ) (marks : List Mark) (at : ℕ) (m : Mark) → slice_get marks at ≡ Some m → held_at n marks at ≡ held n m
@@ -95,3 +96,115 @@ marks_on n a b c x y z g h = record {
 pub way_below : (way : Option ℕ) (many : ℕ) → ((to : ℕ) → way ≡ Some to → to < many) → IfSome way (λ at. at < many)
 way_below None many h = tt
 way_below (Some at) many h = h at refl
+
+-- marks of earlier searches do not count
+held_none : (n : ℕ) (marks : List Mark) (at : ℕ) → AreOlder n marks → held_at n marks at ≡ 0
+held_none n [] at old = refl
+held_none n (m ∷ marks) zero old =
+    let below : m.search < n = old 0 m refl in held_other n m (λ e. absurd (omega arith))
+held_none n (m ∷ marks) (suc at) old = held_none n marks at (λ i x is. old (suc i) x is)
+
+pub none_held : (n : ℕ) (marks : List Mark) (at place : ℕ) → AreOlder n marks → IsHeld n marks at place → ⊥
+none_held n marks at place old is =
+    let none : bit_at 0 place ≡ 1 = ap (λ (b : ℕ). bit_at b place) (sym (held_none n marks at old)) ∙ is in
+    omega (arith, bit_at-zero place)
+
+-- the search has begun
+pub tracing_begun : (graph : List Node) (n group start : ℕ) (locals : LocalSet) (marks new : List Mark) (todo later : List ℕ) → IsReady n (length graph) marks todo → start < length graph →
+    MarksMore n marks new todo later → ((place : ℕ) → Has locals place → IsHeld n new start place) →
+    ((to place : ℕ) → IsHeld n new to place → IsHeld n marks to place ⊎ ((to ≡ start) × Has locals place)) → IsTracing graph n group start locals new later
+tracing_begun graph n group start locals marks new todo later ready inside more here only = record {
+  long = more.long ∙ ready.long;
+  begin = λ k is. (is.0, here (k % 64) is.1);
+  ways = λ at k is. elim (only at (k % 64) is.1) [
+    | inl was ↦ absurd (none_held n marks at (k % 64) ready.older was)
+    | inr now ↦ ((is.0, now.1), subst (λ (i : ℕ). Carries graph start k i) (sym now.0) Begin)
+  ];
+  each = λ at k is. elim (more.fresh at (k % 64) is.1) [ inl was ↦ absurd (none_held n marks at (k % 64) ready.older was) | inr waits ↦ inl waits ];
+  inside = λ at has. elim (more.todo_inside at has) [ inl was ↦ absurd (empty at (subst (λ (xs : List ℕ). Contains xs at) ready.idle was)) | inr lt ↦ omega (arith, ready.long) ];
+  older = more.older (λ at m is. let below : m.search < n = ready.older at m is in omega arith);
+}
+  where
+    empty : (at : ℕ) → Contains {X = ℕ} [] at → ⊥
+    empty at h = omega (arith, h.1)
+
+passed_on : (graph : List Node) (n group : ℕ) (marks new : List Mark) (todo later : List ℕ) (at k : ℕ) → MarksMore n marks new todo later → IsPassed graph n marks group at k → IsPassed graph n new group at k
+passed_on graph n group marks new todo later at k more p = (p.0, p.1, p.2, λ ne to leads. let w = p.3 ne to leads in (w.0, more.keeps to (k % 64) w.1))
+
+-- one more address is done
+pub tracing_on : (graph : List Node) (n group start : ℕ) (locals : LocalSet) (marks new : List Mark) (todo rest later : List ℕ) (at : ℕ) → IsTracing graph n group start locals marks todo → todo ≡ rest ++ at ∷ [] →
+    MarksMore n marks new rest later → ((k : ℕ) → IsMarked n marks group at k → IsPassed graph n new group at k) →
+    ((to k : ℕ) → IsMarked n new group to k → IsMarked n marks group to k ⊎ Passes graph n marks group at to k) → IsTracing graph n group start locals new later
+tracing_on graph n group start locals marks new todo rest later at t is more done ways = record {
+  long = more.long ∙ t.long;
+  begin = λ k has. let w = t.begin k has in (w.0, more.keeps start (k % 64) w.1);
+  ways = λ to k marked. elim (ways to k marked) [
+    | inl was ↦ t.ways to k was
+    | inr now ↦ let w = t.ways at k now.4 in (w.0, Pass at to now.0 w.1 now.1 now.2 now.3)
+  ];
+  each = λ j k marked. elim (more.fresh j (k % 64) marked.1) [
+    | inl old ↦ elim (cases_eq j at) [
+      | inl same ↦ inr (subst (λ (i : ℕ). IsPassed graph n new group i k) (sym same) (done k (marked.0, subst (λ (i : ℕ). IsHeld n marks i (k % 64)) same old)))
+      | inr ne ↦ elim (t.each j k (marked.0, old)) [
+        | inl waits ↦ elim (Contains-push_cases rest at j (subst (λ (xs : List ℕ). Contains xs j) is waits)) [
+          | inl before ↦ inl (more.todo_stays j before)
+          | inr same ↦ absurd (ne (sym same))
+        ]
+        | inr passed ↦ inr (passed_on graph n group marks new rest later j k more passed)
+      ]
+    ]
+    | inr waits ↦ inl waits
+  ];
+  inside = λ j has. elim (more.todo_inside j has) [
+    | inl was ↦ t.inside j (subst (λ (xs : List ℕ). Contains xs j) (sym is) (Contains-append_left rest (at ∷ []) j was))
+    | inr lt ↦ omega (arith, t.long)
+  ];
+  older = more.older t.older;
+}
+
+-- the address that is taken is inside
+pub taken_inside : (graph : List Node) (n group start : ℕ) (locals : LocalSet) (marks : List Mark) (todo rest : List ℕ) (at : ℕ) → IsTracing graph n group start locals marks todo → todo ≡ rest ++ at ∷ [] → at < length graph
+taken_inside graph n group start locals marks todo rest at t is = t.inside at (subst (λ (xs : List ℕ). Contains xs at) (sym is) (Contains-push rest at))
+
+-- at the end each way's local is marked
+traced : (graph : List Node) (n group start : ℕ) (locals : LocalSet) (marks : List Mark) (todo : List ℕ) → IsTracing graph n group start locals marks todo → todo ≡ [] → (k : ℕ) → IsIn group locals k → (at : ℕ) → Carries graph start k at →
+    IsMarked n marks group at k × IsPassed graph n marks group at k
+traced graph n group start locals marks todo t none k is_in = by_way
+  where
+    passed : (at : ℕ) → IsMarked n marks group at k → IsPassed graph n marks group at k
+    passed at marked = elim (t.each at k marked) [
+      | inl waits ↦ absurd (empty at (subst (λ (xs : List ℕ). Contains xs at) none waits))
+      | inr done ↦ done
+    ]
+      where
+        empty : (at : ℕ) → Contains {X = ℕ} [] at → ⊥
+        empty at h = omega (arith, h.1)
+
+    by_way : (at : ℕ) → Carries graph start k at → IsMarked n marks group at k × IsPassed graph n marks group at k
+    by_way at Begin = let m = t.begin k is_in in (m, passed start m)
+    by_way i (Pass at to node way is ne leads) =
+        let p = (by_way at way).1 in
+        let same : p.0 ≡ node = one p.0 node (slice_get graph at) p.1 is in
+        let m = p.3 (λ e. ne (sym (ap (λ (x : Node). x.stores) same) ∙ e)) to (subst (λ (x : Node). LeadsTo x to) (sym same) leads) in
+        (m, passed to m)
+      where
+        one : (x y : Node) (o : Option Node) → o ≡ Some x → o ≡ Some y → x ≡ y
+        one x y o p q = cc
+
+pub reads_none : (graph : List Node) (n group start : ℕ) (locals : LocalSet) (marks : List Mark) (todo : List ℕ) → IsTracing graph n group start locals marks todo → todo ≡ [] → ReadsNone graph group start locals
+reads_none graph n group start locals marks todo t none at k node is_in way is reads =
+    let p = (traced graph n group start locals marks todo t none k is_in at way).1 in
+    let same : p.0 ≡ node = one p.0 node (slice_get graph at) p.1 is in
+    p.2 (ap (λ (x : Node). x.reads) same ∙ reads)
+  where
+    one : (x y : Node) (o : Option Node) → o ≡ Some x → o ≡ Some y → x ≡ y
+    one x y o p q = cc
+
+pub ready_again : (graph : List Node) (n group start : ℕ) (locals : LocalSet) (marks : List Mark) (todo : List ℕ) → IsTracing graph n group start locals marks todo → todo ≡ [] → IsReady (n + 1) (length graph) marks todo
+ready_again graph n group start locals marks todo t none = record { long = t.long; older = t.older; idle = none }
+
+-- the address that is waiting reads this local
+pub reads_unset : (graph : List Node) (n group start : ℕ) (locals : LocalSet) (marks : List Mark) (todo : List ℕ) (at k : ℕ) → IsTracing graph n group start locals marks todo →
+    IsMarked n marks group at k × (node : Node) × (slice_get graph at ≡ Some node) × (node.reads ≡ Some k) → ReadsUnset graph group start locals at k
+reads_unset graph n group start locals marks todo at k t w =
+    let way = t.ways at k w.0 in record { node = w.1; is = w.2; reads = w.3; is_in = way.0; carries = way.1 }

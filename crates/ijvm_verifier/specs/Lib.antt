@@ -5,3 +5,4 @@ pub mod Search
 pub mod Graph
 pub mod LocalSet
 pub mod Trace
+pub mod Unset

@@ -29,6 +29,12 @@ blanks search (m ∷ marks) = (2 ^ 64 - held search m) + blanks search marks
 abbrev pub AreOlder : ℕ → List Mark → Type 0
 AreOlder search marks = (at : ℕ) (m : Mark) → slice_get marks at ≡ Some m → m.search < search
 
+-- a search of this number may begin, over so many nodes
+pub record IsReady (search many : ℕ) (marks : List Mark) (todo : List ℕ) : Type 0 where
+  pub long : length marks ≡ many
+  pub older : AreOlder search marks
+  pub idle : todo ≡ []
+
 -- what is marked stays, and what is new is waiting
 pub record MarksMore (search : ℕ) (marks new : List Mark) (todo later : List ℕ) : Type 0 where
   pub long : length new ≡ length marks
@@ -47,6 +53,11 @@ IsMarked search marks group at k = (k / 64 ≡ group) × IsHeld search marks at 
 abbrev pub IsPassed : List Node → ℕ → List Mark → ℕ → ℕ → ℕ → Type 0
 IsPassed graph search marks group at k =
     (node : Node) × (slice_get graph at ≡ Some node) × (node.reads ≢ Some k) × (node.stores ≢ Some k → (to : ℕ) → LeadsTo node to → IsMarked search marks group to k)
+
+-- a marked local goes on with the node, which does not store it
+abbrev pub Passes : List Node → ℕ → List Mark → ℕ → ℕ → ℕ → ℕ → Type 0
+Passes graph search marks group at to k =
+    (node : Node) × (slice_get graph at ≡ Some node) × (node.stores ≢ Some k) × LeadsTo node to × IsMarked search marks group at k
 
 -- the locals of the set are marked at the start, each mark is a way from there, and each marked address is waiting or done
 pub record IsTracing (graph : List Node) (search group start : ℕ) (locals : LocalSet) (marks : List Mark) (todo : List ℕ) : Type 0 where

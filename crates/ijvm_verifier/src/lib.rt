@@ -11,6 +11,7 @@ pub mod law;
 mod local_set;
 mod search;
 mod trace;
+mod unset;
 
 pub use error::VerifyError;
 pub use kind::Kind;

@@ -5,7 +5,7 @@ ghost use Rattle.ijvm_verifier.specs.declared.graph.Node.{Node};
 ghost use Rattle.ijvm_verifier.specs.declared.trace.Mark.{Mark};
 ghost use Rattle.ijvm_verifier.specs.LocalSet.{Has, IsIn};
 ghost use Rattle.ijvm_verifier.specs.Graph.{LeadsTo, IsInside, Carries};
-ghost use Rattle.ijvm_verifier.specs.Trace.{IsHeld, MarksMore, IsPassed, IsTracing, AreOlder, ReadsUnset, ReadsNone, blanks, held_at};
+ghost use Rattle.ijvm_verifier.specs.Trace.{IsHeld, IsMarked, MarksMore, IsPassed, Passes, IsTracing, IsReady, ReadsUnset, ReadsNone, blanks, held_at};
 
 use crate::graph::Node;
 use crate::local_set::LocalSet;
@@ -62,8 +62,7 @@ fn read_of(locals: LocalSet, reads: Option<u16>, group: u32) -> Option<u16>
 impl Trace {
     /// For a graph of so many nodes.
     pub fn new(alloc: Global, many: usize) -> Result<Trace, AllocError>
-        ensures marks { IfOk result (λ t. (length t.marks.items ≡ many) × AreOlder 1 t.marks.items) }
-        ensures todo { IfOk result (λ t. t.todo.items ≡ []) }
+        ensures { IfOk result (λ t. IsReady 1 many t.marks.items t.todo.items) }
     {
         let blank = Mark {
             search: 0,
@@ -134,5 +133,57 @@ impl Trace {
     {
         self.mark_way(search, node.next, locals)?;
         self.mark_way(search, node.jump, locals)
+    }
+}
+
+impl Trace {
+    /// The waiting address is looked at. A local that is read here unset is answered, and else the search goes on where the node leads.
+    fn visit(
+        &mut self,
+        graph: &[Node],
+        search: u32,
+        group: u32,
+        at: u32,
+    ) -> Result<Option<u16>, AllocError>
+        requires long { length self.old.marks.items ≡ length graph.now }
+        requires inside { IsInside graph.now }
+        requires at { at < length graph.now }
+        ensures more { IfOk result (λ read. IfNone read (MarksMore search self.old.marks.items self.new.marks.items self.old.todo.items self.new.todo.items)) }
+        ensures done { IfOk result (λ read. IfNone read ((k : ℕ) → IsMarked search self.old.marks.items group at k → IsPassed graph.now search self.new.marks.items group at k)) }
+        ensures ways { IfOk result (λ read. IfNone read ((to k : ℕ) → IsMarked search self.new.marks.items group to k → IsMarked search self.old.marks.items group to k ⊎ Passes graph.now search self.old.marks.items group at to k)) }
+        ensures read { IfOk result (λ read. IfSome read (λ k. IsMarked search self.old.marks.items group at k × (node : Node) × (slice_get graph.now at ≡ Some node) × (node.reads ≡ Some k))) }
+    {
+        let node = graph[at as usize];
+        let held = self.held(search, at);
+        if let Some(local) = read_of(held, node.reads, group) {
+            return Ok(Some(local));
+        }
+        self.mark_ways(search, node, passed(held, node.stores, group))?;
+        Ok(None)
+    }
+
+    /// A read of a local of the set, its address and the local, to which a way leads from the start with no store to that local; none, if there is none.
+    pub fn trace(
+        &mut self,
+        graph: &[Node],
+        search: u32,
+        group: u32,
+        start: u32,
+        locals: LocalSet,
+    ) -> Result<Option<(u32, u16)>, AllocError>
+        requires ready { IsReady search (length graph.now) self.old.marks.items self.old.todo.items }
+        requires inside { IsInside graph.now }
+        requires start { start < length graph.now }
+        ensures ready { IfOk result (λ read. IfNone read (IsReady (search + 1) (length graph.now) self.new.marks.items self.new.todo.items)) }
+        ensures none { IfOk result (λ read. IfNone read (ReadsNone graph.now group start locals)) }
+        ensures some { IfOk result (λ read. IfSome read (λ r. ReadsUnset graph.now group start locals r.0 r.1)) }
+    {
+        self.mark(search, start, locals)?;
+        while let Some(at) = self.todo.pop() {
+            if let Some(local) = self.visit(graph, search, group, at)? {
+                return Ok(Some((at, local)));
+            }
+        }
+        Ok(None)
     }
 }
