@@ -1,0 +1,8 @@
+//! The program `mic`.
+#![tactic(auto)]
+
+mod report;
+mod said;
+mod words;
+
+fn main() {}
