@@ -1,3 +1,4 @@
 pub mod Words
 pub mod Report
 pub mod Messages
+pub mod FirstForm

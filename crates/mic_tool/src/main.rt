@@ -1,6 +1,7 @@
 //! The program `mic`.
 #![tactic(auto)]
 
+mod first_form;
 mod report;
 mod said;
 mod words;
