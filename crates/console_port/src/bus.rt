@@ -4,10 +4,12 @@ ghost use Rattle.mic_base.specs.Streams.{Holds};
 ghost use Rattle.std.specs.Prelude.{◌/◌, ◌≡◌, ◌≢◌, ◌≤◌, ◌<◌, ◌+◌, [], ℕ, List, Option, Some, None, Ok, Err, false, length, replicate, slice_get, slice_index, slice_set, IsOk, IfOk, OnOk, OnErr, IfErr, IsErrOf};
 ghost use Rattle.console_port.specs.Bus.{Shows, Stands, IsLed, ChangesOnly, refused_by};
 ghost use Rattle.console_port.specs.Console.{IsLost, IsFault, HasFaultCause};
+ghost use Rattle.console_port.specs.Loading.{IsLoaded};
 ghost use Rattle.console_port.specs.World.{World, Refusal, fault_of, console_at, read_refusal, write_refusal, word_refusal, fetch_refusal, byte_in, read_value, after_read, after_write};
 
 use crate::console::Console;
 use crate::fault::BusFault;
+use crate::loading::write_image;
 use crate::map::MemoryMap;
 use mic_base::{Sink, Source};
 use std::alloc::{AllocError, Global};
@@ -41,6 +43,17 @@ impl Bus {
             words: vec![in alloc; 0; map.stack_end as usize]?,
             console: Console::new(),
         })
+    }
+
+    /// Loads an image's text and pool.
+    pub fn load(&mut self, text: &[u8], pool: &[u32])
+        requires text { length text.now ≤ 65536 }
+        requires pool { length pool.now ≤ 16384 }
+        requires memory { 0x8000 ≤ length self.old.words }
+        ensures words { IsLoaded text.now pool.now self.old.words self.new.words }
+        ensures console { self.new.console ≡ self.old.console }
+    {
+        write_image(&mut self.words, text, pool);
     }
 
     #[tactic(auto, unfolding(crate::specs::World::read_refusal))]

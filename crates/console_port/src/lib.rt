@@ -4,6 +4,7 @@
 pub mod bus;
 pub mod console;
 pub mod fault;
+mod loading;
 pub mod map;
 
 pub use bus::Bus;

@@ -1,15 +1,16 @@
 -- Image files: what is written is read, and only that.
-use Rattle.std.proofs.Common.{◌≡◌, ◌≢◌, ◌⊎◌, ◌<◌, ◌≤◌, ◌^◌, ◌&&◌, ◌||◌, not, nat_le, nat_lt, All, ℕ, zero, suc, ◌+◌, ◌-◌, ◌*◌, ◌/◌, ◌%◌, Bool, true, false, if◌then◌else◌, ◌==◌, List, [], ◌∷◌, ◌++◌, length, take, drop, append_assoc, append-nil, add-one, add-zero, length-append, slice_index, slice_range, Option, Some, None, Result, Ok, Err, refl, sym, ap, ap₂, ◌∙◌, inl, inr, arith, rules, subst}
+use Rattle.std.proofs.Common.{◌≡◌, ◌≢◌, ◌⊎◌, ◌<◌, ◌≤◌, ◌^◌, ◌&&◌, ◌||◌, not, nat_le, nat_lt, All, ℕ, zero, suc, ◌+◌, ◌-◌, ◌*◌, ◌/◌, ◌%◌, Bool, true, false, if◌then◌else◌, ◌==◌, List, [], ◌∷◌, ◌++◌, length, take, drop, append_assoc, append-nil, add-one, add-zero, length-append, slice_index, slice_range, Option, Some, None, Result, Ok, Err, IfOk, IfErr, refl, sym, ap, ap₂, ◌∙◌, inl, inr, arith, rules, subst}
 use Rattle.std.specs.List.{flat_map}
 use Rattle.std.proofs.lemmas.Bool.Decides.{nat_tests}
-use Rattle.std.proofs.lemmas.List.{drop_more, get_or-drop, length-drop, take-append-drop}
+use Rattle.std.proofs.lemmas.Grind.{flat_map-append}
+use Rattle.std.proofs.lemmas.List.{drop_more, take_more, length-drop, length-take-le, drop-drop, drop_all, take-append-drop}
 use Rattle.std.proofs.Math.Seq.{drop-append_seam, take-append_seam}
-use Rattle.ijvm_definition.specs.declared.read_image.Block.{Block}
+use Rattle.ijvm_definition.specs.declared.reader.Block.{Block}
 use Rattle.ijvm_definition.specs.declared.image.ImageError.{ImageError}
 use Rattle.ijvm_definition.specs.declared.image.ImageError.TheVariants as errors
 use Rattle.ijvm_definition.specs.Instructions.{two_bytes}
 use Rattle.ijvm_definition.specs.Image.{ImageView, IsWithinLimits}
-use Rattle.ijvm_definition.specs.ImageFile.{magic, text_origin, pool_origin, word_bytes, block_of, text_block, pool_block, file_of, text_first, IsFileOf, IsImage, half_at, word_at, and_then, field, is_origin, is_size, block_from, block_at, words_at, image_of, joined, ended, image_read}
+use Rattle.ijvm_definition.specs.ImageFile.{magic, text_origin, pool_origin, word_bytes, block_of, text_block, pool_block, file_of, text_first, IsFileOf, half_at, word_at, and_then, field, is_origin, is_size, block_from, block_at, words_at, image_of, joined, ended, image_read}
 use Rattle.ijvm_definition.proofs.Spelled.{high, low, from_half, byte_below}
 
 -- Words in a file.
@@ -128,7 +129,7 @@ part_read file place bytes rest e =
     let many : place + length bytes - place ≡ length bytes = omega arith in
     rw (many, e) (take-append_seam bytes rest)
 
-length-words : (ws : List ℕ) → length (flat_map word_bytes ws) ≡ 4 * length ws
+pub length-words : (ws : List ℕ) → length (flat_map word_bytes ws) ≡ 4 * length ws
 length-words [] = refl
 length-words (w ∷ ws) = let e : length (flat_map word_bytes ws) ≡ 4 * length ws = length-words ws in omega arith
 
@@ -274,3 +275,200 @@ word_stands file place small fits =
     let t3 : slice_index file (place + 1 + 1 + 1) ≡ s3 = ap (slice_index file) three in
     let t4 : drop (place + 1 + 1 + 1 + 1) file ≡ drop (place + 4) file = ap (λ (n : ℕ). drop n file) four in
     cc
+
+-- what is known of a block that was read at a place
+record IsRead (file : List ℕ) (place : ℕ) (first : Option ℕ) (b : Block) : Type 0 where
+  origin : is_origin first b.origin ≡ true
+  size : is_size b.origin (b.to - b.from) ≡ true
+  from : b.from ≡ place + 8
+  ordered : b.from ≤ b.to
+  inside : b.to ≤ length file
+  stands : drop place file ≡ block_of b.origin (slice_range file b.from b.to) ++ drop b.to file
+
+-- a part, and what is behind it
+parted : (file : List ℕ) (from size : ℕ) → drop from file ≡ slice_range file from (from + size) ++ drop (from + size) file
+parted file from size =
+    let many : from + size - from ≡ size = omega arith in
+    let both : drop size (drop from file) ≡ drop (from + size) file = drop-drop size from file in
+    rw many (sym (take-append-drop size (drop from file)) ∙ ap (λ (xs : List ℕ). take size (drop from file) ++ xs) both)
+
+length-part : (file : List ℕ) (from size : ℕ) → from + size ≤ length file → length (slice_range file from (from + size)) ≡ size
+length-part file from size fits =
+    let many : from + size - from ≡ size = omega arith in
+    let long : length (drop from file) ≡ length file - from = length-drop from file in
+    let room : size ≤ length (drop from file) = omega arith in
+    rw many (length-take-le size (drop from file) room)
+
+block_stands : (file : List ℕ) (place : ℕ) (first : Option ℕ) (origin size : ℕ) → All (λ (b : ℕ). b < 256) file →
+    place + 4 + 4 ≤ length file → word_at file place ≡ origin → word_at file (place + 4) ≡ size →
+    is_origin first origin ≡ true → is_size origin size ≡ true → place + 8 + size ≤ length file →
+    IsRead file place first (record { origin = origin; from = place + 8; to = place + 8 + size })
+block_stands file place first origin size small head w0 w1 origin_ok size_ok fits =
+    let many : place + 8 + size - (place + 8) ≡ size = omega arith in
+    let front : place + 4 ≤ length file = omega arith in
+    let part : List ℕ = slice_range file (place + 8) (place + 8 + size) in
+    let eight : place + 4 + 4 ≡ place + 8 = omega arith in
+    let d0 : drop place file ≡ word_bytes (word_at file place) ++ drop (place + 4) file = word_stands file place small front in
+    let d1 : drop (place + 4) file ≡ word_bytes (word_at file (place + 4)) ++ drop (place + 4 + 4) file = word_stands file (place + 4) small head in
+    let d2 : drop (place + 8) file ≡ part ++ drop (place + 8 + size) file = parted file (place + 8) size in
+    let long : length part ≡ size = length-part file (place + 8) size fits in
+    let f0 : drop place file ≡ word_bytes origin ++ drop (place + 4) file = d0 ∙ ap (λ (w : ℕ). word_bytes w ++ drop (place + 4) file) w0 in
+    let f1 : drop (place + 4) file ≡ word_bytes (length part) ++ drop (place + 8) file =
+        d1 ∙ ap (λ (w : ℕ). word_bytes w ++ drop (place + 4 + 4) file) (w1 ∙ sym long) ∙ ap (λ (n : ℕ). word_bytes (length part) ++ drop n file) eight in
+    let f2 : drop place file ≡ word_bytes origin ++ (word_bytes (length part) ++ (part ++ drop (place + 8 + size) file)) =
+        f0 ∙ ap (λ (xs : List ℕ). word_bytes origin ++ xs) (f1 ∙ ap (λ (xs : List ℕ). word_bytes (length part) ++ xs) d2) in
+    record { origin = origin_ok; size = rw many size_ok; from = refl; ordered = omega arith; inside = fits; stands = f2 }
+
+read_block : Block → Result Block ImageError
+read_block b = Ok b
+
+block-ok : (file : List ℕ) (place : ℕ) (first : Option ℕ) (b : Block) → All (λ (x : ℕ). x < 256) file → block_at file place first ≡ Ok b → IsRead file place first b
+unfolding read_block
+block-ok file place first b small e =
+    let at1 : (origin : ℕ) × (field file place ≡ Ok origin)
+            × ((if is_origin first origin then and_then (field file (place + 4)) (λ (size : ℕ). block_from file origin (place + 8) size) else Err (errors.BadOrigin origin)) ≡ Ok b) =
+        and_then-ok (field file place)
+        (λ (o : ℕ). if is_origin first o then and_then (field file (place + 4)) (λ (size : ℕ). block_from file o (place + 8) size) else Err (errors.BadOrigin o)) b e in
+    let origin : ℕ = at1.0 in
+    let f1 : (place + 4 ≤ length file) × (word_at file place ≡ origin) = field-ok file place origin at1.1 in
+    let c1 : (is_origin first origin ≡ true) × (and_then (field file (place + 4)) (λ (size : ℕ). block_from file origin (place + 8) size) ≡ Ok b) =
+        chose_ok (is_origin first origin) (and_then (field file (place + 4)) (λ (size : ℕ). block_from file origin (place + 8) size)) _ b (errors.BadOrigin origin) refl at1.2 in
+    let at2 : (size : ℕ) × (field file (place + 4) ≡ Ok size) × (block_from file origin (place + 8) size ≡ Ok b) =
+        and_then-ok (field file (place + 4)) (λ (size : ℕ). block_from file origin (place + 8) size) b c1.1 in
+    let size : ℕ = at2.0 in
+    let f2 : (place + 4 + 4 ≤ length file) × (word_at file (place + 4) ≡ size) = field-ok file (place + 4) size at2.1 in
+    let there : Block = record { origin = origin; from = place + 8; to = place + 8 + size } in
+    let c2 : (is_size origin size ≡ true) × ((if nat_le (place + 8 + size) (length file) then read_block there else Err (errors.Truncated (length file))) ≡ Ok b) =
+        chose_ok (is_size origin size) (if nat_le (place + 8 + size) (length file) then read_block there else Err (errors.Truncated (length file))) _ b (errors.BadSize size) refl at2.2 in
+    let c3 : (nat_le (place + 8 + size) (length file) ≡ true) × (read_block there ≡ Ok b) =
+        chose_ok (nat_le (place + 8 + size) (length file)) (read_block there) _ b (errors.Truncated (length file)) refl c2.1 in
+    let same : there ≡ b = let f : read_block there ≡ Ok b = c3.1 in cc in
+    subst (λ (x : Block). IsRead file place first x) same (block_stands file place first origin size small f2.0 f1.1 f2.1 c1.0 c2.0 (le_true _ _ c3.0))
+
+words_back : (file : List ℕ) (place n : ℕ) → All (λ (b : ℕ). b < 256) file → place + 4 * n ≤ length file →
+    drop place file ≡ flat_map word_bytes (words_at file place n) ++ drop (place + 4 * n) file
+words_back file place zero small fits = ap (λ (k : ℕ). drop k file) (let e : place ≡ place + 4 * 0 = omega arith in e)
+words_back file place (suc n) small fits =
+    let more : place + 4 + 4 * n ≤ length file = omega arith in
+    let front : place + 4 ≤ length file = omega arith in
+    let head : drop place file ≡ word_bytes (word_at file place) ++ drop (place + 4) file = word_stands file place small front in
+    let tail : drop (place + 4) file ≡ flat_map word_bytes (words_at file (place + 4) n) ++ drop (place + 4 + 4 * n) file = words_back file (place + 4) n small more in
+    let last : place + 4 + 4 * n ≡ place + 4 * suc n = omega arith in
+    head ∙ ap (λ (xs : List ℕ). word_bytes (word_at file place) ++ xs) (tail ∙ ap (λ (k : ℕ). flat_map word_bytes (words_at file (place + 4) n) ++ drop k file) last)
+
+pub length-words_at : (file : List ℕ) (place n : ℕ) → length (words_at file place n) ≡ n
+length-words_at file place zero = refl
+length-words_at file place (suc n) = ap suc (length-words_at file (place + 4) n)
+
+-- the bytes of a pool are those of its words
+pool_back : (file : List ℕ) (b : Block) → All (λ (x : ℕ). x < 256) file → b.from ≤ b.to → b.to ≤ length file → (b.to - b.from) % 4 ≡ 0 →
+    slice_range file b.from b.to ≡ flat_map word_bytes (words_at file b.from ((b.to - b.from) / 4))
+pool_back file b small ordered inside even =
+    let n : ℕ = (b.to - b.from) / 4 in
+    let all : b.from + 4 * n ≡ b.to = omega arith in
+    let fits : b.from + 4 * n ≤ length file = omega arith in
+    let ws : List ℕ = words_at file b.from n in
+    let back : drop b.from file ≡ flat_map word_bytes ws ++ drop (b.from + 4 * n) file = words_back file b.from n small fits in
+    let long : length (flat_map word_bytes ws) ≡ 4 * n = length-words ws ∙ ap (λ (k : ℕ). 4 * k) (length-words_at file b.from n) in
+    let to : b.from + length (flat_map word_bytes ws) ≡ b.to = ap (λ (k : ℕ). b.from + k) long ∙ all in
+    subst (λ (k : ℕ). slice_range file b.from k ≡ flat_map word_bytes ws) to (part_read file b.from (flat_map word_bytes ws) _ back)
+
+not_first : (o : ℕ) → is_origin (Some text_origin) o ≡ true → o ≡ pool_origin
+not_first o h = grind (arith, nat_tests)
+
+then_pool : (o : ℕ) → is_origin None o ≡ true → (o == text_origin) ≡ false → o ≡ pool_origin
+then_pool o h n = grind (arith, nat_tests)
+
+then_text : (o : ℕ) → is_origin (Some pool_origin) o ≡ true → o ≡ text_origin
+then_text o h = grind (arith, nat_tests)
+
+whole_words : (size : ℕ) → is_size pool_origin size ≡ true → size % 4 ≡ 0
+whole_words size h = grind (arith, nat_tests)
+
+is_eq : (m n : ℕ) → (m == n) ≡ true → m ≡ n
+is_eq m n h = grind (arith, nat_tests)
+
+image_from : (file : List ℕ) (a b : Block) (image : ImageView) → All (λ (x : ℕ). x < 256) file → IsRead file 4 None a → IsRead file a.to (Some a.origin) b →
+    file ≡ word_bytes magic ++ (block_of a.origin (slice_range file a.from a.to) ++ block_of b.origin (slice_range file b.from b.to)) →
+    (t : Bool) → (a.origin == text_origin) ≡ t → (if t then image_of file a b else image_of file b a) ≡ image → IsFileOf file image
+image_from file a b image small ra rb e true is joined =
+    let text : a.origin ≡ text_origin = is_eq a.origin text_origin is in
+    let pool : b.origin ≡ pool_origin = not_first b.origin (subst (λ (o : ℕ). is_origin (Some o) b.origin ≡ true) text rb.origin) in
+    let even : (b.to - b.from) % 4 ≡ 0 = whole_words (b.to - b.from) (subst (λ (o : ℕ). is_size o (b.to - b.from) ≡ true) pool rb.size) in
+    let bytes : slice_range file b.from b.to ≡ flat_map word_bytes (words_at file b.from ((b.to - b.from) / 4)) = pool_back file b small rb.ordered rb.inside even in
+    let whole : file ≡ text_first (image_of file a b) = e ∙ rw (text, pool, bytes) refl in
+    inr (subst (λ (v : ImageView). file ≡ text_first v) joined whole)
+image_from file a b image small ra rb e false is joined =
+    let pool : a.origin ≡ pool_origin = then_pool a.origin ra.origin is in
+    let text : b.origin ≡ text_origin = then_text b.origin (subst (λ (o : ℕ). is_origin (Some o) b.origin ≡ true) pool rb.origin) in
+    let even : (a.to - a.from) % 4 ≡ 0 = whole_words (a.to - a.from) (subst (λ (o : ℕ). is_size o (a.to - a.from) ≡ true) pool ra.size) in
+    let bytes : slice_range file a.from a.to ≡ flat_map word_bytes (words_at file a.from ((a.to - a.from) / 4)) = pool_back file a small ra.ordered ra.inside even in
+    let whole : file ≡ file_of (image_of file b a) = e ∙ rw (text, pool, bytes) refl in
+    inl (subst (λ (v : ImageView). file ≡ file_of v) joined whole)
+
+pub file-was : (file : List ℕ) (image : ImageView) → All (λ (b : ℕ). b < 256) file → image_read file ≡ Ok image → IsFileOf file image
+file-was file image small e =
+    let blocks : Result ImageView ImageError = and_then (block_at file 4 None) (λ (a : Block). and_then (block_at file a.to (Some a.origin)) (λ (b : Block). ended file a b)) in
+    let at1 : (w : ℕ) × (field file 0 ≡ Ok w) × ((if w == magic then blocks else Err errors.BadMagic) ≡ Ok image) =
+        and_then-ok (field file 0)
+        (λ (w : ℕ). if w == magic then and_then (block_at file 4 None) (λ (a : Block). and_then (block_at file a.to (Some a.origin)) (λ (b : Block). ended file a b)) else Err errors.BadMagic)
+        image e in
+    let w : ℕ = at1.0 in
+    let f1 : (0 + 4 ≤ length file) × (word_at file 0 ≡ w) = field-ok file 0 w at1.1 in
+    let c1 : ((w == magic) ≡ true) × (blocks ≡ Ok image) = chose_ok (w == magic) blocks _ image errors.BadMagic refl at1.2 in
+    let magical : w ≡ magic = is_eq w magic c1.0 in
+    let at2 : (a : Block) × (block_at file 4 None ≡ Ok a) × (and_then (block_at file a.to (Some a.origin)) (λ (b : Block). ended file a b) ≡ Ok image) =
+        and_then-ok (block_at file 4 None) (λ (a : Block). and_then (block_at file a.to (Some a.origin)) (λ (b : Block). ended file a b)) image c1.1 in
+    let a : Block = at2.0 in
+    let at3 : (b : Block) × (block_at file a.to (Some a.origin) ≡ Ok b) × (ended file a b ≡ Ok image) =
+        and_then-ok (block_at file a.to (Some a.origin)) (λ (b : Block). ended file a b) image at2.2 in
+    let b : Block = at3.0 in
+    let ra : IsRead file 4 None a = block-ok file 4 None a small at2.1 in
+    let rb : IsRead file a.to (Some a.origin) b = block-ok file a.to (Some a.origin) b small at3.1 in
+    let last : (nat_lt b.to (length file) ≡ false) × (joined file a b ≡ image) = end_ok (nat_lt b.to (length file)) b.to (joined file a b) image at3.2 in
+    let over : length file ≤ b.to = let t : nat_lt b.to (length file) ≡ false = last.0 in grind (arith, nat_tests) in
+    let none : drop b.to file ≡ [] = drop_all b.to file over in
+    let front : drop 0 file ≡ word_bytes (word_at file 0) ++ drop 4 file = word_stands file 0 small f1.0 in
+    let whole : file ≡ word_bytes magic ++ (block_of a.origin (slice_range file a.from a.to) ++ block_of b.origin (slice_range file b.from b.to)) =
+        front
+        ∙ ap (λ (x : ℕ). word_bytes x ++ drop 4 file) (f1.1 ∙ magical)
+        ∙ ap (λ (xs : List ℕ). word_bytes magic ++ xs)
+            (ra.stands
+            ∙ ap (λ (xs : List ℕ). block_of a.origin (slice_range file a.from a.to) ++ xs)
+                (rb.stands ∙ ap (λ (xs : List ℕ). block_of b.origin (slice_range file b.from b.to) ++ xs) none ∙ append-nil _)) in
+    image_from file a b image small ra rb whole (a.origin == text_origin) refl last.1
+  where
+    end_ok : (t : Bool) (to : ℕ) (x image : ImageView) → (if t then Err (errors.Trailing to) else good x) ≡ Ok image → (t ≡ false) × (x ≡ image)
+    end_ok true to x image e = absurd (cc)
+    end_ok false to x image e = (refl, let f : good x ≡ Ok image = e in (cc))
+
+words_at_end : (file : List ℕ) (place n : ℕ) → words_at file place (suc n) ≡ words_at file place n ++ word_at file (place + 4 * n) ∷ []
+words_at_end file place zero = let e : place ≡ place + 4 * 0 = omega arith in ap (λ (k : ℕ). word_at file k ∷ []) e
+words_at_end file place (suc n) =
+    let e : place + 4 + 4 * n ≡ place + 4 * suc n = omega arith in
+    ap (λ (ws : List ℕ). word_at file place ∷ ws) (words_at_end file (place + 4) n ∙ ap (λ (k : ℕ). words_at file (place + 4) n ++ word_at file k ∷ []) e)
+
+-- one word more
+pub words_at-more : (file : List ℕ) (place n : ℕ) → words_at file place (n + 1) ≡ words_at file place n ++ word_at file (place + 4 * n) ∷ []
+words_at-more file place n = rw (add-one n) (words_at_end file place n)
+
+-- What the reader promises, from the exact reading.
+
+pub read-ok : (file : List ℕ) (r : Result ImageView ImageError) → All (λ (b : ℕ). b < 256) file → IfOk r (λ image. image_read file ≡ Ok image) → IfOk r (λ image. IsFileOf file image)
+read-ok file (Ok image) small e = file-was file image small e
+read-ok file (Err e) small h = h
+
+pub read-reads : (file : List ℕ) (r : Result ImageView ImageError) → IfOk r (λ image. image_read file ≡ Ok image) → IfErr r (λ e. (e ≡ errors.OutOfMemory) ⊎ (image_read file ≡ Err e)) →
+    (image : ImageView) → IsWithinLimits image.text image.pool → IsFileOf file image → (r ≡ Ok image) ⊎ (r ≡ Err errors.OutOfMemory)
+read-reads file (Ok i) ok err image fits is = inl (let read : image_read file ≡ Ok image = file-read file image fits is in let was : image_read file ≡ Ok i = ok in cc)
+read-reads file (Err e) ok err image fits is =
+    let read : image_read file ≡ Ok image = file-read file image fits is in
+    elim err [ inl f ↦ inr (ap bad f) | inr f ↦ absurd (let was : image_read file ≡ Err e = f in cc) ]
+  where
+    bad : ImageError → Result ImageView ImageError
+    bad e = Err e
+
+-- the bytes of one word more
+pub flat_words-more : (words : List ℕ) (i : ℕ) → i < length words → flat_map word_bytes (take (i + 1) words) ≡ flat_map word_bytes (take i words) ++ word_bytes (slice_index words i)
+flat_words-more words i inside =
+    ap (flat_map word_bytes) (take_more words i 0 inside) ∙ flat_map-append word_bytes (take i words) (slice_index words i ∷ [])

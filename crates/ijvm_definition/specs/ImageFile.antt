@@ -2,7 +2,7 @@
 -- and its bytes. A word has its most significant byte first.
 use Rattle.std.specs.Prelude.{◌≡◌, ◌⊎◌, ◌≤◌, ◌<◌, ◌^◌, ◌&&◌, ◌||◌, not, ℕ, zero, suc, ◌+◌, ◌-◌, ◌*◌, ◌/◌, ◌%◌, Bool, true, false, if◌then◌else◌, nat_lt, nat_le, ◌==◌, List, [], ◌∷◌, ◌++◌, length, slice_index, slice_range, All, Option, Some, None, Result, Ok, Err}
 use Rattle.std.specs.List.{flat_map}
-use Rattle.ijvm_definition.specs.declared.read_image.Block.{Block}
+use Rattle.ijvm_definition.specs.declared.reader.Block.{Block}
 use Rattle.ijvm_definition.specs.declared.image.ImageError.{ImageError}
 use Rattle.ijvm_definition.specs.declared.image.ImageError.TheVariants as errors
 use Rattle.ijvm_definition.specs.Instructions.{two_bytes}
@@ -78,6 +78,12 @@ block_at file place first =
     then and_then (field file (place + 4)) (λ size. block_from file origin (place + 8) size)
     else Err (errors.BadOrigin origin))
 
+-- a block's bytes lie in the file, and are as few as a size allows
+pub record IsWithin (file : List ℕ) (b : Block) : Type 0 where
+  pub ordered : b.from ≤ b.to
+  pub inside : b.to ≤ length file
+  pub small : b.to ≤ b.from + 65536
+
 -- so many words from a place on
 abbrev pub words_at : List ℕ → ℕ → ℕ → List ℕ
 words_at file place zero = []
@@ -99,9 +105,3 @@ image_read file =
     if word == magic
     then and_then (block_at file 4 None) (λ first. and_then (block_at file first.to (Some first.origin)) (λ second. ended file first second))
     else Err errors.BadMagic)
-
--- bytes and words within the limits
-pub record IsImage (image : ImageView) : Type 0 where
-  pub bytes : All (λ b. b < 256) image.text
-  pub words : All (λ w. w < 2 ^ 32) image.pool
-  pub limits : IsWithinLimits image.text image.pool

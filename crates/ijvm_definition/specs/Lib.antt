@@ -7,3 +7,4 @@ pub mod Run
 pub mod Safe
 pub mod Text
 pub mod ImageFile
+pub mod Machine

@@ -3,17 +3,21 @@
 
 pub mod decode;
 pub mod encode;
+mod frame;
 pub mod image;
 pub mod instr;
 pub mod print;
-pub mod read_image;
+pub mod reader;
 pub mod row;
 pub mod run;
+pub mod writer;
 
 pub use decode::{decode_at, decode_instr};
 pub use encode::encode_instr;
 pub use image::{Image, ImageError};
 pub use instr::Instr;
 pub use print::{name, print_instr, print_name, target_of};
+pub use reader::read_image;
 pub use row::{Cost, Flow, Operands, Row};
 pub use run::RunEnd;
+pub use writer::write_image;

@@ -132,11 +132,14 @@ fn readers_are_sources(rt: HostRuntime) {
 
 #[test]
 fn writers_are_sinks(rt: HostRuntime) {
-    let mut sink = StdSink::new(rt.stdout());
-    assert_eq!(rt; sink.put(b"put\n"), Ok(()));
+    let mut held = Vec::new(rt.alloc());
+    let mut sink = StdSink::new(&mut held);
+    assert_eq!(rt; sink.put(b"ab"), Ok(()));
+    assert_eq!(rt; sink.put(b"c"), Ok(()));
     assert_eq!(rt; sink.flush(), Ok(()));
+    assert_eq!(rt; held.as_slice(), b"abc".as_slice());
     let mut broken = StdSink::new(Broken);
-    assert_eq!(rt; broken.put(b"put\n"), Err(SinkFailed));
+    assert_eq!(rt; broken.put(b"ab"), Err(SinkFailed));
     assert_eq!(rt; broken.flush(), Err(SinkFailed));
 }
 

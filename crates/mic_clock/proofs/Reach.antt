@@ -1,17 +1,15 @@
 -- How a run goes on on a board, and where a fault cuts it.
-use Rattle.std.proofs.Common.{◌≡◌, ◌≢◌, ◌⊎◌, inl, inr, suc, ℕ, List, [], Bool, Option, Some, None, IsSome, IsTrue, refl, sym, ◌∙◌, ap, subst}
-use Rattle.console_port.specs.Bus.{Stands}
+use Rattle.std.proofs.Common.{◌≡◌, ◌⊎◌, inl, inr, suc, ℕ, List, Bool, Option, Some, None, IsSome, IsTrue, refl, sym, ◌∙◌, ap, subst}
 use Rattle.console_port.specs.Console.{IsLost, Untaken}
-use Rattle.console_port.specs.declared.fault.BusFault.{BusFault}
 use Rattle.console_port.specs.declared.fault.BusFault.TheVariants as faults
 use Rattle.mic_clock.specs.declared.end.End.{End}
 use Rattle.mic_clock.specs.declared.end.End.TheVariants as ends
 use Rattle.mic_clock.specs.Meaning.{Meaning}
 use Rattle.mic_clock.specs.View.{BoardView}
-use Rattle.mic_clock.specs.Run.{MicroRun, Buses, end_before, word_at, turn, turns, bounded, buses, buses_of, IsClocking}
+use Rattle.mic_clock.specs.Run.{MicroRun, end_before, word_at, turn, turns, bounded, buses_of}
 use Rattle.mic_clock.specs.Board.{ShowsRun, IsLedTo, IsCut, IsCutByRead, IsCutByWrite, Leads, NoFault}
 use Rattle.mic_clock.proofs.Front.{front_lost}
-use Rattle.mic_clock.proofs.Turns.{turns-suc, bounded-state}
+use Rattle.mic_clock.proofs.Turns.{turns-suc}
 
 module _ {M State : Type 0} (state : M → State) (left0 held0 : Option (List ℕ)) (board0 : BoardView M) where
   -- what is known of each run that a board leads to may be replaced by what follows
@@ -54,7 +52,6 @@ module _ {M State : Type 0} (state : M → State) (m : Meaning State) (words : L
     (left held : Option (List ℕ)) (board : BoardView M) (left' held' : Option (List ℕ)) (board' : BoardView M)
     (program : board.store.words ≡ words)
     (led : IsLedTo state left0 held0 board0 left board (λ r rest. (n : ℕ) × Along n r × Leads state m words bound board board0.buses rest n r (ShowsRun state left held board))) where
-
   -- one turn more
   pub Leads-turn :
       IsLedTo state left held board left' board' (λ r rest. ShowsRun state left' held' board' (turn m board.store.words (bounded m bound r)) × ((turn m board.store.words (bounded m bound r)).world.untaken ≡ rest)) →
@@ -69,10 +66,9 @@ module _ {M State : Type 0} (state : M → State) (m : Meaning State) (words : L
             let at = far.2 r s e in
             let n = at.0 in
             let is : turn m board.store.words (bounded m bound (turns m words bound n r)) ≡ turns m words bound (suc n) r =
-                ap (λ (ws : List ℕ). turn m ws (bounded m bound (turns m words bound n r))) program ∙ sym (turns-suc m words bound r n) in
+            ap (λ (ws : List ℕ). turn m ws (bounded m bound (turns m words bound n r))) program ∙ sym (turns-suc m words bound r n) in
             let next = one.2 (turns m words bound n r) at.2.here at.2.untaken in
-            let shows : ShowsRun state left' held' board' (turns m words bound (suc n) r) = subst (λ (x : MicroRun State). ShowsRun state left' held' board' x) is next.0 in
-            (
+            let shows : ShowsRun state left' held' board' (turns m words bound (suc n) r) = subst (λ (x : MicroRun State). ShowsRun state left' held' board' x) is next.0 in (
               n,
               at.1,
               record {
@@ -94,19 +90,19 @@ module _ {M State : Type 0} (state : M → State) (m : Meaning State) (words : L
         at.0,
         at.1,
         let q = turns m words bound at.0 r in
-        let here = at.2.here in
-        record {
-          here = record {
-            its_state = here.its_state ∙ sym cut.its_state;
-            world = cut.world.same (λ e. cc) q.world here.world;
-            counts = here.counts ∙ sym cut.counts;
-            kept = cut.world.emptied tt;
-            next = record { running = on q here; no_end = (λ i. end_before m (here.its_state i) (here.counts i)) ∙ cut.no_end };
-            reads = subst IsTrue (λ i. m.reads_console (word_at m (program i) (sym here.its_state i)) (sym here.its_state i)) (cut.reads refl);
-          };
-          untaken = at.2.untaken;
-          buses = cut.buses ∙ at.2.buses;
-        },
+            let here = at.2.here in
+            record {
+              here = record {
+                its_state = here.its_state ∙ sym cut.its_state;
+                world = cut.world.same (λ e. cc) q.world here.world;
+                counts = here.counts ∙ sym cut.counts;
+                kept = cut.world.emptied tt;
+                next = record { running = on q here; no_end = (λ i. end_before m (here.its_state i) (here.counts i)) ∙ cut.no_end };
+                reads = subst IsTrue (λ i. m.reads_console (word_at m (program i) (sym here.its_state i)) (sym here.its_state i)) (cut.reads refl);
+              };
+              untaken = at.2.untaken;
+              buses = cut.buses ∙ at.2.buses;
+            },
       ))
       led)
 
@@ -121,24 +117,24 @@ module _ {M State : Type 0} (state : M → State) (m : Meaning State) (words : L
         at.0,
         at.1,
         let q = turns m words bound at.0 r in
-        let here = at.2.here in
-        record {
-          here = record {
-            its_state = here.its_state ∙ sym cut.its_state;
-            memory = here.world.words ∙ sym cut.world.words;
-            untaken = subst (λ (o : Option (List ℕ)). Untaken o board'.bus.console.ended q.world.untaken) (sym cut.world.untaken)
-                (subst (λ (b : Bool). Untaken left b q.world.untaken) (sym cut.world.ended) here.world.untaken);
-            counts = here.counts ∙ sym cut.counts;
-            kept = cut.world.emptied tt;
-            front = front_lost held held' board.bus.console.kept board'.bus.console.kept q.world.given (cut.world.lost refl) here.world.given;
-            next = inl (
-              record { running = on q here; no_end = (λ i. end_before m (here.its_state i) (here.counts i)) ∙ cut.no_end },
-              subst IsTrue (λ i. m.uses_console (word_at m (program i) (sym here.its_state i)) (sym here.its_state i)) (cut.uses refl),
-            );
-          };
-          untaken = at.2.untaken;
-          buses = cut.buses ∙ at.2.buses;
-        },
+            let here = at.2.here in
+            record {
+              here = record {
+                its_state = here.its_state ∙ sym cut.its_state;
+                memory = here.world.words ∙ sym cut.world.words;
+                untaken = subst (λ (o : Option (List ℕ)). Untaken o board'.bus.console.ended q.world.untaken) (sym cut.world.untaken)
+                    (subst (λ (b : Bool). Untaken left b q.world.untaken) (sym cut.world.ended) here.world.untaken);
+                counts = here.counts ∙ sym cut.counts;
+                kept = cut.world.emptied tt;
+                front = front_lost held held' board.bus.console.kept board'.bus.console.kept q.world.given (cut.world.lost refl) here.world.given;
+                next = inl (
+                  record { running = on q here; no_end = (λ i. end_before m (here.its_state i) (here.counts i)) ∙ cut.no_end },
+                  subst IsTrue (λ i. m.uses_console (word_at m (program i) (sym here.its_state i)) (sym here.its_state i)) (cut.uses refl),
+                );
+              };
+              untaken = at.2.untaken;
+              buses = cut.buses ∙ at.2.buses;
+            },
       ))
       led)
 

@@ -7,7 +7,6 @@ use Rattle.console_port.specs.Console.{IsFault, Untaken}
 use Rattle.console_port.specs.declared.fault.BusFault.{BusFault}
 use Rattle.console_port.specs.declared.fault.BusFault.TheVariants as faults
 use Rattle.mic_clock.specs.declared.end.End.{End}
-use Rattle.mic_clock.specs.declared.end.End.TheVariants as ends
 use Rattle.mic_clock.specs.Meaning.{Meaning, Outcome, Done, Refused, fault_in}
 use Rattle.mic_clock.specs.Run.{MicroRun, word_at, end_of, end_before, stepped, gone, turn, turn_by, turns, bounded, bounded_by}
 use Rattle.mic_clock.specs.View.{BoardView}
@@ -51,19 +50,17 @@ module _ {M State : Type 0} (state : M → State) (m : Meaning State) (left held
       (IsFault e → ⊥) → Stands left held board.bus left' held' board'.bus e →
       state board'.machine ≡ state board.machine → board'.counts ≡ board.counts → board'.end ≡ Some (end_by e) →
       IsLedTo state left held board left' board' (λ r rest. ShowsRun state left' held' board' (turn m board.store.words r) × ((turn m board.store.words r).world.untaken ≡ rest))
-  led-refused going no_end refused other stands same_state same_counts ends rest fits =
-      (
-        rest,
-        subst (λ (o : Option (List ℕ)). Untaken o board.bus.console.ended rest) stands.untaken (subst (λ (b : Bool). Untaken left' b rest) stands.ended fits),
-        λ r s is_rest.
-            let is = turn-refused r s going no_end refused in
-            let no_write : e ≢ faults.WriteFault = λ w. other (subst IsFault (sym w) tt) in
-            (
-              subst (λ (x : MicroRun State). ShowsRun state left' held' board' x) (sym is)
+  led-refused going no_end refused other stands same_state same_counts ends rest fits = (
+    rest,
+    subst (λ (o : Option (List ℕ)). Untaken o board.bus.console.ended rest) stands.untaken (subst (λ (b : Bool). Untaken left' b rest) stands.ended fits),
+    λ r s is_rest.
+        let is = turn-refused r s going no_end refused in
+        let no_write : e ≢ faults.WriteFault = λ w. other (subst IsFault (sym w) tt) in (
+          subst (λ (x : MicroRun State). ShowsRun state left' held' board' x) (sym is)
               (record { its_state = s.its_state ∙ sym same_state; world = stands.same no_write r.world s.world; counts = s.counts ∙ sym same_counts; its_end = sym ends }),
-              ap (λ (x : MicroRun State). x.world.untaken) is ∙ is_rest,
-            ),
-      )
+          ap (λ (x : MicroRun State). x.world.untaken) is ∙ is_rest,
+        ),
+  )
 
 -- Turns counted from the last one.
 iterate-suc : {A : Type 0} (h : A → A) (n : ℕ) (x : A) → iterate h (suc n) x ≡ h (iterate h n x)

@@ -1,5 +1,5 @@
 -- A board between a source and a sink shows where a run stands; how the run goes on, and where a fault cuts it.
-use Rattle.std.specs.Prelude.{◌≡◌, ◌≢◌, ◌⊎◌, Bool, true, ℕ, ◌+◌, ◌≤◌, ◌==◌, if◌then◌else◌, List, [], ◌++◌, Option, Some, None, IfSome, IsSome, is_some, IsTrue}
+use Rattle.std.specs.Prelude.{◌≡◌, ◌≢◌, ◌⊎◌, ℕ, ◌+◌, ◌≤◌, ◌==◌, if◌then◌else◌, List, [], ◌++◌, Option, Some, None, IfSome, IsSome, is_some, IsTrue}
 use Rattle.console_port.specs.Bus.{Shows, Stands}
 use Rattle.console_port.specs.Console.{Untaken}
 use Rattle.console_port.specs.declared.fault.BusFault.{BusFault}

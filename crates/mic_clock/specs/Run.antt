@@ -1,5 +1,5 @@
 -- The clocked run of a machine over a world, turn by turn, with this profile's counts and ends.
-use Rattle.std.specs.Prelude.{◌≡◌, ℕ, zero, suc, ◌+◌, ◌-◌, ◌<◌, ◌≤◌, nat_le, ◌==◌, if◌then◌else◌, Bool, true, false, List, Option, Some, None, is_some, slice_index}
+use Rattle.std.specs.Prelude.{◌≡◌, ℕ, zero, suc, ◌+◌, ◌-◌, ◌<◌, nat_le, ◌==◌, if◌then◌else◌, Bool, true, false, List, Option, Some, None, is_some, slice_index}
 use Rattle.std.specs.Fn.{iterate}
 use Rattle.console_port.specs.World.{World, Refusal, StackLimit, OutOfMap}
 use Rattle.mic_clock.specs.declared.buses.Drive.{Drive}
@@ -148,9 +148,10 @@ module _ {State : Type 0} (m : Meaning State) (words : List ℕ) where
     pub running : r.end ≡ None
     pub no_boundary : m.is_boundary r.state ≡ false
 
-  -- n turns with no boundary and no end between them
-  abbrev pub IsLeg : ℕ → MicroRun State → Type 0
-  IsLeg n r = (k : ℕ) → 0 < k → k < n → IsInside (turns None k r)
+  -- n turns, at least one, with no boundary and no end between them
+  pub record IsLeg (n : ℕ) (r : MicroRun State) : Type 0 where
+    pub some : 0 < n
+    pub inside : (k : ℕ) → 0 < k → k < n → IsInside (turns None k r)
 
   -- the bus values after a turn from this state: an end leaves them
   abbrev pub buses_of : State → Buses → Option End → Buses

@@ -2,7 +2,7 @@
 
 ghost use Rattle.mic_base.specs.Causes.{Rose};
 ghost use Rattle.mic_base.specs.Streams.{Holds};
-ghost use Rattle.std.specs.Prelude.{◌≡◌, ◌≢◌, ◌⊎◌, [], ◌<◌, ◌≤◌, ◌+◌, ◌^◌, ℕ, List, Option, None, Some, IsOk, OnOk, OnErr, IfErr, IsSome, IsTrue, is_some, if◌then◌else◌, true, false, length};
+ghost use Rattle.std.specs.Prelude.{◌≡◌, ◌≢◌, ◌⊎◌, [], ◌<◌, ◌≤◌, ◌+◌, ◌^◌, ℕ, suc, List, Option, None, Some, IsOk, OnOk, OnErr, IfErr, IsSome, IsTrue, is_some, if◌then◌else◌, true, false, length};
 ghost use Rattle.console_port.specs.World.{World};
 ghost use Rattle.console_port.specs.Bus.{Shows, Stands};
 ghost use Rattle.console_port.specs.Console.{IsFault, IsLost, HasFaultCause};
@@ -136,6 +136,32 @@ impl<M: Clocked> Board<M> {
                 Tick::Ended(end)
             }
         }
+    }
+
+    /// Turns up to the next boundary, which answers none, or up to the end.
+    pub fn instruction<S: Source, K: Sink>(&mut self, source: &mut S, sink: &mut K) -> Option<End>
+        requires { self.old.counts.cycles ≤ 2 ^ 62 + 1024 }
+        ensures run { self.old.end ≡ None → NoFault None self.new.end → IsLedTo M.state (S.left source.old) (K.held sink.old) self.old (S.left source.new) self.new
+            (λ r rest. (n : ℕ) × IsLeg M.meaning self.old.store.words n r × Leads M.state M.meaning self.old.store.words None self.new self.old.buses rest n r (ShowsRun M.state (S.left source.new) (K.held sink.new) self.new)) }
+        ensures read { self.old.end ≡ None → self.new.end ≡ Some End.ReadFault → IsLedTo M.state (S.left source.old) (K.held sink.old) self.old (S.left source.new) self.new
+            (λ r rest. (n : ℕ) × IsLeg M.meaning self.old.store.words (suc n) r × Leads M.state M.meaning self.old.store.words None self.new self.old.buses rest n r (IsCutByRead M.state M.meaning self.old.store.words None (S.left source.new) (K.held sink.new) self.new)) }
+        ensures write { self.old.end ≡ None → self.new.end ≡ Some End.WriteFault → IsLedTo M.state (S.left source.old) (K.held sink.old) self.old (S.left source.new) self.new
+            (λ r rest. (n : ℕ) × IsLeg M.meaning self.old.store.words (suc n) r × Leads M.state M.meaning self.old.store.words None self.new self.old.buses rest n r (IsCutByWrite M.state M.meaning self.old.store.words None (S.left source.new) (K.held sink.new) self.new)) }
+        ensures value { result ≡ self.new.end }
+        ensures boundary { result ≡ None → M.meaning.is_boundary (M.state self.new.machine) ≡ true }
+        ensures ended { (e : End) → self.old.end ≡ Some e → (self.new ≡ self.old) × (source.new ≡ source.old) × (sink.new ≡ sink.old) }
+        ensures store { self.new.store ≡ self.old.store }
+        ensures keeps { (front : List ℕ) → Holds front (K.held sink.old) → Holds front (K.held sink.new) }
+        ensures cause { HasEndCause (S.faults source.old) (S.faults source.new) (K.faults sink.old) (K.faults sink.new) self.old.end self.new.end }
+    {
+        if self.end.is_some() {
+            return self.end;
+        }
+        self.cycle(source, sink);
+        'inside: while self.end.is_none() && !self.machine.at_boundary() {
+            self.cycle(source, sink);
+        }
+        self.end
     }
 
     // The test of the bound, and whether the board goes on.

@@ -10,7 +10,9 @@ use crate::end::End;
 use console_port::BusFault;
 
 const HALT: u16 = 0x0FF;
+
 const ERR: u16 = 0x0FE;
+
 const DRIFT: u64 = 1024;
 
 /// The end by a refusal or a fault.

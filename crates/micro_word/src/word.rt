@@ -94,7 +94,7 @@ fn decoded(machine: Machine, bits: u64) -> Option<Placed>
 pub fn decode1(bits: u64) -> Option<Placed>
     ensures known { IfSome result (λ p. IsTrue (is_valid Mic1 p) × (word_of Mic1 p ≡ bits)) }
     ensures back { (p : Placed) → IsTrue (is_valid Mic1 p) → word_of Mic1 p ≡ bits → result ≡ Some p }
-    ensures none { IfNone result (IsCanonical Mic1 bits → ⊥) }
+    ensures none { IfNone result (¬ IsCanonical Mic1 bits) }
 {
     decoded(Machine::Mic1, bits)
 }
@@ -103,7 +103,7 @@ pub fn decode1(bits: u64) -> Option<Placed>
 pub fn decode2(bits: u64) -> Option<Placed>
     ensures known { IfSome result (λ p. IsTrue (is_valid Mic2 p) × (word_of Mic2 p ≡ bits)) }
     ensures back { (p : Placed) → IsTrue (is_valid Mic2 p) → word_of Mic2 p ≡ bits → result ≡ Some p }
-    ensures none { IfNone result (IsCanonical Mic2 bits → ⊥) }
+    ensures none { IfNone result (¬ IsCanonical Mic2 bits) }
 {
     decoded(Machine::Mic2, bits)
 }

@@ -2,24 +2,24 @@
 use Rattle.std.proofs.Common.{◌≡◌, ◌≢◌, ℕ, ◌+◌, ◌-◌, ◌<◌, ◌≤◌, Bool, true, false, cond, not, ◌&&◌, ◌||◌, ◌⊎◌, List, [], ◌∷◌, Option, Some, None, length, map, take, get_or, eqb, refl, sym, ap, subst, ◌∙◌, inl, inr, arith}
 use Rattle.std.specs.Prelude.{is_none}
 use Rattle.std.specs.Option.{option_or}
-use Rattle.std.specs.List.{list_any, All, filter}
+use Rattle.std.specs.List.{list_any, All, filter, count_by}
 use Rattle.std.proofs.lemmas.Bool.{eq-eqb}
 use Rattle.std.proofs.lemmas.List.FromFn.{get_or-map-range_with_len, fill_by_all}
 use Rattle.store_placement.specs.declared.pair.Pair.{Pair}
 use Rattle.store_placement.specs.Demands.{Demands, AreWithin, IsOfStatements, fixed_at}
-use Rattle.store_placement.specs.First.{below}
+use Rattle.store_placement.specs.First.{below, Never, NeverTwo}
 use Rattle.store_placement.specs.Forced.{forced, all_forced}
-use Rattle.store_placement.specs.Refusals.{stands_in}
-use Rattle.store_placement.specs.Chosen.{free_lows, free_addresses, open_pairs, is_single, singles, before_singles, IsChosen}
+use Rattle.store_placement.specs.Refusals.{stands_in, clashes, in_wrong_half, collide}
+use Rattle.store_placement.specs.Chosen.{is_free_low, free_lows, free_addresses, open_pairs, is_single, singles, before_singles, IsChosen, IsChosenList}
 use Rattle.store_placement.specs.Steps.{pair_address, with_pairs, filled}
-use Rattle.store_placement.proofs.Among.{Among, All-among, All-from_among, any_at, any_none, none_of, left_or, right_or, among-below, among_below, among_filter}
+use Rattle.store_placement.proofs.Among.{Among, All-among, All-from_among, any_at, any_none, none_of, left_or, right_or, among-below, among_below, among-filter, among_filter}
 use Rattle.store_placement.proofs.Below.{length-map_below}
 use Rattle.store_placement.proofs.ForcedLemmas.{length-all_forced, at_all_forced}
 use Rattle.store_placement.proofs.ClearPairs.{AreClear, of_statements, stands_cases, stands_yes, stands_no, one_role}
 use Rattle.store_placement.proofs.ForcedBy.{own_none, forced_none}
 use Rattle.store_placement.proofs.OpenPairs.{IsOpen, Apart-open, open_from, open_unforced}
-use Rattle.store_placement.proofs.ChosenPlacement.{IsPlacedBy, ByForce, ByLow, ByHigh, placed_by}
-use Rattle.store_placement.proofs.StepsLemmas.{at_low, pair_places, pair_misses, nones, filled_kept, rest_taken, free_enough}
+use Rattle.store_placement.proofs.ChosenPlacement.{AreApart, chosen_places, IsPlacedBy, ByForce, ByLow, ByHigh, placed_by}
+use Rattle.store_placement.proofs.StepsLemmas.{at_low, pair_places, pair_misses, nones, nones-count, length-filled, filled_kept, rest_taken, free_enough}
 
 map_same : {X Y : Type 0} (f g : X → Y) (xs : List X) → ((x : X) → Among x xs → f x ≡ g x) → map f xs ≡ map g xs
 map_same f g [] h = refl
@@ -40,7 +40,7 @@ record AreSteps (fixed : List (Option ℕ)) (pairs : List Pair) : Type 0 where
   enough : length (open_pairs fixed pairs) ≤ length (free_lows (all_forced fixed pairs))
 
 -- the addresses after the pairs
-abbrev placed_of : List (Option ℕ) → List Pair → List (Option ℕ)
+abbrev pub placed_of : List (Option ℕ) → List Pair → List (Option ℕ)
 placed_of fixed pairs = with_pairs (all_forced fixed pairs) (open_pairs fixed pairs) (free_lows (all_forced fixed pairs))
 
 abbrev paired_at : List (Option ℕ) → List Pair → ℕ → Option ℕ
@@ -200,3 +200,34 @@ chosen_agree {d} {f} {g} c by_f by_g s inside =
           (among_filter (is_single d.fixed d.pairs) (below (length d.fixed)) s (among_below (length d.fixed) s inside) is)
       | false ↦ λ is. others_agree c by_f by_g s inside is
       ] refl
+
+-- the addresses that the steps leave are the chosen placement, where nothing is refused
+pub steps_place : (fixed : List (Option ℕ)) (pairs : List Pair) (addresses : List ℕ) → AreWithin fixed pairs → Never (clashes pairs) (length fixed) → Never (in_wrong_half fixed pairs) (length fixed) → NeverTwo (collide fixed pairs) (length fixed) → length (open_pairs fixed pairs) ≤ length (free_lows (all_forced fixed pairs)) → addresses ≡ filled (placed_of fixed pairs) (free_addresses (placed_of fixed pairs)) → IsChosenList (record { fixed = fixed; pairs = pairs }) addresses
+steps_place fixed pairs addresses within clear halved apart enough are =
+    let c : AreClear fixed pairs = record { within = within; clear = clear } in
+    let h : AreApart fixed pairs = record { halved = record { clear = c; halved = halved }; apart = apart } in
+    let d : Demands = record { fixed = fixed; pairs = pairs } in
+    let chosen : IsChosen d (step_address fixed pairs) = steps_chosen c enough in
+    let P : List ℕ → Type 0 = λ xs. IsChosenList d xs in
+    subst P (sym are) (record {
+      places = record {
+        count = length-filled (placed_of fixed pairs) (free_addresses (placed_of fixed pairs)) (placed_enough within) ∙ length-placed fixed pairs;
+        places = chosen_places h chosen
+      };
+      chosen = chosen
+    })
+
+-- enough addresses are free for the statements without one
+pub free_for_rest : (fixed : List (Option ℕ)) (pairs : List Pair) (placed : List (Option ℕ)) (free : List ℕ) → AreWithin fixed pairs → placed ≡ placed_of fixed pairs → free ≡ free_addresses placed → count_by (λ o. is_none o) placed ≤ length free
+free_for_rest fixed pairs placed free within is are =
+    let enough = placed_enough within in
+    let count = nones-count (placed_of fixed pairs) in
+    let P : List (Option ℕ) → Type 0 = λ xs. count_by (λ o. is_none o) xs ≤ length (free_addresses xs) in
+    let most : P (placed_of fixed pairs) = omega arith in
+    let Q : List ℕ → Type 0 = λ xs. count_by (λ o. is_none o) placed ≤ length xs in
+    subst Q (sym are) (subst P (sym is) most)
+
+-- the low addresses are below 256
+pub lows_inside : (placed : List (Option ℕ)) → All (λ a. a < 256) (free_lows placed)
+unfolding free_lows
+lows_inside placed = All-from_among (λ a. a < 256) (filter (is_free_low placed) (below 256)) (λ a among. among-below 256 a (among-filter (is_free_low placed) (below 256) a among).0)

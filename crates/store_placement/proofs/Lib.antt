@@ -4,9 +4,11 @@ pub mod Below
 pub mod ChosenPlacement
 pub mod Choice
 pub mod ClearPairs
+pub mod FillingLemmas
 pub mod ForcedBy
 pub mod ForcedLemmas
 pub mod NoPlacement
 pub mod OneRefusal
 pub mod OpenPairs
+pub mod ProgramLemmas
 pub mod StepsLemmas

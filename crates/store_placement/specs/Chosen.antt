@@ -1,9 +1,10 @@
 -- The chosen placement: forced addresses first, then the remaining pairs, then the remaining statements, each in order and as low as there is room.
-use Rattle.std.specs.Prelude.{◌≡◌, ◌<◌, ℕ, ◌+◌, ◌==◌, Bool, not, ◌&&◌, ◌||◌, if◌then◌else◌, min, is_none, List, Option, Some, None, length, map, filter, find, take, All}
+use Rattle.std.specs.Prelude.{◌≡◌, ◌<◌, ℕ, ◌+◌, ◌==◌, Bool, not, ◌&&◌, ◌||◌, if◌then◌else◌, min, is_none, List, Option, Some, None, length, map, filter, find, take, slice_index, All}
 use Rattle.std.specs.List.{list_any, filter_map}
 use Rattle.store_placement.specs.declared.pair.Pair.{Pair}
 use Rattle.store_placement.specs.Demands.{Demands, fixed_at}
 use Rattle.store_placement.specs.First.{below}
+use Rattle.store_placement.specs.Placement.{Places}
 use Rattle.store_placement.specs.Forced.{forced, all_forced, same_address}
 
 -- a statement is placed at a
@@ -53,3 +54,8 @@ pub record IsChosen (d : Demands) (address : ℕ → ℕ) : Type 0 where
   pub highs : All (λ p. address p.yes ≡ address p.no + 256) (open_pairs d.fixed d.pairs)
   pub rest : let last = singles d.fixed d.pairs in
     map address last ≡ take (length last) (free_addresses (before_singles d address))
+
+-- the addresses of the statements in order are the chosen placement
+pub record IsChosenList (d : Demands) (addresses : List ℕ) : Type 0 where
+  pub places : Places d addresses
+  pub chosen : IsChosen d (slice_index addresses)

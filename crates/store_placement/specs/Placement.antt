@@ -1,5 +1,5 @@
 -- A placement: any map from the statements to addresses that gives no address twice and keeps fixed addresses and pairs.
-use Rattle.std.specs.Prelude.{◌≡◌, ◌<◌, ℕ, ◌+◌, Some, length, All}
+use Rattle.std.specs.Prelude.{◌≡◌, ◌<◌, ℕ, ◌+◌, List, Some, length, slice_index, All}
 use Rattle.store_placement.specs.Demands.{Demands, fixed_at}
 
 pub record IsPlacement (d : Demands) (address : ℕ → ℕ) : Type 0 where
@@ -10,3 +10,8 @@ pub record IsPlacement (d : Demands) (address : ℕ → ℕ) : Type 0 where
 
 abbrev pub HasPlacement : Demands → Type 0
 HasPlacement d = (address : ℕ → ℕ) × IsPlacement d address
+
+-- the addresses of the statements, in order
+pub record Places (d : Demands) (addresses : List ℕ) : Type 0 where
+  pub count : length addresses ≡ length d.fixed
+  pub places : IsPlacement d (slice_index addresses)

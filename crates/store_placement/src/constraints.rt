@@ -9,8 +9,8 @@ use std::marker::Model;
 /// What a placement has to keep: each statement's fixed address, if it has one, and the pairs.
 #[derive(Drop)]
 pub struct Constraints {
-    fixed: ArrayVec<Option<u16>, 512>,
-    pairs: ArrayVec<Pair, 513>,
+    pub(crate) fixed: ArrayVec<Option<u16>, 512>,
+    pub(crate) pairs: ArrayVec<Pair, 513>,
 }
 
 impl Model for Constraints {

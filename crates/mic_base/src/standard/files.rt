@@ -15,10 +15,15 @@ pub struct StdFiles<R> {
 }
 
 impl<R> StdFiles<R> {
-    pub fn new(rt: R) -> StdFiles<R> {
+    ghost use Rattle.mic_base.specs.Standard.{runtime_of};
+
+    pub fn new(rt: R) -> StdFiles<R>
+        ensures { runtime_of result ≡ rt }
+    {
         StdFiles { rt, faults: 0 }
     }
 
+    /// What an error of the runtime is told as, a fault unless memory ran out.
     fn note(&mut self, error: io::Error) -> FileError
         ensures later { self.old.faults ≤ self.new.faults }
         ensures failed { result ≡ FileError.Failed → Rose self.old.faults self.new.faults }

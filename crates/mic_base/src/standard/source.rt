@@ -1,4 +1,7 @@
-ghost use Rattle.std.specs.Prelude.{None};
+ghost use Rattle.std.specs.Prelude.{◌≡◌, [], ◌∷◌, None, IfOk, IfSome};
+ghost use Rattle.std.specs.Io.KnownBytes.{Consumes};
+ghost use Rattle.mic_base.specs.Causes.{HasCause};
+ghost use Rattle.mic_base.specs.Streams.{Takes};
 
 use crate::source::{Source, SourceFailed};
 use std::io::{ErrorKind, Read};
@@ -11,17 +14,29 @@ pub struct StdSource<R> {
 }
 
 impl<R> StdSource<R> {
-    pub fn new(reader: R) -> StdSource<R> {
+    ghost use Rattle.mic_base.specs.Standard.{reader_of};
+
+    pub fn new(reader: R) -> StdSource<R>
+        ensures { reader_of result ≡ reader }
+    {
         StdSource { reader, faults: 0 }
     }
 }
 
 impl<R: Read> Source for StdSource<R> {
+    ghost use Rattle.mic_base.specs.Standard.{reader_faults, reader_of};
+
     ghost left = { λ s. None };
 
     ghost faults = { λ s. s.faults };
 
-    fn get(&mut self) -> Result<Option<u8>, SourceFailed> {
+    fn get(&mut self) -> Result<Option<u8>, SourceFailed>
+        ensures takes { Takes None result None }
+        ensures cause { HasCause (reader_faults self.old) (reader_faults self.new) result }
+
+        // A byte is the reader's next one, where that is known.
+        ensures read { IfOk result (λ next. IfSome next (λ byte. Consumes (R.remaining (reader_of self.old)) (R.remaining (reader_of self.new)) (byte ∷ []))) }
+    {
         let mut byte = [0];
         match self.reader.read_exact(&mut byte) {
             Ok(()) => Ok(Some(byte[0])),

@@ -1,11 +1,11 @@
-use Rattle.std.proofs.Common.{◌≡◌, ◌≤◌, ℕ, suc, max, List, [], Option, None, Some, IsSome, Bool, true, false, inl, inr, refl, sym, ◌∙◌, ap, subst, rules, arith}
+use Rattle.std.proofs.Common.{◌≡◌, ◌≤◌, ℕ, suc, max, [], Option, None, Some, IsSome, inl, inr, refl, sym, ◌∙◌, ap, subst, rules, arith}
 use Rattle.std.proofs.lemmas.Bool.{cases_Bool}
 use Rattle.console_port.specs.declared.fault.BusFault.TheVariants as faults
 use Rattle.micro_word.specs.ControlStore.{ControlStore}
 use Rattle.mic_clock.specs.declared.end.End.TheVariants as ends
 use Rattle.mic_clock.specs.View.{BoardView}
 use Rattle.mic_clock.specs.Run.{MicroRun, word_at, last_cycles}
-use Rattle.mic_clock.specs.Board.{ShowsRun, NoFault}
+use Rattle.mic_clock.specs.Board.{NoFault}
 use Rattle.mic_clock.proofs.InTime.{InTime-step, HasEndCause-step}
 use Rattle.mic_clock.proofs.Reach.{IsLedTo-map, Leads-turn, Leads-read, Leads-write, Leads-flushed, Leads-lost, fault_cases}
 use Rattle.mic_clock.proofs.board.Board.run.Goals as goal

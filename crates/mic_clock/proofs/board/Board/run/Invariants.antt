@@ -1,4 +1,4 @@
-use Rattle.std.proofs.Common.{◌≡◌, List, [], ℕ, ◌+◌, ◌-◌, max, None, Some, is_some, IsTrue, if◌then◌else◌}
+use Rattle.std.proofs.Common.{◌≡◌, List, [], ℕ, ◌+◌, ◌-◌, max, None, Some, is_some, if◌then◌else◌}
 use Rattle.mic_clock.specs.declared.end.End.TheVariants as ends
 use Rattle.mic_base.specs.Streams.{Holds}
 use Rattle.mic_clock.specs.Run.{last_cycles}

@@ -1,4 +1,4 @@
-use Rattle.std.proofs.Common.{◌≡◌, None, Some, IsSome, true, false, inl, inr, refl, ap, ◌∙◌, sym, rules}
+use Rattle.std.proofs.Common.{◌≡◌, None, Some, IsSome, inl, inr, refl, ap, ◌∙◌, sym, rules}
 use Rattle.std.proofs.lemmas.Bool.{cases_Bool}
 use Rattle.mic_clock.specs.View.{BoardView}
 use Rattle.mic_clock.specs.Run.{bounded}

@@ -1,0 +1,19 @@
+-- A loaded image: its text in the memory from byte 0, and its pool from word 0x4000.
+use Rattle.std.specs.Prelude.{◌≡◌, ◌⊎◌, ℕ, ◌+◌, ◌*◌, ◌/◌, ◌<◌, ◌≤◌, List, length, slice_index}
+use Rattle.console_port.specs.World.{byte_in}
+
+-- the word that four bytes make, the most significant first
+abbrev pub word_of : ℕ → ℕ → ℕ → ℕ → ℕ
+word_of a b c d = 16777216 * a + 65536 * b + 256 * c + d
+
+-- word `at` of a text, with zeros behind its end
+abbrev pub text_word : List ℕ → ℕ → ℕ
+text_word text at =
+    word_of (slice_index text (4 * at)) (slice_index text (4 * at + 1)) (slice_index text (4 * at + 2)) (slice_index text (4 * at + 3))
+
+-- An image was loaded into a memory. Behind the text its last word has zeros, and every other word stays.
+pub record IsLoaded (text pool old new : List ℕ) : Type 0 where
+  pub size : length new ≡ length old
+  pub text_bytes : (byte : ℕ) → 4 * (byte / 4) < length text → byte_in new byte ≡ slice_index text byte
+  pub pool_words : (k : ℕ) → k < length pool → slice_index new (0x4000 + k) ≡ slice_index pool k
+  pub others : (at : ℕ) → length text ≤ 4 * at → (at < 0x4000) ⊎ (0x4000 + length pool ≤ at) → slice_index new at ≡ slice_index old at

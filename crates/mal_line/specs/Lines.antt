@@ -1,0 +1,147 @@
+-- A line of the microassembly language: what its tokens spell on a machine, and why they are refused.
+use Rattle.std.specs.Prelude.{◌≡◌, ◌≢◌, ℕ, Bool, true, false, List, [], ◌∷◌, ◌⊎◌, Option, Some, None, Result, Ok, Err, if◌then◌else◌, option_map}
+use Rattle.std.specs.List.{list_any}
+use Rattle.micro_word.specs.declared.statement.Machine.{Machine}
+use Rattle.micro_word.specs.declared.statement.Machine.TheVariants.{Mic1, Mic2}
+use Rattle.micro_word.specs.declared.statement.AluOp.TheVariants as ops
+use Rattle.micro_word.specs.declared.statement.Shift.TheVariants as shifts
+use Rattle.micro_word.specs.declared.statement.Part.{Part}
+use Rattle.mal_tokens.specs.declared.word.Word.{Word}
+use Rattle.mal_tokens.specs.declared.word.Word.TheVariants as words
+use Rattle.mal_tokens.specs.declared.sign.Sign.TheVariants as signs
+use Rattle.mal_tokens.specs.declared.token.Token.{Token}
+use Rattle.mal_tokens.specs.declared.token.Token.TheVariants as tokens
+use Rattle.mal_line.specs.declared.operation.Operation.{Operation}
+use Rattle.mal_line.specs.declared.chain.Assignment.{Assignment}
+use Rattle.mal_line.specs.declared.tree.Jump.{Jump}
+use Rattle.mal_line.specs.declared.tree.Jump.TheVariants as jumps
+use Rattle.mal_line.specs.declared.tree.Tree.{Tree}
+use Rattle.mal_line.specs.declared.content.NamedNext.{NamedNext}
+use Rattle.mal_line.specs.declared.content.NamedNext.TheVariants as nexts
+use Rattle.mal_line.specs.declared.content.Parts.{Parts}
+use Rattle.mal_line.specs.declared.content.Content.{Content}
+use Rattle.mal_line.specs.declared.content.Content.TheVariants as contents
+use Rattle.mal_line.specs.declared.line.Form.{Form}
+use Rattle.mal_line.specs.declared.line.Form.TheVariants as forms
+use Rattle.mal_line.specs.declared.line.LineFault.{LineFault}
+use Rattle.mal_line.specs.declared.line.LineFault.TheVariants as faults
+use Rattle.mal_line.specs.Expressions.{part_with}
+use Rattle.mal_line.specs.Statements.{AreTree}
+use Rattle.mal_line.specs.Reading.{tree_of}
+
+-- ---- the forms of a line
+
+abbrev pub IsForm : Machine → List Token → Form → Type 0
+IsForm machine ts forms.Nothing = ts ≡ []
+IsForm machine ts (forms.Fix label address) = ts ≡ tokens.Sign signs.Label ∷ tokens.Name label ∷ tokens.Number address ∷ []
+IsForm machine ts (forms.Fallback tree) = (rest : List Token) × (ts ≡ tokens.Sign signs.Default ∷ rest) × AreTree machine rest tree
+IsForm machine ts (forms.Statement None tree) = (ts ≢ []) × AreTree machine ts tree
+IsForm machine ts (forms.Statement (Some label) tree) = (rest : List Token) × ((ts ≡ tokens.Name label ∷ rest) ⊎ (ts ≡ tokens.Name label ∷ tokens.Sign signs.Colon ∷ rest)) × AreTree machine rest tree
+
+-- ---- what a line of a form says
+
+-- a statement without an assignment computes nothing
+abbrev pub idle : Operation
+idle = record { op = ops.Zero; a = None; b = None; shift = shifts.None }
+
+abbrev pub part_by : Option Assignment → Option Part
+part_by None = Some (part_with idle 0)
+part_by (Some a) = option_map (λ o. part_with o a.dests) a.operation
+
+abbrev pub with_access : Tree → Part → Part
+with_access tree p = record p { mem = tree.mem; fetch = tree.fetch }
+
+abbrev pub part_of : Tree → Option Part
+part_of tree = option_map (with_access tree) (part_by tree.assignment)
+
+abbrev pub target_of : Jump → Option NamedNext
+target_of (jumps.Goto label) = Some (nexts.Goto label)
+target_of (jumps.Dispatch None) = None
+target_of (jumps.Dispatch (Some high)) = Some (nexts.Dispatch high)
+target_of (jumps.Branch test high low) = Some (nexts.Branch test high low)
+
+abbrev pub next_of : Option Jump → Option NamedNext
+next_of None = Some nexts.Following
+next_of (Some j) = target_of j
+
+abbrev pub parts_by : Option Part → Option NamedNext → Option Parts
+parts_by (Some part) (Some next) = Some (record { part = part; next = next })
+parts_by _ _ = None
+
+abbrev pub parts_of : Tree → Option Parts
+parts_of tree = parts_by (part_of tree) (next_of tree.next)
+
+-- what it says, where each expression and each OR has a coding
+abbrev pub content_of : Form → Option Content
+content_of forms.Nothing = Some contents.Nothing
+content_of (forms.Fix label address) = Some (contents.Fix label address)
+content_of (forms.Fallback tree) = option_map (λ p. contents.Fallback p) (parts_of tree)
+content_of (forms.Statement label tree) = option_map (λ p. contents.Statement label p) (parts_of tree)
+
+-- ---- words of the other machine
+
+abbrev pub is_foreign_word : Machine → Word → Bool
+is_foreign_word Mic1 words.Mbr1 = true
+is_foreign_word Mic1 words.Mbr1u = true
+is_foreign_word Mic1 words.Mbr2 = true
+is_foreign_word Mic1 words.Mbr2u = true
+is_foreign_word Mic2 words.Mbr = true
+is_foreign_word Mic2 words.Mbru = true
+is_foreign_word Mic2 words.Fetch = true
+is_foreign_word machine word = false
+
+abbrev pub is_foreign : Machine → Token → Bool
+is_foreign machine (tokens.Word w) = is_foreign_word machine w
+is_foreign machine _ = false
+
+abbrev pub names_foreign : Machine → List Token → Bool
+names_foreign machine ts = list_any (is_foreign machine) ts
+
+-- ---- what a line spells, and its refusals
+
+-- the tokens have a form that says this, and no word of the other machine
+pub record Spells (machine : Machine) (ts : List Token) (content : Content) : Type 0 where
+  pub form : Form
+  pub has : IsForm machine ts form
+  pub own : names_foreign machine ts ≡ false
+  pub says : content_of form ≡ Some content
+
+-- each refusal, in the order in which they are looked for
+abbrev pub IsRefused : Machine → List Token → LineFault → Type 0
+IsRefused machine ts faults.BadStatement = (form : Form) → IsForm machine ts form → ⊥
+IsRefused machine ts faults.WrongMachine = (form : Form) × IsForm machine ts form × (names_foreign machine ts ≡ true)
+IsRefused machine ts faults.NoSuchOperation = (form : Form) × IsForm machine ts form × (names_foreign machine ts ≡ false) × (content_of form ≡ None)
+
+-- ---- how it is read
+
+abbrev pub fix_of : List Token → Option Form
+fix_of (tokens.Name label ∷ tokens.Number address ∷ []) = Some (forms.Fix label address)
+fix_of _ = None
+
+abbrev pub behind_colon : List Token → List Token
+behind_colon (tokens.Sign signs.Colon ∷ rest) = rest
+behind_colon rest = rest
+
+abbrev pub labelled : Machine → Option (List ℕ) → List Token → Option Form
+labelled machine label ts = option_map (λ tree. forms.Statement label tree) (tree_of machine ts)
+
+abbrev pub form_by : Machine → Token → List Token → Option Form
+form_by machine (tokens.Sign signs.Label) rest = fix_of rest
+form_by machine (tokens.Sign signs.Default) rest = option_map (λ tree. forms.Fallback tree) (tree_of machine rest)
+form_by machine (tokens.Name label) rest = labelled machine (Some label) (behind_colon rest)
+form_by machine first rest = labelled machine None (first ∷ rest)
+
+abbrev pub form_of : Machine → List Token → Option Form
+form_of machine [] = Some forms.Nothing
+form_of machine (first ∷ rest) = form_by machine first rest
+
+abbrev pub said : Option Content → Result Content LineFault
+said None = Err faults.NoSuchOperation
+said (Some content) = Ok content
+
+abbrev pub said_by : Machine → List Token → Option Form → Result Content LineFault
+said_by machine ts None = Err faults.BadStatement
+said_by machine ts (Some form) = if names_foreign machine ts then Err faults.WrongMachine else said (content_of form)
+
+unfoldable pub line_of : Machine → List Token → Result Content LineFault
+line_of machine ts = said_by machine ts (form_of machine ts)

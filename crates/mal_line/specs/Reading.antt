@@ -1,0 +1,197 @@
+-- How the parts of a statement are read.
+use Rattle.std.specs.Prelude.{ℕ, Bool, true, false, List, [], ◌∷◌, Option, Some, None, if◌then◌else◌, ◌==◌, length, take, drop, bit_or, is_some, option_map, option_and_then}
+use Rattle.std.specs.List.{prefix_len}
+use Rattle.micro_word.specs.declared.statement.Machine.{Machine}
+use Rattle.micro_word.specs.declared.statement.Mem.{Mem}
+use Rattle.micro_word.specs.declared.statement.Mem.TheVariants as mems
+use Rattle.micro_word.specs.declared.statement.Test.{Test}
+use Rattle.micro_word.specs.declared.statement.Test.TheVariants as tests
+use Rattle.mal_tokens.specs.declared.word.Word.{Word}
+use Rattle.mal_tokens.specs.declared.word.Word.TheVariants as words
+use Rattle.mal_tokens.specs.declared.sign.Sign.TheVariants as signs
+use Rattle.mal_tokens.specs.declared.token.Token.{Token}
+use Rattle.mal_tokens.specs.declared.token.Token.TheVariants as tokens
+use Rattle.mal_line.specs.declared.chain.Assignment.{Assignment}
+use Rattle.mal_line.specs.declared.chain.Tail.{Tail}
+use Rattle.mal_line.specs.declared.chain.Tail.TheVariants as tails
+use Rattle.mal_line.specs.declared.piece.Head.{Head}
+use Rattle.mal_line.specs.declared.piece.Head.TheVariants as heads
+use Rattle.mal_line.specs.declared.piece.Piece.{Piece}
+use Rattle.mal_line.specs.declared.piece.Piece.TheVariants as found
+use Rattle.mal_line.specs.declared.tree.Jump.{Jump}
+use Rattle.mal_line.specs.declared.tree.Jump.TheVariants as jumps
+use Rattle.mal_line.specs.declared.tree.Tree.{Tree}
+use Rattle.mal_line.specs.declared.tally.Half.{Half}
+use Rattle.mal_line.specs.declared.tally.Tally.{Tally}
+use Rattle.mal_line.specs.Lookup.{coding_of, is_number}
+use Rattle.mal_line.specs.Chains.{bit, is_dest, is_expr}
+use Rattle.mal_line.specs.Statements.{is_byte_word, pieces}
+
+-- ---- an assignment
+
+abbrev pub dest_word : Word → Option Word
+dest_word w = if is_dest w then Some w else None
+
+-- a destination and its `=`
+abbrev pub dest_of : Token → Token → Option Word
+dest_of (tokens.Word w) (tokens.Sign signs.Equals) = dest_word w
+dest_of _ _ = None
+
+abbrev pub shifting : Token → Token → Option Tail
+shifting (tokens.Sign signs.Left) (tokens.Number v) = Some (tails.Left v)
+shifting (tokens.Sign signs.Right) (tokens.Number v) = Some (tails.Right v)
+shifting _ _ = None
+
+abbrev pub tail_of : List Token → Option Tail
+tail_of [] = Some tails.Nothing
+tail_of (sign ∷ by ∷ []) = shifting sign by
+tail_of _ = None
+
+abbrev pub assigned : Machine → ℕ → List Token → Option Assignment
+assigned machine dests ts = if length (take (prefix_len is_expr ts) ts) == 0 then None
+    else option_map (λ tail. record { dests = dests; operation = coding_of machine (take (prefix_len is_expr ts) ts) tail }) (tail_of (drop (prefix_len is_expr ts) ts))
+
+abbrev pub last : Machine → Bool → ℕ → List Token → Option Assignment
+last machine some dests ts = if some then assigned machine dests ts else None
+
+abbrev pub on_dest : Option Word → (Word → Option Assignment) → Option Assignment → Option Assignment
+on_dest None f x = x
+on_dest (Some w) f x = f w
+
+-- an assignment, where some destinations were read before
+unfoldable pub chain_at : Machine → Bool → ℕ → List Token → Option Assignment
+chain_at machine some dests [] = last machine some dests []
+chain_at machine some dests (t ∷ []) = last machine some dests (t ∷ [])
+chain_at machine some dests (t ∷ u ∷ rest) = on_dest (dest_of t u) (λ w. chain_at machine true (bit_or dests (bit w)) rest) (last machine some dests (t ∷ u ∷ rest))
+
+-- ---- what stands between two semicolons
+
+abbrev pub head_of : Token → Head
+head_of (tokens.Word words.Rd) = heads.Mem mems.Read
+head_of (tokens.Word words.Wr) = heads.Mem mems.Write
+head_of (tokens.Word words.Fetch) = heads.Fetch
+head_of (tokens.Word words.Goto) = heads.Goto
+head_of (tokens.Word words.If) = heads.If
+head_of (tokens.Word words.Else) = heads.Else
+head_of _ = heads.Other
+
+abbrev pub name_of : Token → Option (List ℕ)
+name_of (tokens.Name n) = Some n
+name_of _ = None
+
+abbrev pub test_of : Token → Option Test
+test_of (tokens.Word words.N) = Some tests.N
+test_of (tokens.Word words.Z) = Some tests.Z
+test_of _ = None
+
+abbrev pub is_goto : Token → Bool
+is_goto (tokens.Word words.Goto) = true
+is_goto _ = false
+
+abbrev pub is_or : Token → Bool
+is_or (tokens.Word words.Or) = true
+is_or _ = false
+
+-- `(MBR)`, its parentheses and its word
+abbrev pub is_byte_in : Token → Token → Token → Bool
+is_byte_in (tokens.Sign signs.Open) (tokens.Word w) (tokens.Sign signs.Close) = is_byte_word w
+is_byte_in _ _ _ = false
+
+abbrev pub offset_of : Token → Option (Option Bool)
+offset_of (tokens.Number v) = Some (if is_number v 256 then Some true else None)
+offset_of _ = None
+
+abbrev pub alone : Piece → List Token → Option Piece
+alone piece [] = Some piece
+alone piece _ = None
+
+-- what stands behind `goto`
+abbrev pub goto_of : List Token → Option Piece
+goto_of (label ∷ []) = option_map (λ n. found.Goto n) (name_of label)
+goto_of (open_sign ∷ word ∷ close_sign ∷ []) = if is_byte_in open_sign word close_sign then Some (found.Dispatch (Some false)) else None
+goto_of (open_sign ∷ word ∷ or_word ∷ number ∷ close_sign ∷ []) = if is_byte_in open_sign word close_sign then (if is_or or_word then option_map (λ high. found.Dispatch high) (offset_of number) else None) else None
+goto_of _ = None
+
+abbrev pub is_test_in : Token → Token → Token → Bool
+is_test_in (tokens.Sign signs.Open) (tokens.Sign signs.Close) goto_word = is_goto goto_word
+is_test_in _ _ _ = false
+
+abbrev pub branch_on : Option Test → Option (List ℕ) → Option Piece
+branch_on (Some test) (Some label) = Some (found.If test label)
+branch_on _ _ = None
+
+-- what stands behind `if`
+abbrev pub if_of : List Token → Option Piece
+if_of (open_sign ∷ test ∷ close_sign ∷ goto_word ∷ label ∷ []) = if is_test_in open_sign close_sign goto_word then branch_on (test_of test) (name_of label) else None
+if_of _ = None
+
+-- what stands behind `else`
+abbrev pub else_of : List Token → Option Piece
+else_of (goto_word ∷ label ∷ []) = if is_goto goto_word then option_map (λ n. found.Else n) (name_of label) else None
+else_of _ = None
+
+abbrev pub piece_by : Machine → Head → Token → List Token → Option Piece
+piece_by machine (heads.Mem m) first rest = alone (found.Mem m) rest
+piece_by machine heads.Fetch first rest = alone found.Fetch rest
+piece_by machine heads.Goto first rest = goto_of rest
+piece_by machine heads.If first rest = if_of rest
+piece_by machine heads.Else first rest = else_of rest
+piece_by machine heads.Other first rest = option_map (λ a. found.Assign a) (chain_at machine false 0 (first ∷ rest))
+
+abbrev pub piece_of : Machine → List Token → Option Piece
+piece_of machine [] = Some found.Nothing
+piece_of machine (first ∷ rest) = piece_by machine (head_of first) first rest
+
+-- ---- the parts together
+
+abbrev pub empty : Tree
+empty = record { assignment = None; mem = mems.None; fetch = false; next = None }
+
+abbrev pub going : Tree → Jump → Tally
+going tree j = record { tree = record tree { next = Some j }; waiting = None }
+
+abbrev pub is_access : Mem → Bool
+is_access mems.None = false
+is_access _ = true
+
+-- a part where no `if` waits and no jump was there
+abbrev pub add_free : Tree → Piece → Option Tally
+add_free tree found.Nothing = Some (record { tree = tree; waiting = None })
+add_free tree (found.Assign a) = if is_some tree.assignment then None else Some (record { tree = record tree { assignment = Some a }; waiting = None })
+add_free tree (found.Mem m) = if is_access tree.mem then None else Some (record { tree = record tree { mem = m }; waiting = None })
+add_free tree found.Fetch = if tree.fetch then None else Some (record { tree = record tree { fetch = true }; waiting = None })
+add_free tree (found.Goto label) = Some (going tree (jumps.Goto label))
+add_free tree (found.Dispatch high) = Some (going tree (jumps.Dispatch high))
+add_free tree (found.If test label) = Some (record { tree = tree; waiting = Some (record { test = test; high = label }) })
+add_free tree (found.Else label) = None
+
+-- an `if` waits for its `else`
+abbrev pub add_else : Tree → Half → Piece → Option Tally
+add_else tree half (found.Else label) = Some (going tree (jumps.Branch half.test half.high label))
+add_else tree half _ = None
+
+-- behind a jump all is empty
+abbrev pub add_behind : Tree → Piece → Option Tally
+add_behind tree found.Nothing = Some (record { tree = tree; waiting = None })
+add_behind tree _ = None
+
+abbrev pub add_by : Tree → Option Half → Option Jump → Piece → Option Tally
+add_by tree (Some half) next piece = add_else tree half piece
+add_by tree None None piece = add_free tree piece
+add_by tree None (Some j) piece = add_behind tree piece
+
+abbrev pub add : Tally → Piece → Option Tally
+add tally piece = add_by tally.tree tally.waiting tally.tree.next piece
+
+abbrev pub add_tokens : Machine → Tally → List Token → Option Tally
+add_tokens machine tally ts = option_and_then (add tally) (piece_of machine ts)
+
+abbrev pub ended : Tally → Option Tree
+ended tally = if is_some tally.waiting then None else Some tally.tree
+
+unfoldable pub adds : Machine → Tally → List (List Token) → Option Tree
+adds machine tally [] = ended tally
+adds machine tally (x ∷ xs) = option_and_then (λ t. adds machine t xs) (add_tokens machine tally x)
+
+abbrev pub tree_of : Machine → List Token → Option Tree
+tree_of machine ts = adds machine (record { tree = empty; waiting = None }) (pieces ts)

@@ -1,0 +1,94 @@
+ghost use Rattle.std.specs.Prelude.{◌≡◌};
+ghost use Rattle.mal_line.specs.Lines.{content_of, next_of, part_of, parts_of, target_of};
+
+use crate::line::Form;
+use crate::operation::Operation;
+use crate::tree::{Jump, Tree};
+use mic_base::Name;
+use micro_word::{Part, Test};
+
+/// Where a statement goes next, by the labels of its targets.
+#[derive(Clone, Copy)]
+pub enum NamedNext {
+    Following,
+    Goto(Name),
+    Dispatch { high: bool },
+    Branch { test: Test, yes: Name, no: Name },
+}
+
+/// A statement without its label.
+#[derive(Clone, Copy)]
+pub struct Parts {
+    pub part: Part,
+    pub next: NamedNext,
+}
+
+/// What a line says.
+#[derive(Clone, Copy)]
+pub enum Content {
+    Nothing,
+    /// `.label NAME NUMBER`
+    Fix { label: Name, address: i64 },
+    /// `.default PARTS`
+    Fallback(Parts),
+    Statement { label: Option<Name>, parts: Parts },
+}
+
+fn part_of(tree: Tree) -> Option<Part>
+    ensures { result ≡ part_of tree }
+{
+    let part = match tree.assignment {
+        None => Operation::IDLE.part(0),
+        Some(assignment) => assignment.operation?.part(assignment.dests),
+    };
+    Some(Part {
+        mem: tree.mem,
+        fetch: tree.fetch,
+        ..part
+    })
+}
+
+fn target_of(jump: Jump) -> Option<NamedNext>
+    ensures { result ≡ target_of jump }
+{
+    match jump {
+        Jump::Goto(label) => Some(NamedNext::Goto(label)),
+        Jump::Dispatch(offset) => match offset {
+            Some(high) => Some(NamedNext::Dispatch { high }),
+            None => None,
+        },
+        Jump::Branch(test, yes, no) => Some(NamedNext::Branch { test, yes, no }),
+    }
+}
+
+fn next_of(jump: Option<Jump>) -> Option<NamedNext>
+    ensures { result ≡ next_of jump }
+{
+    match jump {
+        None => Some(NamedNext::Following),
+        Some(jump) => target_of(jump),
+    }
+}
+
+fn parts_of(tree: Tree) -> Option<Parts>
+    ensures { result ≡ parts_of tree }
+{
+    let next = next_of(tree.next)?;
+    let part = part_of(tree)?;
+    Some(Parts { part, next })
+}
+
+/// What a line of this form says; None where an expression or an OR has no coding.
+pub(crate) fn content_of(form: Form) -> Option<Content>
+    ensures { result ≡ content_of form }
+{
+    match form {
+        Form::Nothing => Some(Content::Nothing),
+        Form::Fix(label, address) => Some(Content::Fix { label, address }),
+        Form::Fallback(tree) => Some(Content::Fallback(parts_of(tree)?)),
+        Form::Statement(label, tree) => Some(Content::Statement {
+            label,
+            parts: parts_of(tree)?,
+        }),
+    }
+}

@@ -1,0 +1,251 @@
+ghost use Rattle.std.specs.Prelude.{◌≡◌};
+ghost use Rattle.micro_word.specs.Canonical.{is_h};
+ghost use Rattle.mal_line.specs.Lookup.{added, both, checked, coding_of, form_of, is_number, is_plus, joined, lone, negated, next_of, on_a, on_b, operand_of, opposite, paired, prefixed, shift_of, single, source_of, taken, with_shift, work};
+
+use crate::chain::Tail;
+use crate::operation::Operation;
+use mal_tokens::{Sign, Token, Word};
+use micro_word::{AluOp, BusSource, Machine, Shift};
+
+/// What stands for a value in an expression.
+#[derive(Clone, Copy)]
+enum Operand {
+    Source(BusSource),
+    Zero,
+    One,
+    Other,
+}
+
+fn source_of(word: Word) -> Option<BusSource>
+    ensures { result ≡ source_of word }
+{
+    match word {
+        Word::Mdr => Some(BusSource::Mdr),
+        Word::Pc => Some(BusSource::Pc),
+        Word::Mbr => Some(BusSource::Mbr),
+        Word::Mbru => Some(BusSource::Mbru),
+        Word::Sp => Some(BusSource::Sp),
+        Word::Lv => Some(BusSource::Lv),
+        Word::Cpp => Some(BusSource::Cpp),
+        Word::Tos => Some(BusSource::Tos),
+        Word::Opc => Some(BusSource::Opc),
+        Word::Mbr1 => Some(BusSource::Mbr1),
+        Word::Mbr1u => Some(BusSource::Mbr1u),
+        Word::Mbr2 => Some(BusSource::Mbr2),
+        Word::Mbr2u => Some(BusSource::Mbr2u),
+        Word::H => Some(BusSource::H),
+        _ => None,
+    }
+}
+
+fn operand_of(token: Token) -> Operand
+    ensures { result ≡ operand_of token }
+{
+    match token {
+        Token::Word(word) => match source_of(word) {
+            Some(source) => Operand::Source(source),
+            None => Operand::Other,
+        },
+        Token::Number(0) => Operand::Zero,
+        Token::Number(1) => Operand::One,
+        _ => Operand::Other,
+    }
+}
+
+fn work(op: AluOp, a: Option<BusSource>, b: Option<BusSource>) -> Operation
+    ensures { result ≡ work op a b }
+{
+    Operation {
+        op,
+        a,
+        b,
+        shift: Shift::None,
+    }
+}
+
+fn is_h(source: BusSource) -> bool
+    ensures { result ≡ is_h source }
+{
+    matches!(source, BusSource::H)
+}
+
+/// A lone source stands on the A side where it is H of Mic-1, else on the B side.
+fn lone(machine: Machine, op_a: AluOp, op_b: AluOp, source: BusSource) -> Operation
+    ensures { result ≡ lone machine op_a op_b source }
+{
+    if matches!(machine, Machine::Mic1) && is_h(source) {
+        work(op_a, Some(source), None)
+    } else {
+        work(op_b, None, Some(source))
+    }
+}
+
+/// Of two sources the first stands on the A side, on Mic-1 the one that is H.
+fn paired(machine: Machine, op: AluOp, x: BusSource, y: BusSource) -> Operation
+    ensures { result ≡ paired machine op x y }
+{
+    if matches!(machine, Machine::Mic1) && !is_h(x) {
+        work(op, Some(y), Some(x))
+    } else {
+        work(op, Some(x), Some(y))
+    }
+}
+
+fn single(machine: Machine, x: Operand) -> Option<Operation>
+    ensures { result ≡ single machine x }
+{
+    match x {
+        Operand::Source(x) => Some(lone(machine, AluOp::A, AluOp::B, x)),
+        Operand::Zero => Some(work(AluOp::Zero, None, None)),
+        Operand::One => Some(work(AluOp::One, None, None)),
+        Operand::Other => None,
+    }
+}
+
+fn negated(machine: Machine, x: Operand) -> Option<Operation>
+    ensures { result ≡ negated machine x }
+{
+    match x {
+        Operand::Source(x) => Some(lone(machine, AluOp::NotA, AluOp::NotB, x)),
+        _ => None,
+    }
+}
+
+fn opposite(x: Operand) -> Option<Operation>
+    ensures { result ≡ opposite x }
+{
+    match x {
+        Operand::Source(x) => Some(work(AluOp::NegA, Some(x), None)),
+        Operand::One => Some(work(AluOp::MinusOne, None, None)),
+        _ => None,
+    }
+}
+
+fn prefixed(machine: Machine, prefix: Token, x: Operand) -> Option<Operation>
+    ensures { result ≡ prefixed machine prefix x }
+{
+    match prefix {
+        Token::Word(Word::Not) => negated(machine, x),
+        Token::Sign(Sign::Minus) => opposite(x),
+        _ => None,
+    }
+}
+
+fn both(machine: Machine, op: AluOp, x: Operand, y: Operand) -> Option<Operation>
+    ensures { result ≡ both machine op x y }
+{
+    match (x, y) {
+        (Operand::Source(x), Operand::Source(y)) => Some(paired(machine, op, x, y)),
+        _ => None,
+    }
+}
+
+fn added(machine: Machine, x: Operand, y: Operand) -> Option<Operation>
+    ensures { result ≡ added machine x y }
+{
+    match (x, y) {
+        (Operand::Source(x), Operand::One) => Some(lone(machine, AluOp::IncA, AluOp::IncB, x)),
+        (Operand::One, Operand::Source(y)) => Some(lone(machine, AluOp::IncA, AluOp::IncB, y)),
+        _ => both(machine, AluOp::Sum, x, y),
+    }
+}
+
+fn taken(x: Operand, y: Operand) -> Option<Operation>
+    ensures { result ≡ taken x y }
+{
+    match (x, y) {
+        (Operand::Source(x), Operand::Source(y)) => Some(work(AluOp::Sub, Some(y), Some(x))),
+        (Operand::Source(x), Operand::One) => Some(work(AluOp::DecB, None, Some(x))),
+        _ => None,
+    }
+}
+
+fn joined(machine: Machine, x: Operand, between: Token, y: Operand) -> Option<Operation>
+    ensures { result ≡ joined machine x between y }
+{
+    match between {
+        Token::Sign(Sign::Plus) => added(machine, x, y),
+        Token::Sign(Sign::Minus) => taken(x, y),
+        Token::Word(Word::And) => both(machine, AluOp::And, x, y),
+        Token::Word(Word::Or) => both(machine, AluOp::Or, x, y),
+        _ => None,
+    }
+}
+
+fn is_plus(token: Token) -> bool
+    ensures { result ≡ is_plus token }
+{
+    matches!(token, Token::Sign(Sign::Plus))
+}
+
+fn next_of(
+    machine: Machine,
+    x: Operand,
+    plus: Token,
+    y: Operand,
+    then: Token,
+    one: Operand,
+) -> Option<Operation>
+    ensures { result ≡ next_of machine x plus y then one }
+{
+    match one {
+        Operand::One => {
+            if is_plus(plus) && is_plus(then) {
+                both(machine, AluOp::SumInc, x, y)
+            } else {
+                None
+            }
+        }
+        _ => None,
+    }
+}
+
+/// The operation that has this form, on any machine that does it.
+fn form_of(machine: Machine, body: &[Token]) -> Option<Operation>
+    ensures { result ≡ form_of machine body.now }
+{
+    match body {
+        [x] => single(machine, operand_of(*x)),
+        [prefix, x] => prefixed(machine, *prefix, operand_of(*x)),
+        [x, between, y] => joined(machine, operand_of(*x), *between, operand_of(*y)),
+        [x, plus, y, then, one] => next_of(
+            machine,
+            operand_of(*x),
+            *plus,
+            operand_of(*y),
+            *then,
+            operand_of(*one),
+        ),
+        _ => None,
+    }
+}
+
+fn checked(machine: Machine, operation: Operation) -> Option<Operation>
+    ensures { result ≡ checked machine operation }
+{
+    if operation.part(0).valid(machine) {
+        Some(operation)
+    } else {
+        None
+    }
+}
+
+fn shift_of(tail: Tail) -> Option<Shift>
+    ensures { result ≡ shift_of tail }
+{
+    match tail {
+        Tail::Nothing => Some(Shift::None),
+        Tail::Left(8) => Some(Shift::Left8),
+        Tail::Right(1) => Some(Shift::Right1),
+        _ => None,
+    }
+}
+
+/// The coding of an expression with what stands behind it.
+pub fn coding_of(machine: Machine, body: &[Token], tail: Tail) -> Option<Operation>
+    ensures { result ≡ coding_of machine body.now tail }
+{
+    let shift = shift_of(tail)?;
+    let operation = checked(machine, form_of(machine, body)?)?;
+    Some(Operation { shift, ..operation })
+}

@@ -1,0 +1,18 @@
+//! One line of the microassembly language: its grammar, and the coding of its statement.
+#![tactic(auto)]
+
+mod chain;
+mod content;
+mod expression;
+mod line;
+mod operation;
+mod piece;
+mod tally;
+mod tree;
+
+pub use chain::{Assignment, Tail};
+pub use content::{Content, NamedNext, Parts};
+pub use expression::coding_of;
+pub use line::{LineFault, line_of};
+pub use operation::Operation;
+pub use tree::{Jump, Tree};

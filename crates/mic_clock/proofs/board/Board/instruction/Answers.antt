@@ -1,0 +1,79 @@
+use Rattle.std.proofs.Common.{◌≡◌, ◌≤◌, ◌<◌, ◌+◌, ℕ, suc, Option, None, false, inl, refl, sym, ◌∙◌, ap, subst, rules, arith}
+use Rattle.console_port.specs.declared.fault.BusFault.TheVariants as faults
+use Rattle.micro_word.specs.ControlStore.{ControlStore}
+use Rattle.mic_clock.specs.Run.{MicroRun, IsLeg, word_at, last_cycles}
+use Rattle.mic_clock.specs.Board.{NoFault}
+use Rattle.mic_clock.proofs.InTime.{InTime, InTime-step, HasEndCause-step}
+use Rattle.mic_clock.proofs.Legs.{leg-start, leg-inside}
+use Rattle.mic_clock.proofs.Reach.{IsLedTo-map, Leads-turn, Leads-read, Leads-write}
+use Rattle.mic_clock.proofs.board.Board.instruction.Goals as goal
+
+pub inside-init : goal.inside-init
+inside-init g c =
+    let state = g.M.Clocked.state in
+    let m = g.M.Clocked.meaning in
+    let first = c.args.self.now in
+    let new = c.cycle.new.self in
+    let words = first.store.words in
+    let left0 = g.S.Source.left c.args.source.now in
+    let held0 = g.K.Sink.held c.args.sink.now in
+    let left' = g.S.Source.left c.cycle.new.source in
+    let held' = g.K.Sink.held c.cycle.new.sink in
+    let Along : ℕ → MicroRun g.M.Clocked.State → Type 0 = λ n r. IsLeg m words (suc n) r in
+    let going : first.end ≡ None = search rules in
+    let top : ℕ = first.counts.cycles + 1 in
+    let ordered : last_cycles first.counts.boundary ≤ first.counts.cycles = search rules in
+    let near : first.counts.cycles ≤ top + 1024 = omega arith in
+    let behind : last_cycles first.counts.boundary ≤ top = omega arith in
+    let below : first.counts.cycles < top = omega arith in
+    let in_time : InTime top first.counts (m.is_boundary (state first.machine)) first.end = record { cycles = near; ordered = ordered; last = λ _. inl behind } in
+    let led = leg-start state m words left0 held0 first in
+    record {
+      run = λ q. IsLedTo-map state left0 held0 first left' new _ _ (λ r rest at. (suc at.0, at.1, at.2))
+          (Leads-turn state m words None left0 held0 first Along left0 held0 first left' held' new refl led
+          (c.cycle.ensures.turn (subst (λ (e : Option _). NoFault e new.end) (sym going) q)) c.cycle.ensures.buses);
+      read = λ p. Leads-read state m words None left0 held0 first Along left0 held0 first left' held' new refl led
+          going (c.cycle.ensures.cut faults.ReadFault going tt p) (λ r s. s.its_end ∙ going);
+      write = λ p. Leads-write state m words None left0 held0 first Along left0 held0 first left' held' new refl led
+          going (c.cycle.ensures.cut faults.WriteFault going tt p) (λ r s. s.its_end ∙ going);
+      keeps = c.cycle.ensures.keeps;
+      cause = rw going at c.cycle.ensures.cause;
+      store = c.cycle.ensures.store;
+      in_time = InTime-step m top top first.counts new.counts (m.is_boundary (state first.machine)) (m.drives (word_at m words (state first.machine)) (state first.machine)).stalled (state new.machine) first.end new.end going (omega arith) in_time
+          c.cycle.ensures.still c.cycle.ensures.room (λ q. (c.cycle.ensures.clocked q).1) (λ _ _. below);
+    }
+
+pub inside-preserved : goal.inside-preserved
+inside-preserved g c =
+    let state = g.M.Clocked.state in
+    let m = g.M.Clocked.meaning in
+    let first = c.args.self.now in
+    let old = c.inside.self in
+    let new = c.cycle-in-inside.new.self in
+    let words = first.store.words in
+    let left0 = g.S.Source.left c.args.source.now in
+    let held0 = g.K.Sink.held c.args.sink.now in
+    let left = g.S.Source.left c.inside.source in
+    let held = g.K.Sink.held c.inside.sink in
+    let left' = g.S.Source.left c.cycle-in-inside.new.source in
+    let held' = g.K.Sink.held c.cycle-in-inside.new.sink in
+    let Along : ℕ → MicroRun g.M.Clocked.State → Type 0 = λ n r. IsLeg m words (suc n) r in
+    let going : old.end ≡ None = search rules in
+    let no_boundary : m.is_boundary (state old.machine) ≡ false = search rules in
+    let program : old.store.words ≡ words = ap (λ (s : ControlStore). s.words) c.inside.invariant.store in
+    let top : ℕ = first.counts.cycles + 1 in
+    let led = leg-inside state m words left0 held0 first left held old going no_boundary (c.inside.invariant.run (subst (λ (e : Option _). NoFault None e) (sym going) tt)) in
+    record {
+      run = λ q. IsLedTo-map state left0 held0 first left' new _ _ (λ r rest at. (suc at.0, at.1, at.2))
+          (Leads-turn state m words None left0 held0 first Along left held old left' held' new program led
+          (c.cycle-in-inside.ensures.turn (subst (λ (e : Option _). NoFault e new.end) (sym going) q)) c.cycle-in-inside.ensures.buses);
+      read = λ p. Leads-read state m words None left0 held0 first Along left held old left' held' new program led
+          going (c.cycle-in-inside.ensures.cut faults.ReadFault going tt p) (λ r s. s.its_end ∙ going);
+      write = λ p. Leads-write state m words None left0 held0 first Along left held old left' held' new program led
+          going (c.cycle-in-inside.ensures.cut faults.WriteFault going tt p) (λ r s. s.its_end ∙ going);
+      keeps = λ front h. c.cycle-in-inside.ensures.keeps front (c.inside.invariant.keeps front h);
+      cause = HasEndCause-step _ _ _ _ _ _ old.end new.end going c.inside.invariant.cause c.cycle-in-inside.ensures.cause;
+      store = c.cycle-in-inside.ensures.store ∙ c.inside.invariant.store;
+      in_time = InTime-step m top top old.counts new.counts (m.is_boundary (state old.machine)) (m.drives (word_at m old.store.words (state old.machine)) (state old.machine)).stalled (state new.machine) old.end new.end going (omega arith) c.inside.invariant.in_time
+          c.cycle-in-inside.ensures.still c.cycle-in-inside.ensures.room (λ q. (c.cycle-in-inside.ensures.clocked q).1) (λ _ here. absurd (cc));
+    }

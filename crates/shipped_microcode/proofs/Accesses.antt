@@ -1,0 +1,102 @@
+-- Words, and accesses at addresses of the memory, which has its words below `top`.
+use Rattle.std.proofs.Common.{◌≡◌, ℕ, ◌+◌, ◌-◌, ◌*◌, ◌/◌, ◌%◌, ◌^◌, ◌<◌, ◌≤◌, Some, None, true, false, List, [], ◌∷◌, ◌++◌, length, drop, refl, arith, ◌∙◌, ap}
+use Rattle.std.specs.Prelude.{slice_index, slice_set, nat_lt}
+use Rattle.std.proofs.lemmas.Bool.Decides.{nat_tests}
+use Rattle.std.proofs.lemmas.List.{set_past}
+use Rattle.micro_word.specs.Operation.{wrap, plus, next, before}
+use Rattle.console_port.specs.World.{World, StackLimit, next_byte, read_value, untaken_after, given_after, read_refusal, write_refusal, fetch_refusal, byte_in}
+
+-- where the memory may end
+pub record IsMap (top : ℕ) : Type 0 where
+  pub low : 0x8000 ≤ top
+  pub high : top < 0x80000000
+
+pub wrap_small : (x : ℕ) → x < 2 ^ 32 → wrap x ≡ x
+unfolding wrap
+wrap_small x h = omega arith
+
+pub next_is : (x y : ℕ) → x + 1 ≡ y → y < 2 ^ 32 → next x ≡ y
+unfolding wrap
+next_is x y e h = omega arith
+
+pub before_is : (x y : ℕ) → x ≡ y + 1 → x < 2 ^ 32 → before x ≡ y
+unfolding wrap
+before_is x y e h = omega arith
+
+pub byte_bound : (words : List ℕ) (p : ℕ) → byte_in words p < 256
+unfolding byte_in
+byte_bound words p = omega arith
+
+-- all that is known of an access where x is the address a of a memory word
+pub record Access (top : ℕ) (w : World) (x a : ℕ) : Type 0 where
+  pub is : x ≡ a
+  pub below : a < top
+  pub read : read_refusal top x ≡ None
+  pub write : write_refusal top x ≡ None
+  pub value : read_value top w.words w.untaken x ≡ slice_index w.words a
+  pub untaken : untaken_after top w.untaken x ≡ w.untaken
+  pub given : (v : ℕ) → given_after top w.given x v ≡ w.given
+
+pub access : (top : ℕ) (w : World) (x a : ℕ) → x ≡ a → a < top → Access top w x a
+unfolding read_refusal write_refusal read_value untaken_after given_after
+access top w x a e l =
+    let t : nat_lt x top ≡ true = grind (arith, nat_tests) in
+    record {
+      is = e;
+      below = l;
+      read = rw t;
+      write = rw t;
+      value = rw t (ap (slice_index w.words) e);
+      untaken = rw t;
+      given = λ v. rw t;
+    }
+
+pub fetch_ok : (top : ℕ) {x p : ℕ} → IsMap top → x ≡ p → p < 0x20000 → fetch_refusal top x ≡ None
+unfolding fetch_refusal
+fetch_ok top {x} {p} map e l =
+    let low : 0x8000 ≤ top = map.low in
+    let t : nat_lt (x / 4) top ≡ true = grind (arith, nat_tests) in
+    rw t
+
+-- a byte below the stack is what it was
+pub byte_kept : (words origin : List ℕ) {x p : ℕ} → ((a : ℕ) → a < 0x8000 → slice_index words a ≡ slice_index origin a) → x ≡ p → p < 0x20000 →
+    byte_in words x ≡ byte_in origin p
+unfolding byte_in
+byte_kept words origin {x} {p} h e l =
+    ap (λ (k : ℕ). slice_index words (k / 4) / 256 ^ (3 - k % 4) % 256) e
+    ∙ ap (λ (v : ℕ). v / 256 ^ (3 - p % 4) % 256) (h (p / 4) (omega arith))
+
+-- minus three, as the words of IN and OUT make it
+abbrev pub console : ℕ
+console = plus 4294967295 (plus 4294967295 4294967295)
+
+-- all that is known of the access there
+pub record Port (top : ℕ) (w : World) : Type 0 where
+  pub read : read_refusal top console ≡ None
+  pub write : write_refusal top console ≡ None
+  pub value : read_value top w.words w.untaken console ≡ next_byte w.untaken
+  pub words : (v : ℕ) → slice_set w.words console v ≡ w.words
+  pub untaken : untaken_after top w.untaken console ≡ drop 1 w.untaken
+  pub given : (v : ℕ) → given_after top w.given console v ≡ w.given ++ v % 256 ∷ []
+
+pub port : (top : ℕ) (w : World) → IsMap top → length w.words ≡ top → Port top w
+unfolding wrap read_refusal write_refusal read_value untaken_after given_after
+port top w map long =
+    let high : top < 0x80000000 = map.high in
+    let t : nat_lt 0xFFFFFFFD top ≡ false = grind (arith, nat_tests) in
+    record {
+      read = rw t;
+      write = rw t;
+      value = rw t;
+      words = λ v. set_past w.words 0xFFFFFFFD v (omega arith);
+      untaken = rw t;
+      given = λ v. rw t;
+    }
+
+-- a write at the end of the memory
+pub write_limit : (top x : ℕ) → IsMap top → x ≡ top → write_refusal top x ≡ Some (StackLimit x)
+unfolding write_refusal
+write_limit top x map e =
+    let high : top < 0x80000000 = map.high in
+    let t : nat_lt x top ≡ false = grind (arith, nat_tests) in
+    rw t (grind (arith, nat_tests))

@@ -1,0 +1,13 @@
+pub mod Passes
+pub mod Turns
+pub mod Guided
+pub mod Accesses
+pub mod Keeps
+pub mod Facts
+pub mod Boundaries
+pub mod Operands
+pub mod Consoles
+pub mod Instruction
+pub mod Whole
+pub mod Decoded
+pub mod Straights

@@ -1,0 +1,4 @@
+pub mod Shipped
+pub mod Stands
+pub mod Simulates
+pub mod Straight

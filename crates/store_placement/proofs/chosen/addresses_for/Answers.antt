@@ -1,0 +1,22 @@
+use Rattle.std.proofs.Common.{◌≡◌, ◌<◌, ◌≤◌, ℕ, List, length, All, subst, sym, ap, arith}
+use Rattle.store_placement.specs.Chosen.{open_pairs, free_lows, free_addresses}
+use Rattle.store_placement.specs.Forced.{all_forced}
+use Rattle.store_placement.specs.Steps.{with_pairs, filled}
+use Rattle.store_placement.proofs.Choice.{placed_of, steps_place, free_for_rest, lows_inside}
+use Rattle.store_placement.proofs.chosen.addresses_for.Goals as goal
+
+pub with_pairs-placed-requires-clause-low : goal.with_pairs-placed-requires-clause-low
+with_pairs-placed-requires-clause-low c =
+    let forced = all_forced c.args.fixed.now c.args.pairs.now in
+    let P : List ℕ → Type 0 = λ xs. All (λ a. a < 256) xs in
+    let lows : c.deref-5.result.now ≡ free_lows forced = cc in
+    subst P (sym lows) (lows_inside forced)
+
+pub filled-requires-clause-enough : goal.filled-requires-clause-enough
+filled-requires-clause-enough c = free_for_rest c.args.fixed.now c.args.pairs.now c.deref-7.result.now c.deref-8.result.now c.requires (cc) (cc)
+
+pub returns : goal.returns
+returns c =
+    let forced = all_forced c.args.fixed.now c.args.pairs.now in
+    let lows : c.free_lows-lows.result.items ≡ free_lows forced = cc in
+    steps_place c.args.fixed.now c.args.pairs.now c.filled.result.items c.requires c.in_default.ensures c.in_default-first_in_wrong_half.ensures c.in_default-first_collision.ensures (omega (arith, ap length lows, ap length c.open_pairs-open.ensures)) (cc)

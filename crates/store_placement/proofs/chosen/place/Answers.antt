@@ -1,0 +1,57 @@
+use Rattle.std.proofs.Common.{◌≡◌, ℕ, Option, Err, List, slice_index, subst, ap, ◌∙◌}
+use Rattle.store_placement.specs.declared.pair.Pair.{Pair}
+use Rattle.store_placement.specs.declared.refusal.PlaceError.{PlaceError}
+use Rattle.store_placement.specs.Chosen.{IsChosenList}
+use Rattle.store_placement.specs.Demands.{Demands, AreWithin}
+use Rattle.store_placement.specs.Placement.{HasPlacement}
+use Rattle.store_placement.specs.Refusals.{Refuses}
+use Rattle.store_placement.proofs.NoPlacement.{refused}
+use Rattle.store_placement.proofs.OneRefusal.{one_refusal}
+use Rattle.store_placement.proofs.chosen.place.Goals as goal
+
+made : List (Option ℕ) → List Pair → Demands
+made fixed pairs = record { fixed = fixed; pairs = pairs }
+
+-- the slices are those of the constraints
+same_demands : (d : Demands) (fixed f : List (Option ℕ)) (pairs p : List Pair) → f ≡ fixed → p ≡ pairs → made fixed pairs ≡ d → made f p ≡ d
+same_demands d fixed f pairs p same_f same_p is = ap (λ x. made x p) same_f ∙ (ap (made fixed) same_p ∙ is)
+
+within : (d : Demands) (fixed : List (Option ℕ)) (pairs : List Pair) → AreWithin fixed pairs → made fixed pairs ≡ d → AreWithin d.fixed d.pairs
+unfolding made
+within d fixed pairs h is = let W : Demands → Type 0 = λ e. AreWithin e.fixed e.pairs in subst W is h
+
+pub returns-in-Ok-clause-err : goal.returns-in-Ok-clause-err
+unfolding made
+returns-in-Ok-clause-err c =
+    let d = c.args.constraints.now in
+    let inside = c.constraints.inside in
+    let f : c.deref.result.now ≡ inside.fixed.items = cc in
+    let p : c.deref-2.result.now ≡ inside.pairs.items = cc in
+    let same = same_demands d inside.fixed.items c.deref.result.now inside.pairs.items c.deref-2.result.now f p c.constraints.view_is in
+    let P : Demands → Type 0 = λ e. IsChosenList e c.in-Ok.addresses.items in
+    let chosen : IsChosenList d c.in-Ok.addresses.items = subst P same c.in-Ok.ensures in
+    λ e. (λ is. cc, λ is. absurd (refused d (within d inside.fixed.items inside.pairs.items c.constraints.invariant c.constraints.view_is) e is (slice_index c.in-Ok.addresses.items, chosen.places.places)))
+
+pub returns-in-Err-clause-ok : goal.returns-in-Err-clause-ok
+unfolding made
+returns-in-Err-clause-ok c =
+    let d = c.args.constraints.now in
+    let inside = c.constraints.inside in
+    let f : c.deref.result.now ≡ inside.fixed.items = cc in
+    let p : c.deref-2.result.now ≡ inside.pairs.items = cc in
+    let same = same_demands d inside.fixed.items c.deref.result.now inside.pairs.items c.deref-2.result.now f p c.constraints.view_is in
+    let P : Demands → Type 0 = λ e. Refuses e c.in-Err.e in
+    (λ is. cc, λ has. absurd (refused d (within d inside.fixed.items inside.pairs.items c.constraints.invariant c.constraints.view_is) c.in-Err.e (subst P same c.in-Err.ensures) has))
+
+pub returns-in-Err-clause-err : goal.returns-in-Err-clause-err
+unfolding made
+returns-in-Err-clause-err c =
+    let d = c.args.constraints.now in
+    let inside = c.constraints.inside in
+    let f : c.deref.result.now ≡ inside.fixed.items = cc in
+    let p : c.deref-2.result.now ≡ inside.pairs.items = cc in
+    let same = same_demands d inside.fixed.items c.deref.result.now inside.pairs.items c.deref-2.result.now f p c.constraints.view_is in
+    let P : Demands → Type 0 = λ e. Refuses e c.in-Err.e in
+    let here : Refuses d c.in-Err.e = subst P same c.in-Err.ensures in
+    let Q : PlaceError → Type 0 = λ e. Refuses d e in
+    λ e. (λ is. let equal : c.in-Err.e ≡ e = cc in subst Q equal here, λ is. ap Err (one_refusal d c.in-Err.e e here is))

@@ -1,0 +1,82 @@
+-- What a program asks of a placement, and each of its statements at one.
+use Rattle.std.specs.Prelude.{◌≡◌, ◌≢◌, ◌<◌, ℕ, ◌+◌, false, List, ◌++◌, Option, Some, None, length, map, slice_get, slice_index, option_and_then, IsTrue}
+use Rattle.std.specs.List.{filter_map}
+use Rattle.std.specs.Option.{option_to_list}
+use Rattle.micro_word.specs.declared.statement.Machine.{Machine}
+use Rattle.micro_word.specs.declared.statement.AluOp.TheVariants as ops
+use Rattle.micro_word.specs.declared.statement.Shift.TheVariants as shifts
+use Rattle.micro_word.specs.declared.statement.Mem.TheVariants as mems
+use Rattle.micro_word.specs.declared.statement.Part.{Part}
+use Rattle.micro_word.specs.declared.statement.Placed.{Placed}
+use Rattle.micro_word.specs.declared.statement.PlacedNext.{PlacedNext}
+use Rattle.micro_word.specs.declared.statement.PlacedNext.TheVariants as placed
+use Rattle.micro_word.specs.Coding.{word_of}
+use Rattle.micro_word.specs.Canonical.{is_valid}
+use Rattle.mal_parser.specs.declared.statement.Statement.{Statement}
+use Rattle.mal_parser.specs.declared.statement.MalNext.{MalNext}
+use Rattle.mal_parser.specs.declared.statement.MalNext.TheVariants as nexts
+use Rattle.mal_parser.specs.Program.{Program}
+use Rattle.store_placement.specs.declared.pair.Pair.{Pair}
+use Rattle.store_placement.specs.Demands.{Demands}
+
+-- the targets of a conditional
+abbrev pub pair_of : MalNext → Option Pair
+pair_of (nexts.Branch test high low) = Some (record { yes = high; no = low })
+pair_of nexts.Following = None
+pair_of (nexts.Goto to) = None
+pair_of (nexts.Dispatch high) = None
+
+abbrev pub statement_pair : Statement → Option Pair
+statement_pair s = pair_of s.next
+
+-- the fixed addresses, and the pairs of the conditionals, the one of `.default` included
+unfoldable pub demands_of : Program → Demands
+demands_of program =
+    record {
+      fixed = map (λ s. s.fixed) program.statements;
+      pairs = filter_map statement_pair program.statements ++ option_to_list (option_and_then statement_pair program.fallback);
+    }
+
+-- where the statement with this number goes next
+abbrev pub placed_next : (ℕ → ℕ) → ℕ → MalNext → PlacedNext
+placed_next address number nexts.Following = placed.Goto (address (number + 1))
+placed_next address number (nexts.Goto to) = placed.Goto (address to)
+placed_next address number (nexts.Dispatch high) = placed.Dispatch high
+placed_next address number (nexts.Branch test high low) = placed.Branch test (address low)
+
+-- the statements that it needs the addresses of are there
+abbrev pub LeadsInside : ℕ → ℕ → MalNext → Type 0
+LeadsInside count number nexts.Following = number + 1 < count
+LeadsInside count number (nexts.Goto to) = to < count
+LeadsInside count number (nexts.Dispatch high) = Unit {0}
+LeadsInside count number (nexts.Branch test high low) = low < count
+
+abbrev pub placed_statement : (ℕ → ℕ) → ℕ → Statement → Placed
+placed_statement address number s = record { part = s.part; next = placed_next address number s.next }
+
+-- a statement that does nothing
+abbrev pub idle : Part
+idle = record { dests = 0; op = ops.Zero; a = None; b = None; shift = shifts.None; mem = mems.None; fetch = false }
+
+-- what unused words hold: the statement of `.default`, or `goto` address 0x0FE where there is none
+abbrev pub placed_default : (ℕ → ℕ) → Option Statement → Placed
+placed_default address None = record { part = idle; next = placed.Goto 254 }
+placed_default address (Some s) = placed_statement address 0 s
+
+-- the word decodes to the statement
+pub record Decodes (machine : Machine) (word : ℕ) (p : Placed) : Type 0 where
+  pub valid : IsTrue (is_valid machine p)
+  pub whole : word_of machine p ≡ word
+
+-- each statement stands at its address, and what unused words hold at every other
+pub record IsFilled (program : Program) (addresses words : List ℕ) : Type 0 where
+  pub statements : (s : ℕ) (t : Statement) → slice_get program.statements s ≡ Some t →
+    Decodes program.machine (slice_index words (slice_index addresses s)) (placed_statement (slice_index addresses) s t)
+  pub others : (a : ℕ) → a < 512 → ((s : ℕ) → s < length program.statements → slice_index addresses s ≢ a) →
+    Decodes program.machine (slice_index words a) (placed_default (slice_index addresses) program.fallback)
+
+-- s is the one statement at the address
+pub record IsOnlyAt (addresses : List ℕ) (address s : ℕ) : Type 0 where
+  pub inside : s < length addresses
+  pub there : slice_index addresses s ≡ address
+  pub only : (t : ℕ) → t < length addresses → slice_index addresses t ≡ address → t ≡ s

@@ -1,0 +1,90 @@
+//! The control store of a placed program.
+ghost use Rattle.std.specs.Prelude.{◌≡◌, ◌≢◌, ◌<◌, ℕ, Some, length, slice_get, slice_index, IsTrue, MatchOption};
+ghost use Rattle.micro_word.specs.Canonical.{is_valid};
+ghost use Rattle.mal_parser.specs.declared.statement.Statement.{Statement};
+ghost use Rattle.mal_parser.specs.Program.{IsProgram};
+ghost use Rattle.store_placement.specs.Placement.{Places};
+ghost use Rattle.store_placement.specs.Program.{demands_of, placed_next, LeadsInside, placed_statement, placed_default, IsFilled, IsOnlyAt};
+
+use crate::placement::Placement;
+use mal_parser::{MalNext, MalProgram};
+use micro_word::{AluOp, Mem, Part, Placed, PlacedNext, Shift, Store};
+
+fn placed_next(placement: &Placement, number: u16, next: MalNext) -> PlacedNext
+    requires inside { LeadsInside (length placement.now) number next }
+    requires number { number < 512 }
+    ensures { result ≡ placed_next (slice_index placement.now) number next }
+{
+    match next {
+        MalNext::Following => PlacedNext::Goto(placement.address(number + 1)),
+        MalNext::Goto(to) => PlacedNext::Goto(placement.address(to)),
+        MalNext::Dispatch { high } => PlacedNext::Dispatch { high },
+        MalNext::Branch { test, no, .. } => PlacedNext::Branch {
+            test,
+            no: placement.address(no),
+        },
+    }
+}
+
+fn placed_statement(program: &MalProgram, placement: &Placement, s: u16) -> Placed
+    requires program { IsProgram program.now }
+    requires placement { Places (demands_of program.now) placement.now }
+    requires inside { s < length program.now.statements }
+    ensures value { (t : Statement) → slice_get program.now.statements s ≡ Some t → result ≡ placed_statement (slice_index placement.now) s t }
+    ensures valid { IsTrue (is_valid program.now.machine result) }
+{
+    let statement = program.statement(s);
+    Placed {
+        part: statement.part,
+        next: placed_next(placement, s, statement.next),
+    }
+}
+
+/// What unused words hold.
+fn placed_default(program: &MalProgram, placement: &Placement) -> Placed
+    requires program { IsProgram program.now }
+    requires placement { Places (demands_of program.now) placement.now }
+    ensures value { result ≡ placed_default (slice_index placement.now) program.now.fallback }
+    ensures valid { IsTrue (is_valid program.now.machine result) }
+{
+    match program.fallback() {
+        Some(fallback) => Placed {
+            part: fallback.part,
+            next: placed_next(placement, 0, fallback.next),
+        },
+        None => Placed {
+            part: Part {
+                dests: 0,
+                op: AluOp::Zero,
+                a: None,
+                b: None,
+                shift: Shift::None,
+                mem: Mem::None,
+                fetch: false,
+            },
+            next: PlacedNext::Goto(0xfe),
+        },
+    }
+}
+
+/// The control store that holds each statement at its address.
+pub fn fill(program: &MalProgram, placement: &Placement) -> Store
+    requires { Places (demands_of program.now) placement.now }
+    ensures machine { result.machine ≡ program.now.machine }
+    ensures words { IsFilled program.now placement.now result.words }
+{
+    let count = program.len();
+    let mut store = Store::filled(program.machine(), &placed_default(program, placement));
+    for s in 0..count {
+        store.set(placement.address(s), &placed_statement(program, placement, s));
+    }
+    store
+}
+
+/// The statement at an address.
+pub fn statement_at(_program: &MalProgram, placement: &Placement, address: u16) -> Option<u16>
+    requires { Places (demands_of _program.now) placement.now }
+    ensures { MatchOption result ((s : ℕ) → s < length placement.now → slice_index placement.now s ≢ address) (IsOnlyAt placement.now address) }
+{
+    placement.statement_at(address)
+}
