@@ -1,1 +1,4 @@
 pub mod Putting
+pub mod Saying
+pub mod Files
+pub mod Images

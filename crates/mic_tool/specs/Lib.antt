@@ -2,3 +2,5 @@ pub mod Words
 pub mod Report
 pub mod Messages
 pub mod FirstForm
+pub mod Runs
+pub mod Ends

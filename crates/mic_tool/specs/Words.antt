@@ -2,13 +2,12 @@
 use Rattle.std.specs.Prelude.{ℕ, Bool, true, false, not, ◌==◌, ◌&&◌, if◌then◌else◌, List, [], ◌∷◌, Option, Some, None, codes}
 use Rattle.std.specs.Str.{bytes_eq}
 use Rattle.mic_tool.specs.declared.words.Request.{Request}
-use Rattle.mic_tool.specs.declared.words.Request.TheVariants as requests
 
 pub data Asked : Type 0 where
   Run : (file : List ℕ) → Asked
 
 abbrev pub asked : Request → Asked
-asked (requests.Run file) = Run file.now
+asked request = Run request.file.now
 
 -- a plain word is not empty and does not begin with a dash
 abbrev pub is_plain : List ℕ → Bool

@@ -4,10 +4,10 @@ ghost use Rattle.std.specs.Prelude.{◌≡◌, map, string_bytes};
 ghost use Rattle.std.specs.Option.{option_map};
 ghost use Rattle.mic_tool.specs.Words.{asked, is_plain, request_of};
 
-/// What a command line asks for.
+/// What a command line asks for: a run of this file.
 #[derive(Clone, Copy, Debug, PartialEq, Eq)]
-pub enum Request<'a> {
-    Run { file: &'a str },
+pub struct Request<'a> {
+    pub file: &'a str,
 }
 
 /// Whether a word may be a plain one: it is not empty and does not begin with `-`.
@@ -26,7 +26,7 @@ pub fn read_words(words: &[String]) -> Option<Request<'_>>
 {
     match words {
         [command, file] if command.as_str() == "run" && is_plain(file.as_str()) => {
-            Some(Request::Run {
+            Some(Request {
                 file: file.as_str(),
             })
         }
