@@ -10,9 +10,10 @@ use Rattle.mic_tool.specs.Messages.{message, usage, out_of_memory}
 use Rattle.mic_tool.specs.FirstForm.{IsImageOf, has_bad_magic}
 use Rattle.mic_tool.specs.Runs.{IsRunOf, IsCutRunOf}
 
--- The streams: how often console, `out` and `err` have failed, and what the last two hold, where they tell it.
+-- The streams: how often console, `out` and `err` have failed, and what console has left and the others hold, where they tell it.
 pub record Streams : Type 0 where
   pub console_faults : ℕ
+  pub input : Option (List ℕ)
   pub out : Option (List ℕ)
   pub out_faults : ℕ
   pub err : Option (List ℕ)
@@ -34,6 +35,7 @@ pub data Says (old new : Streams) (text : List ℕ) (code status : ℕ) : Type 0
 -- console and `out` are as they were
 pub record IsUntouched (old new : Streams) : Type 0 where
   pub console_faults : new.console_faults ≡ old.console_faults
+  pub input : new.input ≡ old.input
   pub out : new.out ≡ old.out
   pub out_faults : new.out_faults ≡ old.out_faults
 

@@ -7,13 +7,12 @@ ghost use Rattle.mic_tool.specs.FirstForm.{IsImageOf};
 
 use crate::first_form::{has_bad_magic, text_of};
 use crate::messages::underflow;
-use crate::said::{say, say_of};
+use crate::refusals::no_memory;
+use crate::said::say_of;
 use crate::status::Status;
 use mic_base::{FileError, Files, Sink, Source};
 use shipped_microcode::{StraightError, check_straight};
 use std::alloc::Global;
-
-const OUT_OF_MEMORY: &[u8] = b"mic: out of memory\n";
 
 /// Reads the file and runs it.
 pub fn run_file<F: Files, S: Source, K: Sink, E: Sink>(
@@ -25,8 +24,8 @@ pub fn run_file<F: Files, S: Source, K: Sink, E: Sink>(
     err: &mut E,
 ) -> Status
     ensures { Ends (Some (Run file.now))
-        (record { files = F.contents files.old; file_faults = F.faults files.old; streams = record { console_faults = S.faults console.old; out = K.held out.old; out_faults = K.faults out.old; err = E.held err.old; err_faults = E.faults err.old } })
-        (record { files = F.contents files.new; file_faults = F.faults files.new; streams = record { console_faults = S.faults console.new; out = K.held out.new; out_faults = K.faults out.new; err = E.held err.new; err_faults = E.faults err.new } })
+        (record { files = F.contents files.old; file_faults = F.faults files.old; streams = record { console_faults = S.faults console.old; input = S.left console.old; out = K.held out.old; out_faults = K.faults out.old; err = E.held err.old; err_faults = E.faults err.old } })
+        (record { files = F.contents files.new; file_faults = F.faults files.new; streams = record { console_faults = S.faults console.new; input = S.left console.new; out = K.held out.new; out_faults = K.faults out.new; err = E.held err.new; err_faults = E.faults err.new } })
         result.0 }
 {
     match files.read_file(alloc, file) {
@@ -35,7 +34,7 @@ pub fn run_file<F: Files, S: Source, K: Sink, E: Sink>(
         Err(FileError::TooLong) => {
             Status::TOO_LONG.once(say_of(err, file, b"longer than 1048576 bytes"))
         }
-        Err(FileError::OutOfMemory) => Status::MEMORY.once(say(err, OUT_OF_MEMORY)),
+        Err(FileError::OutOfMemory) => no_memory(err),
     }
 }
 
@@ -49,8 +48,8 @@ fn run_bytes<S: Source, K: Sink, E: Sink>(
     err: &mut E,
 ) -> Status
     ensures { RunEnds file.now bytes.now
-        (record { console_faults = S.faults console.old; out = K.held out.old; out_faults = K.faults out.old; err = E.held err.old; err_faults = E.faults err.old })
-        (record { console_faults = S.faults console.new; out = K.held out.new; out_faults = K.faults out.new; err = E.held err.new; err_faults = E.faults err.new })
+        (record { console_faults = S.faults console.old; input = S.left console.old; out = K.held out.old; out_faults = K.faults out.old; err = E.held err.old; err_faults = E.faults err.old })
+        (record { console_faults = S.faults console.new; input = S.left console.new; out = K.held out.new; out_faults = K.faults out.new; err = E.held err.new; err_faults = E.faults err.new })
         result.0 }
 {
     if has_bad_magic(bytes) {
@@ -77,9 +76,9 @@ fn run_text<S: Source, K: Sink, E: Sink>(
     err: &mut E,
 ) -> Status
     ensures { (bytes : List ℕ) → IsImageOf bytes text.now → RunEnds file.now bytes
-        (record { console_faults = S.faults console.old; out = K.held out.old; out_faults = K.faults out.old; err = E.held err.old; err_faults = E.faults err.old })
-        (record { console_faults = S.faults console.new; out = K.held out.new; out_faults = K.faults out.new; err = E.held err.new; err_faults = E.faults err.new })
+        (record { console_faults = S.faults console.old; input = S.left console.old; out = K.held out.old; out_faults = K.faults out.old; err = E.held err.old; err_faults = E.faults err.old })
+        (record { console_faults = S.faults console.new; input = S.left console.new; out = K.held out.new; out_faults = K.faults out.new; err = E.held err.new; err_faults = E.faults err.new })
         result.0 }
 {
-    Status::MEMORY.once(say(err, OUT_OF_MEMORY))
+    no_memory(err)
 }

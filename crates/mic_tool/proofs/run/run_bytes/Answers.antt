@@ -9,14 +9,14 @@ use Rattle.mic_tool.proofs.run.run_bytes.Goals as goal
 pub returns-then-has_bad_magic : goal.returns-then-has_bad_magic
 returns-then-has_bad_magic g c =
     Refused 65 (codes "bad magic") (BadMagic (sym c.has_bad_magic.ensures ∙ c.if-has_bad_magic.true) refl refl)
-    (record { console_faults = refl; out = refl; out_faults = refl })
+    (record { console_faults = refl; input = refl; out = refl; out_faults = refl })
     (says_by _ _ _ 65 _ c.say_of.result c.say_of.ensures.puts c.say_of.ensures.cause c.once.ensures)
 
 pub returns-in_default : goal.returns-in_default
 returns-in_default g c =
     Refused 77 (codes "not built")
     (NotBuilt (sym c.has_bad_magic.ensures ∙ c.if-has_bad_magic.false) (λ image is straight. c.in_default.ensures image is) refl refl)
-    (record { console_faults = refl; out = refl; out_faults = refl })
+    (record { console_faults = refl; input = refl; out = refl; out_faults = refl })
     (says_by _ _ _ 77 _ c.say_of-in_default.result c.say_of-in_default.ensures.puts c.say_of-in_default.ensures.cause c.once-in_default.ensures)
 
 pub returns-in-Ok : goal.returns-in-Ok
@@ -29,7 +29,7 @@ returns-in-Err-NotBuilt g c =
     (λ image is straight. c.in-Err-NotBuilt.ensures.not_built.0 (ap Err c.in-Err-NotBuilt.field-0-is)
     (subst IsStraight (one_text c.args.bytes.now c.in-Some.text.now image c.in-Some.ensures is) straight))
     refl refl)
-    (record { console_faults = refl; out = refl; out_faults = refl })
+    (record { console_faults = refl; input = refl; out = refl; out_faults = refl })
     (says_by _ _ _ 77 _ c.say_of-in-Err-NotBuilt.result c.say_of-in-Err-NotBuilt.ensures.puts c.say_of-in-Err-NotBuilt.ensures.cause
     c.once-in-Err-NotBuilt.ensures)
 
@@ -39,6 +39,6 @@ returns-in-Err-Underflow g c =
     Refused 65 c.bytes.result.now
     (Underflow c.in-Some.text.now at c.in-Some.ensures ((c.in-Err-Underflow.ensures.underflow at).0 (ap Err c.in-Err-Underflow.field-0-is)) refl
     (c.bytes.ensures.value ∙ (c.underflow.ensures ∙ ap (λ (n : ℕ). hex_text 8 n ++ codes " underflow") c.in-Err-Underflow.at-is)))
-    (record { console_faults = refl; out = refl; out_faults = refl })
+    (record { console_faults = refl; input = refl; out = refl; out_faults = refl })
     (says_by _ _ _ 65 _ c.say_of-in-Err-Underflow.result c.say_of-in-Err-Underflow.ensures.puts c.say_of-in-Err-Underflow.ensures.cause
     c.once-in-Err-Underflow.ensures)
