@@ -4,11 +4,22 @@ use Rattle.std.specs.Option.{option_map}
 use Rattle.mic_base.specs.Causes.{Rose}
 use Rattle.mic_base.specs.Digits.{hex_text}
 use Rattle.mic_base.specs.Files.{Contents, Tells, most_bytes}
-use Rattle.shipped_microcode.specs.Straight.{IsStraight, Underflows, Runs}
+use Rattle.mic_clock.specs.declared.end.End.{End}
+use Rattle.mic_clock.specs.declared.end.End.TheVariants as ends
+use Rattle.mic_clock.specs.View.{BoardView}
+use Rattle.mic1_datapath.specs.declared.mic1.Mic1.{Mic1}
+use Rattle.mic1_datapath.specs.Mic1.{registers_of}
+use Rattle.mic1_datapath.specs.View.{micro_of}
+use Rattle.shipped_microcode.specs.Straight.{IsStraight, Underflows, Runs, image_of}
+use Rattle.shipped_microcode.specs.Headline.{HasRun, IsCutByWrite}
 use Rattle.mic_tool.specs.Words.{Asked, Run}
 use Rattle.mic_tool.specs.Messages.{message, usage, out_of_memory}
 use Rattle.mic_tool.specs.FirstForm.{IsImageOf, has_bad_magic}
-use Rattle.mic_tool.specs.Runs.{IsRunOf, IsCutRunOf}
+use Rattle.mic_tool.specs.Report.{report as report_of}
+
+-- the bound on cycles where none is given
+abbrev pub default_bound : ℕ
+default_bound = 10000000
 
 -- The streams: how often console, `out` and `err` have failed, and what console has left and the others hold, where they tell it.
 pub record Streams : Type 0 where
@@ -47,19 +58,33 @@ pub data IsRefused (bytes : List ℕ) (code : ℕ) (text : List ℕ) : Type 0 wh
   Underflow : (image : List ℕ) (at : ℕ) → IsImageOf bytes image → Underflows image at → code ≡ 65 → text ≡ hex_text 8 at ++ codes " underflow" →
       IsRefused bytes code text
 
+-- `board` is the Mic-1 that was clocked over this text from its reset, with 10,000,000 cycles as the bound. `report` is its end, its counts and its registers.
+pub record IsReport (text report : List ℕ) (end : End) (board : BoardView Mic1) : Type 0 where
+  pub ended : board.end ≡ Some end
+  pub printed : report ≡ report_of end board.counts (registers_of (micro_of board.machine))
+
+-- the status of a run that ended so
+abbrev pub status_of : End → ℕ
+status_of ends.ReadFault = 70
+status_of ends.WriteFault = 71
+status_of end = 0
+
 -- how `run` ends, once it has read these bytes of the file
 pub data RunEnds (file bytes : List ℕ) (old new : Streams) (status : ℕ) : Type 0 where
   NoRoom : IsUntouched old new → Says old new out_of_memory 75 status → RunEnds file bytes old new status
   Refused : (code : ℕ) (text : List ℕ) → IsRefused bytes code text → IsUntouched old new → Says old new (message file text) code status →
       RunEnds file bytes old new status
-  -- the run ended by HALT
-  Ran : (text out report : List ℕ) → IsImageOf bytes text → Runs text → IsRunOf text out report →
-      new.console_faults ≡ old.console_faults → Got old.out out new.out → new.out_faults ≡ old.out_faults → Says old new report 0 status →
-      RunEnds file bytes old new status
-  -- `out` failed: it has a front of what the run gives, and the report is of the run that this cut
-  Cut : (text out whole report : List ℕ) → IsImageOf bytes text → Runs text → IsRunOf text out whole → IsCutRunOf text report →
-      new.console_faults ≡ old.console_faults → GotFront old.out out new.out → Rose old.out_faults new.out_faults → Says old new report 71 status →
-      RunEnds file bytes old new status
+  -- the clocked run, which is the definition's run boundary by boundary, ended by HALT; `out` has the definition's output
+  Ran : (text report : List ℕ) (board : BoardView Mic1) → IsImageOf bytes text → Runs text → IsReport text report ends.Halt board →
+      HasRun (image_of text) 0 default_bound old.input old.out new.input new.out board →
+      new.console_faults ≡ old.console_faults → new.out_faults ≡ old.out_faults → Says old new report 0 status → RunEnds file bytes old new status
+  -- `out` failed, which cut the run; `out` has a prefix of the definition's output
+  Cut : (text report : List ℕ) (board : BoardView Mic1) → IsImageOf bytes text → Runs text → IsReport text report ends.WriteFault board →
+      IsCutByWrite (image_of text) 0 default_bound old.input old.out new.input new.out board →
+      new.console_faults ≡ old.console_faults → Rose old.out_faults new.out_faults → Says old new report 71 status → RunEnds file bytes old new status
+  -- the console failed
+  Unheard : (text report : List ℕ) (board : BoardView Mic1) → IsImageOf bytes text → Runs text → IsReport text report ends.ReadFault board →
+      Rose old.console_faults new.console_faults → new.out_faults ≡ old.out_faults → Says old new report 70 status → RunEnds file bytes old new status
 
 pub record Outside : Type 0 where
   pub files : Option Contents

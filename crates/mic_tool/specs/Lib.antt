@@ -2,5 +2,4 @@ pub mod Words
 pub mod Report
 pub mod Messages
 pub mod FirstForm
-pub mod Runs
 pub mod Ends

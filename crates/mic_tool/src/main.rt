@@ -8,6 +8,8 @@ mod report;
 mod run;
 mod said;
 mod status;
+#[cfg(test)]
+mod tests;
 mod top_call;
 mod words;
 
