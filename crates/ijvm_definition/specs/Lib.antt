@@ -8,3 +8,4 @@ pub mod Safe
 pub mod Text
 pub mod ImageFile
 pub mod Machine
+pub mod Steps

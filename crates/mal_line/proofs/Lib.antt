@@ -1,2 +1,10 @@
 pub mod Linking
 pub mod Splitting
+pub mod Options
+pub mod Table
+pub mod Codings
+pub mod Chaining
+pub mod Piecing
+pub mod Parting
+pub mod Lining
+pub mod Standing

@@ -1,11 +1,12 @@
 -- A line of the microassembly language: what its tokens spell on a machine, and why they are refused.
-use Rattle.std.specs.Prelude.{◌≡◌, ◌≢◌, ℕ, Bool, true, false, List, [], ◌∷◌, ◌⊎◌, Option, Some, None, Result, Ok, Err, if◌then◌else◌, option_map}
+use Rattle.std.specs.Prelude.{◌≡◌, ◌≢◌, IsTrue, ℕ, Bool, true, false, List, [], ◌∷◌, ◌⊎◌, Option, Some, None, Result, Ok, Err, if◌then◌else◌, option_map}
 use Rattle.std.specs.List.{list_any}
 use Rattle.micro_word.specs.declared.statement.Machine.{Machine}
 use Rattle.micro_word.specs.declared.statement.Machine.TheVariants.{Mic1, Mic2}
 use Rattle.micro_word.specs.declared.statement.AluOp.TheVariants as ops
 use Rattle.micro_word.specs.declared.statement.Shift.TheVariants as shifts
 use Rattle.micro_word.specs.declared.statement.Part.{Part}
+use Rattle.micro_word.specs.Canonical.{is_part}
 use Rattle.mal_tokens.specs.declared.word.Word.{Word}
 use Rattle.mal_tokens.specs.declared.word.Word.TheVariants as words
 use Rattle.mal_tokens.specs.declared.sign.Sign.TheVariants as signs
@@ -145,3 +146,10 @@ said_by machine ts (Some form) = if names_foreign machine ts then Err faults.Wro
 
 unfoldable pub line_of : Machine → List Token → Result Content LineFault
 line_of machine ts = said_by machine ts (form_of machine ts)
+
+-- a statement that the line says stands in a word of the machine
+abbrev pub HasPart : Machine → Content → Type 0
+HasPart machine contents.Nothing = Unit {0}
+HasPart machine (contents.Fix label address) = Unit {0}
+HasPart machine (contents.Fallback parts) = IsTrue (is_part machine parts.part)
+HasPart machine (contents.Statement label parts) = IsTrue (is_part machine parts.part)

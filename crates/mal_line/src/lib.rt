@@ -4,6 +4,7 @@
 mod chain;
 mod content;
 mod expression;
+mod laws;
 mod line;
 mod operation;
 mod piece;
@@ -13,6 +14,7 @@ mod tree;
 pub use chain::{Assignment, Tail};
 pub use content::{Content, NamedNext, Parts};
 pub use expression::coding_of;
+pub use laws::reads_what_is_spelled;
 pub use line::{LineFault, line_of};
 pub use operation::Operation;
 pub use tree::{Jump, Tree};

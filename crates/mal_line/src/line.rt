@@ -1,5 +1,5 @@
-ghost use Rattle.std.specs.Prelude.{◌≡◌, ◌∷◌};
-ghost use Rattle.mal_line.specs.Lines.{behind_colon, fix_of, form_of, is_foreign, labelled, line_of, names_foreign};
+ghost use Rattle.std.specs.Prelude.{◌≡◌, ◌∷◌, IfOk};
+ghost use Rattle.mal_line.specs.Lines.{behind_colon, fix_of, form_of, HasPart, is_foreign, labelled, line_of, names_foreign};
 
 use crate::content::{Content, content_of};
 use crate::tally::tree_of;
@@ -81,9 +81,16 @@ fn names_foreign(machine: Machine, tokens: &[Token]) -> bool
     tokens.iter().any(|token| is_foreign(machine, *token))
 }
 
-/// What the tokens of a line say.
-#[tactic(auto, unfolding(crate::specs::Lines::line_of))]
+/// What the tokens of a line say, or the first refusal.
 pub fn line_of(machine: Machine, tokens: &[Token]) -> Result<Content, LineFault>
+    ensures value { result ≡ line_of machine tokens.now }
+    ensures part { IfOk result (HasPart machine) }
+{
+    read(machine, tokens)
+}
+
+#[tactic(auto, unfolding(crate::specs::Lines::line_of))]
+fn read(machine: Machine, tokens: &[Token]) -> Result<Content, LineFault>
     ensures { result ≡ line_of machine tokens.now }
 {
     let Some(form) = form_of(machine, tokens) else {

@@ -1,1 +1,5 @@
 pub mod Program
+pub mod Labels
+pub mod Sketch
+pub mod Resolving
+pub mod Sound

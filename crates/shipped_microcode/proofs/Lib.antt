@@ -11,3 +11,10 @@ pub mod Instruction
 pub mod Whole
 pub mod Decoded
 pub mod Straights
+pub mod Built
+pub mod Boot
+pub mod Valid
+pub mod Accepted
+pub mod Output
+pub mod Carried
+pub mod Boards

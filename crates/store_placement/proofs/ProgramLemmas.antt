@@ -40,7 +40,7 @@ labelled_below statements n is =
     elim (slice_get statements n) as (λ o. slice_get statements n ≡ o → IsSome (option_and_then (λ t. t.label) o) → n < length statements) [
       | None ↦ λ e h. cc
       | Some t ↦ λ e h. slice_get_within statements n t e
-      ] refl is
+    ] refl is
 
 targets_below : (statements : List Statement) (next : MalNext) → HasTargets statements next → ForSome (pair_of next) (IsOfStatements (length statements))
 targets_below statements nexts.Following has p is = cc

@@ -1,0 +1,241 @@
+-- The coding of an expression is the one that is looked up for it.
+use Rattle.std.proofs.Common.{◌≡◌, ℕ, Bool, true, false, List, [], ◌∷◌, Option, Some, None, refl, ap, subst, ◌∙◌, inl, inr, eqb→eq}
+use Rattle.std.specs.Bool.{passes}
+use Rattle.std.specs.Prelude.{ℤ, pos, negsuc, not, option_and_then, ◌&&◌, ◌==◌, nat_lt}
+use Rattle.micro_word.specs.declared.statement.Machine.{Machine}
+use Rattle.micro_word.specs.declared.statement.Machine.TheVariants.{Mic1, Mic2}
+use Rattle.micro_word.specs.declared.statement.AluOp.{AluOp}
+use Rattle.micro_word.specs.declared.statement.AluOp.TheVariants as ops
+use Rattle.micro_word.specs.declared.statement.BusSource.{BusSource}
+use Rattle.micro_word.specs.declared.statement.BusSource.TheVariants as bus
+use Rattle.micro_word.specs.declared.statement.Shift.{Shift}
+use Rattle.micro_word.specs.declared.statement.Shift.TheVariants as shifts
+use Rattle.micro_word.specs.Coding.{row}
+use Rattle.micro_word.specs.Canonical.{fits_side, has_operation, is_h, is_mixed, may_be_a, may_be_b, may_fetch}
+use Rattle.mal_tokens.specs.declared.word.Word.TheVariants as words
+use Rattle.mal_tokens.specs.declared.token.Token.{Token}
+use Rattle.mal_tokens.specs.declared.token.Token.TheVariants as tokens
+use Rattle.mal_line.specs.declared.operation.Operation.{Operation}
+use Rattle.mal_line.specs.declared.chain.Tail.{Tail}
+use Rattle.mal_line.specs.declared.chain.Tail.TheVariants as tails
+use Rattle.mal_line.specs.Expressions.{fits, IsCoded, IsOneOf, minus, one_token, other_spellings, plus, side, source_word, spelling, spellings, tail_with}
+use Rattle.mal_line.specs.Lookup.{checked, coding_of, form_of, is_number, lone, paired, shift_of, source_of, with_shift, work}
+use Rattle.mal_line.proofs.Table.{form_is, Commutes, sum, sum_inc, and_op, or_op}
+use Rattle.mal_line.proofs.Options.{bound, chosen, mapped}
+
+-- ---- what is spelled is looked up
+
+source_again : (x : BusSource) → source_of (source_word x) ≡ Some x
+source_again x = elim x as (λ x. source_of (source_word x) ≡ Some x) [
+  | bus.Mdr ↦ refl
+  | bus.Pc ↦ refl
+  | bus.Mbr ↦ refl
+  | bus.Mbru ↦ refl
+  | bus.Sp ↦ refl
+  | bus.Lv ↦ refl
+  | bus.Cpp ↦ refl
+  | bus.Tos ↦ refl
+  | bus.Opc ↦ refl
+  | bus.Mbr1 ↦ refl
+  | bus.Mbr1u ↦ refl
+  | bus.Mbr2 ↦ refl
+  | bus.Mbr2u ↦ refl
+  | bus.H ↦ refl
+]
+
+-- H is on no B side of Mic-1
+dark : (x : BusSource) → may_be_b Mic1 x ≡ true → is_h x ≡ false
+dark x = elim x as (λ x. may_be_b Mic1 x ≡ true → is_h x ≡ false) [
+  | bus.Mdr ↦ λ h. refl
+  | bus.Pc ↦ λ h. refl
+  | bus.Mbr ↦ λ h. refl
+  | bus.Mbru ↦ λ h. refl
+  | bus.Sp ↦ λ h. refl
+  | bus.Lv ↦ λ h. refl
+  | bus.Cpp ↦ λ h. refl
+  | bus.Tos ↦ λ h. refl
+  | bus.Opc ↦ λ h. refl
+  | bus.Mbr1 ↦ λ h. refl
+  | bus.Mbr1u ↦ λ h. refl
+  | bus.Mbr2 ↦ λ h. refl
+  | bus.Mbr2u ↦ λ h. refl
+  | bus.H ↦ λ h. absurd (cc)
+]
+
+source : BusSource → Token
+source x = tokens.Word (source_word x)
+
+form_lone : (m : Machine) (x : BusSource) → form_of m (tokens.Word (source_word x) ∷ []) ≡ Some (lone m ops.A ops.B x)
+form_lone m x = rw (source_again x) refl
+
+form_not : (m : Machine) (x : BusSource) → form_of m (tokens.Word words.Not ∷ tokens.Word (source_word x) ∷ []) ≡ Some (lone m ops.NotA ops.NotB x)
+form_not m x = rw (source_again x) refl
+
+form_neg : (m : Machine) (x : BusSource) → form_of m (minus ∷ tokens.Word (source_word x) ∷ []) ≡ Some (work ops.NegA (Some x) None)
+form_neg m x = rw (source_again x) refl
+
+form_inc : (m : Machine) (x : BusSource) → form_of m (tokens.Word (source_word x) ∷ plus ∷ one_token ∷ []) ≡ Some (lone m ops.IncA ops.IncB x)
+form_inc m x = rw (source_again x) refl
+
+form_more : (m : Machine) (x : BusSource) → form_of m (one_token ∷ plus ∷ tokens.Word (source_word x) ∷ []) ≡ Some (lone m ops.IncA ops.IncB x)
+form_more m x = rw (source_again x) refl
+
+form_dec : (m : Machine) (x : BusSource) → form_of m (tokens.Word (source_word x) ∷ minus ∷ one_token ∷ []) ≡ Some (work ops.DecB None (Some x))
+form_dec m x = rw (source_again x) refl
+
+form_sub : (m : Machine) (x y : BusSource) → form_of m (tokens.Word (source_word x) ∷ minus ∷ tokens.Word (source_word y) ∷ []) ≡ Some (work ops.Sub (Some y) (Some x))
+form_sub m x y = rw (source_again x, source_again y) refl
+
+form_both : (m : Machine) (op : AluOp) (x y : BusSource) → Commutes op → form_of m (spelling op (side (Some x)) (side (Some y))) ≡ Some (paired m op x y)
+form_both m op x y sum = rw (source_again x, source_again y) refl
+form_both m op x y sum_inc = rw (source_again x, source_again y) refl
+form_both m op x y and_op = rw (source_again x, source_again y) refl
+form_both m op x y or_op = rw (source_again x, source_again y) refl
+
+on_b_side : (m : Machine) (op_a op_b : AluOp) (x : BusSource) → may_be_b m x ≡ true → lone m op_a op_b x ≡ work op_b None (Some x)
+on_b_side Mic1 op_a op_b x h = rw (dark x h) refl
+on_b_side Mic2 op_a op_b x h = refl
+
+on_a_side : (op_a op_b : AluOp) (x : BusSource) → is_h x ≡ true → lone Mic1 op_a op_b x ≡ work op_a (Some x) None
+on_a_side op_a op_b x h = rw h refl
+
+in_order : (m : Machine) (op : AluOp) (x y : BusSource) → may_be_a m x ≡ true → paired m op x y ≡ work op (Some x) (Some y)
+in_order Mic1 op x y h = rw h refl
+in_order Mic2 op x y h = refl
+
+out_of_order : (op : AluOp) (x y : BusSource) → may_be_b Mic1 y ≡ true → paired Mic1 op y x ≡ work op (Some x) (Some y)
+out_of_order op x y h = rw (dark y h) refl
+
+-- the operation is looked up, where the machine has it and its sides fit
+Again : Machine → AluOp → Option BusSource → Option BusSource → Type 0
+Again m op a b = (body : List Token) → has_operation m op ≡ true → fits_side (row op).uses_a (may_be_a m) a ≡ true → fits_side (row op).uses_b (may_be_b m) b ≡ true
+    → IsOneOf body (spelling op (side a) (side b) ∷ other_spellings m op (side a) (side b)) → form_of m body ≡ Some (work op a b)
+
+again : (m : Machine) (op : AluOp) (a b : Option BusSource) → Again m op a b
+unfolding Again
+again Mic1 ops.A (Some x) None body h f g (inl e) = ap (form_of Mic1) e ∙ (form_lone Mic1 x ∙ ap Some (on_a_side ops.A ops.B x f))
+again Mic1 ops.A (Some x) None body h f g (inr e) = elim e [ ]
+again Mic1 ops.NotA (Some x) None body h f g (inl e) = ap (form_of Mic1) e ∙ (form_not Mic1 x ∙ ap Some (on_a_side ops.NotA ops.NotB x f))
+again Mic1 ops.NotA (Some x) None body h f g (inr e) = elim e [ ]
+again Mic1 ops.IncA (Some x) None body h f g (inl e) = ap (form_of Mic1) e ∙ (form_inc Mic1 x ∙ ap Some (on_a_side ops.IncA ops.IncB x f))
+again Mic1 ops.IncA (Some x) None body h f g (inr (inl e)) = ap (form_of Mic1) e ∙ (form_more Mic1 x ∙ ap Some (on_a_side ops.IncA ops.IncB x f))
+again Mic1 ops.IncA (Some x) None body h f g (inr (inr e)) = elim e [ ]
+again Mic1 ops.B None (Some x) body h f g (inl e) = ap (form_of Mic1) e ∙ (form_lone Mic1 x ∙ ap Some (on_b_side Mic1 ops.A ops.B x g))
+again Mic1 ops.B None (Some x) body h f g (inr e) = elim e [ ]
+again Mic1 ops.NotB None (Some x) body h f g (inl e) = ap (form_of Mic1) e ∙ (form_not Mic1 x ∙ ap Some (on_b_side Mic1 ops.NotA ops.NotB x g))
+again Mic1 ops.NotB None (Some x) body h f g (inr e) = elim e [ ]
+again Mic1 ops.IncB None (Some x) body h f g (inl e) = ap (form_of Mic1) e ∙ (form_inc Mic1 x ∙ ap Some (on_b_side Mic1 ops.IncA ops.IncB x g))
+again Mic1 ops.IncB None (Some x) body h f g (inr (inl e)) = ap (form_of Mic1) e ∙ (form_more Mic1 x ∙ ap Some (on_b_side Mic1 ops.IncA ops.IncB x g))
+again Mic1 ops.IncB None (Some x) body h f g (inr (inr e)) = elim e [ ]
+again Mic1 ops.Sum (Some x) (Some y) body h f g (inl e) = ap (form_of Mic1) e ∙ (form_both Mic1 ops.Sum x y sum ∙ ap Some (in_order Mic1 ops.Sum x y f))
+again Mic1 ops.Sum (Some x) (Some y) body h f g (inr (inl e)) = ap (form_of Mic1) e ∙ (form_both Mic1 ops.Sum y x sum ∙ ap Some (out_of_order ops.Sum x y g))
+again Mic1 ops.Sum (Some x) (Some y) body h f g (inr (inr e)) = elim e [ ]
+again Mic1 ops.SumInc (Some x) (Some y) body h f g (inl e) = ap (form_of Mic1) e ∙ (form_both Mic1 ops.SumInc x y sum_inc ∙ ap Some (in_order Mic1 ops.SumInc x y f))
+again Mic1 ops.SumInc (Some x) (Some y) body h f g (inr (inl e)) = ap (form_of Mic1) e ∙ (form_both Mic1 ops.SumInc y x sum_inc ∙ ap Some (out_of_order ops.SumInc x y g))
+again Mic1 ops.SumInc (Some x) (Some y) body h f g (inr (inr e)) = elim e [ ]
+again Mic1 ops.And (Some x) (Some y) body h f g (inl e) = ap (form_of Mic1) e ∙ (form_both Mic1 ops.And x y and_op ∙ ap Some (in_order Mic1 ops.And x y f))
+again Mic1 ops.And (Some x) (Some y) body h f g (inr (inl e)) = ap (form_of Mic1) e ∙ (form_both Mic1 ops.And y x and_op ∙ ap Some (out_of_order ops.And x y g))
+again Mic1 ops.And (Some x) (Some y) body h f g (inr (inr e)) = elim e [ ]
+again Mic1 ops.Or (Some x) (Some y) body h f g (inl e) = ap (form_of Mic1) e ∙ (form_both Mic1 ops.Or x y or_op ∙ ap Some (in_order Mic1 ops.Or x y f))
+again Mic1 ops.Or (Some x) (Some y) body h f g (inr (inl e)) = ap (form_of Mic1) e ∙ (form_both Mic1 ops.Or y x or_op ∙ ap Some (out_of_order ops.Or x y g))
+again Mic1 ops.Or (Some x) (Some y) body h f g (inr (inr e)) = elim e [ ]
+again Mic1 ops.Sub (Some x) (Some y) body h f g (inl e) = ap (form_of Mic1) e ∙ form_sub Mic1 y x
+again Mic1 ops.Sub (Some x) (Some y) body h f g (inr e) = elim e [ ]
+again Mic1 ops.DecB None (Some x) body h f g (inl e) = ap (form_of Mic1) e ∙ form_dec Mic1 x
+again Mic1 ops.DecB None (Some x) body h f g (inr e) = elim e [ ]
+again Mic1 ops.NegA (Some x) None body h f g (inl e) = ap (form_of Mic1) e ∙ form_neg Mic1 x
+again Mic1 ops.NegA (Some x) None body h f g (inr e) = elim e [ ]
+again Mic1 ops.Zero None None body h f g (inl e) = ap (form_of Mic1) e ∙ refl
+again Mic1 ops.Zero None None body h f g (inr e) = elim e [ ]
+again Mic1 ops.One None None body h f g (inl e) = ap (form_of Mic1) e ∙ refl
+again Mic1 ops.One None None body h f g (inr e) = elim e [ ]
+again Mic1 ops.MinusOne None None body h f g (inl e) = ap (form_of Mic1) e ∙ refl
+again Mic1 ops.MinusOne None None body h f g (inr e) = elim e [ ]
+again Mic2 ops.B None (Some x) body h f g (inl e) = ap (form_of Mic2) e ∙ (form_lone Mic2 x ∙ ap Some (on_b_side Mic2 ops.A ops.B x g))
+again Mic2 ops.B None (Some x) body h f g (inr e) = elim e [ ]
+again Mic2 ops.NotB None (Some x) body h f g (inl e) = ap (form_of Mic2) e ∙ (form_not Mic2 x ∙ ap Some (on_b_side Mic2 ops.NotA ops.NotB x g))
+again Mic2 ops.NotB None (Some x) body h f g (inr e) = elim e [ ]
+again Mic2 ops.IncB None (Some x) body h f g (inl e) = ap (form_of Mic2) e ∙ (form_inc Mic2 x ∙ ap Some (on_b_side Mic2 ops.IncA ops.IncB x g))
+again Mic2 ops.IncB None (Some x) body h f g (inr (inl e)) = ap (form_of Mic2) e ∙ (form_more Mic2 x ∙ ap Some (on_b_side Mic2 ops.IncA ops.IncB x g))
+again Mic2 ops.IncB None (Some x) body h f g (inr (inr e)) = elim e [ ]
+again Mic2 ops.Sum (Some x) (Some y) body h f g (inl e) = ap (form_of Mic2) e ∙ (form_both Mic2 ops.Sum x y sum ∙ ap Some (in_order Mic2 ops.Sum x y f))
+again Mic2 ops.Sum (Some x) (Some y) body h f g (inr e) = elim e [ ]
+again Mic2 ops.SumInc (Some x) (Some y) body h f g (inl e) = ap (form_of Mic2) e ∙ (form_both Mic2 ops.SumInc x y sum_inc ∙ ap Some (in_order Mic2 ops.SumInc x y f))
+again Mic2 ops.SumInc (Some x) (Some y) body h f g (inr e) = elim e [ ]
+again Mic2 ops.And (Some x) (Some y) body h f g (inl e) = ap (form_of Mic2) e ∙ (form_both Mic2 ops.And x y and_op ∙ ap Some (in_order Mic2 ops.And x y f))
+again Mic2 ops.And (Some x) (Some y) body h f g (inr e) = elim e [ ]
+again Mic2 ops.Or (Some x) (Some y) body h f g (inl e) = ap (form_of Mic2) e ∙ (form_both Mic2 ops.Or x y or_op ∙ ap Some (in_order Mic2 ops.Or x y f))
+again Mic2 ops.Or (Some x) (Some y) body h f g (inr e) = elim e [ ]
+again Mic2 ops.Sub (Some x) (Some y) body h f g (inl e) = ap (form_of Mic2) e ∙ form_sub Mic2 y x
+again Mic2 ops.Sub (Some x) (Some y) body h f g (inr e) = elim e [ ]
+again Mic2 ops.DecB None (Some x) body h f g (inl e) = ap (form_of Mic2) e ∙ form_dec Mic2 x
+again Mic2 ops.DecB None (Some x) body h f g (inr e) = elim e [ ]
+again Mic2 ops.NegA (Some x) None body h f g (inl e) = ap (form_of Mic2) e ∙ form_neg Mic2 x
+again Mic2 ops.NegA (Some x) None body h f g (inr e) = elim e [ ]
+again Mic2 ops.Zero None None body h f g (inl e) = ap (form_of Mic2) e ∙ refl
+again Mic2 ops.Zero None None body h f g (inr e) = elim e [ ]
+again Mic2 ops.One None None body h f g (inl e) = ap (form_of Mic2) e ∙ refl
+again Mic2 ops.One None None body h f g (inr e) = elim e [ ]
+again Mic2 ops.MinusOne None None body h f g (inl e) = ap (form_of Mic2) e ∙ refl
+again Mic2 ops.MinusOne None None body h f g (inr e) = elim e [ ]
+again m _ _ _ body h f g e = absurd (cc)
+
+-- ---- the coding as a whole
+
+six : (u v w x y z : Bool) → (((((u && v) && w) && x) && y) && z) ≡ true → (v ≡ true) × (w ≡ true) × (x ≡ true)
+six true true true x y z h = (refl, refl, first x y z h)
+  where
+    first : (x y z : Bool) → ((x && y) && z) ≡ true → x ≡ true
+    first true y z h = refl
+    first false y z h = absurd (cc)
+six true true false x y z h = absurd (cc)
+six true false w x y z h = absurd (cc)
+six false v w x y z h = absurd (cc)
+
+form_again : (m : Machine) (body : List Token) (o : Operation) → fits m o ≡ true → IsOneOf body (spellings m o) → form_of m body ≡ Some (work o.op o.a o.b)
+unfolding Again
+form_again m body o h s =
+    let p = six (nat_lt 0 512) (has_operation m o.op) (fits_side (row o.op).uses_a (may_be_a m) o.a) (fits_side (row o.op).uses_b (may_be_b m) o.b) (not (is_mixed o.a o.b)) (may_fetch m false) h in
+    again m o.op o.a o.b body p.0 p.1 p.2 s
+
+shift_again : (s : Shift) → shift_of (tail_with s) ≡ Some s
+shift_again shifts.None = refl
+shift_again shifts.Left8 = refl
+shift_again shifts.Right1 = refl
+
+number_is : (v : ℤ) (n : ℕ) → is_number v n ≡ true → v ≡ pos n
+number_is (pos k) n h = ap pos (eqb→eq k n (passes (k == n) h))
+number_is (negsuc k) n h = absurd (cc)
+
+shift_is : (t : Tail) (s : Shift) → shift_of t ≡ Some s → t ≡ tail_with s
+shift_is tails.Nothing s h = let e : shifts.None ≡ s = cc in subst (λ s. tails.Nothing ≡ tail_with s) e refl
+shift_is (tails.Left v) s h = elim (chosen (is_number v 8) (Some shifts.Left8) None (Some s) h) [
+  | inl w ↦ let e : shifts.Left8 ≡ s = cc in subst (λ s. tails.Left v ≡ tail_with s) e (ap (λ v. tails.Left v) (number_is v 8 w.0))
+  | inr w ↦ absurd (let z = w.1 in cc)
+]
+shift_is (tails.Right v) s h = elim (chosen (is_number v 1) (Some shifts.Right1) None (Some s) h) [
+  | inl w ↦ let e : shifts.Right1 ≡ s = cc in subst (λ s. tails.Right v ≡ tail_with s) e (ap (λ v. tails.Right v) (number_is v 1 w.0))
+  | inr w ↦ absurd (let z = w.1 in cc)
+]
+
+pub coding_again : (m : Machine) (body : List Token) (t : Tail) (o : Operation) → IsCoded m body t o → coding_of m body t ≡ Some o
+coding_again m body t o c =
+    let s : shift_of t ≡ Some o.shift = ap shift_of c.shifted ∙ shift_again o.shift in
+    let f = form_again m body o c.fitting c.spelled in
+    let fit : fits m (work o.op o.a o.b) ≡ true = c.fitting in
+    rw (s, f, fit) refl
+
+pub coding_is : (m : Machine) (body : List Token) (t : Tail) (o : Operation) → coding_of m body t ≡ Some o → IsCoded m body t o
+coding_is m body t o h =
+    let s = bound (with_shift (option_and_then (checked m) (form_of m body))) (shift_of t) o h in
+    let p = mapped (λ (p : Operation). record p { shift = s.0 }) (option_and_then (checked m) (form_of m body)) o s.2 in
+    let f = bound (checked m) (form_of m body) p.0 p.1 in
+    elim (chosen (fits m f.0) (Some f.0) None (Some p.0) f.2) [
+      | inl w ↦
+          let e : f.0 ≡ p.0 = cc in
+          let fit : fits m p.0 ≡ true = subst (λ q. fits m q ≡ true) e w.0 in
+          let is : IsOneOf body (spellings m p.0) = subst (λ q. IsOneOf body (spellings m q)) e (form_is m body f.0 f.1) in
+          let c : IsCoded m body t (record p.0 { shift = s.0 }) = record { fitting = fit; spelled = is; shifted = shift_is t s.0 s.1 } in
+          subst (IsCoded m body t) p.2 c
+      | inr w ↦ absurd (let z = w.1 in cc)
+    ]

@@ -1,0 +1,15 @@
+use Rattle.std.proofs.Common.{◌≡◌, Ok, Err, sym}
+use Rattle.std.specs.Prelude.{Result, IfOk}
+use Rattle.mal_line.specs.declared.content.Content.{Content}
+use Rattle.mal_line.specs.declared.line.LineFault.{LineFault}
+use Rattle.mal_line.specs.Lines.{HasPart, line_of}
+use Rattle.mal_line.proofs.Lining.{line_spells}
+use Rattle.mal_line.proofs.Standing.{stands}
+use Rattle.mal_line.proofs.line.line_of.Goals as goal
+
+pub returns-clause-part : goal.returns-clause-part
+returns-clause-part c = go c.read.result (sym c.read.ensures)
+  where
+    go : (r : Result Content LineFault) → line_of c.args.machine c.args.tokens.now ≡ r → IfOk r (HasPart c.args.machine)
+    go (Ok x) e = stands c.args.machine c.args.tokens.now x (line_spells c.args.machine c.args.tokens.now x e)
+    go (Err f) e = tt

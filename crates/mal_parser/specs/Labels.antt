@@ -1,0 +1,37 @@
+-- Labels of statements and of `.label` lines.
+use Rattle.std.specs.Prelude.{◌≡◌, ℕ, ℤ, pos, negsuc, Bool, false, List, Option, Some, None, if◌then◌else◌, nat_lt}
+use Rattle.std.specs.List.{list_any}
+use Rattle.std.specs.Str.{bytes_eq}
+use Rattle.std.specs.Ordering.{nat_cmp}
+use Rattle.std.specs.Cmp.Lexicographic.{slice_cmp}
+use Rattle.std.specs.BTreeSet.{BTreeSet, contains}
+use Rattle.mal_parser.specs.declared.source.Draft.{Draft}
+use Rattle.mal_parser.specs.declared.source.Fix.{Fix}
+
+abbrev pub is_label : List ℕ → Option (List ℕ) → Bool
+is_label label (Some own) = bytes_eq own label
+is_label label None = false
+
+abbrev pub is_labelled : List ℕ → Draft → Bool
+is_labelled label d = is_label label d.label
+
+-- a statement has this label
+abbrev pub has_label : List Draft → List ℕ → Bool
+has_label ds label = list_any (is_labelled label) ds
+
+abbrev pub has_name : List Draft → Option (List ℕ) → Bool
+has_name ds (Some label) = has_label ds label
+has_name ds None = false
+
+-- a `.label` line has this label
+abbrev pub has_fix : List Fix → List ℕ → Bool
+has_fix fs label = list_any (λ f. bytes_eq f.label label) fs
+
+-- the address that a number is, where it is one
+abbrev pub address_of : ℤ → Option ℕ
+address_of (pos n) = if nat_lt n 512 then Some n else None
+address_of (negsuc n) = None
+
+-- the set has the labels of the lines
+abbrev pub AreLabels : List Fix → BTreeSet (List ℕ) → Type 0
+AreLabels fs set = (label : List ℕ) → contains (slice_cmp nat_cmp) set label ≡ has_fix fs label

@@ -1,0 +1,228 @@
+ghost use Rattle.std.specs.Prelude.{◌≡◌, ◌≤◌, ◌<◌, ◌-◌, length, not, option_map, map, slice_get, find, min, IfOk, IfErr, Ok, Some};
+ghost use Rattle.std.specs.List.{position};
+ghost use Rattle.std.specs.Str.{bytes_eq};
+ghost use Rattle.mal_parser.specs.Labels.{has_label, is_labelled};
+ghost use Rattle.mal_parser.specs.Resolving.{address_at, earlier, falling, falls, first_falling, first_unknown, fixed_of, knows, main1, next_of, number_of, program_of, resolved, target, unknown_draft, unknown_fix, unknown_in};
+ghost use Rattle.mal_parser.specs.Sketch.{FailsBy};
+ghost use Rattle.mal_parser.specs.Sound.{IsSound};
+
+use crate::error::MalError;
+use crate::program::MalProgram;
+use crate::source::{Draft, Fix, SourceReader, has_label, is_labelled};
+use crate::statement::{MalNext, Statement};
+use mal_line::NamedNext;
+use mic_base::Name;
+use std::alloc::AllocError;
+
+fn knows(drafts: &[Draft], next: &NamedNext) -> bool
+    ensures { result ≡ knows drafts.now next.now }
+{
+    match next {
+        NamedNext::Goto(label) => has_label(drafts, label),
+        NamedNext::Branch { yes, no, .. } => has_label(drafts, yes) && has_label(drafts, no),
+        NamedNext::Following | NamedNext::Dispatch { .. } => true,
+    }
+}
+
+fn unknown_draft(drafts: &[Draft]) -> Option<u32>
+    ensures { result ≡ unknown_draft drafts.now drafts.now }
+{
+    drafts
+        .iter()
+        .find(|draft| !knows(drafts, &draft.parts.next))
+        .map(|draft| draft.line)
+}
+
+fn unknown_fix(drafts: &[Draft], fixes: &[Fix]) -> Option<u32>
+    ensures { result ≡ unknown_fix drafts.now fixes.now }
+{
+    fixes
+        .iter()
+        .find(|fix| !has_label(drafts, &fix.label))
+        .map(|fix| fix.line)
+}
+
+fn unknown_in(drafts: &[Draft], fallback: &Option<Draft>) -> Option<u32>
+    ensures { result ≡ unknown_in drafts.now fallback.now }
+{
+    match fallback {
+        None => None,
+        Some(draft) => {
+            if knows(drafts, &draft.parts.next) {
+                None
+            } else {
+                Some(draft.line)
+            }
+        }
+    }
+}
+
+/// The smaller of two lines, where there is one.
+fn earlier(a: Option<u32>, b: Option<u32>) -> Option<u32>
+    ensures { result ≡ earlier a b }
+{
+    match (a, b) {
+        (None, _) => b,
+        (Some(_), None) => a,
+        (Some(a), Some(b)) => Some(a.min(b)),
+    }
+}
+
+fn falls(next: &NamedNext) -> bool
+    ensures { result ≡ falls next.now }
+{
+    matches!(next, NamedNext::Following)
+}
+
+fn falling(draft: Option<Draft>) -> Option<u32>
+    ensures { result ≡ falling draft }
+{
+    match draft {
+        None => None,
+        Some(draft) => {
+            if falls(&draft.parts.next) {
+                Some(draft.line)
+            } else {
+                None
+            }
+        }
+    }
+}
+
+fn last_of(drafts: &[Draft]) -> Option<Draft>
+    ensures { result ≡ slice_get drafts.now (length drafts.now - 1) }
+{
+    drafts.last().copied()
+}
+
+fn number_of(drafts: &[Draft], label: &Name) -> Option<usize>
+    ensures { result ≡ number_of drafts.now label.now }
+{
+    drafts.iter().position(|draft| is_labelled(draft, label))
+}
+
+fn target(drafts: &[Draft], label: &Name) -> u16
+    requires { length drafts.now ≤ 512 }
+    ensures { result ≡ target drafts.now label.now }
+{
+    number_of(drafts, label).unwrap_or(0) as u16
+}
+
+fn next_of(drafts: &[Draft], next: &NamedNext) -> MalNext
+    requires { length drafts.now ≤ 512 }
+    ensures { result ≡ next_of drafts.now next.now }
+{
+    match next {
+        NamedNext::Following => MalNext::Following,
+        NamedNext::Goto(label) => MalNext::Goto(target(drafts, label)),
+        NamedNext::Dispatch { high } => MalNext::Dispatch { high: *high },
+        NamedNext::Branch { test, yes, no } => MalNext::Branch {
+            test: *test,
+            yes: target(drafts, yes),
+            no: target(drafts, no),
+        },
+    }
+}
+
+fn address_at(fixes: &[Fix], label: &Name) -> Option<u16>
+    ensures { result ≡ address_at fixes.now label.now }
+{
+    fixes
+        .iter()
+        .find(|fix| fix.label == *label)
+        .map(|fix| fix.address)
+}
+
+fn fixed_of(fixes: &[Fix], label: &Option<Name>) -> Option<u16>
+    ensures { result ≡ fixed_of fixes.now label.now }
+{
+    match label {
+        Some(label) => address_at(fixes, label),
+        None => None,
+    }
+}
+
+fn resolved(drafts: &[Draft], fixes: &[Fix], draft: &Draft) -> Statement
+    requires { length drafts.now ≤ 512 }
+    ensures { result ≡ resolved drafts.now fixes.now draft.now }
+{
+    Statement {
+        label: draft.label,
+        line: draft.line,
+        part: draft.parts.part,
+        next: next_of(drafts, &draft.parts.next),
+        fixed: fixed_of(fixes, &draft.label),
+    }
+}
+
+fn all_resolved(reader: &SourceReader) -> Result<Vec<Statement>, AllocError>
+    requires { length reader.now.statements ≤ 512 }
+    ensures { IfOk result (λ v. v.items ≡ map (resolved reader.now.statements reader.now.fixes) reader.now.statements) }
+{
+    let drafts = reader.statements.as_slice();
+    let fixes = reader.fixes.as_slice();
+    drafts
+        .iter()
+        .map(|draft| resolved(drafts, fixes, draft))
+        .collect(reader.alloc)
+}
+
+fn fallback_of(reader: &SourceReader) -> Option<Statement>
+    requires { length reader.now.statements ≤ 512 }
+    ensures { result ≡ option_map (resolved reader.now.statements reader.now.fixes) reader.now.fallback }
+{
+    match &reader.fallback {
+        Some(draft) => Some(resolved(&reader.statements, &reader.fixes, draft)),
+        None => None,
+    }
+}
+
+fn first_unknown(reader: &SourceReader) -> Option<u32>
+    ensures { result ≡ first_unknown reader.now }
+{
+    let fixes = unknown_fix(&reader.statements, &reader.fixes);
+    let fallback = unknown_in(&reader.statements, &reader.fallback);
+    earlier(unknown_draft(&reader.statements), earlier(fixes, fallback))
+}
+
+fn first_falling(reader: &SourceReader) -> Option<u32>
+    ensures { result ≡ first_falling reader.now }
+{
+    earlier(
+        falling(last_of(&reader.statements)),
+        falling(reader.fallback),
+    )
+}
+
+fn main1() -> Name
+    ensures { result ≡ main1 }
+{
+    Name::new(b"Main1").unwrap()
+}
+
+/// The program that the lines make, or the first refusal of the whole source.
+#[tactic(auto, unfolding(crate::specs::Resolving::program_of))]
+pub(crate) fn program_of(reader: &SourceReader) -> Result<MalProgram, MalError>
+    requires { IsSound reader.now }
+    ensures ok { IfOk result (λ p. program_of reader.now ≡ Ok p) }
+    ensures err { IfErr result (λ e. FailsBy e (program_of reader.now)) }
+{
+    if let Some(line) = first_unknown(reader) {
+        return Err(MalError::UnknownLabel(line));
+    }
+    if let Some(line) = first_falling(reader) {
+        return Err(MalError::LastFalls(line));
+    }
+    let Some(entry) = number_of(&reader.statements, &main1()) else {
+        return Err(MalError::NoEntry);
+    };
+    let Ok(statements) = all_resolved(reader) else {
+        return Err(MalError::OutOfMemory);
+    };
+    Ok(MalProgram::new(
+        reader.machine,
+        statements,
+        fallback_of(reader),
+        entry as u16,
+    ))
+}
