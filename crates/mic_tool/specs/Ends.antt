@@ -43,6 +43,11 @@ pub data Says (old new : Streams) (text : List ℕ) (code status : ℕ) : Type 0
   Said : status ≡ code → Got old.err text new.err → new.err_faults ≡ old.err_faults → Says old new text code status
   Unsaid : status ≡ 71 → GotFront old.err text new.err → Rose old.err_faults new.err_faults → Says old new text code status
 
+-- the same by what `err` held and how often it had failed, whatever came to the other streams
+abbrev pub SaysOn : Option (List ℕ) → ℕ → Option (List ℕ) → ℕ → List ℕ → ℕ → ℕ → Type 0
+SaysOn held faults held' faults' text code status =
+    (old new : Streams) → old.err ≡ held → old.err_faults ≡ faults → new.err ≡ held' → new.err_faults ≡ faults' → Says old new text code status
+
 -- console and `out` are as they were
 pub record IsUntouched (old new : Streams) : Type 0 where
   pub console_faults : new.console_faults ≡ old.console_faults

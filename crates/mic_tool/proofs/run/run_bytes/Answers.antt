@@ -20,7 +20,7 @@ returns-in_default g c =
     (says_by _ _ _ 77 _ c.say_of-in_default.result c.say_of-in_default.ensures.puts c.say_of-in_default.ensures.cause c.once-in_default.ensures)
 
 pub returns-in-Ok : goal.returns-in-Ok
-returns-in-Ok g c = c.run_text.ensures c.args.bytes.now c.in-Some.ensures
+returns-in-Ok g c = c.run_text.ensures c.args.file.now c.args.bytes.now c.in-Some.ensures
 
 pub returns-in-Err-NotBuilt : goal.returns-in-Err-NotBuilt
 returns-in-Err-NotBuilt g c =

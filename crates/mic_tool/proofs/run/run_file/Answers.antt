@@ -29,4 +29,4 @@ returns-in-Err-TooLong g c =
 pub returns-in-Err-OutOfMemory : goal.returns-in-Err-OutOfMemory
 returns-in-Err-OutOfMemory g c =
     NoMemory (record { files = c.read_file.ensures.same; faults = c.in-Err-OutOfMemory.ensures.cause.quiet (λ e. cc) })
-    (record { console_faults = refl; input = refl; out = refl; out_faults = refl }) (c.no_memory.ensures _ _ _ _)
+    (record { console_faults = refl; input = refl; out = refl; out_faults = refl }) (c.no_memory.ensures _ _ refl refl refl refl)
