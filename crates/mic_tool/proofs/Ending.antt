@@ -1,5 +1,5 @@
 -- How a run ends, by the end of its board.
-use Rattle.std.proofs.Common.{◌≡◌, ℕ, List, [], Option, Some, None, refl, sym, subst}
+use Rattle.std.proofs.Common.{◌≡◌, ◌≢◌, ℕ, List, [], Option, Some, None, refl, sym, subst}
 use Rattle.mic_clock.specs.declared.end.End.{End}
 use Rattle.mic_clock.specs.declared.end.End.TheVariants as ends
 use Rattle.mic_clock.specs.Board.{NoFault, HasEndCause}
@@ -11,12 +11,13 @@ use Rattle.shipped_microcode.specs.Straight.{Runs, image_of}
 use Rattle.shipped_microcode.specs.Headline.{HasRun, IsCutByWrite}
 use Rattle.mic_tool.specs.FirstForm.{IsImageOf}
 use Rattle.mic_tool.specs.Report.{report as report_of}
-use Rattle.mic_tool.specs.Ends.{Streams, Says, RunEnds, Ran, Cut, Unheard, IsReport, default_bound, status_of}
+use Rattle.mic_tool.specs.Ends.{Streams, Says, RunEnds, Ran, Cut, IsReport, default_bound, status_of}
 
 -- what is known of a board that was run between these streams
 pub record IsRun (text : List ℕ) (old new : Streams) (board : BoardView Mic1) : Type 0 where
   pub run : NoFault None board.end → HasRun (image_of text) 0 default_bound old.input old.out new.input new.out board
   pub halt : NoFault None board.end → board.end ≡ Some ends.Halt
+  pub unread : board.end ≢ Some ends.ReadFault
   pub write : board.end ≡ Some ends.WriteFault → IsCutByWrite (image_of text) 0 default_bound old.input old.out new.input new.out board
   pub cause : HasEndCause old.console_faults new.console_faults old.out_faults new.out_faults None board.end
 
@@ -34,8 +35,7 @@ module _ (file bytes text report : List ℕ) (old new : Streams) (board : BoardV
   ends_by ends.WriteFault e printed says =
       Cut text report board is runs (record { ended = e; printed = printed }) (r.write e)
       (r.cause.source_same (λ _ q. cc)) (r.cause.write refl e) says
-  ends_by ends.ReadFault e printed says =
-      Unheard text report board is runs (record { ended = e; printed = printed }) (r.cause.read refl e) (r.cause.sink_same (λ _ q. cc)) says
+  ends_by ends.ReadFault e printed says = absurd (r.unread e)
   ends_by ends.Err e printed says = absurd (let h : board.end ≡ Some ends.Halt = r.halt (quiet board ends.Err e tt) in cc)
   ends_by ends.Bound e printed says = absurd (let h : board.end ≡ Some ends.Halt = r.halt (quiet board ends.Bound e tt) in cc)
   ends_by ends.StackLimit e printed says = absurd (let h : board.end ≡ Some ends.Halt = r.halt (quiet board ends.StackLimit e tt) in cc)

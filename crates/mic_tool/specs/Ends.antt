@@ -70,7 +70,6 @@ pub record IsReport (text report : List ℕ) (end : End) (board : BoardView Mic1
 
 -- the status of a run that ended so
 abbrev pub status_of : End → ℕ
-status_of ends.ReadFault = 70
 status_of ends.WriteFault = 71
 status_of end = 0
 
@@ -87,9 +86,6 @@ pub data RunEnds (file bytes : List ℕ) (old new : Streams) (status : ℕ) : Ty
   Cut : (text report : List ℕ) (board : BoardView Mic1) → IsImageOf bytes text → Runs text → IsReport text report ends.WriteFault board →
       IsCutByWrite (image_of text) 0 default_bound old.input old.out new.input new.out board →
       new.console_faults ≡ old.console_faults → Rose old.out_faults new.out_faults → Says old new report 71 status → RunEnds file bytes old new status
-  -- the console failed
-  Unheard : (text report : List ℕ) (board : BoardView Mic1) → IsImageOf bytes text → Runs text → IsReport text report ends.ReadFault board →
-      Rose old.console_faults new.console_faults → new.out_faults ≡ old.out_faults → Says old new report 70 status → RunEnds file bytes old new status
 
 pub record Outside : Type 0 where
   pub files : Option Contents

@@ -24,7 +24,6 @@ fn status_of(end: End) -> Status
     ensures { result.0 ≡ status_of end }
 {
     match end {
-        End::ReadFault => Status::SOURCE,
         End::WriteFault => Status::SINK,
         _ => Status::DONE,
     }

@@ -19,8 +19,6 @@ impl Status {
     pub const FILE: Status = Status(66);
     /// The file is too long.
     pub const TOO_LONG: Status = Status(67);
-    /// The console failed.
-    pub const SOURCE: Status = Status(70);
     /// `out` or `err` failed.
     pub const SINK: Status = Status(71);
 
