@@ -115,6 +115,7 @@ impl Bus {
         ensures err { IfErr result (Stands (S.left source.old) (K.held sink.old) self.old (S.left source.new) (K.held sink.new) self.new) }
         ensures fault { IfErr result (λ e. read_refusal (length self.old.words) at ≡ None → (at ≡ console_at) × IsFault e) }
         ensures words { self.new.words ≡ self.old.words }
+        ensures memory { at < length self.old.words → (result ≡ Ok (slice_index self.old.words at)) × (self.new ≡ self.old) × (source.new ≡ source.old) × (sink.new ≡ sink.old) }
         ensures keeps { (front : List ℕ) → Holds front (K.held sink.old) → Holds front (K.held sink.new) }
         ensures cause { HasFaultCause (S.faults source.old) (S.faults source.new) (K.faults sink.old) (K.faults sink.new) result }
     {
@@ -139,6 +140,8 @@ impl Bus {
         ensures fault { IfErr result (λ e. write_refusal (length self.old.words) at ≡ None → (at ≡ console_at) × (e ≡ BusFault.WriteFault)) }
         ensures size { length self.new.words ≡ length self.old.words }
         ensures others { ChangesOnly at self.old.words self.new.words }
+        ensures memory { at < length self.old.words → IsOk result × (self.new.console ≡ self.old.console) × (sink.new ≡ sink.old) }
+        ensures waits { length self.old.console.kept < 4096 → sink.new ≡ sink.old }
         ensures keeps { (front : List ℕ) → Holds front (K.held sink.old) → Holds front (K.held sink.new) }
         ensures cause { HasFaultCause 0 0 (K.faults sink.old) (K.faults sink.new) result }
     {

@@ -11,3 +11,6 @@ pub use bus::Bus;
 pub use console::Console;
 pub use fault::BusFault;
 pub use map::MemoryMap;
+
+#[cfg(test)]
+mod tests;

@@ -1,4 +1,5 @@
 -- An image: the text, which holds methods' headers and instructions, and the constant pool.
+use Rattle.ijvm_definition.specs.declared.method.Method.{Method}
 use Rattle.std.specs.Prelude.{ℕ, ◌+◌, ◌*◌, ◌<◌, ◌≤◌, ◌^◌, if◌then◌else◌, nat_lt, List, length, slice_index, Option, Some, None, All}
 
 pub record ImageView : Type 0 where
@@ -12,13 +13,8 @@ pub record IsWithinLimits (text pool : List ℕ) : Type 0 where
   pub text_fits : length text ≤ 65536
   pub pool_fits : length pool ≤ 16384
 
--- A method begins at its entry with two counts of two bytes, and its code stands behind them.
-pub record Method : Type 0 where
-  pub entry : ℕ
-  -- its parameters, with the object reference
-  pub params : ℕ
-  -- its other locals
-  pub others : ℕ
+-- A method begins at its entry with two counts of two bytes, its parameters with the object reference and its other locals, and its
+-- code stands behind them.
 
 unfoldable pub params : List ℕ → ℕ → ℕ
 params text entry = 256 * slice_index text entry + slice_index text (entry + 1)

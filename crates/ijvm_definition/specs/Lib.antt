@@ -8,3 +8,5 @@ pub mod Safe
 pub mod Text
 pub mod ImageFile
 pub mod Machine
+pub mod Steps
+pub mod Runs

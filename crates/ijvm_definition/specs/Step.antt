@@ -5,8 +5,9 @@ use Rattle.micro_word.specs.Operation.{plus, minus, is_negative}
 use Rattle.console_port.specs.World.{next_byte}
 use Rattle.ijvm_definition.specs.declared.instr.Instr.{Instr}
 use Rattle.ijvm_definition.specs.declared.instr.Instr.TheVariants.{Nop, Bipush, LdcW, Iload, Istore, Pop, Dup, Swap, Iadd, Isub, Iand, Iinc, Ifeq, Iflt, IfIcmpeq, Goto, Ireturn, Ior, Invokevirtual, WideIload, WideIstore, In, Out, Err, Halt}
+use Rattle.ijvm_definition.specs.declared.method.Method.{Method}
 use Rattle.ijvm_definition.specs.Instructions.{instr_at}
-use Rattle.ijvm_definition.specs.Image.{ImageView, Method, method_at}
+use Rattle.ijvm_definition.specs.Image.{ImageView, method_at}
 use Rattle.ijvm_definition.specs.Frames.{Frame, State, frames_of, base}
 
 pub data Outcome : Type 0 where

@@ -1,11 +1,11 @@
 //! A frame of the plain machine.
 
 ghost use Rattle.std.specs.Prelude.{◌≡◌, ◌≢◌, ◌+◌, ◌<◌, ◌≤◌, ◌^◌, [], ◌∷◌, ◌++◌, ℕ, List, length, reverse, replicate, map, take, slice_get, slice_set, drop, Some, None, IfOk, OnOk, OnErr, IfSome, vec_len};
-ghost use Rattle.std.specs.Bool.{OnTrue};
 ghost use Rattle.ijvm_definition.specs.Frames.{Frame as FrameView, kept_words, top_of};
 ghost use Rattle.std.specs.Option.{option_flatten};
+ghost use Rattle.ijvm_definition.specs.Cost.{are_equal};
 ghost use Rattle.ijvm_definition.specs.Step.{called, onto};
-ghost use Rattle.ijvm_definition.specs.Machine.{has_own};
+ghost use Rattle.ijvm_definition.specs.Machine.{Pops, Stores, Swaps, IsSwapped};
 
 use std::alloc::{AllocError, Global};
 use std::marker::Model;
@@ -31,6 +31,28 @@ fn set_last(values: &mut Vec<u32>, value: u32)
 {
     let last = values.len() - 1;
     values[last] = value;
+}
+
+#[tactic(auto, using(crate::proofs::Stacks::are_equal_last, crate::proofs::Stacks::are_equal_few))]
+fn are_last_equal(values: &[u32]) -> bool
+    ensures { result ≡ are_equal (reverse values.now) }
+{
+    if values.len() < 2 {
+        return false;
+    }
+    let last = values.len() - 1;
+    values[last - 1] == values[last]
+}
+
+#[tactic(auto, using(crate::proofs::Stacks::reverse_swap_last))]
+fn swap_last(values: &mut Vec<u32>)
+    requires { 2 ≤ vec_len values.old }
+    ensures { IsSwapped (reverse values.old.items) (reverse values.new.items) }
+{
+    let last = values.len() - 1;
+    let top = values[last];
+    values[last] = values[last - 1];
+    values[last - 1] = top;
 }
 
 #[tactic(auto, using(crate::proofs::Stacks::drop_reverse))]
@@ -62,7 +84,12 @@ fn push_unset(locals: &mut Vec<Option<u32>>, count: u16) -> Result<(), AllocErro
 }
 
 /// The locals of a method that is called with the last operands.
-fn method_locals(alloc: Global, operands: &[u32], params: u16, others: u16) -> Result<Vec<Option<u32>>, AllocError>
+fn method_locals(
+    alloc: Global,
+    operands: &[u32],
+    params: u16,
+    others: u16,
+) -> Result<Vec<Option<u32>>, AllocError>
     requires { params ≤ length operands.now }
     ensures { IfOk result (λ locals. locals.items ≡ None ∷ onto (take params (reverse operands.now)) (replicate others None)) }
 {
@@ -101,6 +128,13 @@ impl Frame {
         self.back
     }
 
+    /// How many operands it has.
+    pub fn depth(&self) -> usize
+        ensures { result ≡ length self.now.operands }
+    {
+        self.operands.len()
+    }
+
     /// The last operand.
     pub fn top(&self) -> Option<u32>
         ensures { result ≡ top_of self.now.operands }
@@ -108,9 +142,15 @@ impl Frame {
         self.operands.last().copied()
     }
 
+    /// Whether the last two operands are equal.
+    pub fn are_equal(&self) -> bool
+        ensures { result ≡ are_equal self.now.operands }
+    {
+        are_last_equal(&self.operands)
+    }
+
     pub fn pop(&mut self) -> Option<u32>
-        ensures none { result ≡ None → self.old.operands ≡ [] }
-        ensures some { IfSome result (λ v. self.old ≡ record self.new { operands = v ∷ self.new.operands }) }
+        ensures { Pops result self.old self.new }
     {
         self.operands.pop()
     }
@@ -131,17 +171,35 @@ impl Frame {
         set_last(&mut self.operands, value);
     }
 
+    /// Exchanges the last two operands; otherwise, with fewer, answers false.
+    pub fn swap(&mut self) -> bool
+        ensures { Swaps result self.old self.new }
+    {
+        if self.operands.len() < 2 {
+            return false;
+        }
+        swap_last(&mut self.operands);
+        true
+    }
+
     /// The value of a local, if the frame has it and it is set.
     pub fn local(&self, index: u16) -> Option<u32>
-        ensures { result ≡ option_flatten (slice_get self.now.locals index) }
+        ensures is { result ≡ option_flatten (slice_get self.now.locals index) }
+        ensures inside { IfSome result (λ _. index < length self.now.locals) }
     {
         self.locals.get(index as usize).copied().flatten()
     }
 
+    pub fn set_local(&mut self, index: u16, value: u32)
+        requires { index < length self.old.locals }
+        ensures { self.new ≡ record self.old { locals = slice_set self.old.locals index (Some value) } }
+    {
+        self.locals[index as usize] = Some(value);
+    }
+
     /// Stores to a local of its own; otherwise answers false and stores nothing.
     pub fn store(&mut self, index: u16, value: u32) -> bool
-        ensures is { result ≡ has_own self.old index }
-        ensures stored { OnTrue result (self.new ≡ record self.old { locals = slice_set self.old.locals index (Some value) }) }
+        ensures { Stores result index value self.old self.new }
     {
         if (self.back.is_some() && index == 0) || (index as usize) >= self.locals.len() {
             return false;
@@ -151,7 +209,13 @@ impl Frame {
     }
 
     /// The frame of a method that is called with the last operands.
-    pub fn called(&self, alloc: Global, params: u16, others: u16, back: u32) -> Result<Frame, AllocError>
+    pub fn called(
+        &self,
+        alloc: Global,
+        params: u16,
+        others: u16,
+        back: u32,
+    ) -> Result<Frame, AllocError>
         requires { params ≤ length self.now.operands }
         ensures { IfOk result (λ f. f ≡ called (take params self.now.operands) others back) }
     {

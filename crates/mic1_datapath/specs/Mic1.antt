@@ -42,6 +42,7 @@ initial start =
       word = None;
       byte = None;
       entry = start.entry;
+      clocked = false;
     }
 
 abbrev pub at_zero : Start
@@ -71,7 +72,7 @@ uses_console word m =
     let part = (statement_of machines.Mic1 word).part in
     is_access part.mem && (settled part m).mar == console_at
 
--- An instruction begins where MPC is the address of Main1, and PC is its address.
+-- After a first cycle an instruction begins where MPC is the address of Main1, and PC is its address.
 abbrev pub mic1_meaning : Meaning Micro
 mic1_meaning =
     record {
@@ -81,7 +82,7 @@ mic1_meaning =
       drives = driven;
       computes = computed;
       registers = registers_of;
-      is_boundary = λ m. m.mpc == m.entry;
+      is_boundary = λ m. m.clocked && m.mpc == m.entry;
       address = λ m. m.pc;
       reads_console = reads_console;
       uses_console = uses_console;

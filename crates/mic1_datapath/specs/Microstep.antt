@@ -65,6 +65,7 @@ assigned dests v m =
       word = None;
       byte = None;
       entry = m.entry;
+      clocked = true;
     }
 
 abbrev pub settled : Part → Micro → Micro

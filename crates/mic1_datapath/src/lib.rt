@@ -11,6 +11,8 @@ pub mod operate;
 pub mod prepare;
 pub mod settle;
 pub mod stage;
+#[cfg(test)]
+mod tests;
 
 pub use laws::step_law;
 pub use mic1::Mic1;

@@ -15,7 +15,7 @@ use console_port::{Bus, BusFault};
 use mic_base::{Sink, Source};
 use mic_clock::{Clocked, Computed, Drive, Registers, Start, Tail};
 use mic1_alu::AluOut;
-use micro_word::layout::fields1;
+use micro_word::fields1;
 use micro_word::{Machine, Store, Word1};
 
 /// The word of `goto 0x000`.
@@ -56,6 +56,7 @@ fn initial(start: &Start) -> Micro
         word: None,
         byte: None,
         entry: start.entry,
+        clocked: false,
     }
 }
 
@@ -185,7 +186,7 @@ impl Clocked for Mic1 {
     }
 
     fn at_boundary(&self) -> bool {
-        self.micro.mpc == self.micro.entry
+        self.micro.clocked && self.micro.mpc == self.micro.entry
     }
 
     fn instruction_address(&self) -> u32 {

@@ -18,4 +18,6 @@ pub struct Micro {
     pub byte: Option<u8>,
     /// The address of Main1, where instructions begin. No microstep changes it.
     pub entry: u16,
+    /// Whether a cycle was clocked since the reset.
+    pub clocked: bool,
 }

@@ -9,7 +9,7 @@ ghost use Rattle.mic1_datapath.specs.Microstep.{target};
 ghost use Rattle.mic1_datapath.specs.Jam.{low_bits, high_bit, jammed};
 
 use mic1_alu::AluOut;
-use micro_word::layout::fields1;
+use micro_word::fields1;
 
 /// With JMPC the low bits are those of Addr OR MBR.
 fn low_part(addr: u16, jam: u8, mbr: u8) -> u16
@@ -25,9 +25,14 @@ fn low_part(addr: u16, jam: u8, mbr: u8) -> u16
 
 /// The high bit is Addr[8] OR (JAMN AND N) OR (JAMZ AND Z).
 fn jam_bits(addr: u16, jam: u8, out: AluOut, mbr: u8) -> u16
+    requires { addr < 512 }
     ensures bits { result ≡ jammed addr jam out.n out.z mbr }
     ensures small { result < 512 }
 {
+    // Most words go on to Addr.
+    if jam == 0 {
+        return addr;
+    }
     let low = low_part(addr, jam, mbr);
     if addr / 256 % 2 == 1 || (jam / 2 % 2 == 1 && out.n) || (jam % 2 == 1 && out.z) {
         low + 256

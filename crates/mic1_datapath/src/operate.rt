@@ -3,12 +3,12 @@
 ghost use Rattle.std.specs.Prelude.{◌≡◌, ◌==◌, IsTrue};
 ghost use Rattle.micro_word.specs.declared.statement.Machine.TheVariants.{Mic1};
 ghost use Rattle.micro_word.specs.Canonical.{is_canonical};
-ghost use Rattle.micro_word.specs.Coding.{statement_of};
+ghost use Rattle.micro_word.specs.Coding.{shift_of, statement_of};
 ghost use Rattle.micro_word.specs.Operation.{alu, shifted, is_negative};
 
 use mic1_alu::{AluOut, Controls, alu as gates, shift};
 use micro_word::Shift;
-use micro_word::layout::fields1;
+use micro_word::fields1;
 
 /// What the gates give of the two buses.
 pub fn operate(word: u64, a: u32, b: u32) -> AluOut
@@ -20,9 +20,20 @@ pub fn operate(word: u64, a: u32, b: u32) -> AluOut
     gates(Controls::from_bits(fields1(word).gates), a, b)
 }
 
+fn shift_lines(bits: u8, value: u32) -> u32
+    ensures { result ≡ shifted (shift_of bits) value }
+{
+    // Most words do not shift.
+    if bits == 0 {
+        value
+    } else {
+        shift(Shift::of_bits(bits), value)
+    }
+}
+
 /// What the shifter puts on the C bus.
 pub fn shift_by(word: u64, value: u32) -> u32
     ensures { result ≡ shifted (statement_of Mic1 word).part.shift value }
 {
-    shift(Shift::of_bits(fields1(word).shift), value)
+    shift_lines(fields1(word).shift, value)
 }

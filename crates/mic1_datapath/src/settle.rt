@@ -31,5 +31,6 @@ pub fn settle(dests: u16, c: u32, m: &Micro) -> Micro
         word: None,
         byte: None,
         entry: m.entry,
+        clocked: true,
     }
 }

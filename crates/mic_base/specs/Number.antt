@@ -36,12 +36,12 @@ signed is_negative magnitude = if is_negative then neg_ℤ (pos magnitude) else 
 abbrev pub sized : Bool → ℕ → Result ℤ NumberError
 sized is_negative magnitude = if nat_lt 0xFFFF_FFFF magnitude then Err TooLarge else Ok (signed is_negative magnitude)
 
--- the digits' value, unless one of them is none
+-- the number with these digits, unless one of them, the first at this place, is no digit
 abbrev pub checked : Bool → ℕ → ℕ → List ℕ → Option ℕ → Result ℤ NumberError
 checked is_negative base place digits (Some at) = Err (BadDigit (place + at))
 checked is_negative base place digits None = sized is_negative (value_of base digits)
 
--- the number with these digits, which stand at this place of the text
+-- the number with these digits, the first of which stands at this place of the text
 abbrev pub digits_read : Bool → ℕ → ℕ → List ℕ → Result ℤ NumberError
 digits_read is_negative base place digits = if length digits == 0 then Err Empty
     else checked is_negative base place digits (position (λ b. not (is_digit b base)) digits)

@@ -32,6 +32,7 @@ impl Line {
         }
     }
 
+    /// Appends a text.
     pub fn text(&mut self, part: &str)
         requires { length self.old + length part.now ≤ 512 }
         ensures text { self.new ≡ self.old ++ part.now }
@@ -75,6 +76,7 @@ impl Line {
         self.text(buffer.format(value));
     }
 
+    /// What was appended, in order.
     pub fn bytes(&self) -> &[u8]
         ensures value { result.now ≡ self.now }
         ensures fits { length result.now ≤ 512 }

@@ -1,5 +1,4 @@
-ghost use Rattle.std.specs.Prelude.{◌≡◌, ◌<◌, ◌≤◌, List, ℕ, Some, None, true, if◌then◌else◌, length};
-ghost use Rattle.std.specs.Prelude.{nat_eq, refl};
+ghost use Rattle.std.specs.Prelude.{◌≡◌, ◌≤◌, Some, None, true, if◌then◌else◌, length, nat_eq, refl};
 ghost use Rattle.std.specs.List.{list_all};
 ghost use Rattle.std.specs.Ordering.{nat_cmp};
 ghost use Rattle.std.specs.Cmp.{partial_equiv_from_equiv};
@@ -22,7 +21,6 @@ pub struct Name {
 
 impl Model for Name {
     ghost use Rattle.std.specs.Prelude.{◌≡◌, List, ℕ, true, take, length};
-    ghost use Rattle.std.proofs.Common.{sym};
     ghost use Rattle.mic_base.specs.Name.{is_name, padded};
 
     ghost Value = { List ℕ };
@@ -53,6 +51,7 @@ impl Name {
         })
     }
 
+    /// The text of the name.
     pub fn text(&self) -> &str
         ensures value { result.now ≡ self.now }
         ensures named { is_name self.now ≡ true }

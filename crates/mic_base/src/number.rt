@@ -2,7 +2,7 @@ ghost use Rattle.std.specs.Prelude.{◌≡◌, ◌++◌, ◌+◌, codes, pos, �
 ghost use Rattle.std.specs.Char.{digit_value, is_digit};
 ghost use Rattle.std.specs.List.{list_all, position};
 ghost use Rattle.mic_base.specs.Digits.{hex_text, value_of};
-ghost use Rattle.mic_base.specs.Number.{base_of, begins_hex, begins_minus, digits_of, digits_read, number_of, quoted, signed, sized, unsigned_of};
+ghost use Rattle.mic_base.specs.Number.{base_of, begins_hex, begins_minus, digits_of, digits_read, number_of, quoted, sized, unsigned_of};
 
 use thiserror::Error;
 
@@ -19,6 +19,7 @@ pub enum NumberError {
     TooLarge,
 }
 
+/// The greatest magnitude.
 const MOST: u64 = 0xFFFF_FFFF;
 
 /// How numbers are written in words and in sources.

@@ -75,6 +75,21 @@ fn lines_hold_their_parts(rt: HostRuntime) {
 }
 
 #[test]
+fn sources_give_their_bytes(rt: HostRuntime) -> Result<(), Fail> {
+    let alloc = rt.alloc();
+    let mut source = MemSource::new(vec![in alloc; b'a', b'b', b'c']?, vec![in alloc; 2]?);
+    assert_eq!(rt; source.get(), Ok(Some(b'a')));
+    assert_eq!(rt; source.get(), Err(SourceFailed));
+    assert_eq!(rt; source.get(), Ok(Some(b'b')));
+    assert_eq!(rt; source.left(), b"c".as_slice());
+    let mut plain = PlainSource::new(vec![in alloc; b'a']?);
+    assert_eq!(rt; plain.get(), Ok(Some(b'a')));
+    assert_eq!(rt; plain.get(), Ok(None));
+    assert_eq!(rt; PlainSink::new().put(b"a"), Ok(()));
+    Ok(())
+}
+
+#[test]
 fn memory_is_there(rt: HostRuntime) -> Result<(), Fail> {
     let alloc = rt.alloc();
     let mut sink = MemSink::new(alloc, 4, vec![in alloc; 3]?)?;

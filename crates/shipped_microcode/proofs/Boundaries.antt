@@ -1,5 +1,7 @@
 -- Mic-1 between two boundaries: what it knows at the one, and when a symbolic run comes to the next.
-use Rattle.std.proofs.Common.{◌≡◌, ℕ, ◌+◌, ◌<◌, Option, Some, None, List, length, arith, ◌∙◌, ap, sym}
+use Rattle.std.proofs.Common.{◌≡◌, ℕ, ◌+◌, ◌<◌, Option, Some, None, true, List, length, arith, ◌∙◌, ap, sym}
+use Rattle.std.specs.Prelude.{◌==◌}
+use Rattle.std.proofs.lemmas.Bool.Decides.{nat_tests}
 use Rattle.console_port.specs.World.{World, byte_in, fetch_refusal}
 use Rattle.micro_word.specs.Operation.{next}
 use Rattle.ijvm_definition.specs.Frames.{State}
@@ -8,16 +10,17 @@ use Rattle.mic1_datapath.specs.Mic1.{mic1_meaning}
 use Rattle.shipped_microcode.specs.Shipped.{HasShipped}
 use Rattle.shipped_microcode.specs.Stands.{Origin, Holds, IsMemory, Stands}
 use Rattle.shipped_microcode.proofs.Passes.{Moment, pass}
+use Rattle.shipped_microcode.proofs.Instruction.{Shows}
 use Rattle.shipped_microcode.proofs.Guided.{clocked, IsSmooth, pass-clocked}
 use Rattle.shipped_microcode.proofs.Accesses.{IsMap, next_is, fetch_ok, byte_kept}
 
 -- the moment at Main1, with nothing under way
 abbrev pub at_main : Micro → World → ℕ → Moment Micro
-at_main m w stalls = record { state = record m { mpc = 2; word = None; byte = None; entry = 2 }; world = w; stalls = stalls }
+at_main m w stalls = record { state = record m { mpc = 2; word = None; byte = None; entry = 2; clocked = true }; world = w; stalls = stalls }
 
 pub starts : (o : Origin) (s : State) (m : Micro) (w : World) (stalls : ℕ) → Stands o s m w → record { state = m; world = w; stalls = stalls } ≡ at_main m w stalls
 starts o s m w stalls h =
-    λ i. record { state = record m { mpc = (h.mpc ∙ h.entry) i; word = h.word i; byte = h.byte i; entry = h.entry i }; world = w; stalls = stalls }
+    λ i. record { state = record m { mpc = (h.mpc ∙ h.entry) i; word = h.word i; byte = h.byte i; entry = h.entry i; clocked = h.clocked i }; world = w; stalls = stalls }
 
 -- n + 1 microsteps come to the next boundary, which stands for this state
 pub record Comes (program : List ℕ) (o : Origin) (n : ℕ) (p : Moment Micro) (s : State) : Type 0 where
@@ -64,6 +67,18 @@ counts o map s m w h inside =
 
 -- a boundary, by what the machine has beside what it holds
 pub at_boundary : (o : Origin) (s : State) (m : Micro) (w : World) → Holds o s m.sp m.lv m.cpp m.tos w →
-    m.pc ≡ s.at → m.mbr ≡ byte_in o.words s.at → m.mpc ≡ 2 → m.entry ≡ 2 → m.word ≡ None → m.byte ≡ None → Stands o s m w
-at_boundary o s m w holds pc mbr mpc entry word byte =
-    record { holds = holds; pc = pc; mbr = mbr; mpc = mpc ∙ sym entry; entry = entry; word = word; byte = byte }
+    m.pc ≡ s.at → m.mbr ≡ byte_in o.words s.at → m.mpc ≡ 2 → m.entry ≡ 2 → m.clocked ≡ true → m.word ≡ None → m.byte ≡ None → Stands o s m w
+at_boundary o s m w holds pc mbr mpc entry clocked word byte =
+    record { holds = holds; pc = pc; mbr = mbr; mpc = mpc ∙ sym entry; entry = entry; clocked = clocked; word = word; byte = byte }
+
+-- what a Mic-1 shows at a boundary
+pub shows : (program : List ℕ) (o : Origin) (s : State) (m : Micro) (w : World) → Stands o s m w → Shows mic1_meaning program (Stands o) o.given s m w
+shows program o s m w h =
+    record {
+      boundary = let e : m.mpc ≡ m.entry = h.mpc in let on : m.clocked ≡ true = h.clocked in rw on (grind (arith, nat_tests));
+      address = h.pc;
+      sp = omega (arith, h.holds.sp_is);
+      lv = h.holds.lv_is;
+      untaken = h.holds.untaken;
+      given = h.holds.given;
+    }

@@ -28,5 +28,5 @@ module _ (program : List ℕ) (has : HasShipped program) (o : Origin) (map : IsM
       (IsTop_at rest (ap (λ (ws : List ℕ). read_value (length o.words) ws w.untaken (before m.sp)) same) t.next_top)
       same (t.down.untaken ∙ h.holds.untaken)
       (p.given m.tos ∙ (ap₂ (λ (g : List ℕ) (v : ℕ). g ++ v % 256 ∷ []) h.holds.given t.tos_is ∙ append_assoc o.given s.given (y % 256 ∷ []))))
-      c.pc1 c.byte1 refl refl refl refl)
+      c.pc1 c.byte1 refl refl refl refl refl)
       refl

@@ -13,7 +13,7 @@ use Rattle.micro_word.specs.Coding.{statement_of}
 use Rattle.mic_clock.specs.Meaning.{Outcome, Done, Refused}
 use Rattle.mic1_datapath.specs.declared.micro.Micro.{Micro}
 use Rattle.mic1_datapath.specs.Microstep.{clock, world_after, settled, written, sampled, refusal, memory_refusal, byte_refusal}
-use Rattle.mic1_datapath.specs.Mic1.{mic1_meaning, microstep, step_of_word, driven}
+use Rattle.mic1_datapath.specs.Mic1.{mic1_meaning, microstep, outcome, step_of_word, driven}
 use Rattle.shipped_microcode.specs.Shipped.{shipped, HasShipped}
 use Rattle.shipped_microcode.proofs.Passes.{Moment, is_inside, outcome_at, stalls_at, last, onward, onward-inside, pass}
 
@@ -66,6 +66,11 @@ module _ (top : ℕ) where
       let a = h.0 in
       let b = h.1 in
       rw long (simp (a, b) (λ i. Done (record (clock top s p.state p.world) { mpc = h.2 i }) (world_after top s p.state p.world)))
+
+  pub step-refused : (s : Placed) (m : Micro) (w : World) (why : Refusal) → length w.words ≡ top → refusal top s m ≡ Some why → microstep s m w ≡ Refused why
+  step-refused s m w why long h =
+      ap (λ (n : ℕ). outcome (refusal n s m) (clock n s m w) (world_after n s m w)) long
+      ∙ ap (λ (r : Option Refusal). outcome r (clock top s m w) (world_after top s m w)) h
 
   written-long : (mem : Mem) (m : Micro) (w : World) → length (written top mem m w).words ≡ length w.words
   written-long Write m w = length-set w.words m.mar m.mdr

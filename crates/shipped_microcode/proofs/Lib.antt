@@ -11,3 +11,13 @@ pub mod Instruction
 pub mod Whole
 pub mod Decoded
 pub mod Straights
+pub mod Built
+pub mod Boot
+pub mod Valid
+pub mod Accepted
+pub mod Worlds
+pub mod Output
+pub mod Ahead
+pub mod Unread
+pub mod Carried
+pub mod Boards

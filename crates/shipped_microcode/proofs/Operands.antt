@@ -25,7 +25,7 @@ module _ (program : List ℕ) (has : HasShipped program) (o : Origin) (map : IsM
       (at_boundary o _ _ _
       (drops o map s m.sp m.lv m.cpp m.tos w h.holds s.running.operands (s.at + 1) _ _ _ _ _ s.given h.holds.frames h.holds.fits
       refl refl h.holds.sp_is h.holds.tos_is refl h.holds.untaken h.holds.given)
-      c.pc1 c.byte1 refl refl refl refl)
+      c.pc1 c.byte1 refl refl refl refl refl)
       refl
 
   pub bipush : byte_in o.words s.at ≡ 0x10 → base (frames_of s) < length o.words →
@@ -39,7 +39,7 @@ module _ (program : List ℕ) (has : HasShipped program) (o : Origin) (map : IsM
       (at_boundary o _ _ _
       (pushes o map s m.sp m.lv m.cpp m.tos w h.holds s.running.operands _ (s.at + 2) _ _ _ _ _ s.untaken h.holds.frames space
       refl refl r.is v (ap₂ (slice_set w.words) r.is v) h.holds.untaken (r.given _))
-      c.pc2 c.byte2 refl refl refl refl)
+      c.pc2 c.byte2 refl refl refl refl refl)
       refl
 
   pub iadd : (x y : ℕ) (rest : List ℕ) → byte_in o.words s.at ≡ 0x60 → s.running.operands ≡ y ∷ x ∷ rest →
@@ -53,5 +53,5 @@ module _ (program : List ℕ) (has : HasShipped program) (o : Origin) (map : IsM
       (at_boundary o _ _ _
       (pushes o map s m.sp m.lv m.cpp m.tos w h.holds rest _ (s.at + 1) _ _ _ _ _ s.untaken t.frames t.at.below
       refl refl t.at.is v (ap₂ (slice_set w.words) t.at.is v) (t.at.untaken ∙ h.holds.untaken) (t.at.given _))
-      c.pc1 c.byte1 refl refl refl refl)
+      c.pc1 c.byte1 refl refl refl refl refl)
       refl

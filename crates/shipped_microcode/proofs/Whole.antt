@@ -11,7 +11,7 @@ use Rattle.ijvm_definition.specs.declared.run.RunEnd.TheVariants as defined
 use Rattle.ijvm_definition.specs.Frames.{State}
 use Rattle.ijvm_definition.specs.Cost.{next_cost}
 use Rattle.ijvm_definition.specs.Run.{Program, Point, Finish, point_after, finish_from, after_test, stopped}
-use Rattle.shipped_microcode.specs.Simulates.{point_at, end_of, IsBoundary, IsEnd}
+use Rattle.shipped_microcode.specs.Simulates.{point_at, end_of, IsBoundary, IsEnd, Simulates}
 use Rattle.shipped_microcode.proofs.Turns.{turns-add, ended_stays}
 use Rattle.shipped_microcode.proofs.Instruction.{Law, Moved, Ended, Turnout, On, Over, turnout}
 
@@ -137,3 +137,31 @@ module _ {S : Type 0} (m : Meaning S) (words : List ℕ) (IsAt : State → S →
   knows zero (suc n) le at r h fine going here = absurd (omega arith)
   knows (suc d) (suc n) le at r h fine going here =
       knows_by d (knows d) (suc n) le (omega arith) at r h fine (turnout m words IsAt before p Fine law bound at r h fine) going here
+
+  -- The run from its reset: it comes to a first boundary, and to none before.
+  module _ (first : Point) (start : MicroRun S) (booted : IsBoundary IsAt first (after first.cycles start)) (fine : Fine first.state)
+      (quiet : (n : ℕ) → 0 < n → n < first.cycles → m.is_boundary (after n start).state ≡ false) where
+    from_start : (k c : ℕ) → c ≡ first.cycles + k → after k (after first.cycles start) ≡ after c start
+    from_start k c e = sym (onward first.cycles k c start e)
+
+    pub simulates : Simulates m IsAt words bound p first before start
+    simulates = record {
+      reaches = λ i t is.
+          let l : Reached first (after first.cycles start) t = reaches i first (after first.cycles start) t booted fine is in
+          subst (λ (x : MicroRun S). IsBoundary IsAt t x) (from_start l.k t.cycles l.later) l.is;
+      only = λ n pos going here. elim (cases_lt n first.cycles) [
+        | inl low ↦ absurd (let off : m.is_boundary (after n start).state ≡ false = quiet n pos low in cc)
+        | inr high ↦
+            let e : after (n - first.cycles) (after first.cycles start) ≡ after n start = from_start (n - first.cycles) n (omega arith) in
+            let k : Known first (n - first.cycles) =
+            knows (n - first.cycles) (n - first.cycles) (omega arith) first (after first.cycles start) booted fine
+            (ap (λ (x : MicroRun S). x.end) e ∙ going) (ap (λ (x : MicroRun S). m.is_boundary x.state) e ∙ here) in
+            (k.i, k.t, k.are, omega (arith, k.later))
+      ];
+      finishes =
+          let f = finishes bound first (after first.cycles start) booted fine (omega arith) in
+          (f.1, (f.0, f.2));
+      ends = λ f e.
+          let l : Stopped (after first.cycles start) f = stops e.0 first (after first.cycles start) f booted fine e.1 in
+          (first.cycles + l.k, subst (λ (x : MicroRun S). IsEnd before f x) (from_start l.k (first.cycles + l.k) refl) l.is);
+    }

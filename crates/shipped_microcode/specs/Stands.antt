@@ -1,5 +1,5 @@
 -- When registers, memory and console stand for a state of the plain machine: its frames lie in memory as chapter 4 of the book lays them out.
-use Rattle.std.specs.Prelude.{◌≡◌, ℕ, ◌+◌, ◌<◌, ◌≤◌, List, [], ◌∷◌, ◌++◌, length, slice_index, slice_get, Option, Some, None}
+use Rattle.std.specs.Prelude.{◌≡◌, ℕ, ◌+◌, ◌<◌, ◌≤◌, List, [], ◌∷◌, ◌++◌, length, slice_index, slice_get, Option, Some, None, true}
 use Rattle.console_port.specs.World.{World, byte_in}
 use Rattle.ijvm_definition.specs.Frames.{Frame, State, frames_of, operands_at, base, lv_of}
 use Rattle.mic1_datapath.specs.declared.micro.Micro.{Micro}
@@ -66,5 +66,6 @@ pub record Stands (o : Origin) (s : State) (m : Micro) (w : World) : Type 0 wher
   pub mbr : m.mbr ≡ byte_in o.words s.at
   pub mpc : m.mpc ≡ m.entry
   pub entry : m.entry ≡ 0x002
+  pub clocked : m.clocked ≡ true
   pub word : m.word ≡ None
   pub byte : m.byte ≡ None

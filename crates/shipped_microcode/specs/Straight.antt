@@ -2,7 +2,12 @@
 use Rattle.std.specs.Prelude.{◌≡◌, ℕ, ◌+◌, ◌-◌, if◌then◌else◌, nat_lt, List, [], ◌∷◌, length, Option, Some, None}
 use Rattle.ijvm_definition.specs.declared.instr.Instr.{Instr}
 use Rattle.ijvm_definition.specs.declared.instr.Instr.TheVariants.{Bipush, Iadd, Out, Halt}
+use Rattle.ijvm_definition.specs.Image.{ImageView}
 use Rattle.ijvm_definition.specs.Instructions.{row_of, size_of, instr_at}
+
+-- the image of a text without constants
+abbrev pub image_of : List ℕ → ImageView
+image_of text = record { text = text; pool = [] }
 
 -- an instruction that may stand before the HALT
 abbrev pub IsPlain : Instr → Type 0

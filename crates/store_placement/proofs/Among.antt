@@ -1,5 +1,5 @@
 -- Elements of a list, and what holds of them.
-use Rattle.std.proofs.Common.{◌≡◌, ◌≢◌, ℕ, ◌+◌, ◌<◌, ◌≤◌, Bool, true, false, cond, not, ◌&&◌, ◌||◌, ◌⊎◌, List, [], ◌∷◌, Option, Some, None, length, map, filter, get_or, take, eqb, refl, sym, ap, subst, ◌∙◌, inl, inr, zero, suc, arith}
+use Rattle.std.proofs.Common.{◌≡◌, ℕ, ◌+◌, ◌<◌, ◌≤◌, Bool, true, false, cond, ◌&&◌, ◌||◌, ◌⊎◌, List, [], ◌∷◌, Option, Some, None, length, map, filter, get_or, take, refl, sym, ap, subst, ◌∙◌, inl, inr, zero, suc, arith}
 use Rattle.std.specs.List.{All, list_any, filter_map, cons_option, find, range_with_len}
 use Rattle.std.proofs.lemmas.Bool.{cases_eq}
 use Rattle.store_placement.specs.First.{below}
@@ -52,7 +52,7 @@ from_any test [] h = cc
 from_any test (y ∷ ys) h = elim (either (test y) (list_any test ys) h) [
   | inl here ↦ (y, inl refl, here)
   | inr later ↦ let r = from_any test ys later in (r.0, inr r.1, r.2)
-  ]
+]
 
 pub none_of : {X : Type 0} (test : X → Bool) (xs : List X) (x : X) → list_any test xs ≡ false → Among x xs → test x ≡ false
 none_of test [] x h among = absurd among
@@ -81,11 +81,11 @@ among-filter p [] x h = absurd h
 among-filter p (y ∷ ys) x h =
     elim (p y) as (λ b. p y ≡ b → Among x (cond b (y ∷ filter p ys) (filter p ys)) → Among x (y ∷ ys) × (p x ≡ true)) [
       | true ↦ λ e among. elim among [
-          | inl here ↦ (inl here, ap p here ∙ e)
-          | inr later ↦ let r = among-filter p ys x later in (inr r.0, r.1)
-          ]
+        | inl here ↦ (inl here, ap p here ∙ e)
+        | inr later ↦ let r = among-filter p ys x later in (inr r.0, r.1)
+      ]
       | false ↦ λ e among. let r = among-filter p ys x among in (inr r.0, r.1)
-      ] refl h
+    ] refl h
 
 pub among_filter : {X : Type 0} (p : X → Bool) (xs : List X) (x : X) → Among x xs → p x ≡ true → Among x (filter p xs)
 among_filter p [] x among passes = absurd among
@@ -94,7 +94,7 @@ among_filter p (y ∷ ys) x (inr rest) passes =
     elim (p y) as (λ b. Among x (cond b (y ∷ filter p ys) (filter p ys))) [
       | true ↦ inr (among_filter p ys x rest passes)
       | false ↦ among_filter p ys x rest passes
-      ]
+    ]
 
 pub among-filter_map : {X Y : Type 0} (h : X → Option Y) (xs : List X) (y : Y) → Among y (filter_map h xs) → (x : X) × Among x xs × (h x ≡ Some y)
 among-filter_map h [] y among = absurd among
@@ -102,10 +102,10 @@ among-filter_map {X} {Y} h (x ∷ xs) y among =
     elim (h x) as (λ o. h x ≡ o → Among y (cons_option o (filter_map h xs)) → (z : X) × Among z (x ∷ xs) × (h z ≡ Some y)) [
       | None ↦ λ e in_rest. let r = among-filter_map h xs y in_rest in (r.0, inr r.1, r.2)
       | Some w ↦ λ e in_both. elim in_both [
-          | inl here ↦ (x, inl refl, e ∙ ap Some (sym here))
-          | inr later ↦ let r = among-filter_map h xs y later in (r.0, inr r.1, r.2)
-          ]
-      ] refl among
+        | inl here ↦ (x, inl refl, e ∙ ap Some (sym here))
+        | inr later ↦ let r = among-filter_map h xs y later in (r.0, inr r.1, r.2)
+      ]
+    ] refl among
 
 pub among_filter_map : {X Y : Type 0} (h : X → Option Y) (xs : List X) (x : X) (y : Y) → Among x xs → h x ≡ Some y → Among y (filter_map h xs)
 among_filter_map h [] x y among is = absurd among
@@ -114,7 +114,7 @@ among_filter_map h (z ∷ xs) x y (inr rest) is =
     elim (h z) as (λ o. Among y (cons_option o (filter_map h xs))) [
       | None ↦ among_filter_map h xs x y rest is
       | Some w ↦ inr (among_filter_map h xs x y rest is)
-      ]
+    ]
 
 pub among-map : {X Y : Type 0} (f : X → Y) (xs : List X) (y : Y) → Among y (map f xs) → (x : X) × Among x xs × (y ≡ f x)
 among-map f [] y among = absurd among
@@ -137,7 +137,7 @@ among_range zero a s low high = absurd (omega arith)
 among_range (suc n) a s low high = elim (cases_eq s a) [
   | inl same ↦ inl same
   | inr other ↦ inr (among_range n (a + 1) s (omega arith) (omega arith))
-  ]
+]
 
 pub among-range : (n a s : ℕ) → Among s (range_with_len a n) → (a ≤ s) × (s < a + n)
 among-range zero a s among = absurd among
@@ -158,7 +158,7 @@ found {X} test (y ∷ ys) x h =
     elim (test y) as (λ b. test y ≡ b → cond b (Some y) (find test ys) ≡ Some x → Among x (y ∷ ys) × (test x ≡ true)) [
       | true ↦ λ e is. let same : x ≡ y = cc in (inl same, ap test same ∙ e)
       | false ↦ λ e is. let r = found test ys x is in (inr r.0, r.1)
-      ] refl h
+    ] refl h
 
 pub find_some : {X : Type 0} (test : X → Bool) (xs : List X) (x : X) → Among x xs → test x ≡ true → (y : X) × (find test xs ≡ Some y)
 find_some test [] x among passes = absurd among
@@ -166,4 +166,4 @@ find_some {X} test (z ∷ zs) x among passes =
     elim (test z) as (λ b. test z ≡ b → (y : X) × (cond b (Some z) (find test zs) ≡ Some y)) [
       | true ↦ λ e. (z, refl)
       | false ↦ λ e. elim among [ inl here ↦ absurd (let w : true ≡ false = sym passes ∙ (ap test here ∙ e) in cc) | inr later ↦ find_some test zs x later passes ]
-      ] refl
+    ] refl

@@ -1,13 +1,12 @@
 -- Lists of which no two elements clash, and how long they can be.
-use Rattle.std.proofs.Common.{◌≡◌, ◌≢◌, ℕ, ◌+◌, ◌<◌, ◌≤◌, Bool, true, false, cond, ◌⊎◌, List, [], ◌∷◌, Option, Some, None, length, map, filter, take, eqb, refl, sym, ap, subst, ◌∙◌, inl, inr, zero, suc, arith}
+use Rattle.std.proofs.Common.{◌≡◌, ◌≢◌, ℕ, ◌+◌, ◌<◌, ◌≤◌, Bool, true, false, cond, List, [], ◌∷◌, Option, Some, None, length, map, filter, take, eqb, refl, sym, ap, subst, ◌∙◌, inl, inr, zero, suc, arith}
 use Rattle.std.specs.Cmp.{nat_eq_equiv}
-use Rattle.std.specs.List.{IsDistinct, AllByRecursion, list_any, filter_map, cons_option, range_with_len}
+use Rattle.std.specs.List.{IsDistinct, AllByRecursion, filter_map, cons_option, range_with_len}
 use Rattle.std.specs.Set.{is_member}
 use Rattle.std.proofs.lemmas.Bool.{ne_eqb, eq-eqb, eqb-true}
-use Rattle.std.proofs.lemmas.Map.Keys.{IsDistinct-cons}
 use Rattle.std.proofs.lemmas.Map.Made.{length-le_from_is_member}
 use Rattle.store_placement.specs.First.{below}
-use Rattle.store_placement.proofs.Among.{Among, any_at, from_any, among-filter, among-filter_map, among-map, among_map, among-take, among-range, either}
+use Rattle.store_placement.proofs.Among.{Among, any_at, from_any, among-filter, among-filter_map, among-map, among_map, among-take, among-range}
 
 -- R holds of each element and each later one
 abbrev pub Apart : {X : Type 0} → (X → X → Type 0) → List X → Type 0
@@ -32,7 +31,7 @@ Apart-filter R p (x ∷ xs) apart =
     elim (p x) as (λ b. Apart R (cond b (x ∷ filter p xs) (filter p xs))) [
       | true ↦ (λ y among. apart.0 y (among-filter p xs y among).0, Apart-filter R p xs apart.1)
       | false ↦ Apart-filter R p xs apart.1
-      ]
+    ]
 
 pub Apart-filter_map : {X Y : Type 0} (R : X → X → Type 0) (S : Y → Y → Type 0) (h : X → Option Y) → ((x z : X) (a b : Y) → R x z → h x ≡ Some a → h z ≡ Some b → S a b) → (xs : List X) → Apart R xs → Apart S (filter_map h xs)
 Apart-filter_map R S h gives [] apart = tt
@@ -40,14 +39,15 @@ Apart-filter_map R S h gives (x ∷ xs) apart =
     elim (h x) as (λ o. h x ≡ o → Apart S (cons_option o (filter_map h xs))) [
       | None ↦ λ e. Apart-filter_map R S h gives xs apart.1
       | Some w ↦ λ e. (λ y among. let r = among-filter_map h xs y among in gives x r.0 w y (apart.0 r.0 r.1) e r.2, Apart-filter_map R S h gives xs apart.1)
-      ] refl
+    ] refl
 
 -- over the elements of the list alone
 pub Apart-map : {X Y : Type 0} (R : X → X → Type 0) (S : Y → Y → Type 0) (f : X → Y) (xs : List X) → ((x z : X) → Among x xs → Among z xs → R x z → S (f x) (f z)) → Apart R xs → Apart S (map f xs)
 Apart-map R S f [] gives apart = tt
-Apart-map {X} {Y} R S f (x ∷ xs) gives apart =
-    (λ y among. let r = among-map f xs y among in subst (λ (w : Y). S (f x) w) (sym r.2) (gives x r.0 (inl refl) (inr r.1) (apart.0 r.0 r.1)),
-     Apart-map R S f xs (λ a b in_a in_b. gives a b (inr in_a) (inr in_b)) apart.1)
+Apart-map {X} {Y} R S f (x ∷ xs) gives apart = (
+  λ y among. let r = among-map f xs y among in subst (λ (w : Y). S (f x) w) (sym r.2) (gives x r.0 (inl refl) (inr r.1) (apart.0 r.0 r.1)),
+  Apart-map R S f xs (λ a b in_a in_b. gives a b (inr in_a) (inr in_b)) apart.1,
+)
 
 pub Apart-take : {X : Type 0} (R : X → X → Type 0) (n : ℕ) (xs : List X) → Apart R xs → Apart R (take n xs)
 Apart-take R zero xs apart = tt

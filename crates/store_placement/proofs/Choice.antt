@@ -1,24 +1,24 @@
 -- What the steps of placing leave is the chosen placement, and there is only one.
-use Rattle.std.proofs.Common.{◌≡◌, ◌≢◌, ℕ, ◌+◌, ◌-◌, ◌<◌, ◌≤◌, Bool, true, false, cond, not, ◌&&◌, ◌||◌, ◌⊎◌, List, [], ◌∷◌, Option, Some, None, length, map, take, get_or, eqb, refl, sym, ap, subst, ◌∙◌, inl, inr, arith}
+use Rattle.std.proofs.Common.{◌≡◌, ℕ, ◌+◌, ◌<◌, ◌≤◌, Bool, true, false, cond, not, ◌&&◌, List, [], ◌∷◌, Option, Some, None, length, map, take, get_or, eqb, refl, sym, ap, subst, ◌∙◌, inl, inr, arith}
 use Rattle.std.specs.Prelude.{is_none}
 use Rattle.std.specs.Option.{option_or}
 use Rattle.std.specs.List.{list_any, All, filter, count_by}
 use Rattle.std.proofs.lemmas.Bool.{eq-eqb}
 use Rattle.std.proofs.lemmas.List.FromFn.{get_or-map-range_with_len, fill_by_all}
 use Rattle.store_placement.specs.declared.pair.Pair.{Pair}
-use Rattle.store_placement.specs.Demands.{Demands, AreWithin, IsOfStatements, fixed_at}
+use Rattle.store_placement.specs.Demands.{Demands, AreWithin, fixed_at}
 use Rattle.store_placement.specs.First.{below, Never, NeverTwo}
 use Rattle.store_placement.specs.Forced.{forced, all_forced}
 use Rattle.store_placement.specs.Refusals.{stands_in, clashes, in_wrong_half, collide}
 use Rattle.store_placement.specs.Chosen.{is_free_low, free_lows, free_addresses, open_pairs, is_single, singles, before_singles, IsChosen, IsChosenList}
 use Rattle.store_placement.specs.Steps.{pair_address, with_pairs, filled}
-use Rattle.store_placement.proofs.Among.{Among, All-among, All-from_among, any_at, any_none, none_of, left_or, right_or, among-below, among_below, among-filter, among_filter}
+use Rattle.store_placement.proofs.Among.{Among, All-among, All-from_among, none_of, left_or, right_or, among-below, among_below, among-filter, among_filter}
 use Rattle.store_placement.proofs.Below.{length-map_below}
 use Rattle.store_placement.proofs.ForcedLemmas.{length-all_forced, at_all_forced}
-use Rattle.store_placement.proofs.ClearPairs.{AreClear, of_statements, stands_cases, stands_yes, stands_no, one_role}
-use Rattle.store_placement.proofs.ForcedBy.{own_none, forced_none}
+use Rattle.store_placement.proofs.ClearPairs.{AreClear, of_statements, stands_yes, stands_no, one_role}
+use Rattle.store_placement.proofs.ForcedBy.{forced_none}
 use Rattle.store_placement.proofs.OpenPairs.{IsOpen, Apart-open, open_from, open_unforced}
-use Rattle.store_placement.proofs.ChosenPlacement.{AreApart, chosen_places, IsPlacedBy, ByForce, ByLow, ByHigh, placed_by}
+use Rattle.store_placement.proofs.ChosenPlacement.{AreApart, chosen_places, ByForce, ByLow, ByHigh, placed_by}
 use Rattle.store_placement.proofs.StepsLemmas.{at_low, pair_places, pair_misses, nones, nones-count, length-filled, filled_kept, rest_taken, free_enough}
 
 map_same : {X Y : Type 0} (f g : X → Y) (xs : List X) → ((x : X) → Among x xs → f x ≡ g x) → map f xs ≡ map g xs
@@ -104,18 +104,19 @@ single_parts fixed pairs s is =
     elim (fixed_at fixed s) as (λ o. (is_none o && not (list_any (stands_in s) pairs)) ≡ true → (o ≡ None) × (list_any (stands_in s) pairs ≡ false)) [
       | None ↦ λ h. (refl, elim (list_any (stands_in s) pairs) as (λ b. not b ≡ true → b ≡ false) [ true ↦ λ k. cc | false ↦ λ k. refl ] h)
       | Some a ↦ λ h. cc
-      ] is
+    ] is
 
 single_none : {fixed : List (Option ℕ)} {pairs : List Pair} → AreSteps fixed pairs → (s : ℕ) → s < length fixed → is_single fixed pairs s ≡ true → get_or (placed_of fixed pairs) s None ≡ None
 single_none {fixed} {pairs} h s inside is =
     let parts = single_parts fixed pairs s is in
     let stands : (p : Pair) → Among p pairs → stands_in s p ≡ true → ⊥ = λ p among yes_stands.
-          let wrong : true ≡ false = sym yes_stands ∙ none_of (stands_in s) pairs p parts.1 among in cc in
+    let wrong : true ≡ false = sym yes_stands ∙ none_of (stands_in s) pairs p parts.1 among in cc in
     let unforced : forced fixed pairs s ≡ None = forced_none fixed pairs s parts.0 (λ p among yes_stands. absurd (stands p among yes_stands)) in
     let missed : paired_at fixed pairs s ≡ None = pair_misses (open_pairs fixed pairs) (free_lows (all_forced fixed pairs)) s (λ p among.
-          let left = open_from fixed pairs p among in
-          (λ e. stands p left.among (right_or (eqb p.yes s) (eqb p.no s) (eq-eqb p.no s e)),
-           λ e. stands p left.among (left_or (eqb p.yes s) (eqb p.no s) (eq-eqb p.yes s e)))) in
+    let left = open_from fixed pairs p among in (
+      λ e. stands p left.among (right_or (eqb p.yes s) (eqb p.no s) (eq-eqb p.no s e)),
+      λ e. stands p left.among (left_or (eqb p.yes s) (eqb p.no s) (eq-eqb p.yes s e)),
+    )) in
     at_placed fixed pairs s inside ∙ (ap (λ o. option_or o (paired_at fixed pairs s)) unforced ∙ missed)
 
 other_some : {fixed : List (Option ℕ)} {pairs : List Pair} → AreSteps fixed pairs → (s : ℕ) → s < length fixed → is_single fixed pairs s ≡ false → get_or (placed_of fixed pairs) s None ≡ Some (step_address fixed pairs s)
@@ -128,23 +129,23 @@ other_some {fixed} {pairs} h s inside is =
       | ByHigh p among high ↦
           let r = stands_at h p among in
           ap (λ k. get_or (placed_of fixed pairs) k None) (sym high) ∙ (r.1.high_placed ∙ ap Some (sym r.1.high ∙ ap (step_address fixed pairs) high))
-      ]
+    ]
 
 single_is : {fixed : List (Option ℕ)} {pairs : List Pair} → AreSteps fixed pairs → (s : ℕ) → s < length fixed → is_single fixed pairs s ≡ is_none (get_or (placed_of fixed pairs) s None)
 single_is {fixed} {pairs} h s inside =
     elim (is_single fixed pairs s) as (λ b. is_single fixed pairs s ≡ b → b ≡ is_none (get_or (placed_of fixed pairs) s None)) [
       | true ↦ λ is. sym (ap (λ o. is_none o) (single_none h s inside is))
       | false ↦ λ is. sym (some_not_none (get_or (placed_of fixed pairs) s None) (step_address fixed pairs s) (other_some h s inside is))
-      ] refl
+    ] refl
 
 before_is : {fixed : List (Option ℕ)} {pairs : List Pair} → AreSteps fixed pairs → before_singles (record { fixed = fixed; pairs = pairs }) (step_address fixed pairs) ≡ placed_of fixed pairs
 unfolding before_singles below
 before_is {fixed} {pairs} h =
     let here : (s : ℕ) → s < length fixed → cond (is_single fixed pairs s) None (Some (step_address fixed pairs s)) ≡ get_or (placed_of fixed pairs) s None = λ s inside.
-          elim (is_single fixed pairs s) as (λ b. is_single fixed pairs s ≡ b → cond b None (Some (step_address fixed pairs s)) ≡ get_or (placed_of fixed pairs) s None) [
-            | true ↦ λ is. sym (single_none h s inside is)
-            | false ↦ λ is. sym (other_some h s inside is)
-            ] refl in
+    elim (is_single fixed pairs s) as (λ b. is_single fixed pairs s ≡ b → cond b None (Some (step_address fixed pairs s)) ≡ get_or (placed_of fixed pairs) s None) [
+      | true ↦ λ is. sym (single_none h s inside is)
+      | false ↦ λ is. sym (other_some h s inside is)
+    ] refl in
     sym (fill_by_all (λ s. cond (is_single fixed pairs s) None (Some (step_address fixed pairs s))) (placed_of fixed pairs) (length fixed) None (length-placed fixed pairs) (λ s inside. sym (here s inside)))
 
 singles_are : {fixed : List (Option ℕ)} {pairs : List Pair} → AreSteps fixed pairs → singles fixed pairs ≡ filter (λ s. is_none (get_or (placed_of fixed pairs) s None)) (below (length (placed_of fixed pairs)))
@@ -163,9 +164,9 @@ steps_chosen {fixed} {pairs} clear enough =
       lows = at_low (open_pairs fixed pairs) (free_lows (all_forced fixed pairs)) (λ p. step_address fixed pairs p.no) (Apart-open clear) enough (λ p among. let r = stands_at h p among in r.1.given ∙ ap Some (sym r.1.low));
       highs = All-from_among (λ p. step_address fixed pairs p.yes ≡ step_address fixed pairs p.no + 256) (open_pairs fixed pairs) (λ p among. let r = stands_at h p among in r.1.high ∙ ap (λ a. a + 256) (sym r.1.low));
       rest = ap (map (step_address fixed pairs)) (singles_are h)
-        ∙ (rest_taken (placed_of fixed pairs) (free_addresses (placed_of fixed pairs)) (placed_enough clear.within)
-        ∙ (ap (λ xs. take (length xs) (free_addresses (placed_of fixed pairs))) (sym (singles_are h))
-        ∙ ap (λ xs. take (length last) (free_addresses xs)) (sym (before_is h))))
+          ∙ (rest_taken (placed_of fixed pairs) (free_addresses (placed_of fixed pairs)) (placed_enough clear.within)
+          ∙ (ap (λ xs. take (length xs) (free_addresses (placed_of fixed pairs))) (sym (singles_are h))
+          ∙ ap (λ xs. take (length last) (free_addresses xs)) (sym (before_is h))));
     }
 
 -- two chosen placements agree on each statement
@@ -180,16 +181,16 @@ others_agree {d} {f} {g} c by_f by_g s inside is =
           let of_f = All-among (λ q. f q.yes ≡ f q.no + 256) pairs p by_f.highs among in
           let of_g = All-among (λ q. g q.yes ≡ g q.no + 256) pairs p by_g.highs among in
           ap f (sym high) ∙ (of_f ∙ (ap (λ a. a + 256) (low_agrees p among) ∙ (sym of_g ∙ ap g high)))
-      ]
+    ]
 
 before_agree : {d : Demands} {f g : ℕ → ℕ} → AreClear d.fixed d.pairs → IsChosen d f → IsChosen d g → before_singles d f ≡ before_singles d g
 unfolding before_singles
 before_agree {d} {f} {g} c by_f by_g =
     map_same (λ s. cond (is_single d.fixed d.pairs s) None (Some (f s))) (λ s. cond (is_single d.fixed d.pairs s) None (Some (g s))) (below (length d.fixed)) (λ s among.
-      elim (is_single d.fixed d.pairs s) as (λ b. is_single d.fixed d.pairs s ≡ b → cond b None (Some (f s)) ≡ cond b None (Some (g s))) [
-        | true ↦ λ is. refl
-        | false ↦ λ is. ap Some (others_agree c by_f by_g s (among-below (length d.fixed) s among) is)
-        ] refl)
+    elim (is_single d.fixed d.pairs s) as (λ b. is_single d.fixed d.pairs s ≡ b → cond b None (Some (f s)) ≡ cond b None (Some (g s))) [
+      | true ↦ λ is. refl
+      | false ↦ λ is. ap Some (others_agree c by_f by_g s (among-below (length d.fixed) s among) is)
+    ] refl)
 
 pub chosen_agree : {d : Demands} {f g : ℕ → ℕ} → AreClear d.fixed d.pairs → IsChosen d f → IsChosen d g → (s : ℕ) → s < length d.fixed → f s ≡ g s
 unfolding singles
@@ -199,7 +200,7 @@ chosen_agree {d} {f} {g} c by_f by_g s inside =
       | true ↦ λ is. same_map f g last (by_f.rest ∙ (ap (λ xs. take (length last) (free_addresses xs)) (before_agree c by_f by_g) ∙ sym by_g.rest)) s
           (among_filter (is_single d.fixed d.pairs) (below (length d.fixed)) s (among_below (length d.fixed) s inside) is)
       | false ↦ λ is. others_agree c by_f by_g s inside is
-      ] refl
+    ] refl
 
 -- the addresses that the steps leave are the chosen placement, where nothing is refused
 pub steps_place : (fixed : List (Option ℕ)) (pairs : List Pair) (addresses : List ℕ) → AreWithin fixed pairs → Never (clashes pairs) (length fixed) → Never (in_wrong_half fixed pairs) (length fixed) → NeverTwo (collide fixed pairs) (length fixed) → length (open_pairs fixed pairs) ≤ length (free_lows (all_forced fixed pairs)) → addresses ≡ filled (placed_of fixed pairs) (free_addresses (placed_of fixed pairs)) → IsChosenList (record { fixed = fixed; pairs = pairs }) addresses
@@ -212,9 +213,9 @@ steps_place fixed pairs addresses within clear halved apart enough are =
     subst P (sym are) (record {
       places = record {
         count = length-filled (placed_of fixed pairs) (free_addresses (placed_of fixed pairs)) (placed_enough within) ∙ length-placed fixed pairs;
-        places = chosen_places h chosen
+        places = chosen_places h chosen;
       };
-      chosen = chosen
+      chosen = chosen;
     })
 
 -- enough addresses are free for the statements without one

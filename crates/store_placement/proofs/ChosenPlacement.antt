@@ -1,21 +1,21 @@
 -- The chosen placement is a placement, where nothing is refused.
-use Rattle.std.proofs.Common.{◌≡◌, ◌≢◌, ℕ, ◌+◌, ◌-◌, ◌<◌, ◌≤◌, Bool, true, false, cond, not, ◌&&◌, ◌||◌, ◌⊎◌, List, [], ◌∷◌, Option, Some, None, length, map, take, eqb, ltb, refl, sym, ap, subst, ◌∙◌, inl, inr, arith}
+use Rattle.std.proofs.Common.{◌≡◌, ◌≢◌, ℕ, ◌+◌, ◌-◌, ◌<◌, Bool, true, false, cond, not, ◌&&◌, List, Option, Some, None, length, map, eqb, refl, sym, ap, subst, ◌∙◌, inl, inr, arith}
 use Rattle.std.specs.Prelude.{is_none}
-use Rattle.std.specs.List.{list_any, All, filter}
-use Rattle.std.proofs.lemmas.Bool.{eqb-true, eqb-false, eq-eqb, cases_lt, cases_eq}
+use Rattle.std.specs.List.{list_any, filter}
+use Rattle.std.proofs.lemmas.Bool.{eqb-true, eq-eqb, cases_lt, cases_eq}
 use Rattle.std.proofs.lemmas.List.{get_or_past}
 use Rattle.store_placement.specs.declared.pair.Pair.{Pair}
-use Rattle.store_placement.specs.Demands.{Demands, AreWithin, IsOfStatements, fixed_at}
+use Rattle.store_placement.specs.Demands.{Demands, fixed_at}
 use Rattle.store_placement.specs.First.{below, NeverTwo}
 use Rattle.store_placement.specs.Forced.{forced, all_forced, same_address}
 use Rattle.store_placement.specs.Refusals.{stands_in, is_pair_of, are_split, split_apart, collide}
 use Rattle.store_placement.specs.Chosen.{is_taken, is_free, is_free_low, free_lows, free_addresses, open_pairs, is_single, singles, before_singles, IsChosen}
 use Rattle.store_placement.specs.Placement.{IsPlacement}
-use Rattle.store_placement.proofs.Among.{Among, All-among, All-from_among, any_at, from_any, none_of, true_left, true_right, right_false, left_or, right_or, neither_left, neither_right, among-map, among_map, among-take, among-filter, among_filter, among-below, among_below}
+use Rattle.store_placement.proofs.Among.{Among, All-among, All-from_among, any_at, from_any, none_of, true_left, true_right, right_false, right_or, neither_left, neither_right, among_map, among-take, among-filter, among_filter, among-below, among_below}
 use Rattle.store_placement.proofs.Apart.{Apart, Apart-below, Apart-weaker, Apart-filter, Apart-take, same_from_map}
-use Rattle.store_placement.proofs.ClearPairs.{AreClear, AreHalved, of_statements, stands_cases, stands_yes, stands_no, one_role, fixed_high, fixed_low}
+use Rattle.store_placement.proofs.ClearPairs.{AreClear, AreHalved, of_statements, stands_cases, one_role, fixed_high, fixed_low}
 use Rattle.store_placement.proofs.ForcedBy.{IsForcedBy, Own, Above, Under, forced_cases, forced_own, own_none, forced_above, forced_under, partner_none}
-use Rattle.store_placement.proofs.OpenPairs.{IsOpen, open_from, among_open}
+use Rattle.store_placement.proofs.OpenPairs.{among_open}
 
 -- nothing is refused before the remaining pairs are counted
 pub record AreApart (fixed : List (Option ℕ)) (pairs : List Pair) : Type 0 where
@@ -42,12 +42,12 @@ low_of {d} {address} chosen p among =
     let taken = all_forced d.fixed d.pairs in
     let P : List ℕ → Type 0 = λ xs. Among (address p.no) xs in
     let among_lows : Among (address p.no) (free_lows taken) =
-          among-take (length pairs) (free_lows taken) (address p.no) (subst P chosen.lows (among_map (λ q. address q.no) pairs p among)) in
+    among-take (length pairs) (free_lows taken) (address p.no) (subst P chosen.lows (among_map (λ q. address q.no) pairs p among)) in
     let r = among-filter (is_free_low taken) (below 256) (address p.no) among_lows in
     record {
       inside = among-below 256 (address p.no) r.0;
       free = not_true (is_taken taken (address p.no)) (true_left (is_free taken (address p.no)) (is_free taken (address p.no + 256)) r.1);
-      partner_free = not_true (is_taken taken (address p.no + 256)) (true_right (is_free taken (address p.no)) (is_free taken (address p.no + 256)) r.1)
+      partner_free = not_true (is_taken taken (address p.no + 256)) (true_right (is_free taken (address p.no)) (is_free taken (address p.no + 256)) r.1);
     }
 
 high_of : {d : Demands} {address : ℕ → ℕ} → IsChosen d address → (p : Pair) → Among p (open_pairs d.fixed d.pairs) → address p.yes ≡ address p.no + 256
@@ -70,7 +70,7 @@ single_at {d} {address} chosen s inside is =
     let P : List ℕ → Type 0 = λ xs. Among (address s) xs in
     let among_last : Among s last = among_filter (is_single d.fixed d.pairs) (below (length d.fixed)) s (among_below (length d.fixed) s inside) is in
     let among_free : Among (address s) (free_addresses taken) =
-          among-take (length last) (free_addresses taken) (address s) (subst P chosen.rest (among_map address last s among_last)) in
+    among-take (length last) (free_addresses taken) (address s) (subst P chosen.rest (among_map address last s among_last)) in
     let r = among-filter (is_free taken) (below 512) (address s) among_free in
     (among-below 512 (address s) r.0, not_true (is_taken taken (address s)) r.1)
 
@@ -91,7 +91,7 @@ other_at d address t inside is =
     let place : ℕ → Option ℕ = λ s. cond (is_single d.fixed d.pairs s) None (Some (address s)) in
     let here : place t ≡ Some (address t) = rw is refl in
     any_at (λ o. same_address o (Some (address t))) (map place (below (length d.fixed))) (place t) (among_map place (below (length d.fixed)) t (among_below (length d.fixed) t inside))
-      (ap (λ o. same_address o (Some (address t))) here ∙ eq-eqb (address t) (address t) refl)
+    (ap (λ o. same_address o (Some (address t))) here ∙ eq-eqb (address t) (address t) refl)
 
 single_other : {d : Demands} {address : ℕ → ℕ} → IsChosen d address → (s t : ℕ) → s < length d.fixed → t < length d.fixed → is_single d.fixed d.pairs s ≡ true → is_single d.fixed d.pairs t ≡ false → address s ≡ address t → ⊥
 single_other {d} {address} chosen s t in_s in_t is_s is_t same =
@@ -102,7 +102,7 @@ forced_taken : (d : Demands) (s a : ℕ) → s < length d.fixed → forced d.fix
 unfolding is_taken all_forced
 forced_taken d s a inside is =
     any_at (λ o. same_address o (Some a)) (map (forced d.fixed d.pairs) (below (length d.fixed))) (forced d.fixed d.pairs s) (among_map (forced d.fixed d.pairs) (below (length d.fixed)) s (among_below (length d.fixed) s inside))
-      (ap (λ o. same_address o (Some a)) is ∙ eq-eqb a a refl)
+    (ap (λ o. same_address o (Some a)) is ∙ eq-eqb a a refl)
 
 -- what places a statement
 pub data IsPlacedBy (d : Demands) (s : ℕ) : Type 0 where
@@ -116,7 +116,7 @@ stands_from fixed pairs s unfixed is =
     from_any (stands_in s) pairs (elim (list_any (stands_in s) pairs) as (λ b. (is_none (fixed_at fixed s) && not b) ≡ false → b ≡ true) [
       | true ↦ λ h. refl
       | false ↦ λ h. let wrong : true ≡ false = ap (λ o. is_none o && true) (sym unfixed) ∙ h in cc
-      ] is)
+    ] is)
 
 pub placed_by : {d : Demands} → AreClear d.fixed d.pairs → (s : ℕ) → is_single d.fixed d.pairs s ≡ false → IsPlacedBy d s
 placed_by {d} c s is =
@@ -127,22 +127,22 @@ placed_by {d} c s is =
           let unfixed = partner_none c s p.0 p.1 p.2 e in
           let among = among_open c p.0 (record { among = p.1; yes_free = unfixed.0; no_free = unfixed.1 }) in
           elim (stands_cases s p.0 p.2) [ inl high ↦ ByHigh p.0 among high | inr low ↦ ByLow p.0 among low ]
-      ] refl
+    ] refl
 
 forced_apart : {d : Demands} → AreApart d.fixed d.pairs → (s t a : ℕ) → s < length d.fixed → t < length d.fixed → forced d.fixed d.pairs s ≡ Some a → forced d.fixed d.pairs t ≡ Some a → s ≡ t
 unfolding collide
 forced_apart {d} h s t a in_s in_t is_s is_t =
     let together : (u v : ℕ) → u < v → v < length d.fixed → forced d.fixed d.pairs u ≡ Some a → forced d.fixed d.pairs v ≡ Some a → ⊥ = λ u v less inside is_u is_v.
-          let one : same_address (forced d.fixed d.pairs u) (forced d.fixed d.pairs v) ≡ true = rw (is_u, is_v) (eq-eqb a a refl) in
-          let none = neither_left (same_address (forced d.fixed d.pairs u) (forced d.fixed d.pairs v)) (split_apart d.fixed d.pairs u v) (h.apart u v less inside) in
-          let wrong : true ≡ false = sym one ∙ none in cc in
+    let one : same_address (forced d.fixed d.pairs u) (forced d.fixed d.pairs v) ≡ true = rw (is_u, is_v) (eq-eqb a a refl) in
+    let none = neither_left (same_address (forced d.fixed d.pairs u) (forced d.fixed d.pairs v)) (split_apart d.fixed d.pairs u v) (h.apart u v less inside) in
+    let wrong : true ≡ false = sym one ∙ none in cc in
     elim (cases_eq s t) [
       | inl same ↦ same
       | inr differ ↦ elim (cases_lt s t) [
-          | inl less ↦ absurd (together s t less in_t is_s is_t)
-          | inr more ↦ absurd (together t s (omega arith) in_s is_t is_s)
-          ]
+        | inl less ↦ absurd (together s t less in_t is_s is_t)
+        | inr more ↦ absurd (together t s (omega arith) in_s is_t is_s)
       ]
+    ]
 
 -- what is forced does not stand where a remaining pair stands
 not_forced : (d : Demands) (s a b : ℕ) → s < length d.fixed → forced d.fixed d.pairs s ≡ Some a → is_taken (all_forced d.fixed d.pairs) b ≡ false → a ≡ b → ⊥
@@ -180,14 +180,14 @@ all_apart : {d : Demands} {address : ℕ → ℕ} → AreApart d.fixed d.pairs �
 all_apart {d} {address} h chosen s t in_s in_t same =
     elim (is_single d.fixed d.pairs s) as (λ b. is_single d.fixed d.pairs s ≡ b → s ≡ t) [
       | true ↦ λ is_s. elim (is_single d.fixed d.pairs t) as (λ b. is_single d.fixed d.pairs t ≡ b → s ≡ t) [
-          | true ↦ λ is_t. one_single_at chosen s t in_s in_t is_s is_t same
-          | false ↦ λ is_t. absurd (single_other chosen s t in_s in_t is_s is_t same)
-          ] refl
-      | false ↦ λ is_s. elim (is_single d.fixed d.pairs t) as (λ b. is_single d.fixed d.pairs t ≡ b → s ≡ t) [
-          | true ↦ λ is_t. absurd (single_other chosen t s in_t in_s is_t is_s (sym same))
-          | false ↦ λ is_t. others_apart h chosen s t in_s in_t (placed_by h.halved.clear s is_s) (placed_by h.halved.clear t is_t) same
-          ] refl
+        | true ↦ λ is_t. one_single_at chosen s t in_s in_t is_s is_t same
+        | false ↦ λ is_t. absurd (single_other chosen s t in_s in_t is_s is_t same)
       ] refl
+      | false ↦ λ is_s. elim (is_single d.fixed d.pairs t) as (λ b. is_single d.fixed d.pairs t ≡ b → s ≡ t) [
+        | true ↦ λ is_t. absurd (single_other chosen t s in_t in_s is_t is_s (sym same))
+        | false ↦ λ is_t. others_apart h chosen s t in_s in_t (placed_by h.halved.clear s is_s) (placed_by h.halved.clear t is_t) same
+      ] refl
+    ] refl
 
 forced_inside : {d : Demands} → AreHalved d.fixed d.pairs → (s a : ℕ) → IsForcedBy d.fixed d.pairs s a → a < 512
 forced_inside h s a (Own is) = h.clear.within.addresses s a is
@@ -206,13 +206,13 @@ all_inside {d} {address} h chosen s inside =
     elim (is_single d.fixed d.pairs s) as (λ b. is_single d.fixed d.pairs s ≡ b → address s < 512) [
       | true ↦ λ is. (single_at chosen s inside is).0
       | false ↦ λ is. placed_inside h chosen s inside (placed_by h.clear s is)
-      ] refl
+    ] refl
 
 pub fixed_below : (fixed : List (Option ℕ)) (s a : ℕ) → fixed_at fixed s ≡ Some a → s < length fixed
 fixed_below fixed s a is = elim (cases_lt s (length fixed)) [
   | inl less ↦ less
   | inr more ↦ let wrong : None ≡ Some a = sym (get_or_past fixed s None more) ∙ is in cc
-  ]
+]
 
 not_split : {d : Demands} → AreApart d.fixed d.pairs → (p : Pair) → Among p d.pairs → are_split (fixed_at d.fixed p.yes) (fixed_at d.fixed p.no) ≡ false
 unfolding collide split_apart
@@ -228,9 +228,9 @@ not_split {d} h p among =
       | inr more ↦
           let none = neither_right (same_address (forced d.fixed d.pairs p.no) (forced d.fixed d.pairs p.yes)) (split_apart d.fixed d.pairs p.no p.yes) (h.apart p.no p.yes (omega (arith, roles)) of.0) in
           let pair : is_pair_of p.no p.yes p ≡ true =
-                right_or (eqb p.yes p.no && eqb p.no p.yes) (eqb p.yes p.yes && eqb p.no p.no) (rw (eq-eqb p.yes p.yes refl, eq-eqb p.no p.no refl) refl) in
+          right_or (eqb p.yes p.no && eqb p.no p.yes) (eqb p.yes p.yes && eqb p.no p.no) (rw (eq-eqb p.yes p.yes refl, eq-eqb p.no p.no refl) refl) in
           right_false (is_pair_of p.no p.yes p) (split p) (none_of (λ r. is_pair_of p.no p.yes r && split r) d.pairs p none among) pair
-      ]
+    ]
 
 split_not : (a b : ℕ) → are_split (Some a) (Some b) ≡ false → a ≡ b + 256
 split_not a b h = eqb-true a (b + 256) (elim (eqb a (b + 256)) as (λ t. not t ≡ false → t ≡ true) [ true ↦ λ _. refl | false ↦ λ e. cc ] h)
@@ -241,30 +241,30 @@ pair_kept {d} {address} h chosen p among =
     let of = of_statements c.within p among in
     elim (fixed_at d.fixed p.yes) as (λ o. fixed_at d.fixed p.yes ≡ o → address p.yes ≡ address p.no + 256) [
       | None ↦ λ yes_free. elim (fixed_at d.fixed p.no) as (λ o. fixed_at d.fixed p.no ≡ o → address p.yes ≡ address p.no + 256) [
-          | None ↦ λ no_free. high_of chosen p (among_open c p (record { among = among; yes_free = yes_free; no_free = no_free }))
-          | Some b ↦ λ is_no.
-              let at_yes = chosen.keeps_forced p.yes (b + 256) of.0 (forced_above c p b among yes_free is_no) in
-              let at_no = chosen.keeps_forced p.no b of.1 (forced_own d.fixed d.pairs p.no b is_no) in
-              omega arith
-          ] refl
-      | Some a ↦ λ is_yes. elim (fixed_at d.fixed p.no) as (λ o. fixed_at d.fixed p.no ≡ o → address p.yes ≡ address p.no + 256) [
-          | None ↦ λ no_free.
-              let at_yes = chosen.keeps_forced p.yes a of.0 (forced_own d.fixed d.pairs p.yes a is_yes) in
-              let at_no = chosen.keeps_forced p.no (a - 256) of.1 (forced_under c p a among no_free is_yes) in
-              let high = fixed_high h.halved p a among is_yes in
-              omega arith
-          | Some b ↦ λ is_no.
-              let at_yes = chosen.keeps_forced p.yes a of.0 (forced_own d.fixed d.pairs p.yes a is_yes) in
-              let at_no = chosen.keeps_forced p.no b of.1 (forced_own d.fixed d.pairs p.no b is_no) in
-              let sum = split_not a b (ap (λ o. are_split o (Some b)) (sym is_yes) ∙ (ap (are_split (fixed_at d.fixed p.yes)) (sym is_no) ∙ not_split h p among)) in
-              omega arith
-          ] refl
+        | None ↦ λ no_free. high_of chosen p (among_open c p (record { among = among; yes_free = yes_free; no_free = no_free }))
+        | Some b ↦ λ is_no.
+            let at_yes = chosen.keeps_forced p.yes (b + 256) of.0 (forced_above c p b among yes_free is_no) in
+            let at_no = chosen.keeps_forced p.no b of.1 (forced_own d.fixed d.pairs p.no b is_no) in
+            omega arith
       ] refl
+      | Some a ↦ λ is_yes. elim (fixed_at d.fixed p.no) as (λ o. fixed_at d.fixed p.no ≡ o → address p.yes ≡ address p.no + 256) [
+        | None ↦ λ no_free.
+            let at_yes = chosen.keeps_forced p.yes a of.0 (forced_own d.fixed d.pairs p.yes a is_yes) in
+            let at_no = chosen.keeps_forced p.no (a - 256) of.1 (forced_under c p a among no_free is_yes) in
+            let high = fixed_high h.halved p a among is_yes in
+            omega arith
+        | Some b ↦ λ is_no.
+            let at_yes = chosen.keeps_forced p.yes a of.0 (forced_own d.fixed d.pairs p.yes a is_yes) in
+            let at_no = chosen.keeps_forced p.no b of.1 (forced_own d.fixed d.pairs p.no b is_no) in
+            let sum = split_not a b (ap (λ o. are_split o (Some b)) (sym is_yes) ∙ (ap (are_split (fixed_at d.fixed p.yes)) (sym is_no) ∙ not_split h p among)) in
+            omega arith
+      ] refl
+    ] refl
 
 pub chosen_places : {d : Demands} {address : ℕ → ℕ} → AreApart d.fixed d.pairs → IsChosen d address → IsPlacement d address
 chosen_places {d} {address} h chosen = record {
   in_store = λ s inside. all_inside h.halved chosen s inside;
   apart = λ s t in_s in_t same. all_apart h chosen s t in_s in_t same;
   keeps_fixed = λ s a is. chosen.keeps_forced s a (fixed_below d.fixed s a is) (forced_own d.fixed d.pairs s a is);
-  keeps_pairs = All-from_among (λ p. address p.yes ≡ address p.no + 256) d.pairs (λ p among. pair_kept h chosen p among)
+  keeps_pairs = All-from_among (λ p. address p.yes ≡ address p.no + 256) d.pairs (λ p among. pair_kept h chosen p among);
 }

@@ -1,11 +1,10 @@
 -- What holds where no statement stands in two pairs or in both roles, none is fixed in the wrong half, and no two collide.
-use Rattle.std.proofs.Common.{◌≡◌, ℕ, ◌+◌, ◌-◌, ◌<◌, ◌≤◌, Bool, true, false, cond, not, ◌&&◌, ◌||◌, ◌⊎◌, List, [], ◌∷◌, Option, Some, None, length, eqb, ltb, refl, sym, ap, subst, ◌∙◌, inl, inr, arith}
-use Rattle.std.specs.List.{list_any}
+use Rattle.std.proofs.Common.{◌≡◌, ℕ, ◌<◌, ◌≤◌, Bool, true, false, cond, not, ◌&&◌, ◌⊎◌, List, Option, Some, length, eqb, refl, sym, ap, ◌∙◌, inl, inr, arith}
 use Rattle.std.proofs.lemmas.Bool.{eqb-true, eq-eqb, cases_lt, lt-ltb, le-ltb}
 use Rattle.store_placement.specs.declared.pair.Pair.{Pair}
-use Rattle.store_placement.specs.Demands.{AreWithin, IsOfStatements, fixed_at}
-use Rattle.store_placement.specs.First.{Never, NeverTwo}
-use Rattle.store_placement.specs.Refusals.{same_pair, stands_in, stands_beside, stands_twice, clashes, in_wrong_half, is_wrong, is_true_target, is_false_target, is_pair_of, are_split, split_apart, collide}
+use Rattle.store_placement.specs.Demands.{AreWithin, IsOfStatements, fixed_at, same_pair}
+use Rattle.store_placement.specs.First.{Never}
+use Rattle.store_placement.specs.Refusals.{stands_in, stands_beside, stands_twice, clashes, in_wrong_half, is_wrong, is_true_target, is_false_target}
 use Rattle.store_placement.proofs.Among.{Among, All-among, any_at, none_of, true_left, true_right, both_true, right_false, either, left_or, right_or, neither_left, neither_right}
 
 -- the pairs are of statements, and no statement clashes
@@ -20,7 +19,7 @@ pub stands_cases : (s : ℕ) (p : Pair) → stands_in s p ≡ true → (p.yes �
 stands_cases s p h = elim (either (eqb p.yes s) (eqb p.no s) h) [
   | inl high ↦ inl (eqb-true p.yes s high)
   | inr low ↦ inr (eqb-true p.no s low)
-  ]
+]
 
 pub stands_yes : (p : Pair) → stands_in p.yes p ≡ true
 stands_yes p = left_or (eqb p.yes p.yes) (eqb p.no p.yes) (eq-eqb p.yes p.yes refl)
@@ -80,7 +79,7 @@ fixed_high {fixed} {pairs} h p a among is =
     elim (cases_lt a 256) [
       | inl low ↦ let wrong : true ≡ false = sym target ∙ (ap (λ b. cond b (is_true_target pairs p.yes) (is_false_target pairs p.yes)) (sym (lt-ltb a 256 low)) ∙ right) in cc
       | inr high ↦ high
-      ]
+    ]
 
 -- a false target is fixed in the low half
 pub fixed_low : {fixed : List (Option ℕ)} {pairs : List Pair} → AreHalved fixed pairs → (p : Pair) (a : ℕ) → Among p pairs → fixed_at fixed p.no ≡ Some a → a < 256
@@ -91,4 +90,4 @@ fixed_low {fixed} {pairs} h p a among is =
     elim (cases_lt a 256) [
       | inl low ↦ low
       | inr high ↦ let wrong : true ≡ false = sym target ∙ (ap (λ b. cond b (is_true_target pairs p.no) (is_false_target pairs p.no)) (sym (le-ltb a 256 high)) ∙ right) in cc
-      ]
+    ]

@@ -1,23 +1,20 @@
 -- A program's statements at a placement have words, and a store is filled with them one by one.
-use Rattle.std.proofs.Common.{◌≡◌, ◌≢◌, ℕ, ◌+◌, ◌<◌, ◌≤◌, Bool, true, false, ◌&&◌, ◌⊎◌, List, [], ◌∷◌, ◌++◌, Option, Some, None, length, map, take, get_or, set, replicate, zero, suc, refl, sym, ap, subst, ◌∙◌, inl, inr, arith}
+use Rattle.std.proofs.Common.{◌≡◌, ◌≢◌, ℕ, ◌+◌, ◌<◌, true, List, [], ◌∷◌, ◌++◌, Option, Some, None, length, set, replicate, zero, suc, refl, sym, ap, subst, ◌∙◌, inl, inr, arith}
 use Rattle.std.specs.Prelude.{slice_get, slice_index, option_and_then, IsTrue}
-use Rattle.std.specs.List.{filter_map, All}
+use Rattle.std.specs.List.{filter_map}
 use Rattle.std.specs.Option.{option_to_list}
 use Rattle.std.proofs.lemmas.Bool.{lt-ltb, cases_eq}
 use Rattle.std.proofs.lemmas.List.{length-map, length-set, length-replicate, get_or-replicate, get_or-set_same, get_or-set_other}
 use Rattle.std.proofs.lemmas.Option.{slice_get_within, get_or_from_slice_get}
-use Rattle.micro_word.specs.declared.statement.Machine.{Machine}
-use Rattle.micro_word.specs.declared.statement.Placed.{Placed}
-use Rattle.micro_word.specs.declared.statement.Part.{Part}
 use Rattle.micro_word.specs.Coding.{word_of}
 use Rattle.micro_word.specs.Canonical.{is_valid, is_part, is_next}
 use Rattle.mal_parser.specs.declared.statement.Statement.{Statement}
 use Rattle.mal_parser.specs.declared.statement.MalNext.{MalNext}
 use Rattle.mal_parser.specs.declared.statement.MalNext.TheVariants as nexts
-use Rattle.mal_parser.specs.Program.{Program, IsProgram, IsStatement, IsFallback, HasTargets}
+use Rattle.mal_parser.specs.Program.{Program, IsProgram, HasTargets}
 use Rattle.store_placement.specs.declared.pair.Pair.{Pair}
-use Rattle.store_placement.specs.Placement.{IsPlacement, Places}
-use Rattle.store_placement.specs.Program.{demands_of, pair_of, statement_pair, placed_next, LeadsInside, placed_statement, placed_default, Decodes, IsFilled}
+use Rattle.store_placement.specs.Placement.{Places}
+use Rattle.store_placement.specs.Program.{demands_of, pair_of, statement_pair, placed_next, LeadsInside, placed_statement, placed_default, IsFilled}
 use Rattle.store_placement.proofs.Among.{Among, All-among, among_at, among_filter_map, both_true}
 use Rattle.store_placement.proofs.ProgramLemmas.{labelled_below, fallback_is}
 
@@ -65,7 +62,7 @@ among_from_get {X} xs s x here =
 
 -- a next that leads to placed statements has a code
 next_fits : (addresses : List ℕ) (number : ℕ) (next : MalNext) → ((k : ℕ) → k < length addresses → slice_index addresses k < 512) → LeadsInside (length addresses) number next
-  → ((pair : Pair) → pair_of next ≡ Some pair → pair.yes < length addresses × (slice_index addresses pair.yes ≡ slice_index addresses pair.no + 256)) → is_next (placed_next (slice_index addresses) number next) ≡ true
+    → ((pair : Pair) → pair_of next ≡ Some pair → pair.yes < length addresses × (slice_index addresses pair.yes ≡ slice_index addresses pair.no + 256)) → is_next (placed_next (slice_index addresses) number next) ≡ true
 next_fits addresses number nexts.Following in_store inside pairs = lt-ltb (slice_index addresses (number + 1)) 512 (in_store (number + 1) inside)
 next_fits addresses number (nexts.Goto to) in_store inside pairs = lt-ltb (slice_index addresses to) 512 (in_store to inside)
 next_fits addresses number (nexts.Dispatch high) in_store inside pairs = refl
@@ -83,8 +80,8 @@ yes_of None = 0
 yes_of (Some pair) = pair.yes
 
 pair_inside : (p : Program) (addresses : List ℕ) → IsProgram p → Places (demands_of p) addresses → (next : MalNext) → HasTargets p.statements next
-  → ((pair : Pair) → pair_of next ≡ Some pair → Among pair (filter_map statement_pair p.statements ++ option_to_list (option_and_then statement_pair p.fallback)))
-  → (pair : Pair) → pair_of next ≡ Some pair → pair.yes < length addresses × (slice_index addresses pair.yes ≡ slice_index addresses pair.no + 256)
+    → ((pair : Pair) → pair_of next ≡ Some pair → Among pair (filter_map statement_pair p.statements ++ option_to_list (option_and_then statement_pair p.fallback)))
+    → (pair : Pair) → pair_of next ≡ Some pair → pair.yes < length addresses × (slice_index addresses pair.yes ≡ slice_index addresses pair.no + 256)
 unfolding yes_of
 pair_inside p addresses is places nexts.Following has among pair e = cc
 pair_inside p addresses is places (nexts.Goto to) has among pair e = cc
@@ -99,20 +96,20 @@ pub statement_valid : (p : Program) (addresses : List ℕ) → IsProgram p → P
 statement_valid p addresses is places s t here =
     let statement = is.statements s t here in
     both_true (is_part p.machine t.part) (is_next (placed_next (slice_index addresses) s t.next)) statement.part
-      (next_fits addresses s t.next (inside_all p addresses places) (statement_leads p addresses is places s t here)
-        (pair_inside p addresses is places t.next statement.targets (λ pair e.
-          among_left (filter_map statement_pair p.statements) (option_to_list (option_and_then statement_pair p.fallback)) pair
-            (among_filter_map statement_pair p.statements t pair (among_from_get p.statements s t here) e))))
+    (next_fits addresses s t.next (inside_all p addresses places) (statement_leads p addresses is places s t here)
+    (pair_inside p addresses is places t.next statement.targets (λ pair e.
+    among_left (filter_map statement_pair p.statements) (option_to_list (option_and_then statement_pair p.fallback)) pair
+    (among_filter_map statement_pair p.statements t pair (among_from_get p.statements s t here) e))))
 
 pub fallback_valid : (p : Program) (addresses : List ℕ) → IsProgram p → Places (demands_of p) addresses → (t : Statement) → p.fallback ≡ Some t → IsTrue (is_valid p.machine (placed_statement (slice_index addresses) 0 t))
 fallback_valid p addresses is places t here =
     let fallback = fallback_is p is t here in
     both_true (is_part p.machine t.part) (is_next (placed_next (slice_index addresses) 0 t.next)) fallback.part
-      (next_fits addresses 0 t.next (inside_all p addresses places) (fallback_leads p addresses is places t here)
-        (pair_inside p addresses is places t.next fallback.targets (λ pair e.
-          let P : Option Statement → Type 0 = λ o. Among pair (option_to_list (option_and_then statement_pair o)) in
-          let listed : Among pair (option_to_list (statement_pair t)) = subst (λ (o : Option Pair). Among pair (option_to_list o)) (sym e) (inl refl) in
-          among_right (filter_map statement_pair p.statements) (option_to_list (option_and_then statement_pair p.fallback)) pair (subst P (sym here) listed))))
+    (next_fits addresses 0 t.next (inside_all p addresses places) (fallback_leads p addresses is places t here)
+    (pair_inside p addresses is places t.next fallback.targets (λ pair e.
+    let P : Option Statement → Type 0 = λ o. Among pair (option_to_list (option_and_then statement_pair o)) in
+    let listed : Among pair (option_to_list (statement_pair t)) = subst (λ (o : Option Pair). Among pair (option_to_list o)) (sym e) (inl refl) in
+    among_right (filter_map statement_pair p.statements) (option_to_list (option_and_then statement_pair p.fallback)) pair (subst P (sym here) listed))))
 
 -- the statements below `upto` stand at their addresses, and the default at all others
 pub record IsFilledUpTo (p : Program) (addresses words : List ℕ) (upto : ℕ) : Type 0 where
@@ -124,7 +121,7 @@ pub filled_none : (p : Program) (addresses words : List ℕ) (word n : ℕ) → 
 filled_none p addresses words word n size are is = record {
   full = ap length are ∙ (length-replicate n word ∙ size);
   done = λ s t less here. absurd (omega arith);
-  rest = λ a inside free. ap (λ ws. slice_index ws a) are ∙ (get_or-replicate n a word 0 (omega arith) ∙ is)
+  rest = λ a inside free. ap (λ ws. slice_index ws a) are ∙ (get_or-replicate n a word 0 (omega arith) ∙ is);
 }
 
 pub filled_more : (p : Program) (addresses words : List ℕ) (s word : ℕ) (t : Statement) → Places (demands_of p) addresses → slice_get p.statements s ≡ Some t → word ≡ word_of p.machine (placed_statement (slice_index addresses) s t) → IsFilledUpTo p addresses words s → IsFilledUpTo p addresses (set words (slice_index addresses s) word) (s + 1)
@@ -147,9 +144,9 @@ filled_more p addresses words s word t places here is h =
             let below : k < length addresses = let b = slice_get_within p.statements k u here_k in omega arith in
             let apart : slice_index addresses k ≢ slice_index addresses s = λ e. other (places.places.apart k s (let c = places.count in omega arith) (let c = places.count in omega arith) e) in
             get_or-set_other words (slice_index addresses s) (slice_index addresses k) word 0 apart ∙ h.done k u (omega (arith, other)) here_k
-        ];
+      ];
       rest = λ a inside_a free.
-        get_or-set_other words (slice_index addresses s) a word 0 (λ e. free s (omega arith) (sym e)) ∙ h.rest a inside_a (λ k less. free k (omega arith))
+          get_or-set_other words (slice_index addresses s) a word 0 (λ e. free s (omega arith) (sym e)) ∙ h.rest a inside_a (λ k less. free k (omega arith));
     }
 
 pub element_at : {X : Type 0} (xs : List X) (s : ℕ) → s < length xs → (x : X) × (slice_get xs s ≡ Some x)
@@ -161,7 +158,7 @@ pub filled_all : (p : Program) (addresses words : List ℕ) → IsProgram p → 
 filled_all p addresses words is places valid h = record {
   statements = λ s t here. record {
     valid = statement_valid p addresses is places s t here;
-    whole = sym (h.done s t (slice_get_within p.statements s t here) here)
+    whole = sym (h.done s t (slice_get_within p.statements s t here) here);
   };
-  others = λ a inside free. record { valid = valid; whole = sym (h.rest a inside free) }
+  others = λ a inside free. record { valid = valid; whole = sym (h.rest a inside free) };
 }

@@ -1,13 +1,13 @@
 -- What forces a statement to its address.
-use Rattle.std.proofs.Common.{◌≡◌, ℕ, ◌+◌, ◌-◌, ◌<◌, ◌≤◌, Bool, true, false, cond, ◌⊎◌, List, [], ◌∷◌, Option, Some, None, length, eqb, refl, sym, ap, subst, ◌∙◌, inl, inr, arith}
+use Rattle.std.proofs.Common.{◌≡◌, ℕ, ◌+◌, ◌-◌, true, false, cond, ◌⊎◌, List, [], ◌∷◌, Option, Some, None, eqb, refl, sym, ap, ◌∙◌, inl, inr}
 use Rattle.std.specs.Option.{option_or, option_map}
-use Rattle.std.proofs.lemmas.Bool.{eqb-true, eq-eqb, ne_eqb, cases_eq}
+use Rattle.std.proofs.lemmas.Bool.{eqb-true, eq-eqb, ne_eqb}
 use Rattle.store_placement.specs.declared.pair.Pair.{Pair}
 use Rattle.store_placement.specs.Demands.{fixed_at}
 use Rattle.store_placement.specs.Refusals.{stands_in}
 use Rattle.store_placement.specs.Forced.{given_by, given, forced}
 use Rattle.store_placement.proofs.Among.{Among, left_or, right_or}
-use Rattle.store_placement.proofs.ClearPairs.{AreClear, stands_cases, stands_yes, stands_no, one_pair, one_role}
+use Rattle.store_placement.proofs.ClearPairs.{AreClear, stands_cases, one_pair, one_role}
 
 -- its own address, or one 256 above or below its partner's
 pub data IsForcedBy (fixed : List (Option ℕ)) (pairs : List Pair) (s a : ℕ) : Type 0 where
@@ -27,16 +27,16 @@ given_by_cases fixed s p a e =
     elim (eqb p.yes s) as (λ t. eqb p.yes s ≡ t → cond t (option_map (λ c. c + 256) (fixed_at fixed p.no)) (cond (eqb p.no s) (option_map (λ c. c - 256) (fixed_at fixed p.yes)) None) ≡ Some a → ((p.yes ≡ s) × ((b : ℕ) × (fixed_at fixed p.no ≡ Some b) × (a ≡ b + 256))) ⊎ ((p.no ≡ s) × ((b : ℕ) × (fixed_at fixed p.yes ≡ Some b) × (a ≡ b - 256)))) [
       | true ↦ λ is h. inl (eqb-true p.yes s is, option_map_some (λ c. c + 256) (fixed_at fixed p.no) a h)
       | false ↦ λ is. elim (eqb p.no s) as (λ t. eqb p.no s ≡ t → cond t (option_map (λ c. c - 256) (fixed_at fixed p.yes)) None ≡ Some a → ((p.yes ≡ s) × ((b : ℕ) × (fixed_at fixed p.no ≡ Some b) × (a ≡ b + 256))) ⊎ ((p.no ≡ s) × ((b : ℕ) × (fixed_at fixed p.yes ≡ Some b) × (a ≡ b - 256)))) [
-          | true ↦ λ is_low h. inr (eqb-true p.no s is_low, option_map_some (λ c. c - 256) (fixed_at fixed p.yes) a h)
-          | false ↦ λ is_low h. cc
-          ] refl
-      ] refl e
+        | true ↦ λ is_low h. inr (eqb-true p.no s is_low, option_map_some (λ c. c - 256) (fixed_at fixed p.yes) a h)
+        | false ↦ λ is_low h. cc
+      ] refl
+    ] refl e
 
 given_by_stands : (fixed : List (Option ℕ)) (s : ℕ) (p : Pair) (a : ℕ) → given_by fixed s p ≡ Some a → stands_in s p ≡ true
 given_by_stands fixed s p a e = elim (given_by_cases fixed s p a e) [
   | inl high ↦ left_or (eqb p.yes s) (eqb p.no s) (eq-eqb p.yes s high.0)
   | inr low ↦ right_or (eqb p.yes s) (eqb p.no s) (eq-eqb p.no s low.0)
-  ]
+]
 
 given_some : (fixed : List (Option ℕ)) (s : ℕ) (pairs : List Pair) (a : ℕ) → given fixed s pairs ≡ Some a → (p : Pair) × Among p pairs × (given_by fixed s p ≡ Some a)
 given_some fixed s [] a e = cc
@@ -44,7 +44,7 @@ given_some fixed s (q ∷ pairs) a e =
     elim (given_by fixed s q) as (λ o. given_by fixed s q ≡ o → option_or o (given fixed s pairs) ≡ Some a → (p : Pair) × Among p (q ∷ pairs) × (given_by fixed s p ≡ Some a)) [
       | None ↦ λ is h. let r = given_some fixed s pairs a h in (r.0, inr r.1, r.2)
       | Some b ↦ λ is h. (q, inl refl, is ∙ h)
-      ] refl e
+    ] refl e
 
 given_none : (fixed : List (Option ℕ)) (s : ℕ) (pairs : List Pair) → given fixed s pairs ≡ None → (p : Pair) → Among p pairs → given_by fixed s p ≡ None
 given_none fixed s [] e p among = absurd among
@@ -52,7 +52,7 @@ given_none fixed s (q ∷ pairs) e p among =
     elim (given_by fixed s q) as (λ o. given_by fixed s q ≡ o → option_or o (given fixed s pairs) ≡ None → given_by fixed s p ≡ None) [
       | None ↦ λ is h. elim among [ inl here ↦ ap (given_by fixed s) here ∙ is | inr later ↦ given_none fixed s pairs h p later ]
       | Some b ↦ λ is h. cc
-      ] refl e
+    ] refl e
 
 given_nothing : (fixed : List (Option ℕ)) (s : ℕ) (pairs : List Pair) → ((p : Pair) → Among p pairs → given_by fixed s p ≡ None) → given fixed s pairs ≡ None
 given_nothing fixed s [] h = refl
@@ -63,11 +63,11 @@ unfolding forced
 forced_cases fixed pairs s a e =
     elim (fixed_at fixed s) as (λ o. fixed_at fixed s ≡ o → option_or o (given fixed s pairs) ≡ Some a → IsForcedBy fixed pairs s a) [
       | None ↦ λ is h. let r = given_some fixed s pairs a h in elim (given_by_cases fixed s r.0 a r.2) [
-          | inl high ↦ Above r.0 high.1.0 is r.1 high.0 high.1.1 high.1.2
-          | inr low ↦ Under r.0 low.1.0 is r.1 low.0 low.1.1 low.1.2
-          ]
+        | inl high ↦ Above r.0 high.1.0 is r.1 high.0 high.1.1 high.1.2
+        | inr low ↦ Under r.0 low.1.0 is r.1 low.0 low.1.1 low.1.2
+      ]
       | Some b ↦ λ is h. Own (is ∙ h)
-      ] refl e
+    ] refl e
 
 pub forced_own : (fixed : List (Option ℕ)) (pairs : List Pair) (s a : ℕ) → fixed_at fixed s ≡ Some a → forced fixed pairs s ≡ Some a
 unfolding forced
@@ -79,7 +79,7 @@ own_none fixed pairs s e =
     elim (fixed_at fixed s) as (λ o. option_or o (given fixed s pairs) ≡ None → o ≡ None) [
       | None ↦ λ h. refl
       | Some b ↦ λ h. cc
-      ] e
+    ] e
 
 -- a statement that stands in one pair is given what that pair gives it
 given_is : {fixed : List (Option ℕ)} {pairs : List Pair} → AreClear fixed pairs → (s : ℕ) (p : Pair) (a : ℕ) → Among p pairs → given_by fixed s p ≡ Some a → given fixed s pairs ≡ Some a
@@ -90,7 +90,7 @@ given_is {fixed} {pairs} c s p a among is =
           let r = given_some fixed s pairs b e in
           let same : r.0 ≡ p = one_pair c s r.0 p r.1 among (given_by_stands fixed s r.0 b r.2) (given_by_stands fixed s p a is) in
           sym r.2 ∙ (ap (given_by fixed s) same ∙ is)
-      ] refl
+    ] refl
 
 pub forced_above : {fixed : List (Option ℕ)} {pairs : List Pair} → AreClear fixed pairs → (p : Pair) (b : ℕ) → Among p pairs → fixed_at fixed p.yes ≡ None → fixed_at fixed p.no ≡ Some b → forced fixed pairs p.yes ≡ Some (b + 256)
 unfolding forced
@@ -110,19 +110,23 @@ pub partner_none : {fixed : List (Option ℕ)} {pairs : List Pair} → AreClear 
 partner_none {fixed} {pairs} c s p among stands e = elim (stands_cases s p stands) [
   | inl high ↦
       let unforced : forced fixed pairs p.yes ≡ None = ap (forced fixed pairs) high ∙ e in
-      let unfixed = own_none fixed pairs p.yes unforced in
-      (unfixed, elim (fixed_at fixed p.no) as (λ o. fixed_at fixed p.no ≡ o → o ≡ None) [
-        | None ↦ λ is. refl
-        | Some b ↦ λ is. let wrong : Some (b + 256) ≡ None = sym (forced_above c p b among unfixed is) ∙ unforced in cc
-        ] refl)
+      let unfixed = own_none fixed pairs p.yes unforced in (
+        unfixed,
+        elim (fixed_at fixed p.no) as (λ o. fixed_at fixed p.no ≡ o → o ≡ None) [
+          | None ↦ λ is. refl
+          | Some b ↦ λ is. let wrong : Some (b + 256) ≡ None = sym (forced_above c p b among unfixed is) ∙ unforced in cc
+        ] refl,
+      )
   | inr low ↦
       let unforced : forced fixed pairs p.no ≡ None = ap (forced fixed pairs) low ∙ e in
-      let unfixed = own_none fixed pairs p.no unforced in
-      (elim (fixed_at fixed p.yes) as (λ o. fixed_at fixed p.yes ≡ o → o ≡ None) [
-        | None ↦ λ is. refl
-        | Some b ↦ λ is. let wrong : Some (b - 256) ≡ None = sym (forced_under c p b among unfixed is) ∙ unforced in cc
-        ] refl, unfixed)
-  ]
+      let unfixed = own_none fixed pairs p.no unforced in (
+        elim (fixed_at fixed p.yes) as (λ o. fixed_at fixed p.yes ≡ o → o ≡ None) [
+          | None ↦ λ is. refl
+          | Some b ↦ λ is. let wrong : Some (b - 256) ≡ None = sym (forced_under c p b among unfixed is) ∙ unforced in cc
+        ] refl,
+        unfixed,
+      )
+]
 
 -- a statement without a fixed address, all of whose pairs are without, is forced to none
 pub forced_none : (fixed : List (Option ℕ)) (pairs : List Pair) (s : ℕ) → fixed_at fixed s ≡ None → ((p : Pair) → Among p pairs → stands_in s p ≡ true → (fixed_at fixed p.yes ≡ None) × (fixed_at fixed p.no ≡ None)) → forced fixed pairs s ≡ None
@@ -135,5 +139,5 @@ forced_none fixed pairs s unfixed h = rw unfixed (given_nothing fixed s pairs (�
           elim (given_by_cases fixed s p b is) [
             | inl high ↦ let wrong : Some high.1.0 ≡ None = sym high.1.1 ∙ nothing.1 in cc
             | inr low ↦ let wrong : Some low.1.0 ≡ None = sym low.1.1 ∙ nothing.0 in cc
-            ]
-      ] refl))
+          ]
+    ] refl))

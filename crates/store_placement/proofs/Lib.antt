@@ -4,11 +4,14 @@ pub mod Below
 pub mod ChosenPlacement
 pub mod Choice
 pub mod ClearPairs
+pub mod Different
 pub mod FillingLemmas
 pub mod ForcedBy
 pub mod ForcedLemmas
+pub mod ListedLemmas
 pub mod NoPlacement
 pub mod OneRefusal
 pub mod OpenPairs
 pub mod ProgramLemmas
 pub mod StepsLemmas
+pub mod StoreFileLemmas

@@ -1,21 +1,20 @@
 -- Where constraints are refused, there is no placement.
-use Rattle.std.proofs.Common.{◌≡◌, ◌≢◌, ℕ, ◌+◌, ◌-◌, ◌<◌, ◌≤◌, Bool, true, false, cond, not, ◌&&◌, ◌||◌, ◌⊎◌, List, [], ◌∷◌, Option, Some, None, length, map, eqb, ltb, refl, sym, ap, subst, ◌∙◌, inl, inr, arith}
-use Rattle.std.specs.List.{list_any}
+use Rattle.std.proofs.Common.{◌≡◌, ◌≢◌, ℕ, ◌+◌, ◌<◌, ◌≤◌, Bool, true, false, cond, not, ◌&&◌, List, Option, Some, None, length, map, eqb, ltb, refl, sym, ap, subst, ◌∙◌, inl, inr, arith}
 use Rattle.std.proofs.lemmas.Bool.{eqb-true, eqb-false, eq-eqb, ltb-true, ltb-false, false_from_ne_true}
 use Rattle.std.proofs.lemmas.List.{length-map}
 use Rattle.store_placement.specs.declared.pair.Pair.{Pair}
 use Rattle.store_placement.specs.declared.refusal.PlaceError.{PlaceError}
 use Rattle.store_placement.specs.declared.refusal.PlaceError.TheVariants as errors
-use Rattle.store_placement.specs.Demands.{Demands, AreWithin, IsOfStatements, fixed_at}
-use Rattle.store_placement.specs.First.{below, IsFirst, IsFirstWith, IsFirstTwo}
+use Rattle.store_placement.specs.Demands.{Demands, AreWithin, fixed_at, same_pair}
+use Rattle.store_placement.specs.First.{below}
 use Rattle.store_placement.specs.Forced.{forced, all_forced, same_address}
-use Rattle.store_placement.specs.Refusals.{same_pair, stands_in, stands_beside, stands_twice, clashes, in_wrong_half, is_wrong, is_true_target, is_false_target, is_pair_of, are_split, split_apart, collide, Refuses}
+use Rattle.store_placement.specs.Refusals.{stands_in, stands_beside, stands_twice, clashes, in_wrong_half, is_wrong, is_true_target, is_false_target, is_pair_of, are_split, split_apart, collide, Refuses}
 use Rattle.store_placement.specs.Chosen.{is_taken, is_free_low, free_lows, open_pairs}
 use Rattle.store_placement.specs.Placement.{IsPlacement, HasPlacement}
-use Rattle.store_placement.proofs.Among.{Among, All-among, from_any, any_none, true_left, true_right, either, among-map, among-below, among_below, among_filter}
+use Rattle.store_placement.proofs.Among.{Among, All-among, from_any, true_left, true_right, either, among-map, among-below, among_below, among_filter}
 use Rattle.store_placement.proofs.Apart.{Apart, Apart-map, length-le_from_among}
 use Rattle.store_placement.proofs.ClearPairs.{AreClear, of_statements, stands_cases, stands_yes, stands_no, pair_is}
-use Rattle.store_placement.proofs.ForcedBy.{IsForcedBy, Own, Above, Under, forced_cases}
+use Rattle.store_placement.proofs.ForcedBy.{Own, Above, Under, forced_cases}
 use Rattle.store_placement.proofs.OpenPairs.{IsOpen, AreDisjoint, Apart-open, open_from, open_unforced}
 
 -- what a pair says of its targets' addresses
@@ -38,20 +37,20 @@ same_from_pairs {d} {address} within is s p q in_p in_q stands_p stands_q =
     let f = paired is q in_q in
     elim (stands_cases s p stands_p) [
       | inl high ↦ elim (stands_cases s q stands_q) [
-          | inl high_too ↦
-              let same : p.yes ≡ q.yes = high ∙ sym high_too in
-              let same_at = ap address same in
-              pair_is p q same (is.apart p.no q.no of_p.1 of_q.1 (omega arith))
-          | inr low_too ↦ absurd (no_both within is p q in_p in_q (high ∙ sym low_too))
-          ]
-      | inr low_one ↦ elim (stands_cases s q stands_q) [
-          | inl high_too ↦ absurd (no_both within is q p in_q in_p (high_too ∙ sym low_one))
-          | inr low_too ↦
-              let same : p.no ≡ q.no = low_one ∙ sym low_too in
-              let same_at = ap address same in
-              pair_is p q (is.apart p.yes q.yes of_p.0 of_q.0 (omega arith)) same
-          ]
+        | inl high_too ↦
+            let same : p.yes ≡ q.yes = high ∙ sym high_too in
+            let same_at = ap address same in
+            pair_is p q same (is.apart p.no q.no of_p.1 of_q.1 (omega arith))
+        | inr low_too ↦ absurd (no_both within is p q in_p in_q (high ∙ sym low_too))
       ]
+      | inr low_one ↦ elim (stands_cases s q stands_q) [
+        | inl high_too ↦ absurd (no_both within is q p in_q in_p (high_too ∙ sym low_one))
+        | inr low_too ↦
+            let same : p.no ≡ q.no = low_one ∙ sym low_too in
+            let same_at = ap address same in
+            pair_is p q (is.apart p.yes q.yes of_p.0 of_q.0 (omega arith)) same
+      ]
+    ]
 
 not_true : (b : Bool) → not b ≡ true → b ≡ false
 not_true true h = cc
@@ -62,7 +61,7 @@ not_same_pair p q same h =
     let both : same_pair p q ≡ true = rw (eq-eqb p.yes q.yes (ap (λ (r : Pair). r.yes) same), eq-eqb p.no q.no (ap (λ (r : Pair). r.no) same)) refl in
     let wrong : true ≡ false = sym both ∙ h in cc
 
-no_clash : {d : Demands} {address : ℕ → ℕ} → AreWithin d.fixed d.pairs → IsPlacement d address → (s : ℕ) → clashes d.pairs s ≡ true → ⊥
+pub no_clash : {d : Demands} {address : ℕ → ℕ} → AreWithin d.fixed d.pairs → IsPlacement d address → (s : ℕ) → clashes d.pairs s ≡ true → ⊥
 unfolding clashes stands_twice
 no_clash {d} {address} within is s h = elim (either (stands_twice d.pairs s) (is_true_target d.pairs s && is_false_target d.pairs s) h) [
   | inl twice ↦
@@ -76,7 +75,7 @@ no_clash {d} {address} within is s h = elim (either (stands_twice d.pairs s) (is
       let p = from_any (λ r. eqb r.yes s) d.pairs (true_left (is_true_target d.pairs s) (is_false_target d.pairs s) both) in
       let q = from_any (λ r. eqb r.no s) d.pairs (true_right (is_true_target d.pairs s) (is_false_target d.pairs s) both) in
       no_both within is p.0 q.0 p.1 q.1 (eqb-true p.0.yes s p.2 ∙ sym (eqb-true q.0.no s q.2))
-  ]
+]
 
 no_wrong_half : {d : Demands} {address : ℕ → ℕ} → AreWithin d.fixed d.pairs → IsPlacement d address → (s : ℕ) → in_wrong_half d.fixed d.pairs s ≡ true → ⊥
 unfolding in_wrong_half
@@ -84,20 +83,20 @@ no_wrong_half {d} {address} within is s h =
     elim (fixed_at d.fixed s) as (λ o. fixed_at d.fixed s ≡ o → is_wrong d.pairs s o ≡ true → ⊥) [
       | None ↦ λ e wrong. cc
       | Some a ↦ λ e. let kept = is.keeps_fixed s a e in elim (ltb a 256) as (λ b. ltb a 256 ≡ b → cond b (is_true_target d.pairs s) (is_false_target d.pairs s) ≡ true → ⊥) [
-          | true ↦ λ less target.
-              let p = from_any (λ r. eqb r.yes s) d.pairs target in
-              let same_at = ap address (eqb-true p.0.yes s p.2) in
-              let high = paired is p.0 p.1 in
-              let small = ltb-true a 256 less in
-              absurd (omega arith)
-          | false ↦ λ more target.
-              let p = from_any (λ r. eqb r.no s) d.pairs target in
-              let same_at = ap address (eqb-true p.0.no s p.2) in
-              let small = low within is p.0 p.1 in
-              let large = ltb-false a 256 more in
-              absurd (omega arith)
-          ] refl
-      ] refl h
+        | true ↦ λ less target.
+            let p = from_any (λ r. eqb r.yes s) d.pairs target in
+            let same_at = ap address (eqb-true p.0.yes s p.2) in
+            let high = paired is p.0 p.1 in
+            let small = ltb-true a 256 less in
+            absurd (omega arith)
+        | false ↦ λ more target.
+            let p = from_any (λ r. eqb r.no s) d.pairs target in
+            let same_at = ap address (eqb-true p.0.no s p.2) in
+            let small = low within is p.0 p.1 in
+            let large = ltb-false a 256 more in
+            absurd (omega arith)
+      ] refl
+    ] refl h
 
 -- a placement keeps forced addresses
 pub keeps_forced : {d : Demands} {address : ℕ → ℕ} → IsPlacement d address → (s a : ℕ) → forced d.fixed d.pairs s ≡ Some a → address s ≡ a
@@ -107,7 +106,7 @@ keeps_forced {d} {address} is s a e = elim (forced_cases d.fixed d.pairs s a e) 
       let at_no = is.keeps_fixed p.no b fixed in let pair = paired is p among in let at_s = ap address same in omega arith
   | Under p b unfixed among same fixed sum ↦
       let at_yes = is.keeps_fixed p.yes b fixed in let pair = paired is p among in let at_s = ap address same in omega arith
-  ]
+]
 
 both_some : (x y : Option ℕ) → same_address x y ≡ true → (a : ℕ) × (x ≡ Some a) × (y ≡ Some a)
 both_some None y h = cc
@@ -133,7 +132,7 @@ no_collision {d} {address} is s t less inside h = elim (either (same_address (fo
       let at_no = is.keeps_fixed p.0.no r.1 r.3 in
       let pair = paired is p.0 p.1 in
       r.4 (omega arith)
-  ]
+]
 
 -- what is taken by forced addresses
 pub taken_from : (fixed : List (Option ℕ)) (pairs : List Pair) (a : ℕ) → is_taken (all_forced fixed pairs) a ≡ true → (s : ℕ) × (s < length fixed) × (forced fixed pairs s ≡ Some a)
@@ -148,10 +147,10 @@ taken_from fixed pairs a h =
 free_at : {d : Demands} {address : ℕ → ℕ} → AreClear d.fixed d.pairs → IsPlacement d address → (p : Pair) → IsOpen d.fixed d.pairs p → (s : ℕ) → stands_in s p ≡ true → s < length d.fixed → is_taken (all_forced d.fixed d.pairs) (address s) ≡ false
 free_at {d} {address} c is p left s stands inside =
     false_from_ne_true (is_taken (all_forced d.fixed d.pairs) (address s)) (λ taken.
-      let t = taken_from d.fixed d.pairs (address s) taken in
-      let same : t.0 ≡ s = is.apart t.0 s t.1 inside (keeps_forced is t.0 (address s) t.2) in
-      let wrong : None ≡ Some (address s) = sym (open_unforced c p left s stands) ∙ (ap (forced d.fixed d.pairs) (sym same) ∙ t.2) in
-      cc)
+    let t = taken_from d.fixed d.pairs (address s) taken in
+    let same : t.0 ≡ s = is.apart t.0 s t.1 inside (keeps_forced is t.0 (address s) t.2) in
+    let wrong : None ≡ Some (address s) = sym (open_unforced c p left s stands) ∙ (ap (forced d.fixed d.pairs) (sym same) ∙ t.2) in
+    cc)
 
 room : {d : Demands} {address : ℕ → ℕ} → AreClear d.fixed d.pairs → IsPlacement d address → length (open_pairs d.fixed d.pairs) ≤ length (free_lows (all_forced d.fixed d.pairs))
 unfolding free_lows
@@ -160,19 +159,19 @@ room {d} {address} c is =
     let lows = free_lows (all_forced d.fixed d.pairs) in
     let low_of : Pair → ℕ = λ p. address p.no in
     let apart : Apart ◌≢◌ (map low_of pairs) = Apart-map AreDisjoint ◌≢◌ low_of pairs (λ p q in_p in_q disjoint same.
-          let of_p = of_statements c.within p (open_from d.fixed d.pairs p in_p).among in
-          let of_q = of_statements c.within q (open_from d.fixed d.pairs q in_q).among in
-          disjoint.no_no (is.apart p.no q.no of_p.1 of_q.1 same)) (Apart-open c) in
+    let of_p = of_statements c.within p (open_from d.fixed d.pairs p in_p).among in
+    let of_q = of_statements c.within q (open_from d.fixed d.pairs q in_q).among in
+    disjoint.no_no (is.apart p.no q.no of_p.1 of_q.1 same)) (Apart-open c) in
     let inside : (q : ℕ) → Among q (map low_of pairs) → Among q lows = λ q among.
-          let r = among-map low_of pairs q among in
-          let left = open_from d.fixed d.pairs r.0 r.1 in
-          let of = of_statements c.within r.0 left.among in
-          let at_no : is_taken (all_forced d.fixed d.pairs) (address r.0.no) ≡ false = free_at c is r.0 left r.0.no (stands_no r.0) of.1 in
-          let at_yes : is_taken (all_forced d.fixed d.pairs) (address r.0.no + 256) ≡ false =
-                ap (is_taken (all_forced d.fixed d.pairs)) (sym (paired is r.0 left.among)) ∙ free_at c is r.0 left r.0.yes (stands_yes r.0) of.0 in
-          let passes : is_free_low (all_forced d.fixed d.pairs) (address r.0.no) ≡ true = rw (at_no, at_yes) refl in
-          let P : ℕ → Type 0 = λ a. Among a lows in
-          subst P (sym r.2) (among_filter (is_free_low (all_forced d.fixed d.pairs)) (below 256) (address r.0.no) (among_below 256 (address r.0.no) (low c.within is r.0 left.among)) passes) in
+    let r = among-map low_of pairs q among in
+    let left = open_from d.fixed d.pairs r.0 r.1 in
+    let of = of_statements c.within r.0 left.among in
+    let at_no : is_taken (all_forced d.fixed d.pairs) (address r.0.no) ≡ false = free_at c is r.0 left r.0.no (stands_no r.0) of.1 in
+    let at_yes : is_taken (all_forced d.fixed d.pairs) (address r.0.no + 256) ≡ false =
+    ap (is_taken (all_forced d.fixed d.pairs)) (sym (paired is r.0 left.among)) ∙ free_at c is r.0 left r.0.yes (stands_yes r.0) of.0 in
+    let passes : is_free_low (all_forced d.fixed d.pairs) (address r.0.no) ≡ true = rw (at_no, at_yes) refl in
+    let P : ℕ → Type 0 = λ a. Among a lows in
+    subst P (sym r.2) (among_filter (is_free_low (all_forced d.fixed d.pairs)) (below 256) (address r.0.no) (among_below 256 (address r.0.no) (low c.within is r.0 left.among)) passes) in
     let at_most = length-le_from_among (map low_of pairs) lows apart inside in
     simp length-map at at_most
 

@@ -1,10 +1,10 @@
 -- Constraints have one refusal at most.
-use Rattle.std.proofs.Common.{◌≡◌, ℕ, ◌+◌, ◌<◌, ◌≤◌, Bool, true, false, length, refl, sym, ap, ◌∙◌, inl, inr, arith}
+use Rattle.std.proofs.Common.{◌≡◌, ℕ, Bool, true, false, refl, sym, ap, ◌∙◌, inl, inr, arith}
 use Rattle.std.proofs.lemmas.Bool.{cases_lt}
 use Rattle.store_placement.specs.declared.refusal.PlaceError.{PlaceError}
 use Rattle.store_placement.specs.declared.refusal.PlaceError.TheVariants as errors
 use Rattle.store_placement.specs.Demands.{Demands}
-use Rattle.store_placement.specs.First.{Never, IsFirst, NeverWith, IsFirstWith, NeverTwo, IsFirstTwo}
+use Rattle.store_placement.specs.First.{Never, IsFirst, NeverTwo, IsFirstTwo}
 use Rattle.store_placement.specs.Refusals.{Refuses}
 
 contradict : (b : Bool) {X : Type 0} → b ≡ true → b ≡ false → X
@@ -17,10 +17,10 @@ first_same : {test : ℕ → Bool} {n s t : ℕ} → IsFirst test n s → IsFirs
 first_same {test} {n} {s} {t} by_s by_t = elim (cases_lt s t) [
   | inl less ↦ contradict (test s) by_s.passes (by_t.lowest s less)
   | inr more ↦ elim (cases_lt t s) [
-      | inl less ↦ contradict (test t) by_t.passes (by_s.lowest t less)
-      | inr equal ↦ omega arith
-      ]
+    | inl less ↦ contradict (test t) by_t.passes (by_s.lowest t less)
+    | inr equal ↦ omega arith
   ]
+]
 
 never_two : {test : ℕ → ℕ → Bool} {n s t : ℕ} {X : Type 0} → NeverTwo test n → IsFirstTwo test n s t → X
 never_two {test} {n} {s} {t} never first = contradict (test s t) first.first.passes (never s t first.first.ordered first.first.inside)
@@ -28,19 +28,21 @@ never_two {test} {n} {s} {t} never first = contradict (test s t) first.first.pas
 two_same : {test : ℕ → ℕ → Bool} {n s t u v : ℕ} → IsFirstTwo test n s t → IsFirstTwo test n u v → (s ≡ u) × (t ≡ v)
 two_same {test} {n} {s} {t} {u} {v} by_s by_u =
     let same : s ≡ u = elim (cases_lt s u) [
-          | inl less ↦ contradict (test s t) by_s.first.passes (by_u.lowest s less t by_s.first.ordered by_s.first.inside)
-          | inr more ↦ elim (cases_lt u s) [
-              | inl less ↦ contradict (test u v) by_u.first.passes (by_s.lowest u less v by_u.first.ordered by_u.first.inside)
-              | inr equal ↦ omega arith
-              ]
-          ] in
-    (same, elim (cases_lt t v) [
-      | inl less ↦ contradict (test s t) by_s.first.passes (ap (λ w. test w t) same ∙ by_u.first.lowest t (let o = by_s.first.ordered in omega arith) less)
-      | inr more ↦ elim (cases_lt v t) [
+      | inl less ↦ contradict (test s t) by_s.first.passes (by_u.lowest s less t by_s.first.ordered by_s.first.inside)
+      | inr more ↦ elim (cases_lt u s) [
+        | inl less ↦ contradict (test u v) by_u.first.passes (by_s.lowest u less v by_u.first.ordered by_u.first.inside)
+        | inr equal ↦ omega arith
+      ]
+    ] in (
+      same,
+      elim (cases_lt t v) [
+        | inl less ↦ contradict (test s t) by_s.first.passes (ap (λ w. test w t) same ∙ by_u.first.lowest t (let o = by_s.first.ordered in omega arith) less)
+        | inr more ↦ elim (cases_lt v t) [
           | inl less ↦ contradict (test u v) by_u.first.passes (ap (λ w. test w v) (sym same) ∙ by_s.first.lowest v (let o = by_u.first.ordered in omega arith) less)
           | inr equal ↦ omega arith
-          ]
-      ])
+        ]
+      ],
+    )
 
 pub one_refusal : (d : Demands) (e f : PlaceError) → Refuses d e → Refuses d f → e ≡ f
 one_refusal d (errors.PairClash s) (errors.PairClash t) by_e by_f = ap errors.PairClash (first_same by_e by_f)

@@ -1,16 +1,15 @@
 -- The pairs that no fixed statement places.
-use Rattle.std.proofs.Common.{◌≡◌, ◌≢◌, ℕ, ◌+◌, ◌<◌, ◌≤◌, min, Bool, true, false, cond, ◌&&◌, ◌⊎◌, List, [], ◌∷◌, Option, Some, None, length, map, eqb, refl, sym, ap, subst, ◌∙◌, inl, inr, arith}
+use Rattle.std.proofs.Common.{◌≡◌, ◌≢◌, ℕ, ◌<◌, min, true, ◌&&◌, List, Option, Some, None, length, eqb, refl, sym, ap, ◌∙◌, inl, inr, arith}
 use Rattle.std.specs.Prelude.{is_none}
-use Rattle.std.specs.List.{filter_map, find}
 use Rattle.std.proofs.lemmas.Bool.{eqb-true, eq-eqb, cases_lt}
 use Rattle.store_placement.specs.declared.pair.Pair.{Pair}
-use Rattle.store_placement.specs.Demands.{AreWithin, IsOfStatements, fixed_at}
+use Rattle.store_placement.specs.Demands.{fixed_at}
 use Rattle.store_placement.specs.First.{below}
 use Rattle.store_placement.specs.Refusals.{stands_in}
 use Rattle.store_placement.specs.Forced.{forced}
 use Rattle.store_placement.specs.Chosen.{is_opened_by, opened_by, open_pairs}
-use Rattle.store_placement.proofs.Among.{Among, true_left, true_right, both_true, left_or, right_or, among-filter_map, among_filter_map, among-below, among_below, found, find_some}
-use Rattle.store_placement.proofs.Apart.{Apart, Apart-below, Apart-filter_map, Apart-weaker}
+use Rattle.store_placement.proofs.Among.{Among, true_left, true_right, left_or, right_or, among-filter_map, among_filter_map, among_below, found, find_some}
+use Rattle.store_placement.proofs.Apart.{Apart, Apart-below, Apart-filter_map}
 use Rattle.store_placement.proofs.ClearPairs.{AreClear, of_statements, stands_cases, stands_yes, stands_no, one_pair, one_role}
 use Rattle.store_placement.proofs.ForcedBy.{forced_none}
 
@@ -28,12 +27,14 @@ opened : (fixed : List (Option ℕ)) (pairs : List Pair) (s : ℕ) (p : Pair) �
 opened fixed pairs s p e =
     let r = found (is_opened_by fixed s) pairs p e in
     let lower = true_left (eqb (min p.yes p.no) s) (is_none (fixed_at fixed p.yes) && is_none (fixed_at fixed p.no)) r.1 in
-    let unfixed = true_right (eqb (min p.yes p.no) s) (is_none (fixed_at fixed p.yes) && is_none (fixed_at fixed p.no)) r.1 in
-    (record {
-      among = r.0;
-      yes_free = none_is (fixed_at fixed p.yes) (true_left (is_none (fixed_at fixed p.yes)) (is_none (fixed_at fixed p.no)) unfixed);
-      no_free = none_is (fixed_at fixed p.no) (true_right (is_none (fixed_at fixed p.yes)) (is_none (fixed_at fixed p.no)) unfixed)
-    }, eqb-true (min p.yes p.no) s lower)
+    let unfixed = true_right (eqb (min p.yes p.no) s) (is_none (fixed_at fixed p.yes) && is_none (fixed_at fixed p.no)) r.1 in (
+      record {
+        among = r.0;
+        yes_free = none_is (fixed_at fixed p.yes) (true_left (is_none (fixed_at fixed p.yes)) (is_none (fixed_at fixed p.no)) unfixed);
+        no_free = none_is (fixed_at fixed p.no) (true_right (is_none (fixed_at fixed p.yes)) (is_none (fixed_at fixed p.no)) unfixed);
+      },
+      eqb-true (min p.yes p.no) s lower,
+    )
 
 pub open_from : (fixed : List (Option ℕ)) (pairs : List Pair) (p : Pair) → Among p (open_pairs fixed pairs) → IsOpen fixed pairs p
 unfolding open_pairs
@@ -45,7 +46,7 @@ lower_stands : (p : Pair) (s : ℕ) → min p.yes p.no ≡ s → stands_in s p �
 lower_stands p s e = elim (cases_lt p.no p.yes) [
   | inl less ↦ right_or (eqb p.yes s) (eqb p.no s) (eq-eqb p.no s (omega arith))
   | inr more ↦ left_or (eqb p.yes s) (eqb p.no s) (eq-eqb p.yes s (omega arith))
-  ]
+]
 
 pub among_open : {fixed : List (Option ℕ)} {pairs : List Pair} → AreClear fixed pairs → (p : Pair) → IsOpen fixed pairs p → Among p (open_pairs fixed pairs)
 unfolding open_pairs
@@ -69,15 +70,15 @@ pub Apart-open : {fixed : List (Option ℕ)} {pairs : List Pair} → AreClear fi
 unfolding open_pairs
 Apart-open {fixed} {pairs} c =
     Apart-filter_map ◌<◌ AreDisjoint (opened_by fixed pairs) (λ s t p q less is_p is_q.
-      let in_p = opened fixed pairs s p is_p in
-      let in_q = opened fixed pairs t q is_q in
-      let differ : p ≡ q → ⊥ = λ same. let e : s ≡ t = sym in_p.1 ∙ (ap (λ (r : Pair). min r.yes r.no) same ∙ in_q.1) in omega arith in
-      record {
-        yes_yes = λ e. differ (one_pair c p.yes p q in_p.0.among in_q.0.among (stands_yes p) (left_or (eqb q.yes p.yes) (eqb q.no p.yes) (eq-eqb q.yes p.yes (sym e))));
-        yes_no = λ e. one_role c p q in_p.0.among in_q.0.among e;
-        no_yes = λ e. one_role c q p in_q.0.among in_p.0.among (sym e);
-        no_no = λ e. differ (one_pair c p.no p q in_p.0.among in_q.0.among (stands_no p) (right_or (eqb q.yes p.no) (eqb q.no p.no) (eq-eqb q.no p.no (sym e))))
-      }) (below (length fixed)) (Apart-below (length fixed))
+    let in_p = opened fixed pairs s p is_p in
+    let in_q = opened fixed pairs t q is_q in
+    let differ : p ≡ q → ⊥ = λ same. let e : s ≡ t = sym in_p.1 ∙ (ap (λ (r : Pair). min r.yes r.no) same ∙ in_q.1) in omega arith in
+    record {
+      yes_yes = λ e. differ (one_pair c p.yes p q in_p.0.among in_q.0.among (stands_yes p) (left_or (eqb q.yes p.yes) (eqb q.no p.yes) (eq-eqb q.yes p.yes (sym e))));
+      yes_no = λ e. one_role c p q in_p.0.among in_q.0.among e;
+      no_yes = λ e. one_role c q p in_q.0.among in_p.0.among (sym e);
+      no_no = λ e. differ (one_pair c p.no p q in_p.0.among in_q.0.among (stands_no p) (right_or (eqb q.yes p.no) (eqb q.no p.no) (eq-eqb q.no p.no (sym e))));
+    }) (below (length fixed)) (Apart-below (length fixed))
 
 -- the targets of a remaining pair are forced to no address
 pub open_unforced : {fixed : List (Option ℕ)} {pairs : List Pair} → AreClear fixed pairs → (p : Pair) → IsOpen fixed pairs p → (s : ℕ) → stands_in s p ≡ true → forced fixed pairs s ≡ None
@@ -85,7 +86,7 @@ open_unforced {fixed} {pairs} c p left s stands =
     let unfixed : fixed_at fixed s ≡ None = elim (stands_cases s p stands) [
       | inl high ↦ ap (fixed_at fixed) (sym high) ∙ left.yes_free
       | inr low ↦ ap (fixed_at fixed) (sym low) ∙ left.no_free
-      ] in
+    ] in
     forced_none fixed pairs s unfixed (λ q among stands_q.
-      let same : q ≡ p = one_pair c s q p among left.among stands_q stands in
-      (ap (λ (r : Pair). fixed_at fixed r.yes) same ∙ left.yes_free, ap (λ (r : Pair). fixed_at fixed r.no) same ∙ left.no_free))
+    let same : q ≡ p = one_pair c s q p among left.among stands_q stands in
+    (ap (λ (r : Pair). fixed_at fixed r.yes) same ∙ left.yes_free, ap (λ (r : Pair). fixed_at fixed r.no) same ∙ left.no_free))

@@ -1,5 +1,5 @@
 -- What holds of the statements of each program.
-use Rattle.std.proofs.Common.{◌≡◌, ℕ, ◌+◌, ◌<◌, ◌≤◌, List, [], ◌∷◌, ◌++◌, Option, Some, None, length, map, take, get_or, refl, sym, ap, subst, ◌∙◌, arith}
+use Rattle.std.proofs.Common.{◌≡◌, ℕ, ◌+◌, ◌<◌, List, [], ◌∷◌, ◌++◌, Option, Some, None, length, map, take, refl, ap, subst, ◌∙◌}
 use Rattle.std.specs.Prelude.{slice_get, IfSome, option_and_then}
 use Rattle.std.specs.List.{filter_map, cons_option}
 use Rattle.std.specs.Option.{ForSome, option_to_list, IsSome}
@@ -9,10 +9,10 @@ use Rattle.std.proofs.lemmas.Option.{slice_get_within, get_or_from_slice_get}
 use Rattle.mal_parser.specs.declared.statement.Statement.{Statement}
 use Rattle.mal_parser.specs.declared.statement.MalNext.{MalNext}
 use Rattle.mal_parser.specs.declared.statement.MalNext.TheVariants as nexts
-use Rattle.mal_parser.specs.Program.{Program, IsProgram, IsStatement, IsFallback, IsLabelled, HasTargets, label_at}
+use Rattle.mal_parser.specs.Program.{Program, IsProgram, IsFallback, IsLabelled, HasTargets}
 use Rattle.store_placement.specs.declared.pair.Pair.{Pair}
 use Rattle.store_placement.specs.Demands.{IsOfStatements}
-use Rattle.store_placement.specs.Program.{pair_of, statement_pair}
+use Rattle.store_placement.specs.Program.{pair_of}
 
 -- a list up to the next element
 pub take_next : {X : Type 0} (xs : List X) (s : ℕ) (x : X) → slice_get xs s ≡ Some x → take (s + 1) xs ≡ take s xs ++ x ∷ []
@@ -40,7 +40,7 @@ labelled_below statements n is =
     elim (slice_get statements n) as (λ o. slice_get statements n ≡ o → IsSome (option_and_then (λ t. t.label) o) → n < length statements) [
       | None ↦ λ e h. cc
       | Some t ↦ λ e h. slice_get_within statements n t e
-      ] refl is
+    ] refl is
 
 targets_below : (statements : List Statement) (next : MalNext) → HasTargets statements next → ForSome (pair_of next) (IsOfStatements (length statements))
 targets_below statements nexts.Following has p is = cc

@@ -1,9 +1,8 @@
 -- The steps of placing give the chosen placement.
-use Rattle.std.proofs.Common.{◌≡◌, ◌≢◌, ℕ, ◌+◌, ◌-◌, ◌<◌, ◌≤◌, Bool, true, false, cond, not, ◌&&◌, ◌||◌, ◌⊎◌, List, [], ◌∷◌, ◌++◌, Option, Some, None, length, map, take, get_or, eqb, zero, suc, refl, sym, ap, subst, ◌∙◌, inl, inr, arith}
+use Rattle.std.proofs.Common.{◌≡◌, ◌≢◌, ℕ, ◌+◌, ◌<◌, ◌≤◌, Bool, true, false, cond, List, [], ◌∷◌, ◌++◌, Option, Some, None, length, map, take, get_or, eqb, zero, suc, refl, sym, ap, ◌∙◌, inl, inr, arith}
 use Rattle.std.specs.Prelude.{is_none}
-use Rattle.std.specs.Option.{option_or}
-use Rattle.std.specs.List.{list_any, All, filter, filter_map, count_by}
-use Rattle.std.proofs.lemmas.Bool.{eqb-true, eqb-false, eq-eqb, ne_eqb}
+use Rattle.std.specs.List.{filter, filter_map, count_by}
+use Rattle.std.proofs.lemmas.Bool.{eqb-true, eq-eqb, ne_eqb}
 use Rattle.std.proofs.lemmas.List.{map-append, take_more, length_push}
 use Rattle.std.proofs.lemmas.List.Filters.{length-filter_both}
 use Rattle.std.proofs.lemmas.List.Recursion.{is_count_by}
@@ -25,24 +24,28 @@ at_low (p ∷ pairs) (a ∷ lows) f apart enough is =
     let here : Some a ≡ Some (f p) = sym (rw (eq-eqb p.no p.no refl) refl) ∙ is p (inl refl) in
     let first : f p ≡ a = cc in
     let rest = at_low pairs lows f apart.1 (omega arith) (λ q among.
-          let other = apart.0 q among in
-          let not_low : eqb p.no q.no ≡ false = ne_eqb p.no q.no other.no_no in
-          let not_high : eqb p.yes q.no ≡ false = ne_eqb p.yes q.no other.yes_no in
-          sym (rw (not_low, not_high) refl) ∙ is q (inr among)) in
+    let other = apart.0 q among in
+    let not_low : eqb p.no q.no ≡ false = ne_eqb p.no q.no other.no_no in
+    let not_high : eqb p.yes q.no ≡ false = ne_eqb p.yes q.no other.yes_no in
+    sym (rw (not_low, not_high) refl) ∙ is q (inr among)) in
     ap (λ x. x ∷ map f pairs) first ∙ ap (λ xs. a ∷ xs) rest
 
 pub pair_places : (pairs : List Pair) (lows : List ℕ) → Apart AreDisjoint pairs → ((p : Pair) → Among p pairs → p.yes ≢ p.no) → length pairs ≤ length lows → (p : Pair) → Among p pairs → (a : ℕ) × (pair_address pairs lows p.no ≡ Some a) × (pair_address pairs lows p.yes ≡ Some (a + 256))
 pair_places [] lows apart roles enough p among = absurd among
 pair_places (q ∷ pairs) [] apart roles enough p among = absurd (omega arith)
 pair_places (q ∷ pairs) (a ∷ lows) apart roles enough p (inl here) =
-    let not_low : eqb q.no p.yes ≡ false = ne_eqb q.no p.yes (λ e. roles p (inl here) (sym e ∙ ap (λ (r : Pair). r.no) (sym here))) in
-    (a, rw (eq-eqb q.no p.no (ap (λ (r : Pair). r.no) (sym here))) refl,
-      rw (not_low, eq-eqb q.yes p.yes (ap (λ (r : Pair). r.yes) (sym here))) refl)
+    let not_low : eqb q.no p.yes ≡ false = ne_eqb q.no p.yes (λ e. roles p (inl here) (sym e ∙ ap (λ (r : Pair). r.no) (sym here))) in (
+      a,
+      rw (eq-eqb q.no p.no (ap (λ (r : Pair). r.no) (sym here))) refl,
+      rw (not_low, eq-eqb q.yes p.yes (ap (λ (r : Pair). r.yes) (sym here))) refl,
+    )
 pair_places (q ∷ pairs) (a ∷ lows) apart roles enough p (inr among) =
     let other = apart.0 p among in
-    let r = pair_places pairs lows apart.1 (λ x in_rest. roles x (inr in_rest)) (omega arith) p among in
-    (r.0, rw (ne_eqb q.no p.no other.no_no, ne_eqb q.yes p.no other.yes_no) r.1,
-      rw (ne_eqb q.no p.yes other.no_yes, ne_eqb q.yes p.yes other.yes_yes) r.2)
+    let r = pair_places pairs lows apart.1 (λ x in_rest. roles x (inr in_rest)) (omega arith) p among in (
+      r.0,
+      rw (ne_eqb q.no p.no other.no_no, ne_eqb q.yes p.no other.yes_no) r.1,
+      rw (ne_eqb q.no p.yes other.no_yes, ne_eqb q.yes p.yes other.yes_yes) r.2,
+    )
 
 pub pair_misses : (pairs : List Pair) (lows : List ℕ) (s : ℕ) → ((p : Pair) → Among p pairs → (p.no ≢ s) × (p.yes ≢ s)) → pair_address pairs lows s ≡ None
 pair_misses [] lows s h = refl
@@ -123,26 +126,26 @@ take_free_more placed free m enough inside h =
           let next : take (nones (take m placed) + 1) free ≡ take (nones (take m placed)) free ++ get_or free (nones (take m placed)) 0 ∷ [] = take_more free (nones (take m placed)) 0 (omega arith) in
           record {
             taken = ap (map at) list ∙ (map-append at (filter p (below m)) (m ∷ []) ∙ (ap (λ xs. xs ++ at m ∷ []) h.taken ∙ (ap (λ x. take (nones (take m placed)) free ++ x ∷ []) here ∙ (sym next ∙ ap (λ k. take k free) (sym count)))));
-            count = ap length list ∙ (length_push (filter p (below m)) m ∙ (ap (λ k. k + 1) h.count ∙ sym count))
+            count = ap length list ∙ (length_push (filter p (below m)) m ∙ (ap (λ k. k + 1) h.count ∙ sym count));
           }
       | false ↦ λ is count.
           let list : filter p (below (suc m)) ≡ filter p (below m) = ap (λ k. filter p (below k)) one ∙ filter-below_dropped p m is in
           let same : nones (take (suc m) placed) ≡ nones (take m placed) = omega arith in
           record {
             taken = ap (map at) list ∙ (h.taken ∙ ap (λ k. take k free) (sym same));
-            count = ap length list ∙ (h.count ∙ sym same)
+            count = ap length list ∙ (h.count ∙ sym same);
           }
-      ] refl more
+    ] refl more
 
 take_free : (placed : List (Option ℕ)) (free : List ℕ) (m : ℕ) → nones placed ≤ length free → m ≤ length placed → TakeFree placed free m
 take_free placed free zero enough inside = record {
   taken = ap (λ xs. map (λ s. get_or (filled placed free) s 0) (filter (λ s. is_none (get_or placed s None)) xs)) below_none;
-  count = ap (λ xs. length (filter (λ s. is_none (get_or placed s None)) xs)) below_none
+  count = ap (λ xs. length (filter (λ s. is_none (get_or placed s None)) xs)) below_none;
 }
 take_free placed free (suc m) enough inside = take_free_more placed free m enough (omega arith) (take_free placed free m enough (omega arith))
 
 pub rest_taken : (placed : List (Option ℕ)) (free : List ℕ) → nones placed ≤ length free →
-  map (λ s. get_or (filled placed free) s 0) (filter (λ s. is_none (get_or placed s None)) (below (length placed)))
+    map (λ s. get_or (filled placed free) s 0) (filter (λ s. is_none (get_or placed s None)) (below (length placed)))
     ≡ take (length (filter (λ s. is_none (get_or placed s None)) (below (length placed)))) free
 rest_taken placed free enough =
     let r = take_free placed free (length placed) enough (omega arith) in
@@ -166,9 +169,9 @@ free_enough placed short =
     let all : length (below 512) ≡ 512 = length-below 512 in
     let differ : Apart ◌≢◌ (filter taken (below 512)) = Apart-weaker ◌<◌ ◌≢◌ (filter taken (below 512)) (λ x y less same. omega arith) (Apart-filter ◌<◌ taken (below 512) (Apart-below 512)) in
     let most : length (filter taken (below 512)) ≤ length (filter_map (λ (o : Option ℕ). o) placed) =
-          length-le_from_among (filter taken (below 512)) (filter_map (λ o. o) placed) differ (λ a among.
-            let r = among-filter taken (below 512) a among in
-            let o = from_any (λ x. same_address x (Some a)) placed r.1 in
-            among_filter_map (λ x. x) placed o.0 a o.1 (same_some o.0 a o.2)) in
+    length-le_from_among (filter taken (below 512)) (filter_map (λ o. o) placed) differ (λ a among.
+    let r = among-filter taken (below 512) a among in
+    let o = from_any (λ x. same_address x (Some a)) placed r.1 in
+    among_filter_map (λ x. x) placed o.0 a o.1 (same_some o.0 a o.2)) in
     let sum = nones_somes placed in
     omega arith

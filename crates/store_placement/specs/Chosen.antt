@@ -50,10 +50,10 @@ before_singles d address = map (λ s. if is_single d.fixed d.pairs s then None e
 pub record IsChosen (d : Demands) (address : ℕ → ℕ) : Type 0 where
   pub keeps_forced : (s a : ℕ) → s < length d.fixed → forced d.fixed d.pairs s ≡ Some a → address s ≡ a
   pub lows : let pairs = open_pairs d.fixed d.pairs in
-    map (λ p. address p.no) pairs ≡ take (length pairs) (free_lows (all_forced d.fixed d.pairs))
+      map (λ p. address p.no) pairs ≡ take (length pairs) (free_lows (all_forced d.fixed d.pairs))
   pub highs : All (λ p. address p.yes ≡ address p.no + 256) (open_pairs d.fixed d.pairs)
   pub rest : let last = singles d.fixed d.pairs in
-    map address last ≡ take (length last) (free_addresses (before_singles d address))
+      map address last ≡ take (length last) (free_addresses (before_singles d address))
 
 -- the addresses of the statements in order are the chosen placement
 pub record IsChosenList (d : Demands) (addresses : List ℕ) : Type 0 where

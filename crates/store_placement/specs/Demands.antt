@@ -1,5 +1,6 @@
 -- What a placement has to keep: for each statement its fixed address or none, and the pairs of a conditional's targets.
-use Rattle.std.specs.Prelude.{◌≡◌, ◌<◌, ◌≤◌, ℕ, List, Option, Some, None, length, slice_index_or, All}
+use Rattle.std.specs.Prelude.{◌≡◌, ◌<◌, ◌≤◌, ℕ, ◌==◌, Bool, ◌&&◌, List, Option, Some, None, is_some, length, slice_index_or, All, count_by}
+use Rattle.std.specs.Set.{distinct_count}
 use Rattle.store_placement.specs.declared.pair.Pair.{Pair}
 
 pub record Demands : Type 0 where
@@ -23,3 +24,14 @@ pub record AreWithin (fixed : List (Option ℕ)) (pairs : List Pair) : Type 0 wh
   pub count : length fixed ≤ 512
   pub addresses : AreFixedInside fixed
   pub targets : All (IsOfStatements (length fixed)) pairs
+
+abbrev pub same_pair : Pair → Pair → Bool
+same_pair p q = (p.yes == q.yes) && (p.no == q.no)
+
+-- how many statements are fixed
+abbrev pub fixed_count : Demands → ℕ
+fixed_count d = count_by (λ o. is_some o) d.fixed
+
+-- how many different pairs there are
+abbrev pub pair_count : Demands → ℕ
+pair_count d = distinct_count same_pair d.pairs

@@ -2,7 +2,9 @@ pub mod Chosen
 pub mod Demands
 pub mod First
 pub mod Forced
+pub mod Listed
 pub mod Placement
 pub mod Program
 pub mod Refusals
 pub mod Steps
+pub mod StoreFile

@@ -58,9 +58,13 @@ placed_statement address number s = record { part = s.part; next = placed_next a
 abbrev pub idle : Part
 idle = record { dests = 0; op = ops.Zero; a = None; b = None; shift = shifts.None; mem = mems.None; fetch = false }
 
+-- `goto` address 0x0FE, where a run ends by error
+abbrev pub goto_end : Placed
+goto_end = record { part = idle; next = placed.Goto 254 }
+
 -- what unused words hold: the statement of `.default`, or `goto` address 0x0FE where there is none
 abbrev pub placed_default : (ℕ → ℕ) → Option Statement → Placed
-placed_default address None = record { part = idle; next = placed.Goto 254 }
+placed_default address None = goto_end
 placed_default address (Some s) = placed_statement address 0 s
 
 -- the word decodes to the statement
@@ -71,9 +75,9 @@ pub record Decodes (machine : Machine) (word : ℕ) (p : Placed) : Type 0 where
 -- each statement stands at its address, and what unused words hold at every other
 pub record IsFilled (program : Program) (addresses words : List ℕ) : Type 0 where
   pub statements : (s : ℕ) (t : Statement) → slice_get program.statements s ≡ Some t →
-    Decodes program.machine (slice_index words (slice_index addresses s)) (placed_statement (slice_index addresses) s t)
+      Decodes program.machine (slice_index words (slice_index addresses s)) (placed_statement (slice_index addresses) s t)
   pub others : (a : ℕ) → a < 512 → ((s : ℕ) → s < length program.statements → slice_index addresses s ≢ a) →
-    Decodes program.machine (slice_index words a) (placed_default (slice_index addresses) program.fallback)
+      Decodes program.machine (slice_index words a) (placed_default (slice_index addresses) program.fallback)
 
 -- s is the one statement at the address
 pub record IsOnlyAt (addresses : List ℕ) (address s : ℕ) : Type 0 where

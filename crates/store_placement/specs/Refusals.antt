@@ -1,16 +1,13 @@
 -- Why constraints have no placement, and in which order that is looked for.
-use Rattle.std.specs.Prelude.{◌≡◌, ◌<◌, ℕ, ◌+◌, ◌==◌, Bool, false, not, ◌&&◌, ◌||◌, if◌then◌else◌, nat_lt, List, Option, Some, None, length}
+use Rattle.std.specs.Prelude.{◌<◌, ℕ, ◌+◌, ◌==◌, Bool, false, not, ◌&&◌, ◌||◌, if◌then◌else◌, nat_lt, List, Option, Some, None, length}
 use Rattle.std.specs.List.{list_any}
 use Rattle.store_placement.specs.declared.pair.Pair.{Pair}
 use Rattle.store_placement.specs.declared.refusal.PlaceError.{PlaceError}
 use Rattle.store_placement.specs.declared.refusal.PlaceError.TheVariants as errors
-use Rattle.store_placement.specs.Demands.{Demands, fixed_at}
+use Rattle.store_placement.specs.Demands.{Demands, fixed_at, same_pair}
 use Rattle.store_placement.specs.First.{Never, IsFirst, NeverTwo, IsFirstTwo}
 use Rattle.store_placement.specs.Forced.{forced, all_forced, same_address}
 use Rattle.store_placement.specs.Chosen.{open_pairs, free_lows}
-
-abbrev pub same_pair : Pair → Pair → Bool
-same_pair p q = (p.yes == q.yes) && (p.no == q.no)
 
 abbrev pub stands_in : ℕ → Pair → Bool
 stands_in s p = (p.yes == s) || (p.no == s)

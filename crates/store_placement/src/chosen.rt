@@ -46,6 +46,7 @@ fn addresses_for(fixed: &[Option<u16>], pairs: &[Pair]) -> Result<ArrayVec<u16, 
 pub fn place(constraints: &Constraints) -> Result<Placement, PlaceError>
     ensures ok { IsOk result ↔ HasPlacement constraints.now }
     ensures chosen { IfOk result (IsChosenList constraints.now) }
+    ensures within { AreWithin constraints.now.fixed constraints.now.pairs }
     ensures err { (e : PlaceError) → (result ≡ Err e) ↔ Refuses constraints.now e }
 {
     match addresses_for(&constraints.fixed, &constraints.pairs) {

@@ -27,14 +27,18 @@ fn stands_in(s: u16, p: &Pair) -> bool
 fn stands_beside(pairs: &[Pair], s: u16, pair: &Pair) -> bool
     ensures { result ≡ stands_beside pairs.now s pair.now }
 {
-    pairs.iter().any(|other| stands_in(s, other) && *other != *pair)
+    pairs
+        .iter()
+        .any(|other| stands_in(s, other) && *other != *pair)
 }
 
 #[tactic(auto, unfolding(crate::specs::Refusals::stands_twice))]
 fn stands_twice(pairs: &[Pair], s: u16) -> bool
     ensures { result ≡ stands_twice pairs.now s }
 {
-    pairs.iter().any(|p| stands_in(s, p) && stands_beside(pairs, s, p))
+    pairs
+        .iter()
+        .any(|p| stands_in(s, p) && stands_beside(pairs, s, p))
 }
 
 #[tactic(auto, unfolding(crate::specs::Refusals::clashes))]

@@ -29,7 +29,8 @@ fn split_apart(fixed: &[Option<u16>], pairs: &[Pair], s: u16, t: u16) -> bool
     requires { AreWithin fixed.now pairs.now }
     ensures { result ≡ split_apart fixed.now pairs.now s t }
 {
-    pairs.iter().any(|p| is_pair_of(s, t, p) && are_split(fixed[p.yes as usize], fixed[p.no as usize]))
+    pairs.iter().any(|p| is_pair_of(s, t, p)
+        && are_split(fixed[p.yes as usize], fixed[p.no as usize]))
 }
 
 #[tactic(auto, using(crate::proofs::ForcedLemmas::all_forceds), unfolding(crate::specs::Refusals::collide))]
@@ -44,7 +45,12 @@ fn collide(fixed: &[Option<u16>], pairs: &[Pair], addresses: &[Option<u16>], s: 
 }
 
 /// The lowest statement behind `s` that collides with it.
-fn collides_with(fixed: &[Option<u16>], pairs: &[Pair], addresses: &[Option<u16>], s: u16) -> Option<u16>
+fn collides_with(
+    fixed: &[Option<u16>],
+    pairs: &[Pair],
+    addresses: &[Option<u16>],
+    s: u16,
+) -> Option<u16>
     requires within { AreWithin fixed.now pairs.now }
     requires forced { addresses.now ≡ all_forced fixed.now pairs.now }
     requires inside { s < length fixed.now }
@@ -59,7 +65,11 @@ fn collides_with(fixed: &[Option<u16>], pairs: &[Pair], addresses: &[Option<u16>
 }
 
 /// The lowest two statements that collide.
-pub fn first_collision(fixed: &[Option<u16>], pairs: &[Pair], addresses: &[Option<u16>]) -> Option<(u16, u16)>
+pub fn first_collision(
+    fixed: &[Option<u16>],
+    pairs: &[Pair],
+    addresses: &[Option<u16>],
+) -> Option<(u16, u16)>
     requires within { AreWithin fixed.now pairs.now }
     requires forced { addresses.now ≡ all_forced fixed.now pairs.now }
     ensures { MatchOption result (NeverTwo (collide fixed.now pairs.now) (length fixed.now)) (λ x. IsFirstTwo (collide fixed.now pairs.now) (length fixed.now) x.0 x.1) }

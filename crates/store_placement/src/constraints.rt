@@ -1,6 +1,7 @@
-ghost use Rattle.std.specs.Prelude.{◌≡◌, ◌<◌, ◌+◌, [], ◌∷◌, ◌++◌, length};
+ghost use Rattle.std.specs.Prelude.{◌≡◌, ◌<◌, ◌≤◌, ◌+◌, [], ◌∷◌, ◌++◌, length};
 ghost use Rattle.std.specs.Option.{ForSome};
-ghost use Rattle.store_placement.specs.Demands.{Demands, AreWithin};
+ghost use Rattle.std.specs.Set.{distinct_count, is_member};
+ghost use Rattle.store_placement.specs.Demands.{Demands, AreWithin, same_pair, fixed_count, pair_count};
 
 use crate::pair::Pair;
 use arrayvec::ArrayVec;
@@ -55,4 +56,52 @@ impl Constraints {
     {
         self.pairs.push(pair);
     }
+
+    /// The number of statements.
+    pub fn statement_count(&self) -> u16
+        ensures count { result ≡ length self.now.fixed }
+        ensures within { AreWithin self.now.fixed self.now.pairs }
+    {
+        self.fixed.len() as u16
+    }
+
+    /// The number of statements that are fixed.
+    pub fn fixed_count(&self) -> u16
+        ensures { result ≡ fixed_count self.now }
+    {
+        self.fixed.iter().filter(|fixed| fixed.is_some()).count() as u16
+    }
+
+    /// The number of different pairs.
+    pub fn pair_count(&self) -> u16
+        ensures { result ≡ pair_count self.now }
+    {
+        different_pairs(&self.pairs)
+    }
+}
+
+fn same_pair(p: &Pair, q: &Pair) -> bool
+    ensures { result ≡ same_pair p.now q.now }
+{
+    p.yes == q.yes && p.no == q.no
+}
+
+fn stands_again(pair: &Pair, later: &[Pair]) -> bool
+    ensures { result ≡ is_member same_pair later.now pair.now }
+{
+    later.iter().any(|other| same_pair(pair, other))
+}
+
+#[tactic(auto, using(crate::proofs::Different::differents))]
+fn different_pairs(pairs: &[Pair]) -> u16
+    requires { length pairs.now ≤ 513 }
+    ensures { result ≡ distinct_count same_pair pairs.now }
+{
+    let mut count = 0;
+    for (k, pair) in pairs.iter().enumerate() {
+        if !stands_again(pair, &pairs[k + 1..]) {
+            count += 1;
+        }
+    }
+    count
 }

@@ -60,7 +60,8 @@ fn add_pairs(constraints: &mut Constraints, program: &MalProgram)
 /// The fixed addresses, and the pairs of the conditionals, the one of `.default` included.
 #[tactic(auto, unfolding(crate::specs::Program::demands_of))]
 pub fn constraints_of(program: &MalProgram) -> Constraints
-    ensures { result ≡ demands_of program.now }
+    ensures demands { result ≡ demands_of program.now }
+    ensures count { length result.fixed ≡ length program.now.statements }
 {
     let mut constraints = fixed_of(program);
     add_pairs(&mut constraints, program);

@@ -1,10 +1,11 @@
 //! The control store of a placed program.
 ghost use Rattle.std.specs.Prelude.{◌≡◌, ◌≢◌, ◌<◌, ℕ, Some, length, slice_get, slice_index, IsTrue, MatchOption};
+ghost use Rattle.micro_word.specs.declared.statement.Machine.{Machine};
 ghost use Rattle.micro_word.specs.Canonical.{is_valid};
 ghost use Rattle.mal_parser.specs.declared.statement.Statement.{Statement};
 ghost use Rattle.mal_parser.specs.Program.{IsProgram};
 ghost use Rattle.store_placement.specs.Placement.{Places};
-ghost use Rattle.store_placement.specs.Program.{demands_of, placed_next, LeadsInside, placed_statement, placed_default, IsFilled, IsOnlyAt};
+ghost use Rattle.store_placement.specs.Program.{demands_of, placed_next, LeadsInside, placed_statement, goto_end, placed_default, IsFilled, IsOnlyAt};
 
 use crate::placement::Placement;
 use mal_parser::{MalNext, MalProgram};
@@ -40,6 +41,25 @@ fn placed_statement(program: &MalProgram, placement: &Placement, s: u16) -> Plac
     }
 }
 
+/// A statement that does nothing and goes to the end by error.
+pub(crate) fn goto_end() -> Placed
+    ensures value { result ≡ goto_end }
+    ensures valid { (machine : Machine) → IsTrue (is_valid machine result) }
+{
+    Placed {
+        part: Part {
+            dests: 0,
+            op: AluOp::Zero,
+            a: None,
+            b: None,
+            shift: Shift::None,
+            mem: Mem::None,
+            fetch: false,
+        },
+        next: PlacedNext::Goto(0xfe),
+    }
+}
+
 /// What unused words hold.
 fn placed_default(program: &MalProgram, placement: &Placement) -> Placed
     requires program { IsProgram program.now }
@@ -52,18 +72,7 @@ fn placed_default(program: &MalProgram, placement: &Placement) -> Placed
             part: fallback.part,
             next: placed_next(placement, 0, fallback.next),
         },
-        None => Placed {
-            part: Part {
-                dests: 0,
-                op: AluOp::Zero,
-                a: None,
-                b: None,
-                shift: Shift::None,
-                mem: Mem::None,
-                fetch: false,
-            },
-            next: PlacedNext::Goto(0xfe),
-        },
+        None => goto_end(),
     }
 }
 
@@ -76,7 +85,10 @@ pub fn fill(program: &MalProgram, placement: &Placement) -> Store
     let count = program.len();
     let mut store = Store::filled(program.machine(), &placed_default(program, placement));
     for s in 0..count {
-        store.set(placement.address(s), &placed_statement(program, placement, s));
+        store.set(
+            placement.address(s),
+            &placed_statement(program, placement, s),
+        );
     }
     store
 }

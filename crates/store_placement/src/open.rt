@@ -10,7 +10,9 @@ fn is_opened_by(fixed: &[Option<u16>], s: u16, pair: &Pair) -> bool
     requires { IsOfStatements (length fixed.now) pair.now }
     ensures { result ≡ is_opened_by fixed.now s pair.now }
 {
-    pair.yes.min(pair.no) == s && fixed[pair.yes as usize].is_none() && fixed[pair.no as usize].is_none()
+    pair.yes.min(pair.no) == s
+        && fixed[pair.yes as usize].is_none()
+        && fixed[pair.no as usize].is_none()
 }
 
 /// The remaining pair whose lower target is `s`.

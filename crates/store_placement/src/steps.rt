@@ -24,7 +24,11 @@ fn pair_address(pairs: &[Pair], lows: &[u16], s: u16) -> Option<u16>
 
 /// Forced addresses, and those of the pairs.
 #[tactic(auto, using(crate::proofs::Below::belows), unfolding(crate::specs::Steps::with_pairs))]
-pub fn with_pairs(forced: &[Option<u16>], pairs: &[Pair], lows: &[u16]) -> ArrayVec<Option<u16>, 512>
+pub fn with_pairs(
+    forced: &[Option<u16>],
+    pairs: &[Pair],
+    lows: &[u16],
+) -> ArrayVec<Option<u16>, 512>
     requires count { length forced.now ≤ 512 }
     requires enough { length pairs.now ≤ length lows.now }
     requires low { All (λ a. a < 256) lows.now }

@@ -1,6 +1,4 @@
 ghost use Rattle.std.specs.Prelude.{◌≡◌, ◌<◌, ◌⊎◌, ◌↔◌, List, ℕ, Option, Some, None, option_map, length, IfOk, OnOk, OnErr, IsErrOf, Contains, ◌≢◌};
-ghost use Rattle.std.specs.BTreeMap.{get_by_text};
-ghost use Rattle.mic_base.specs.Causes.{Rose};
 ghost use Rattle.mic_base.specs.Files.{HasFileCause, KeepsOthers, most_bytes, Reads, Writes};
 ghost use Rattle.mic_base.specs.Numbering.{next_number};
 

@@ -1,4 +1,5 @@
-ghost use Rattle.std.specs.Prelude.{◌≡◌, ◌≢◌, ◌≤◌, None};
+ghost use Rattle.std.specs.Prelude.{◌≡◌, ◌≢◌, ◌≤◌, ◌↔◌, None};
+ghost use Rattle.std.specs.IoError.{error_kind};
 ghost use Rattle.mic_base.specs.Causes.{Rose};
 
 use crate::files::{FileError, Files, MOST_BYTES};
@@ -28,6 +29,7 @@ impl<R> StdFiles<R> {
         ensures later { self.old.faults ≤ self.new.faults }
         ensures failed { result ≡ FileError.Failed → Rose self.old.faults self.new.faults }
         ensures quiet { result ≢ FileError.Failed → self.new.faults ≡ self.old.faults }
+        ensures memory { error_kind error ≡ ErrorKind.OutOfMemory ↔ (result ≡ FileError.OutOfMemory) }
         ensures never { result ≢ FileError.TooLong }
     {
         if error.kind() == ErrorKind::OutOfMemory {

@@ -1,5 +1,4 @@
-use Rattle.std.proofs.Common.{◌≡◌, ◌⊎◌, ◌+◌, ◌*◌, ◌/◌, ◌<◌, ℕ, slice_index, inl, inr, ◌∙◌, arith, rules}
-use Rattle.console_port.specs.Loading.{text_word}
+use Rattle.std.proofs.Common.{◌/◌, ◌<◌, ℕ, slice_index, inl, ◌∙◌, arith}
 use Rattle.console_port.proofs.Bytes.{byte_in-text}
 use Rattle.console_port.proofs.loading.write_image.Goals as goal
 

@@ -1,8 +1,7 @@
-use Rattle.std.proofs.Common.{◌≡◌, ◌<◌, ◌≤◌, ℕ, List, length, All, subst, sym, ap, arith}
-use Rattle.store_placement.specs.Chosen.{open_pairs, free_lows, free_addresses}
+use Rattle.std.proofs.Common.{◌≡◌, ◌<◌, ℕ, List, length, All, subst, sym, ap, arith}
+use Rattle.store_placement.specs.Chosen.{free_lows}
 use Rattle.store_placement.specs.Forced.{all_forced}
-use Rattle.store_placement.specs.Steps.{with_pairs, filled}
-use Rattle.store_placement.proofs.Choice.{placed_of, steps_place, free_for_rest, lows_inside}
+use Rattle.store_placement.proofs.Choice.{steps_place, free_for_rest, lows_inside}
 use Rattle.store_placement.proofs.chosen.addresses_for.Goals as goal
 
 pub with_pairs-placed-requires-clause-low : goal.with_pairs-placed-requires-clause-low

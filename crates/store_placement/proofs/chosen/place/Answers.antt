@@ -3,7 +3,6 @@ use Rattle.store_placement.specs.declared.pair.Pair.{Pair}
 use Rattle.store_placement.specs.declared.refusal.PlaceError.{PlaceError}
 use Rattle.store_placement.specs.Chosen.{IsChosenList}
 use Rattle.store_placement.specs.Demands.{Demands, AreWithin}
-use Rattle.store_placement.specs.Placement.{HasPlacement}
 use Rattle.store_placement.specs.Refusals.{Refuses}
 use Rattle.store_placement.proofs.NoPlacement.{refused}
 use Rattle.store_placement.proofs.OneRefusal.{one_refusal}

@@ -1,0 +1,18 @@
+//! Which images are accepted: no run of them can go astray. Every reached instruction is whole and inside the text, finds its operands, its constant and its locals set, and all paths to it agree in their depth.
+#![tactic(auto)]
+
+mod checks;
+mod code;
+pub mod error;
+mod graph;
+mod kept;
+pub mod kind;
+pub mod law;
+mod local_set;
+mod search;
+mod trace;
+mod unset;
+
+pub use error::VerifyError;
+pub use kind::Kind;
+pub use law::accepted_images_keep_sound;

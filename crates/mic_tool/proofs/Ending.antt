@@ -1,0 +1,43 @@
+-- How a run ends, by the end of its board.
+use Rattle.std.proofs.Common.{◌≡◌, ℕ, List, [], Option, Some, None, refl, sym, subst}
+use Rattle.mic_clock.specs.declared.end.End.{End}
+use Rattle.mic_clock.specs.declared.end.End.TheVariants as ends
+use Rattle.mic_clock.specs.Board.{NoFault, HasEndCause}
+use Rattle.mic_clock.specs.View.{BoardView}
+use Rattle.mic1_datapath.specs.declared.mic1.Mic1.{Mic1}
+use Rattle.mic1_datapath.specs.Mic1.{registers_of}
+use Rattle.mic1_datapath.specs.View.{micro_of}
+use Rattle.shipped_microcode.specs.Straight.{Runs, image_of}
+use Rattle.shipped_microcode.specs.Headline.{HasRun, IsCutByWrite}
+use Rattle.mic_tool.specs.FirstForm.{IsImageOf}
+use Rattle.mic_tool.specs.Report.{report as report_of}
+use Rattle.mic_tool.specs.Ends.{Streams, Says, RunEnds, Ran, Cut, Unheard, IsReport, default_bound, status_of}
+
+-- what is known of a board that was run between these streams
+pub record IsRun (text : List ℕ) (old new : Streams) (board : BoardView Mic1) : Type 0 where
+  pub run : NoFault None board.end → HasRun (image_of text) 0 default_bound old.input old.out new.input new.out board
+  pub halt : NoFault None board.end → board.end ≡ Some ends.Halt
+  pub write : board.end ≡ Some ends.WriteFault → IsCutByWrite (image_of text) 0 default_bound old.input old.out new.input new.out board
+  pub cause : HasEndCause old.console_faults new.console_faults old.out_faults new.out_faults None board.end
+
+-- no fault ended the board
+quiet : (board : BoardView Mic1) (end : End) → board.end ≡ Some end → NoFault None (Some end) → NoFault None board.end
+quiet board end e none = subst (NoFault None) (sym e) none
+
+module _ (file bytes text report : List ℕ) (old new : Streams) (board : BoardView Mic1) (status : ℕ) (is : IsImageOf bytes text) (runs : Runs text)
+    (r : IsRun text old new board) where
+  pub ends_by : (end : End) → board.end ≡ Some end → report ≡ report_of end board.counts (registers_of (micro_of board.machine)) →
+      Says old new report (status_of end) status → RunEnds file bytes old new status
+  ends_by ends.Halt e printed says =
+      Ran text report board is runs (record { ended = e; printed = printed }) (r.run (quiet board ends.Halt e tt))
+      (r.cause.source_same (λ _ q. cc)) (r.cause.sink_same (λ _ q. cc)) says
+  ends_by ends.WriteFault e printed says =
+      Cut text report board is runs (record { ended = e; printed = printed }) (r.write e)
+      (r.cause.source_same (λ _ q. cc)) (r.cause.write refl e) says
+  ends_by ends.ReadFault e printed says =
+      Unheard text report board is runs (record { ended = e; printed = printed }) (r.cause.read refl e) (r.cause.sink_same (λ _ q. cc)) says
+  ends_by ends.Err e printed says = absurd (let h : board.end ≡ Some ends.Halt = r.halt (quiet board ends.Err e tt) in cc)
+  ends_by ends.Bound e printed says = absurd (let h : board.end ≡ Some ends.Halt = r.halt (quiet board ends.Bound e tt) in cc)
+  ends_by ends.StackLimit e printed says = absurd (let h : board.end ≡ Some ends.Halt = r.halt (quiet board ends.StackLimit e tt) in cc)
+  ends_by (ends.OutOfMap at) e printed says = absurd (let h : board.end ≡ Some ends.Halt = r.halt (quiet board (ends.OutOfMap at) e tt) in cc)
+  ends_by ends.Adrift e printed says = absurd (let h : board.end ≡ Some ends.Halt = r.halt (quiet board ends.Adrift e tt) in cc)

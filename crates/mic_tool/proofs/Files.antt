@@ -1,0 +1,18 @@
+-- What a refused file contains.
+use Rattle.std.proofs.Common.{◌≡◌, ◌<◌, ℕ, List, Option, Some, None, length, arith, refl, subst, sym}
+use Rattle.std.specs.Prelude.{IfSome, IsSomeAnd, replicate}
+use Rattle.std.proofs.lemmas.List.{length-replicate}
+use Rattle.mic_base.specs.Files.{Contents, Tells, most_bytes}
+
+in_file : (found : Option (List ℕ)) → IsSomeAnd found (λ bytes. most_bytes < length bytes) → (bytes : List ℕ) × (found ≡ Some bytes) × (most_bytes < length bytes)
+in_file None h = absurd h
+in_file (Some bytes) h = (bytes, refl, h)
+
+list_of : (n : ℕ) → (bytes : List ℕ) × (length bytes ≡ n)
+list_of n = (replicate n 0, length-replicate n 0)
+
+-- it has too many bytes, or may have
+pub too_long : (told : Option Contents) (name : List ℕ) → IfSome told (λ contents. IsSomeAnd (contents name) (λ bytes. most_bytes < length bytes)) →
+    (bytes : List ℕ) × Tells told name bytes × (most_bytes < length bytes)
+too_long None name h = let list : (bytes : List ℕ) × (length bytes ≡ 1048577) = list_of 1048577 in (list.0, tt, omega (arith, list.1))
+too_long (Some contents) name h = in_file (contents name) h

@@ -1,0 +1,46 @@
+//! The program `mic`: it runs an image file on Mic-1, and reports.
+#![tactic(auto)]
+
+mod first_form;
+mod messages;
+mod refusals;
+mod report;
+mod run;
+mod said;
+mod status;
+#[cfg(test)]
+mod tests;
+mod top_call;
+mod words;
+
+use mic_base::{StdFiles, StdSink, StdSource};
+use refusals::{misused, no_memory};
+use std::process::ExitCode;
+use std::{env, io};
+use top_call::mic_main;
+
+/// The words after the program's name.
+fn words_of(rt: &HostRuntime) -> io::Result<Vec<String>> {
+    let mut words = Vec::new(rt.alloc());
+    for word in env::args(rt)?.skip(1) {
+        words.push(word)?;
+    }
+    Ok(words)
+}
+
+fn main(rt: HostRuntime) -> ExitCode {
+    let mut err = StdSink::new(rt.stderr());
+    let status = match words_of(&rt) {
+        Ok(words) => mic_main(
+            rt.alloc(),
+            &words,
+            &mut StdFiles::new(&rt),
+            &mut StdSource::new(rt.stdin()),
+            &mut StdSink::new(rt.stdout()),
+            &mut err,
+        ),
+        Err(error) if error.kind() == io::ErrorKind::OutOfMemory => no_memory(&mut err),
+        Err(_) => misused(&mut err),
+    };
+    ExitCode::from(status.0)
+}

@@ -1,0 +1,7 @@
+use Rattle.std.proofs.Common.{◌≡◌, ◌+◌, ◌≤◌, drop}
+use Rattle.std.specs.Set.{distinct_count}
+use Rattle.store_placement.specs.Demands.{same_pair}
+use Rattle.store_placement.proofs.constraints.different_pairs.Given as goal
+
+abbrev pub invariant-loop-k : goal.invariant-loop-k
+invariant-loop-k l = (l.count + distinct_count same_pair (drop l.k l.pairs) ≡ distinct_count same_pair l.pairs) × (l.count ≤ l.k)
