@@ -6,3 +6,4 @@ pub mod Keeping
 pub mod Graphs
 pub mod Traces
 pub mod Unsets
+pub mod Swept

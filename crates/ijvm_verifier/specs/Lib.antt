@@ -1,8 +1,10 @@
 pub mod Paths
 pub mod Facts
+pub mod Kinds
 pub mod Sound
 pub mod Search
 pub mod Graph
 pub mod LocalSet
 pub mod Trace
 pub mod Unset
+pub mod Sweep

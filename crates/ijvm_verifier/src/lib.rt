@@ -10,6 +10,7 @@ pub mod kind;
 pub mod law;
 mod local_set;
 mod search;
+mod sweep;
 mod trace;
 mod unset;
 
