@@ -7,3 +7,4 @@ pub mod Graphs
 pub mod Traces
 pub mod Unsets
 pub mod Swept
+pub mod Counts

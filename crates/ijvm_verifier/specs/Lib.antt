@@ -8,3 +8,4 @@ pub mod LocalSet
 pub mod Trace
 pub mod Unset
 pub mod Sweep
+pub mod Counted

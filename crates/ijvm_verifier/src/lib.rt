@@ -3,6 +3,7 @@
 
 mod checks;
 mod code;
+mod count;
 pub mod error;
 mod graph;
 mod kept;
