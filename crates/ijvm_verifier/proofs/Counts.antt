@@ -10,12 +10,17 @@ use Rattle.ijvm_verifier.specs.declared.graph.Node.{Node}
 use Rattle.ijvm_verifier.specs.declared.error.VerifyError.{VerifyError}
 use Rattle.ijvm_verifier.specs.declared.error.VerifyError.TheVariants.{BadCode, FallsOff, BadTarget, Overlap, BadConstant, BadEntry, BadHeader, LinkSlot, BadLocal, UnsetLocal, TooFewArguments, Underflow, DepthDiffers, ReturnInMain, MainFrame, OutOfMemory}
 use Rattle.ijvm_verifier.specs.Paths.{Arrival, HasRow, Reached}
-use Rattle.ijvm_verifier.specs.Facts.{Names, MainNames, IsMainCount, Holds, Accepts}
+use Rattle.ijvm_verifier.specs.declared.kind.Kind.{Kind}
+use Rattle.ijvm_verifier.specs.Facts.{Names, MainNames, IsMainCount, Holds, Accepts, Piece, Code, Header, Covers}
 use Rattle.ijvm_verifier.specs.Search.{kept_at, kept_of, IsClosed, IsDecided}
 use Rattle.ijvm_verifier.specs.Graph.{IsNodeOf, IsGraph}
 use Rattle.ijvm_verifier.specs.Counted.{NodeNames, IsCounted}
+use Rattle.ijvm_verifier.specs.Survey.{IsSurvey}
+use Rattle.ijvm_verifier.specs.Accepted.{IsVerified}
 use Rattle.ijvm_verifier.proofs.Rows.{size_fits, size_above, one_row}
 use Rattle.ijvm_verifier.proofs.Keeping.{closed_all}
+use Rattle.ijvm_verifier.proofs.Unsets.{method_inside}
+use Rattle.ijvm_verifier.proofs.Sounds.{keeps_sound}
 
 pub counted_none : (image : ImageView) → IsCounted image 0 0
 counted_none image = record { above = λ a r k h lt row unit names. absurd (omega arith); least = inl refl }
@@ -92,3 +97,20 @@ accepted image z count s u o m fits (DepthDiffers p x y) h = s (DepthDiffers p x
 accepted image z count s u o m fits (Overlap p) h = o p h
 accepted image z count s u o m fits (MainFrame n) h = let le : n ≤ count = one_count image n count h.0 m in omega (arith, h.1)
 accepted image z count s u o m fits OutOfMemory h = s OutOfMemory tt h
+
+-- what is verified, by a survey and the size of main's frame
+pub verified : (image : ImageView) (main_locals methods : ℕ) (kinds : List Kind) → IsSurvey image main_locals methods kinds → 0x8000 + main_locals ≤ 0x10000 → IsVerified image main_locals methods kinds
+verified image main_locals methods kinds s fits =
+    let accepts : Accepts image 0x10000 = accepted image 0x10000 main_locals (s.decided 0x10000) (s.set 0x10000) (s.apart 0x10000) s.main fits in
+    record {
+      accepted = record { accepts = accepts; main = s.main; main_fits = omega arith; safe = (keeps_sound image 0x10000 main_locals accepts s.main).safe };
+      methods_are = s.methods_are;
+      kinds_are = s.kinds_are;
+    }
+
+-- nothing stands behind the text
+pub none_behind : (image : ImageView) (at : ℕ) → length image.text ≤ at → (p : Piece) → Covers image p at → ⊥
+none_behind image at past (Code u j) (a, reached, unit, place, q, row, low, high) =
+    let fits : j + size_of (row_of row.0) ≤ length image.text = size_fits image.text j row.0 row.1 in
+    let size : size_of q ≡ size_of (row_of row.0) = ap size_of row.2 in omega arith
+none_behind image at past (Header e) (method, low, high) = omega (arith, method_inside image e method.0 method.1 method.2)

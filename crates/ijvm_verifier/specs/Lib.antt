@@ -9,3 +9,5 @@ pub mod Trace
 pub mod Unset
 pub mod Sweep
 pub mod Counted
+pub mod Accepted
+pub mod Survey

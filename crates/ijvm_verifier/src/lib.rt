@@ -1,6 +1,7 @@
 //! Which images are accepted: no run of them can go astray. Every reached instruction is whole and inside the text, finds its operands, its constant and its locals set, and all paths to it agree in their depth.
 #![tactic(auto)]
 
+pub mod accept;
 mod checks;
 mod code;
 mod count;
@@ -14,7 +15,10 @@ mod search;
 mod sweep;
 mod trace;
 mod unset;
+pub mod verified;
 
+pub use accept::verify;
 pub use error::VerifyError;
 pub use kind::Kind;
 pub use law::accepted_images_keep_sound;
+pub use verified::VerifiedImage;
