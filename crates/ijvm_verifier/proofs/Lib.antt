@@ -6,3 +6,5 @@ pub mod Keeping
 pub mod Graphs
 pub mod Traces
 pub mod Unsets
+pub mod Swept
+pub mod Counts

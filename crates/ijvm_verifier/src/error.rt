@@ -2,7 +2,7 @@
 
 ghost use Rattle.std.specs.Prelude.{◌≡◌};
 
-use std::alloc::AllocError;
+use std::alloc::{AllocError, AllocFailed};
 use thiserror::Error;
 
 /// A fact of the refused image. Where several are true, any one of them is told.
@@ -63,6 +63,16 @@ impl From<AllocError> for VerifyError {
     ghost from_gives = { λ _ e. e ≡ OutOfMemory };
 
     fn from(_error: AllocError) -> VerifyError {
+        VerifyError::OutOfMemory
+    }
+}
+
+impl<T: Drop> From<AllocFailed<T>> for VerifyError {
+    ghost use Rattle.ijvm_verifier.specs.declared.error.VerifyError.TheVariants.{OutOfMemory};
+
+    ghost from_gives = { λ _ e. e ≡ OutOfMemory };
+
+    fn from(_error: AllocFailed<T>) -> VerifyError {
         VerifyError::OutOfMemory
     }
 }

@@ -15,6 +15,6 @@ pub use chain::{Assignment, Tail};
 pub use content::{Content, NamedNext, Parts};
 pub use expression::coding_of;
 pub use laws::reads_what_is_spelled;
-pub use line::{LineFault, line_of};
+pub use line::{Form, LineFault, line_of};
 pub use operation::Operation;
 pub use tree::{Jump, Tree};

@@ -18,7 +18,7 @@ pub enum LineFault {
 
 /// A line by its form.
 #[derive(Clone, Copy)]
-pub(crate) enum Form {
+pub enum Form {
     Nothing,
     Fix(Name, i64),
     Fallback(Tree),

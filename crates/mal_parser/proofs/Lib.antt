@@ -1,2 +1,9 @@
 pub mod Naming
 pub mod Resolved
+pub mod Saying
+pub mod Adding
+pub mod Sounding
+pub mod Meaning
+pub mod Ending
+pub mod Refusing
+pub mod Outcome

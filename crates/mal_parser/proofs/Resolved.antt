@@ -30,7 +30,7 @@ same_text a b h = (bytes_eq-Decides a b).0 h
 pub text_same : (a : List ℕ) → bytes_eq a a ≡ true
 text_same a = (bytes_eq-Decides a a).1 refl
 
-found_later : {A : Type 0} (w : Bool) (y : A) (o : Option A) → cond w (Some y) o ≡ None → (w ≡ false) × (o ≡ None)
+pub found_later : {A : Type 0} (w : Bool) (y : A) (o : Option A) → cond w (Some y) o ≡ None → (w ≡ false) × (o ≡ None)
 found_later true y o h = absurd (cc)
 found_later false y o h = (refl, h)
 
@@ -161,11 +161,11 @@ neither None b h = (refl, h)
 neither (Some a) None h = absurd (cc)
 neither (Some a) (Some b) h = absurd (cc)
 
-no_line : {A : Type 0} (line : A → ℕ) (o : Option A) → option_map line o ≡ None → o ≡ None
+pub no_line : {A : Type 0} (line : A → ℕ) (o : Option A) → option_map line o ≡ None → o ≡ None
 no_line line None h = refl
 no_line line (Some x) h = absurd (cc)
 
-not_false : (b : Bool) → not b ≡ false → b ≡ true
+pub not_false : (b : Bool) → not b ≡ false → b ≡ true
 not_false true h = refl
 not_false false h = absurd (cc)
 
@@ -184,7 +184,7 @@ known_fallback s d h e =
     go true h = refl
     go false h = absurd (cc)
 
-not_falling : (d : Draft) → falling (Some d) ≡ None → falls d.parts.next ≡ false
+pub not_falling : (d : Draft) → falling (Some d) ≡ None → falls d.parts.next ≡ false
 not_falling d h = go (falls d.parts.next) h
   where
     go : (b : Bool) → cond b (Some d.line) None ≡ None → b ≡ false

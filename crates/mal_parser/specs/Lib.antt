@@ -3,3 +3,5 @@ pub mod Labels
 pub mod Sketch
 pub mod Resolving
 pub mod Sound
+pub mod Text
+pub mod Reading

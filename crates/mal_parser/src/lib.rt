@@ -2,11 +2,15 @@
 #![tactic(auto)]
 
 mod error;
+mod laws;
+mod parse;
 mod program;
 mod resolve;
 mod source;
 mod statement;
 
 pub use error::MalError;
+pub use laws::reads_what_is_spelled;
+pub use parse::parse_mal;
 pub use program::MalProgram;
 pub use statement::{MalNext, Statement};

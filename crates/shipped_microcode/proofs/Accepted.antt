@@ -1,12 +1,12 @@
 -- A run of a text of the straight form never gets stuck and meets no stack limit, and ends by HALT.
-use Rattle.std.proofs.Common.{◌≡◌, ◌⊎◌, ℕ, zero, suc, ◌+◌, ◌-◌, ◌*◌, ◌<◌, ◌≤◌, Bool, true, false, Option, Some, None, List, [], ◌∷◌, ◌++◌, length, refl, arith, sym, ◌∙◌, ap, subst, inl, inr}
-use Rattle.std.specs.Prelude.{nat_lt, nat_le, if◌then◌else◌, ◌%◌}
+use Rattle.std.proofs.Common.{◌≡◌, ◌⊎◌, ℕ, zero, suc, ◌+◌, ◌-◌, ◌*◌, ◌<◌, ◌≤◌, Bool, true, false, Some, None, List, [], ◌∷◌, ◌++◌, length, refl, arith, sym, ◌∙◌, ap, subst, inl, inr}
+use Rattle.std.specs.Prelude.{nat_lt, nat_le, ◌%◌}
 use Rattle.std.proofs.lemmas.Bool.Decides.{nat_tests}
 use Rattle.ijvm_definition.specs.declared.instr.Instr.{Instr}
 use Rattle.ijvm_definition.specs.declared.instr.Instr.TheVariants.{Bipush, Iadd, Out, Halt}
 use Rattle.ijvm_definition.specs.Instructions.{row_of, size_of, prefix, operand_bytes, instr_at}
 use Rattle.ijvm_definition.specs.Frames.{State, frames_of, base, operands_at}
-use Rattle.ijvm_definition.specs.Step.{Outcome, Goes, Halts, Errs, Limits, Stuck, outcome, stepped, step, moved, word_of, combined, given_out}
+use Rattle.ijvm_definition.specs.Step.{Goes, Halts, Stuck, outcome, stepped, step, moved, word_of, combined, given_out}
 use Rattle.ijvm_definition.specs.Cost.{cost, cost_at, next_cost}
 use Rattle.ijvm_definition.specs.declared.run.RunEnd.TheVariants as ends
 use Rattle.ijvm_definition.specs.Run.{Program, Point, Finish, point_after, finish_from, after_test, after_outcome, completed}

@@ -1,6 +1,6 @@
 -- A byte 0 more behind the input changes no state of a Mic-1: a read at the end of input gives 0.
 use Rattle.std.proofs.Common.{◌≡◌, ◌⊎◌, ℕ, zero, suc, Bool, true, false, Option, Some, None, List, [], ◌∷◌, ◌++◌, drop, refl, sym, ◌∙◌, ap, inl, inr, subst}
-use Rattle.std.specs.Prelude.{nat_lt, nat_le, length, slice_index, if◌then◌else◌}
+use Rattle.std.specs.Prelude.{nat_lt, nat_le, length, if◌then◌else◌}
 use Rattle.console_port.specs.World.{World, Refusal, next_byte, read_value, untaken_after, byte_in}
 use Rattle.micro_word.specs.declared.statement.Machine.TheVariants as machines
 use Rattle.micro_word.specs.declared.statement.Mem.{Mem}
@@ -13,7 +13,7 @@ use Rattle.mic_clock.specs.Meaning.{Outcome, Done, Refused}
 use Rattle.mic_clock.specs.Run.{MicroRun, turn, turn_by, turns, bounded, bounded_by, gone, stepped, end_before, word_at}
 use Rattle.mic1_datapath.specs.declared.micro.Micro.{Micro}
 use Rattle.mic1_datapath.specs.Microstep.{result_of, settled, written, sampled, word_under_way, byte_under_way, target, clock, world_after, refusal}
-use Rattle.mic1_datapath.specs.Mic1.{mic1_meaning, microstep, outcome, step_of_word}
+use Rattle.mic1_datapath.specs.Mic1.{mic1_meaning, outcome, step_of_word}
 use Rattle.shipped_microcode.proofs.Turns.{whole_turn}
 
 -- the second list is the first and a 0, or both are taken whole

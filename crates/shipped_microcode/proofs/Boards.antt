@@ -1,5 +1,5 @@
 -- What a board that was run over a text from its reset says of the run.
-use Rattle.std.proofs.Common.{◌≡◌, ◌⊎◌, ℕ, ◌+◌, ◌*◌, ◌≤◌, List, [], ◌∷◌, ◌++◌, length, replicate, Option, Some, None, IfSome, IsSome, Bool, true, false, refl, arith, sym, ◌∙◌, ap, subst, inl, inr, append_assoc}
+use Rattle.std.proofs.Common.{◌≡◌, ℕ, ◌+◌, ◌*◌, ◌≤◌, List, [], ◌∷◌, ◌++◌, length, replicate, Option, Some, None, IfSome, Bool, true, false, refl, arith, sym, ◌∙◌, ap, subst, append_assoc}
 use Rattle.std.proofs.lemmas.List.{append-nil, append_cancel_left}
 use Rattle.mic_base.specs.Streams.{Holds}
 use Rattle.console_port.specs.World.{World}
@@ -15,11 +15,10 @@ use Rattle.mic1_datapath.specs.declared.micro.Micro.{Micro}
 use Rattle.mic1_datapath.specs.declared.mic1.Mic1.{Mic1}
 use Rattle.mic1_datapath.specs.Mic1.{mic1_meaning}
 use Rattle.mic1_datapath.specs.View.{micro_of}
-use Rattle.ijvm_definition.specs.Run.{Finish}
 use Rattle.shipped_microcode.specs.Shipped.{HasShipped}
 use Rattle.shipped_microcode.specs.Straight.{image_of}
 use Rattle.shipped_microcode.specs.Simulates.{IsEnd}
-use Rattle.shipped_microcode.specs.Headline.{told_of, reset_run, Begins, HasRun, IsCutByWrite, moment}
+use Rattle.shipped_microcode.specs.Headline.{told_of, reset_run, Begins, HasRun, IsCutByWrite}
 use Rattle.shipped_microcode.proofs.Carried.{IsText, simulated, halted, size, keeps_input}
 use Rattle.shipped_microcode.proofs.Worlds.{same_end}
 use Rattle.shipped_microcode.proofs.Output.{Grows, front_of_end}

@@ -1,14 +1,13 @@
 -- From the reset of a Mic-1 to its first boundary.
-use Rattle.std.proofs.Common.{◌≡◌, ℕ, zero, suc, ◌+◌, ◌-◌, ◌<◌, ◌≤◌, Option, Some, None, List, [], ◌∷◌, ◌++◌, length, replicate, refl, arith, sym, ◌∙◌, ap, subst, true, false}
-use Rattle.std.specs.Prelude.{slice_index, slice_get, nat_le}
+use Rattle.std.proofs.Common.{◌≡◌, ℕ, zero, suc, ◌+◌, ◌-◌, ◌<◌, ◌≤◌, Option, Some, None, List, [], ◌∷◌, length, replicate, refl, arith, sym, ◌∙◌, ap, subst, false}
+use Rattle.std.specs.Prelude.{slice_index, slice_get}
 use Rattle.std.proofs.lemmas.List.{length-replicate, append-nil}
-use Rattle.std.proofs.lemmas.Bool.Decides.{nat_tests}
 use Rattle.micro_word.specs.Operation.{next, wrap}
 use Rattle.console_port.specs.World.{World, fetch_refusal, byte_in}
 use Rattle.mic_clock.specs.Run.{MicroRun, start_run, turns}
 use Rattle.mic1_datapath.specs.declared.micro.Micro.{Micro}
 use Rattle.mic1_datapath.specs.Mic1.{mic1_meaning}
-use Rattle.ijvm_definition.specs.Frames.{Frame, State, start_of}
+use Rattle.ijvm_definition.specs.Frames.{start_of}
 use Rattle.ijvm_definition.specs.Run.{first_point}
 use Rattle.shipped_microcode.specs.Shipped.{HasShipped}
 use Rattle.shipped_microcode.specs.Stands.{Origin, Stands}

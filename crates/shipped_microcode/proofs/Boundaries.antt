@@ -1,6 +1,5 @@
 -- Mic-1 between two boundaries: what it knows at the one, and when a symbolic run comes to the next.
-use Rattle.std.proofs.Common.{◌≡◌, ℕ, ◌+◌, ◌<◌, Option, Some, None, true, List, length, arith, ◌∙◌, ap, sym}
-use Rattle.std.specs.Prelude.{◌==◌}
+use Rattle.std.proofs.Common.{◌≡◌, ℕ, ◌+◌, ◌<◌, Some, None, true, List, length, arith, ◌∙◌, ap, sym}
 use Rattle.std.proofs.lemmas.Bool.Decides.{nat_tests}
 use Rattle.console_port.specs.World.{World, byte_in, fetch_refusal}
 use Rattle.micro_word.specs.Operation.{next}
@@ -8,7 +7,7 @@ use Rattle.ijvm_definition.specs.Frames.{State}
 use Rattle.mic1_datapath.specs.declared.micro.Micro.{Micro}
 use Rattle.mic1_datapath.specs.Mic1.{mic1_meaning}
 use Rattle.shipped_microcode.specs.Shipped.{HasShipped}
-use Rattle.shipped_microcode.specs.Stands.{Origin, Holds, IsMemory, Stands}
+use Rattle.shipped_microcode.specs.Stands.{Origin, Holds, Stands}
 use Rattle.shipped_microcode.proofs.Passes.{Moment, pass}
 use Rattle.shipped_microcode.proofs.Instruction.{Shows}
 use Rattle.shipped_microcode.proofs.Guided.{clocked, IsSmooth, pass-clocked}

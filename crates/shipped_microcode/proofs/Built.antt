@@ -1,33 +1,32 @@
 -- The law of Mic-1 for the instructions that the shipped microprogram has.
-use Rattle.std.proofs.Common.{◌≡◌, ◌⊎◌, ℕ, suc, ◌+◌, ◌<◌, ◌≤◌, Bool, true, false, Option, Some, None, List, [], ◌∷◌, ◌++◌, length, refl, arith, sym, ◌∙◌, ap, ap₂, subst, inl, inr}
-use Rattle.std.specs.Prelude.{nat_le, ◌==◌, ◌%◌, slice_index, nat_lt, ◌-◌, if◌then◌else◌, ℤ, pos, negsuc}
-use Rattle.std.specs.Int.{w8, w32, cast_signed, cast_unsigned}
+use Rattle.std.proofs.Common.{◌≡◌, ◌⊎◌, ℕ, suc, ◌+◌, ◌<◌, ◌≤◌, Bool, true, false, Option, Some, None, List, [], ◌∷◌, ◌++◌, length, refl, arith, sym, ◌∙◌, ap, subst, inl, inr}
+use Rattle.std.specs.Prelude.{nat_le, ◌==◌, ◌%◌, slice_index, nat_lt, ◌-◌, if◌then◌else◌, pos, negsuc}
+use Rattle.std.specs.Int.{w8, cast_signed}
 use mir.Val.{sel}
 use Rattle.std.proofs.lemmas.Bool.Decides.{nat_tests}
 use Rattle.micro_word.specs.declared.statement.Machine.{Machine}
 use Rattle.micro_word.specs.declared.statement.Machine.TheVariants.{Mic1}
 use Rattle.micro_word.specs.Operation.{plus, next, signed_byte}
 use Rattle.console_port.specs.World.{World, Refusal, StackLimit, write_refusal, byte_in}
-use Rattle.mic_clock.specs.Meaning.{Done, Refused}
 use Rattle.mic1_datapath.specs.declared.micro.Micro.{Micro}
 use Rattle.mic1_datapath.specs.Microstep.{first_refusal}
 use Rattle.mic1_datapath.specs.Mic1.{mic1_meaning}
 use Rattle.ijvm_definition.specs.declared.instr.Instr.{Instr}
 use Rattle.ijvm_definition.specs.declared.instr.Instr.TheVariants.{Nop, Bipush, Iadd, Out, Halt}
 use Rattle.ijvm_definition.specs.Instructions.{instr_at}
-use Rattle.ijvm_definition.specs.Frames.{State, frames_of, base, sp_of, lv_of}
-use Rattle.ijvm_definition.specs.Step.{Outcome, Goes, Halts, Errs, Limits, Stuck, outcome, stepped, step, limited, moved, pushed, combined, given_out, word_of}
+use Rattle.ijvm_definition.specs.Frames.{State, frames_of, base}
+use Rattle.ijvm_definition.specs.Step.{Outcome, Goes, Halts, Errs, Limits, Stuck, outcome, stepped, step, limited, moved, combined, given_out, word_of}
 use Rattle.ijvm_definition.specs.Cost.{next_cost, cost_at, cost}
 use Rattle.ijvm_definition.specs.Run.{Program}
 use Rattle.shipped_microcode.specs.Shipped.{shipped, HasShipped}
 use Rattle.shipped_microcode.specs.Stands.{Origin, Stands}
 use Rattle.shipped_microcode.proofs.Accesses.{IsMap, next_is, write_limit}
-use Rattle.shipped_microcode.proofs.Passes.{Moment, pass, outcome_at}
+use Rattle.shipped_microcode.proofs.Passes.{Moment, pass}
 use Rattle.shipped_microcode.proofs.Guided.{clocked, pass-clocked, outcome_is, step-refused}
 use Rattle.shipped_microcode.proofs.Boundaries.{Comes, Counts, counts, at_main, starts, shows}
 use Rattle.shipped_microcode.proofs.Operands.{nop, bipush, iadd}
 use Rattle.shipped_microcode.proofs.Consoles.{out}
-use Rattle.shipped_microcode.proofs.Instruction.{HasWord, Moves, Stops, Overruns, Shows, Law}
+use Rattle.shipped_microcode.proofs.Instruction.{HasWord, Moves, Stops, Overruns, Law}
 use Rattle.shipped_microcode.proofs.Decoded.{Decoded, decoded}
 
 -- the instructions of the sixteen words

@@ -1,22 +1,20 @@
 -- The headline of texts of the straight form: from the reset over the loaded text to the end.
-use Rattle.std.proofs.Common.{◌≡◌, ℕ, ◌+◌, ◌*◌, ◌/◌, ◌<◌, ◌≤◌, List, [], length, replicate, Option, Some, None, refl, arith, sym, ◌∙◌, ap, subst, inl, inr, All}
-use Rattle.std.specs.Prelude.{slice_index, IsTrue}
+use Rattle.std.proofs.Common.{◌≡◌, ℕ, ◌+◌, ◌*◌, ◌<◌, ◌≤◌, List, [], length, replicate, Some, refl, arith, sym, ◌∙◌, ap, inl, inr, All}
+use Rattle.std.specs.Prelude.{slice_index}
 use Rattle.std.proofs.lemmas.List.{length-replicate, get_or_past}
 use Rattle.std.proofs.lemmas.Bool.{cases_lt}
-use Rattle.micro_word.specs.declared.statement.Machine.TheVariants.{Mic1}
-use Rattle.console_port.specs.World.{World}
 use Rattle.console_port.specs.Loading.{IsLoaded}
 use Rattle.mic_clock.specs.declared.end.End.TheVariants as clocked
 use Rattle.mic_clock.specs.Run.{MicroRun, turns}
 use Rattle.mic1_datapath.specs.declared.micro.Micro.{Micro}
 use Rattle.mic1_datapath.specs.Mic1.{mic1_meaning}
 use Rattle.ijvm_definition.specs.declared.run.RunEnd.{RunEnd}
-use Rattle.ijvm_definition.specs.Frames.{State, start_of}
+use Rattle.ijvm_definition.specs.Frames.{start_of}
 use Rattle.ijvm_definition.specs.Run.{Program, Finish, first_point, EndsBy}
 use Rattle.shipped_microcode.specs.Shipped.{HasShipped}
 use Rattle.shipped_microcode.specs.Straight.{Runs, image_of}
 use Rattle.shipped_microcode.specs.Stands.{Origin, Stands}
-use Rattle.shipped_microcode.specs.Simulates.{Simulates, IsEnd, end_of}
+use Rattle.shipped_microcode.specs.Simulates.{Simulates, end_of}
 use Rattle.shipped_microcode.specs.Headline.{program, reset_run}
 use Rattle.shipped_microcode.proofs.Accesses.{IsMap}
 use Rattle.shipped_microcode.proofs.Instruction.{Law}

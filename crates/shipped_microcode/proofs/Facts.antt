@@ -1,5 +1,5 @@
 -- What a machine at a boundary knows of its stack, and what it holds after an instruction; for both machines.
-use Rattle.std.proofs.Common.{◌≡◌, ℕ, suc, ◌+◌, ◌-◌, ◌<◌, ◌≤◌, None, List, [], ◌∷◌, ◌++◌, length, refl, arith, ◌∙◌, ap, sym, subst}
+use Rattle.std.proofs.Common.{◌≡◌, ℕ, suc, ◌+◌, ◌-◌, ◌<◌, ◌≤◌, List, [], ◌∷◌, ◌++◌, length, refl, arith, ◌∙◌, ap, sym, subst}
 use Rattle.std.specs.Prelude.{slice_index, slice_set}
 use Rattle.micro_word.specs.Operation.{next, before}
 use Rattle.console_port.specs.World.{World, read_value}

@@ -1,16 +1,14 @@
 -- Symbolic runs of Mic-1 over the shipped microprogram: a run along guessed next addresses, and what makes it the machine's.
-use Rattle.std.proofs.Common.{ap, ap₂, ◌∙◌, ◌≡◌, ℕ, zero, suc, ◌+◌, ◌<◌, Option, Some, None, true, List, [], ◌∷◌, length, arith, refl, sym, add-zero, length-set}
+use Rattle.std.proofs.Common.{ap, ap₂, ◌∙◌, ◌≡◌, ℕ, zero, suc, ◌<◌, Option, Some, None, true, List, [], ◌∷◌, length, arith, refl, add-zero, length-set}
 use Rattle.std.specs.Prelude.{nat_lt}
 use Rattle.std.proofs.lemmas.Bool.Decides.{nat_tests}
 use Rattle.console_port.specs.World.{World, Refusal}
-use Rattle.micro_word.specs.declared.statement.Machine.TheVariants.{Mic1}
 use Rattle.micro_word.specs.declared.statement.Mem.{Mem}
 use Rattle.micro_word.specs.declared.statement.Mem.TheVariants.{None as Idle, Read, Write}
 use Rattle.micro_word.specs.declared.statement.Placed.{Placed}
 use Rattle.micro_word.specs.declared.statement.PlacedNext.{PlacedNext}
 use Rattle.micro_word.specs.declared.statement.PlacedNext.TheVariants.{Goto, Dispatch, Branch}
-use Rattle.micro_word.specs.Coding.{statement_of}
-use Rattle.mic_clock.specs.Meaning.{Outcome, Done, Refused}
+use Rattle.mic_clock.specs.Meaning.{Done, Refused}
 use Rattle.mic1_datapath.specs.declared.micro.Micro.{Micro}
 use Rattle.mic1_datapath.specs.Microstep.{clock, world_after, settled, written, sampled, refusal, memory_refusal, byte_refusal}
 use Rattle.mic1_datapath.specs.Mic1.{mic1_meaning, microstep, outcome, step_of_word, driven}

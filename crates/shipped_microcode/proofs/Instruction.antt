@@ -1,11 +1,10 @@
 -- What one instruction takes of a machine, and how a run goes on from a boundary or ends behind it.
-use Rattle.std.proofs.Common.{◌≡◌, ◌≢◌, ℕ, zero, suc, ◌+◌, ◌-◌, ◌<◌, ◌≤◌, ◌⊎◌, Bool, true, false, Option, Some, None, IsSome, List, ◌++◌, refl, arith, sym, ◌∙◌, ap, ap₂, subst, inl, inr, add-zero}
-use Rattle.std.specs.Prelude.{nat_le, ◌==◌, ◌&&◌, is_some}
+use Rattle.std.proofs.Common.{◌≡◌, ℕ, zero, suc, ◌+◌, ◌<◌, Bool, true, false, Option, Some, None, List, ◌++◌, refl, arith, sym, ◌∙◌, ap, ap₂, subst, inl, inr}
+use Rattle.std.specs.Prelude.{nat_le, ◌==◌, is_some}
 use Rattle.std.proofs.lemmas.Bool.Decides.{nat_tests}
-use Rattle.std.proofs.lemmas.Bool.{cases_Bool, cases_lt}
+use Rattle.std.proofs.lemmas.Bool.{cases_lt}
 use Rattle.console_port.specs.World.{World, StackLimit}
 use Rattle.mic_clock.specs.declared.counts.Boundary.{Boundary}
-use Rattle.mic_clock.specs.declared.counts.Counts.{Counts}
 use Rattle.mic_clock.specs.declared.end.End.{End}
 use Rattle.mic_clock.specs.declared.end.End.TheVariants as clocked
 use Rattle.mic_clock.specs.Meaning.{Meaning, Refused}
@@ -15,10 +14,10 @@ use Rattle.ijvm_definition.specs.declared.run.RunEnd.TheVariants as defined
 use Rattle.ijvm_definition.specs.Frames.{State, sp_of, lv_of}
 use Rattle.ijvm_definition.specs.Step.{Outcome, Goes, Halts, Errs, Limits, Stuck, outcome}
 use Rattle.ijvm_definition.specs.Cost.{next_cost}
-use Rattle.ijvm_definition.specs.Run.{Program, Point, Finish, point_after, finish_from, after_test, after_outcome, completed, stopped, EndsBy}
-use Rattle.shipped_microcode.specs.Simulates.{point_at, below, going_on, boundary_of, end_of, IsBoundary, IsEnd}
+use Rattle.ijvm_definition.specs.Run.{Program, Point, Finish, point_after, finish_from, after_test, after_outcome, completed, stopped}
+use Rattle.shipped_microcode.specs.Simulates.{point_at, below, going_on, end_of, IsBoundary, IsEnd}
 use Rattle.shipped_microcode.proofs.Passes.{Moment, is_inside, not_boundary, outcome_at, pass}
-use Rattle.shipped_microcode.proofs.Turns.{moment_of, run_inside, run_at, IsReady, ready_inside, whole_turn, turns-add, ended_stays, ending_turn, clocks, pass_turns, pass_turns_inside, Shorter, shorter}
+use Rattle.shipped_microcode.proofs.Turns.{moment_of, run_inside, run_at, IsReady, ready_inside, whole_turn, turns-add, ending_turn, clocks, pass_turns, pass_turns_inside, Shorter, shorter}
 
 -- MPC is at no end
 pub record HasWord {S : Type 0} (m : Meaning S) (x : S) : Type 0 where

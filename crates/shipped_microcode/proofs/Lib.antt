@@ -21,3 +21,4 @@ pub mod Ahead
 pub mod Unread
 pub mod Carried
 pub mod Boards
+pub mod Examples

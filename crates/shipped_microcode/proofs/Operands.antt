@@ -1,5 +1,5 @@
 -- Instructions on the operands alone.
-use Rattle.std.proofs.Common.{◌≡◌, ℕ, ◌+◌, ◌<◌, List, [], ◌∷◌, length, refl, arith, ◌∙◌, ap, ap₂, add_comm}
+use Rattle.std.proofs.Common.{◌≡◌, ℕ, ◌+◌, ◌<◌, List, [], ◌∷◌, length, refl, ◌∙◌, ap, ap₂, add_comm}
 use Rattle.std.specs.Prelude.{slice_set}
 use Rattle.micro_word.specs.Operation.{wrap, plus, next, before, signed_byte}
 use Rattle.console_port.specs.World.{World, read_value, byte_in}
@@ -9,7 +9,7 @@ use Rattle.mic1_datapath.specs.declared.micro.Micro.{Micro}
 use Rattle.shipped_microcode.specs.Shipped.{HasShipped}
 use Rattle.shipped_microcode.specs.Stands.{Origin, Stands}
 use Rattle.shipped_microcode.proofs.Accesses.{IsMap, Access}
-use Rattle.shipped_microcode.proofs.Facts.{room, Top, top, Two, two, pushes, drops}
+use Rattle.shipped_microcode.proofs.Facts.{room, Two, two, pushes, drops}
 use Rattle.shipped_microcode.proofs.Boundaries.{Comes, comes, Counts, counts, at_boundary}
 
 plus_comm : (x y : ℕ) → plus x y ≡ plus y x

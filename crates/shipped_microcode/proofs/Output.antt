@@ -1,16 +1,15 @@
 -- The bytes that a run of Mic-1 has given only become more.
-use Rattle.std.proofs.Common.{◌≡◌, ℕ, ◌-◌, ◌<◌, ◌≤◌, Bool, true, false, Option, Some, List, [], ◌∷◌, ◌++◌, refl, arith, sym, ◌∙◌, ap, inl, inr, append_assoc}
+use Rattle.std.proofs.Common.{◌≡◌, ℕ, ◌-◌, Bool, true, false, Some, List, [], ◌∷◌, ◌++◌, refl, arith, sym, ◌∙◌, ap, inl, inr, append_assoc}
 use Rattle.std.specs.Prelude.{nat_lt, ◌%◌, if◌then◌else◌}
 use Rattle.std.proofs.lemmas.List.{append-nil}
 use Rattle.std.proofs.lemmas.Bool.{cases_lt}
 use Rattle.console_port.specs.World.{World, given_after}
 use Rattle.micro_word.specs.declared.statement.Mem.{Mem}
 use Rattle.micro_word.specs.declared.statement.Mem.TheVariants.{None as Idle, Read, Write}
-use Rattle.micro_word.specs.declared.statement.Placed.{Placed}
 use Rattle.mic_clock.specs.declared.end.End.{End}
 use Rattle.mic_clock.specs.Run.{MicroRun, turns}
 use Rattle.mic1_datapath.specs.declared.micro.Micro.{Micro}
-use Rattle.mic1_datapath.specs.Microstep.{settled, written, sampled, world_after}
+use Rattle.mic1_datapath.specs.Microstep.{settled, written, sampled}
 use Rattle.mic1_datapath.specs.Mic1.{mic1_meaning}
 use Rattle.shipped_microcode.proofs.Worlds.{turns_keep, between, behind_end}
 

@@ -4,7 +4,7 @@ use Rattle.std.specs.Prelude.{not, ◌||◌, ◌==◌}
 use Rattle.std.proofs.lemmas.Bool.{cases_Bool}
 use Rattle.std.proofs.lemmas.Bool.Decides.{nat_tests}
 use Rattle.std.proofs.Common.{inl, inr}
-use Rattle.console_port.specs.World.{World, Refusal}
+use Rattle.console_port.specs.World.{World}
 use Rattle.mic_clock.specs.Meaning.{Meaning, Outcome, Done, Refused}
 use Rattle.mic_clock.specs.Run.{number_of, word_at}
 

@@ -1,13 +1,10 @@
 -- A pass is so many turns of a run.
-use Rattle.std.proofs.Common.{◌≡◌, ℕ, zero, suc, ◌+◌, ◌-◌, ◌<◌, Bool, true, false, Option, Some, None, List, refl, arith, sym, ◌∙◌, ap, ap₂, zero-add, suc-add, inl, inr, IsSome, subst}
+use Rattle.std.proofs.Common.{◌≡◌, ℕ, zero, suc, ◌+◌, ◌-◌, ◌<◌, Bool, true, false, Option, Some, None, List, refl, arith, sym, ◌∙◌, ap, ap₂, zero-add, suc-add}
 use Rattle.std.specs.Prelude.{nat_le, ◌==◌, ◌&&◌, is_some}
 use Rattle.std.proofs.lemmas.Bool.Decides.{nat_tests}
-use Rattle.std.proofs.lemmas.Bool.{cases_Bool}
-use Rattle.console_port.specs.World.{World, Refusal}
 use Rattle.mic_clock.specs.declared.end.End.{End}
-use Rattle.mic_clock.specs.declared.end.End.TheVariants as ends
-use Rattle.mic_clock.specs.Meaning.{Meaning, Outcome, Done, Refused}
-use Rattle.mic_clock.specs.Run.{MicroRun, turn, turn_by, turns, bounded, bounded_by, end_before, gone, stepped, last_cycles, number_of, counts_ended}
+use Rattle.mic_clock.specs.Meaning.{Meaning, Outcome, Done}
+use Rattle.mic_clock.specs.Run.{MicroRun, turn, turn_by, turns, bounded, bounded_by, end_before, gone, stepped, last_cycles, number_of}
 use Rattle.shipped_microcode.proofs.Passes.{Moment, is_inside, not_boundary, outcome_at, stalls_at, pass, last, onward, onward-inside, Inner, inner, Last, last_is}
 
 abbrev pub moment_of : {State : Type 0} → MicroRun State → Moment State

@@ -1,11 +1,9 @@
 -- A run of a text of the straight form never reads the console.
-use Rattle.std.proofs.Common.{◌≡◌, ◌⊎◌, ℕ, zero, suc, ◌+◌, ◌-◌, ◌/◌, ◌<◌, ◌≤◌, Bool, true, false, Option, Some, None, List, [], ◌∷◌, ◌++◌, drop, length, replicate, refl, arith, sym, ◌∙◌, ap, inl, inr, subst, length-append, length-set}
+use Rattle.std.proofs.Common.{◌≡◌, ◌⊎◌, ℕ, suc, ◌+◌, ◌-◌, ◌/◌, ◌<◌, ◌≤◌, Bool, true, false, Option, Some, None, List, [], ◌∷◌, ◌++◌, drop, length, refl, arith, sym, ◌∙◌, ap, inl, inr, subst, length-append, length-set}
 use Rattle.std.specs.Prelude.{nat_lt, nat_le, ◌==◌, ◌&&◌, if◌then◌else◌}
 use Rattle.std.proofs.lemmas.Bool.{cases_lt}
 use Rattle.std.proofs.lemmas.Bool.Decides.{nat_tests}
-use Rattle.std.proofs.lemmas.List.{length-replicate}
 use Rattle.console_port.specs.World.{World, Refusal, OutOfMap, untaken_after, read_refusal, fetch_refusal}
-use Rattle.console_port.specs.Loading.{IsLoaded}
 use Rattle.micro_word.specs.declared.statement.Machine.TheVariants as machines
 use Rattle.micro_word.specs.declared.statement.Mem.{Mem}
 use Rattle.micro_word.specs.declared.statement.Mem.TheVariants.{None as Idle, Read, Write}
@@ -14,10 +12,10 @@ use Rattle.micro_word.specs.Coding.{statement_of}
 use Rattle.mic_clock.specs.declared.end.End.{End}
 use Rattle.mic_clock.specs.declared.end.End.TheVariants as ends
 use Rattle.mic_clock.specs.Meaning.{Outcome, Done, Refused}
-use Rattle.mic_clock.specs.Run.{MicroRun, turn, turn_by, turns, bounded, bounded_by, gone, stepped, end_before, end_of as refusal_end, word_at, IsClocking}
+use Rattle.mic_clock.specs.Run.{MicroRun, turn, turn_by, turns, bounded, bounded_by, gone, stepped, end_of as refusal_end, word_at, IsClocking}
 use Rattle.mic1_datapath.specs.declared.micro.Micro.{Micro}
 use Rattle.mic1_datapath.specs.Access.{is_read}
-use Rattle.mic1_datapath.specs.Microstep.{settled, written, sampled, clock, world_after, refusal, access_refusal, byte_refusal, first_refusal}
+use Rattle.mic1_datapath.specs.Microstep.{settled, written, sampled, clock, access_refusal}
 use Rattle.mic1_datapath.specs.Mic1.{mic1_meaning, outcome, step_of_word, reads_console}
 use Rattle.ijvm_definition.specs.declared.run.RunEnd.{RunEnd}
 use Rattle.ijvm_definition.specs.declared.run.RunEnd.TheVariants as defined
@@ -35,6 +33,7 @@ access_shrinks top Read m w = by_test (nat_lt m.mar top)
     dropped : (xs : List ℕ) → length (drop 1 xs) ≤ length xs
     dropped [] = omega arith
     dropped (x ∷ xs) = omega arith
+
     by_test : (t : Bool) → length (if t then w.untaken else drop 1 w.untaken) ≤ length w.untaken
     by_test true = omega arith
     by_test false = dropped w.untaken
@@ -73,21 +72,27 @@ reading top Read fetch m w s is at l = by_fetch fetch
   where
     off : nat_lt m.mar top ≡ false
     off = grind (arith, nat_tests)
+
     here : (m.mar == 0xFFFFFFFD) ≡ true
     here = grind (arith, nat_tests)
+
     none : read_refusal top m.mar ≡ None
     none = rw (off, here)
+
     taken : untaken_after top w.untaken m.mar ≡ drop 1 w.untaken
     taken = rw off
+
     by_refusal : (r : Option Refusal) → ((why : Refusal) → r ≡ Some why → (at : ℕ) × (why ≡ OutOfMap at)) → Taken w (outcome r s (sampled top Read m (written top Read m w)))
     by_refusal (Some why) h = h why refl
     by_refusal None h = taken
+
     fetched : (why : Refusal) → fetch_refusal top m.pc ≡ Some why → (at : ℕ) × (why ≡ OutOfMap at)
     fetched why e = by_test (nat_lt (m.pc / 4) top) e
       where
         by_test : (t : Bool) → (if t then None else Some (OutOfMap (m.pc / 4))) ≡ Some why → (at : ℕ) × (why ≡ OutOfMap at)
         by_test true f = absurd (cc)
         by_test false f = (m.pc / 4, cc)
+
     by_fetch : (f : Bool) → Taken w (outcome (access_refusal top Read f m) s (sampled top Read m (written top Read m w)))
     by_fetch true = rw none (by_refusal (fetch_refusal top m.pc) fetched)
     by_fetch false = rw none taken
@@ -101,6 +106,7 @@ running_as bound r = by_end r.end refl
     by_tests true true e h = absurd (cc)
     by_tests true false e h = (refl, e)
     by_tests false b e h = (refl, e)
+
     by_end : (e : Option End) → r.end ≡ e → (bounded_by mic1_meaning e bound r).end ≡ None → (bounded_by mic1_meaning e bound r ≡ r) × (r.end ≡ None)
     by_end (Some e) is h = absurd (cc)
     by_end None is h = by_tests (mic1_meaning.is_boundary r.state) (nat_le bound r.counts.cycles) is h

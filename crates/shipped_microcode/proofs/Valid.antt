@@ -2,12 +2,11 @@
 use Rattle.std.proofs.Common.{◌≡◌, ℕ, ◌<◌, Bool, true, false, IsTrue, List, [], ◌∷◌, refl, inl, inr, length, ◌∙◌, ap, sym, arith, ◌≢◌, ◌+◌, get_or-set_same, get_or-set_other}
 use Rattle.std.specs.Prelude.{◌==◌, ◌&&◌, slice_index, slice_set}
 use Rattle.std.proofs.lemmas.Bool.{cases_lt}
-use Rattle.std.proofs.lemmas.Bool.Decides.{nat_tests}
 use Rattle.micro_word.specs.declared.statement.Machine.TheVariants.{Mic1}
 use Rattle.micro_word.specs.declared.statement.Placed.{Placed}
 use Rattle.micro_word.specs.Canonical.{is_valid}
 use Rattle.micro_word.specs.Coding.{word_of}
-use Rattle.shipped_microcode.specs.Shipped.{rows, unused, lookup, shipped}
+use Rattle.shipped_microcode.specs.Shipped.{rows, lookup, shipped}
 
 abbrev are_valid : List (ℕ × Placed) → Bool
 are_valid [] = true

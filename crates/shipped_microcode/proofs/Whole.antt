@@ -1,5 +1,5 @@
 -- The whole run of a machine of which it is known what each instruction takes: it is the definition's run.
-use Rattle.std.proofs.Common.{◌≡◌, ℕ, zero, suc, ◌+◌, ◌-◌, ◌<◌, ◌≤◌, Bool, true, false, Option, Some, None, List, refl, arith, sym, ◌∙◌, ap, subst, inl, inr}
+use Rattle.std.proofs.Common.{◌≡◌, ℕ, zero, suc, ◌+◌, ◌-◌, ◌<◌, ◌≤◌, true, false, Some, None, List, refl, arith, sym, ◌∙◌, ap, subst, inl, inr}
 use Rattle.std.specs.Prelude.{nat_le}
 use Rattle.std.proofs.lemmas.Bool.{cases_lt}
 use Rattle.std.proofs.lemmas.Bool.Decides.{nat_tests}
@@ -9,11 +9,10 @@ use Rattle.mic_clock.specs.Meaning.{Meaning}
 use Rattle.mic_clock.specs.Run.{MicroRun, turns}
 use Rattle.ijvm_definition.specs.declared.run.RunEnd.TheVariants as defined
 use Rattle.ijvm_definition.specs.Frames.{State}
-use Rattle.ijvm_definition.specs.Cost.{next_cost}
 use Rattle.ijvm_definition.specs.Run.{Program, Point, Finish, point_after, finish_from, after_test, stopped}
 use Rattle.shipped_microcode.specs.Simulates.{point_at, end_of, IsBoundary, IsEnd, Simulates}
 use Rattle.shipped_microcode.proofs.Turns.{turns-add, ended_stays}
-use Rattle.shipped_microcode.proofs.Instruction.{Law, Moved, Ended, Turnout, On, Over, turnout}
+use Rattle.shipped_microcode.proofs.Instruction.{Law, Turnout, On, Over, turnout}
 
 module _ {S : Type 0} (m : Meaning S) (words : List ℕ) (IsAt : State → S → World → Type 0) (before : List ℕ) (p : Program) (Fine : State → Type 0)
     (law : Law m words IsAt before p Fine) (bound : ℕ) where

@@ -1,5 +1,5 @@
 -- What each microstep of Mic-1 leaves of the world, all turns of a run leave.
-use Rattle.std.proofs.Common.{◌≡◌, ℕ, zero, suc, ◌+◌, ◌-◌, ◌<◌, ◌≤◌, Bool, true, false, Option, Some, None, List, refl, arith, sym, ◌∙◌, ap, subst, inl, inr}
+use Rattle.std.proofs.Common.{◌≡◌, ℕ, zero, suc, ◌+◌, ◌-◌, ◌≤◌, Bool, true, false, Option, Some, None, List, refl, arith, sym, ◌∙◌, ap, subst, inl, inr}
 use Rattle.std.specs.Prelude.{nat_le, length, if◌then◌else◌}
 use Rattle.std.proofs.lemmas.Bool.{cases_lt}
 use Rattle.console_port.specs.World.{World, Refusal}
@@ -23,6 +23,7 @@ module _ (words : List ℕ) (bound : ℕ) where
       by_tests true true = refl
       by_tests true false = refl
       by_tests false b = refl
+
       by_end : (e : Option End) → (bounded_by mic1_meaning e bound r).world ≡ r.world
       by_end (Some e) = refl
       by_end None = by_tests (mic1_meaning.is_boundary r.state) (nat_le bound r.counts.cycles)

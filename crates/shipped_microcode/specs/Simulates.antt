@@ -1,5 +1,5 @@
 -- That a clocked run is the definition's run: boundary by boundary, with its cycles, and in its end.
-use Rattle.std.specs.Prelude.{◌≡◌, ◌≢◌, ℕ, zero, suc, ◌+◌, ◌<◌, Bool, true, false, nat_le, List, ◌++◌, Option, Some, None}
+use Rattle.std.specs.Prelude.{◌≡◌, ◌≢◌, ℕ, zero, suc, ◌<◌, Bool, true, false, nat_le, List, ◌++◌, Option, Some, None}
 use Rattle.console_port.specs.World.{World}
 use Rattle.mic_clock.specs.declared.counts.Boundary.{Boundary}
 use Rattle.mic_clock.specs.declared.end.End.{End}

@@ -4,8 +4,8 @@ use crate::run::{run_straight, straight_board};
 use crate::store::{MAIN1, first_store};
 use crate::straight::{StraightError, check_straight};
 use mic_base::{MemSink, MemSource};
-use mic1_datapath::Mic1;
 use mic_clock::{Board, Boundary, Counts, End, Registers, Tail};
+use mic1_datapath::Mic1;
 use std::alloc::{AllocError, Global};
 use std::process::Abort;
 use std::test::Fail;
@@ -89,9 +89,21 @@ fn hello_from_boundary_to_boundary(rt: HostRuntime) -> Result<(), Fail> {
     let alloc = rt.alloc();
     let (mut source, mut sink) = (no_input(alloc), output(alloc)?);
     let mut board = straight_board(alloc, &HELLO)?;
-    reach(&rt, &mut board, &mut source, &mut sink, counts(2, 0, 2, 0, 0x7FFF));
+    reach(
+        &rt,
+        &mut board,
+        &mut source,
+        &mut sink,
+        counts(2, 0, 2, 0, 0x7FFF),
+    );
     assert_eq!(rt; board.registers(), registers(0, 0, 0, 0x002, 0x10));
-    reach(&rt, &mut board, &mut source, &mut sink, counts(6, 1, 6, 2, 0x8000));
+    reach(
+        &rt,
+        &mut board,
+        &mut source,
+        &mut sink,
+        counts(6, 1, 6, 2, 0x8000),
+    );
     let pushed = Registers {
         mar: 0x8000,
         mdr: 0x48,
@@ -100,7 +112,13 @@ fn hello_from_boundary_to_boundary(rt: HostRuntime) -> Result<(), Fail> {
         ..registers(2, 0, 0, 0x002, 0xFD)
     };
     assert_eq!(rt; board.registers(), pushed);
-    reach(&rt, &mut board, &mut source, &mut sink, counts(14, 2, 14, 3, 0x7FFF));
+    reach(
+        &rt,
+        &mut board,
+        &mut source,
+        &mut sink,
+        counts(14, 2, 14, 3, 0x7FFF),
+    );
     assert_eq!(rt; board.instruction(&mut source, &mut sink), Some(End::Halt));
     assert_eq!(rt; board.counts(), counts(15, 3, 14, 3, 0x7FFF));
     assert_eq!(rt; board.registers(), halted(4));
@@ -112,14 +130,44 @@ fn sum_from_boundary_to_boundary(rt: HostRuntime) -> Result<(), Fail> {
     let alloc = rt.alloc();
     let (mut source, mut sink) = (no_input(alloc), output(alloc)?);
     let mut board = straight_board(alloc, &SUM)?;
-    reach(&rt, &mut board, &mut source, &mut sink, counts(2, 0, 2, 0, 0x7FFF));
-    reach(&rt, &mut board, &mut source, &mut sink, counts(6, 1, 6, 2, 0x8000));
+    reach(
+        &rt,
+        &mut board,
+        &mut source,
+        &mut sink,
+        counts(2, 0, 2, 0, 0x7FFF),
+    );
+    reach(
+        &rt,
+        &mut board,
+        &mut source,
+        &mut sink,
+        counts(6, 1, 6, 2, 0x8000),
+    );
     assert_eq!(rt; board.registers().tos, 0x41);
-    reach(&rt, &mut board, &mut source, &mut sink, counts(10, 2, 10, 4, 0x8001));
+    reach(
+        &rt,
+        &mut board,
+        &mut source,
+        &mut sink,
+        counts(10, 2, 10, 4, 0x8001),
+    );
     assert_eq!(rt; board.registers().tos, 1);
-    reach(&rt, &mut board, &mut source, &mut sink, counts(14, 3, 14, 5, 0x8000));
+    reach(
+        &rt,
+        &mut board,
+        &mut source,
+        &mut sink,
+        counts(14, 3, 14, 5, 0x8000),
+    );
     assert_eq!(rt; board.registers().tos, 0x42);
-    reach(&rt, &mut board, &mut source, &mut sink, counts(22, 4, 22, 6, 0x7FFF));
+    reach(
+        &rt,
+        &mut board,
+        &mut source,
+        &mut sink,
+        counts(22, 4, 22, 6, 0x7FFF),
+    );
     assert_eq!(rt; board.instruction(&mut source, &mut sink), Some(End::Halt));
     Ok(())
 }
@@ -149,14 +197,54 @@ fn runs(
 #[test]
 fn ends(rt: HostRuntime) -> Result<(), Fail> {
     let alloc = rt.alloc();
-    let last = runs(&rt, alloc, &HELLO, BOUND, End::Halt, counts(15, 3, 14, 3, 0x7FFF), b"H")?;
+    let last = runs(
+        &rt,
+        alloc,
+        &HELLO,
+        BOUND,
+        End::Halt,
+        counts(15, 3, 14, 3, 0x7FFF),
+        b"H",
+    )?;
     assert_eq!(rt; last, halted(4));
-    let last = runs(&rt, alloc, &SUM, BOUND, End::Halt, counts(23, 5, 22, 6, 0x7FFF), b"B")?;
+    let last = runs(
+        &rt,
+        alloc,
+        &SUM,
+        BOUND,
+        End::Halt,
+        counts(23, 5, 22, 6, 0x7FFF),
+        b"B",
+    )?;
     assert_eq!(rt; last, halted(7));
-    let last = runs(&rt, alloc, &HELLO, 0, End::Bound, counts(2, 0, 2, 0, 0x7FFF), b"")?;
+    let last = runs(
+        &rt,
+        alloc,
+        &HELLO,
+        0,
+        End::Bound,
+        counts(2, 0, 2, 0, 0x7FFF),
+        b"",
+    )?;
     assert_eq!(rt; last, registers(0, 0, 0, 0x002, 0x10));
-    runs(&rt, alloc, &HELLO, 12, End::Bound, counts(14, 2, 14, 3, 0x7FFF), b"H")?;
-    runs(&rt, alloc, &[0xFF], BOUND, End::Halt, counts(3, 1, 2, 0, 0x7FFF), b"")?;
+    runs(
+        &rt,
+        alloc,
+        &HELLO,
+        12,
+        End::Bound,
+        counts(14, 2, 14, 3, 0x7FFF),
+        b"H",
+    )?;
+    runs(
+        &rt,
+        alloc,
+        &[0xFF],
+        BOUND,
+        End::Halt,
+        counts(3, 1, 2, 0, 0x7FFF),
+        b"",
+    )?;
     Ok(())
 }
 
@@ -181,12 +269,24 @@ fn forms(rt: HostRuntime) -> Result<(), Fail> {
     assert_eq!(rt; check_straight(&HELLO), Ok(()));
     assert_eq!(rt; check_straight(&SUM), Ok(()));
     assert_eq!(rt; check_straight(&[0xFF]), Ok(()));
-    assert_eq!(rt; check_straight(&[0x60, 0xFF]), Err(StraightError::Underflow(0)));
-    assert_eq!(rt; check_straight(&[0x10, 0xFF, 0x60, 0xFD, 0xFF]), Err(StraightError::Underflow(2)));
-    assert_eq!(rt; check_straight(&[0x10, 0x01, 0xFD, 0xFD, 0xFF]), Err(StraightError::Underflow(3)));
+    assert_eq!(rt;
+        check_straight(&[0x60, 0xFF]),
+        Err(StraightError::Underflow(0))
+    );
+    assert_eq!(rt;
+        check_straight(&[0x10, 0xFF, 0x60, 0xFD, 0xFF]),
+        Err(StraightError::Underflow(2))
+    );
+    assert_eq!(rt;
+        check_straight(&[0x10, 0x01, 0xFD, 0xFD, 0xFF]),
+        Err(StraightError::Underflow(3))
+    );
     assert_eq!(rt; check_straight(&[0x00, 0xFF]), Err(StraightError::NotBuilt));
     assert_eq!(rt; check_straight(&[0x10, 0xFF]), Err(StraightError::NotBuilt));
-    assert_eq!(rt; check_straight(&[0x60, 0xFF, 0xFF]), Err(StraightError::NotBuilt));
+    assert_eq!(rt;
+        check_straight(&[0x60, 0xFF, 0xFF]),
+        Err(StraightError::NotBuilt)
+    );
     assert_eq!(rt; check_straight(&[]), Err(StraightError::NotBuilt));
     Ok(())
 }

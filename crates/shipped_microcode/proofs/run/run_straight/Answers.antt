@@ -1,6 +1,5 @@
-use Rattle.std.proofs.Common.{◌≡◌, ℕ, List, [], Option, Some, None, sym, subst, ap}
+use Rattle.std.proofs.Common.{ℕ, Some, sym, subst}
 use Rattle.micro_word.specs.ControlStore.{ControlStore}
-use Rattle.console_port.specs.View.{BusView}
 use Rattle.mic_clock.specs.Board.{IsLedTo, Leads, ShowsRun, IsCutByRead, IsCutByWrite as IsCut}
 use Rattle.mic1_datapath.specs.Mic1.{mic1_meaning}
 use Rattle.mic1_datapath.specs.View.{micro_of}

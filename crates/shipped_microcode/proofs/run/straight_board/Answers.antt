@@ -1,4 +1,4 @@
-use Rattle.std.proofs.Common.{◌≡◌, List, ℕ, [], ap, sym, subst, replicate}
+use Rattle.std.proofs.Common.{List, ℕ, [], ap, sym, subst, replicate}
 use Rattle.console_port.specs.View.{BusView}
 use Rattle.console_port.specs.Loading.{IsLoaded}
 use Rattle.shipped_microcode.proofs.run.straight_board.Goals as goal

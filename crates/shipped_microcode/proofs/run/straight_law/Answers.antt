@@ -1,4 +1,3 @@
-use Rattle.std.proofs.Common.{◌<◌, ℕ, List, All, length}
 use Rattle.shipped_microcode.proofs.Carried.{simulated, bytes_small}
 use Rattle.shipped_microcode.proofs.run.straight_law.Goals as goal
 

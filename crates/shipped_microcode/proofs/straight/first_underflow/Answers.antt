@@ -1,10 +1,8 @@
-use Rattle.std.proofs.Common.{◌≡◌, ◌≤◌, ◌<◌, ℕ, List, [], ◌∷◌, length, ◌+◌, ◌-◌, Option, Some, None, sym, subst, arith, ◌∙◌, ap, true, false, IsTrue, refl}
-use Rattle.std.specs.Prelude.{nat_lt, if◌then◌else◌}
-use Rattle.std.proofs.lemmas.Bool.Decides.{nat_tests}
+use Rattle.std.proofs.Common.{◌≡◌, ◌≤◌, ℕ, List, ◌+◌, ◌-◌, Some, None, sym, subst, arith, ◌∙◌, ap, true, refl}
 use Rattle.ijvm_definition.specs.declared.instr.Instr.{Instr}
 use Rattle.ijvm_definition.specs.declared.row.Row.{Row}
 use Rattle.ijvm_definition.specs.Instructions.{row_of, size_of, instr_at}
-use Rattle.shipped_microcode.specs.Straight.{IsPlain, IsFrom, underflow}
+use Rattle.shipped_microcode.specs.Straight.{IsPlain}
 use Rattle.shipped_microcode.proofs.Decoded.{Decoded, decoded}
 use Rattle.shipped_microcode.proofs.Straights.{Left, left_on, left_underflow, left_end, gives_one, some_instr}
 use Rattle.shipped_microcode.proofs.straight.first_underflow.Goals as goal

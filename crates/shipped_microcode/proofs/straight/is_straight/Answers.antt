@@ -1,5 +1,4 @@
-use Rattle.std.proofs.Common.{◌≡◌, ◌≤◌, ◌<◌, ℕ, List, length, ◌+◌, ◌-◌, [], Some, None, sym, subst, arith, ◌∙◌, ap, true, false, IsTrue}
-use Rattle.std.specs.Prelude.{◌==◌}
+use Rattle.std.proofs.Common.{◌≡◌, ℕ, List, length, ◌+◌, [], Some, sym, subst, arith, ◌∙◌, ap, true}
 use Rattle.std.proofs.lemmas.Bool.Decides.{nat_tests}
 use Rattle.ijvm_definition.specs.declared.instr.Instr.{Instr}
 use Rattle.ijvm_definition.specs.declared.instr.Instr.TheVariants.{Halt}

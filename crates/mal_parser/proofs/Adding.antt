@@ -1,0 +1,407 @@
+-- The lines of a source say something together where none is refused behind the others.
+use Rattle.std.proofs.Common.{◌≡◌, ℕ, suc, ◌+◌, ◌≤◌, Bool, true, false, List, [], ◌∷◌, ◌++◌, Option, Some, None, length, refl, sym, ap, subst, ◌∙◌, arith, inl, inr, cond, append_assoc, length-append}
+use Rattle.std.specs.Prelude.{Result, Ok, Err, map, nat_le, ◌||◌, ◌⊎◌, is_some, option_map, option_to_list, IsSome}
+use Rattle.std.specs.List.{cons_option}
+use Rattle.std.specs.Str.{bytes_eq}
+use Rattle.std.proofs.lemmas.List.{append-nil}
+use Rattle.std.proofs.lemmas.Bool.Decides.{nat_tests}
+use Rattle.source_text.specs.Walk.{Leads}
+use Rattle.micro_word.specs.declared.statement.Machine.{Machine}
+use Rattle.mal_line.specs.declared.content.Content.{Content}
+use Rattle.mal_line.specs.declared.content.Content.TheVariants as said
+use Rattle.mal_line.specs.declared.content.Parts.{Parts}
+use Rattle.mal_parser.specs.declared.error.MalError.{MalError}
+use Rattle.mal_parser.specs.declared.error.MalError.TheVariants as errors
+use Rattle.mal_parser.specs.declared.source.Draft.{Draft}
+use Rattle.mal_parser.specs.declared.source.Fix.{Fix}
+use Rattle.mal_parser.specs.Labels.{address_of, has_fix, has_label, has_name, is_label}
+use Rattle.mal_parser.specs.Sketch.{add_content, add_fix, add_said, content_at, empty, Sketch, step}
+use Rattle.mal_parser.specs.Sound.{AreDistinct, is_among, labels_of}
+use Rattle.mal_parser.specs.Text.{AreAddresses, fallbacks_from, first, fixes_from, IsFine, SayAll, sketch_of, statements_from}
+use Rattle.mal_parser.proofs.Naming.{any_append}
+use Rattle.mal_parser.proofs.Resolved.{same_text, text_same}
+use Rattle.mal_parser.proofs.Saying.{content_says, says_content}
+
+-- ---- adding what the lines say
+
+pub and_then : {A B E : Type 0} → (A → Result B E) → Result A E → Result B E
+and_then f (Ok a) = f a
+and_then f (Err e) = Err e
+
+-- what lines from this one on say is added
+pub adds : ℕ → Sketch → List Content → Result Sketch MalError
+adds k s [] = Ok s
+adds k s (c ∷ cs) = and_then (λ t. adds (k + 1) t cs) (add_content k s c)
+
+pub picked : {A E : Type 0} (b : Bool) (x y z : Result A E) → cond b x y ≡ z → ((b ≡ true) × (x ≡ z)) ⊎ ((b ≡ false) × (y ≡ z))
+picked true x y z h = inl (refl, h)
+picked false x y z h = inr (refl, h)
+
+unfoldable pub with_fix : ℕ → Sketch → List ℕ → ℕ → Sketch
+with_fix k s label address = record s { fixes = s.fixes ++ (record { label = label; line = k; address = address }) ∷ [] }
+
+unfoldable pub with_fallback : ℕ → Sketch → Parts → Sketch
+with_fallback k s parts = record s { fallback = Some (record { label = None; line = k; parts = parts }) }
+
+unfoldable pub with_statement : ℕ → Sketch → Option (List ℕ) → Parts → Sketch
+with_statement k s label parts = record s { statements = s.statements ++ (record { label = label; line = k; parts = parts }) ∷ [] }
+
+-- when a line adds what it says
+pub AddsTo : ℕ → Sketch → Content → Sketch → Type 0
+AddsTo k s said.Nothing u = s ≡ u
+AddsTo k s (said.Fix label number) u = (address : ℕ) × (address_of number ≡ Some address) × (has_fix s.fixes label ≡ false) × (with_fix k s label address ≡ u)
+AddsTo k s (said.Fallback parts) u = (is_some s.fallback ≡ false) × (with_fallback k s parts ≡ u)
+AddsTo k s (said.Statement label parts) u = (has_name s.statements label ≡ false) × (nat_le 512 (length s.statements) ≡ false) × (with_statement k s label parts ≡ u)
+
+content_adds : (k : ℕ) (s : Sketch) (c : Content) (u : Sketch) → add_content k s c ≡ Ok u → AddsTo k s c u
+unfolding AddsTo with_fix with_fallback with_statement
+content_adds k s said.Nothing u h = cc
+content_adds k s (said.Fix label number) u h = go (address_of number) refl h
+  where
+    go : (o : Option ℕ) → address_of number ≡ o → add_fix k s label o ≡ Ok u → AddsTo k s (said.Fix label number) u
+    go None e h = absurd (cc)
+    go (Some a) e h = elim (picked (has_fix s.fixes label) (Err (errors.BadFix k)) (Ok (with_fix k s label a)) (Ok u) h) [
+      | inl w ↦ absurd (let z = w.1 in cc)
+      | inr w ↦ let z = w.1 in (a, e, w.0, cc)
+    ]
+content_adds k s (said.Fallback parts) u h = elim (picked (is_some s.fallback) (Err (errors.BadFix k)) (Ok (with_fallback k s parts)) (Ok u) h) [
+  | inl w ↦ absurd (let z = w.1 in cc)
+  | inr w ↦ let z = w.1 in (w.0, cc)
+]
+content_adds k s (said.Statement label parts) u h = elim (picked (has_name s.statements label) (Err (errors.DuplicateLabel k)) (cond (nat_le 512 (length s.statements)) (Err (errors.TooMany k)) (Ok (with_statement k s label parts))) (Ok u) h) [
+  | inl w ↦ absurd (let z = w.1 in cc)
+  | inr w ↦ elim (picked (nat_le 512 (length s.statements)) (Err (errors.TooMany k)) (Ok (with_statement k s label parts)) (Ok u) w.1) [
+    | inl x ↦ absurd (let z = x.1 in cc)
+    | inr x ↦ let z = x.1 in (w.0, x.0, cc)
+  ]
+]
+
+pub adds_content : (k : ℕ) (s : Sketch) (c : Content) (u : Sketch) → AddsTo k s c u → add_content k s c ≡ Ok u
+unfolding AddsTo with_fix with_fallback with_statement
+adds_content k s said.Nothing u e = ap Ok e
+adds_content k s (said.Fix label number) u (a, e, f, g) = ap (add_fix k s label) e ∙ (ap (λ b. cond b (Err (errors.BadFix k)) (Ok (with_fix k s label a))) f ∙ ap Ok g)
+adds_content k s (said.Fallback parts) u (f, g) = ap (λ b. cond b (Err (errors.BadFix k)) (Ok (with_fallback k s parts))) f ∙ ap Ok g
+adds_content k s (said.Statement label parts) u (f, n, g) =
+    ap (λ b. cond b (Err (errors.DuplicateLabel k)) (cond (nat_le 512 (length s.statements)) (Err (errors.TooMany k)) (Ok (with_statement k s label parts)))) f
+    ∙ (ap (λ b. cond b (Err (errors.TooMany k)) (Ok (with_statement k s label parts))) n ∙ ap Ok g)
+
+keeps_machine : (k : ℕ) (s : Sketch) (c : Content) (u : Sketch) → AddsTo k s c u → u.machine ≡ s.machine
+unfolding AddsTo with_fix with_fallback with_statement
+keeps_machine k s said.Nothing u e = ap (λ (x : Sketch). x.machine) (sym e)
+keeps_machine k s (said.Fix label number) u a = ap (λ (x : Sketch). x.machine) (sym a.3)
+keeps_machine k s (said.Fallback parts) u a = ap (λ (x : Sketch). x.machine) (sym a.1)
+keeps_machine k s (said.Statement label parts) u a = ap (λ (x : Sketch). x.machine) (sym a.2)
+
+-- ---- the walk over lines adds what they say
+
+pub leads_adds : (ls : List (List ℕ)) (k : ℕ) (s t : Sketch) → Leads step k s ls t → (cs : List Content) × SayAll s.machine ls cs × (adds k s cs ≡ Ok t)
+unfolding adds and_then
+leads_adds [] k s t e = ([], tt, ap Ok e)
+leads_adds (l ∷ ls) k s t (u, h, more) = by_content (content_at s.machine k l) refl h (leads_adds ls (k + 1) u t more)
+  where
+    by_content : (r : Result Content MalError) → content_at s.machine k l ≡ r → add_said k s r ≡ Ok u → (cs : List Content) × SayAll u.machine ls cs × (adds (k + 1) u cs ≡ Ok t)
+        → (cs : List Content) × SayAll s.machine (l ∷ ls) cs × (adds k s cs ≡ Ok t)
+    by_content (Err x) e h rest = absurd (cc)
+    by_content (Ok c) e h rest = (c ∷ rest.0, (says_content s.machine k l c e, subst (λ m. SayAll m ls rest.0) (keeps_machine k s c u (content_adds k s c u h)) rest.1), ap (and_then (λ t. adds (k + 1) t rest.0)) h ∙ rest.2)
+
+pub adds_leads : (ls : List (List ℕ)) (cs : List Content) (k : ℕ) (s t : Sketch) → SayAll s.machine ls cs → adds k s cs ≡ Ok t → Leads step k s ls t
+unfolding adds and_then
+adds_leads [] [] k s t say h = cc
+adds_leads [] (c ∷ cs) k s t say h = absurd say
+adds_leads (l ∷ ls) [] k s t say h = absurd say
+adds_leads (l ∷ ls) (c ∷ cs) k s t say h = go (add_content k s c) refl h (λ u e. adds_leads ls cs (k + 1) u t e)
+  where
+    go : (r : Result Sketch MalError) → add_content k s c ≡ r → and_then (λ t. adds (k + 1) t cs) r ≡ Ok t
+        → ((u : Sketch) → SayAll u.machine ls cs → adds (k + 1) u cs ≡ Ok t → Leads step (k + 1) u ls t) → Leads step k s (l ∷ ls) t
+    go (Err x) e h rec = absurd (cc)
+    go (Ok u) e h rec =
+        (u, ap (add_said k s) (content_says s.machine k l c say.0) ∙ e, rec u (subst (λ m. SayAll m ls cs) (sym (keeps_machine k s c u (content_adds k s c u e))) say.1) h)
+
+-- ---- no name stands twice
+
+or_parts : (a b : Bool) → (a || b) ≡ false → (a ≡ false) × (b ≡ false)
+or_parts true b h = absurd (cc)
+or_parts false b h = (refl, h)
+
+false_or : (a b : Bool) → a ≡ false → b ≡ false → (a || b) ≡ false
+false_or a b h k = rw (h, k) refl
+
+differ : (a b : List ℕ) → bytes_eq a b ≡ false → bytes_eq b a ≡ false
+differ a b h = go (bytes_eq b a) refl
+  where
+    go : (w : Bool) → bytes_eq b a ≡ w → w ≡ false
+    go true e = absurd (let k : b ≡ a = same_text b a e in let z : bytes_eq a b ≡ true = rw k (text_same a) in cc)
+    go false e = refl
+
+distinct_push : (xs : List (List ℕ)) (y : List ℕ) → AreDistinct xs → is_among y xs ≡ false → AreDistinct (xs ++ y ∷ [])
+distinct_push [] y h n = (refl, tt)
+distinct_push (x ∷ xs) y h n =
+    let p = or_parts (bytes_eq x y) (is_among y xs) n in
+    let e : is_among x (xs ++ y ∷ []) ≡ false = any_append (λ o. bytes_eq o x) xs (y ∷ []) ∙ false_or (is_among x xs) (bytes_eq y x || false) h.0 (false_or (bytes_eq y x) false (differ x y p.0) refl) in
+    (e, distinct_push xs y h.1 p.1)
+
+distinct_middle : (xs ys : List (List ℕ)) (y : List ℕ) → AreDistinct (xs ++ y ∷ ys) → is_among y xs ≡ false
+distinct_middle [] ys y h = refl
+distinct_middle (x ∷ xs) ys y h =
+    let a : (is_among x xs || (bytes_eq y x || is_among x ys)) ≡ false = sym (any_append (λ o. bytes_eq o x) xs (y ∷ ys)) ∙ h.0 in
+    let p = or_parts (is_among x xs) (bytes_eq y x || is_among x ys) a in
+    let q = or_parts (bytes_eq y x) (is_among x ys) p.1 in
+    false_or (bytes_eq x y) (is_among y xs) (differ y x q.0) (distinct_middle xs ys y h.1)
+
+labels_append : (ds es : List Draft) → labels_of (ds ++ es) ≡ labels_of ds ++ labels_of es
+labels_append [] es = refl
+labels_append (d ∷ ds) es = go d.label (labels_append ds es)
+  where
+    go : (o : Option (List ℕ)) → labels_of (ds ++ es) ≡ labels_of ds ++ labels_of es → cons_option o (labels_of (ds ++ es)) ≡ cons_option o (labels_of ds) ++ labels_of es
+    go None h = h
+    go (Some l) h = ap (λ ls. l ∷ ls) h
+
+fix_labels : List Fix → List (List ℕ)
+fix_labels fs = map (λ (f : Fix). f.label) fs
+
+fix_labels_append : (fs gs : List Fix) → map (λ (f : Fix). f.label) (fs ++ gs) ≡ map (λ (f : Fix). f.label) fs ++ map (λ (f : Fix). f.label) gs
+fix_labels_append [] gs = refl
+fix_labels_append (f ∷ fs) gs = ap (λ ls. f.label ∷ ls) (fix_labels_append fs gs)
+
+pub label_among : (ds : List Draft) (l : List ℕ) → has_label ds l ≡ is_among l (labels_of ds)
+label_among [] l = refl
+label_among (d ∷ ds) l = go d.label (label_among ds l)
+  where
+    go : (o : Option (List ℕ)) → has_label ds l ≡ is_among l (labels_of ds) → (is_label l o || has_label ds l) ≡ is_among l (cons_option o (labels_of ds))
+    go None h = h
+    go (Some own) h = ap (λ b. bytes_eq own l || b) h
+
+fix_among : (fs : List Fix) (l : List ℕ) → has_fix fs l ≡ is_among l (map (λ (f : Fix). f.label) fs)
+fix_among [] l = refl
+fix_among (f ∷ fs) l = ap (λ b. bytes_eq f.label l || b) (fix_among fs l)
+
+-- ---- lines that are fine behind others
+
+pub record IsFineFrom (s : Sketch) (k : ℕ) (cs : List Content) : Type 0 where
+  pub labels : AreDistinct (labels_of (s.statements ++ statements_from k cs))
+  pub few : length (s.statements ++ statements_from k cs) ≤ 512
+  pub addresses : AreAddresses cs
+  pub fixed : AreDistinct (map (λ (f : Fix). f.label) (s.fixes ++ fixes_from k cs))
+  pub one_default : length (option_to_list s.fallback ++ fallbacks_from k cs) ≤ 1
+
+pub joined : Sketch → ℕ → List Content → Sketch
+joined s k cs = record { machine = s.machine; statements = s.statements ++ statements_from k cs; fixes = s.fixes ++ fixes_from k cs; fallback = first (option_to_list s.fallback ++ fallbacks_from k cs) }
+
+first_option : {A : Type 0} (o : Option A) → first (option_to_list o ++ []) ≡ o
+first_option None = refl
+first_option (Some a) = refl
+
+joined_none : (s : Sketch) (k : ℕ) → joined s k [] ≡ s
+unfolding joined
+joined_none s k = one (s.statements ++ []) s.statements (s.fixes ++ []) s.fixes (first (option_to_list s.fallback ++ [])) s.fallback (append-nil s.statements) (append-nil s.fixes) (first_option s.fallback)
+  where
+    one : (a a2 : List Draft) (b b2 : List Fix) (c c2 : Option Draft) → a ≡ a2 → b ≡ b2 → c ≡ c2
+        → ◌≡◌ {A = Sketch} (record { machine = s.machine; statements = a; fixes = b; fallback = c }) (record { machine = s.machine; statements = a2; fixes = b2; fallback = c2 })
+    one a a2 b b2 c c2 p q r = rw (p, q, r) refl
+
+-- one line, and those behind it
+record Steps (k : ℕ) (s : Sketch) (c : Content) (u : Sketch) (cs : List Content) : Type 0 where
+  machine : u.machine ≡ s.machine
+  statements : u.statements ++ statements_from (k + 1) cs ≡ s.statements ++ statements_from k (c ∷ cs)
+  fixes : u.fixes ++ fixes_from (k + 1) cs ≡ s.fixes ++ fixes_from k (c ∷ cs)
+  fallback : option_to_list u.fallback ++ fallbacks_from (k + 1) cs ≡ option_to_list s.fallback ++ fallbacks_from k (c ∷ cs)
+
+none_list : {A : Type 0} (o : Option A) → is_some o ≡ false → option_to_list o ≡ []
+none_list None h = refl
+none_list (Some a) h = absurd (cc)
+
+steps : (k : ℕ) (s : Sketch) (c : Content) (u : Sketch) (cs : List Content) → AddsTo k s c u → Steps k s c u cs
+unfolding AddsTo with_fix with_fallback with_statement
+steps k s said.Nothing u cs e = subst (λ v. Steps k s said.Nothing v cs) e (record { machine = refl; statements = refl; fixes = refl; fallback = refl })
+steps k s (said.Fix label number) u cs (a, e, f, g) =
+    let new : Fix = record { label = label; line = k; address = a } in
+    subst (λ v. Steps k s (said.Fix label number) v cs) g (record {
+      machine = refl;
+      statements = refl;
+      fixes = append_assoc s.fixes (new ∷ []) (fixes_from (k + 1) cs) ∙ ap (λ o. s.fixes ++ cons_option (option_map {U = Fix} (λ address. record { label = label; line = k; address = address }) o) (fixes_from (k + 1) cs)) (sym e);
+      fallback = refl;
+    })
+steps k s (said.Fallback parts) u cs (f, g) =
+    let new : Draft = record { label = None; line = k; parts = parts } in
+    subst (λ v. Steps k s (said.Fallback parts) v cs) g (record {
+      machine = refl;
+      statements = refl;
+      fixes = refl;
+      fallback = ap (λ ds. ds ++ (new ∷ fallbacks_from (k + 1) cs)) (sym (none_list s.fallback f));
+    })
+steps k s (said.Statement label parts) u cs (f, n, g) =
+    let new : Draft = record { label = label; line = k; parts = parts } in
+    subst (λ v. Steps k s (said.Statement label parts) v cs) g (record {
+      machine = refl;
+      statements = append_assoc s.statements (new ∷ []) (statements_from (k + 1) cs);
+      fixes = refl;
+      fallback = refl;
+    })
+
+join_step : (k : ℕ) (s : Sketch) (c : Content) (u : Sketch) (cs : List Content) → Steps k s c u cs → joined u (k + 1) cs ≡ joined s k (c ∷ cs)
+unfolding joined
+join_step k s c u cs t =
+    one u.machine s.machine (u.statements ++ statements_from (k + 1) cs) (s.statements ++ statements_from k (c ∷ cs)) (u.fixes ++ fixes_from (k + 1) cs) (s.fixes ++ fixes_from k (c ∷ cs))
+    (option_to_list u.fallback ++ fallbacks_from (k + 1) cs) (option_to_list s.fallback ++ fallbacks_from k (c ∷ cs)) t.machine t.statements t.fixes t.fallback
+  where
+    one : (m m2 : Machine) (a a2 : List Draft) (b b2 : List Fix) (c c2 : List Draft) → m ≡ m2 → a ≡ a2 → b ≡ b2 → c ≡ c2
+        → ◌≡◌ {A = Sketch} (record { machine = m; statements = a; fixes = b; fallback = first c }) (record { machine = m2; statements = a2; fixes = b2; fallback = first c2 })
+    one m m2 a a2 b b2 c c2 o p q r = rw (o, p, q, r) refl
+
+address_adds : (k : ℕ) (s : Sketch) (c : Content) (u : Sketch) (cs : List Content) → AddsTo k s c u → AreAddresses cs → AreAddresses (c ∷ cs)
+unfolding AddsTo
+address_adds k s said.Nothing u cs a h = h
+address_adds k s (said.Fix label number) u cs (a, e, f, g) h = (ap is_some e, h)
+address_adds k s (said.Fallback parts) u cs a h = h
+address_adds k s (said.Statement label parts) u cs a h = h
+
+address_behind : (c : Content) (cs : List Content) → AreAddresses (c ∷ cs) → AreAddresses cs
+address_behind said.Nothing cs h = h
+address_behind (said.Fix label number) cs h = h.1
+address_behind (said.Fallback parts) cs h = h
+address_behind (said.Statement label parts) cs h = h
+
+back : (k : ℕ) (s : Sketch) (c : Content) (u : Sketch) (cs : List Content) → AddsTo k s c u → IsFineFrom u (k + 1) cs → IsFineFrom s k (c ∷ cs)
+back k s c u cs a h =
+    let t = steps k s c u cs a in
+    record {
+      labels = subst (λ ds. AreDistinct (labels_of ds)) t.statements h.labels;
+      few = subst (λ ds. length ds ≤ 512) t.statements h.few;
+      addresses = address_adds k s c u cs a h.addresses;
+      fixed = subst (λ (fs : List Fix). AreDistinct (map (λ (f : Fix). f.label) fs)) t.fixes h.fixed;
+      one_default = subst (λ ds. length ds ≤ 1) t.fallback h.one_default;
+    }
+
+forth : (k : ℕ) (s : Sketch) (c : Content) (u : Sketch) (cs : List Content) → AddsTo k s c u → IsFineFrom s k (c ∷ cs) → IsFineFrom u (k + 1) cs
+forth k s c u cs a h =
+    let t = steps k s c u cs a in
+    record {
+      labels = subst (λ ds. AreDistinct (labels_of ds)) (sym t.statements) h.labels;
+      few = subst (λ ds. length ds ≤ 512) (sym t.statements) h.few;
+      addresses = address_behind c cs h.addresses;
+      fixed = subst (λ (fs : List Fix). AreDistinct (map (λ (f : Fix). f.label) fs)) (sym t.fixes) h.fixed;
+      one_default = subst (λ ds. length ds ≤ 1) (sym t.fallback) h.one_default;
+    }
+
+-- ---- lines that are added are fine
+
+pub record IsFineAlone (s : Sketch) : Type 0 where
+  pub labels : AreDistinct (labels_of s.statements)
+  pub few : length s.statements ≤ 512
+  pub fixed : AreDistinct (map (λ (f : Fix). f.label) s.fixes)
+
+short_option : {A : Type 0} (o : Option A) → length (option_to_list o ++ []) ≤ 1
+short_option None = omega arith
+short_option (Some a) = omega arith
+
+alone_fine : (s : Sketch) (k : ℕ) → IsFineAlone s → IsFineFrom s k []
+alone_fine s k h = record {
+  labels = subst (λ ds. AreDistinct (labels_of ds)) (sym (append-nil s.statements)) h.labels;
+  few = subst (λ ds. length ds ≤ 512) (sym (append-nil s.statements)) h.few;
+  addresses = tt;
+  fixed = subst (λ (fs : List Fix). AreDistinct (map (λ (f : Fix). f.label) fs)) (sym (append-nil s.fixes)) h.fixed;
+  one_default = short_option s.fallback;
+}
+
+room_left : (n : ℕ) → nat_le 512 n ≡ false → n + 1 ≤ 512
+room_left n h = grind (arith, nat_tests)
+
+one_more : (k : ℕ) (s : Sketch) (label : Option (List ℕ)) (d : Draft) → d.label ≡ label → IsFineAlone s → has_name s.statements label ≡ false → nat_le 512 (length s.statements) ≡ false
+    → AreDistinct (labels_of (s.statements ++ d ∷ [])) × (length (s.statements ++ d ∷ []) ≤ 512)
+one_more k s label d e h f n =
+    (subst AreDistinct (sym (labels_append s.statements (d ∷ []))) (subst (λ o. AreDistinct (labels_of s.statements ++ cons_option o [])) (sym e) (go label f)), let l = length-append s.statements (d ∷ []) in let r = room_left (length s.statements) n in omega (arith, l, r))
+  where
+    go : (o : Option (List ℕ)) → has_name s.statements o ≡ false → AreDistinct (labels_of s.statements ++ cons_option o [])
+    go None f = subst AreDistinct (sym (append-nil (labels_of s.statements))) h.labels
+    go (Some l) f = distinct_push (labels_of s.statements) l h.labels (sym (label_among s.statements l) ∙ f)
+
+grows : (k : ℕ) (s : Sketch) (c : Content) (u : Sketch) → IsFineAlone s → AddsTo k s c u → IsFineAlone u
+unfolding AddsTo with_fix with_fallback with_statement
+grows k s said.Nothing u h e = subst IsFineAlone e h
+grows k s (said.Fix label number) u h (a, e, f, g) =
+    let new : Fix = record { label = label; line = k; address = a } in
+    subst IsFineAlone g (record {
+      labels = h.labels;
+      few = h.few;
+      fixed = subst AreDistinct (sym (fix_labels_append s.fixes (new ∷ []))) (distinct_push (map (λ (f : Fix). f.label) s.fixes) label h.fixed (sym (fix_among s.fixes label) ∙ f));
+    })
+grows k s (said.Fallback parts) u h (f, g) = subst IsFineAlone g (record { labels = h.labels; few = h.few; fixed = h.fixed })
+grows k s (said.Statement label parts) u h (f, n, g) =
+    let m = one_more k s label (record { label = label; line = k; parts = parts }) refl h f n in
+    subst IsFineAlone g (record { labels = m.0; few = m.1; fixed = h.fixed })
+
+pub adds_fine : (cs : List Content) (k : ℕ) (s t : Sketch) → IsFineAlone s → adds k s cs ≡ Ok t → IsFineFrom s k cs × (joined s k cs ≡ t)
+unfolding adds and_then
+adds_fine [] k s t h e = (alone_fine s k h, joined_none s k ∙ cc)
+adds_fine (c ∷ cs) k s t h e = go (add_content k s c) refl e (λ u g f. adds_fine cs (k + 1) u t g f)
+  where
+    go : (r : Result Sketch MalError) → add_content k s c ≡ r → and_then (λ t. adds (k + 1) t cs) r ≡ Ok t
+        → ((u : Sketch) → IsFineAlone u → adds (k + 1) u cs ≡ Ok t → IsFineFrom u (k + 1) cs × (joined u (k + 1) cs ≡ t)) → IsFineFrom s k (c ∷ cs) × (joined s k (c ∷ cs) ≡ t)
+    go (Err x) a e rec = absurd (cc)
+    go (Ok u) a e rec =
+        let add = content_adds k s c u a in
+        let r = rec u (grows k s c u h add) e in
+        (back k s c u cs add r.0, sym (join_step k s c u cs (steps k s c u cs add)) ∙ r.1)
+
+-- ---- fine lines are added
+
+not_full : (n m : ℕ) → n + suc m ≤ 512 → nat_le 512 n ≡ false
+not_full n m h = grind (arith, nat_tests)
+
+none_before : {A : Type 0} (o : Option A) (a : A) (xs : List A) → length (option_to_list o ++ a ∷ xs) ≤ 1 → is_some o ≡ false
+none_before None a xs h = refl
+none_before (Some b) a xs h = absurd (omega arith)
+
+free_before : (ds es : List Draft) (d : Draft) (label : Option (List ℕ)) → d.label ≡ label → AreDistinct (labels_of (ds ++ d ∷ es)) → has_name ds label ≡ false
+free_before ds es d label e h = go label (subst (λ o. AreDistinct (labels_of ds ++ cons_option o (labels_of es))) e (subst AreDistinct (labels_append ds (d ∷ es)) h))
+  where
+    go : (o : Option (List ℕ)) → AreDistinct (labels_of ds ++ cons_option o (labels_of es)) → has_name ds o ≡ false
+    go None h = refl
+    go (Some l) h = label_among ds l ∙ distinct_middle (labels_of ds) (labels_of es) l h
+
+fine_step : (k : ℕ) (s : Sketch) (c : Content) (cs : List Content) → IsFineFrom s k (c ∷ cs) → (u : Sketch) × AddsTo k s c u
+unfolding AddsTo with_fix with_fallback with_statement
+fine_step k s said.Nothing cs h = (s, refl)
+fine_step k s (said.Fix label number) cs h = go (address_of number) refl h.addresses.0 h.fixed
+  where
+    go : (o : Option ℕ) → address_of number ≡ o → IsSome o
+        → AreDistinct (map (λ (f : Fix). f.label) (s.fixes ++ cons_option (option_map {U = Fix} (λ address. record { label = label; line = k; address = address }) o) (fixes_from (k + 1) cs)))
+        → (u : Sketch) × AddsTo k s (said.Fix label number) u
+    go None e i d = absurd (cc)
+    go (Some a) e i d =
+        let new : Fix = record { label = label; line = k; address = a } in
+        let m = subst AreDistinct (fix_labels_append s.fixes (new ∷ fixes_from (k + 1) cs)) d in
+        let f : has_fix s.fixes label ≡ false = fix_among s.fixes label ∙ distinct_middle (map (λ (f : Fix). f.label) s.fixes) (map (λ (f : Fix). f.label) (fixes_from (k + 1) cs)) label m in
+        (with_fix k s label a, (a, e, f, refl))
+fine_step k s (said.Fallback parts) cs h =
+    (with_fallback k s parts, (none_before s.fallback (record { label = None; line = k; parts = parts }) (fallbacks_from (k + 1) cs) h.one_default, refl))
+fine_step k s (said.Statement label parts) cs h =
+    let new : Draft = record { label = label; line = k; parts = parts } in
+    let l = length-append s.statements (new ∷ statements_from (k + 1) cs) in
+    let few = h.few in
+    let r : length s.statements + suc (length (statements_from (k + 1) cs)) ≤ 512 = omega (arith, l, few) in
+    (with_statement k s label parts, (free_before s.statements (statements_from (k + 1) cs) new label refl h.labels, not_full (length s.statements) (length (statements_from (k + 1) cs)) r, refl))
+
+pub fine_adds : (cs : List Content) (k : ℕ) (s : Sketch) → IsFineFrom s k cs → adds k s cs ≡ Ok (joined s k cs)
+unfolding adds and_then
+fine_adds [] k s h = ap Ok (sym (joined_none s k))
+fine_adds (c ∷ cs) k s h =
+    let u = fine_step k s c cs h in
+    ap (and_then (λ t. adds (k + 1) t cs)) (adds_content k s c u.0 u.1) ∙ (fine_adds cs (k + 1) u.0 (forth k s c u.0 cs u.1 h) ∙ ap Ok (join_step k s c u.0 cs (steps k s c u.0 cs u.1)))
+
+-- ---- from the first line on
+
+empty_alone : (m : Machine) → IsFineAlone (empty m)
+empty_alone m = record { labels = tt; few = omega arith; fixed = tt }
+
+pub lead_fine : (m : Machine) (ls : List (List ℕ)) (t : Sketch) → Leads step 1 (empty m) ls t → (cs : List Content) × SayAll m ls cs × IsFine cs × (sketch_of m cs ≡ t)
+unfolding joined
+lead_fine m ls t h =
+    let a = leads_adds ls 1 (empty m) t h in
+    let f = adds_fine a.0 1 (empty m) t (empty_alone m) a.2 in
+    (a.0, a.1, record { labels = f.0.labels; few = f.0.few; addresses = f.0.addresses; fixed = f.0.fixed; one_default = f.0.one_default }, f.1)
+
+pub fine_leads : (m : Machine) (ls : List (List ℕ)) (cs : List Content) → SayAll m ls cs → IsFine cs → Leads step 1 (empty m) ls (sketch_of m cs)
+unfolding joined
+fine_leads m ls cs say fine =
+    adds_leads ls cs 1 (empty m) (sketch_of m cs) say (fine_adds cs 1 (empty m) (record { labels = fine.labels; few = fine.few; addresses = fine.addresses; fixed = fine.fixed; one_default = fine.one_default }))

@@ -1,0 +1,84 @@
+-- What fine lines say together is sound.
+use Rattle.std.proofs.Common.{◌≡◌, ℕ, zero, suc, ◌+◌, ◌<◌, Bool, true, false, List, [], ◌∷◌, Option, Some, None, refl, subst, arith, cond}
+use Rattle.std.specs.Prelude.{Ok, IfSome, All, nat_lt, option_map, ℤ, pos, negsuc}
+use Rattle.std.specs.List.{cons_option}
+use Rattle.std.proofs.lemmas.Bool.Decides.{nat_tests}
+use Rattle.source_text.specs.Walk.{walk}
+use Rattle.source_text.proofs.Walking.{walk_leads}
+use Rattle.micro_word.specs.declared.statement.Machine.{Machine}
+use Rattle.mal_line.specs.declared.content.Content.{Content}
+use Rattle.mal_line.specs.declared.content.Content.TheVariants as said
+use Rattle.mal_line.proofs.Standing.{stands}
+use Rattle.mal_parser.specs.declared.source.Fix.{Fix}
+use Rattle.mal_parser.specs.Labels.{address_of}
+use Rattle.mal_parser.specs.Sketch.{empty, Sketch, step}
+use Rattle.mal_parser.specs.Sound.{IsDraft, IsSound}
+use Rattle.mal_parser.specs.Text.{fallbacks_from, first, fixes_from, IsFine, SayAll, sketch_of, statements_from}
+use Rattle.mal_parser.proofs.Adding.{lead_fine}
+use Rattle.mal_parser.proofs.Saying.{free_label}
+
+all_none : {A : Type 0} (P : A → Type 0) → All P []
+all_none P = λ k d lt. absurd (omega (arith, lt))
+
+all_more : {A : Type 0} (P : A → Type 0) (x : A) (xs : List A) → P x → All P xs → All P (x ∷ xs)
+all_more P x xs p all = go
+  where
+    go : All P (x ∷ xs)
+    go zero d lt = p
+    go (suc k) d lt = all k d (omega (arith, lt))
+
+module _ (m : Machine) where
+  drafts : (ls : List (List ℕ)) (cs : List Content) (k : ℕ) → SayAll m ls cs → All (IsDraft m) (statements_from k cs)
+  drafts [] [] k say = all_none (IsDraft m)
+  drafts [] (c ∷ cs) k say = absurd say
+  drafts (l ∷ ls) [] k say = absurd say
+  drafts (l ∷ ls) (said.Nothing ∷ cs) k say = drafts ls cs (k + 1) say.1
+  drafts (l ∷ ls) (said.Fix label number ∷ cs) k say = drafts ls cs (k + 1) say.1
+  drafts (l ∷ ls) (said.Fallback parts ∷ cs) k say = drafts ls cs (k + 1) say.1
+  drafts (l ∷ ls) (said.Statement label parts ∷ cs) k say =
+      all_more (IsDraft m) (record { label = label; line = k; parts = parts }) (statements_from (k + 1) cs)
+      (record { part = stands m say.0.sequence (said.Statement label parts) say.0.means; label = free_label m l label parts say.0 }) (drafts ls cs (k + 1) say.1)
+
+  fallback : (ls : List (List ℕ)) (cs : List Content) (k : ℕ) → SayAll m ls cs → IfSome (first (fallbacks_from k cs)) (λ d. IsDraft m d × (d.label ≡ None))
+  fallback [] [] k say = tt
+  fallback [] (c ∷ cs) k say = absurd say
+  fallback (l ∷ ls) [] k say = absurd say
+  fallback (l ∷ ls) (said.Nothing ∷ cs) k say = fallback ls cs (k + 1) say.1
+  fallback (l ∷ ls) (said.Fix label number ∷ cs) k say = fallback ls cs (k + 1) say.1
+  fallback (l ∷ ls) (said.Fallback parts ∷ cs) k say = (record { part = stands m say.0.sequence (said.Fallback parts) say.0.means; label = tt }, refl)
+  fallback (l ∷ ls) (said.Statement label parts ∷ cs) k say = fallback ls cs (k + 1) say.1
+
+below : (number : ℤ) (a : ℕ) → address_of number ≡ Some a → a < 512
+below (negsuc n) a h = absurd (cc)
+below (pos n) a h = go (nat_lt n 512) refl h
+  where
+    go : (b : Bool) → nat_lt n 512 ≡ b → cond b (Some n) None ≡ Some a → a < 512
+    go false e h = absurd (cc)
+    go true e h = let k : n ≡ a = cc in subst (λ a. a < 512) k (grind (arith, nat_tests))
+
+addresses : (cs : List Content) (k : ℕ) → All (λ f. f.address < 512) (fixes_from k cs)
+addresses [] k = all_none (λ (f : Fix). f.address < 512)
+addresses (said.Nothing ∷ cs) k = addresses cs (k + 1)
+addresses (said.Fix label number ∷ cs) k = go (address_of number) refl (addresses cs (k + 1))
+  where
+    go : (o : Option ℕ) → address_of number ≡ o → All (λ (f : Fix). f.address < 512) (fixes_from (k + 1) cs)
+        → All (λ (f : Fix). f.address < 512) (cons_option (option_map {U = Fix} (λ address. record { label = label; line = k; address = address }) o) (fixes_from (k + 1) cs))
+    go None e rest = rest
+    go (Some a) e rest = all_more (λ (f : Fix). f.address < 512) (record { label = label; line = k; address = a }) (fixes_from (k + 1) cs) (below number a e) rest
+addresses (said.Fallback parts ∷ cs) k = addresses cs (k + 1)
+addresses (said.Statement label parts ∷ cs) k = addresses cs (k + 1)
+
+pub sound : (m : Machine) (ls : List (List ℕ)) (cs : List Content) → SayAll m ls cs → IsFine cs → IsSound (sketch_of m cs)
+sound m ls cs say fine = record {
+  few = fine.few;
+  labels = fine.labels;
+  drafts = drafts m ls cs 1 say;
+  addresses = addresses cs 1;
+  fallback = fallback m ls cs 1 say;
+}
+
+-- so is what a walk over the lines leaves
+pub walk_sound : (m : Machine) (ls : List (List ℕ)) (t : Sketch) → walk step 1 (empty m) ls ≡ Ok t → IsSound t
+walk_sound m ls t h =
+    let r = lead_fine m ls t (walk_leads step ls 1 (empty m) t h) in
+    subst IsSound r.3 (sound m ls r.0 r.1 r.2)

@@ -1,0 +1,13 @@
+ghost use Rattle.std.specs.Prelude.{◌≡◌, ◌↔◌, ℕ, List, Ok, Err};
+ghost use Rattle.micro_word.specs.declared.statement.Machine.{Machine};
+ghost use Rattle.mal_parser.specs.declared.error.MalError.{MalError};
+ghost use Rattle.mal_parser.specs.Program.{Program};
+ghost use Rattle.mal_parser.specs.Reading.{parsed};
+ghost use Rattle.mal_parser.specs.Text.{IsRefused, Spells};
+
+/// A text is read as the program that it spells, and refused by its first refusal: so it spells at most one program, and
+/// a text that spells one has no refusal.
+pub fn reads_what_is_spelled()
+    ensures spelled { (machine : Machine) (text : List ℕ) (p : Program) → (parsed machine text ≡ Ok p) ↔ Spells machine text p }
+    ensures refused { (machine : Machine) (text : List ℕ) (e : MalError) → (parsed machine text ≡ Err e) ↔ IsRefused machine text e }
+{}
