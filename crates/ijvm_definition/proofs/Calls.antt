@@ -15,7 +15,7 @@ base_call running callers n others back enough =
     let rest : length (drop (n + 1) running.operands) ≡ length running.operands - (n + 1) = length-drop (n + 1) running.operands in
     let many : length (take n running.operands) ≡ n = length-take-le n running.operands (let e : n ≤ length running.operands = omega arith in e) in
     let own : length (onto (take n running.operands) (replicate {A = Option ℕ} others None)) ≡ length (take n running.operands) + length (replicate {A = Option ℕ} others None) =
-        length-onto (take n running.operands) (replicate others None) in
+    length-onto (take n running.operands) (replicate others None) in
     let unset : length (replicate {A = Option ℕ} others None) ≡ others = length-replicate others None in
     omega arith
 
@@ -39,11 +39,11 @@ call-went m method untaken given some enough room =
     let few : n < length m.running.operands = omega arith in
     let less : n + 1 ≤ length m.running.operands = omega arith in
     let size : base (called (take n m.running.operands) method.others (m.at + 3) ∷ record m.running { operands = drop (n + 1) m.running.operands } ∷ m.callers)
-            ≡ base (m.running ∷ m.callers) + method.others + 2 = base_call m.running m.callers n method.others (m.at + 3) less in
+    ≡ base (m.running ∷ m.callers) + method.others + 2 = base_call m.running m.callers n method.others (m.at + 3) less in
     let fits : base (frames_of (in_method (state_of m untaken given) method n)) ≤ m.stack_end = omega arith in
     entered_in m.stack_end (state_of m untaken given) method method.params n is few
     ∙ chosen (nat_le (base (frames_of (in_method (state_of m untaken given) method n))) m.stack_end) (Goes (in_method (state_of m untaken given) method n)) (Limits (state_of m untaken given))
-        (grind (arith, nat_tests))
+    (grind (arith, nat_tests))
 
 pub call-limit : (m : MachineView) (method : Method) (untaken given : List ℕ) → 0 < method.params → method.params ≤ length m.running.operands →
     m.stack_end < base (m.running ∷ m.callers) + method.others + 2 →
@@ -54,11 +54,11 @@ call-limit m method untaken given some enough full =
     let few : n < length m.running.operands = omega arith in
     let less : n + 1 ≤ length m.running.operands = omega arith in
     let size : base (called (take n m.running.operands) method.others (m.at + 3) ∷ record m.running { operands = drop (n + 1) m.running.operands } ∷ m.callers)
-            ≡ base (m.running ∷ m.callers) + method.others + 2 = base_call m.running m.callers n method.others (m.at + 3) less in
+    ≡ base (m.running ∷ m.callers) + method.others + 2 = base_call m.running m.callers n method.others (m.at + 3) less in
     let over : m.stack_end < base (frames_of (in_method (state_of m untaken given) method n)) = omega arith in
     entered_in m.stack_end (state_of m untaken given) method method.params n is few
     ∙ refused (nat_le (base (frames_of (in_method (state_of m untaken given) method n))) m.stack_end) (Goes (in_method (state_of m untaken given) method n)) (Limits (state_of m untaken given))
-        (grind (arith, nat_tests))
+    (grind (arith, nat_tests))
 
 pub not_le : (m n : ℕ) → nat_le m n ≡ false → n < m
 not_le m n h = grind (arith, nat_tests)

@@ -51,7 +51,7 @@ word_of_bytes file place a b c d rest e =
 word_read : (file : List ℕ) (place w : ℕ) (rest : List ℕ) → drop place file ≡ word_bytes w ++ rest → (word_at file place ≡ w) × (drop (place + 4) file ≡ rest)
 word_read file place w rest e =
     let read : (word_at file place ≡ 65536 * (256 * (w / 65536 / 256) + w / 65536 % 256) + (256 * (w % 65536 / 256) + w % 65536 % 256)) × (drop (place + 4) file ≡ rest) =
-        word_of_bytes file place _ _ _ _ rest e in
+    word_of_bytes file place _ _ _ _ rest e in
     let upper : 256 * (w / 65536 / 256) + w / 65536 % 256 ≡ w / 65536 = from_half (w / 65536) _ _ refl refl in
     let lower : 256 * (w % 65536 / 256) + w % 65536 % 256 ≡ w % 65536 = from_half (w % 65536) _ _ refl refl in
     let all : 65536 * (w / 65536) + w % 65536 ≡ w = omega arith in
@@ -106,14 +106,14 @@ block_read file place first origin bytes rest e origin_ok size_ok =
     let same : length (drop (place + 8) file) ≡ length (bytes ++ rest) = ap length e2 in
     let fits : place + 8 + n ≤ length file = omega arith in
     let last : block_from file origin (place + 8) n ≡ Ok (block_there origin place n) =
-        if_true (is_size origin n) _ _ size_ok ∙ if_true (nat_le (place + 8 + n) (length file)) _ _ (is_le _ _ fits) in
+    if_true (is_size origin n) _ _ size_ok ∙ if_true (nat_le (place + 8 + n) (length file)) _ _ (is_le _ _ fits) in
     let sized : (λ (size : ℕ). block_from file origin (place + 8) size) n ≡ Ok (block_there origin place n) = last in
     let whole : block_at file place first ≡ Ok (block_there origin place n) =
-        and_then_ok (field file place)
-        (λ (o : ℕ). if is_origin first o then and_then (field file (place + 4)) (λ (size : ℕ). block_from file o (place + 8) size) else Err (errors.BadOrigin o))
-        origin (Ok (block_there origin place n)) f1
-        (if_true (is_origin first origin) _ _ origin_ok
-        ∙ and_then_ok (field file (place + 4)) (λ (size : ℕ). block_from file origin (place + 8) size) n (Ok (block_there origin place n)) f2 sized) in
+    and_then_ok (field file place)
+    (λ (o : ℕ). if is_origin first o then and_then (field file (place + 4)) (λ (size : ℕ). block_from file o (place + 8) size) else Err (errors.BadOrigin o))
+    origin (Ok (block_there origin place n)) f1
+    (if_true (is_origin first origin) _ _ origin_ok
+    ∙ and_then_ok (field file (place + 4)) (λ (size : ℕ). block_from file origin (place + 8) size) n (Ok (block_there origin place n)) f2 sized) in
     (whole, e2, fits)
 
 drop_part : (file : List ℕ) (place : ℕ) (bytes rest : List ℕ) → drop place file ≡ bytes ++ rest → drop (place + length bytes) file ≡ rest
@@ -154,29 +154,29 @@ blocks_read file o1 o2 b1 b2 e origin1 origin2 size1 size2 =
     let word : field file 0 ≡ Ok magic = field_read file 0 magic _ e0 in
     let e1 : drop 4 file ≡ block_of o1 b1 ++ block_of o2 b2 = (word_read file 0 magic _ e0).1 in
     let r1 : (block_at file 4 None ≡ Ok (block_there o1 4 (length b1))) × (drop 12 file ≡ b1 ++ block_of o2 b2) × (12 + length b1 ≤ length file) =
-        block_read file 4 None o1 b1 (block_of o2 b2) e1 origin1 size1 in
+    block_read file 4 None o1 b1 (block_of o2 b2) e1 origin1 size1 in
     let second : ℕ = 12 + length b1 in
     let e2 : drop second file ≡ block_of o2 b2 = drop_part file 12 b1 (block_of o2 b2) r1.1 in
     let e3 : drop second file ≡ block_of o2 b2 ++ [] = e2 ∙ sym (append-nil (block_of o2 b2)) in
     let r2 : (block_at file second (Some o1) ≡ Ok (block_there o2 second (length b2))) × (drop (second + 8) file ≡ b2 ++ []) × (second + 8 + length b2 ≤ length file) =
-        block_read file second (Some o1) o2 b2 [] e3 origin2 size2 in
+    block_read file second (Some o1) o2 b2 [] e3 origin2 size2 in
     let over : drop (second + 8 + length b2) file ≡ [] = drop_part file (second + 8) b2 [] r2.1 in
     let long : length (drop (second + 8 + length b2) file) ≡ length file - (second + 8 + length b2) = length-drop _ file in
     let none : length (drop (second + 8 + length b2) file) ≡ 0 = ap length over in
     let fits : second + 8 + length b2 ≤ length file = r2.2 in
     let all : nat_lt (second + 8 + length b2) (length file) ≡ false = grind (arith, nat_tests) in
     let last : ended file (block_there o1 4 (length b1)) (block_there o2 second (length b2)) ≡ Ok (joined file (block_there o1 4 (length b1)) (block_there o2 second (length b2))) =
-        if_false (nat_lt (second + 8 + length b2) (length file)) _ _ all in
+    if_false (nat_lt (second + 8 + length b2) (length file)) _ _ all in
     let behind : and_then (block_at file second (Some o1)) (λ (b : Block). ended file (block_there o1 4 (length b1)) b)
-            ≡ Ok (joined file (block_there o1 4 (length b1)) (block_there o2 second (length b2))) =
-        and_then_ok (block_at file second (Some o1)) (λ (b : Block). ended file (block_there o1 4 (length b1)) b) (block_there o2 second (length b2)) _ r2.0 last in
+    ≡ Ok (joined file (block_there o1 4 (length b1)) (block_there o2 second (length b2))) =
+    and_then_ok (block_at file second (Some o1)) (λ (b : Block). ended file (block_there o1 4 (length b1)) b) (block_there o2 second (length b2)) _ r2.0 last in
     let both : and_then (block_at file 4 None) (λ (a : Block). and_then (block_at file a.to (Some a.origin)) (λ (b : Block). ended file a b))
-            ≡ Ok (joined file (block_there o1 4 (length b1)) (block_there o2 second (length b2))) =
-        and_then_ok (block_at file 4 None) (λ (a : Block). and_then (block_at file a.to (Some a.origin)) (λ (b : Block). ended file a b)) (block_there o1 4 (length b1)) _ r1.0 behind in
+    ≡ Ok (joined file (block_there o1 4 (length b1)) (block_there o2 second (length b2))) =
+    and_then_ok (block_at file 4 None) (λ (a : Block). and_then (block_at file a.to (Some a.origin)) (λ (b : Block). ended file a b)) (block_there o1 4 (length b1)) _ r1.0 behind in
     let whole : image_read file ≡ Ok (joined file (block_there o1 4 (length b1)) (block_there o2 second (length b2))) =
-        and_then_ok (field file 0)
-        (λ (w : ℕ). if w == magic then and_then (block_at file 4 None) (λ (a : Block). and_then (block_at file a.to (Some a.origin)) (λ (b : Block). ended file a b)) else Err errors.BadMagic)
-        magic _ word both in
+    and_then_ok (field file 0)
+    (λ (w : ℕ). if w == magic then and_then (block_at file 4 None) (λ (a : Block). and_then (block_at file a.to (Some a.origin)) (λ (b : Block). ended file a b)) else Err errors.BadMagic)
+    magic _ word both in
     (whole, part_read file 12 b1 (block_of o2 b2) r1.1, part_read file (second + 8) b2 [] r2.1, r1.1, r2.1)
 
 -- an image's file is read as that image
@@ -212,12 +212,12 @@ pub file-read : (file : List ℕ) (image : ImageView) → IsWithinLimits image.t
 file-read file image fits is =
     let p : List ℕ = flat_map word_bytes image.pool in
     elim is [
-      inl e ↦ (
-        let r = blocks_read file pool_origin text_origin p image.text e refl refl (is_pool_size image fits) (is_text_size image fits) in
-        r.0 ∙ ap good (image_parts file image (block_there text_origin (12 + length p) (length image.text)) (block_there pool_origin 4 (length p)) r.2 (pool_words file image 12 _ r.3)))
-    | inr e ↦ (
-        let r = blocks_read file text_origin pool_origin image.text p e refl refl (is_text_size image fits) (is_pool_size image fits) in
-        r.0 ∙ ap good (image_parts file image (block_there text_origin 4 (length image.text)) (block_there pool_origin (12 + length image.text) (length p)) r.1 (pool_words file image (12 + length image.text + 8) _ r.4)))
+      | inl e ↦ (
+          let r = blocks_read file pool_origin text_origin p image.text e refl refl (is_pool_size image fits) (is_text_size image fits) in
+          r.0 ∙ ap good (image_parts file image (block_there text_origin (12 + length p) (length image.text)) (block_there pool_origin 4 (length p)) r.2 (pool_words file image 12 _ r.3)))
+      | inr e ↦ (
+          let r = blocks_read file text_origin pool_origin image.text p e refl refl (is_text_size image fits) (is_pool_size image fits) in
+          r.0 ∙ ap good (image_parts file image (block_there text_origin 4 (length image.text)) (block_there pool_origin (12 + length image.text) (length p)) r.1 (pool_words file image (12 + length image.text + 8) _ r.4)))
     ]
 
 -- The other way round: what is read was written so.
@@ -237,7 +237,7 @@ le_true m n h = grind (arith, nat_tests)
 field-ok : (file : List ℕ) (place w : ℕ) → field file place ≡ Ok w → (place + 4 ≤ length file) × (word_at file place ≡ w)
 field-ok file place w e =
     let c : (nat_le (place + 4) (length file) ≡ true) × (good_word (word_at file place) ≡ Ok w) =
-        chose_ok (nat_le (place + 4) (length file)) (good_word (word_at file place)) (Err (errors.Truncated (length file))) w (errors.Truncated (length file)) refl e in
+    chose_ok (nat_le (place + 4) (length file)) (good_word (word_at file place)) (Err (errors.Truncated (length file))) w (errors.Truncated (length file)) refl e in
     let same : word_at file place ≡ w = let f : good_word (word_at file place) ≡ Ok w = c.1 in cc in
     (le_true _ _ c.0, same)
   where
@@ -314,9 +314,9 @@ block_stands file place first origin size small head w0 w1 origin_ok size_ok fit
     let long : length part ≡ size = length-part file (place + 8) size fits in
     let f0 : drop place file ≡ word_bytes origin ++ drop (place + 4) file = d0 ∙ ap (λ (w : ℕ). word_bytes w ++ drop (place + 4) file) w0 in
     let f1 : drop (place + 4) file ≡ word_bytes (length part) ++ drop (place + 8) file =
-        d1 ∙ ap (λ (w : ℕ). word_bytes w ++ drop (place + 4 + 4) file) (w1 ∙ sym long) ∙ ap (λ (n : ℕ). word_bytes (length part) ++ drop n file) eight in
+    d1 ∙ ap (λ (w : ℕ). word_bytes w ++ drop (place + 4 + 4) file) (w1 ∙ sym long) ∙ ap (λ (n : ℕ). word_bytes (length part) ++ drop n file) eight in
     let f2 : drop place file ≡ word_bytes origin ++ (word_bytes (length part) ++ (part ++ drop (place + 8 + size) file)) =
-        f0 ∙ ap (λ (xs : List ℕ). word_bytes origin ++ xs) (f1 ∙ ap (λ (xs : List ℕ). word_bytes (length part) ++ xs) d2) in
+    f0 ∙ ap (λ (xs : List ℕ). word_bytes origin ++ xs) (f1 ∙ ap (λ (xs : List ℕ). word_bytes (length part) ++ xs) d2) in
     record { origin = origin_ok; size = rw many size_ok; from = refl; ordered = omega arith; inside = fits; stands = f2 }
 
 read_block : Block → Result Block ImageError
@@ -326,22 +326,22 @@ block-ok : (file : List ℕ) (place : ℕ) (first : Option ℕ) (b : Block) → 
 unfolding read_block
 block-ok file place first b small e =
     let at1 : (origin : ℕ) × (field file place ≡ Ok origin)
-            × ((if is_origin first origin then and_then (field file (place + 4)) (λ (size : ℕ). block_from file origin (place + 8) size) else Err (errors.BadOrigin origin)) ≡ Ok b) =
-        and_then-ok (field file place)
-        (λ (o : ℕ). if is_origin first o then and_then (field file (place + 4)) (λ (size : ℕ). block_from file o (place + 8) size) else Err (errors.BadOrigin o)) b e in
+    × ((if is_origin first origin then and_then (field file (place + 4)) (λ (size : ℕ). block_from file origin (place + 8) size) else Err (errors.BadOrigin origin)) ≡ Ok b) =
+    and_then-ok (field file place)
+    (λ (o : ℕ). if is_origin first o then and_then (field file (place + 4)) (λ (size : ℕ). block_from file o (place + 8) size) else Err (errors.BadOrigin o)) b e in
     let origin : ℕ = at1.0 in
     let f1 : (place + 4 ≤ length file) × (word_at file place ≡ origin) = field-ok file place origin at1.1 in
     let c1 : (is_origin first origin ≡ true) × (and_then (field file (place + 4)) (λ (size : ℕ). block_from file origin (place + 8) size) ≡ Ok b) =
-        chose_ok (is_origin first origin) (and_then (field file (place + 4)) (λ (size : ℕ). block_from file origin (place + 8) size)) _ b (errors.BadOrigin origin) refl at1.2 in
+    chose_ok (is_origin first origin) (and_then (field file (place + 4)) (λ (size : ℕ). block_from file origin (place + 8) size)) _ b (errors.BadOrigin origin) refl at1.2 in
     let at2 : (size : ℕ) × (field file (place + 4) ≡ Ok size) × (block_from file origin (place + 8) size ≡ Ok b) =
-        and_then-ok (field file (place + 4)) (λ (size : ℕ). block_from file origin (place + 8) size) b c1.1 in
+    and_then-ok (field file (place + 4)) (λ (size : ℕ). block_from file origin (place + 8) size) b c1.1 in
     let size : ℕ = at2.0 in
     let f2 : (place + 4 + 4 ≤ length file) × (word_at file (place + 4) ≡ size) = field-ok file (place + 4) size at2.1 in
     let there : Block = record { origin = origin; from = place + 8; to = place + 8 + size } in
     let c2 : (is_size origin size ≡ true) × ((if nat_le (place + 8 + size) (length file) then read_block there else Err (errors.Truncated (length file))) ≡ Ok b) =
-        chose_ok (is_size origin size) (if nat_le (place + 8 + size) (length file) then read_block there else Err (errors.Truncated (length file))) _ b (errors.BadSize size) refl at2.2 in
+    chose_ok (is_size origin size) (if nat_le (place + 8 + size) (length file) then read_block there else Err (errors.Truncated (length file))) _ b (errors.BadSize size) refl at2.2 in
     let c3 : (nat_le (place + 8 + size) (length file) ≡ true) × (read_block there ≡ Ok b) =
-        chose_ok (nat_le (place + 8 + size) (length file)) (read_block there) _ b (errors.Truncated (length file)) refl c2.1 in
+    chose_ok (nat_le (place + 8 + size) (length file)) (read_block there) _ b (errors.Truncated (length file)) refl c2.1 in
     let same : there ≡ b = let f : read_block there ≡ Ok b = c3.1 in cc in
     subst (λ (x : Block). IsRead file place first x) same (block_stands file place first origin size small f2.0 f1.1 f2.1 c1.0 c2.0 (le_true _ _ c3.0))
 
@@ -410,18 +410,18 @@ pub file-was : (file : List ℕ) (image : ImageView) → All (λ (b : ℕ). b < 
 file-was file image small e =
     let blocks : Result ImageView ImageError = and_then (block_at file 4 None) (λ (a : Block). and_then (block_at file a.to (Some a.origin)) (λ (b : Block). ended file a b)) in
     let at1 : (w : ℕ) × (field file 0 ≡ Ok w) × ((if w == magic then blocks else Err errors.BadMagic) ≡ Ok image) =
-        and_then-ok (field file 0)
-        (λ (w : ℕ). if w == magic then and_then (block_at file 4 None) (λ (a : Block). and_then (block_at file a.to (Some a.origin)) (λ (b : Block). ended file a b)) else Err errors.BadMagic)
-        image e in
+    and_then-ok (field file 0)
+    (λ (w : ℕ). if w == magic then and_then (block_at file 4 None) (λ (a : Block). and_then (block_at file a.to (Some a.origin)) (λ (b : Block). ended file a b)) else Err errors.BadMagic)
+    image e in
     let w : ℕ = at1.0 in
     let f1 : (0 + 4 ≤ length file) × (word_at file 0 ≡ w) = field-ok file 0 w at1.1 in
     let c1 : ((w == magic) ≡ true) × (blocks ≡ Ok image) = chose_ok (w == magic) blocks _ image errors.BadMagic refl at1.2 in
     let magical : w ≡ magic = is_eq w magic c1.0 in
     let at2 : (a : Block) × (block_at file 4 None ≡ Ok a) × (and_then (block_at file a.to (Some a.origin)) (λ (b : Block). ended file a b) ≡ Ok image) =
-        and_then-ok (block_at file 4 None) (λ (a : Block). and_then (block_at file a.to (Some a.origin)) (λ (b : Block). ended file a b)) image c1.1 in
+    and_then-ok (block_at file 4 None) (λ (a : Block). and_then (block_at file a.to (Some a.origin)) (λ (b : Block). ended file a b)) image c1.1 in
     let a : Block = at2.0 in
     let at3 : (b : Block) × (block_at file a.to (Some a.origin) ≡ Ok b) × (ended file a b ≡ Ok image) =
-        and_then-ok (block_at file a.to (Some a.origin)) (λ (b : Block). ended file a b) image at2.2 in
+    and_then-ok (block_at file a.to (Some a.origin)) (λ (b : Block). ended file a b) image at2.2 in
     let b : Block = at3.0 in
     let ra : IsRead file 4 None a = block-ok file 4 None a small at2.1 in
     let rb : IsRead file a.to (Some a.origin) b = block-ok file a.to (Some a.origin) b small at3.1 in
@@ -430,12 +430,12 @@ file-was file image small e =
     let none : drop b.to file ≡ [] = drop_all b.to file over in
     let front : drop 0 file ≡ word_bytes (word_at file 0) ++ drop 4 file = word_stands file 0 small f1.0 in
     let whole : file ≡ word_bytes magic ++ (block_of a.origin (slice_range file a.from a.to) ++ block_of b.origin (slice_range file b.from b.to)) =
-        front
-        ∙ ap (λ (x : ℕ). word_bytes x ++ drop 4 file) (f1.1 ∙ magical)
-        ∙ ap (λ (xs : List ℕ). word_bytes magic ++ xs)
-            (ra.stands
-            ∙ ap (λ (xs : List ℕ). block_of a.origin (slice_range file a.from a.to) ++ xs)
-                (rb.stands ∙ ap (λ (xs : List ℕ). block_of b.origin (slice_range file b.from b.to) ++ xs) none ∙ append-nil _)) in
+    front
+    ∙ ap (λ (x : ℕ). word_bytes x ++ drop 4 file) (f1.1 ∙ magical)
+    ∙ ap (λ (xs : List ℕ). word_bytes magic ++ xs)
+    (ra.stands
+    ∙ ap (λ (xs : List ℕ). block_of a.origin (slice_range file a.from a.to) ++ xs)
+    (rb.stands ∙ ap (λ (xs : List ℕ). block_of b.origin (slice_range file b.from b.to) ++ xs) none ∙ append-nil _)) in
     image_from file a b image small ra rb whole (a.origin == text_origin) refl last.1
   where
     end_ok : (t : Bool) (to : ℕ) (x image : ImageView) → (if t then Err (errors.Trailing to) else good x) ≡ Ok image → (t ≡ false) × (x ≡ image)

@@ -53,7 +53,7 @@ placed_call stack_end lv lv' n others back running caller frame callers enough r
     let rest : length (drop (n + 1) running.operands) ≡ length running.operands - (n + 1) = length-drop (n + 1) running.operands in
     let many : length (take n running.operands) ≡ n = length-take-le n running.operands (let e : n ≤ length running.operands = omega arith in e) in
     let own : length (onto (take n running.operands) (replicate {A = Option ℕ} others None)) ≡ length (take n running.operands) + length (replicate {A = Option ℕ} others None) =
-        length-onto (take n running.operands) (replicate others None) in
+    length-onto (take n running.operands) (replicate others None) in
     let unset : length (replicate {A = Option ℕ} others None) ≡ others = length-replicate others None in
     let size : length (called (take n running.operands) others back).locals ≡ 1 + n + others = omega arith in
     let frame_size : length frame.locals ≡ 1 + n + others = ap (λ (f : Frame). length f.locals) is_frame ∙ size in
@@ -62,8 +62,12 @@ placed_call stack_end lv lv' n others back running caller frame callers enough r
     let old : base callers + length running.locals + kept_words running.back + length running.operands + others + 2 ≤ stack_end = room in
     let at : lv ≡ base callers = h.begins in
     let sum : base callers + length caller.locals + kept_words caller.back + length caller.operands + length frame.locals + kept_words frame.back + length frame.operands ≤ stack_end = omega arith in
-    record { begins = begins ∙ (let e : lv + (length caller.locals + kept_words caller.back + length caller.operands)
-            ≡ base callers + length caller.locals + kept_words caller.back + length caller.operands = omega arith in e); fits = sum; word = h.word }
+    record {
+      begins = begins ∙ (let e : lv + (length caller.locals + kept_words caller.back + length caller.operands)
+          ≡ base callers + length caller.locals + kept_words caller.back + length caller.operands = omega arith in e);
+      fits = sum;
+      word = h.word;
+    }
 
 pub reverse_end : (fs : List Frame) (f : Frame) → reverse (fs ++ f ∷ []) ≡ f ∷ reverse fs
 reverse_end fs f = reverse-append fs (f ∷ [])

@@ -261,7 +261,6 @@ size_most Out = omega arith
 size_most Err = omega arith
 size_most Halt = omega arith
 
-
 pub byte_below : (text : List ℕ) (k : ℕ) → All (λ (b : ℕ). b < 256) text → slice_index text k < 256
 byte_below [] k h = omega arith
 byte_below (x ∷ xs) zero h = h 0 0 (omega arith)
@@ -272,12 +271,13 @@ read_at : (text : List ℕ) (at : ℕ) (i : Instr) → at + size_of (row_of i) �
     (bytes : List ℕ) × Spells bytes i × StandAt text at bytes × (length bytes ≡ size_of (row_of i))
 read_at text at i fits read =
     elim read [
-      inl e ↦ (spelling i, inl refl, stand_front text at (spelling i) e fits, refl)
-    | inr e ↦ (
+      | inl e ↦ (spelling i, inl refl, stand_front text at (spelling i) e fits, refl)
+      | inr e ↦ (
         0x80 ∷ [],
         inr (e.0, refl),
         (e.1, let one : 1 ≤ size_of (row_of i) = size_least i in omega arith),
-        let one : size_of (row_of i) ≡ 1 = rw e.0 refl in cc)
+        let one : size_of (row_of i) ≡ 1 = rw e.0 refl in cc,
+      )
     ]
 
 -- what is read at an address is spelled there
@@ -286,7 +286,7 @@ pub instr_at-read : (text : List ℕ) (at : ℕ) (i : Instr) → All (λ (b : �
 unfolding instr_at
 instr_at-read text at i small e =
     let found : (of_bytes (slice_index text at) (slice_index text (at + 1)) (slice_index text (at + 2)) (slice_index text (at + 3)) ≡ Some i)
-        × (at + size_of (row_of i) ≤ length text) = whole-some (length text) at _ i e in
+    × (at + size_of (row_of i) ≤ length text) = whole-some (length text) at _ i e in
     read_at text at i found.1 (of_bytes-read _ _ _ _ i (byte_below text (at + 1) small) (byte_below text (at + 2) small) (byte_below text (at + 3) small) found.0)
 
 whole_spelled : (text : List ℕ) (at : ℕ) (i : Instr) → IsInstr i → StandAt text at (spelling i) → instr_at text at ≡ Some i
@@ -294,7 +294,7 @@ unfolding instr_at
 whole_spelled text at i real stands =
     let short : length (spelling i) ≤ 4 = size_most i in
     let read : of_bytes (slice_index text at) (slice_index text (at + 1)) (slice_index text (at + 2)) (slice_index text (at + 3)) ≡ Some i =
-        of_bytes-spelling _ _ _ _ i real (front_stand text at (spelling i) short stands) in
+    of_bytes-spelling _ _ _ _ i real (front_stand text at (spelling i) short stands) in
     ap (whole (length text) at) read ∙ whole-fits (length text) at i (stand_fits text at (spelling i) stands)
 
 whole_second : (text : List ℕ) (at : ℕ) → StandAt text at (0x80 ∷ []) → instr_at text at ≡ Some Ior
@@ -308,8 +308,8 @@ whole_second text at stands =
 pub instr_at-spelled : (text : List ℕ) (at : ℕ) (i : Instr) (bytes : List ℕ) → IsInstr i → Spells bytes i → StandAt text at bytes → instr_at text at ≡ Some i
 instr_at-spelled text at i bytes real spells stands =
     elim spells [
-      inl e ↦ whole_spelled text at i real (subst (StandAt text at) e stands)
-    | inr e ↦ rw e.0 (whole_second text at (subst (StandAt text at) e.1 stands))
+      | inl e ↦ whole_spelled text at i real (subst (StandAt text at) e stands)
+      | inr e ↦ rw e.0 (whole_second text at (subst (StandAt text at) e.1 stands))
     ]
 
 -- bytes that stand at an address are a part of the text

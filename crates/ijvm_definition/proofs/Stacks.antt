@@ -95,8 +95,8 @@ reverse_swap_last xs ys two e =
     let many : length front ≡ n = length-take-le n xs (let h : n ≤ length xs = omega arith in h) in
     let second : length xs - 1 ≡ suc (length front) = omega arith in
     let made : slice_set (slice_set xs (length xs - 1) x) n y ≡ front ++ y ∷ x ∷ [] =
-        ap (λ (k : ℕ). slice_set (slice_set xs k x) n y) second
-        ∙ ap (λ (k : ℕ). slice_set (slice_set xs (suc (length front)) x) k y) (sym many)
-        ∙ ap (λ (zs : List ℕ). slice_set (slice_set zs (suc (length front)) x) (length front) y) parts
-        ∙ set_two front x y in
+    ap (λ (k : ℕ). slice_set (slice_set xs k x) n y) second
+    ∙ ap (λ (k : ℕ). slice_set (slice_set xs (suc (length front)) x) k y) (sym many)
+    ∙ ap (λ (zs : List ℕ). slice_set (slice_set zs (suc (length front)) x) (length front) y) parts
+    ∙ set_two front x y in
     (y, x, reverse front, ap reverse parts ∙ reverse-append front (x ∷ y ∷ []), ap reverse (e ∙ made) ∙ reverse-append front (y ∷ x ∷ []))

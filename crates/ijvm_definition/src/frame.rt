@@ -72,7 +72,12 @@ fn push_unset(locals: &mut Vec<Option<u32>>, count: u16) -> Result<(), AllocErro
 }
 
 /// The locals of a method that is called with the last operands.
-fn method_locals(alloc: Global, operands: &[u32], params: u16, others: u16) -> Result<Vec<Option<u32>>, AllocError>
+fn method_locals(
+    alloc: Global,
+    operands: &[u32],
+    params: u16,
+    others: u16,
+) -> Result<Vec<Option<u32>>, AllocError>
     requires { params ≤ length operands.now }
     ensures { IfOk result (λ locals. locals.items ≡ None ∷ onto (take params (reverse operands.now)) (replicate others None)) }
 {
@@ -185,7 +190,13 @@ impl Frame {
     }
 
     /// The frame of a method that is called with the last operands.
-    pub fn called(&self, alloc: Global, params: u16, others: u16, back: u32) -> Result<Frame, AllocError>
+    pub fn called(
+        &self,
+        alloc: Global,
+        params: u16,
+        others: u16,
+        back: u32,
+    ) -> Result<Frame, AllocError>
         requires { params ≤ length self.now.operands }
         ensures { IfOk result (λ f. f ≡ called (take params self.now.operands) others back) }
     {

@@ -210,7 +210,9 @@ impl Machine {
         ensures err { OnErr result (self.new ≡ self.old) }
     {
         let params = method.params - 1;
-        let frame = self.running.called(self.alloc, params, method.others, self.at + 3)?;
+        let frame = self
+            .running
+            .called(self.alloc, params, method.others, self.at + 3)?;
         self.callers.reserve(1)?;
         self.running.discard(params as usize + 1);
         self.lv += self.running.words();

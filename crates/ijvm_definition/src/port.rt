@@ -27,7 +27,11 @@ fn step_error(fault: BusFault) -> StepError
     }
 }
 
-fn take_byte<S: Source, K: Sink>(console: &mut Console, source: &mut S, sink: &mut K) -> Result<u8, StepError>
+fn take_byte<S: Source, K: Sink>(
+    console: &mut Console,
+    source: &mut S,
+    sink: &mut K,
+) -> Result<u8, StepError>
     ensures ok { IfOk result (λ byte. (rest : List ℕ) → Untaken (S.left source.new) console.new.ended rest → (untaken : List ℕ) × Untaken (S.left source.old) console.old.ended untaken × (byte ≡ next_byte untaken) × (drop 1 untaken ≡ rest)) }
     ensures given { OnOk result ((given : List ℕ) → Given (K.held sink.old) console.old.kept given → Given (K.held sink.new) console.new.kept given) }
     ensures err { IfErr result (IsCutOff (S.left source.old) (K.held sink.old) console.old (S.left source.new) (K.held sink.new) console.new) }
@@ -54,7 +58,12 @@ fn give_byte<K: Sink>(console: &mut Console, byte: u8, sink: &mut K) -> Result<(
 }
 
 /// Takes a byte of the console, and pushes it where the stack has room.
-pub fn read_in<S: Source, K: Sink>(machine: &mut Machine, console: &mut Console, source: &mut S, sink: &mut K) -> Result<Effect, StepError>
+pub fn read_in<S: Source, K: Sink>(
+    machine: &mut Machine,
+    console: &mut Console,
+    source: &mut S,
+    sink: &mut K,
+) -> Result<Effect, StepError>
     requires { machine.old.at + 1 < 2 ^ 32 }
     ensures ok { IfOk result (λ e. IsLedOn (S.left source.old) (K.held sink.old) console.old (S.left source.new) (K.held sink.new) console.new (λ u g u' g'. read_in machine.old.stack_end (state_of machine.old u g) ≡ outcome_of e (state_of machine.new u' g'))) }
     ensures frames { OnErr result (machine.new ≡ machine.old) }
@@ -82,7 +91,11 @@ pub fn read_in<S: Source, K: Sink>(machine: &mut Machine, console: &mut Console,
 }
 
 /// Gives the low byte of the top to the console, and drops the top.
-pub fn write_out<K: Sink>(machine: &mut Machine, console: &mut Console, sink: &mut K) -> Result<Effect, StepError>
+pub fn write_out<K: Sink>(
+    machine: &mut Machine,
+    console: &mut Console,
+    sink: &mut K,
+) -> Result<Effect, StepError>
     requires { machine.old.at + 1 < 2 ^ 32 }
     ensures ok { (left : Option (List ℕ)) → IfOk result (λ e. IsLedOn left (K.held sink.old) console.old left (K.held sink.new) console.new (λ u g u' g'. given_out (state_of machine.old u g) machine.old.running.operands ≡ outcome_of e (state_of machine.new u' g'))) }
     ensures frames { OnErr result (machine.new ≡ machine.old) }

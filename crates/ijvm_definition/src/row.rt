@@ -38,15 +38,9 @@ pub enum Flow {
 #[derive(Clone, Copy, Debug, PartialEq, Eq)]
 pub enum Cost {
     Always(u64),
-    IfTaken {
-        taken: u64,
-        not: u64,
-    },
+    IfTaken { taken: u64, not: u64 },
     /// `late` where the method's entry is 3 modulo 4.
-    ByEntry {
-        early: u64,
-        late: u64,
-    },
+    ByEntry { early: u64, late: u64 },
 }
 
 /// A row of the instruction table.

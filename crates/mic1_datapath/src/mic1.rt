@@ -15,8 +15,7 @@ use console_port::{Bus, BusFault};
 use mic_base::{Sink, Source};
 use mic_clock::{Clocked, Computed, Drive, Registers, Start, Tail};
 use mic1_alu::AluOut;
-use micro_word::fields1;
-use micro_word::{Machine, Store, Word1};
+use micro_word::{Machine, Store, Word1, fields1};
 
 /// The word of `goto 0x000`.
 const IDLE: u64 = 0x10_0009;

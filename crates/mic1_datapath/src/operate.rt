@@ -7,8 +7,7 @@ ghost use Rattle.micro_word.specs.Coding.{shift_of, statement_of};
 ghost use Rattle.micro_word.specs.Operation.{alu, shifted, is_negative};
 
 use mic1_alu::{AluOut, Controls, alu as gates, shift};
-use micro_word::Shift;
-use micro_word::fields1;
+use micro_word::{Shift, fields1};
 
 /// What the gates give of the two buses.
 pub fn operate(word: u64, a: u32, b: u32) -> AluOut

@@ -11,8 +11,7 @@ use crate::micro::Micro;
 use crate::next_address::next_address;
 use crate::settle::settle;
 use mic_clock::Computed;
-use micro_word::Mem;
-use micro_word::fields1;
+use micro_word::{Mem, fields1};
 
 /// Where registers and MPC go, and what the cycle asks of the bus.
 #[derive(Clone, Copy, Debug, PartialEq, Eq)]

@@ -9,12 +9,12 @@ pub dec-requires : goal.dec-requires
 dec-requires c =
     let same : cast_signed w64 (cast_unsigned w64 c.args.value) ≡ c.args.value = to_z-of_z w64 c.args.value c.ranges.value in
     let few : length (signed_decimal (cast_signed w64 (cast_unsigned w64 c.args.value))) ≤ 7 =
-        subst (λ (z : ℤ). length (signed_decimal z) ≤ 7) (sym same) (length_number c.args.value c.requires.small) in
+    subst (λ (z : ℤ). length (signed_decimal z) ≤ 7) (sym same) (length_number c.args.value c.requires.small) in
     omega arith
 
 pub returns-clause-len : goal.returns-clause-len
 returns-clause-len c =
     let same : cast_signed w64 (cast_unsigned w64 c.args.value) ≡ c.args.value = to_z-of_z w64 c.args.value c.ranges.value in
     let few : length (signed_decimal (cast_signed w64 (cast_unsigned w64 c.args.value))) ≤ 7 =
-        subst (λ (z : ℤ). length (signed_decimal z) ≤ 7) (sym same) (length_number c.args.value c.requires.small) in
+    subst (λ (z : ℤ). length (signed_decimal z) ≤ 7) (sym same) (length_number c.args.value c.requires.small) in
     omega arith

@@ -8,6 +8,6 @@ loop-i-preserved c =
     let pushed : c.push.new.self.items ≡ c.loop-i.words.items ++ c.word_at.result ∷ [] = c.in_ok-push.ensures.items in
     let read : c.word_at.result ≡ word_at c.args.file.now (c.args.place + 4 * c.loop-i.i) = c.word_at.ensures in
     let more : words_at c.args.file.now c.args.place (c.loop-i.i + 1) ≡ words_at c.args.file.now c.args.place c.loop-i.i ++ word_at c.args.file.now (c.args.place + 4 * c.loop-i.i) ∷ [] =
-        words_at-more c.args.file.now c.args.place c.loop-i.i in
+    words_at-more c.args.file.now c.args.place c.loop-i.i in
     let so_far : c.loop-i.words.items ≡ words_at c.args.file.now c.args.place c.loop-i.i = c.loop-i.invariant in
     cc
