@@ -30,12 +30,12 @@ pub never_stuck_on : (image : ImageView) (stack_end : ℕ) (s t u v : State) →
     NeverStuck image stack_end v
 never_stuck_on image stack_end s t u v never same step more = λ to comes. never to (comes_on image stack_end s v to (On t u v (Here t same) step more) comes)
 
-some_untaken : (left : Option (List ℕ)) (ended : Bool) → (rest : List ℕ) × Untaken left ended rest
+pub some_untaken : (left : Option (List ℕ)) (ended : Bool) → (rest : List ℕ) × Untaken left ended rest
 some_untaken left true = ([], refl)
 some_untaken None false = ([], tt)
 some_untaken (Some l) false = (l, refl)
 
-some_given : (held : Option (List ℕ)) (kept : List ℕ) → (given : List ℕ) × Given held kept given
+pub some_given : (held : Option (List ℕ)) (kept : List ℕ) → (given : List ℕ) × Given held kept given
 some_given None kept = ([], tt)
 some_given (Some h) kept = (h ++ kept, refl)
 

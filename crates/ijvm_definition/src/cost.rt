@@ -1,6 +1,6 @@
 //! What the next instruction costs.
 
-ghost use Rattle.std.specs.Prelude.{◌≡◌, []};
+ghost use Rattle.std.specs.Prelude.{◌≡◌, ◌≤◌, []};
 ghost use Rattle.micro_word.specs.Operation.{is_negative};
 ghost use Rattle.ijvm_definition.specs.Cost.{column, is_taken, entry_of, next_cost};
 ghost use Rattle.ijvm_definition.specs.Instructions.{row_of};
@@ -52,8 +52,10 @@ fn entry_of(plain: &PlainMachine, instr: Instr) -> u32
 }
 
 /// The cycles of the next instruction, or 0 where there is none.
+#[tactic(auto, using(crate::proofs::Costs::next_cost_most))]
 pub fn cost_of(plain: &PlainMachine, machine: Machine) -> u64
-    ensures { result ≡ next_cost plain.now.image machine (state_of plain.now [] []) }
+    ensures is { result ≡ next_cost plain.now.image machine (state_of plain.now [] []) }
+    ensures most { result ≤ 23 }
 {
     let Some(instr) = plain.next() else {
         return 0;

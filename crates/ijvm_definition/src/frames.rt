@@ -179,7 +179,8 @@ impl Frames {
 
     /// The cycles of the next instruction.
     pub fn cost(&self, machine: Machine) -> u64
-        ensures { result ≡ next_cost self.now.image machine (state_of self.now [] []) }
+        ensures is { result ≡ next_cost self.now.image machine (state_of self.now [] []) }
+        ensures most { result ≤ 23 }
     {
         cost_of(&self.machine, machine)
     }
