@@ -11,12 +11,15 @@ use Rattle.ijvm_definition.specs.declared.frames.StepError.{StepError}
 use Rattle.ijvm_definition.specs.declared.frames.StepError.TheVariants as errors
 use Rattle.ijvm_definition.specs.declared.run.RunEnd.{RunEnd}
 use Rattle.ijvm_definition.specs.declared.run.RunEnd.TheVariants as ends
+use Rattle.mic_base.specs.Streams.{Holds}
+use Rattle.ijvm_definition.specs.declared.run.Counts.{Counts}
 use Rattle.ijvm_definition.specs.declared.run.Report.{Report}
+use Rattle.ijvm_definition.specs.Image.{ImageView}
 use Rattle.ijvm_definition.specs.Frames.{State}
 use Rattle.ijvm_definition.specs.Step.{Outcome, Goes, Halts, Errs, Limits, outcome}
 use Rattle.ijvm_definition.specs.Cost.{next_cost}
 use Rattle.ijvm_definition.specs.Run.{Program, Point, Finish, point_after, completed, stopped, after_outcome, after_test, finish_from, EndsBy, Passes, Start, More}
-use Rattle.ijvm_definition.specs.Machine.{MachineView, state_of}
+use Rattle.ijvm_definition.specs.Machine.{MachineView, KeepsProgram, state_of}
 use Rattle.ijvm_definition.specs.Steps.{IsLedOn, Does, IsCutOff}
 use Rattle.ijvm_definition.proofs.Costs.{next_cost-least}
 use Rattle.ijvm_definition.proofs.SafeLemmas.{some_untaken, some_given}
@@ -166,3 +169,118 @@ went_cost left held c left' held' c' machine old new led =
     let given = some_given held c.kept in
     let next = first.2 given.0 given.1 in
     next_cost-least old.image old.stack_end machine (state_of old first.0 given.0) (state_of new rest.0 next.0) next.2
+
+-- Whole runs.
+
+finish_passes : (p : Program) (bound : ℕ) (from at : Point) (f : Finish) → Passes p bound from at → EndsBy p bound at f → EndsBy p bound from f
+finish_passes p bound from at f (Start a same) e = subst (λ (x : Point). EndsBy p bound x f) same e
+finish_passes p bound from at f (More b next to first under goes is) e =
+    let e0 : EndsBy p bound (point_after p b to) f = subst (λ (x : Point). EndsBy p bound x f) is e in
+    finish_passes p bound from b f first
+    (suc e0.0, ap (after_test (finish_from p bound e0.0) p b) (is_under bound b.cycles under) ∙ ap (after_outcome (finish_from p bound e0.0) p b) goes ∙ e0.1)
+
+passes_on : (p : Program) (bound : ℕ) (from at to : Point) → Passes p bound from at → Passes p bound at to → Passes p bound from to
+passes_on p bound from at to first (Start a same) = subst (λ (x : Point). Passes p bound from x) (sym same) first
+passes_on p bound from at to first (More b next s more under goes is) = More b next s (passes_on p bound from at b first more) under goes is
+
+passes_one : (p : Program) (bound : ℕ) (from at next : Point) → Passes p bound from at → GoesOn p bound at next → Passes p bound from next
+passes_one p bound from at next first on = More at next next.state first on.under on.goes on.counts
+
+abbrev cut_on : (p : Program) (bound : ℕ) (from at : Point) (r : Report) (new : MachineView) (u g : List ℕ) → Passes p bound from at → IsCut p bound at r new u g → IsCut p bound from r new u g
+cut_on p bound from at r new u g first cut =
+    record {
+      at = cut.at;
+      passes = passes_on p bound from at cut.at first cut.passes;
+      boundary = cut.boundary;
+      cycles = cut.cycles;
+      instructions = cut.instructions;
+      state = cut.state;
+    }
+
+abbrev ends_on : (p : Program) (bound : ℕ) (from at : Point) (r : Report) (new : MachineView) (u g : List ℕ) → Passes p bound from at → Ends p bound at r new u g → Ends p bound from r new u g
+ends_on p bound from at r new u g first e =
+    record {
+      finish = e.finish;
+      ends = finish_passes p bound from at e.finish first e.ends;
+      boundary = e.boundary;
+      cycles = e.cycles;
+      instructions = e.instructions;
+      left = e.left;
+    }
+
+reported_on : (end : RunEnd) (p : Program) (bound : ℕ) (from at : Point) (r : Report) (new : MachineView) (u g : List ℕ) → Passes p bound from at →
+    IsReported end p bound at r new u g → IsReported end p bound from r new u g
+reported_on ends.ReadFault p bound from at r new u g first h = cut_on p bound from at r new u g first h
+reported_on ends.OutOfMemory p bound from at r new u g first h = cut_on p bound from at r new u g first h
+reported_on ends.WriteFault p bound from at r new u g first h =
+    elim h [ inl cut ↦ inl (cut_on p bound from at r new u g first cut) | inr e ↦ inr (ends_on p bound from at r new u g first e) ]
+reported_on ends.Halt p bound from at r new u g first h = (ends_on p bound from at r new u g first h.0, h.1)
+reported_on ends.Err p bound from at r new u g first h = (ends_on p bound from at r new u g first h.0, h.1)
+reported_on ends.Bound p bound from at r new u g first h = (ends_on p bound from at r new u g first h.0, h.1)
+reported_on ends.StackLimit p bound from at r new u g first h = (ends_on p bound from at r new u g first h.0, h.1)
+
+-- one after the other
+led_on : (shown : Option (List ℕ) → List ℕ → List ℕ → Type 0) (l0 h0 : Option (List ℕ)) (c0 : ConsoleView) (l1 h1 : Option (List ℕ)) (c1 : ConsoleView) (l2 h2 : Option (List ℕ)) (c2 : ConsoleView)
+    (P Q R : List ℕ → List ℕ → List ℕ → List ℕ → Type 0) → LedTo Given l0 h0 c0 l1 h1 c1 P → LedTo shown l1 h1 c1 l2 h2 c2 Q →
+    ((u g v h w k : List ℕ) → P u g v h → Q v h w k → R u g w k) → LedTo shown l0 h0 c0 l2 h2 c2 R
+led_on shown l0 h0 c0 l1 h1 c1 l2 h2 c2 P Q R first second both = λ rest here.
+    let b = second rest here in
+    let a = first b.0 b.1 in
+    (a.0, a.1, λ given g0.
+        let x = a.2 given g0 in
+        let y = b.2 x.0 x.1 in
+        (y.0, y.1, both a.0 given b.0 x.0 rest y.0 x.2 y.2))
+
+-- a run that has passed this boundary, with these frames
+abbrev pub HasPassed : ℕ → Machine → ℕ → ℕ → ℕ → ℕ → MachineView → MachineView → List ℕ → List ℕ → List ℕ → List ℕ → Type 0
+HasPassed bound machine cycles instructions cycles' instructions' old new u g u' g' =
+    Passes (program_of old machine) bound (point_at old cycles instructions u g) (point_at new cycles' instructions' u' g')
+
+-- at the start of a run
+pub passed_none : (l h : Option (List ℕ)) (c : ConsoleView) (bound : ℕ) (machine : Machine) (cycles instructions : ℕ) (m : MachineView) →
+    LedTo Given l h c l h c (HasPassed bound machine cycles instructions cycles instructions m m)
+passed_none l h c bound machine cycles instructions m = λ rest here. (rest, here, λ given shown. (given, shown, Start _ refl))
+
+same_program : (machine : Machine) (old new : MachineView) → KeepsProgram old new → program_of new machine ≡ program_of old machine
+same_program machine old new keeps = ap₂ (λ (image : ImageView) (n : ℕ). program image n machine) keeps.image keeps.stack_end
+  where
+    program : ImageView → ℕ → Machine → Program
+    program image n machine = record { image = image; stack_end = n; machine = machine }
+
+pub passed_more : (l0 h0 : Option (List ℕ)) (c0 : ConsoleView) (l1 h1 : Option (List ℕ)) (c1 : ConsoleView) (l2 h2 : Option (List ℕ)) (c2 : ConsoleView) (bound : ℕ) (machine : Machine)
+    (cycles instructions cycles' instructions' cycles'' instructions'' : ℕ) (old new next : MachineView) → KeepsProgram old new →
+    LedTo Given l0 h0 c0 l1 h1 c1 (HasPassed bound machine cycles instructions cycles' instructions' old new) →
+    LedTo Given l1 h1 c1 l2 h2 c2 (λ u g u' g'. GoesOn (program_of new machine) bound (point_at new cycles' instructions' u g) (point_at next cycles'' instructions'' u' g')) →
+    LedTo Given l0 h0 c0 l2 h2 c2 (HasPassed bound machine cycles instructions cycles'' instructions'' old next)
+passed_more l0 h0 c0 l1 h1 c1 l2 h2 c2 bound machine cycles instructions cycles' instructions' cycles'' instructions'' old new next keeps first second =
+    led_on Given l0 h0 c0 l1 h1 c1 l2 h2 c2 (HasPassed bound machine cycles instructions cycles' instructions' old new)
+    (λ u g u' g'. GoesOn (program_of new machine) bound (point_at new cycles' instructions' u g) (point_at next cycles'' instructions'' u' g'))
+    (HasPassed bound machine cycles instructions cycles'' instructions'' old next) first second
+    (λ u g v h w k passed on. passes_one (program_of old machine) bound (point_at old cycles instructions u g) (point_at new cycles' instructions' v h) (point_at next cycles'' instructions'' w k) passed
+        (subst (λ (p : Program). GoesOn p bound (point_at new cycles' instructions' v h) (point_at next cycles'' instructions'' w k)) (same_program machine old new keeps) on))
+
+pub passed_end : (end : RunEnd) (l0 h0 : Option (List ℕ)) (c0 : ConsoleView) (l1 h1 : Option (List ℕ)) (c1 : ConsoleView) (l2 h2 : Option (List ℕ)) (c2 : ConsoleView) (bound : ℕ) (machine : Machine)
+    (cycles instructions cycles' instructions' : ℕ) (r : Report) (old new next : MachineView) → KeepsProgram old new →
+    LedTo Given l0 h0 c0 l1 h1 c1 (HasPassed bound machine cycles instructions cycles' instructions' old new) →
+    LedTo (IsShown end) l1 h1 c1 l2 h2 c2 (λ u g u' g'. IsReported end (program_of new machine) bound (point_at new cycles' instructions' u g) r next u' g') →
+    LedTo (IsShown end) l0 h0 c0 l2 h2 c2 (λ u g u' g'. IsReported end (program_of old machine) bound (point_at old cycles instructions u g) r next u' g')
+passed_end end l0 h0 c0 l1 h1 c1 l2 h2 c2 bound machine cycles instructions cycles' instructions' r old new next keeps first second =
+    led_on (IsShown end) l0 h0 c0 l1 h1 c1 l2 h2 c2 (HasPassed bound machine cycles instructions cycles' instructions' old new)
+    (λ u g u' g'. IsReported end (program_of new machine) bound (point_at new cycles' instructions' u g) r next u' g')
+    (λ u g u' g'. IsReported end (program_of old machine) bound (point_at old cycles instructions u g) r next u' g') first second
+    (λ u g v h w k passed reported. reported_on end (program_of old machine) bound (point_at old cycles instructions u g) (point_at new cycles' instructions' v h) r next w k passed
+        (subst (λ (p : Program). IsReported end p bound (point_at new cycles' instructions' v h) r next w k) (same_program machine old new keeps) reported))
+
+-- what holds of a run between two turns
+pub record IsRunning (l0 h0 : Option (List ℕ)) (c0 : ConsoleView) (l1 h1 : Option (List ℕ)) (c1 : ConsoleView) (bound : ℕ) (machine : Machine) (counts0 counts1 : Counts) (old new : MachineView) : Type 0 where
+  pub passed : LedTo Given l0 h0 c0 l1 h1 c1 (HasPassed bound machine counts0.cycles counts0.instructions counts1.cycles counts1.instructions old new)
+  pub program : KeepsProgram old new
+  pub boundary : counts1.boundary ≡ counts1.cycles
+  pub few : counts1.instructions ≤ counts1.cycles
+  pub keeps : (front : List ℕ) → Holds front h0 → Holds front h1
+
+pub program_stays : (m : MachineView) → KeepsProgram m m
+program_stays m = record { image = refl; stack_end = refl }
+
+pub program_on : (old new next : MachineView) → KeepsProgram old new → KeepsProgram new next → KeepsProgram old next
+program_on old new next first then_ = record { image = then_.image ∙ first.image; stack_end = then_.stack_end ∙ first.stack_end }

@@ -108,3 +108,12 @@ pub record HasRunCause (source source' sink sink' : ℕ) (end : Option RunEnd) :
   pub write : end ≡ Some ends.WriteFault → Rose sink sink'
   pub source_same : end ≢ Some ends.ReadFault → source' ≡ source
   pub sink_same : end ≢ Some ends.WriteFault → sink' ≡ sink
+
+-- the same of a whole run, whose last flush may fail after a fault of the source; without a fault no count rose
+pub record HasEndCause (source source' sink sink' : ℕ) (end : RunEnd) : Type 0 where
+  pub source_later : source ≤ source'
+  pub sink_later : sink ≤ sink'
+  pub read : end ≡ ends.ReadFault → Rose source source'
+  pub write : end ≡ ends.WriteFault → Rose sink sink'
+  pub source_same : end ≢ ends.ReadFault → end ≢ ends.WriteFault → source' ≡ source
+  pub sink_same : end ≢ ends.WriteFault → sink' ≡ sink

@@ -1,9 +1,9 @@
 //! A run of the plain machine.
 
-ghost use Rattle.std.specs.Prelude.{◌≡◌, ◌≢◌, ◌≤◌, ◌<◌, ◌+◌, ◌^◌, ℕ, List, Some, IfNone};
+ghost use Rattle.std.specs.Prelude.{◌≡◌, ◌≢◌, ◌≤◌, ◌<◌, ◌+◌, ◌^◌, [], ℕ, List, Some, IfNone};
 ghost use Rattle.mic_base.specs.Streams.{Holds};
 ghost use Rattle.ijvm_definition.specs.Machine.{KeepsProgram};
-ghost use Rattle.ijvm_definition.specs.Runs.{LedTo, ShownBy, TurnsTo, HasRunCause, cut_by};
+ghost use Rattle.ijvm_definition.specs.Runs.{LedTo, IsShown, ShownBy, TurnsTo, RunsTo, HasRunCause, HasEndCause, cut_by};
 
 use crate::frames::{Frames, StepEnd, StepError};
 use console_port::Console;
@@ -89,5 +89,50 @@ fn pass<S: Source, K: Sink>(frames: &mut Frames, machine: Machine, bound: u64, c
         }
         Ok(StepEnd::StackLimit) => Some(RunEnd::StackLimit),
         Err(error) => Some(cut_by(error)),
+    }
+}
+
+/// Passes boundaries until the run ends.
+fn drive<S: Source, K: Sink>(frames: &mut Frames, machine: Machine, bound: u64, counts: &mut Counts, console: &mut Console, source: &mut S, sink: &mut K) -> RunEnd
+    requires bound { bound ≤ 2 ^ 62 }
+    requires boundary { counts.old.boundary ≡ counts.old.cycles }
+    requires few { counts.old.instructions ≤ counts.old.cycles }
+    ensures led { LedTo (IsShown result) (S.left source.old) (K.held sink.old) console.old (S.left source.new) (K.held sink.new) console.new (TurnsTo (Some result) bound machine counts.old counts.new frames.old frames.new) }
+    ensures program { KeepsProgram frames.old frames.new }
+    ensures keeps { (front : List ℕ) → Holds front (K.held sink.old) → Holds front (K.held sink.new) }
+    ensures cause { HasRunCause (S.faults source.old) (S.faults source.new) (K.faults sink.old) (K.faults sink.new) (Some result) }
+{
+    'run: loop {
+        match pass(frames, machine, bound, counts, console, source, sink) {
+            Some(end) => return end,
+            None => {}
+        }
+    }
+}
+
+/// Runs frames to the end of their run, or until the cycles reach the bound at a boundary, and flushes the console.
+pub fn run<S: Source, K: Sink>(frames: &mut Frames, machine: Machine, bound: u64, console: &mut Console, source: &mut S, sink: &mut K) -> Report
+    requires { bound ≤ 2 ^ 62 }
+    ensures runs { LedTo (IsShown result.end) (S.left source.old) (K.held sink.old) console.old (S.left source.new) (K.held sink.new) console.new (RunsTo bound machine result frames.old frames.new) }
+    ensures program { KeepsProgram frames.old frames.new }
+    ensures flushed { console.new.kept ≡ [] }
+    ensures keeps { (front : List ℕ) → Holds front (K.held sink.old) → Holds front (K.held sink.new) }
+    ensures cause { HasEndCause (S.faults source.old) (S.faults source.new) (K.faults sink.old) (K.faults sink.new) result.end }
+{
+    let mut counts = Counts {
+        boundary: 2,
+        cycles: 2,
+        instructions: 0,
+    };
+    let driven = drive(frames, machine, bound, &mut counts, console, source, sink);
+    let end = match console.flush(sink) {
+        Ok(()) => driven,
+        Err(_) => RunEnd::WriteFault,
+    };
+    Report {
+        end,
+        boundary: counts.boundary,
+        cycles: counts.cycles,
+        instructions: counts.instructions,
     }
 }
