@@ -29,10 +29,13 @@ use Rattle.ijvm_definition.specs.Runs.{program_of, point_at, Ends, IsCut, EndsIn
 pub led_as : (left held : Option (List ℕ)) (c : ConsoleView) (left' held' : Option (List ℕ)) (c' : ConsoleView) (P Q : List ℕ → List ℕ → List ℕ → List ℕ → Type 0) →
     IsLedOn left held c left' held' c' P → ((u g u' g' : List ℕ) → P u g u' g' → Q u g u' g') → LedTo Given left held c left' held' c' Q
 led_as left held c left' held' c' P Q led told = λ rest here.
-    let first = led rest here in
-    (first.0, first.1, λ given shown.
-        let next = first.2 given shown in
-        (next.0, next.1, told first.0 given rest next.0 next.2))
+    let first = led rest here in (
+      first.0,
+      first.1,
+      λ given shown.
+          let next = first.2 given shown in
+          (next.0, next.1, told first.0 given rest next.0 next.2),
+    )
 
 pub goes_on : (bound : ℕ) (machine : Machine) (old new : MachineView) (cycles instructions cycles' instructions' cost : ℕ) (u g u' g' : List ℕ) → cycles < bound →
     cost ≡ next_cost old.image machine (state_of old [] []) → cycles' ≡ cycles + cost → instructions' ≡ instructions + 1 → Does steps.Went old new u g u' g' →
@@ -61,30 +64,34 @@ pub halt_ends : (bound : ℕ) (machine : Machine) (old new : MachineView) (cycle
     IsReported ends.Halt (program_of old machine) bound (point_at old cycles instructions u g) r new u' g'
 halt_ends bound machine old new cycles instructions cost r u g u' g' under is boundary all one does =
     let p : Program = program_of old machine in
-    let at : Point = point_at old cycles instructions u g in
-    (record {
-      finish = completed p at ends.Halt;
-      ends = ends_by p bound at Halts (completed p at ends.Halt) under does.0 refl;
-      boundary = sym boundary;
-      cycles = ap (λ (k : ℕ). cycles + k) (sym is) ∙ sym all;
-      instructions = sym one;
-      left = sym does.1;
-    }, refl)
+    let at : Point = point_at old cycles instructions u g in (
+      record {
+        finish = completed p at ends.Halt;
+        ends = ends_by p bound at Halts (completed p at ends.Halt) under does.0 refl;
+        boundary = sym boundary;
+        cycles = ap (λ (k : ℕ). cycles + k) (sym is) ∙ sym all;
+        instructions = sym one;
+        left = sym does.1;
+      },
+      refl,
+    )
 
 pub err_ends : (bound : ℕ) (machine : Machine) (old new : MachineView) (cycles instructions cost : ℕ) (r : Report) (u g u' g' : List ℕ) → cycles < bound →
     cost ≡ next_cost old.image machine (state_of old [] []) → r.boundary ≡ cycles → r.cycles ≡ cycles + cost → r.instructions ≡ instructions + 1 → Does steps.Err old new u g u' g' →
     IsReported ends.Err (program_of old machine) bound (point_at old cycles instructions u g) r new u' g'
 err_ends bound machine old new cycles instructions cost r u g u' g' under is boundary all one does =
     let p : Program = program_of old machine in
-    let at : Point = point_at old cycles instructions u g in
-    (record {
-      finish = completed p at ends.Err;
-      ends = ends_by p bound at Errs (completed p at ends.Err) under does.0 refl;
-      boundary = sym boundary;
-      cycles = ap (λ (k : ℕ). cycles + k) (sym is) ∙ sym all;
-      instructions = sym one;
-      left = sym does.1;
-    }, refl)
+    let at : Point = point_at old cycles instructions u g in (
+      record {
+        finish = completed p at ends.Err;
+        ends = ends_by p bound at Errs (completed p at ends.Err) under does.0 refl;
+        boundary = sym boundary;
+        cycles = ap (λ (k : ℕ). cycles + k) (sym is) ∙ sym all;
+        instructions = sym one;
+        left = sym does.1;
+      },
+      refl,
+    )
 
 pub limit_ends : (bound : ℕ) (machine : Machine) (old new : MachineView) (cycles instructions : ℕ) (r : Report) (u g u' g' : List ℕ) → cycles < bound →
     r.boundary ≡ cycles → r.cycles ≡ cycles → r.instructions ≡ instructions → Does steps.StackLimit old new u g u' g' →
@@ -92,29 +99,33 @@ pub limit_ends : (bound : ℕ) (machine : Machine) (old new : MachineView) (cycl
 limit_ends bound machine old new cycles instructions r u g u' g' under boundary all one does =
     let p : Program = program_of old machine in
     let at : Point = point_at old cycles instructions u g in
-    let left : State = state_of new u' g' in
-    (record {
-      finish = stopped at ends.StackLimit left;
-      ends = ends_by p bound at (Limits left) (stopped at ends.StackLimit left) under does refl;
-      boundary = sym boundary;
-      cycles = sym all;
-      instructions = sym one;
-      left = refl;
-    }, refl)
+    let left : State = state_of new u' g' in (
+      record {
+        finish = stopped at ends.StackLimit left;
+        ends = ends_by p bound at (Limits left) (stopped at ends.StackLimit left) under does refl;
+        boundary = sym boundary;
+        cycles = sym all;
+        instructions = sym one;
+        left = refl;
+      },
+      refl,
+    )
 
 pub bound_ends : (bound : ℕ) (machine : Machine) (m : MachineView) (cycles instructions : ℕ) (r : Report) (u g : List ℕ) → bound ≤ cycles →
     r.boundary ≡ cycles → r.cycles ≡ cycles → r.instructions ≡ instructions → IsReported ends.Bound (program_of m machine) bound (point_at m cycles instructions u g) r m u g
 bound_ends bound machine m cycles instructions r u g over boundary all one =
     let p : Program = program_of m machine in
-    let at : Point = point_at m cycles instructions u g in
-    (record {
-      finish = stopped at ends.Bound at.state;
-      ends = (suc zero, ap (after_test (finish_from p bound zero) p at) (is_over bound cycles over));
-      boundary = sym boundary;
-      cycles = sym all;
-      instructions = sym one;
-      left = refl;
-    }, refl)
+    let at : Point = point_at m cycles instructions u g in (
+      record {
+        finish = stopped at ends.Bound at.state;
+        ends = (suc zero, ap (after_test (finish_from p bound zero) p at) (is_over bound cycles over));
+        boundary = sym boundary;
+        cycles = sym all;
+        instructions = sym one;
+        left = refl;
+      },
+      refl,
+    )
 
 cut_here : (bound : ℕ) (machine : Machine) (old new : MachineView) (cycles instructions : ℕ) (r : Report) (u g : List ℕ) → new ≡ old →
     r.boundary ≡ cycles → r.cycles ≡ cycles → r.instructions ≡ instructions → IsCut (program_of old machine) bound (point_at old cycles instructions u g) r new u g
@@ -140,7 +151,7 @@ lost_shown None held' kept kept' given lost shown =
 lost_shown (Some h) held' kept kept' given lost shown =
     let n : ℕ = lost.prefix.0 in
     let parts : given ≡ (h ++ take n kept) ++ drop n kept =
-        shown ∙ ap (λ (xs : List ℕ). h ++ xs) (sym (take-append-drop n kept)) ∙ sym (append_assoc h (take n kept) (drop n kept)) in
+    shown ∙ ap (λ (xs : List ℕ). h ++ xs) (sym (take-append-drop n kept)) ∙ sym (append_assoc h (take n kept) (drop n kept)) in
     subst (λ (x : Option (List ℕ)). IfSome x (λ y. (more : List ℕ) × (given ≡ y ++ more))) (sym lost.prefix.1) (drop n kept, parts)
 
 cut_shown : (e : StepError) (left held : Option (List ℕ)) (c : ConsoleView) (left' held' : Option (List ℕ)) (c' : ConsoleView) (given : List ℕ) →
@@ -154,11 +165,16 @@ pub cut_led : (e : StepError) (left held : Option (List ℕ)) (c : ConsoleView) 
     LedTo (IsShown (cut_by e)) left held c left' held' c' (λ u g u' g'. IsReported (cut_by e) (program_of old machine) bound (point_at old cycles instructions u g) r new u' g')
 cut_led e left held c left' held' c' bound machine old new cycles instructions r cut same boundary all one = λ rest here.
     let ended : Untaken left' c.ended rest = subst (λ (b : Bool). Untaken left' b rest) cut.ended here in
-    let first : Untaken left c.ended rest = subst (λ (l : Option (List ℕ)). Untaken l c.ended rest) cut.untaken ended in
-    (rest, first, λ given shown.
-        (given, cut_shown e left held c left' held' c' given cut shown,
-            cut_reported e (program_of old machine) bound (point_at old cycles instructions rest given) r new rest given
-            (cut_here bound machine old new cycles instructions r rest given same boundary all one)))
+    let first : Untaken left c.ended rest = subst (λ (l : Option (List ℕ)). Untaken l c.ended rest) cut.untaken ended in (
+      rest,
+      first,
+      λ given shown. (
+        given,
+        cut_shown e left held c left' held' c' given cut shown,
+        cut_reported e (program_of old machine) bound (point_at old cycles instructions rest given) r new rest given
+            (cut_here bound machine old new cycles instructions r rest given same boundary all one),
+      ),
+    )
 
 -- a step that goes on costs at least a cycle
 pub went_cost : (left held : Option (List ℕ)) (c : ConsoleView) (left' held' : Option (List ℕ)) (c' : ConsoleView) (machine : Machine) (old new : MachineView) →
@@ -225,11 +241,14 @@ led_on : (shown : Option (List ℕ) → List ℕ → List ℕ → Type 0) (l0 h0
     ((u g v h w k : List ℕ) → P u g v h → Q v h w k → R u g w k) → LedTo shown l0 h0 c0 l2 h2 c2 R
 led_on shown l0 h0 c0 l1 h1 c1 l2 h2 c2 P Q R first second both = λ rest here.
     let b = second rest here in
-    let a = first b.0 b.1 in
-    (a.0, a.1, λ given g0.
-        let x = a.2 given g0 in
-        let y = b.2 x.0 x.1 in
-        (y.0, y.1, both a.0 given b.0 x.0 rest y.0 x.2 y.2))
+    let a = first b.0 b.1 in (
+      a.0,
+      a.1,
+      λ given g0.
+          let x = a.2 given g0 in
+          let y = b.2 x.0 x.1 in
+          (y.0, y.1, both a.0 given b.0 x.0 rest y.0 x.2 y.2),
+    )
 
 -- a run that has passed this boundary, with these frames
 abbrev pub HasPassed : ℕ → Machine → ℕ → ℕ → ℕ → ℕ → MachineView → MachineView → List ℕ → List ℕ → List ℕ → List ℕ → Type 0
@@ -257,7 +276,7 @@ passed_more l0 h0 c0 l1 h1 c1 l2 h2 c2 bound machine cycles instructions cycles'
     (λ u g u' g'. GoesOn (program_of new machine) bound (point_at new cycles' instructions' u g) (point_at next cycles'' instructions'' u' g'))
     (HasPassed bound machine cycles instructions cycles'' instructions'' old next) first second
     (λ u g v h w k passed on. passes_one (program_of old machine) bound (point_at old cycles instructions u g) (point_at new cycles' instructions' v h) (point_at next cycles'' instructions'' w k) passed
-        (subst (λ (p : Program). GoesOn p bound (point_at new cycles' instructions' v h) (point_at next cycles'' instructions'' w k)) (same_program machine old new keeps) on))
+    (subst (λ (p : Program). GoesOn p bound (point_at new cycles' instructions' v h) (point_at next cycles'' instructions'' w k)) (same_program machine old new keeps) on))
 
 pub passed_end : (end : RunEnd) (l0 h0 : Option (List ℕ)) (c0 : ConsoleView) (l1 h1 : Option (List ℕ)) (c1 : ConsoleView) (l2 h2 : Option (List ℕ)) (c2 : ConsoleView) (bound : ℕ) (machine : Machine)
     (cycles instructions cycles' instructions' : ℕ) (r : Report) (old new next : MachineView) → KeepsProgram old new →
@@ -269,7 +288,7 @@ passed_end end l0 h0 c0 l1 h1 c1 l2 h2 c2 bound machine cycles instructions cycl
     (λ u g u' g'. IsReported end (program_of new machine) bound (point_at new cycles' instructions' u g) r next u' g')
     (λ u g u' g'. IsReported end (program_of old machine) bound (point_at old cycles instructions u g) r next u' g') first second
     (λ u g v h w k passed reported. reported_on end (program_of old machine) bound (point_at old cycles instructions u g) (point_at new cycles' instructions' v h) r next w k passed
-        (subst (λ (p : Program). IsReported end p bound (point_at new cycles' instructions' v h) r next w k) (same_program machine old new keeps) reported))
+    (subst (λ (p : Program). IsReported end p bound (point_at new cycles' instructions' v h) r next w k) (same_program machine old new keeps) reported))
 
 -- what holds of a run between two turns
 pub record IsRunning (l0 h0 : Option (List ℕ)) (c0 : ConsoleView) (l1 h1 : Option (List ℕ)) (c1 : ConsoleView) (bound : ℕ) (machine : Machine) (counts0 counts1 : Counts) (old new : MachineView) : Type 0 where
@@ -284,3 +303,93 @@ program_stays m = record { image = refl; stack_end = refl }
 
 pub program_on : (old new next : MachineView) → KeepsProgram old new → KeepsProgram new next → KeepsProgram old next
 program_on old new next first then_ = record { image = then_.image ∙ first.image; stack_end = then_.stack_end ∙ first.stack_end }
+
+-- The last flush.
+
+ends_as : (p : Program) (bound : ℕ) (from : Point) (r s : Report) (new : MachineView) (u g : List ℕ) → s.boundary ≡ r.boundary → s.cycles ≡ r.cycles → s.instructions ≡ r.instructions →
+    Ends p bound from r new u g → Ends p bound from s new u g
+ends_as p bound from r s new u g b c i e =
+    record { finish = e.finish; ends = e.ends; boundary = e.boundary ∙ sym b; cycles = e.cycles ∙ sym c; instructions = e.instructions ∙ sym i; left = e.left }
+
+cut_as : (p : Program) (bound : ℕ) (from : Point) (r s : Report) (new : MachineView) (u g : List ℕ) → s.boundary ≡ r.boundary → s.cycles ≡ r.cycles → s.instructions ≡ r.instructions →
+    IsCut p bound from r new u g → IsCut p bound from s new u g
+cut_as p bound from r s new u g b c i h =
+    record { at = h.at; passes = h.passes; boundary = h.boundary ∙ sym b; cycles = h.cycles ∙ sym c; instructions = h.instructions ∙ sym i; state = h.state }
+
+-- whatever was reported, the run was cut or has ended
+reported_any : (end : RunEnd) (p : Program) (bound : ℕ) (from : Point) (r s : Report) (new : MachineView) (u g : List ℕ) → s.boundary ≡ r.boundary → s.cycles ≡ r.cycles →
+    s.instructions ≡ r.instructions → IsReported end p bound from r new u g → IsCut p bound from s new u g ⊎ Ends p bound from s new u g
+reported_any ends.ReadFault p bound from r s new u g b c i h = inl (cut_as p bound from r s new u g b c i h)
+reported_any ends.OutOfMemory p bound from r s new u g b c i h = inl (cut_as p bound from r s new u g b c i h)
+reported_any ends.WriteFault p bound from r s new u g b c i h =
+    elim h [ inl cut ↦ inl (cut_as p bound from r s new u g b c i cut) | inr e ↦ inr (ends_as p bound from r s new u g b c i e) ]
+reported_any ends.Halt p bound from r s new u g b c i h = inr (ends_as p bound from r s new u g b c i h.0)
+reported_any ends.Err p bound from r s new u g b c i h = inr (ends_as p bound from r s new u g b c i h.0)
+reported_any ends.Bound p bound from r s new u g b c i h = inr (ends_as p bound from r s new u g b c i h.0)
+reported_any ends.StackLimit p bound from r s new u g b c i h = inr (ends_as p bound from r s new u g b c i h.0)
+
+-- the same report, told by the record that is answered
+pub reported_as : (end : RunEnd) (p : Program) (bound : ℕ) (from : Point) (r s : Report) (new : MachineView) (u g : List ℕ) → s.boundary ≡ r.boundary → s.cycles ≡ r.cycles →
+    s.instructions ≡ r.instructions → IsReported end p bound from r new u g → IsReported end p bound from s new u g
+reported_as ends.ReadFault p bound from r s new u g b c i h = cut_as p bound from r s new u g b c i h
+reported_as ends.OutOfMemory p bound from r s new u g b c i h = cut_as p bound from r s new u g b c i h
+reported_as ends.WriteFault p bound from r s new u g b c i h = reported_any ends.WriteFault p bound from r s new u g b c i h
+reported_as ends.Halt p bound from r s new u g b c i h = (record { finish = h.0.finish; ends = h.0.ends; boundary = h.0.boundary ∙ sym b; cycles = h.0.cycles ∙ sym c; instructions = h.0.instructions ∙ sym i; left = h.0.left }, h.1)
+reported_as ends.Err p bound from r s new u g b c i h = (record { finish = h.0.finish; ends = h.0.ends; boundary = h.0.boundary ∙ sym b; cycles = h.0.cycles ∙ sym c; instructions = h.0.instructions ∙ sym i; left = h.0.left }, h.1)
+reported_as ends.Bound p bound from r s new u g b c i h = (record { finish = h.0.finish; ends = h.0.ends; boundary = h.0.boundary ∙ sym b; cycles = h.0.cycles ∙ sym c; instructions = h.0.instructions ∙ sym i; left = h.0.left }, h.1)
+reported_as ends.StackLimit p bound from r s new u g b c i h = (record { finish = h.0.finish; ends = h.0.ends; boundary = h.0.boundary ∙ sym b; cycles = h.0.cycles ∙ sym c; instructions = h.0.instructions ∙ sym i; left = h.0.left }, h.1)
+
+-- a flush that was done shows the same bytes; after a fault of the sink it does nothing
+shown_flushed : (end : RunEnd) (held held' : Option (List ℕ)) (kept kept' given : List ℕ) → (end ≡ ends.WriteFault → held' ≡ held) → (Given held kept given → Given held' kept' given) →
+    IsShown end held kept given → IsShown end held' kept' given
+shown_flushed ends.WriteFault held held' kept kept' given idle flushed shown = subst (λ (h : Option (List ℕ)). IsShown ends.WriteFault h kept' given) (sym (idle refl)) shown
+shown_flushed ends.ReadFault held held' kept kept' given idle flushed shown = flushed shown
+shown_flushed ends.OutOfMemory held held' kept kept' given idle flushed shown = flushed shown
+shown_flushed ends.Halt held held' kept kept' given idle flushed shown = flushed shown
+shown_flushed ends.Err held held' kept kept' given idle flushed shown = flushed shown
+shown_flushed ends.Bound held held' kept kept' given idle flushed shown = flushed shown
+shown_flushed ends.StackLimit held held' kept kept' given idle flushed shown = flushed shown
+
+pub led_flushed : (end : RunEnd) (l0 h0 : Option (List ℕ)) (c0 : ConsoleView) (l1 h1 : Option (List ℕ)) (c1 : ConsoleView) (h2 : Option (List ℕ)) (c2 : ConsoleView) (bound : ℕ) (machine : Machine)
+    (cycles instructions : ℕ) (r s : Report) (old new : MachineView) → s.boundary ≡ r.boundary → s.cycles ≡ r.cycles → s.instructions ≡ r.instructions → c2.ended ≡ c1.ended →
+    (end ≡ ends.WriteFault → h2 ≡ h1) → ((given : List ℕ) → Given h1 c1.kept given → Given h2 c2.kept given) →
+    LedTo (IsShown end) l0 h0 c0 l1 h1 c1 (λ u g u' g'. IsReported end (program_of old machine) bound (point_at old cycles instructions u g) r new u' g') →
+    LedTo (IsShown end) l0 h0 c0 l1 h2 c2 (λ u g u' g'. IsReported end (program_of old machine) bound (point_at old cycles instructions u g) s new u' g')
+led_flushed end l0 h0 c0 l1 h1 c1 h2 c2 bound machine cycles instructions r s old new b c i ended idle flushed led = λ rest here.
+    let first = led rest (subst (λ (t : Bool). Untaken l1 t rest) ended here) in (
+      first.0,
+      first.1,
+      λ given shown.
+          let next = first.2 given shown in (
+            next.0,
+            shown_flushed end h1 h2 c1.kept c2.kept next.0 idle (flushed next.0) next.1,
+            reported_as end (program_of old machine) bound (point_at old cycles instructions first.0 given) r s new rest next.0 b c i next.2,
+          ),
+    )
+
+-- a flush that failed, where the sink had not failed before
+shown_given : (end : RunEnd) (held : Option (List ℕ)) (kept given : List ℕ) → end ≢ ends.WriteFault → IsShown end held kept given → Given held kept given
+shown_given ends.WriteFault held kept given n shown = absurd (n refl)
+shown_given ends.ReadFault held kept given n shown = shown
+shown_given ends.OutOfMemory held kept given n shown = shown
+shown_given ends.Halt held kept given n shown = shown
+shown_given ends.Err held kept given n shown = shown
+shown_given ends.Bound held kept given n shown = shown
+shown_given ends.StackLimit held kept given n shown = shown
+
+pub led_lost : (end : RunEnd) (l0 h0 : Option (List ℕ)) (c0 : ConsoleView) (l1 h1 : Option (List ℕ)) (c1 : ConsoleView) (h2 : Option (List ℕ)) (c2 : ConsoleView) (bound : ℕ) (machine : Machine)
+    (cycles instructions : ℕ) (r s : Report) (old new : MachineView) → s.boundary ≡ r.boundary → s.cycles ≡ r.cycles → s.instructions ≡ r.instructions → c2.ended ≡ c1.ended →
+    end ≢ ends.WriteFault → IsLost h1 c1.kept h2 c2.kept →
+    LedTo (IsShown end) l0 h0 c0 l1 h1 c1 (λ u g u' g'. IsReported end (program_of old machine) bound (point_at old cycles instructions u g) r new u' g') →
+    LedTo (IsShown ends.WriteFault) l0 h0 c0 l1 h2 c2 (λ u g u' g'. IsReported ends.WriteFault (program_of old machine) bound (point_at old cycles instructions u g) s new u' g')
+led_lost end l0 h0 c0 l1 h1 c1 h2 c2 bound machine cycles instructions r s old new b c i ended sound lost led = λ rest here.
+    let first = led rest (subst (λ (t : Bool). Untaken l1 t rest) ended here) in (
+      first.0,
+      first.1,
+      λ given shown.
+          let next = first.2 given shown in (
+            next.0,
+            lost_shown h1 h2 c1.kept c2.kept next.0 lost (shown_given end h1 c1.kept next.0 sound next.1),
+            reported_any end (program_of old machine) bound (point_at old cycles instructions first.0 given) r s new rest next.0 b c i next.2,
+          ),
+    )

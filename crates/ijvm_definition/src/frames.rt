@@ -63,7 +63,7 @@ fn end_of(effect: Effect) -> Option<StepEnd>
 
 /// Does one instruction of the machine; none where it is stuck.
 #[tactic(auto, using(crate::proofs::Turned::is_computed))]
-fn turn<S: Source, K: Sink>(
+pub fn turn<S: Source, K: Sink>(
     machine: &mut PlainMachine,
     console: &mut Console,
     source: &mut S,

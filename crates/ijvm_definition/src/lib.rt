@@ -27,5 +27,8 @@ pub use method::Method;
 pub use print::{name, print_instr, print_name, target_of};
 pub use reader::read_image;
 pub use row::{Cost, Flow, Operands, Row};
-pub use run::{Report, RunEnd};
+pub use run::{Report, RunEnd, run_frames};
 pub use writer::write_image;
+
+#[cfg(test)]
+mod tests;

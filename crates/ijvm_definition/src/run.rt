@@ -53,7 +53,15 @@ fn cut_by(error: StepError) -> RunEnd
 }
 
 /// Goes on to the next boundary, or ends the run.
-fn pass<S: Source, K: Sink>(frames: &mut Frames, machine: Machine, bound: u64, counts: &mut Counts, console: &mut Console, source: &mut S, sink: &mut K) -> Option<RunEnd>
+fn pass<S: Source, K: Sink>(
+    frames: &mut Frames,
+    machine: Machine,
+    bound: u64,
+    counts: &mut Counts,
+    console: &mut Console,
+    source: &mut S,
+    sink: &mut K,
+) -> Option<RunEnd>
     requires bound { bound ≤ 2 ^ 62 }
     requires boundary { counts.old.boundary ≡ counts.old.cycles }
     requires few { counts.old.instructions ≤ counts.old.cycles }
@@ -63,6 +71,7 @@ fn pass<S: Source, K: Sink>(frames: &mut Frames, machine: Machine, bound: u64, c
     ensures few { IfNone result (counts.new.instructions ≤ counts.new.cycles) }
     ensures more { IfNone result (counts.old.cycles + 1 ≤ counts.new.cycles) }
     ensures under { IfNone result (counts.old.cycles < bound) }
+    ensures emptied { result ≡ Some RunEnd.WriteFault → console.new.kept ≡ [] }
     ensures keeps { (front : List ℕ) → Holds front (K.held sink.old) → Holds front (K.held sink.new) }
     ensures cause { HasRunCause (S.faults source.old) (S.faults source.new) (K.faults sink.old) (K.faults sink.new) result }
 {
@@ -93,12 +102,21 @@ fn pass<S: Source, K: Sink>(frames: &mut Frames, machine: Machine, bound: u64, c
 }
 
 /// Passes boundaries until the run ends.
-fn drive<S: Source, K: Sink>(frames: &mut Frames, machine: Machine, bound: u64, counts: &mut Counts, console: &mut Console, source: &mut S, sink: &mut K) -> RunEnd
+fn drive<S: Source, K: Sink>(
+    frames: &mut Frames,
+    machine: Machine,
+    bound: u64,
+    counts: &mut Counts,
+    console: &mut Console,
+    source: &mut S,
+    sink: &mut K,
+) -> RunEnd
     requires bound { bound ≤ 2 ^ 62 }
     requires boundary { counts.old.boundary ≡ counts.old.cycles }
     requires few { counts.old.instructions ≤ counts.old.cycles }
     ensures led { LedTo (IsShown result) (S.left source.old) (K.held sink.old) console.old (S.left source.new) (K.held sink.new) console.new (TurnsTo (Some result) bound machine counts.old counts.new frames.old frames.new) }
     ensures program { KeepsProgram frames.old frames.new }
+    ensures emptied { result ≡ RunEnd.WriteFault → console.new.kept ≡ [] }
     ensures keeps { (front : List ℕ) → Holds front (K.held sink.old) → Holds front (K.held sink.new) }
     ensures cause { HasRunCause (S.faults source.old) (S.faults source.new) (K.faults sink.old) (K.faults sink.new) (Some result) }
 {
@@ -111,7 +129,14 @@ fn drive<S: Source, K: Sink>(frames: &mut Frames, machine: Machine, bound: u64, 
 }
 
 /// Runs frames to the end of their run, or until the cycles reach the bound at a boundary, and flushes the console.
-pub fn run<S: Source, K: Sink>(frames: &mut Frames, machine: Machine, bound: u64, console: &mut Console, source: &mut S, sink: &mut K) -> Report
+pub fn run_frames<S: Source, K: Sink>(
+    frames: &mut Frames,
+    machine: Machine,
+    bound: u64,
+    console: &mut Console,
+    source: &mut S,
+    sink: &mut K,
+) -> Report
     requires { bound ≤ 2 ^ 62 }
     ensures runs { LedTo (IsShown result.end) (S.left source.old) (K.held sink.old) console.old (S.left source.new) (K.held sink.new) console.new (RunsTo bound machine result frames.old frames.new) }
     ensures program { KeepsProgram frames.old frames.new }

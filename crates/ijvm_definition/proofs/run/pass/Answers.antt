@@ -13,31 +13,37 @@ use Rattle.ijvm_definition.proofs.Running.{led_as, goes_on, halt_ends, err_ends,
 use Rattle.ijvm_definition.proofs.run.pass.Goals as goal
 
 pub returns-then-counts-bound-clause-led : goal.returns-then-counts-bound-clause-led
-returns-then-counts-bound-clause-led g c = λ rest here.
-    (rest, here, λ given shown.
-        (given, shown, bound_ends c.args.bound c.args.machine c.args.frames.now c.args.counts.now.cycles c.args.counts.now.instructions
-            (report_of c.args.counts.now ends.Bound) rest given c.if-counts-bound.true c.requires.boundary refl refl))
+returns-then-counts-bound-clause-led g c = λ rest here. (
+  rest,
+  here,
+  λ given shown. (
+    given,
+    shown,
+    bound_ends c.args.bound c.args.machine c.args.frames.now c.args.counts.now.cycles c.args.counts.now.instructions
+        (report_of c.args.counts.now ends.Bound) rest given c.if-counts-bound.true c.requires.boundary refl refl,
+  ),
+)
 
 pub returns-in-Ok-Went-clause-led : goal.returns-in-Ok-Went-clause-led
 returns-in-Ok-Went-clause-led g c =
     led_as (g.S.Source.left c.args.source.now) (g.K.Sink.held c.args.sink.now) c.args.console.now (g.S.Source.left c.step.new.source) (g.K.Sink.held c.step.new.sink) c.step.new.console
     (Does steps.Went c.args.frames.now c.step.new.self)
     (λ u v u' v'. GoesOn (program_of c.args.frames.now c.args.machine) c.args.bound (point_at c.args.frames.now c.args.counts.now.cycles c.args.counts.now.instructions u v)
-        (point_at c.step.new.self (c.args.counts.now.cycles + c.cost-cost.result) (c.args.counts.now.instructions + 1) u' v'))
+    (point_at c.step.new.self (c.args.counts.now.cycles + c.cost-cost.result) (c.args.counts.now.instructions + 1) u' v'))
     (rw c.in-Ok-Went.field-0-is at c.in-Ok-Went.ensures.ok)
     (λ u v u' v' does. goes_on c.args.bound c.args.machine c.args.frames.now c.step.new.self c.args.counts.now.cycles c.args.counts.now.instructions
-        (c.args.counts.now.cycles + c.cost-cost.result) (c.args.counts.now.instructions + 1) c.cost-cost.result u v u' v' c.if-counts-bound.false c.cost-cost.ensures.is refl refl does)
+    (c.args.counts.now.cycles + c.cost-cost.result) (c.args.counts.now.instructions + 1) c.cost-cost.result u v u' v' c.if-counts-bound.false c.cost-cost.ensures.is refl refl does)
 
 pub returns-in-Ok-Went-clause-few : goal.returns-in-Ok-Went-clause-few
 returns-in-Ok-Went-clause-few g c =
     let some = went_cost (g.S.Source.left c.args.source.now) (g.K.Sink.held c.args.sink.now) c.args.console.now (g.S.Source.left c.step.new.source) (g.K.Sink.held c.step.new.sink) c.step.new.console
-        c.args.machine c.args.frames.now c.step.new.self (rw c.in-Ok-Went.field-0-is at c.in-Ok-Went.ensures.ok) in
+    c.args.machine c.args.frames.now c.step.new.self (rw c.in-Ok-Went.field-0-is at c.in-Ok-Went.ensures.ok) in
     omega (arith, some, c.cost-cost.ensures.is)
 
 pub returns-in-Ok-Went-clause-more : goal.returns-in-Ok-Went-clause-more
 returns-in-Ok-Went-clause-more g c =
     let some = went_cost (g.S.Source.left c.args.source.now) (g.K.Sink.held c.args.sink.now) c.args.console.now (g.S.Source.left c.step.new.source) (g.K.Sink.held c.step.new.sink) c.step.new.console
-        c.args.machine c.args.frames.now c.step.new.self (rw c.in-Ok-Went.field-0-is at c.in-Ok-Went.ensures.ok) in
+    c.args.machine c.args.frames.now c.step.new.self (rw c.in-Ok-Went.field-0-is at c.in-Ok-Went.ensures.ok) in
     omega (arith, some, c.cost-cost.ensures.is)
 
 pub returns-in-Ok-Halt-clause-led : goal.returns-in-Ok-Halt-clause-led
@@ -48,7 +54,7 @@ returns-in-Ok-Halt-clause-led g c =
     (λ u v u' v'. IsReported ends.Halt (program_of c.args.frames.now c.args.machine) c.args.bound (point_at c.args.frames.now c.args.counts.now.cycles c.args.counts.now.instructions u v) report c.step.new.self u' v')
     (rw c.in-Ok-Halt.field-0-is at c.in-Ok-Halt.ensures.ok)
     (λ u v u' v' does. halt_ends c.args.bound c.args.machine c.args.frames.now c.step.new.self c.args.counts.now.cycles c.args.counts.now.instructions c.cost-cost.result report
-        u v u' v' c.if-counts-bound.false c.cost-cost.ensures.is c.requires.boundary refl refl does)
+    u v u' v' c.if-counts-bound.false c.cost-cost.ensures.is c.requires.boundary refl refl does)
 
 pub returns-in-Ok-Err-clause-led : goal.returns-in-Ok-Err-clause-led
 returns-in-Ok-Err-clause-led g c =
@@ -58,7 +64,7 @@ returns-in-Ok-Err-clause-led g c =
     (λ u v u' v'. IsReported ends.Err (program_of c.args.frames.now c.args.machine) c.args.bound (point_at c.args.frames.now c.args.counts.now.cycles c.args.counts.now.instructions u v) report c.step.new.self u' v')
     (rw c.in-Ok-Err.field-0-is at c.in-Ok-Err.ensures.ok)
     (λ u v u' v' does. err_ends c.args.bound c.args.machine c.args.frames.now c.step.new.self c.args.counts.now.cycles c.args.counts.now.instructions c.cost-cost.result report
-        u v u' v' c.if-counts-bound.false c.cost-cost.ensures.is c.requires.boundary refl refl does)
+    u v u' v' c.if-counts-bound.false c.cost-cost.ensures.is c.requires.boundary refl refl does)
 
 pub returns-in-Ok-StackLimit-clause-led : goal.returns-in-Ok-StackLimit-clause-led
 returns-in-Ok-StackLimit-clause-led g c =
@@ -68,13 +74,13 @@ returns-in-Ok-StackLimit-clause-led g c =
     (λ u v u' v'. IsReported ends.StackLimit (program_of c.args.frames.now c.args.machine) c.args.bound (point_at c.args.frames.now c.args.counts.now.cycles c.args.counts.now.instructions u v) report c.step.new.self u' v')
     (rw c.in-Ok-StackLimit.field-0-is at c.in-Ok-StackLimit.ensures.ok)
     (λ u v u' v' does. limit_ends c.args.bound c.args.machine c.args.frames.now c.step.new.self c.args.counts.now.cycles c.args.counts.now.instructions report
-        u v u' v' c.if-counts-bound.false c.requires.boundary refl refl does)
+    u v u' v' c.if-counts-bound.false c.requires.boundary refl refl does)
 
 pub returns-in-Err-clause-led : goal.returns-in-Err-clause-led
 returns-in-Err-clause-led g c =
     subst (λ (end : RunEnd). LedTo (IsShown end) (g.S.Source.left c.args.source.now) (g.K.Sink.held c.args.sink.now) c.args.console.now (g.S.Source.left c.step.new.source) (g.K.Sink.held c.step.new.sink) c.step.new.console
-        (λ u v u' v'. IsReported end (program_of c.args.frames.now c.args.machine) c.args.bound (point_at c.args.frames.now c.args.counts.now.cycles c.args.counts.now.instructions u v)
-            (report_of c.args.counts.now end) c.step.new.self u' v')) (sym c.cut_by.ensures)
+    (λ u v u' v'. IsReported end (program_of c.args.frames.now c.args.machine) c.args.bound (point_at c.args.frames.now c.args.counts.now.cycles c.args.counts.now.instructions u v)
+    (report_of c.args.counts.now end) c.step.new.self u' v')) (sym c.cut_by.ensures)
     (cut_led c.in-Err.error (g.S.Source.left c.args.source.now) (g.K.Sink.held c.args.sink.now) c.args.console.now (g.S.Source.left c.step.new.source) (g.K.Sink.held c.step.new.sink) c.step.new.console
-        c.args.bound c.args.machine c.args.frames.now c.step.new.self c.args.counts.now.cycles c.args.counts.now.instructions (report_of c.args.counts.now _)
-        c.in-Err.ensures.err c.in-Err.ensures.frames c.requires.boundary refl refl)
+    c.args.bound c.args.machine c.args.frames.now c.step.new.self c.args.counts.now.cycles c.args.counts.now.instructions (report_of c.args.counts.now _)
+    c.in-Err.ensures.err c.in-Err.ensures.frames c.requires.boundary refl refl)
