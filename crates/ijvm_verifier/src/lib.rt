@@ -13,6 +13,8 @@ pub mod law;
 mod local_set;
 mod search;
 mod sweep;
+#[cfg(test)]
+mod tests;
 mod trace;
 mod unset;
 pub mod verified;
