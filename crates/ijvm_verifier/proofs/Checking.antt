@@ -1,5 +1,5 @@
 -- What the tests at one address show.
-use Rattle.std.proofs.Common.{◌≡◌, ◌≢◌, ℕ, ◌+◌, ◌<◌, ◌≤◌, Some, None, List, refl, arith, sym, subst, ap}
+use Rattle.std.proofs.Common.{◌≡◌, ℕ, ◌<◌, Some, refl, arith, sym, subst}
 use Rattle.ijvm_definition.specs.declared.row.Flow.{Flow}
 use Rattle.ijvm_definition.specs.declared.row.Flow.TheVariants.{Next, Jump, Branch, Call, Return, End}
 use Rattle.ijvm_definition.specs.declared.row.Row.{Row}

@@ -9,9 +9,9 @@ use Rattle.ijvm_verifier.specs.declared.kept.Kept.{Kept}
 use Rattle.ijvm_verifier.specs.declared.graph.Node.{Node}
 use Rattle.ijvm_verifier.specs.declared.error.VerifyError.{VerifyError}
 use Rattle.ijvm_verifier.specs.declared.error.VerifyError.TheVariants.{BadCode, FallsOff, BadTarget, Overlap, BadConstant, BadEntry, BadHeader, LinkSlot, BadLocal, UnsetLocal, TooFewArguments, Underflow, DepthDiffers, ReturnInMain, MainFrame, OutOfMemory}
-use Rattle.ijvm_verifier.specs.Paths.{Arrival, HasRow, Reached}
+use Rattle.ijvm_verifier.specs.Paths.{HasRow}
 use Rattle.ijvm_verifier.specs.declared.kind.Kind.{Kind}
-use Rattle.ijvm_verifier.specs.Facts.{Names, MainNames, IsMainCount, Holds, Accepts, Piece, Code, Header, Covers}
+use Rattle.ijvm_verifier.specs.Facts.{Names, IsMainCount, Holds, Accepts, Piece, Code, Header, Covers}
 use Rattle.ijvm_verifier.specs.Search.{kept_at, kept_of, IsClosed, IsDecided}
 use Rattle.ijvm_verifier.specs.Graph.{IsNodeOf, IsGraph}
 use Rattle.ijvm_verifier.specs.Counted.{NodeNames, IsCounted}

@@ -1,21 +1,19 @@
 -- The graph of the reached instructions, and the paths that carry a local as unset.
-use Rattle.std.proofs.Common.{◌≡◌, ◌≢◌, ℕ, ℤ, zero, suc, ◌+◌, ◌-◌, ◌<◌, ◌≤◌, ◌⊎◌, inl, inr, Bool, true, false, cond, Option, Some, None, List, [], ◌∷◌, ◌++◌, length, refl, arith, ◌∙◌, ap, sym, subst}
-use Rattle.std.specs.Prelude.{slice_get, ◌==◌}
-use Rattle.std.proofs.lemmas.Bool.{cases_eq, eq-eqb, ne_eqb}
+use Rattle.std.proofs.Common.{◌≡◌, ℕ, ℤ, zero, suc, ◌+◌, ◌<◌, ◌⊎◌, inl, inr, Option, Some, None, List, [], ◌∷◌, ◌++◌, length, refl, arith, sym, subst}
+use Rattle.std.specs.Prelude.{slice_get}
 use Rattle.ijvm_definition.specs.declared.row.Row.{Row}
 use Rattle.ijvm_definition.specs.declared.row.Flow.{Flow}
 use Rattle.ijvm_definition.specs.declared.row.Flow.TheVariants.{Next, Jump, Branch, Call, Return, End}
 use Rattle.ijvm_definition.specs.Instructions.{size_of}
-use Rattle.ijvm_definition.specs.Image.{ImageView, params, others}
+use Rattle.ijvm_definition.specs.Image.{ImageView}
 use Rattle.ijvm_definition.specs.Step.{target}
 use Rattle.ijvm_verifier.specs.declared.kept.Kept.{Kept}
 use Rattle.ijvm_verifier.specs.declared.graph.Node.{Node}
-use Rattle.ijvm_verifier.specs.Paths.{Arrival, arrival, HasRow, GoesOn, left_unset, IsOwn, MayCarry, Reached, Start, Then, On, Into}
+use Rattle.ijvm_verifier.specs.Paths.{Arrival, HasRow, GoesOn}
 use Rattle.ijvm_verifier.specs.Facts.{HasNext, HasJump}
-use Rattle.ijvm_verifier.specs.Search.{kept_at, kept_of, IsChecked, IsClosed}
-use Rattle.ijvm_verifier.specs.Graph.{LeadsTo, IsNodeOf, IsNodeAt, IsGraph, Carries, Begin, Pass}
+use Rattle.ijvm_verifier.specs.Search.{kept_at, IsChecked, IsClosed}
+use Rattle.ijvm_verifier.specs.Graph.{IsNodeOf, IsNodeAt}
 use Rattle.ijvm_verifier.proofs.Rows.{one_row}
-use Rattle.ijvm_verifier.proofs.Keeping.{closed_all}
 
 -- one element more at the end
 pub get_push : {X : Type 0} (xs : List X) (y v : X) (i : ℕ) → slice_get (xs ++ y ∷ []) i ≡ Some v → (slice_get xs i ≡ Some v) ⊎ ((i ≡ length xs) × (y ≡ v))

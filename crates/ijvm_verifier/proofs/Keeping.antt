@@ -1,5 +1,5 @@
 -- What the search for reached addresses keeps, and what follows when it is over.
-use Rattle.std.proofs.Common.{◌≡◌, ◌≢◌, ℕ, ℤ, zero, suc, ◌+◌, ◌-◌, ◌*◌, ◌<◌, ◌≤◌, ◌⊎◌, inl, inr, Bool, true, false, cond, Option, Some, None, List, [], ◌∷◌, ◌++◌, length, refl, arith, ◌∙◌, ap, sym, subst, length-set, length-append, replicate}
+use Rattle.std.proofs.Common.{◌≡◌, ◌≢◌, ℕ, zero, suc, ◌+◌, ◌-◌, ◌*◌, ◌<◌, ◌≤◌, inl, inr, Bool, true, false, cond, Option, Some, None, List, [], ◌∷◌, ◌++◌, length, refl, arith, ◌∙◌, ap, sym, subst, length-set, length-append, replicate}
 use Rattle.std.specs.Prelude.{slice_get, slice_set, Contains, not, nat_lt, Result, Ok, Err, OnOk, IfNone}
 use Rattle.std.specs.Option.{option_eq, option_map}
 use lib.Dec.{eqb}
@@ -9,15 +9,15 @@ use Rattle.std.proofs.lemmas.List.Elements.{Contains-append_left, Contains-push,
 use Rattle.ijvm_definition.specs.declared.instr.Instr.{Instr}
 use Rattle.ijvm_definition.specs.declared.row.Row.{Row}
 use Rattle.ijvm_definition.specs.declared.row.Flow.{Flow}
-use Rattle.ijvm_definition.specs.declared.row.Flow.TheVariants.{Next, Jump, Branch, Call, Return, End}
+use Rattle.ijvm_definition.specs.declared.row.Flow.TheVariants.{Call, Return}
 use Rattle.ijvm_definition.specs.Instructions.{row_of, size_of, instr_at}
 use Rattle.ijvm_definition.specs.Image.{ImageView, Method, method_at, params, others}
 use Rattle.ijvm_definition.specs.Step.{target}
 use Rattle.ijvm_verifier.specs.declared.kept.Kept.{Kept}
 use Rattle.ijvm_verifier.specs.declared.error.VerifyError.{VerifyError}
 use Rattle.ijvm_verifier.specs.declared.error.VerifyError.TheVariants.{BadCode, FallsOff, BadTarget, Overlap, BadConstant, BadEntry, BadHeader, LinkSlot, BadLocal, UnsetLocal, TooFewArguments, Underflow, DepthDiffers, ReturnInMain, MainFrame, OutOfMemory}
-use Rattle.ijvm_verifier.specs.Paths.{Arrival, arrival, HasRow, HasConstant, callee, need_of, GoesOn, left_unset, MayCarry, Works, Follows, On, Into, Reached, Start, Then}
-use Rattle.ijvm_verifier.specs.Facts.{HasNext, HasJump, IsNoCall, Names, IsWrongAt, Holds, Piece, Code, Header, Covers}
+use Rattle.ijvm_verifier.specs.Paths.{Arrival, arrival, HasRow, HasConstant, callee, need_of, GoesOn, left_unset, On, Into, Reached, Start, Then}
+use Rattle.ijvm_verifier.specs.Facts.{HasNext, HasJump, Names, IsWrongAt, Holds, Code}
 use Rattle.ijvm_verifier.specs.Search.{kept_at, kept_of, IsChecked, empties, IsKept, AllFollow, IsDone, IsSearch, Grows, IsRunning, IsClosed, IsDecided}
 use Rattle.ijvm_verifier.proofs.Rows.{size_above, size_fits, one_row}
 use Rattle.ijvm_verifier.proofs.Checking.{plain_need}

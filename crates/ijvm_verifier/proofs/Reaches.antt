@@ -1,19 +1,18 @@
 -- What acceptance says of an arrival and its instruction.
-use Rattle.std.proofs.Common.{◌≡◌, ◌≢◌, ℕ, ℤ, zero, suc, ◌+◌, ◌<◌, ◌≤◌, ◌⊎◌, inl, inr, Bool, true, false, cond, Option, Some, None, List, length, refl, arith, ◌∙◌, ap, sym, subst}
-use Rattle.std.specs.Prelude.{slice_get, nat_lt}
-use Rattle.std.proofs.lemmas.Bool.{cases_lt, ltb-true, lt-ltb}
-use Rattle.std.proofs.lemmas.Option.{cond_some, slice_get_past, slice_get-get_or}
+use Rattle.std.proofs.Common.{◌≡◌, ◌≢◌, ℕ, ℤ, zero, suc, ◌+◌, ◌<◌, ◌≤◌, inl, inr, Bool, cond, Option, Some, None, length, refl, arith, ◌∙◌, ap, sym, subst}
+use Rattle.std.specs.Prelude.{slice_get}
+use Rattle.std.proofs.lemmas.Bool.{cases_lt, lt-ltb}
+use Rattle.std.proofs.lemmas.Option.{slice_get_past, slice_get-get_or}
 use Rattle.std.specs.Option.{option_map}
 use Rattle.ijvm_definition.specs.declared.instr.Instr.{Instr}
 use Rattle.ijvm_definition.specs.declared.row.Flow.{Flow}
 use Rattle.ijvm_definition.specs.declared.row.Flow.TheVariants.{Next, Jump, Branch, Call, Return, End}
-use Rattle.ijvm_definition.specs.declared.row.Row.{Row}
 use Rattle.ijvm_definition.specs.Instructions.{row_of, size_of, instr_at}
 use Rattle.ijvm_definition.specs.Image.{ImageView, Method, method_at, params, others}
 use Rattle.ijvm_definition.specs.Step.{target}
 use Rattle.ijvm_verifier.specs.declared.error.VerifyError.TheVariants.{BadCode, FallsOff, BadTarget, BadConstant, BadEntry, BadHeader, TooFewArguments, Underflow, ReturnInMain}
-use Rattle.ijvm_verifier.specs.Paths.{Arrival, arrival, HasRow, HasConstant, callee, need_of, GoesOn, left_unset, MayCarry, Works, Follows, On, Into, Reached, Start, Then}
-use Rattle.ijvm_verifier.specs.Facts.{HasNext, HasJump, IsNoCall, Names, IsMainCount, Holds, Accepts}
+use Rattle.ijvm_verifier.specs.Paths.{Arrival, arrival, HasRow, HasConstant, callee, need_of, GoesOn, left_unset, MayCarry, On, Into, Reached, Then}
+use Rattle.ijvm_verifier.specs.Facts.{HasNext, HasJump, IsNoCall, Accepts}
 use Rattle.ijvm_verifier.proofs.Rows.{size_fits, size_above, call_constant}
 use Rattle.ijvm_verifier.proofs.Checking.{plain_need}
 

@@ -1,6 +1,6 @@
 -- What the instruction table's rows have in common.
-use Rattle.std.proofs.Common.{◌≡◌, ◌≢◌, ℕ, ◌+◌, ◌<◌, ◌≤◌, ◌++◌, ◌∷◌, Bool, true, false, Option, Some, None, List, length, length-append, refl, arith, ◌∙◌, ap, sym, subst}
-use Rattle.std.specs.Prelude.{slice_get, slice_index, nat_le}
+use Rattle.std.proofs.Common.{◌≡◌, ℕ, ◌+◌, ◌<◌, ◌≤◌, ◌∷◌, Option, Some, None, List, length, length-append, refl, arith, ◌∙◌, ap, sym, subst}
+use Rattle.std.specs.Prelude.{slice_index, nat_le}
 use Rattle.std.proofs.lemmas.Bool.{leb-true}
 use Rattle.std.proofs.lemmas.Option.{cond_some}
 use Rattle.ijvm_definition.specs.declared.instr.Instr.{Instr}

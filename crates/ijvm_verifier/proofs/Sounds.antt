@@ -1,6 +1,6 @@
 -- The runs of an accepted image are sound.
-use Rattle.std.proofs.Common.{◌≡◌, ◌≢◌, ℕ, ℤ, zero, suc, ◌+◌, ◌-◌, ◌%◌, ◌<◌, ◌≤◌, ◌⊎◌, inl, inr, Bool, true, false, cond, Option, Some, None, List, [], ◌∷◌, length, take, drop, replicate, refl, arith, ◌∙◌, ap, sym, subst, length-set, length-drop, length-take}
-use Rattle.std.specs.Prelude.{slice_get, slice_set, nat_lt, nat_le, ◌==◌, bit_and, bit_or}
+use Rattle.std.proofs.Common.{◌≡◌, ◌≢◌, ℕ, ℤ, zero, suc, ◌+◌, ◌<◌, ◌≤◌, inl, inr, Bool, true, false, cond, Option, Some, None, List, [], ◌∷◌, length, take, drop, replicate, refl, arith, ◌∙◌, ap, sym, subst, length-set, length-drop, length-take}
+use Rattle.std.specs.Prelude.{slice_get, slice_set, nat_lt, nat_le, ◌==◌}
 use Rattle.std.specs.Option.{option_map}
 use Rattle.std.proofs.lemmas.Bool.{cases_lt, lt-ltb, ne_eqb}
 use Rattle.std.proofs.lemmas.Option.{slice_get_within, slice_get-get_or}
@@ -8,19 +8,18 @@ use Rattle.std.proofs.lemmas.List.{length-replicate}
 use Rattle.console_port.specs.World.{next_byte}
 use Rattle.ijvm_definition.specs.declared.instr.Instr.{Instr}
 use Rattle.ijvm_definition.specs.declared.instr.Instr.TheVariants.{Nop, Bipush, LdcW, Iload, Istore, Pop, Dup, Swap, Iadd, Isub, Iand, Iinc, Ifeq, Iflt, IfIcmpeq, Goto, Ireturn, Ior, Invokevirtual, WideIload, WideIstore, In, Out, Err, Halt}
-use Rattle.ijvm_definition.specs.declared.row.Flow.TheVariants.{Call, Return}
 use Rattle.ijvm_definition.specs.Instructions.{row_of, size_of, instr_at}
-use Rattle.ijvm_definition.specs.Image.{ImageView, Method, method_at, params, others}
+use Rattle.ijvm_definition.specs.Image.{ImageView, Method}
 use Rattle.ijvm_definition.specs.Frames.{Frame, State, base, frames_of, start_of}
-use Rattle.ijvm_definition.specs.Step.{Outcome, Goes, Halts, Errs, Limits, Stuck, limited, moved, pushed, pushed_constant, loaded, is_own, with_local, stored, increased, popped, doubled, swapped, combined, target, way, branched, compared, returned, onto, called, in_method, entered, called_at, taken, read_in, given_out, step, stepped, outcome, word_of}
+use Rattle.ijvm_definition.specs.Step.{Outcome, Goes, Halts, Errs, Limits, Stuck, limited, moved, pushed, pushed_constant, loaded, is_own, with_local, stored, increased, popped, doubled, swapped, combined, target, way, branched, compared, returned, onto, in_method, entered, called_at, taken, given_out, step, stepped, outcome, word_of}
 use Rattle.ijvm_definition.specs.Run.{after, state_after}
-use Rattle.ijvm_definition.specs.Safe.{SameFrames, ComesTo, Here, On as Onward, IsSafe}
+use Rattle.ijvm_definition.specs.Safe.{SameFrames, ComesTo, Here, On as Onward}
 use Rattle.ijvm_verifier.specs.declared.error.VerifyError.TheVariants.{LinkSlot, BadLocal, UnsetLocal}
-use Rattle.ijvm_verifier.specs.Paths.{Arrival, arrival, HasConstant, callee, need_of, GoesOn, left_unset, MayCarry, Reached, Start}
+use Rattle.ijvm_verifier.specs.Paths.{Arrival, arrival, need_of, GoesOn, left_unset, MayCarry, Reached, Start}
 use Rattle.ijvm_verifier.specs.Facts.{Names, IsMainCount, Accepts}
 use Rattle.ijvm_verifier.specs.Sound.{IsFrameOf, StandsAt, AreWaiting, IsSound, Finds, KeepsSound}
 use Rattle.ijvm_verifier.proofs.Rows.{size_fits}
-use Rattle.ijvm_verifier.proofs.Reaches.{Stands, IsCalled, row_there, code_there, reached_inside, constant_there, method_there, operands_there, inside, goes_on, goes_in, params_above, return_in_method}
+use Rattle.ijvm_verifier.proofs.Reaches.{Stands, IsCalled, code_there, reached_inside, constant_there, method_there, operands_there, inside, goes_on, goes_in, params_above, return_in_method}
 
 -- where the running frame stands
 abbrev pub place_of : Option ℕ → State → Option ℕ → Arrival

@@ -1,6 +1,6 @@
 -- The sweep over the bytes.
-use Rattle.std.proofs.Common.{◌≡◌, ◌≢◌, ℕ, zero, suc, ◌+◌, ◌*◌, ◌<◌, ◌≤◌, ◌⊎◌, inl, inr, Option, Some, None, List, [], ◌∷◌, ◌++◌, length, length-append, refl, arith, ◌∙◌, ap, sym, subst}
-use Rattle.std.specs.Prelude.{slice_get, slice_index_or, Contains, All, AllPairs, ◌↔◌}
+use Rattle.std.proofs.Common.{◌≡◌, ◌≢◌, ℕ, ◌+◌, ◌*◌, ◌<◌, ◌≤◌, inl, inr, Option, Some, None, List, [], ◌∷◌, ◌++◌, length, length-append, refl, arith, ◌∙◌, ap, sym, subst}
+use Rattle.std.specs.Prelude.{slice_get, slice_index_or, Contains}
 use Rattle.std.proofs.lemmas.Bool.{cases_lt, cases_eq}
 use Rattle.std.proofs.lemmas.List.Quantifiers.{all_pairs_push}
 use Rattle.std.proofs.lemmas.List.Elements.{Contains-append_left, Contains-push, Contains-push_cases, Contains-get_or}
@@ -9,7 +9,7 @@ use Rattle.ijvm_definition.specs.Instructions.{row_of, size_of}
 use Rattle.ijvm_definition.specs.Image.{ImageView}
 use Rattle.ijvm_verifier.specs.declared.kept.Kept.{Kept}
 use Rattle.ijvm_verifier.specs.declared.error.VerifyError.TheVariants.{Overlap}
-use Rattle.ijvm_verifier.specs.Paths.{Arrival, arrival, HasRow, Reached, IsReachedMethod}
+use Rattle.ijvm_verifier.specs.Paths.{arrival, HasRow, IsReachedMethod}
 use Rattle.ijvm_verifier.specs.Facts.{Piece, Code, Header, Covers, Holds, IsMethodCount}
 use Rattle.ijvm_verifier.specs.declared.kind.Kind.{Kind}
 use Rattle.ijvm_verifier.specs.Kinds.{first, IsKind}

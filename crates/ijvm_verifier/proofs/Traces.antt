@@ -1,16 +1,15 @@
 -- The search of a graph for locals that are not set.
-use Rattle.std.proofs.Common.{◌≡◌, ◌≢◌, ℕ, zero, suc, ◌+◌, ◌-◌, ◌/◌, ◌%◌, ◌^◌, ◌<◌, ◌≤◌, ◌⊎◌, inl, inr, Bool, true, false, cond, Option, Some, None, List, [], ◌∷◌, ◌++◌, length, refl, arith, ◌∙◌, ap, sym, subst, length-set, length-append}
-use Rattle.std.specs.Prelude.{slice_get, slice_set, Contains, ◌==◌, IfSome}
+use Rattle.std.proofs.Common.{◌≡◌, ◌≢◌, ℕ, zero, suc, ◌+◌, ◌%◌, ◌^◌, ◌<◌, ◌≤◌, ◌⊎◌, inl, inr, Bool, cond, Option, Some, None, List, [], ◌∷◌, ◌++◌, length, refl, arith, ◌∙◌, ap, sym, subst, length-set, length-append}
+use Rattle.std.specs.Prelude.{slice_get, slice_set, Contains, IfSome}
 use Rattle.std.specs.Int.{bit_at}
 use Rattle.std.proofs.lemmas.Bool.{cases_eq, eq-eqb, ne_eqb}
 use Rattle.std.proofs.lemmas.Nat.Bits.{bit_at-zero}
-use Rattle.std.proofs.lemmas.Option.{slice_get_within}
 use Rattle.std.proofs.lemmas.List.Elements.{Contains-append_left, Contains-push, Contains-push_cases}
 use Rattle.ijvm_verifier.specs.declared.graph.Node.{Node}
 use Rattle.ijvm_verifier.specs.declared.local_set.LocalSet.{LocalSet}
 use Rattle.ijvm_verifier.specs.declared.trace.Mark.{Mark}
 use Rattle.ijvm_verifier.specs.LocalSet.{Has, IsIn}
-use Rattle.ijvm_verifier.specs.Graph.{LeadsTo, IsInside, Carries, Begin, Pass}
+use Rattle.ijvm_verifier.specs.Graph.{LeadsTo, Carries, Begin, Pass}
 use Rattle.ijvm_verifier.specs.Trace.{held, held_at, IsHeld, blanks, AreOlder, IsReady, MarksMore, IsMarked, IsPassed, Passes, IsTracing, ReadsUnset, ReadsNone}
 use Rattle.ijvm_verifier.proofs.Keeping.{get_set_same, get_set_other}
 

@@ -1,5 +1,5 @@
 -- Own locals, the paths that carry them as unset, and the ways in the graph.
-use Rattle.std.proofs.Common.{◌≡◌, ◌≢◌, ℕ, zero, suc, ◌+◌, ◌-◌, ◌/◌, ◌<◌, ◌≤◌, ◌⊎◌, inl, inr, Bool, true, false, cond, Option, Some, None, List, [], ◌∷◌, ◌++◌, length, refl, arith, ◌∙◌, ap, sym, subst}
+use Rattle.std.proofs.Common.{◌≡◌, ◌≢◌, ℕ, ◌+◌, ◌-◌, ◌/◌, ◌<◌, ◌⊎◌, inl, inr, Bool, cond, Option, Some, None, List, [], ◌∷◌, ◌++◌, length, refl, arith, ◌∙◌, ap, sym, subst}
 use Rattle.std.specs.Prelude.{slice_get, Contains, ◌==◌, ◌↔◌}
 use Rattle.std.specs.List.Sorted.{IsPermutation}
 use Rattle.std.proofs.lemmas.Bool.{cases_eq, cases_lt, eq-eqb, ne_eqb}
@@ -8,21 +8,20 @@ use Rattle.std.proofs.lemmas.List.Elements.{Contains-append_left, Contains-push,
 use Rattle.std.proofs.lemmas.List.Sorted.{Contains-permutation, IsPermutation-sym}
 use Rattle.ijvm_definition.specs.declared.row.Row.{Row}
 use Rattle.ijvm_definition.specs.Instructions.{size_of}
-use Rattle.ijvm_definition.specs.Image.{ImageView, params, others}
+use Rattle.ijvm_definition.specs.Image.{ImageView}
 use Rattle.ijvm_verifier.specs.declared.error.VerifyError.TheVariants.{UnsetLocal}
 use Rattle.ijvm_verifier.specs.declared.kept.Kept.{Kept}
 use Rattle.ijvm_verifier.specs.declared.graph.Node.{Node}
 use Rattle.ijvm_verifier.specs.declared.local_set.LocalSet.{LocalSet}
 use Rattle.ijvm_verifier.specs.declared.trace.Mark.{Mark}
 use Rattle.ijvm_verifier.specs.declared.unset.Wanted.{Wanted}
-use Rattle.ijvm_verifier.specs.Paths.{Arrival, arrival, HasRow, GoesOn, left_unset, IsOwn, MayCarry, Works, Goes, Enters, Reached, Start, Then, On, Into, IsReachedMethod}
+use Rattle.ijvm_verifier.specs.Paths.{Arrival, arrival, HasRow, GoesOn, left_unset, IsOwn, MayCarry, Reached, Start, Then, On, Into, IsReachedMethod}
 use Rattle.ijvm_verifier.specs.Facts.{Holds}
-use Rattle.ijvm_verifier.specs.Search.{kept_at, kept_of, IsChecked, IsClosed}
-use Rattle.ijvm_verifier.specs.Graph.{LeadsTo, IsNodeOf, IsNodeAt, IsGraph, IsInside, Carries, Begin, Pass}
+use Rattle.ijvm_verifier.specs.Search.{kept_at, kept_of, IsClosed}
+use Rattle.ijvm_verifier.specs.Graph.{LeadsTo, IsNodeOf, IsGraph, IsInside, Carries, Begin, Pass}
 use Rattle.ijvm_verifier.specs.LocalSet.{IsIn}
-use Rattle.ijvm_verifier.specs.Trace.{AreOlder, IsReady, ReadsUnset, ReadsNone}
-use Rattle.ijvm_verifier.specs.Unset.{IsSetBefore, AreSet, Wants, AreWanted}
-use Rattle.ijvm_verifier.proofs.Rows.{one_row}
+use Rattle.ijvm_verifier.specs.Trace.{IsReady, ReadsUnset, ReadsNone}
+use Rattle.ijvm_verifier.specs.Unset.{AreSet, Wants, AreWanted}
 use Rattle.ijvm_verifier.proofs.Keeping.{closed_all}
 use Rattle.ijvm_verifier.proofs.Graphs.{way_inside}
 

@@ -1,5 +1,5 @@
 -- A verified image: acceptance, in the type.
-use Rattle.std.specs.Prelude.{◌≡◌, ℕ, ◌≤◌, List}
+use Rattle.std.specs.Prelude.{ℕ, ◌≤◌, List}
 use Rattle.ijvm_definition.specs.Image.{ImageView}
 use Rattle.ijvm_definition.specs.Safe.{IsSafe}
 use Rattle.ijvm_verifier.specs.declared.kind.Kind.{Kind}

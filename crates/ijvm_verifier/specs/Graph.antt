@@ -1,5 +1,5 @@
 -- The graph of the reached instructions: what the search for locals that are not set goes over.
-use Rattle.std.specs.Prelude.{◌≡◌, ◌≢◌, ℕ, ◌+◌, ◌<◌, ◌⊎◌, List, length, slice_get, Option, Some, None}
+use Rattle.std.specs.Prelude.{◌≡◌, ◌≢◌, ℕ, ◌+◌, ◌<◌, ◌⊎◌, List, length, slice_get, Option, Some}
 use Rattle.ijvm_definition.specs.declared.row.Row.{Row}
 use Rattle.ijvm_definition.specs.Instructions.{size_of}
 use Rattle.ijvm_definition.specs.Image.{ImageView}

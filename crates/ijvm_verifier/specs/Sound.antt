@@ -1,12 +1,11 @@
 -- Where the run of an accepted image may stand: always where a path has come, with everything there that the next instruction needs.
 use Rattle.std.specs.Prelude.{◌≡◌, ◌≢◌, ℕ, ◌+◌, ◌<◌, ◌≤◌, true, List, [], ◌∷◌, length, slice_get, Option, Some, None}
 use Rattle.ijvm_definition.specs.declared.instr.Instr.{Instr}
-use Rattle.ijvm_definition.specs.declared.row.Row.{Row}
 use Rattle.ijvm_definition.specs.declared.row.Flow.TheVariants.{Call, Return}
 use Rattle.ijvm_definition.specs.Instructions.{row_of, size_of, instr_at}
 use Rattle.ijvm_definition.specs.Image.{ImageView, Method, params, others}
 use Rattle.ijvm_definition.specs.Frames.{Frame, State, start_of}
-use Rattle.ijvm_definition.specs.Step.{Outcome, Goes, is_own, outcome}
+use Rattle.ijvm_definition.specs.Step.{Goes, is_own, outcome}
 use Rattle.ijvm_definition.specs.Run.{state_after}
 use Rattle.ijvm_definition.specs.Safe.{ComesTo, IsSafe}
 use Rattle.ijvm_verifier.specs.Paths.{arrival, HasConstant, callee, need_of, GoesOn, Reached}

@@ -1,10 +1,10 @@
 -- What the search of a graph for locals that are not set keeps.
-use Rattle.std.specs.Prelude.{◌≡◌, ◌≢◌, ℕ, zero, suc, ◌+◌, ◌-◌, ◌/◌, ◌%◌, ◌^◌, ◌<◌, ◌≤◌, ◌⊎◌, if◌then◌else◌, ◌==◌, List, [], ◌∷◌, length, slice_get, Contains, Option, Some, None}
+use Rattle.std.specs.Prelude.{◌≡◌, ◌≢◌, ℕ, zero, suc, ◌+◌, ◌-◌, ◌/◌, ◌%◌, ◌^◌, ◌<◌, ◌≤◌, ◌⊎◌, if◌then◌else◌, ◌==◌, List, [], ◌∷◌, length, slice_get, Contains, Some}
 use Rattle.std.specs.Int.{bit_at}
 use Rattle.ijvm_verifier.specs.declared.graph.Node.{Node}
 use Rattle.ijvm_verifier.specs.declared.local_set.LocalSet.{LocalSet}
 use Rattle.ijvm_verifier.specs.declared.trace.Mark.{Mark}
-use Rattle.ijvm_verifier.specs.LocalSet.{Has, IsIn}
+use Rattle.ijvm_verifier.specs.LocalSet.{IsIn}
 use Rattle.ijvm_verifier.specs.Graph.{LeadsTo, Carries}
 
 -- the bits of a mark, if the search of this number has made it

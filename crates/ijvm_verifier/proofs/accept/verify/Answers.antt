@@ -1,4 +1,4 @@
-use Rattle.std.proofs.Common.{◌≡◌, ◌≤◌, ◌+◌, arith, ap, inr}
+use Rattle.std.proofs.Common.{◌≡◌, arith, ap}
 use Rattle.console_port.specs.declared.map.MemoryMap.{MemoryMap}
 use Rattle.ijvm_verifier.proofs.Counts.{verified}
 use Rattle.ijvm_verifier.proofs.accept.verify.Goals as goal

@@ -1,7 +1,6 @@
-use Rattle.std.proofs.Common.{◌≡◌, ◌∙◌, ℕ, arith, sym, refl, ap, Some, None}
+use Rattle.std.proofs.Common.{◌≡◌, ◌∙◌, arith, sym, ap, Some, None}
 use Rattle.std.specs.Prelude.{slice_get}
 use Rattle.std.proofs.lemmas.Option.{slice_get-get_or}
-use Rattle.ijvm_definition.specs.Instructions.{size_of, row_of}
 use Rattle.ijvm_verifier.specs.Paths.{HasRow}
 use Rattle.ijvm_verifier.proofs.Rows.{size_fits}
 use Rattle.ijvm_verifier.proofs.Graphs.{node_here, node_nowhere}

@@ -1,4 +1,4 @@
-use Rattle.std.proofs.Common.{◌≡◌, ◌∙◌, None, length, inr, refl, sym}
+use Rattle.std.proofs.Common.{◌∙◌, None, inr, refl, sym}
 use Rattle.ijvm_verifier.specs.Paths.{Start, arrival}
 use Rattle.ijvm_verifier.proofs.Keeping.{search_pop, running_on, closed_from, decided, empty_text}
 use Rattle.ijvm_verifier.proofs.search.search_all.Goals as goal

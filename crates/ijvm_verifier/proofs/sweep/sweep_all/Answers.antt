@@ -1,5 +1,4 @@
-use Rattle.std.proofs.Common.{◌≡◌, ◌*◌, ◌+◌, ◌++◌, ◌∷◌, [], ◌∙◌, ℕ, arith, ap, subst, length, length-append}
-use Rattle.ijvm_verifier.specs.declared.kind.Kind.{Kind}
+use Rattle.std.proofs.Common.{◌≡◌, ◌*◌, ◌++◌, ◌∷◌, [], ◌∙◌, ℕ, arith, ap, subst, length, length-append}
 use Rattle.ijvm_verifier.specs.Sweep.{IsSwept}
 use Rattle.ijvm_verifier.proofs.Swept.{none_overlap, kinds_push}
 use Rattle.ijvm_verifier.proofs.sweep.sweep_all.Goals as goal

@@ -1,4 +1,4 @@
-use Rattle.std.proofs.Common.{rules, ◌≡◌, ◌+◌, ◌*◌, ℕ, refl, arith, subst, inr}
+use Rattle.std.proofs.Common.{rules, ◌+◌, ◌*◌, ℕ, refl, arith, subst, inr}
 use Rattle.ijvm_definition.specs.Image.{ImageView}
 use Rattle.ijvm_verifier.specs.Facts.{Header}
 use Rattle.ijvm_verifier.specs.Sweep.{IsSwept}

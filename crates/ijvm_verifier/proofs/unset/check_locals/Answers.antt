@@ -1,10 +1,8 @@
-use Rattle.std.proofs.Common.{◌≡◌, ◌≤◌, ◌+◌, ◌∙◌, ℕ, ap, sym, arith, refl, length, Some, subst}
-use Rattle.std.specs.Prelude.{slice_get, Contains, vec_len}
+use Rattle.std.proofs.Common.{◌≡◌, ◌+◌, sym, arith, refl, length, Some, subst}
+use Rattle.std.specs.Prelude.{slice_get}
 use Rattle.std.proofs.lemmas.Option.{slice_get_read}
 use Rattle.ijvm_verifier.specs.declared.trace.Trace.{Trace}
-use Rattle.ijvm_verifier.specs.declared.unset.Wanted.{Wanted}
 use Rattle.ijvm_verifier.specs.Trace.{IsReady}
-use Rattle.ijvm_verifier.specs.Unset.{AreSet, AreWanted}
 use Rattle.ijvm_verifier.proofs.Unsets.{set_next, set_again, set_all, none_unset, ready_later}
 use Rattle.ijvm_verifier.proofs.unset.check_locals.Goals as goal
 use Rattle.ijvm_verifier.proofs.unset.check_locals.Goals.{then-is_new+in_ok-check_wanted, else-is_new}

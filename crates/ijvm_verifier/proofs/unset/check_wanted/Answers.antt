@@ -1,4 +1,4 @@
-use Rattle.std.proofs.Common.{◌≡◌, ◌<◌, ◌+◌, inr, arith, length}
+use Rattle.std.proofs.Common.{◌<◌, ◌+◌, inr, arith, length}
 use Rattle.ijvm_verifier.proofs.Unsets.{graph_inside, wanted_inside, wanted_method, are_set, reads_holds}
 use Rattle.ijvm_verifier.proofs.unset.check_wanted.Goals as goal
 

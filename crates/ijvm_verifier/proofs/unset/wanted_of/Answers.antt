@@ -1,6 +1,5 @@
-use Rattle.std.proofs.Common.{◌≡◌, ◌≤◌, ◌+◌, ◌∙◌, ◌++◌, ◌∷◌, [], List, length, length-append, ap, arith, sym, subst, ℕ}
-use Rattle.ijvm_verifier.specs.declared.unset.Wanted.{Wanted}
-use Rattle.ijvm_verifier.specs.Unset.{AreWanted, Wants}
+use Rattle.std.proofs.Common.{◌≡◌, ◌∙◌, ◌++◌, ◌∷◌, [], length, length-append, ap, arith, subst, ℕ}
+use Rattle.ijvm_verifier.specs.Unset.{AreWanted}
 use Rattle.ijvm_verifier.proofs.Unsets.{wanted_push, wanted_skip, wanted_sorted}
 use Rattle.ijvm_verifier.proofs.unset.wanted_of.Goals as goal
 use Rattle.ijvm_verifier.proofs.unset.wanted_of.Goals.{in-Some+in_ok-push, in_default}

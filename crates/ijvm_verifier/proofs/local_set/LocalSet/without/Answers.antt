@@ -1,4 +1,4 @@
-use Rattle.std.proofs.Common.{◌≡◌, ◌∙◌, arith, sym, w64}
+use Rattle.std.proofs.Common.{◌∙◌, arith, sym, w64}
 use Rattle.std.proofs.lemmas.Nat.Bits.{bit_at_clear_same, bit_at_clear_other}
 use Rattle.ijvm_verifier.proofs.local_set.LocalSet.without.Goals as goal
 

@@ -1,4 +1,4 @@
-use Rattle.std.proofs.Common.{◌≡◌, ◌<◌, ◌+◌, ◌∙◌, arith, sym, ℕ, Some, length}
+use Rattle.std.proofs.Common.{◌<◌, ◌+◌, ◌∙◌, arith, sym, length}
 use Rattle.ijvm_verifier.specs.Search.{kept_at}
 use Rattle.ijvm_verifier.proofs.Keeping.{reach_in, empties_few, call_inside}
 use Rattle.ijvm_verifier.proofs.search.Search.enter.Goals as goal

@@ -1,7 +1,7 @@
-use Rattle.std.proofs.Common.{◌≡◌, ◌∙◌, ◌++◌, ◌∷◌, [], ◌<◌, refl, sym, arith, ap, inl, inr, subst, ℕ}
+use Rattle.std.proofs.Common.{◌≡◌, ◌∙◌, ◌++◌, ◌∷◌, [], refl, sym, arith, ap, inl, inr, ℕ}
 use Rattle.std.specs.Int.{bit_at}
 use Rattle.ijvm_verifier.specs.declared.trace.Mark.{Mark}
-use Rattle.ijvm_verifier.specs.Trace.{held, held_at, MarksMore}
+use Rattle.ijvm_verifier.specs.Trace.{held, held_at}
 use Rattle.ijvm_verifier.proofs.Traces.{held_same, marks_set, set_here, set_only}
 use Rattle.ijvm_verifier.proofs.trace.Trace.mark.Goals as goal
 

@@ -1,4 +1,4 @@
-use Rattle.std.proofs.Common.{arith, inl, inr}
+use Rattle.std.proofs.Common.{inl, inr}
 use Rattle.ijvm_verifier.proofs.Keeping.{on_ok}
 use Rattle.ijvm_verifier.proofs.Traces.{way_below, marks_on}
 use Rattle.ijvm_verifier.proofs.trace.Trace.mark_ways.Goals as goal

@@ -1,4 +1,4 @@
-use Rattle.std.proofs.Common.{rules, ◌≡◌, ◌++◌, ◌∷◌, []}
+use Rattle.std.proofs.Common.{rules, ◌≡◌, []}
 use Rattle.ijvm_verifier.proofs.Traces.{tracing_begun, tracing_on, taken_inside, reads_none, reads_unset, ready_again}
 use Rattle.ijvm_verifier.proofs.trace.Trace.trace.Goals as goal
 

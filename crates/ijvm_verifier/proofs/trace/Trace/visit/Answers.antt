@@ -1,5 +1,5 @@
-use Rattle.std.proofs.Common.{◌≡◌, ◌∙◌, ℕ, ap, sym, arith, inl, inr, Some, None, List, ◌%◌, ◌<◌, length, Option}
-use Rattle.std.specs.Prelude.{slice_get, slice_index_or, IfNone}
+use Rattle.std.proofs.Common.{◌≡◌, ◌∙◌, ℕ, ap, sym, arith, inl, inr, Some, None, ◌%◌}
+use Rattle.std.specs.Prelude.{slice_get, slice_index_or}
 use Rattle.std.specs.Int.{bit_at}
 use Rattle.std.proofs.lemmas.Option.{slice_get-get_or}
 use Rattle.ijvm_verifier.specs.declared.graph.Node.{Node}

@@ -1,7 +1,6 @@
-use Rattle.std.proofs.Common.{◌≡◌, ◌≤◌, refl, length, Some, arith, ap, subst}
+use Rattle.std.proofs.Common.{◌≡◌, ◌≤◌, refl, length, Some, arith, subst}
 use Rattle.std.specs.Prelude.{slice_get}
 use Rattle.std.proofs.lemmas.Option.{slice_get_read}
-use Rattle.ijvm_definition.specs.Image.{ImageView}
 use Rattle.ijvm_verifier.specs.Accepted.{VerifiedView}
 use Rattle.ijvm_verifier.specs.Facts.{Piece, Covers}
 use Rattle.ijvm_verifier.specs.Kinds.{IsKind}
