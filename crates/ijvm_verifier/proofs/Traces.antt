@@ -5,6 +5,7 @@ use Rattle.std.specs.Int.{bit_at}
 use Rattle.std.proofs.lemmas.Bool.{cases_eq, eq-eqb, ne_eqb}
 use Rattle.std.proofs.lemmas.Nat.Bits.{bit_at-zero}
 use Rattle.std.proofs.lemmas.List.Elements.{Contains-append_left, Contains-push, Contains-push_cases}
+use Rattle.std.proofs.lemmas.List.{append-nil}
 use Rattle.ijvm_verifier.specs.declared.graph.Node.{Node}
 use Rattle.ijvm_verifier.specs.declared.local_set.LocalSet.{LocalSet}
 use Rattle.ijvm_verifier.specs.declared.trace.Mark.{Mark}
@@ -78,18 +79,59 @@ set_only n marks at m to place lt is = elim (cases_eq to at) [
   | inr ne ↦ inl (ap (λ (b : ℕ). bit_at b place) (sym (held_set_other n marks at to m ne)) ∙ is)
 ]
 
-pub marks_on : (n : ℕ) (a b c : List Mark) (x y z : List ℕ) → MarksMore n a b x y → MarksMore n b c y z → MarksMore n a c x z
-marks_on n a b c x y z g h = record {
+-- two marks in turn, whose addresses wait together
+pub marks_both : (n : ℕ) (a b c : List Mark) (todo x y final : List ℕ) → MarksMore n a b todo (todo ++ x) → MarksMore n b c todo (todo ++ y) →
+    ((at : ℕ) → Contains (todo ++ x) at → Contains final at) → ((at : ℕ) → Contains (todo ++ y) at → Contains final at) → ((at : ℕ) → Contains final at → Contains (todo ++ x) at ⊎ Contains (todo ++ y) at) →
+    length final ≡ length todo + length x + length y → MarksMore n a c todo final
+marks_both n a b c todo x y final g h of_x of_y only long = record {
   long = h.long ∙ g.long;
   keeps = λ at place is. h.keeps at place (g.keeps at place is);
   fresh = λ at place is. elim (h.fresh at place is) [
-    | inl old ↦ elim (g.fresh at place old) [ inl older ↦ inl older | inr waits ↦ inr (h.todo_stays at waits) ]
-    | inr waits ↦ inr waits
+    | inl old ↦ elim (g.fresh at place old) [ inl older ↦ inl older | inr waits ↦ inr (of_x at waits) ]
+    | inr waits ↦ inr (of_y at waits)
   ];
-  todo_stays = λ at has. h.todo_stays at (g.todo_stays at has);
-  todo_inside = λ at has. elim (h.todo_inside at has) [ inl old ↦ g.todo_inside at old | inr lt ↦ inr (omega (arith, g.long)) ];
-  measure = omega (arith, g.measure, h.measure);
+  todo_stays = λ at has. of_x at (g.todo_stays at has);
+  todo_inside = λ at has. elim (only at has) [
+    | inl first ↦ g.todo_inside at first
+    | inr second ↦ elim (h.todo_inside at second) [ inl old ↦ inl old | inr lt ↦ inr (omega (arith, g.long)) ]
+  ];
+  measure = omega (arith, g.measure, h.measure, length-append todo x, length-append todo y, long);
   older = λ old. h.older (g.older old);
+}
+
+-- the second mark waits in front of the first, or alone, or the first alone
+pub marks_two : (n : ℕ) (a b c : List Mark) (todo : List ℕ) (on off : ℕ) → MarksMore n a b todo (todo ++ on ∷ []) → MarksMore n b c todo (todo ++ off ∷ []) → MarksMore n a c todo ((todo ++ on ∷ []) ++ off ∷ [])
+marks_two n a b c todo on off g h =
+    marks_both n a b c todo (on ∷ []) (off ∷ []) ((todo ++ on ∷ []) ++ off ∷ []) g h
+    (λ at has. Contains-append_left (todo ++ on ∷ []) (off ∷ []) at has)
+    (λ at has. elim (Contains-push_cases todo off at has) [
+      | inl old ↦ Contains-append_left (todo ++ on ∷ []) (off ∷ []) at (Contains-append_left todo (on ∷ []) at old)
+      | inr same ↦ subst (λ (i : ℕ). Contains ((todo ++ on ∷ []) ++ off ∷ []) i) same (Contains-push (todo ++ on ∷ []) off)
+    ])
+    (λ at has. elim (Contains-push_cases (todo ++ on ∷ []) off at has) [
+      | inl first ↦ inl first
+      | inr same ↦ inr (subst (λ (i : ℕ). Contains (todo ++ off ∷ []) i) same (Contains-push todo off))
+    ])
+    (omega (arith, length-append (todo ++ on ∷ []) (off ∷ []), length-append todo (on ∷ [])))
+
+pub marks_second : (n : ℕ) (a b c : List Mark) (todo y : List ℕ) → MarksMore n a b todo (todo ++ []) → MarksMore n b c todo (todo ++ y) → MarksMore n a c todo (todo ++ y)
+marks_second n a b c todo y g h =
+    marks_both n a b c todo [] y (todo ++ y) g h (λ at has. Contains-append_left todo y at (rw (append-nil todo) at has)) (λ at has. has) (λ at has. inr has) (omega (arith, length-append todo y))
+
+pub marks_first : (n : ℕ) (a b c : List Mark) (todo x : List ℕ) → MarksMore n a b todo (todo ++ x) → MarksMore n b c todo (todo ++ []) → MarksMore n a c todo (todo ++ x)
+marks_first n a b c todo x g h =
+    marks_both n a b c todo x [] (todo ++ x) g h (λ at has. has) (λ at has. Contains-append_left todo x at (rw (append-nil todo) at has)) (λ at has. inl has) (omega (arith, length-append todo x))
+
+-- a mark that does not grow
+pub marks_none : (n : ℕ) (marks : List Mark) (todo : List ℕ) → MarksMore n marks marks todo (todo ++ [])
+marks_none n marks todo = record {
+  long = refl;
+  keeps = λ at place is. is;
+  fresh = λ at place is. inl is;
+  todo_stays = λ at has. Contains-append_left todo [] at has;
+  todo_inside = λ at has. inl (rw (append-nil todo) at has);
+  measure = omega (arith, length-append {A = ℕ} todo []);
+  older = λ old. old;
 }
 
 pub way_below : (way : Option ℕ) (many : ℕ) → ((to : ℕ) → way ≡ Some to → to < many) → IfSome way (λ at. at < many)

@@ -1,6 +1,7 @@
 //! The search of a graph for reads of locals that no store comes before, 64 locals at a time.
 
 ghost use Rattle.std.specs.Prelude.{◌≡◌, ◌≢◌, ◌+◌, ◌/◌, ◌%◌, ◌<◌, ◌≤◌, ◌⊎◌, ◌↔◌, ℕ, [], ◌∷◌, ◌++◌, length, slice_get, replicate, Some, None, Ok, IfOk, OnOk, IfSome, IfNone};
+ghost use Rattle.std.specs.Option.{option_to_list};
 ghost use Rattle.ijvm_verifier.specs.declared.graph.Node.{Node};
 ghost use Rattle.ijvm_verifier.specs.declared.trace.Mark.{Mark};
 ghost use Rattle.ijvm_verifier.specs.LocalSet.{Has, IsIn};
@@ -87,79 +88,109 @@ impl Trace {
         }
     }
 
-    /// The search comes to the address with these locals.
-    fn mark(&mut self, search: u32, at: u32, locals: LocalSet) -> Result<(), AllocError>
+    /// The search comes to the address with these locals. The address is answered if it has to be looked at for them.
+    fn mark(&mut self, search: u32, at: u32, locals: LocalSet) -> Option<u32>
         requires { at < length self.old.marks.items }
-        ensures more { OnOk result (MarksMore search self.old.marks.items self.new.marks.items self.old.todo.items self.new.todo.items) }
-        ensures here { OnOk result ((place : ℕ) → Has locals place → IsHeld search self.new.marks.items at place) }
-        ensures only { OnOk result ((to place : ℕ) → IsHeld search self.new.marks.items to place → IsHeld search self.old.marks.items to place ⊎ ((to ≡ at) × Has locals place)) }
+        ensures todo { self.new.todo.items ≡ self.old.todo.items }
+        ensures more { MarksMore search self.old.marks.items self.new.marks.items self.old.todo.items (self.old.todo.items ++ option_to_list result) }
+        ensures here { (place : ℕ) → Has locals place → IsHeld search self.new.marks.items at place }
+        ensures only { (to place : ℕ) → IsHeld search self.new.marks.items to place → IsHeld search self.old.marks.items to place ⊎ ((to ≡ at) × Has locals place) }
     {
         let held = self.held(search, at);
         let joined = held.joined(locals);
         if joined.bits == held.bits {
-            return Ok(());
+            return None;
         }
-        self.todo.push(at)?;
         self.marks[at as usize] = Mark {
             search,
             locals: joined,
         };
-        Ok(())
+        Some(at)
     }
 
-    fn mark_way(
-        &mut self,
-        search: u32,
-        way: Option<u32>,
-        locals: LocalSet,
-    ) -> Result<(), AllocError>
+    fn mark_way(&mut self, search: u32, way: Option<u32>, locals: LocalSet) -> Option<u32>
         requires { IfSome way (λ at. at < length self.old.marks.items) }
-        ensures more { OnOk result (MarksMore search self.old.marks.items self.new.marks.items self.old.todo.items self.new.todo.items) }
-        ensures here { OnOk result ((to place : ℕ) → way ≡ Some to → Has locals place → IsHeld search self.new.marks.items to place) }
-        ensures only { OnOk result ((to place : ℕ) → IsHeld search self.new.marks.items to place → IsHeld search self.old.marks.items to place ⊎ ((way ≡ Some to) × Has locals place)) }
+        ensures todo { self.new.todo.items ≡ self.old.todo.items }
+        ensures more { MarksMore search self.old.marks.items self.new.marks.items self.old.todo.items (self.old.todo.items ++ option_to_list result) }
+        ensures here { (to place : ℕ) → way ≡ Some to → Has locals place → IsHeld search self.new.marks.items to place }
+        ensures only { (to place : ℕ) → IsHeld search self.new.marks.items to place → IsHeld search self.old.marks.items to place ⊎ ((way ≡ Some to) × Has locals place) }
     {
         match way {
             Some(at) => self.mark(search, at, locals),
-            None => Ok(()),
+            None => None,
         }
     }
 
-    /// The search goes on with these locals wherever the node leads.
-    fn mark_ways(&mut self, search: u32, node: Node, locals: LocalSet) -> Result<(), AllocError>
+    /// The search goes on with these locals wherever the node leads. The address that is to be looked at next is answered, and a second one waits.
+    fn mark_ways(
+        &mut self,
+        search: u32,
+        node: Node,
+        locals: LocalSet,
+    ) -> Result<Option<u32>, AllocError>
         requires { (to : ℕ) → LeadsTo node to → to < length self.old.marks.items }
-        ensures more { OnOk result (MarksMore search self.old.marks.items self.new.marks.items self.old.todo.items self.new.todo.items) }
+        ensures more { IfOk result (λ next. MarksMore search self.old.marks.items self.new.marks.items self.old.todo.items (self.new.todo.items ++ option_to_list next)) }
         ensures here { OnOk result ((to place : ℕ) → LeadsTo node to → Has locals place → IsHeld search self.new.marks.items to place) }
         ensures only { OnOk result ((to place : ℕ) → IsHeld search self.new.marks.items to place → IsHeld search self.old.marks.items to place ⊎ (LeadsTo node to × Has locals place)) }
     {
-        self.mark_way(search, node.next, locals)?;
-        self.mark_way(search, node.jump, locals)
+        let on = self.mark_way(search, node.next, locals);
+        let off = self.mark_way(search, node.jump, locals);
+        match on {
+            None => Ok(off),
+            Some(next) => match off {
+                None => Ok(on),
+                Some(_) => {
+                    self.todo.push(next)?;
+                    Ok(off)
+                }
+            },
+        }
     }
 }
 
 impl Trace {
-    /// The waiting address is looked at. A local that is read here unset is answered, and else the search goes on where the node leads.
-    fn visit(
+    /// The address to be looked at next, if there is one.
+    fn next(&mut self, waiting: Option<u32>) -> Option<u32>
+        ensures marks { self.new.marks.items ≡ self.old.marks.items }
+        ensures some { IfSome result (λ at. self.old.todo.items ++ option_to_list waiting ≡ self.new.todo.items ++ at ∷ []) }
+        ensures none { IfNone result ((self.old.todo.items ++ option_to_list waiting ≡ []) × (self.new.todo.items ≡ [])) }
+    {
+        match waiting {
+            Some(at) => Some(at),
+            None => self.todo.pop(),
+        }
+    }
+
+    /// A local that is read at the address unset.
+    fn read_at(&self, graph: &[Node], search: u32, group: u32, at: u32) -> Option<u16>
+        requires long { length self.now.marks.items ≡ length graph.now }
+        requires at { at < length graph.now }
+        ensures some { IfSome result (λ k. IsMarked search self.now.marks.items group at k × (node : Node) × (slice_get graph.now at ≡ Some node) × (node.reads ≡ Some k)) }
+        ensures none { IfNone result ((k : ℕ) → IsMarked search self.now.marks.items group at k → (node : Node) × (slice_get graph.now at ≡ Some node) × (node.reads ≢ Some k)) }
+    {
+        let node = graph[at as usize];
+        read_of(self.held(search, at), node.reads, group)
+    }
+
+    /// The search goes on from the address, which reads none of its locals.
+    fn pass(
         &mut self,
         graph: &[Node],
         search: u32,
         group: u32,
         at: u32,
-    ) -> Result<Option<u16>, AllocError>
+    ) -> Result<Option<u32>, AllocError>
         requires long { length self.old.marks.items ≡ length graph.now }
         requires inside { IsInside graph.now }
         requires at { at < length graph.now }
-        ensures more { IfOk result (λ read. IfNone read (MarksMore search self.old.marks.items self.new.marks.items self.old.todo.items self.new.todo.items)) }
-        ensures done { IfOk result (λ read. IfNone read ((k : ℕ) → IsMarked search self.old.marks.items group at k → IsPassed graph.now search self.new.marks.items group at k)) }
-        ensures ways { IfOk result (λ read. IfNone read ((to k : ℕ) → IsMarked search self.new.marks.items group to k → IsMarked search self.old.marks.items group to k ⊎ Passes graph.now search self.old.marks.items group at to k)) }
-        ensures read { IfOk result (λ read. IfSome read (λ k. IsMarked search self.old.marks.items group at k × (node : Node) × (slice_get graph.now at ≡ Some node) × (node.reads ≡ Some k))) }
+        requires reads { (k : ℕ) → IsMarked search self.old.marks.items group at k → (node : Node) × (slice_get graph.now at ≡ Some node) × (node.reads ≢ Some k) }
+        ensures more { IfOk result (λ next. MarksMore search self.old.marks.items self.new.marks.items self.old.todo.items (self.new.todo.items ++ option_to_list next)) }
+        ensures done { OnOk result ((k : ℕ) → IsMarked search self.old.marks.items group at k → IsPassed graph.now search self.new.marks.items group at k) }
+        ensures ways { OnOk result ((to k : ℕ) → IsMarked search self.new.marks.items group to k → IsMarked search self.old.marks.items group to k ⊎ Passes graph.now search self.old.marks.items group at to k) }
     {
         let node = graph[at as usize];
         let held = self.held(search, at);
-        if let Some(local) = read_of(held, node.reads, group) {
-            return Ok(Some(local));
-        }
-        self.mark_ways(search, node, passed(held, node.stores, group))?;
-        Ok(None)
+        self.mark_ways(search, node, passed(held, node.stores, group))
     }
 
     /// A read of a local of the set, its address and the local, to which a way leads from the start with no store to that local; none, if there is none.
@@ -178,11 +209,12 @@ impl Trace {
         ensures none { IfOk result (λ read. IfNone read (ReadsNone graph.now group start locals)) }
         ensures some { IfOk result (λ read. IfSome read (λ r. ReadsUnset graph.now group start locals r.0 r.1)) }
     {
-        self.mark(search, start, locals)?;
-        while let Some(at) = self.todo.pop() {
-            if let Some(local) = self.visit(graph, search, group, at)? {
+        let mut waiting = self.mark(search, start, locals);
+        while let Some(at) = self.next(waiting) {
+            if let Some(local) = self.read_at(graph, search, group, at) {
                 return Ok(Some((at, local)));
             }
+            waiting = self.pass(graph, search, group, at)?;
         }
         Ok(None)
     }
