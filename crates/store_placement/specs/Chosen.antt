@@ -1,4 +1,4 @@
--- The chosen placement: forced addresses first, then the remaining pairs, then the remaining statements, each in order and as low as there is room.
+-- The chosen placement: forced addresses first, then the remaining pairs, then the remaining statements, each in order and as low as there is room. The order is this profile's.
 use Rattle.std.specs.Prelude.{◌≡◌, ◌<◌, ℕ, ◌+◌, ◌==◌, Bool, not, ◌&&◌, ◌||◌, if◌then◌else◌, min, is_none, List, Option, Some, None, length, map, filter, find, take, slice_index, All}
 use Rattle.std.specs.List.{list_any, filter_map}
 use Rattle.store_placement.specs.declared.pair.Pair.{Pair}

@@ -1,4 +1,5 @@
 -- A placement: any map from the statements to addresses that gives no address twice and keeps fixed addresses and pairs.
+-- By chapter 4 of the book a conditional that jumps sets the high bit of its next address, so its targets are 256 apart.
 use Rattle.std.specs.Prelude.{◌≡◌, ◌<◌, ℕ, ◌+◌, List, Some, length, slice_index, All}
 use Rattle.store_placement.specs.Demands.{Demands, fixed_at}
 

@@ -1,4 +1,4 @@
--- The store file: the magic of the machine, then the 512 words, five bytes each with the most significant first.
+-- The store file: the magic of the machine, then the 512 words, five bytes each with the most significant first. The format is this project's own.
 use Rattle.std.specs.Prelude.{◌≡◌, ◌≢◌, ℕ, ◌+◌, ◌*◌, ◌/◌, ◌%◌, ◌^◌, ◌<◌, Bool, not, if◌then◌else◌, List, [], ◌∷◌, ◌++◌, Option, Some, None, length, slice_index, codes, nat_eq}
 use Rattle.std.specs.List.{flat_map, starts_with}
 use Rattle.micro_word.specs.declared.statement.Machine.{Machine}
