@@ -51,7 +51,7 @@ fn dest_of(token: Token, equals: Token) -> Option<Word>
 }
 
 /// The C bit of a destination; N and Z assign nothing.
-fn bit(word: Word) -> u16
+pub fn bit(word: Word) -> u16
     ensures { result ≡ bit word }
 {
     match word {

@@ -11,7 +11,7 @@ mod piece;
 mod tally;
 mod tree;
 
-pub use chain::{Assignment, Tail};
+pub use chain::{Assignment, Tail, bit};
 pub use content::{Content, NamedNext, Parts};
 pub use expression::coding_of;
 pub use laws::reads_what_is_spelled;

@@ -7,3 +7,8 @@ pub mod Meaning
 pub mod Ending
 pub mod Refusing
 pub mod Outcome
+pub mod Printed
+pub mod Relined
+pub mod Spoken
+pub mod Composed
+pub mod Printing

@@ -1,4 +1,5 @@
 pub mod Program
+pub mod Canonical
 pub mod Labels
 pub mod Sketch
 pub mod Resolving

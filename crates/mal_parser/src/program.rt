@@ -1,5 +1,5 @@
-ghost use Rattle.std.specs.Prelude.{◌≡◌, ◌<◌, length, slice_get, option_copied, Some};
-ghost use Rattle.mal_parser.specs.Program.{IsProgram};
+ghost use Rattle.std.specs.Prelude.{◌≡◌, ◌<◌, length, slice_get, option_copied, IfSome, Some};
+ghost use Rattle.mal_parser.specs.Program.{IsFallback, IsProgram, IsStatement};
 
 use crate::statement::Statement;
 use micro_word::Machine;
@@ -61,6 +61,23 @@ impl MalProgram {
         ensures { slice_get self.now.statements s ≡ Some result.now }
     {
         &self.statements[s as usize]
+    }
+
+    /// A statement, and that it may stand there.
+    pub(crate) fn held(&self, s: u16) -> &Statement
+        requires { s < length self.now.statements }
+        ensures value { slice_get self.now.statements s ≡ Some result.now }
+        ensures stands { IsStatement self.now s result.now }
+    {
+        &self.statements[s as usize]
+    }
+
+    /// What unused words hold, and that it may.
+    pub(crate) fn held_fallback(&self) -> Option<&Statement>
+        ensures value { option_copied result ≡ self.now.fallback }
+        ensures stands { IfSome self.now.fallback (IsFallback self.now) }
+    {
+        self.fallback.as_ref()
     }
 
     /// What unused words hold.

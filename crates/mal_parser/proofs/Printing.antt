@@ -1,0 +1,135 @@
+-- What printing a program needs to know of it, and the lines that are printed so far.
+use Rattle.std.proofs.Common.{◌≡◌, ℕ, zero, suc, ◌+◌, ◌<◌, List, [], ◌∷◌, ◌++◌, Option, Some, None, length, get_or, take, refl, sym, ap, subst, ◌∙◌, arith, append_assoc}
+use Rattle.std.specs.Prelude.{IfSome, IsSome, IsTrue, map, slice_get, option_map, option_and_then, option_to_list}
+use Rattle.std.specs.List.{cons_option, filter_map}
+use Rattle.std.proofs.lemmas.Bool.Decides.{nat_tests}
+use Rattle.std.proofs.lemmas.Option.{get_or_from_slice_get}
+use Rattle.micro_word.specs.declared.statement.PlacedNext.{PlacedNext}
+use Rattle.micro_word.specs.declared.statement.PlacedNext.TheVariants as placed
+use Rattle.micro_word.specs.declared.statement.Machine.{Machine}
+use Rattle.micro_word.specs.declared.statement.Placed.{Placed}
+use Rattle.micro_word.specs.Canonical.{is_next, is_part, is_valid}
+use Rattle.mal_line.proofs.Options.{and_parts}
+use Rattle.mal_print.specs.Canonical.{FitTargets}
+use Rattle.mal_print.proofs.Prints.{three_texts}
+use Rattle.mal_parser.specs.declared.statement.Statement.{Statement}
+use Rattle.mal_parser.specs.declared.statement.MalNext.{MalNext}
+use Rattle.mal_parser.specs.declared.statement.MalNext.TheVariants as nexts
+use Rattle.mal_parser.specs.Program.{HasTargets, IsFallback, IsLabelled, IsStatement, Program}
+use Rattle.mal_parser.specs.Canonical.{by_addresses, by_labels, canonical_text, default_line, fallback_of, fallback_text, fix_line, line_of, parts_of, parts_text, statement_text, text_of}
+
+-- ---- targets
+
+pub labelled_within : (ss : List Statement) (s : ℕ) → IsLabelled ss s → s < length ss
+labelled_within [] s h = absurd (cc)
+labelled_within (t ∷ ss) zero h = omega arith
+labelled_within (t ∷ ss) (suc s) h = let r = labelled_within ss s h in omega (arith, r)
+
+pub fit_labels : (ss : List Statement) (next : MalNext) → FitTargets (by_labels ss next)
+fit_labels ss nexts.Following = tt
+fit_labels ss (nexts.Goto to) = tt
+fit_labels ss (nexts.Dispatch high) = tt
+fit_labels ss (nexts.Branch test high low) = (tt, tt)
+
+pub fit_addresses : (next : PlacedNext) → IsTrue (is_next next) → FitTargets (by_addresses next)
+fit_addresses (placed.Goto to) h = grind (arith, nat_tests)
+fit_addresses (placed.Dispatch high) h = tt
+fit_addresses (placed.Branch test low) h = let b : low < 256 = grind (arith, nat_tests) in (omega arith, omega arith)
+
+pub targets_unused : (p : Program) (t : Statement) → IfSome p.fallback (IsFallback p) → p.fallback ≡ Some t → HasTargets p.statements t.next
+targets_unused p t h e = go p.fallback e h
+  where
+    go : (o : Option Statement) → o ≡ Some t → IfSome o (IsFallback p) → HasTargets p.statements t.next
+    go None f g = absurd (cc)
+    go (Some u) f g = let q : u ≡ t = cc in subst (λ (v : Statement). HasTargets p.statements v.next) q g.targets
+
+pub next_valid : (machine : Machine) (p : Placed) → IsTrue (is_valid machine p) → IsTrue (is_next p.next)
+next_valid machine p h = (and_parts (is_part machine p.part) (is_next p.next) h).1
+
+pub fixed_below : (p : Program) (i : ℕ) (s : Statement) (address : ℕ) → IsStatement p i s → s.fixed ≡ Some address → address < 512
+fixed_below p i s address h e = (subst (λ o. IfSome o (λ address. (address < 512) × IsSome s.label)) e h.fixed).0
+
+some_at : (ss : List Statement) (s : ℕ) → s < length ss → (t : Statement) × (slice_get ss s ≡ Some t)
+some_at [] s lt = absurd (omega arith)
+some_at (t ∷ ss) zero lt = (t, refl)
+some_at (t ∷ ss) (suc s) lt = some_at ss s (omega arith)
+
+pub stands_at : (p q : Program) (s : ℕ) (t : Statement) → q ≡ p → ((number : ℕ) (u : Statement) → slice_get q.statements number ≡ Some u → IsStatement q number u)
+    → s < length p.statements → t ≡ get_or q.statements s t → IsStatement p s t
+stands_at p q s t e h lt g =
+    let x = some_at q.statements s (subst (λ (r : Program). s < length r.statements) (sym e) lt) in
+    let f : t ≡ x.0 = g ∙ get_or_from_slice_get q.statements s x.0 t x.1 in
+    subst (λ (r : Program). IsStatement r s t) e (h s t (x.1 ∙ ap Some (sym f)))
+
+-- ---- texts of one statement
+
+pub parts_here : (p : Program) (s : ℕ) (t : Statement) → slice_get p.statements s ≡ Some t → parts_text p s ≡ parts_of p t
+parts_here p s t e = rw e refl
+
+pub line_here : (p : Program) (s : ℕ) (t : Statement) → slice_get p.statements s ≡ Some t → statement_text p s ≡ line_of p t
+line_here p s t e = rw e refl
+
+pub fallback_here : (p : Program) (t : Statement) → p.fallback ≡ Some t → fallback_text p ≡ fallback_of p t
+fallback_here p t e = rw e refl
+
+-- ---- lines one after the other
+
+text_append : (ls ms : List (List ℕ)) → text_of (ls ++ ms) ≡ text_of ls ++ text_of ms
+text_append [] ms = refl
+text_append (l ∷ ls) ms = ap (λ rest. l ++ 10 ∷ rest) (text_append ls ms) ∙ sym (append_assoc l (10 ∷ text_of ls) (text_of ms))
+
+pub canonical_parts : (ls ms ns : List (List ℕ)) → text_of (ls ++ (ms ++ ns)) ≡ text_of ls ++ (text_of ms ++ text_of ns)
+canonical_parts ls ms ns = text_append ls (ms ++ ns) ∙ ap (λ rest. text_of ls ++ rest) (text_append ms ns)
+
+fixes_more : (ss : List Statement) (s : ℕ) → s < length ss → filter_map fix_line (take (s + 1) ss) ≡ filter_map fix_line (take s ss) ++ option_to_list (option_and_then fix_line (slice_get ss s))
+fixes_more [] s lt = absurd (omega arith)
+fixes_more (t ∷ ss) zero lt = go (fix_line t)
+  where
+    go : (o : Option (List ℕ)) → cons_option o [] ≡ option_to_list o
+    go None = refl
+    go (Some l) = refl
+fixes_more (t ∷ ss) (suc s) lt = let k : suc s + 1 ≡ suc (s + 1) = omega arith in rw k (go (fix_line t) (fixes_more ss s (omega arith)))
+  where
+    go : (o : Option (List ℕ)) → filter_map fix_line (take (s + 1) ss) ≡ filter_map fix_line (take s ss) ++ option_to_list (option_and_then fix_line (slice_get ss s))
+        → cons_option o (filter_map fix_line (take (s + 1) ss)) ≡ cons_option o (filter_map fix_line (take s ss)) ++ option_to_list (option_and_then fix_line (slice_get ss s))
+    go None r = r
+    go (Some l) r = ap (λ ls. l ∷ ls) r
+
+lines_more : (p : Program) (ss : List Statement) (s : ℕ) (t : Statement) → slice_get ss s ≡ Some t → map (line_of p) (take (s + 1) ss) ≡ map (line_of p) (take s ss) ++ line_of p t ∷ []
+lines_more p [] s t e = absurd (cc)
+lines_more p (u ∷ ss) zero t e = let q : u ≡ t = cc in ap (λ v. line_of p v ∷ []) q
+lines_more p (u ∷ ss) (suc s) t e = let k : suc s + 1 ≡ suc (s + 1) = omega arith in rw k (ap (λ ls. line_of p u ∷ ls) (lines_more p ss s t e))
+
+-- one more fixed address
+pub fix_added : (ss : List Statement) (s : ℕ) (begun old new : List ℕ) → s < length ss
+    → old ≡ begun ++ text_of (filter_map fix_line (take s ss)) → new ≡ old ++ text_of (option_to_list (option_and_then fix_line (slice_get ss s)))
+    → new ≡ begun ++ text_of (filter_map fix_line (take (s + 1) ss))
+fix_added ss s begun old new lt e f =
+    f ∙ (ap (λ front. front ++ text_of (option_to_list (option_and_then fix_line (slice_get ss s)))) e
+    ∙ (append_assoc begun (text_of (filter_map fix_line (take s ss))) (text_of (option_to_list (option_and_then fix_line (slice_get ss s))))
+    ∙ ap (λ rest. begun ++ rest) (sym (ap text_of (fixes_more ss s lt) ∙ text_append (filter_map fix_line (take s ss)) (option_to_list (option_and_then fix_line (slice_get ss s)))))))
+
+-- one more statement
+line_behind : (p : Program) (s : ℕ) (t : Statement) (begun old new : List ℕ) → slice_get p.statements s ≡ Some t
+    → old ≡ begun ++ text_of (map (line_of p) (take s p.statements)) → new ≡ old ++ (line_of p t ++ 10 ∷ [])
+    → new ≡ begun ++ text_of (map (line_of p) (take (s + 1) p.statements))
+line_behind p s t begun old new at e f =
+    f ∙ (ap (λ front. front ++ (line_of p t ++ 10 ∷ [])) e
+    ∙ (append_assoc begun (text_of (map (line_of p) (take s p.statements))) (line_of p t ++ 10 ∷ [])
+    ∙ ap (λ rest. begun ++ rest) (sym (ap text_of (lines_more p p.statements s t at) ∙ text_append (map (line_of p) (take s p.statements)) (line_of p t ∷ [])))))
+
+pub line_added : (p : Program) (s : ℕ) (begun old new fresh line : List ℕ) → s < length p.statements → fresh ≡ [] → line ≡ fresh ++ statement_text p s
+    → old ≡ begun ++ text_of (map (line_of p) (take s p.statements)) → new ≡ old ++ (line ++ 10 ∷ [])
+    → new ≡ begun ++ text_of (map (line_of p) (take (s + 1) p.statements))
+line_added p s begun old new fresh line lt n l e f =
+    let t = some_at p.statements s lt in
+    let q : line ≡ line_of p t.0 = l ∙ (ap (λ x. x ++ statement_text p s) n ∙ line_here p s t.0 t.1) in
+    line_behind p s t.0 begun old new t.1 e (f ∙ ap (λ x. old ++ (x ++ 10 ∷ [])) q)
+
+-- all of them
+pub mal_text : (p : Program) (z x y w : List ℕ) → z ≡ [] → x ≡ z ++ text_of (filter_map fix_line p.statements)
+    → y ≡ x ++ text_of (option_to_list (option_map (default_line p) p.fallback)) → w ≡ y ++ text_of (map (line_of p) p.statements) → w ≡ canonical_text p
+mal_text p z x y w n e f g =
+    three_texts z (text_of (filter_map fix_line p.statements)) (text_of (option_to_list (option_map (default_line p) p.fallback))) (text_of (map (line_of p) p.statements)) x y w e f g
+    ∙ (ap (λ front. front ++ (text_of (filter_map fix_line p.statements) ++ (text_of (option_to_list (option_map (default_line p) p.fallback)) ++ text_of (map (line_of p) p.statements)))) n
+    ∙ sym (canonical_parts (filter_map fix_line p.statements) (option_to_list (option_map (default_line p) p.fallback)) (map (line_of p) p.statements)))

@@ -1,0 +1,114 @@
+-- The canonical text of a program: the fixed addresses, what unused words hold, and the statements, each on a line of its own.
+use Rattle.std.specs.Prelude.{◌≡◌, ℕ, ◌+◌, true, length, List, [], ◌∷◌, ◌++◌, map, slice_get, Option, Some, unwrap_or, option_map, option_and_then, option_to_list}
+use Rattle.std.specs.List.{filter_map}
+use Rattle.mic_base.specs.Name.{is_name}
+use Rattle.micro_word.specs.declared.statement.Machine.{Machine}
+use Rattle.micro_word.specs.declared.statement.Placed.{Placed}
+use Rattle.micro_word.specs.declared.statement.PlacedNext.{PlacedNext}
+use Rattle.micro_word.specs.declared.statement.PlacedNext.TheVariants as placed
+use Rattle.mal_print.specs.declared.target.Target.{Target}
+use Rattle.mal_print.specs.declared.target.Target.TheVariants as targets
+use Rattle.mal_print.specs.declared.target.PrintedNext.{PrintedNext}
+use Rattle.mal_print.specs.declared.target.PrintedNext.TheVariants as prints
+use Rattle.mal_print.specs.Pieces.{printed}
+use Rattle.mal_print.specs.Canonical.{fallback, fix, lone, pieces, statement}
+use Rattle.mal_parser.specs.declared.statement.Statement.{Statement}
+use Rattle.mal_parser.specs.declared.statement.MalNext.{MalNext}
+use Rattle.mal_parser.specs.declared.statement.MalNext.TheVariants as nexts
+use Rattle.mal_parser.specs.Program.{label_at, Program}
+
+-- ---- where a statement goes next
+
+-- a target by its label
+abbrev pub by_label : List Statement → ℕ → Target
+by_label ss to = targets.Label (unwrap_or (label_at ss to) [])
+
+abbrev pub by_labels : List Statement → MalNext → PrintedNext
+by_labels ss nexts.Following = prints.Following
+by_labels ss (nexts.Goto to) = prints.Goto (by_label ss to)
+by_labels ss (nexts.Dispatch high) = prints.Dispatch high
+by_labels ss (nexts.Branch test high low) = prints.Branch test (by_label ss high) (by_label ss low)
+
+abbrev pub next_of : Program → Statement → PrintedNext
+next_of p s = by_labels p.statements s.next
+
+-- by their addresses
+abbrev pub by_addresses : PlacedNext → PrintedNext
+by_addresses (placed.Goto to) = prints.Goto (targets.Address to)
+by_addresses (placed.Dispatch high) = prints.Dispatch high
+by_addresses (placed.Branch test low) = prints.Branch test (targets.Address (low + 256)) (targets.Address low)
+
+-- ---- the texts of one statement
+
+-- its parts, `;` where it has none
+abbrev pub parts_of : Program → Statement → List ℕ
+parts_of p s = printed (lone (pieces p.machine s.part (next_of p s)))
+
+-- its label and its parts
+abbrev pub line_of : Program → Statement → List ℕ
+line_of p s = printed (statement p.machine s.label s.part (next_of p s))
+
+-- the same of the statement with a number
+abbrev pub parts_text : Program → ℕ → List ℕ
+parts_text p s = unwrap_or (option_map (parts_of p) (slice_get p.statements s)) []
+
+abbrev pub statement_text : Program → ℕ → List ℕ
+statement_text p s = unwrap_or (option_map (line_of p) (slice_get p.statements s)) []
+
+-- the parts of what unused words hold
+abbrev pub fallback_of : Program → Statement → List ℕ
+fallback_of p s = printed (pieces p.machine s.part (next_of p s))
+
+abbrev pub fallback_text : Program → List ℕ
+fallback_text p = unwrap_or (option_map (fallback_of p) p.fallback) []
+
+-- the parts of a placed statement, with targets as `0xAAA`
+abbrev pub placed_text : Machine → Placed → List ℕ
+placed_text machine p = printed (pieces machine p.part (by_addresses p.next))
+
+-- ---- the text of a program
+
+-- `.label NAME 0xAAA`, where the address of a statement is fixed
+abbrev pub fix_line : Statement → Option (List ℕ)
+fix_line s = option_and_then (λ label. option_map (λ address. printed (fix label address)) s.fixed) s.label
+
+-- `.default PARTS`
+abbrev pub default_line : Program → Statement → List ℕ
+default_line p s = printed (fallback p.machine s.part (next_of p s))
+
+abbrev pub canonical_lines : Program → List (List ℕ)
+canonical_lines p = filter_map fix_line p.statements ++ (option_to_list (option_map (default_line p) p.fallback) ++ map (line_of p) p.statements)
+
+-- each line with a newline behind it
+abbrev pub text_of : List (List ℕ) → List ℕ
+text_of [] = []
+text_of (l ∷ ls) = l ++ 10 ∷ text_of ls
+
+abbrev pub canonical_text : Program → List ℕ
+canonical_text p = text_of (canonical_lines p)
+
+-- ---- line numbers
+
+abbrev pub on_line : ℕ → Statement → Statement
+on_line k s = record s { line = k }
+
+-- on lines from this one on
+abbrev pub on_lines : ℕ → List Statement → List Statement
+on_lines k [] = []
+on_lines k (s ∷ ss) = on_line k s ∷ on_lines (k + 1) ss
+
+abbrev pub fix_count : Program → ℕ
+fix_count p = length (filter_map fix_line p.statements)
+
+-- the program with the line numbers that its canonical text gives it
+abbrev pub relined : Program → Program
+relined p = record {
+  machine = p.machine;
+  statements = on_lines (1 + fix_count p + length (option_to_list p.fallback)) p.statements;
+  fallback = option_map (on_line (1 + fix_count p)) p.fallback;
+  entry = p.entry;
+}
+
+-- each label is a name, as its type says
+abbrev pub AreNamed : List Statement → Type 0
+AreNamed ss = (s : ℕ) (label : List ℕ) → label_at ss s ≡ Some label → is_name label ≡ true

@@ -1,0 +1,172 @@
+ghost use Rattle.std.specs.Prelude.{◌≡◌, ◌≤◌, ◌<◌, ◌+◌, ◌++◌, ◌∷◌, [], length, map, slice_get, option_map, option_and_then, option_to_list, IsSome, IsTrue, Some, IfOk, OnOk};
+ghost use Rattle.std.specs.List.{filter_map};
+ghost use Rattle.micro_word.specs.Canonical.{is_next, is_valid};
+ghost use Rattle.mal_parser.specs.Program.{HasTargets, IsLabelled};
+ghost use Rattle.mal_parser.specs.Canonical.{by_addresses, by_label, by_labels, canonical_text, default_line, fallback_text, fix_line, line_of, parts_text, placed_text, statement_text, text_of};
+
+use crate::program::MalProgram;
+use crate::statement::MalNext;
+use mal_print::{
+    PrintedNext, Target, print_default, print_fix, print_line, print_lone, print_parts,
+};
+use mic_base::Line;
+use micro_word::{Machine, Placed, PlacedNext};
+use std::alloc::{AllocError, Global};
+
+fn by_label(program: &MalProgram, s: u16) -> Target
+    requires { IsLabelled program.now.statements s }
+    ensures { result ≡ by_label program.now.statements s }
+{
+    Target::Label(program.statement(s).label.unwrap())
+}
+
+fn by_labels(program: &MalProgram, next: MalNext) -> PrintedNext
+    requires { HasTargets program.now.statements next }
+    ensures { result ≡ by_labels program.now.statements next }
+{
+    match next {
+        MalNext::Following => PrintedNext::Following,
+        MalNext::Goto(to) => PrintedNext::Goto(by_label(program, to)),
+        MalNext::Dispatch { high } => PrintedNext::Dispatch { high },
+        MalNext::Branch { test, yes, no } => PrintedNext::Branch {
+            test,
+            yes: by_label(program, yes),
+            no: by_label(program, no),
+        },
+    }
+}
+
+fn by_addresses(next: PlacedNext) -> PrintedNext
+    requires { IsTrue (is_next next) }
+    ensures { result ≡ by_addresses next }
+{
+    match next {
+        PlacedNext::Goto(to) => PrintedNext::Goto(Target::Address(to)),
+        PlacedNext::Dispatch { high } => PrintedNext::Dispatch { high },
+        PlacedNext::Branch { test, no } => PrintedNext::Branch {
+            test,
+            yes: Target::Address(no + 256),
+            no: Target::Address(no),
+        },
+    }
+}
+
+/// Appends the canonical parts of a statement without its label, `;` where it has none.
+pub fn print_statement(program: &MalProgram, s: u16, line: &mut Line)
+    requires below { s < length program.now.statements }
+    requires room { length line.old + 256 ≤ 512 }
+    ensures text { line.new ≡ line.old ++ parts_text program.now s }
+    ensures len { length line.new ≤ length line.old + 256 }
+{
+    let statement = program.held(s);
+    let next = by_labels(program, statement.next);
+    print_lone(program.machine(), &statement.part, &next, line);
+}
+
+/// Appends the canonical line of a statement: its label and its parts.
+pub fn print_labelled(program: &MalProgram, s: u16, line: &mut Line)
+    requires below { s < length program.now.statements }
+    requires room { length line.old + 321 ≤ 512 }
+    ensures text { line.new ≡ line.old ++ statement_text program.now s }
+    ensures len { length line.new ≤ length line.old + 321 }
+{
+    let statement = program.held(s);
+    let next = by_labels(program, statement.next);
+    print_line(
+        program.machine(),
+        statement.label,
+        &statement.part,
+        &next,
+        line,
+    );
+}
+
+/// Appends the canonical parts of what unused words hold.
+pub fn print_fallback(program: &MalProgram, line: &mut Line)
+    requires some { IsSome program.now.fallback }
+    requires room { length line.old + 256 ≤ 512 }
+    ensures text { line.new ≡ line.old ++ fallback_text program.now }
+    ensures len { length line.new ≤ length line.old + 256 }
+{
+    if let Some(statement) = program.held_fallback() {
+        let next = by_labels(program, statement.next);
+        print_parts(program.machine(), &statement.part, &next, line);
+    }
+}
+
+/// Appends the canonical parts of a placed statement, with its targets as `0xAAA`.
+pub fn print_placed(placed: &Placed, machine: Machine, line: &mut Line)
+    requires valid { IsTrue (is_valid machine placed.now) }
+    requires room { length line.old + 256 ≤ 512 }
+    ensures text { line.new ≡ line.old ++ placed_text machine placed.now }
+    ensures len { length line.new ≤ length line.old + 256 }
+{
+    print_parts(machine, &placed.part, &by_addresses(placed.next), line);
+}
+
+fn end_line(line: &Line, text: &mut Vec<u8>) -> Result<(), AllocError>
+    ensures { OnOk result (text.new.items ≡ text.old.items ++ (line.now ++ 10 ∷ [])) }
+{
+    text.extend_from_slice(line.bytes())?;
+    text.push(b'\n')?;
+    Ok(())
+}
+
+fn add_fix(program: &MalProgram, s: u16, text: &mut Vec<u8>) -> Result<(), AllocError>
+    requires { s < length program.now.statements }
+    ensures { OnOk result (text.new.items ≡ text.old.items ++ text_of (option_to_list (option_and_then fix_line (slice_get program.now.statements s)))) }
+{
+    let statement = program.held(s);
+    let Some(address) = statement.fixed else {
+        return Ok(());
+    };
+    let Some(label) = statement.label else {
+        return Ok(());
+    };
+    let mut line = Line::new();
+    print_fix(label, address, &mut line);
+    end_line(&line, text)
+}
+
+fn add_fixes(program: &MalProgram, text: &mut Vec<u8>) -> Result<(), AllocError>
+    ensures { OnOk result (text.new.items ≡ text.old.items ++ text_of (filter_map fix_line program.now.statements)) }
+{
+    for s in 0..program.len() {
+        add_fix(program, s, text)?;
+    }
+    Ok(())
+}
+
+fn add_default(program: &MalProgram, text: &mut Vec<u8>) -> Result<(), AllocError>
+    ensures { OnOk result (text.new.items ≡ text.old.items ++ text_of (option_to_list (option_map (default_line program.now) program.now.fallback))) }
+{
+    if let Some(statement) = program.held_fallback() {
+        let next = by_labels(program, statement.next);
+        let mut line = Line::new();
+        print_default(program.machine(), &statement.part, &next, &mut line);
+        end_line(&line, text)?;
+    }
+    Ok(())
+}
+
+fn add_statements(program: &MalProgram, text: &mut Vec<u8>) -> Result<(), AllocError>
+    ensures { OnOk result (text.new.items ≡ text.old.items ++ text_of (map (line_of program.now) program.now.statements)) }
+{
+    for s in 0..program.len() {
+        let mut line = Line::new();
+        print_labelled(program, s, &mut line);
+        end_line(&line, text)?;
+    }
+    Ok(())
+}
+
+/// The canonical text of a program.
+pub fn print_mal(alloc: Global, program: &MalProgram) -> Result<Vec<u8>, AllocError>
+    ensures { IfOk result (λ text. text.items ≡ canonical_text program.now) }
+{
+    let mut text = Vec::new(alloc);
+    add_fixes(program, &mut text)?;
+    add_default(program, &mut text)?;
+    add_statements(program, &mut text)?;
+    Ok(text)
+}

@@ -1,0 +1,311 @@
+-- The canonical assignment of a part is an assignment of its operation to its destinations.
+use Rattle.std.proofs.Common.{◌≡◌, ℕ, zero, suc, ◌<◌, Bool, true, false, List, [], ◌∷◌, ◌++◌, Option, Some, None, length, refl, sym, ap, subst, ◌∙◌, arith, cond, inl, nat_eq, nat_lt}
+use Rattle.std.specs.Prelude.{◌&&◌, ◌==◌, not, pos, codes}
+use Rattle.std.specs.List.{filter, list_all}
+use Rattle.std.proofs.lemmas.Bool.Decides.{nat_tests}
+use Rattle.micro_word.specs.declared.statement.Machine.{Machine}
+use Rattle.micro_word.specs.declared.statement.Machine.TheVariants.{Mic1, Mic2}
+use Rattle.micro_word.specs.declared.statement.AluOp.{AluOp}
+use Rattle.micro_word.specs.declared.statement.AluOp.TheVariants as ops
+use Rattle.micro_word.specs.declared.statement.BusSource.{BusSource}
+use Rattle.micro_word.specs.declared.statement.BusSource.TheVariants as bus
+use Rattle.micro_word.specs.declared.statement.Shift.{Shift}
+use Rattle.micro_word.specs.declared.statement.Shift.TheVariants as shifts
+use Rattle.micro_word.specs.declared.statement.Mem.{Mem}
+use Rattle.micro_word.specs.declared.statement.Test.TheVariants as tests
+use Rattle.micro_word.specs.declared.statement.Part.{Part}
+use Rattle.micro_word.specs.Coding.{row}
+use Rattle.micro_word.specs.Canonical.{fits_side, has_operation, is_mixed, is_part, may_be_a, may_be_b, may_fetch}
+use Rattle.mal_tokens.specs.declared.word.Word.{Word}
+use Rattle.mal_tokens.specs.declared.word.Word.TheVariants as words
+use Rattle.mal_tokens.specs.declared.sign.Sign.TheVariants as signs
+use Rattle.mal_tokens.specs.declared.token.Token.{Token}
+use Rattle.mal_tokens.specs.declared.token.Token.TheVariants as tokens
+use Rattle.mal_line.specs.declared.operation.Operation.{Operation}
+use Rattle.mal_line.specs.declared.chain.Assignment.{Assignment}
+use Rattle.mal_line.specs.Expressions as table
+use Rattle.mal_line.specs.Expressions.{fits, IsCoded, source_word, spelling, tail_with}
+use Rattle.mal_line.specs.Chains.{dest_bits, dest_tokens, is_dest, is_expr, is_expr_word, is_filled, IsAssignment, tail_tokens}
+use Rattle.mal_line.proofs.Options.{and_parts}
+use Rattle.mal_print.specs.declared.target.PrintedNext.{PrintedNext}
+use Rattle.mal_print.specs.declared.target.PrintedNext.TheVariants as nexts
+use Rattle.mal_print.specs.Pieces.{behind_space, number, Piece, sign, spaced, tokens_of, word}
+use Rattle.mal_print.specs.Canonical.{all_dests, chain, dest_pieces, dests_of, expression, has_dest, heads, is_absent, is_nothing, is_unshifted, is_zero, plus_one, shifted, side, tested, value}
+
+pub tokens_append : (ps qs : List Piece) → tokens_of (ps ++ qs) ≡ tokens_of ps ++ tokens_of qs
+tokens_append [] qs = refl
+tokens_append (p ∷ ps) qs = ap (λ ts. p.token ∷ ts) (tokens_append ps qs)
+
+pub tokens_spaced : (ps : List Piece) → tokens_of (behind_space ps) ≡ tokens_of ps
+tokens_spaced [] = refl
+tokens_spaced (p ∷ ps) = refl
+
+-- ---- destinations
+
+-- each mask below n is that of its destinations
+masks_below : ℕ → Bool
+masks_below zero = true
+masks_below (suc n) = (dest_bits 0 (dests_of n) == n) && masks_below n
+
+all_masks : masks_below 512 ≡ true
+unfolding masks_below
+all_masks = refl
+
+mask_below : (n d : ℕ) → masks_below n ≡ true → d < n → dest_bits 0 (dests_of d) ≡ d
+unfolding masks_below
+mask_below zero d h lt = absurd (omega arith)
+mask_below (suc n) d h lt =
+    let p = and_parts (dest_bits 0 (dests_of n) == n) (masks_below n) h in
+    go (nat_eq d n) refl p.0 (λ lt. mask_below n d p.1 lt)
+  where
+    go : (b : Bool) → nat_eq d n ≡ b → (dest_bits 0 (dests_of n) == n) ≡ true → (d < n → dest_bits 0 (dests_of d) ≡ d) → dest_bits 0 (dests_of d) ≡ d
+    go true e q rec =
+        let s : d ≡ n = grind (arith, nat_tests) in
+        let r : dest_bits 0 (dests_of n) ≡ n = grind (arith, nat_tests) in
+        ap (λ d. dest_bits 0 (dests_of d)) s ∙ (r ∙ sym s)
+    go false e q rec = rec (grind (arith, nat_tests))
+
+pub mask : (d : ℕ) → nat_lt d 512 ≡ true → dest_bits 0 (dests_of d) ≡ d
+mask d h = mask_below 512 d all_masks (grind (arith, nat_tests))
+
+pub filtered : {A : Type 0} (q p : A → Bool) (ws : List A) → list_all q ws ≡ true → list_all q (filter p ws) ≡ true
+filtered q p [] h = refl
+filtered q p (w ∷ ws) h = let t = and_parts (q w) (list_all q ws) h in go (p w) t.0 (filtered q p ws t.1)
+  where
+    go : (b : Bool) → q w ≡ true → list_all q (filter p ws) ≡ true → list_all q (cond b (w ∷ filter p ws) (filter p ws)) ≡ true
+    go true e h = ap (λ b. b && list_all q (filter p ws)) e ∙ h
+    go false e h = h
+
+tested_dest : (next : PrintedNext) → is_dest (tested next) ≡ true
+tested_dest nexts.Following = refl
+tested_dest (nexts.Goto to) = refl
+tested_dest (nexts.Dispatch high) = refl
+tested_dest (nexts.Branch tests.N high low) = refl
+tested_dest (nexts.Branch tests.Z high low) = refl
+
+tested_bit : (next : PrintedNext) → dest_bits 0 (tested next ∷ []) ≡ 0
+tested_bit nexts.Following = refl
+tested_bit (nexts.Goto to) = refl
+tested_bit (nexts.Dispatch high) = refl
+tested_bit (nexts.Branch tests.N high low) = refl
+tested_bit (nexts.Branch tests.Z high low) = refl
+
+heads_dests : (ws : List Word) (next : PrintedNext) → list_all is_dest ws ≡ true → list_all is_dest (heads ws next) ≡ true
+heads_dests [] next h = ap (λ b. b && true) (tested_dest next)
+heads_dests (w ∷ ws) next h = h
+
+heads_filled : (ws : List Word) (next : PrintedNext) → is_filled (heads ws next) ≡ true
+heads_filled [] next = refl
+heads_filled (w ∷ ws) next = refl
+
+heads_bits : (ws : List Word) (next : PrintedNext) → dest_bits 0 (heads ws next) ≡ dest_bits 0 ws
+heads_bits [] next = tested_bit next
+heads_bits (w ∷ ws) next = refl
+
+dests_tokens : (ws : List Word) (ps : List Piece) → tokens_of (dest_pieces ws ++ ps) ≡ dest_tokens ws ++ tokens_of ps
+dests_tokens [] ps = refl
+dests_tokens (w ∷ ws) ps = ap (λ ts. tokens.Word w ∷ tokens.Sign signs.Equals ∷ ts) (dests_tokens ws ps)
+
+-- ---- expressions
+
+side_tokens : (o : Option BusSource) → tokens_of (side o) ≡ table.side o
+side_tokens None = refl
+side_tokens (Some x) = refl
+
+spaced_side_tokens : (o : Option BusSource) → tokens_of (behind_space (side o)) ≡ table.side o
+spaced_side_tokens None = refl
+spaced_side_tokens (Some x) = refl
+
+between : (a : Option BusSource) (ps : List Piece) (ts : List Token) → tokens_of ps ≡ ts → tokens_of (side a ++ ps) ≡ table.side a ++ ts
+between None ps ts h = h
+between (Some x) ps ts h = ap (λ ts. tokens.Word (source_word x) ∷ ts) h
+
+expression_tokens : (op : AluOp) (a b : Option BusSource) → tokens_of (expression op (side a) (side b)) ≡ spelling op (table.side a) (table.side b)
+expression_tokens ops.A a b = side_tokens a
+expression_tokens ops.B a b = side_tokens b
+expression_tokens ops.NotA a b = ap (λ ts. tokens.Word words.Not ∷ ts) (spaced_side_tokens a)
+expression_tokens ops.NotB a b = ap (λ ts. tokens.Word words.Not ∷ ts) (spaced_side_tokens b)
+expression_tokens ops.Sum a b = between a (sign signs.Plus ∷ side b) (table.plus ∷ table.side b) (ap (λ ts. table.plus ∷ ts) (side_tokens b))
+expression_tokens ops.SumInc a b =
+    between a (sign signs.Plus ∷ (side b ++ plus_one)) (table.plus ∷ (table.side b ++ table.plus ∷ table.one_token ∷ [])) (ap (λ ts. table.plus ∷ ts) (between b plus_one (table.plus ∷ table.one_token ∷ []) refl))
+expression_tokens ops.IncA a b = between a plus_one (table.plus ∷ table.one_token ∷ []) refl
+expression_tokens ops.IncB a b = between b plus_one (table.plus ∷ table.one_token ∷ []) refl
+expression_tokens ops.Sub a b = between b (sign signs.Minus ∷ side a) (table.minus ∷ table.side a) (ap (λ ts. table.minus ∷ ts) (side_tokens a))
+expression_tokens ops.DecB a b = between b (sign signs.Minus ∷ number (pos 1) (codes "1") ∷ []) (table.minus ∷ table.one_token ∷ []) refl
+expression_tokens ops.NegA a b = ap (λ ts. table.minus ∷ ts) (side_tokens a)
+expression_tokens ops.And a b = between a (spaced (word words.And) ∷ behind_space (side b)) (tokens.Word words.And ∷ table.side b) (ap (λ ts. tokens.Word words.And ∷ ts) (spaced_side_tokens b))
+expression_tokens ops.Or a b = between a (spaced (word words.Or) ∷ behind_space (side b)) (tokens.Word words.Or ∷ table.side b) (ap (λ ts. tokens.Word words.Or ∷ ts) (spaced_side_tokens b))
+expression_tokens ops.Zero a b = refl
+expression_tokens ops.One a b = refl
+expression_tokens ops.MinusOne a b = refl
+
+shift_tokens : (s : Shift) → tokens_of (shifted s) ≡ tail_tokens (tail_with s)
+shift_tokens shifts.None = refl
+shift_tokens shifts.Left8 = refl
+shift_tokens shifts.Right1 = refl
+
+source_expr : (x : BusSource) → is_expr_word (source_word x) ≡ true
+source_expr bus.Mdr = refl
+source_expr bus.Pc = refl
+source_expr bus.Mbr = refl
+source_expr bus.Mbru = refl
+source_expr bus.Sp = refl
+source_expr bus.Lv = refl
+source_expr bus.Cpp = refl
+source_expr bus.Tos = refl
+source_expr bus.Opc = refl
+source_expr bus.Mbr1 = refl
+source_expr bus.Mbr1u = refl
+source_expr bus.Mbr2 = refl
+source_expr bus.Mbr2u = refl
+source_expr bus.H = refl
+
+side_expr : (o : Option BusSource) (ts : List Token) → list_all is_expr ts ≡ true → list_all is_expr (table.side o ++ ts) ≡ true
+side_expr None ts h = h
+side_expr (Some x) ts h = ap (λ b. b && list_all is_expr ts) (source_expr x) ∙ h
+
+one_side : (o : Option BusSource) → list_all is_expr (table.side o) ≡ true
+one_side None = refl
+one_side (Some x) = ap (λ b. b && true) (source_expr x)
+
+pub spelling_expr : (op : AluOp) (a b : Option BusSource) → list_all is_expr (spelling op (table.side a) (table.side b)) ≡ true
+spelling_expr ops.A a b = one_side a
+spelling_expr ops.B a b = one_side b
+spelling_expr ops.NotA a b = one_side a
+spelling_expr ops.NotB a b = one_side b
+spelling_expr ops.Sum a b = side_expr a (table.plus ∷ table.side b) (one_side b)
+spelling_expr ops.SumInc a b = side_expr a (table.plus ∷ (table.side b ++ table.plus ∷ table.one_token ∷ [])) (side_expr b (table.plus ∷ table.one_token ∷ []) refl)
+spelling_expr ops.IncA a b = side_expr a (table.plus ∷ table.one_token ∷ []) refl
+spelling_expr ops.IncB a b = side_expr b (table.plus ∷ table.one_token ∷ []) refl
+spelling_expr ops.Sub a b = side_expr b (table.minus ∷ table.side a) (one_side a)
+spelling_expr ops.DecB a b = side_expr b (table.minus ∷ table.one_token ∷ []) refl
+spelling_expr ops.NegA a b = one_side a
+spelling_expr ops.And a b = side_expr a (tokens.Word words.And ∷ table.side b) (one_side b)
+spelling_expr ops.Or a b = side_expr a (tokens.Word words.Or ∷ table.side b) (one_side b)
+spelling_expr ops.Zero a b = refl
+spelling_expr ops.One a b = refl
+spelling_expr ops.MinusOne a b = refl
+
+-- ---- what stands in a word
+
+pub record Fits (m : Machine) (part : Part) : Type 0 where
+  pub dests : nat_lt part.dests 512 ≡ true
+  pub op : has_operation m part.op ≡ true
+  pub a : fits_side (row part.op).uses_a (may_be_a m) part.a ≡ true
+  pub b : fits_side (row part.op).uses_b (may_be_b m) part.b ≡ true
+  pub mixed : not (is_mixed part.a part.b) ≡ true
+  pub fetch : may_fetch m part.fetch ≡ true
+
+pub part_fits : (m : Machine) (part : Part) → is_part m part ≡ true → Fits m part
+part_fits m part h =
+    let f = and_parts (nat_lt part.dests 512 && has_operation m part.op && fits_side (row part.op).uses_a (may_be_a m) part.a && fits_side (row part.op).uses_b (may_be_b m) part.b && not (is_mixed part.a part.b)) (may_fetch m part.fetch) h in
+    let e = and_parts (nat_lt part.dests 512 && has_operation m part.op && fits_side (row part.op).uses_a (may_be_a m) part.a && fits_side (row part.op).uses_b (may_be_b m) part.b) (not (is_mixed part.a part.b)) f.0 in
+    let d = and_parts (nat_lt part.dests 512 && has_operation m part.op && fits_side (row part.op).uses_a (may_be_a m) part.a) (fits_side (row part.op).uses_b (may_be_b m) part.b) e.0 in
+    let c = and_parts (nat_lt part.dests 512 && has_operation m part.op) (fits_side (row part.op).uses_a (may_be_a m) part.a) d.0 in
+    let b = and_parts (nat_lt part.dests 512) (has_operation m part.op) c.0 in
+    record { dests = b.0; op = b.1; a = c.1; b = d.1; mixed = e.1; fetch = f.1 }
+
+-- nothing stands where the operation uses none
+pub unused : (may : BusSource → Bool) (o : Option BusSource) → fits_side false may o ≡ true → o ≡ None
+unused may None h = refl
+unused may (Some x) h = absurd (cc)
+
+-- what the part computes
+abbrev pub operation_of : Part → Operation
+operation_of part = record { op = part.op; a = part.a; b = part.b; shift = part.shift }
+
+operation_fits : (m : Machine) (part : Part) → Fits m part → fits m (operation_of part) ≡ true
+operation_fits m part h = go m (has_operation m part.op) (fits_side (row part.op).uses_a (may_be_a m) part.a) (fits_side (row part.op).uses_b (may_be_b m) part.b) (not (is_mixed part.a part.b)) h.op h.a h.b h.mixed
+  where
+    go : (n : Machine) (o a b x : Bool) → o ≡ true → a ≡ true → b ≡ true → x ≡ true → (true && o && a && b && x && may_fetch n false) ≡ true
+    go Mic1 o a b x e f g h = rw (e, f, g, h) refl
+    go Mic2 o a b x e f g h = rw (e, f, g, h) refl
+
+filled_side : (may : BusSource → Bool) (o : Option BusSource) → fits_side true may o ≡ true → (length (table.side o) == 0) ≡ false
+filled_side may None h = absurd (cc)
+filled_side may (Some x) h = refl
+
+filled_more : (t : Token) (ts : List Token) → (length (t ∷ ts) == 0) ≡ false
+filled_more t ts = grind (arith, nat_tests)
+
+filled_behind : (o : Option BusSource) (t : Token) (ts : List Token) → (length (table.side o ++ t ∷ ts) == 0) ≡ false
+filled_behind None t ts = filled_more t ts
+filled_behind (Some x) t ts = filled_more (tokens.Word (source_word x)) (t ∷ ts)
+
+filled_spelling : (m : Machine) (op : AluOp) (a b : Option BusSource) → fits_side (row op).uses_a (may_be_a m) a ≡ true → fits_side (row op).uses_b (may_be_b m) b ≡ true → (length (spelling op (table.side a) (table.side b)) == 0) ≡ false
+filled_spelling m ops.A a b f g = filled_side (may_be_a m) a f
+filled_spelling m ops.B a b f g = filled_side (may_be_b m) b g
+filled_spelling m ops.NotA a b f g = filled_more (tokens.Word words.Not) (table.side a)
+filled_spelling m ops.NotB a b f g = filled_more (tokens.Word words.Not) (table.side b)
+filled_spelling m ops.Sum a b f g = filled_behind a table.plus (table.side b)
+filled_spelling m ops.SumInc a b f g = filled_behind a table.plus (table.side b ++ table.plus ∷ table.one_token ∷ [])
+filled_spelling m ops.IncA a b f g = filled_behind a table.plus (table.one_token ∷ [])
+filled_spelling m ops.IncB a b f g = filled_behind b table.plus (table.one_token ∷ [])
+filled_spelling m ops.Sub a b f g = filled_behind b table.minus (table.side a)
+filled_spelling m ops.DecB a b f g = filled_behind b table.minus (table.one_token ∷ [])
+filled_spelling m ops.NegA a b f g = filled_more table.minus (table.side a)
+filled_spelling m ops.And a b f g = filled_behind a (tokens.Word words.And) (table.side b)
+filled_spelling m ops.Or a b f g = filled_behind a (tokens.Word words.Or) (table.side b)
+filled_spelling m ops.Zero a b f g = refl
+filled_spelling m ops.One a b f g = refl
+filled_spelling m ops.MinusOne a b f g = refl
+
+value_tokens : (part : Part) → tokens_of (value part) ≡ spelling part.op (table.side part.a) (table.side part.b) ++ tail_tokens (tail_with part.shift)
+value_tokens part =
+    tokens_append (expression part.op (side part.a) (side part.b)) (shifted part.shift)
+    ∙ (ap (λ ts. ts ++ tokens_of (shifted part.shift)) (expression_tokens part.op part.a part.b)
+    ∙ ap (λ ts. spelling part.op (table.side part.a) (table.side part.b) ++ ts) (shift_tokens part.shift))
+
+abbrev pub assignment_of : Part → Assignment
+assignment_of part = record { dests = part.dests; operation = Some (operation_of part) }
+
+pub chain_tokens : (part : Part) (next : PrintedNext) → tokens_of (chain part next) ≡ dest_tokens (heads (dests_of part.dests) next) ++ (spelling part.op (table.side part.a) (table.side part.b) ++ tail_tokens (tail_with part.shift))
+chain_tokens part next = dests_tokens (heads (dests_of part.dests) next) (value part) ∙ ap (λ ts. dest_tokens (heads (dests_of part.dests) next) ++ ts) (value_tokens part)
+
+pub chain_is : (m : Machine) (part : Part) (next : PrintedNext) → Fits m part → IsAssignment m (tokens_of (chain part next)) (assignment_of part)
+chain_is m part next h = record {
+  dests = heads (dests_of part.dests) next;
+  body = spelling part.op (table.side part.a) (table.side part.b);
+  tail = tail_with part.shift;
+  are = heads_dests (dests_of part.dests) next (filtered is_dest (has_dest part.dests) all_dests refl);
+  some = heads_filled (dests_of part.dests) next;
+  expr = spelling_expr part.op part.a part.b;
+  filled = filled_spelling m part.op part.a part.b h.a h.b;
+  spelled = chain_tokens part next;
+  bits = sym (heads_bits (dests_of part.dests) next ∙ mask part.dests h.dests);
+  coded = record { fitting = operation_fits m part h; spelled = inl refl; shifted = refl };
+}
+
+-- ---- nothing at all
+
+is_none : (ws : List Word) → is_nothing ws ≡ true → ws ≡ []
+is_none [] h = refl
+is_none (w ∷ ws) h = absurd (cc)
+
+zero_op : (op : AluOp) → is_zero op ≡ true → op ≡ ops.Zero
+zero_op ops.Zero h = refl
+zero_op _ h = absurd (cc)
+
+no_shift : (s : Shift) → is_unshifted s ≡ true → s ≡ shifts.None
+no_shift shifts.None h = refl
+no_shift _ h = absurd (cc)
+
+-- a part without assignment
+abbrev pub bare : Part → Part
+bare part = record { dests = 0; op = ops.Zero; a = None; b = None; shift = shifts.None; mem = part.mem; fetch = part.fetch }
+
+same_part : (d d2 : ℕ) (o o2 : AluOp) (a a2 b b2 : Option BusSource) (s s2 : Shift) (mem : Mem) (fetch : Bool) → d ≡ d2 → o ≡ o2 → a ≡ a2 → b ≡ b2 → s ≡ s2
+    → ◌≡◌ {A = Part} (record { dests = d; op = o; a = a; b = b; shift = s; mem = mem; fetch = fetch }) (record { dests = d2; op = o2; a = a2; b = b2; shift = s2; mem = mem; fetch = fetch })
+same_part d d2 o o2 a a2 b b2 s s2 mem fetch e f g h i = rw (e, f, g, h, i) refl
+
+pub absent_bare : (m : Machine) (part : Part) → Fits m part → is_absent part ≡ true → bare part ≡ part
+absent_bare m part h e =
+    let p = and_parts (is_nothing (dests_of part.dests)) (is_zero part.op && is_unshifted part.shift) e in
+    let q = and_parts (is_zero part.op) (is_unshifted part.shift) p.1 in
+    let o = zero_op part.op q.0 in
+    same_part 0 part.dests ops.Zero part.op None part.a None part.b shifts.None part.shift part.mem part.fetch
+    (ap (dest_bits 0) (sym (is_none (dests_of part.dests) p.0)) ∙ mask part.dests h.dests)
+    (sym o)
+    (sym (unused (may_be_a m) part.a (subst (λ o. fits_side (row o).uses_a (may_be_a m) part.a ≡ true) o h.a)))
+    (sym (unused (may_be_b m) part.b (subst (λ o. fits_side (row o).uses_b (may_be_b m) part.b ≡ true) o h.b)))
+    (sym (no_shift part.shift q.1))

@@ -1,0 +1,9 @@
+pub mod Prints
+pub mod Bare
+pub mod Spelling
+pub mod Apart
+pub mod Plain
+pub mod Chained
+pub mod Parted
+pub mod Owned
+pub mod Stated

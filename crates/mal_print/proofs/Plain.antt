@@ -1,0 +1,84 @@
+-- What is printed has no newline, no carriage return and no slash.
+use Rattle.std.proofs.Common.{◌≡◌, ℕ, Bool, true, false, List, [], ◌∷◌, ◌++◌, refl, ap, ◌∙◌, arith, cond}
+use Rattle.std.specs.Prelude.{◌&&◌}
+use Rattle.std.specs.List.{list_all}
+use Rattle.std.proofs.lemmas.Bool.Decides.{nat_tests}
+use Rattle.mic_base.specs.Name.{is_name_byte}
+use Rattle.mic_base.proofs.NameLemmas.{name_parts}
+use Rattle.mal_tokens.specs.declared.word.Word.{Word}
+use Rattle.mal_tokens.specs.declared.word.Word.TheVariants as words
+use Rattle.mal_tokens.specs.declared.sign.Sign.{Sign}
+use Rattle.mal_tokens.specs.declared.sign.Sign.TheVariants as signs
+use Rattle.mal_tokens.specs.declared.token.Token.{Token}
+use Rattle.mal_tokens.specs.declared.token.Token.TheVariants as tokens
+use Rattle.mal_tokens.specs.Words.{sign_text, word_text}
+use Rattle.mal_tokens.specs.Tokens.{IsLexeme}
+use Rattle.mal_line.proofs.Options.{and_parts}
+use Rattle.mal_print.specs.Pieces.{Piece, printed}
+use Rattle.mal_print.specs.Canonical.{is_plain}
+use Rattle.mal_print.proofs.Apart.{all_append}
+use Rattle.mal_print.proofs.Spelling.{AreLexemes}
+
+plain_byte : (b : ℕ) → is_name_byte b ≡ true → is_plain b ≡ true
+plain_byte b h = grind (arith, nat_tests)
+
+plain_bytes : (text : List ℕ) → list_all is_name_byte text ≡ true → list_all is_plain text ≡ true
+plain_bytes [] h = refl
+plain_bytes (b ∷ text) h = let p = and_parts (is_name_byte b) (list_all is_name_byte text) h in ap (λ t. t && list_all is_plain text) (plain_byte b p.0) ∙ plain_bytes text p.1
+
+plain_word : (w : Word) → list_all is_plain (word_text w) ≡ true
+plain_word words.Mar = refl
+plain_word words.Mdr = refl
+plain_word words.Pc = refl
+plain_word words.Sp = refl
+plain_word words.Lv = refl
+plain_word words.Cpp = refl
+plain_word words.Tos = refl
+plain_word words.Opc = refl
+plain_word words.H = refl
+plain_word words.Mbr = refl
+plain_word words.Mbru = refl
+plain_word words.Mbr1 = refl
+plain_word words.Mbr1u = refl
+plain_word words.Mbr2 = refl
+plain_word words.Mbr2u = refl
+plain_word words.N = refl
+plain_word words.Z = refl
+plain_word words.And = refl
+plain_word words.Or = refl
+plain_word words.Not = refl
+plain_word words.Rd = refl
+plain_word words.Wr = refl
+plain_word words.Fetch = refl
+plain_word words.Goto = refl
+plain_word words.If = refl
+plain_word words.Else = refl
+
+plain_sign : (s : Sign) → list_all is_plain (sign_text s) ≡ true
+plain_sign signs.Equals = refl
+plain_sign signs.Plus = refl
+plain_sign signs.Minus = refl
+plain_sign signs.Semicolon = refl
+plain_sign signs.Colon = refl
+plain_sign signs.Open = refl
+plain_sign signs.Close = refl
+plain_sign signs.Left = refl
+plain_sign signs.Right = refl
+plain_sign signs.Label = refl
+plain_sign signs.Default = refl
+
+plain_lexeme : (t : Token) (text : List ℕ) → IsLexeme t text → list_all is_plain text ≡ true
+plain_lexeme (tokens.Word w) text l = ap (list_all is_plain) l ∙ plain_word w
+plain_lexeme (tokens.Sign s) text l = ap (list_all is_plain) l ∙ plain_sign s
+plain_lexeme (tokens.Name n) text l = ap (list_all is_plain) l.0 ∙ plain_bytes n (name_parts n l.1).bytes
+plain_lexeme (tokens.Number v) text l = plain_bytes text l.1
+
+pub plain_printed : (ps : List Piece) → AreLexemes ps → list_all is_plain (printed ps) ≡ true
+plain_printed [] l = refl
+plain_printed (p ∷ ps) l =
+    all_append is_plain (cond p.spaced (32 ∷ []) []) (p.text ++ printed ps) (gap p.spaced)
+    (all_append is_plain p.text (printed ps) (plain_lexeme p.token p.text l.0) (plain_printed ps l.1))
+  where
+    gap : (b : Bool) → list_all is_plain (cond b (32 ∷ []) []) ≡ true
+    gap true = refl
+    gap false = refl

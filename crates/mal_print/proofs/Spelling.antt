@@ -1,0 +1,144 @@
+-- Pieces spell their tokens where each text is its token's and no two words meet.
+use Rattle.std.proofs.Common.{◌≡◌, ℕ, Bool, true, false, List, [], ◌∷◌, ◌++◌, refl, sym, ap, ◌∙◌, cond}
+use Rattle.std.specs.Prelude.{not, ◌&&◌, ◌||◌}
+use Rattle.mic_base.specs.Name.{is_name_byte}
+use Rattle.source_text.specs.Runs.{begins_with, ends_with}
+use Rattle.source_text.specs.Tokens.{AreBlank}
+use Rattle.mal_tokens.specs.declared.token.Token.{Token}
+use Rattle.mal_tokens.specs.declared.token.Token.TheVariants as tokens
+use Rattle.mal_tokens.specs.declared.sign.Sign.{Sign}
+use Rattle.mal_tokens.specs.declared.sign.Sign.TheVariants as signs
+use Rattle.mal_tokens.specs.Words.{sign_text}
+use Rattle.mal_tokens.specs.Tokens.{IsLexeme, Spells}
+use Rattle.mal_print.specs.Pieces.{behind_space, Piece, printed, tokens_of}
+
+-- a token that ends, or may begin, with a letter or a digit
+abbrev pub is_wordy : Token → Bool
+is_wordy (tokens.Word w) = true
+is_wordy (tokens.Name n) = true
+is_wordy (tokens.Number v) = true
+is_wordy (tokens.Sign signs.Label) = true
+is_wordy (tokens.Sign signs.Default) = true
+is_wordy (tokens.Sign _) = false
+
+-- no two words meet, in what stands behind a word or not
+abbrev pub apart : Bool → List Piece → Bool
+apart after [] = true
+apart after (p ∷ ps) = (not (is_wordy p.token) || (p.spaced || not after)) && apart (is_wordy p.token) ps
+
+abbrev pub AreLexemes : List Piece → Type 0
+AreLexemes [] = Unit {0}
+AreLexemes (p ∷ ps) = IsLexeme p.token p.text × AreLexemes ps
+
+both_true : (a b : Bool) → (a && b) ≡ true → (a ≡ true) × (b ≡ true)
+both_true true b h = (refl, h)
+both_true false b h = absurd (cc)
+
+pub true_both : (a b : Bool) → a ≡ true → b ≡ true → (a && b) ≡ true
+true_both true b g h = h
+true_both false b g h = absurd (cc)
+
+-- ---- texts of signs
+
+sign_begins : (s : Sign) (rest : List ℕ) → is_wordy (tokens.Sign s) ≡ false → begins_with is_name_byte (sign_text s ++ rest) ≡ false
+sign_begins signs.Equals rest h = refl
+sign_begins signs.Plus rest h = refl
+sign_begins signs.Minus rest h = refl
+sign_begins signs.Semicolon rest h = refl
+sign_begins signs.Colon rest h = refl
+sign_begins signs.Open rest h = refl
+sign_begins signs.Close rest h = refl
+sign_begins signs.Left rest h = refl
+sign_begins signs.Right rest h = refl
+sign_begins signs.Label rest h = refl
+sign_begins signs.Default rest h = refl
+
+sign_ends : (s : Sign) → is_wordy (tokens.Sign s) ≡ false → ends_with is_name_byte (sign_text s) ≡ false
+sign_ends signs.Equals h = refl
+sign_ends signs.Plus h = refl
+sign_ends signs.Minus h = refl
+sign_ends signs.Semicolon h = refl
+sign_ends signs.Colon h = refl
+sign_ends signs.Open h = refl
+sign_ends signs.Close h = refl
+sign_ends signs.Left h = refl
+sign_ends signs.Right h = refl
+sign_ends signs.Label h = absurd (cc)
+sign_ends signs.Default h = absurd (cc)
+
+bare_begins : (t : Token) (text rest : List ℕ) → is_wordy t ≡ false → IsLexeme t text → begins_with is_name_byte (text ++ rest) ≡ false
+bare_begins (tokens.Word w) text rest h is = absurd (cc)
+bare_begins (tokens.Name n) text rest h is = absurd (cc)
+bare_begins (tokens.Number v) text rest h is = absurd (cc)
+bare_begins (tokens.Sign s) text rest h is = ap (λ x. begins_with is_name_byte (x ++ rest)) is ∙ sign_begins s rest h
+
+bare_ends : (t : Token) (text : List ℕ) → is_wordy t ≡ false → IsLexeme t text → ends_with is_name_byte text ≡ false
+bare_ends (tokens.Word w) text h is = absurd (cc)
+bare_ends (tokens.Name n) text h is = absurd (cc)
+bare_ends (tokens.Number v) text h is = absurd (cc)
+bare_ends (tokens.Sign s) text h is = ap (ends_with is_name_byte) is ∙ sign_ends s h
+
+-- ---- what is printed spells its tokens
+
+-- what stands behind a word begins with no letter or digit
+begins_fine : (ps : List Piece) → apart true ps ≡ true → AreLexemes ps → begins_with is_name_byte (printed ps) ≡ false
+begins_fine [] h l = refl
+begins_fine (p ∷ ps) h l = go p.spaced (is_wordy p.token) refl (both_true (not (is_wordy p.token) || (p.spaced || false)) (apart (is_wordy p.token) ps) h).0
+  where
+    go : (s w : Bool) → is_wordy p.token ≡ w → (not w || (s || false)) ≡ true → begins_with is_name_byte (cond s (32 ∷ []) [] ++ (p.text ++ printed ps)) ≡ false
+    go true w e h = refl
+    go false true e h = absurd (cc)
+    go false false e h = bare_begins p.token p.text (printed ps) e l.0
+
+pub prints : (after : Bool) (ps : List Piece) → apart after ps ≡ true → AreLexemes ps → Spells (printed ps) (tokens_of ps)
+prints after [] h l = refl
+prints after (p ∷ ps) h l = (cond p.spaced (32 ∷ []) [], p.text, printed ps, refl, blank p.spaced, l.0, ends (is_wordy p.token) refl behind, prints (is_wordy p.token) ps behind l.1)
+  where
+    behind : apart (is_wordy p.token) ps ≡ true
+    behind = (both_true (not (is_wordy p.token) || (p.spaced || not after)) (apart (is_wordy p.token) ps) h).1
+
+    blank : (s : Bool) → AreBlank (cond s (32 ∷ []) [])
+    blank true = refl
+    blank false = refl
+
+    ends : (w : Bool) → is_wordy p.token ≡ w → apart (is_wordy p.token) ps ≡ true → ends_with is_name_byte p.text ≡ true → begins_with is_name_byte (printed ps) ≡ false
+    ends true e h g = begins_fine ps (ap (λ w. apart w ps) (sym e) ∙ h) l.1
+    ends false e h g = absurd (let k = bare_ends p.token p.text e l.0 in cc)
+
+-- ---- what stands behind others
+
+pub apart_weak : (ps : List Piece) → apart true ps ≡ true → apart false ps ≡ true
+apart_weak [] h = refl
+apart_weak (p ∷ ps) h = go (is_wordy p.token) p.spaced (apart (is_wordy p.token) ps) h
+  where
+    go : (w s a : Bool) → ((not w || (s || false)) && a) ≡ true → ((not w || (s || true)) && a) ≡ true
+    go true true a h = h
+    go true false a h = absurd (cc)
+    go false s a h = h
+
+pub apart_any : (b : Bool) (ps : List Piece) → apart true ps ≡ true → apart b ps ≡ true
+apart_any true ps h = h
+apart_any false ps h = apart_weak ps h
+
+pub apart_append : (b : Bool) (ps qs : List Piece) → apart b ps ≡ true → apart true qs ≡ true → apart b (ps ++ qs) ≡ true
+apart_append b [] qs h g = apart_any b qs g
+apart_append b (p ∷ ps) qs h g =
+    let t = both_true (not (is_wordy p.token) || (p.spaced || not b)) (apart (is_wordy p.token) ps) h in
+    true_both (not (is_wordy p.token) || (p.spaced || not b)) (apart (is_wordy p.token) (ps ++ qs)) t.0 (apart_append (is_wordy p.token) ps qs t.1 g)
+
+pub apart_spaced : (ps : List Piece) → apart false ps ≡ true → apart true (behind_space ps) ≡ true
+apart_spaced [] h = refl
+apart_spaced (p ∷ ps) h = go (is_wordy p.token) p.spaced (apart (is_wordy p.token) ps) h
+  where
+    go : (w s a : Bool) → ((not w || (s || true)) && a) ≡ true → ((not w || (true || false)) && a) ≡ true
+    go true true a h = h
+    go true false a h = h
+    go false s a h = h
+
+pub lexemes_append : (ps qs : List Piece) → AreLexemes ps → AreLexemes qs → AreLexemes (ps ++ qs)
+lexemes_append [] qs h g = g
+lexemes_append (p ∷ ps) qs h g = (h.0, lexemes_append ps qs h.1 g)
+
+pub lexemes_spaced : (ps : List Piece) → AreLexemes ps → AreLexemes (behind_space ps)
+lexemes_spaced [] h = h
+lexemes_spaced (p ∷ ps) h = h

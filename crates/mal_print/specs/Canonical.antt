@@ -1,0 +1,255 @@
+-- The canonical text of a statement's parts.
+use Rattle.std.specs.Prelude.{◌≡◌, ◌<◌, ℕ, pos, ◌==◌, ◌&&◌, ◌||◌, Bool, true, false, not, List, [], ◌∷◌, ◌++◌, Option, Some, None, if◌then◌else◌, bit_and, codes}
+use Rattle.std.specs.List.{filter}
+use Rattle.micro_word.specs.declared.statement.Machine.{Machine}
+use Rattle.micro_word.specs.declared.statement.Machine.TheVariants.{Mic1, Mic2}
+use Rattle.micro_word.specs.declared.statement.AluOp.{AluOp}
+use Rattle.micro_word.specs.declared.statement.AluOp.TheVariants as ops
+use Rattle.micro_word.specs.declared.statement.BusSource.{BusSource}
+use Rattle.micro_word.specs.declared.statement.Shift.{Shift}
+use Rattle.micro_word.specs.declared.statement.Shift.TheVariants as shifts
+use Rattle.micro_word.specs.declared.statement.Mem.{Mem}
+use Rattle.micro_word.specs.declared.statement.Mem.TheVariants as mems
+use Rattle.micro_word.specs.declared.statement.Test.{Test}
+use Rattle.micro_word.specs.declared.statement.Test.TheVariants as tests
+use Rattle.micro_word.specs.declared.statement.Part.{Part}
+use Rattle.mic_base.specs.Digits.{hex_text}
+use Rattle.mic_base.specs.Name.{is_name}
+use Rattle.mal_tokens.specs.Words.{is_reserved}
+use Rattle.mal_tokens.specs.declared.word.Word.{Word}
+use Rattle.mal_tokens.specs.declared.word.Word.TheVariants as words
+use Rattle.mal_tokens.specs.declared.sign.Sign.TheVariants as signs
+use Rattle.mal_line.specs.declared.content.NamedNext.{NamedNext}
+use Rattle.mal_line.specs.declared.content.NamedNext.TheVariants as named
+use Rattle.mal_line.specs.Expressions.{source_word}
+use Rattle.mal_line.specs.Chains.{bit}
+use Rattle.mal_line.specs.Statements.{test_word}
+use Rattle.mal_print.specs.declared.target.Target.{Target}
+use Rattle.mal_print.specs.declared.target.Target.TheVariants as targets
+use Rattle.mal_print.specs.declared.target.PrintedNext.{PrintedNext}
+use Rattle.mal_print.specs.declared.target.PrintedNext.TheVariants as nexts
+use Rattle.mal_print.specs.Pieces.{behind_space, name, number, Piece, sign, spaced, word}
+
+-- ---- the assignment
+
+-- destinations in this order
+abbrev pub all_dests : List Word
+all_dests = words.H ∷ words.Opc ∷ words.Tos ∷ words.Cpp ∷ words.Lv ∷ words.Sp ∷ words.Pc ∷ words.Mdr ∷ words.Mar ∷ []
+
+abbrev pub has_dest : ℕ → Word → Bool
+has_dest dests w = not (bit_and dests (bit w) == 0)
+
+abbrev pub dests_among : ℕ → List Word → List Word
+dests_among dests ws = filter (has_dest dests) ws
+
+abbrev pub dests_of : ℕ → List Word
+dests_of dests = dests_among dests all_dests
+
+abbrev pub dest_pieces : List Word → List Piece
+dest_pieces [] = []
+dest_pieces (w ∷ ws) = word w ∷ sign signs.Equals ∷ dest_pieces ws
+
+abbrev pub side : Option BusSource → List Piece
+side None = []
+side (Some x) = word (source_word x) ∷ []
+
+abbrev pub plus_one : List Piece
+plus_one = sign signs.Plus ∷ number (pos 1) (codes "1") ∷ []
+
+-- AND, OR and NOT have a space on each side where an operand stands
+abbrev pub expression : AluOp → List Piece → List Piece → List Piece
+expression ops.A a b = a
+expression ops.B a b = b
+expression ops.NotA a b = word words.Not ∷ behind_space a
+expression ops.NotB a b = word words.Not ∷ behind_space b
+expression ops.Sum a b = a ++ sign signs.Plus ∷ b
+expression ops.SumInc a b = a ++ sign signs.Plus ∷ (b ++ plus_one)
+expression ops.IncA a b = a ++ plus_one
+expression ops.IncB a b = b ++ plus_one
+expression ops.Sub a b = b ++ sign signs.Minus ∷ a
+expression ops.DecB a b = b ++ sign signs.Minus ∷ number (pos 1) (codes "1") ∷ []
+expression ops.NegA a b = sign signs.Minus ∷ a
+expression ops.And a b = a ++ spaced (word words.And) ∷ behind_space b
+expression ops.Or a b = a ++ spaced (word words.Or) ∷ behind_space b
+expression ops.Zero a b = number (pos 0) (codes "0") ∷ []
+expression ops.One a b = number (pos 1) (codes "1") ∷ []
+expression ops.MinusOne a b = sign signs.Minus ∷ number (pos 1) (codes "1") ∷ []
+
+abbrev pub shifted : Shift → List Piece
+shifted shifts.None = []
+shifted shifts.Left8 = sign signs.Left ∷ number (pos 8) (codes "8") ∷ []
+shifted shifts.Right1 = sign signs.Right ∷ number (pos 1) (codes "1") ∷ []
+
+abbrev pub is_zero : AluOp → Bool
+is_zero ops.Zero = true
+is_zero _ = false
+
+abbrev pub is_unshifted : Shift → Bool
+is_unshifted shifts.None = true
+is_unshifted _ = false
+
+-- nothing is computed
+abbrev pub is_idle : Part → Bool
+is_idle part = is_zero part.op && is_unshifted part.shift
+
+-- what a value is assigned to that no register takes: N where the statement tests N, and Z otherwise
+abbrev pub tested : PrintedNext → Word
+tested (nexts.Branch tests.N high low) = words.N
+tested _ = words.Z
+
+abbrev pub heads : List Word → PrintedNext → List Word
+heads [] next = tested next ∷ []
+heads (w ∷ ws) next = w ∷ ws
+
+abbrev pub value : Part → List Piece
+value part = expression part.op (side part.a) (side part.b) ++ shifted part.shift
+
+abbrev pub chain : Part → PrintedNext → List Piece
+chain part next = dest_pieces (heads (dests_of part.dests) next) ++ value part
+
+abbrev pub is_nothing : List Word → Bool
+is_nothing [] = true
+is_nothing (w ∷ ws) = false
+
+-- nothing is computed, and nothing assigned
+abbrev pub is_absent : Part → Bool
+is_absent part = is_nothing (dests_of part.dests) && is_idle part
+
+abbrev pub chain_part : Part → PrintedNext → List (List Piece)
+chain_part part next = if is_absent part then [] else chain part next ∷ []
+
+-- ---- the other parts
+
+abbrev pub memory_part : Mem → List (List Piece)
+memory_part mems.None = []
+memory_part mems.Read = (word words.Rd ∷ []) ∷ []
+memory_part mems.Write = (word words.Wr ∷ []) ∷ []
+
+abbrev pub fetch_part : Bool → List (List Piece)
+fetch_part false = []
+fetch_part true = (word words.Fetch ∷ []) ∷ []
+
+-- three digits
+abbrev pub address_text : ℕ → List ℕ
+address_text address = codes "0x" ++ hex_text 3 address
+
+-- a label, or an address
+abbrev pub target_text : Target → List ℕ
+target_text (targets.Label label) = label
+target_text (targets.Address address) = address_text address
+
+abbrev pub target : Target → Piece
+target to = spaced (name (target_text to))
+
+abbrev pub byte_word : Machine → Word
+byte_word Mic1 = words.Mbr
+byte_word Mic2 = words.Mbr1
+
+abbrev pub goto_part : Target → List Piece
+goto_part to = word words.Goto ∷ target to ∷ []
+
+abbrev pub dispatch_part : Machine → Bool → List Piece
+dispatch_part machine false = word words.Goto ∷ spaced (sign signs.Open) ∷ word (byte_word machine) ∷ sign signs.Close ∷ []
+dispatch_part machine true = word words.Goto ∷ spaced (sign signs.Open) ∷ word (byte_word machine) ∷ spaced (word words.Or) ∷ spaced (number (pos 256) (codes "0x100")) ∷ sign signs.Close ∷ []
+
+abbrev pub if_part : Test → Target → List Piece
+if_part test to = word words.If ∷ spaced (sign signs.Open) ∷ word (test_word test) ∷ sign signs.Close ∷ spaced (word words.Goto) ∷ target to ∷ []
+
+abbrev pub else_part : Target → List Piece
+else_part to = word words.Else ∷ spaced (word words.Goto) ∷ target to ∷ []
+
+abbrev pub next_parts : Machine → PrintedNext → List (List Piece)
+next_parts machine nexts.Following = []
+next_parts machine (nexts.Goto to) = goto_part to ∷ []
+next_parts machine (nexts.Dispatch high) = dispatch_part machine high ∷ []
+next_parts machine (nexts.Branch test high low) = if_part test high ∷ else_part low ∷ []
+
+-- ---- all parts
+
+-- what stands behind other parts is behind a semicolon
+abbrev pub divided : Bool → List Piece → List Piece
+divided false ps = ps
+divided true ps = sign signs.Semicolon ∷ behind_space ps
+
+abbrev pub joined_behind : Bool → List (List Piece) → List Piece
+joined_behind others [] = []
+joined_behind others (p ∷ ps) = divided others p ++ joined_behind true ps
+
+abbrev pub parts : Machine → Part → PrintedNext → List (List Piece)
+parts machine part next = chain_part part next ++ (memory_part part.mem ++ (fetch_part part.fetch ++ next_parts machine next))
+
+-- the assignment, rd or wr, fetch, and where it goes next
+abbrev pub pieces : Machine → Part → PrintedNext → List Piece
+pieces machine part next = joined_behind false (parts machine part next)
+
+-- ---- lines
+
+-- by its labels
+abbrev pub labelled : NamedNext → PrintedNext
+labelled named.Following = nexts.Following
+labelled (named.Goto label) = nexts.Goto (targets.Label label)
+labelled (named.Dispatch high) = nexts.Dispatch high
+labelled (named.Branch test high low) = nexts.Branch test (targets.Label high) (targets.Label low)
+
+-- `;` where there is nothing
+abbrev pub lone : List Piece → List Piece
+lone [] = sign signs.Semicolon ∷ []
+lone (p ∷ ps) = p ∷ ps
+
+-- a statement: its label and its parts
+abbrev pub statement : Machine → Option (List ℕ) → Part → PrintedNext → List Piece
+statement machine None part next = lone (pieces machine part next)
+statement machine (Some label) part next = name label ∷ behind_space (pieces machine part next)
+
+-- what unused words hold
+abbrev pub fallback : Machine → Part → PrintedNext → List Piece
+fallback machine part next = sign signs.Default ∷ behind_space (pieces machine part next)
+
+-- a label and its address
+abbrev pub fix : List ℕ → ℕ → List Piece
+fix label address = sign signs.Label ∷ spaced (name label) ∷ spaced (number (pos address) (address_text address)) ∷ []
+
+-- ---- labels that may stand in a text, and texts that are one line
+
+-- no newline, no carriage return and no slash
+abbrev pub is_plain : ℕ → Bool
+is_plain b = not (b == 10) && (not (b == 13) && not (b == 47))
+
+abbrev pub IsLabelText : List ℕ → Type 0
+IsLabelText label = (is_name label ≡ true) × (is_reserved label ≡ false)
+
+abbrev pub HasLabels : NamedNext → Type 0
+HasLabels named.Following = Unit {0}
+HasLabels (named.Goto label) = IsLabelText label
+HasLabels (named.Dispatch high) = Unit {0}
+HasLabels (named.Branch test high low) = IsLabelText high × IsLabelText low
+
+abbrev pub is_access : Mem → Bool
+is_access mems.None = false
+is_access _ = true
+
+-- it says where it goes
+abbrev pub is_led : PrintedNext → Bool
+is_led nexts.Following = false
+is_led _ = true
+
+-- some part is there
+abbrev pub has_parts : Part → PrintedNext → Bool
+has_parts part next = not (is_absent part) || (is_access part.mem || (part.fetch || is_led next))
+
+-- with the parts that were there before
+abbrev pub are_before : Bool → List (List Piece) → Bool
+are_before others [] = others
+are_before others (p ∷ ps) = true
+
+-- ---- which targets have a text
+
+abbrev pub FitsTarget : Target → Type 0
+FitsTarget (targets.Label label) = Unit {0}
+FitsTarget (targets.Address address) = address < 512
+
+abbrev pub FitTargets : PrintedNext → Type 0
+FitTargets nexts.Following = Unit {0}
+FitTargets (nexts.Goto to) = FitsTarget to
+FitTargets (nexts.Dispatch high) = Unit {0}
+FitTargets (nexts.Branch test high low) = FitsTarget high × FitsTarget low

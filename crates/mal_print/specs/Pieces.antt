@@ -1,0 +1,39 @@
+-- Tokens written one behind the other, some with a space before them.
+use Rattle.std.specs.Prelude.{ℕ, ℤ, Bool, true, false, List, [], ◌∷◌, ◌++◌, map, if◌then◌else◌}
+use Rattle.mal_tokens.specs.declared.word.Word.{Word}
+use Rattle.mal_tokens.specs.declared.sign.Sign.{Sign}
+use Rattle.mal_tokens.specs.declared.token.Token.{Token}
+use Rattle.mal_tokens.specs.declared.token.Token.TheVariants as tokens
+use Rattle.mal_tokens.specs.Words.{sign_text, word_text}
+
+pub record Piece : Type 0 where
+  pub spaced : Bool
+  pub token : Token
+  pub text : List ℕ
+
+abbrev pub word : Word → Piece
+word w = record { spaced = false; token = tokens.Word w; text = word_text w }
+
+abbrev pub sign : Sign → Piece
+sign s = record { spaced = false; token = tokens.Sign s; text = sign_text s }
+
+abbrev pub name : List ℕ → Piece
+name n = record { spaced = false; token = tokens.Name n; text = n }
+
+abbrev pub number : ℤ → List ℕ → Piece
+number value text = record { spaced = false; token = tokens.Number value; text = text }
+
+abbrev pub spaced : Piece → Piece
+spaced p = record p { spaced = true }
+
+-- with a space before the first
+abbrev pub behind_space : List Piece → List Piece
+behind_space [] = []
+behind_space (p ∷ ps) = spaced p ∷ ps
+
+abbrev pub printed : List Piece → List ℕ
+printed [] = []
+printed (p ∷ ps) = (if p.spaced then 32 ∷ [] else []) ++ (p.text ++ printed ps)
+
+abbrev pub tokens_of : List Piece → List Token
+tokens_of ps = map (λ (p : Piece). p.token) ps
