@@ -1,9 +1,9 @@
 -- What comes of a call.
-use Rattle.std.proofs.Common.{◌≡◌, ◌<◌, ◌≤◌, ℕ, zero, suc, ◌+◌, ◌-◌, Bool, true, false, nat_le, nat_lt, if◌then◌else◌, List, ◌∷◌, length, take, drop, replicate, Option, Some, None, refl, sym, ap, subst, ◌∙◌, arith}
+use Rattle.std.proofs.Common.{◌≡◌, ◌<◌, ◌≤◌, ℕ, suc, ◌+◌, ◌-◌, Bool, true, false, nat_le, nat_lt, if◌then◌else◌, List, ◌∷◌, length, take, drop, replicate, Option, Some, None, ap, ◌∙◌, arith}
 use Rattle.std.proofs.lemmas.Bool.Decides.{nat_tests}
 use Rattle.std.proofs.lemmas.List.{length-drop, length-take-le, length-replicate}
 use Rattle.ijvm_definition.specs.declared.method.Method.{Method}
-use Rattle.ijvm_definition.specs.Frames.{Frame, State, base, frames_of, kept_words}
+use Rattle.ijvm_definition.specs.Frames.{Frame, State, base, frames_of}
 use Rattle.ijvm_definition.specs.Step.{Outcome, Goes, Limits, Stuck, called, onto, limited, in_method, entered, called_at}
 use Rattle.ijvm_definition.specs.Machine.{MachineView, state_of, in_call}
 use Rattle.ijvm_definition.proofs.Placed.{length-onto}

@@ -1,5 +1,5 @@
 -- The definitions, computed on whole runs.
-use Rattle.std.proofs.Common.{◌≡◌, ℕ, ◌+◌, List, [], ◌∷◌, ◌++◌, replicate, Option, Some, None, refl}
+use Rattle.std.proofs.Common.{◌≡◌, ℕ, List, [], ◌∷◌, ◌++◌, replicate, Option, Some, None, refl}
 use Rattle.micro_word.specs.Operation.{wrap}
 use Rattle.micro_word.specs.declared.statement.Machine.{Machine}
 use Rattle.micro_word.specs.declared.statement.Machine.TheVariants.{Mic1, Mic2}
@@ -8,7 +8,7 @@ use Rattle.ijvm_definition.specs.declared.run.RunEnd.TheVariants as ends
 use Rattle.ijvm_definition.specs.Instructions.{of_bytes, instr_at}
 use Rattle.ijvm_definition.specs.Image.{params, others}
 use Rattle.ijvm_definition.specs.Frames.{lv_of, sp_of, top_of}
-use Rattle.ijvm_definition.specs.Run.{Program, Finish, first_point, finish_from}
+use Rattle.ijvm_definition.specs.Run.{Finish, first_point, finish_from}
 
 record Told : Type 0 where
   end : RunEnd

@@ -1,16 +1,15 @@
 -- Image files: what is written is read, and only that.
-use Rattle.std.proofs.Common.{◌≡◌, ◌≢◌, ◌⊎◌, ◌<◌, ◌≤◌, ◌^◌, ◌&&◌, ◌||◌, not, nat_le, nat_lt, All, ℕ, zero, suc, ◌+◌, ◌-◌, ◌*◌, ◌/◌, ◌%◌, Bool, true, false, if◌then◌else◌, ◌==◌, List, [], ◌∷◌, ◌++◌, length, take, drop, append_assoc, append-nil, add-one, add-zero, length-append, slice_index, slice_range, Option, Some, None, Result, Ok, Err, IfOk, IfErr, refl, sym, ap, ap₂, ◌∙◌, inl, inr, arith, rules, subst}
+use Rattle.std.proofs.Common.{◌≡◌, ◌⊎◌, ◌<◌, ◌≤◌, nat_le, nat_lt, All, ℕ, zero, suc, ◌+◌, ◌-◌, ◌*◌, ◌/◌, ◌%◌, Bool, true, false, if◌then◌else◌, ◌==◌, List, [], ◌∷◌, ◌++◌, length, take, drop, append-nil, add-one, add-zero, length-append, slice_index, slice_range, Option, Some, None, Result, Ok, Err, IfOk, IfErr, refl, sym, ap, ap₂, ◌∙◌, inl, inr, arith, subst}
 use Rattle.std.specs.List.{flat_map}
 use Rattle.std.proofs.lemmas.Bool.Decides.{nat_tests}
 use Rattle.std.proofs.lemmas.Grind.{flat_map-append}
 use Rattle.std.proofs.lemmas.List.{drop_more, take_more, length-drop, length-take-le, drop-drop, drop_all, take-append-drop}
-use Rattle.std.proofs.Math.Seq.{drop-append_seam, take-append_seam}
+use Rattle.std.proofs.Math.Seq.{take-append_seam}
 use Rattle.ijvm_definition.specs.declared.reader.Block.{Block}
 use Rattle.ijvm_definition.specs.declared.image.ImageError.{ImageError}
 use Rattle.ijvm_definition.specs.declared.image.ImageError.TheVariants as errors
-use Rattle.ijvm_definition.specs.Instructions.{two_bytes}
 use Rattle.ijvm_definition.specs.Image.{ImageView, IsWithinLimits}
-use Rattle.ijvm_definition.specs.ImageFile.{magic, text_origin, pool_origin, word_bytes, block_of, text_block, pool_block, file_of, text_first, IsFileOf, half_at, word_at, and_then, field, is_origin, is_size, block_from, block_at, words_at, image_of, joined, ended, image_read}
+use Rattle.ijvm_definition.specs.ImageFile.{magic, text_origin, pool_origin, word_bytes, block_of, file_of, text_first, IsFileOf, word_at, and_then, field, is_origin, is_size, block_from, block_at, words_at, image_of, joined, ended, image_read}
 use Rattle.ijvm_definition.proofs.Spelled.{high, low, from_half, byte_below}
 
 -- Words in a file.

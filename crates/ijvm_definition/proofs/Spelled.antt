@@ -1,5 +1,5 @@
 -- Instructions and their bytes are each other's, but for the second spelling of IOR.
-use Rattle.std.proofs.Common.{◌≡◌, ◌⊎◌, ◌<◌, ◌≤◌, ℕ, zero, suc, All, ℤ, nat_le, FitsSigned, ◌+◌, ◌*◌, ◌/◌, ◌%◌, Bool, true, false, if◌then◌else◌, ◌==◌, List, [], ◌∷◌, ◌++◌, length, take, drop, append_assoc, length-append, slice_index, Option, Some, None, refl, sym, ap, ◌∙◌, inl, inr, arith, rules, subst}
+use Rattle.std.proofs.Common.{◌≡◌, ◌⊎◌, ◌<◌, ◌≤◌, ℕ, zero, suc, All, ℤ, nat_le, FitsSigned, ◌+◌, ◌*◌, ◌/◌, ◌%◌, Bool, true, false, if◌then◌else◌, ◌==◌, List, [], ◌∷◌, ◌++◌, length, take, drop, append_assoc, length-append, slice_index, Option, Some, None, IfSome, refl, sym, ap, ◌∙◌, inl, inr, arith, subst}
 use Rattle.std.proofs.lemmas.Bool.Decides.{nat_tests}
 use Rattle.std.proofs.lemmas.List.{drop_more}
 use Rattle.std.specs.Int.{w8, w16, cast_signed, cast_unsigned}
@@ -311,6 +311,17 @@ instr_at-spelled text at i bytes real spells stands =
       | inl e ↦ whole_spelled text at i real (subst (StandAt text at) e stands)
       | inr e ↦ rw e.0 (whole_second text at (subst (StandAt text at) e.1 stands))
     ]
+
+-- an instruction is read inside the text
+pub at-inside : (text : List ℕ) (at most : ℕ) → length text ≤ most → (o : Option Instr) → o ≡ instr_at text at → IfSome o (λ i. at < most)
+unfolding instr_at
+at-inside text at most fits None e = tt
+at-inside text at most fits (Some i) e =
+    let one : 1 ≤ size_of (row_of i) = size_least i in
+    let found : (of_bytes (slice_index text at) (slice_index text (at + 1)) (slice_index text (at + 2)) (slice_index text (at + 3)) ≡ Some i)
+    × (at + size_of (row_of i) ≤ length text) = whole-some (length text) at _ i (sym e) in
+    let end : at + size_of (row_of i) ≤ length text = found.1 in
+    omega arith
 
 -- bytes that stand at an address are a part of the text
 pub stand_take : (text : List ℕ) (at : ℕ) (bytes : List ℕ) → StandAt text at bytes → take (length bytes) (drop at text) ≡ bytes

@@ -1,7 +1,8 @@
 -- A stack kept in a list whose end is the top.
-use Rattle.std.proofs.Common.{◌≡◌, ◌<◌, ◌≤◌, ℕ, zero, suc, ◌+◌, ◌-◌, List, [], ◌∷◌, ◌++◌, length, take, drop, reverse, replicate, map, append_assoc, slice_index, slice_set, Option, Some, None, refl, add-one, ap, sym, ◌∙◌, arith}
+use Rattle.std.proofs.Common.{◌≡◌, ◌==◌, false, ◌<◌, ◌≤◌, ℕ, suc, ◌+◌, ◌-◌, List, [], ◌∷◌, ◌++◌, length, take, drop, reverse, replicate, map, append_assoc, slice_index, slice_set, Option, Some, None, refl, ap, sym, ◌∙◌, arith}
 use Rattle.std.proofs.lemmas.List.{set_split, reverse-append, reverse-reverse, length-reverse, length-drop, length-take-le, take-append-drop, drop_more, take_more, drop_all, map-append}
 use Rattle.std.proofs.Math.Seq.{take-length, take-append_seam, drop-append_seam}
+use Rattle.ijvm_definition.specs.Cost.{are_equal}
 use Rattle.ijvm_definition.specs.Step.{onto}
 use Rattle.ijvm_definition.specs.Machine.{IsSwapped}
 
@@ -73,6 +74,30 @@ method_locals xs n others few =
 set_two : (front : List ℕ) (x y : ℕ) → slice_set (slice_set (front ++ x ∷ y ∷ []) (suc (length front)) x) (length front) y ≡ front ++ y ∷ x ∷ []
 set_two [] x y = refl
 set_two (z ∷ zs) x y = ap (λ (xs : List ℕ). z ∷ xs) (set_two zs x y)
+
+-- the last two
+last_two : (xs : List ℕ) → 2 ≤ length xs → reverse xs ≡ slice_index xs (length xs - 1) ∷ slice_index xs (length xs - 1 - 1) ∷ reverse (take (length xs - 1 - 1) xs)
+last_two xs two =
+    let n : ℕ = length xs - 1 - 1 in
+    let inside : n < length xs = omega arith in
+    let next : n + 1 < length xs = omega arith in
+    let last : n + 1 ≡ length xs - 1 = omega arith in
+    let over : length xs ≤ n + 1 + 1 = omega arith in
+    let d0 : drop n xs ≡ slice_index xs n ∷ drop (n + 1) xs = drop_more xs n 0 inside in
+    let d1 : drop (n + 1) xs ≡ slice_index xs (n + 1) ∷ drop (n + 1 + 1) xs = drop_more xs (n + 1) 0 next in
+    let d2 : drop (n + 1 + 1) xs ≡ [] = drop_all (n + 1 + 1) xs over in
+    let top : slice_index xs (n + 1) ≡ slice_index xs (length xs - 1) = ap (slice_index xs) last in
+    let ends : drop n xs ≡ slice_index xs n ∷ slice_index xs (length xs - 1) ∷ [] = cc in
+    ap reverse (sym (take-append-drop n xs) ∙ ap (λ (zs : List ℕ). take n xs ++ zs) ends)
+    ∙ reverse-append (take n xs) (slice_index xs n ∷ slice_index xs (length xs - 1) ∷ [])
+
+pub are_equal_last : (xs : List ℕ) → 2 ≤ length xs → are_equal (reverse xs) ≡ (slice_index xs (length xs - 1 - 1) == slice_index xs (length xs - 1))
+are_equal_last xs two = ap are_equal (last_two xs two)
+
+pub are_equal_few : (xs : List ℕ) → length xs < 2 → are_equal (reverse xs) ≡ false
+are_equal_few [] few = refl
+are_equal_few (x ∷ []) few = refl
+are_equal_few (x ∷ y ∷ ys) few = absurd (omega arith)
 
 -- the last two exchanged
 pub reverse_swap_last : (xs ys : List ℕ) → 2 ≤ length xs → ys ≡ slice_set (slice_set xs (length xs - 1) (slice_index xs (length xs - 1 - 1))) (length xs - 1 - 1) (slice_index xs (length xs - 1)) →

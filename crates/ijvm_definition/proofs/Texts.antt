@@ -1,5 +1,5 @@
 -- How long a printed number is.
-use Rattle.std.proofs.Common.{◌≤◌, ◌<◌, ℕ, ◌+◌, ◌^◌, suc, ℤ, pos, negsuc, length, unsigned_abs, arith}
+use Rattle.std.proofs.Common.{◌≤◌, ◌<◌, ◌+◌, ◌^◌, ℤ, pos, negsuc, length, unsigned_abs, arith}
 use Rattle.std.specs.Fmt.{signed_decimal}
 use Rattle.std.proofs.lemmas.Fmt.{length_signed_le}
 

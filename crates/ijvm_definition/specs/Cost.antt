@@ -1,5 +1,5 @@
 -- What an instruction costs: the columns of the table, in cycles.
-use Rattle.std.specs.Prelude.{ℕ, ◌%◌, Bool, true, false, if◌then◌else◌, ◌==◌, List, [], ◌∷◌, slice_index, Option, Some, None}
+use Rattle.std.specs.Prelude.{ℕ, ◌%◌, Bool, false, if◌then◌else◌, ◌==◌, List, [], ◌∷◌, slice_index, Option, Some, None}
 use Rattle.micro_word.specs.Operation.{is_negative}
 use Rattle.micro_word.specs.declared.statement.Machine.{Machine}
 use Rattle.micro_word.specs.declared.statement.Machine.TheVariants.{Mic1, Mic2}

@@ -1,5 +1,5 @@
 -- Frames: the state of the plain machine, and where its words lie in memory. Chapter 4 of the book, with this profile's memory map.
-use Rattle.std.specs.Prelude.{◌≡◌, ℕ, ◌+◌, ◌-◌, ◌<◌, ◌^◌, List, [], ◌∷◌, length, replicate, Option, Some, None, IfSome, All}
+use Rattle.std.specs.Prelude.{ℕ, ◌+◌, ◌-◌, ◌<◌, ◌^◌, List, [], ◌∷◌, length, replicate, Option, Some, None, IfSome, All}
 
 -- Lists of operands and of frames begin with the end that changes: the last operand and the nearest caller stand first.
 

@@ -1,6 +1,6 @@
 -- An image: the text, which holds methods' headers and instructions, and the constant pool.
 use Rattle.ijvm_definition.specs.declared.method.Method.{Method}
-use Rattle.std.specs.Prelude.{ℕ, ◌+◌, ◌*◌, ◌<◌, ◌≤◌, ◌^◌, if◌then◌else◌, nat_lt, List, length, slice_index, Option, Some, None, All}
+use Rattle.std.specs.Prelude.{ℕ, ◌+◌, ◌*◌, ◌≤◌, if◌then◌else◌, nat_lt, List, length, slice_index, Option, Some, None}
 
 pub record ImageView : Type 0 where
   -- bytes, from byte address 0

@@ -1,12 +1,12 @@
 -- The image file: a magic word, then the pool's block and the text's block in either order. A block is its origin, its size in bytes
 -- and its bytes. A word has its most significant byte first.
-use Rattle.std.specs.Prelude.{◌≡◌, ◌⊎◌, ◌≤◌, ◌<◌, ◌^◌, ◌&&◌, ◌||◌, not, ℕ, zero, suc, ◌+◌, ◌-◌, ◌*◌, ◌/◌, ◌%◌, Bool, true, false, if◌then◌else◌, nat_lt, nat_le, ◌==◌, List, [], ◌∷◌, ◌++◌, length, slice_index, slice_range, All, Option, Some, None, Result, Ok, Err}
+use Rattle.std.specs.Prelude.{◌≡◌, ◌⊎◌, ◌≤◌, ◌&&◌, ◌||◌, not, ℕ, zero, suc, ◌+◌, ◌-◌, ◌*◌, ◌/◌, ◌%◌, Bool, if◌then◌else◌, nat_lt, nat_le, ◌==◌, List, [], ◌∷◌, ◌++◌, length, slice_index, slice_range, Option, Some, None, Result, Ok, Err}
 use Rattle.std.specs.List.{flat_map}
 use Rattle.ijvm_definition.specs.declared.reader.Block.{Block}
 use Rattle.ijvm_definition.specs.declared.image.ImageError.{ImageError}
 use Rattle.ijvm_definition.specs.declared.image.ImageError.TheVariants as errors
 use Rattle.ijvm_definition.specs.Instructions.{two_bytes}
-use Rattle.ijvm_definition.specs.Image.{ImageView, IsWithinLimits}
+use Rattle.ijvm_definition.specs.Image.{ImageView}
 
 abbrev pub magic : ℕ
 magic = 0x1DEADFAD

@@ -6,9 +6,7 @@ use Rattle.ijvm_definition.specs.declared.instr.Instr.TheVariants.{Nop, Bipush, 
 use Rattle.ijvm_definition.specs.declared.row.Row.{Row}
 use Rattle.ijvm_definition.specs.declared.row.Operands.{Operands}
 use Rattle.ijvm_definition.specs.declared.row.Operands.TheVariants.{None as NoOperands, Byte, Local, LocalByte, Index, Offset}
-use Rattle.ijvm_definition.specs.declared.row.Flow.{Flow}
 use Rattle.ijvm_definition.specs.declared.row.Flow.TheVariants.{Next, Jump, Branch, Call, Return, End}
-use Rattle.ijvm_definition.specs.declared.row.Cost.{Cost}
 use Rattle.ijvm_definition.specs.declared.row.Cost.TheVariants.{Always, IfTaken, ByEntry}
 
 -- a row without operands that goes on to the next instruction: its opcode, what it needs and gives, and its cycles on Mic-1 and Mic-2

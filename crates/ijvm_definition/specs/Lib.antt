@@ -9,3 +9,5 @@ pub mod Text
 pub mod ImageFile
 pub mod Machine
 pub mod Steps
+pub mod Runs
+pub mod Plain

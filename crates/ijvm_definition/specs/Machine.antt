@@ -1,7 +1,7 @@
 -- The plain machine: frames over an image. The console's bytes are not in it.
-use Rattle.std.specs.Prelude.{◌≡◌, ◌≤◌, ◌<◌, ℕ, ◌&&◌, Bool, true, false, nat_lt, List, [], ◌∷◌, length, take, drop, ◌+◌, ◌-◌, slice_set, Option, Some, None, bit_and, bit_or}
+use Rattle.std.specs.Prelude.{◌≡◌, ◌≤◌, ◌<◌, ℕ, ◌&&◌, Bool, true, false, nat_lt, List, [], ◌∷◌, length, replicate, take, drop, ◌+◌, ◌-◌, slice_set, Option, Some, None, bit_and, bit_or}
 use Rattle.ijvm_definition.specs.declared.instr.Instr.{Instr}
-use Rattle.ijvm_definition.specs.declared.instr.Instr.TheVariants.{In, Out}
+use Rattle.ijvm_definition.specs.declared.instr.Instr.TheVariants.{In, Out, Err, Halt}
 use Rattle.ijvm_definition.specs.declared.method.Method.{Method}
 use Rattle.ijvm_definition.specs.Image.{ImageView}
 use Rattle.ijvm_definition.specs.Frames.{Frame, State, base, IsWord}
@@ -10,7 +10,7 @@ use Rattle.ijvm_definition.specs.declared.compute.Operator.{Operator}
 use Rattle.ijvm_definition.specs.declared.compute.Operator.TheVariants as operators
 use Rattle.ijvm_definition.specs.declared.compute.Effect.{Effect}
 use Rattle.ijvm_definition.specs.declared.compute.Effect.TheVariants as effects
-use Rattle.ijvm_definition.specs.Step.{Outcome, Goes, Halts, Errs, Limits, Stuck, is_own, called}
+use Rattle.ijvm_definition.specs.Step.{Outcome, Goes, Limits, Stuck, is_own, called}
 
 pub record MachineView : Type 0 where
   pub image : ImageView
@@ -24,11 +24,27 @@ pub record MachineView : Type 0 where
 abbrev pub state_of : MachineView → List ℕ → List ℕ → State
 state_of m untaken given = record { running = m.running; callers = m.callers; at = m.at; untaken = untaken; given = given }
 
+-- the start of a run, with so many locals of main
+abbrev pub started : ImageView → ℕ → ℕ → MachineView
+started image stack_end main_locals =
+    record {
+      image = image;
+      stack_end = stack_end;
+      running = record { locals = replicate main_locals (Some 0); operands = []; back = None };
+      callers = [];
+      at = 0;
+    }
+
 -- where the frames lie: the running one begins at this word address, and all end before the stack's end
 pub record ArePlaced (stack_end lv : ℕ) (running : Frame) (callers : List Frame) : Type 0 where
   pub begins : lv ≡ base callers
   pub fits : base (running ∷ callers) ≤ stack_end
   pub word : IsWord stack_end
+
+-- the same image, and the same end of the stack
+pub record KeepsProgram (old new : MachineView) : Type 0 where
+  pub image : new.image ≡ old.image
+  pub stack_end : new.stack_end ≡ old.stack_end
 
 -- the machine in a method that is called with the last operands
 abbrev pub in_call : MachineView → Method → MachineView
@@ -64,8 +80,6 @@ Stores false k v old new = (has_own old k ≡ false) × (new ≡ old)
 -- what an effect is, of the state that it leaves
 abbrev pub outcome_of : Effect → State → Outcome
 outcome_of effects.Went s = Goes s
-outcome_of effects.Halt s = Halts
-outcome_of effects.Err s = Errs
 outcome_of effects.StackLimit s = Limits s
 outcome_of effects.Stuck s = Stuck
 
@@ -88,7 +102,10 @@ abbrev pub Swaps : Bool → Frame → Frame → Type 0
 Swaps true old new = IsSwapped old.operands new.operands × (new ≡ record old { operands = new.operands })
 Swaps false old new = (length old.operands < 2) × (new ≡ old)
 
-abbrev pub NeedsNoConsole : Instr → Type 0
-NeedsNoConsole In = ⊥
-NeedsNoConsole Out = ⊥
-NeedsNoConsole i = Unit {0}
+-- an instruction that neither needs the console nor ends the run
+abbrev pub IsComputed : Instr → Type 0
+IsComputed In = ⊥
+IsComputed Out = ⊥
+IsComputed Err = ⊥
+IsComputed Halt = ⊥
+IsComputed i = Unit {0}

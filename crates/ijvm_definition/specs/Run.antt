@@ -1,5 +1,5 @@
 -- The definition's run: from boundary to boundary, an instruction each, until it ends.
-use Rattle.std.specs.Prelude.{◌≡◌, ℕ, zero, suc, ◌+◌, Bool, true, false, nat_le, List, Option, Some, None}
+use Rattle.std.specs.Prelude.{◌≡◌, ◌<◌, ℕ, zero, suc, ◌+◌, Bool, true, false, nat_le, List, Option, Some, None}
 use Rattle.micro_word.specs.declared.statement.Machine.{Machine}
 use Rattle.ijvm_definition.specs.declared.run.RunEnd.{RunEnd}
 use Rattle.ijvm_definition.specs.declared.run.RunEnd.TheVariants as ends
@@ -73,6 +73,12 @@ finish_from p bound (suc points) at = after_test (finish_from p bound points) p 
 -- the run from this point ends so
 abbrev pub EndsBy : Program → ℕ → Point → Finish → Type 0
 EndsBy p bound at f = (points : ℕ) × (finish_from p bound points at ≡ Some f)
+
+-- the boundaries that the run from this one passes before it ends
+pub data Passes (p : Program) (bound : ℕ) (from : Point) : Point → Type 0 where
+  Start : (at : Point) → at ≡ from → Passes p bound from at
+  More : (at next : Point) (to : State) → Passes p bound from at → at.cycles < bound → outcome p.image p.stack_end at.state ≡ Goes to → next ≡ point_after p at to →
+      Passes p bound from next
 
 abbrev pub after : (State → Option State) → Outcome → Option State
 after more (Goes to) = more to

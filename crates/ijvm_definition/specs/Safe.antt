@@ -2,7 +2,7 @@
 use Rattle.std.specs.Prelude.{◌≡◌, ◌≢◌, ℕ, []}
 use Rattle.ijvm_definition.specs.Image.{ImageView}
 use Rattle.ijvm_definition.specs.Frames.{State, start_of}
-use Rattle.ijvm_definition.specs.Step.{Outcome, Goes, Stuck, outcome}
+use Rattle.ijvm_definition.specs.Step.{Goes, Stuck, outcome}
 
 -- the same frames at the same address, whatever the console's bytes are
 pub record SameFrames (s to : State) : Type 0 where

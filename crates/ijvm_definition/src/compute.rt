@@ -1,13 +1,13 @@
-//! The instructions that do not need the console.
+//! The instructions that neither need the console nor end the run.
 
 ghost use Rattle.std.specs.Prelude.{◌≡◌, ◌==◌, ◌+◌, ◌<◌, ◌^◌, slice_get, IfOk, OnErr};
 ghost use Rattle.ijvm_definition.specs.Step.{Goes, moved, target, step, pushed, pushed_constant, loaded, stored, increased, popped, doubled, swapped, combined, way, branched, compared, called_at, returned};
 ghost use Rattle.ijvm_definition.specs.Image.{method_at};
 ghost use Rattle.micro_word.specs.Operation.{is_negative};
-ghost use Rattle.ijvm_definition.specs.Machine.{Leads, operate, NeedsNoConsole};
+ghost use Rattle.ijvm_definition.specs.Machine.{Leads, KeepsProgram, operate, IsComputed};
 
 use crate::instr::Instr;
-use crate::machine::Machine;
+use crate::machine::PlainMachine;
 use crate::print::target_of;
 use std::alloc::AllocError;
 
@@ -15,8 +15,6 @@ use std::alloc::AllocError;
 #[derive(Clone, Copy, Debug, PartialEq, Eq)]
 pub enum Effect {
     Went,
-    Halt,
-    Err,
     StackLimit,
     /// The machine lacks what the instruction needs.
     Stuck,
@@ -46,26 +44,29 @@ impl Operator {
 }
 
 /// Goes on behind an instruction that does nothing else.
-fn pass(machine: &mut Machine) -> Effect
+fn pass(machine: &mut PlainMachine) -> Effect
     requires { machine.old.at + 1 < 2 ^ 32 }
-    ensures { Leads (λ s. Goes (moved s s.running.operands (s.at + 1))) result machine.old machine.new }
+    ensures leads { Leads (λ s. Goes (moved s s.running.operands (s.at + 1))) result machine.old machine.new }
+    ensures program { KeepsProgram machine.old machine.new }
 {
     machine.go(machine.address() + 1);
     Effect::Went
 }
 
-fn jump(machine: &mut Machine, offset: i16) -> Effect
-    ensures { Leads (λ s. Goes (moved s s.running.operands (target s.at offset))) result machine.old machine.new }
+fn jump(machine: &mut PlainMachine, offset: i16) -> Effect
+    ensures leads { Leads (λ s. Goes (moved s s.running.operands (target s.at offset))) result machine.old machine.new }
+    ensures program { KeepsProgram machine.old machine.new }
 {
     machine.go(target_of(machine.address(), offset));
     Effect::Went
 }
 
 /// Pushes a value and goes on behind an instruction of this size.
-pub fn push(machine: &mut Machine, value: u32, size: u32) -> Result<Effect, AllocError>
+pub fn push(machine: &mut PlainMachine, value: u32, size: u32) -> Result<Effect, AllocError>
     requires { machine.old.at + size < 2 ^ 32 }
     ensures ok { IfOk result (λ e. Leads (λ s. pushed machine.old.stack_end s value (s.at + size)) e machine.old machine.new) }
     ensures err { OnErr result (machine.new ≡ machine.old) }
+    ensures program { KeepsProgram machine.old machine.new }
 {
     if !machine.has_room(1) {
         return Ok(Effect::StackLimit);
@@ -75,10 +76,11 @@ pub fn push(machine: &mut Machine, value: u32, size: u32) -> Result<Effect, Allo
     Ok(Effect::Went)
 }
 
-pub fn push_constant(machine: &mut Machine, index: u16) -> Result<Effect, AllocError>
+pub fn push_constant(machine: &mut PlainMachine, index: u16) -> Result<Effect, AllocError>
     requires { machine.old.at + 3 < 2 ^ 32 }
     ensures ok { IfOk result (λ e. Leads (λ s. pushed_constant machine.old.stack_end s (slice_get machine.old.image.pool index)) e machine.old machine.new) }
     ensures err { OnErr result (machine.new ≡ machine.old) }
+    ensures program { KeepsProgram machine.old machine.new }
 {
     match machine.constant(index) {
         Some(value) => push(machine, value, 3),
@@ -87,10 +89,11 @@ pub fn push_constant(machine: &mut Machine, index: u16) -> Result<Effect, AllocE
 }
 
 /// Pushes a local.
-pub fn load(machine: &mut Machine, index: u16, size: u32) -> Result<Effect, AllocError>
+pub fn load(machine: &mut PlainMachine, index: u16, size: u32) -> Result<Effect, AllocError>
     requires { machine.old.at + size < 2 ^ 32 }
     ensures ok { IfOk result (λ e. Leads (λ s. loaded machine.old.stack_end s (slice_get machine.old.running.locals index) (s.at + size)) e machine.old machine.new) }
     ensures err { OnErr result (machine.new ≡ machine.old) }
+    ensures program { KeepsProgram machine.old machine.new }
 {
     match machine.local(index) {
         Some(value) => push(machine, value, size),
@@ -99,9 +102,10 @@ pub fn load(machine: &mut Machine, index: u16, size: u32) -> Result<Effect, Allo
 }
 
 /// Pops into a local.
-pub fn store(machine: &mut Machine, index: u16, size: u32) -> Effect
+pub fn store(machine: &mut PlainMachine, index: u16, size: u32) -> Effect
     requires { machine.old.at + size < 2 ^ 32 }
-    ensures { Leads (λ s. stored s index s.running.operands (s.at + size)) result machine.old machine.new }
+    ensures leads { Leads (λ s. stored s index s.running.operands (s.at + size)) result machine.old machine.new }
+    ensures program { KeepsProgram machine.old machine.new }
 {
     let Some(value) = machine.pop() else {
         return Effect::Stuck;
@@ -115,9 +119,10 @@ pub fn store(machine: &mut Machine, index: u16, size: u32) -> Effect
 
 /// Adds a signed byte to a local.
 #[tactic(auto, unfolding(micro_word::specs::Operation::wrap))]
-pub fn increase(machine: &mut Machine, index: u16, by: i8) -> Effect
+pub fn increase(machine: &mut PlainMachine, index: u16, by: i8) -> Effect
     requires { machine.old.at + 3 < 2 ^ 32 }
-    ensures { Leads (λ s. increased s index by (slice_get s.running.locals index)) result machine.old machine.new }
+    ensures leads { Leads (λ s. increased s index by (slice_get s.running.locals index)) result machine.old machine.new }
+    ensures program { KeepsProgram machine.old machine.new }
 {
     let Some(value) = machine.local(index) else {
         return Effect::Stuck;
@@ -128,9 +133,10 @@ pub fn increase(machine: &mut Machine, index: u16, by: i8) -> Effect
 }
 
 /// Drops the top.
-pub fn discard(machine: &mut Machine) -> Effect
+pub fn discard(machine: &mut PlainMachine) -> Effect
     requires { machine.old.at + 1 < 2 ^ 32 }
-    ensures { Leads (λ s. popped s s.running.operands) result machine.old machine.new }
+    ensures leads { Leads (λ s. popped s s.running.operands) result machine.old machine.new }
+    ensures program { KeepsProgram machine.old machine.new }
 {
     if machine.pop().is_none() {
         return Effect::Stuck;
@@ -140,10 +146,11 @@ pub fn discard(machine: &mut Machine) -> Effect
 }
 
 /// Pushes the top again.
-pub fn double(machine: &mut Machine) -> Result<Effect, AllocError>
+pub fn double(machine: &mut PlainMachine) -> Result<Effect, AllocError>
     requires { machine.old.at + 1 < 2 ^ 32 }
     ensures ok { IfOk result (λ e. Leads (λ s. doubled machine.old.stack_end s s.running.operands) e machine.old machine.new) }
     ensures err { OnErr result (machine.new ≡ machine.old) }
+    ensures program { KeepsProgram machine.old machine.new }
 {
     match machine.top() {
         Some(value) => push(machine, value, 1),
@@ -152,9 +159,10 @@ pub fn double(machine: &mut Machine) -> Result<Effect, AllocError>
 }
 
 /// Puts what the operator makes of the top two operands in their place.
-pub fn combine(machine: &mut Machine, operator: Operator) -> Effect
+pub fn combine(machine: &mut PlainMachine, operator: Operator) -> Effect
     requires { machine.old.at + 1 < 2 ^ 32 }
-    ensures { Leads (λ s. combined (operate operator) s s.running.operands) result machine.old machine.new }
+    ensures leads { Leads (λ s. combined (operate operator) s s.running.operands) result machine.old machine.new }
+    ensures program { KeepsProgram machine.old machine.new }
 {
     let Some(top) = machine.pop() else {
         return Effect::Stuck;
@@ -168,9 +176,10 @@ pub fn combine(machine: &mut Machine, operator: Operator) -> Effect
 }
 
 /// Exchanges the top two operands.
-pub fn swap(machine: &mut Machine) -> Effect
+pub fn swap(machine: &mut PlainMachine) -> Effect
     requires { machine.old.at + 1 < 2 ^ 32 }
-    ensures { Leads (λ s. swapped s s.running.operands) result machine.old machine.new }
+    ensures leads { Leads (λ s. swapped s s.running.operands) result machine.old machine.new }
+    ensures program { KeepsProgram machine.old machine.new }
 {
     if !machine.swap() {
         return Effect::Stuck;
@@ -180,9 +189,9 @@ pub fn swap(machine: &mut Machine) -> Effect
 }
 
 /// Jumps, or goes on behind the branch.
-fn choose(machine: &mut Machine, taken: bool, offset: i16)
+fn choose(machine: &mut PlainMachine, taken: bool, offset: i16)
     requires { machine.old.at + 3 < 2 ^ 32 }
-    ensures { machine.new ≡ record machine.old { at = way machine.old.at offset taken } }
+    ensures is { machine.new ≡ record machine.old { at = way machine.old.at offset taken } }
 {
     let at = machine.address();
     if taken {
@@ -193,9 +202,10 @@ fn choose(machine: &mut Machine, taken: bool, offset: i16)
 }
 
 /// Jumps if the popped operand is 0.
-pub fn branch_if_zero(machine: &mut Machine, offset: i16) -> Effect
+pub fn branch_if_zero(machine: &mut PlainMachine, offset: i16) -> Effect
     requires { machine.old.at + 3 < 2 ^ 32 }
-    ensures { Leads (λ s. branched (λ y. y == 0) s offset s.running.operands) result machine.old machine.new }
+    ensures leads { Leads (λ s. branched (λ y. y == 0) s offset s.running.operands) result machine.old machine.new }
+    ensures program { KeepsProgram machine.old machine.new }
 {
     let Some(value) = machine.pop() else {
         return Effect::Stuck;
@@ -205,9 +215,10 @@ pub fn branch_if_zero(machine: &mut Machine, offset: i16) -> Effect
 }
 
 /// Jumps if the popped operand is negative.
-pub fn branch_if_negative(machine: &mut Machine, offset: i16) -> Effect
+pub fn branch_if_negative(machine: &mut PlainMachine, offset: i16) -> Effect
     requires { machine.old.at + 3 < 2 ^ 32 }
-    ensures { Leads (λ s. branched is_negative s offset s.running.operands) result machine.old machine.new }
+    ensures leads { Leads (λ s. branched is_negative s offset s.running.operands) result machine.old machine.new }
+    ensures program { KeepsProgram machine.old machine.new }
 {
     let Some(value) = machine.pop() else {
         return Effect::Stuck;
@@ -217,9 +228,10 @@ pub fn branch_if_negative(machine: &mut Machine, offset: i16) -> Effect
 }
 
 /// Jumps if the two popped operands are equal.
-pub fn branch_if_equal(machine: &mut Machine, offset: i16) -> Effect
+pub fn branch_if_equal(machine: &mut PlainMachine, offset: i16) -> Effect
     requires { machine.old.at + 3 < 2 ^ 32 }
-    ensures { Leads (λ s. compared s offset s.running.operands) result machine.old machine.new }
+    ensures leads { Leads (λ s. compared s offset s.running.operands) result machine.old machine.new }
+    ensures program { KeepsProgram machine.old machine.new }
 {
     let Some(top) = machine.pop() else {
         return Effect::Stuck;
@@ -232,10 +244,11 @@ pub fn branch_if_equal(machine: &mut Machine, offset: i16) -> Effect
 }
 
 /// Calls a method with the last operands.
-pub fn call(machine: &mut Machine, index: u16) -> Result<Effect, AllocError>
+pub fn call(machine: &mut PlainMachine, index: u16) -> Result<Effect, AllocError>
     requires { machine.old.at + 3 < 2 ^ 32 }
     ensures ok { IfOk result (λ e. Leads (λ s. called_at machine.old.stack_end s (method_at machine.old.image.text (slice_get machine.old.image.pool index))) e machine.old machine.new) }
     ensures err { OnErr result (machine.new ≡ machine.old) }
+    ensures program { KeepsProgram machine.old machine.new }
 {
     let Some(method) = machine.method(index) else {
         return Ok(Effect::Stuck);
@@ -251,9 +264,10 @@ pub fn call(machine: &mut Machine, index: u16) -> Result<Effect, AllocError>
 }
 
 /// Returns the top to the caller.
-pub fn return_top(machine: &mut Machine) -> Result<Effect, AllocError>
+pub fn return_top(machine: &mut PlainMachine) -> Result<Effect, AllocError>
     ensures ok { IfOk result (λ e. Leads (λ s. returned s s.running.back s.callers s.running.operands) e machine.old machine.new) }
     ensures err { OnErr result (machine.new ≡ machine.old) }
+    ensures program { KeepsProgram machine.old machine.new }
 {
     let Some(back) = machine.back() else {
         return Ok(Effect::Stuck);
@@ -269,11 +283,12 @@ pub fn return_top(machine: &mut Machine) -> Result<Effect, AllocError>
 }
 
 /// Does one instruction.
-pub fn compute(machine: &mut Machine, instr: Instr) -> Result<Effect, AllocError>
+pub fn compute(machine: &mut PlainMachine, instr: Instr) -> Result<Effect, AllocError>
     requires at { machine.old.at + 4 < 2 ^ 32 }
-    requires no_console { NeedsNoConsole instr }
+    requires computed { IsComputed instr }
     ensures ok { IfOk result (λ e. Leads (step machine.old.image machine.old.stack_end instr) e machine.old machine.new) }
     ensures err { OnErr result (machine.new ≡ machine.old) }
+    ensures program { KeepsProgram machine.old machine.new }
 {
     match instr {
         Instr::Nop => Ok(pass(machine)),
@@ -297,8 +312,6 @@ pub fn compute(machine: &mut Machine, instr: Instr) -> Result<Effect, AllocError
         Instr::Invokevirtual(k) => call(machine, k),
         Instr::WideIload(k) => load(machine, k, 4),
         Instr::WideIstore(k) => Ok(store(machine, k, 4)),
-        Instr::Err => Ok(Effect::Err),
-        Instr::Halt => Ok(Effect::Halt),
-        Instr::In | Instr::Out => unreachable!(),
+        Instr::In | Instr::Out | Instr::Err | Instr::Halt => unreachable!(),
     }
 }

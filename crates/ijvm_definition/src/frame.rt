@@ -3,6 +3,7 @@
 ghost use Rattle.std.specs.Prelude.{◌≡◌, ◌≢◌, ◌+◌, ◌<◌, ◌≤◌, ◌^◌, [], ◌∷◌, ◌++◌, ℕ, List, length, reverse, replicate, map, take, slice_get, slice_set, drop, Some, None, IfOk, OnOk, OnErr, IfSome, vec_len};
 ghost use Rattle.ijvm_definition.specs.Frames.{Frame as FrameView, kept_words, top_of};
 ghost use Rattle.std.specs.Option.{option_flatten};
+ghost use Rattle.ijvm_definition.specs.Cost.{are_equal};
 ghost use Rattle.ijvm_definition.specs.Step.{called, onto};
 ghost use Rattle.ijvm_definition.specs.Machine.{Pops, Stores, Swaps, IsSwapped};
 
@@ -30,6 +31,17 @@ fn set_last(values: &mut Vec<u32>, value: u32)
 {
     let last = values.len() - 1;
     values[last] = value;
+}
+
+#[tactic(auto, using(crate::proofs::Stacks::are_equal_last, crate::proofs::Stacks::are_equal_few))]
+fn are_last_equal(values: &[u32]) -> bool
+    ensures { result ≡ are_equal (reverse values.now) }
+{
+    if values.len() < 2 {
+        return false;
+    }
+    let last = values.len() - 1;
+    values[last - 1] == values[last]
 }
 
 #[tactic(auto, using(crate::proofs::Stacks::reverse_swap_last))]
@@ -128,6 +140,13 @@ impl Frame {
         ensures { result ≡ top_of self.now.operands }
     {
         self.operands.last().copied()
+    }
+
+    /// Whether the last two operands are equal.
+    pub fn are_equal(&self) -> bool
+        ensures { result ≡ are_equal self.now.operands }
+    {
+        are_last_equal(&self.operands)
     }
 
     pub fn pop(&mut self) -> Option<u32>

@@ -2,6 +2,7 @@
 #![tactic(auto)]
 
 mod compute;
+mod cost;
 pub mod decode;
 pub mod encode;
 mod frame;
@@ -10,6 +11,7 @@ pub mod image;
 pub mod instr;
 mod machine;
 pub mod method;
+pub mod plain;
 mod port;
 pub mod print;
 pub mod reader;
@@ -19,12 +21,16 @@ pub mod writer;
 
 pub use decode::{decode_at, decode_instr};
 pub use encode::encode_instr;
-pub use frames::{StepEnd, StepError};
+pub use frames::{Frames, StepEnd, StepError};
 pub use image::{Image, ImageError};
 pub use instr::Instr;
 pub use method::Method;
+pub use plain::{PlainEnd, PlainReport, run_plain};
 pub use print::{name, print_instr, print_name, target_of};
 pub use reader::read_image;
 pub use row::{Cost, Flow, Operands, Row};
 pub use run::RunEnd;
 pub use writer::write_image;
+
+#[cfg(test)]
+mod tests;

@@ -4,8 +4,9 @@ ghost use Rattle.std.specs.Prelude.{◌≡◌, ◌≢◌, ◌↔◌, ◌+◌, �
 ghost use Rattle.std.specs.Option.{option_flatten};
 ghost use Rattle.ijvm_definition.specs.Instructions.{instr_at};
 ghost use Rattle.ijvm_definition.specs.Image.{method_at};
+ghost use Rattle.ijvm_definition.specs.Cost.{are_equal};
 ghost use Rattle.ijvm_definition.specs.Frames.{Frame, base, top_of};
-ghost use Rattle.ijvm_definition.specs.Machine.{MachineView, ArePlaced, with_operands, in_call, in_caller, Pops, Stores, Swaps};
+ghost use Rattle.ijvm_definition.specs.Machine.{MachineView, ArePlaced, started, with_operands, in_call, in_caller, KeepsProgram, Pops, Stores, Swaps};
 
 use crate::decode::decode_at;
 use crate::frame::Frame;
@@ -18,7 +19,7 @@ use std::mem;
 
 /// Frames over an image.
 #[derive(Drop)]
-pub struct Machine {
+pub struct PlainMachine {
     alloc: Global,
     image: Image,
     stack_end: u32,
@@ -31,12 +32,20 @@ pub struct Machine {
     lv: u32,
 }
 
-impl Model for Machine {
+impl Model for PlainMachine {
     ghost Value = { MachineView };
 
     ghost view = { λ m. record { image = m.image; stack_end = m.stack_end; running = m.running; callers = reverse m.callers.items; at = m.at } };
 
     ghost invariant = { λ m. ArePlaced m.stack_end m.lv m.running (reverse m.callers.items) };
+}
+
+fn copy_image(alloc: Global, image: &Image) -> Result<Image, AllocError>
+    ensures { IfOk result (λ copy. copy ≡ image.now) }
+{
+    let text = Vec::from_slice(alloc, image.text())?;
+    let pool = Vec::from_slice(alloc, image.pool())?;
+    Ok(Image::new(text, pool))
 }
 
 /// Takes the nearest caller away.
@@ -58,7 +67,28 @@ fn give_back(callers: &mut Vec<Frame>, caller: Frame)
     callers.push(caller).unwrap();
 }
 
-impl Machine {
+impl PlainMachine {
+    /// The start of a run, with so many locals of main.
+    pub fn new(
+        alloc: Global,
+        image: &Image,
+        main_locals: u32,
+        stack_end: u32,
+    ) -> Result<PlainMachine, AllocError>
+        requires { 0x8000 + main_locals ≤ stack_end }
+        ensures { IfOk result (λ m. m ≡ started image.now stack_end main_locals) }
+    {
+        Ok(PlainMachine {
+            alloc,
+            image: copy_image(alloc, image)?,
+            stack_end,
+            running: Frame::main(alloc, main_locals)?,
+            callers: Vec::new(alloc),
+            at: 0,
+            lv: 0x8000,
+        })
+    }
+
     pub fn address(&self) -> u32
         ensures { result ≡ self.now.at }
     {
@@ -76,6 +106,7 @@ impl Machine {
     pub fn end(&self) -> u32
         ensures is { result ≡ base (self.now.running ∷ self.now.callers) }
         ensures fits { result ≤ self.now.stack_end }
+        ensures least { 0x8000 ≤ result }
     {
         self.lv + self.running.words()
     }
@@ -89,7 +120,8 @@ impl Machine {
 
     /// The whole instruction at the address.
     pub fn next(&self) -> Option<Instr>
-        ensures { result ≡ instr_at self.now.image.text self.now.at }
+        ensures is { result ≡ instr_at self.now.image.text self.now.at }
+        ensures inside { IfSome result (λ _. self.now.at < 65536) }
     {
         decode_at(self.image.text(), self.at)
     }
@@ -185,6 +217,13 @@ impl Machine {
         !self.callers.is_empty()
     }
 
+    /// Whether the last two operands are equal.
+    pub fn are_equal(&self) -> bool
+        ensures { result ≡ are_equal self.now.running.operands }
+    {
+        self.running.are_equal()
+    }
+
     /// How many operands the running frame has.
     pub fn depth(&self) -> usize
         ensures { result ≡ length self.now.running.operands }
@@ -227,6 +266,7 @@ impl Machine {
         requires caller { self.old.callers ≢ [] }
         requires method { self.old.running.back ≢ None }
         ensures ok { OnOk result ((f : Frame) (fs : List Frame) → self.old.callers ≡ f ∷ fs → self.new ≡ in_caller self.old back value f fs) }
+        ensures program { KeepsProgram self.old self.new }
         ensures err { OnErr result (self.new ≡ self.old) }
     {
         let mut caller = take_caller(&mut self.callers);

@@ -5,12 +5,12 @@ ghost use Rattle.mic_base.specs.Streams.{Holds};
 ghost use Rattle.console_port.specs.World.{next_byte};
 ghost use Rattle.console_port.specs.Console.{Untaken, Given, IsFault};
 ghost use Rattle.ijvm_definition.specs.Step.{read_in, given_out};
-ghost use Rattle.ijvm_definition.specs.Machine.{state_of, outcome_of};
+ghost use Rattle.ijvm_definition.specs.Machine.{KeepsProgram, state_of, outcome_of};
 ghost use Rattle.ijvm_definition.specs.Steps.{IsLedOn, IsCutOff, HasStepCause};
 
 use crate::compute::Effect;
 use crate::frames::StepError;
-use crate::machine::Machine;
+use crate::machine::PlainMachine;
 use console_port::{BusFault, Console};
 use mic_base::{Sink, Source};
 
@@ -59,7 +59,7 @@ fn give_byte<K: Sink>(console: &mut Console, byte: u8, sink: &mut K) -> Result<(
 
 /// Takes a byte of the console, and pushes it where the stack has room.
 pub fn read_in<S: Source, K: Sink>(
-    machine: &mut Machine,
+    machine: &mut PlainMachine,
     console: &mut Console,
     source: &mut S,
     sink: &mut K,
@@ -70,6 +70,7 @@ pub fn read_in<S: Source, K: Sink>(
     ensures err { IfErr result (IsCutOff (S.left source.old) (K.held sink.old) console.old (S.left source.new) (K.held sink.new) console.new) }
     ensures keeps { (front : List ℕ) → Holds front (K.held sink.old) → Holds front (K.held sink.new) }
     ensures cause { HasStepCause (S.faults source.old) (S.faults source.new) (K.faults sink.old) (K.faults sink.new) result }
+    ensures program { KeepsProgram machine.old machine.new }
 {
     if !machine.has_room(1) {
         take_byte(console, source, sink)?;
@@ -92,7 +93,7 @@ pub fn read_in<S: Source, K: Sink>(
 
 /// Gives the low byte of the top to the console, and drops the top.
 pub fn write_out<K: Sink>(
-    machine: &mut Machine,
+    machine: &mut PlainMachine,
     console: &mut Console,
     sink: &mut K,
 ) -> Result<Effect, StepError>
@@ -102,6 +103,7 @@ pub fn write_out<K: Sink>(
     ensures err { (left : Option (List ℕ)) → IfErr result (IsCutOff left (K.held sink.old) console.old left (K.held sink.new) console.new) }
     ensures keeps { (front : List ℕ) → Holds front (K.held sink.old) → Holds front (K.held sink.new) }
     ensures cause { HasStepCause 0 0 (K.faults sink.old) (K.faults sink.new) result }
+    ensures program { KeepsProgram machine.old machine.new }
 {
     let Some(value) = machine.top() else {
         return Ok(Effect::Stuck);

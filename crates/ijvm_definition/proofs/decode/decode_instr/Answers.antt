@@ -1,7 +1,7 @@
-use Rattle.std.proofs.Common.{◌≡◌, ◌<◌, ◌≤◌, All, ℕ, Option, Some, None, length, take, rules, sym, ◌∙◌, ap, subst}
+use Rattle.std.proofs.Common.{◌≡◌, ◌<◌, ◌≤◌, All, ℕ, Some, None, length, take, sym, ◌∙◌, ap, subst}
 use Rattle.std.proofs.lemmas.List.Elements.{All-from_get_or}
 use Rattle.ijvm_definition.specs.declared.instr.Instr.{Instr}
-use Rattle.ijvm_definition.specs.Instructions.{instr_at, row_of, size_of, Spells, IsInstr}
+use Rattle.ijvm_definition.specs.Instructions.{instr_at, row_of, size_of, Spells}
 use Rattle.ijvm_definition.proofs.Spelled.{front-decoded, decoded-front, length-spelled}
 use Rattle.ijvm_definition.proofs.decode.decode_instr.Goals as goal
 

@@ -1,6 +1,5 @@
-use Rattle.std.proofs.Common.{◌≡◌, ◌≤◌, ◌-◌, ◌/◌, ℕ, List, length, take, drop, ap, ◌∙◌, arith}
+use Rattle.std.proofs.Common.{◌≡◌, ◌-◌, ◌/◌, ℕ, length, take, drop, ap, ◌∙◌, arith}
 use Rattle.std.proofs.lemmas.List.{length-take}
-use Rattle.ijvm_definition.specs.ImageFile.{words_at}
 use Rattle.ijvm_definition.proofs.Files.{length-words_at}
 use Rattle.ijvm_definition.proofs.reader.image_of.Goals as goal
 

@@ -1,4 +1,4 @@
-use Rattle.std.proofs.Common.{◌≡◌, ℕ, ◌+◌, ◌*◌, List, [], ◌∷◌, ◌++◌, sym, ◌∙◌, ap}
+use Rattle.std.proofs.Common.{◌≡◌, ◌+◌, ◌*◌, [], ◌∷◌, ◌++◌}
 use Rattle.ijvm_definition.specs.ImageFile.{words_at, word_at}
 use Rattle.ijvm_definition.proofs.Files.{words_at-more}
 use Rattle.ijvm_definition.proofs.reader.words_at.Goals as goal

@@ -1,4 +1,4 @@
-use Rattle.std.proofs.Common.{◌≡◌, ◌<◌, ℕ, ◌+◌, List, [], ◌∷◌, ◌++◌, length, take, slice_index, append_assoc, ap, sym, ◌∙◌, arith}
+use Rattle.std.proofs.Common.{◌≡◌, ◌<◌, ℕ, List, ◌++◌, length, take, slice_index, append_assoc, ap, sym, ◌∙◌, arith}
 use Rattle.std.specs.List.{flat_map}
 use Rattle.ijvm_definition.specs.ImageFile.{word_bytes}
 use Rattle.ijvm_definition.proofs.Files.{flat_words-more}

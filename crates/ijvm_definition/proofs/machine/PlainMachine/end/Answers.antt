@@ -1,7 +1,7 @@
 use Rattle.std.proofs.Common.{◌≤◌, ◌<◌, ◌^◌, ◌+◌, reverse, length, arith}
 use Rattle.ijvm_definition.specs.Frames.{base, kept_words}
 use Rattle.ijvm_definition.proofs.Placed.{base_least}
-use Rattle.ijvm_definition.proofs.machine.Machine.end.Goals as goal
+use Rattle.ijvm_definition.proofs.machine.PlainMachine.end.Goals as goal
 
 pub words-requires : goal.words-requires
 words-requires c =
@@ -17,3 +17,8 @@ overflow_add-result c =
     c.self.invariant.fits in
     let word : c.self.inside.stack_end < 2 ^ 32 = c.self.invariant.word in
     record { fits = omega (arith, c.self.invariant.begins) }
+
+pub returns-clause-least : goal.returns-clause-least
+returns-clause-least c =
+    let least : 0x8000 ≤ base (reverse c.self.inside.callers.items) = base_least (reverse c.self.inside.callers.items) in
+    omega (arith, c.self.invariant.begins)

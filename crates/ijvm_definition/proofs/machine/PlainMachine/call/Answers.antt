@@ -4,7 +4,7 @@ use Rattle.ijvm_definition.specs.Frames.{Frame, base, kept_words}
 use Rattle.ijvm_definition.specs.Step.{called}
 use Rattle.ijvm_definition.specs.Machine.{MachineView, ArePlaced}
 use Rattle.ijvm_definition.proofs.Placed.{placed_call}
-use Rattle.ijvm_definition.proofs.machine.Machine.call.Goals as goal
+use Rattle.ijvm_definition.proofs.machine.PlainMachine.call.Goals as goal
 
 pub invariant_of-self-2 : goal.invariant_of-self-2
 invariant_of-self-2 c =

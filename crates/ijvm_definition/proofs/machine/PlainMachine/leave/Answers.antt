@@ -1,7 +1,6 @@
-use Rattle.std.proofs.Common.{◌≡◌, ◌<◌, ◌≤◌, ◌+◌, ◌^◌, ℕ, length, reverse, ◌∷◌, List, arith}
-use Rattle.ijvm_definition.specs.Frames.{Frame, kept_words}
-use Rattle.ijvm_definition.proofs.Placed.{caller_words, placed_leave}
-use Rattle.ijvm_definition.proofs.machine.Machine.leave.Goals as goal
+use Rattle.std.proofs.Common.{reverse}
+use Rattle.ijvm_definition.proofs.Placed.{caller_words}
+use Rattle.ijvm_definition.proofs.machine.PlainMachine.leave.Goals as goal
 
 pub words-words-requires : goal.words-words-requires
 words-words-requires c =
