@@ -1,0 +1,116 @@
+-- The count of main's locals.
+use Rattle.std.proofs.Common.{◌≡◌, ◌≢◌, ℕ, ◌+◌, ◌<◌, ◌≤◌, ◌⊎◌, inl, inr, Option, Some, None, List, length, refl, arith, ◌∙◌, ap, sym, subst}
+use Rattle.std.specs.Prelude.{slice_get}
+use Rattle.std.proofs.lemmas.Bool.{cases_lt}
+use Rattle.ijvm_definition.specs.declared.row.Row.{Row}
+use Rattle.ijvm_definition.specs.Instructions.{row_of, size_of}
+use Rattle.ijvm_definition.specs.Image.{ImageView}
+use Rattle.ijvm_verifier.specs.declared.kept.Kept.{Kept}
+use Rattle.ijvm_verifier.specs.declared.graph.Node.{Node}
+use Rattle.ijvm_verifier.specs.declared.error.VerifyError.{VerifyError}
+use Rattle.ijvm_verifier.specs.declared.error.VerifyError.TheVariants.{BadCode, FallsOff, BadTarget, Overlap, BadConstant, BadEntry, BadHeader, LinkSlot, BadLocal, UnsetLocal, TooFewArguments, Underflow, DepthDiffers, ReturnInMain, MainFrame, OutOfMemory}
+use Rattle.ijvm_verifier.specs.Paths.{HasRow}
+use Rattle.ijvm_verifier.specs.declared.kind.Kind.{Kind}
+use Rattle.ijvm_verifier.specs.Facts.{Names, IsMainCount, Holds, Accepts, Piece, Code, Header, Covers}
+use Rattle.ijvm_verifier.specs.Search.{kept_at, kept_of, IsClosed, IsDecided}
+use Rattle.ijvm_verifier.specs.Graph.{IsNodeOf, IsGraph}
+use Rattle.ijvm_verifier.specs.Counted.{NodeNames, IsCounted}
+use Rattle.ijvm_verifier.specs.Survey.{IsSurvey}
+use Rattle.ijvm_verifier.specs.Accepted.{IsVerified}
+use Rattle.ijvm_verifier.proofs.Rows.{size_fits, size_above, one_row}
+use Rattle.ijvm_verifier.proofs.Keeping.{closed_all}
+use Rattle.ijvm_verifier.proofs.Unsets.{method_inside}
+use Rattle.ijvm_verifier.proofs.Sounds.{keeps_sound}
+
+pub counted_none : (image : ImageView) → IsCounted image 0 0
+counted_none image = record { above = λ a r k h lt row unit names. absurd (omega arith); least = inl refl }
+
+pub counted_skip : (image : ImageView) (seen : List (Option Kept)) (n count : ℕ) → IsClosed image seen → IsCounted image n count → ((k : Kept) → slice_get seen n ≡ Some (Some k) → k.unit ≢ None) → IsCounted image (n + 1) count
+counted_skip image seen n count closed s other = record {
+  above = λ a r k h lt row unit names. elim (cases_lt a.at n) [
+    | inl old ↦ s.above a r k h old row unit names
+    | inr now ↦ let at : a.at ≡ n = omega arith in
+        absurd (other (kept_of a.unit a.depth) (ap (slice_get seen) (sym at) ∙ closed_all image seen closed a h) unit)
+  ];
+  least = s.least;
+}
+
+-- the node names what the row names
+named_by : (at : ℕ) (r : Row) (node : Node) (k : ℕ) → IsNodeOf at r node → Names r k → NodeNames node k
+named_by at r node k h (inl reads) = inl (h.reads ∙ reads)
+named_by at r node k h (inr stores) = inr (h.stores ∙ stores)
+
+names_by : (at : ℕ) (r : Row) (node : Node) (k : ℕ) → IsNodeOf at r node → NodeNames node k → Names r k
+names_by at r node k h (inl reads) = inl (sym h.reads ∙ reads)
+names_by at r node k h (inr stores) = inr (sym h.stores ∙ stores)
+
+pub counted_node : (image : ImageView) (seen : List (Option Kept)) (graph : List Node) (n count next : ℕ) (here : Kept) (node : Node) → IsClosed image seen → IsGraph image seen graph → IsCounted image n count →
+    slice_get seen n ≡ Some (Some here) → here.unit ≡ None → slice_get graph n ≡ Some node → count ≤ next → ((k : ℕ) → NodeNames node k → k < next) →
+    (next ≡ count) ⊎ ((k : ℕ) × NodeNames node k × (next ≡ k + 1)) → IsCounted image (n + 1) next
+counted_node image seen graph n count next here node closed g s is unit is_node keeps above least =
+    let d = (closed.done n here is).0 in
+    let of_row : IsNodeOf n d.0 node = (g.nodes n node is_node).here here d.0 is d.2.has_row in
+    record {
+      above = λ a q k h lt has main names. elim (cases_lt a.at n) [
+        | inl old ↦ let below : k < count = s.above a q k h old has main names in omega arith
+        | inr now ↦ let at : a.at ≡ n = omega arith in
+            let same : q ≡ d.0 = one_row image.text n d.0 q d.2.has_row (subst (λ (i : ℕ). HasRow image.text i q) at has) in
+            above k (named_by n d.0 node k of_row (subst (λ (x : Row). Names x k) same names))
+      ];
+      least = elim least [
+        | inl same ↦ elim s.least [ inl zero_is ↦ inl (same ∙ zero_is) | inr w ↦ inr (w.0, w.1, same ∙ w.2) ]
+        | inr w ↦ inr (w.0, (kept_at here n, d.0, closed.reached n here is, d.2.has_row, unit, names_by n d.0 node w.0 of_row w.1), w.2)
+      ];
+    }
+
+pub counted_all : (image : ImageView) (count : ℕ) → IsCounted image (length image.text) count → IsMainCount image count
+counted_all image count s = record {
+  above = λ k w. s.above w.0 w.1 k w.2 (row_inside w.0.at w.1 w.3) w.3 w.4 w.5;
+  least = s.least;
+}
+  where
+    row_inside : (at : ℕ) (r : Row) → HasRow image.text at r → at < length image.text
+    row_inside at r h =
+        let fits : at + size_of (row_of h.0) ≤ length image.text = size_fits image.text at h.0 h.1 in
+        let above : 0 < size_of (row_of h.0) = size_above (row_of h.0) in omega arith
+
+-- there is one such count
+one_count : (image : ImageView) (c d : ℕ) → IsMainCount image c → IsMainCount image d → c ≤ d
+one_count image c d h g = elim h.least [ inl zero_is ↦ omega arith | inr w ↦ let below : w.0 < d = g.above w.0 w.1 in omega (arith, w.2) ]
+
+-- accepted, by the two searches, the sweep and the count
+pub accepted : (image : ImageView) (z count : ℕ) → ((e : VerifyError) → IsDecided e → Holds image z e → ⊥) → ((at k : ℕ) → Holds image z (UnsetLocal at k) → ⊥) → ((b : ℕ) → Holds image z (Overlap b) → ⊥) → IsMainCount image count →
+    0x8000 + count ≤ z → Accepts image z
+accepted image z count s u o m fits (BadCode p) h = s (BadCode p) tt h
+accepted image z count s u o m fits (FallsOff p) h = s (FallsOff p) tt h
+accepted image z count s u o m fits (BadTarget p) h = s (BadTarget p) tt h
+accepted image z count s u o m fits (BadConstant p k) h = s (BadConstant p k) tt h
+accepted image z count s u o m fits (BadEntry k) h = s (BadEntry k) tt h
+accepted image z count s u o m fits (BadHeader p) h = s (BadHeader p) tt h
+accepted image z count s u o m fits (LinkSlot p) h = s (LinkSlot p) tt h
+accepted image z count s u o m fits (BadLocal p k) h = s (BadLocal p k) tt h
+accepted image z count s u o m fits (UnsetLocal p k) h = u p k h
+accepted image z count s u o m fits (TooFewArguments p x y) h = s (TooFewArguments p x y) tt h
+accepted image z count s u o m fits (Underflow p) h = s (Underflow p) tt h
+accepted image z count s u o m fits (ReturnInMain p) h = s (ReturnInMain p) tt h
+accepted image z count s u o m fits (DepthDiffers p x y) h = s (DepthDiffers p x y) tt h
+accepted image z count s u o m fits (Overlap p) h = o p h
+accepted image z count s u o m fits (MainFrame n) h = let le : n ≤ count = one_count image n count h.0 m in omega (arith, h.1)
+accepted image z count s u o m fits OutOfMemory h = s OutOfMemory tt h
+
+-- what is verified, by a survey and the size of main's frame
+pub verified : (image : ImageView) (main_locals methods : ℕ) (kinds : List Kind) → IsSurvey image main_locals methods kinds → 0x8000 + main_locals ≤ 0x10000 → IsVerified image main_locals methods kinds
+verified image main_locals methods kinds s fits =
+    let accepts : Accepts image 0x10000 = accepted image 0x10000 main_locals (s.decided 0x10000) (s.set 0x10000) (s.apart 0x10000) s.main fits in
+    record {
+      accepted = record { accepts = accepts; main = s.main; main_fits = omega arith; safe = (keeps_sound image 0x10000 main_locals accepts s.main).safe };
+      methods_are = s.methods_are;
+      kinds_are = s.kinds_are;
+    }
+
+-- nothing stands behind the text
+pub none_behind : (image : ImageView) (at : ℕ) → length image.text ≤ at → (p : Piece) → Covers image p at → ⊥
+none_behind image at past (Code u j) (a, reached, unit, place, q, row, low, high) =
+    let fits : j + size_of (row_of row.0) ≤ length image.text = size_fits image.text j row.0 row.1 in
+    let size : size_of q ≡ size_of (row_of row.0) = ap size_of row.2 in omega arith
+none_behind image at past (Header e) (method, low, high) = omega (arith, method_inside image e method.0 method.1 method.2)

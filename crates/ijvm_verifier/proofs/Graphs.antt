@@ -1,0 +1,66 @@
+-- The graph of the reached instructions, and the paths that carry a local as unset.
+use Rattle.std.proofs.Common.{◌≡◌, ℕ, ℤ, zero, suc, ◌+◌, ◌<◌, ◌⊎◌, inl, inr, Option, Some, None, List, [], ◌∷◌, ◌++◌, length, refl, arith, sym, subst}
+use Rattle.std.specs.Prelude.{slice_get}
+use Rattle.ijvm_definition.specs.declared.row.Row.{Row}
+use Rattle.ijvm_definition.specs.declared.row.Flow.{Flow}
+use Rattle.ijvm_definition.specs.declared.row.Flow.TheVariants.{Next, Jump, Branch, Call, Return, End}
+use Rattle.ijvm_definition.specs.Instructions.{size_of}
+use Rattle.ijvm_definition.specs.Image.{ImageView}
+use Rattle.ijvm_definition.specs.Step.{target}
+use Rattle.ijvm_verifier.specs.declared.kept.Kept.{Kept}
+use Rattle.ijvm_verifier.specs.declared.graph.Node.{Node}
+use Rattle.ijvm_verifier.specs.Paths.{Arrival, HasRow, GoesOn}
+use Rattle.ijvm_verifier.specs.Facts.{HasNext, HasJump}
+use Rattle.ijvm_verifier.specs.Search.{kept_at, IsChecked, IsClosed}
+use Rattle.ijvm_verifier.specs.Graph.{IsNodeOf, IsNodeAt}
+use Rattle.ijvm_verifier.proofs.Rows.{one_row}
+
+-- one element more at the end
+pub get_push : {X : Type 0} (xs : List X) (y v : X) (i : ℕ) → slice_get (xs ++ y ∷ []) i ≡ Some v → (slice_get xs i ≡ Some v) ⊎ ((i ≡ length xs) × (y ≡ v))
+get_push [] y v zero is = inr (refl, (cc))
+get_push [] y v (suc i) is = cc
+get_push (x ∷ xs) y v zero is = inl is
+get_push (x ∷ xs) y v (suc i) is = elim (get_push xs y v i is) [ inl old ↦ inl old | inr now ↦ inr (omega (arith, now.0), now.1) ]
+
+-- where a checked instruction's unit goes on is inside the text
+pub way_inside : (image : ImageView) (a : Arrival) (r : Row) (need to : ℕ) → IsChecked image a r need → GoesOn r.flow a.at (a.at + size_of r) to → to < length image.text
+way_inside image a r need to h = by_flow r.flow h.next h.jump
+  where
+    by_flow : (f : Flow) → (HasNext f → a.at + size_of r < length image.text) → ((o : ℤ) → HasJump f o → target a.at o < length image.text) → GoesOn f a.at (a.at + size_of r) to → to < length image.text
+    by_flow Next next jump way = rw way (next tt)
+    by_flow (Jump o) next jump way = rw way (jump o refl)
+    by_flow (Branch o) next jump way = elim way [ inl on ↦ rw on (next tt) | inr off ↦ rw off (jump o refl) ]
+    by_flow (Call k) next jump way = rw way (next tt)
+    by_flow Return next jump way = elim way [ ]
+    by_flow End next jump way = elim way [ ]
+
+-- the node of a kept address's instruction
+pub node_here : (image : ImageView) (seen : List (Option Kept)) (at : ℕ) (here : Kept) (r : Row) (node : Node) → IsClosed image seen → slice_get seen at ≡ Some (Some here) → HasRow image.text at r → IsNodeOf at r node →
+    IsNodeAt image seen at node
+node_here image seen at here r node closed is has h = record {
+  here = λ k q is_k has_q. subst (λ (x : Row). IsNodeOf at x node) (sym (one_row image.text at r q has has_q)) h;
+  inside = λ to leads.
+      let d = closed.done at here is in
+      let same : d.0.0 ≡ r = one_row image.text at r d.0.0 has d.0.2.has_row in
+      way_inside image (kept_at here at) r d.0.1 to (subst (λ (x : Row). IsChecked image (kept_at here at) x d.0.1) same d.0.2) (h.only to leads);
+}
+
+pub graph_push : (image : ImageView) (seen : List (Option Kept)) (graph : List Node) (node : Node) → ((at : ℕ) (n : Node) → slice_get graph at ≡ Some n → IsNodeAt image seen at n) → IsNodeAt image seen (length graph) node →
+    (at : ℕ) (n : Node) → slice_get (graph ++ node ∷ []) at ≡ Some n → IsNodeAt image seen at n
+graph_push image seen graph node h now at n is = elim (get_push graph node n at is) [
+  | inl old ↦ h at n old
+  | inr last ↦ subst (λ (i : ℕ). IsNodeAt image seen i n) (sym last.0) (subst (λ (x : Node). IsNodeAt image seen (length graph) x) last.1 now)
+]
+
+-- nothing is reached at this address
+pub node_nowhere : (image : ImageView) (seen : List (Option Kept)) (at : ℕ) → slice_get seen at ≡ Some None → IsNodeAt image seen at (record { next = None; jump = None; reads = None; stores = None })
+node_nowhere image seen at none = record {
+  here = λ k r is has. absurd (differ k is);
+  inside = λ to leads. elim leads [ inl on ↦ absurd (no to on) | inr off ↦ absurd (no to off) ];
+}
+  where
+    differ : (k : Kept) → slice_get seen at ≡ Some (Some k) → ⊥
+    differ k is = cc
+
+    no : (to : ℕ) → None ≡ Some to → ⊥
+    no to is = cc

@@ -1,0 +1,216 @@
+-- The sweep over the bytes.
+use Rattle.std.proofs.Common.{◌≡◌, ◌≢◌, ℕ, ◌+◌, ◌*◌, ◌<◌, ◌≤◌, inl, inr, Option, Some, None, List, [], ◌∷◌, ◌++◌, length, length-append, refl, arith, ◌∙◌, ap, sym, subst}
+use Rattle.std.specs.Prelude.{slice_get, slice_index_or, Contains}
+use Rattle.std.proofs.lemmas.Bool.{cases_lt, cases_eq}
+use Rattle.std.proofs.lemmas.List.Quantifiers.{all_pairs_push}
+use Rattle.std.proofs.lemmas.List.Elements.{Contains-append_left, Contains-push, Contains-push_cases, Contains-get_or}
+use Rattle.ijvm_definition.specs.declared.row.Row.{Row}
+use Rattle.ijvm_definition.specs.Instructions.{row_of, size_of}
+use Rattle.ijvm_definition.specs.Image.{ImageView}
+use Rattle.ijvm_verifier.specs.declared.kept.Kept.{Kept}
+use Rattle.ijvm_verifier.specs.declared.error.VerifyError.TheVariants.{Overlap}
+use Rattle.ijvm_verifier.specs.Paths.{arrival, HasRow, IsReachedMethod}
+use Rattle.ijvm_verifier.specs.Facts.{Piece, Code, Header, Covers, Holds, IsMethodCount}
+use Rattle.ijvm_verifier.specs.declared.kind.Kind.{Kind}
+use Rattle.ijvm_verifier.specs.Kinds.{first, IsKind}
+use Rattle.ijvm_verifier.specs.Search.{kept_at, kept_of, IsClosed}
+use Rattle.ijvm_verifier.specs.Sweep.{rank, IsSwept, AreMethodsBelow}
+use Rattle.ijvm_verifier.proofs.Rows.{size_fits, size_above, one_row}
+use Rattle.ijvm_verifier.proofs.Keeping.{closed_all}
+use Rattle.ijvm_verifier.proofs.Graphs.{get_push}
+use Rattle.ijvm_verifier.proofs.Unsets.{method_inside, entered_with}
+
+pub swept_none : (image : ImageView) → IsSwept image 0 0
+swept_none image = record { apart = λ p q b lp lq cp cq. absurd (omega arith); ends = λ p b l c. absurd (omega arith); last = λ b le lt. absurd (omega arith) }
+
+-- no piece of this rank
+pub swept_skip : (image : ImageView) (n end : ℕ) → IsSwept image n end → ((p : Piece) (b : ℕ) → rank p ≡ n → Covers image p b → ⊥) → IsSwept image (n + 1) end
+swept_skip image n end s free = record {
+  apart = λ p q b lp lq cp cq. s.apart p q b (below p b lp cp) (below q b lq cq) cp cq;
+  ends = λ p b l c. s.ends p b (below p b l c) c;
+  last = λ b le lt. let w = s.last b (omega arith) lt in (w.0, omega (arith, w.1), w.2);
+}
+  where
+    below : (p : Piece) (b : ℕ) → rank p < n + 1 → Covers image p b → rank p < n
+    below p b l c = elim (cases_lt (rank p) n) [ inl lt ↦ lt | inr ge ↦ absurd (free p b (omega arith) c) ]
+
+-- the piece of this rank, from an address on, behind all earlier ones
+pub swept_add : (image : ImageView) (n end at stop : ℕ) (new : Piece) → IsSwept image n end → end ≤ at → 2 * at ≤ n → rank new ≡ n → at < stop →
+    ((p : Piece) (b : ℕ) → rank p ≡ n → Covers image p b → (p ≡ new) × (at ≤ b) × (b < stop)) → ((b : ℕ) → at ≤ b → b < stop → Covers image new b) → IsSwept image (n + 1) stop
+swept_add image n end at stop new s behind low is above only covers = record {
+  apart = λ p q b lp lq cp cq. elim (cases_lt (rank p) n) [
+    | inl p_old ↦ elim (cases_lt (rank q) n) [
+      | inl q_old ↦ s.apart p q b p_old q_old cp cq
+      | inr q_new ↦ let w = only q b (omega arith) cq in let e : b < end = s.ends p b p_old cp in absurd (omega (arith, w.1))
+    ]
+    | inr p_new ↦ elim (cases_lt (rank q) n) [
+      | inl q_old ↦ let w = only p b (omega arith) cp in let e : b < end = s.ends q b q_old cq in absurd (omega (arith, w.1))
+      | inr q_new ↦ (only p b (omega arith) cp).0 ∙ sym (only q b (omega arith) cq).0
+    ]
+  ];
+  ends = λ p b l c. elim (cases_lt (rank p) n) [
+    | inl old ↦ let e : b < end = s.ends p b old c in omega arith
+    | inr now ↦ (only p b (omega arith) c).2
+  ];
+  last = λ b le lt. (new, omega arith, covers b (omega arith) lt);
+}
+
+-- the byte where a piece begins is another's too
+pub swept_clash : (image : ImageView) (z n end at : ℕ) (new : Piece) → IsSwept image n end → at < end → n ≤ 2 * at + 1 → rank new ≡ n → Covers image new at → Holds image z (Overlap at)
+swept_clash image z n end at new s inside low is covers =
+    let w = s.last at low inside in
+    (w.0, new, (λ e. absurd (omega (arith, w.1, ap rank e))), w.2, covers)
+
+-- an address's instruction is one piece
+pub code_only : (image : ImageView) (seen : List (Option Kept)) (at : ℕ) (here : Kept) (r : Row) → IsClosed image seen → slice_get seen at ≡ Some (Some here) → HasRow image.text at r →
+    (p : Piece) (b : ℕ) → rank p ≡ 2 * at → Covers image p b → (p ≡ Code here.unit at) × (at ≤ b) × (b < at + size_of r)
+code_only image seen at here r closed is has_row (Code u j) b same (a, reached, unit, place, q, row, low, high) =
+    let e : j ≡ at = omega arith in
+    let kept : slice_get seen a.at ≡ Some (Some (kept_of a.unit a.depth)) = closed_all image seen closed a reached in
+    let one : kept_of a.unit a.depth ≡ here = only (slice_get seen at) (ap (slice_get seen) (sym (place ∙ e)) ∙ kept) is in
+    let u_is : u ≡ here.unit = sym unit ∙ ap (λ (k : Kept). k.unit) one in
+    let row_is : q ≡ r = one_row image.text at r q has_row (subst (λ (i : ℕ). HasRow image.text i q) e row) in
+    let size : size_of q ≡ size_of r = ap size_of row_is in
+    ((λ i. Code (u_is i) (e i)), omega arith, omega arith)
+  where
+    only : (o : Option (Option Kept)) → o ≡ Some (Some (kept_of a.unit a.depth)) → o ≡ Some (Some here) → kept_of a.unit a.depth ≡ here
+    only o p q = cc
+code_only image seen at here r closed is has_row (Header e) b same c = absurd (omega arith)
+
+pub code_none : (image : ImageView) (seen : List (Option Kept)) (at : ℕ) → IsClosed image seen → slice_get seen at ≡ Some None → (p : Piece) (b : ℕ) → rank p ≡ 2 * at → Covers image p b → ⊥
+code_none image seen at closed is (Code u j) b same (a, reached, unit, place, q, row, low, high) =
+    let e : j ≡ at = omega arith in
+    let kept : slice_get seen a.at ≡ Some (Some (kept_of a.unit a.depth)) = closed_all image seen closed a reached in
+    let here : slice_get seen at ≡ Some (Some (kept_of a.unit a.depth)) = ap (slice_get seen) (sym (place ∙ e)) ∙ kept in cc
+code_none image seen at closed is (Header e) b same c = absurd (omega arith)
+
+pub code_covers : (image : ImageView) (seen : List (Option Kept)) (at : ℕ) (here : Kept) (r : Row) → IsClosed image seen → slice_get seen at ≡ Some (Some here) → HasRow image.text at r →
+    (b : ℕ) → at ≤ b → b < at + size_of r → Covers image (Code here.unit at) b
+code_covers image seen at here r closed is has_row b low high = (kept_at here at, closed.reached at here is, refl, refl, r, has_row, low, high)
+
+pub header_only : (image : ImageView) (at : ℕ) → (p : Piece) (b : ℕ) → rank p ≡ 2 * at + 1 → Covers image p b → (p ≡ Header at) × (at ≤ b) × (b < at + 4)
+header_only image at (Code u j) b same c = absurd (omega arith)
+header_only image at (Header e) b same (method, low, high) = let is : e ≡ at = omega arith in (ap Header is, omega arith, omega arith)
+
+pub header_none : (image : ImageView) (at : ℕ) → (IsReachedMethod image at → ⊥) → (p : Piece) (b : ℕ) → rank p ≡ 2 * at + 1 → Covers image p b → ⊥
+header_none image at other (Code u j) b same c = absurd (omega arith)
+header_none image at other (Header e) b same (method, low, high) = let is : e ≡ at = omega arith in other (subst (λ (x : ℕ). IsReachedMethod image x) is method)
+
+-- the kept start of a method says that it is reached, and each reached one is kept
+pub entry_kept : (image : ImageView) (seen : List (Option Kept)) (at : ℕ) (here : Kept) → IsClosed image seen → slice_get seen (at + 4) ≡ Some (Some here) → here.unit ≡ Some at → IsReachedMethod image at
+entry_kept image seen at here closed is unit = (kept_at here (at + 4), closed.reached (at + 4) here is, unit)
+
+pub kept_entry : (image : ImageView) (seen : List (Option Kept)) (at : ℕ) → IsClosed image seen → IsReachedMethod image at → slice_get seen (at + 4) ≡ Some (Some (kept_of (Some at) 0))
+kept_entry image seen at closed m = closed_all image seen closed (arrival (Some at) (at + 4) 0 None) (entered_with image at None tt m.0 m.1 m.2)
+
+-- a byte behind the pieces so far, where none begins
+pub swept_free : (image : ImageView) (at end : ℕ) → IsSwept image (2 * at) end → end ≤ at → ((p : Piece) (b : ℕ) → rank p ≡ 2 * at → Covers image p b → ⊥) → ((p : Piece) (b : ℕ) → rank p ≡ 2 * at + 1 → Covers image p b → ⊥) →
+    (p : Piece) → Covers image p at → ⊥
+swept_free image at end s past no_code no_header p c = elim (cases_lt (rank p) (2 * at)) [
+  | inl old ↦ let e : at < end = s.ends p at old c in omega arith
+  | inr new ↦ elim (cases_eq (rank p) (2 * at)) [
+    | inl code ↦ no_code p at code c
+    | inr ne ↦ elim (cases_eq (rank p) (2 * at + 1)) [
+      | inl header ↦ no_header p at header c
+      | inr other ↦ ahead p c (omega arith)
+    ]
+  ]
+]
+  where
+    ahead : (q : Piece) → Covers image q at → 2 * at + 2 ≤ rank q → ⊥
+    ahead (Code u j) (a, reached, unit, place, r, row, low, high) above = omega arith
+    ahead (Header e) (method, low, high) above = omega arith
+
+-- a byte of a piece that begins before it
+pub swept_inside : (image : ImageView) (at end : ℕ) → IsSwept image (2 * at) end → at < end → (p : Piece) × Covers image p at × (first p < at)
+swept_inside image at end s inside = let w = s.last at (omega arith) inside in (w.0, w.2, before w.0 w.1)
+  where
+    before : (p : Piece) → rank p < 2 * at → first p < at
+    before (Code u j) lt = omega arith
+    before (Header e) lt = omega arith
+
+-- at the end no byte belongs to two
+pub none_overlap : (image : ImageView) (end : ℕ) → IsSwept image (2 * length image.text) end → (z b : ℕ) → Holds image z (Overlap b) → ⊥
+none_overlap image end s z b (p, q, ne, cp, cq) = ne (s.apart p q b (met p cp) (met q cq) cp cq)
+  where
+    met : (o : Piece) → Covers image o b → rank o < 2 * length image.text
+    met (Code u j) (a, reached, unit, place, q, row, low, high) = let lt : b < length image.text = row_inside row high in omega arith
+      where
+        row_inside : HasRow image.text j q → b < j + size_of q → b < length image.text
+        row_inside w below =
+            let fits : j + size_of (row_of w.0) ≤ length image.text = size_fits image.text j w.0 w.1 in
+            let size : size_of q ≡ size_of (row_of w.0) = ap size_of w.2 in omega arith
+    met (Header e) ((a, reached, unit), low, high) = let lt : e + 4 < length image.text = method_inside image e a reached unit in omega arith
+
+-- one method more, and none
+pub methods_none : (image : ImageView) → AreMethodsBelow image 0 0
+methods_none image = record {
+  entries = [];
+  apart = λ i j d lt inside. absurd (omega arith);
+  members = λ e. ((λ has. absurd (omega (arith, has.1))), (λ w. absurd (omega (arith, w.0))));
+  count_is = refl;
+  few = omega arith;
+}
+
+pub methods_add : (image : ImageView) (n count : ℕ) → AreMethodsBelow image n count → IsReachedMethod image n → AreMethodsBelow image (n + 1) (count + 1)
+methods_add image n count m here = record {
+  entries = m.entries ++ n ∷ [];
+  apart = all_pairs_push (λ e f. e ≢ f) m.entries n m.apart (λ k d lt same. absurd (old k d lt same));
+  members = λ e. (
+    (λ has. elim (Contains-push_cases m.entries n e has) [
+      | inl before ↦ let w = (m.members e).0 before in (omega (arith, w.0), w.1)
+      | inr same ↦ (omega arith, subst (λ (x : ℕ). IsReachedMethod image x) same here)
+    ]),
+    (λ w. elim (cases_lt e n) [
+      | inl before ↦ Contains-append_left m.entries (n ∷ []) e ((m.members e).1 (before, w.1))
+      | inr last ↦ let same : n ≡ e = omega (arith, w.0) in subst (λ (x : ℕ). Contains (m.entries ++ n ∷ []) x) same (Contains-push m.entries n)
+    ]),
+  );
+  count_is = omega (arith, m.count_is, length-append m.entries (n ∷ []));
+  few = omega (arith, m.few);
+}
+  where
+    old : (k d : ℕ) → k < length m.entries → slice_index_or m.entries k d ≡ n → ⊥
+    old k d lt same =
+        let w = (m.members (slice_index_or m.entries k d)).0 (Contains-get_or m.entries k d lt) in omega (arith, w.0)
+
+pub methods_skip : (image : ImageView) (n count : ℕ) → AreMethodsBelow image n count → (IsReachedMethod image n → ⊥) → AreMethodsBelow image (n + 1) count
+methods_skip image n count m none = record {
+  entries = m.entries;
+  apart = m.apart;
+  members = λ e. (
+    (λ has. let w = (m.members e).0 has in (omega (arith, w.0), w.1)),
+    (λ w. elim (cases_lt e n) [
+      | inl before ↦ (m.members e).1 (before, w.1)
+      | inr last ↦ let same : e ≡ n = omega (arith, w.0) in absurd (none (subst (λ (x : ℕ). IsReachedMethod image x) same w.1))
+    ]),
+  );
+  count_is = m.count_is;
+  few = omega (arith, m.few);
+}
+
+pub methods_all : (image : ImageView) (count : ℕ) → AreMethodsBelow image (length image.text) count → IsMethodCount image count
+methods_all image count m = record {
+  entries = m.entries;
+  apart = m.apart;
+  members = λ e. ((λ has. ((m.members e).0 has).1), (λ w. (m.members e).1 (inside e w, w)));
+  count_is = m.count_is;
+}
+  where
+    inside : (e : ℕ) → IsReachedMethod image e → e < length image.text
+    inside e w = omega (arith, method_inside image e w.0 w.1 w.2)
+
+-- a kept address is an instruction's first
+pub kept_start : (image : ImageView) (seen : List (Option Kept)) (at : ℕ) (here : Kept) → IsClosed image seen → slice_get seen at ≡ Some (Some here) → (unit : Option ℕ) × Covers image (Code unit at) at
+kept_start image seen at here closed is =
+    let d = (closed.done at here is).0 in
+    let above : 0 < size_of d.0 = size_above d.0 in
+    (here.unit, code_covers image seen at here d.0 closed is d.2.has_row at (omega arith) (omega arith))
+
+-- one kind more
+pub kinds_push : (image : ImageView) (kinds : List Kind) (n : ℕ) (kind : Kind) → length kinds ≡ n → ((at : ℕ) (k : Kind) → slice_get kinds at ≡ Some k → IsKind image at k) → IsKind image n kind →
+    (at : ℕ) (k : Kind) → slice_get (kinds ++ kind ∷ []) at ≡ Some k → IsKind image at k
+kinds_push image kinds n kind long h now at k is = elim (get_push kinds kind k at is) [
+  | inl old ↦ h at k old
+  | inr last ↦ subst (λ (i : ℕ). IsKind image i k) (sym (last.0 ∙ long)) (subst (λ (x : Kind). IsKind image n x) last.1 now)
+]

@@ -1,0 +1,9 @@
+use Rattle.std.proofs.Common.{◌≡◌, ℕ, arith, subst, length}
+use Rattle.ijvm_verifier.specs.Counted.{IsCounted}
+use Rattle.ijvm_verifier.proofs.Counts.{counted_all}
+use Rattle.ijvm_verifier.proofs.count.count_locals.Goals as goal
+
+pub returns-clause-counted : goal.returns-clause-counted
+returns-clause-counted c =
+    let end : c.loop-at.at ≡ length c.args.image.now.text = omega (arith, c.requires.closed.long) in
+    counted_all c.args.image.now c.loop-at.count (subst (λ (n : ℕ). IsCounted c.args.image.now n c.loop-at.count) end c.loop-at.invariant.counted)

@@ -1,0 +1,6 @@
+use Rattle.std.proofs.Common.{◌≤◌}
+use Rattle.ijvm_verifier.specs.Counted.{IsCounted}
+use Rattle.ijvm_verifier.proofs.count.count_locals.Given as goal
+
+abbrev pub invariant-loop-at : goal.invariant-loop-at
+invariant-loop-at l = record { counted : IsCounted l.image l.at l.count; small : l.count ≤ 65536 }

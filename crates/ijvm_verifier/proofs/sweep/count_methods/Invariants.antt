@@ -1,0 +1,5 @@
+use Rattle.ijvm_verifier.specs.Sweep.{AreMethodsBelow}
+use Rattle.ijvm_verifier.proofs.sweep.count_methods.Given as goal
+
+abbrev pub invariant-loop-at : goal.invariant-loop-at
+invariant-loop-at l = AreMethodsBelow l.image l.at l.count

@@ -1,0 +1,18 @@
+use Rattle.std.proofs.Common.{◌≡◌, ◌*◌, ◌++◌, ◌∷◌, [], ◌∙◌, ℕ, arith, ap, subst, length, length-append}
+use Rattle.ijvm_verifier.specs.Sweep.{IsSwept}
+use Rattle.ijvm_verifier.proofs.Swept.{none_overlap, kinds_push}
+use Rattle.ijvm_verifier.proofs.sweep.sweep_all.Goals as goal
+
+pub loop-at-preserved : goal.loop-at-preserved
+loop-at-preserved c =
+    let is : c.push.new.self.items ≡ c.loop-at.kinds.items ++ c.kind_of.result ∷ [] = c.in_ok-push.ensures.items in
+    record {
+      swept = subst (λ (n : ℕ). IsSwept c.args.image.now n c.in_ok-end-2.end) (omega arith) c.in_ok-end-2.ensures.ok;
+      long = ap length is ∙ omega (arith, length-append c.loop-at.kinds.items (c.kind_of.result ∷ []), c.loop-at.invariant.long);
+      kinds = rw is (kinds_push c.args.image.now c.loop-at.kinds.items c.loop-at.at c.kind_of.result c.loop-at.invariant.long c.loop-at.invariant.kinds c.kind_of.ensures);
+    }
+
+pub returns-clause-apart : goal.returns-clause-apart
+returns-clause-apart c =
+    let end : 2 * c.loop-at.at ≡ 2 * length c.args.image.now.text = omega (arith, c.requires.closed.long) in
+    none_overlap c.args.image.now c.loop-at.end (subst (λ (n : ℕ). IsSwept c.args.image.now n c.loop-at.end) end c.loop-at.invariant.swept)

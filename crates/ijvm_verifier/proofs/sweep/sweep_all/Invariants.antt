@@ -1,0 +1,13 @@
+use Rattle.std.proofs.Common.{◌≡◌, ◌*◌, ℕ, Some, length}
+use Rattle.std.specs.Prelude.{slice_get}
+use Rattle.ijvm_verifier.specs.declared.kind.Kind.{Kind}
+use Rattle.ijvm_verifier.specs.Kinds.{IsKind}
+use Rattle.ijvm_verifier.specs.Sweep.{IsSwept}
+use Rattle.ijvm_verifier.proofs.sweep.sweep_all.Given as goal
+
+abbrev pub invariant-loop-at : goal.invariant-loop-at
+invariant-loop-at l = record {
+  swept : IsSwept l.image (2 * l.at) l.end;
+  long : length l.kinds.items ≡ l.at;
+  kinds : (at : ℕ) (kind : Kind) → slice_get l.kinds.items at ≡ Some kind → IsKind l.image at kind;
+}

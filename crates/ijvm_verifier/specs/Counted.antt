@@ -1,0 +1,14 @@
+-- The locals that main names, as far as the count has come.
+use Rattle.std.specs.Prelude.{◌≡◌, ℕ, ◌+◌, ◌<◌, ◌⊎◌, None, Some}
+use Rattle.ijvm_definition.specs.declared.row.Row.{Row}
+use Rattle.ijvm_definition.specs.Image.{ImageView}
+use Rattle.ijvm_verifier.specs.declared.graph.Node.{Node}
+use Rattle.ijvm_verifier.specs.Paths.{Arrival, HasRow, Reached}
+use Rattle.ijvm_verifier.specs.Facts.{Names, MainNames}
+
+abbrev pub NodeNames : Node → ℕ → Type 0
+NodeNames node k = (node.reads ≡ Some k) ⊎ (node.stores ≡ Some k)
+
+pub record IsCounted (image : ImageView) (n count : ℕ) : Type 0 where
+  pub above : (a : Arrival) (r : Row) (k : ℕ) → Reached image a → a.at < n → HasRow image.text a.at r → a.unit ≡ None → Names r k → k < count
+  pub least : (count ≡ 0) ⊎ ((k : ℕ) × MainNames image k × (count ≡ k + 1))

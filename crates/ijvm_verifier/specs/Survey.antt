@@ -1,0 +1,18 @@
+-- What the searches find where nothing is wrong but perhaps the size of main's frame.
+use Rattle.std.specs.Prelude.{ℕ, ◌≤◌, List}
+use Rattle.ijvm_definition.specs.Image.{ImageView}
+use Rattle.ijvm_verifier.specs.declared.error.VerifyError.{VerifyError}
+use Rattle.ijvm_verifier.specs.declared.error.VerifyError.TheVariants.{UnsetLocal, Overlap}
+use Rattle.ijvm_verifier.specs.declared.kind.Kind.{Kind}
+use Rattle.ijvm_verifier.specs.Facts.{Holds, IsMainCount, IsMethodCount}
+use Rattle.ijvm_verifier.specs.Kinds.{AreKinds}
+use Rattle.ijvm_verifier.specs.Search.{IsDecided}
+
+pub record IsSurvey (image : ImageView) (main_locals methods : ℕ) (kinds : List Kind) : Type 0 where
+  pub decided : (stack_end : ℕ) (e : VerifyError) → IsDecided e → Holds image stack_end e → ⊥
+  pub set : (stack_end at k : ℕ) → Holds image stack_end (UnsetLocal at k) → ⊥
+  pub apart : (stack_end byte : ℕ) → Holds image stack_end (Overlap byte) → ⊥
+  pub main : IsMainCount image main_locals
+  pub main_few : main_locals ≤ 65536
+  pub methods_are : IsMethodCount image methods
+  pub kinds_are : AreKinds image kinds

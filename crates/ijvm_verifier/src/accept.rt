@@ -1,0 +1,71 @@
+//! Verifying an image.
+
+ghost use Rattle.std.specs.Prelude.{◌≡◌, ◌⊎◌, ◌≤◌, IfOk, IfErr};
+ghost use Rattle.ijvm_verifier.specs.Facts.{Holds};
+ghost use Rattle.ijvm_verifier.specs.Search.{States};
+ghost use Rattle.ijvm_verifier.specs.Survey.{IsSurvey};
+ghost use Rattle.ijvm_verifier.specs.Accepted.{IsAccepted};
+
+use crate::code::text_len;
+use crate::count::count_locals;
+use crate::error::VerifyError;
+use crate::graph::graph_of;
+use crate::kind::Kind;
+use crate::search::search_all;
+use crate::sweep::{count_methods, sweep_all};
+use crate::unset::check_locals;
+use crate::verified::VerifiedImage;
+use console_port::MemoryMap;
+use ijvm_definition::Image;
+use std::alloc::Global;
+
+/// The word address of main's first local.
+const LOCALS: u32 = 0x8000;
+
+/// What the searches find in an image.
+#[derive(Drop)]
+struct Survey {
+    main_locals: u32,
+    methods: u32,
+    kinds: Vec<Kind>,
+}
+
+/// What is found, if nothing is wrong but perhaps the size of main's frame.
+fn survey_of(alloc: Global, image: &Image) -> Result<Survey, VerifyError>
+    ensures ok { IfOk result (λ s. IsSurvey image.now s.main_locals s.methods s.kinds.items) }
+    ensures err { IfErr result (λ e. States image.now e) }
+{
+    let _len = text_len(image);
+    let seen = search_all(alloc, image)?;
+    let graph = match graph_of(alloc, image, &seen) {
+        Ok(graph) => graph,
+        Err(_) => return Err(VerifyError::OutOfMemory),
+    };
+    check_locals(alloc, image, &seen, &graph)?;
+    let kinds = sweep_all(alloc, image, &seen)?;
+    let main_locals = count_locals(image, &seen, &graph);
+    let methods = count_methods(image, &seen);
+    Ok(Survey {
+        main_locals,
+        methods,
+        kinds,
+    })
+}
+
+/// The image, if it is accepted. A refused image is given up; where several facts of it are true, any one of them is told.
+pub fn verify(alloc: Global, image: Image, map: MemoryMap) -> Result<VerifiedImage, VerifyError>
+    requires { map ≡ MemoryMap.STANDARD }
+    ensures image { IfOk result (λ v. v.image ≡ image) }
+    ensures accepted { IfOk result IsAccepted }
+    ensures refused { IfErr result (λ e. (e ≡ VerifyError.OutOfMemory) ⊎ Holds image map.stack_end e) }
+{
+    match survey_of(alloc, &image) {
+        Err(error) => Err(error),
+        Ok(found) => {
+            if map.stack_end < LOCALS + found.main_locals {
+                return Err(VerifyError::MainFrame(found.main_locals));
+            }
+            Ok(VerifiedImage::new(image, found.main_locals, found.methods, found.kinds))
+        }
+    }
+}
