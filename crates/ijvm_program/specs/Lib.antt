@@ -1,0 +1,3 @@
+pub mod Unit
+pub mod Layout
+pub mod Program

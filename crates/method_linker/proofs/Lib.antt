@@ -1,0 +1,7 @@
+pub mod Places
+pub mod Pushed
+pub mod Texts
+pub mod Linkable
+pub mod Images
+pub mod Checked
+mod Examples

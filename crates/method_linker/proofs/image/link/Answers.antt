@@ -1,0 +1,9 @@
+use Rattle.std.proofs.Common.{arith, ap, length}
+use Rattle.method_linker.proofs.Texts.{length-text, length-pool}
+use Rattle.method_linker.proofs.image.link.Goals as goal
+
+pub new-requires : goal.new-requires
+new-requires c = record {
+  text_fits = omega (arith, ap length c.in_ok-text.ensures.0, length-text c.args.program.now);
+  pool_fits = omega (arith, ap length c.in_ok-pool.ensures, length-pool c.args.program.now);
+}

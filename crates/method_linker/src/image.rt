@@ -1,0 +1,52 @@
+//! The image of a program.
+
+ghost use Rattle.std.specs.Prelude.{◌≡◌, ◌≤◌, None, MatchResult, IfOk, IfErr};
+ghost use Rattle.ijvm_program.specs.Layout.{text_size};
+ghost use Rattle.method_linker.specs.Linked.{text, distances, first_far, pool_size, IsLinked, IsRefused};
+ghost use Rattle.method_linker.specs.Steps.{IsStopped};
+
+use crate::code::push_code;
+use crate::error::LinkError;
+use crate::method::push_methods;
+use crate::pool::{pool_of, pool_size};
+use crate::size::text_size;
+use ijvm_definition::Image;
+use ijvm_program::Program;
+use std::alloc::Global;
+
+/// The words that a pool has room for.
+const MOST_WORDS: u32 = 16_384;
+
+/// The bytes that a text has room for.
+const MOST_BYTES: u32 = 65_536;
+
+/// Main's code, and then the methods in order.
+fn text_of(alloc: Global, program: &Program) -> Result<Vec<u8>, LinkError>
+    requires pool { pool_size program.now ≤ 16384 }
+    requires text { text_size program.now.main program.now.methods ≤ 65536 }
+    ensures { MatchResult result (λ bytes. (bytes.items ≡ text program.now) × (first_far (distances program.now) ≡ None)) (IsStopped (distances program.now)) }
+{
+    let first = program.constants().len() as u32;
+    let mut text = Vec::new(alloc);
+    push_code(alloc, &mut text, program.main().lines(), first)?;
+    push_methods(alloc, &mut text, program.methods(), first)?;
+    Ok(text)
+}
+
+/// The image of a program, or the first limit that it exceeds.
+pub fn link(alloc: Global, program: &Program) -> Result<Image, LinkError>
+    ensures linked { IfOk result (IsLinked program.now) }
+    ensures refused { IfErr result (IsRefused program.now) }
+{
+    let count = pool_size(program);
+    if count > MOST_WORDS {
+        return Err(LinkError::PoolTooLong(count));
+    }
+    let size = text_size(program);
+    if size > MOST_BYTES {
+        return Err(LinkError::TextTooLong(size));
+    }
+    let text = text_of(alloc, program)?;
+    let pool = pool_of(alloc, program)?;
+    Ok(Image::new(text, pool))
+}

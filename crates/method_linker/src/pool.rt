@@ -1,0 +1,43 @@
+//! The constant pool.
+
+ghost use Rattle.std.specs.Prelude.{◌≡◌, ◌++◌, length, map, IfOk, OnOk};
+ghost use Rattle.std.specs.List.{range_with_len};
+ghost use Rattle.ijvm_program.specs.Layout.{entry_of};
+ghost use Rattle.method_linker.specs.Linked.{pool, pool_size};
+
+use crate::size::{code_size, method_size};
+use ijvm_program::Program;
+use std::alloc::{AllocError, Global};
+
+/// The number of constants and methods.
+pub fn pool_size(program: &Program) -> u32
+    ensures { result ≡ pool_size program.now }
+{
+    program.constants().len() as u32 + program.methods().len() as u32
+}
+
+/// Appends the entries of the methods.
+fn push_entries(pool: &mut Vec<u32>, program: &Program) -> Result<(), AllocError>
+    ensures { OnOk result (pool.new.items ≡ pool.old.items ++ map (entry_of program.now.main program.now.methods) (range_with_len 0 (length program.now.methods))) }
+{
+    let methods = program.methods();
+    let mut entry = code_size(program.main().lines());
+    for method in methods {
+        pool.push(entry)?;
+        entry += method_size(method);
+    }
+    Ok(())
+}
+
+#[tactic(auto, unfolding(crate::specs::Linked::pool))]
+pub fn pool_of(alloc: Global, program: &Program) -> Result<Vec<u32>, AllocError>
+    ensures { IfOk result (λ words. words.items ≡ pool program.now) }
+{
+    let mut pool = program
+        .constants()
+        .iter()
+        .map(|c| c.value)
+        .collect::<Vec<u32>>(alloc)?;
+    push_entries(&mut pool, program)?;
+    Ok(pool)
+}
