@@ -1,0 +1,10 @@
+pub mod Saying
+pub mod Outcome
+pub mod Fitting
+pub mod Sectioning
+pub mod Sections
+pub mod Constants
+pub mod Units
+pub mod InOrder
+pub mod Mains
+pub mod Methods

@@ -1,0 +1,104 @@
+-- The lines of a method make what the method says.
+use Rattle.std.proofs.Common.{◌≡◌, ℕ, ◌+◌, ◌≤◌, Bool, true, false, List, [], ◌∷◌, ◌++◌, map, length, Option, Some, None, refl, ap, sym, subst, ◌∙◌, arith, cond}
+use Rattle.std.specs.Prelude.{◌||◌, not, Ok, is_some, nat_lt}
+use Rattle.std.proofs.lemmas.List.{append_assoc}
+use Rattle.std.proofs.lemmas.Bool.Decides.{nat_tests}
+use Rattle.ijvm_line.specs.declared.place.Mark.TheVariants as marks
+use Rattle.ijvm_line.specs.declared.place.Place.TheVariants as places
+use Rattle.name_list.specs.Places as names
+use Rattle.ijvm_asm.specs.declared.error.AsmError.TheVariants as errors
+use Rattle.ijvm_asm.specs.Drafts.{begun}
+use Rattle.ijvm_asm.specs.Source.{gather, is_declared, method_by, Source}
+use Rattle.ijvm_asm.specs.Sections.{Body, Build, code_line, Dotted, locals_lines, Method, section_lines}
+use Rattle.ijvm_asm.specs.Parts.{AreParameters, code_from, MakesMethod}
+use Rattle.ijvm_asm.proofs.Constants.{both, if_ok, neither, nil, none, ok, ok_if}
+use Rattle.ijvm_asm.proofs.Units.{code_makes, makes_code}
+use Rattle.ijvm_asm.proofs.InOrder.{join, split}
+use Rattle.ijvm_asm.proofs.Mains.{open_locals, opens, opens_code}
+
+gathered : (ps seen qs : List (List ℕ)) → gather seen ps ≡ Some qs → AreParameters seen ps × (qs ≡ seen ++ ps)
+gathered [] seen qs h = let q : seen ≡ qs = cc in (tt, sym q ∙ sym (nil seen))
+gathered (n ∷ ns) seen qs h = go (names.place_of seen n) refl (gathered ns (seen ++ n ∷ []) qs) h
+  where
+    go : (o : Option ℕ) → names.place_of seen n ≡ o → (gather (seen ++ n ∷ []) ns ≡ Some qs → AreParameters (seen ++ n ∷ []) ns × (qs ≡ (seen ++ n ∷ []) ++ ns)) → cond (is_some o) None (gather (seen ++ n ∷ []) ns) ≡ Some qs → AreParameters seen (n ∷ ns) × (qs ≡ seen ++ n ∷ ns)
+    go None e f h = let r = f h in ((e, r.0), r.1 ∙ append_assoc seen (n ∷ []) ns)
+    go (Some i) e f h = absurd (cc)
+
+gathers : (ps seen : List (List ℕ)) → AreParameters seen ps → gather seen ps ≡ Some (seen ++ ps)
+gathers [] seen a = ap Some (sym (nil seen))
+gathers (n ∷ ns) seen a = ap (λ o. cond (is_some o) None (gather (seen ++ n ∷ []) ns)) a.0 ∙ (gathers ns (seen ++ n ∷ []) a.1 ∙ ap Some (append_assoc seen (n ∷ []) ns))
+
+few : (n : ℕ) → nat_lt 65534 n ≡ false → n ≤ 65534
+few n h = grind (arith, nat_tests)
+
+not_many : (n : ℕ) → n ≤ 65534 → nat_lt 65534 n ≡ false
+not_many n h = go (nat_lt 65534 n) refl
+  where
+    go : (b : Bool) → nat_lt 65534 n ≡ b → b ≡ false
+    go false e = refl
+    go true e = absurd (grind (arith, nat_tests))
+
+not_false : (b : Bool) → not b ≡ false → b ≡ true
+not_false true h = refl
+not_false false h = absurd (cc)
+
+abbrev opened : ℕ → Source → List ℕ → List (List ℕ) → Source
+opened k s n ps = record s { place = places.Code; section = k; may_declare = true; methods = s.methods ++ n ∷ []; unit = begun (Some n) ps }
+
+abbrev ended : Source → Source
+ended w = record w { place = places.Outside; unit = begun None []; units = w.units ++ w.unit ∷ [] }
+
+begins : (k : ℕ) (s v : Source) (n : List ℕ) (ps : List (List ℕ)) (o : Option (List (List ℕ))) → gather [] ps ≡ o → method_by k s n o ≡ Ok v → AreParameters [] ps × (length ps ≤ 65534) × (ok (opened k s n ps) ≡ ok v)
+begins k s v n ps None e h = absurd (cc)
+begins k s v n ps (Some qs) e h =
+    let g = gathered ps [] qs e in
+    let i = if_ok (nat_lt 65534 (length qs)) (errors.TooManyNames k) (ok (opened k s n qs)) v h in
+    (g.0, subst (λ x. length x ≤ 65534) g.1 (few (length qs) i.0), subst (λ x. ok (opened k s n x) ≡ ok v) g.1 i.1)
+
+begun_by : (k : ℕ) (s : Source) (n : List ℕ) (ps : List (List ℕ)) → AreParameters [] ps → length ps ≤ 65534 → method_by k s n (gather [] ps) ≡ ok (opened k s n ps)
+begun_by k s n ps a l = ap (method_by k s n) (gathers ps [] a) ∙ ok_if (nat_lt 65534 (length ps)) (errors.TooManyNames k) (ok (opened k s n ps)) (not_many (length ps) l)
+
+pub method_makes : (k : ℕ) (s u : Source) (n : List ℕ) (ps : List (List ℕ)) (b : Body) → s.place ≡ places.Outside → Build k s (section_lines (Method n ps b) []) u → MakesMethod k s n ps b u
+method_makes k s u n ps b e (v, p, h, more) =
+    let i = if_ok (is_declared s n) (errors.DuplicateName k) (method_by k s n (gather [] ps)) v h in
+    let a = both (is_some (names.place_of s.constants n)) (is_some (names.place_of s.methods n)) i.0 in
+    let m = begins k s v n ps (gather [] ps) refl i.1 in
+    let g : ok (opened k s n ps) ≡ ok v = m.2 in
+    let q : opened k s n ps ≡ v = cc in
+    let o = opens b.locals (k + 1) (opened k s n ps) u (map code_line b.code ++ (Dotted marks.EndMethod ∷ []))
+    (subst (λ w. Build (k + 1) w (locals_lines b.locals (map code_line b.code ++ (Dotted marks.EndMethod ∷ []))) u) (sym q) more) in
+    let c = opens_code b.locals (k + 1) (opened k s n ps) o.0 refl o.1 in
+    let r = split (map code_line b.code) (Dotted marks.EndMethod ∷ []) (code_from (k + 1) b.locals) o.0 u o.2 in
+    let l = if_ok (not (is_some r.0.unit.name) || r.0.unit.pending) (errors.BadLine (code_from (k + 1) b.locals + length (map code_line b.code))) (ok (ended r.0)) r.2.0 r.2.2 in
+    let f : ok (ended r.0) ≡ ok r.2.0 = l.1 in
+    let z : ended r.0 ≡ r.2.0 = cc in
+    record {
+      is_new = (none (names.place_of s.constants n) a.0, none (names.place_of s.methods n) a.1);
+      once = m.0;
+      few = m.1;
+      last = r.0;
+      content = record {
+        behind_locals = o.0;
+        opens = o.1;
+        makes = code_makes b.code (code_from (k + 1) b.locals) o.0 r.0 c.0 r.1;
+        ready = (both (not (is_some r.0.unit.name)) r.0.unit.pending l.0).1;
+      };
+      ends = sym (z ∙ r.2.3);
+    }
+
+pub makes_method : (k : ℕ) (s u : Source) (n : List ℕ) (ps : List (List ℕ)) (b : Body) → s.place ≡ places.Outside → MakesMethod k s n ps b u → Build k s (section_lines (Method n ps b) []) u
+makes_method k s u n ps b e m =
+    let w = m.last in
+    let d = m.content in
+    let c = opens_code b.locals (k + 1) (opened k s n ps) d.behind_locals refl d.opens in
+    let name : w.unit.name ≡ Some n = ap (λ x. x.unit.name) d.makes.1 ∙ c.1 in
+    let at : w.place ≡ places.Code = ap (λ x. x.place) d.makes.1 ∙ c.0 in
+    let j = code_from (k + 1) b.locals in
+    let i = ok_if (is_declared s n) (errors.DuplicateName k) (method_by k s n (gather [] ps)) (neither (is_some (names.place_of s.constants n)) (is_some (names.place_of s.methods n)) (ap is_some m.is_new.0) (ap is_some m.is_new.1)) in (
+      opened k s n ps,
+      e,
+      i ∙ begun_by k s n ps m.once m.few,
+      open_locals b.locals (k + 1) (opened k s n ps) d.behind_locals u (map code_line b.code ++ (Dotted marks.EndMethod ∷ [])) refl refl d.opens
+          (join (map code_line b.code) (Dotted marks.EndMethod ∷ []) j d.behind_locals w u (makes_code b.code j d.behind_locals w c.0 d.makes)
+          (ended w, at, ok_if (not (is_some w.unit.name) || w.unit.pending) (errors.BadLine (j + length (map code_line b.code))) (ok (ended w)) (neither (not (is_some w.unit.name)) w.unit.pending (ap (λ x. not (is_some x)) name) d.ready), sym m.ends)),
+    )

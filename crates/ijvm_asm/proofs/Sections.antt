@@ -1,0 +1,143 @@
+-- A text spells a program exactly where its lines are those of sections that make the program.
+use Rattle.std.proofs.Common.{◌≡◌, ℕ, ◌+◌, List, [], ◌∷◌, Some, None, refl, sym, subst}
+use Rattle.std.specs.Prelude.{Result, Ok, Err, ⊤}
+use Rattle.source_text.specs.Content.{contents}
+use Rattle.ijvm_program.specs.Program.{ProgramView}
+use Rattle.ijvm_tokens.specs.declared.token.Token.{Token}
+use Rattle.ijvm_tokens.specs.Tokens as tokens
+use Rattle.ijvm_line.specs.declared.place.Place.{Place}
+use Rattle.ijvm_line.specs.declared.place.Place.TheVariants as places
+use Rattle.ijvm_line.specs.declared.form.Form.{Form}
+use Rattle.ijvm_line.specs.declared.form.Form.TheVariants as forms
+use Rattle.ijvm_line.specs.declared.line.Line.{Line}
+use Rattle.ijvm_line.specs.declared.line.Line.TheVariants as says
+use Rattle.ijvm_line.specs.declared.line.LineFault.{LineFault}
+use Rattle.ijvm_line.specs.Forms.{IsForm}
+use Rattle.ijvm_line.specs.Lines as lines
+use Rattle.ijvm_line.specs.Parameters.{parameters}
+use Rattle.ijvm_line.specs.Places.{mark_place}
+use Rattle.ijvm_line.specs.Ranges.{instruction_of, made, word}
+use Rattle.ijvm_asm.specs.Source.{add_line, empty, Source}
+use Rattle.ijvm_asm.specs.Resolving.{by_missing, missing_at, program_of}
+use Rattle.ijvm_asm.specs.Text.{Adds, Make, Spells}
+use Rattle.ijvm_asm.specs.Sections.{add, BlankAt, Build, Codes, Declares, Defines, Dotted, Heads, line_of, lines_of, Lists, place_of, Said, SayAll, Says, Section, SpellsSections}
+use Rattle.ijvm_asm.proofs.Sectioning.{left_of}
+
+-- ---- where a line stands
+
+abbrev StandsAt : Place → Line → Type 0
+StandsAt p says.Nothing = ⊤
+StandsAt p (says.Mark m) = p ≡ mark_place m
+StandsAt p (says.Method n) = p ≡ places.Outside
+StandsAt p (says.Constant n v) = p ≡ places.Constants
+StandsAt p (says.Local n) = p ≡ places.Locals
+StandsAt p (says.Code l i) = p ≡ places.Code
+
+abbrev ok : {A : Type 0} → A → Result A LineFault
+ok a = Ok a
+
+same : (p : Place) (l m : Line) → ok l ≡ ok m → StandsAt p l → StandsAt p m
+same p l m e h = let q : l ≡ m = cc in subst (StandsAt p) q h
+
+of_made : {A : Type 0} (p : Place) (f : A → Line) (m : Line) (r : Result A LineFault) → made f r ≡ Ok m → ((a : A) → StandsAt p (f a)) → StandsAt p m
+of_made p f m (Ok a) e h = same p (f a) m e (h a)
+of_made p f m (Err x) e h = absurd (cc)
+
+form_stands : (p : Place) (ts : List Token) (f : Form) → IsForm p ts f → (m : Line) → lines.line_by f ≡ Ok m → StandsAt p m
+form_stands p ts forms.Nothing h m e = same p says.Nothing m e tt
+form_stands p ts (forms.Mark mark) h m e = same p (says.Mark mark) m e h.0
+form_stands p ts (forms.Method n) h m e = same p (says.Method n) m e h.0
+form_stands p ts (forms.Constant n v) h m e = of_made p (λ w. says.Constant n w) m (word v) e (λ w. h.0)
+form_stands p ts (forms.Local n) h m e = same p (says.Local n) m e h.0
+form_stands p ts (forms.Code l None) h m e = same p (says.Code l None) m e h.0
+form_stands p ts (forms.Code l (Some st)) h m e = of_made p (λ i. says.Code l (Some i)) m (instruction_of st) e (λ i. h.0)
+
+stands : (p : Place) (ts : List Token) (m : Line) → lines.Spells p ts m → StandsAt p m
+stands p ts m s = form_stands p ts s.form s.has m s.says
+
+-- ---- from lines to what they say
+
+record Said-of (k : ℕ) (s : Source) (line : List ℕ) (u : Source) : Type 0 where
+  said : Said
+  at : s.place ≡ place_of said
+  is_said : Says line said
+  adds : add k s said ≡ Ok u
+
+module _ (k : ℕ) (s : Source) (line : List ℕ) (u : Source) (ts : List Token) (w : tokens.Spells line ts) where
+  said_as : (x : Said) → s.place ≡ place_of x → lines.Spells s.place ts (line_of x) → Lists ts x → add k s x ≡ Ok u → Said-of k s line u
+  said_as x e m l h = record {
+    said = x;
+    at = e;
+    is_said = record { sequence = ts; spelled = w; means = subst (λ p. lines.Spells p ts (line_of x)) e m; lists = l };
+    adds = h;
+  }
+
+  said_line : (m : Line) → lines.Spells s.place ts m → StandsAt s.place m → add_line k s (parameters ts) m ≡ Ok u → Said-of k s line u
+  said_line says.Nothing m e h = said_as (BlankAt s.place) refl m tt h
+  said_line (says.Mark mark) m e h = said_as (Dotted mark) e m tt h
+  said_line (says.Method n) m e h = said_as (Heads n (parameters ts)) e m refl h
+  said_line (says.Constant n v) m e h = said_as (Defines n v) e m tt h
+  said_line (says.Local n) m e h = said_as (Declares n) e m tt h
+  said_line (says.Code l i) m e h = said_as (Codes l i) e m tt h
+
+said_of : (k : ℕ) (s : Source) (line : List ℕ) (u : Source) → Adds k s line u → Said-of k s line u
+said_of k s line u a = said_line k s line u a.sequence a.spelled a.content a.means (stands s.place a.sequence a.content a.means) a.adds
+
+all_said : (ls : List (List ℕ)) (k : ℕ) (s t : Source) → Make k s ls t → (xs : List Said) × SayAll ls xs × Build k s xs t
+all_said [] k s t m = ([], tt, m)
+all_said (l ∷ ls) k s t (u, a, more) =
+    let x = said_of k s l u a in
+    let others = all_said ls (k + 1) u t more in
+    (x.said ∷ others.0, (x.is_said, others.1), (u, x.at, x.adds, others.2))
+
+-- ---- and back
+
+by_said : (k : ℕ) (s u : Source) (ts : List Token) (x : Said) → Lists ts x → add k s x ≡ Ok u → add_line k s (parameters ts) (line_of x) ≡ Ok u
+by_said k s u ts (BlankAt p) l h = h
+by_said k s u ts (Dotted m) l h = h
+by_said k s u ts (Heads n ps) l h = subst (λ qs. add_line k s qs (says.Method n) ≡ Ok u) (sym l) h
+by_said k s u ts (Defines n v) l h = h
+by_said k s u ts (Declares n) l h = h
+by_said k s u ts (Codes l i) e h = h
+
+adds : (k : ℕ) (s u : Source) (line : List ℕ) (x : Said) → Says line x → s.place ≡ place_of x → add k s x ≡ Ok u → Adds k s line u
+adds k s u line x w e h = record {
+  sequence = w.sequence;
+  spelled = w.spelled;
+  content = line_of x;
+  means = subst (λ p. lines.Spells p w.sequence (line_of x)) (sym e) w.means;
+  adds = by_said k s u w.sequence x w.lists h;
+}
+
+all_made : (ls : List (List ℕ)) (xs : List Said) (k : ℕ) (s t : Source) → SayAll ls xs → Build k s xs t → Make k s ls t
+all_made [] [] k s t w b = b
+all_made (l ∷ ls) (x ∷ xs) k s t w (u, e, h, more) = (u, adds k s u l x w.0 e h, all_made ls xs (k + 1) u t w.1 more)
+all_made [] (x ∷ xs) k s t w b = absurd w
+all_made (l ∷ ls) [] k s t w b = absurd w
+
+-- ---- the whole text
+
+ends_outside : (s : Source) (q : Place) (p : ProgramView) → by_missing s (missing_at q s) ≡ Ok p → q ≡ places.Outside
+ends_outside s places.Outside p h = refl
+ends_outside s places.Constants p h = absurd (cc)
+ends_outside s places.Locals p h = absurd (cc)
+ends_outside s places.Code p h = absurd (cc)
+
+program_outside : (s : Source) (p : ProgramView) → program_of s ≡ Ok p → s.place ≡ places.Outside
+unfolding program_of
+program_outside s p h = ends_outside s s.place p h
+
+pub sections_of : (text : List ℕ) (p : ProgramView) → Spells text p → SpellsSections text p
+sections_of text p w =
+    let all = all_said (contents text) 1 empty w.source w.says in
+    let left : (rest : List Section) × (all.0 ≡ lines_of rest) = left_of all.0 1 empty w.source (program_outside w.source p w.makes) all.2 in
+    record {
+      sections = left.0;
+      say = subst (SayAll (contents text)) left.1 all.1;
+      source = w.source;
+      builds = subst (λ xs. Build 1 empty xs w.source) left.1 all.2;
+      makes = w.makes;
+    }
+
+pub of_sections : (text : List ℕ) (p : ProgramView) → SpellsSections text p → Spells text p
+of_sections text p w = record { source = w.source; says = all_made (contents text) (lines_of w.sections) 1 empty w.source w.say w.builds; makes = w.makes }

@@ -1,0 +1,168 @@
+-- What the lines of a section make, in order: its names are new, and each stands for its position.
+use Rattle.std.specs.Prelude.{◌≡◌, ℕ, ◌+◌, ◌<◌, ◌≤◌, ◌||◌, Bool, true, false, List, [], ◌∷◌, ◌++◌, map, length, Option, Some, None, is_some, ⊤}
+use Rattle.ijvm_program.specs.declared.line.Constant.{Constant}
+use Rattle.ijvm_line.specs.declared.place.Place.TheVariants as places
+use Rattle.ijvm_line.specs.declared.instruction.Instruction.{Instruction}
+use Rattle.ijvm_line.specs.declared.place.Mark.TheVariants as marks
+use Rattle.name_list.specs.Places as names
+use Rattle.ijvm_asm.specs.declared.draft.DraftLine.{DraftLine}
+use Rattle.ijvm_asm.specs.Drafts.{begun}
+use Rattle.ijvm_asm.specs.Source.{Source}
+use Rattle.ijvm_asm.specs.Sections.{Body, Build, CodeItem, Dotted, local_line, Locals, Section, section_lines}
+
+-- ---- constants
+
+abbrev pub defined : List (Option Constant) → List Constant
+defined [] = []
+defined (None ∷ items) = defined items
+defined (Some c ∷ items) = c ∷ defined items
+
+-- no name comes twice: each is that of no method, and of no constant before it
+abbrev pub AreNew : List (List ℕ) → List (List ℕ) → List Constant → Type 0
+AreNew methods seen [] = ⊤
+AreNew methods seen (c ∷ cs) = (names.place_of seen c.name ≡ None) × (names.place_of methods c.name ≡ None) × AreNew methods (seen ++ c.name ∷ []) cs
+
+-- it is the only one, its names are new, and it adds them in order with their values
+abbrev pub MakesConstants : ℕ → Source → List (Option Constant) → Source → Type 0
+MakesConstants k s items u = (s.seen_constants ≡ false) × AreNew s.methods s.constants (defined items)
+    × (u ≡ record s {
+      place = places.Outside;
+      section = k;
+      seen_constants = true;
+      constants = s.constants ++ map (λ c. c.name) (defined items);
+      values = s.values ++ map (λ c. c.value) (defined items);
+    })
+
+-- ---- the locals of a unit
+
+abbrev pub declared : List (Option (List ℕ)) → List (List ℕ)
+declared [] = []
+declared (None ∷ items) = declared items
+declared (Some name ∷ items) = name ∷ declared items
+
+-- no name comes twice, nor is one that of a parameter, and parameters and locals are at most 65,534
+abbrev pub AreLocals : List (List ℕ) → List (List ℕ) → Type 0
+AreLocals seen [] = ⊤
+AreLocals seen (n ∷ ns) = (names.place_of seen n ≡ None) × (length seen < 65534) × AreLocals (seen ++ n ∷ []) ns
+
+-- the locals stand behind the parameters, and the code of the unit follows
+abbrev pub MakesLocals : Source → List (Option (List ℕ)) → Source → Type 0
+MakesLocals s items u = AreLocals s.unit.names (declared items)
+    × (u ≡ record s { place = places.Code; unit = record s.unit { names = s.unit.names ++ declared items } })
+
+-- ---- the code of a unit
+
+abbrev pub with_label : Option (List ℕ) → List (List ℕ) → List (List ℕ)
+with_label None labels = labels
+with_label (Some label) labels = label ∷ labels
+
+-- the labels in order
+abbrev pub labels_in : List (Option CodeItem) → List (List ℕ)
+labels_in [] = []
+labels_in (None ∷ items) = labels_in items
+labels_in (Some c ∷ items) = with_label c.label (labels_in items)
+
+abbrev pub with_instruction : ℕ → Option Instruction → List DraftLine → List DraftLine
+with_instruction k None lines = lines
+with_instruction k (Some instruction) lines = (record { line = k; instruction = instruction }) ∷ lines
+
+-- the instructions in order, each with its line, from line `k` on
+abbrev pub lines_in : ℕ → List (Option CodeItem) → List DraftLine
+lines_in k [] = []
+lines_in k (None ∷ items) = lines_in (k + 1) items
+lines_in k (Some c ∷ items) = with_instruction k c.instruction (lines_in (k + 1) items)
+
+abbrev pub with_at : ℕ → Option (List ℕ) → List ℕ → List ℕ
+with_at n None ats = ats
+with_at n (Some label) ats = n ∷ ats
+
+abbrev pub behind_instruction : ℕ → Option Instruction → ℕ
+behind_instruction n None = n
+behind_instruction n (Some instruction) = n + 1
+
+-- for each label how many instructions of the unit stand before it, where `n` stand before all of these lines
+abbrev pub ats_in : ℕ → List (Option CodeItem) → List ℕ
+ats_in n [] = []
+ats_in n (None ∷ items) = ats_in n items
+ats_in n (Some c ∷ items) = with_at n c.label (ats_in (behind_instruction n c.instruction) items)
+
+abbrev pub waits : Bool → Option Instruction → Bool
+waits label None = label
+waits label (Some instruction) = false
+
+-- the last label has no instruction behind it
+abbrev pub waits_behind : Bool → List (Option CodeItem) → Bool
+waits_behind label [] = label
+waits_behind label (None ∷ items) = waits_behind label items
+waits_behind label (Some c ∷ items) = waits_behind (waits (is_some c.label || label) c.instruction) items
+
+abbrev pub may_declare_behind : Bool → List (Option CodeItem) → Bool
+may_declare_behind may [] = may
+may_declare_behind may (None ∷ items) = may_declare_behind may items
+may_declare_behind may (Some c ∷ items) = false
+
+-- no label comes twice
+abbrev pub AreLabels : List (List ℕ) → List (List ℕ) → Type 0
+AreLabels seen [] = ⊤
+AreLabels seen (n ∷ ns) = (names.place_of seen n ≡ None) × AreLabels (seen ++ n ∷ []) ns
+
+-- code lines from line `k` on give the unit their labels and their instructions
+abbrev pub MakesCode : ℕ → Source → List (Option CodeItem) → Source → Type 0
+MakesCode k s items u = AreLabels s.unit.labels (labels_in items)
+    × (u ≡ record s {
+      may_declare = may_declare_behind s.may_declare items;
+      unit = record s.unit {
+        labels = s.unit.labels ++ labels_in items;
+        ats = s.unit.ats ++ ats_in (length s.unit.lines) items;
+        lines = s.unit.lines ++ lines_in k items;
+        pending = waits_behind s.unit.pending items;
+      };
+    })
+
+-- ---- sections, one behind the other
+
+-- each section's lines make something of the source that the sections before it leave
+abbrev pub SectionsMake : ℕ → Source → List Section → Source → Type 0
+SectionsMake k s [] t = s ≡ t
+SectionsMake k s (x ∷ xs) t = (u : Source) × Build k s (section_lines x []) u × SectionsMake (k + length (section_lines x [])) u xs t
+
+-- ---- main
+
+-- the unit may declare locals, behind blank lines, and its code starts at `code_from`
+abbrev pub OpensLocals : ℕ → Source → Option Locals → Source → Type 0
+OpensLocals k s None u = s ≡ u
+OpensLocals k s (Some d) u = MakesLocals (record s { place = places.Locals; inner = k + d.blank_lines; may_declare = false }) d.names u
+
+abbrev pub code_from : ℕ → Option Locals → ℕ
+code_from k None = k
+code_from k (Some d) = ((k + d.blank_lines) + 1) + length (map local_line d.names ++ (Dotted marks.EndLocals ∷ []))
+
+-- the locals, then the code, whose last label has an instruction
+pub record MakesBody (k : ℕ) (s : Source) (body : Body) (u : Source) : Type 0 where
+  pub behind_locals : Source
+  pub opens : OpensLocals k s body.locals behind_locals
+  pub makes : MakesCode (code_from k body.locals) behind_locals body.code u
+  pub ready : u.unit.pending ≡ false
+
+-- there is one main
+pub record MakesMain (k : ℕ) (s : Source) (body : Body) (u : Source) : Type 0 where
+  pub first : s.seen_main ≡ false
+  pub last : Source
+  pub content : MakesBody (k + 1) (record s { place = places.Code; section = k; may_declare = true; seen_main = true; unit = begun None [] }) body last
+  pub ends : u ≡ record last { place = places.Outside; unit = begun None []; main = Some last.unit }
+
+-- ---- methods
+
+-- no name comes twice
+abbrev pub AreParameters : List (List ℕ) → List (List ℕ) → Type 0
+AreParameters seen [] = ⊤
+AreParameters seen (n ∷ ns) = (names.place_of seen n ≡ None) × AreParameters (seen ++ n ∷ []) ns
+
+-- its name is that of no constant and of no method before it, its parameters are at most 65,534
+pub record MakesMethod (k : ℕ) (s : Source) (name : List ℕ) (ps : List (List ℕ)) (body : Body) (u : Source) : Type 0 where
+  pub is_new : (names.place_of s.constants name ≡ None) × (names.place_of s.methods name ≡ None)
+  pub once : AreParameters [] ps
+  pub few : length ps ≤ 65534
+  pub last : Source
+  pub content : MakesBody (k + 1) (record s { place = places.Code; section = k; may_declare = true; methods = s.methods ++ name ∷ []; unit = begun (Some name) ps }) body last
+  pub ends : u ≡ record last { place = places.Outside; unit = begun None []; units = last.units ++ last.unit ∷ [] }

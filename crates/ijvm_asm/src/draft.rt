@@ -1,0 +1,114 @@
+ghost use Rattle.std.specs.Prelude.{◌≡◌, Ok, OnOk, IfErr};
+ghost use Rattle.ijvm_asm.specs.Drafts.{begun, FailsBy};
+
+use crate::error::AsmError;
+use ijvm_line::Instruction;
+use mic_base::Name;
+use name_list::NameList;
+use std::alloc::Global;
+use std::marker::Model;
+
+/// A line of code whose names are not yet looked up.
+#[derive(Clone, Copy)]
+pub struct DraftLine {
+    pub line: u32,
+    pub instruction: Instruction,
+}
+
+/// Main or a method, as its lines so far make it.
+#[derive(Drop)]
+pub(crate) struct Draft {
+    /// The name of a method.
+    pub(crate) name: Option<Name>,
+    /// The parameters, then the locals.
+    pub(crate) names: NameList,
+    /// The number of parameters.
+    pub(crate) parameters: u32,
+    pub(crate) labels: NameList,
+    /// For each label, how many code lines stand before it.
+    pub(crate) ats: Vec<u32>,
+    pub(crate) lines: Vec<DraftLine>,
+    /// A label has no instruction yet.
+    pub(crate) pending: bool,
+}
+
+/// The most parameters and locals of a unit.
+pub(crate) const MOST: u32 = 65_534;
+
+impl Model for Draft {
+    ghost use Rattle.ijvm_asm.specs.Drafts.{DraftView};
+
+    ghost Value = { DraftView };
+
+    ghost view = { λ d. record { name = d.name; names = d.names; parameters = d.parameters; labels = d.labels; ats = d.ats.items; lines = d.lines.items; pending = d.pending } };
+}
+
+impl Draft {
+    ghost use Rattle.ijvm_asm.specs.Drafts.{add_instruction, add_label, add_local};
+
+    pub(crate) fn new(alloc: Global, name: Option<Name>, parameters: NameList) -> Draft
+        ensures { result ≡ begun name parameters }
+    {
+        let count = parameters.len();
+        Draft {
+            name,
+            names: parameters,
+            parameters: count,
+            labels: NameList::new(alloc),
+            ats: Vec::new(alloc),
+            lines: Vec::new(alloc),
+            pending: false,
+        }
+    }
+
+    /// Declares a local on this line.
+    pub(crate) fn add_local(&mut self, line: u32, name: Name) -> Result<(), AsmError>
+        ensures ok { OnOk result (add_local line self.old name ≡ Ok self.new) }
+        ensures err { IfErr result (λ e. FailsBy e (add_local line self.old name)) }
+    {
+        if self.names.find(&name).is_some() {
+            return Err(AsmError::DuplicateName(line));
+        }
+        if self.names.len() >= MOST {
+            return Err(AsmError::TooManyNames(line));
+        }
+        self.names.add(name)?;
+        Ok(())
+    }
+
+    /// Declares a label on this line.
+    pub(crate) fn add_label(&mut self, line: u32, label: Option<Name>) -> Result<(), AsmError>
+        ensures ok { OnOk result (add_label line self.old label ≡ Ok self.new) }
+        ensures err { IfErr result (λ e. FailsBy e (add_label line self.old label)) }
+    {
+        let Some(label) = label else {
+            return Ok(());
+        };
+        if self.labels.find(&label).is_some() {
+            return Err(AsmError::DuplicateName(line));
+        }
+        let Ok(at) = u32::try_from(self.lines.len()) else {
+            return Err(AsmError::OutOfMemory);
+        };
+        self.labels.add(label)?;
+        self.ats.push(at)?;
+        self.pending = true;
+        Ok(())
+    }
+
+    pub(crate) fn add_instruction(
+        &mut self,
+        line: u32,
+        instruction: Option<Instruction>,
+    ) -> Result<(), AsmError>
+        ensures ok { OnOk result (self.new ≡ add_instruction line self.old instruction) }
+        ensures err { IfErr result (λ e. e ≡ AsmError.OutOfMemory) }
+    {
+        let Some(instruction) = instruction else {
+            return Ok(());
+        };
+        self.lines.push(DraftLine { line, instruction })?;
+        self.pending = false;
+        Ok(())
+    }
+}

@@ -1,0 +1,21 @@
+//! The IJVM assembler's front: how a source text is read as a program.
+#![tactic(auto)]
+
+mod draft;
+mod error;
+mod fit;
+mod laws;
+mod parse;
+mod resolve;
+mod source;
+#[cfg(test)]
+mod tests;
+mod whole;
+
+pub use error::AsmError;
+pub use ijvm_program::{CodeLine, Constant, Jump, Label, Operation, Program, Unit, size_of};
+pub use laws::{
+    reads_code, reads_constants, reads_in_order, reads_locals, reads_main, reads_methods,
+    reads_sections, reads_what_is_spelled,
+};
+pub use parse::parse_source;

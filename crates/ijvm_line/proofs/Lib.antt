@@ -1,0 +1,7 @@
+pub mod Options
+pub mod Naming
+pub mod Listing
+pub mod Stating
+pub mod Forming
+pub mod Ranging
+pub mod Lining

@@ -1,0 +1,54 @@
+-- A line is read as what it spells at its place, and refused by the first refusal that it has.
+use Rattle.std.proofs.Common.{◌≡◌, List, Option, Some, None, refl, ap, subst, ◌∙◌}
+use Rattle.std.specs.Prelude.{Result, Ok, Err}
+use Rattle.ijvm_tokens.specs.declared.token.Token.{Token}
+use Rattle.ijvm_line.specs.declared.place.Place.{Place}
+use Rattle.ijvm_line.specs.declared.form.Form.{Form}
+use Rattle.ijvm_line.specs.declared.line.Line.{Line}
+use Rattle.ijvm_line.specs.declared.line.LineFault.{LineFault}
+use Rattle.ijvm_line.specs.declared.line.LineFault.TheVariants as faults
+use Rattle.ijvm_line.specs.Forms.{form_of, IsForm}
+use Rattle.ijvm_line.specs.Lines.{IsRefused, line_by, line_of, said_by, Spells}
+use Rattle.ijvm_line.proofs.Forming.{form_again, form_is}
+use Rattle.ijvm_line.proofs.Ranging.{no_bad_line}
+
+-- what the outcome says
+Says : Place → List Token → Result Line LineFault → Type 0
+Says p ts (Ok l) = Spells p ts l
+Says p ts (Err e) = IsRefused p ts e
+
+line_says : (p : Place) (ts : List Token) → Says p ts (line_of p ts)
+unfolding Says line_of
+line_says p ts = by_form (form_of p ts) refl
+  where
+    by_line : (f : Form) (r : Result Line LineFault) → IsForm p ts f → line_by f ≡ r → Says p ts r
+    by_line f (Ok l) is e = record { form = f; has = is; says = e }
+    by_line f (Err faults.BadLine) is e = absurd (no_bad_line f e)
+    by_line f (Err faults.BadNumber) is e = (f, is, e)
+    by_line f (Err faults.OutOfRange) is e = (f, is, e)
+
+    by_form : (o : Option Form) → form_of p ts ≡ o → Says p ts (said_by o)
+    by_form None e = λ f is. absurd (let k = form_again p ts f is in cc)
+    by_form (Some f) e = by_line f (line_by f) (form_is p ts f e) refl
+
+pub line_spells : (p : Place) (ts : List Token) (l : Line) → line_of p ts ≡ Ok l → Spells p ts l
+unfolding Says
+line_spells p ts l h = subst (Says p ts) h (line_says p ts)
+
+pub line_refused : (p : Place) (ts : List Token) (e : LineFault) → line_of p ts ≡ Err e → IsRefused p ts e
+unfolding Says
+line_refused p ts e h = subst (Says p ts) h (line_says p ts)
+
+pub spells_line : (p : Place) (ts : List Token) (l : Line) → Spells p ts l → line_of p ts ≡ Ok l
+unfolding line_of
+spells_line p ts l s = ap said_by (form_again p ts s.form s.has) ∙ s.says
+
+pub refused_line : (p : Place) (ts : List Token) (e : LineFault) → IsRefused p ts e → line_of p ts ≡ Err e
+unfolding line_of
+refused_line p ts faults.BadLine r = by_form (form_of p ts) refl
+  where
+    by_form : (o : Option Form) → form_of p ts ≡ o → said_by o ≡ Err faults.BadLine
+    by_form None e = refl
+    by_form (Some f) e = absurd (r f (form_is p ts f e))
+refused_line p ts faults.BadNumber (f, is, e) = ap said_by (form_again p ts f is) ∙ e
+refused_line p ts faults.OutOfRange (f, is, e) = ap said_by (form_again p ts f is) ∙ e

@@ -1,0 +1,7 @@
+pub mod Places
+pub mod Mnemonics
+pub mod Parameters
+pub mod Statements
+pub mod Forms
+pub mod Ranges
+pub mod Lines

@@ -1,0 +1,45 @@
+-- The list of a method's parameters.
+use Rattle.std.specs.Prelude.{ℕ, Bool, true, false, List, [], ◌∷◌, drop, Option, Some, None}
+use Rattle.std.specs.List.{filter_map}
+use Rattle.ijvm_tokens.specs.declared.sign.Sign.TheVariants as signs
+use Rattle.ijvm_tokens.specs.declared.token.Token.{Token}
+use Rattle.ijvm_tokens.specs.declared.token.Token.TheVariants as tokens
+
+-- how further parameters are spelled, each behind a comma
+abbrev pub more_tokens : List (List ℕ) → List Token
+more_tokens [] = tokens.Sign signs.Close ∷ []
+more_tokens (p ∷ ps) = tokens.Sign signs.Comma ∷ tokens.Name p ∷ more_tokens ps
+
+-- how parameters are spelled behind the opening parenthesis
+abbrev pub list_tokens : List (List ℕ) → List Token
+list_tokens [] = tokens.Sign signs.Close ∷ []
+list_tokens (p ∷ ps) = tokens.Name p ∷ more_tokens ps
+
+abbrev pub method_tokens : List ℕ → List (List ℕ) → List Token
+method_tokens name ps = tokens.Sign signs.Method ∷ tokens.Name name ∷ tokens.Sign signs.Open ∷ list_tokens ps
+
+-- ---- how they are read
+
+abbrev pub is_close : List Token → Bool
+is_close (tokens.Sign signs.Close ∷ []) = true
+is_close _ = false
+
+abbrev pub begins_comma : List Token → Bool
+begins_comma (tokens.Sign signs.Comma ∷ tokens.Name p ∷ rest) = true
+begins_comma _ = false
+
+abbrev pub is_more : List Token → Bool
+is_more (tokens.Sign signs.Comma ∷ tokens.Name p ∷ rest) = is_more rest
+is_more rest = is_close rest
+
+abbrev pub is_list : List Token → Bool
+is_list (tokens.Name p ∷ rest) = is_more rest
+is_list rest = is_close rest
+
+abbrev pub name_of : Token → Option (List ℕ)
+name_of (tokens.Name name) = Some name
+name_of _ = None
+
+-- the names behind the first two tokens of a line
+abbrev pub parameters : List Token → List (List ℕ)
+parameters ts = filter_map name_of (drop 2 ts)

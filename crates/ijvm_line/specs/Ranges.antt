@@ -1,0 +1,101 @@
+-- The numbers of a line: which are in range, and what they make of its instruction.
+use Rattle.std.specs.Prelude.{ℕ, ℤ, pos, negsuc, ◌-◌, ◌-ℤ◌, ◌||◌, Bool, Option, Some, None, Result, Ok, Err, nat_lt, if◌then◌else◌}
+use Rattle.ijvm_definition.specs.declared.instr.Instr.{Instr}
+use Rattle.ijvm_definition.specs.declared.instr.Instr.TheVariants as instrs
+use Rattle.ijvm_line.specs.declared.line.LineFault.{LineFault}
+use Rattle.ijvm_line.specs.declared.line.LineFault.TheVariants as faults
+use Rattle.ijvm_line.specs.declared.mnemonic.Access.{Access}
+use Rattle.ijvm_line.specs.declared.mnemonic.Access.TheVariants as accesses
+use Rattle.ijvm_line.specs.declared.statement.Operand.{Operand}
+use Rattle.ijvm_line.specs.declared.statement.Operand.TheVariants as operands
+use Rattle.ijvm_line.specs.declared.statement.Statement.{Statement}
+use Rattle.ijvm_line.specs.declared.statement.Statement.TheVariants as statements
+use Rattle.ijvm_line.specs.declared.instruction.Instruction.{Instruction}
+use Rattle.ijvm_line.specs.declared.instruction.Instruction.TheVariants as instructions
+
+-- -128 to 255; 128 to 255 give the same byte as 256 less
+abbrev pub byte_of : ℤ → Option ℤ
+byte_of (pos n) = if nat_lt n 128 then Some (pos n) else (if nat_lt n 256 then Some (pos n -ℤ pos 256) else None)
+byte_of (negsuc n) = if nat_lt n 128 then Some (negsuc n) else None
+
+-- 0 to 65535
+abbrev pub index_of : ℤ → Option ℕ
+index_of (pos n) = if nat_lt n 65536 then Some n else None
+index_of (negsuc n) = None
+
+-- 0 to 255
+abbrev pub narrow_of : ℤ → Option ℕ
+narrow_of (pos n) = if nat_lt n 256 then Some n else None
+narrow_of (negsuc n) = None
+
+-- -2147483648 to 4294967295, as a word: a number below zero and the one that is 4294967296 more are the same
+abbrev pub word_of : ℤ → Option ℕ
+word_of (pos n) = if nat_lt n 0x1_0000_0000 then Some n else None
+word_of (negsuc n) = if nat_lt n 0x8000_0000 then Some (0xFFFF_FFFF - n) else None
+
+abbrev pub in_range : {A : Type 0} → Option A → Result A LineFault
+in_range (Some a) = Ok a
+in_range None = Err faults.OutOfRange
+
+-- a number that does not read, or is out of its range
+abbrev pub number : {A : Type 0} → (ℤ → Option A) → Option ℤ → Result A LineFault
+number range None = Err faults.BadNumber
+number range (Some v) = in_range (range v)
+
+abbrev pub byte : Option ℤ → Result ℤ LineFault
+byte = number byte_of
+
+abbrev pub index : Option ℤ → Result ℕ LineFault
+index = number index_of
+
+abbrev pub narrow : Option ℤ → Result ℕ LineFault
+narrow = number narrow_of
+
+abbrev pub word : Option ℤ → Result ℕ LineFault
+word = number word_of
+
+abbrev pub made : {A B : Type 0} → (A → B) → Result A LineFault → Result B LineFault
+made f (Ok a) = Ok (f a)
+made f (Err e) = Err e
+
+abbrev pub wide_instr : Access → ℕ → Instr
+wide_instr accesses.Load k = instrs.WideIload k
+wide_instr accesses.Store k = instrs.WideIstore k
+
+abbrev pub narrow_instr : Access → ℕ → Instr
+narrow_instr accesses.Load k = instrs.Iload k
+narrow_instr accesses.Store k = instrs.Istore k
+
+-- the wide form where it is forced, and for an index above 255
+abbrev pub access_instr : Access → Bool → ℕ → Instr
+access_instr access wide k = if wide || nat_lt 255 k then wide_instr access k else narrow_instr access k
+
+abbrev pub push : Option ℤ → Result Instruction LineFault
+push value = made (λ b. instructions.Plain (instrs.Bipush b)) (byte value)
+
+abbrev pub constant : Operand → Result Instruction LineFault
+constant (operands.Name name) = Ok (instructions.Constant name)
+constant (operands.Number value) = made (λ k. instructions.Plain (instrs.LdcW k)) (index value)
+
+abbrev pub local : Access → Bool → Operand → Result Instruction LineFault
+local access wide (operands.Name name) = Ok (instructions.Local access wide name)
+local access wide (operands.Number value) = made (λ k. instructions.Plain (access_instr access wide k)) (index value)
+
+abbrev pub increment_by : Result ℕ LineFault → Option ℤ → Result Instruction LineFault
+increment_by (Ok k) by = made (λ b. instructions.Plain (instrs.Iinc k b)) (byte by)
+increment_by (Err e) by = Err e
+
+-- the left number comes first
+abbrev pub increment : Operand → Option ℤ → Result Instruction LineFault
+increment (operands.Name name) by = made (λ b. instructions.Increment name b) (byte by)
+increment (operands.Number value) by = increment_by (narrow value) by
+
+-- the instruction that is spelled so, or the refusal of its first number with one
+abbrev pub instruction_of : Statement → Result Instruction LineFault
+instruction_of (statements.Plain instr) = Ok (instructions.Plain instr)
+instruction_of (statements.Push value) = push value
+instruction_of (statements.Constant operand) = constant operand
+instruction_of (statements.Local access wide operand) = local access wide operand
+instruction_of (statements.Increment operand by) = increment operand by
+instruction_of (statements.Jump jump label) = Ok (instructions.Jump jump label)
+instruction_of (statements.Call method) = Ok (instructions.Call method)

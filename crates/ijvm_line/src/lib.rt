@@ -1,0 +1,20 @@
+//! One line of an IJVM source: its grammar at the place where it stands, and the ranges of its numbers.
+#![tactic(auto)]
+
+mod form;
+mod instruction;
+mod laws;
+mod line;
+mod mnemonic;
+mod parameters;
+mod place;
+mod statement;
+
+pub use form::Form;
+pub use instruction::{Instruction, access_instr};
+pub use laws::{parameters_are_those_spelled, reads_what_is_spelled};
+pub use line::{Line, LineFault, line_of};
+pub use mnemonic::{Access, Kind, Mnemonic};
+pub use parameters::parameters_of;
+pub use place::{Mark, Place};
+pub use statement::{Operand, Statement};

@@ -1,0 +1,6 @@
+//! Names in the order in which they came, each found by its text in logarithmic time.
+#![tactic(auto)]
+
+mod names;
+
+pub use names::NameList;
