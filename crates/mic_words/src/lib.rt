@@ -1,0 +1,9 @@
+//! What the words of a command line ask `mic` for.
+#![tactic(auto)]
+
+mod options;
+mod read;
+mod request;
+
+pub use read::read_words;
+pub use request::Request;

@@ -1,0 +1,33 @@
+use micro_word::Machine;
+
+/// What a command line asks for.
+#[derive(Clone, Copy, Debug, PartialEq, Eq)]
+pub enum Request<'a> {
+    Assemble {
+        source: &'a str,
+        image: &'a str,
+    },
+    List {
+        file: &'a str,
+    },
+    Verify {
+        file: &'a str,
+    },
+    Run {
+        file: &'a str,
+    },
+    Reference {
+        file: &'a str,
+        machine: Machine,
+        bound: u64,
+    },
+    Micro {
+        mal: &'a str,
+        store: &'a str,
+        machine: Machine,
+    },
+    PrintMicro {
+        file: &'a str,
+        machine: Machine,
+    },
+}

@@ -1,0 +1,35 @@
+//! How the program ends.
+
+ghost use Rattle.std.specs.Prelude.{◌≡◌, if◌then◌else◌, is_ok};
+
+use mic_base::SinkFailed;
+
+/// An exit status.
+#[derive(Clone, Copy, Debug, PartialEq, Eq)]
+pub struct Status(pub u8);
+
+impl Status {
+    /// The command is done, or its run ended by HALT.
+    pub const DONE: Status = Status(0);
+    /// The words ask for nothing.
+    pub const USAGE: Status = Status(64);
+    /// The file's contents are refused.
+    pub const DATA: Status = Status(65);
+    /// The file could not be read or written.
+    pub const FILE: Status = Status(66);
+    /// The file is too long.
+    pub const TOO_LONG: Status = Status(67);
+    /// `out` or `err` failed.
+    pub const SINK: Status = Status(71);
+
+    pub const MEMORY: Status = Status(75);
+    /// A form of input that is not built.
+    pub const NOT_BUILT: Status = Status(77);
+
+    /// This status, unless what had to be said of it was not said.
+    pub fn once(self, said: Result<(), SinkFailed>) -> Status
+        ensures { result.0 ≡ (if is_ok said then self.0 else 71) }
+    {
+        if said.is_ok() { self } else { Status::SINK }
+    }
+}
