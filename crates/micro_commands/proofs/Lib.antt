@@ -1,0 +1,5 @@
+mod Numbers
+mod Lined
+mod Words
+mod Answering
+mod Stores

@@ -1,0 +1,13 @@
+use Rattle.std.proofs.Common.{ap, refl, sym}
+use Rattle.mic_work.specs.Work.{Prints}
+use Rattle.micro_commands.specs.Answers.{NoProgram, Printed}
+use Rattle.micro_commands.proofs.Answering.{is_refusal}
+use Rattle.micro_commands.proofs.listing.printed.Goals as goal
+
+pub returns-in_ok-print_mal-in-Ok : goal.returns-in_ok-print_mal-in-Ok
+returns-in_ok-print_mal-in-Ok c = Printed c.in-Ok.program c.in-Ok.ensures.ok (ap Prints c.in_ok-print_mal-in-Ok.ensures)
+
+pub returns-in_ok-mal_reason-in-Err : goal.returns-in_ok-mal_reason-in-Err
+returns-in_ok-mal_reason-in-Err c =
+    let reason = c.in_ok-mal_reason-in-Err.ensures in
+    NoProgram c.in-Err.error c.in_ok-mal_reason-in-Err.field-0 (c.in-Err.ensures.err (is_refusal c.in-Err.error c.in_ok-mal_reason-in-Err.field-0 reason)) (sym reason) refl

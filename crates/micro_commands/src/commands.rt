@@ -1,0 +1,62 @@
+//! The two commands, from the file that they read to their status.
+
+ghost use Rattle.std.specs.Prelude.{◌≡◌};
+ghost use Rattle.mic_work.specs.Outside.{desk, files_state, sink_state};
+ghost use Rattle.mic_work.specs.Work.{Ends};
+ghost use Rattle.micro_commands.specs.Answers.{MicroAnswers, PrintMicroAnswers};
+
+use crate::listing::printed_answer;
+use crate::placing::placed_answer;
+use mic_base::{Files, Sink};
+use mic_work::{Status, carry_out, no_memory, read_named};
+use micro_word::Machine;
+use std::alloc::Global;
+
+/// Places the microprogram of a file, writes its store file, and then prints its addresses and words.
+pub fn micro<F: Files, K: Sink, E: Sink>(
+    alloc: Global,
+    mal: &str,
+    store: &str,
+    machine: Machine,
+    files: &mut F,
+    out: &mut K,
+    err: &mut E,
+) -> Status
+    ensures { Ends (MicroAnswers machine store.now) mal.now
+        (desk (files_state (F.contents files.old) (F.faults files.old)) (sink_state (K.held out.old) (K.faults out.old)) (sink_state (E.held err.old) (E.faults err.old)))
+        (desk (files_state (F.contents files.new) (F.faults files.new)) (sink_state (K.held out.new) (K.faults out.new)) (sink_state (E.held err.new) (E.faults err.new)))
+        result.0 }
+{
+    let bytes = match read_named(alloc, mal, files, err) {
+        Ok(bytes) => bytes,
+        Err(status) => return status,
+    };
+    match placed_answer(alloc, machine, store, &bytes) {
+        Ok(answer) => carry_out(alloc, mal, answer, files, out, err),
+        Err(_) => no_memory(err),
+    }
+}
+
+/// Prints the microprogram of a file in canonical text, or lists a store file.
+pub fn print_micro<F: Files, K: Sink, E: Sink>(
+    alloc: Global,
+    file: &str,
+    machine: Machine,
+    files: &mut F,
+    out: &mut K,
+    err: &mut E,
+) -> Status
+    ensures { Ends (PrintMicroAnswers machine) file.now
+        (desk (files_state (F.contents files.old) (F.faults files.old)) (sink_state (K.held out.old) (K.faults out.old)) (sink_state (E.held err.old) (E.faults err.old)))
+        (desk (files_state (F.contents files.new) (F.faults files.new)) (sink_state (K.held out.new) (K.faults out.new)) (sink_state (E.held err.new) (E.faults err.new)))
+        result.0 }
+{
+    let bytes = match read_named(alloc, file, files, err) {
+        Ok(bytes) => bytes,
+        Err(status) => return status,
+    };
+    match printed_answer(alloc, machine, &bytes) {
+        Ok(answer) => carry_out(alloc, file, answer, files, out, err),
+        Err(_) => no_memory(err),
+    }
+}

@@ -1,0 +1,14 @@
+//! The commands `micro` and `print-micro`: a microprogram is placed and its control store written, a microprogram is printed, a control store listed.
+#![tactic(auto)]
+
+mod commands;
+mod lines;
+mod listing;
+mod placing;
+mod reasons;
+#[cfg(test)]
+mod tests;
+
+pub use commands::{micro, print_micro};
+pub use listing::printed_answer;
+pub use placing::placed_answer;
