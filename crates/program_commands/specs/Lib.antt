@@ -1,0 +1,4 @@
+pub mod Program
+pub mod Comes
+pub mod Reference
+pub mod Assemble

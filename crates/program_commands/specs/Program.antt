@@ -1,0 +1,65 @@
+-- What a file holds, by its bytes: an image or a source of one, that is accepted or refused for a reason.
+use Rattle.std.specs.Prelude.{◌≡◌, ℕ, Bool, false, true, ◌==◌, List, [], ◌∷◌, Option, None, Some, Err}
+use Rattle.ijvm_definition.specs.declared.image.ImageError.{ImageError}
+use Rattle.ijvm_definition.specs.Image.{ImageView, IsWithinLimits}
+use Rattle.ijvm_definition.specs.ImageFile.{IsFileOf, image_read}
+use Rattle.ijvm_program.specs.Program.{ProgramView}
+use Rattle.ijvm_asm.specs.declared.error.AsmError.{AsmError}
+use Rattle.ijvm_asm.specs.Text.{Spells}
+use Rattle.ijvm_asm.specs.Text as assembler
+use Rattle.method_linker.specs.declared.error.LinkError.{LinkError}
+use Rattle.method_linker.specs.Linked.{IsLinked}
+use Rattle.method_linker.specs.Linked as linker
+use Rattle.ijvm_verifier.specs.declared.error.VerifyError.{VerifyError}
+use Rattle.ijvm_verifier.specs.Accepted.{IsAccepted, VerifiedView}
+use Rattle.ijvm_verifier.specs.Facts.{Holds}
+use Rattle.program_texts.specs.Refusals.{image_reason, link_reason, source_reason, verify_reason}
+use Rattle.program_commands.specs.declared.program.Unaccepted.{Unaccepted}
+use Rattle.program_commands.specs.declared.program.Unaccepted.TheVariants as reasons
+
+-- A file is an image file by its first byte. Every other file is a source.
+abbrev pub begins_image : List ℕ → Bool
+begins_image [] = false
+begins_image (first ∷ rest) = first == 0x1D
+
+-- the text is a source of this image
+pub record IsSource (text : List ℕ) (image : ImageView) : Type 0 where
+  pub source : ProgramView
+  pub spelled : Spells text source
+  pub linked : IsLinked source image
+
+-- the text is no source of an image, for this reason
+pub data IsNoSource (text reason : List ℕ) : Type 0 where
+  NoSource : (e : AsmError) → assembler.IsRefused text e → source_reason e ≡ Some reason → IsNoSource text reason
+  NotLinked : (source : ProgramView) (e : LinkError) → Spells text source → linker.IsRefused source e → link_reason e ≡ Some reason → IsNoSource text reason
+
+-- the file is this image's, or a source of it
+pub data IsOf (bytes : List ℕ) (image : ImageView) : Type 0 where
+  AsFile : begins_image bytes ≡ true → IsWithinLimits image.text image.pool → IsFileOf bytes image → IsOf bytes image
+  AsSource : begins_image bytes ≡ false → IsSource bytes image → IsOf bytes image
+
+-- the file is an accepted image's
+pub record IsProgram (bytes : List ℕ) (program : VerifiedView) : Type 0 where
+  pub is : IsOf bytes program.image
+  pub accepted : IsAccepted program
+
+-- the file is refused, for this reason
+pub data IsRefused (bytes reason : List ℕ) : Type 0 where
+  NoImage : (e : ImageError) → begins_image bytes ≡ true → image_read bytes ≡ Err e → image_reason e ≡ Some reason → IsRefused bytes reason
+  NoProgram : begins_image bytes ≡ false → IsNoSource bytes reason → IsRefused bytes reason
+  NotAccepted : (image : ImageView) (e : VerifyError) → IsOf bytes image → Holds image 0x10000 e → verify_reason e ≡ Some reason → IsRefused bytes reason
+
+-- for a reason, or for want of memory where there is none
+abbrev pub unaccepted_by : Option (List ℕ) → Unaccepted
+unaccepted_by None = reasons.OutOfMemory
+unaccepted_by (Some reason) = reasons.Refused reason
+
+-- what it means that no accepted program is had from these bytes
+abbrev pub IsUnaccepted : List ℕ → Unaccepted → Type 0
+IsUnaccepted bytes (reasons.Refused reason) = IsRefused bytes reason
+IsUnaccepted bytes reasons.OutOfMemory = Unit {0}
+
+-- what it means that no image is had from this source
+abbrev pub IsUnlinked : List ℕ → Unaccepted → Type 0
+IsUnlinked text (reasons.Refused reason) = IsNoSource text reason
+IsUnlinked text reasons.OutOfMemory = Unit {0}

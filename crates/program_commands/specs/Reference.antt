@@ -1,0 +1,46 @@
+-- How `reference` ends: the definition's run of an accepted program, with a machine's costs, and its report; or a refusal.
+use Rattle.std.specs.Prelude.{◌≡◌, ℕ, List}
+use Rattle.mic_base.specs.Causes.{Rose}
+use Rattle.micro_word.specs.declared.statement.Machine.{Machine}
+use Rattle.ijvm_definition.specs.declared.plain.PlainEnd.TheVariants as ends
+use Rattle.ijvm_definition.specs.declared.plain.PlainReport.{PlainReport}
+use Rattle.ijvm_definition.specs.Run.{Program}
+use Rattle.ijvm_definition.specs.Plain.{HasRun, IsCutByRead, IsCutByWrite, IsShort}
+use Rattle.ijvm_verifier.specs.Accepted.{VerifiedView}
+use Rattle.mic_work.specs.Outside.{Desk, SinkState, SourceState, Says}
+use Rattle.mic_work.specs.Messages.{out_of_memory}
+use Rattle.mic_work.specs.Work.{Ends, IsRead}
+use Rattle.program_texts.specs.Report.{report, status_of}
+use Rattle.program_commands.specs.Program.{IsProgram}
+use Rattle.program_commands.specs.Comes.{IsRefusal}
+
+-- an accepted program on the standard memory map, with this machine's costs
+abbrev pub program_of : VerifiedView → Machine → Program
+program_of program machine = record { image = program.image; stack_end = 0x10000; machine = machine }
+
+-- A run of the program between a console and `out`, and what is said of it on `err`.
+pub data IsRun (program : VerifiedView) (machine : Machine) (bound : ℕ) (console console' : SourceState) (out out' err err' : SinkState) (status : ℕ) : Type 0 where
+  -- the definition's run to its end; `out` has got its output
+  Ran : (r : PlainReport) → HasRun (program_of program machine) program.main_locals bound console.left out.held console'.left out'.held r →
+      console'.faults ≡ console.faults → out'.faults ≡ out.faults → Says err err' (report r) (status_of r.end) status →
+      IsRun program machine bound console console' out out' err err' status
+  -- the console failed, which cut the run at an IN; `out` has got all the output before it
+  CutByRead : (r : PlainReport) → r.end ≡ ends.ReadFault →
+      IsCutByRead (program_of program machine) program.main_locals bound console.left out.held console'.left out'.held r →
+      Rose console.faults console'.faults → out'.faults ≡ out.faults → Says err err' (report r) 70 status →
+      IsRun program machine bound console console' out out' err err' status
+  -- `out` failed, which cut the run at an IN or an OUT, or at its end; `out` has got a front of the output
+  CutByWrite : (r : PlainReport) → r.end ≡ ends.WriteFault →
+      IsCutByWrite (program_of program machine) program.main_locals bound console.left out.held console'.left out'.held r →
+      console'.faults ≡ console.faults → Rose out.faults out'.faults → Says err err' (report r) 71 status →
+      IsRun program machine bound console console' out out' err err' status
+  -- memory was wanting at a boundary; `out` has got a front of the output
+  Short : IsShort (program_of program machine) program.main_locals bound console.left out.held console'.left out'.held →
+      console'.faults ≡ console.faults → out'.faults ≡ out.faults → Says err err' out_of_memory 75 status →
+      IsRun program machine bound console console' out out' err err' status
+
+pub data EndsReference (file : List ℕ) (machine : Machine) (bound : ℕ) (console console' : SourceState) (old new : Desk) (status : ℕ) : Type 0 where
+  -- nothing was run: the file was not had, or is refused
+  NotRun : Ends IsRefusal file old new status → console' ≡ console → EndsReference file machine bound console console' old new status
+  Did : (bytes : List ℕ) (program : VerifiedView) → IsRead file bytes old.files → IsProgram bytes program → new.files ≡ old.files →
+      IsRun program machine bound console console' old.out new.out old.err new.err status → EndsReference file machine bound console console' old new status
