@@ -1,5 +1,5 @@
 -- How a run ends, by the end of its board.
-use Rattle.std.proofs.Common.{◌≡◌, ◌≢◌, ℕ, List, [], Option, Some, None, refl, sym, subst}
+use Rattle.std.proofs.Common.{◌≡◌, ◌≢◌, ℕ, List, Option, Some, None, refl, sym, subst}
 use Rattle.mic_clock.specs.declared.end.End.{End}
 use Rattle.mic_clock.specs.declared.end.End.TheVariants as ends
 use Rattle.mic_clock.specs.Board.{NoFault, HasEndCause}
@@ -7,33 +7,34 @@ use Rattle.mic_clock.specs.View.{BoardView}
 use Rattle.mic1_datapath.specs.declared.mic1.Mic1.{Mic1}
 use Rattle.mic1_datapath.specs.Mic1.{registers_of}
 use Rattle.mic1_datapath.specs.View.{micro_of}
-use Rattle.shipped_microcode.specs.Straight.{Runs, image_of}
+use Rattle.ijvm_definition.specs.Image.{ImageView}
 use Rattle.shipped_microcode.specs.Headline.{HasRun, IsCutByWrite}
-use Rattle.mic_tool.specs.FirstForm.{IsImageOf}
+use Rattle.mic_words.specs.Words.{default_bound}
+use Rattle.mic_work.specs.Outside.{Says}
+use Rattle.mic_tool.specs.Outside.{Streams}
 use Rattle.mic_tool.specs.Report.{report as report_of}
-use Rattle.mic_tool.specs.Ends.{Streams, Says, RunEnds, Ran, Cut, IsReport, default_bound, status_of}
+use Rattle.mic_tool.specs.RunEnds.{ClockedEnd, Ran, Cut, IsReport, status_of}
 
 -- what is known of a board that was run between these streams
-pub record IsRun (text : List ℕ) (old new : Streams) (board : BoardView Mic1) : Type 0 where
-  pub run : NoFault None board.end → HasRun (image_of text) 0 default_bound old.input old.out new.input new.out board
+pub record IsRun (image : ImageView) (old new : Streams) (board : BoardView Mic1) : Type 0 where
+  pub run : NoFault None board.end → HasRun image 0 default_bound old.console.left old.out.held new.console.left new.out.held board
   pub halt : NoFault None board.end → board.end ≡ Some ends.Halt
   pub unread : board.end ≢ Some ends.ReadFault
-  pub write : board.end ≡ Some ends.WriteFault → IsCutByWrite (image_of text) 0 default_bound old.input old.out new.input new.out board
-  pub cause : HasEndCause old.console_faults new.console_faults old.out_faults new.out_faults None board.end
+  pub write : board.end ≡ Some ends.WriteFault → IsCutByWrite image 0 default_bound old.console.left old.out.held new.console.left new.out.held board
+  pub cause : HasEndCause old.console.faults new.console.faults old.out.faults new.out.faults None board.end
 
 -- no fault ended the board
 quiet : (board : BoardView Mic1) (end : End) → board.end ≡ Some end → NoFault None (Some end) → NoFault None board.end
 quiet board end e none = subst (NoFault None) (sym e) none
 
-module _ (file bytes text report : List ℕ) (old new : Streams) (board : BoardView Mic1) (status : ℕ) (is : IsImageOf bytes text) (runs : Runs text)
-    (r : IsRun text old new board) where
+module _ (image : ImageView) (report : List ℕ) (old new : Streams) (board : BoardView Mic1) (status : ℕ) (r : IsRun image old new board) where
   pub ends_by : (end : End) → board.end ≡ Some end → report ≡ report_of end board.counts (registers_of (micro_of board.machine)) →
-      Says old new report (status_of end) status → RunEnds file bytes old new status
+      Says old.err new.err report (status_of end) status → ClockedEnd image 0 old new status
   ends_by ends.Halt e printed says =
-      Ran text report board is runs (record { ended = e; printed = printed }) (r.run (quiet board ends.Halt e tt))
+      Ran report board (record { ended = e; printed = printed }) (r.run (quiet board ends.Halt e tt))
       (r.cause.source_same (λ _ q. cc)) (r.cause.sink_same (λ _ q. cc)) says
   ends_by ends.WriteFault e printed says =
-      Cut text report board is runs (record { ended = e; printed = printed }) (r.write e)
+      Cut report board (record { ended = e; printed = printed }) (r.write e)
       (r.cause.source_same (λ _ q. cc)) (r.cause.write refl e) says
   ends_by ends.ReadFault e printed says = absurd (r.unread e)
   ends_by ends.Err e printed says = absurd (let h : board.end ≡ Some ends.Halt = r.halt (quiet board ends.Err e tt) in cc)

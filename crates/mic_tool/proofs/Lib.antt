@@ -1,5 +1,3 @@
-pub mod Putting
-pub mod Saying
-pub mod Files
-pub mod Images
+pub mod StraightImages
 pub mod Ending
+pub mod Asking

@@ -1,5 +1,5 @@
-pub mod Words
 pub mod Report
-pub mod Messages
-pub mod FirstForm
+pub mod Usage
+pub mod Outside
+pub mod RunEnds
 pub mod Ends

@@ -1,23 +1,19 @@
-//! The program `mic`: it runs an image file on Mic-1, and reports.
+//! The program `mic`: it assembles, verifies, lists and runs programs of IJVM, and places and prints microprograms.
 #![tactic(auto)]
 
-mod first_form;
-mod messages;
-mod refusals;
 mod report;
 mod run;
-mod said;
-mod status;
 #[cfg(test)]
 mod tests;
 mod top_call;
-mod words;
+mod usage;
 
 use mic_base::{StdFiles, StdSink, StdSource};
-use refusals::{misused, no_memory};
+use mic_work::no_memory;
 use std::process::ExitCode;
 use std::{env, io};
 use top_call::mic_main;
+use usage::misused;
 
 /// The words after the program's name.
 fn words_of(rt: &HostRuntime) -> io::Result<Vec<String>> {

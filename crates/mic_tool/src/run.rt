@@ -1,23 +1,31 @@
-//! `run FILE`: one image file, clocked on Mic-1.
+//! `run FILE`: one program, clocked on Mic-1.
 
-ghost use Rattle.std.specs.Prelude.{◌≡◌, ◌≤◌, ℕ, List, Some, length};
-ghost use Rattle.shipped_microcode.specs.Straight.{Runs};
-ghost use Rattle.mic_tool.specs.Words.{Run};
-ghost use Rattle.mic_tool.specs.Ends.{Ends, RunEnds, status_of};
-ghost use Rattle.mic_tool.specs.FirstForm.{IsImageOf};
+ghost use Rattle.std.specs.Prelude.{◌≡◌, ◌≤◌, length};
+ghost use Rattle.std.specs.Bool.{OnFalse, OnTrue};
+ghost use Rattle.mic_base.specs.Files.{most_bytes};
+ghost use Rattle.mic_work.specs.Messages.{message};
+ghost use Rattle.mic_work.specs.Outside.{Says, files_state, sink_state, source_state};
+ghost use Rattle.shipped_microcode.specs.Straight.{Runs, image_of};
+ghost use Rattle.mic_tool.specs.Outside.{outside, streams};
+ghost use Rattle.mic_tool.specs.RunEnds.{BytesEnd, ClockedEnd, IsBuilt, ProgramEnds, RunEnds, not_built, status_of};
 
-use crate::first_form::{has_bad_magic, text_of};
-use crate::messages::underflow;
-use crate::refusals::no_memory;
 use crate::report::report;
-use crate::said::{say, say_of};
-use crate::status::Status;
-use mic_base::{FileError, Files, Sink, Source};
+use ijvm_verifier::VerifiedImage;
+use mic_base::{Files, Sink, Source};
 use mic_clock::End;
-use shipped_microcode::{StraightError, check_straight, run_straight};
+use mic_work::{Status, no_memory, read_named, say, say_of};
+use program_commands::{accepted_program, refuse};
+use shipped_microcode::{check_straight, run_straight};
 use std::alloc::Global;
 
 const DEFAULT_BOUND: u64 = 10_000_000;
+
+/// Says that a program of this form is not built.
+fn not_built<E: Sink>(err: &mut E, file: &str) -> Status
+    ensures { Says (sink_state (E.held err.old) (E.faults err.old)) (sink_state (E.held err.new) (E.faults err.new)) (message file.now not_built) 77 result.0 }
+{
+    say_of(err, file, b": not built", Status::NOT_BUILT)
+}
 
 /// The status of a run that ended so.
 fn status_of(end: End) -> Status
@@ -29,7 +37,7 @@ fn status_of(end: End) -> Status
     }
 }
 
-/// Reads the file and runs it.
+/// Reads the file and runs its program.
 pub fn run_file<F: Files, S: Source, K: Sink, E: Sink>(
     alloc: Global,
     file: &str,
@@ -38,22 +46,18 @@ pub fn run_file<F: Files, S: Source, K: Sink, E: Sink>(
     out: &mut K,
     err: &mut E,
 ) -> Status
-    ensures { Ends (Some (Run file.now))
-        (record { files = F.contents files.old; file_faults = F.faults files.old; streams = record { console_faults = S.faults console.old; input = S.left console.old; out = K.held out.old; out_faults = K.faults out.old; err = E.held err.old; err_faults = E.faults err.old } })
-        (record { files = F.contents files.new; file_faults = F.faults files.new; streams = record { console_faults = S.faults console.new; input = S.left console.new; out = K.held out.new; out_faults = K.faults out.new; err = E.held err.new; err_faults = E.faults err.new } })
+    ensures { RunEnds file.now
+        (outside (files_state (F.contents files.old) (F.faults files.old)) (streams (source_state (S.left console.old) (S.faults console.old)) (sink_state (K.held out.old) (K.faults out.old)) (sink_state (E.held err.old) (E.faults err.old))))
+        (outside (files_state (F.contents files.new) (F.faults files.new)) (streams (source_state (S.left console.new) (S.faults console.new)) (sink_state (K.held out.new) (K.faults out.new)) (sink_state (E.held err.new) (E.faults err.new))))
         result.0 }
 {
-    match files.read_file(alloc, file) {
+    match read_named(alloc, file, files, err) {
         Ok(bytes) => run_bytes(alloc, file, &bytes, console, out, err),
-        Err(FileError::Failed) => Status::FILE.once(say_of(err, file, b"cannot read")),
-        Err(FileError::TooLong) => {
-            Status::TOO_LONG.once(say_of(err, file, b"longer than 1048576 bytes"))
-        }
-        Err(FileError::OutOfMemory) => no_memory(err),
+        Err(status) => status,
     }
 }
 
-/// Runs a file's bytes, or says why they are refused.
+/// Runs the program that a file's bytes are, or says why they are refused.
 fn run_bytes<S: Source, K: Sink, E: Sink>(
     alloc: Global,
     file: &str,
@@ -62,23 +66,53 @@ fn run_bytes<S: Source, K: Sink, E: Sink>(
     out: &mut K,
     err: &mut E,
 ) -> Status
-    ensures { RunEnds file.now bytes.now
-        (record { console_faults = S.faults console.old; input = S.left console.old; out = K.held out.old; out_faults = K.faults out.old; err = E.held err.old; err_faults = E.faults err.old })
-        (record { console_faults = S.faults console.new; input = S.left console.new; out = K.held out.new; out_faults = K.faults out.new; err = E.held err.new; err_faults = E.faults err.new })
+    requires { length bytes.now ≤ most_bytes }
+    ensures { BytesEnd file.now bytes.now
+        (streams (source_state (S.left console.old) (S.faults console.old)) (sink_state (K.held out.old) (K.faults out.old)) (sink_state (E.held err.old) (E.faults err.old)))
+        (streams (source_state (S.left console.new) (S.faults console.new)) (sink_state (K.held out.new) (K.faults out.new)) (sink_state (E.held err.new) (E.faults err.new)))
         result.0 }
 {
-    if has_bad_magic(bytes) {
-        return Status::DATA.once(say_of(err, file, b"bad magic"));
+    match accepted_program(alloc, bytes) {
+        Ok(program) => run_program(alloc, file, &program, console, out, err),
+        Err(unaccepted) => refuse(file, unaccepted, err),
     }
-    let Some(text) = text_of(bytes) else {
-        return Status::NOT_BUILT.once(say_of(err, file, b"not built"));
-    };
-    match check_straight(text) {
-        Ok(()) => run_text(alloc, text, console, out, err),
-        Err(StraightError::NotBuilt) => Status::NOT_BUILT.once(say_of(err, file, b"not built")),
-        Err(StraightError::Underflow(at)) => {
-            Status::DATA.once(say_of(err, file, underflow(at).bytes()))
-        }
+}
+
+/// Whether an accepted program is of the form that is built.
+fn is_built(program: &VerifiedImage) -> bool
+    ensures built { OnTrue result (IsBuilt program.now.image) }
+    ensures runs { OnTrue result (Runs program.now.image.text) }
+    ensures locals { OnTrue result (program.now.main_locals ≡ 0) }
+    ensures other { OnFalse result (IsBuilt program.now.image → ⊥) }
+{
+    let image = program.image();
+    if !image.pool().is_empty() {
+        return false;
+    }
+    match check_straight(image.text()) {
+        Ok(()) => true,
+        Err(_) => false,
+    }
+}
+
+/// Clocks an accepted program, if it is of the form that is built.
+fn run_program<S: Source, K: Sink, E: Sink>(
+    alloc: Global,
+    file: &str,
+    program: &VerifiedImage,
+    console: &mut S,
+    out: &mut K,
+    err: &mut E,
+) -> Status
+    ensures { ProgramEnds file.now program.now
+        (streams (source_state (S.left console.old) (S.faults console.old)) (sink_state (K.held out.old) (K.faults out.old)) (sink_state (E.held err.old) (E.faults err.old)))
+        (streams (source_state (S.left console.new) (S.faults console.new)) (sink_state (K.held out.new) (K.faults out.new)) (sink_state (E.held err.new) (E.faults err.new)))
+        result.0 }
+{
+    if is_built(program) {
+        run_text(alloc, program.image().text(), console, out, err)
+    } else {
+        not_built(err, file)
     }
 }
 
@@ -92,16 +126,16 @@ fn run_text<S: Source, K: Sink, E: Sink>(
 ) -> Status
     requires size { length text.now ≤ 65536 }
     requires form { Runs text.now }
-    ensures { (file bytes : List ℕ) → IsImageOf bytes text.now → RunEnds file bytes
-        (record { console_faults = S.faults console.old; input = S.left console.old; out = K.held out.old; out_faults = K.faults out.old; err = E.held err.old; err_faults = E.faults err.old })
-        (record { console_faults = S.faults console.new; input = S.left console.new; out = K.held out.new; out_faults = K.faults out.new; err = E.held err.new; err_faults = E.faults err.new })
+    ensures { ClockedEnd (image_of text.now) 0
+        (streams (source_state (S.left console.old) (S.faults console.old)) (sink_state (K.held out.old) (K.faults out.old)) (sink_state (E.held err.old) (E.faults err.old)))
+        (streams (source_state (S.left console.new) (S.faults console.new)) (sink_state (K.held out.new) (K.faults out.new)) (sink_state (E.held err.new) (E.faults err.new)))
         result.0 }
 {
     match run_straight(alloc, text, DEFAULT_BOUND, console, out) {
         Ok(board) => {
             let end = board.ended().unwrap();
             let line = report(end, &board.counts(), &board.registers());
-            status_of(end).once(say(err, line.bytes()))
+            say(err, line.bytes(), status_of(end))
         }
         Err(_) => no_memory(err),
     }

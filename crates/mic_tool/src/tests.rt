@@ -11,7 +11,23 @@ const HELLO: &[u8] = b"\x1D\xEA\xDF\xAD\0\x01\0\0\0\0\0\0\0\0\0\0\0\0\0\x04\x10\
 const SUM: &[u8] =
     b"\x1D\xEA\xDF\xAD\0\x01\0\0\0\0\0\0\0\0\0\0\0\0\0\x07\x10\x41\x10\x01\x60\xFD\xFF";
 
-const USAGE: &str = "usage: mic run FILE\n";
+/// An image file of `NOP`, `HALT`.
+const NOP: &[u8] = b"\x1D\xEA\xDF\xAD\0\x01\0\0\0\0\0\0\0\0\0\0\0\0\0\x02\0\xFF";
+
+/// An image file of `HALT` with a constant.
+const POOL: &[u8] = b"\x1D\xEA\xDF\xAD\0\x01\0\0\0\0\0\x04\0\0\0\x07\0\0\0\0\0\0\0\x01\xFF";
+
+/// An image file of `IADD`, `HALT`.
+const UNDERFLOW: &[u8] = b"\x1D\xEA\xDF\xAD\0\x01\0\0\0\0\0\0\0\0\0\0\0\0\0\x02\x60\xFF";
+
+const USAGE: &str = "usage: mic assemble SOURCE IMAGE
+       mic list FILE
+       mic verify FILE
+       mic run FILE
+       mic reference FILE [--machine V] [--bound N]
+       mic micro MAL STORE [--machine V]
+       mic print-micro FILE [--machine V]
+";
 
 const AFTER_HELLO: &str = "cycles 15 instructions 3
 boundary 14 at 00000003 sp 00007fff lv 00008000
@@ -46,7 +62,7 @@ fn call(
     }
     let mut files = MemFiles::new(alloc, Vec::new(alloc));
     files.add("F", bytes)?;
-    let mut console = MemSource::new(Vec::new(alloc), Vec::new(alloc));
+    let mut console = MemSource::new(Vec::from_slice(alloc, b"ab\n")?, Vec::new(alloc));
     let mut out = MemSink::new(alloc, 1000, Vec::from_slice(alloc, out_fails)?)?;
     let mut err = MemSink::new(alloc, 1000, Vec::from_slice(alloc, err_fails)?)?;
     let status = mic_main(alloc, &list, &mut files, &mut console, &mut out, &mut err);
@@ -68,6 +84,9 @@ fn runs_end_by_halt(rt: HostRuntime) -> Result<(), Fail> {
     let hello = call(rt.alloc(), "run F", HELLO, &[], &[])?;
     let report = format!(in rt.alloc(); "end halt\n{AFTER_HELLO}")?;
     expect(&rt, &hello, 0, "H", report.as_str());
+    let source = b".main\nBIPUSH 72\nOUT\nHALT\n.end-main";
+    let assembled = call(rt.alloc(), "run F", source, &[], &[])?;
+    expect(&rt, &assembled, 0, "H", report.as_str());
     let sum = call(rt.alloc(), "run F", SUM, &[], &[])?;
     expect(&rt, &sum, 0, "B", AFTER_SUM);
     Ok(())
@@ -75,19 +94,20 @@ fn runs_end_by_halt(rt: HostRuntime) -> Result<(), Fail> {
 
 #[test]
 fn refusals_say_why(rt: HostRuntime) -> Result<(), Fail> {
-    let underflow = b"\x1D\xEA\xDF\xAD\0\x01\0\0\0\0\0\0\0\0\0\0\0\0\0\x02\x60\xFF".as_slice();
-    let nop = b"\x1D\xEA\xDF\xAD\0\x01\0\0\0\0\0\0\0\0\0\0\0\0\0\x02\0\xFF".as_slice();
-    let magic = b"\x1D\0\0\0".as_slice();
     for (words, bytes, status, err) in [
         ("run", HELLO, 64, USAGE),
         ("walk F", HELLO, 64, USAGE),
         ("run -F", HELLO, 64, USAGE),
         ("run F F", HELLO, 64, USAGE),
+        ("reference F --bound -1", HELLO, 64, USAGE),
+        ("reference F --bound 1000000001", HELLO, 64, USAGE),
+        ("reference F --machine mic3", HELLO, 64, USAGE),
         ("run G", HELLO, 66, "mic: G: cannot read\n"),
-        ("run F", magic, 65, "mic: F: bad magic\n"),
-        ("run F", nop, 77, "mic: F: not built\n"),
-        ("run F", b"".as_slice(), 77, "mic: F: not built\n"),
-        ("run F", underflow, 65, "mic: F: 00000000 underflow\n"),
+        ("run F", b"", 65, "mic: F: no main\n"),
+        ("run F", b"\x1D\0\0\0", 65, "mic: F: bad magic\n"),
+        ("run F", NOP, 77, "mic: F: not built\n"),
+        ("run F", POOL, 77, "mic: F: not built\n"),
+        ("run F", UNDERFLOW, 65, "mic: F: 00000000 underflow\n"),
     ] {
         let answer = call(rt.alloc(), words, bytes, &[], &[])?;
         expect(&rt, &answer, status, "", err);
@@ -95,6 +115,71 @@ fn refusals_say_why(rt: HostRuntime) -> Result<(), Fail> {
     let long = vec![in rt.alloc(); 0x1D; 1_048_577]?;
     let answer = call(rt.alloc(), "run F", &long, &[], &[])?;
     expect(&rt, &answer, 67, "", "mic: F: longer than 1048576 bytes\n");
+    Ok(())
+}
+
+#[test]
+fn each_command_is_called(rt: HostRuntime) -> Result<(), Fail> {
+    for (words, bytes, out) in [
+        (
+            "assemble F I",
+            b".main\nBIPUSH 7\nHALT\n.end-main".as_slice(),
+            "text 3 pool 0\n",
+        ),
+        ("verify F", SUM, "ok text 7 pool 0 methods 0 main 0\n"),
+        (
+            "list F",
+            HELLO,
+            "00000000 BIPUSH 72\n00000002 OUT\n00000003 HALT\n",
+        ),
+        (
+            "micro F S",
+            b"Main1: MDR = TOS = MDR+H ;wr;goto Main1",
+            "000 0003c2140 Main1 TOS=MDR=H+MDR; wr; goto Main1\nstatements 1 fixed 0 pairs 0\n",
+        ),
+        (
+            "print-micro F --machine mic2",
+            b"Main1 MDR=MBR1;wr;goto (MBR1)",
+            "Main1 MDR=MBR1; wr; goto (MBR1)\n",
+        ),
+    ] {
+        let answer = call(rt.alloc(), words, bytes, &[], &[])?;
+        expect(&rt, &answer, 0, out, "");
+    }
+    Ok(())
+}
+
+#[test]
+fn reference_is_the_definitions_run(rt: HostRuntime) -> Result<(), Fail> {
+    for (words, status, out, err) in [
+        (
+            "reference F",
+            0,
+            "H",
+            "end halt\ncycles 15 instructions 3\nboundary 14 at 00000003 sp 00007fff lv 00008000\n",
+        ),
+        (
+            "reference F --machine mic2",
+            0,
+            "H",
+            "end halt\ncycles 11 instructions 3\nboundary 11 at 00000003 sp 00007fff lv 00008000\n",
+        ),
+        (
+            "reference F --machine mic1 --bound 12",
+            2,
+            "H",
+            "end bound\ncycles 14 instructions 2\nboundary 14 at 00000003 sp 00007fff lv 00008000\n",
+        ),
+        (
+            "reference F --bound 0",
+            2,
+            "",
+            "end bound\ncycles 2 instructions 0\nboundary 2 at 00000000 sp 00007fff lv 00008000\n",
+        ),
+    ] {
+        let answer = call(rt.alloc(), words, HELLO, &[], &[])?;
+        expect(&rt, &answer, status, out, err);
+    }
     Ok(())
 }
 

@@ -1,0 +1,13 @@
+-- How `mic` is called.
+use Rattle.std.specs.Prelude.{ℕ, List, ◌++◌, codes}
+
+-- the text that a faulty command line is answered with
+abbrev pub usage : List ℕ
+usage =
+    codes "usage: mic assemble SOURCE IMAGE\n"
+    ++ codes "       mic list FILE\n"
+    ++ codes "       mic verify FILE\n"
+    ++ codes "       mic run FILE\n"
+    ++ codes "       mic reference FILE [--machine V] [--bound N]\n"
+    ++ codes "       mic micro MAL STORE [--machine V]\n"
+    ++ codes "       mic print-micro FILE [--machine V]\n"
