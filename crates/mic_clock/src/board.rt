@@ -12,7 +12,7 @@ ghost use Rattle.mic_clock.specs.Board.{ShowsRun, IsLedTo, IsCut, IsCutByRead, I
 
 use crate::buses::{Computed, Drive};
 use crate::clocked::Clocked;
-use crate::counting::{counted, end_before, end_of, ended_counts};
+use crate::counting::{count, end_before, end_of, ended_counts};
 use crate::counts::Counts;
 use crate::cycle::clock_once;
 use crate::end::{End, Tick};
@@ -121,7 +121,7 @@ impl<M: Clocked> Board<M> {
         }
         match clock_once(&mut self.machine, &self.store, &mut self.bus, source, sink) {
             Ok((drive, computed)) => {
-                self.counts = counted(self.counts, drive.stalled, &self.machine);
+                count(&mut self.counts, drive.stalled, &self.machine);
                 self.drive = drive;
                 self.computed = computed;
                 if drive.stalled {

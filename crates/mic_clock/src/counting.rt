@@ -62,14 +62,13 @@ pub fn ended_counts(counts: Counts, end: End) -> Counts
     counts
 }
 
-/// The counts after a clocked cycle.
-pub fn counted<M: Clocked>(counts: Counts, stalled: bool, machine: &M) -> Counts
-    requires cycles { counts.cycles ≤ 2 ^ 63 }
-    requires instructions { counts.instructions ≤ 2 ^ 63 }
-    requires stalls { counts.stalls ≤ 2 ^ 63 }
-    ensures { result ≡ counts_after M.meaning counts stalled (M.state machine.now) }
+/// Counts a clocked cycle.
+pub fn count<M: Clocked>(counts: &mut Counts, stalled: bool, machine: &M)
+    requires cycles { counts.old.cycles ≤ 2 ^ 63 }
+    requires instructions { counts.old.instructions ≤ 2 ^ 63 }
+    requires stalls { counts.old.stalls ≤ 2 ^ 63 }
+    ensures { counts.new ≡ counts_after M.meaning counts.old stalled (M.state machine.now) }
 {
-    let mut counts = counts;
     counts.cycles += 1;
     if stalled {
         counts.stalls += 1;
@@ -86,5 +85,4 @@ pub fn counted<M: Clocked>(counts: Counts, stalled: bool, machine: &M) -> Counts
             lv: registers.lv,
         });
     }
-    counts
 }
