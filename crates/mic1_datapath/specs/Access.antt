@@ -1,26 +1,26 @@
--- What the accesses of a cycle come to, with registers that are settled already.
+-- What the accesses of a cycle come to, by what the ports are given.
 use Rattle.std.specs.Prelude.{◌≡◌, ℕ, Bool, true, false, List, Option, Some, None}
 use Rattle.console_port.specs.World.{World, byte_in}
 use Rattle.micro_word.specs.declared.statement.Mem.{Mem}
 use Rattle.micro_word.specs.declared.statement.Mem.TheVariants as mems
 use Rattle.mic1_datapath.specs.Microstep.{written, sampled, word_under_way, byte_under_way}
-use Rattle.mic1_datapath.specs.declared.micro.Micro.{Micro}
+use Rattle.mic1_datapath.specs.declared.ports.Ports.{Ports}
 
 -- the write or the read leads the world w to v, and this word is under way
-pub record IsTransfer (stack_end : ℕ) (mem : Mem) (m : Micro) (w : World) (word : Option ℕ) (v : World) : Type 0 where
-  pub its_word : word ≡ word_under_way stack_end mem m (written stack_end mem m w)
-  pub after : v ≡ sampled stack_end mem m (written stack_end mem m w)
-  pub words : v.words ≡ (written stack_end mem m w).words
+pub record IsTransfer (stack_end : ℕ) (mem : Mem) (p : Ports) (w : World) (word : Option ℕ) (v : World) : Type 0 where
+  pub its_word : word ≡ word_under_way stack_end mem p (written stack_end mem p w)
+  pub after : v ≡ sampled stack_end mem p (written stack_end mem p w)
+  pub words : v.words ≡ (written stack_end mem p w).words
 
 abbrev pub byte_sampled : Bool → List ℕ → ℕ → Option ℕ
 byte_sampled true words at = Some (byte_in words at)
 byte_sampled false words at = None
 
 -- all accesses lead the world w to v, and this word and this byte are under way
-pub record IsAccess (stack_end : ℕ) (mem : Mem) (fetch : Bool) (m : Micro) (w : World) (word byte : Option ℕ) (v : World) : Type 0 where
-  pub its_word : word ≡ word_under_way stack_end mem m (written stack_end mem m w)
-  pub its_byte : byte ≡ byte_under_way fetch m (written stack_end mem m w)
-  pub after : v ≡ sampled stack_end mem m (written stack_end mem m w)
+pub record IsAccess (stack_end : ℕ) (mem : Mem) (fetch : Bool) (p : Ports) (w : World) (word byte : Option ℕ) (v : World) : Type 0 where
+  pub its_word : word ≡ word_under_way stack_end mem p (written stack_end mem p w)
+  pub its_byte : byte ≡ byte_under_way fetch p (written stack_end mem p w)
+  pub after : v ≡ sampled stack_end mem p (written stack_end mem p w)
 
 abbrev pub is_read : Mem → Bool
 is_read mems.Read = true

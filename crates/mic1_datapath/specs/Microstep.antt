@@ -13,6 +13,7 @@ use Rattle.micro_word.specs.declared.statement.PlacedNext.TheVariants as nexts
 use Rattle.micro_word.specs.declared.statement.Part.{Part}
 use Rattle.micro_word.specs.declared.statement.Placed.{Placed}
 use Rattle.mic1_datapath.specs.declared.micro.Micro.{Micro}
+use Rattle.mic1_datapath.specs.declared.ports.Ports.{Ports}
 
 -- 1. The operation is done on H and on what is on the B bus, and its result is shifted.
 
@@ -71,28 +72,32 @@ assigned dests v m =
 abbrev pub settled : Part → Micro → Micro
 settled part m = assigned part.dests (shifted part.shift (result_of part m)) m
 
+-- what the memory's two ports are given of the registers
+abbrev pub ports_of : Micro → Ports
+ports_of m = record { mar = m.mar; mdr = m.mdr; pc = m.pc }
+
 -- 3. A write stores the new MDR at the new MAR.
 
-abbrev pub written : ℕ → Mem → Micro → World → World
-written stack_end mems.Write m w = after_write stack_end w m.mar m.mdr
-written stack_end mems.Read m w = w
-written stack_end mems.None m w = w
+abbrev pub written : ℕ → Mem → Ports → World → World
+written stack_end mems.Write p w = after_write stack_end w p.mar p.mdr
+written stack_end mems.Read p w = w
+written stack_end mems.None p w = w
 
 -- 4. A read samples the word at the new MAR, and a fetch the byte at the new PC, in the world after the write. They arrive at the next edge.
 
-abbrev pub word_under_way : ℕ → Mem → Micro → World → Option ℕ
-word_under_way stack_end mems.Read m w = Some (read_value stack_end w.words w.untaken m.mar)
-word_under_way stack_end mems.Write m w = None
-word_under_way stack_end mems.None m w = None
+abbrev pub word_under_way : ℕ → Mem → Ports → World → Option ℕ
+word_under_way stack_end mems.Read p w = Some (read_value stack_end w.words w.untaken p.mar)
+word_under_way stack_end mems.Write p w = None
+word_under_way stack_end mems.None p w = None
 
-abbrev pub byte_under_way : Bool → Micro → World → Option ℕ
-byte_under_way true m w = Some (byte_in w.words m.pc)
-byte_under_way false m w = None
+abbrev pub byte_under_way : Bool → Ports → World → Option ℕ
+byte_under_way true p w = Some (byte_in w.words p.pc)
+byte_under_way false p w = None
 
-abbrev pub sampled : ℕ → Mem → Micro → World → World
-sampled stack_end mems.Read m w = after_read stack_end w m.mar
-sampled stack_end mems.Write m w = w
-sampled stack_end mems.None m w = w
+abbrev pub sampled : ℕ → Mem → Ports → World → World
+sampled stack_end mems.Read p w = after_read stack_end w p.mar
+sampled stack_end mems.Write p w = w
+sampled stack_end mems.None p w = w
 
 -- 5. MPC becomes the target, where a branch tests the result and a dispatch takes the new MBR.
 
@@ -105,19 +110,22 @@ target (nexts.Goto to) x mbr = to
 target (nexts.Dispatch high) x mbr = if high then mbr + 256 else mbr
 target (nexts.Branch test low) x mbr = if flag test x then low + 256 else low
 
--- The five together, on a memory that has its words below `stack_end`. The state is settled already in `moved`, and x is the result.
+-- The five together, on a memory that has its words below `stack_end`.
 
-abbrev pub moved : ℕ → Placed → ℕ → Micro → World → Micro
-moved stack_end s x m w =
-    record m { mpc = target s.next x m.mbr; word = word_under_way stack_end s.part.mem m w; byte = byte_under_way s.part.fetch m w }
+-- the settled state m, where x is the result, with its next address and with this word and this byte under way
+abbrev pub moved : PlacedNext → ℕ → Micro → Option ℕ → Option ℕ → Micro
+moved next x m word byte = record m { mpc = target next x m.mbr; word = word; byte = byte }
 
 abbrev pub clock : ℕ → Placed → Micro → World → Micro
 clock stack_end s m w =
-    moved stack_end s (result_of s.part m) (settled s.part m) (written stack_end s.part.mem (settled s.part m) w)
+    let p = ports_of (settled s.part m) in
+    let v = written stack_end s.part.mem p w in
+    moved s.next (result_of s.part m) (settled s.part m) (word_under_way stack_end s.part.mem p v) (byte_under_way s.part.fetch p v)
 
 abbrev pub world_after : ℕ → Placed → Micro → World → World
 world_after stack_end s m w =
-    sampled stack_end s.part.mem (settled s.part m) (written stack_end s.part.mem (settled s.part m) w)
+    let p = ports_of (settled s.part m) in
+    sampled stack_end s.part.mem p (written stack_end s.part.mem p w)
 
 -- Why the step is refused, if it is: a write, a read and a fetch are looked at in this order.
 
@@ -134,8 +142,8 @@ abbrev pub first_refusal : Option Refusal → Option Refusal → Option Refusal
 first_refusal (Some refusal) other = Some refusal
 first_refusal None other = other
 
-abbrev pub access_refusal : ℕ → Mem → Bool → Micro → Option Refusal
-access_refusal stack_end mem fetch m = first_refusal (memory_refusal stack_end mem m.mar) (byte_refusal stack_end fetch m.pc)
+abbrev pub access_refusal : ℕ → Mem → Bool → Ports → Option Refusal
+access_refusal stack_end mem fetch p = first_refusal (memory_refusal stack_end mem p.mar) (byte_refusal stack_end fetch p.pc)
 
 abbrev pub refusal : ℕ → Placed → Micro → Option Refusal
-refusal stack_end s m = access_refusal stack_end s.part.mem s.part.fetch (settled s.part m)
+refusal stack_end s m = access_refusal stack_end s.part.mem s.part.fetch (ports_of (settled s.part m))

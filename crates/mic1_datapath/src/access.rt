@@ -8,7 +8,7 @@ ghost use Rattle.console_port.specs.Console.{IsFault, HasFaultCause};
 ghost use Rattle.mic1_datapath.specs.Microstep.{memory_refusal, byte_refusal, access_refusal, written, sampled, word_under_way};
 ghost use Rattle.mic1_datapath.specs.Access.{IsAccess, IsTransfer, byte_sampled, is_read, is_access};
 
-use crate::micro::Micro;
+use crate::ports::Ports;
 use console_port::{Bus, BusFault};
 use mic_base::{Sink, Source};
 use micro_word::Mem;
@@ -38,42 +38,42 @@ fn check_fetch(bus: &Bus, fetch: bool, at: u32) -> Result<(), BusFault>
     if fetch { bus.check_fetch(at) } else { Ok(()) }
 }
 
-fn check(bus: &Bus, mem: Mem, fetch: bool, m: &Micro) -> Result<(), BusFault>
-    ensures ok { OnOk result (access_refusal (length bus.now.words) mem fetch m.now ≡ None) }
-    ensures memory { OnOk result (memory_refusal (length bus.now.words) mem m.now.mar ≡ None) }
-    ensures fetch { OnOk result (byte_refusal (length bus.now.words) fetch m.now.pc ≡ None) }
-    ensures err { IfErr result (λ e. refused_by (access_refusal (length bus.now.words) mem fetch m.now) ≡ Some e) }
+fn check(bus: &Bus, mem: Mem, fetch: bool, ports: &Ports) -> Result<(), BusFault>
+    ensures ok { OnOk result (access_refusal (length bus.now.words) mem fetch ports.now ≡ None) }
+    ensures memory { OnOk result (memory_refusal (length bus.now.words) mem ports.now.mar ≡ None) }
+    ensures fetch { OnOk result (byte_refusal (length bus.now.words) fetch ports.now.pc ≡ None) }
+    ensures err { IfErr result (λ e. refused_by (access_refusal (length bus.now.words) mem fetch ports.now) ≡ Some e) }
 {
-    check_memory(bus, mem, m.mar)?;
-    check_fetch(bus, fetch, m.pc)
+    check_memory(bus, mem, ports.mar)?;
+    check_fetch(bus, fetch, ports.pc)
 }
 
 /// Stores MDR at MAR, or takes the word there.
 fn transfer<S: Source, K: Sink>(
     mem: Mem,
-    m: &Micro,
+    ports: &Ports,
     bus: &mut Bus,
     source: &mut S,
     sink: &mut K,
 ) -> Result<Option<u32>, BusFault>
-    requires { memory_refusal (length bus.old.words) mem m.now.mar ≡ None }
-    ensures ok { IfOk result (λ word. IsLed (S.left source.old) (K.held sink.old) bus.old (S.left source.new) (K.held sink.new) bus.new (λ w v. IsTransfer (length bus.old.words) mem m.now w word v)) }
-    ensures others { OnOk result (ChangesOnly m.now.mar bus.old.words bus.new.words) }
+    requires { memory_refusal (length bus.old.words) mem ports.now.mar ≡ None }
+    ensures ok { IfOk result (λ word. IsLed (S.left source.old) (K.held sink.old) bus.old (S.left source.new) (K.held sink.new) bus.new (λ w v. IsTransfer (length bus.old.words) mem ports.now w word v)) }
+    ensures others { OnOk result (ChangesOnly ports.now.mar bus.old.words bus.new.words) }
     ensures size { length bus.new.words ≡ length bus.old.words }
     ensures fault { IfErr result IsFault }
     ensures stands { IfErr result (Stands (S.left source.old) (K.held sink.old) bus.old (S.left source.new) (K.held sink.new) bus.new) }
-    ensures reads { IsErrOf result BusFault.ReadFault → IsTrue (is_read mem && m.now.mar == console_at) }
-    ensures uses { IsErrOf result BusFault.WriteFault → IsTrue (is_access mem && m.now.mar == console_at) }
+    ensures reads { IsErrOf result BusFault.ReadFault → IsTrue (is_read mem && ports.now.mar == console_at) }
+    ensures uses { IsErrOf result BusFault.WriteFault → IsTrue (is_access mem && ports.now.mar == console_at) }
     ensures keeps { (front : List ℕ) → Holds front (K.held sink.old) → Holds front (K.held sink.new) }
     ensures cause { HasFaultCause (S.faults source.old) (S.faults source.new) (K.faults sink.old) (K.faults sink.new) result }
 {
     match mem {
         Mem::Write => {
-            bus.write_word(m.mar, m.mdr, sink)?;
+            bus.write_word(ports.mar, ports.mdr, sink)?;
             Ok(None)
         }
         Mem::Read => {
-            let word = bus.read_word(m.mar, source, sink)?;
+            let word = bus.read_word(ports.mar, source, sink)?;
             Ok(Some(word))
         }
         Mem::None => Ok(None),
@@ -88,27 +88,27 @@ fn sample(bus: &Bus, fetch: bool, at: u32) -> Option<u8>
     if fetch { Some(bus.byte(at)) } else { None }
 }
 
-/// Does what a cycle does on the bus, with registers that are settled already.
+/// Does what a cycle does on the bus.
 pub fn access<S: Source, K: Sink>(
     mem: Mem,
     fetch: bool,
-    m: &Micro,
+    ports: &Ports,
     bus: &mut Bus,
     source: &mut S,
     sink: &mut K,
 ) -> Result<Sampled, BusFault>
-    ensures allowed { OnOk result (access_refusal (length bus.old.words) mem fetch m.now ≡ None) }
-    ensures ok { IfOk result (λ x. IsLed (S.left source.old) (K.held sink.old) bus.old (S.left source.new) (K.held sink.new) bus.new (λ w v. IsAccess (length bus.old.words) mem fetch m.now w x.word x.byte v)) }
-    ensures others { OnOk result (ChangesOnly m.now.mar bus.old.words bus.new.words) }
-    ensures refused { IfErr result (λ e. (IsFault e → ⊥) → refused_by (access_refusal (length bus.old.words) mem fetch m.now) ≡ Some e) }
+    ensures allowed { OnOk result (access_refusal (length bus.old.words) mem fetch ports.now ≡ None) }
+    ensures ok { IfOk result (λ x. IsLed (S.left source.old) (K.held sink.old) bus.old (S.left source.new) (K.held sink.new) bus.new (λ w v. IsAccess (length bus.old.words) mem fetch ports.now w x.word x.byte v)) }
+    ensures others { OnOk result (ChangesOnly ports.now.mar bus.old.words bus.new.words) }
+    ensures refused { IfErr result (λ e. (IsFault e → ⊥) → refused_by (access_refusal (length bus.old.words) mem fetch ports.now) ≡ Some e) }
     ensures stands { IfErr result (Stands (S.left source.old) (K.held sink.old) bus.old (S.left source.new) (K.held sink.new) bus.new) }
-    ensures reads { IsErrOf result BusFault.ReadFault → IsTrue (is_read mem && m.now.mar == console_at) }
-    ensures uses { IsErrOf result BusFault.WriteFault → IsTrue (is_access mem && m.now.mar == console_at) }
+    ensures reads { IsErrOf result BusFault.ReadFault → IsTrue (is_read mem && ports.now.mar == console_at) }
+    ensures uses { IsErrOf result BusFault.WriteFault → IsTrue (is_access mem && ports.now.mar == console_at) }
     ensures keeps { (front : List ℕ) → Holds front (K.held sink.old) → Holds front (K.held sink.new) }
     ensures cause { HasFaultCause (S.faults source.old) (S.faults source.new) (K.faults sink.old) (K.faults sink.new) result }
 {
-    check(bus, mem, fetch, m)?;
-    let word = transfer(mem, m, bus, source, sink)?;
-    let byte = sample(bus, fetch, m.pc);
+    check(bus, mem, fetch, ports)?;
+    let word = transfer(mem, ports, bus, source, sink)?;
+    let byte = sample(bus, fetch, ports.pc);
     Ok(Sampled { word, byte })
 }

@@ -2,12 +2,14 @@
 #![tactic(auto)]
 
 pub mod access;
+pub mod advance;
 pub mod b_bus;
 pub mod laws;
 pub mod mic1;
 pub mod micro;
 pub mod next_address;
 pub mod operate;
+pub mod ports;
 pub mod prepare;
 pub mod settle;
 pub mod stage;

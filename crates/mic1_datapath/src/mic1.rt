@@ -5,7 +5,8 @@ ghost use Rattle.mic_clock.specs.Meaning.{Driven, Settled};
 ghost use Rattle.mic1_datapath.specs.Stage.{phase_of};
 ghost use Rattle.mic1_datapath.specs.Mic1.{initial as initial_of, driven, computed as computed_of};
 
-use crate::access::{Sampled, access};
+use crate::access::access;
+use crate::advance::advance;
 use crate::b_bus::b_bus;
 use crate::micro::Micro;
 use crate::operate::{operate, shift_by};
@@ -151,16 +152,17 @@ impl Clocked for Mic1 {
         source: &mut S,
         sink: &mut K,
     ) -> Result<(), BusFault> {
-        let next = prepare(self.word, &self.micro, self.computed);
+        let asked = prepare(self.word, &self.micro, self.computed);
         self.stage = Stage::Setup;
-        match access(next.mem, next.fetch, &next.settled, bus, source, sink) {
-            Ok(Sampled { word, byte }) => {
-                self.micro = Micro {
-                    mpc: next.mpc,
-                    word,
-                    byte,
-                    ..next.settled
-                };
+        match access(asked.mem, asked.fetch, &asked.ports, bus, source, sink) {
+            Ok(sampled) => {
+                advance(
+                    self.word,
+                    self.computed,
+                    asked.ports,
+                    sampled,
+                    &mut self.micro,
+                );
                 Ok(())
             }
             Err(fault) => Err(fault),

@@ -12,7 +12,8 @@ use Rattle.mic_clock.specs.declared.end.End.TheVariants as ends
 use Rattle.mic_clock.specs.Meaning.{Outcome, Done, Refused}
 use Rattle.mic_clock.specs.Run.{MicroRun, turn, turn_by, turns, bounded, bounded_by, gone, stepped, end_before, word_at}
 use Rattle.mic1_datapath.specs.declared.micro.Micro.{Micro}
-use Rattle.mic1_datapath.specs.Microstep.{result_of, settled, written, sampled, word_under_way, byte_under_way, target, clock, world_after, refusal}
+use Rattle.mic1_datapath.specs.declared.ports.Ports.{Ports}
+use Rattle.mic1_datapath.specs.Microstep.{ports_of, result_of, settled, written, sampled, word_under_way, byte_under_way, moved, clock, world_after, refusal}
 use Rattle.mic1_datapath.specs.Mic1.{mic1_meaning, outcome, step_of_word}
 use Rattle.shipped_microcode.proofs.Turns.{whole_turn}
 
@@ -38,20 +39,20 @@ abbrev other_input : World → List ℕ → World
 other_input w other = record w { untaken = other }
 
 -- what an access comes to with the other input
-record Access (top : ℕ) (mem : Mem) (m : Micro) (w : World) (other : List ℕ) : Type 0 where
-  word : word_under_way top mem m (written top mem m (other_input w other)) ≡ word_under_way top mem m (written top mem m w)
-  words : (written top mem m (other_input w other)).words ≡ (written top mem m w).words
+record Access (top : ℕ) (mem : Mem) (p : Ports) (w : World) (other : List ℕ) : Type 0 where
+  word : word_under_way top mem p (written top mem p (other_input w other)) ≡ word_under_way top mem p (written top mem p w)
+  words : (written top mem p (other_input w other)).words ≡ (written top mem p w).words
   left : List ℕ
-  after : sampled top mem m (written top mem m (other_input w other)) ≡ other_input (sampled top mem m (written top mem m w)) left
-  ahead : IsAhead (sampled top mem m (written top mem m w)).untaken left
+  after : sampled top mem p (written top mem p (other_input w other)) ≡ other_input (sampled top mem p (written top mem p w)) left
+  ahead : IsAhead (sampled top mem p (written top mem p w)).untaken left
 
-access : (top : ℕ) (mem : Mem) (m : Micro) (w : World) (other : List ℕ) → IsAhead w.untaken other → Access top mem m w other
+access : (top : ℕ) (mem : Mem) (p : Ports) (w : World) (other : List ℕ) → IsAhead w.untaken other → Access top mem p w other
 unfolding read_value untaken_after
-access top Write m w other h = record { word = refl; words = refl; left = other; after = refl; ahead = h }
-access top Idle m w other h = record { word = refl; words = refl; left = other; after = refl; ahead = h }
-access top Read m w other h = by_test (nat_lt m.mar top) refl
+access top Write p w other h = record { word = refl; words = refl; left = other; after = refl; ahead = h }
+access top Idle p w other h = record { word = refl; words = refl; left = other; after = refl; ahead = h }
+access top Read p w other h = by_test (nat_lt p.mar top) refl
   where
-    by_test : (t : Bool) → nat_lt m.mar top ≡ t → Access top Read m w other
+    by_test : (t : Bool) → nat_lt p.mar top ≡ t → Access top Read p w other
     by_test true t = record { word = rw t; words = refl; left = other; after = rw t; ahead = rw t h }
     by_test false t = record { word = rw t (ap Some (next_same w.untaken other h)); words = refl; left = drop 1 other; after = rw t; ahead = rw t (drop_ahead w.untaken other h) }
 
@@ -60,23 +61,23 @@ abbrev pub StepsAhead : Outcome Micro → Outcome Micro → Type 0
 StepsAhead (Done s v) o = (left : List ℕ) × (o ≡ Done s (other_input v left)) × IsAhead v.untaken left
 StepsAhead (Refused why) o = o ≡ Refused why
 
-byte_same : (fetch : Bool) (m : Micro) (v w : World) → v.words ≡ w.words → byte_under_way fetch m v ≡ byte_under_way fetch m w
-byte_same true m v w e = λ i. Some (byte_in (e i) m.pc)
-byte_same false m v w e = refl
+byte_same : (fetch : Bool) (p : Ports) (v w : World) → v.words ≡ w.words → byte_under_way fetch p v ≡ byte_under_way fetch p w
+byte_same true p v w e = λ i. Some (byte_in (e i) p.pc)
+byte_same false p v w e = refl
 
-clock_same : (top : ℕ) (s : Placed) (m : Micro) (w : World) (other : List ℕ) → Access top s.part.mem (settled s.part m) w other → clock top s m (other_input w other) ≡ clock top s m w
+clock_same : (top : ℕ) (s : Placed) (m : Micro) (w : World) (other : List ℕ) → Access top s.part.mem (ports_of (settled s.part m)) w other → clock top s m (other_input w other) ≡ clock top s m w
 clock_same top s m w other a =
-    let m' : Micro = settled s.part m in
-    λ i. record m' { mpc = target s.next (result_of s.part m) m'.mbr; word = a.word i; byte = byte_same s.part.fetch m' (written top s.part.mem m' (other_input w other)) (written top s.part.mem m' w) a.words i }
+    let p = ports_of (settled s.part m) in
+    λ i. moved s.next (result_of s.part m) (settled s.part m) (a.word i) (byte_same s.part.fetch p (written top s.part.mem p (other_input w other)) (written top s.part.mem p w) a.words i)
 
 step_ahead : (word : ℕ) (m : Micro) (w : World) (other : List ℕ) → IsAhead w.untaken other → StepsAhead (step_of_word word m w) (step_of_word word m (other_input w other))
 unfolding step_of_word
 step_ahead word m w other h =
     let s : Placed = statement_of machines.Mic1 word in
-    let a : Access (length w.words) s.part.mem (settled s.part m) w other = access (length w.words) s.part.mem (settled s.part m) w other h in
+    let a : Access (length w.words) s.part.mem (ports_of (settled s.part m)) w other = access (length w.words) s.part.mem (ports_of (settled s.part m)) w other h in
     by_refusal s a (refusal (length w.words) s m)
   where
-    by_refusal : (s : Placed) → Access (length w.words) s.part.mem (settled s.part m) w other → (r : Option Refusal) →
+    by_refusal : (s : Placed) → Access (length w.words) s.part.mem (ports_of (settled s.part m)) w other → (r : Option Refusal) →
         StepsAhead (outcome r (clock (length w.words) s m w) (world_after (length w.words) s m w))
         (outcome r (clock (length w.words) s m (other_input w other)) (world_after (length w.words) s m (other_input w other)))
     by_refusal s a (Some why) = refl

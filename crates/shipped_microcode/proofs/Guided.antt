@@ -10,7 +10,8 @@ use Rattle.micro_word.specs.declared.statement.PlacedNext.{PlacedNext}
 use Rattle.micro_word.specs.declared.statement.PlacedNext.TheVariants.{Goto, Dispatch, Branch}
 use Rattle.mic_clock.specs.Meaning.{Done, Refused}
 use Rattle.mic1_datapath.specs.declared.micro.Micro.{Micro}
-use Rattle.mic1_datapath.specs.Microstep.{clock, world_after, settled, written, sampled, refusal, memory_refusal, byte_refusal}
+use Rattle.mic1_datapath.specs.declared.ports.Ports.{Ports}
+use Rattle.mic1_datapath.specs.Microstep.{clock, world_after, ports_of, settled, written, sampled, refusal, memory_refusal, byte_refusal}
 use Rattle.mic1_datapath.specs.Mic1.{mic1_meaning, microstep, outcome, step_of_word, driven}
 use Rattle.shipped_microcode.specs.Shipped.{shipped, HasShipped}
 use Rattle.shipped_microcode.proofs.Passes.{Moment, is_inside, outcome_at, stalls_at, last, onward, onward-inside, pass}
@@ -70,20 +71,20 @@ module _ (top : ℕ) where
       ap (λ (n : ℕ). outcome (refusal n s m) (clock n s m w) (world_after n s m w)) long
       ∙ ap (λ (r : Option Refusal). outcome r (clock top s m w) (world_after top s m w)) h
 
-  written-long : (mem : Mem) (m : Micro) (w : World) → length (written top mem m w).words ≡ length w.words
-  written-long Write m w = length-set w.words m.mar m.mdr
-  written-long Read m w = refl
-  written-long Idle m w = refl
+  written-long : (mem : Mem) (p : Ports) (w : World) → length (written top mem p w).words ≡ length w.words
+  written-long Write p w = length-set w.words p.mar p.mdr
+  written-long Read p w = refl
+  written-long Idle p w = refl
 
-  sampled-long : (mem : Mem) (m : Micro) (w : World) → length (sampled top mem m w).words ≡ length w.words
-  sampled-long Write m w = refl
-  sampled-long Read m w = refl
-  sampled-long Idle m w = refl
+  sampled-long : (mem : Mem) (p : Ports) (w : World) → length (sampled top mem p w).words ≡ length w.words
+  sampled-long Write p w = refl
+  sampled-long Read p w = refl
+  sampled-long Idle p w = refl
 
   guided-long : (s : Placed) (gs : List ℕ) (p : Moment Micro) → length (guided s gs p).world.words ≡ length p.world.words
   guided-long s gs p =
-      let m : Micro = settled s.part p.state in
-      sampled-long s.part.mem m (written top s.part.mem m p.world) ∙ written-long s.part.mem m p.world
+      let given = ports_of (settled s.part p.state) in
+      sampled-long s.part.mem given (written top s.part.mem given p.world) ∙ written-long s.part.mem given p.world
 
 -- `program` has the words of a control store that holds the shipped microprogram.
 module _ (program : List ℕ) (has : HasShipped program) (top : ℕ) where

@@ -9,7 +9,8 @@ use Rattle.micro_word.specs.declared.statement.Mem.TheVariants.{None as Idle, Re
 use Rattle.mic_clock.specs.declared.end.End.{End}
 use Rattle.mic_clock.specs.Run.{MicroRun, turns}
 use Rattle.mic1_datapath.specs.declared.micro.Micro.{Micro}
-use Rattle.mic1_datapath.specs.Microstep.{settled, written, sampled}
+use Rattle.mic1_datapath.specs.declared.ports.Ports.{Ports}
+use Rattle.mic1_datapath.specs.Microstep.{ports_of, settled, written, sampled}
 use Rattle.mic1_datapath.specs.Mic1.{mic1_meaning}
 use Rattle.shipped_microcode.proofs.Worlds.{turns_keep, between, behind_end}
 
@@ -32,15 +33,15 @@ given_grows top given at value = by_test (nat_lt at top)
     by_test true = stays given
     by_test false = record { more = (value % 256) ∷ []; are = refl }
 
-access_grows : (top : ℕ) (mem : Mem) (m : Micro) (w : World) → Grows w.given (sampled top mem m (written top mem m w)).given
-access_grows top Write m w = given_grows top w.given m.mar m.mdr
-access_grows top Read m w = stays w.given
-access_grows top Idle m w = stays w.given
+access_grows : (top : ℕ) (mem : Mem) (p : Ports) (w : World) → Grows w.given (sampled top mem p (written top mem p w)).given
+access_grows top Write p w = given_grows top w.given p.mar p.mdr
+access_grows top Read p w = stays w.given
+access_grows top Idle p w = stays w.given
 
 pub turns_grow : (words : List ℕ) (bound k : ℕ) (r : MicroRun Micro) → Grows r.world.given (turns mic1_meaning words (Some bound) k r).world.given
 turns_grow words bound =
     turns_keep words bound (λ (u v : World). Grows u.given v.given) (λ w. stays w.given) (λ u v w. grows_on u.given v.given w.given)
-    (λ top s m w. access_grows top s.part.mem (settled s.part m) w)
+    (λ top s m w. access_grows top s.part.mem (ports_of (settled s.part m)) w)
 
 -- what a run has given at some moment is a front of what it has given at its end
 pub front_of_end : (words : List ℕ) (bound n k : ℕ) (e : End) (r : MicroRun Micro) → (turns mic1_meaning words (Some bound) k r).end ≡ Some e →

@@ -14,8 +14,9 @@ use Rattle.mic_clock.specs.declared.end.End.TheVariants as ends
 use Rattle.mic_clock.specs.Meaning.{Outcome, Done, Refused}
 use Rattle.mic_clock.specs.Run.{MicroRun, turn, turn_by, turns, bounded, bounded_by, gone, stepped, end_of as refusal_end, word_at, IsClocking}
 use Rattle.mic1_datapath.specs.declared.micro.Micro.{Micro}
+use Rattle.mic1_datapath.specs.declared.ports.Ports.{Ports}
 use Rattle.mic1_datapath.specs.Access.{is_read}
-use Rattle.mic1_datapath.specs.Microstep.{settled, written, sampled, clock, access_refusal}
+use Rattle.mic1_datapath.specs.Microstep.{ports_of, settled, written, sampled, clock, access_refusal}
 use Rattle.mic1_datapath.specs.Mic1.{mic1_meaning, outcome, step_of_word, reads_console}
 use Rattle.ijvm_definition.specs.declared.run.RunEnd.{RunEnd}
 use Rattle.ijvm_definition.specs.declared.run.RunEnd.TheVariants as defined
@@ -24,11 +25,11 @@ use Rattle.shipped_microcode.proofs.Turns.{whole_turn, turns-add}
 use Rattle.shipped_microcode.proofs.Worlds.{turns_keep, between, behind_end, same_end}
 use Rattle.shipped_microcode.proofs.Ahead.{RunsAhead, other_run, turns_ahead, bounded_ahead}
 
-access_shrinks : (top : ℕ) (mem : Mem) (m : Micro) (w : World) → length (sampled top mem m (written top mem m w)).untaken ≤ length w.untaken
+access_shrinks : (top : ℕ) (mem : Mem) (p : Ports) (w : World) → length (sampled top mem p (written top mem p w)).untaken ≤ length w.untaken
 unfolding untaken_after
-access_shrinks top Write m w = omega arith
-access_shrinks top Idle m w = omega arith
-access_shrinks top Read m w = by_test (nat_lt m.mar top)
+access_shrinks top Write p w = omega arith
+access_shrinks top Idle p w = omega arith
+access_shrinks top Read p w = by_test (nat_lt p.mar top)
   where
     dropped : (xs : List ℕ) → length (drop 1 xs) ≤ length xs
     dropped [] = omega arith
@@ -38,20 +39,20 @@ access_shrinks top Read m w = by_test (nat_lt m.mar top)
     by_test true = omega arith
     by_test false = dropped w.untaken
 
-access_long : (top : ℕ) (mem : Mem) (m : Micro) (w : World) → length (sampled top mem m (written top mem m w)).words ≡ length w.words
-access_long top Write m w = length-set w.words m.mar m.mdr
-access_long top Read m w = refl
-access_long top Idle m w = refl
+access_long : (top : ℕ) (mem : Mem) (p : Ports) (w : World) → length (sampled top mem p (written top mem p w)).words ≡ length w.words
+access_long top Write p w = length-set w.words p.mar p.mdr
+access_long top Read p w = refl
+access_long top Idle p w = refl
 
 shrinks : (words : List ℕ) (bound k : ℕ) (r : MicroRun Micro) → length (turns mic1_meaning words (Some bound) k r).world.untaken ≤ length r.world.untaken
 shrinks words bound =
     turns_keep words bound (λ (u v : World). length v.untaken ≤ length u.untaken) (λ w. omega arith) (λ u v w a b. omega arith)
-    (λ top s m w. access_shrinks top s.part.mem (settled s.part m) w)
+    (λ top s m w. access_shrinks top s.part.mem (ports_of (settled s.part m)) w)
 
 stays_long : (words : List ℕ) (bound k : ℕ) (r : MicroRun Micro) → length (turns mic1_meaning words (Some bound) k r).world.words ≡ length r.world.words
 stays_long words bound =
     turns_keep words bound (λ (u v : World). length v.words ≡ length u.words) (λ w. refl) (λ u v w a b. b ∙ a)
-    (λ top s m w. access_long top s.part.mem (settled s.part m) w)
+    (λ top s m w. access_long top s.part.mem (ports_of (settled s.part m)) w)
 
 -- what comes of a step that reads the console: a byte is taken, or the fetch is refused
 abbrev Taken : World → Outcome Micro → Type 0
@@ -63,38 +64,38 @@ both true true h = (refl, refl)
 both true false h = absurd (cc)
 both false b h = absurd (cc)
 
-reading : (top : ℕ) (mem : Mem) (fetch : Bool) (m : Micro) (w : World) (s : Micro) → is_read mem ≡ true → m.mar ≡ 0xFFFFFFFD → top < 0x80000000 →
-    Taken w (outcome (access_refusal top mem fetch m) s (sampled top mem m (written top mem m w)))
+reading : (top : ℕ) (mem : Mem) (fetch : Bool) (p : Ports) (w : World) (s : Micro) → is_read mem ≡ true → p.mar ≡ 0xFFFFFFFD → top < 0x80000000 →
+    Taken w (outcome (access_refusal top mem fetch p) s (sampled top mem p (written top mem p w)))
 unfolding untaken_after read_refusal fetch_refusal
-reading top Write fetch m w s is at l = absurd (cc)
-reading top Idle fetch m w s is at l = absurd (cc)
-reading top Read fetch m w s is at l = by_fetch fetch
+reading top Write fetch p w s is at l = absurd (cc)
+reading top Idle fetch p w s is at l = absurd (cc)
+reading top Read fetch p w s is at l = by_fetch fetch
   where
-    off : nat_lt m.mar top ≡ false
+    off : nat_lt p.mar top ≡ false
     off = grind (arith, nat_tests)
 
-    here : (m.mar == 0xFFFFFFFD) ≡ true
+    here : (p.mar == 0xFFFFFFFD) ≡ true
     here = grind (arith, nat_tests)
 
-    none : read_refusal top m.mar ≡ None
+    none : read_refusal top p.mar ≡ None
     none = rw (off, here)
 
-    taken : untaken_after top w.untaken m.mar ≡ drop 1 w.untaken
+    taken : untaken_after top w.untaken p.mar ≡ drop 1 w.untaken
     taken = rw off
 
-    by_refusal : (r : Option Refusal) → ((why : Refusal) → r ≡ Some why → (at : ℕ) × (why ≡ OutOfMap at)) → Taken w (outcome r s (sampled top Read m (written top Read m w)))
+    by_refusal : (r : Option Refusal) → ((why : Refusal) → r ≡ Some why → (at : ℕ) × (why ≡ OutOfMap at)) → Taken w (outcome r s (sampled top Read p (written top Read p w)))
     by_refusal (Some why) h = h why refl
     by_refusal None h = taken
 
-    fetched : (why : Refusal) → fetch_refusal top m.pc ≡ Some why → (at : ℕ) × (why ≡ OutOfMap at)
-    fetched why e = by_test (nat_lt (m.pc / 4) top) e
+    fetched : (why : Refusal) → fetch_refusal top p.pc ≡ Some why → (at : ℕ) × (why ≡ OutOfMap at)
+    fetched why e = by_test (nat_lt (p.pc / 4) top) e
       where
-        by_test : (t : Bool) → (if t then None else Some (OutOfMap (m.pc / 4))) ≡ Some why → (at : ℕ) × (why ≡ OutOfMap at)
+        by_test : (t : Bool) → (if t then None else Some (OutOfMap (p.pc / 4))) ≡ Some why → (at : ℕ) × (why ≡ OutOfMap at)
         by_test true f = absurd (cc)
-        by_test false f = (m.pc / 4, cc)
+        by_test false f = (p.pc / 4, cc)
 
-    by_fetch : (f : Bool) → Taken w (outcome (access_refusal top Read f m) s (sampled top Read m (written top Read m w)))
-    by_fetch true = rw none (by_refusal (fetch_refusal top m.pc) fetched)
+    by_fetch : (f : Bool) → Taken w (outcome (access_refusal top Read f p) s (sampled top Read p (written top Read p w)))
+    by_fetch true = rw none (by_refusal (fetch_refusal top p.pc) fetched)
     by_fetch false = rw none taken
 
 -- a running run that comes to a microstep, at this bound
@@ -130,7 +131,7 @@ module _ (words : List ℕ) (bound : ℕ) where
   step_taken word m w reads small =
       let s : Placed = statement_of machines.Mic1 word in
       let b = both (is_read s.part.mem) ((settled s.part m).mar == 0xFFFFFFFD) reads in
-      reading (length w.words) s.part.mem s.part.fetch (settled s.part m) w (clock (length w.words) s m w) b.0 (grind (b.1, arith, nat_tests)) small
+      reading (length w.words) s.part.mem s.part.fetch (ports_of (settled s.part m)) w (clock (length w.words) s m w) b.0 (grind (b.1, arith, nat_tests)) small
 
   stepped_lost : (r : MicroRun Micro) (o : Outcome Micro) → Taken r.world o → Lost r (stepped mic1_meaning words r o)
   stepped_lost r (Done s v) h = inl h

@@ -15,8 +15,8 @@ returns-in-Ok-clause-ok g c =
       λ w shows same.
           let to = led.2 w shows same in (
             to.0,
-            is_done (statement_of machines.Mic1 c.args.self.now.word) c.args.self.now.micro c.prepare-next.result c.prepare-next.ensures.prepared
-                w to.0 _ (ap (λ (ws : List ℕ). length ws) shows.words) _ _ c.in-Ok.ensures.allowed to.1,
+            is_done (statement_of machines.Mic1 c.args.self.now.word) c.args.self.now.micro c.prepare-asked.result c.prepare-asked.ensures
+                w to.0 _ (ap (λ (ws : List ℕ). length ws) shows.words) _ _ c.in-Ok.ensures.allowed to.1 _ c.advance.ensures.state,
             to.2,
             to.3,
           ),
@@ -26,15 +26,15 @@ pub returns-in-Err-clause-refused : goal.returns-in-Err-clause-refused
 unfolding step_of_word
 returns-in-Err-clause-refused g c =
     λ no_fault w shows.
-    is_refused (statement_of machines.Mic1 c.args.self.now.word) c.args.self.now.micro c.prepare-next.result c.prepare-next.ensures.prepared
+    is_refused (statement_of machines.Mic1 c.args.self.now.word) c.args.self.now.micro c.prepare-asked.result c.prepare-asked.ensures
     w _ (ap (λ (ws : List ℕ). length ws) shows.words) _ (c.in-Err.ensures.refused no_fault)
 
 pub returns-in-Err-clause-reads : goal.returns-in-Err-clause-reads
 unfolding reads_console
 returns-in-Err-clause-reads g c =
-    λ h. reads_too (statement_of machines.Mic1 c.args.self.now.word) c.args.self.now.micro c.prepare-next.result c.prepare-next.ensures.prepared (c.in-Err.ensures.reads (cc))
+    λ h. reads_too (statement_of machines.Mic1 c.args.self.now.word) c.args.self.now.micro c.prepare-asked.result c.prepare-asked.ensures (c.in-Err.ensures.reads (cc))
 
 pub returns-in-Err-clause-uses : goal.returns-in-Err-clause-uses
 unfolding uses_console
 returns-in-Err-clause-uses g c =
-    λ h. uses_too (statement_of machines.Mic1 c.args.self.now.word) c.args.self.now.micro c.prepare-next.result c.prepare-next.ensures.prepared (c.in-Err.ensures.uses (cc))
+    λ h. uses_too (statement_of machines.Mic1 c.args.self.now.word) c.args.self.now.micro c.prepare-asked.result c.prepare-asked.ensures (c.in-Err.ensures.uses (cc))
