@@ -30,6 +30,10 @@ pool 1 0000000c
 /// The text of `echo`: it gives back the bytes of a line.
 const ECHO: &[u8] = b"\xFC\x59\x10\x0A\x9F\0\x07\xFD\xA7\xFF\xF8\xFD\xFF";
 
+/// The text of a method that stores to its local on one branch alone, and of the main that calls it.
+const UNSET: &[u8] =
+    b"\x13\0\0\x10\x01\xB6\0\x01\xFD\xFF\0\x02\0\x01\x15\x01\x99\0\x07\x10\x07\x36\x02\x15\x02\xAC";
+
 #[derive(Clone, Copy)]
 enum Command {
     Verify,
@@ -233,7 +237,7 @@ const REFUSALS: [Refusal; 16] = [
         told: "0000000a no local 1",
     },
     Refusal {
-        text: b"\x13\0\0\x10\x01\xB6\0\x01\xFD\xFF\0\x02\0\x01\x15\x01\x99\0\x07\x10\x07\x36\x02\x15\x02\xAC",
+        text: UNSET,
         pool: &[0, 10],
         told: "00000017 local 2 unset",
     },
@@ -329,28 +333,6 @@ fn add_behind(rt: &impl Abort, alloc: Global, nops: u32) -> Result<Vec<u8>, Fail
     Ok(image(rt, alloc, &text, &[64, 12 + nops])?)
 }
 
-#[test]
-fn calls_cost_by_their_entry(rt: HostRuntime) -> Result<(), Fail> {
-    let alloc = rt.alloc();
-    for (nops, mic1, mic2) in [(0u32, 88u32, 53u32), (1, 90, 54), (2, 92, 55), (3, 94, 57)] {
-        let file = add_behind(&rt, alloc, nops)?;
-        let instructions = 12 + nops;
-        let at = 11 + nops;
-        let done = call(alloc, MIC1, quiet(&file, b""))?;
-        let before = mic1 - 1;
-        let report = format!(in alloc;
-            "end halt\ncycles {mic1} instructions {instructions}\nboundary {before} at 0000000{at:x} sp 00007fff lv 00008000\n"
-        )?;
-        expect(&rt, &done, 0, b"*", report.as_str());
-        let done = call(alloc, MIC2, quiet(&file, b""))?;
-        let report = format!(in alloc;
-            "end halt\ncycles {mic2} instructions {instructions}\nboundary {mic2} at 0000000{at:x} sp 00007fff lv 00008000\n"
-        )?;
-        expect(&rt, &done, 0, b"*", report.as_str());
-    }
-    Ok(())
-}
-
 struct Row {
     text: &'static [u8],
     pool: &'static [u32],
@@ -363,25 +345,7 @@ struct Row {
 
 const DEEP: &[u8] = b"\x13\0\0\xB6\0\x01\xFF\0\x01\0\0\x13\0\0\xB6\0\x01\xAC";
 
-const ROWS: [Row; 10] = [
-    Row {
-        text: ECHO,
-        pool: &[],
-        input: b"ab\n",
-        command: MIC1,
-        status: 0,
-        out: b"ab\n",
-        report: "end halt\ncycles 113 instructions 18\nboundary 112 at 0000000c sp 00007fff lv 00008000\n",
-    },
-    Row {
-        text: ECHO,
-        pool: &[],
-        input: b"ab\n",
-        command: MIC2,
-        status: 0,
-        out: b"ab\n",
-        report: "end halt\ncycles 84 instructions 18\nboundary 84 at 0000000c sp 00007fff lv 00008000\n",
-    },
+const ROWS: [Row; 5] = [
     Row {
         text: ECHO,
         pool: &[],
@@ -399,33 +363,6 @@ const ROWS: [Row; 10] = [
         status: 2,
         out: b"",
         report: "end bound\ncycles 2 instructions 0\nboundary 2 at 00000000 sp 00007fff lv 00008000\n",
-    },
-    Row {
-        text: DEEP,
-        pool: &[0, 7],
-        input: b"",
-        command: MIC1,
-        status: 3,
-        out: b"",
-        report: "end stack-limit\ncycles 338592 instructions 21845\nboundary 338592 at 0000000e sp 0000fffe lv 0000fffb\n",
-    },
-    Row {
-        text: DEEP,
-        pool: &[0, 7],
-        input: b"",
-        command: MIC2,
-        status: 3,
-        out: b"",
-        report: "end stack-limit\ncycles 174757 instructions 21845\nboundary 174757 at 0000000e sp 0000fffe lv 0000fffb\n",
-    },
-    Row {
-        text: b"\xFC\xC4\x36\x7F\xFF\xFF",
-        pool: &[],
-        input: b"xy",
-        command: MIC1,
-        status: 3,
-        out: b"",
-        report: "end stack-limit\ncycles 2 instructions 0\nboundary 2 at 00000000 sp 0000ffff lv 00008000\n",
     },
     Row {
         text: b"\x10\x06\x10\x03\x80\xFF",
@@ -575,6 +512,171 @@ fn sources_are_assembled(rt: HostRuntime) -> Result<(), Fail> {
     Ok(())
 }
 
+struct SourceRow {
+    source: &'static str,
+    text: &'static [u8],
+    pool: &'static [u32],
+    input: &'static [u8],
+    status: u8,
+    out: &'static [u8],
+    mic1: &'static str,
+    mic2: &'static str,
+}
+
+const SOURCES: [SourceRow; 7] = [
+    SourceRow {
+        source: ".main\nBIPUSH 72\nOUT\nHALT\n.end-main",
+        text: b"\x10\x48\xFD\xFF",
+        pool: &[],
+        input: b"",
+        status: 0,
+        out: b"H",
+        mic1: "end halt\ncycles 15 instructions 3\nboundary 14 at 00000003 sp 00007fff lv 00008000\n",
+        mic2: "end halt\ncycles 11 instructions 3\nboundary 11 at 00000003 sp 00007fff lv 00008000\n",
+    },
+    SourceRow {
+        source: ".main\nL: IN\nDUP\nBIPUSH 10\nIF_ICMPEQ done\nOUT\nGOTO L\ndone: OUT\nHALT\n.end-main",
+        text: ECHO,
+        pool: &[],
+        input: b"ab\n",
+        status: 0,
+        out: b"ab\n",
+        mic1: "end halt\ncycles 113 instructions 18\nboundary 112 at 0000000c sp 00007fff lv 00008000\n",
+        mic2: "end halt\ncycles 84 instructions 18\nboundary 84 at 0000000c sp 00007fff lv 00008000\n",
+    },
+    SourceRow {
+        source: ".main\n.var\nx\n.end-var\nIINC x 65\nILOAD x\nOUT\nHALT\n.end-main",
+        text: b"\x84\0\x41\x15\0\xFD\xFF",
+        pool: &[],
+        input: b"",
+        status: 0,
+        out: b"A",
+        mic1: "end halt\ncycles 24 instructions 4\nboundary 23 at 00000006 sp 00008000 lv 00008000\n",
+        mic2: "end halt\ncycles 15 instructions 4\nboundary 15 at 00000006 sp 00008000 lv 00008000\n",
+    },
+    SourceRow {
+        source: ".constant\nMIN -2147483648\n.end-constant\n.main\nLDC_W MIN\nBIPUSH 1\nISUB\nHALT\n.end-main",
+        text: b"\x13\0\0\x10\x01\x64\xFF",
+        pool: &[0x8000_0000],
+        input: b"",
+        status: 0,
+        out: b"",
+        mic1: "end halt\ncycles 19 instructions 4\nboundary 18 at 00000006 sp 00008000 lv 00008000\n",
+        mic2: "end halt\ncycles 10 instructions 4\nboundary 10 at 00000006 sp 00008000 lv 00008000\n",
+    },
+    SourceRow {
+        source: ".main\nBIPUSH 0xFF\nHALT\n.end-main",
+        text: b"\x10\xFF\xFF",
+        pool: &[],
+        input: b"",
+        status: 0,
+        out: b"",
+        mic1: "end halt\ncycles 7 instructions 2\nboundary 6 at 00000002 sp 00008000 lv 00008000\n",
+        mic2: "end halt\ncycles 4 instructions 2\nboundary 4 at 00000002 sp 00008000 lv 00008000\n",
+    },
+    SourceRow {
+        source: ".constant\nOBJ 0\n.end-constant\n.main\nLDC_W OBJ\nINVOKEVIRTUAL f\nHALT\n.end-main\n.method f()\nLDC_W OBJ\nINVOKEVIRTUAL f\nIRETURN\n.end-method",
+        text: DEEP,
+        pool: &[0, 7],
+        input: b"",
+        status: 3,
+        out: b"",
+        mic1: "end stack-limit\ncycles 338592 instructions 21845\nboundary 338592 at 0000000e sp 0000fffe lv 0000fffb\n",
+        mic2: "end stack-limit\ncycles 174757 instructions 21845\nboundary 174757 at 0000000e sp 0000fffe lv 0000fffb\n",
+    },
+    SourceRow {
+        source: ".main\nIN\nISTORE 32767\nHALT\n.end-main",
+        text: b"\xFC\xC4\x36\x7F\xFF\xFF",
+        pool: &[],
+        input: b"xy",
+        status: 3,
+        out: b"",
+        mic1: "end stack-limit\ncycles 2 instructions 0\nboundary 2 at 00000000 sp 0000ffff lv 00008000\n",
+        mic2: "end stack-limit\ncycles 2 instructions 0\nboundary 2 at 00000000 sp 0000ffff lv 00008000\n",
+    },
+];
+
+#[test]
+fn sources_run_as_their_images(rt: HostRuntime) -> Result<(), Fail> {
+    let alloc = rt.alloc();
+    for row in &SOURCES {
+        let source = Vec::from_slice(alloc, row.source.as_bytes())?;
+        let (_, written) = assemble(alloc, &source, &[])?;
+        let file = image(&rt, alloc, row.text, row.pool)?;
+        let written = written.ok_or("nothing written")?;
+        assert_eq!(rt; written, file);
+        for (command, report) in [(MIC1, row.mic1), (MIC2, row.mic2)] {
+            for bytes in [file.as_slice(), source.as_slice()] {
+                let done = call(alloc, command, quiet(bytes, row.input))?;
+                expect(&rt, &done, row.status, row.out, report);
+            }
+        }
+    }
+    Ok(())
+}
+
+/// The source of `add` with so many NOPs in front.
+fn add_source_behind(alloc: Global, nops: u32) -> Result<Vec<u8>, Fail> {
+    let (constants, code) = ADD_SOURCE.split_once("LDC_W").ok_or("no code")?;
+    let mut source = Vec::from_slice(alloc, constants.as_bytes())?;
+    for _ in 0..nops {
+        source.extend_from_slice(b"NOP\n")?;
+    }
+    source.extend_from_slice(b"LDC_W")?;
+    source.extend_from_slice(code.as_bytes())?;
+    Ok(source)
+}
+
+#[test]
+fn calls_cost_by_their_entry(rt: HostRuntime) -> Result<(), Fail> {
+    let alloc = rt.alloc();
+    for (nops, mic1, mic2) in [(0u32, 88u32, 53u32), (1, 90, 54), (2, 92, 55), (3, 94, 57)] {
+        let file = add_behind(&rt, alloc, nops)?;
+        let source = add_source_behind(alloc, nops)?;
+        let (done, written) = assemble(alloc, &source, &[])?;
+        let size = 26 + nops;
+        let line = format!(in alloc; "text {size} pool 2\n")?;
+        expect(&rt, &done, 0, line.as_bytes(), "");
+        assert_eq!(rt; written.ok_or("nothing written")?, file);
+        let instructions = 12 + nops;
+        let at = 11 + nops;
+        let before = mic1 - 1;
+        for (command, cycles, boundary) in [(MIC1, mic1, before), (MIC2, mic2, mic2)] {
+            let report = format!(in alloc;
+                "end halt\ncycles {cycles} instructions {instructions}\nboundary {boundary} at 0000000{at:x} sp 00007fff lv 00008000\n"
+            )?;
+            for bytes in [file.as_slice(), source.as_slice()] {
+                let done = call(alloc, command, quiet(bytes, b""))?;
+                expect(&rt, &done, 0, b"*", report.as_str());
+            }
+        }
+    }
+    Ok(())
+}
+
+const UNSET_SOURCE: &str = ".constant
+O 0
+.end-constant
+.main
+LDC_W O
+BIPUSH 1
+INVOKEVIRTUAL m
+OUT
+HALT
+.end-main
+.method m(a)
+.var
+x
+.end-var
+ILOAD a
+IFEQ skip
+BIPUSH 7
+ISTORE x
+skip: ILOAD x
+IRETURN
+.end-method
+";
+
 #[test]
 fn refused_sources_are_told_why(rt: HostRuntime) -> Result<(), Fail> {
     let alloc = rt.alloc();
@@ -593,11 +695,18 @@ fn refused_sources_are_told_why(rt: HostRuntime) -> Result<(), Fail> {
             ".main\nBIPUSH 0\nIFEQ two\nBIPUSH 1\nGOTO end\ntwo: BIPUSH 1\nBIPUSH 2\nend: HALT\n.end-main\n",
             ": 0000000e depth 1 and 2",
         ),
+        (UNSET_SOURCE, ": 00000017 local 2 unset"),
     ] {
         let line = format!(in alloc; "mic: F{told}\n")?;
-        let done = call(alloc, Command::Verify, quiet(source.as_bytes(), b""))?;
-        expect(&rt, &done, 65, b"", line.as_str());
+        for command in [Command::Verify, Command::List, MIC1, MIC2] {
+            let done = call(alloc, command, quiet(source.as_bytes(), b""))?;
+            expect(&rt, &done, 65, b"", line.as_str());
+        }
     }
+    let (done, written) = assemble(alloc, UNSET_SOURCE.as_bytes(), &[])?;
+    expect(&rt, &done, 0, b"text 26 pool 2\n", "");
+    let unset = image(&rt, alloc, UNSET, &[0, 10])?;
+    assert_eq!(rt; written.ok_or("nothing written")?, unset);
     let newlines = vec![in alloc; 10u8; 1_048_576]?;
     let done = call(alloc, Command::Verify, quiet(&newlines, b""))?;
     expect(&rt, &done, 65, b"", "mic: F: no main\n");
