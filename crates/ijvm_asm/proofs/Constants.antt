@@ -1,43 +1,19 @@
 -- The lines of a section of constants make what the section makes.
-use Rattle.std.proofs.Common.{◌≡◌, ℕ, ◌+◌, Bool, true, false, List, [], ◌∷◌, ◌++◌, map, Option, Some, None, refl, ap, sym, subst, ◌∙◌, cond}
-use Rattle.std.specs.Prelude.{◌||◌, Result, Ok, Err, is_some}
+use Rattle.std.proofs.Common.{◌≡◌, ℕ, ◌+◌, true, false, List, [], ◌∷◌, ◌++◌, map, Option, Some, None, refl, ap, sym, subst, ◌∙◌}
+use Rattle.std.specs.Prelude.{is_some}
 use Rattle.std.proofs.lemmas.List.{append_assoc}
 use Rattle.ijvm_program.specs.declared.line.Constant.{Constant}
 use Rattle.ijvm_line.specs.declared.place.Place.TheVariants as places
 use Rattle.ijvm_line.specs.declared.place.Mark.TheVariants as marks
 use Rattle.name_list.specs.Places as names
-use Rattle.ijvm_asm.specs.declared.error.AsmError.{AsmError}
 use Rattle.ijvm_asm.specs.declared.error.AsmError.TheVariants as errors
-use Rattle.ijvm_asm.specs.Source.{is_declared, Source}
-use Rattle.ijvm_asm.specs.Sections.{Build, constant_line, Constants, Dotted, Said, section_lines}
-use Rattle.ijvm_asm.specs.Parts.{AreNew, defined, MakesConstants}
-
-abbrev pub ok : {A : Type 0} → A → Result A AsmError
-ok a = Ok a
-
-pub if_ok : {A : Type 0} (b : Bool) (e : AsmError) (r : Result A AsmError) (u : A) → cond b (Err e) r ≡ Ok u → (b ≡ false) × (r ≡ Ok u)
-if_ok true e r u h = absurd (cc)
-if_ok false e r u h = (refl, h)
-
-pub ok_if : {A : Type 0} (b : Bool) (e : AsmError) (r : Result A AsmError) → b ≡ false → cond b (Err e) r ≡ r
-ok_if true e r h = absurd (cc)
-ok_if false e r h = refl
-
-pub none : {A : Type 0} (o : Option A) → is_some o ≡ false → o ≡ None
-none None h = refl
-none (Some a) h = absurd (cc)
-
-pub both : (a b : Bool) → (a || b) ≡ false → (a ≡ false) × (b ≡ false)
-both true b h = absurd (cc)
-both false b h = (refl, h)
-
-pub neither : (a b : Bool) → a ≡ false → b ≡ false → (a || b) ≡ false
-neither true b h g = absurd (cc)
-neither false b h g = g
-
-pub nil : {A : Type 0} (xs : List A) → xs ++ [] ≡ xs
-nil [] = refl
-nil (x ∷ xs) = ap (λ ys. x ∷ ys) (nil xs)
+use Rattle.ijvm_asm.specs.Said.{Dotted, Said}
+use Rattle.ijvm_asm.specs.Sections.{constant_line, Constants, section_lines}
+use Rattle.ijvm_asm.specs.Source.{Source}
+use Rattle.ijvm_asm.specs.Making.{AreConstants, defined, MakesConstants}
+use Rattle.ijvm_asm.specs.Adding.{is_declared}
+use Rattle.ijvm_asm.proofs.Building.{Build}
+use Rattle.ijvm_asm.proofs.Conditions.{both, if_ok, neither, nil, none, ok, ok_if}
 
 abbrev names_of : List Constant → List (List ℕ)
 names_of cs = map (λ c. c.name) cs
@@ -63,7 +39,7 @@ one_added s c cs = ap (λ ns. added s ns ((s.values ++ c.value ∷ []) ++ values
     ∙ ap (λ vs. added s (s.constants ++ names_of (c ∷ cs)) vs) (append_assoc s.values (c.value ∷ []) (values_of cs))
 
 abbrev Added : Source → List Constant → Source → Type 0
-Added s cs u = AreNew s.methods s.constants cs × (u ≡ added s (s.constants ++ names_of cs) (s.values ++ values_of cs))
+Added s cs u = AreConstants s.methods s.constants cs × (u ≡ added s (s.constants ++ names_of cs) (s.values ++ values_of cs))
 
 items_add : (items : List (Option Constant)) (k : ℕ) (s u : Source) → s.place ≡ places.Constants → Build k s (items_lines items) u → Added s (defined items) u
 items_add [] k s u e (v, p, h, m) =

@@ -1,28 +1,40 @@
 -- The lines of sections make what the sections make, one behind the other.
-use Rattle.std.proofs.Common.{◌≡◌, ℕ, suc, ◌+◌, List, [], ◌∷◌, ◌++◌, map, replicate, length, Option, Some, None, refl, ap, sym, subst, ◌∙◌, arith}
+use Rattle.std.proofs.Common.{◌≡◌, ℕ, ◌+◌, List, [], ◌∷◌, ◌++◌, map, replicate, length, Option, Some, None, refl, ap, sym, subst, ◌∙◌}
 use Rattle.std.proofs.lemmas.List.{append_assoc}
 use Rattle.ijvm_line.specs.declared.place.Mark.{Mark}
 use Rattle.ijvm_line.specs.declared.place.Mark.TheVariants as marks
 use Rattle.ijvm_line.specs.declared.place.Place.TheVariants as places
+use Rattle.ijvm_asm.specs.Said.{BlankAt, Dotted, Heads, Said}
+use Rattle.ijvm_asm.specs.Sections.{Between, Body, body_lines, code_line, constant_line, Constants, lines_of, local_line, Locals, locals_lines, Main, Method, Section, section_lines}
 use Rattle.ijvm_asm.specs.Source.{Source}
-use Rattle.ijvm_asm.specs.Sections.{BlankAt, Between, Body, body_lines, Build, code_line, constant_line, Constants, Dotted, Heads, lines_of, local_line, Locals, locals_lines, Main, Method, Said, Section, section_lines}
-use Rattle.ijvm_asm.specs.Parts.{SectionsMake}
+use Rattle.ijvm_asm.specs.Making.{Makes, SectionsMake}
+use Rattle.ijvm_asm.proofs.Building.{Build, join, split}
+use Rattle.ijvm_asm.proofs.Constants.{makes_section, section_makes}
+use Rattle.ijvm_asm.proofs.Mains.{main_makes, makes_main}
+use Rattle.ijvm_asm.proofs.Methods.{makes_method, method_makes}
 
-moved : (k n : ℕ) → (k + 1) + n ≡ k + suc n
-moved k n = omega arith
+-- ---- one section
 
-same : (k : ℕ) → k + 0 ≡ k
-same k = omega arith
+lines_make : (x : Section) (k : ℕ) (s u : Source) → s.place ≡ places.Outside → Build k s (section_lines x []) u → Makes k s x u
+lines_make Between k s u e (v, p, h, m) = let q : s ≡ v = cc in q ∙ m
+lines_make (Constants items) k s u e b = section_makes k s u items e b
+lines_make (Main body) k s u e b = main_makes k s u body e b
+lines_make (Method n ps body) k s u e b = method_makes k s u n ps body e b
 
-pub split : (xs ys : List Said) (k : ℕ) (s t : Source) → Build k s (xs ++ ys) t → (u : Source) × Build k s xs u × Build (k + length xs) u ys t
-split [] ys k s t b = (s, refl, subst (λ n. Build n s ys t) (sym (same k)) b)
-split (x ∷ xs) ys k s t (v, p, h, more) =
-    let r = split xs ys (k + 1) v t more in
-    (r.0, (v, p, h, r.1), subst (λ n. Build n r.0 ys t) (moved k (length xs)) r.2)
+make_lines : (x : Section) (k : ℕ) (s u : Source) → s.place ≡ places.Outside → Makes k s x u → Build k s (section_lines x []) u
+make_lines Between k s u e m = (s, e, refl, m)
+make_lines (Constants items) k s u e m = makes_section k s u items e m
+make_lines (Main body) k s u e m = makes_main k s u body e m
+make_lines (Method n ps body) k s u e m = makes_method k s u n ps body e m
 
-pub join : (xs ys : List Said) (k : ℕ) (s u t : Source) → Build k s xs u → Build (k + length xs) u ys t → Build k s (xs ++ ys) t
-join [] ys k s u t e b = subst (λ n. Build n s ys t) (same k) (subst (λ w. Build (k + 0) w ys t) (sym e) b)
-join (x ∷ xs) ys k s u t (v, p, h, more) b = (v, p, h, join xs ys (k + 1) v u t more (subst (λ n. Build n u ys t) (sym (moved k (length xs))) b))
+-- behind a section the next one begins
+ends_outside : (x : Section) (k : ℕ) (s u : Source) → s.place ≡ places.Outside → Makes k s x u → u.place ≡ places.Outside
+ends_outside Between k s u e m = ap (λ w. w.place) (sym m) ∙ e
+ends_outside (Constants items) k s u e (n, new, q) = ap (λ w. w.place) q
+ends_outside (Main body) k s u e m = ap (λ w. w.place) m.ends
+ends_outside (Method n ps body) k s u e m = ap (λ w. w.place) m.ends
+
+-- ---- the lines of a section, before those of the others
 
 locals_before : (o : Option Locals) (zs ys : List Said) → locals_lines o (zs ++ ys) ≡ locals_lines o zs ++ ys
 locals_before None zs ys = refl
@@ -39,14 +51,18 @@ section_before (Constants items) ys = ap (λ ws. Dotted marks.BeginConstants ∷
 section_before (Main b) ys = ap (λ ws. Dotted marks.BeginMain ∷ ws) (body_before b marks.EndMain ys)
 section_before (Method n ps b) ys = ap (λ ws. Heads n ps ∷ ws) (body_before b marks.EndMethod ys)
 
-pub in_order : (xs : List Section) (k : ℕ) (s t : Source) → Build k s (lines_of xs) t → SectionsMake k s xs t
-in_order [] k s t b = b
-in_order (x ∷ xs) k s t b =
-    let r = split (section_lines x []) (lines_of xs) k s t (subst (λ ws. Build k s ws t) (section_before x (lines_of xs)) b) in
-    (r.0, r.1, in_order xs (k + length (section_lines x [])) r.0 t r.2)
+-- ---- sections
 
-pub from_order : (xs : List Section) (k : ℕ) (s t : Source) → SectionsMake k s xs t → Build k s (lines_of xs) t
-from_order [] k s t b = b
-from_order (x ∷ xs) k s t (u, b, more) =
+pub in_order : (xs : List Section) (k : ℕ) (s t : Source) → s.place ≡ places.Outside → Build k s (lines_of xs) t → SectionsMake k s xs t
+in_order [] k s t e b = b
+in_order (x ∷ xs) k s t e b =
+    let r = split (section_lines x []) (lines_of xs) k s t (subst (λ ws. Build k s ws t) (section_before x (lines_of xs)) b) in
+    let m : Makes k s x r.0 = lines_make x k s r.0 e r.1 in
+    (r.0, m, in_order xs (k + length (section_lines x [])) r.0 t (ends_outside x k s r.0 e m) r.2)
+
+pub from_order : (xs : List Section) (k : ℕ) (s t : Source) → s.place ≡ places.Outside → SectionsMake k s xs t → Build k s (lines_of xs) t
+from_order [] k s t e b = b
+from_order (x ∷ xs) k s t e (u, m, more) =
     subst (λ ws. Build k s ws t) (sym (section_before x (lines_of xs)))
-    (join (section_lines x []) (lines_of xs) k s u t b (from_order xs (k + length (section_lines x [])) u t more))
+    (join (section_lines x []) (lines_of xs) k s u t (make_lines x k s u e m)
+    (from_order xs (k + length (section_lines x [])) u t (ends_outside x k s u e m) more))

@@ -1,10 +1,12 @@
+pub mod Conditions
+pub mod Building
 pub mod Saying
 pub mod Outcome
 pub mod Fitting
-pub mod Sectioning
-pub mod Sections
 pub mod Constants
 pub mod Units
-pub mod InOrder
 pub mod Mains
 pub mod Methods
+pub mod InOrder
+pub mod Sectioning
+pub mod Sections

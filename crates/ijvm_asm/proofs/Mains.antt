@@ -1,23 +1,19 @@
 -- The lines of main make what main says.
-use Rattle.std.proofs.Common.{◌≡◌, ℕ, zero, suc, ◌+◌, Bool, true, false, List, [], ◌∷◌, ◌++◌, map, replicate, length, Option, Some, None, refl, ap, sym, subst, ◌∙◌, arith}
+use Rattle.std.proofs.Common.{◌≡◌, ℕ, zero, suc, ◌+◌, true, false, List, [], ◌∷◌, ◌++◌, map, replicate, length, Option, Some, None, refl, ap, sym, subst, ◌∙◌}
 use Rattle.std.specs.Prelude.{◌||◌, not, is_some}
 use Rattle.std.proofs.lemmas.List.{append_assoc}
 use Rattle.ijvm_line.specs.declared.place.Mark.TheVariants as marks
 use Rattle.ijvm_line.specs.declared.place.Place.TheVariants as places
 use Rattle.ijvm_asm.specs.declared.error.AsmError.TheVariants as errors
+use Rattle.ijvm_asm.specs.Said.{BlankAt, Dotted, Said}
+use Rattle.ijvm_asm.specs.Sections.{Body, code_line, local_line, Locals, locals_lines, Main, section_lines}
 use Rattle.ijvm_asm.specs.Drafts.{begun}
 use Rattle.ijvm_asm.specs.Source.{Source}
-use Rattle.ijvm_asm.specs.Sections.{BlankAt, Body, Build, code_line, Dotted, local_line, Locals, locals_lines, Main, Said, section_lines}
-use Rattle.ijvm_asm.specs.Parts.{code_from, MakesMain, OpensLocals}
-use Rattle.ijvm_asm.proofs.Constants.{both, if_ok, neither, ok, ok_if}
+use Rattle.ijvm_asm.specs.Units.{code_from, OpensLocals}
+use Rattle.ijvm_asm.specs.Making.{MakesMain}
+use Rattle.ijvm_asm.proofs.Building.{Build, join, moved, same, split}
+use Rattle.ijvm_asm.proofs.Conditions.{both, if_ok, neither, not_true, ok, ok_if}
 use Rattle.ijvm_asm.proofs.Units.{code_makes, locals_make, make_locals, makes_code}
-use Rattle.ijvm_asm.proofs.InOrder.{join, split}
-
-moved : (k n : ℕ) → (k + 1) + n ≡ k + suc n
-moved k n = omega arith
-
-same : (k : ℕ) → k + 0 ≡ k
-same k = omega arith
 
 blanks_make : (n k : ℕ) (ys : List Said) (s u : Source) → Build k s (replicate n (BlankAt places.Code) ++ ys) u → Build (k + n) s ys u
 blanks_make zero k ys s u b = subst (λ m. Build m s ys u) (sym (same k)) b
@@ -45,10 +41,6 @@ opens (Some d) k s u zs b =
     let more = subst (λ w. Build (n + 1) w (map local_line d.names ++ (Dotted marks.EndLocals ∷ zs)) u) (sym q) m.3 in
     let r = split (locals_end d) zs (n + 1) (in_locals n s) u (subst (λ ws. Build (n + 1) (in_locals n s) ws u) (sym (append_assoc (map local_line d.names) (Dotted marks.EndLocals ∷ []) zs)) more) in
     (r.0, locals_make d.names (n + 1) (in_locals n s) r.0 refl r.1, r.2)
-
-pub not_true : (b : Bool) → b ≡ true → not b ≡ false
-not_true true e = refl
-not_true false e = absurd (cc)
 
 pub open_locals : (o : Option Locals) (k : ℕ) (s v u : Source) (zs : List Said) → s.place ≡ places.Code → s.may_declare ≡ true → OpensLocals k s o v → Build (code_from k o) v zs u → Build k s (locals_lines o zs) u
 open_locals None k s v u zs e m q b = subst (λ w. Build k w zs u) (sym q) b

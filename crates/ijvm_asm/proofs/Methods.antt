@@ -7,24 +7,27 @@ use Rattle.ijvm_line.specs.declared.place.Mark.TheVariants as marks
 use Rattle.ijvm_line.specs.declared.place.Place.TheVariants as places
 use Rattle.name_list.specs.Places as names
 use Rattle.ijvm_asm.specs.declared.error.AsmError.TheVariants as errors
+use Rattle.ijvm_asm.specs.Said.{Dotted}
+use Rattle.ijvm_asm.specs.Sections.{Body, code_line, locals_lines, Method, section_lines}
 use Rattle.ijvm_asm.specs.Drafts.{begun}
-use Rattle.ijvm_asm.specs.Source.{gather, is_declared, method_by, Source}
-use Rattle.ijvm_asm.specs.Sections.{Body, Build, code_line, Dotted, locals_lines, Method, section_lines}
-use Rattle.ijvm_asm.specs.Parts.{AreParameters, code_from, MakesMethod}
-use Rattle.ijvm_asm.proofs.Constants.{both, if_ok, neither, nil, none, ok, ok_if}
+use Rattle.ijvm_asm.specs.Source.{Source}
+use Rattle.ijvm_asm.specs.Units.{AreNew, code_from}
+use Rattle.ijvm_asm.specs.Making.{MakesMethod}
+use Rattle.ijvm_asm.specs.Adding.{gather, is_declared, method_by}
+use Rattle.ijvm_asm.proofs.Building.{Build, join, split}
+use Rattle.ijvm_asm.proofs.Conditions.{both, if_ok, neither, nil, none, ok, ok_if}
 use Rattle.ijvm_asm.proofs.Units.{code_makes, makes_code}
-use Rattle.ijvm_asm.proofs.InOrder.{join, split}
 use Rattle.ijvm_asm.proofs.Mains.{open_locals, opens, opens_code}
 
-gathered : (ps seen qs : List (List ℕ)) → gather seen ps ≡ Some qs → AreParameters seen ps × (qs ≡ seen ++ ps)
+gathered : (ps seen qs : List (List ℕ)) → gather seen ps ≡ Some qs → AreNew seen ps × (qs ≡ seen ++ ps)
 gathered [] seen qs h = let q : seen ≡ qs = cc in (tt, sym q ∙ sym (nil seen))
 gathered (n ∷ ns) seen qs h = go (names.place_of seen n) refl (gathered ns (seen ++ n ∷ []) qs) h
   where
-    go : (o : Option ℕ) → names.place_of seen n ≡ o → (gather (seen ++ n ∷ []) ns ≡ Some qs → AreParameters (seen ++ n ∷ []) ns × (qs ≡ (seen ++ n ∷ []) ++ ns)) → cond (is_some o) None (gather (seen ++ n ∷ []) ns) ≡ Some qs → AreParameters seen (n ∷ ns) × (qs ≡ seen ++ n ∷ ns)
+    go : (o : Option ℕ) → names.place_of seen n ≡ o → (gather (seen ++ n ∷ []) ns ≡ Some qs → AreNew (seen ++ n ∷ []) ns × (qs ≡ (seen ++ n ∷ []) ++ ns)) → cond (is_some o) None (gather (seen ++ n ∷ []) ns) ≡ Some qs → AreNew seen (n ∷ ns) × (qs ≡ seen ++ n ∷ ns)
     go None e f h = let r = f h in ((e, r.0), r.1 ∙ append_assoc seen (n ∷ []) ns)
     go (Some i) e f h = absurd (cc)
 
-gathers : (ps seen : List (List ℕ)) → AreParameters seen ps → gather seen ps ≡ Some (seen ++ ps)
+gathers : (ps seen : List (List ℕ)) → AreNew seen ps → gather seen ps ≡ Some (seen ++ ps)
 gathers [] seen a = ap Some (sym (nil seen))
 gathers (n ∷ ns) seen a = ap (λ o. cond (is_some o) None (gather (seen ++ n ∷ []) ns)) a.0 ∙ (gathers ns (seen ++ n ∷ []) a.1 ∙ ap Some (append_assoc seen (n ∷ []) ns))
 
@@ -38,24 +41,20 @@ not_many n h = go (nat_lt 65534 n) refl
     go false e = refl
     go true e = absurd (grind (arith, nat_tests))
 
-not_false : (b : Bool) → not b ≡ false → b ≡ true
-not_false true h = refl
-not_false false h = absurd (cc)
-
 abbrev opened : ℕ → Source → List ℕ → List (List ℕ) → Source
 opened k s n ps = record s { place = places.Code; section = k; may_declare = true; methods = s.methods ++ n ∷ []; unit = begun (Some n) ps }
 
 abbrev ended : Source → Source
 ended w = record w { place = places.Outside; unit = begun None []; units = w.units ++ w.unit ∷ [] }
 
-begins : (k : ℕ) (s v : Source) (n : List ℕ) (ps : List (List ℕ)) (o : Option (List (List ℕ))) → gather [] ps ≡ o → method_by k s n o ≡ Ok v → AreParameters [] ps × (length ps ≤ 65534) × (ok (opened k s n ps) ≡ ok v)
+begins : (k : ℕ) (s v : Source) (n : List ℕ) (ps : List (List ℕ)) (o : Option (List (List ℕ))) → gather [] ps ≡ o → method_by k s n o ≡ Ok v → AreNew [] ps × (length ps ≤ 65534) × (ok (opened k s n ps) ≡ ok v)
 begins k s v n ps None e h = absurd (cc)
 begins k s v n ps (Some qs) e h =
     let g = gathered ps [] qs e in
     let i = if_ok (nat_lt 65534 (length qs)) (errors.TooManyNames k) (ok (opened k s n qs)) v h in
     (g.0, subst (λ x. length x ≤ 65534) g.1 (few (length qs) i.0), subst (λ x. ok (opened k s n x) ≡ ok v) g.1 i.1)
 
-begun_by : (k : ℕ) (s : Source) (n : List ℕ) (ps : List (List ℕ)) → AreParameters [] ps → length ps ≤ 65534 → method_by k s n (gather [] ps) ≡ ok (opened k s n ps)
+begun_by : (k : ℕ) (s : Source) (n : List ℕ) (ps : List (List ℕ)) → AreNew [] ps → length ps ≤ 65534 → method_by k s n (gather [] ps) ≡ ok (opened k s n ps)
 begun_by k s n ps a l = ap (method_by k s n) (gathers ps [] a) ∙ ok_if (nat_lt 65534 (length ps)) (errors.TooManyNames k) (ok (opened k s n ps)) (not_many (length ps) l)
 
 pub method_makes : (k : ℕ) (s u : Source) (n : List ℕ) (ps : List (List ℕ)) (b : Body) → s.place ≡ places.Outside → Build k s (section_lines (Method n ps b) []) u → MakesMethod k s n ps b u

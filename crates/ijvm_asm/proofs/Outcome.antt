@@ -6,8 +6,9 @@ use Rattle.source_text.specs.Walk.{FirstRefused, walk}
 use Rattle.source_text.proofs.Walking.{leads_walk, refused_walk, walk_leads, walk_refused}
 use Rattle.ijvm_program.specs.Program.{ProgramView}
 use Rattle.ijvm_asm.specs.declared.error.AsmError.{AsmError}
-use Rattle.ijvm_asm.specs.Source.{empty, Source, step}
+use Rattle.ijvm_asm.specs.Source.{empty, Source}
 use Rattle.ijvm_asm.specs.Text.{IsRefused, IsRefusedAtLine, parsed, parsed_by, Spells}
+use Rattle.ijvm_asm.specs.Adding.{step}
 use Rattle.ijvm_asm.proofs.Saying.{leads_make, make_leads, refused_step, step_refused}
 
 module _ (text : List ℕ) where

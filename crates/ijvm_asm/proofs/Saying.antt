@@ -12,8 +12,9 @@ use Rattle.ijvm_line.specs.Parameters.{parameters}
 use Rattle.ijvm_line.proofs.Lining.{line_refused, line_spells, refused_line, spells_line}
 use Rattle.ijvm_asm.specs.declared.error.AsmError.{AsmError}
 use Rattle.ijvm_asm.specs.declared.error.AsmError.TheVariants as errors
-use Rattle.ijvm_asm.specs.Source.{add_read, add_said, at_line, Source, step}
+use Rattle.ijvm_asm.specs.Source.{Source}
 use Rattle.ijvm_asm.specs.Text.{Adds, IsRefusedBehind, Make}
+use Rattle.ijvm_asm.specs.Adding.{add_read, add_said, at_line, step}
 
 pub step_adds : (k : ℕ) (s t : Source) (line : List ℕ) → step k s line ≡ Ok t → Adds k s line t
 step_adds k s t line h = by_tokens (read line) refl h

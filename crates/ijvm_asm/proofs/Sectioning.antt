@@ -1,18 +1,22 @@
 -- What lines make is what their sections make: lines that end outside of all sections are the lines of sections.
 use Rattle.std.proofs.Common.{◌≡◌, ℕ, zero, suc, ◌+◌, Bool, true, false, List, [], ◌∷◌, ◌++◌, map, Option, Some, None, length, refl, ap, sym, subst, ◌∙◌, cond}
-use Rattle.std.specs.Prelude.{◌||◌, not, Result, Ok, Err, is_some, nat_le, nat_lt}
+use Rattle.std.specs.Prelude.{◌||◌, not, Ok, Err, is_some, nat_le, nat_lt}
 use Rattle.ijvm_program.specs.declared.line.Constant.{Constant}
 use Rattle.ijvm_line.specs.declared.place.Place.{Place}
 use Rattle.ijvm_line.specs.declared.place.Place.TheVariants as places
 use Rattle.ijvm_line.specs.declared.place.Mark.{Mark}
 use Rattle.ijvm_line.specs.declared.place.Mark.TheVariants as marks
 use Rattle.ijvm_line.specs.declared.instruction.Instruction.{Instruction}
+use Rattle.name_list.specs.Places as names
 use Rattle.ijvm_asm.specs.declared.error.AsmError.{AsmError}
 use Rattle.ijvm_asm.specs.declared.error.AsmError.TheVariants as errors
-use Rattle.ijvm_asm.specs.Drafts.{add_instruction, begun, DraftView}
-use Rattle.name_list.specs.Places as names
-use Rattle.ijvm_asm.specs.Source.{add_code, add_constant, add_method, begin_constants, begin_locals, begin_main, end_main, end_method, gather, is_declared, method_by, on_local, Source, with_unit}
-use Rattle.ijvm_asm.specs.Sections.{add, BlankAt, Body, body_lines, Build, code_line, CodeItem, Codes, constant_line, Constants, Declares, Defines, Dotted, Heads, lines_of, local_line, Locals, locals_lines, Main, Method, Between, place_of, Said, Section}
+use Rattle.ijvm_asm.specs.Said.{BlankAt, Codes, Declares, Defines, Dotted, Heads, place_of, Said}
+use Rattle.ijvm_asm.specs.Sections.{Between, Body, body_lines, code_line, CodeItem, constant_line, Constants, lines_of, local_line, Locals, locals_lines, Main, Method, Section}
+use Rattle.ijvm_asm.specs.Drafts.{begun, DraftView}
+use Rattle.ijvm_asm.specs.Source.{Source}
+use Rattle.ijvm_asm.specs.Adding.{add_code, add_constant, add_instruction, add_method, begin_constants, begin_locals, begin_main, end_main, end_method, gather, is_declared, method_by, on_local, with_unit}
+use Rattle.ijvm_asm.proofs.Building.{add, Build}
+use Rattle.ijvm_asm.proofs.Conditions.{both, if_ok, not_false, ok}
 
 -- ---- what is left at each place
 
@@ -43,24 +47,9 @@ at_place s p xs e r = subst (λ q. Rest q s.may_declare (is_some s.unit.name) xs
 to_place : (s : Source) (p : Place) (xs : List Said) → s.place ≡ p → RestOf s xs → Rest p s.may_declare (is_some s.unit.name) xs
 to_place s p xs e r = subst (λ q. Rest q s.may_declare (is_some s.unit.name) xs) e r
 
-abbrev ok : {A : Type 0} → A → Result A AsmError
-ok a = Ok a
-
 -- what is left behind the source that a line makes
 made : (s u : Source) (xs : List Said) → ok s ≡ ok u → RestOf u xs → RestOf s xs
 made s u xs h r = let q : s ≡ u = cc in subst (λ w. RestOf w xs) (sym q) r
-
-if_ok : {A : Type 0} (b : Bool) (e : AsmError) (r : Result A AsmError) (u : A) → cond b (Err e) r ≡ Ok u → (b ≡ false) × (r ≡ Ok u)
-if_ok true e r u h = absurd (cc)
-if_ok false e r u h = (refl, h)
-
-not_false : (b : Bool) → not b ≡ false → b ≡ true
-not_false true h = refl
-not_false false h = absurd (cc)
-
-or_left : (a b : Bool) → (a || b) ≡ false → a ≡ false
-or_left true b h = absurd (cc)
-or_left false b h = refl
 
 with_label : (f : DraftView → Source) (a : Bool) (v : DraftView) (e : AsmError) (u : Source) → with_unit f (cond a (Err e) (Ok v)) ≡ Ok u → ok (f v) ≡ ok u
 with_label f true v e u h = absurd (cc)
@@ -207,7 +196,7 @@ module _ (k : ℕ) (s u : Source) (xs : List Said) (left : RestOf u xs) where
       let b = if_ok (is_some s.unit.name || s.unit.pending) (errors.BadLine k) _ u h in
       let r : Rest places.Outside s.may_declare false xs = made (record s { place = places.Outside; unit = begun None []; main = Some s.unit }) u xs b.1 left in
       at_place s places.Code (Dotted marks.EndMain ∷ xs) e
-      (subst (λ m. Coded s.may_declare m (Dotted marks.EndMain ∷ xs)) (sym (or_left (is_some s.unit.name) s.unit.pending b.0))
+      (subst (λ m. Coded s.may_declare m (Dotted marks.EndMain ∷ xs)) (sym (both (is_some s.unit.name) s.unit.pending b.0).0)
       (coded_main s.may_declare xs r.0 r.1))
 
   by_end_method : s.place ≡ places.Code → end_method k s ≡ Ok u → RestOf s (Dotted marks.EndMethod ∷ xs)
@@ -215,7 +204,7 @@ module _ (k : ℕ) (s u : Source) (xs : List Said) (left : RestOf u xs) where
       let b = if_ok (not (is_some s.unit.name) || s.unit.pending) (errors.BadLine k) _ u h in
       let r : Rest places.Outside s.may_declare false xs = made (record s { place = places.Outside; unit = begun None []; units = s.units ++ s.unit ∷ [] }) u xs b.1 left in
       at_place s places.Code (Dotted marks.EndMethod ∷ xs) e
-      (subst (λ m. Coded s.may_declare m (Dotted marks.EndMethod ∷ xs)) (sym (not_false (is_some s.unit.name) (or_left (not (is_some s.unit.name)) s.unit.pending b.0)))
+      (subst (λ m. Coded s.may_declare m (Dotted marks.EndMethod ∷ xs)) (sym (not_false (is_some s.unit.name) (both (not (is_some s.unit.name)) s.unit.pending b.0).0))
       (coded_method s.may_declare xs r.0 r.1))
 
   by_local : (n : List ℕ) → s.place ≡ places.Locals → on_local k s n ≡ Ok u → RestOf s (Declares n ∷ xs)

@@ -17,10 +17,14 @@ use Rattle.ijvm_line.specs.Lines as lines
 use Rattle.ijvm_line.specs.Parameters.{parameters}
 use Rattle.ijvm_line.specs.Places.{mark_place}
 use Rattle.ijvm_line.specs.Ranges.{instruction_of, made, word}
-use Rattle.ijvm_asm.specs.Source.{add_line, empty, Source}
+use Rattle.ijvm_asm.specs.Said.{BlankAt, Codes, Declares, Defines, Dotted, Heads, line_of, Lists, place_of, Said, SayAll, Says}
+use Rattle.ijvm_asm.specs.Sections.{lines_of, Section}
+use Rattle.ijvm_asm.specs.Source.{empty, Source}
 use Rattle.ijvm_asm.specs.Resolving.{by_missing, missing_at, program_of}
-use Rattle.ijvm_asm.specs.Text.{Adds, Make, Spells}
-use Rattle.ijvm_asm.specs.Sections.{add, BlankAt, Build, Codes, Declares, Defines, Dotted, Heads, line_of, lines_of, Lists, place_of, Said, SayAll, Says, Section, SpellsSections}
+use Rattle.ijvm_asm.specs.Text.{Adds, Make, Spells, SpellsSections}
+use Rattle.ijvm_asm.specs.Adding.{add_line}
+use Rattle.ijvm_asm.proofs.Building.{add, Build}
+use Rattle.ijvm_asm.proofs.InOrder.{from_order, in_order}
 use Rattle.ijvm_asm.proofs.Sectioning.{left_of}
 
 -- ---- where a line stands
@@ -135,9 +139,13 @@ sections_of text p w =
       sections = left.0;
       say = subst (SayAll (contents text)) left.1 all.1;
       source = w.source;
-      builds = subst (λ xs. Build 1 empty xs w.source) left.1 all.2;
-      makes = w.makes;
+      made = in_order left.0 1 empty w.source refl (subst (λ xs. Build 1 empty xs w.source) left.1 all.2);
+      resolves = w.makes;
     }
 
 pub of_sections : (text : List ℕ) (p : ProgramView) → SpellsSections text p → Spells text p
-of_sections text p w = record { source = w.source; says = all_made (contents text) (lines_of w.sections) 1 empty w.source w.say w.builds; makes = w.makes }
+of_sections text p w = record {
+  source = w.source;
+  says = all_made (contents text) (lines_of w.sections) 1 empty w.source w.say (from_order w.sections 1 empty w.source refl w.made);
+  makes = w.resolves;
+}

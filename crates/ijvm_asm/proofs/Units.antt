@@ -10,11 +10,14 @@ use Rattle.name_list.specs.Places as names
 use Rattle.ijvm_asm.specs.declared.draft.DraftLine.{DraftLine}
 use Rattle.ijvm_asm.specs.declared.error.AsmError.{AsmError}
 use Rattle.ijvm_asm.specs.declared.error.AsmError.TheVariants as errors
-use Rattle.ijvm_asm.specs.Drafts.{add_instruction, DraftView}
-use Rattle.ijvm_asm.specs.Source.{add_code, Source, with_unit}
-use Rattle.ijvm_asm.specs.Sections.{Build, code_line, CodeItem, Dotted, local_line, Said}
-use Rattle.ijvm_asm.specs.Parts.{AreLabels, ats_in, behind_instruction, declared, labels_in, lines_in, MakesCode, MakesLocals, may_declare_behind, waits, waits_behind, with_at, with_instruction, with_label}
-use Rattle.ijvm_asm.proofs.Constants.{nil, none, ok}
+use Rattle.ijvm_asm.specs.Said.{Dotted, Said}
+use Rattle.ijvm_asm.specs.Sections.{code_line, CodeItem, local_line}
+use Rattle.ijvm_asm.specs.Drafts.{DraftView}
+use Rattle.ijvm_asm.specs.Source.{Source}
+use Rattle.ijvm_asm.specs.Units.{AreNew, ats_in, behind_instruction, declared, labels_in, lines_in, MakesCode, MakesLocals, may_declare_behind, waits, waits_behind, with_at, with_instruction, with_label}
+use Rattle.ijvm_asm.specs.Adding.{add_code, add_instruction, with_unit}
+use Rattle.ijvm_asm.proofs.Building.{Build}
+use Rattle.ijvm_asm.proofs.Conditions.{nil, none, ok}
 
 -- ---- locals
 
@@ -157,13 +160,13 @@ behind_one k s c items =
     (ap (λ b. waits_behind b items) (waits_over k s.unit c.label c.instruction))
     (stays_false items)
 
-new_labels : (k : ℕ) (u : DraftView) (l : Option (List ℕ)) (i : Option Instruction) (xs : List (List ℕ)) → IsNew u.labels l → AreLabels (add_instruction k (labelled u l) i).labels xs → AreLabels u.labels (with_label l xs)
+new_labels : (k : ℕ) (u : DraftView) (l : Option (List ℕ)) (i : Option Instruction) (xs : List (List ℕ)) → IsNew u.labels l → AreNew (add_instruction k (labelled u l) i).labels xs → AreNew u.labels (with_label l xs)
 new_labels k u None None xs n a = a
 new_labels k u None (Some i) xs n a = a
 new_labels k u (Some l) None xs n a = (n, a)
 new_labels k u (Some l) (Some i) xs n a = (n, a)
 
-labels_new : (k : ℕ) (u : DraftView) (l : Option (List ℕ)) (i : Option Instruction) (xs : List (List ℕ)) → AreLabels u.labels (with_label l xs) → IsNew u.labels l × AreLabels (add_instruction k (labelled u l) i).labels xs
+labels_new : (k : ℕ) (u : DraftView) (l : Option (List ℕ)) (i : Option Instruction) (xs : List (List ℕ)) → AreNew u.labels (with_label l xs) → IsNew u.labels l × AreNew (add_instruction k (labelled u l) i).labels xs
 labels_new k u None None xs a = (tt, a)
 labels_new k u None (Some i) xs a = (tt, a)
 labels_new k u (Some l) None xs (n, a) = (n, a)

@@ -1,7 +1,10 @@
+pub mod Said
+pub mod Sections
 pub mod Drafts
 pub mod Source
-pub mod Fit
+pub mod Units
+pub mod Making
 pub mod Resolving
 pub mod Text
-pub mod Sections
-pub mod Parts
+pub mod Adding
+pub mod Fit

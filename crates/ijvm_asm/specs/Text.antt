@@ -1,4 +1,4 @@
--- Which program a text spells, and which refusal a text has.
+-- Which program a text spells, and which refusal it has.
 use Rattle.std.specs.Prelude.{◌≡◌, ◌⊎◌, ◌+◌, ℕ, List, [], ◌∷◌, ◌++◌, length, Result, Ok, Err}
 use Rattle.source_text.specs.Content.{contents}
 use Rattle.source_text.specs.Walk.{walk}
@@ -11,8 +11,24 @@ use Rattle.ijvm_line.specs.Lines as lines
 use Rattle.ijvm_line.specs.Parameters.{parameters}
 use Rattle.ijvm_asm.specs.declared.error.AsmError.{AsmError}
 use Rattle.ijvm_asm.specs.declared.error.AsmError.TheVariants as errors
-use Rattle.ijvm_asm.specs.Source.{add_line, at_line, empty, Source, step}
+use Rattle.ijvm_asm.specs.Said.{SayAll}
+use Rattle.ijvm_asm.specs.Sections.{lines_of, Section}
+use Rattle.ijvm_asm.specs.Source.{empty, Source}
+use Rattle.ijvm_asm.specs.Making.{SectionsMake}
 use Rattle.ijvm_asm.specs.Resolving.{program_of}
+use Rattle.ijvm_asm.specs.Adding.{add_line, at_line, step}
+
+-- ---- by its sections
+
+-- the text's lines are those of sections, the sections make a source, and its names stand for the program's positions
+pub record SpellsSections (text : List ℕ) (p : ProgramView) : Type 0 where
+  pub sections : List Section
+  pub say : SayAll (contents text) (lines_of sections)
+  pub source : Source
+  pub made : SectionsMake 1 empty sections source
+  pub resolves : program_of source ≡ Ok p
+
+-- ---- line by line
 
 -- line `k` spells something at the place where it stands, and this makes the one source of the other
 pub record Adds (k : ℕ) (s : Source) (line : List ℕ) (t : Source) : Type 0 where

@@ -44,7 +44,7 @@ impl Model for Draft {
 }
 
 impl Draft {
-    ghost use Rattle.ijvm_asm.specs.Drafts.{add_instruction, add_label, add_local};
+    ghost use Rattle.ijvm_asm.specs.Adding.{add_instruction, add_label, add_local};
 
     pub(crate) fn new(alloc: Global, name: Option<Name>, parameters: NameList) -> Draft
         ensures { result ≡ begun name parameters }

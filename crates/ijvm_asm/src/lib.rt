@@ -14,8 +14,5 @@ mod whole;
 
 pub use error::AsmError;
 pub use ijvm_program::{CodeLine, Constant, Jump, Label, Operation, Program, Unit, size_of};
-pub use laws::{
-    reads_code, reads_constants, reads_in_order, reads_locals, reads_main, reads_methods,
-    reads_sections, reads_what_is_spelled,
-};
+pub use laws::{reads_sections, reads_what_is_spelled};
 pub use parse::parse_source;

@@ -1,6 +1,6 @@
 ghost use Rattle.std.specs.Prelude.{◌≡◌, Ok, OnOk, IfOk, IfErr, None, []};
 ghost use Rattle.ijvm_asm.specs.Drafts.{begun, FailsBy};
-ghost use Rattle.ijvm_asm.specs.Source.{at_line, gather};
+ghost use Rattle.ijvm_asm.specs.Adding.{at_line, gather};
 
 use crate::draft::{Draft, MOST};
 use crate::error::AsmError;
@@ -74,7 +74,8 @@ fn at_line(fault: LineFault, line: u32) -> AsmError
 }
 
 impl SourceReader {
-    ghost use Rattle.ijvm_asm.specs.Source.{add_code, add_constant, add_line, add_mark, add_method, add_tokens, begin_constants, begin_locals, begin_main, empty, end_main, end_method, is_declared, on_local};
+    ghost use Rattle.ijvm_asm.specs.Adding.{add_code, add_constant, add_line, add_mark, add_method, add_tokens, begin_constants, begin_locals, begin_main, end_main, end_method, is_declared, on_local};
+    ghost use Rattle.ijvm_asm.specs.Source.{empty};
     ghost use Rattle.ijvm_line.specs.Lines.{line_of};
     ghost use Rattle.ijvm_line.specs.Parameters.{parameters};
 
@@ -302,7 +303,8 @@ impl Reader for SourceReader {
     type Refusal = AsmError;
 
     ghost use Rattle.ijvm_asm.specs.Drafts.{is_memory};
-    ghost use Rattle.ijvm_asm.specs.Source.{Source, step};
+    ghost use Rattle.ijvm_asm.specs.Source.{Source};
+    ghost use Rattle.ijvm_asm.specs.Adding.{step};
 
     ghost State = { Source };
 

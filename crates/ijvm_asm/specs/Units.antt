@@ -1,39 +1,20 @@
--- What the lines of a section make, in order: its names are new, and each stands for its position.
-use Rattle.std.specs.Prelude.{◌≡◌, ℕ, ◌+◌, ◌<◌, ◌≤◌, ◌||◌, Bool, true, false, List, [], ◌∷◌, ◌++◌, map, length, Option, Some, None, is_some, ⊤}
-use Rattle.ijvm_program.specs.declared.line.Constant.{Constant}
+-- What the lines of a unit make of it: its locals stand behind its parameters, and its labels and instructions in order.
+use Rattle.std.specs.Prelude.{◌≡◌, ℕ, ◌+◌, ◌<◌, ◌||◌, Bool, false, List, [], ◌∷◌, ◌++◌, map, length, Option, Some, None, is_some, ⊤}
 use Rattle.ijvm_line.specs.declared.place.Place.TheVariants as places
-use Rattle.ijvm_line.specs.declared.instruction.Instruction.{Instruction}
 use Rattle.ijvm_line.specs.declared.place.Mark.TheVariants as marks
+use Rattle.ijvm_line.specs.declared.instruction.Instruction.{Instruction}
 use Rattle.name_list.specs.Places as names
 use Rattle.ijvm_asm.specs.declared.draft.DraftLine.{DraftLine}
-use Rattle.ijvm_asm.specs.Drafts.{begun}
+use Rattle.ijvm_asm.specs.Said.{Dotted}
+use Rattle.ijvm_asm.specs.Sections.{Body, CodeItem, local_line, Locals}
 use Rattle.ijvm_asm.specs.Source.{Source}
-use Rattle.ijvm_asm.specs.Sections.{Body, Build, CodeItem, Dotted, local_line, Locals, Section, section_lines}
 
--- ---- constants
+-- no name comes twice, nor is one of those that were seen
+abbrev pub AreNew : List (List ℕ) → List (List ℕ) → Type 0
+AreNew seen [] = ⊤
+AreNew seen (n ∷ ns) = (names.place_of seen n ≡ None) × AreNew (seen ++ n ∷ []) ns
 
-abbrev pub defined : List (Option Constant) → List Constant
-defined [] = []
-defined (None ∷ items) = defined items
-defined (Some c ∷ items) = c ∷ defined items
-
--- no name comes twice: each is that of no method, and of no constant before it
-abbrev pub AreNew : List (List ℕ) → List (List ℕ) → List Constant → Type 0
-AreNew methods seen [] = ⊤
-AreNew methods seen (c ∷ cs) = (names.place_of seen c.name ≡ None) × (names.place_of methods c.name ≡ None) × AreNew methods (seen ++ c.name ∷ []) cs
-
--- it is the only one, its names are new, and it adds them in order with their values
-abbrev pub MakesConstants : ℕ → Source → List (Option Constant) → Source → Type 0
-MakesConstants k s items u = (s.seen_constants ≡ false) × AreNew s.methods s.constants (defined items)
-    × (u ≡ record s {
-      place = places.Outside;
-      section = k;
-      seen_constants = true;
-      constants = s.constants ++ map (λ c. c.name) (defined items);
-      values = s.values ++ map (λ c. c.value) (defined items);
-    })
-
--- ---- the locals of a unit
+-- ---- its locals
 
 abbrev pub declared : List (Option (List ℕ)) → List (List ℕ)
 declared [] = []
@@ -50,7 +31,7 @@ abbrev pub MakesLocals : Source → List (Option (List ℕ)) → Source → Type
 MakesLocals s items u = AreLocals s.unit.names (declared items)
     × (u ≡ record s { place = places.Code; unit = record s.unit { names = s.unit.names ++ declared items } })
 
--- ---- the code of a unit
+-- ---- its code
 
 abbrev pub with_label : Option (List ℕ) → List (List ℕ) → List (List ℕ)
 with_label None labels = labels
@@ -101,14 +82,9 @@ may_declare_behind may [] = may
 may_declare_behind may (None ∷ items) = may_declare_behind may items
 may_declare_behind may (Some c ∷ items) = false
 
--- no label comes twice
-abbrev pub AreLabels : List (List ℕ) → List (List ℕ) → Type 0
-AreLabels seen [] = ⊤
-AreLabels seen (n ∷ ns) = (names.place_of seen n ≡ None) × AreLabels (seen ++ n ∷ []) ns
-
 -- code lines from line `k` on give the unit their labels and their instructions
 abbrev pub MakesCode : ℕ → Source → List (Option CodeItem) → Source → Type 0
-MakesCode k s items u = AreLabels s.unit.labels (labels_in items)
+MakesCode k s items u = AreNew s.unit.labels (labels_in items)
     × (u ≡ record s {
       may_declare = may_declare_behind s.may_declare items;
       unit = record s.unit {
@@ -119,14 +95,7 @@ MakesCode k s items u = AreLabels s.unit.labels (labels_in items)
       };
     })
 
--- ---- sections, one behind the other
-
--- each section's lines make something of the source that the sections before it leave
-abbrev pub SectionsMake : ℕ → Source → List Section → Source → Type 0
-SectionsMake k s [] t = s ≡ t
-SectionsMake k s (x ∷ xs) t = (u : Source) × Build k s (section_lines x []) u × SectionsMake (k + length (section_lines x [])) u xs t
-
--- ---- main
+-- ---- both
 
 -- the unit may declare locals, behind blank lines, and its code starts at `code_from`
 abbrev pub OpensLocals : ℕ → Source → Option Locals → Source → Type 0
@@ -143,26 +112,3 @@ pub record MakesBody (k : ℕ) (s : Source) (body : Body) (u : Source) : Type 0 
   pub opens : OpensLocals k s body.locals behind_locals
   pub makes : MakesCode (code_from k body.locals) behind_locals body.code u
   pub ready : u.unit.pending ≡ false
-
--- there is one main
-pub record MakesMain (k : ℕ) (s : Source) (body : Body) (u : Source) : Type 0 where
-  pub first : s.seen_main ≡ false
-  pub last : Source
-  pub content : MakesBody (k + 1) (record s { place = places.Code; section = k; may_declare = true; seen_main = true; unit = begun None [] }) body last
-  pub ends : u ≡ record last { place = places.Outside; unit = begun None []; main = Some last.unit }
-
--- ---- methods
-
--- no name comes twice
-abbrev pub AreParameters : List (List ℕ) → List (List ℕ) → Type 0
-AreParameters seen [] = ⊤
-AreParameters seen (n ∷ ns) = (names.place_of seen n ≡ None) × AreParameters (seen ++ n ∷ []) ns
-
--- its name is that of no constant and of no method before it, its parameters are at most 65,534
-pub record MakesMethod (k : ℕ) (s : Source) (name : List ℕ) (ps : List (List ℕ)) (body : Body) (u : Source) : Type 0 where
-  pub is_new : (names.place_of s.constants name ≡ None) × (names.place_of s.methods name ≡ None)
-  pub once : AreParameters [] ps
-  pub few : length ps ≤ 65534
-  pub last : Source
-  pub content : MakesBody (k + 1) (record s { place = places.Code; section = k; may_declare = true; methods = s.methods ++ name ∷ []; unit = begun (Some name) ps }) body last
-  pub ends : u ≡ record last { place = places.Outside; unit = begun None []; units = last.units ++ last.unit ∷ [] }

@@ -1,0 +1,134 @@
+-- What a line adds to a source, or its refusal: how a source is read, line by line.
+use Rattle.std.specs.Prelude.{ℕ, ◌||◌, Bool, true, false, not, List, [], ◌∷◌, ◌++◌, Option, Some, None, Result, Ok, Err, if◌then◌else◌, is_some, length, nat_le, nat_lt}
+use Rattle.ijvm_tokens.specs.declared.token.Token.{Token}
+use Rattle.ijvm_tokens.specs.Reading.{read}
+use Rattle.ijvm_line.specs.declared.place.Place.TheVariants as places
+use Rattle.ijvm_line.specs.declared.place.Mark.{Mark}
+use Rattle.ijvm_line.specs.declared.place.Mark.TheVariants as marks
+use Rattle.ijvm_line.specs.declared.line.Line.{Line}
+use Rattle.ijvm_line.specs.declared.line.Line.TheVariants as lines
+use Rattle.ijvm_line.specs.declared.line.LineFault.{LineFault}
+use Rattle.ijvm_line.specs.declared.line.LineFault.TheVariants as faults
+use Rattle.ijvm_line.specs.declared.instruction.Instruction.{Instruction}
+use Rattle.ijvm_line.specs.Lines.{line_of}
+use Rattle.ijvm_line.specs.Parameters.{parameters}
+use Rattle.name_list.specs.Places.{place_of}
+use Rattle.ijvm_asm.specs.declared.error.AsmError.{AsmError}
+use Rattle.ijvm_asm.specs.declared.error.AsmError.TheVariants as errors
+use Rattle.ijvm_asm.specs.Drafts.{begun, DraftView}
+use Rattle.ijvm_asm.specs.Source.{Source}
+
+-- ---- units
+
+-- parameters and locals share their names, and are at most 65,534
+abbrev pub add_local : ℕ → DraftView → List ℕ → Result DraftView AsmError
+add_local k u name = if is_some (place_of u.names name) then Err (errors.DuplicateName k)
+    else (if nat_le 65534 (length u.names) then Err (errors.TooManyNames k)
+    else Ok (record u { names = u.names ++ name ∷ [] }))
+
+-- a label names the next instruction
+abbrev pub add_label : ℕ → DraftView → Option (List ℕ) → Result DraftView AsmError
+add_label k u None = Ok u
+add_label k u (Some label) = if is_some (place_of u.labels label) then Err (errors.DuplicateName k)
+    else Ok (record u { labels = u.labels ++ label ∷ []; ats = u.ats ++ length u.lines ∷ []; pending = true })
+
+abbrev pub add_instruction : ℕ → DraftView → Option Instruction → DraftView
+add_instruction k u None = u
+add_instruction k u (Some instruction) = record u { lines = u.lines ++ (record { line = k; instruction = instruction }) ∷ []; pending = false }
+
+-- ---- sections
+
+-- a second section of constants is a bad line, and so is a second main
+abbrev pub begin_constants : ℕ → Source → Result Source AsmError
+begin_constants k s = if s.seen_constants then Err (errors.BadLine k)
+    else Ok (record s { place = places.Constants; section = k; seen_constants = true })
+
+abbrev pub begin_main : ℕ → Source → Result Source AsmError
+begin_main k s = if s.seen_main then Err (errors.BadLine k)
+    else Ok (record s { place = places.Code; section = k; may_declare = true; seen_main = true; unit = begun None [] })
+
+-- locals are declared at most once, and before the unit's first line of code
+abbrev pub begin_locals : ℕ → Source → Result Source AsmError
+begin_locals k s = if not s.may_declare then Err (errors.BadLine k)
+    else Ok (record s { place = places.Locals; inner = k; may_declare = false })
+
+-- a unit is ended by its own word, and not behind a label without an instruction
+abbrev pub end_main : ℕ → Source → Result Source AsmError
+end_main k s = if is_some s.unit.name || s.unit.pending then Err (errors.BadLine k)
+    else Ok (record s { place = places.Outside; unit = begun None []; main = Some s.unit })
+
+abbrev pub end_method : ℕ → Source → Result Source AsmError
+end_method k s = if not (is_some s.unit.name) || s.unit.pending then Err (errors.BadLine k)
+    else Ok (record s { place = places.Outside; unit = begun None []; units = s.units ++ s.unit ∷ [] })
+
+abbrev pub add_mark : ℕ → Source → Mark → Result Source AsmError
+add_mark k s marks.BeginConstants = begin_constants k s
+add_mark k s marks.EndConstants = Ok (record s { place = places.Outside })
+add_mark k s marks.BeginMain = begin_main k s
+add_mark k s marks.EndMain = end_main k s
+add_mark k s marks.EndMethod = end_method k s
+add_mark k s marks.BeginLocals = begin_locals k s
+add_mark k s marks.EndLocals = Ok (record s { place = places.Code })
+
+-- ---- names
+
+-- constants and methods share their names
+abbrev pub is_declared : Source → List ℕ → Bool
+is_declared s name = is_some (place_of s.constants name) || is_some (place_of s.methods name)
+
+abbrev pub add_constant : ℕ → Source → List ℕ → ℕ → Result Source AsmError
+add_constant k s name value = if is_declared s name then Err (errors.DuplicateName k)
+    else Ok (record s { constants = s.constants ++ name ∷ []; values = s.values ++ value ∷ [] })
+
+-- names behind those that were seen, unless one comes twice
+abbrev pub gather : List (List ℕ) → List (List ℕ) → Option (List (List ℕ))
+gather seen [] = Some seen
+gather seen (name ∷ names) = if is_some (place_of seen name) then None else gather (seen ++ name ∷ []) names
+
+abbrev pub method_by : ℕ → Source → List ℕ → Option (List (List ℕ)) → Result Source AsmError
+method_by k s name None = Err (errors.DuplicateName k)
+method_by k s name (Some parameters) = if nat_lt 65534 (length parameters) then Err (errors.TooManyNames k)
+    else Ok (record s { place = places.Code; section = k; may_declare = true; methods = s.methods ++ name ∷ []; unit = begun (Some name) parameters })
+
+abbrev pub add_method : ℕ → Source → List ℕ → List (List ℕ) → Result Source AsmError
+add_method k s name parameters = if is_declared s name then Err (errors.DuplicateName k) else method_by k s name (gather [] parameters)
+
+abbrev pub with_unit : (DraftView → Source) → Result DraftView AsmError → Result Source AsmError
+with_unit f (Ok u) = Ok (f u)
+with_unit f (Err e) = Err e
+
+abbrev pub on_local : ℕ → Source → List ℕ → Result Source AsmError
+on_local k s name = with_unit (λ u. record s { unit = u }) (add_local k s.unit name)
+
+abbrev pub add_code : ℕ → Source → Option (List ℕ) → Option Instruction → Result Source AsmError
+add_code k s label instruction = with_unit (λ u. record s { unit = add_instruction k u instruction; may_declare = false }) (add_label k s.unit label)
+
+-- ---- lines
+
+-- what line `k` adds, which names these parameters where it begins a method
+abbrev pub add_line : ℕ → Source → List (List ℕ) → Line → Result Source AsmError
+add_line k s ps lines.Nothing = Ok s
+add_line k s ps (lines.Mark mark) = add_mark k s mark
+add_line k s ps (lines.Method name) = add_method k s name ps
+add_line k s ps (lines.Constant name value) = add_constant k s name value
+add_line k s ps (lines.Local name) = on_local k s name
+add_line k s ps (lines.Code label instruction) = add_code k s label instruction
+
+abbrev pub at_line : ℕ → LineFault → AsmError
+at_line k faults.BadLine = errors.BadLine k
+at_line k faults.BadNumber = errors.BadNumber k
+at_line k faults.OutOfRange = errors.OutOfRange k
+
+abbrev pub add_said : ℕ → Source → List (List ℕ) → Result Line LineFault → Result Source AsmError
+add_said k s ps (Ok line) = add_line k s ps line
+add_said k s ps (Err fault) = Err (at_line k fault)
+
+abbrev pub add_tokens : ℕ → Source → List Token → Result Source AsmError
+add_tokens k s ts = add_said k s (parameters ts) (line_of s.place ts)
+
+abbrev pub add_read : ℕ → Source → Option (List Token) → Result Source AsmError
+add_read k s None = Err (errors.BadToken k)
+add_read k s (Some ts) = add_tokens k s ts
+
+abbrev pub step : ℕ → Source → List ℕ → Result Source AsmError
+step k s line = add_read k s (read line)
