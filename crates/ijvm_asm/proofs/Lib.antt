@@ -2,7 +2,6 @@ pub mod Conditions
 pub mod Building
 pub mod Saying
 pub mod Outcome
-pub mod Fitting
 pub mod Constants
 pub mod Units
 pub mod Mains
@@ -10,3 +9,10 @@ pub mod Methods
 pub mod InOrder
 pub mod Sectioning
 pub mod Sections
+pub mod Bytes
+pub mod Tokens
+pub mod Costs
+pub mod Totals
+pub mod Sound
+pub mod Resolved
+pub mod Programs

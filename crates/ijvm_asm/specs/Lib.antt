@@ -7,4 +7,3 @@ pub mod Making
 pub mod Resolving
 pub mod Text
 pub mod Adding
-pub mod Fit

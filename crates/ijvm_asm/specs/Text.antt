@@ -1,5 +1,5 @@
 -- Which program a text spells, and which refusal it has.
-use Rattle.std.specs.Prelude.{◌≡◌, ◌⊎◌, ◌+◌, ℕ, List, [], ◌∷◌, ◌++◌, length, Result, Ok, Err}
+use Rattle.std.specs.Prelude.{◌≡◌, ◌⊎◌, ◌+◌, ◌<◌, ◌^◌, ℕ, List, [], ◌∷◌, ◌++◌, length, Result, Ok, Err}
 use Rattle.source_text.specs.Content.{contents}
 use Rattle.source_text.specs.Walk.{walk}
 use Rattle.ijvm_program.specs.Program.{ProgramView}
@@ -42,6 +42,10 @@ pub record Adds (k : ℕ) (s : Source) (line : List ℕ) (t : Source) : Type 0 w
 abbrev pub Make : ℕ → Source → List (List ℕ) → Source → Type 0
 Make k s [] t = s ≡ t
 Make k s (l ∷ ls) t = (u : Source) × Adds k s l u × Make (k + 1) u ls t
+
+-- this is what the lines of a text make
+abbrev pub IsRead : Source → Type 0
+IsRead s = (text : List ℕ) × (length text < 2 ^ 32) × Make 1 empty (contents text) s
 
 -- a text spells a program where its lines, one by one, make its sections, and its names stand for the program's positions
 pub record Spells (text : List ℕ) (p : ProgramView) : Type 0 where

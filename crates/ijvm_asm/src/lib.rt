@@ -3,7 +3,6 @@
 
 mod draft;
 mod error;
-mod fit;
 mod laws;
 mod parse;
 mod resolve;

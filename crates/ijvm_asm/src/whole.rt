@@ -1,9 +1,9 @@
 ghost use Rattle.std.specs.Prelude.{◌≡◌, ◌⊎◌, Ok, IfOk, IfErr};
 ghost use Rattle.ijvm_asm.specs.Drafts.{FailsBy};
 ghost use Rattle.ijvm_asm.specs.Resolving.{constants_of, earlier, line_of, main_of, methods_of, missing, program_of, refused_with};
+ghost use Rattle.ijvm_asm.specs.Text.{IsRead};
 
 use crate::error::AsmError;
-use crate::fit::fits;
 use crate::resolve::{unit_of, units_of};
 use crate::source::SourceReader;
 use ijvm_line::Place;
@@ -94,6 +94,7 @@ fn refused_with(refusal: AsmError, reader: &SourceReader) -> AsmError
 /// The program that the lines make, or the first refusal of the whole source.
 #[tactic(auto, unfolding(crate::specs::Resolving::program_of))]
 pub(crate) fn program_of(reader: &SourceReader) -> Result<Program, AsmError>
+    requires { IsRead reader.now }
     ensures ok { IfOk result (λ p. program_of reader.now ≡ Ok p) }
     ensures err { IfErr result (λ e. FailsBy e (program_of reader.now)) }
 {
@@ -115,8 +116,5 @@ pub(crate) fn program_of(reader: &SourceReader) -> Result<Program, AsmError>
     let Ok(constants) = constants_of(reader) else {
         return Err(AsmError::OutOfMemory);
     };
-    if !fits(&constants, &main, &methods) {
-        return Err(AsmError::OutOfMemory);
-    }
     Ok(Program::new(constants, main, methods))
 }
