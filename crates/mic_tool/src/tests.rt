@@ -40,6 +40,12 @@ boundary 22 at 00000006 sp 00007fff lv 00008000
 MAR 00007fff MDR 00000000 PC 00000007 MBR ff SP 00007fff LV 00008000 CPP 00004000 TOS 00000000 OPC fffffffe H ffffffff MPC 0ff
 ";
 
+const AFTER_MINUS_1: &str = "end halt
+cycles 7 instructions 2
+boundary 6 at 00000002 sp 00008000 lv 00008000
+MAR 00008000 MDR ffffffff PC 00000003 MBR ff SP 00008000 LV 00008000 CPP 00004000 TOS ffffffff OPC 00000000 H 00000000 MPC 0ff
+";
+
 /// What a call answered.
 #[derive(Debug, Drop)]
 struct Answer {
@@ -89,6 +95,9 @@ fn runs_end_by_halt(rt: HostRuntime) -> Result<(), Fail> {
     expect(&rt, &assembled, 0, "H", report.as_str());
     let sum = call(rt.alloc(), "run F", SUM, &[], &[])?;
     expect(&rt, &sum, 0, "B", AFTER_SUM);
+    let source = b".main\nBIPUSH 0xFF\nHALT\n.end-main";
+    let minus_1 = call(rt.alloc(), "run F", source, &[], &[])?;
+    expect(&rt, &minus_1, 0, "", AFTER_MINUS_1);
     Ok(())
 }
 
