@@ -1,6 +1,5 @@
 -- The map refuses no access to the console.
-use Rattle.std.proofs.Common.{◌≡◌, ℕ, Bool, true, false, None, refl, rules}
-use Rattle.std.specs.Prelude.{nat_lt}
+use Rattle.std.proofs.Common.{◌≡◌, ℕ, None, rules}
 use Rattle.console_port.specs.World.{read_refusal, write_refusal, console_at}
 
 pub read_console : (n : ℕ) → read_refusal n console_at ≡ None

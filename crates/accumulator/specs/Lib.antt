@@ -1,2 +1,3 @@
 pub mod Accumulator
 pub mod InMemory
+pub mod View

@@ -1,6 +1,6 @@
 //! The machine.
 
-ghost use Rattle.std.specs.Prelude.{◌<◌};
+ghost use Rattle.std.specs.Prelude.{◌≡◌, ◌<◌};
 
 use arrayvec::ArrayVec;
 use console_port::{Bus, BusFault};
@@ -19,6 +19,7 @@ pub struct Cells {
     pub mpc: u16,
 }
 
+/// Which of the four calls came last.
 #[derive(Clone, Copy, Debug, PartialEq, Eq)]
 pub enum Stage {
     Rest,
@@ -27,16 +28,25 @@ pub enum Stage {
     Computed,
 }
 
+/// A machine of one register, which is clocked by words of Mic-1.
 #[derive(Drop)]
 pub struct Accumulator {
     cells: Cells,
+    /// The microinstruction that was set up last.
     word: u64,
     stage: Stage,
     ghost small: { cells.mpc < 512 },
 }
 
 impl Accumulator {
-    pub fn new() -> Accumulator {
+    ghost use Rattle.mic_clock.specs.Meaning.{AtRest};
+    ghost use Rattle.accumulator.specs.View.{cells_of, phase};
+
+    /// At rest, with all cells 0.
+    pub fn new() -> Accumulator
+        ensures cells { cells_of result ≡ record { acc = 0; mar = 0; mpc = 0 } }
+        ensures phase { phase result ≡ AtRest }
+    {
         Accumulator {
             cells: Cells {
                 acc: 0,
@@ -51,7 +61,8 @@ impl Accumulator {
 
 impl Clocked for Accumulator {
     ghost use Rattle.accumulator.specs.declared.machine.Cells.{Cells};
-    ghost use Rattle.accumulator.specs.Accumulator.{meaning, phase_of};
+    ghost use Rattle.accumulator.specs.Accumulator.{meaning};
+    ghost use Rattle.accumulator.specs.View.{cells_of, phase};
 
     type Word = Word1;
 
@@ -59,9 +70,9 @@ impl Clocked for Accumulator {
 
     ghost meaning = { meaning };
 
-    ghost state = { λ t. t.cells };
+    ghost state = { cells_of };
 
-    ghost phase = { λ t. phase_of t.stage };
+    ghost phase = { phase };
 
     ghost latched = { λ t. t.word };
 

@@ -4,9 +4,6 @@ use Rattle.console_port.specs.Console.{Untaken}
 use Rattle.console_port.specs.View.{BusView}
 use Rattle.console_port.specs.Bus.{Shows}
 use Rattle.micro_word.specs.ControlStore.{ControlStore}
-use Rattle.mic_clock.specs.Run.{turns}
-use Rattle.mic_clock.specs.Board.{Leads}
-use Rattle.accumulator.specs.Accumulator.{meaning}
 use Rattle.accumulator.specs.InMemory.{start}
 use Rattle.accumulator.proofs.in_memory.run_in_memory.Goals as goal
 
