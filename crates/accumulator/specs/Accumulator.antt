@@ -1,7 +1,7 @@
 -- A machine of one register. Of a Mic-1 word it reads READ, WRITE, FETCH and Addr: its accesses and where it goes.
 use Rattle.std.specs.Prelude.{ℕ, ◌+◌, ◌/◌, ◌%◌, ◌^◌, ◌==◌, ◌||◌, nat_le, if◌then◌else◌, Bool, [], Option, Some, None, length}
 use Rattle.console_port.specs.World.{World, Refusal, console_at, read_value, after_read, after_write, write_refusal}
-use Rattle.micro_word.specs.declared.statement.Machine.TheVariants.{Mic1}
+use Rattle.machine_words.specs.declared.machine.Machine.TheVariants.{Mic1}
 use Rattle.mic_clock.specs.Meaning.{Meaning, Outcome, Done, Refused, Phase, AtRest, SetUp, Driven, Settled}
 use Rattle.mic_clock.specs.declared.registers.Tail.TheVariants.{Queue}
 use Rattle.accumulator.specs.declared.machine.Cells.{Cells}

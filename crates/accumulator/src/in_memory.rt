@@ -3,7 +3,7 @@
 ghost use Rattle.std.specs.Prelude.{◌≡◌, ◌≤◌, ◌<◌, ◌^◌, [], List, ℕ, length, false, Some, None, IsSome};
 ghost use Rattle.mic_base.specs.Memory.{source_left, sink_bytes};
 ghost use Rattle.console_port.specs.Console.{Untaken};
-ghost use Rattle.micro_word.specs.declared.statement.Machine.TheVariants.{Mic1};
+ghost use Rattle.machine_words.specs.declared.machine.Machine.TheVariants.{Mic1};
 ghost use Rattle.mic_clock.specs.Run.{turns};
 ghost use Rattle.mic_clock.specs.Board.{ShowsRun, NoFault};
 ghost use Rattle.accumulator.specs.Accumulator.{meaning};

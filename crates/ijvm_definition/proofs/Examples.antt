@@ -1,8 +1,8 @@
 -- The definitions, computed on whole runs.
 use Rattle.std.proofs.Common.{◌≡◌, ℕ, List, [], ◌∷◌, ◌++◌, replicate, Option, Some, None, refl}
-use Rattle.micro_word.specs.Operation.{wrap}
-use Rattle.micro_word.specs.declared.statement.Machine.{Machine}
-use Rattle.micro_word.specs.declared.statement.Machine.TheVariants.{Mic1, Mic2}
+use Rattle.machine_words.specs.Arithmetic.{wrap}
+use Rattle.machine_words.specs.declared.machine.Machine.{Machine}
+use Rattle.machine_words.specs.declared.machine.Machine.TheVariants.{Mic1, Mic2}
 use Rattle.ijvm_definition.specs.declared.run.RunEnd.{RunEnd}
 use Rattle.ijvm_definition.specs.declared.run.RunEnd.TheVariants as ends
 use Rattle.ijvm_definition.specs.Instructions.{of_bytes, instr_at}

@@ -3,7 +3,7 @@ use Rattle.std.proofs.Common.{◌≡◌, ◌≢◌, ◌<◌, ℕ, ◌+◌, ◌-�
 use Rattle.std.specs.declared.alloc.AllocError.{AllocError}
 use Rattle.std.proofs.lemmas.List.{append-nil, append_cancel_left}
 use Rattle.mic_base.specs.Streams.{Holds}
-use Rattle.micro_word.specs.declared.statement.Machine.{Machine}
+use Rattle.machine_words.specs.declared.machine.Machine.{Machine}
 use Rattle.console_port.specs.View.{ConsoleView}
 use Rattle.console_port.specs.Console.{Untaken, Given, IsLost}
 use Rattle.ijvm_definition.specs.declared.frames.StepError.{StepError}

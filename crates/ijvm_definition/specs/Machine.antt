@@ -5,7 +5,7 @@ use Rattle.ijvm_definition.specs.declared.instr.Instr.TheVariants.{In, Out, Err,
 use Rattle.ijvm_definition.specs.declared.method.Method.{Method}
 use Rattle.ijvm_definition.specs.Image.{ImageView}
 use Rattle.ijvm_definition.specs.Frames.{Frame, State, base, IsWord}
-use Rattle.micro_word.specs.Operation.{plus, minus}
+use Rattle.machine_words.specs.Arithmetic.{plus, minus}
 use Rattle.ijvm_definition.specs.declared.compute.Operator.{Operator}
 use Rattle.ijvm_definition.specs.declared.compute.Operator.TheVariants as operators
 use Rattle.ijvm_definition.specs.declared.compute.Effect.{Effect}

@@ -1,6 +1,6 @@
 -- What a run of the plain machine over a source and a sink reports: the definition's run to its end, or to the boundary at which a fault cut it.
 use Rattle.std.specs.Prelude.{◌≡◌, ◌⊎◌, ℕ, ◌<◌, Bool, false, List, [], ◌++◌, Option, Some, IfSome, unwrap_or}
-use Rattle.micro_word.specs.declared.statement.Machine.{Machine}
+use Rattle.machine_words.specs.declared.machine.Machine.{Machine}
 use Rattle.console_port.specs.Console.{Untaken}
 use Rattle.console_port.specs.declared.map.MemoryMap.{MemoryMap}
 use Rattle.ijvm_definition.specs.declared.instr.Instr.TheVariants.{In, Out}

@@ -1,6 +1,6 @@
 -- The definition's run: from boundary to boundary, an instruction each, until it ends.
 use Rattle.std.specs.Prelude.{◌≡◌, ◌<◌, ℕ, zero, suc, ◌+◌, Bool, true, false, nat_le, List, Option, Some, None}
-use Rattle.micro_word.specs.declared.statement.Machine.{Machine}
+use Rattle.machine_words.specs.declared.machine.Machine.{Machine}
 use Rattle.ijvm_definition.specs.declared.run.RunEnd.{RunEnd}
 use Rattle.ijvm_definition.specs.declared.run.RunEnd.TheVariants as ends
 use Rattle.ijvm_definition.specs.Image.{ImageView}

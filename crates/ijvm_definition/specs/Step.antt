@@ -1,7 +1,7 @@
 -- What one instruction does to frames. Sums are modulo 2^32.
 use Rattle.std.specs.Prelude.{ℕ, zero, suc, ◌+◌, ◌%◌, Bool, true, false, if◌then◌else◌, nat_lt, nat_le, ◌==◌, List, [], ◌∷◌, ◌++◌, length, take, drop, replicate, slice_get, slice_set, Option, Some, None, ℤ, bit_and, bit_or}
 use Rattle.std.specs.Int.{w32, cast_unsigned}
-use Rattle.micro_word.specs.Operation.{plus, minus, is_negative}
+use Rattle.machine_words.specs.Arithmetic.{plus, minus, is_negative}
 use Rattle.console_port.specs.World.{next_byte}
 use Rattle.ijvm_definition.specs.declared.instr.Instr.{Instr}
 use Rattle.ijvm_definition.specs.declared.instr.Instr.TheVariants.{Nop, Bipush, LdcW, Iload, Istore, Pop, Dup, Swap, Iadd, Isub, Iand, Iinc, Ifeq, Iflt, IfIcmpeq, Goto, Ireturn, Ior, Invokevirtual, WideIload, WideIstore, In, Out, Err, Halt}

@@ -3,7 +3,7 @@
 ghost use Rattle.std.specs.Prelude.{◌≡◌, ◌==◌, ◌+◌, ◌<◌, ◌^◌, slice_get, IfOk, OnErr};
 ghost use Rattle.ijvm_definition.specs.Step.{Goes, moved, target, step, pushed, pushed_constant, loaded, stored, increased, popped, doubled, swapped, combined, way, branched, compared, called_at, returned};
 ghost use Rattle.ijvm_definition.specs.Image.{method_at};
-ghost use Rattle.micro_word.specs.Operation.{is_negative};
+ghost use Rattle.machine_words.specs.Arithmetic.{is_negative};
 ghost use Rattle.ijvm_definition.specs.Machine.{Leads, KeepsProgram, operate, IsComputed};
 
 use crate::instr::Instr;
@@ -30,7 +30,7 @@ pub enum Operator {
 }
 
 impl Operator {
-    #[tactic(auto, unfolding(micro_word::specs::Operation::wrap))]
+    #[tactic(auto, unfolding(machine_words::specs::Arithmetic::wrap))]
     fn value(self, second: u32, top: u32) -> u32
         ensures { result ≡ operate self second top }
     {
@@ -118,7 +118,7 @@ pub fn store(machine: &mut PlainMachine, index: u16, size: u32) -> Effect
 }
 
 /// Adds a signed byte to a local.
-#[tactic(auto, unfolding(micro_word::specs::Operation::wrap))]
+#[tactic(auto, unfolding(machine_words::specs::Arithmetic::wrap))]
 pub fn increase(machine: &mut PlainMachine, index: u16, by: i8) -> Effect
     requires { machine.old.at + 3 < 2 ^ 32 }
     ensures leads { Leads (λ s. increased s index by (slice_get s.running.locals index)) result machine.old machine.new }

@@ -1,7 +1,7 @@
 //! What the next instruction costs.
 
 ghost use Rattle.std.specs.Prelude.{◌≡◌, ◌≤◌, []};
-ghost use Rattle.micro_word.specs.Operation.{is_negative};
+ghost use Rattle.machine_words.specs.Arithmetic.{is_negative};
 ghost use Rattle.ijvm_definition.specs.Cost.{column, is_taken, entry_of, next_cost};
 ghost use Rattle.ijvm_definition.specs.Instructions.{row_of};
 ghost use Rattle.ijvm_definition.specs.Machine.{state_of};
@@ -9,7 +9,7 @@ ghost use Rattle.ijvm_definition.specs.Machine.{state_of};
 use crate::instr::Instr;
 use crate::machine::PlainMachine;
 use crate::row::{Cost, Row};
-use micro_word::Machine;
+use machine_words::Machine;
 
 fn column(row: Row, machine: Machine) -> Cost
     ensures { result ≡ column machine row }

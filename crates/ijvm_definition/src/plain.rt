@@ -10,8 +10,8 @@ ghost use Rattle.ijvm_definition.specs.Plain.{program, HasRun, IsCutByRead, IsCu
 use crate::frames::{Frames, StepEnd, StepError};
 use crate::image::Image;
 use console_port::{Console, MemoryMap};
+use machine_words::Machine;
 use mic_base::{Sink, Source};
-use micro_word::Machine;
 use std::alloc::{AllocError, Global};
 
 /// How a run over a source and a sink ends: as the definition's run, or cut by a fault.

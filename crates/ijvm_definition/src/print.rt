@@ -44,7 +44,7 @@ pub fn name(instr: Instr) -> &'static str
 }
 
 /// The target of a jump at this address.
-#[tactic(auto, unfolding(micro_word::specs::Operation::wrap))]
+#[tactic(auto, unfolding(machine_words::specs::Arithmetic::wrap))]
 pub fn target_of(at: u32, offset: i16) -> u32
     ensures { result ≡ target at offset }
 {

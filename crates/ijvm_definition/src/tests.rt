@@ -9,8 +9,8 @@ use crate::{
     print_name, read_image, run_plain, write_image,
 };
 use console_port::{Console, MemoryMap};
+use machine_words::Machine;
 use mic_base::{Line, MemSink, MemSource};
-use micro_word::Machine;
 use std::alloc::{AllocError, Global};
 use std::process::Abort;
 use std::test::Fail;

@@ -1,5 +1,5 @@
 ghost use Rattle.std.specs.Prelude.{◌≡◌, ◌↔◌, List, Ok, Err};
-ghost use Rattle.micro_word.specs.declared.statement.Machine.{Machine};
+ghost use Rattle.machine_words.specs.declared.machine.Machine.{Machine};
 ghost use Rattle.mal_tokens.specs.declared.token.Token.{Token};
 ghost use Rattle.mal_line.specs.declared.content.Content.{Content};
 ghost use Rattle.mal_line.specs.declared.line.LineFault.{LineFault};

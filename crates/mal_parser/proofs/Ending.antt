@@ -3,7 +3,7 @@ use Rattle.std.proofs.Common.{◌≡◌, ℕ, zero, suc, ◌+◌, ◌≤◌, Boo
 use Rattle.std.specs.Prelude.{Err, find, slice_get, not, min, nat_lt, option_map, ◌||◌, IsSome}
 use Rattle.std.specs.List.{cons_option, list_any, position, position_or_len}
 use Rattle.std.proofs.lemmas.Bool.Decides.{nat_tests}
-use Rattle.micro_word.specs.declared.statement.Machine.{Machine}
+use Rattle.machine_words.specs.declared.machine.Machine.{Machine}
 use Rattle.mal_line.specs.declared.content.Content.{Content}
 use Rattle.mal_line.specs.declared.content.Content.TheVariants as said
 use Rattle.mal_parser.specs.declared.error.MalError.{MalError}

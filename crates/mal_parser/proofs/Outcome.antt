@@ -1,7 +1,7 @@
 -- What the reading of a text comes to: the program it spells, or its first refusal.
 use Rattle.std.proofs.Common.{◌≡◌, ℕ, ◌+◌, List, length, refl, ap, subst, ◌∙◌, arith, inl, inr}
 use Rattle.std.specs.Prelude.{Result, Ok, Err}
-use Rattle.micro_word.specs.declared.statement.Machine.{Machine}
+use Rattle.machine_words.specs.declared.machine.Machine.{Machine}
 use Rattle.source_text.specs.Content.{contents}
 use Rattle.source_text.specs.Walk.{FirstRefused, walk}
 use Rattle.source_text.proofs.Walking.{leads_walk, refused_walk, walk_leads, walk_refused}

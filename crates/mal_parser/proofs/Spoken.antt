@@ -2,7 +2,7 @@
 use Rattle.std.proofs.Common.{◌≡◌, ℕ, zero, suc, ◌<◌, true, false, List, [], ◌∷◌, ◌++◌, Option, Some, None, refl, ap, subst, ◌∙◌}
 use Rattle.std.specs.Prelude.{IfSome, IsSome, pos, map, slice_get, unwrap_or, option_map, option_and_then, option_to_list}
 use Rattle.std.specs.List.{cons_option, filter_map}
-use Rattle.micro_word.specs.declared.statement.Machine.{Machine}
+use Rattle.machine_words.specs.declared.machine.Machine.{Machine}
 use Rattle.micro_word.specs.Canonical.{is_part}
 use Rattle.mal_tokens.specs.Words.{is_reserved}
 use Rattle.mal_line.specs.declared.content.Content.{Content}

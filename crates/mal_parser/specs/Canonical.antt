@@ -2,7 +2,7 @@
 use Rattle.std.specs.Prelude.{◌≡◌, ℕ, ◌+◌, true, length, List, [], ◌∷◌, ◌++◌, map, slice_get, Option, Some, unwrap_or, option_map, option_and_then, option_to_list}
 use Rattle.std.specs.List.{filter_map}
 use Rattle.mic_base.specs.Name.{is_name}
-use Rattle.micro_word.specs.declared.statement.Machine.{Machine}
+use Rattle.machine_words.specs.declared.machine.Machine.{Machine}
 use Rattle.micro_word.specs.declared.statement.Placed.{Placed}
 use Rattle.micro_word.specs.declared.statement.PlacedNext.{PlacedNext}
 use Rattle.micro_word.specs.declared.statement.PlacedNext.TheVariants as placed

@@ -1,6 +1,6 @@
 -- Programs of the microassembly language, and what holds of each.
 use Rattle.std.specs.Prelude.{◌≡◌, ℕ, ◌+◌, ◌<◌, ◌≤◌, false, List, length, slice_get, codes, option_and_then, Option, Some, None, IsTrue, IsSome, IfSome}
-use Rattle.micro_word.specs.declared.statement.Machine.{Machine}
+use Rattle.machine_words.specs.declared.machine.Machine.{Machine}
 use Rattle.micro_word.specs.Canonical.{is_part}
 use Rattle.mal_tokens.specs.Words.{is_reserved}
 use Rattle.mal_parser.specs.declared.statement.Statement.{Statement}

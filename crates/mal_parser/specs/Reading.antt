@@ -1,6 +1,6 @@
 -- Reading a text: its lines one after the other, then its labels.
 use Rattle.std.specs.Prelude.{ℕ, List, Result, Ok, Err}
-use Rattle.micro_word.specs.declared.statement.Machine.{Machine}
+use Rattle.machine_words.specs.declared.machine.Machine.{Machine}
 use Rattle.source_text.specs.Content.{contents}
 use Rattle.source_text.specs.Walk.{walk}
 use Rattle.mal_parser.specs.declared.error.MalError.{MalError}

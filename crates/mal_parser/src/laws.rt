@@ -1,5 +1,5 @@
 ghost use Rattle.std.specs.Prelude.{◌≡◌, ◌↔◌, ℕ, List, Ok, Err};
-ghost use Rattle.micro_word.specs.declared.statement.Machine.{Machine};
+ghost use Rattle.machine_words.specs.declared.machine.Machine.{Machine};
 ghost use Rattle.mal_parser.specs.declared.error.MalError.{MalError};
 ghost use Rattle.mal_parser.specs.Canonical.{AreNamed, canonical_text, relined};
 ghost use Rattle.mal_parser.specs.Program.{IsProgram, Program};

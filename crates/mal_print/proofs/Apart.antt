@@ -3,7 +3,7 @@ use Rattle.std.proofs.Common.{◌≡◌, ℕ, zero, suc, ◌<◌, ◌/◌, ◌%�
 use Rattle.std.specs.Prelude.{pos, codes, IfSome, ◌&&◌}
 use Rattle.std.specs.Char.{digit_char}
 use Rattle.std.specs.List.{list_all}
-use Rattle.micro_word.specs.declared.statement.Machine.{Machine}
+use Rattle.machine_words.specs.declared.machine.Machine.{Machine}
 use Rattle.micro_word.specs.declared.statement.AluOp.{AluOp}
 use Rattle.micro_word.specs.declared.statement.AluOp.TheVariants as ops
 use Rattle.micro_word.specs.declared.statement.BusSource.{BusSource}

@@ -2,8 +2,8 @@
 use Rattle.std.proofs.Common.{◌≡◌, suc, Bool, true, false, List, [], ◌∷◌, ◌++◌, Option, Some, None, refl, sym, ap, subst, ◌∙◌, cond}
 use Rattle.std.specs.Prelude.{◌&&◌, not, map}
 use Rattle.std.specs.List.{list_all, onto_first}
-use Rattle.micro_word.specs.declared.statement.Machine.{Machine}
-use Rattle.micro_word.specs.declared.statement.Machine.TheVariants.{Mic1, Mic2}
+use Rattle.machine_words.specs.declared.machine.Machine.{Machine}
+use Rattle.machine_words.specs.declared.machine.Machine.TheVariants.{Mic1, Mic2}
 use Rattle.micro_word.specs.declared.statement.Mem.{Mem}
 use Rattle.micro_word.specs.declared.statement.Mem.TheVariants as mems
 use Rattle.micro_word.specs.declared.statement.Shift.{Shift}

@@ -1,5 +1,5 @@
 ghost use Rattle.std.specs.Prelude.{◌<◌, ℕ, List, Option, IfSome, IsTrue, pos};
-ghost use Rattle.micro_word.specs.declared.statement.Machine.{Machine};
+ghost use Rattle.machine_words.specs.declared.machine.Machine.{Machine};
 ghost use Rattle.micro_word.specs.Canonical.{is_part};
 ghost use Rattle.mal_line.specs.declared.content.Parts.{Parts};
 ghost use Rattle.mal_line.specs.declared.content.Content.TheVariants as contents;

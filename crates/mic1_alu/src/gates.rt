@@ -1,5 +1,5 @@
 ghost use Rattle.std.specs.Prelude.{◌≡◌, ◌==◌, if◌then◌else◌};
-ghost use Rattle.micro_word.specs.Operation.{is_negative};
+ghost use Rattle.machine_words.specs.Arithmetic.{is_negative};
 ghost use Rattle.mic1_alu.specs.Gates.{enabled, combined, gates};
 
 use crate::controls::Controls;
@@ -20,7 +20,7 @@ fn enable(on: bool, x: u32) -> u32
     if on { x } else { 0 }
 }
 
-#[tactic(auto, unfolding(micro_word::specs::Operation::wrap))]
+#[tactic(auto, unfolding(machine_words::specs::Arithmetic::wrap))]
 fn combine(f0: bool, f1: bool, inc: bool, x: u32, y: u32) -> u32
     ensures { result ≡ combined f0 f1 inc x y }
 {

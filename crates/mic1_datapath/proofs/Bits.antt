@@ -4,10 +4,11 @@ use Rattle.std.proofs.lemmas.Bool.Decides.{nat_tests}
 use Rattle.micro_word.specs.Canonical.{is_canonical, is_next, Spells}
 use Rattle.micro_word.specs.Coding.{statement_of, addr_bits, jam_bits}
 use Rattle.micro_word.specs.Layout.{fields_of}
-use Rattle.micro_word.specs.Operation.{alu, is_negative}
+use Rattle.machine_words.specs.Arithmetic.{is_negative}
+use Rattle.micro_word.specs.Operation.{alu}
 use Rattle.micro_word.proofs.Coding.{spells, Valid, valid}
 use Rattle.micro_word.specs.declared.layout.Fields.{Fields}
-use Rattle.micro_word.specs.declared.statement.Machine.TheVariants.{Mic1}
+use Rattle.machine_words.specs.declared.machine.Machine.TheVariants.{Mic1}
 use Rattle.micro_word.specs.declared.statement.PlacedNext.{PlacedNext}
 use Rattle.micro_word.specs.declared.statement.PlacedNext.TheVariants as nexts
 use Rattle.micro_word.specs.declared.statement.Test.TheVariants as tests

@@ -2,9 +2,10 @@
 use Rattle.std.specs.Prelude.{ℕ, Bool, false, ◌&&◌, ◌==◌, Option, Some, None, length}
 use Rattle.console_port.specs.World.{World, Refusal, console_at}
 use Rattle.micro_word.specs.declared.statement.Placed.{Placed}
-use Rattle.micro_word.specs.declared.statement.Machine.TheVariants as machines
+use Rattle.machine_words.specs.declared.machine.Machine.TheVariants as machines
 use Rattle.micro_word.specs.Coding.{statement_of}
-use Rattle.micro_word.specs.Operation.{shifted, is_negative}
+use Rattle.machine_words.specs.Arithmetic.{is_negative}
+use Rattle.micro_word.specs.Operation.{shifted}
 use Rattle.mic_clock.specs.declared.buses.Drive.{Drive}
 use Rattle.mic_clock.specs.declared.buses.Computed.{Computed}
 use Rattle.mic_clock.specs.declared.registers.Registers.{Registers}

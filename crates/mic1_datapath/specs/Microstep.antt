@@ -1,6 +1,7 @@
 -- The microstep of Mic-1 (chapter 4; the order of events at the clock edge is this profile's). A statement assigns whole words; `clock` is total, and `refusal` looks at addresses alone.
 use Rattle.std.specs.Prelude.{ℕ, ◌+◌, ◌/◌, ◌%◌, Bool, true, false, if◌then◌else◌, ◌==◌, Option, Some, None}
-use Rattle.micro_word.specs.Operation.{alu, shifted, is_negative, signed_byte}
+use Rattle.machine_words.specs.Arithmetic.{is_negative, signed_byte}
+use Rattle.micro_word.specs.Operation.{alu, shifted}
 use Rattle.console_port.specs.World.{World, Refusal, after_write, after_read, read_value, byte_in, write_refusal, read_refusal, fetch_refusal}
 use Rattle.micro_word.specs.declared.statement.BusSource.{BusSource}
 use Rattle.micro_word.specs.declared.statement.BusSource.TheVariants as sources

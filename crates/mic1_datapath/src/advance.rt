@@ -1,7 +1,7 @@
 //! The part of the clock edge behind the bus.
 
 ghost use Rattle.std.specs.Prelude.{◌≡◌, ◌<◌, IsTrue};
-ghost use Rattle.micro_word.specs.declared.statement.Machine.TheVariants.{Mic1};
+ghost use Rattle.machine_words.specs.declared.machine.Machine.TheVariants.{Mic1};
 ghost use Rattle.micro_word.specs.Canonical.{is_canonical};
 ghost use Rattle.micro_word.specs.Coding.{statement_of};
 ghost use Rattle.mic1_datapath.specs.Mic1.{computed as computed_of};

@@ -1,14 +1,14 @@
 //! What is on the B bus.
 
 ghost use Rattle.std.specs.Prelude.{◌≡◌};
-ghost use Rattle.micro_word.specs.declared.statement.Machine.TheVariants.{Mic1};
+ghost use Rattle.machine_words.specs.declared.machine.Machine.TheVariants.{Mic1};
 ghost use Rattle.micro_word.specs.Coding.{source_of};
-ghost use Rattle.micro_word.specs.Operation.{signed_byte};
+ghost use Rattle.machine_words.specs.Arithmetic.{signed_byte};
 ghost use Rattle.mic1_datapath.specs.Microstep.{source};
 
 use crate::micro::Micro;
 
-#[tactic(auto, unfolding(micro_word::specs::Operation::signed_byte))]
+#[tactic(auto, unfolding(machine_words::specs::Arithmetic::signed_byte))]
 fn sign_extended(byte: u8) -> u32
     ensures { result ≡ signed_byte byte }
 {

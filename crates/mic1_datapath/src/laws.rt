@@ -2,7 +2,7 @@
 
 ghost use Rattle.std.specs.Prelude.{◌≡◌, IsTrue};
 ghost use Rattle.console_port.specs.World.{World};
-ghost use Rattle.micro_word.specs.declared.statement.Machine.TheVariants.{Mic1};
+ghost use Rattle.machine_words.specs.declared.machine.Machine.TheVariants.{Mic1};
 ghost use Rattle.micro_word.specs.declared.statement.Placed.{Placed};
 ghost use Rattle.micro_word.specs.Coding.{word_of};
 ghost use Rattle.micro_word.specs.Canonical.{is_valid};

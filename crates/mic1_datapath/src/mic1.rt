@@ -1,5 +1,5 @@
 ghost use Rattle.std.specs.Prelude.{◌≡◌, ◌<◌, IsTrue};
-ghost use Rattle.micro_word.specs.declared.statement.Machine.TheVariants.{Mic1 as Mic1Machine};
+ghost use Rattle.machine_words.specs.declared.machine.Machine.TheVariants.{Mic1 as Mic1Machine};
 ghost use Rattle.micro_word.specs.Canonical.{is_canonical};
 ghost use Rattle.mic_clock.specs.Meaning.{Driven, Settled};
 ghost use Rattle.mic1_datapath.specs.Stage.{phase_of};

@@ -1,10 +1,10 @@
 //! The address of the next word, by the control bits.
 
 ghost use Rattle.std.specs.Prelude.{◌≡◌, ◌<◌, ◌==◌, IsTrue};
-ghost use Rattle.micro_word.specs.declared.statement.Machine.TheVariants.{Mic1};
+ghost use Rattle.machine_words.specs.declared.machine.Machine.TheVariants.{Mic1};
 ghost use Rattle.micro_word.specs.Canonical.{is_canonical};
 ghost use Rattle.micro_word.specs.Coding.{statement_of};
-ghost use Rattle.micro_word.specs.Operation.{is_negative};
+ghost use Rattle.machine_words.specs.Arithmetic.{is_negative};
 ghost use Rattle.mic1_datapath.specs.Microstep.{target};
 ghost use Rattle.mic1_datapath.specs.Jam.{low_bits, high_bit, jammed};
 

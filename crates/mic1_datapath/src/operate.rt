@@ -1,10 +1,11 @@
 //! What the ALU and the shifter do for a word's control bits.
 
 ghost use Rattle.std.specs.Prelude.{◌≡◌, ◌==◌, IsTrue};
-ghost use Rattle.micro_word.specs.declared.statement.Machine.TheVariants.{Mic1};
+ghost use Rattle.machine_words.specs.declared.machine.Machine.TheVariants.{Mic1};
 ghost use Rattle.micro_word.specs.Canonical.{is_canonical};
 ghost use Rattle.micro_word.specs.Coding.{shift_of, statement_of};
-ghost use Rattle.micro_word.specs.Operation.{alu, shifted, is_negative};
+ghost use Rattle.machine_words.specs.Arithmetic.{is_negative};
+ghost use Rattle.micro_word.specs.Operation.{alu, shifted};
 
 use mic1_alu::{AluOut, Controls, alu as gates, shift};
 use micro_word::{Shift, fields1};

@@ -20,7 +20,7 @@ pub trait MicroWord: Sized {
 }
 
 impl MicroWord for Word1 {
-    ghost use Rattle.micro_word.specs.declared.statement.Machine.TheVariants.{Mic1};
+    ghost use Rattle.machine_words.specs.declared.machine.Machine.TheVariants.{Mic1};
     ghost use Rattle.micro_word.specs.Canonical.{IsCanonical};
 
     ghost number = { λ w. w };
@@ -37,7 +37,7 @@ impl MicroWord for Word1 {
 }
 
 impl MicroWord for Word2 {
-    ghost use Rattle.micro_word.specs.declared.statement.Machine.TheVariants.{Mic2};
+    ghost use Rattle.machine_words.specs.declared.machine.Machine.TheVariants.{Mic2};
     ghost use Rattle.micro_word.specs.Canonical.{IsCanonical};
 
     ghost number = { λ w. w };

@@ -4,8 +4,8 @@ use Rattle.std.specs.Option.{option_map}
 use Rattle.std.specs.Str.{bytes_eq}
 use Rattle.mic_base.specs.Number.{number_of}
 use Rattle.mic_base.specs.declared.number.NumberError.{NumberError}
-use Rattle.micro_word.specs.declared.statement.Machine.{Machine}
-use Rattle.micro_word.specs.declared.statement.Machine.TheVariants.{Mic1, Mic2}
+use Rattle.machine_words.specs.declared.machine.Machine.{Machine}
+use Rattle.machine_words.specs.declared.machine.Machine.TheVariants.{Mic1, Mic2}
 use Rattle.mic_words.specs.declared.options.Options.{Options}
 use Rattle.mic_words.specs.declared.request.Request.{Request}
 use Rattle.mic_words.specs.declared.request.Request.TheVariants as requests

@@ -3,8 +3,8 @@
 ghost use Rattle.std.specs.Prelude.{◌≡◌, ◌≤◌, ◌∷◌, [], IfSome, map, string_bytes};
 ghost use Rattle.mic_words.specs.Words.{HasSmallBound, bound_named, bound_or, is_plain, machine_named, machine_of, machine_or, options_of, with_both};
 
+use machine_words::Machine;
 use mic_base::Number;
-use micro_word::Machine;
 
 /// The bound on cycles where none is given.
 const DEFAULT_BOUND: u64 = 10_000_000;

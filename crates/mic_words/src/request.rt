@@ -1,4 +1,4 @@
-use micro_word::Machine;
+use machine_words::Machine;
 
 /// What a command line asks for.
 #[derive(Clone, Copy, Debug, PartialEq, Eq)]

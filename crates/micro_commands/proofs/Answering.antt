@@ -1,7 +1,7 @@
 -- What a command answers, from what the layers below it say.
 use Rattle.std.proofs.Common.{◌≡◌, ℕ, List, Option, Some, None, Result, Ok, Err, false, IsSome, IfOk, refl, sym, subst, length, arith}
 use Rattle.std.proofs.lemmas.List.{length-map}
-use Rattle.micro_word.specs.declared.statement.Machine.{Machine}
+use Rattle.machine_words.specs.declared.machine.Machine.{Machine}
 use Rattle.mic_work.specs.declared.answer.Answer.{Answer}
 use Rattle.mic_work.specs.Outside.{Desk, FilesState, SinkState, desk}
 use Rattle.mic_work.specs.Work.{answered, Answered, Did, Ends, IsCarriedOut, IsRead, Writes}

@@ -1,6 +1,6 @@
 -- What `micro` and `print-micro` come to over a file's bytes.
 use Rattle.std.specs.Prelude.{◌≡◌, ℕ, List, Some, None, IsSome}
-use Rattle.micro_word.specs.declared.statement.Machine.{Machine}
+use Rattle.machine_words.specs.declared.machine.Machine.{Machine}
 use Rattle.micro_word.specs.ControlStore.{ControlStore, IsStore}
 use Rattle.mic_work.specs.Work.{Answered, Prints, Writes, Refuses}
 use Rattle.mal_parser.specs.declared.error.MalError.{MalError}

@@ -1,6 +1,6 @@
 -- What a control store holds: 512 words, each canonical for its machine.
 use Rattle.std.specs.Prelude.{◌≡◌, ℕ, ◌<◌, List, length, slice_index, IsTrue}
-use Rattle.micro_word.specs.declared.statement.Machine.{Machine}
+use Rattle.machine_words.specs.declared.machine.Machine.{Machine}
 use Rattle.micro_word.specs.Canonical.{is_canonical}
 
 pub record ControlStore : Type 0 where

@@ -4,8 +4,9 @@ ghost use Rattle.micro_word.specs.Canonical.{is_row, is_side, is_side_a, are_apa
 
 use crate::bus::code_for_nothing;
 use crate::layout::Fields;
-use crate::statement::{AluOp, BusSource, Machine};
+use crate::statement::{AluOp, BusSource};
 use crate::valid::{has_operation, mixes};
+use machine_words::Machine;
 
 fn is_row_of(machine: Machine, gates: u8) -> bool
     ensures { result ≡ is_row machine gates }

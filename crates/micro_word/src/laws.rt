@@ -4,7 +4,7 @@ ghost use Rattle.micro_word.specs.declared.statement.Placed.{Placed};
 ghost use Rattle.micro_word.specs.Coding.{word_of, statement_of};
 ghost use Rattle.micro_word.specs.Canonical.{is_valid, is_canonical, IsCanonical, Spells};
 
-use crate::statement::Machine;
+use machine_words::Machine;
 
 /// The word of each valid statement is canonical, and its fields name that statement.
 pub fn statement_law(_machine: Machine)

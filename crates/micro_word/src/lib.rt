@@ -14,8 +14,9 @@ mod word;
 
 pub use laws::{statement_law, word_law};
 pub use layout::{Fields, fields1, fields2, word_with1, word_with2};
+pub use machine_words::Machine;
 pub use operation::Row;
-pub use statement::{AluOp, BusSource, Machine, Mem, Part, Placed, PlacedNext, Shift, Test};
+pub use statement::{AluOp, BusSource, Mem, Part, Placed, PlacedNext, Shift, Test};
 pub use store::Store;
 pub use word::{Word1, Word2, decode1, decode2, encode1, encode2};
 

@@ -1,12 +1,5 @@
 //! What a microinstruction does, in the words of the microassembly language.
 
-/// The two datapaths.
-#[derive(Clone, Copy, Debug, PartialEq, Eq)]
-pub enum Machine {
-    Mic1,
-    Mic2,
-}
-
 /// What a bus may carry.
 #[derive(Clone, Copy, Debug, PartialEq, Eq)]
 pub enum BusSource {

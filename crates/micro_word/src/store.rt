@@ -3,8 +3,9 @@ ghost use Rattle.std.specs.Prelude.{◌≡◌, ◌<◌, IsTrue, replicate, slice
 ghost use Rattle.micro_word.specs.Coding.{word_of};
 ghost use Rattle.micro_word.specs.Canonical.{is_valid, is_canonical};
 
-use crate::statement::{Machine, Placed};
+use crate::statement::Placed;
 use crate::word::{encode1, encode2};
+use machine_words::Machine;
 use std::marker::Model;
 
 /// A control store: 512 words, each canonical for its machine.

@@ -1,6 +1,6 @@
 -- How `reference` ends, by the end of its run.
 use Rattle.std.proofs.Common.{◌≡◌, ◌≢◌, ℕ, Some, Ok, refl, ap, subst}
-use Rattle.micro_word.specs.declared.statement.Machine.{Machine}
+use Rattle.machine_words.specs.declared.machine.Machine.{Machine}
 use Rattle.ijvm_definition.specs.declared.plain.PlainEnd.{PlainEnd}
 use Rattle.ijvm_definition.specs.declared.plain.PlainEnd.TheVariants as ends
 use Rattle.ijvm_definition.specs.declared.plain.PlainReport.{PlainReport}

@@ -1,7 +1,7 @@
 -- How `reference` ends: the definition's run of an accepted program, with a machine's costs, and its report; or a refusal.
 use Rattle.std.specs.Prelude.{◌≡◌, ℕ, List}
 use Rattle.mic_base.specs.Causes.{Rose}
-use Rattle.micro_word.specs.declared.statement.Machine.{Machine}
+use Rattle.machine_words.specs.declared.machine.Machine.{Machine}
 use Rattle.ijvm_definition.specs.declared.plain.PlainEnd.TheVariants as ends
 use Rattle.ijvm_definition.specs.declared.plain.PlainReport.{PlainReport}
 use Rattle.ijvm_definition.specs.Run.{Program}

@@ -10,9 +10,9 @@ use crate::refusal::refuse;
 use console_port::MemoryMap;
 use ijvm_definition::{PlainEnd, run_plain};
 use ijvm_verifier::VerifiedImage;
+use machine_words::Machine;
 use mic_base::{Files, Sink, Source};
 use mic_work::{Status, no_memory, read_named, say};
-use micro_word::Machine;
 use program_texts::report_of;
 use std::alloc::Global;
 

@@ -1,7 +1,7 @@
 use crate::{assemble_file, list_file, reference_file, verify_file};
 use ijvm_definition::{Image, write_image};
+use machine_words::Machine;
 use mic_base::{MemFiles, MemSink, MemSource};
-use micro_word::Machine;
 use std::alloc::{AllocError, Global};
 use std::process::Abort;
 use std::test::Fail;

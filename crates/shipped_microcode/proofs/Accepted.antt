@@ -10,9 +10,9 @@ use Rattle.ijvm_definition.specs.Step.{Goes, Halts, Stuck, outcome, stepped, ste
 use Rattle.ijvm_definition.specs.Cost.{cost, cost_at, next_cost}
 use Rattle.ijvm_definition.specs.declared.run.RunEnd.TheVariants as ends
 use Rattle.ijvm_definition.specs.Run.{Program, Point, Finish, point_after, finish_from, after_test, after_outcome, completed}
-use Rattle.micro_word.specs.declared.statement.Machine.{Machine}
-use Rattle.micro_word.specs.declared.statement.Machine.TheVariants.{Mic1}
-use Rattle.micro_word.specs.Operation.{plus}
+use Rattle.machine_words.specs.declared.machine.Machine.{Machine}
+use Rattle.machine_words.specs.declared.machine.Machine.TheVariants.{Mic1}
+use Rattle.machine_words.specs.Arithmetic.{plus}
 use Rattle.shipped_microcode.specs.Straight.{IsPlain, IsFrom, underflow}
 use Rattle.shipped_microcode.proofs.Decoded.{Decoded, decoded}
 use Rattle.shipped_microcode.proofs.Straights.{underflow_here, underflow_on}

@@ -3,7 +3,7 @@ use Rattle.std.proofs.Common.{◌≡◌, ℕ, ◌+◌, ◌-◌, ◌/◌, ◌%◌
 use Rattle.std.specs.Prelude.{slice_index, slice_set, nat_lt}
 use Rattle.std.proofs.lemmas.Bool.Decides.{nat_tests}
 use Rattle.std.proofs.lemmas.List.{set_past}
-use Rattle.micro_word.specs.Operation.{wrap, plus, next, before}
+use Rattle.machine_words.specs.Arithmetic.{wrap, plus, next, before}
 use Rattle.console_port.specs.World.{World, StackLimit, next_byte, read_value, untaken_after, given_after, read_refusal, write_refusal, fetch_refusal, byte_in}
 
 -- where the memory may end

@@ -2,7 +2,7 @@
 use Rattle.std.proofs.Common.{◌≡◌, ℕ, zero, suc, ◌+◌, ◌-◌, ◌<◌, ◌≤◌, Option, Some, None, List, [], ◌∷◌, length, replicate, refl, arith, sym, ◌∙◌, ap, subst, false}
 use Rattle.std.specs.Prelude.{slice_index, slice_get}
 use Rattle.std.proofs.lemmas.List.{length-replicate, append-nil}
-use Rattle.micro_word.specs.Operation.{next, wrap}
+use Rattle.machine_words.specs.Arithmetic.{next, wrap}
 use Rattle.console_port.specs.World.{World, fetch_refusal, byte_in}
 use Rattle.mic_clock.specs.Run.{MicroRun, start_run, turns}
 use Rattle.mic1_datapath.specs.declared.micro.Micro.{Micro}

@@ -4,9 +4,9 @@ use Rattle.std.specs.Prelude.{nat_le, ◌==◌, ◌%◌, slice_index, nat_lt, �
 use Rattle.std.specs.Int.{w8, cast_signed}
 use mir.Val.{sel}
 use Rattle.std.proofs.lemmas.Bool.Decides.{nat_tests}
-use Rattle.micro_word.specs.declared.statement.Machine.{Machine}
-use Rattle.micro_word.specs.declared.statement.Machine.TheVariants.{Mic1}
-use Rattle.micro_word.specs.Operation.{plus, next, signed_byte}
+use Rattle.machine_words.specs.declared.machine.Machine.{Machine}
+use Rattle.machine_words.specs.declared.machine.Machine.TheVariants.{Mic1}
+use Rattle.machine_words.specs.Arithmetic.{plus, next, signed_byte}
 use Rattle.console_port.specs.World.{World, Refusal, StackLimit, write_refusal, byte_in}
 use Rattle.mic1_datapath.specs.declared.micro.Micro.{Micro}
 use Rattle.mic1_datapath.specs.Microstep.{first_refusal}

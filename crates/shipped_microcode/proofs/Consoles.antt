@@ -1,7 +1,7 @@
 -- OUT.
 use Rattle.std.proofs.Common.{◌≡◌, ℕ, ◌+◌, ◌%◌, ◌<◌, List, [], ◌∷◌, ◌++◌, length, refl, arith, ◌∙◌, ap, ap₂, append_assoc}
 use Rattle.std.specs.Prelude.{slice_set}
-use Rattle.micro_word.specs.Operation.{before}
+use Rattle.machine_words.specs.Arithmetic.{before}
 use Rattle.console_port.specs.World.{World, read_value, byte_in}
 use Rattle.ijvm_definition.specs.Frames.{State}
 use Rattle.ijvm_definition.specs.Step.{moved}

@@ -1,6 +1,6 @@
 -- The definition's boundaries, computed on whole runs.
 use Rattle.std.proofs.Common.{◌≡◌, ℕ, zero, suc, List, [], ◌∷◌, Option, Some, None, refl}
-use Rattle.micro_word.specs.Operation.{wrap}
+use Rattle.machine_words.specs.Arithmetic.{wrap}
 use Rattle.mic_clock.specs.declared.counts.Boundary.{Boundary}
 use Rattle.ijvm_definition.specs.Instructions.{of_bytes, instr_at}
 use Rattle.ijvm_definition.specs.Run.{Point, first_point}

@@ -1,7 +1,7 @@
 -- What a machine at a boundary knows of its stack, and what it holds after an instruction; for both machines.
 use Rattle.std.proofs.Common.{◌≡◌, ℕ, suc, ◌+◌, ◌-◌, ◌<◌, ◌≤◌, List, [], ◌∷◌, ◌++◌, length, refl, arith, ◌∙◌, ap, sym, subst}
 use Rattle.std.specs.Prelude.{slice_index, slice_set}
-use Rattle.micro_word.specs.Operation.{next, before}
+use Rattle.machine_words.specs.Arithmetic.{next, before}
 use Rattle.console_port.specs.World.{World, read_value}
 use Rattle.ijvm_definition.specs.Frames.{Frame, State, frames_of, operands_at, base}
 use Rattle.ijvm_definition.specs.Step.{moved}

@@ -1,7 +1,7 @@
 -- Instructions on the operands alone.
 use Rattle.std.proofs.Common.{◌≡◌, ℕ, ◌+◌, ◌<◌, List, [], ◌∷◌, length, refl, ◌∙◌, ap, ap₂, add_comm}
 use Rattle.std.specs.Prelude.{slice_set}
-use Rattle.micro_word.specs.Operation.{wrap, plus, next, before, signed_byte}
+use Rattle.machine_words.specs.Arithmetic.{wrap, plus, next, before, signed_byte}
 use Rattle.console_port.specs.World.{World, read_value, byte_in}
 use Rattle.ijvm_definition.specs.Frames.{State, frames_of, base}
 use Rattle.ijvm_definition.specs.Step.{moved}

@@ -1,6 +1,6 @@
 -- The headline of a Mic-1 that was clocked over an image from its reset: its run stands for the definition's run, and the board that is left shows where that run ended, or where a fault cut it.
 use Rattle.std.specs.Prelude.{◌≡◌, ◌⊎◌, ℕ, ◌+◌, ◌-◌, List, [], ◌++◌, replicate, Option, Some, IfSome, IsSome, IsTrue, unwrap_or, false}
-use Rattle.micro_word.specs.declared.statement.Machine.TheVariants as machines
+use Rattle.machine_words.specs.declared.machine.Machine.TheVariants as machines
 use Rattle.console_port.specs.World.{World}
 use Rattle.console_port.specs.Loading.{IsLoaded}
 use Rattle.console_port.specs.Console.{Untaken}

@@ -1,6 +1,6 @@
 -- The microprogram that interprets four instructions of IJVM on Mic-1: the statement at each address of its control store.
 use Rattle.std.specs.Prelude.{◌≡◌, ℕ, ◌+◌, ◌<◌, Bool, true, false, ◌==◌, List, [], ◌∷◌, slice_index, Option, Some, None}
-use Rattle.micro_word.specs.declared.statement.Machine.TheVariants.{Mic1}
+use Rattle.machine_words.specs.declared.machine.Machine.TheVariants.{Mic1}
 use Rattle.micro_word.specs.declared.statement.BusSource.{BusSource}
 use Rattle.micro_word.specs.declared.statement.BusSource.TheVariants.{Mdr, Pc, Mbr, Sp, Tos, Opc}
 use Rattle.micro_word.specs.declared.statement.AluOp.{AluOp}

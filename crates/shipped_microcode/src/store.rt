@@ -1,7 +1,7 @@
 //! The first control store: the microprogram for BIPUSH, IADD, OUT and HALT, at the addresses that it has in the whole microprogram.
 
 ghost use Rattle.std.specs.Prelude.{◌≡◌, false};
-ghost use Rattle.micro_word.specs.declared.statement.Machine.TheVariants.{Mic1};
+ghost use Rattle.machine_words.specs.declared.machine.Machine.TheVariants.{Mic1};
 ghost use Rattle.shipped_microcode.specs.Shipped.{statement as statement_of_parts, shipped, HasShipped};
 
 use micro_word::{

@@ -1,7 +1,7 @@
 use Rattle.std.proofs.Common.{◌≡◌, ◌==◌, sym, ◌∙◌}
 use Rattle.micro_word.specs.Coding.{statement_of}
-use Rattle.micro_word.specs.Operation.{is_negative}
-use Rattle.micro_word.specs.declared.statement.Machine.TheVariants.{Mic1}
+use Rattle.machine_words.specs.Arithmetic.{is_negative}
+use Rattle.machine_words.specs.declared.machine.Machine.TheVariants.{Mic1}
 use Rattle.mic1_datapath.specs.Microstep.{assigned, ports_of, result_of, settled, target}
 use Rattle.mic1_datapath.specs.Mic1.{computed}
 use Rattle.mic1_datapath.proofs.advance.advance.Goals as goal

@@ -1,5 +1,5 @@
 use Rattle.std.proofs.Common.{◌≡◌}
-use Rattle.micro_word.specs.declared.statement.Machine.TheVariants.{Mic1}
+use Rattle.machine_words.specs.declared.machine.Machine.TheVariants.{Mic1}
 use Rattle.mic1_datapath.proofs.tests.board.Given as goal
 
 abbrev pub invariant-loop-address : goal.invariant-loop-address

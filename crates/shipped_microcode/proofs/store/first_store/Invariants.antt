@@ -1,6 +1,6 @@
 use Rattle.std.proofs.Common.{◌≡◌, ◌<◌, ℕ, length}
 use Rattle.std.specs.Prelude.{slice_index}
-use Rattle.micro_word.specs.declared.statement.Machine.TheVariants.{Mic1}
+use Rattle.machine_words.specs.declared.machine.Machine.TheVariants.{Mic1}
 use Rattle.micro_word.specs.Coding.{word_of}
 use Rattle.shipped_microcode.specs.Shipped.{shipped}
 use Rattle.shipped_microcode.proofs.store.first_store.Given as goal

@@ -1,7 +1,8 @@
 use Rattle.std.proofs.Common.{◌≡◌, ℕ, ◌==◌, ap, ◌∙◌}
 use Rattle.micro_word.specs.Coding.{statement_of}
-use Rattle.micro_word.specs.Operation.{alu, is_negative, shifted}
-use Rattle.micro_word.specs.declared.statement.Machine.TheVariants as machines
+use Rattle.machine_words.specs.Arithmetic.{is_negative}
+use Rattle.micro_word.specs.Operation.{alu, shifted}
+use Rattle.machine_words.specs.declared.machine.Machine.TheVariants as machines
 use Rattle.mic1_datapath.specs.Microstep.{result_of}
 use Rattle.mic1_datapath.specs.Mic1.{driven, computed}
 use Rattle.mic1_datapath.proofs.mic1.Mic1Clocked.compute.Goals as goal

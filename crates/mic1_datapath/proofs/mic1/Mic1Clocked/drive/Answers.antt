@@ -1,7 +1,7 @@
 use Rattle.std.proofs.Common.{◌≡◌, false, ap, ◌∙◌}
 use Rattle.micro_word.specs.Coding.{statement_of, source_of}
 use Rattle.micro_word.specs.declared.layout.Fields.{Fields}
-use Rattle.micro_word.specs.declared.statement.Machine.TheVariants as machines
+use Rattle.machine_words.specs.declared.machine.Machine.TheVariants as machines
 use Rattle.mic1_datapath.specs.Microstep.{source}
 use Rattle.mic1_datapath.specs.Mic1.{driven}
 use Rattle.mic1_datapath.proofs.mic1.Mic1Clocked.drive.Goals as goal

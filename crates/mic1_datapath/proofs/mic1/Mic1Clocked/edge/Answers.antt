@@ -1,6 +1,6 @@
 use Rattle.std.proofs.Common.{length, List, ℕ, ap}
 use Rattle.micro_word.specs.Coding.{statement_of}
-use Rattle.micro_word.specs.declared.statement.Machine.TheVariants as machines
+use Rattle.machine_words.specs.declared.machine.Machine.TheVariants as machines
 use Rattle.mic1_datapath.specs.Mic1.{step_of_word, reads_console, uses_console}
 use Rattle.mic1_datapath.proofs.Steps.{is_done, is_refused, reads_too, uses_too}
 use Rattle.mic1_datapath.proofs.mic1.Mic1Clocked.edge.Goals as goal
