@@ -5,7 +5,8 @@ use Rattle.micro_word.proofs.Sums.{Fitting, fields-word, fields_fit, word_with-l
 use Rattle.micro_word.proofs.Parts.{row_back, gates_back, shift_back, shift_bits-shift_of, mem_back, mem_bits-mem_of, fetch_bit-lt, fetch_back, fetch_bit-back, bit_may_fetch, bus_back, bus_side, side-lt, side_fits, bus_code-back, a_back, a_side, a_code-lt, side_a_fits, a_code-back, NextBack, next_back, TargetBack, target_back}
 use Rattle.micro_word.specs.Layout.{word_with, fields_of}
 use Rattle.micro_word.specs.Coding.{row, row_of, op_of, shift_bits, shift_of, mem_bits, mem_of, fetch_bit, bus_code, source_of, a_code, a_of, codes, named, word_of, statement_of}
-use Rattle.micro_word.specs.Canonical.{has_operation, may_be_a, may_be_b, fits_side, is_mixed, may_fetch, is_next, is_valid, IsCanonical, is_row, is_side, is_side_a, are_apart, is_target, is_one_at_most, are_canonical, word_end, is_canonical, decoded_as, Spells}
+use Rattle.micro_word.specs.Canonical.{has_operation, may_be_a, may_be_b, fits_side, is_mixed, is_valid, IsCanonical, is_row, is_side, is_side_a, are_apart, is_target, is_one_at_most, are_canonical, word_end, is_canonical, decoded_as, Spells}
+pub use Rattle.micro_word.specs.Canonical.{Valid}
 use Rattle.machine_words.specs.declared.machine.Machine.{Machine}
 use Rattle.machine_words.specs.declared.machine.Machine.TheVariants.{Mic1, Mic2}
 use Rattle.micro_word.specs.declared.statement.AluOp.{AluOp}
@@ -15,16 +16,7 @@ use Rattle.micro_word.specs.declared.statement.BusSource.TheVariants as bus
 use Rattle.micro_word.specs.declared.statement.Placed.{Placed}
 use Rattle.micro_word.specs.declared.layout.Fields.{Fields}
 
--- what a valid statement meets
-pub record Valid (machine : Machine) (p : Placed) : Type 0 where
-  pub dests : IsTrue (nat_lt p.part.dests 512)
-  pub op : IsTrue (has_operation machine p.part.op)
-  pub a : IsTrue (fits_side (row p.part.op).uses_a (may_be_a machine) p.part.a)
-  pub b : IsTrue (fits_side (row p.part.op).uses_b (may_be_b machine) p.part.b)
-  pub apart : IsTrue (not (is_mixed p.part.a p.part.b))
-  pub fetch : IsTrue (may_fetch machine p.part.fetch)
-  pub next : IsTrue (is_next p.next)
-
+-- a valid statement meets each condition
 pub valid : (machine : Machine) (p : Placed) → IsTrue (is_valid machine p) → Valid machine p
 valid machine p h =
     let all = both _ _ h in

@@ -73,6 +73,16 @@ is_next (nexts.Branch test low) = nat_lt low 256
 abbrev pub is_valid : Machine → Placed → Bool
 is_valid machine p = is_part machine p.part && is_next p.next
 
+-- the same, condition by condition
+pub record Valid (machine : Machine) (p : Placed) : Type 0 where
+  pub dests : IsTrue (nat_lt p.part.dests 512)
+  pub op : IsTrue (has_operation machine p.part.op)
+  pub a : IsTrue (fits_side (row p.part.op).uses_a (may_be_a machine) p.part.a)
+  pub b : IsTrue (fits_side (row p.part.op).uses_b (may_be_b machine) p.part.b)
+  pub apart : IsTrue (not (is_mixed p.part.a p.part.b))
+  pub fetch : IsTrue (may_fetch machine p.part.fetch)
+  pub next : IsTrue (is_next p.next)
+
 -- a number is canonical where it is the word of a valid statement
 abbrev pub IsCanonical : Machine → ℕ → Type 0
 IsCanonical machine word = (p : Placed) × IsTrue (is_valid machine p) × (word_of machine p ≡ word)

@@ -21,26 +21,27 @@ use Rattle.micro_word.specs.Layout.{word_with, fields_of}
 abbrev pub entry : ℕ → Bool → Bool → Row
 entry gates uses_a uses_b = record { gates = gates; uses_a = uses_a; uses_b = uses_b }
 
--- the table of operations: F0 F1 ENA ENB INVA INC, whether it uses A, whether it uses B
+-- the table of operations: the gates, whether it uses side A, whether it uses side B; behind it what it gives
 abbrev pub row : AluOp → Row
-row ops.A = entry 0b011000 true false
-row ops.B = entry 0b010100 false true
-row ops.NotA = entry 0b011010 true false
-row ops.NotB = entry 0b101100 false true
-row ops.Sum = entry 0b111100 true true
-row ops.SumInc = entry 0b111101 true true
-row ops.IncA = entry 0b111001 true false
-row ops.IncB = entry 0b110101 false true
-row ops.Sub = entry 0b111111 true true
-row ops.DecB = entry 0b110110 false true
-row ops.NegA = entry 0b111011 true false
-row ops.And = entry 0b001100 true true
-row ops.Or = entry 0b011100 true true
-row ops.Zero = entry 0b010000 false false
-row ops.One = entry 0b110001 false false
-row ops.MinusOne = entry 0b110010 false false
+-- operation   F0 F1 ENA ENB INVA INC   uses A   uses B   gives
+row ops.A = entry 0b011000 true false  -- A
+row ops.B = entry 0b010100 false true  -- B
+row ops.NotA = entry 0b011010 true false  -- NOT A
+row ops.NotB = entry 0b101100 false true  -- NOT B
+row ops.Sum = entry 0b111100 true true  -- A+B
+row ops.SumInc = entry 0b111101 true true  -- A+B+1
+row ops.IncA = entry 0b111001 true false  -- A+1
+row ops.IncB = entry 0b110101 false true  -- B+1
+row ops.Sub = entry 0b111111 true true  -- B-A
+row ops.DecB = entry 0b110110 false true  -- B-1
+row ops.NegA = entry 0b111011 true false  -- -A
+row ops.And = entry 0b001100 true true  -- A AND B
+row ops.Or = entry 0b011100 true true  -- A OR B
+row ops.Zero = entry 0b010000 false false  -- 0
+row ops.One = entry 0b110001 false false  -- 1
+row ops.MinusOne = entry 0b110010 false false  -- -1
 
--- the rows in the table's order
+-- the operations in the table's order
 abbrev pub operations : List AluOp
 operations =
     ops.A ∷ ops.B ∷ ops.NotA ∷ ops.NotB ∷ ops.Sum ∷ ops.SumInc ∷ ops.IncA ∷ ops.IncB ∷ ops.Sub ∷ ops.DecB ∷ ops.NegA

@@ -7,7 +7,7 @@
 --   JAM    JMPC JAMN JAMZ
 --   shift  SLL8 SRA1
 --   gates  F0 F1 ENA ENB INVA INC
---   C      H OPC TOS CPP LV SP PC MDR MAR
+--   C      H OPC TOS CPP LV SP PC MDR MAR, as Destinations has them bit by bit
 --   mem    WRITE READ
 use Rattle.std.specs.Prelude.{ℕ, ◌+◌, ◌*◌, ◌/◌, ◌%◌, ◌^◌}
 use Rattle.machine_words.specs.declared.machine.Machine.{Machine}

@@ -1,4 +1,5 @@
 pub mod Operation
+pub mod Destinations
 pub mod Layout
 pub mod Coding
 pub mod Canonical

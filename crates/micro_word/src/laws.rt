@@ -2,12 +2,13 @@
 ghost use Rattle.std.specs.Prelude.{◌≡◌, ◌↔◌, ℕ, IsTrue};
 ghost use Rattle.micro_word.specs.declared.statement.Placed.{Placed};
 ghost use Rattle.micro_word.specs.Coding.{word_of, statement_of};
-ghost use Rattle.micro_word.specs.Canonical.{is_valid, is_canonical, IsCanonical, Spells};
+ghost use Rattle.micro_word.specs.Canonical.{is_valid, is_canonical, IsCanonical, Spells, Valid};
 
 use machine_words::Machine;
 
-/// The word of each valid statement is canonical, and its fields name that statement.
+/// A valid statement meets each condition, its word is canonical, and the word's fields name that statement.
 pub fn statement_law(_machine: Machine)
+    ensures conditions { (p : Placed) → IsTrue (is_valid _machine p) → Valid _machine p }
     ensures canonical { (p : Placed) → IsTrue (is_valid _machine p) → IsTrue (is_canonical _machine (word_of _machine p)) }
     ensures statement { (p : Placed) → IsTrue (is_valid _machine p) → statement_of _machine (word_of _machine p) ≡ p }
 {}

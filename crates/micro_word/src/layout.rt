@@ -13,7 +13,7 @@ pub struct Fields {
     pub shift: u8,
     /// F0 F1 ENA ENB INVA INC
     pub gates: u8,
-    /// H OPC TOS CPP LV SP PC MDR MAR
+    /// H OPC TOS CPP LV SP PC MDR MAR: the bits of `Destination`
     pub c: u16,
     /// WRITE READ
     pub mem: u8,

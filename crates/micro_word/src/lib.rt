@@ -4,6 +4,7 @@
 mod bus;
 mod canonical;
 mod codes;
+pub mod destination;
 mod laws;
 pub mod layout;
 mod operation;
@@ -12,6 +13,7 @@ mod store;
 mod valid;
 mod word;
 
+pub use destination::Destination;
 pub use laws::{statement_law, word_law};
 pub use layout::{Fields, fields1, fields2, word_with1, word_with2};
 pub use machine_words::Machine;

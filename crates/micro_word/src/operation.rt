@@ -50,26 +50,28 @@ impl AluOp {
         AluOp::MinusOne,
     ];
 
+    /// The table of operations: the gates, whether it uses side A, whether it uses side B; behind it what it gives.
     pub fn row(self) -> Row
         ensures { result ≡ row self }
     {
         match self {
-            AluOp::A => entry(0b011000, true, false),
-            AluOp::B => entry(0b010100, false, true),
-            AluOp::NotA => entry(0b011010, true, false),
-            AluOp::NotB => entry(0b101100, false, true),
-            AluOp::Sum => entry(0b111100, true, true),
-            AluOp::SumInc => entry(0b111101, true, true),
-            AluOp::IncA => entry(0b111001, true, false),
-            AluOp::IncB => entry(0b110101, false, true),
-            AluOp::Sub => entry(0b111111, true, true),
-            AluOp::DecB => entry(0b110110, false, true),
-            AluOp::NegA => entry(0b111011, true, false),
-            AluOp::And => entry(0b001100, true, true),
-            AluOp::Or => entry(0b011100, true, true),
-            AluOp::Zero => entry(0b010000, false, false),
-            AluOp::One => entry(0b110001, false, false),
-            AluOp::MinusOne => entry(0b110010, false, false),
+            // operation   F0 F1 ENA ENB INVA INC   uses A   uses B   gives
+            AluOp::A => entry(0b011000, true, false), // A
+            AluOp::B => entry(0b010100, false, true), // B
+            AluOp::NotA => entry(0b011010, true, false), // NOT A
+            AluOp::NotB => entry(0b101100, false, true), // NOT B
+            AluOp::Sum => entry(0b111100, true, true), // A+B
+            AluOp::SumInc => entry(0b111101, true, true), // A+B+1
+            AluOp::IncA => entry(0b111001, true, false), // A+1
+            AluOp::IncB => entry(0b110101, false, true), // B+1
+            AluOp::Sub => entry(0b111111, true, true), // B-A
+            AluOp::DecB => entry(0b110110, false, true), // B-1
+            AluOp::NegA => entry(0b111011, true, false), // -A
+            AluOp::And => entry(0b001100, true, true), // A AND B
+            AluOp::Or => entry(0b011100, true, true), // A OR B
+            AluOp::Zero => entry(0b010000, false, false), // 0
+            AluOp::One => entry(0b110001, false, false), // 1
+            AluOp::MinusOne => entry(0b110010, false, false), // -1
         }
     }
 

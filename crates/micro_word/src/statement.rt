@@ -62,6 +62,7 @@ pub enum Test {
 /// All of a statement but where it goes next.
 #[derive(Clone, Copy, Debug, PartialEq, Eq)]
 pub struct Part {
+    /// The sum of the bits of the destinations.
     pub dests: u16,
     pub op: AluOp,
     pub a: Option<BusSource>,

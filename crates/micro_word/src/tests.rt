@@ -1,6 +1,7 @@
+//! Words of both machines from outside, and numbers that are none.
 use crate::{
-    AluOp, BusSource, Machine, Mem, Part, Placed, PlacedNext, Shift, Store, Test, decode1, decode2,
-    encode1, encode2,
+    AluOp, BusSource, Destination, Machine, Mem, Part, Placed, PlacedNext, Shift, Store, Test,
+    decode1, decode2, encode1, encode2,
 };
 
 fn goto(to: u16) -> Placed {
@@ -22,7 +23,7 @@ fn goto(to: u16) -> Placed {
 fn main1() -> Placed {
     Placed {
         part: Part {
-            dests: 4,
+            dests: Destination::Pc.bit(),
             op: AluOp::IncB,
             a: None,
             b: Some(BusSource::Pc),
@@ -38,7 +39,7 @@ fn main1() -> Placed {
 fn iadd1() -> Placed {
     Placed {
         part: Part {
-            dests: 9,
+            dests: Destination::Sp.bit() + Destination::Mar.bit(),
             op: AluOp::DecB,
             a: None,
             b: Some(BusSource::Sp),
@@ -73,7 +74,7 @@ fn iflt4() -> Placed {
 fn one() -> Placed {
     Placed {
         part: Part {
-            dests: 66,
+            dests: Destination::Tos.bit() + Destination::Mdr.bit(),
             op: AluOp::Sum,
             a: Some(BusSource::H),
             b: Some(BusSource::Mdr),
@@ -97,7 +98,7 @@ fn main1_of_mic2() -> Placed {
 fn iload1_of_mic2() -> Placed {
     Placed {
         part: Part {
-            dests: 1,
+            dests: Destination::Mar.bit(),
             op: AluOp::Sum,
             a: Some(BusSource::Lv),
             b: Some(BusSource::Mbr1u),
@@ -110,7 +111,7 @@ fn iload1_of_mic2() -> Placed {
 }
 
 #[test]
-fn words_of_mic1(rt: HostRuntime) {
+fn statements_of_mic1_have_their_words(rt: HostRuntime) {
     let table = [
         (main1(), 0x0_0435_0211),
         (iadd1(), 0x0_1836_04a4),
@@ -127,7 +128,7 @@ fn words_of_mic1(rt: HostRuntime) {
 }
 
 #[test]
-fn words_of_mic2(rt: HostRuntime) {
+fn statements_of_mic2_have_their_words(rt: HostRuntime) {
     let table = [
         (main1_of_mic2(), 0x00_2080_00cc),
         (iload1_of_mic2(), 0x05_c1e0_0553),
@@ -140,7 +141,7 @@ fn words_of_mic2(rt: HostRuntime) {
 }
 
 #[test]
-fn no_words_of_mic1(rt: HostRuntime) {
+fn numbers_that_are_no_word_of_mic1(rt: HostRuntime) {
     let table = [
         (0x7_f800_0009, "the gates are no row"),
         (0x7_f8d0_0009, "SLL8 and SRA1"),
@@ -164,7 +165,7 @@ fn no_words_of_mic1(rt: HostRuntime) {
 }
 
 #[test]
-fn no_words_of_mic2(rt: HostRuntime) {
+fn numbers_that_are_no_word_of_mic2(rt: HostRuntime) {
     let table = [
         (0x00_2000_00cc, "the gates are no row"),
         (0x00_20c0_005c, "the operation A"),
@@ -193,7 +194,7 @@ fn no_words_of_mic2(rt: HostRuntime) {
 }
 
 #[test]
-fn a_store(rt: HostRuntime) {
+fn a_store_keeps_each_word_at_its_address(rt: HostRuntime) {
     let unused = goto(0x0fe);
     let main1 = main1();
     assert!(rt; unused.valid(Machine::Mic1));
