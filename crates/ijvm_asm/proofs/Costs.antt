@@ -1,8 +1,8 @@
 -- What a line may add to the entries and the bytes of a program: no more than it has bytes itself.
 use Rattle.std.proofs.Common.{◌≡◌, ℕ, ℤ, ◌+◌, ◌≤◌, Bool, true, false, List, [], ◌∷◌, length, Option, Some, None, refl, ap, subst, arith, cond}
 use Rattle.std.specs.Prelude.{◌||◌, Result, Ok, Err, nat_lt}
-use Rattle.ijvm_definition.specs.declared.instr.Instr.{Instr}
-use Rattle.ijvm_definition.specs.declared.instr.Instr.TheVariants as instrs
+use Rattle.ijvm_instr.specs.declared.instr.Instr.{Instr}
+use Rattle.ijvm_instr.specs.declared.instr.Instr.TheVariants as instrs
 use Rattle.ijvm_tokens.specs.declared.token.Token.{Token}
 use Rattle.ijvm_tokens.specs.declared.token.Token.TheVariants as tokens
 use Rattle.ijvm_line.specs.declared.mnemonic.Access.{Access}

@@ -8,7 +8,7 @@ use Rattle.std.proofs.lemmas.List.Elements.{All-append, All-cons, All-nil}
 use Rattle.std.proofs.lemmas.List.Sums.{sum_by_push}
 use Rattle.std.proofs.lemmas.Option.{get_or_from_slice_get, slice_get_within}
 use Rattle.name_list.specs.Places.{place_of}
-use Rattle.ijvm_definition.specs.declared.instr.Instr.TheVariants as instrs
+use Rattle.ijvm_instr.specs.declared.instr.Instr.TheVariants as instrs
 use Rattle.ijvm_program.specs.declared.line.CodeLine.{CodeLine}
 use Rattle.ijvm_program.specs.declared.line.Constant.{Constant}
 use Rattle.ijvm_program.specs.declared.line.Jump.{Jump}

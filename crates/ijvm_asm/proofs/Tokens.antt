@@ -5,8 +5,8 @@ use Rattle.std.specs.Str.{str_to_ascii_lowercase}
 use Rattle.std.specs.Char.{to_ascii_lowercase}
 use Rattle.std.proofs.lemmas.List.{length-map}
 use Rattle.std.proofs.lemmas.Bool.Decides.{nat_tests}
-use Rattle.ijvm_definition.specs.declared.instr.Instr.{Instr}
-use Rattle.ijvm_definition.specs.Instructions.{row_of, size_of}
+use Rattle.ijvm_instr.specs.declared.instr.Instr.{Instr}
+use Rattle.ijvm_instr.specs.Instructions.{row_of, size_of}
 use Rattle.ijvm_tokens.specs.Signs.{sign_text}
 use Rattle.ijvm_tokens.specs.declared.token.Token.{Token}
 use Rattle.ijvm_tokens.specs.declared.token.Token.TheVariants as tokens

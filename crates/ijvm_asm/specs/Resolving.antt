@@ -1,7 +1,7 @@
 -- How names stand for positions, and the refusals of a whole source.
 use Rattle.std.specs.Prelude.{ℕ, ℤ, ◌+◌, Bool, List, [], ◌∷◌, ◌++◌, Option, Some, None, Result, Ok, Err, if◌then◌else◌, is_some, nat_lt, nat_le, map, take, drop, option_map, option_and_then}
 use Rattle.std.specs.List.{slice_get, zip}
-use Rattle.ijvm_definition.specs.declared.instr.Instr.TheVariants as instrs
+use Rattle.ijvm_instr.specs.declared.instr.Instr.TheVariants as instrs
 use Rattle.ijvm_program.specs.declared.line.CodeLine.{CodeLine}
 use Rattle.ijvm_program.specs.declared.line.Constant.{Constant}
 use Rattle.ijvm_program.specs.declared.line.Jump.{Jump}

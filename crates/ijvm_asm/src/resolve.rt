@@ -4,7 +4,7 @@ ghost use Rattle.ijvm_asm.specs.Resolving.{call, code_line, constant, first_inde
 
 use crate::draft::{Draft, DraftLine};
 use crate::error::AsmError;
-use ijvm_definition::Instr;
+use ijvm_instr::Instr;
 use ijvm_line::{Access, Instruction, access_instr};
 use ijvm_program::{CodeLine, Jump, Label, Operation, Unit};
 use mic_base::Name;

@@ -1,5 +1,5 @@
 use crate::*;
-use ijvm_definition::Instr;
+use ijvm_instr::Instr;
 use std::alloc::Global;
 
 fn refusal(alloc: Global, text: &[u8]) -> Option<AsmError> {

@@ -1,7 +1,7 @@
 -- The mnemonics: how each is spelled, and which operands it has.
 use Rattle.std.specs.Prelude.{ℕ, List, [], ◌∷◌, Option, codes, find}
 use Rattle.std.specs.Str.{str_eq_ignore_ascii_case}
-use Rattle.ijvm_definition.specs.declared.instr.Instr.TheVariants as instrs
+use Rattle.ijvm_instr.specs.declared.instr.Instr.TheVariants as instrs
 use Rattle.ijvm_program.specs.declared.line.Jump.TheVariants as jumps
 use Rattle.ijvm_line.specs.declared.mnemonic.Mnemonic.{Mnemonic}
 use Rattle.ijvm_line.specs.declared.mnemonic.Mnemonic.TheVariants as mnemonics

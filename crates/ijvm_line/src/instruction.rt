@@ -4,7 +4,7 @@ ghost use Rattle.ijvm_line.specs.Ranges.{access_instr, byte, byte_of, constant, 
 use crate::line::LineFault;
 use crate::mnemonic::Access;
 use crate::statement::{Operand, Statement};
-use ijvm_definition::Instr;
+use ijvm_instr::Instr;
 use ijvm_program::Jump;
 use mic_base::Name;
 

@@ -2,7 +2,7 @@ ghost use Rattle.std.specs.Prelude.{◌≡◌};
 ghost use Rattle.std.specs.Str.{str_eq_ignore_ascii_case};
 ghost use Rattle.ijvm_line.specs.Mnemonics.{find_mnemonic, kind_of, mnemonic_text};
 
-use ijvm_definition::Instr;
+use ijvm_instr::Instr;
 use ijvm_program::Jump;
 
 /// What begins an instruction's line.

@@ -2,7 +2,7 @@ ghost use Rattle.std.specs.Prelude.{◌≡◌};
 ghost use Rattle.ijvm_line.specs.Statements.{alone, call, constant, increment, jump_to, kind_at, local, operand_of, push, statement_of, wide};
 
 use crate::mnemonic::{Access, Kind, Mnemonic};
-use ijvm_definition::Instr;
+use ijvm_instr::Instr;
 use ijvm_program::Jump;
 use ijvm_tokens::Token;
 use mic_base::Name;

@@ -1,8 +1,8 @@
 -- Where the code of a program stands in its linked text: main first, then the methods in order, each behind a header of four bytes.
 use Rattle.std.specs.Prelude.{ℕ, ◌+◌, ℤ, pos, List, take, sum_by}
-use Rattle.ijvm_definition.specs.declared.instr.Instr.{Instr}
-use Rattle.ijvm_definition.specs.declared.instr.Instr.TheVariants as instrs
-use Rattle.ijvm_definition.specs.Instructions.{row_of, size_of}
+use Rattle.ijvm_instr.specs.declared.instr.Instr.{Instr}
+use Rattle.ijvm_instr.specs.declared.instr.Instr.TheVariants as instrs
+use Rattle.ijvm_instr.specs.Instructions.{row_of, size_of}
 use Rattle.ijvm_program.specs.declared.line.CodeLine.{CodeLine}
 use Rattle.ijvm_program.specs.declared.line.Jump.{Jump}
 use Rattle.ijvm_program.specs.declared.line.Jump.TheVariants.{Ifeq, Iflt, IfIcmpeq, Goto}

@@ -1,4 +1,4 @@
-use ijvm_definition::Instr;
+use ijvm_instr::Instr;
 use mic_base::Name;
 
 /// A named constant.

@@ -2,9 +2,9 @@
 use Rattle.std.proofs.Common.{◌≡◌, ◌≢◌, ℕ, ◌+◌, ◌<◌, ◌≤◌, ◌⊎◌, inl, inr, Option, Some, None, List, length, refl, arith, ◌∙◌, ap, sym, subst}
 use Rattle.std.specs.Prelude.{slice_get}
 use Rattle.std.proofs.lemmas.Bool.{cases_lt}
-use Rattle.ijvm_definition.specs.declared.row.Row.{Row}
-use Rattle.ijvm_definition.specs.Instructions.{row_of, size_of}
-use Rattle.ijvm_definition.specs.Image.{ImageView}
+use Rattle.ijvm_instr.specs.declared.row.Row.{Row}
+use Rattle.ijvm_instr.specs.Instructions.{row_of, size_of}
+use Rattle.ijvm_image.specs.Image.{ImageView}
 use Rattle.ijvm_verifier.specs.declared.kept.Kept.{Kept}
 use Rattle.ijvm_verifier.specs.declared.graph.Node.{Node}
 use Rattle.ijvm_verifier.specs.declared.error.VerifyError.{VerifyError}

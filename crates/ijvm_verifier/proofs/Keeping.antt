@@ -6,14 +6,14 @@ use lib.Dec.{eqb}
 use Rattle.std.proofs.lemmas.Bool.{cases_eq, le-ltb, eq-eqb, ltb-true}
 use Rattle.std.proofs.lemmas.Option.{slice_get_within, slice_get-get_or}
 use Rattle.std.proofs.lemmas.List.Elements.{Contains-append_left, Contains-push, Contains-push_cases}
-use Rattle.ijvm_definition.specs.declared.instr.Instr.{Instr}
-use Rattle.ijvm_definition.specs.declared.row.Row.{Row}
-use Rattle.ijvm_definition.specs.declared.row.Flow.{Flow}
-use Rattle.ijvm_definition.specs.declared.row.Flow.TheVariants.{Call, Return}
-use Rattle.ijvm_definition.specs.Instructions.{row_of, size_of, instr_at}
-use Rattle.ijvm_definition.specs.declared.method.Method.{Method}
-use Rattle.ijvm_definition.specs.Image.{ImageView, method_at, params, others}
-use Rattle.ijvm_definition.specs.Step.{target}
+use Rattle.ijvm_instr.specs.declared.instr.Instr.{Instr}
+use Rattle.ijvm_instr.specs.declared.row.Row.{Row}
+use Rattle.ijvm_instr.specs.declared.row.Flow.{Flow}
+use Rattle.ijvm_instr.specs.declared.row.Flow.TheVariants.{Call, Return}
+use Rattle.ijvm_instr.specs.Instructions.{row_of, size_of, instr_at}
+use Rattle.ijvm_image.specs.declared.method.Method.{Method}
+use Rattle.ijvm_image.specs.Image.{ImageView, method_at, params, others}
+use Rattle.ijvm_instr.specs.Instructions.{target}
 use Rattle.ijvm_verifier.specs.declared.kept.Kept.{Kept}
 use Rattle.ijvm_verifier.specs.declared.error.VerifyError.{VerifyError}
 use Rattle.ijvm_verifier.specs.declared.error.VerifyError.TheVariants.{BadCode, FallsOff, BadTarget, Overlap, BadConstant, BadEntry, BadHeader, LinkSlot, BadLocal, UnsetLocal, TooFewArguments, Underflow, DepthDiffers, ReturnInMain, MainFrame, OutOfMemory}

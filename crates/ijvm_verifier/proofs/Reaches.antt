@@ -4,13 +4,13 @@ use Rattle.std.specs.Prelude.{slice_get}
 use Rattle.std.proofs.lemmas.Bool.{cases_lt, lt-ltb}
 use Rattle.std.proofs.lemmas.Option.{slice_get_past, slice_get-get_or}
 use Rattle.std.specs.Option.{option_map}
-use Rattle.ijvm_definition.specs.declared.instr.Instr.{Instr}
-use Rattle.ijvm_definition.specs.declared.row.Flow.{Flow}
-use Rattle.ijvm_definition.specs.declared.row.Flow.TheVariants.{Next, Jump, Branch, Call, Return, End}
-use Rattle.ijvm_definition.specs.Instructions.{row_of, size_of, instr_at}
-use Rattle.ijvm_definition.specs.declared.method.Method.{Method}
-use Rattle.ijvm_definition.specs.Image.{ImageView, method_at, params, others}
-use Rattle.ijvm_definition.specs.Step.{target}
+use Rattle.ijvm_instr.specs.declared.instr.Instr.{Instr}
+use Rattle.ijvm_instr.specs.declared.row.Flow.{Flow}
+use Rattle.ijvm_instr.specs.declared.row.Flow.TheVariants.{Next, Jump, Branch, Call, Return, End}
+use Rattle.ijvm_instr.specs.Instructions.{row_of, size_of, instr_at}
+use Rattle.ijvm_image.specs.declared.method.Method.{Method}
+use Rattle.ijvm_image.specs.Image.{ImageView, method_at, params, others}
+use Rattle.ijvm_instr.specs.Instructions.{target}
 use Rattle.ijvm_verifier.specs.declared.error.VerifyError.TheVariants.{BadCode, FallsOff, BadTarget, BadConstant, BadEntry, BadHeader, TooFewArguments, Underflow, ReturnInMain}
 use Rattle.ijvm_verifier.specs.Paths.{Arrival, arrival, HasRow, HasConstant, callee, need_of, GoesOn, left_unset, MayCarry, On, Into, Reached, Then}
 use Rattle.ijvm_verifier.specs.Facts.{HasNext, HasJump, IsNoCall, Accepts}

@@ -3,11 +3,11 @@ use Rattle.std.proofs.Common.{◌≡◌, ℕ, ◌+◌, ◌<◌, ◌≤◌, ◌�
 use Rattle.std.specs.Prelude.{slice_index, nat_le}
 use Rattle.std.proofs.lemmas.Bool.{leb-true}
 use Rattle.std.proofs.lemmas.Option.{cond_some}
-use Rattle.ijvm_definition.specs.declared.instr.Instr.{Instr}
-use Rattle.ijvm_definition.specs.declared.instr.Instr.TheVariants.{Nop}
-use Rattle.ijvm_definition.specs.declared.row.Row.{Row}
-use Rattle.ijvm_definition.specs.declared.row.Flow.TheVariants.{Call}
-use Rattle.ijvm_definition.specs.Instructions.{row_of, size_of, prefix, operand_bytes, of_bytes, whole, instr_at}
+use Rattle.ijvm_instr.specs.declared.instr.Instr.{Instr}
+use Rattle.ijvm_instr.specs.declared.instr.Instr.TheVariants.{Nop}
+use Rattle.ijvm_instr.specs.declared.row.Row.{Row}
+use Rattle.ijvm_instr.specs.declared.row.Flow.TheVariants.{Call}
+use Rattle.ijvm_instr.specs.Instructions.{row_of, size_of, prefix, operand_bytes, of_bytes, whole, instr_at}
 use Rattle.ijvm_verifier.specs.Paths.{HasRow}
 
 whole_fits : (many at : ℕ) (o : Option Instr) (i : Instr) → whole many at o ≡ Some i → at + size_of (row_of i) ≤ many

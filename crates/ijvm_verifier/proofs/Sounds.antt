@@ -6,15 +6,16 @@ use Rattle.std.proofs.lemmas.Bool.{cases_lt, lt-ltb, ne_eqb}
 use Rattle.std.proofs.lemmas.Option.{slice_get_within, slice_get-get_or}
 use Rattle.std.proofs.lemmas.List.{length-replicate}
 use Rattle.console_port.specs.World.{next_byte}
-use Rattle.ijvm_definition.specs.declared.instr.Instr.{Instr}
-use Rattle.ijvm_definition.specs.declared.instr.Instr.TheVariants.{Nop, Bipush, LdcW, Iload, Istore, Pop, Dup, Swap, Iadd, Isub, Iand, Iinc, Ifeq, Iflt, IfIcmpeq, Goto, Ireturn, Ior, Invokevirtual, WideIload, WideIstore, In, Out, Err, Halt}
-use Rattle.ijvm_definition.specs.Instructions.{row_of, size_of, instr_at}
-use Rattle.ijvm_definition.specs.declared.method.Method.{Method}
-use Rattle.ijvm_definition.specs.Image.{ImageView}
-use Rattle.ijvm_definition.specs.Frames.{Frame, State, base, frames_of, start_of}
-use Rattle.ijvm_definition.specs.Step.{Outcome, Goes, Halts, Errs, Limits, Stuck, limited, moved, pushed, pushed_constant, loaded, is_own, with_local, stored, increased, popped, doubled, swapped, combined, target, way, branched, compared, returned, onto, in_method, entered, called_at, taken, given_out, step, stepped, outcome, word_of}
-use Rattle.ijvm_definition.specs.Run.{after, state_after}
-use Rattle.ijvm_definition.specs.Safe.{SameFrames, ComesTo, Here, On as Onward}
+use Rattle.ijvm_instr.specs.declared.instr.Instr.{Instr}
+use Rattle.ijvm_instr.specs.declared.instr.Instr.TheVariants.{Nop, Bipush, LdcW, Iload, Istore, Pop, Dup, Swap, Iadd, Isub, Iand, Iinc, Ifeq, Iflt, IfIcmpeq, Goto, Ireturn, Ior, Invokevirtual, WideIload, WideIstore, In, Out, Err, Halt}
+use Rattle.ijvm_instr.specs.Instructions.{row_of, size_of, instr_at}
+use Rattle.ijvm_image.specs.declared.method.Method.{Method}
+use Rattle.ijvm_image.specs.Image.{ImageView}
+use Rattle.ijvm_run.specs.Frames.{Frame, State, base, frames_of, start_of}
+use Rattle.ijvm_instr.specs.Instructions.{target, word_of}
+use Rattle.ijvm_run.specs.Step.{Outcome, Goes, Halts, Errs, Limits, Stuck, limited, moved, pushed, pushed_constant, loaded, is_own, with_local, stored, increased, popped, doubled, swapped, combined, way, branched, compared, returned, onto, in_method, entered, called_at, taken, given_out, step, stepped, outcome}
+use Rattle.ijvm_run.specs.Run.{after, state_after}
+use Rattle.ijvm_run.specs.Safe.{SameFrames, ComesTo, Here, On as Onward}
 use Rattle.ijvm_verifier.specs.declared.error.VerifyError.TheVariants.{LinkSlot, BadLocal, UnsetLocal}
 use Rattle.ijvm_verifier.specs.Paths.{Arrival, arrival, need_of, GoesOn, left_unset, MayCarry, Reached, Start}
 use Rattle.ijvm_verifier.specs.Facts.{Names, IsMainCount, Accepts}

@@ -1,7 +1,7 @@
 -- A verified image: acceptance, in the type.
 use Rattle.std.specs.Prelude.{ℕ, ◌≤◌, List}
-use Rattle.ijvm_definition.specs.Image.{ImageView}
-use Rattle.ijvm_definition.specs.Safe.{IsSafe}
+use Rattle.ijvm_image.specs.Image.{ImageView}
+use Rattle.ijvm_run.specs.Safe.{IsSafe}
 use Rattle.ijvm_verifier.specs.declared.kind.Kind.{Kind}
 use Rattle.ijvm_verifier.specs.Facts.{Accepts, IsMainCount, IsMethodCount}
 use Rattle.ijvm_verifier.specs.Kinds.{AreKinds}

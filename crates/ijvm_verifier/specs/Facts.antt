@@ -1,11 +1,11 @@
 -- What each refusal says, and which images are accepted: those of which no refusal is true.
 use Rattle.std.specs.Prelude.{◌≡◌, ◌≢◌, ℕ, ℤ, ◌+◌, ◌<◌, ◌≤◌, ◌⊎◌, ◌↔◌, List, length, slice_get, Contains, AllPairs, Option, Some, None}
-use Rattle.ijvm_definition.specs.declared.row.Row.{Row}
-use Rattle.ijvm_definition.specs.declared.row.Flow.{Flow}
-use Rattle.ijvm_definition.specs.declared.row.Flow.TheVariants.{Next, Jump, Branch, Call, Return, End}
-use Rattle.ijvm_definition.specs.Instructions.{size_of, instr_at}
-use Rattle.ijvm_definition.specs.Image.{ImageView, params, others}
-use Rattle.ijvm_definition.specs.Step.{target}
+use Rattle.ijvm_instr.specs.declared.row.Row.{Row}
+use Rattle.ijvm_instr.specs.declared.row.Flow.{Flow}
+use Rattle.ijvm_instr.specs.declared.row.Flow.TheVariants.{Next, Jump, Branch, Call, Return, End}
+use Rattle.ijvm_instr.specs.Instructions.{size_of, instr_at}
+use Rattle.ijvm_image.specs.Image.{ImageView, params, others}
+use Rattle.ijvm_instr.specs.Instructions.{target}
 use Rattle.ijvm_verifier.specs.declared.error.VerifyError.{VerifyError}
 use Rattle.ijvm_verifier.specs.declared.error.VerifyError.TheVariants.{BadCode, FallsOff, BadTarget, Overlap, BadConstant, BadEntry, BadHeader, LinkSlot, BadLocal, UnsetLocal, TooFewArguments, Underflow, DepthDiffers, ReturnInMain, MainFrame, OutOfMemory}
 use Rattle.ijvm_verifier.specs.Paths.{Arrival, HasRow, need_of, Reached, IsReachedMethod}

@@ -1,8 +1,8 @@
 -- The graph of the reached instructions: what the search for locals that are not set goes over.
 use Rattle.std.specs.Prelude.{◌≡◌, ◌≢◌, ℕ, ◌+◌, ◌<◌, ◌⊎◌, List, length, slice_get, Option, Some}
-use Rattle.ijvm_definition.specs.declared.row.Row.{Row}
-use Rattle.ijvm_definition.specs.Instructions.{size_of}
-use Rattle.ijvm_definition.specs.Image.{ImageView}
+use Rattle.ijvm_instr.specs.declared.row.Row.{Row}
+use Rattle.ijvm_instr.specs.Instructions.{size_of}
+use Rattle.ijvm_image.specs.Image.{ImageView}
 use Rattle.ijvm_verifier.specs.declared.kept.Kept.{Kept}
 use Rattle.ijvm_verifier.specs.declared.graph.Node.{Node}
 use Rattle.ijvm_verifier.specs.Paths.{HasRow, GoesOn}

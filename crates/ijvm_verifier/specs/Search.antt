@@ -1,10 +1,10 @@
 -- What the search for reached addresses keeps.
 use Rattle.std.specs.Prelude.{◌≡◌, ◌≢◌, ℕ, ℤ, ◌+◌, ◌*◌, ◌<◌, ◌≤◌, ◌⊎◌, List, [], ◌∷◌, length, slice_get, Contains, Option, Some, None}
-use Rattle.ijvm_definition.specs.declared.row.Flow.TheVariants.{Return}
-use Rattle.ijvm_definition.specs.declared.row.Row.{Row}
-use Rattle.ijvm_definition.specs.Instructions.{size_of}
-use Rattle.ijvm_definition.specs.Image.{ImageView, params, others}
-use Rattle.ijvm_definition.specs.Step.{target}
+use Rattle.ijvm_instr.specs.declared.row.Flow.TheVariants.{Return}
+use Rattle.ijvm_instr.specs.declared.row.Row.{Row}
+use Rattle.ijvm_instr.specs.Instructions.{size_of}
+use Rattle.ijvm_image.specs.Image.{ImageView, params, others}
+use Rattle.ijvm_instr.specs.Instructions.{target}
 use Rattle.ijvm_verifier.specs.declared.error.VerifyError.{VerifyError}
 use Rattle.ijvm_verifier.specs.declared.error.VerifyError.TheVariants.{UnsetLocal, Overlap, MainFrame, OutOfMemory}
 use Rattle.ijvm_verifier.specs.declared.kept.Kept.{Kept}

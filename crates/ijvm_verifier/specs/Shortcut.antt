@@ -1,6 +1,6 @@
 -- A graph with shortcuts past the instructions that name no local and lead to one address alone, and without ways to dead ends.
 use Rattle.std.specs.Prelude.{◌≡◌, ℕ, List, length, slice_get, Option, Some, None}
-use Rattle.ijvm_definition.specs.Image.{ImageView}
+use Rattle.ijvm_image.specs.Image.{ImageView}
 use Rattle.ijvm_verifier.specs.declared.kept.Kept.{Kept}
 use Rattle.ijvm_verifier.specs.declared.graph.Node.{Node}
 use Rattle.ijvm_verifier.specs.Search.{IsClosed}

@@ -1,14 +1,14 @@
 -- Where the run of an accepted image may stand: always where a path has come, with everything there that the next instruction needs.
 use Rattle.std.specs.Prelude.{◌≡◌, ◌≢◌, ℕ, ◌+◌, ◌<◌, ◌≤◌, true, List, [], ◌∷◌, length, slice_get, Option, Some, None}
-use Rattle.ijvm_definition.specs.declared.instr.Instr.{Instr}
-use Rattle.ijvm_definition.specs.declared.row.Flow.TheVariants.{Call, Return}
-use Rattle.ijvm_definition.specs.Instructions.{row_of, size_of, instr_at}
-use Rattle.ijvm_definition.specs.declared.method.Method.{Method}
-use Rattle.ijvm_definition.specs.Image.{ImageView, params, others}
-use Rattle.ijvm_definition.specs.Frames.{Frame, State, start_of}
-use Rattle.ijvm_definition.specs.Step.{Goes, is_own, outcome}
-use Rattle.ijvm_definition.specs.Run.{state_after}
-use Rattle.ijvm_definition.specs.Safe.{ComesTo, IsSafe}
+use Rattle.ijvm_instr.specs.declared.instr.Instr.{Instr}
+use Rattle.ijvm_instr.specs.declared.row.Flow.TheVariants.{Call, Return}
+use Rattle.ijvm_instr.specs.Instructions.{row_of, size_of, instr_at}
+use Rattle.ijvm_image.specs.declared.method.Method.{Method}
+use Rattle.ijvm_image.specs.Image.{ImageView, params, others}
+use Rattle.ijvm_run.specs.Frames.{Frame, State, start_of}
+use Rattle.ijvm_run.specs.Step.{Goes, is_own, outcome}
+use Rattle.ijvm_run.specs.Run.{state_after}
+use Rattle.ijvm_run.specs.Safe.{ComesTo, IsSafe}
 use Rattle.ijvm_verifier.specs.Paths.{arrival, HasConstant, callee, need_of, GoesOn, Reached}
 use Rattle.ijvm_verifier.specs.Facts.{Names}
 

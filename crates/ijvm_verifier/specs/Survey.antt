@@ -1,6 +1,6 @@
 -- What the searches find where nothing is wrong but perhaps the size of main's frame.
 use Rattle.std.specs.Prelude.{ℕ, ◌≤◌, List}
-use Rattle.ijvm_definition.specs.Image.{ImageView}
+use Rattle.ijvm_image.specs.Image.{ImageView}
 use Rattle.ijvm_verifier.specs.declared.error.VerifyError.{VerifyError}
 use Rattle.ijvm_verifier.specs.declared.error.VerifyError.TheVariants.{UnsetLocal, Overlap}
 use Rattle.ijvm_verifier.specs.declared.kind.Kind.{Kind}

@@ -1,6 +1,6 @@
 -- What the sweep over the bytes keeps.
 use Rattle.std.specs.Prelude.{◌≡◌, ◌≢◌, ℕ, ◌+◌, ◌*◌, ◌<◌, ◌≤◌, ◌↔◌, List, length, Contains, AllPairs}
-use Rattle.ijvm_definition.specs.Image.{ImageView}
+use Rattle.ijvm_image.specs.Image.{ImageView}
 use Rattle.ijvm_verifier.specs.Paths.{IsReachedMethod}
 use Rattle.ijvm_verifier.specs.Facts.{Piece, Code, Header, Covers}
 

@@ -1,7 +1,7 @@
 -- Own locals that are set before each read.
 use Rattle.std.specs.Prelude.{◌≡◌, ◌≢◌, ℕ, ◌/◌, ◌<◌, ◌≤◌, List, slice_get, Contains, Option, Some}
-use Rattle.ijvm_definition.specs.declared.row.Row.{Row}
-use Rattle.ijvm_definition.specs.Image.{ImageView, params}
+use Rattle.ijvm_instr.specs.declared.row.Row.{Row}
+use Rattle.ijvm_image.specs.Image.{ImageView, params}
 use Rattle.ijvm_verifier.specs.declared.kept.Kept.{Kept}
 use Rattle.ijvm_verifier.specs.declared.graph.Node.{Node}
 use Rattle.ijvm_verifier.specs.declared.unset.Wanted.{Wanted}

@@ -16,7 +16,7 @@ use crate::sweep::{count_methods, sweep_all};
 use crate::unset::check_locals;
 use crate::verified::VerifiedImage;
 use console_port::MemoryMap;
-use ijvm_definition::Image;
+use ijvm_image::Image;
 use std::alloc::Global;
 
 /// The word address of main's first local.

@@ -1,9 +1,9 @@
 //! What can be wrong at one reached address.
 
 ghost use Rattle.std.specs.Prelude.{◌≡◌, ◌≢◌, ◌+◌, ◌<◌, ◌≤◌, ◌^◌, length, ℕ, ℤ, Some, None, IfOk, IfErr, OnOk};
-ghost use Rattle.ijvm_definition.specs.Instructions.{instr_at, size_of};
-ghost use Rattle.ijvm_definition.specs.Image.{params, others};
-ghost use Rattle.ijvm_definition.specs.Step.{target};
+ghost use Rattle.ijvm_instr.specs.Instructions.{instr_at, size_of};
+ghost use Rattle.ijvm_image.specs.Image.{params, others};
+ghost use Rattle.ijvm_instr.specs.Instructions.{target};
 ghost use Rattle.ijvm_verifier.specs.Paths.{HasRow, HasConstant, need_of};
 ghost use Rattle.ijvm_verifier.specs.Facts.{HasNext, HasJump, Names, IsWrongAt};
 ghost use Rattle.ijvm_verifier.specs.Search.{kept_at, IsChecked};
@@ -11,7 +11,8 @@ ghost use Rattle.ijvm_verifier.specs.Search.{kept_at, IsChecked};
 use crate::code::{constant_at, decode, others_of, params_of, text_len};
 use crate::error::VerifyError;
 use crate::kept::Kept;
-use ijvm_definition::{Flow, Image, Instr, Row, target_of};
+use ijvm_image::Image;
+use ijvm_instr::{Flow, Instr, Row, target_of};
 
 /// An instruction in whose place nothing is wrong, and the operands that it needs.
 #[derive(Clone, Copy)]

@@ -1,10 +1,11 @@
 //! Reading the parts of an image.
 
 ghost use Rattle.std.specs.Prelude.{◌≡◌, ◌+◌, ◌*◌, ◌≤◌, ◌<◌, ◌^◌, length, slice_get, slice_index};
-ghost use Rattle.ijvm_definition.specs.Instructions.{instr_at};
-ghost use Rattle.ijvm_definition.specs.Image.{params, others};
+ghost use Rattle.ijvm_instr.specs.Instructions.{instr_at};
+ghost use Rattle.ijvm_image.specs.Image.{params, others};
 
-use ijvm_definition::{Image, Instr, decode_at};
+use ijvm_image::Image;
+use ijvm_instr::{Instr, decode_at};
 
 /// How many bytes the text has.
 pub fn text_len(image: &Image) -> u32
@@ -46,7 +47,7 @@ fn half_at(image: &Image, at: usize) -> u32
 }
 
 /// The parameters of the method at this entry, with the object reference.
-#[tactic(auto, unfolding(ijvm_definition::specs::Image::params))]
+#[tactic(auto, unfolding(ijvm_image::specs::Image::params))]
 pub fn params_of(image: &Image, entry: u32) -> u32
     ensures is { result ≡ params image.now.text entry }
     ensures small { result < 2 ^ 16 }
@@ -55,7 +56,7 @@ pub fn params_of(image: &Image, entry: u32) -> u32
 }
 
 /// The other locals of the method at this entry.
-#[tactic(auto, unfolding(ijvm_definition::specs::Image::others))]
+#[tactic(auto, unfolding(ijvm_image::specs::Image::others))]
 pub fn others_of(image: &Image, entry: u32) -> u32
     ensures is { result ≡ others image.now.text entry }
     ensures small { result < 2 ^ 16 }

@@ -8,7 +8,7 @@ ghost use Rattle.ijvm_verifier.specs.Counted.{NodeNames, IsCounted};
 
 use crate::graph::Node;
 use crate::kept::Kept;
-use ijvm_definition::Image;
+use ijvm_image::Image;
 
 /// The count, raised above this local.
 fn larger(count: u32, named: Option<u16>) -> u32

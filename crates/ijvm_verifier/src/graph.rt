@@ -1,7 +1,7 @@
 //! Where the reached instructions lead in their units, and which locals they name.
 
 ghost use Rattle.std.specs.Prelude.{◌≡◌, ◌<◌, ◌≤◌, ◌+◌, ℕ, length, slice_get, Some, None, IfOk, IfErr};
-ghost use Rattle.ijvm_definition.specs.Instructions.{size_of};
+ghost use Rattle.ijvm_instr.specs.Instructions.{size_of};
 ghost use Rattle.ijvm_verifier.specs.Paths.{HasRow};
 ghost use Rattle.ijvm_verifier.specs.Search.{IsClosed, kept_at, IsChecked};
 ghost use Rattle.ijvm_verifier.specs.Graph.{IsNodeOf, IsNodeAt, IsGraph};
@@ -9,7 +9,8 @@ ghost use Rattle.ijvm_verifier.specs.Graph.{IsNodeOf, IsNodeAt, IsGraph};
 use crate::code::decode;
 use crate::error::VerifyError;
 use crate::kept::Kept;
-use ijvm_definition::{Flow, Image, Row, target_of};
+use ijvm_image::Image;
+use ijvm_instr::{Flow, Row, target_of};
 use std::alloc::Global;
 
 /// An instruction: where its unit goes on, where it branches to, and the local that it names.

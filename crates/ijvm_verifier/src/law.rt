@@ -1,7 +1,7 @@
 //! What acceptance means for runs.
 
 ghost use Rattle.std.specs.Prelude.{ℕ};
-ghost use Rattle.ijvm_definition.specs.Image.{ImageView};
+ghost use Rattle.ijvm_image.specs.Image.{ImageView};
 ghost use Rattle.ijvm_verifier.specs.Facts.{Accepts, IsMainCount};
 ghost use Rattle.ijvm_verifier.specs.Sound.{KeepsSound};
 

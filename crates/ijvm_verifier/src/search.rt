@@ -1,7 +1,7 @@
 //! The search for the reached addresses, with their units and depths.
 
 ghost use Rattle.std.specs.Prelude.{◌≡◌, ◌≢◌, ◌+◌, ◌*◌, ◌<◌, ◌≤◌, ℕ, [], ◌∷◌, ◌++◌, length, slice_get, Contains, replicate, Some, None, IfOk, IfErr, OnOk, IfSome, IfNone};
-ghost use Rattle.ijvm_definition.specs.Step.{target};
+ghost use Rattle.ijvm_instr.specs.Instructions.{target};
 ghost use Rattle.ijvm_verifier.specs.declared.error.VerifyError.{VerifyError};
 ghost use Rattle.ijvm_verifier.specs.Paths.{Reached};
 ghost use Rattle.ijvm_verifier.specs.Facts.{Holds, HasJump};
@@ -11,7 +11,8 @@ use crate::checks::{Found, check_at};
 use crate::code::{constant_at, decode, text_len};
 use crate::error::VerifyError;
 use crate::kept::Kept;
-use ijvm_definition::{Flow, Image, target_of};
+use ijvm_image::Image;
+use ijvm_instr::{Flow, target_of};
 use std::alloc::Global;
 
 /// What is kept of each address, and the addresses that wait to be visited.

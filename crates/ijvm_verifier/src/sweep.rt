@@ -14,7 +14,7 @@ use crate::code::decode;
 use crate::error::VerifyError;
 use crate::kept::Kept;
 use crate::kind::Kind;
-use ijvm_definition::Image;
+use ijvm_image::Image;
 use std::alloc::Global;
 
 /// The header of a reached method begins here.

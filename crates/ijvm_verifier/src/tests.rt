@@ -1,6 +1,6 @@
 use crate::{Kind, VerifiedImage, VerifyError, verify};
 use console_port::MemoryMap;
-use ijvm_definition::{Image, read_image};
+use ijvm_image::{Image, read_image};
 use std::alloc::{AllocError, Global};
 use std::process::Abort;
 use std::test::Fail;

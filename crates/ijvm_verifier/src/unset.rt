@@ -1,7 +1,7 @@
 //! Whether each read of a method's own local comes behind a store to it.
 
 ghost use Rattle.std.specs.Prelude.{◌≡◌, ◌≢◌, ◌+◌, ◌*◌, ◌/◌, ◌<◌, ◌≤◌, ◌↔◌, ℕ, length, slice_get, Contains, Some, false, IfOk, IfErr, OnOk, IfSome};
-ghost use Rattle.ijvm_definition.specs.Image.{params};
+ghost use Rattle.ijvm_image.specs.Image.{params};
 ghost use Rattle.ijvm_verifier.specs.declared.error.VerifyError.{VerifyError};
 ghost use Rattle.ijvm_verifier.specs.declared.graph.Node.{Node};
 ghost use Rattle.ijvm_verifier.specs.declared.kept.Kept.{Kept};
@@ -22,7 +22,7 @@ use crate::kept::Kept;
 use crate::local_set::LocalSet;
 use crate::shortcut::shortened;
 use crate::trace::Trace;
-use ijvm_definition::Image;
+use ijvm_image::Image;
 use std::alloc::{AllocError, Global};
 
 /// A method, by its entry, and a group of its locals.

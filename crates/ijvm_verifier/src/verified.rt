@@ -6,7 +6,7 @@ ghost use Rattle.ijvm_verifier.specs.Facts.{IsMethodCount};
 ghost use Rattle.ijvm_verifier.specs.Kinds.{IsKind};
 
 use crate::kind::Kind;
-use ijvm_definition::Image;
+use ijvm_image::Image;
 use std::marker::Model;
 
 /// An image that is accepted, which its type keeps, and what verifying has found.

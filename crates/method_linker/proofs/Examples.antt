@@ -1,6 +1,6 @@
 -- The definitions, computed on programs whose images are known.
 use Rattle.std.proofs.Common.{◌≡◌, ℕ, pos, negsuc, List, [], ◌∷◌, Some, None, codes, refl}
-use Rattle.ijvm_definition.specs.declared.instr.Instr.TheVariants.{Bipush, Out, Halt, Iload, Iadd, Istore, Ireturn, In, Dup}
+use Rattle.ijvm_instr.specs.declared.instr.Instr.TheVariants.{Bipush, Out, Halt, Iload, Iadd, Istore, Ireturn, In, Dup}
 use Rattle.ijvm_program.specs.declared.line.CodeLine.{CodeLine}
 use Rattle.ijvm_program.specs.declared.line.Jump.TheVariants.{IfIcmpeq, Goto}
 use Rattle.ijvm_program.specs.declared.line.Operation.{Operation}

@@ -6,7 +6,7 @@ use Rattle.std.proofs.lemmas.List.{take_more, take_all, take-append-drop, append
 use Rattle.std.proofs.lemmas.List.FromFn.{length-enumerate_from, get_or-enumerate_from}
 use Rattle.std.proofs.lemmas.List.Concat.{flat_map-append}
 use Rattle.std.proofs.lemmas.List.Folds.{find-append}
-use Rattle.ijvm_definition.specs.Instructions.{spelling}
+use Rattle.ijvm_instr.specs.Instructions.{spelling}
 use Rattle.ijvm_program.specs.declared.line.CodeLine.{CodeLine}
 use Rattle.ijvm_program.specs.Layout.{instr_of}
 use Rattle.method_linker.specs.declared.error.LinkError.{LinkError}

@@ -6,7 +6,7 @@ use Rattle.std.proofs.lemmas.List.FromFn.{length-map-range_with_len}
 use Rattle.std.proofs.lemmas.Int.{ints}
 use Rattle.std.proofs.lemmas.List.Concat.{flat_map_single}
 use Rattle.std.proofs.lemmas.List.Sums.{sum_by-cons}
-use Rattle.ijvm_definition.specs.Instructions.{spelling}
+use Rattle.ijvm_instr.specs.Instructions.{spelling}
 use Rattle.ijvm_program.specs.declared.line.Constant.{Constant as ConstantLine}
 use Rattle.ijvm_program.specs.declared.line.CodeLine.{CodeLine}
 use Rattle.ijvm_program.specs.declared.line.Jump.{Jump}

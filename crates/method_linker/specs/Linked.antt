@@ -2,8 +2,8 @@
 -- methods' entries. And when there is none.
 use Rattle.std.specs.Prelude.{◌≡◌, ℕ, ◌+◌, ◌<◌, ◌≤◌, ℤ, pos, negsuc, ◌-ℤ◌, int_lt, Bool, ◌||◌, List, ◌++◌, length, map, find, Option, Some, None}
 use Rattle.std.specs.List.{flat_map, enumerate_from, range_with_len}
-use Rattle.ijvm_definition.specs.Instructions.{spelling, two_bytes}
-use Rattle.ijvm_definition.specs.Image.{ImageView}
+use Rattle.ijvm_instr.specs.Instructions.{spelling, two_bytes}
+use Rattle.ijvm_image.specs.Image.{ImageView}
 use Rattle.ijvm_program.specs.declared.line.CodeLine.{CodeLine}
 use Rattle.ijvm_program.specs.declared.line.Operation.{Operation}
 use Rattle.ijvm_program.specs.declared.line.Operation.TheVariants.{Plain, Constant, Call, To}

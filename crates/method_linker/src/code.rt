@@ -1,14 +1,14 @@
 //! The code of a unit.
 
 ghost use Rattle.std.specs.Prelude.{◌≡◌, ◌≤◌, ◌∷◌, [], ◌++◌, length, All, IfOk};
-ghost use Rattle.ijvm_definition.specs.Instructions.{spelling};
+ghost use Rattle.ijvm_instr.specs.Instructions.{spelling};
 ghost use Rattle.ijvm_program.specs.Layout.{code_size, instr_of};
 ghost use Rattle.method_linker.specs.Linked.{code_bytes, code_distances};
 ghost use Rattle.method_linker.specs.Steps.{line_places, HasIndex, IsLinkable, IsPushed};
 
 use crate::error::LinkError;
 use crate::instruction::{distance, instr_of, is_far};
-use ijvm_definition::encode_instr;
+use ijvm_instr::encode_instr;
 use ijvm_program::{CodeLine, size_of};
 use std::alloc::{AllocError, Global};
 

@@ -10,7 +10,7 @@ use crate::error::LinkError;
 use crate::method::push_methods;
 use crate::pool::{pool_of, pool_size};
 use crate::size::text_size;
-use ijvm_definition::Image;
+use ijvm_image::Image;
 use ijvm_program::Program;
 use std::alloc::Global;
 

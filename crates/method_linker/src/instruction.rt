@@ -6,7 +6,7 @@ ghost use Rattle.ijvm_program.specs.Layout.{code_size, jump_by, instr_of};
 ghost use Rattle.method_linker.specs.Linked.{distance, is_far};
 ghost use Rattle.method_linker.specs.Steps.{line_places, HasIndex, HasTarget};
 
-use ijvm_definition::Instr;
+use ijvm_instr::Instr;
 use ijvm_program::{CodeLine, Jump, Operation};
 
 /// Whether a distance is no number of 16 bits.

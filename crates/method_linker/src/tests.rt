@@ -4,7 +4,8 @@ ghost use Rattle.ijvm_program.specs.Layout.{code_size};
 ghost use Rattle.ijvm_program.specs.Program.{IsUnit, NamesPosition};
 
 use crate::{LinkError, link};
-use ijvm_definition::{Image, Instr};
+use ijvm_image::Image;
+use ijvm_instr::Instr;
 use ijvm_program::{CodeLine, Constant, Jump, Operation, Program, Unit, size_of};
 use mic_base::Name;
 use std::alloc::{AllocError, Global};

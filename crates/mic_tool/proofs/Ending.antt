@@ -7,7 +7,7 @@ use Rattle.mic_clock.specs.View.{BoardView}
 use Rattle.mic1_datapath.specs.declared.mic1.Mic1.{Mic1}
 use Rattle.mic1_datapath.specs.Mic1.{registers_of}
 use Rattle.mic1_datapath.specs.View.{micro_of}
-use Rattle.ijvm_definition.specs.Image.{ImageView}
+use Rattle.ijvm_image.specs.Image.{ImageView}
 use Rattle.shipped_microcode.specs.Headline.{HasRun, IsCutByWrite}
 use Rattle.mic_words.specs.Words.{default_bound}
 use Rattle.mic_work.specs.Outside.{Says}

@@ -2,13 +2,13 @@
 use Rattle.std.proofs.Common.{◌≡◌, ◌⊎◌, inl, inr, ℕ, ◌+◌, ◌-◌, ◌≤◌, ◌<◌, Bool, true, false, Some, None, List, [], ◌∷◌, length, refl, arith, sym, ◌∙◌, ap, subst}
 use Rattle.std.specs.Prelude.{nat_lt}
 use Rattle.std.proofs.lemmas.Bool.Decides.{nat_tests}
-use Rattle.ijvm_definition.specs.declared.instr.Instr.{Instr}
-use Rattle.ijvm_definition.specs.declared.instr.Instr.TheVariants.{Bipush, Iadd, Out, Halt}
-use Rattle.ijvm_definition.specs.declared.row.Row.{Row}
-use Rattle.ijvm_definition.specs.declared.row.Flow.{Flow}
-use Rattle.ijvm_definition.specs.declared.row.Flow.TheVariants.{Next, Call}
-use Rattle.ijvm_definition.specs.Instructions.{row_of, size_of, instr_at}
-use Rattle.ijvm_definition.specs.Image.{ImageView}
+use Rattle.ijvm_instr.specs.declared.instr.Instr.{Instr}
+use Rattle.ijvm_instr.specs.declared.instr.Instr.TheVariants.{Bipush, Iadd, Out, Halt}
+use Rattle.ijvm_instr.specs.declared.row.Row.{Row}
+use Rattle.ijvm_instr.specs.declared.row.Flow.{Flow}
+use Rattle.ijvm_instr.specs.declared.row.Flow.TheVariants.{Next, Call}
+use Rattle.ijvm_instr.specs.Instructions.{row_of, size_of, instr_at}
+use Rattle.ijvm_image.specs.Image.{ImageView}
 use Rattle.ijvm_verifier.specs.declared.error.VerifyError.TheVariants.{Underflow}
 use Rattle.ijvm_verifier.specs.Paths.{Arrival, arrival, Follows, On, Into, Goes, GoesOn, Reached, Start, Then, HasConstant, left_unset, need_of}
 use Rattle.ijvm_verifier.specs.Facts.{Accepts, IsMainCount, IsNoCall, MainNames, Names}

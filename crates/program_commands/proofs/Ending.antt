@@ -2,8 +2,8 @@
 use Rattle.std.proofs.Common.{◌≡◌, ℕ, List, length, refl, subst}
 use Rattle.mic_work.specs.Outside.{Desk, FilesState, SinkState, Says, desk}
 use Rattle.mic_work.specs.Work.{Answered, Prints, Refuses, Writes, IsCarriedOut, IsRead, Ends, Did, NoRoom, Printed, Refused}
-use Rattle.ijvm_definition.specs.Image.{ImageView}
-use Rattle.ijvm_definition.specs.ImageFile.{file_of}
+use Rattle.ijvm_image.specs.Image.{ImageView}
+use Rattle.ijvm_image.specs.ImageFile.{file_of}
 use Rattle.program_texts.specs.Summary.{sizes}
 use Rattle.ijvm_verifier.specs.Accepted.{VerifiedView}
 use Rattle.program_commands.specs.Program.{IsProgram, IsSource}

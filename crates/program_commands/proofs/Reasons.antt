@@ -1,10 +1,10 @@
 -- Why no accepted program is had.
 use Rattle.std.proofs.Common.{◌≡◌, ◌⊎◌, inl, inr, ℕ, List, Option, Some, None, refl, sym, ◌∙◌, ap, subst, true, false, Result, Ok, Err}
 use Rattle.std.specs.Prelude.{IfErr}
-use Rattle.ijvm_definition.specs.declared.image.ImageError.{ImageError}
-use Rattle.ijvm_definition.specs.declared.image.ImageError.TheVariants as images
-use Rattle.ijvm_definition.specs.Image.{ImageView}
-use Rattle.ijvm_definition.specs.ImageFile.{image_read}
+use Rattle.ijvm_image.specs.declared.image.ImageError.{ImageError}
+use Rattle.ijvm_image.specs.declared.image.ImageError.TheVariants as images
+use Rattle.ijvm_image.specs.Image.{ImageView}
+use Rattle.ijvm_image.specs.ImageFile.{image_read}
 use Rattle.ijvm_verifier.specs.declared.error.VerifyError.{VerifyError}
 use Rattle.ijvm_verifier.specs.declared.error.VerifyError.TheVariants as facts
 use Rattle.ijvm_verifier.specs.Facts.{Holds}

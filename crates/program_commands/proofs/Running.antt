@@ -1,11 +1,11 @@
 -- How `reference` ends, by the end of its run.
 use Rattle.std.proofs.Common.{◌≡◌, ◌≢◌, ℕ, Some, Ok, refl, ap, subst}
 use Rattle.machine_words.specs.declared.machine.Machine.{Machine}
-use Rattle.ijvm_definition.specs.declared.plain.PlainEnd.{PlainEnd}
-use Rattle.ijvm_definition.specs.declared.plain.PlainEnd.TheVariants as ends
-use Rattle.ijvm_definition.specs.declared.plain.PlainReport.{PlainReport}
-use Rattle.ijvm_definition.specs.Runs.{HasRunCause}
-use Rattle.ijvm_definition.specs.Plain.{HasRun, IsCutByRead, IsCutByWrite}
+use Rattle.plain_machine.specs.declared.plain.PlainEnd.{PlainEnd}
+use Rattle.plain_machine.specs.declared.plain.PlainEnd.TheVariants as ends
+use Rattle.plain_machine.specs.declared.plain.PlainReport.{PlainReport}
+use Rattle.plain_machine.specs.Runs.{HasRunCause}
+use Rattle.plain_machine.specs.Plain.{HasRun, IsCutByRead, IsCutByWrite}
 use Rattle.ijvm_verifier.specs.Accepted.{VerifiedView}
 use Rattle.mic_work.specs.Outside.{SinkState, SourceState, Says}
 use Rattle.program_texts.specs.Report.{report, status_of}

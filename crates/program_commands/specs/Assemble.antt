@@ -1,7 +1,7 @@
 -- What `assemble` comes to: the image file that is written, and then its sizes; or why the source has none.
 use Rattle.std.specs.Prelude.{◌≡◌, ℕ, List, length}
-use Rattle.ijvm_definition.specs.Image.{ImageView}
-use Rattle.ijvm_definition.specs.ImageFile.{file_of}
+use Rattle.ijvm_image.specs.Image.{ImageView}
+use Rattle.ijvm_image.specs.ImageFile.{file_of}
 use Rattle.mic_work.specs.Messages.{message, out_of_memory}
 use Rattle.mic_work.specs.Outside.{Desk, SinkState, Says}
 use Rattle.mic_work.specs.Work.{Answered, IsCarriedOut, Refuses, Writes}

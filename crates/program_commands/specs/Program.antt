@@ -1,8 +1,8 @@
 -- What a file holds, by its bytes: an image or a source of one, that is accepted or refused for a reason.
 use Rattle.std.specs.Prelude.{◌≡◌, ℕ, Bool, false, true, ◌==◌, List, [], ◌∷◌, Option, None, Some, Err}
-use Rattle.ijvm_definition.specs.declared.image.ImageError.{ImageError}
-use Rattle.ijvm_definition.specs.Image.{ImageView, IsWithinLimits}
-use Rattle.ijvm_definition.specs.ImageFile.{IsFileOf, image_read}
+use Rattle.ijvm_image.specs.declared.image.ImageError.{ImageError}
+use Rattle.ijvm_image.specs.Image.{ImageView, IsWithinLimits}
+use Rattle.ijvm_image.specs.ImageFile.{IsFileOf, image_read}
 use Rattle.ijvm_program.specs.Program.{ProgramView}
 use Rattle.ijvm_asm.specs.declared.error.AsmError.{AsmError}
 use Rattle.ijvm_asm.specs.Text.{Spells}

@@ -2,10 +2,10 @@
 use Rattle.std.specs.Prelude.{◌≡◌, ℕ, List}
 use Rattle.mic_base.specs.Causes.{Rose}
 use Rattle.machine_words.specs.declared.machine.Machine.{Machine}
-use Rattle.ijvm_definition.specs.declared.plain.PlainEnd.TheVariants as ends
-use Rattle.ijvm_definition.specs.declared.plain.PlainReport.{PlainReport}
-use Rattle.ijvm_definition.specs.Run.{Program}
-use Rattle.ijvm_definition.specs.Plain.{HasRun, IsCutByRead, IsCutByWrite, IsShort}
+use Rattle.plain_machine.specs.declared.plain.PlainEnd.TheVariants as ends
+use Rattle.plain_machine.specs.declared.plain.PlainReport.{PlainReport}
+use Rattle.ijvm_run.specs.Run.{Program}
+use Rattle.plain_machine.specs.Plain.{HasRun, IsCutByRead, IsCutByWrite, IsShort}
 use Rattle.ijvm_verifier.specs.Accepted.{VerifiedView}
 use Rattle.mic_work.specs.Outside.{Desk, SinkState, SourceState, Says}
 use Rattle.mic_work.specs.Messages.{out_of_memory}

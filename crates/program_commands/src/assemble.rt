@@ -7,7 +7,7 @@ ghost use Rattle.program_commands.specs.Assemble.{AssembleComes, IsDenied, IsPut
 ghost use Rattle.program_commands.specs.Program.{IsUnlinked};
 
 use crate::program::{Unaccepted, assembled};
-use ijvm_definition::{Image, write_image};
+use ijvm_image::{Image, write_image};
 use mic_base::{Files, Sink};
 use mic_work::{Answer, Status, carry_out, no_memory, read_named, say_of};
 use program_texts::sizes_of;

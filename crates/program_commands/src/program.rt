@@ -6,7 +6,7 @@ ghost use Rattle.program_commands.specs.Program.{IsOf, IsProgram, IsSource, IsUn
 
 use console_port::MemoryMap;
 use ijvm_asm::parse_source;
-use ijvm_definition::{Image, read_image};
+use ijvm_image::{Image, read_image};
 use ijvm_verifier::{VerifiedImage, verify};
 use method_linker::link;
 use mic_base::Line;

@@ -8,11 +8,11 @@ ghost use Rattle.program_commands.specs.Reference.{EndsReference, IsRun};
 use crate::program::accepted_program;
 use crate::refusal::refuse;
 use console_port::MemoryMap;
-use ijvm_definition::{PlainEnd, run_plain};
 use ijvm_verifier::VerifiedImage;
 use machine_words::Machine;
 use mic_base::{Files, Sink, Source};
 use mic_work::{Status, no_memory, read_named, say};
+use plain_machine::{PlainEnd, run_plain};
 use program_texts::report_of;
 use std::alloc::Global;
 

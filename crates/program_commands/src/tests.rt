@@ -1,5 +1,5 @@
 use crate::{assemble_file, list_file, reference_file, verify_file};
-use ijvm_definition::{Image, write_image};
+use ijvm_image::{Image, write_image};
 use machine_words::Machine;
 use mic_base::{MemFiles, MemSink, MemSource};
 use std::alloc::{AllocError, Global};

@@ -3,10 +3,10 @@ use Rattle.std.specs.Prelude.{◌≡◌, ℕ, ◌+◌, List, [], ◌∷◌, ◌+
 use Rattle.std.specs.Fmt.{decimal}
 use Rattle.std.specs.List.{concat}
 use Rattle.mic_base.specs.Digits.{hex_text}
-use Rattle.ijvm_definition.specs.declared.instr.Instr.{Instr}
-use Rattle.ijvm_definition.specs.Instructions.{instr_at}
-use Rattle.ijvm_definition.specs.Image.{ImageView, params, others}
-use Rattle.ijvm_definition.specs.Text.{instr_text}
+use Rattle.ijvm_instr.specs.declared.instr.Instr.{Instr}
+use Rattle.ijvm_instr.specs.Instructions.{instr_at}
+use Rattle.ijvm_image.specs.Image.{ImageView, params, others}
+use Rattle.ijvm_instr.specs.Text.{instr_text}
 use Rattle.ijvm_verifier.specs.declared.kind.Kind.TheVariants as kinds
 use Rattle.ijvm_verifier.specs.Accepted.{VerifiedView}
 use Rattle.ijvm_verifier.specs.Kinds.{IsKind}

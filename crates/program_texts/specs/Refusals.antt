@@ -3,8 +3,8 @@ use Rattle.std.specs.Prelude.{ℕ, List, ◌++◌, Option, Some, None, codes}
 use Rattle.std.specs.Fmt.{decimal, signed_decimal}
 use Rattle.mic_base.specs.Digits.{hex_text}
 use Rattle.mic_work.specs.Messages.{of_file, of_line}
-use Rattle.ijvm_definition.specs.declared.image.ImageError.{ImageError}
-use Rattle.ijvm_definition.specs.declared.image.ImageError.TheVariants as images
+use Rattle.ijvm_image.specs.declared.image.ImageError.{ImageError}
+use Rattle.ijvm_image.specs.declared.image.ImageError.TheVariants as images
 use Rattle.ijvm_asm.specs.declared.error.AsmError.{AsmError}
 use Rattle.ijvm_asm.specs.declared.error.AsmError.TheVariants as sources
 use Rattle.method_linker.specs.declared.error.LinkError.{LinkError}

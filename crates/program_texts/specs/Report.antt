@@ -2,9 +2,9 @@
 use Rattle.std.specs.Prelude.{ℕ, List, ◌++◌, codes}
 use Rattle.std.specs.Fmt.{decimal}
 use Rattle.mic_base.specs.Digits.{hex_text}
-use Rattle.ijvm_definition.specs.declared.plain.PlainEnd.{PlainEnd}
-use Rattle.ijvm_definition.specs.declared.plain.PlainEnd.TheVariants as ends
-use Rattle.ijvm_definition.specs.declared.plain.PlainReport.{PlainReport}
+use Rattle.plain_machine.specs.declared.plain.PlainEnd.{PlainEnd}
+use Rattle.plain_machine.specs.declared.plain.PlainEnd.TheVariants as ends
+use Rattle.plain_machine.specs.declared.plain.PlainReport.{PlainReport}
 
 abbrev pub end_name : PlainEnd → List ℕ
 end_name ends.Halt = codes "halt"

@@ -2,13 +2,13 @@
 
 ghost use Rattle.std.specs.Prelude.{◌≡◌, ◌<◌, ◌+◌, ◌*◌, ◌++◌, ℕ, List, Some, OnOk, IfOk, length, slice_index};
 ghost use Rattle.std.specs.List.{concat};
-ghost use Rattle.ijvm_definition.specs.Image.{params, others};
-ghost use Rattle.ijvm_definition.specs.Instructions.{instr_at};
+ghost use Rattle.ijvm_image.specs.Image.{params, others};
+ghost use Rattle.ijvm_instr.specs.Instructions.{instr_at};
 ghost use Rattle.ijvm_verifier.specs.Kinds.{IsKind};
 ghost use Rattle.program_texts.specs.Listing.{AreLines, IsLineAt, Lists, byte_line, constant_line, header_line, instr_line, pool_text};
 
 use crate::parts::{addressed, number, numbered};
-use ijvm_definition::{Instr, decode_at, print_instr};
+use ijvm_instr::{Instr, decode_at, print_instr};
 use ijvm_verifier::{Kind, VerifiedImage};
 use mic_base::Line;
 use std::alloc::{AllocError, Global};
@@ -59,7 +59,7 @@ fn half_at(text: &[u8], at: usize) -> u64
     256 * u64::from(byte_at(text, at)) + u64::from(byte_at(text, at + 1))
 }
 
-#[tactic(auto, unfolding(ijvm_definition::specs::Image::params, ijvm_definition::specs::Image::others))]
+#[tactic(auto, unfolding(ijvm_image::specs::Image::params, ijvm_image::specs::Image::others))]
 fn header_line(text: &[u8], at: u32) -> Line
     requires { at < 65536 }
     ensures { result ≡ header_line text.now at }

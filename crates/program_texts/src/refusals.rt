@@ -5,7 +5,7 @@ ghost use Rattle.program_texts.specs.Refusals.{image_reason, link_reason, source
 
 use crate::parts::{addressed, at_byte, at_line, distance, number, numbered, said};
 use ijvm_asm::AsmError;
-use ijvm_definition::ImageError;
+use ijvm_image::ImageError;
 use ijvm_verifier::VerifyError;
 use method_linker::LinkError;
 use mic_base::Line;

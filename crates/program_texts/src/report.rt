@@ -4,8 +4,8 @@ ghost use Rattle.std.specs.Prelude.{◌≡◌, ◌≤◌, length};
 ghost use Rattle.program_texts.specs.Report.{end_name, report};
 
 use crate::parts::{number, said, word};
-use ijvm_definition::{PlainEnd, PlainReport};
 use mic_base::Line;
+use plain_machine::{PlainEnd, PlainReport};
 
 fn end_name(end: PlainEnd) -> &'static str
     ensures is { result.now ≡ end_name end }

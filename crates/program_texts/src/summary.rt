@@ -4,7 +4,7 @@ ghost use Rattle.std.specs.Prelude.{◌≡◌, length};
 ghost use Rattle.program_texts.specs.Summary.{Summarizes, sizes, summary};
 
 use crate::parts::{number, numbered};
-use ijvm_definition::Image;
+use ijvm_image::Image;
 use ijvm_verifier::VerifiedImage;
 use mic_base::Line;
 

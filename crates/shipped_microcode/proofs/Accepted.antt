@@ -2,14 +2,15 @@
 use Rattle.std.proofs.Common.{◌≡◌, ◌⊎◌, ℕ, zero, suc, ◌+◌, ◌-◌, ◌*◌, ◌<◌, ◌≤◌, Bool, true, false, Some, None, List, [], ◌∷◌, ◌++◌, length, refl, arith, sym, ◌∙◌, ap, subst, inl, inr}
 use Rattle.std.specs.Prelude.{nat_lt, nat_le, ◌%◌}
 use Rattle.std.proofs.lemmas.Bool.Decides.{nat_tests}
-use Rattle.ijvm_definition.specs.declared.instr.Instr.{Instr}
-use Rattle.ijvm_definition.specs.declared.instr.Instr.TheVariants.{Bipush, Iadd, Out, Halt}
-use Rattle.ijvm_definition.specs.Instructions.{row_of, size_of, prefix, operand_bytes, instr_at}
-use Rattle.ijvm_definition.specs.Frames.{State, frames_of, base, operands_at}
-use Rattle.ijvm_definition.specs.Step.{Goes, Halts, Stuck, outcome, stepped, step, moved, word_of, combined, given_out}
-use Rattle.ijvm_definition.specs.Cost.{cost, cost_at, next_cost}
-use Rattle.ijvm_definition.specs.declared.run.RunEnd.TheVariants as ends
-use Rattle.ijvm_definition.specs.Run.{Program, Point, Finish, point_after, finish_from, after_test, after_outcome, completed}
+use Rattle.ijvm_instr.specs.declared.instr.Instr.{Instr}
+use Rattle.ijvm_instr.specs.declared.instr.Instr.TheVariants.{Bipush, Iadd, Out, Halt}
+use Rattle.ijvm_instr.specs.Instructions.{row_of, size_of, prefix, operand_bytes, instr_at}
+use Rattle.ijvm_run.specs.Frames.{State, frames_of, base, operands_at}
+use Rattle.ijvm_instr.specs.Instructions.{word_of}
+use Rattle.ijvm_run.specs.Step.{Goes, Halts, Stuck, outcome, stepped, step, moved, combined, given_out}
+use Rattle.ijvm_run.specs.Cost.{cost, cost_at, next_cost}
+use Rattle.ijvm_run.specs.declared.run.RunEnd.TheVariants as ends
+use Rattle.ijvm_run.specs.Run.{Program, Point, Finish, point_after, finish_from, after_test, after_outcome, completed}
 use Rattle.machine_words.specs.declared.machine.Machine.{Machine}
 use Rattle.machine_words.specs.declared.machine.Machine.TheVariants.{Mic1}
 use Rattle.machine_words.specs.Arithmetic.{plus}

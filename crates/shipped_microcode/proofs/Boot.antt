@@ -7,8 +7,8 @@ use Rattle.console_port.specs.World.{World, fetch_refusal, byte_in}
 use Rattle.mic_clock.specs.Run.{MicroRun, start_run, turns}
 use Rattle.mic1_datapath.specs.declared.micro.Micro.{Micro}
 use Rattle.mic1_datapath.specs.Mic1.{mic1_meaning}
-use Rattle.ijvm_definition.specs.Frames.{start_of}
-use Rattle.ijvm_definition.specs.Run.{first_point}
+use Rattle.ijvm_run.specs.Frames.{start_of}
+use Rattle.ijvm_run.specs.Run.{first_point}
 use Rattle.shipped_microcode.specs.Shipped.{HasShipped}
 use Rattle.shipped_microcode.specs.Stands.{Origin, Stands}
 use Rattle.shipped_microcode.proofs.Accesses.{IsMap, fetch_ok}

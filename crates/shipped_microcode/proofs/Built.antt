@@ -11,13 +11,14 @@ use Rattle.console_port.specs.World.{World, Refusal, StackLimit, write_refusal, 
 use Rattle.mic1_datapath.specs.declared.micro.Micro.{Micro}
 use Rattle.mic1_datapath.specs.Microstep.{first_refusal}
 use Rattle.mic1_datapath.specs.Mic1.{mic1_meaning}
-use Rattle.ijvm_definition.specs.declared.instr.Instr.{Instr}
-use Rattle.ijvm_definition.specs.declared.instr.Instr.TheVariants.{Nop, Bipush, Iadd, Out, Halt}
-use Rattle.ijvm_definition.specs.Instructions.{instr_at}
-use Rattle.ijvm_definition.specs.Frames.{State, frames_of, base}
-use Rattle.ijvm_definition.specs.Step.{Outcome, Goes, Halts, Errs, Limits, Stuck, outcome, stepped, step, limited, moved, combined, given_out, word_of}
-use Rattle.ijvm_definition.specs.Cost.{next_cost, cost_at, cost}
-use Rattle.ijvm_definition.specs.Run.{Program}
+use Rattle.ijvm_instr.specs.declared.instr.Instr.{Instr}
+use Rattle.ijvm_instr.specs.declared.instr.Instr.TheVariants.{Nop, Bipush, Iadd, Out, Halt}
+use Rattle.ijvm_instr.specs.Instructions.{instr_at}
+use Rattle.ijvm_run.specs.Frames.{State, frames_of, base}
+use Rattle.ijvm_instr.specs.Instructions.{word_of}
+use Rattle.ijvm_run.specs.Step.{Outcome, Goes, Halts, Errs, Limits, Stuck, outcome, stepped, step, limited, moved, combined, given_out}
+use Rattle.ijvm_run.specs.Cost.{next_cost, cost_at, cost}
+use Rattle.ijvm_run.specs.Run.{Program}
 use Rattle.shipped_microcode.specs.Shipped.{shipped, HasShipped}
 use Rattle.shipped_microcode.specs.Stands.{Origin, Stands}
 use Rattle.shipped_microcode.proofs.Accesses.{IsMap, next_is, write_limit}

@@ -8,9 +8,9 @@ use Rattle.mic_clock.specs.declared.end.End.TheVariants as clocked
 use Rattle.mic_clock.specs.Run.{MicroRun, turns}
 use Rattle.mic1_datapath.specs.declared.micro.Micro.{Micro}
 use Rattle.mic1_datapath.specs.Mic1.{mic1_meaning}
-use Rattle.ijvm_definition.specs.declared.run.RunEnd.{RunEnd}
-use Rattle.ijvm_definition.specs.Frames.{start_of}
-use Rattle.ijvm_definition.specs.Run.{Program, Finish, first_point, EndsBy}
+use Rattle.ijvm_run.specs.declared.run.RunEnd.{RunEnd}
+use Rattle.ijvm_run.specs.Frames.{start_of}
+use Rattle.ijvm_run.specs.Run.{Program, Finish, first_point, EndsBy}
 use Rattle.shipped_microcode.specs.Shipped.{HasShipped}
 use Rattle.shipped_microcode.specs.Straight.{Runs, image_of}
 use Rattle.shipped_microcode.specs.Stands.{Origin, Stands}

@@ -3,9 +3,9 @@ use Rattle.std.proofs.Common.{◌≡◌, ◌⊎◌, ℕ, ◌+◌, ◌*◌, ◌�
 use Rattle.std.specs.Prelude.{slice_index, nat_le}
 use Rattle.std.specs.Int.{w8, w16, cast_signed}
 use Rattle.std.proofs.lemmas.Bool.Decides.{nat_tests}
-use Rattle.ijvm_definition.specs.declared.instr.Instr.{Instr}
-use Rattle.ijvm_definition.specs.declared.instr.Instr.TheVariants.{Nop, Bipush, LdcW, Iload, Istore, Pop, Dup, Swap, Iadd, Isub, Iand, Iinc, Ifeq, Iflt, IfIcmpeq, Goto, Ireturn, Ior, Invokevirtual, WideIload, WideIstore, In, Out, Err, Halt}
-use Rattle.ijvm_definition.specs.Instructions.{row_of, size_of, of_bytes, whole, instr_at}
+use Rattle.ijvm_instr.specs.declared.instr.Instr.{Instr}
+use Rattle.ijvm_instr.specs.declared.instr.Instr.TheVariants.{Nop, Bipush, LdcW, Iload, Istore, Pop, Dup, Swap, Iadd, Isub, Iand, Iinc, Ifeq, Iflt, IfIcmpeq, Goto, Ireturn, Ior, Invokevirtual, WideIload, WideIstore, In, Out, Err, Halt}
+use Rattle.ijvm_instr.specs.Instructions.{row_of, size_of, of_bytes, whole, instr_at}
 
 -- the bytes of an instruction, from its opcode on
 abbrev pub Reads : ℕ → ℕ → ℕ → ℕ → Instr → Type 0

@@ -2,8 +2,8 @@
 use Rattle.std.proofs.Common.{◌≡◌, ℕ, zero, suc, List, [], ◌∷◌, Option, Some, None, refl}
 use Rattle.machine_words.specs.Arithmetic.{wrap}
 use Rattle.mic_clock.specs.declared.counts.Boundary.{Boundary}
-use Rattle.ijvm_definition.specs.Instructions.{of_bytes, instr_at}
-use Rattle.ijvm_definition.specs.Run.{Point, first_point}
+use Rattle.ijvm_instr.specs.Instructions.{of_bytes, instr_at}
+use Rattle.ijvm_run.specs.Run.{Point, first_point}
 use Rattle.shipped_microcode.specs.Straight.{image_of}
 use Rattle.shipped_microcode.specs.Simulates.{point_at, boundary_of}
 use Rattle.shipped_microcode.specs.Headline.{program}

@@ -3,8 +3,8 @@ use Rattle.std.proofs.Common.{◌≡◌, ℕ, suc, ◌+◌, ◌-◌, ◌<◌, �
 use Rattle.std.specs.Prelude.{slice_index, slice_set}
 use Rattle.machine_words.specs.Arithmetic.{next, before}
 use Rattle.console_port.specs.World.{World, read_value}
-use Rattle.ijvm_definition.specs.Frames.{Frame, State, frames_of, operands_at, base}
-use Rattle.ijvm_definition.specs.Step.{moved}
+use Rattle.ijvm_run.specs.Frames.{Frame, State, frames_of, operands_at, base}
+use Rattle.ijvm_run.specs.Step.{moved}
 use Rattle.shipped_microcode.specs.Stands.{Origin, Holds, FramesStand, OperandsAt, IsTop}
 use Rattle.shipped_microcode.proofs.Accesses.{IsMap, Access, access, next_is, before_is}
 use Rattle.shipped_microcode.proofs.Keeps.{pushed, memory_set, frames_at, memory_at}

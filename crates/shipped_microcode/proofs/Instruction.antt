@@ -9,12 +9,12 @@ use Rattle.mic_clock.specs.declared.end.End.{End}
 use Rattle.mic_clock.specs.declared.end.End.TheVariants as clocked
 use Rattle.mic_clock.specs.Meaning.{Meaning, Refused}
 use Rattle.mic_clock.specs.Run.{MicroRun, turn, turns, bounded, stepped, gone, end_before, completes, last_cycles, number_of}
-use Rattle.ijvm_definition.specs.declared.run.RunEnd.{RunEnd}
-use Rattle.ijvm_definition.specs.declared.run.RunEnd.TheVariants as defined
-use Rattle.ijvm_definition.specs.Frames.{State, sp_of, lv_of}
-use Rattle.ijvm_definition.specs.Step.{Outcome, Goes, Halts, Errs, Limits, Stuck, outcome}
-use Rattle.ijvm_definition.specs.Cost.{next_cost}
-use Rattle.ijvm_definition.specs.Run.{Program, Point, Finish, point_after, finish_from, after_test, after_outcome, completed, stopped}
+use Rattle.ijvm_run.specs.declared.run.RunEnd.{RunEnd}
+use Rattle.ijvm_run.specs.declared.run.RunEnd.TheVariants as defined
+use Rattle.ijvm_run.specs.Frames.{State, sp_of, lv_of}
+use Rattle.ijvm_run.specs.Step.{Outcome, Goes, Halts, Errs, Limits, Stuck, outcome}
+use Rattle.ijvm_run.specs.Cost.{next_cost}
+use Rattle.ijvm_run.specs.Run.{Program, Point, Finish, point_after, finish_from, after_test, after_outcome, completed, stopped}
 use Rattle.shipped_microcode.specs.Simulates.{point_at, below, going_on, end_of, IsBoundary, IsEnd}
 use Rattle.shipped_microcode.proofs.Passes.{Moment, is_inside, not_boundary, outcome_at, pass}
 use Rattle.shipped_microcode.proofs.Turns.{moment_of, run_inside, run_at, IsReady, ready_inside, whole_turn, turns-add, ending_turn, clocks, pass_turns, pass_turns_inside, Shorter, shorter}

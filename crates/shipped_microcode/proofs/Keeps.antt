@@ -1,7 +1,7 @@
 -- What a write leaves of the frames in memory.
 use Rattle.std.proofs.Common.{subst, ◌≡◌, ◌≢◌, ℕ, zero, suc, ◌+◌, ◌<◌, ◌≤◌, ◌⊎◌, inl, inr, Option, Some, None, List, [], ◌∷◌, length, arith, ◌∙◌, get_or-set_same, get_or-set_other, length-set}
 use Rattle.std.specs.Prelude.{slice_index, slice_set, slice_get}
-use Rattle.ijvm_definition.specs.Frames.{Frame, operands_at, end_of, base, kept_words}
+use Rattle.ijvm_run.specs.Frames.{Frame, operands_at, end_of, base, kept_words}
 use Rattle.shipped_microcode.specs.Stands.{OperandsAt, IsLinked, FrameStands, FramesStand, IsMemory, caller_lv}
 
 pub read_other : (words : List ℕ) (a b v : ℕ) → (b < a) ⊎ (a < b) → slice_index (slice_set words a v) b ≡ slice_index words b

@@ -3,8 +3,8 @@ use Rattle.std.proofs.Common.{◌≡◌, ℕ, ◌+◌, ◌<◌, List, [], ◌∷
 use Rattle.std.specs.Prelude.{slice_set}
 use Rattle.machine_words.specs.Arithmetic.{wrap, plus, next, before, signed_byte}
 use Rattle.console_port.specs.World.{World, read_value, byte_in}
-use Rattle.ijvm_definition.specs.Frames.{State, frames_of, base}
-use Rattle.ijvm_definition.specs.Step.{moved}
+use Rattle.ijvm_run.specs.Frames.{State, frames_of, base}
+use Rattle.ijvm_run.specs.Step.{moved}
 use Rattle.mic1_datapath.specs.declared.micro.Micro.{Micro}
 use Rattle.shipped_microcode.specs.Shipped.{HasShipped}
 use Rattle.shipped_microcode.specs.Stands.{Origin, Stands}

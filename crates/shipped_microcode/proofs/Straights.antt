@@ -2,9 +2,9 @@
 use Rattle.std.proofs.Common.{◌≡◌, ℕ, ◌+◌, ◌-◌, ◌≤◌, ◌<◌, Some, None, List, [], ◌∷◌, length, refl, arith, sym, ◌∙◌, ap, subst}
 use Rattle.std.specs.Prelude.{nat_lt, true, false}
 use Rattle.std.proofs.lemmas.Bool.Decides.{nat_tests}
-use Rattle.ijvm_definition.specs.declared.instr.Instr.{Instr}
-use Rattle.ijvm_definition.specs.declared.instr.Instr.TheVariants.{Bipush, Iadd, Out, Halt}
-use Rattle.ijvm_definition.specs.Instructions.{row_of, size_of, instr_at}
+use Rattle.ijvm_instr.specs.declared.instr.Instr.{Instr}
+use Rattle.ijvm_instr.specs.declared.instr.Instr.TheVariants.{Bipush, Iadd, Out, Halt}
+use Rattle.ijvm_instr.specs.Instructions.{row_of, size_of, instr_at}
 use Rattle.shipped_microcode.specs.Straight.{IsPlain, IsFrom, underflow}
 
 pub some_instr : {i j : Instr} → Some i ≡ Some j → i ≡ j

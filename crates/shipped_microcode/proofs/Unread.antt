@@ -18,8 +18,8 @@ use Rattle.mic1_datapath.specs.declared.ports.Ports.{Ports}
 use Rattle.mic1_datapath.specs.Access.{is_read}
 use Rattle.mic1_datapath.specs.Microstep.{ports_of, settled, written, sampled, clock, access_refusal}
 use Rattle.mic1_datapath.specs.Mic1.{mic1_meaning, outcome, step_of_word, reads_console}
-use Rattle.ijvm_definition.specs.declared.run.RunEnd.{RunEnd}
-use Rattle.ijvm_definition.specs.declared.run.RunEnd.TheVariants as defined
+use Rattle.ijvm_run.specs.declared.run.RunEnd.{RunEnd}
+use Rattle.ijvm_run.specs.declared.run.RunEnd.TheVariants as defined
 use Rattle.shipped_microcode.specs.Simulates.{end_of}
 use Rattle.shipped_microcode.proofs.Turns.{whole_turn, turns-add}
 use Rattle.shipped_microcode.proofs.Worlds.{turns_keep, between, behind_end, same_end}

@@ -7,9 +7,9 @@ use Rattle.console_port.specs.World.{World}
 use Rattle.mic_clock.specs.declared.end.End.{End}
 use Rattle.mic_clock.specs.Meaning.{Meaning}
 use Rattle.mic_clock.specs.Run.{MicroRun, turns}
-use Rattle.ijvm_definition.specs.declared.run.RunEnd.TheVariants as defined
-use Rattle.ijvm_definition.specs.Frames.{State}
-use Rattle.ijvm_definition.specs.Run.{Program, Point, Finish, point_after, finish_from, after_test, stopped}
+use Rattle.ijvm_run.specs.declared.run.RunEnd.TheVariants as defined
+use Rattle.ijvm_run.specs.Frames.{State}
+use Rattle.ijvm_run.specs.Run.{Program, Point, Finish, point_after, finish_from, after_test, stopped}
 use Rattle.shipped_microcode.specs.Simulates.{point_at, end_of, IsBoundary, IsEnd, Simulates}
 use Rattle.shipped_microcode.proofs.Turns.{turns-add, ended_stays}
 use Rattle.shipped_microcode.proofs.Instruction.{Law, Turnout, On, Over, turnout}

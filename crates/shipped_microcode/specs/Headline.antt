@@ -10,8 +10,8 @@ use Rattle.mic1_datapath.specs.declared.micro.Micro.{Micro}
 use Rattle.mic1_datapath.specs.declared.mic1.Mic1.{Mic1}
 use Rattle.mic1_datapath.specs.Mic1.{mic1_meaning}
 use Rattle.mic1_datapath.specs.View.{micro_of}
-use Rattle.ijvm_definition.specs.Image.{ImageView}
-use Rattle.ijvm_definition.specs.Run.{Program, Finish, first_point, EndsBy}
+use Rattle.ijvm_image.specs.Image.{ImageView}
+use Rattle.ijvm_run.specs.Run.{Program, Finish, first_point, EndsBy}
 use Rattle.shipped_microcode.specs.Stands.{Stands}
 use Rattle.shipped_microcode.specs.Simulates.{Simulates, IsEnd}
 

@@ -1,7 +1,7 @@
 -- When registers, memory and console stand for a state of the plain machine: its frames lie in memory as chapter 4 of the book lays them out.
 use Rattle.std.specs.Prelude.{◌≡◌, ℕ, ◌+◌, ◌<◌, ◌≤◌, List, [], ◌∷◌, ◌++◌, length, slice_index, slice_get, Option, Some, None, true}
 use Rattle.console_port.specs.World.{World, byte_in}
-use Rattle.ijvm_definition.specs.Frames.{Frame, State, frames_of, operands_at, base, lv_of}
+use Rattle.ijvm_run.specs.Frames.{Frame, State, frames_of, operands_at, base, lv_of}
 use Rattle.mic1_datapath.specs.declared.micro.Micro.{Micro}
 
 -- what a run is over: the memory's words when it began, and the bytes that had been given before

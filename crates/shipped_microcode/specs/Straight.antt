@@ -1,9 +1,9 @@
 -- The form of a program that has one main of BIPUSH, IADD and OUT in any order, and then HALT as the text's last byte.
 use Rattle.std.specs.Prelude.{◌≡◌, ℕ, ◌+◌, ◌-◌, if◌then◌else◌, nat_lt, List, [], ◌∷◌, length, Option, Some, None}
-use Rattle.ijvm_definition.specs.declared.instr.Instr.{Instr}
-use Rattle.ijvm_definition.specs.declared.instr.Instr.TheVariants.{Bipush, Iadd, Out, Halt}
-use Rattle.ijvm_definition.specs.Image.{ImageView}
-use Rattle.ijvm_definition.specs.Instructions.{row_of, size_of, instr_at}
+use Rattle.ijvm_instr.specs.declared.instr.Instr.{Instr}
+use Rattle.ijvm_instr.specs.declared.instr.Instr.TheVariants.{Bipush, Iadd, Out, Halt}
+use Rattle.ijvm_image.specs.Image.{ImageView}
+use Rattle.ijvm_instr.specs.Instructions.{row_of, size_of, instr_at}
 
 -- the image of a text without constants
 abbrev pub image_of : List ℕ → ImageView

@@ -9,7 +9,7 @@ ghost use Rattle.mic_clock.specs.Board.{ShowsRun, NoFault, HasEndCause};
 ghost use Rattle.mic_clock.specs.Run.{start_counts};
 ghost use Rattle.mic1_datapath.specs.Mic1.{mic1_meaning};
 ghost use Rattle.mic1_datapath.specs.View.{micro_of};
-ghost use Rattle.ijvm_definition.specs.Run.{first_point};
+ghost use Rattle.ijvm_run.specs.Run.{first_point};
 ghost use Rattle.shipped_microcode.specs.Shipped.{HasShipped};
 ghost use Rattle.shipped_microcode.specs.Stands.{Stands};
 ghost use Rattle.shipped_microcode.specs.Straight.{Runs, image_of};

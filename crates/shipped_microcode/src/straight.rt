@@ -1,10 +1,10 @@
 //! The form of a program that the first control store runs: one main of BIPUSH, IADD and OUT, and then HALT.
 
 ghost use Rattle.std.specs.Prelude.{◌≡◌, ◌≤◌, ◌↔◌, ℕ, List, length, Ok, Err, IsOk, IsTrue};
-ghost use Rattle.ijvm_definition.specs.declared.instr.Instr.{Instr};
+ghost use Rattle.ijvm_instr.specs.declared.instr.Instr.{Instr};
 ghost use Rattle.shipped_microcode.specs.Straight.{IsPlain, IsFrom, IsStraight, underflow, Underflows, Runs};
 
-use ijvm_definition::{Instr, decode_at};
+use ijvm_instr::{Instr, decode_at};
 
 /// Why a text is not run.
 #[derive(Clone, Copy, Debug, PartialEq, Eq)]

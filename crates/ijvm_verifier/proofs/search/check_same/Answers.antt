@@ -1,5 +1,5 @@
 use Rattle.std.proofs.Common.{◌≡◌, ◌≢◌, ◌∙◌, inr, sym, Some}
-use Rattle.ijvm_definition.specs.Instructions.{instr_at}
+use Rattle.ijvm_instr.specs.Instructions.{instr_at}
 use Rattle.ijvm_verifier.proofs.Keeping.{overlap, units_differ}
 use Rattle.ijvm_verifier.proofs.search.check_same.Goals as goal
 

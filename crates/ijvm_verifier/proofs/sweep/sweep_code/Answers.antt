@@ -1,7 +1,7 @@
 use Rattle.std.proofs.Common.{◌≡◌, ◌<◌, ◌+◌, ◌*◌, ◌∙◌, refl, arith, sym, inr, Some, None, ap}
 use Rattle.std.specs.Prelude.{slice_get}
 use Rattle.std.proofs.lemmas.Option.{slice_get-get_or}
-use Rattle.ijvm_definition.specs.Instructions.{row_of, size_of}
+use Rattle.ijvm_instr.specs.Instructions.{row_of, size_of}
 use Rattle.ijvm_verifier.specs.Paths.{HasRow}
 use Rattle.ijvm_verifier.specs.Facts.{Code}
 use Rattle.ijvm_verifier.proofs.Rows.{size_above}

@@ -1,5 +1,5 @@
 use Rattle.std.proofs.Common.{◌≡◌, ◌∙◌, ap, refl, true, false}
-use Rattle.ijvm_definition.specs.Image.{ImageView}
+use Rattle.ijvm_image.specs.Image.{ImageView}
 use Rattle.mic_tool.proofs.StraightImages.{built_locals, unbuilt}
 use Rattle.mic_tool.proofs.run.is_built.Goals as goal
 

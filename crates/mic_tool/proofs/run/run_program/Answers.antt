@@ -1,5 +1,5 @@
 use Rattle.std.proofs.Common.{◌∙◌, ap}
-use Rattle.ijvm_definition.specs.Image.{ImageView}
+use Rattle.ijvm_image.specs.Image.{ImageView}
 use Rattle.mic_tool.proofs.StraightImages.{built_end}
 use Rattle.mic_tool.proofs.run.run_program.Goals as goal
 

@@ -1,5 +1,5 @@
 use Rattle.std.proofs.Common.{◌∙◌, ◌≡◌, ◌++◌, ℕ, List, [], ◌∷◌, ap, sym, subst, length, arith}
-use Rattle.ijvm_definition.specs.Image.{ImageView}
+use Rattle.ijvm_image.specs.Image.{ImageView}
 use Rattle.program_texts.specs.Listing.{AreLines}
 use Rattle.std.proofs.lemmas.List.{append-nil}
 use Rattle.program_texts.proofs.Lines.{concat_step, more_lines, no_lines}

@@ -1,7 +1,7 @@
 use Rattle.std.proofs.Common.{◌≡◌, ◌≤◌, ℕ, List, ◌+◌, ◌-◌, Some, None, sym, subst, arith, ◌∙◌, ap, true, refl}
-use Rattle.ijvm_definition.specs.declared.instr.Instr.{Instr}
-use Rattle.ijvm_definition.specs.declared.row.Row.{Row}
-use Rattle.ijvm_definition.specs.Instructions.{row_of, size_of, instr_at}
+use Rattle.ijvm_instr.specs.declared.instr.Instr.{Instr}
+use Rattle.ijvm_instr.specs.declared.row.Row.{Row}
+use Rattle.ijvm_instr.specs.Instructions.{row_of, size_of, instr_at}
 use Rattle.shipped_microcode.specs.Straight.{IsPlain}
 use Rattle.shipped_microcode.proofs.Decoded.{Decoded, decoded}
 use Rattle.shipped_microcode.proofs.Straights.{Left, left_on, left_underflow, left_end, gives_one, some_instr}

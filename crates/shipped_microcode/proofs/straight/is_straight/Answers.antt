@@ -1,8 +1,8 @@
 use Rattle.std.proofs.Common.{◌≡◌, ℕ, List, length, ◌+◌, [], Some, sym, subst, arith, ◌∙◌, ap, true}
 use Rattle.std.proofs.lemmas.Bool.Decides.{nat_tests}
-use Rattle.ijvm_definition.specs.declared.instr.Instr.{Instr}
-use Rattle.ijvm_definition.specs.declared.instr.Instr.TheVariants.{Halt}
-use Rattle.ijvm_definition.specs.Instructions.{row_of, size_of, instr_at}
+use Rattle.ijvm_instr.specs.declared.instr.Instr.{Instr}
+use Rattle.ijvm_instr.specs.declared.instr.Instr.TheVariants.{Halt}
+use Rattle.ijvm_instr.specs.Instructions.{row_of, size_of, instr_at}
 use Rattle.shipped_microcode.specs.Straight.{IsPlain, IsFrom}
 use Rattle.shipped_microcode.proofs.Decoded.{Decoded, decoded}
 use Rattle.shipped_microcode.proofs.Straights.{Behind, behind, ending, missing, forward_on, back_on, not_halt}

@@ -1,5 +1,5 @@
 use Rattle.std.proofs.Common.{◌≤◌, List, length, ◌-◌}
-use Rattle.ijvm_definition.specs.declared.instr.Instr.{Instr}
+use Rattle.ijvm_instr.specs.declared.instr.Instr.{Instr}
 use Rattle.shipped_microcode.specs.Straight.{IsFrom, IsStraight}
 use Rattle.shipped_microcode.proofs.straight.is_straight.Given as goal
 

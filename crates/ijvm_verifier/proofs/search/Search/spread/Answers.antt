@@ -1,7 +1,7 @@
 use Rattle.std.proofs.Common.{◌≡◌, arith, sym, subst, refl, inl, inr}
 use Rattle.std.proofs.lemmas.Int.{to_z-of_z, ints}
-use Rattle.ijvm_definition.specs.Step.{target}
-use Rattle.ijvm_definition.specs.declared.row.Flow.{Flow}
+use Rattle.ijvm_instr.specs.Instructions.{target}
+use Rattle.ijvm_instr.specs.declared.row.Flow.{Flow}
 use Rattle.ijvm_verifier.specs.Facts.{HasNext, HasJump}
 use Rattle.ijvm_verifier.proofs.Keeping.{on_way, grows_on, on_ok}
 use Rattle.ijvm_verifier.proofs.search.Search.spread.Goals as goal

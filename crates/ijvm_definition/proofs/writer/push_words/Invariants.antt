@@ -1,7 +1,0 @@
-use Rattle.std.proofs.Common.{◌≡◌, ◌++◌, take}
-use Rattle.std.specs.List.{flat_map}
-use Rattle.ijvm_definition.specs.ImageFile.{word_bytes}
-use Rattle.ijvm_definition.proofs.writer.push_words.Given as goal
-
-abbrev pub invariant-loop-word : goal.invariant-loop-word
-invariant-loop-word l = l.file.items ≡ l.initial.file.items ++ flat_map word_bytes (take l.word-index l.words)

@@ -1,0 +1,12 @@
+//! Images: text and constant pool, the methods in them, and image files both ways.
+#![tactic(auto)]
+
+pub mod image;
+pub mod method;
+pub mod reader;
+pub mod writer;
+
+pub use image::{Image, ImageError};
+pub use method::Method;
+pub use reader::read_image;
+pub use writer::write_image;

@@ -1,0 +1,357 @@
+-- Instructions and their bytes are each other's, but for the second spelling of IOR.
+use Rattle.std.proofs.Common.{◌≡◌, ◌⊎◌, ◌<◌, ◌≤◌, ℕ, zero, suc, All, ℤ, nat_le, FitsSigned, ◌+◌, ◌*◌, ◌/◌, ◌%◌, Bool, true, false, if◌then◌else◌, ◌==◌, List, [], ◌∷◌, ◌++◌, length, take, drop, append_assoc, length-append, slice_index, Option, Some, None, IfSome, refl, sym, ap, ◌∙◌, inl, inr, arith, subst}
+use Rattle.std.proofs.lemmas.Bool.Decides.{nat_tests}
+use Rattle.std.proofs.lemmas.List.{drop_more}
+use Rattle.std.specs.Int.{w8, w16, cast_signed, cast_unsigned}
+use Rattle.std.proofs.lemmas.Int.{of_z-to_z, to_z-of_z}
+use Rattle.ijvm_instr.specs.declared.instr.Instr.{Instr}
+use Rattle.ijvm_instr.specs.declared.instr.Instr.TheVariants.{Nop, Bipush, LdcW, Iload, Istore, Pop, Dup, Swap, Iadd, Isub, Iand, Iinc, Ifeq, Iflt, IfIcmpeq, Goto, Ireturn, Ior, Invokevirtual, WideIload, WideIstore, In, Out, Err, Halt}
+use Rattle.ijvm_instr.specs.Instructions.{of_bytes, instr_at, whole, spelling, size_of, row_of, Spells, StandAt, IsInstr}
+
+chosen_by : (P : Instr → Type 0) (x y : ℕ) (j : Instr) (rest : Option Instr) (i : Instr) (t : Bool) → (x == y) ≡ t →
+    (x ≡ y → P j) → (rest ≡ Some i → P i) → (if t then Some j else rest) ≡ Some i → P i
+chosen_by P x y j rest i true is here there e =
+    let same : x ≡ y = grind (arith, nat_tests) in
+    let found : j ≡ i = cc in
+    subst P found (here same)
+chosen_by P x y j rest i false is here there e = there e
+
+-- a row of the decoder: what holds of the row's instruction, and of those of the rows behind it, holds of the one that is found
+pub chosen : (P : Instr → Type 0) (x y : ℕ) (j : Instr) (rest : Option Instr) (i : Instr) →
+    (x ≡ y → P j) → (rest ≡ Some i → P i) → (if x == y then Some j else rest) ≡ Some i → P i
+chosen P x y j rest i here there e = chosen_by P x y j rest i (x == y) refl here there e
+
+-- the four bytes begin with a spelling of the instruction
+abbrev pub IsRead : ℕ → ℕ → ℕ → ℕ → Instr → Type 0
+IsRead a b c d i = (take (size_of (row_of i)) (a ∷ b ∷ c ∷ d ∷ []) ≡ spelling i) ⊎ ((i ≡ Ior) × (a ≡ 0x80))
+
+back8 : (b : ℕ) → b < 256 → cast_unsigned w8 (cast_signed w8 b) ≡ b
+back8 b h = of_z-to_z w8 b h
+
+-- two bytes are those of their number
+pub high : (b c : ℕ) → c < 256 → (256 * b + c) / 256 ≡ b
+high b c h = omega arith
+
+pub low : (b c : ℕ) → c < 256 → (256 * b + c) % 256 ≡ c
+low b c h = omega arith
+
+back16 : (b c : ℕ) → b < 256 → c < 256 → cast_unsigned w16 (cast_signed w16 (256 * b + c)) ≡ 256 * b + c
+back16 b c hb hc =
+    let fits : 256 * b + c < 65536 = omega arith in
+    of_z-to_z w16 (256 * b + c) fits
+
+chosen_wide_by : (P : Instr → Type 0) (x y : ℕ) (some rest : Option Instr) (i : Instr) (t : Bool) → (x == y) ≡ t →
+    (x ≡ y → some ≡ Some i → P i) → (rest ≡ Some i → P i) → (if t then some else rest) ≡ Some i → P i
+chosen_wide_by P x y some rest i true is here there e =
+    let same : x ≡ y = grind (arith, nat_tests) in
+    here same e
+chosen_wide_by P x y some rest i false is here there e = there e
+
+chosen_wide : (P : Instr → Type 0) (x y : ℕ) (some rest : Option Instr) (i : Instr) →
+    (x ≡ y → some ≡ Some i → P i) → (rest ≡ Some i → P i) → (if x == y then some else rest) ≡ Some i → P i
+chosen_wide P x y some rest i here there e = chosen_wide_by P x y some rest i (x == y) refl here there e
+
+wide_is_read : (a b c d : ℕ) (i : Instr) → c < 256 → d < 256 → a ≡ 0xC4 →
+    (if b == 0x15 then Some (WideIload (256 * c + d)) else (if b == 0x36 then Some (WideIstore (256 * c + d)) else None)) ≡ Some i → IsRead a b c d i
+wide_is_read a b c d i hc hd is =
+    let h : (256 * c + d) / 256 ≡ c = high c d hd in
+    let l : (256 * c + d) % 256 ≡ d = low c d hd in
+    chosen (IsRead a b c d) b 0x15 (WideIload (256 * c + d)) _ i (λ e. inl (cc))
+    (chosen (IsRead a b c d) b 0x36 (WideIstore (256 * c + d)) _ i (λ e. inl (cc)) (λ e. cc))
+
+pub of_bytes-read : (a b c d : ℕ) (i : Instr) → b < 256 → c < 256 → d < 256 → of_bytes a b c d ≡ Some i → IsRead a b c d i
+unfolding of_bytes
+of_bytes-read a b c d i hb hc hd =
+    chosen (IsRead a b c d) a 0x00 Nop _ i (λ e. inl (ap (λ x. x ∷ []) e))
+    (chosen (IsRead a b c d) a 0x10 (Bipush (cast_signed w8 b)) _ i (λ e. inl (let s : cast_unsigned w8 (cast_signed w8 b) ≡ b = back8 b hb in cc))
+    (chosen (IsRead a b c d) a 0x13 (LdcW (256 * b + c)) _ i (λ e. inl (let h : (256 * b + c) / 256 ≡ b = high b c hc in let l : (256 * b + c) % 256 ≡ c = low b c hc in cc))
+    (chosen (IsRead a b c d) a 0x15 (Iload b) _ i (λ e. inl (ap (λ x. x ∷ b ∷ []) e))
+    (chosen (IsRead a b c d) a 0x36 (Istore b) _ i (λ e. inl (ap (λ x. x ∷ b ∷ []) e))
+    (chosen (IsRead a b c d) a 0x57 Pop _ i (λ e. inl (ap (λ x. x ∷ []) e))
+    (chosen (IsRead a b c d) a 0x59 Dup _ i (λ e. inl (ap (λ x. x ∷ []) e))
+    (chosen (IsRead a b c d) a 0x5F Swap _ i (λ e. inl (ap (λ x. x ∷ []) e))
+    (chosen (IsRead a b c d) a 0x60 Iadd _ i (λ e. inl (ap (λ x. x ∷ []) e))
+    (chosen (IsRead a b c d) a 0x64 Isub _ i (λ e. inl (ap (λ x. x ∷ []) e))
+    (chosen (IsRead a b c d) a 0x7E Iand _ i (λ e. inl (ap (λ x. x ∷ []) e))
+    (chosen (IsRead a b c d) a 0x80 Ior _ i (λ e. inr (refl, e))
+    (chosen (IsRead a b c d) a 0x84 (Iinc b (cast_signed w8 c)) _ i (λ e. inl (let s : cast_unsigned w8 (cast_signed w8 c) ≡ c = back8 c hc in cc))
+    (chosen (IsRead a b c d) a 0x99 (Ifeq (cast_signed w16 (256 * b + c))) _ i (λ e. inl (let h : (256 * b + c) / 256 ≡ b = high b c hc in let l : (256 * b + c) % 256 ≡ c = low b c hc in let s : cast_unsigned w16 (cast_signed w16 (256 * b + c)) ≡ 256 * b + c = back16 b c hb hc in rw s cc))
+    (chosen (IsRead a b c d) a 0x9B (Iflt (cast_signed w16 (256 * b + c))) _ i (λ e. inl (let h : (256 * b + c) / 256 ≡ b = high b c hc in let l : (256 * b + c) % 256 ≡ c = low b c hc in let s : cast_unsigned w16 (cast_signed w16 (256 * b + c)) ≡ 256 * b + c = back16 b c hb hc in rw s cc))
+    (chosen (IsRead a b c d) a 0x9F (IfIcmpeq (cast_signed w16 (256 * b + c))) _ i (λ e. inl (let h : (256 * b + c) / 256 ≡ b = high b c hc in let l : (256 * b + c) % 256 ≡ c = low b c hc in let s : cast_unsigned w16 (cast_signed w16 (256 * b + c)) ≡ 256 * b + c = back16 b c hb hc in rw s cc))
+    (chosen (IsRead a b c d) a 0xA7 (Goto (cast_signed w16 (256 * b + c))) _ i (λ e. inl (let h : (256 * b + c) / 256 ≡ b = high b c hc in let l : (256 * b + c) % 256 ≡ c = low b c hc in let s : cast_unsigned w16 (cast_signed w16 (256 * b + c)) ≡ 256 * b + c = back16 b c hb hc in rw s cc))
+    (chosen (IsRead a b c d) a 0xAC Ireturn _ i (λ e. inl (ap (λ x. x ∷ []) e))
+    (chosen (IsRead a b c d) a 0xB0 Ior _ i (λ e. inl (ap (λ x. x ∷ []) e))
+    (chosen (IsRead a b c d) a 0xB6 (Invokevirtual (256 * b + c)) _ i (λ e. inl (let h : (256 * b + c) / 256 ≡ b = high b c hc in let l : (256 * b + c) % 256 ≡ c = low b c hc in cc))
+    (chosen_wide (IsRead a b c d) a 0xC4 _ _ i (λ e. wide_is_read a b c d i hc hd e) (chosen (IsRead a b c d) a 0xFC In _ i (λ e. inl (ap (λ x. x ∷ []) e))
+    (chosen (IsRead a b c d) a 0xFD Out _ i (λ e. inl (ap (λ x. x ∷ []) e))
+    (chosen (IsRead a b c d) a 0xFE Err _ i (λ e. inl (ap (λ x. x ∷ []) e))
+    (chosen (IsRead a b c d) a 0xFF Halt _ i (λ e. inl (ap (λ x. x ∷ []) e))
+    (λ e. cc)))))))))))))))))))))))))
+
+-- a number of two bytes is made of them
+whole_half : (n : ℕ) → 256 * (n / 256) + n % 256 ≡ n
+whole_half n = omega arith
+
+pub from_half : (n b c : ℕ) → b ≡ n / 256 → c ≡ n % 256 → 256 * b + c ≡ n
+from_half n b c e f = rw (e, f, whole_half n) refl
+
+from_offset : (z : ℤ) (b c : ℕ) → FitsSigned w16 z → b ≡ cast_unsigned w16 z / 256 → c ≡ cast_unsigned w16 z % 256 → cast_signed w16 (256 * b + c) ≡ z
+from_offset z b c fits e f = ap (cast_signed w16) (from_half (cast_unsigned w16 z) b c e f) ∙ to_z-of_z w16 z fits
+
+-- four bytes that begin with an instruction's spelling are read as that instruction
+pub of_bytes-spelling : (a b c d : ℕ) (i : Instr) → IsInstr i → take (size_of (row_of i)) (a ∷ b ∷ c ∷ d ∷ []) ≡ spelling i → of_bytes a b c d ≡ Some i
+unfolding of_bytes
+of_bytes-spelling a b c d Nop real e = let ea : a ≡ 0x00 = cc in rw ea
+of_bytes-spelling a b c d (Bipush z) real e =
+    let ea : a ≡ 0x10 = cc in let eb : b ≡ cast_unsigned w8 z = cc in rw (ea, eb) (ap (λ (x : ℤ). Some (Bipush x)) (to_z-of_z w8 z real))
+of_bytes-spelling a b c d (LdcW k) real e =
+    let ea : a ≡ 0x13 = cc in let eb : b ≡ k / 256 = cc in let ec : c ≡ k % 256 = cc in rw ea (ap (λ (x : ℕ). Some (LdcW x)) (from_half k b c eb ec))
+of_bytes-spelling a b c d (Iload k) real e = let ea : a ≡ 0x15 = cc in let eb : b ≡ k = cc in rw (ea, eb)
+of_bytes-spelling a b c d (Istore k) real e = let ea : a ≡ 0x36 = cc in let eb : b ≡ k = cc in rw (ea, eb)
+of_bytes-spelling a b c d Pop real e = let ea : a ≡ 0x57 = cc in rw ea
+of_bytes-spelling a b c d Dup real e = let ea : a ≡ 0x59 = cc in rw ea
+of_bytes-spelling a b c d Swap real e = let ea : a ≡ 0x5F = cc in rw ea
+of_bytes-spelling a b c d Iadd real e = let ea : a ≡ 0x60 = cc in rw ea
+of_bytes-spelling a b c d Isub real e = let ea : a ≡ 0x64 = cc in rw ea
+of_bytes-spelling a b c d Iand real e = let ea : a ≡ 0x7E = cc in rw ea
+of_bytes-spelling a b c d (Iinc k z) real e =
+    let ea : a ≡ 0x84 = cc in let eb : b ≡ k = cc in let ec : c ≡ cast_unsigned w8 z = cc in rw (ea, eb, ec) (ap (λ (x : ℤ). Some (Iinc k x)) (to_z-of_z w8 z real.1))
+of_bytes-spelling a b c d (Ifeq z) real e =
+    let ea : a ≡ 0x99 = cc in let eb : b ≡ cast_unsigned w16 z / 256 = cc in let ec : c ≡ cast_unsigned w16 z % 256 = cc in
+    rw ea (ap (λ (x : ℤ). Some (Ifeq x)) (from_offset z b c real eb ec))
+of_bytes-spelling a b c d (Iflt z) real e =
+    let ea : a ≡ 0x9B = cc in let eb : b ≡ cast_unsigned w16 z / 256 = cc in let ec : c ≡ cast_unsigned w16 z % 256 = cc in
+    rw ea (ap (λ (x : ℤ). Some (Iflt x)) (from_offset z b c real eb ec))
+of_bytes-spelling a b c d (IfIcmpeq z) real e =
+    let ea : a ≡ 0x9F = cc in let eb : b ≡ cast_unsigned w16 z / 256 = cc in let ec : c ≡ cast_unsigned w16 z % 256 = cc in
+    rw ea (ap (λ (x : ℤ). Some (IfIcmpeq x)) (from_offset z b c real eb ec))
+of_bytes-spelling a b c d (Goto z) real e =
+    let ea : a ≡ 0xA7 = cc in let eb : b ≡ cast_unsigned w16 z / 256 = cc in let ec : c ≡ cast_unsigned w16 z % 256 = cc in
+    rw ea (ap (λ (x : ℤ). Some (Goto x)) (from_offset z b c real eb ec))
+of_bytes-spelling a b c d Ireturn real e = let ea : a ≡ 0xAC = cc in rw ea
+of_bytes-spelling a b c d Ior real e = let ea : a ≡ 0xB0 = cc in rw ea
+of_bytes-spelling a b c d (Invokevirtual k) real e =
+    let ea : a ≡ 0xB6 = cc in let eb : b ≡ k / 256 = cc in let ec : c ≡ k % 256 = cc in rw ea (ap (λ (x : ℕ). Some (Invokevirtual x)) (from_half k b c eb ec))
+of_bytes-spelling a b c d (WideIload k) real e =
+    let ea : a ≡ 0xC4 = cc in let eb : b ≡ 0x15 = cc in let ec : c ≡ k / 256 = cc in let ed : d ≡ k % 256 = cc in
+    rw (ea, eb) (ap (λ (x : ℕ). Some (WideIload x)) (from_half k c d ec ed))
+of_bytes-spelling a b c d (WideIstore k) real e =
+    let ea : a ≡ 0xC4 = cc in let eb : b ≡ 0x36 = cc in let ec : c ≡ k / 256 = cc in let ed : d ≡ k % 256 = cc in
+    rw (ea, eb) (ap (λ (x : ℕ). Some (WideIstore x)) (from_half k c d ec ed))
+of_bytes-spelling a b c d In real e = let ea : a ≡ 0xFC = cc in rw ea
+of_bytes-spelling a b c d Out real e = let ea : a ≡ 0xFD = cc in rw ea
+of_bytes-spelling a b c d Err real e = let ea : a ≡ 0xFE = cc in rw ea
+of_bytes-spelling a b c d Halt real e = let ea : a ≡ 0xFF = cc in rw ea
+
+-- whether an instruction is whole
+whole_by : (many at : ℕ) (j i : Instr) (t : Bool) → nat_le (at + size_of (row_of j)) many ≡ t → (if t then Some j else None) ≡ Some i →
+    (j ≡ i) × (at + size_of (row_of i) ≤ many)
+whole_by many at j i true is e =
+    let same : j ≡ i = cc in
+    let fits : at + size_of (row_of j) ≤ many = grind (arith, nat_tests) in
+    (same, subst (λ (k : Instr). at + size_of (row_of k) ≤ many) same fits)
+whole_by many at j i false is e = cc
+
+pub whole-some : (many at : ℕ) (o : Option Instr) (i : Instr) → whole many at o ≡ Some i → (o ≡ Some i) × (at + size_of (row_of i) ≤ many)
+whole-some many at None i e = cc
+whole-some many at (Some j) i e =
+    let h : (j ≡ i) × (at + size_of (row_of i) ≤ many) = whole_by many at j i (nat_le (at + size_of (row_of j)) many) refl e in
+    (ap (λ (k : Instr). Some k) h.0, h.1)
+
+pub whole-fits : (many at : ℕ) (i : Instr) → at + size_of (row_of i) ≤ many → whole many at (Some i) ≡ Some i
+whole-fits many at i h = grind (arith, nat_tests)
+
+-- the four bytes at an address
+abbrev front : List ℕ → ℕ → List ℕ
+front text at = slice_index text at ∷ slice_index text (at + 1) ∷ slice_index text (at + 2) ∷ slice_index text (at + 3) ∷ []
+
+-- bytes that the four at an address begin with stand there
+stand_front : (text : List ℕ) (at : ℕ) (bytes : List ℕ) → take (length bytes) (front text at) ≡ bytes → at + length bytes ≤ length text → StandAt text at bytes
+stand_front text at [] e h = omega arith
+stand_front text at (x ∷ []) e h = ((cc), omega arith)
+stand_front text at (x ∷ y ∷ []) e h = ((cc), ((cc), omega arith))
+stand_front text at (x ∷ y ∷ z ∷ []) e h =
+    let two : at + 1 + 1 ≡ at + 2 = omega arith in
+    ((cc), ((cc), (rw two (cc), omega arith)))
+stand_front text at (x ∷ y ∷ z ∷ w ∷ []) e h =
+    let two : at + 1 + 1 ≡ at + 2 = omega arith in
+    let three : at + 2 + 1 ≡ at + 3 = omega arith in
+    ((cc), ((cc), (rw two (cc), (rw (two, three) (cc), omega arith))))
+stand_front text at (x ∷ y ∷ z ∷ w ∷ v ∷ more) e h = absurd (cc)
+
+-- and the other way round
+front_stand : (text : List ℕ) (at : ℕ) (bytes : List ℕ) → length bytes ≤ 4 → StandAt text at bytes → take (length bytes) (front text at) ≡ bytes
+front_stand text at [] short h = refl
+front_stand text at (x ∷ []) short h = let e : slice_index text at ≡ x = h.0 in cc
+front_stand text at (x ∷ y ∷ []) short h =
+    let e : slice_index text at ≡ x = h.0 in
+    let f : slice_index text (at + 1) ≡ y = h.1.0 in
+    cc
+front_stand text at (x ∷ y ∷ z ∷ []) short h =
+    let two : at + 1 + 1 ≡ at + 2 = omega arith in
+    let e : slice_index text at ≡ x = h.0 in
+    let f : slice_index text (at + 1) ≡ y = h.1.0 in
+    let g : slice_index text (at + 1 + 1) ≡ z = h.1.1.0 in
+    cc
+front_stand text at (x ∷ y ∷ z ∷ w ∷ []) short h =
+    let two : at + 1 + 1 ≡ at + 2 = omega arith in
+    let three : at + 1 + 1 + 1 ≡ at + 3 = omega arith in
+    let e : slice_index text at ≡ x = h.0 in
+    let f : slice_index text (at + 1) ≡ y = h.1.0 in
+    let g : slice_index text (at + 1 + 1) ≡ z = h.1.1.0 in
+    let k : slice_index text (at + 1 + 1 + 1) ≡ w = h.1.1.1.0 in
+    cc
+front_stand text at (x ∷ y ∷ z ∷ w ∷ v ∷ more) short h = absurd (omega arith)
+
+stand_fits : (text : List ℕ) (at : ℕ) (bytes : List ℕ) → StandAt text at bytes → at + length bytes ≤ length text
+stand_fits text at [] h = omega arith
+stand_fits text at (x ∷ bytes) h = let rest : at + 1 + length bytes ≤ length text = stand_fits text (at + 1) bytes h.1 in omega arith
+
+size_least : (i : Instr) → 1 ≤ size_of (row_of i)
+size_least Nop = omega arith
+size_least (Bipush z) = omega arith
+size_least (LdcW k) = omega arith
+size_least (Iload k) = omega arith
+size_least (Istore k) = omega arith
+size_least Pop = omega arith
+size_least Dup = omega arith
+size_least Swap = omega arith
+size_least Iadd = omega arith
+size_least Isub = omega arith
+size_least Iand = omega arith
+size_least (Iinc k z) = omega arith
+size_least (Ifeq z) = omega arith
+size_least (Iflt z) = omega arith
+size_least (IfIcmpeq z) = omega arith
+size_least (Goto z) = omega arith
+size_least Ireturn = omega arith
+size_least Ior = omega arith
+size_least (Invokevirtual k) = omega arith
+size_least (WideIload k) = omega arith
+size_least (WideIstore k) = omega arith
+size_least In = omega arith
+size_least Out = omega arith
+size_least Err = omega arith
+size_least Halt = omega arith
+
+size_most : (i : Instr) → size_of (row_of i) ≤ 4
+size_most Nop = omega arith
+size_most (Bipush z) = omega arith
+size_most (LdcW k) = omega arith
+size_most (Iload k) = omega arith
+size_most (Istore k) = omega arith
+size_most Pop = omega arith
+size_most Dup = omega arith
+size_most Swap = omega arith
+size_most Iadd = omega arith
+size_most Isub = omega arith
+size_most Iand = omega arith
+size_most (Iinc k z) = omega arith
+size_most (Ifeq z) = omega arith
+size_most (Iflt z) = omega arith
+size_most (IfIcmpeq z) = omega arith
+size_most (Goto z) = omega arith
+size_most Ireturn = omega arith
+size_most Ior = omega arith
+size_most (Invokevirtual k) = omega arith
+size_most (WideIload k) = omega arith
+size_most (WideIstore k) = omega arith
+size_most In = omega arith
+size_most Out = omega arith
+size_most Err = omega arith
+size_most Halt = omega arith
+
+pub byte_below : (text : List ℕ) (k : ℕ) → All (λ (b : ℕ). b < 256) text → slice_index text k < 256
+byte_below [] k h = omega arith
+byte_below (x ∷ xs) zero h = h 0 0 (omega arith)
+byte_below (x ∷ xs) (suc k) h = byte_below xs k (λ j d below. h (suc j) d (omega arith))
+
+read_at : (text : List ℕ) (at : ℕ) (i : Instr) → at + size_of (row_of i) ≤ length text →
+    IsRead (slice_index text at) (slice_index text (at + 1)) (slice_index text (at + 2)) (slice_index text (at + 3)) i →
+    (bytes : List ℕ) × Spells bytes i × StandAt text at bytes × (length bytes ≡ size_of (row_of i))
+read_at text at i fits read =
+    elim read [
+      | inl e ↦ (spelling i, inl refl, stand_front text at (spelling i) e fits, refl)
+      | inr e ↦ (
+        0x80 ∷ [],
+        inr (e.0, refl),
+        (e.1, let one : 1 ≤ size_of (row_of i) = size_least i in omega arith),
+        let one : size_of (row_of i) ≡ 1 = rw e.0 refl in cc,
+      )
+    ]
+
+-- what is read at an address is spelled there
+pub instr_at-read : (text : List ℕ) (at : ℕ) (i : Instr) → All (λ (b : ℕ). b < 256) text → instr_at text at ≡ Some i →
+    (bytes : List ℕ) × Spells bytes i × StandAt text at bytes × (length bytes ≡ size_of (row_of i))
+unfolding instr_at
+instr_at-read text at i small e =
+    let found : (of_bytes (slice_index text at) (slice_index text (at + 1)) (slice_index text (at + 2)) (slice_index text (at + 3)) ≡ Some i)
+    × (at + size_of (row_of i) ≤ length text) = whole-some (length text) at _ i e in
+    read_at text at i found.1 (of_bytes-read _ _ _ _ i (byte_below text (at + 1) small) (byte_below text (at + 2) small) (byte_below text (at + 3) small) found.0)
+
+whole_spelled : (text : List ℕ) (at : ℕ) (i : Instr) → IsInstr i → StandAt text at (spelling i) → instr_at text at ≡ Some i
+unfolding instr_at
+whole_spelled text at i real stands =
+    let short : length (spelling i) ≤ 4 = size_most i in
+    let read : of_bytes (slice_index text at) (slice_index text (at + 1)) (slice_index text (at + 2)) (slice_index text (at + 3)) ≡ Some i =
+    of_bytes-spelling _ _ _ _ i real (front_stand text at (spelling i) short stands) in
+    ap (whole (length text) at) read ∙ whole-fits (length text) at i (stand_fits text at (spelling i) stands)
+
+whole_second : (text : List ℕ) (at : ℕ) → StandAt text at (0x80 ∷ []) → instr_at text at ≡ Some Ior
+unfolding instr_at of_bytes
+whole_second text at stands =
+    let first : slice_index text at ≡ 0x80 = stands.0 in
+    let fits : at + 1 ≤ length text = stands.1 in
+    rw first (whole-fits (length text) at Ior fits)
+
+-- and what is spelled there is read
+pub instr_at-spelled : (text : List ℕ) (at : ℕ) (i : Instr) (bytes : List ℕ) → IsInstr i → Spells bytes i → StandAt text at bytes → instr_at text at ≡ Some i
+instr_at-spelled text at i bytes real spells stands =
+    elim spells [
+      | inl e ↦ whole_spelled text at i real (subst (StandAt text at) e stands)
+      | inr e ↦ rw e.0 (whole_second text at (subst (StandAt text at) e.1 stands))
+    ]
+
+-- an instruction is read inside the text
+-- bytes that stand at an address are a part of the text
+pub stand_take : (text : List ℕ) (at : ℕ) (bytes : List ℕ) → StandAt text at bytes → take (length bytes) (drop at text) ≡ bytes
+stand_take text at [] h = refl
+stand_take text at (x ∷ xs) h =
+    let fits : at + 1 + length xs ≤ length text = stand_fits text (at + 1) xs h.1 in
+    let inside : at < length text = omega arith in
+    let more : drop at text ≡ slice_index text at ∷ drop (at + 1) text = drop_more text at 0 inside in
+    let rest : take (length xs) (drop (at + 1) text) ≡ xs = stand_take text (at + 1) xs h.1 in
+    let first : slice_index text at ≡ x = h.0 in
+    rw (more, first, rest) refl
+
+-- a part of a text stands there
+pub part_stands : (before bytes after : List ℕ) → StandAt (before ++ (bytes ++ after)) (length before) bytes
+part_stands before [] after = omega (arith, length-append before after)
+part_stands before (x ∷ xs) after =
+    let whole_text : (before ++ x ∷ []) ++ (xs ++ after) ≡ before ++ (x ∷ (xs ++ after)) = append_assoc before (x ∷ []) (xs ++ after) in
+    let place : length (before ++ x ∷ []) ≡ length before + 1 = length-append before (x ∷ []) in
+    let rest : StandAt ((before ++ x ∷ []) ++ (xs ++ after)) (length (before ++ x ∷ [])) xs = part_stands (before ++ x ∷ []) xs after in
+    (get_or-append_seam before x (xs ++ after), subst (λ (at : ℕ). StandAt (before ++ (x ∷ (xs ++ after))) at xs) place (subst (λ (text : List ℕ). StandAt text (length (before ++ x ∷ [])) xs) whole_text rest))
+  where
+    get_or-append_seam : (before : List ℕ) (x : ℕ) (after : List ℕ) → slice_index (before ++ x ∷ after) (length before) ≡ x
+    get_or-append_seam [] x after = refl
+    get_or-append_seam (y ∷ ys) x after = get_or-append_seam ys x after
+
+-- both spellings have the instruction's size
+pub length-spelled : (i : Instr) (bytes : List ℕ) → Spells bytes i → length bytes ≡ size_of (row_of i)
+length-spelled i bytes spells = elim spells [ inl e ↦ ap length e | inr e ↦ rw (e.0, e.1) refl ]
+
+-- what an instruction's bytes and anything behind them are read as
+pub front-decoded : (bytes : List ℕ) (i : Instr) (front rest : List ℕ) → IsInstr i → Spells front i → bytes ≡ front ++ rest → instr_at bytes 0 ≡ Some i
+front-decoded bytes i front rest real spells e =
+    instr_at-spelled bytes 0 i front real spells (subst (λ (text : List ℕ). StandAt text 0 front) (sym e) (part_stands [] front rest))
+
+-- the front of what is read
+pub decoded-front : (bytes : List ℕ) (i : Instr) → All (λ (b : ℕ). b < 256) bytes → instr_at bytes 0 ≡ Some i →
+    Spells (take (size_of (row_of i)) bytes) i × (size_of (row_of i) ≤ length bytes)
+decoded-front bytes i small e =
+    let read : (front : List ℕ) × Spells front i × StandAt bytes 0 front × (length front ≡ size_of (row_of i)) = instr_at-read bytes 0 i small e in
+    let part : take (length read.0) bytes ≡ read.0 = stand_take bytes 0 read.0 read.2 in
+    let fits : 0 + length read.0 ≤ length bytes = stand_fits bytes 0 read.0 read.2 in
+    let size : length read.0 ≡ size_of (row_of i) = read.3 in
+    (subst (λ (n : ℕ). Spells (take n bytes) i) size (subst (λ (xs : List ℕ). Spells xs i) (sym part) read.1), omega arith)

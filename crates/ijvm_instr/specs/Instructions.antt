@@ -1,0 +1,187 @@
+-- The instruction table: chapter 4 of the book, with this profile's codes for IN, OUT, ERR and HALT, and each machine's cycles.
+use Rattle.std.specs.Prelude.{◌≡◌, ◌≤◌, ◌<◌, ◌⊎◌, FitsSigned, ℕ, ℤ, ◌+◌, ◌*◌, ◌/◌, ◌%◌, Bool, true, false, if◌then◌else◌, nat_le, ◌==◌, List, [], ◌∷◌, ◌++◌, length, slice_index, Option, Some, None, codes}
+use Rattle.std.specs.Int.{w8, w16, w32, cast_signed, cast_unsigned}
+use Rattle.machine_words.specs.Arithmetic.{plus}
+use Rattle.ijvm_instr.specs.declared.instr.Instr.{Instr}
+use Rattle.ijvm_instr.specs.declared.instr.Instr.TheVariants.{Nop, Bipush, LdcW, Iload, Istore, Pop, Dup, Swap, Iadd, Isub, Iand, Iinc, Ifeq, Iflt, IfIcmpeq, Goto, Ireturn, Ior, Invokevirtual, WideIload, WideIstore, In, Out, Err, Halt}
+use Rattle.ijvm_instr.specs.declared.row.Row.{Row}
+use Rattle.ijvm_instr.specs.declared.row.Operands.{Operands}
+use Rattle.ijvm_instr.specs.declared.row.Operands.TheVariants.{None as NoOperands, Byte, Local, LocalByte, Index, Offset}
+use Rattle.ijvm_instr.specs.declared.row.Flow.TheVariants.{Next, Jump, Branch, Call, Return, End}
+use Rattle.ijvm_instr.specs.declared.row.Cost.TheVariants.{Always, IfTaken, ByEntry}
+
+-- a row without operands that goes on to the next instruction: its opcode, what it needs and gives, and its cycles on Mic-1 and Mic-2
+abbrev pub plain : ℕ → ℕ → ℕ → ℕ → ℕ → Row
+plain opcode needs gives mic1 mic2 =
+    record {
+      wide = false;
+      opcode = opcode;
+      operands = NoOperands;
+      needs = needs;
+      gives = gives;
+      flow = Next;
+      constant = None;
+      reads = None;
+      stores = None;
+      mic1 = Always mic1;
+      mic2 = Always mic2;
+    }
+
+-- a branch: its opcode, what it needs, its offset, and its cycles on Mic-1 and Mic-2, each taken and not
+abbrev pub branch : ℕ → ℕ → ℤ → ℕ → ℕ → ℕ → ℕ → Row
+branch opcode needs offset taken1 not1 taken2 not2 =
+    record (plain opcode needs 0 0 0) { operands = Offset offset; flow = Branch offset; mic1 = IfTaken taken1 not1; mic2 = IfTaken taken2 not2 }
+
+-- the table
+abbrev pub row_of : Instr → Row
+row_of Nop = plain 0x00 0 0 2 1
+row_of (Bipush b) = record (plain 0x10 0 1 4 2) { operands = Byte b }
+row_of (LdcW k) = record (plain 0x13 0 1 8 3) { operands = Index k; constant = Some k }
+row_of (Iload k) = record (plain 0x15 0 1 6 3) { operands = Local k; reads = Some k }
+row_of (Istore k) = record (plain 0x36 1 0 7 5) { operands = Local k; stores = Some k }
+row_of Pop = plain 0x57 1 0 4 3
+row_of Dup = plain 0x59 1 2 3 2
+row_of Swap = plain 0x5F 2 2 7 6
+row_of Iadd = plain 0x60 2 1 4 3
+row_of Isub = plain 0x64 2 1 4 3
+row_of Iand = plain 0x7E 2 1 4 3
+row_of (Iinc k b) = record (plain 0x84 0 0 7 3) { operands = LocalByte k b; reads = Some k }
+row_of (Ifeq o) = branch 0x99 1 o 11 8 8 6
+row_of (Iflt o) = branch 0x9B 1 o 11 8 8 6
+row_of (IfIcmpeq o) = branch 0x9F 2 o 13 10 10 8
+row_of (Goto o) = record (plain 0xA7 0 0 7 4) { operands = Offset o; flow = Jump o }
+row_of Ireturn = record (plain 0xAC 1 0 9 8) { flow = Return }
+row_of Ior = plain 0xB0 2 1 4 3
+row_of (Invokevirtual k) = record (plain 0xB6 0 1 23 0) { operands = Index k; constant = Some k; flow = Call k; mic2 = ByEntry 12 13 }
+row_of (WideIload k) = record (plain 0x15 0 1 9 4) { wide = true; operands = Index k; reads = Some k }
+row_of (WideIstore k) = record (plain 0x36 1 0 10 6) { wide = true; operands = Index k; stores = Some k }
+row_of In = plain 0xFC 0 1 6 5
+row_of Out = plain 0xFD 1 0 8 7
+row_of Err = record (plain 0xFE 0 0 1 0) { flow = End }
+row_of Halt = record (plain 0xFF 0 0 1 0) { flow = End }
+
+-- the table's names
+abbrev pub name_of : Instr → List ℕ
+name_of Nop = codes "NOP"
+name_of (Bipush b) = codes "BIPUSH"
+name_of (LdcW k) = codes "LDC_W"
+name_of (Iload k) = codes "ILOAD"
+name_of (Istore k) = codes "ISTORE"
+name_of Pop = codes "POP"
+name_of Dup = codes "DUP"
+name_of Swap = codes "SWAP"
+name_of Iadd = codes "IADD"
+name_of Isub = codes "ISUB"
+name_of Iand = codes "IAND"
+name_of (Iinc k b) = codes "IINC"
+name_of (Ifeq o) = codes "IFEQ"
+name_of (Iflt o) = codes "IFLT"
+name_of (IfIcmpeq o) = codes "IF_ICMPEQ"
+name_of (Goto o) = codes "GOTO"
+name_of Ireturn = codes "IRETURN"
+name_of Ior = codes "IOR"
+name_of (Invokevirtual k) = codes "INVOKEVIRTUAL"
+name_of (WideIload k) = codes "WIDE ILOAD"
+name_of (WideIstore k) = codes "WIDE ISTORE"
+name_of In = codes "IN"
+name_of Out = codes "OUT"
+name_of Err = codes "ERR"
+name_of Halt = codes "HALT"
+
+-- a signed number as a word
+abbrev pub word_of : ℤ → ℕ
+word_of z = cast_unsigned w32 z
+
+-- the target of a jump at this address
+abbrev pub target : ℕ → ℤ → ℕ
+target at o = plus at (word_of o)
+
+-- two bytes, the high one first
+abbrev pub two_bytes : ℕ → List ℕ
+two_bytes n = n / 256 ∷ n % 256 ∷ []
+
+abbrev pub operand_bytes : Operands → List ℕ
+operand_bytes NoOperands = []
+operand_bytes (Byte b) = cast_unsigned w8 b ∷ []
+operand_bytes (Local k) = k ∷ []
+operand_bytes (LocalByte k b) = k ∷ cast_unsigned w8 b ∷ []
+operand_bytes (Index k) = two_bytes k
+operand_bytes (Offset o) = two_bytes (cast_unsigned w16 o)
+
+-- the operands' numbers are in the ranges of their types
+abbrev pub AreInRange : Operands → Type 0
+AreInRange NoOperands = Unit {0}
+AreInRange (Byte b) = FitsSigned w8 b
+AreInRange (Local k) = k < 256
+AreInRange (LocalByte k b) = (k < 256) × FitsSigned w8 b
+AreInRange (Index k) = k < 65536
+AreInRange (Offset o) = FitsSigned w16 o
+
+abbrev pub IsInstr : Instr → Type 0
+IsInstr i = AreInRange (row_of i).operands
+
+-- the prefix of a row's opcode
+abbrev pub prefix : Bool → List ℕ
+prefix true = 0xC4 ∷ []
+prefix false = []
+
+-- the bytes of a row's instruction
+abbrev pub bytes_of : Row → List ℕ
+bytes_of r = prefix r.wide ++ r.opcode ∷ operand_bytes r.operands
+
+-- the bytes of an instruction, as they are written
+abbrev pub spelling : Instr → List ℕ
+spelling i = bytes_of (row_of i)
+
+-- the size of a row's instruction, in bytes
+abbrev pub size_of : Row → ℕ
+size_of r = length (bytes_of r)
+
+-- these bytes are read as this instruction: 80 is a second spelling of IOR
+abbrev pub Spells : List ℕ → Instr → Type 0
+Spells bytes i = (bytes ≡ spelling i) ⊎ ((i ≡ Ior) × (bytes ≡ 0x80 ∷ []))
+
+-- these bytes stand at this address of a text
+abbrev pub StandAt : List ℕ → ℕ → List ℕ → Type 0
+StandAt text at [] = at ≤ length text
+StandAt text at (byte ∷ bytes) = (slice_index text at ≡ byte) × StandAt text (at + 1) bytes
+
+-- the instruction that begins with these four bytes, of which it may need fewer
+unfoldable pub of_bytes : ℕ → ℕ → ℕ → ℕ → Option Instr
+of_bytes a b c d =
+    if a == 0x00 then Some Nop else
+    if a == 0x10 then Some (Bipush (cast_signed w8 b)) else
+    if a == 0x13 then Some (LdcW (256 * b + c)) else
+    if a == 0x15 then Some (Iload b) else
+    if a == 0x36 then Some (Istore b) else
+    if a == 0x57 then Some Pop else
+    if a == 0x59 then Some Dup else
+    if a == 0x5F then Some Swap else
+    if a == 0x60 then Some Iadd else
+    if a == 0x64 then Some Isub else
+    if a == 0x7E then Some Iand else
+    if a == 0x80 then Some Ior else
+    if a == 0x84 then Some (Iinc b (cast_signed w8 c)) else
+    if a == 0x99 then Some (Ifeq (cast_signed w16 (256 * b + c))) else
+    if a == 0x9B then Some (Iflt (cast_signed w16 (256 * b + c))) else
+    if a == 0x9F then Some (IfIcmpeq (cast_signed w16 (256 * b + c))) else
+    if a == 0xA7 then Some (Goto (cast_signed w16 (256 * b + c))) else
+    if a == 0xAC then Some Ireturn else
+    if a == 0xB0 then Some Ior else
+    if a == 0xB6 then Some (Invokevirtual (256 * b + c)) else
+    if a == 0xC4 then (if b == 0x15 then Some (WideIload (256 * c + d)) else
+    if b == 0x36 then Some (WideIstore (256 * c + d)) else None) else
+    if a == 0xFC then Some In else
+    if a == 0xFD then Some Out else
+    if a == 0xFE then Some Err else
+    if a == 0xFF then Some Halt else None
+
+-- the instruction, if it ends inside a text of so many bytes
+abbrev pub whole : ℕ → ℕ → Option Instr → Option Instr
+whole many at None = None
+whole many at (Some i) = if nat_le (at + size_of (row_of i)) many then Some i else None
+
+-- the whole instruction at this byte address of a text
+unfoldable pub instr_at : List ℕ → ℕ → Option Instr
+instr_at text at =
+    whole (length text) at (of_bytes (slice_index text at) (slice_index text (at + 1)) (slice_index text (at + 2)) (slice_index text (at + 3)))

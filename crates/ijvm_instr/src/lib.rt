@@ -1,0 +1,14 @@
+//! IJVM's instructions: the table, their bytes both ways, their text.
+#![tactic(auto)]
+
+pub mod decode;
+pub mod encode;
+pub mod instr;
+pub mod print;
+pub mod row;
+
+pub use decode::{decode_at, decode_instr};
+pub use encode::encode_instr;
+pub use instr::Instr;
+pub use print::{name, print_instr, print_name, target_of};
+pub use row::{Cost, Flow, Operands, Row};

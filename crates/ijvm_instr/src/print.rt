@@ -1,0 +1,100 @@
+//! The text of an instruction in lists and traces.
+
+ghost use Rattle.std.specs.Prelude.{◌≡◌, ◌+◌, ◌≤◌, ◌<◌, ◌++◌, length, unsigned_abs};
+ghost use Rattle.ijvm_instr.specs.Instructions.{name_of, row_of};
+ghost use Rattle.ijvm_instr.specs.Instructions.{target};
+ghost use Rattle.ijvm_instr.specs.Text.{number_text, operand_text, instr_text};
+
+use crate::instr::Instr;
+use crate::row::Operands;
+use mic_base::Line;
+
+/// The mnemonic.
+pub fn name(instr: Instr) -> &'static str
+    ensures is { result.now ≡ name_of instr }
+    ensures len { length result.now ≤ 13 }
+{
+    match instr {
+        Instr::Nop => "NOP",
+        Instr::Bipush(_) => "BIPUSH",
+        Instr::LdcW(_) => "LDC_W",
+        Instr::Iload(_) => "ILOAD",
+        Instr::Istore(_) => "ISTORE",
+        Instr::Pop => "POP",
+        Instr::Dup => "DUP",
+        Instr::Swap => "SWAP",
+        Instr::Iadd => "IADD",
+        Instr::Isub => "ISUB",
+        Instr::Iand => "IAND",
+        Instr::Iinc(_, _) => "IINC",
+        Instr::Ifeq(_) => "IFEQ",
+        Instr::Iflt(_) => "IFLT",
+        Instr::IfIcmpeq(_) => "IF_ICMPEQ",
+        Instr::Goto(_) => "GOTO",
+        Instr::Ireturn => "IRETURN",
+        Instr::Ior => "IOR",
+        Instr::Invokevirtual(_) => "INVOKEVIRTUAL",
+        Instr::WideIload(_) => "WIDE ILOAD",
+        Instr::WideIstore(_) => "WIDE ISTORE",
+        Instr::In => "IN",
+        Instr::Out => "OUT",
+        Instr::Err => "ERR",
+        Instr::Halt => "HALT",
+    }
+}
+
+/// The target of a jump at this address.
+#[tactic(auto, unfolding(machine_words::specs::Arithmetic::wrap))]
+pub fn target_of(at: u32, offset: i16) -> u32
+    ensures { result ≡ target at offset }
+{
+    at.wrapping_add(i32::from(offset).cast_unsigned())
+}
+
+/// Appends a space and a number.
+fn print_number(value: i64, line: &mut Line)
+    requires small { unsigned_abs value < 100000 }
+    requires room { length line.old + 8 ≤ 512 }
+    ensures text { line.new ≡ line.old ++ number_text value }
+    ensures len { length line.new ≤ length line.old + 8 }
+{
+    line.text(" ");
+    line.dec(value);
+}
+
+fn print_operands(operands: Operands, at: u32, line: &mut Line)
+    requires { length line.old + 16 ≤ 512 }
+    ensures { line.new ≡ line.old ++ operand_text at operands }
+{
+    match operands {
+        Operands::None => {}
+        Operands::Byte(byte) => print_number(i64::from(byte), line),
+        Operands::Local(local) => print_number(i64::from(local), line),
+        Operands::LocalByte(local, byte) => {
+            print_number(i64::from(local), line);
+            print_number(i64::from(byte), line);
+        }
+        Operands::Index(index) => print_number(i64::from(index), line),
+        Operands::Offset(offset) => {
+            line.text(" ");
+            line.hex(u64::from(target_of(at, offset)), 8);
+        }
+    }
+}
+
+/// Appends an instruction's mnemonic.
+pub fn print_name(instr: Instr, line: &mut Line)
+    requires { length line.old + 64 ≤ 512 }
+    ensures { line.new ≡ line.old ++ name_of instr }
+{
+    line.text(name(instr));
+}
+
+/// Appends an instruction's text, as it stands at this byte address.
+pub fn print_instr(instr: Instr, at: u32, line: &mut Line)
+    requires { length line.old + 64 ≤ 512 }
+    ensures { line.new ≡ line.old ++ instr_text instr at }
+{
+    line.text(name(instr));
+    print_operands(instr.row().operands, at, line);
+}

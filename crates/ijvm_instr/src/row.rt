@@ -1,0 +1,215 @@
+//! The instruction table.
+
+ghost use Rattle.std.specs.Prelude.{◌≡◌, ◌≤◌, length};
+ghost use Rattle.ijvm_instr.specs.Instructions.{plain, branch, row_of, operand_bytes, size_of};
+
+use crate::instr::Instr;
+
+/// What stands behind an opcode.
+#[derive(Clone, Copy, Debug, PartialEq, Eq)]
+pub enum Operands {
+    None,
+    /// A signed byte.
+    Byte(i8),
+    /// A local of one byte.
+    Local(u8),
+    /// A local of one byte and a signed byte.
+    LocalByte(u8, i8),
+    /// A constant or a local of two bytes, the high one first.
+    Index(u16),
+    /// The distance of a jump from its opcode's address, of two bytes, the high one first.
+    Offset(i16),
+}
+
+/// Where an instruction leads.
+#[derive(Clone, Copy, Debug, PartialEq, Eq)]
+pub enum Flow {
+    Next,
+    Jump(i16),
+    /// To the next instruction or to the jump's target.
+    Branch(i16),
+    /// Into the method whose entry this constant is, and from there to the next instruction.
+    Call(u16),
+    Return,
+    End,
+}
+
+/// What a machine spends on an instruction, in cycles.
+#[derive(Clone, Copy, Debug, PartialEq, Eq)]
+pub enum Cost {
+    Always(u64),
+    IfTaken { taken: u64, not: u64 },
+    /// `late` where the method's entry is 3 modulo 4.
+    ByEntry { early: u64, late: u64 },
+}
+
+/// A row of the instruction table.
+#[derive(Clone, Copy, Debug, PartialEq, Eq)]
+pub struct Row {
+    /// The opcode stands behind the prefix WIDE.
+    pub wide: bool,
+    pub opcode: u8,
+    pub operands: Operands,
+    /// The operands that it needs on the stack; a call needs its method's parameters.
+    pub needs: u32,
+    /// The operands that stand in the place of those.
+    pub gives: u32,
+    pub flow: Flow,
+    /// The constant that it names.
+    pub constant: Option<u16>,
+    /// The local that it reads.
+    pub reads: Option<u16>,
+    /// The local that it stores to without a read.
+    pub stores: Option<u16>,
+    pub mic1: Cost,
+    pub mic2: Cost,
+}
+
+impl Operands {
+    /// How many bytes they have.
+    pub fn size(self) -> u32
+        ensures { result ≡ length (operand_bytes self) }
+    {
+        match self {
+            Operands::None => 0,
+            Operands::Byte(_) | Operands::Local(_) => 1,
+            Operands::LocalByte(_, _) | Operands::Index(_) | Operands::Offset(_) => 2,
+        }
+    }
+}
+
+impl Row {
+    /// A row without operands that goes on to the next instruction.
+    fn plain(opcode: u8, needs: u32, gives: u32, mic1: u64, mic2: u64) -> Row
+        ensures { result ≡ plain opcode needs gives mic1 mic2 }
+    {
+        Row {
+            wide: false,
+            opcode,
+            operands: Operands::None,
+            needs,
+            gives,
+            flow: Flow::Next,
+            constant: None,
+            reads: None,
+            stores: None,
+            mic1: Cost::Always(mic1),
+            mic2: Cost::Always(mic2),
+        }
+    }
+
+    /// A branch, with its cycles where it is taken and where it is not.
+    fn branch(opcode: u8, needs: u32, offset: i16, mic1: (u64, u64), mic2: (u64, u64)) -> Row
+        ensures { result ≡ branch opcode needs offset mic1.0 mic1.1 mic2.0 mic2.1 }
+    {
+        Row {
+            operands: Operands::Offset(offset),
+            flow: Flow::Branch(offset),
+            mic1: Cost::IfTaken {
+                taken: mic1.0,
+                not: mic1.1,
+            },
+            mic2: Cost::IfTaken {
+                taken: mic2.0,
+                not: mic2.1,
+            },
+            ..Row::plain(opcode, needs, 0, 0, 0)
+        }
+    }
+
+    /// How many bytes its instruction has, 1 to 4.
+    pub fn size(self) -> u32
+        ensures is { result ≡ size_of self }
+        ensures least { 1 ≤ result }
+        ensures most { result ≤ 4 }
+    {
+        let opcode = if self.wide { 2 } else { 1 };
+        opcode + self.operands.size()
+    }
+}
+
+impl Instr {
+    /// Its row of the table.
+    pub fn row(self) -> Row
+        ensures { result ≡ row_of self }
+    {
+        match self {
+            Instr::Nop => Row::plain(0x00, 0, 0, 2, 1),
+            Instr::Bipush(b) => Row {
+                operands: Operands::Byte(b),
+                ..Row::plain(0x10, 0, 1, 4, 2)
+            },
+            Instr::LdcW(k) => Row {
+                operands: Operands::Index(k),
+                constant: Some(k),
+                ..Row::plain(0x13, 0, 1, 8, 3)
+            },
+            Instr::Iload(k) => Row {
+                operands: Operands::Local(k),
+                reads: Some(u16::from(k)),
+                ..Row::plain(0x15, 0, 1, 6, 3)
+            },
+            Instr::Istore(k) => Row {
+                operands: Operands::Local(k),
+                stores: Some(u16::from(k)),
+                ..Row::plain(0x36, 1, 0, 7, 5)
+            },
+            Instr::Pop => Row::plain(0x57, 1, 0, 4, 3),
+            Instr::Dup => Row::plain(0x59, 1, 2, 3, 2),
+            Instr::Swap => Row::plain(0x5F, 2, 2, 7, 6),
+            Instr::Iadd => Row::plain(0x60, 2, 1, 4, 3),
+            Instr::Isub => Row::plain(0x64, 2, 1, 4, 3),
+            Instr::Iand => Row::plain(0x7E, 2, 1, 4, 3),
+            Instr::Iinc(k, b) => Row {
+                operands: Operands::LocalByte(k, b),
+                reads: Some(u16::from(k)),
+                ..Row::plain(0x84, 0, 0, 7, 3)
+            },
+            Instr::Ifeq(o) => Row::branch(0x99, 1, o, (11, 8), (8, 6)),
+            Instr::Iflt(o) => Row::branch(0x9B, 1, o, (11, 8), (8, 6)),
+            Instr::IfIcmpeq(o) => Row::branch(0x9F, 2, o, (13, 10), (10, 8)),
+            Instr::Goto(o) => Row {
+                operands: Operands::Offset(o),
+                flow: Flow::Jump(o),
+                ..Row::plain(0xA7, 0, 0, 7, 4)
+            },
+            Instr::Ireturn => Row {
+                flow: Flow::Return,
+                ..Row::plain(0xAC, 1, 0, 9, 8)
+            },
+            Instr::Ior => Row::plain(0xB0, 2, 1, 4, 3),
+            Instr::Invokevirtual(k) => Row {
+                operands: Operands::Index(k),
+                flow: Flow::Call(k),
+                constant: Some(k),
+                mic2: Cost::ByEntry {
+                    early: 12,
+                    late: 13,
+                },
+                ..Row::plain(0xB6, 0, 1, 23, 0)
+            },
+            Instr::WideIload(k) => Row {
+                wide: true,
+                operands: Operands::Index(k),
+                reads: Some(k),
+                ..Row::plain(0x15, 0, 1, 9, 4)
+            },
+            Instr::WideIstore(k) => Row {
+                wide: true,
+                operands: Operands::Index(k),
+                stores: Some(k),
+                ..Row::plain(0x36, 1, 0, 10, 6)
+            },
+            Instr::In => Row::plain(0xFC, 0, 1, 6, 5),
+            Instr::Out => Row::plain(0xFD, 1, 0, 8, 7),
+            Instr::Err => Row {
+                flow: Flow::End,
+                ..Row::plain(0xFE, 0, 0, 1, 0)
+            },
+            Instr::Halt => Row {
+                flow: Flow::End,
+                ..Row::plain(0xFF, 0, 0, 1, 0)
+            },
+        }
+    }
+}

@@ -1,0 +1,5 @@
+pub mod Frames
+pub mod Step
+pub mod Cost
+pub mod Run
+pub mod Safe

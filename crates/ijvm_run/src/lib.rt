@@ -1,0 +1,6 @@
+//! The definition of IJVM's run: frames, what each instruction does to them, what it costs, and how a run goes on and ends.
+#![tactic(auto)]
+
+pub mod run;
+
+pub use run::RunEnd;

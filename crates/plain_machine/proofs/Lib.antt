@@ -1,0 +1,11 @@
+pub mod Stacks
+pub mod Placed
+pub mod Calls
+pub mod Turned
+pub mod Limited
+pub mod SafeLemmas
+pub mod Costs
+pub mod Running
+pub mod Behind
+pub mod Told
+pub mod Hello

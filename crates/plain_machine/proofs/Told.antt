@@ -1,0 +1,281 @@
+-- What a run reports, from how it was driven.
+use Rattle.std.proofs.Common.{◌≡◌, ◌≢◌, ◌<◌, ℕ, ◌+◌, ◌-◌, Bool, false, List, [], ◌∷◌, ◌++◌, append_assoc, Option, Some, None, IfSome, Result, Ok, Err, refl, sym, ap, ap₂, subst, ◌∙◌, arith}
+use Rattle.std.specs.declared.alloc.AllocError.{AllocError}
+use Rattle.std.proofs.lemmas.List.{append-nil, append_cancel_left}
+use Rattle.mic_base.specs.Streams.{Holds}
+use Rattle.machine_words.specs.declared.machine.Machine.{Machine}
+use Rattle.console_port.specs.View.{ConsoleView}
+use Rattle.console_port.specs.Console.{Untaken, Given, IsLost}
+use Rattle.plain_machine.specs.declared.frames.StepError.{StepError}
+use Rattle.plain_machine.specs.declared.frames.StepError.TheVariants as errors
+use Rattle.ijvm_run.specs.declared.run.RunEnd.{RunEnd}
+use Rattle.ijvm_run.specs.declared.run.RunEnd.TheVariants as defined
+use Rattle.plain_machine.specs.declared.plain.PlainEnd.{PlainEnd}
+use Rattle.plain_machine.specs.declared.plain.PlainEnd.TheVariants as ends
+use Rattle.plain_machine.specs.declared.plain.PlainReport.{PlainReport}
+use Rattle.plain_machine.specs.declared.plain.Counts.{Counts}
+use Rattle.ijvm_instr.specs.Instructions.{instr_at}
+use Rattle.ijvm_image.specs.Image.{ImageView}
+use Rattle.ijvm_run.specs.Frames.{Frame, State, frames_of, base}
+use Rattle.ijvm_run.specs.Safe.{SameFrames}
+use Rattle.ijvm_run.specs.Run.{Program, Point, Finish, first_point, EndsBy, Passes, Start}
+use Rattle.plain_machine.specs.Machine.{MachineView, state_of, started}
+use Rattle.plain_machine.specs.Steps.{IsMetBy}
+use Rattle.plain_machine.specs.Runs.{program_of, point_at, IsCut, EndsIn, StoppedBy, IsShown, LedTo}
+use Rattle.plain_machine.specs.Plain.{told_of, end_of, Reports, GotFront, Finishes, Stops, HasRun, IsCutByRead, IsCutInside, IsCutAtEnd, IsShort}
+use Rattle.plain_machine.proofs.SafeLemmas.{some_untaken}
+use Rattle.plain_machine.proofs.Running.{lost_shown}
+use Rattle.plain_machine.proofs.Behind.{behind, point_behind, finish_behind, ended_behind, passed_behind}
+
+-- a report of these counts and of these frames' places
+pub record IsReportOf (r : PlainReport) (c : Counts) (new : MachineView) : Type 0 where
+  pub cycles : r.cycles ≡ c.cycles
+  pub instructions : r.instructions ≡ c.instructions
+  pub boundary : r.boundary ≡ c.boundary
+  pub address : r.address ≡ new.at
+  pub sp : r.sp + 1 ≡ base (new.running ∷ new.callers)
+  pub lv : r.lv ≡ base new.callers
+
+reports : (r : PlainReport) (c : Counts) (new : MachineView) (u g : List ℕ) (cycles instructions : ℕ) (last : Point) → IsReportOf r c new →
+    cycles ≡ c.cycles → instructions ≡ c.instructions → last.cycles ≡ c.boundary → SameFrames last.state (state_of new u g) → Reports r cycles instructions last
+reports r c new u g cycles instructions last is all one boundary same =
+    let places : base (new.running ∷ new.callers) ≡ base (frames_of last.state) = ap₂ (λ (f : Frame) (fs : List Frame). base (f ∷ fs)) same.running same.callers in
+    let above : r.sp + 1 ≡ base (frames_of last.state) = is.sp ∙ places in
+    record {
+      cycles_are = is.cycles ∙ sym all;
+      instructions_are = is.instructions ∙ sym one;
+      boundary = is.boundary ∙ sym boundary;
+      address = is.address ∙ same.at;
+      sp = before r.sp (base (frames_of last.state)) above;
+      lv = is.lv ∙ ap base same.callers;
+    }
+  where
+    before : (x y : ℕ) → x + 1 ≡ y → x ≡ y - 1
+    before x y e = omega arith
+
+-- The definition's own run, without the bytes that the sink held before.
+
+record IsEndOf (front : List ℕ) (f : Finish) (end : RunEnd) (c : Counts) (new : MachineView) (u g : List ℕ) : Type 0 where
+  pub is_end : f.end ≡ end
+  pub boundary : f.last.cycles ≡ c.boundary
+  pub cycles : f.cycles ≡ c.cycles
+  pub instructions : f.instructions ≡ c.instructions
+  pub frames : SameFrames f.last.state (state_of new u g)
+  pub untaken : f.left.untaken ≡ u
+  pub given : front ++ f.left.given ≡ g
+
+ends_behind : (front : List ℕ) (p : Program) (bound : ℕ) (from : Point) (end : RunEnd) (c : Counts) (new : MachineView) (u g : List ℕ) → EndsIn end p bound (point_behind front from) c new u g →
+    (f : Finish) × EndsBy p bound from f × IsEndOf front f end c new u g
+ends_behind front p bound from end c new u g (e, same) =
+    let b = ended_behind p bound front from e.finish e.ends in
+    let is : e.finish ≡ finish_behind front b.0 = b.2 in
+    let last : SameFrames e.finish.last.state (state_of new u g) = subst (λ (s : State). SameFrames e.finish.last.state s) e.left e.last in
+    let h : SameFrames (behind front b.0.last.state) (state_of new u g) = subst (λ (x : Finish). SameFrames x.last.state (state_of new u g)) is last in (
+      b.0,
+      b.1,
+      record {
+        is_end = sym (ap (λ (x : Finish). x.end) is) ∙ same;
+        boundary = sym (ap (λ (x : Finish). x.last.cycles) is) ∙ e.boundary;
+        cycles = sym (ap (λ (x : Finish). x.cycles) is) ∙ e.cycles;
+        instructions = sym (ap (λ (x : Finish). x.instructions) is) ∙ e.instructions;
+        frames = record { running = h.running; callers = h.callers; at = h.at };
+        untaken = sym (ap (λ (x : Finish). x.left.untaken) is) ∙ ap (λ (s : State). s.untaken) e.left;
+        given = sym (ap (λ (x : Finish). x.left.given) is) ∙ ap (λ (s : State). s.given) e.left;
+      },
+    )
+
+record IsCutOf (e : StepError) (front : List ℕ) (p : Program) (bound : ℕ) (at : Point) (c : Counts) (new : MachineView) (u g : List ℕ) : Type 0 where
+  pub under : at.cycles < bound
+  pub met : IsMetBy e (instr_at p.image.text at.state.at)
+  pub boundary : at.cycles ≡ c.boundary
+  pub cycles : at.cycles ≡ c.cycles
+  pub instructions : at.instructions ≡ c.instructions
+  pub frames : SameFrames at.state (state_of new u g)
+  pub untaken : at.state.untaken ≡ u
+  pub given : front ++ at.state.given ≡ g
+
+cut_behind : (e : StepError) (front : List ℕ) (p : Program) (bound : ℕ) (from : Point) (c : Counts) (new : MachineView) (u g : List ℕ) → IsCut e p bound (point_behind front from) c new u g →
+    (at : Point) × Passes p bound from at × IsCutOf e front p bound at c new u g
+cut_behind e front p bound from c new u g cut =
+    let b = passed_behind p bound front from cut.at cut.passes in
+    let is : cut.at ≡ point_behind front b.0 = b.2 in
+    let state : behind front b.0.state ≡ state_of new u g = sym (ap (λ (x : Point). x.state) is) ∙ cut.state in (
+      b.0,
+      b.1,
+      record {
+        under = subst (λ (x : Point). x.cycles < bound) is cut.under;
+        met = subst (λ (x : Point). IsMetBy e (instr_at p.image.text x.state.at)) is cut.met;
+        boundary = sym (ap (λ (x : Point). x.cycles) is) ∙ cut.boundary;
+        cycles = sym (ap (λ (x : Point). x.cycles) is) ∙ cut.cycles;
+        instructions = sym (ap (λ (x : Point). x.instructions) is) ∙ cut.instructions;
+        frames = record { running = sym (ap (λ (s : State). s.running) state); callers = sym (ap (λ (s : State). s.callers) state); at = sym (ap (λ (s : State). s.at) state) };
+        untaken = ap (λ (s : State). s.untaken) state;
+        given = ap (λ (s : State). s.given) state;
+      },
+    )
+
+-- what the sink got, after a flush that was done
+got_all : (front out all : List ℕ) (held : Option (List ℕ)) → Given held [] all → front ++ out ≡ all → IfSome held (λ h. h ≡ front ++ out)
+got_all front out all None shown e = tt
+got_all front out all (Some h) shown e = sym (append-nil h) ∙ sym shown ∙ sym e
+
+-- what the sink got, where it holds a front of all
+got_front : (front out all : List ℕ) (held : Option (List ℕ)) → Holds front held → IfSome held (λ h. (more : List ℕ) × (all ≡ h ++ more)) → front ++ out ≡ all →
+    IfSome held (λ h. (some more : List ℕ) × (h ≡ front ++ some) × (some ++ more ≡ out))
+got_front front out all None holds shown e = tt
+got_front front out all (Some h) holds shown e =
+    let parts : front ++ (holds.0 ++ shown.0) ≡ front ++ out = sym (append_assoc front holds.0 shown.0) ∙ ap (λ (xs : List ℕ). xs ++ shown.0) (sym holds.1) ∙ sym shown.1 ∙ sym e in
+    (holds.0, shown.0, holds.1, append_cancel_left front (holds.0 ++ shown.0) out parts)
+
+kept_front : (kept all : List ℕ) (held : Option (List ℕ)) → Given held kept all → IfSome held (λ h. (more : List ℕ) × (all ≡ h ++ more))
+kept_front kept all None shown = tt
+kept_front kept all (Some h) shown = (kept, shown)
+
+told_given : (held : Option (List ℕ)) → Given held [] (told_of held ++ [])
+told_given None = tt
+told_given (Some h) = refl
+
+-- a run that was driven from its first boundary to this stop: what the source and the sink told before it, and what came of it
+pub record Driven (stop : Result PlainEnd AllocError) (left held left' held' : Option (List ℕ)) (c' : ConsoleView) (p : Program) (main_locals bound : ℕ) (c : Counts) (new : MachineView) : Type 0 where
+  pub input : List ℕ
+  pub told : Untaken left false input
+  pub rest : List ℕ
+  pub untaken : Untaken left' c'.ended rest
+  pub all : List ℕ
+  pub shown : IsShown stop held' c'.kept all
+  pub stopped : StoppedBy stop p bound (point_behind (told_of held) (first_point main_locals input)) c new rest all
+
+pub driven : (stop : Result PlainEnd AllocError) (left held left' held' : Option (List ℕ)) (c0 c' : ConsoleView) (image : ImageView) (n main_locals bound : ℕ) (machine : Machine) (c : Counts) (old new : MachineView) →
+    c0.kept ≡ [] → c0.ended ≡ false → old ≡ started image n main_locals →
+    LedTo (IsShown stop) left held c0 left' held' c' (λ u g u' g'. StoppedBy stop (program_of old machine) bound (point_at old 2 0 u g) c new u' g') →
+    Driven stop left held left' held' c' (record { image = image; stack_end = n; machine = machine }) main_locals bound c new
+driven stop left held left' held' c0 c' image n main_locals bound machine c old new kept ended is led =
+    let rest = some_untaken left' c'.ended in
+    let first = led rest.0 rest.1 in
+    let next = first.2 (told_of held ++ []) (subst (λ (k : List ℕ). Given held k (told_of held ++ [])) (sym kept) (told_given held)) in
+    record {
+      input = first.0;
+      told = subst (λ (b : Bool). Untaken left b first.0) ended first.1;
+      rest = rest.0;
+      untaken = rest.1;
+      all = next.0;
+      shown = next.1;
+      stopped = subst (λ (m : MachineView). StoppedBy stop (program_of m machine) bound (point_at m 2 0 first.0 (told_of held ++ [])) c new rest.0 next.0) is next.2;
+    }
+
+abbrev finishes : (left held left' held' : Option (List ℕ)) (p : Program) (main_locals bound : ℕ) (ended : Bool) (input rest all : List ℕ) (end : RunEnd) (c : Counts) (new : MachineView) →
+    Untaken left false input → Untaken left' ended rest → (f : Finish) → EndsBy p bound (first_point main_locals input) f → f.left.untaken ≡ rest →
+    Finishes p main_locals bound left held left' held'
+finishes left held left' held' p main_locals bound ended input rest all end c new told untaken f by is =
+    record { input = input; told = told; finish = f; ends = by; ended = ended; untaken = subst (λ (xs : List ℕ). Untaken left' ended xs) (sym is) untaken }
+
+-- the run has ended as the definition's
+has_run : (end : RunEnd) (left held left' held' : Option (List ℕ)) (p : Program) (main_locals bound : ℕ) (ended : Bool) (input rest all : List ℕ) (c : Counts) (new : MachineView) (r : PlainReport) →
+    Untaken left false input → Untaken left' ended rest → EndsIn end p bound (point_behind (told_of held) (first_point main_locals input)) c new rest all → Given held' [] all →
+    IsReportOf r c new → r.end ≡ end_of end → HasRun p main_locals bound left held left' held' r
+has_run end left held left' held' p main_locals bound ended input rest all c new r told untaken e shown is by =
+    let b = ends_behind (told_of held) p bound (first_point main_locals input) end c new rest all e in
+    record {
+      run = finishes left held left' held' p main_locals bound ended input rest all end c new told untaken b.0 b.1 b.2.untaken;
+      end = by ∙ ap end_of (sym b.2.is_end);
+      report = reports r c new rest all b.0.cycles b.0.instructions b.0.last is b.2.cycles b.2.instructions b.2.boundary b.2.frames;
+      given = got_all (told_of held) b.0.left.given all held' shown b.2.given;
+    }
+
+-- the run has ended, but the last flush failed
+cut_at_end : (end : RunEnd) (left held left' held' : Option (List ℕ)) (p : Program) (main_locals bound : ℕ) (ended : Bool) (input rest all : List ℕ) (c : Counts) (new : MachineView) (r : PlainReport) →
+    Untaken left false input → Untaken left' ended rest → EndsIn end p bound (point_behind (told_of held) (first_point main_locals input)) c new rest all → IsShown (Ok ends.WriteFault) held' [] all →
+    Holds (told_of held) held' → IsReportOf r c new → IsCutAtEnd p main_locals bound left held left' held' r
+cut_at_end end left held left' held' p main_locals bound ended input rest all c new r told untaken e shown holds is =
+    let b = ends_behind (told_of held) p bound (first_point main_locals input) end c new rest all e in
+    record {
+      run = finishes left held left' held' p main_locals bound ended input rest all end c new told untaken b.0 b.1 b.2.untaken;
+      report = reports r c new rest all b.0.cycles b.0.instructions b.0.last is b.2.cycles b.2.instructions b.2.boundary b.2.frames;
+      given = got_front (told_of held) b.0.left.given all held' holds shown b.2.given;
+    }
+
+-- whichever end it is
+pub ran : (end : PlainEnd) (left held left' held1 held' : Option (List ℕ)) (c1 : ConsoleView) (p : Program) (main_locals bound : ℕ) (c : Counts) (new : MachineView) (r : PlainReport) →
+    end ≢ ends.ReadFault → end ≢ ends.WriteFault → Driven (Ok end) left held left' held1 c1 p main_locals bound c new → ((g : List ℕ) → Given held1 c1.kept g → Given held' [] g) →
+    IsReportOf r c new → r.end ≡ end → HasRun p main_locals bound left held left' held' r
+ran ends.Halt left held left' held1 held' c1 p main_locals bound c new r n m d flushed is by =
+    has_run defined.Halt left held left' held' p main_locals bound c1.ended d.input d.rest d.all c new r d.told d.untaken d.stopped (flushed d.all d.shown) is by
+ran ends.Err left held left' held1 held' c1 p main_locals bound c new r n m d flushed is by =
+    has_run defined.Err left held left' held' p main_locals bound c1.ended d.input d.rest d.all c new r d.told d.untaken d.stopped (flushed d.all d.shown) is by
+ran ends.Bound left held left' held1 held' c1 p main_locals bound c new r n m d flushed is by =
+    has_run defined.Bound left held left' held' p main_locals bound c1.ended d.input d.rest d.all c new r d.told d.untaken d.stopped (flushed d.all d.shown) is by
+ran ends.StackLimit left held left' held1 held' c1 p main_locals bound c new r n m d flushed is by =
+    has_run defined.StackLimit left held left' held' p main_locals bound c1.ended d.input d.rest d.all c new r d.told d.untaken d.stopped (flushed d.all d.shown) is by
+ran ends.ReadFault left held left' held1 held' c1 p main_locals bound c new r n m d flushed is by = absurd (n refl)
+ran ends.WriteFault left held left' held1 held' c1 p main_locals bound c new r n m d flushed is by = absurd (m refl)
+
+pub unflushed : (end : PlainEnd) (left held left' held1 held' : Option (List ℕ)) (c1 : ConsoleView) (kept : List ℕ) (p : Program) (main_locals bound : ℕ) (c : Counts) (new : MachineView) (r : PlainReport) →
+    end ≢ ends.ReadFault → end ≢ ends.WriteFault → Driven (Ok end) left held left' held1 c1 p main_locals bound c new → IsLost held1 c1.kept held' kept → Holds (told_of held) held' →
+    IsReportOf r c new → IsCutAtEnd p main_locals bound left held left' held' r
+unflushed ends.Halt left held left' held1 held' c1 kept p main_locals bound c new r n m d lost holds is =
+    cut_at_end defined.Halt left held left' held' p main_locals bound c1.ended d.input d.rest d.all c new r d.told d.untaken d.stopped (lost_shown held1 held' c1.kept kept d.all lost d.shown) holds is
+unflushed ends.Err left held left' held1 held' c1 kept p main_locals bound c new r n m d lost holds is =
+    cut_at_end defined.Err left held left' held' p main_locals bound c1.ended d.input d.rest d.all c new r d.told d.untaken d.stopped (lost_shown held1 held' c1.kept kept d.all lost d.shown) holds is
+unflushed ends.Bound left held left' held1 held' c1 kept p main_locals bound c new r n m d lost holds is =
+    cut_at_end defined.Bound left held left' held' p main_locals bound c1.ended d.input d.rest d.all c new r d.told d.untaken d.stopped (lost_shown held1 held' c1.kept kept d.all lost d.shown) holds is
+unflushed ends.StackLimit left held left' held1 held' c1 kept p main_locals bound c new r n m d lost holds is =
+    cut_at_end defined.StackLimit left held left' held' p main_locals bound c1.ended d.input d.rest d.all c new r d.told d.untaken d.stopped (lost_shown held1 held' c1.kept kept d.all lost d.shown) holds is
+unflushed ends.ReadFault left held left' held1 held' c1 kept p main_locals bound c new r n m d lost holds is = absurd (n refl)
+unflushed ends.WriteFault left held left' held1 held' c1 kept p main_locals bound c new r n m d lost holds is = absurd (m refl)
+
+abbrev stops : (left held left' held' : Option (List ℕ)) (p : Program) (main_locals bound : ℕ) (ended : Bool) (input rest : List ℕ) → Untaken left false input → Untaken left' ended rest →
+    (at : Point) → Passes p bound (first_point main_locals input) at → at.state.untaken ≡ rest → Stops p main_locals bound left held left' held'
+stops left held left' held' p main_locals bound ended input rest told untaken at passes is =
+    record { input = input; told = told; at = at; passes = passes; ended = ended; untaken = subst (λ (xs : List ℕ). Untaken left' ended xs) (sym is) untaken }
+
+pub cut_by_read : (left held left' held1 held' : Option (List ℕ)) (c1 : ConsoleView) (p : Program) (main_locals bound : ℕ) (c : Counts) (new : MachineView) (r : PlainReport) →
+    Driven (Ok ends.ReadFault) left held left' held1 c1 p main_locals bound c new → ((g : List ℕ) → Given held1 c1.kept g → Given held' [] g) → IsReportOf r c new →
+    IsCutByRead p main_locals bound left held left' held' r
+cut_by_read left held left' held1 held' c1 p main_locals bound c new r d flushed is =
+    let b = cut_behind errors.ReadFault (told_of held) p bound (first_point main_locals d.input) c new d.rest d.all d.stopped in
+    record {
+      run = stops left held left' held' p main_locals bound c1.ended d.input d.rest d.told d.untaken b.0 b.1 b.2.untaken;
+      under = b.2.under;
+      instr = b.2.met.read refl;
+      report = reports r c new d.rest d.all b.0.cycles b.0.instructions b.0 is b.2.cycles b.2.instructions b.2.boundary b.2.frames;
+      given = got_all (told_of held) b.0.state.given d.all held' (flushed d.all d.shown) b.2.given;
+    }
+
+pub cut_inside : (left held left' held1 held' : Option (List ℕ)) (c1 : ConsoleView) (p : Program) (main_locals bound : ℕ) (c : Counts) (new : MachineView) (r : PlainReport) →
+    Driven (Ok ends.WriteFault) left held left' held1 c1 p main_locals bound c new → held' ≡ held1 → Holds (told_of held) held1 → IsReportOf r c new →
+    IsCutInside p main_locals bound left held left' held' r
+cut_inside left held left' held1 held' c1 p main_locals bound c new r d same holds is =
+    let b = cut_behind errors.WriteFault (told_of held) p bound (first_point main_locals d.input) c new d.rest d.all d.stopped in
+    record {
+      run = stops left held left' held' p main_locals bound c1.ended d.input d.rest d.told d.untaken b.0 b.1 b.2.untaken;
+      under = b.2.under;
+      instr = b.2.met.write refl;
+      report = reports r c new d.rest d.all b.0.cycles b.0.instructions b.0 is b.2.cycles b.2.instructions b.2.boundary b.2.frames;
+      given = subst (λ (h : Option (List ℕ)). GotFront held h b.0.state.given) (sym same) (got_front (told_of held) b.0.state.given d.all held1 holds d.shown b.2.given);
+    }
+
+pub short : (e : AllocError) (left held left' held' : Option (List ℕ)) (c1 : ConsoleView) (p : Program) (main_locals bound : ℕ) (c : Counts) (new : MachineView) →
+    Driven (Err e) left held left' held' c1 p main_locals bound c new → Holds (told_of held) held' → IsShort p main_locals bound left held left' held'
+short e left held left' held' c1 p main_locals bound c new d holds =
+    let b = cut_behind errors.OutOfMemory (told_of held) p bound (first_point main_locals d.input) c new d.rest d.all d.stopped in
+    record {
+      run = stops left held left' held' p main_locals bound c1.ended d.input d.rest d.told d.untaken b.0 b.1 b.2.untaken;
+      given = got_front (told_of held) b.0.state.given d.all held' holds (kept_front c1.kept d.all held' d.shown) b.2.given;
+    }
+
+-- there was no memory before the first boundary
+pub short_first : (left held : Option (List ℕ)) (p : Program) (main_locals bound : ℕ) → IsShort p main_locals bound left held left held
+short_first left held p main_locals bound =
+    let input = some_untaken left false in
+    record {
+      run = stops left held left held p main_locals bound false input.0 input.0 input.1 input.1 (first_point main_locals input.0) (Start _ refl) refl;
+      given = nothing held;
+    }
+  where
+    nothing : (h : Option (List ℕ)) → GotFront h h []
+    nothing None = tt
+    nothing (Some h) = ([], [], sym (append-nil h), refl)
+
+pub holds_told : (held : Option (List ℕ)) → Holds (told_of held) held
+holds_told None = tt
+holds_told (Some h) = ([], sym (append-nil h))

@@ -1,0 +1,4 @@
+pub mod Machine
+pub mod Steps
+pub mod Runs
+pub mod Plain

@@ -1,0 +1,104 @@
+-- What a run of the plain machine over a source and a sink reports: the definition's run to its end, or to the boundary at which a fault cut it.
+use Rattle.std.specs.Prelude.{◌≡◌, ◌⊎◌, ℕ, ◌<◌, Bool, false, List, [], ◌++◌, Option, Some, IfSome, unwrap_or}
+use Rattle.machine_words.specs.declared.machine.Machine.{Machine}
+use Rattle.console_port.specs.Console.{Untaken}
+use Rattle.console_port.specs.declared.map.MemoryMap.{MemoryMap}
+use Rattle.ijvm_instr.specs.declared.instr.Instr.TheVariants.{In, Out}
+use Rattle.ijvm_run.specs.declared.run.RunEnd.{RunEnd}
+use Rattle.ijvm_run.specs.declared.run.RunEnd.TheVariants as defined
+use Rattle.plain_machine.specs.declared.plain.PlainEnd.{PlainEnd}
+use Rattle.plain_machine.specs.declared.plain.PlainEnd.TheVariants as ends
+use Rattle.plain_machine.specs.declared.plain.PlainReport.{PlainReport}
+use Rattle.ijvm_instr.specs.Instructions.{instr_at}
+use Rattle.ijvm_image.specs.Image.{ImageView}
+use Rattle.ijvm_run.specs.Frames.{sp_of, lv_of}
+use Rattle.ijvm_run.specs.Run.{Program, Point, Finish, first_point, EndsBy, Passes}
+
+-- what a source or a sink tells, or nothing
+abbrev pub told_of : Option (List ℕ) → List ℕ
+told_of told = unwrap_or told []
+
+-- an image on a memory map, with a machine's cycles
+abbrev pub program : ImageView → MemoryMap → Machine → Program
+program image map machine = record { image = image; stack_end = map.stack_end; machine = machine }
+
+-- an end of the definition's run, as it is reported
+abbrev pub end_of : RunEnd → PlainEnd
+end_of defined.Halt = ends.Halt
+end_of defined.Err = ends.Err
+end_of defined.Bound = ends.Bound
+end_of defined.StackLimit = ends.StackLimit
+
+-- the counts of a report, and its last boundary
+pub record Reports (r : PlainReport) (cycles instructions : ℕ) (last : Point) : Type 0 where
+  pub cycles_are : r.cycles ≡ cycles
+  pub instructions_are : r.instructions ≡ instructions
+  pub boundary : r.boundary ≡ last.cycles
+  pub address : r.address ≡ last.state.at
+  pub sp : r.sp ≡ sp_of last.state
+  pub lv : r.lv ≡ lv_of last.state
+
+-- A sink that held this got all of these bytes; a front of them.
+
+abbrev pub GotAll : Option (List ℕ) → Option (List ℕ) → List ℕ → Type 0
+GotAll held held' given = IfSome held' (λ h. h ≡ told_of held ++ given)
+
+abbrev pub GotFront : Option (List ℕ) → Option (List ℕ) → List ℕ → Type 0
+GotFront held held' given = IfSome held' (λ h. (some more : List ℕ) × (h ≡ told_of held ++ some) × (some ++ more ≡ given))
+
+module _ (p : Program) (main_locals bound : ℕ) (left held left' held' : Option (List ℕ)) where
+  -- the definition's run of the bytes that the source has left, where it tells them, goes to its end
+  pub record Finishes : Type 0 where
+    pub input : List ℕ
+    pub told : Untaken left false input
+    pub finish : Finish
+    pub ends : EndsBy p bound (first_point main_locals input) finish
+    -- whether the end of the input was met
+    pub ended : Bool
+    pub untaken : Untaken left' ended finish.left.untaken
+
+  -- that run goes to a boundary that it passes
+  pub record Stops : Type 0 where
+    pub input : List ℕ
+    pub told : Untaken left false input
+    pub at : Point
+    pub passes : Passes p bound (first_point main_locals input) at
+    pub ended : Bool
+    pub untaken : Untaken left' ended at.state.untaken
+
+  -- no fault came: the end is the definition's, and the sink has got all its output
+  pub record HasRun (r : PlainReport) : Type 0 where
+    pub run : Finishes
+    pub end : r.end ≡ end_of run.finish.end
+    pub report : Reports r run.finish.cycles run.finish.instructions run.finish.last
+    pub given : GotAll held held' run.finish.left.given
+
+  -- the source failed at an IN: the sink has got all that was given before it
+  pub record IsCutByRead (r : PlainReport) : Type 0 where
+    pub run : Stops
+    pub under : run.at.cycles < bound
+    pub instr : instr_at p.image.text run.at.state.at ≡ Some In
+    pub report : Reports r run.at.cycles run.at.instructions run.at
+    pub given : GotAll held held' run.at.state.given
+
+  -- the sink failed at an IN or an OUT
+  pub record IsCutInside (r : PlainReport) : Type 0 where
+    pub run : Stops
+    pub under : run.at.cycles < bound
+    pub instr : (instr_at p.image.text run.at.state.at ≡ Some In) ⊎ (instr_at p.image.text run.at.state.at ≡ Some Out)
+    pub report : Reports r run.at.cycles run.at.instructions run.at
+    pub given : GotFront held held' run.at.state.given
+
+  -- the sink failed in the last flush
+  pub record IsCutAtEnd (r : PlainReport) : Type 0 where
+    pub run : Finishes
+    pub report : Reports r run.finish.cycles run.finish.instructions run.finish.last
+    pub given : GotFront held held' run.finish.left.given
+
+  abbrev pub IsCutByWrite : PlainReport → Type 0
+  IsCutByWrite r = IsCutInside r ⊎ IsCutAtEnd r
+
+  -- there was no memory for the instruction at a boundary, or before the first one
+  pub record IsShort : Type 0 where
+    pub run : Stops
+    pub given : GotFront held held' run.at.state.given
