@@ -3,10 +3,10 @@ use Rattle.std.specs.Prelude.{◌≡◌, ◌≤◌, ◌<◌, ◌⊎◌, FitsSign
 use Rattle.std.specs.Int.{w8, w16, w32, cast_signed, cast_unsigned}
 use Rattle.machine_words.specs.Arithmetic.{plus}
 use Rattle.ijvm_instr.specs.declared.instr.Instr.{Instr}
-use Rattle.ijvm_instr.specs.declared.instr.Instr.TheVariants.{Nop, Bipush, LdcW, Iload, Istore, Pop, Dup, Swap, Iadd, Isub, Iand, Iinc, Ifeq, Iflt, IfIcmpeq, Goto, Ireturn, Ior, Invokevirtual, WideIload, WideIstore, In, Out, Err, Halt}
+use Rattle.ijvm_instr.specs.declared.instr.Instr.TheVariants.{Nop, Bipush, LdcW, Iload, Istore, Pop, Dup, Swap, Iadd, Isub, Iand, Iinc, Ifeq, Iflt, IfIcmpeq, Goto, Ireturn, Ior, Invokevirtual, WideIload, WideIstore, WideIinc, In, Out, Err, Halt}
 use Rattle.ijvm_instr.specs.declared.row.Row.{Row}
 use Rattle.ijvm_instr.specs.declared.row.Operands.{Operands}
-use Rattle.ijvm_instr.specs.declared.row.Operands.TheVariants.{None as NoOperands, Byte, Local, LocalByte, Index, Offset}
+use Rattle.ijvm_instr.specs.declared.row.Operands.TheVariants.{None as NoOperands, Byte, Local, LocalByte, Index, IndexHalf, Offset}
 use Rattle.ijvm_instr.specs.declared.row.Flow.TheVariants.{Next, Jump, Branch, Call, Return, End}
 use Rattle.ijvm_instr.specs.declared.row.Cost.TheVariants.{Always, IfTaken, ByEntry}
 
@@ -55,6 +55,7 @@ row_of Ior = plain 0xB0 2 1 4 3
 row_of (Invokevirtual k) = record (plain 0xB6 0 1 23 0) { operands = Index k; constant = Some k; flow = Call k; mic2 = ByEntry 12 13 }
 row_of (WideIload k) = record (plain 0x15 0 1 9 4) { wide = true; operands = Index k; reads = Some k }
 row_of (WideIstore k) = record (plain 0x36 1 0 10 6) { wide = true; operands = Index k; stores = Some k }
+row_of (WideIinc k n) = record (plain 0x84 0 0 12 5) { wide = true; operands = IndexHalf k n; reads = Some k }
 row_of In = plain 0xFC 0 1 6 5
 row_of Out = plain 0xFD 1 0 8 7
 row_of Err = record (plain 0xFE 0 0 1 0) { flow = End }
@@ -83,6 +84,7 @@ name_of Ior = codes "IOR"
 name_of (Invokevirtual k) = codes "INVOKEVIRTUAL"
 name_of (WideIload k) = codes "WIDE ILOAD"
 name_of (WideIstore k) = codes "WIDE ISTORE"
+name_of (WideIinc k n) = codes "WIDE IINC"
 name_of In = codes "IN"
 name_of Out = codes "OUT"
 name_of Err = codes "ERR"
@@ -106,6 +108,7 @@ operand_bytes (Byte b) = cast_unsigned w8 b ∷ []
 operand_bytes (Local k) = k ∷ []
 operand_bytes (LocalByte k b) = k ∷ cast_unsigned w8 b ∷ []
 operand_bytes (Index k) = two_bytes k
+operand_bytes (IndexHalf k n) = two_bytes k ++ two_bytes (cast_unsigned w16 n)
 operand_bytes (Offset o) = two_bytes (cast_unsigned w16 o)
 
 -- the operands' numbers are in the ranges of their types
@@ -115,6 +118,7 @@ AreInRange (Byte b) = FitsSigned w8 b
 AreInRange (Local k) = k < 256
 AreInRange (LocalByte k b) = (k < 256) × FitsSigned w8 b
 AreInRange (Index k) = k < 65536
+AreInRange (IndexHalf k n) = (k < 65536) × FitsSigned w16 n
 AreInRange (Offset o) = FitsSigned w16 o
 
 abbrev pub IsInstr : Instr → Type 0
@@ -146,9 +150,9 @@ abbrev pub StandAt : List ℕ → ℕ → List ℕ → Type 0
 StandAt text at [] = at ≤ length text
 StandAt text at (byte ∷ bytes) = (slice_index text at ≡ byte) × StandAt text (at + 1) bytes
 
--- the instruction that begins with these four bytes, of which it may need fewer
-unfoldable pub of_bytes : ℕ → ℕ → ℕ → ℕ → Option Instr
-of_bytes a b c d =
+-- the instruction that begins with these six bytes, of which it may need fewer
+unfoldable pub of_bytes : ℕ → ℕ → ℕ → ℕ → ℕ → ℕ → Option Instr
+of_bytes a b c d e f =
     if a == 0x00 then Some Nop else
     if a == 0x10 then Some (Bipush (cast_signed w8 b)) else
     if a == 0x13 then Some (LdcW (256 * b + c)) else
@@ -170,11 +174,18 @@ of_bytes a b c d =
     if a == 0xB0 then Some Ior else
     if a == 0xB6 then Some (Invokevirtual (256 * b + c)) else
     if a == 0xC4 then (if b == 0x15 then Some (WideIload (256 * c + d)) else
-    if b == 0x36 then Some (WideIstore (256 * c + d)) else None) else
+    if b == 0x36 then Some (WideIstore (256 * c + d)) else
+    if b == 0x84 then Some (WideIinc (256 * c + d) (cast_signed w16 (256 * e + f))) else None) else
     if a == 0xFC then Some In else
     if a == 0xFD then Some Out else
     if a == 0xFE then Some Err else
     if a == 0xFF then Some Halt else None
+
+-- the instruction that begins at this byte address of a text, where bytes past the end count as 0
+abbrev pub begun_at : List ℕ → ℕ → Option Instr
+begun_at text at =
+    of_bytes (slice_index text at) (slice_index text (at + 1)) (slice_index text (at + 2))
+    (slice_index text (at + 3)) (slice_index text (at + 4)) (slice_index text (at + 5))
 
 -- the instruction, if it ends inside a text of so many bytes
 abbrev pub whole : ℕ → ℕ → Option Instr → Option Instr
@@ -183,5 +194,4 @@ whole many at (Some i) = if nat_le (at + size_of (row_of i)) many then Some i el
 
 -- the whole instruction at this byte address of a text
 unfoldable pub instr_at : List ℕ → ℕ → Option Instr
-instr_at text at =
-    whole (length text) at (of_bytes (slice_index text at) (slice_index text (at + 1)) (slice_index text (at + 2)) (slice_index text (at + 3)))
+instr_at text at = whole (length text) at (begun_at text at)

@@ -17,6 +17,8 @@ pub enum Operands {
     LocalByte(u8, i8),
     /// A constant or a local of two bytes, the high one first.
     Index(u16),
+    /// A local of two bytes and a signed number of two bytes.
+    IndexHalf(u16, i16),
     /// The distance of a jump from its opcode's address, of two bytes, the high one first.
     Offset(i16),
 }
@@ -74,6 +76,7 @@ impl Operands {
             Operands::None => 0,
             Operands::Byte(_) | Operands::Local(_) => 1,
             Operands::LocalByte(_, _) | Operands::Index(_) | Operands::Offset(_) => 2,
+            Operands::IndexHalf(_, _) => 4,
         }
     }
 }
@@ -117,11 +120,11 @@ impl Row {
         }
     }
 
-    /// How many bytes its instruction has, 1 to 4.
+    /// How many bytes its instruction has, 1 to 6.
     pub fn size(self) -> u32
         ensures is { result ≡ size_of self }
         ensures least { 1 ≤ result }
-        ensures most { result ≤ 4 }
+        ensures most { result ≤ 6 }
     {
         let opcode = if self.wide { 2 } else { 1 };
         opcode + self.operands.size()
@@ -199,6 +202,12 @@ impl Instr {
                 operands: Operands::Index(k),
                 stores: Some(k),
                 ..Row::plain(0x36, 1, 0, 10, 6)
+            },
+            Instr::WideIinc(k, n) => Row {
+                wide: true,
+                operands: Operands::IndexHalf(k, n),
+                reads: Some(k),
+                ..Row::plain(0x84, 0, 0, 12, 5)
             },
             Instr::In => Row::plain(0xFC, 0, 1, 6, 5),
             Instr::Out => Row::plain(0xFD, 1, 0, 8, 7),
