@@ -4,6 +4,7 @@ use Rattle.std.proofs.lemmas.Bool.Decides.{nat_tests}
 use Rattle.std.proofs.lemmas.List.{drop_more}
 use Rattle.std.specs.Int.{w8, w16, cast_signed, cast_unsigned}
 use Rattle.std.proofs.lemmas.Int.{of_z-to_z, to_z-of_z}
+use Rattle.std.proofs.Math.Facts.{sfits_to_z, Fits-of_lt}
 use Rattle.ijvm_instr.specs.declared.instr.Instr.{Instr}
 use Rattle.ijvm_instr.specs.declared.instr.Instr.TheVariants.{Nop, Bipush, LdcW, Iload, Istore, Pop, Dup, Swap, Iadd, Isub, Iand, Iinc, Ifeq, Iflt, IfIcmpeq, Goto, Ireturn, Ior, Invokevirtual, WideIload, WideIstore, WideIinc, In, Out, Err, Halt}
 use Rattle.ijvm_instr.specs.Instructions.{of_bytes, begun_at, instr_at, whole, spelling, size_of, row_of, Spells, StandAt, IsInstr}
@@ -321,7 +322,6 @@ instr_at-spelled text at i bytes real spells stands =
       | inr e ↦ rw e.0 (whole_second text at (subst (StandAt text at) e.1 stands))
     ]
 
--- an instruction is read inside the text
 -- bytes that stand at an address are a part of the text
 pub stand_take : (text : List ℕ) (at : ℕ) (bytes : List ℕ) → StandAt text at bytes → take (length bytes) (drop at text) ≡ bytes
 stand_take text at [] h = refl
@@ -364,3 +364,73 @@ decoded-front bytes i small e =
     let fits : 0 + length read.0 ≤ length bytes = stand_fits bytes 0 read.0 read.2 in
     let size : length read.0 ≡ size_of (row_of i) = read.3 in
     (subst (λ (n : ℕ). Spells (take n bytes) i) size (subst (λ (xs : List ℕ). Spells xs i) (sym part) read.1), omega arith)
+
+-- What is read has operands in the ranges of their types.
+
+half_fits : (b c : ℕ) → b < 256 → c < 256 → 256 * b + c < 65536
+half_fits b c hb hc = omega arith
+
+signed_byte_fits : (b : ℕ) → b < 256 → FitsSigned w8 (cast_signed w8 b)
+signed_byte_fits b hb = sfits_to_z {w = w8} (Fits-of_lt {w = w8} hb)
+
+signed_half_fits : (b c : ℕ) → b < 256 → c < 256 → FitsSigned w16 (cast_signed w16 (256 * b + c))
+signed_half_fits b c hb hc = sfits_to_z {w = w16} (Fits-of_lt {w = w16} (half_fits b c hb hc))
+
+wide_is_real : (b c d e f : ℕ) (i : Instr) → c < 256 → d < 256 → e < 256 → f < 256 →
+    (if b == 0x15 then Some (WideIload (256 * c + d)) else (if b == 0x36 then Some (WideIstore (256 * c + d)) else
+    (if b == 0x84 then Some (WideIinc (256 * c + d) (cast_signed w16 (256 * e + f))) else None))) ≡ Some i → IsInstr i
+wide_is_real b c d e f i hc hd he hf =
+    chosen IsInstr b 0x15 (WideIload (256 * c + d)) _ i (λ x. half_fits c d hc hd)
+    (chosen IsInstr b 0x36 (WideIstore (256 * c + d)) _ i (λ x. half_fits c d hc hd)
+    (chosen IsInstr b 0x84 (WideIinc (256 * c + d) (cast_signed w16 (256 * e + f))) _ i (λ x. (half_fits c d hc hd, signed_half_fits e f he hf)) (λ x. absurd (cc))))
+
+of_bytes-real : (a b c d e f : ℕ) (i : Instr) → b < 256 → c < 256 → d < 256 → e < 256 → f < 256 → of_bytes a b c d e f ≡ Some i → IsInstr i
+unfolding of_bytes
+of_bytes-real a b c d e f i hb hc hd he hf =
+    chosen IsInstr a 0x00 Nop _ i (λ x. tt)
+    (chosen IsInstr a 0x10 (Bipush (cast_signed w8 b)) _ i (λ x. signed_byte_fits b hb)
+    (chosen IsInstr a 0x13 (LdcW (256 * b + c)) _ i (λ x. half_fits b c hb hc)
+    (chosen IsInstr a 0x15 (Iload b) _ i (λ x. hb)
+    (chosen IsInstr a 0x36 (Istore b) _ i (λ x. hb)
+    (chosen IsInstr a 0x57 Pop _ i (λ x. tt)
+    (chosen IsInstr a 0x59 Dup _ i (λ x. tt)
+    (chosen IsInstr a 0x5F Swap _ i (λ x. tt)
+    (chosen IsInstr a 0x60 Iadd _ i (λ x. tt)
+    (chosen IsInstr a 0x64 Isub _ i (λ x. tt)
+    (chosen IsInstr a 0x7E Iand _ i (λ x. tt)
+    (chosen IsInstr a 0x80 Ior _ i (λ x. tt)
+    (chosen IsInstr a 0x84 (Iinc b (cast_signed w8 c)) _ i (λ x. (hb, signed_byte_fits c hc))
+    (chosen IsInstr a 0x99 (Ifeq (cast_signed w16 (256 * b + c))) _ i (λ x. signed_half_fits b c hb hc)
+    (chosen IsInstr a 0x9B (Iflt (cast_signed w16 (256 * b + c))) _ i (λ x. signed_half_fits b c hb hc)
+    (chosen IsInstr a 0x9F (IfIcmpeq (cast_signed w16 (256 * b + c))) _ i (λ x. signed_half_fits b c hb hc)
+    (chosen IsInstr a 0xA7 (Goto (cast_signed w16 (256 * b + c))) _ i (λ x. signed_half_fits b c hb hc)
+    (chosen IsInstr a 0xAC Ireturn _ i (λ x. tt)
+    (chosen IsInstr a 0xB0 Ior _ i (λ x. tt)
+    (chosen IsInstr a 0xB6 (Invokevirtual (256 * b + c)) _ i (λ x. half_fits b c hb hc)
+    (chosen_wide IsInstr a 0xC4 _ _ i (λ e1 x. wide_is_real b c d e f i hc hd he hf x)
+    (chosen IsInstr a 0xFC In _ i (λ x. tt)
+    (chosen IsInstr a 0xFD Out _ i (λ x. tt)
+    (chosen IsInstr a 0xFE Err _ i (λ x. tt)
+    (chosen IsInstr a 0xFF Halt _ i (λ x. tt)
+    (λ x. absurd (cc))))))))))))))))))))))))))
+
+-- what is read at an address has operands in range
+pub instr_at-real : (text : List ℕ) (at : ℕ) (i : Instr) → All (λ (b : ℕ). b < 256) text → instr_at text at ≡ Some i → IsInstr i
+unfolding instr_at
+instr_at-real text at i small e =
+    let found : (begun_at text at ≡ Some i) × (at + size_of (row_of i) ≤ length text) = whole-some (length text) at _ i e in
+    of_bytes-real _ _ _ _ _ _ i (byte_below text (at + 1) small) (byte_below text (at + 2) small) (byte_below text (at + 3) small)
+    (byte_below text (at + 4) small) (byte_below text (at + 5) small) found.0
+
+-- and stands inside the text
+pub instr_at-ends : (text : List ℕ) (at : ℕ) (i : Instr) → instr_at text at ≡ Some i → at + size_of (row_of i) ≤ length text
+unfolding instr_at
+instr_at-ends text at i e =
+    let found : (begun_at text at ≡ Some i) × (at + size_of (row_of i) ≤ length text) = whole-some (length text) at _ i e in
+    found.1
+
+pub instr_at-begins : (text : List ℕ) (at : ℕ) (i : Instr) → instr_at text at ≡ Some i → at < length text
+instr_at-begins text at i e =
+    let one : 1 ≤ size_of (row_of i) = size_least i in
+    let end : at + size_of (row_of i) ≤ length text = instr_at-ends text at i e in
+    omega arith

@@ -27,12 +27,26 @@ plain opcode needs gives mic1 mic2 =
       mic2 = Always mic2;
     }
 
+-- the same behind the prefix WIDE
+abbrev pub wide : ℕ → ℕ → ℕ → ℕ → ℕ → Row
+wide opcode needs gives mic1 mic2 = record (plain opcode needs gives mic1 mic2) { wide = true }
+
+-- a jump: its opcode, its offset, and its cycles on Mic-1 and Mic-2
+abbrev pub jump : ℕ → ℤ → ℕ → ℕ → Row
+jump opcode offset mic1 mic2 = record (plain opcode 0 0 mic1 mic2) { operands = Offset offset; flow = Jump offset }
+
 -- a branch: its opcode, what it needs, its offset, and its cycles on Mic-1 and Mic-2, each taken and not
 abbrev pub branch : ℕ → ℕ → ℤ → ℕ → ℕ → ℕ → ℕ → Row
 branch opcode needs offset taken1 not1 taken2 not2 =
     record (plain opcode needs 0 0 0) { operands = Offset offset; flow = Branch offset; mic1 = IfTaken taken1 not1; mic2 = IfTaken taken2 not2 }
 
--- the table
+-- a call of a constant's method: its opcode, the constant, its cycles on Mic-1, and on Mic-2 where the entry modulo 4 is not 3 and where it is
+abbrev pub call : ℕ → ℕ → ℕ → ℕ → ℕ → Row
+call opcode constant cycles1 early2 late2 =
+    record (plain opcode 0 1 cycles1 0) { operands = Index constant; flow = Call constant; constant = Some constant; mic2 = ByEntry early2 late2 }
+
+-- The table: opcode, needs, gives, cycles on Mic-1 and on Mic-2; then the operands, where the instruction leads, and what it names.
+-- A call needs its method's parameters besides.
 abbrev pub row_of : Instr → Row
 row_of Nop = plain 0x00 0 0 2 1
 row_of (Bipush b) = record (plain 0x10 0 1 4 2) { operands = Byte b }
@@ -49,13 +63,13 @@ row_of (Iinc k b) = record (plain 0x84 0 0 7 3) { operands = LocalByte k b; read
 row_of (Ifeq o) = branch 0x99 1 o 11 8 8 6
 row_of (Iflt o) = branch 0x9B 1 o 11 8 8 6
 row_of (IfIcmpeq o) = branch 0x9F 2 o 13 10 10 8
-row_of (Goto o) = record (plain 0xA7 0 0 7 4) { operands = Offset o; flow = Jump o }
+row_of (Goto o) = jump 0xA7 o 7 4
 row_of Ireturn = record (plain 0xAC 1 0 9 8) { flow = Return }
 row_of Ior = plain 0xB0 2 1 4 3
-row_of (Invokevirtual k) = record (plain 0xB6 0 1 23 0) { operands = Index k; constant = Some k; flow = Call k; mic2 = ByEntry 12 13 }
-row_of (WideIload k) = record (plain 0x15 0 1 9 4) { wide = true; operands = Index k; reads = Some k }
-row_of (WideIstore k) = record (plain 0x36 1 0 10 6) { wide = true; operands = Index k; stores = Some k }
-row_of (WideIinc k n) = record (plain 0x84 0 0 12 5) { wide = true; operands = IndexHalf k n; reads = Some k }
+row_of (Invokevirtual k) = call 0xB6 k 23 12 13
+row_of (WideIload k) = record (wide 0x15 0 1 9 4) { operands = Index k; reads = Some k }
+row_of (WideIstore k) = record (wide 0x36 1 0 10 6) { operands = Index k; stores = Some k }
+row_of (WideIinc k n) = record (wide 0x84 0 0 12 5) { operands = IndexHalf k n; reads = Some k }
 row_of In = plain 0xFC 0 1 6 5
 row_of Out = plain 0xFD 1 0 8 7
 row_of Err = record (plain 0xFE 0 0 1 0) { flow = End }
