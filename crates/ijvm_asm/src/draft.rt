@@ -1,4 +1,5 @@
-ghost use Rattle.std.specs.Prelude.{◌≡◌, Ok, OnOk, IfErr};
+ghost use Rattle.std.specs.Prelude.{◌≡◌, ◌≤◌, length, Ok, OnOk, IfErr};
+ghost use Rattle.ijvm_program.specs.Program.{most_names};
 ghost use Rattle.ijvm_asm.specs.Drafts.{begun, FailsBy};
 
 use crate::error::AsmError;
@@ -36,17 +37,22 @@ pub(crate) struct Draft {
 pub(crate) const MOST: u32 = 65_534;
 
 impl Model for Draft {
+    ghost use Rattle.std.specs.Prelude.{◌≤◌, length};
+    ghost use Rattle.ijvm_program.specs.Program.{most_names};
     ghost use Rattle.ijvm_asm.specs.Drafts.{DraftView};
 
     ghost Value = { DraftView };
 
     ghost view = { λ d. record { name = d.name; names = d.names; parameters = d.parameters; labels = d.labels; ats = d.ats.items; lines = d.lines.items; pending = d.pending } };
+
+    ghost invariant = { λ d. length d.names ≤ most_names };
 }
 
 impl Draft {
     ghost use Rattle.ijvm_asm.specs.Adding.{add_instruction, add_label, add_local};
 
     pub(crate) fn new(alloc: Global, name: Option<Name>, parameters: NameList) -> Draft
+        requires { length parameters ≤ most_names }
         ensures { result ≡ begun name parameters }
     {
         let count = parameters.len();
