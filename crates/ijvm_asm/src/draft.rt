@@ -1,6 +1,6 @@
 ghost use Rattle.std.specs.Prelude.{◌≡◌, ◌≤◌, length, Ok, OnOk, IfErr};
 ghost use Rattle.ijvm_program.specs.Program.{most_names};
-ghost use Rattle.ijvm_asm.specs.Drafts.{begun, FailsBy};
+ghost use Rattle.ijvm_asm.specs.Drafts.{begun, FailsBy, StaysBy};
 
 use crate::error::AsmError;
 use ijvm_line::Instruction;
@@ -71,6 +71,7 @@ impl Draft {
     pub(crate) fn add_local(&mut self, line: u32, name: Name) -> Result<(), AsmError>
         ensures ok { OnOk result (add_local line self.old name ≡ Ok self.new) }
         ensures err { IfErr result (λ e. FailsBy e (add_local line self.old name)) }
+        ensures left { IfErr result (λ e. StaysBy e self.old self.new) }
     {
         if self.names.find(&name).is_some() {
             return Err(AsmError::DuplicateName(line));
@@ -86,6 +87,7 @@ impl Draft {
     pub(crate) fn add_label(&mut self, line: u32, label: Option<Name>) -> Result<(), AsmError>
         ensures ok { OnOk result (add_label line self.old label ≡ Ok self.new) }
         ensures err { IfErr result (λ e. FailsBy e (add_label line self.old label)) }
+        ensures left { IfErr result (λ e. StaysBy e self.old self.new) }
     {
         let Some(label) = label else {
             return Ok(());

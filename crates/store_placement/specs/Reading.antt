@@ -1,4 +1,4 @@
--- What the steps of placing compute, as lists.
+-- Computes the addresses of the chosen placement (`IsChosenList` of `Chosen`), as lists: forced ones, then those of the pairs, then the rest.
 use Rattle.std.specs.Prelude.{ℕ, ◌+◌, ◌==◌, if◌then◌else◌, List, [], ◌∷◌, Option, Some, None, length, map, slice_index_or}
 use Rattle.std.specs.Option.{option_or}
 use Rattle.store_placement.specs.declared.pair.Pair.{Pair}
