@@ -5,9 +5,9 @@ use Rattle.ijvm_image.specs.declared.image.ImageError.{ImageError}
 use Rattle.ijvm_image.specs.declared.image.ImageError.TheVariants as images
 use Rattle.ijvm_image.specs.Image.{ImageView}
 use Rattle.ijvm_image.specs.ImageFile.{IsRefused as IsRefusedFile}
-use Rattle.ijvm_verifier.specs.declared.error.VerifyError.{VerifyError}
-use Rattle.ijvm_verifier.specs.declared.error.VerifyError.TheVariants as facts
-use Rattle.ijvm_verifier.specs.Facts.{Holds}
+use Rattle.ijvm_paths.specs.declared.error.VerifyError.{VerifyError}
+use Rattle.ijvm_paths.specs.declared.error.VerifyError.TheVariants as facts
+use Rattle.ijvm_paths.specs.Facts.{Holds}
 use Rattle.program_texts.specs.Refusals.{image_reason, link_reason, source_reason, verify_reason}
 use Rattle.program_commands.specs.declared.program.Unaccepted.{Unaccepted}
 use Rattle.program_commands.specs.Program.{IsNoSource, IsOf, IsRefused, IsUnaccepted, IsUnlinked, NoImage, NoProgram, NoSource, NotAccepted, NotLinked, begins_image, unaccepted_by}

@@ -10,9 +10,9 @@ use Rattle.ijvm_asm.specs.Text as assembler
 use Rattle.method_linker.specs.declared.error.LinkError.{LinkError}
 use Rattle.method_linker.specs.Linked.{IsLinked}
 use Rattle.method_linker.specs.Linked as linker
-use Rattle.ijvm_verifier.specs.declared.error.VerifyError.{VerifyError}
-use Rattle.ijvm_verifier.specs.Accepted.{IsAccepted, VerifiedView}
-use Rattle.ijvm_verifier.specs.Facts.{Holds}
+use Rattle.ijvm_paths.specs.declared.error.VerifyError.{VerifyError}
+use Rattle.ijvm_paths.specs.Accepted.{IsAccepted, VerifiedView}
+use Rattle.ijvm_paths.specs.Facts.{Holds}
 use Rattle.program_texts.specs.Refusals.{image_reason, link_reason, source_reason, verify_reason}
 use Rattle.program_commands.specs.declared.program.Unaccepted.{Unaccepted}
 use Rattle.program_commands.specs.declared.program.Unaccepted.TheVariants as reasons
