@@ -1,13 +1,13 @@
 -- What the instruction table's rows have in common.
 use Rattle.std.proofs.Common.{◌≡◌, ℕ, ◌+◌, ◌<◌, ◌≤◌, ◌∷◌, Option, Some, None, List, length, length-append, arith, sym, subst}
-use Rattle.std.specs.Prelude.{slice_index, nat_le}
+use Rattle.std.specs.Prelude.{nat_le}
 use Rattle.std.proofs.lemmas.Bool.{leb-true}
 use Rattle.std.proofs.lemmas.Option.{cond_some}
 use Rattle.ijvm_instr.specs.declared.instr.Instr.{Instr}
 use Rattle.ijvm_instr.specs.declared.instr.Instr.TheVariants.{Nop}
 use Rattle.ijvm_instr.specs.declared.row.Row.{Row}
 use Rattle.ijvm_instr.specs.declared.row.Flow.TheVariants.{Call}
-use Rattle.ijvm_instr.specs.Instructions.{row_of, size_of, prefix, operand_bytes, of_bytes, whole, instr_at}
+use Rattle.ijvm_instr.specs.Instructions.{row_of, size_of, prefix, operand_bytes, begun_at, whole, instr_at}
 use Rattle.ijvm_paths.specs.Paths.{HasRow, IsWhole}
 
 whole_fits : (many at : ℕ) (o : Option Instr) (i : Instr) → whole many at o ≡ Some i → at + size_of (row_of i) ≤ many
@@ -19,7 +19,7 @@ whole_fits many at (Some j) i e =
 -- a whole instruction ends at or before the text's end
 pub size_fits : (text : List ℕ) (at : ℕ) (i : Instr) → instr_at text at ≡ Some i → at + size_of (row_of i) ≤ length text
 unfolding instr_at
-size_fits text at i e = whole_fits (length text) at (of_bytes (slice_index text at) (slice_index text (at + 1)) (slice_index text (at + 2)) (slice_index text (at + 3))) i e
+size_fits text at i e = whole_fits (length text) at (begun_at text at) i e
 
 -- an instruction has a byte
 pub size_above : (r : Row) → 0 < size_of r

@@ -7,7 +7,7 @@ use Rattle.std.proofs.lemmas.Option.{slice_get_within, slice_get-get_or}
 use Rattle.std.proofs.lemmas.List.{length-replicate}
 use Rattle.console_port.specs.World.{next_byte}
 use Rattle.ijvm_instr.specs.declared.instr.Instr.{Instr}
-use Rattle.ijvm_instr.specs.declared.instr.Instr.TheVariants.{Nop, Bipush, LdcW, Iload, Istore, Pop, Dup, Swap, Iadd, Isub, Iand, Iinc, Ifeq, Iflt, IfIcmpeq, Goto, Ireturn, Ior, Invokevirtual, WideIload, WideIstore, In, Out, Err, Halt}
+use Rattle.ijvm_instr.specs.declared.instr.Instr.TheVariants.{Nop, Bipush, LdcW, Iload, Istore, Pop, Dup, Swap, Iadd, Isub, Iand, Iinc, Ifeq, Iflt, IfIcmpeq, Goto, Ireturn, Ior, Invokevirtual, WideIload, WideIstore, WideIinc, In, Out, Err, Halt}
 use Rattle.ijvm_instr.specs.Instructions.{row_of, size_of, instr_at}
 use Rattle.ijvm_image.specs.declared.method.Method.{Method}
 use Rattle.ijvm_image.specs.Image.{ImageView}
@@ -227,15 +227,16 @@ good_store image z count s i k to h stores needs gives goes = by_operands (enoug
           callers = h.sound.callers;
         })
 
-good_increase : (image : ImageView) (z count : ℕ) (s : State) (k : ℕ) (b : ℤ) → Steps image z count s (Iinc k b) → IsGood image count (step image z (Iinc k b) s)
-good_increase image z count s k b h =
-    let w = (finds image z count s (Iinc k b) h).read k refl in
-    let own = own_local image z count s (Iinc k b) h k (inl refl) in
-    subst (λ (o : Option (Option ℕ)). IsGood image count (increased s k b o)) (sym w.1) (record {
+good_increase : (image : ImageView) (z count : ℕ) (s : State) (i : Instr) (k : ℕ) (n : ℤ) (to : ℕ) (h : Steps image z count s i) → (row_of i).reads ≡ Some k → need_of image (row_of i).needs (row_of i).flow ≡ Some 0 → (row_of i).gives ≡ 0 →
+    (row_of i).stores ≡ None → GoesOn (row_of i).flow s.at (s.at + size_of (row_of i)) to → IsGood image count (increased s k n (slice_get s.running.locals k) to)
+good_increase image z count s i k n to h reads needs gives stores goes =
+    let w = (finds image z count s i h).read k reads in
+    let own = own_local image z count s i h k (inl reads) in
+    subst (λ (o : Option (Option ℕ)). IsGood image count (increased s k n o to)) (sym w.1) (record {
       unit = h.sound.unit;
-      running = stands_on image z count s (Iinc k b) h 0 (s.at + 3) (length s.running.operands) refl (inl (refl, refl)) refl (slice_set s.running.locals k (Some _))
+      running = stands_on image z count s i h 0 to (length s.running.operands) needs goes (omega arith) (slice_set s.running.locals k (Some _))
           (frame_set image.text count h.sound.unit s.running.back s.running.locals k _ own.0 h.sound.running.frame)
-          (λ j unset. ((set_unset s.running.locals k _ j own.0 unset).0, refl));
+          (λ j unset. ((set_unset s.running.locals k _ j own.0 unset).0, ap (λ (o : Option ℕ). left_unset o (Some j)) stores));
       callers = h.sound.callers;
     })
 
@@ -409,7 +410,7 @@ good image z count s Swap h = good_swap image z count s h
 good image z count s Iadd h = good_combine image z count s Iadd _ h refl refl refl (inl (refl, refl))
 good image z count s Isub h = good_combine image z count s Isub _ h refl refl refl (inl (refl, refl))
 good image z count s Iand h = good_combine image z count s Iand _ h refl refl refl (inl (refl, refl))
-good image z count s (Iinc k b) h = good_increase image z count s k b h
+good image z count s (Iinc k b) h = good_increase image z count s (Iinc k b) k b (s.at + 3) h refl refl refl refl (inl (refl, refl))
 good image z count s (Ifeq o) h = good_branch image z count s (Ifeq o) _ o h refl refl refl (λ t. elim t as (λ t. GoesOn (row_of (Ifeq o)).flow s.at (s.at + 3) (way s.at o t)) [ true ↦ inr (o, refl, refl) | false ↦ inl (refl, refl) ])
 good image z count s (Iflt o) h = good_branch image z count s (Iflt o) _ o h refl refl refl (λ t. elim t as (λ t. GoesOn (row_of (Iflt o)).flow s.at (s.at + 3) (way s.at o t)) [ true ↦ inr (o, refl, refl) | false ↦ inl (refl, refl) ])
 good image z count s (IfIcmpeq o) h = good_compare image z count s o h
@@ -419,6 +420,7 @@ good image z count s Ior h = good_combine image z count s Ior _ h refl refl refl
 good image z count s (Invokevirtual k) h = good_call image z count s k h
 good image z count s (WideIload k) h = good_load image z count s (WideIload k) k (s.at + 4) h refl refl refl refl (inl (refl, refl))
 good image z count s (WideIstore k) h = good_store image z count s (WideIstore k) k (s.at + 4) h refl refl refl (inl (refl, refl))
+good image z count s (WideIinc k n) h = good_increase image z count s (WideIinc k n) k n (s.at + 6) h refl refl refl refl (inl (refl, refl))
 good image z count s In h = good_in image z count s h
 good image z count s Out h = good_out image z count s h
 good image z count s Err h = tt
