@@ -2,7 +2,7 @@
 use Rattle.std.specs.Prelude.{◌≡◌, ◌≢◌, ℕ, List, [], slice_get, Option}
 use Rattle.std.specs.Option.{option_map}
 use Rattle.console_port.specs.View.{BusView}
-use Rattle.console_port.specs.World.{World, Refusal, fault_of}
+use Rattle.console_port.specs.World.{World, Refusal, fault_of, read_value, after_read}
 use Rattle.console_port.specs.Console.{Untaken, Given, IsLost, IsFault}
 use Rattle.console_port.specs.declared.fault.BusFault.{BusFault}
 use Rattle.console_port.specs.declared.fault.BusFault.TheVariants.{WriteFault}
@@ -18,6 +18,10 @@ IsLed left held bus left' held' bus' leads =
     (rest : List ℕ) → Untaken left' bus'.console.ended rest →
     (untaken : List ℕ) × Untaken left bus.console.ended untaken ×
     ((w : World) → Shows left held bus w → w.untaken ≡ untaken → (v : World) × leads w v × Shows left' held' bus' v × (v.untaken ≡ rest))
+
+-- a read there that gives this value leads the world w to v
+abbrev pub IsRead : ℕ → ℕ → ℕ → World → World → Type 0
+IsRead stack_end at value w v = (value ≡ read_value stack_end w.words w.untaken at) × (v ≡ after_read stack_end w at)
 
 -- after an Err: no memory word is changed, and but for a write that failed the same world is shown; after a fault nothing is kept
 pub record Stands (left held : Option (List ℕ)) (bus : BusView) (left' held' : Option (List ℕ)) (bus' : BusView) (e : BusFault) : Type 0 where

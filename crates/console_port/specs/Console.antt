@@ -1,7 +1,8 @@
 -- A console between a source and a sink: the world's bytes that the three show together, and what a fault leaves.
-use Rattle.std.specs.Prelude.{◌≡◌, ◌≢◌, ℕ, ◌≤◌, Bool, true, false, List, [], ◌++◌, take, Option, IfSome, Result, Err, IsErrOf}
+use Rattle.std.specs.Prelude.{◌≡◌, ◌≢◌, ℕ, ◌≤◌, Bool, true, false, List, [], ◌∷◌, ◌++◌, take, Option, Some, IfSome, Result, Err, IsErrOf}
 use Rattle.std.specs.Option.{option_map}
 use Rattle.mic_base.specs.Causes.{Rose}
+use Rattle.mic_base.specs.Streams.{IsFlushed}
 use Rattle.console_port.specs.declared.fault.BusFault.{BusFault}
 use Rattle.console_port.specs.declared.fault.BusFault.TheVariants.{ReadFault, WriteFault, StackLimit, OutOfMap}
 
@@ -10,9 +11,18 @@ abbrev pub Untaken : Option (List ℕ) → Bool → List ℕ → Type 0
 Untaken left true untaken = untaken ≡ []
 Untaken left false untaken = IfSome left (λ l. untaken ≡ l)
 
+-- A source that had these bytes left was asked for a byte: it gave the first, or the end was met where there was none.
+abbrev pub Asks : List ℕ → Option (List ℕ) → Bool → Type 0
+Asks [] left ended = (left ≡ Some []) × (ended ≡ true)
+Asks (byte ∷ rest) left ended = (left ≡ Some rest) × (ended ≡ false)
+
 -- the bytes given may be these: where the sink tells what it holds, that followed by the kept bytes
 abbrev pub Given : Option (List ℕ) → List ℕ → List ℕ → Type 0
 Given held kept given = IfSome held (λ h. given ≡ h ++ kept)
+
+-- the sink has passed on all that it holds, where it had before
+abbrev pub StaysFlushed : Option (List ℕ) → Option (List ℕ) → Option (List ℕ) → Option (List ℕ) → Type 0
+StaysFlushed held passed held' passed' = IsFlushed held passed → IsFlushed held' passed'
 
 -- after a write that failed: nothing is kept, and the sink has taken a prefix of what was
 pub record IsLost (held : Option (List ℕ)) (kept : List ℕ) (held' : Option (List ℕ)) (kept' : List ℕ) : Type 0 where

@@ -1,5 +1,6 @@
--- A loaded image: its text in the memory from byte 0, and its pool from word 0x4000.
+-- A loaded image: its text in the memory from byte 0, and its pool from where the map has it.
 use Rattle.std.specs.Prelude.{◌≡◌, ◌⊎◌, ℕ, ◌+◌, ◌*◌, ◌/◌, ◌<◌, ◌≤◌, List, length, slice_index}
+use Rattle.console_port.specs.declared.map.TheConstants.{POOL}
 use Rattle.console_port.specs.World.{byte_in}
 
 -- the word that four bytes make, the most significant first
@@ -15,5 +16,5 @@ text_word text at =
 pub record IsLoaded (text pool old new : List ℕ) : Type 0 where
   pub size : length new ≡ length old
   pub text_bytes : (byte : ℕ) → 4 * (byte / 4) < length text → byte_in new byte ≡ slice_index text byte
-  pub pool_words : (k : ℕ) → k < length pool → slice_index new (0x4000 + k) ≡ slice_index pool k
-  pub others : (at : ℕ) → length text ≤ 4 * at → (at < 0x4000) ⊎ (0x4000 + length pool ≤ at) → slice_index new at ≡ slice_index old at
+  pub pool_words : (k : ℕ) → k < length pool → slice_index new (POOL + k) ≡ slice_index pool k
+  pub others : (at : ℕ) → length text ≤ 4 * at → (at < POOL) ⊎ (POOL + length pool ≤ at) → slice_index new at ≡ slice_index old at

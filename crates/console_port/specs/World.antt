@@ -2,6 +2,7 @@
 use Rattle.std.specs.Prelude.{ℕ, ◌-◌, ◌/◌, ◌%◌, ◌^◌, nat_lt, ◌==◌, if◌then◌else◌, List, [], ◌∷◌, ◌++◌, drop, slice_index, slice_set, Option, Some, None}
 use Rattle.console_port.specs.declared.fault.BusFault.{BusFault}
 use Rattle.console_port.specs.declared.fault.BusFault.TheVariants as faults
+use Rattle.console_port.specs.declared.map.TheConstants.{CONSOLE, STACK_SIDE}
 
 pub record World : Type 0 where
   pub words : List ℕ
@@ -20,7 +21,7 @@ fault_of (OutOfMap at) = faults.OutOfMap at
 
 -- the address of the console
 abbrev pub console_at : ℕ
-console_at = 0xFFFFFFFD
+console_at = CONSOLE
 
 -- The memory has its words below `stack_end`. Each access below looks for them first, and then for the console.
 
@@ -29,7 +30,7 @@ unfoldable pub write_refusal : ℕ → ℕ → Option Refusal
 write_refusal stack_end at =
     if nat_lt at stack_end then None else
     if at == console_at then None else
-    if nat_lt at 0x80000000 then Some (StackLimit at) else Some (OutOfMap at)
+    if nat_lt at STACK_SIDE then Some (StackLimit at) else Some (OutOfMap at)
 
 -- why a read there is refused
 unfoldable pub read_refusal : ℕ → ℕ → Option Refusal

@@ -1,21 +1,20 @@
 //! Memory and console behind one address: what the wires of a machine reach.
 
-ghost use Rattle.mic_base.specs.Streams.{Holds};
-ghost use Rattle.std.specs.Prelude.{◌/◌, ◌≡◌, ◌≢◌, ◌≤◌, ◌<◌, ◌+◌, [], ℕ, List, Option, Some, None, Ok, Err, false, length, replicate, slice_get, slice_index, slice_set, IsOk, IfOk, OnOk, OnErr, IfErr, IsErrOf};
-ghost use Rattle.console_port.specs.Bus.{Shows, Stands, IsLed, ChangesOnly, refused_by};
-ghost use Rattle.console_port.specs.Console.{IsLost, IsFault, HasFaultCause};
+ghost use Rattle.mic_base.specs.Streams.{Holds, IsFlushed};
+ghost use Rattle.std.specs.Prelude.{◌/◌, ◌==◌, ◌≡◌, ◌≢◌, ◌≤◌, ◌<◌, ◌+◌, [], ℕ, List, Option, Some, None, Ok, Err, false, length, replicate, IsTrue, ◌↔◌, IsSome, slice_get, slice_index, slice_set, IsOk, IfOk, OnOk, OnErr, IfErr, IsErrOf};
+ghost use Rattle.console_port.specs.Access.{IsAccess};
+ghost use Rattle.console_port.specs.Bus.{Shows, Stands, IsLed, ChangesOnly, refused_by, IsRead};
+ghost use Rattle.console_port.specs.Console.{IsLost, IsFault, HasFaultCause, StaysFlushed};
 ghost use Rattle.console_port.specs.Loading.{IsLoaded};
 ghost use Rattle.console_port.specs.World.{World, Refusal, fault_of, console_at, read_refusal, write_refusal, word_refusal, fetch_refusal, byte_in, read_value, after_read, after_write};
 
-use crate::console::Console;
+use crate::console::{Console, MOST_KEPT};
 use crate::fault::BusFault;
 use crate::loading::write_image;
-use crate::map::MemoryMap;
+use crate::map::{CONSOLE, FRAME, MOST_POOL, MOST_TEXT, MemoryMap, STACK_SIDE};
 use mic_base::{Sink, Source};
 use std::alloc::{AllocError, Global};
 use std::marker::Model;
-
-const CONSOLE: u32 = 0xFFFF_FFFD;
 
 /// Memory words and a console. Each access says by the memory map what it reaches.
 #[derive(Drop)]
@@ -47,13 +46,19 @@ impl Bus {
 
     /// Loads an image's text and pool.
     pub fn load(&mut self, text: &[u8], pool: &[u32])
-        requires text { length text.now ≤ 65536 }
-        requires pool { length pool.now ≤ 16384 }
-        requires memory { 0x8000 ≤ length self.old.words }
+        requires text { length text.now ≤ MOST_TEXT }
+        requires pool { length pool.now ≤ MOST_POOL }
+        requires memory { FRAME ≤ length self.old.words }
         ensures words { IsLoaded text.now pool.now self.old.words self.new.words }
         ensures console { self.new.console ≡ self.old.console }
     {
         write_image(&mut self.words, text, pool);
+    }
+
+    fn has(&self, at: u32) -> bool
+        ensures { IsTrue result ↔ (at < length self.now.words) }
+    {
+        (at as usize) < self.words.len()
     }
 
     #[tactic(auto, unfolding(crate::specs::World::read_refusal))]
@@ -61,7 +66,7 @@ impl Bus {
         ensures ok { OnOk result (read_refusal (length self.now.words) at ≡ None) }
         ensures err { IfErr result (λ e. refused_by (read_refusal (length self.now.words) at) ≡ Some e) }
     {
-        if (at as usize) < self.words.len() || at == CONSOLE {
+        if self.has(at) || at == CONSOLE {
             Ok(())
         } else {
             Err(BusFault::OutOfMap(at))
@@ -73,9 +78,9 @@ impl Bus {
         ensures ok { OnOk result (write_refusal (length self.now.words) at ≡ None) }
         ensures err { IfErr result (λ e. refused_by (write_refusal (length self.now.words) at) ≡ Some e) }
     {
-        if (at as usize) < self.words.len() || at == CONSOLE {
+        if self.has(at) || at == CONSOLE {
             Ok(())
-        } else if at < 0x8000_0000 {
+        } else if at < STACK_SIDE {
             Err(BusFault::StackLimit(at))
         } else {
             Err(BusFault::OutOfMap(at))
@@ -88,7 +93,7 @@ impl Bus {
         ensures ok { OnOk result (fetch_refusal (length self.now.words) byte ≡ None) }
         ensures err { IfErr result (λ e. refused_by (fetch_refusal (length self.now.words) byte) ≡ Some e) }
     {
-        if ((byte / 4) as usize) < self.words.len() {
+        if self.has(byte / 4) {
             Ok(())
         } else {
             Err(BusFault::OutOfMap(byte / 4))
@@ -109,17 +114,19 @@ impl Bus {
         source: &mut S,
         sink: &mut K,
     ) -> Result<u32, BusFault>
-        ensures refused { (r : Refusal) → read_refusal (length self.old.words) at ≡ Some r → (result ≡ Err (fault_of r)) × (self.new ≡ self.old) × (source.new ≡ source.old) × (sink.new ≡ sink.old) }
+        ensures refused { (r : Refusal) → read_refusal (length self.old.words) at ≡ Some r →
+            (result ≡ Err (fault_of r)) × (self.new ≡ self.old) × (source.new ≡ source.old) × (sink.new ≡ sink.old) }
         ensures allowed { OnOk result (read_refusal (length self.old.words) at ≡ None) }
-        ensures ok { IfOk result (λ value. IsLed (S.left source.old) (K.held sink.old) self.old (S.left source.new) (K.held sink.new) self.new (λ w v. (value ≡ read_value (length self.old.words) w.words w.untaken at) × (v ≡ after_read (length self.old.words) w at))) }
-        ensures err { IfErr result (Stands (S.left source.old) (K.held sink.old) self.old (S.left source.new) (K.held sink.new) self.new) }
+        ensures ok { IfOk result (λ value.
+            IsLed (S.left source.old) (K.held sink.old) self.old (S.left source.new) (K.held sink.new) self.new (IsRead (length self.old.words) at value)) }
+        ensures access { IsAccess S.left S.faults K.held K.passed K.faults (λ w e. refused_by (read_refusal (length self.old.words) at) ≡ Some e)
+            (at == console_at) (at == console_at) source.old source.new sink.old sink.new self.old self.new result }
         ensures fault { IfErr result (λ e. read_refusal (length self.old.words) at ≡ None → (at ≡ console_at) × IsFault e) }
         ensures words { self.new.words ≡ self.old.words }
-        ensures memory { at < length self.old.words → (result ≡ Ok (slice_index self.old.words at)) × (self.new ≡ self.old) × (source.new ≡ source.old) × (sink.new ≡ sink.old) }
-        ensures keeps { (front : List ℕ) → Holds front (K.held sink.old) → Holds front (K.held sink.new) }
-        ensures cause { HasFaultCause (S.faults source.old) (S.faults source.new) (K.faults sink.old) (K.faults sink.new) result }
+        ensures memory { at < length self.old.words →
+            (result ≡ Ok (slice_index self.old.words at)) × (self.new ≡ self.old) × (source.new ≡ source.old) × (sink.new ≡ sink.old) }
     {
-        if (at as usize) < self.words.len() {
+        if self.has(at) {
             return Ok(self.words[at as usize]);
         }
         if at != CONSOLE {
@@ -131,9 +138,11 @@ impl Bus {
 
     #[tactic(auto, unfolding(crate::specs::World::write_refusal, crate::specs::World::given_after))]
     pub fn write_word<K: Sink>(&mut self, at: u32, value: u32, sink: &mut K) -> Result<(), BusFault>
-        ensures refused { (r : Refusal) → write_refusal (length self.old.words) at ≡ Some r → (result ≡ Err (fault_of r)) × (self.new ≡ self.old) × (sink.new ≡ sink.old) }
+        ensures refused { (r : Refusal) → write_refusal (length self.old.words) at ≡ Some r →
+            (result ≡ Err (fault_of r)) × (self.new ≡ self.old) × (sink.new ≡ sink.old) }
         ensures allowed { OnOk result (write_refusal (length self.old.words) at ≡ None) }
-        ensures ok { OnOk result ((left : Option (List ℕ)) (w : World) → Shows left (K.held sink.old) self.old w → Shows left (K.held sink.new) self.new (after_write (length self.old.words) w at value)) }
+        ensures ok { OnOk result ((left : Option (List ℕ)) (w : World) →
+            Shows left (K.held sink.old) self.old w → Shows left (K.held sink.new) self.new (after_write (length self.old.words) w at value)) }
         ensures words { OnOk result (self.new.words ≡ slice_set self.old.words at value) }
         ensures ended { self.new.console.ended ≡ self.old.console.ended }
         ensures err { (left : Option (List ℕ)) → IfErr result (Stands left (K.held sink.old) self.old left (K.held sink.new) self.new) }
@@ -141,16 +150,18 @@ impl Bus {
         ensures size { length self.new.words ≡ length self.old.words }
         ensures others { ChangesOnly at self.old.words self.new.words }
         ensures memory { at < length self.old.words → IsOk result × (self.new.console ≡ self.old.console) × (sink.new ≡ sink.old) }
-        ensures waits { length self.old.console.kept < 4096 → sink.new ≡ sink.old }
+        ensures waits { length self.old.console.kept < MOST_KEPT → sink.new ≡ sink.old }
         ensures keeps { (front : List ℕ) → Holds front (K.held sink.old) → Holds front (K.held sink.new) }
+        ensures tells { IsSome (K.held sink.old) → IsSome (K.held sink.new) }
+        ensures flushed { result ≢ Err BusFault.WriteFault → StaysFlushed (K.held sink.old) (K.passed sink.old) (K.held sink.new) (K.passed sink.new) }
         ensures cause { HasFaultCause 0 0 (K.faults sink.old) (K.faults sink.new) result }
     {
-        if (at as usize) < self.words.len() {
+        if self.has(at) {
             self.words[at as usize] = value;
             return Ok(());
         }
         if at != CONSOLE {
-            if at < 0x8000_0000 {
+            if at < STACK_SIDE {
                 return Err(BusFault::StackLimit(at));
             }
             return Err(BusFault::OutOfMap(at));
@@ -165,7 +176,7 @@ impl Bus {
         ensures allowed { OnOk result (fetch_refusal (length self.now.words) byte ≡ None) }
         ensures err { IfErr result (λ e. refused_by (fetch_refusal (length self.now.words) byte) ≡ Some e) }
     {
-        if ((byte / 4) as usize) < self.words.len() {
+        if self.has(byte / 4) {
             Ok(self.byte(byte))
         } else {
             Err(BusFault::OutOfMap(byte / 4))
@@ -179,7 +190,7 @@ impl Bus {
         ensures allowed { OnOk result (word_refusal (length self.now.words) at ≡ None) }
         ensures err { IfErr result (λ e. refused_by (word_refusal (length self.now.words) at) ≡ Some e) }
     {
-        if (at as usize) < self.words.len() {
+        if self.has(at) {
             Ok(self.word(at))
         } else {
             Err(BusFault::OutOfMap(at))
@@ -215,6 +226,9 @@ impl Bus {
         ensures lost { OnErr result (IsLost (K.held sink.old) self.old.console.kept (K.held sink.new) self.new.console.kept) }
         ensures fault { IfErr result (λ e. e ≡ BusFault.WriteFault) }
         ensures keeps { (front : List ℕ) → Holds front (K.held sink.old) → Holds front (K.held sink.new) }
+        ensures tells { IsSome (K.held sink.old) → IsSome (K.held sink.new) }
+        ensures flushed { OnOk result ((self.old.console.kept ≡ [] →
+            IsFlushed (K.held sink.old) (K.passed sink.old)) → IsFlushed (K.held sink.new) (K.passed sink.new)) }
         ensures cause { HasFaultCause 0 0 (K.faults sink.old) (K.faults sink.new) result }
     {
         self.console.flush(sink)

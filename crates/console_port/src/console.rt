@@ -1,20 +1,23 @@
 //! The console: bytes given wait in a buffer, and bytes taken come from a source.
 
 ghost use Rattle.mic_base.specs.Causes.{HasCause};
-ghost use Rattle.mic_base.specs.Streams.{Holds};
-ghost use Rattle.std.specs.Prelude.{◌≡◌, ◌≤◌, ◌<◌, ◌+◌, [], ◌∷◌, ◌++◌, ℕ, List, false, true, drop, length, Ok, IsOk, IfOk, OnOk, OnErr, IfErr, IsErrOf, Option};
-ghost use Rattle.console_port.specs.Console.{Untaken, Given, IsLost, IsFault, HasFaultCause};
+ghost use Rattle.mic_base.specs.Streams.{Holds, IsFlushed, PutsAndFlushes};
+ghost use Rattle.std.specs.Prelude.{◌≡◌, ◌≢◌, ◌≤◌, ◌<◌, ◌+◌, [], ◌∷◌, ◌++◌, ℕ, List, false, true, drop, length, Ok, IsOk, IfOk, OnOk, OnErr, IfErr, IsErrOf, IsSome, Option, Some, Err};
+ghost use Rattle.console_port.specs.Console.{Asks, Untaken, Given, IsLost, IsFault, HasFaultCause, StaysFlushed};
 ghost use Rattle.console_port.specs.World.{next_byte};
 
 use crate::fault::BusFault;
 use arrayvec::ArrayVec;
-use mic_base::{Sink, Source};
+use mic_base::{Sink, SinkFailed, Source};
 use std::marker::Model;
 
-/// Keeps at most 4,096 given bytes until a sink takes them, and knows whether it met the end of input.
+/// The most bytes that a console keeps.
+pub const MOST_KEPT: usize = 4096;
+
+/// Keeps given bytes until a sink takes them, and knows whether it met the end of input.
 #[derive(Drop)]
 pub struct Console {
-    buffer: ArrayVec<u8, 4096>,
+    buffer: ArrayVec<u8, MOST_KEPT>,
     ended: bool,
 }
 
@@ -39,18 +42,24 @@ impl Console {
 
     /// The next input byte, or 0 at the end of input. The kept bytes go to the sink before the source is asked.
     pub fn take<S: Source, K: Sink>(&mut self, source: &mut S, sink: &mut K) -> Result<u8, BusFault>
-        ensures ok { IfOk result (λ byte. (rest : List ℕ) → Untaken (S.left source.new) self.new.ended rest → (untaken : List ℕ) × Untaken (S.left source.old) self.old.ended untaken × (byte ≡ next_byte untaken) × (drop 1 untaken ≡ rest)) }
+        ensures ok { IfOk result (λ byte. (rest : List ℕ) → Untaken (S.left source.new) self.new.ended rest →
+            (untaken : List ℕ) × Untaken (S.left source.old) self.old.ended untaken × (byte ≡ next_byte untaken) × (drop 1 untaken ≡ rest)) }
         ensures left { OnErr result (S.left source.new ≡ S.left source.old) }
         ensures ended { OnErr result (self.new.ended ≡ self.old.ended) }
-        ensures given { (IsErrOf result BusFault.WriteFault → ⊥) → (given : List ℕ) → Given (K.held sink.old) self.old.kept given → Given (K.held sink.new) self.new.kept given }
+        ensures given { (IsErrOf result BusFault.WriteFault → ⊥) →
+            (given : List ℕ) → Given (K.held sink.old) self.old.kept given → Given (K.held sink.new) self.new.kept given }
         ensures lost { IsErrOf result BusFault.WriteFault → IsLost (K.held sink.old) self.old.kept (K.held sink.new) self.new.kept }
         ensures fault { IfErr result IsFault }
 
         ensures emptied { OnErr result (self.new.kept ≡ []) }
         ensures asked { self.old.ended ≡ false → self.new.kept ≡ [] }
+        ensures told { (bytes : List ℕ) → self.old.ended ≡ false → S.left source.old ≡ Some bytes →
+            OnOk result (Asks bytes (S.left source.new) self.new.ended) }
         ensures asked_no_more { self.old.ended ≡ true → (result ≡ Ok 0) × (self.new ≡ self.old) × (source.new ≡ source.old) × (sink.new ≡ sink.old) }
         ensures nothing_kept { self.old.kept ≡ [] → sink.new ≡ sink.old }
         ensures keeps { (front : List ℕ) → Holds front (K.held sink.old) → Holds front (K.held sink.new) }
+        ensures tells { IsSome (K.held sink.old) → IsSome (K.held sink.new) }
+        ensures flushed { result ≢ Err BusFault.WriteFault → StaysFlushed (K.held sink.old) (K.passed sink.old) (K.held sink.new) (K.passed sink.new) }
         ensures cause { HasFaultCause (S.faults source.old) (S.faults source.new) (K.faults sink.old) (K.faults sink.new) result }
     {
         if self.ended {
@@ -74,9 +83,11 @@ impl Console {
         ensures lost { OnErr result (IsLost (K.held sink.old) self.old.kept (K.held sink.new) self.new.kept) }
         ensures fault { IfErr result (λ e. e ≡ BusFault.WriteFault) }
 
-        ensures roomy { length self.old.kept < 4096 → IsOk result × (self.new.kept ≡ self.old.kept ++ byte ∷ []) × (sink.new ≡ sink.old) }
-        ensures full { length self.old.kept ≡ 4096 → OnOk result (self.new.kept ≡ byte ∷ []) }
+        ensures roomy { length self.old.kept < MOST_KEPT → IsOk result × (self.new.kept ≡ self.old.kept ++ byte ∷ []) × (sink.new ≡ sink.old) }
+        ensures full { length self.old.kept ≡ MOST_KEPT → OnOk result (self.new.kept ≡ byte ∷ []) }
         ensures keeps { (front : List ℕ) → Holds front (K.held sink.old) → Holds front (K.held sink.new) }
+        ensures tells { IsSome (K.held sink.old) → IsSome (K.held sink.new) }
+        ensures flushed { result ≢ Err BusFault.WriteFault → StaysFlushed (K.held sink.old) (K.passed sink.old) (K.held sink.new) (K.passed sink.new) }
         ensures cause { HasFaultCause 0 0 (K.faults sink.old) (K.faults sink.new) result }
     {
         if self.buffer.is_full() {
@@ -95,19 +106,30 @@ impl Console {
         ensures lost { OnErr result (IsLost (K.held sink.old) self.old.kept (K.held sink.new) self.new.kept) }
         ensures fault { IfErr result (λ e. e ≡ BusFault.WriteFault) }
         ensures keeps { (front : List ℕ) → Holds front (K.held sink.old) → Holds front (K.held sink.new) }
+        ensures tells { IsSome (K.held sink.old) → IsSome (K.held sink.new) }
+        ensures flushed { OnOk result ((self.old.kept ≡ [] →
+            IsFlushed (K.held sink.old) (K.passed sink.old)) → IsFlushed (K.held sink.new) (K.passed sink.new)) }
         ensures cause { HasFaultCause 0 0 (K.faults sink.old) (K.faults sink.new) result }
     {
         if self.buffer.is_empty() {
             return Ok(());
         }
-        let put = sink.put(self.buffer.as_slice());
+        let put = put_and_flush(sink, self.buffer.as_slice());
         self.buffer.clear();
-        if put.is_err() {
-            return Err(BusFault::WriteFault);
+        match put {
+            Ok(()) => Ok(()),
+            Err(_) => Err(BusFault::WriteFault),
         }
-        if sink.flush().is_err() {
-            return Err(BusFault::WriteFault);
-        }
-        Ok(())
     }
+}
+
+#[tactic(auto, using(crate::proofs::Put::flushed_put))]
+fn put_and_flush<K: Sink>(sink: &mut K, piece: &[u8]) -> Result<(), SinkFailed>
+    ensures puts { PutsAndFlushes (K.held sink.old) piece.now result (K.held sink.new) (K.passed sink.new) }
+    ensures keeps { (front : List ℕ) → Holds front (K.held sink.old) → Holds front (K.held sink.new) }
+    ensures tells { IsSome (K.held sink.old) → IsSome (K.held sink.new) }
+    ensures cause { HasCause (K.faults sink.old) (K.faults sink.new) result }
+{
+    sink.put(piece)?;
+    sink.flush()
 }

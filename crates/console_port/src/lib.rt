@@ -8,9 +8,9 @@ mod loading;
 pub mod map;
 
 pub use bus::Bus;
-pub use console::Console;
+pub use console::{Console, MOST_KEPT};
 pub use fault::BusFault;
-pub use map::MemoryMap;
+pub use map::{CONSOLE, FRAME, MOST_POOL, MOST_TEXT, MemoryMap, POOL};
 
 #[cfg(test)]
 mod tests;

@@ -3,7 +3,7 @@
 ghost use Rattle.std.specs.Prelude.{◌≡◌, ◌⊎◌, ◌+◌, ◌*◌, ◌/◌, ◌<◌, ◌≤◌, ℕ, length, slice_index};
 ghost use Rattle.console_port.specs.Loading.{text_word, IsLoaded};
 
-const POOL: usize = 0x4000;
+use crate::map::{FRAME, MOST_POOL, MOST_TEXT, POOL};
 
 fn byte_or_zero(text: &[u8], at: usize) -> u32
     ensures value { result ≡ slice_index text.now at }
@@ -14,18 +14,18 @@ fn byte_or_zero(text: &[u8], at: usize) -> u32
 
 /// Word `at` of a text, the most significant byte first, with zeros behind its end.
 fn text_word(text: &[u8], at: usize) -> u32
-    requires { at < 0x4000 }
+    requires { at < POOL }
     ensures { result ≡ text_word text.now at }
 {
     let front = 256 * byte_or_zero(text, 4 * at) + byte_or_zero(text, 4 * at + 1);
     let back = 256 * byte_or_zero(text, 4 * at + 2) + byte_or_zero(text, 4 * at + 3);
-    65536 * front + back
+    65_536 * front + back
 }
 
 /// Writes the text from word 0 on.
 fn write_text(words: &mut [u32], text: &[u8])
-    requires limit { length text.now ≤ 65536 }
-    requires fits { 0x4000 ≤ length words.old }
+    requires limit { length text.now ≤ MOST_TEXT }
+    requires fits { POOL ≤ length words.old }
     ensures size { length words.new ≡ length words.old }
     ensures text { (at : ℕ) → 4 * at < length text.now → slice_index words.new at ≡ text_word text.now at }
     ensures others { (at : ℕ) → length text.now ≤ 4 * at → slice_index words.new at ≡ slice_index words.old at }
@@ -35,23 +35,23 @@ fn write_text(words: &mut [u32], text: &[u8])
     }
 }
 
-/// Writes the pool from word 0x4000 on.
+/// Writes the pool from its place on.
 fn write_pool(words: &mut [u32], pool: &[u32])
-    requires { 0x4000 + length pool.now ≤ length words.old }
+    requires { POOL + length pool.now ≤ length words.old }
     ensures size { length words.new ≡ length words.old }
-    ensures pool { (k : ℕ) → k < length pool.now → slice_index words.new (0x4000 + k) ≡ slice_index pool.now k }
-    ensures others { (at : ℕ) → (at < 0x4000) ⊎ (0x4000 + length pool.now ≤ at) → slice_index words.new at ≡ slice_index words.old at }
+    ensures pool { (k : ℕ) → k < length pool.now → slice_index words.new (POOL + k) ≡ slice_index pool.now k }
+    ensures others { (at : ℕ) → (at < POOL) ⊎ (POOL + length pool.now ≤ at) → slice_index words.new at ≡ slice_index words.old at }
 {
     for k in 0..pool.len() {
-        words[POOL + k] = pool[k];
+        words[POOL as usize + k] = pool[k];
     }
 }
 
 /// Writes an image.
 pub fn write_image(words: &mut [u32], text: &[u8], pool: &[u32])
-    requires text { length text.now ≤ 65536 }
-    requires pool { length pool.now ≤ 16384 }
-    requires memory { 0x8000 ≤ length words.old }
+    requires text { length text.now ≤ MOST_TEXT }
+    requires pool { length pool.now ≤ MOST_POOL }
+    requires memory { FRAME ≤ length words.old }
     ensures { IsLoaded text.now pool.now words.old words.new }
 {
     write_text(words, text);

@@ -15,50 +15,73 @@ fn sink(rt: &HostRuntime, failing: u64) -> Result<MemSink, Fail> {
 
 #[test]
 fn each_address_answers_by_the_map(rt: HostRuntime) -> Result<(), Fail> {
-    let mut bus = Bus::new(rt.alloc(), MemoryMap::STANDARD)?;
-    let mut source = source(&rt, &[7; 20], 0)?;
-    let mut sink = sink(&rt, 0)?;
     let out = BusFault::OutOfMap;
     let stack = BusFault::StackLimit;
-    for (at, read, write) in [
-        (0, Ok(0), Ok(())),
-        (0xFFFF, Ok(0), Ok(())),
-        (0x1_0000, Err(out(0x1_0000)), Err(stack(0x1_0000))),
-        (0x7FFF_FFFF, Err(out(0x7FFF_FFFF)), Err(stack(0x7FFF_FFFF))),
-        (0x8000_0000, Err(out(0x8000_0000)), Err(out(0x8000_0000))),
-        (0xFFFF_FFFC, Err(out(0xFFFF_FFFC)), Err(out(0xFFFF_FFFC))),
-        (0xFFFF_FFFD, Ok(7), Ok(())),
-        (0xFFFF_FFFE, Err(out(0xFFFF_FFFE)), Err(out(0xFFFF_FFFE))),
-        (0xFFFF_FFFF, Err(out(0xFFFF_FFFF)), Err(out(0xFFFF_FFFF))),
+    for map in [MemoryMap::STANDARD, MemoryMap::LARGE] {
+        let end = map.stack_end;
+        let mut bus = Bus::new(rt.alloc(), map)?;
+        let mut source = source(&rt, &[7; 20], 0)?;
+        let mut sink = sink(&rt, 0)?;
+        for (at, read, write) in [
+            (0, Ok(0), Ok(())),
+            (end - 1, Ok(0), Ok(())),
+            (end, Err(out(end)), Err(stack(end))),
+            (0x7FFF_FFFF, Err(out(0x7FFF_FFFF)), Err(stack(0x7FFF_FFFF))),
+            (0x8000_0000, Err(out(0x8000_0000)), Err(out(0x8000_0000))),
+            (CONSOLE - 1, Err(out(CONSOLE - 1)), Err(out(CONSOLE - 1))),
+            (CONSOLE, Ok(7), Ok(())),
+            (CONSOLE + 1, Err(out(CONSOLE + 1)), Err(out(CONSOLE + 1))),
+            (0xFFFF_FFFF, Err(out(0xFFFF_FFFF)), Err(out(0xFFFF_FFFF))),
+        ] {
+            assert_eq!(rt; bus.check_read(at), read.map(|_| ()), "a test of {at}");
+            assert_eq!(rt;
+                bus.read_word(at, &mut source, &mut sink),
+                read,
+                "a read of {at}"
+            );
+            assert_eq!(rt; bus.check_write(at), write, "a test of {at}");
+            assert_eq!(rt; bus.write_word(at, 0, &mut sink), write, "a write of {at}");
+            assert_eq!(rt; bus.peek(at).is_some(), at < end, "a word at {at}");
+        }
+    }
+    Ok(())
+}
+
+#[test]
+fn the_large_map_goes_on_where_the_standard_one_ends(rt: HostRuntime) -> Result<(), Fail> {
+    let end = MemoryMap::STANDARD.stack_end;
+    let mut sink = PlainSink::new();
+    for (map, write, fetch) in [
+        (
+            MemoryMap::STANDARD,
+            Err(BusFault::StackLimit(end)),
+            Err(BusFault::OutOfMap(end)),
+        ),
+        (MemoryMap::LARGE, Ok(()), Ok(5)),
     ] {
-        assert_eq!(rt; bus.check_read(at), read.map(|_| ()), "a test of {at}");
-        assert_eq!(rt;
-            bus.read_word(at, &mut source, &mut sink),
-            read,
-            "a read of {at}"
-        );
-        assert_eq!(rt; bus.check_write(at), write, "a test of {at}");
-        assert_eq!(rt; bus.write_word(at, 0, &mut sink), write, "a write of {at}");
-        assert_eq!(rt; bus.peek(at).is_some(), at < 0x1_0000, "a word at {at}");
+        let mut bus = Bus::new(rt.alloc(), map)?;
+        assert_eq!(rt; bus.write_word(end, 5, &mut sink), write);
+        assert_eq!(rt; bus.fetch_word(end), fetch);
     }
     Ok(())
 }
 
 #[test]
 fn a_fetch_answers_by_the_map(rt: HostRuntime) -> Result<(), Fail> {
+    let end = MemoryMap::STANDARD.stack_end;
     let mut bus = Bus::new(rt.alloc(), MemoryMap::STANDARD)?;
     let mut sink = PlainSink::new();
     assert_eq!(rt; bus.write_word(0, 0x1122_3344, &mut sink), Ok(()));
-    assert_eq!(rt; bus.write_word(0xFFFF, 0x5566_7788, &mut sink), Ok(()));
+    assert_eq!(rt; bus.write_word(end - 1, 0x5566_7788, &mut sink), Ok(()));
     let out = BusFault::OutOfMap;
     for (byte, want) in [
         (0, Ok(0x11)),
         (1, Ok(0x22)),
         (2, Ok(0x33)),
         (3, Ok(0x44)),
-        (0x3_FFFC, Ok(0x55)),
-        (0x3_FFFF, Ok(0x88)),
-        (0x4_0000, Err(out(0x1_0000))),
+        (4 * end - 4, Ok(0x55)),
+        (4 * end - 1, Ok(0x88)),
+        (4 * end, Err(out(end))),
         (0xFFFF_FFFF, Err(out(0x3FFF_FFFF))),
     ] {
         assert_eq!(rt;
@@ -68,24 +91,24 @@ fn a_fetch_answers_by_the_map(rt: HostRuntime) -> Result<(), Fail> {
         );
         assert_eq!(rt; bus.fetch_byte(byte), want, "byte {byte}");
     }
-    assert_eq!(rt; bus.fetch_word(0xFFFF), Ok(0x5566_7788));
-    assert_eq!(rt; bus.fetch_word(0x1_0000), Err(out(0x1_0000)));
-    assert_eq!(rt; bus.fetch_word(0xFFFF_FFFD), Err(out(0xFFFF_FFFD)));
+    assert_eq!(rt; bus.fetch_word(end - 1), Ok(0x5566_7788));
+    assert_eq!(rt; bus.fetch_word(end), Err(out(end)));
+    assert_eq!(rt; bus.fetch_word(CONSOLE), Err(out(CONSOLE)));
     Ok(())
 }
 
 #[test]
 fn an_image_stands_in_memory(rt: HostRuntime) -> Result<(), Fail> {
-    let mut bus = Bus::new(rt.alloc(), MemoryMap { stack_end: 0x8000 })?;
+    let mut bus = Bus::new(rt.alloc(), MemoryMap { stack_end: FRAME })?;
     bus.load(&[1, 2, 3, 4, 0xFF], &[0xAABB_CCDD]);
     for (at, want) in [
         (0, Some(0x0102_0304)),
         (1, Some(0xFF00_0000)),
         (2, Some(0)),
-        (0x3FFF, Some(0)),
-        (0x4000, Some(0xAABB_CCDD)),
-        (0x4001, Some(0)),
-        (0x8000, None),
+        (POOL - 1, Some(0)),
+        (POOL, Some(0xAABB_CCDD)),
+        (POOL + 1, Some(0)),
+        (FRAME, None),
     ] {
         assert_eq!(rt; bus.peek(at), want, "word {at}");
     }

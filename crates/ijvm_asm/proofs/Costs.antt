@@ -27,7 +27,7 @@ use Rattle.ijvm_line.specs.Forms.{IsForm}
 use Rattle.ijvm_line.specs.Lines as lines
 use Rattle.ijvm_asm.specs.Said.{line_of, place_of, Said, SayAll, Says}
 use Rattle.ijvm_asm.proofs.Bytes.{bytes_of}
-use Rattle.ijvm_asm.proofs.Tokens.{behind_two, instr_size, kind_size, mnemonic_bytes, some_size, spelled_size, tokens_size}
+use Rattle.ijvm_asm.proofs.Tokens.{behind_mnemonic, instr_size, kind_size, mnemonic_bytes, some_size, spelled_size, tokens_size}
 
 -- ---- costs
 
@@ -36,7 +36,7 @@ abbrev pub instruction_size : Instruction → ℕ
 instruction_size (instructions.Plain instr) = instr_size instr
 instruction_size (instructions.Constant name) = 3
 instruction_size (instructions.Local access wide name) = 4
-instruction_size (instructions.Increment name by) = 3
+instruction_size (instructions.Increment wide name by) = 6
 instruction_size (instructions.Jump jump label) = 3
 instruction_size (instructions.Call name) = 3
 
@@ -78,6 +78,14 @@ access_size accesses.Store wide k = go (wide || nat_lt 255 k)
     go true = omega arith
     go false = omega arith
 
+pub increment_instr_size : (wide : Bool) (k : ℕ) (by : ℤ) → instr_size (ranges.increment_instr wide k by) ≤ 6
+increment_instr_size wide k by = go (wide || nat_lt 255 k) (ranges.byte_of by)
+  where
+    go : (w : Bool) (o : Option ℤ) → instr_size (cond w (instrs.WideIinc k by) (ranges.short_increment k by o)) ≤ 6
+    go true o = omega arith
+    go false (Some b) = omega arith
+    go false None = omega arith
+
 abbrev Within : ℕ → Instruction → Type 0
 Within n i = instruction_size i ≤ n
 
@@ -89,16 +97,16 @@ alone_size instr ts b =
 
 push_size : (value : Option ℤ) (ts : List Token) (i : Instruction) → Begins kinds.Push (tokens.Number value ∷ []) ts → ranges.push value ≡ Ok i → Within (tokens_size ts + 1) i
 push_size value ts i b h =
-    let a = behind_two kinds.Push (tokens.Number value ∷ []) ts b in
+    let a = behind_mnemonic kinds.Push (tokens.Number value ∷ []) ts b in
     of_made (Within (tokens_size ts + 1)) (λ v. instructions.Plain (instrs.Bipush v)) i (ranges.byte value) h (λ v e. omega (arith, a))
 
 constant_size : (o : Operand) (ts : List Token) (i : Instruction) → Begins kinds.Constant (operand_token o ∷ []) ts → ranges.constant o ≡ Ok i → Within (tokens_size ts + 1) i
 constant_size (operands.Name n) ts i b h =
-    let a = behind_two kinds.Constant (tokens.Name n ∷ []) ts b in
+    let a = behind_mnemonic kinds.Constant (tokens.Name n ∷ []) ts b in
     let s = some_size (operands.Name n) in
     same (Within (tokens_size ts + 1)) (instructions.Constant n) i h (omega (arith, a, s))
 constant_size (operands.Number v) ts i b h =
-    let a = behind_two kinds.Constant (tokens.Number v ∷ []) ts b in
+    let a = behind_mnemonic kinds.Constant (tokens.Number v ∷ []) ts b in
     of_made (Within (tokens_size ts + 1)) (λ k. instructions.Plain (instrs.LdcW k)) i (ranges.index v) h (λ k e. omega (arith, a))
 
 local_size : (access : Access) (wide : Bool) (o : Operand) (ts : List Token) (i : Instruction) → 2 + tokens_size (operand_token o ∷ []) ≤ tokens_size ts → ranges.local access wide o ≡ Ok i → Within (tokens_size ts + 1) i
@@ -108,35 +116,42 @@ local_size access wide (operands.Name n) ts i a h =
 local_size access wide (operands.Number v) ts i a h =
     of_made (Within (tokens_size ts + 1)) (λ k. instructions.Plain (ranges.access_instr access wide k)) i (ranges.index v) h (λ k e. let s = access_size access wide k in omega (arith, a, s))
 
-increment_size : (o : Operand) (by : Option ℤ) (ts : List Token) (i : Instruction) → Begins kinds.Increment (operand_token o ∷ tokens.Number by ∷ []) ts → ranges.increment o by ≡ Ok i → Within (tokens_size ts + 1) i
-increment_size (operands.Name n) by ts i b h =
-    let a = behind_two kinds.Increment (tokens.Name n ∷ tokens.Number by ∷ []) ts b in
-    of_made (Within (tokens_size ts + 1)) (λ v. instructions.Increment n v) i (ranges.byte by) h (λ v e. omega (arith, a))
-increment_size (operands.Number index) by ts i b h = go (ranges.narrow index) h
-  where
-    a : 2 + tokens_size (tokens.Number index ∷ tokens.Number by ∷ []) ≤ tokens_size ts
-    a = behind_two kinds.Increment (tokens.Number index ∷ tokens.Number by ∷ []) ts b
+increment_least : (o : Operand) (by : Option ℤ) (ts : List Token) → Begins kinds.Increment (operand_token o ∷ tokens.Number by ∷ []) ts → 6 ≤ tokens_size ts
+increment_least o by ts b =
+    let a = behind_mnemonic kinds.Increment (operand_token o ∷ tokens.Number by ∷ []) ts b in
+    let s = some_size o in
+    omega (arith, a, s)
 
-    go : (r : Result ℕ LineFault) → ranges.increment_by r by ≡ Ok i → Within (tokens_size ts + 1) i
-    go (Ok k) h = of_made (Within (tokens_size ts + 1)) (λ v. instructions.Plain (instrs.Iinc k v)) i (ranges.byte by) h (λ v e. omega (arith, a))
+increment_size : (wide : Bool) (o : Operand) (by : Option ℤ) (ts : List Token) (i : Instruction) → 6 ≤ tokens_size ts → ranges.increment wide o by ≡ Ok i → Within (tokens_size ts + 1) i
+increment_size wide (operands.Name n) by ts i a h = of_made (Within (tokens_size ts + 1)) (λ v. instructions.Increment wide n v) i (ranges.addend by) h (λ v e. omega (arith, a))
+increment_size wide (operands.Number index) by ts i a h = go (ranges.index index) h
+  where
+    go : (r : Result ℕ LineFault) → ranges.increment_by wide r by ≡ Ok i → Within (tokens_size ts + 1) i
+    go (Ok k) h =
+        of_made (Within (tokens_size ts + 1)) (λ v. instructions.Plain (ranges.increment_instr wide k v)) i (ranges.addend by) h
+        (λ v e. let s = increment_instr_size wide k v in omega (arith, a, s))
     go (Err x) h = absurd (cc)
 
 statement_size : (st : Statement) (ts : List Token) (i : Instruction) → IsStatement ts st → ranges.instruction_of st ≡ Ok i → Within (tokens_size ts + 1) i
 statement_size (statements.Plain instr) ts i b h = same (Within (tokens_size ts + 1)) (instructions.Plain instr) i h (alone_size instr ts b)
 statement_size (statements.Push value) ts i b h = push_size value ts i b h
 statement_size (statements.Constant o) ts i b h = constant_size o ts i b h
-statement_size (statements.Local access false o) ts i b h = local_size access false o ts i (behind_two (kinds.Local access) (operand_token o ∷ []) ts b) h
+statement_size (statements.Local access false o) ts i b h = local_size access false o ts i (behind_mnemonic (kinds.Local access) (operand_token o ∷ []) ts b) h
 statement_size (statements.Local access true o) ts i (rest, b, c) h =
-    let a = behind_two kinds.Wide rest ts b in
-    let d = behind_two (kinds.Local access) (operand_token o ∷ []) rest c in
+    let a = behind_mnemonic kinds.Wide rest ts b in
+    let d = behind_mnemonic (kinds.Local access) (operand_token o ∷ []) rest c in
     local_size access true o ts i (omega (arith, a, d)) h
-statement_size (statements.Increment o by) ts i b h = increment_size o by ts i b h
+statement_size (statements.Increment false o by) ts i b h = increment_size false o by ts i (increment_least o by ts b) h
+statement_size (statements.Increment true o by) ts i (rest, b, c) h =
+    let a = behind_mnemonic kinds.Wide rest ts b in
+    let d = increment_least o by rest c in
+    increment_size true o by ts i (omega (arith, a, d)) h
 statement_size (statements.Jump jump label) ts i b h =
-    let a = behind_two (kinds.Jump jump) (tokens.Name label ∷ []) ts b in
+    let a = behind_mnemonic (kinds.Jump jump) (tokens.Name label ∷ []) ts b in
     let s = some_size (operands.Name label) in
     same (Within (tokens_size ts + 1)) (instructions.Jump jump label) i h (omega (arith, a, s))
 statement_size (statements.Call method) ts i b h =
-    let a = behind_two kinds.Call (tokens.Name method ∷ []) ts b in
+    let a = behind_mnemonic kinds.Call (tokens.Name method ∷ []) ts b in
     let s = some_size (operands.Name method) in
     same (Within (tokens_size ts + 1)) (instructions.Call method) i h (omega (arith, a, s))
 

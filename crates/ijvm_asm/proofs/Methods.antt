@@ -3,6 +3,7 @@ use Rattle.std.proofs.Common.{◌≡◌, ℕ, ◌+◌, ◌≤◌, Bool, true, fa
 use Rattle.std.specs.Prelude.{◌||◌, not, Ok, is_some, nat_lt}
 use Rattle.std.proofs.lemmas.List.{append_assoc}
 use Rattle.std.proofs.lemmas.Bool.Decides.{nat_tests}
+use Rattle.ijvm_program.specs.Program.{most_names}
 use Rattle.ijvm_line.specs.declared.place.Mark.TheVariants as marks
 use Rattle.ijvm_line.specs.declared.place.Place.TheVariants as places
 use Rattle.name_list.specs.Places as names
@@ -31,13 +32,13 @@ gathers : (ps seen : List (List ℕ)) → AreNew seen ps → gather seen ps ≡ 
 gathers [] seen a = ap Some (sym (nil seen))
 gathers (n ∷ ns) seen a = ap (λ o. cond (is_some o) None (gather (seen ++ n ∷ []) ns)) a.0 ∙ (gathers ns (seen ++ n ∷ []) a.1 ∙ ap Some (append_assoc seen (n ∷ []) ns))
 
-few : (n : ℕ) → nat_lt 65534 n ≡ false → n ≤ 65534
+few : (n : ℕ) → nat_lt most_names n ≡ false → n ≤ most_names
 few n h = grind (arith, nat_tests)
 
-not_many : (n : ℕ) → n ≤ 65534 → nat_lt 65534 n ≡ false
-not_many n h = go (nat_lt 65534 n) refl
+not_many : (n : ℕ) → n ≤ most_names → nat_lt most_names n ≡ false
+not_many n h = go (nat_lt most_names n) refl
   where
-    go : (b : Bool) → nat_lt 65534 n ≡ b → b ≡ false
+    go : (b : Bool) → nat_lt most_names n ≡ b → b ≡ false
     go false e = refl
     go true e = absurd (grind (arith, nat_tests))
 
@@ -47,15 +48,15 @@ opened k s n ps = record s { place = places.Code; section = k; may_declare = tru
 abbrev ended : Source → Source
 ended w = record w { place = places.Outside; unit = begun None []; units = w.units ++ w.unit ∷ [] }
 
-begins : (k : ℕ) (s v : Source) (n : List ℕ) (ps : List (List ℕ)) (o : Option (List (List ℕ))) → gather [] ps ≡ o → method_by k s n o ≡ Ok v → AreNew [] ps × (length ps ≤ 65534) × (ok (opened k s n ps) ≡ ok v)
+begins : (k : ℕ) (s v : Source) (n : List ℕ) (ps : List (List ℕ)) (o : Option (List (List ℕ))) → gather [] ps ≡ o → method_by k s n o ≡ Ok v → AreNew [] ps × (length ps ≤ most_names) × (ok (opened k s n ps) ≡ ok v)
 begins k s v n ps None e h = absurd (cc)
 begins k s v n ps (Some qs) e h =
     let g = gathered ps [] qs e in
-    let i = if_ok (nat_lt 65534 (length qs)) (errors.TooManyNames k) (ok (opened k s n qs)) v h in
-    (g.0, subst (λ x. length x ≤ 65534) g.1 (few (length qs) i.0), subst (λ x. ok (opened k s n x) ≡ ok v) g.1 i.1)
+    let i = if_ok (nat_lt most_names (length qs)) (errors.TooManyNames k) (ok (opened k s n qs)) v h in
+    (g.0, subst (λ x. length x ≤ most_names) g.1 (few (length qs) i.0), subst (λ x. ok (opened k s n x) ≡ ok v) g.1 i.1)
 
-begun_by : (k : ℕ) (s : Source) (n : List ℕ) (ps : List (List ℕ)) → AreNew [] ps → length ps ≤ 65534 → method_by k s n (gather [] ps) ≡ ok (opened k s n ps)
-begun_by k s n ps a l = ap (method_by k s n) (gathers ps [] a) ∙ ok_if (nat_lt 65534 (length ps)) (errors.TooManyNames k) (ok (opened k s n ps)) (not_many (length ps) l)
+begun_by : (k : ℕ) (s : Source) (n : List ℕ) (ps : List (List ℕ)) → AreNew [] ps → length ps ≤ most_names → method_by k s n (gather [] ps) ≡ ok (opened k s n ps)
+begun_by k s n ps a l = ap (method_by k s n) (gathers ps [] a) ∙ ok_if (nat_lt most_names (length ps)) (errors.TooManyNames k) (ok (opened k s n ps)) (not_many (length ps) l)
 
 pub method_makes : (k : ℕ) (s u : Source) (n : List ℕ) (ps : List (List ℕ)) (b : Body) → s.place ≡ places.Outside → Build k s (section_lines (Method n ps b) []) u → MakesMethod k s n ps b u
 method_makes k s u n ps b e (v, p, h, more) =

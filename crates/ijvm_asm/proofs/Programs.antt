@@ -2,8 +2,7 @@
 use Rattle.std.proofs.Common.{◌≡◌, ℕ, ◌+◌, ◌<◌, ◌≤◌, ◌^◌, List, Some, None, length, ap, sym, subst, ◌∙◌, arith}
 use Rattle.std.specs.Prelude.{Ok}
 use Rattle.source_text.specs.Content.{contents}
-use Rattle.source_text.specs.Walk.{walk}
-use Rattle.source_text.proofs.Walking.{walk_leads}
+use Rattle.source_text.specs.Walk.{Leads}
 use Rattle.ijvm_program.specs.declared.line.Constant.{Constant}
 use Rattle.ijvm_program.specs.Unit.{UnitView}
 use Rattle.ijvm_program.specs.Program.{IsProgram, ProgramView}
@@ -21,8 +20,8 @@ use Rattle.ijvm_asm.proofs.Sound.{made_sound}
 use Rattle.ijvm_asm.proofs.Totals.{sections_total, total}
 
 -- what the reader has read of a text
-pub is_read : (text : List ℕ) (s : Source) → length text < 2 ^ 32 → walk step 1 empty (contents text) ≡ Ok s → IsRead s
-is_read text s few h = (text, few, leads_make (contents text) 1 empty s (walk_leads step (contents text) 1 empty s h))
+pub is_read : (text : List ℕ) (s : Source) → length text < 2 ^ 32 → Leads step 1 empty (contents text) s → IsRead s
+is_read text s few led = (text, few, leads_make (contents text) 1 empty s led)
 
 read_program : (s : Source) (p : ProgramView) → IsRead s → program_of s ≡ Ok p → IsProgram p
 read_program s p (text, few, says) h =

@@ -23,15 +23,15 @@ use Rattle.ijvm_line.specs.declared.instruction.Instruction.{Instruction}
 use Rattle.ijvm_line.specs.declared.instruction.Instruction.TheVariants as instructions
 use Rattle.ijvm_line.specs.declared.place.Place.{Place}
 use Rattle.ijvm_line.specs.declared.place.Place.TheVariants as places
-use Rattle.ijvm_line.specs.Ranges.{access_instr}
+use Rattle.ijvm_line.specs.Ranges.{access_instr, increment_instr}
 use Rattle.ijvm_asm.specs.declared.draft.DraftLine.{DraftLine}
 use Rattle.ijvm_asm.specs.declared.error.AsmError.{AsmError}
 use Rattle.ijvm_asm.specs.declared.error.AsmError.TheVariants as errors
 use Rattle.ijvm_asm.specs.Drafts.{DraftView}
 use Rattle.ijvm_asm.specs.Source.{Source}
-use Rattle.ijvm_asm.specs.Resolving.{behind, by_missing, by_units, code_line, constants_of, increment_by, index_of, label_of, lined, lines_from, main_by, methods_of, missing_at, named, operation_of, program_by, program_of, unit_by, unit_of, unit_with, units_from}
+use Rattle.ijvm_asm.specs.Resolving.{behind, by_missing, by_units, code_line, constants_of, index_of, label_of, lined, lines_from, main_by, methods_of, missing_at, named, operation_of, program_by, program_of, unit_by, unit_of, unit_with, units_from}
 use Rattle.ijvm_asm.proofs.Conditions.{ok}
-use Rattle.ijvm_asm.proofs.Costs.{access_size, instruction_size}
+use Rattle.ijvm_asm.proofs.Costs.{access_size, increment_instr_size, instruction_size}
 use Rattle.ijvm_asm.proofs.Sound.{Drafted, IsMain, IsMethod, Sound}
 use Rattle.ijvm_asm.proofs.Totals.{lines_size, main_total, total, units_total}
 
@@ -84,19 +84,11 @@ module _ (constants methods : List (List ℕ)) (u : DraftView) (d : Drafted u) w
       go None h = absurd (cc)
       go (Some place) h = element (λ at. at < length u.lines) u.ats place target d.ats h
 
-  incremented : (k : ℕ) (by : ℤ) (r : Option ℕ) (o : Operation) → increment_by k by r ≡ Ok o → Fits 3 o
-  incremented k by None o h = absurd (cc)
-  incremented k by (Some index) o h = go (nat_lt 255 index) h
-    where
-      go : (b : Bool) → cond b (Err (errors.OutOfRange k)) (ok (operations.Plain (instrs.Iinc index by))) ≡ Ok o → Fits 3 o
-      go true h = absurd (cc)
-      go false h = same (Fits 3) (operations.Plain (instrs.Iinc index by)) o h (tt, omega arith)
-
   operation_fits : (k : ℕ) (i : Instruction) (o : Operation) → operation_of constants methods u k i ≡ Ok o → Fits (instruction_size i) o
   operation_fits k (instructions.Plain instr) o h = same (Fits (instruction_size (instructions.Plain instr))) (operations.Plain instr) o h (tt, omega arith)
   operation_fits k (instructions.Constant name) o h = of_named k 3 (λ i. operations.Constant i) (place_of constants name) o h (λ i e. (place_below constants name i e, omega arith))
   operation_fits k (instructions.Local access wide name) o h = of_named k 4 (λ i. operations.Plain (access_instr access wide i)) (index_of u name) o h (λ i e. (tt, access_size access wide i))
-  operation_fits k (instructions.Increment name by) o h = incremented k by (index_of u name) o h
+  operation_fits k (instructions.Increment wide name by) o h = of_named k 6 (λ i. operations.Plain (increment_instr wide i by)) (index_of u name) o h (λ i e. (tt, increment_instr_size wide i by))
   operation_fits k (instructions.Jump jump label) o h = of_named k 3 (λ target. operations.To jump target) (label_of u label) o h (λ target e. (label_below label target e, jump_size jump target))
   operation_fits k (instructions.Call name) o h = of_named k 3 (λ i. operations.Call i) (place_of methods name) o h (λ i e. (place_below methods name i e, omega arith))
 

@@ -3,6 +3,7 @@ use Rattle.std.proofs.Common.{◌≡◌, ℕ, ◌+◌, ◌<◌, ◌≤◌, Bool,
 use Rattle.std.specs.Prelude.{◌||◌, All, is_some, IsSome, ⊤}
 use Rattle.std.proofs.lemmas.List.{append_assoc, length-map}
 use Rattle.std.proofs.lemmas.List.Elements.{All-append, All-cons, All-nil}
+use Rattle.ijvm_program.specs.Program.{most_names}
 use Rattle.ijvm_line.specs.declared.instruction.Instruction.{Instruction}
 use Rattle.ijvm_asm.specs.Sections.{Between, Body, CodeItem, Constants, Locals, Main, Method, Section, section_lines}
 use Rattle.ijvm_asm.specs.Drafts.{DraftView}
@@ -15,7 +16,7 @@ use Rattle.ijvm_asm.proofs.Totals.{body_keeps, body_lines_are, opens_unit}
 -- ---- what is sound
 
 pub record Drafted (u : DraftView) : Type 0 where
-  pub few : length u.names ≤ 65534
+  pub few : length u.names ≤ most_names
   pub ats : All (λ at. at < length u.lines) u.ats
 
 abbrev pub IsMain : Option DraftView → Type 0
@@ -63,18 +64,18 @@ ats_below (Some c ∷ items) n k b w = go c.label c.instruction (λ n b w. ats_b
 
 -- ---- a unit
 
-locals_few : (ns seen : List (List ℕ)) → AreLocals seen ns → length seen ≤ 65534 → length (seen ++ ns) ≤ 65534
-locals_few [] seen a h = subst (λ xs. length xs ≤ 65534) (sym (nil seen)) h
+locals_few : (ns seen : List (List ℕ)) → AreLocals seen ns → length seen ≤ most_names → length (seen ++ ns) ≤ most_names
+locals_few [] seen a h = subst (λ xs. length xs ≤ most_names) (sym (nil seen)) h
 locals_few (n ∷ ns) seen (new, few, more) h =
     let l = length-append seen (n ∷ []) in
-    subst (λ xs. length xs ≤ 65534) (append_assoc seen (n ∷ []) ns) (locals_few ns (seen ++ n ∷ []) more (omega (arith, few, l)))
+    subst (λ xs. length xs ≤ most_names) (append_assoc seen (n ∷ []) ns) (locals_few ns (seen ++ n ∷ []) more (omega (arith, few, l)))
 
-opens_few : (o : Option Locals) (k : ℕ) (s v : Source) → OpensLocals k s o v → length s.unit.names ≤ 65534 → length v.unit.names ≤ 65534
-opens_few None k s v q h = subst (λ w. length w.unit.names ≤ 65534) q h
-opens_few (Some d) k s v q h = subst (λ ns. length ns ≤ 65534) (sym (ap (λ w. w.unit.names) q.1)) (locals_few (declared d.names) s.unit.names q.0 h)
+opens_few : (o : Option Locals) (k : ℕ) (s v : Source) → OpensLocals k s o v → length s.unit.names ≤ most_names → length v.unit.names ≤ most_names
+opens_few None k s v q h = subst (λ w. length w.unit.names ≤ most_names) q h
+opens_few (Some d) k s v q h = subst (λ ns. length ns ≤ most_names) (sym (ap (λ w. w.unit.names) q.1)) (locals_few (declared d.names) s.unit.names q.0 h)
 
 -- the lines of a unit that has none before make a draft
-body_drafted : (k : ℕ) (s : Source) (b : Body) (t : Source) → MakesBody k s b t → length s.unit.names ≤ 65534 → s.unit.lines ≡ [] → s.unit.ats ≡ [] → Drafted t.unit
+body_drafted : (k : ℕ) (s : Source) (b : Body) (t : Source) → MakesBody k s b t → length s.unit.names ≤ most_names → s.unit.lines ≡ [] → s.unit.ats ≡ [] → Drafted t.unit
 body_drafted k s b t m few no_lines no_ats =
     let v = m.behind_locals in
     let j = code_from k b.locals in
@@ -86,7 +87,7 @@ body_drafted k s b t m few no_lines no_ats =
     ∙ (ap (λ ats. ats ++ ats_in (length v.unit.lines) b.code) ats0 ∙ ap (λ ls. ats_in (length ls) b.code) lines0) in
     let waits : waits_behind v.unit.pending b.code ≡ false = sym (ap (λ w. w.unit.pending) m.makes.1) ∙ m.ready in
     record {
-      few = subst (λ ns. length ns ≤ 65534) (sym names) (opens_few b.locals k s v m.opens few);
+      few = subst (λ ns. length ns ≤ most_names) (sym names) (opens_few b.locals k s v m.opens few);
       ats = subst (λ ats. All (λ at. at < length t.unit.lines) ats) (sym ats)
           (subst (λ ls. All (λ at. at < length ls) (ats_in 0 b.code)) (sym lines)
           (weaker (0 + length (lines_in j b.code)) (length (lines_in j b.code)) (ats_in 0 b.code) (omega arith) (ats_below b.code 0 j v.unit.pending waits)));

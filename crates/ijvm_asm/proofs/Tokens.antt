@@ -59,8 +59,13 @@ abbrev pub kind_size : Kind → ℕ
 kind_size (kinds.Alone i) = instr_size i
 kind_size _ = 1
 
--- a mnemonic has at least two bytes, and an instruction without operands is one byte
-pub mnemonic_bytes : (m : Mnemonic) → (nat_le 2 (length (mnemonic_text m)) ≡ true) × (kind_size (kind_of m) ≡ 1)
+-- the fewest bytes of a mnemonic with such operands
+abbrev pub kind_least : Kind → ℕ
+kind_least kinds.Increment = 4
+kind_least _ = 2
+
+-- a mnemonic has at least these bytes, and an instruction without operands is one byte
+pub mnemonic_bytes : (m : Mnemonic) → (nat_le (kind_least (kind_of m)) (length (mnemonic_text m)) ≡ true) × (kind_size (kind_of m) ≡ 1)
 mnemonic_bytes mnemonics.Nop = (refl, refl)
 mnemonic_bytes mnemonics.Bipush = (refl, refl)
 mnemonic_bytes mnemonics.LdcW = (refl, refl)
@@ -99,11 +104,12 @@ same_length : (m : Mnemonic) (text : List ℕ) → str_to_ascii_lowercase (mnemo
 same_length m text e = sym (length-map (mnemonic_text m) to_ascii_lowercase) ∙ (ap length e ∙ length-map text to_ascii_lowercase)
 
 -- a mnemonic, before what stands behind it
-pub behind_two : (kind : Kind) (rest ts : List Token) → Begins kind rest ts → 2 + tokens_size rest ≤ tokens_size ts
-behind_two kind rest ts b =
+pub behind_mnemonic : (kind : Kind) (rest ts : List Token) → Begins kind rest ts → kind_least kind + tokens_size rest ≤ tokens_size ts
+behind_mnemonic kind rest ts b =
     let a = same_length b.mnemonic b.text b.spelled in
     let c = (mnemonic_bytes b.mnemonic).0 in
     let d = name_size b.text in
     let e = ap tokens_size b.split in
-    let f : 2 ≤ length (mnemonic_text b.mnemonic) = grind (arith, nat_tests) in
-    omega (arith, a, d, e, f)
+    let f : kind_least (kind_of b.mnemonic) ≤ length (mnemonic_text b.mnemonic) = grind (arith, nat_tests) in
+    let g : kind_least (kind_of b.mnemonic) ≡ kind_least kind = ap kind_least b.has in
+    omega (arith, a, d, e, f, g)

@@ -3,6 +3,7 @@ use Rattle.std.proofs.Common.{◌≡◌, ℕ, ◌+◌, ◌<◌, Bool, true, fals
 use Rattle.std.specs.Prelude.{◌||◌, Ok, Err, is_some, nat_le, ⊤}
 use Rattle.std.proofs.lemmas.List.{append_assoc, length-append}
 use Rattle.std.proofs.lemmas.Bool.Decides.{nat_tests}
+use Rattle.ijvm_program.specs.Program.{most_names}
 use Rattle.ijvm_line.specs.declared.place.Place.TheVariants as places
 use Rattle.ijvm_line.specs.declared.place.Mark.TheVariants as marks
 use Rattle.ijvm_line.specs.declared.instruction.Instruction.{Instruction}
@@ -30,13 +31,13 @@ with_local s n = record s { unit = record s.unit { names = s.unit.names ++ n ∷
 abbrev locals_end : List (Option (List ℕ)) → List Said
 locals_end items = map local_line items ++ (Dotted marks.EndLocals ∷ [])
 
-few : (n : ℕ) → nat_le 65534 n ≡ false → n < 65534
+few : (n : ℕ) → nat_le most_names n ≡ false → n < most_names
 few n h = grind (arith, nat_tests)
 
-not_many : (n : ℕ) → n < 65534 → nat_le 65534 n ≡ false
-not_many n h = go (nat_le 65534 n) refl
+not_many : (n : ℕ) → n < most_names → nat_le most_names n ≡ false
+not_many n h = go (nat_le most_names n) refl
   where
-    go : (b : Bool) → nat_le 65534 n ≡ b → b ≡ false
+    go : (b : Bool) → nat_le most_names n ≡ b → b ≡ false
     go false e = refl
     go true e = absurd (grind (arith, nat_tests))
 
@@ -58,7 +59,7 @@ locals_make (None ∷ items) k s u e (v, p, h, more) =
     let q : s ≡ v = cc in
     locals_make items (k + 1) s u e (subst (λ w. Build (k + 1) w (locals_end items) u) (sym q) more)
 locals_make (Some n ∷ items) k s u e (v, p, h, more) =
-    let b = with_both (λ w. record s { unit = w }) (is_some (names.place_of s.unit.names n)) (nat_le 65534 (length s.unit.names)) (record s.unit { names = s.unit.names ++ n ∷ [] }) (errors.DuplicateName k) (errors.TooManyNames k) v h in
+    let b = with_both (λ w. record s { unit = w }) (is_some (names.place_of s.unit.names n)) (nat_le most_names (length s.unit.names)) (record s.unit { names = s.unit.names ++ n ∷ [] }) (errors.DuplicateName k) (errors.TooManyNames k) v h in
     let g : ok (with_local s n) ≡ ok v = b.2 in
     let q : with_local s n ≡ v = cc in
     let r = locals_make items (k + 1) (with_local s n) u e (subst (λ w. Build (k + 1) w (locals_end items) u) (sym q) more) in
@@ -70,7 +71,7 @@ make_locals (None ∷ items) k s u e a = (s, e, refl, make_locals items (k + 1) 
 make_locals (Some n ∷ items) k s u e ((new, less, more), q) = (
   with_local s n,
   e,
-  both_with (λ w. record s { unit = w }) (is_some (names.place_of s.unit.names n)) (nat_le 65534 (length s.unit.names)) (record s.unit { names = s.unit.names ++ n ∷ [] }) (errors.DuplicateName k) (errors.TooManyNames k) (ap is_some new) (not_many (length s.unit.names) less),
+  both_with (λ w. record s { unit = w }) (is_some (names.place_of s.unit.names n)) (nat_le most_names (length s.unit.names)) (record s.unit { names = s.unit.names ++ n ∷ [] }) (errors.DuplicateName k) (errors.TooManyNames k) (ap is_some new) (not_many (length s.unit.names) less),
   make_locals items (k + 1) (with_local s n) u e (more, q ∙ sym (ap (named s) (append_assoc s.unit.names (n ∷ []) (declared items)))),
 )
 

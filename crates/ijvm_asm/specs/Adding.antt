@@ -1,5 +1,6 @@
 -- What a line adds to a source, or its refusal: how a source is read, line by line.
 use Rattle.std.specs.Prelude.{ℕ, ◌||◌, Bool, true, false, not, List, [], ◌∷◌, ◌++◌, Option, Some, None, Result, Ok, Err, if◌then◌else◌, is_some, length, nat_le, nat_lt}
+use Rattle.ijvm_program.specs.Program.{most_names}
 use Rattle.ijvm_tokens.specs.declared.token.Token.{Token}
 use Rattle.ijvm_tokens.specs.Reading.{read}
 use Rattle.ijvm_line.specs.declared.place.Place.TheVariants as places
@@ -23,7 +24,7 @@ use Rattle.ijvm_asm.specs.Source.{Source}
 -- parameters and locals share their names, and are at most 65,534
 abbrev pub add_local : ℕ → DraftView → List ℕ → Result DraftView AsmError
 add_local k u name = if is_some (place_of u.names name) then Err (errors.DuplicateName k)
-    else (if nat_le 65534 (length u.names) then Err (errors.TooManyNames k)
+    else (if nat_le most_names (length u.names) then Err (errors.TooManyNames k)
     else Ok (record u { names = u.names ++ name ∷ [] }))
 
 -- a label names the next instruction
@@ -87,7 +88,7 @@ gather seen (name ∷ names) = if is_some (place_of seen name) then None else ga
 
 abbrev pub method_by : ℕ → Source → List ℕ → Option (List (List ℕ)) → Result Source AsmError
 method_by k s name None = Err (errors.DuplicateName k)
-method_by k s name (Some parameters) = if nat_lt 65534 (length parameters) then Err (errors.TooManyNames k)
+method_by k s name (Some parameters) = if nat_lt most_names (length parameters) then Err (errors.TooManyNames k)
     else Ok (record s { place = places.Code; section = k; may_declare = true; methods = s.methods ++ name ∷ []; unit = begun (Some name) parameters })
 
 abbrev pub add_method : ℕ → Source → List ℕ → List (List ℕ) → Result Source AsmError

@@ -1,5 +1,6 @@
 -- What sections make of a source, one behind the other: no name comes twice among those that it must differ from.
 use Rattle.std.specs.Prelude.{◌≡◌, ℕ, ◌+◌, ◌≤◌, true, false, List, [], ◌∷◌, ◌++◌, map, length, Option, Some, None, ⊤}
+use Rattle.ijvm_program.specs.Program.{most_names}
 use Rattle.ijvm_program.specs.declared.line.Constant.{Constant}
 use Rattle.ijvm_line.specs.declared.place.Place.TheVariants as places
 use Rattle.name_list.specs.Places as names
@@ -46,7 +47,7 @@ pub record MakesMain (k : ℕ) (s : Source) (body : Body) (u : Source) : Type 0 
 pub record MakesMethod (k : ℕ) (s : Source) (name : List ℕ) (ps : List (List ℕ)) (body : Body) (u : Source) : Type 0 where
   pub is_new : (names.place_of s.constants name ≡ None) × (names.place_of s.methods name ≡ None)
   pub once : AreNew [] ps
-  pub few : length ps ≤ 65534
+  pub few : length ps ≤ most_names
   pub last : Source
   pub content : MakesBody (k + 1) (record s { place = places.Code; section = k; may_declare = true; methods = s.methods ++ name ∷ []; unit = begun (Some name) ps }) body last
   pub ends : u ≡ record last { place = places.Outside; unit = begun None []; units = last.units ++ last.unit ∷ [] }

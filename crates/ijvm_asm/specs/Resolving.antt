@@ -1,7 +1,6 @@
 -- How names stand for positions, and the refusals of a whole source.
-use Rattle.std.specs.Prelude.{ℕ, ℤ, ◌+◌, Bool, List, [], ◌∷◌, ◌++◌, Option, Some, None, Result, Ok, Err, if◌then◌else◌, is_some, nat_lt, nat_le, map, take, drop, option_map, option_and_then}
+use Rattle.std.specs.Prelude.{ℕ, ℤ, ◌+◌, Bool, List, [], ◌∷◌, ◌++◌, Option, Some, None, Result, Ok, Err, if◌then◌else◌, is_some, nat_le, map, take, drop, option_map, option_and_then}
 use Rattle.std.specs.List.{slice_get, zip}
-use Rattle.ijvm_instr.specs.declared.instr.Instr.TheVariants as instrs
 use Rattle.ijvm_program.specs.declared.line.CodeLine.{CodeLine}
 use Rattle.ijvm_program.specs.declared.line.Constant.{Constant}
 use Rattle.ijvm_program.specs.declared.line.Jump.{Jump}
@@ -15,7 +14,7 @@ use Rattle.ijvm_line.specs.declared.place.Place.TheVariants as places
 use Rattle.ijvm_line.specs.declared.mnemonic.Access.{Access}
 use Rattle.ijvm_line.specs.declared.instruction.Instruction.{Instruction}
 use Rattle.ijvm_line.specs.declared.instruction.Instruction.TheVariants as instructions
-use Rattle.ijvm_line.specs.Ranges.{access_instr}
+use Rattle.ijvm_line.specs.Ranges.{access_instr, increment_instr}
 use Rattle.name_list.specs.Places.{place_of}
 use Rattle.ijvm_asm.specs.declared.draft.DraftLine.{DraftLine}
 use Rattle.ijvm_asm.specs.declared.error.AsmError.{AsmError}
@@ -47,12 +46,9 @@ index_of u name = option_map (λ place. place + first_index u) (place_of u.names
 abbrev pub load : DraftView → ℕ → Access → Bool → List ℕ → Result Operation AsmError
 load u k access wide name = named k (λ index. operations.Plain (access_instr access wide index)) (index_of u name)
 
-abbrev pub increment_by : ℕ → ℤ → Option ℕ → Result Operation AsmError
-increment_by k by None = Err (errors.UnknownName k)
-increment_by k by (Some index) = if nat_lt 255 index then Err (errors.OutOfRange k) else Ok (operations.Plain (instrs.Iinc index by))
-
-abbrev pub increment : DraftView → ℕ → List ℕ → ℤ → Result Operation AsmError
-increment u k name by = increment_by k by (index_of u name)
+-- the wide form is taken where it is forced, for an index above 255, and for a number that is no byte
+abbrev pub increment : DraftView → ℕ → Bool → List ℕ → ℤ → Result Operation AsmError
+increment u k wide name by = named k (λ index. operations.Plain (increment_instr wide index by)) (index_of u name)
 
 -- how many code lines stand before the label
 abbrev pub label_of : DraftView → List ℕ → Option ℕ
@@ -65,7 +61,7 @@ abbrev pub operation_of : List (List ℕ) → List (List ℕ) → DraftView → 
 operation_of constants methods u k (instructions.Plain instr) = Ok (operations.Plain instr)
 operation_of constants methods u k (instructions.Constant name) = constant constants k name
 operation_of constants methods u k (instructions.Local access wide name) = load u k access wide name
-operation_of constants methods u k (instructions.Increment name by) = increment u k name by
+operation_of constants methods u k (instructions.Increment wide name by) = increment u k wide name by
 operation_of constants methods u k (instructions.Jump jump label) = jump_to u k jump label
 operation_of constants methods u k (instructions.Call name) = call methods k name
 
@@ -122,7 +118,6 @@ constants_of s = map (λ p. record { name = p.0; value = p.1 }) (zip s.constants
 
 abbrev pub line_of : AsmError → ℕ
 line_of (errors.UnknownName k) = k
-line_of (errors.OutOfRange k) = k
 line_of _ = 0
 
 -- the refusal of the earlier line

@@ -1,5 +1,6 @@
 -- What the lines of a unit make of it: its locals stand behind its parameters, and its labels and instructions in order.
 use Rattle.std.specs.Prelude.{◌≡◌, ℕ, ◌+◌, ◌<◌, ◌||◌, Bool, false, List, [], ◌∷◌, ◌++◌, map, length, Option, Some, None, is_some, ⊤}
+use Rattle.ijvm_program.specs.Program.{most_names}
 use Rattle.ijvm_line.specs.declared.place.Place.TheVariants as places
 use Rattle.ijvm_line.specs.declared.place.Mark.TheVariants as marks
 use Rattle.ijvm_line.specs.declared.instruction.Instruction.{Instruction}
@@ -24,7 +25,7 @@ declared (Some name ∷ items) = name ∷ declared items
 -- no name comes twice, nor is one that of a parameter, and parameters and locals are at most 65,534
 abbrev pub AreLocals : List (List ℕ) → List (List ℕ) → Type 0
 AreLocals seen [] = ⊤
-AreLocals seen (n ∷ ns) = (names.place_of seen n ≡ None) × (length seen < 65534) × AreLocals (seen ++ n ∷ []) ns
+AreLocals seen (n ∷ ns) = (names.place_of seen n ≡ None) × (length seen < most_names) × AreLocals (seen ++ n ∷ []) ns
 
 -- the locals stand behind the parameters, and the code of the unit follows
 abbrev pub MakesLocals : Source → List (Option (List ℕ)) → Source → Type 0

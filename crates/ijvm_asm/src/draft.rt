@@ -1,5 +1,6 @@
-ghost use Rattle.std.specs.Prelude.{◌≡◌, Ok, OnOk, IfErr};
-ghost use Rattle.ijvm_asm.specs.Drafts.{begun, FailsBy};
+ghost use Rattle.std.specs.Prelude.{◌≡◌, ◌≤◌, length, Ok, OnOk, IfErr};
+ghost use Rattle.ijvm_program.specs.Program.{most_names};
+ghost use Rattle.ijvm_asm.specs.Drafts.{begun, FailsBy, StaysBy};
 
 use crate::error::AsmError;
 use ijvm_line::Instruction;
@@ -36,17 +37,22 @@ pub(crate) struct Draft {
 pub(crate) const MOST: u32 = 65_534;
 
 impl Model for Draft {
+    ghost use Rattle.std.specs.Prelude.{◌≤◌, length};
+    ghost use Rattle.ijvm_program.specs.Program.{most_names};
     ghost use Rattle.ijvm_asm.specs.Drafts.{DraftView};
 
     ghost Value = { DraftView };
 
     ghost view = { λ d. record { name = d.name; names = d.names; parameters = d.parameters; labels = d.labels; ats = d.ats.items; lines = d.lines.items; pending = d.pending } };
+
+    ghost invariant = { λ d. length d.names ≤ most_names };
 }
 
 impl Draft {
     ghost use Rattle.ijvm_asm.specs.Adding.{add_instruction, add_label, add_local};
 
     pub(crate) fn new(alloc: Global, name: Option<Name>, parameters: NameList) -> Draft
+        requires { length parameters ≤ most_names }
         ensures { result ≡ begun name parameters }
     {
         let count = parameters.len();
@@ -65,6 +71,7 @@ impl Draft {
     pub(crate) fn add_local(&mut self, line: u32, name: Name) -> Result<(), AsmError>
         ensures ok { OnOk result (add_local line self.old name ≡ Ok self.new) }
         ensures err { IfErr result (λ e. FailsBy e (add_local line self.old name)) }
+        ensures left { IfErr result (λ e. StaysBy e self.old self.new) }
     {
         if self.names.find(&name).is_some() {
             return Err(AsmError::DuplicateName(line));
@@ -80,6 +87,7 @@ impl Draft {
     pub(crate) fn add_label(&mut self, line: u32, label: Option<Name>) -> Result<(), AsmError>
         ensures ok { OnOk result (add_label line self.old label ≡ Ok self.new) }
         ensures err { IfErr result (λ e. FailsBy e (add_label line self.old label)) }
+        ensures left { IfErr result (λ e. StaysBy e self.old self.new) }
     {
         let Some(label) = label else {
             return Ok(());

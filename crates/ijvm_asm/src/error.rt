@@ -15,7 +15,7 @@ pub enum AsmError {
     /// A number does not read.
     #[error("line {0}: bad number")]
     BadNumber(u32),
-    /// A number is out of its range, or a local above 255 stands in IINC.
+    /// A number is out of its range.
     #[error("line {0}: out of range")]
     OutOfRange(u32),
     /// A name is declared a second time among those that share their names.

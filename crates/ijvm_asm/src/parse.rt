@@ -9,7 +9,6 @@ use ijvm_program::Program;
 use source_text::read_lines;
 use std::alloc::Global;
 
-#[tactic(auto, unfolding(crate::specs::Text::parsed), using(crate::proofs::Programs::is_read))]
 fn parsed(alloc: Global, text: &[u8]) -> Result<Program, AsmError>
     requires { length text.now < 2 ^ 32 }
     ensures ok { IfOk result (λ p. parsed text.now ≡ Ok p) }

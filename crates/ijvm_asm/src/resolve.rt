@@ -1,11 +1,10 @@
-ghost use Rattle.std.specs.Prelude.{◌≡◌, [], Ok, IfOk, IfErr, take, drop};
+ghost use Rattle.std.specs.Prelude.{◌≡◌, ◌≤◌, [], Ok, IfOk, IfErr, take, drop};
 ghost use Rattle.ijvm_asm.specs.Drafts.{FailsBy};
 ghost use Rattle.ijvm_asm.specs.Resolving.{call, code_line, constant, first_index, increment, index_of, jump_to, label_of, labels_of, lines_from, load, operation_of, unit_of, units_from};
 
 use crate::draft::{Draft, DraftLine};
 use crate::error::AsmError;
-use ijvm_instr::Instr;
-use ijvm_line::{Access, Instruction, access_instr};
+use ijvm_line::{Access, Instruction, access_instr, increment_instr};
 use ijvm_program::{CodeLine, Jump, Label, Operation, Unit};
 use mic_base::Name;
 use name_list::NameList;
@@ -30,17 +29,18 @@ fn call(methods: &NameList, line: u32, name: &Name) -> Result<Operation, AsmErro
 }
 
 /// Main's locals are numbered from 0; a method's parameters from 1, and its locals behind them.
-fn first_index(unit: &Draft) -> u64
-    ensures { result ≡ first_index unit.now }
+fn first_index(unit: &Draft) -> u16
+    ensures is { result ≡ first_index unit.now }
+    ensures small { result ≤ 1 }
 {
     if unit.name.is_some() { 1 } else { 0 }
 }
 
-fn index_of(unit: &Draft, name: &Name) -> Option<u64>
+fn index_of(unit: &Draft, name: &Name) -> Option<u16>
     ensures { result ≡ index_of unit.now name.now }
 {
     let place = unit.names.find(name)?;
-    Some(u64::from(place) + first_index(unit))
+    Some(place as u16 + first_index(unit))
 }
 
 fn load(
@@ -50,28 +50,27 @@ fn load(
     wide: bool,
     name: &Name,
 ) -> Result<Operation, AsmError>
-    ensures ok { IfOk result (λ o. load unit.now line access wide name.now ≡ Ok o) }
-    ensures err { IfErr result (λ e. FailsBy e (load unit.now line access wide name.now)) }
+    ensures { result ≡ load unit.now line access wide name.now }
 {
-    let Some(index) = index_of(unit, name) else {
-        return Err(AsmError::UnknownName(line));
-    };
-    if index > 65_535 {
-        return Err(AsmError::OutOfMemory);
+    match index_of(unit, name) {
+        Some(index) => Ok(Operation::Plain(access_instr(access, wide, index))),
+        None => Err(AsmError::UnknownName(line)),
     }
-    Ok(Operation::Plain(access_instr(access, wide, index as u16)))
 }
 
-fn increment(unit: &Draft, line: u32, name: &Name, by: i8) -> Result<Operation, AsmError>
-    ensures { result ≡ increment unit.now line name.now by }
+fn increment(
+    unit: &Draft,
+    line: u32,
+    wide: bool,
+    name: &Name,
+    by: i16,
+) -> Result<Operation, AsmError>
+    ensures { result ≡ increment unit.now line wide name.now by }
 {
-    let Some(index) = index_of(unit, name) else {
-        return Err(AsmError::UnknownName(line));
-    };
-    if index > 255 {
-        return Err(AsmError::OutOfRange(line));
+    match index_of(unit, name) {
+        Some(index) => Ok(Operation::Plain(increment_instr(wide, index, by))),
+        None => Err(AsmError::UnknownName(line)),
     }
-    Ok(Operation::Plain(Instr::Iinc(index as u8, by)))
 }
 
 fn label_of(unit: &Draft, label: &Name) -> Option<u32>
@@ -97,8 +96,7 @@ fn operation_of(
     line: u32,
     instruction: &Instruction,
 ) -> Result<Operation, AsmError>
-    ensures ok { IfOk result (λ o. operation_of constants.now methods.now unit.now line instruction.now ≡ Ok o) }
-    ensures err { IfErr result (λ e. FailsBy e (operation_of constants.now methods.now unit.now line instruction.now)) }
+    ensures { result ≡ operation_of constants.now methods.now unit.now line instruction.now }
 {
     match instruction {
         Instruction::Plain(instr) => Ok(Operation::Plain(*instr)),
@@ -108,7 +106,7 @@ fn operation_of(
             wide,
             local,
         } => load(unit, line, *access, *wide, local),
-        Instruction::Increment(local, by) => increment(unit, line, local, *by),
+        Instruction::Increment { wide, local, by } => increment(unit, line, *wide, local, *by),
         Instruction::Jump(jump, label) => jump_to(unit, line, *jump, label),
         Instruction::Call(name) => call(methods, line, name),
     }
@@ -120,8 +118,7 @@ fn code_line(
     unit: &Draft,
     draft: &DraftLine,
 ) -> Result<CodeLine, AsmError>
-    ensures ok { IfOk result (λ c. code_line constants.now methods.now unit.now draft.now ≡ Ok c) }
-    ensures err { IfErr result (λ e. FailsBy e (code_line constants.now methods.now unit.now draft.now)) }
+    ensures { result ≡ code_line constants.now methods.now unit.now draft.now }
 {
     match operation_of(constants, methods, unit, draft.line, &draft.instruction) {
         Ok(operation) => Ok(CodeLine {

@@ -1,11 +1,11 @@
 ghost use Rattle.std.specs.Prelude.{◌≡◌, Ok, OnOk, IfOk, IfErr, None, []};
-ghost use Rattle.ijvm_asm.specs.Drafts.{begun, FailsBy};
+ghost use Rattle.ijvm_asm.specs.Drafts.{begun, FailsBy, StaysBy};
 ghost use Rattle.ijvm_asm.specs.Adding.{at_line, gather};
 
 use crate::draft::{Draft, MOST};
 use crate::error::AsmError;
 use ijvm_line::{Instruction, Line, LineFault, Mark, Place, line_of, parameters_of};
-use ijvm_tokens::{Token, tokens_of};
+use ijvm_tokens::{Token, reads_what_is_spelled, tokens_of};
 use mic_base::Name;
 use name_list::NameList;
 use source_text::{Reader, TokenError};
@@ -109,6 +109,7 @@ impl SourceReader {
     fn add_constant(&mut self, line: u32, name: Name, value: u32) -> Result<(), AsmError>
         ensures ok { OnOk result (add_constant line self.old name value ≡ Ok self.new) }
         ensures err { IfErr result (λ e. FailsBy e (add_constant line self.old name value)) }
+        ensures left { IfErr result (λ e. StaysBy e self.old self.new) }
     {
         if self.is_declared(&name) {
             return Err(AsmError::DuplicateName(line));
@@ -121,6 +122,7 @@ impl SourceReader {
     fn add_local(&mut self, line: u32, name: Name) -> Result<(), AsmError>
         ensures ok { OnOk result (on_local line self.old name ≡ Ok self.new) }
         ensures err { IfErr result (λ e. FailsBy e (on_local line self.old name)) }
+        ensures left { IfErr result (λ e. StaysBy e self.old self.new) }
     {
         match self.unit.add_local(line, name) {
             Ok(()) => Ok(()),
@@ -136,6 +138,7 @@ impl SourceReader {
     ) -> Result<(), AsmError>
         ensures ok { OnOk result (add_code line self.old label instruction ≡ Ok self.new) }
         ensures err { IfErr result (λ e. FailsBy e (add_code line self.old label instruction)) }
+        ensures left { IfErr result (λ e. StaysBy e self.old self.new) }
     {
         match self.unit.add_label(line, label) {
             Ok(()) => {}
@@ -152,6 +155,7 @@ impl SourceReader {
     fn add_method(&mut self, line: u32, name: Name, parameters: &[Name]) -> Result<(), AsmError>
         ensures ok { OnOk result (add_method line self.old name parameters.now ≡ Ok self.new) }
         ensures err { IfErr result (λ e. FailsBy e (add_method line self.old name parameters.now)) }
+        ensures left { IfErr result (λ e. StaysBy e self.old self.new) }
     {
         if self.is_declared(&name) {
             return Err(AsmError::DuplicateName(line));
@@ -176,6 +180,7 @@ impl SourceReader {
     fn begin_constants(&mut self, line: u32) -> Result<(), AsmError>
         ensures ok { OnOk result (begin_constants line self.old ≡ Ok self.new) }
         ensures err { IfErr result (λ e. FailsBy e (begin_constants line self.old)) }
+        ensures left { IfErr result (λ e. StaysBy e self.old self.new) }
     {
         if self.seen_constants {
             return Err(AsmError::BadLine(line));
@@ -189,6 +194,7 @@ impl SourceReader {
     fn begin_main(&mut self, line: u32) -> Result<(), AsmError>
         ensures ok { OnOk result (begin_main line self.old ≡ Ok self.new) }
         ensures err { IfErr result (λ e. FailsBy e (begin_main line self.old)) }
+        ensures left { IfErr result (λ e. StaysBy e self.old self.new) }
     {
         if self.seen_main {
             return Err(AsmError::BadLine(line));
@@ -204,6 +210,7 @@ impl SourceReader {
     fn begin_locals(&mut self, line: u32) -> Result<(), AsmError>
         ensures ok { OnOk result (begin_locals line self.old ≡ Ok self.new) }
         ensures err { IfErr result (λ e. FailsBy e (begin_locals line self.old)) }
+        ensures left { IfErr result (λ e. StaysBy e self.old self.new) }
     {
         if !self.may_declare {
             return Err(AsmError::BadLine(line));
@@ -227,6 +234,7 @@ impl SourceReader {
     fn end_main(&mut self, line: u32) -> Result<(), AsmError>
         ensures ok { OnOk result (end_main line self.old ≡ Ok self.new) }
         ensures err { IfErr result (λ e. FailsBy e (end_main line self.old)) }
+        ensures left { IfErr result (λ e. StaysBy e self.old self.new) }
     {
         if self.unit.name.is_some() || self.unit.pending {
             return Err(AsmError::BadLine(line));
@@ -239,6 +247,7 @@ impl SourceReader {
     fn end_method(&mut self, line: u32) -> Result<(), AsmError>
         ensures ok { OnOk result (end_method line self.old ≡ Ok self.new) }
         ensures err { IfErr result (λ e. FailsBy e (end_method line self.old)) }
+        ensures left { IfErr result (λ e. StaysBy e self.old self.new) }
     {
         if self.unit.name.is_none() || self.unit.pending {
             return Err(AsmError::BadLine(line));
@@ -251,6 +260,7 @@ impl SourceReader {
     fn add_mark(&mut self, line: u32, mark: Mark) -> Result<(), AsmError>
         ensures ok { OnOk result (add_mark line self.old mark ≡ Ok self.new) }
         ensures err { IfErr result (λ e. FailsBy e (add_mark line self.old mark)) }
+        ensures left { IfErr result (λ e. StaysBy e self.old self.new) }
     {
         match mark {
             Mark::BeginConstants => self.begin_constants(line),
@@ -272,6 +282,7 @@ impl SourceReader {
     fn add(&mut self, number: u32, tokens: &[Token], line: Line) -> Result<(), AsmError>
         ensures ok { OnOk result (add_line number self.old (parameters tokens.now) line ≡ Ok self.new) }
         ensures err { IfErr result (λ e. FailsBy e (add_line number self.old (parameters tokens.now) line)) }
+        ensures left { IfErr result (λ e. StaysBy e self.old self.new) }
     {
         match line {
             Line::Nothing => Ok(()),
@@ -291,6 +302,7 @@ impl SourceReader {
     fn read(&mut self, number: u32, tokens: &[Token]) -> Result<(), AsmError>
         ensures ok { OnOk result (add_tokens number self.old tokens.now ≡ Ok self.new) }
         ensures err { IfErr result (λ e. FailsBy e (add_tokens number self.old tokens.now)) }
+        ensures left { IfErr result (λ e. StaysBy e self.old self.new) }
     {
         match line_of(self.place, tokens) {
             Ok(line) => self.add(number, tokens, line),
@@ -315,6 +327,7 @@ impl Reader for SourceReader {
     ghost is_memory = { is_memory };
 
     fn line(&mut self, number: u32, line: &[u8]) -> Result<(), AsmError> {
+        reads_what_is_spelled();
         match tokens_of(self.alloc, line) {
             Ok(tokens) => self.read(number, &tokens),
             Err(TokenError::BadToken) => Err(AsmError::BadToken(number)),

@@ -65,7 +65,7 @@ fn line_of(refusal: AsmError) -> u32
     ensures { result ≡ line_of refusal }
 {
     match refusal {
-        AsmError::UnknownName(line) | AsmError::OutOfRange(line) => line,
+        AsmError::UnknownName(line) => line,
         _ => 0,
     }
 }

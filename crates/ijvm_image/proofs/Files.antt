@@ -9,7 +9,8 @@ use Rattle.ijvm_image.specs.declared.reader.Block.{Block}
 use Rattle.ijvm_image.specs.declared.image.ImageError.{ImageError}
 use Rattle.ijvm_image.specs.declared.image.ImageError.TheVariants as errors
 use Rattle.ijvm_image.specs.Image.{ImageView, IsWithinLimits}
-use Rattle.ijvm_image.specs.ImageFile.{magic, text_origin, pool_origin, word_bytes, block_of, file_of, text_first, IsFileOf, word_at, and_then, field, is_origin, is_size, block_from, block_at, words_at, image_of, joined, ended, image_read}
+use Rattle.ijvm_image.specs.ImageFile.{magic, text_origin, pool_origin, word_bytes, block_of, file_of, text_first, IsFileOf, word_at, is_origin, is_size}
+use Rattle.ijvm_image.specs.Reading.{and_then, field, block_from, block_at, words_at, image_of, joined, ended, image_read}
 
 -- Two bytes and their number.
 

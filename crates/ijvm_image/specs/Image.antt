@@ -1,6 +1,6 @@
 -- An image: the text, which holds methods' headers and instructions, and the constant pool.
 use Rattle.ijvm_image.specs.declared.method.Method.{Method}
-use Rattle.std.specs.Prelude.{ℕ, ◌+◌, ◌*◌, ◌≤◌, if◌then◌else◌, nat_lt, List, length, slice_index, Option, Some, None}
+use Rattle.std.specs.Prelude.{ℕ, ◌+◌, ◌*◌, ◌<◌, ◌≤◌, ◌^◌, All, if◌then◌else◌, nat_lt, List, length, slice_index, Option, Some, None}
 
 pub record ImageView : Type 0 where
   -- bytes, from byte address 0
@@ -12,6 +12,12 @@ pub record ImageView : Type 0 where
 pub record IsWithinLimits (text pool : List ℕ) : Type 0 where
   pub text_fits : length text ≤ 65536
   pub pool_fits : length pool ≤ 16384
+
+-- the text is bytes, the pool words, and both are within the limits
+pub record IsImage (image : ImageView) : Type 0 where
+  pub bytes : All (λ b. b < 256) image.text
+  pub words : All (λ w. w < 2 ^ 32) image.pool
+  pub limits : IsWithinLimits image.text image.pool
 
 -- A method begins at its entry with two counts of two bytes, its parameters with the object reference and its other locals, and its
 -- code stands behind them.

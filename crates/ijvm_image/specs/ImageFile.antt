@@ -1,8 +1,7 @@
 -- The image file: a magic word, then the pool's block and the text's block in either order. A block is its origin, its size in bytes
 -- and its bytes. A word has its most significant byte first.
-use Rattle.std.specs.Prelude.{◌≡◌, ◌⊎◌, ◌≤◌, ◌&&◌, ◌||◌, not, ℕ, zero, suc, ◌+◌, ◌-◌, ◌*◌, ◌/◌, ◌%◌, Bool, if◌then◌else◌, nat_lt, nat_le, ◌==◌, List, [], ◌∷◌, ◌++◌, length, slice_index, slice_range, Option, Some, None, Result, Ok, Err}
+use Rattle.std.specs.Prelude.{◌≡◌, ◌⊎◌, ◌&&◌, ◌||◌, not, ℕ, ◌+◌, ◌*◌, ◌/◌, ◌%◌, Bool, if◌then◌else◌, nat_lt, nat_le, ◌==◌, List, [], ◌∷◌, ◌++◌, length, slice_index, Option, Some, None}
 use Rattle.std.specs.List.{flat_map}
-use Rattle.ijvm_image.specs.declared.reader.Block.{Block}
 use Rattle.ijvm_image.specs.declared.image.ImageError.{ImageError}
 use Rattle.ijvm_image.specs.declared.image.ImageError.TheVariants as errors
 use Rattle.ijvm_instr.specs.Instructions.{two_bytes}
@@ -39,7 +38,7 @@ text_first image = word_bytes magic ++ (text_block image ++ pool_block image)
 abbrev pub IsFileOf : List ℕ → ImageView → Type 0
 IsFileOf file image = (file ≡ file_of image) ⊎ (file ≡ text_first image)
 
--- Reading goes from the front and stops at the first fault.
+-- The fields of a file, where there are none a byte counts as 0.
 
 -- the number of the two bytes there
 abbrev pub half_at : List ℕ → ℕ → ℕ
@@ -48,13 +47,11 @@ half_at file place = 256 * slice_index file place + slice_index file (place + 1)
 abbrev pub word_at : List ℕ → ℕ → ℕ
 word_at file place = 65536 * half_at file place + half_at file (place + 2)
 
-abbrev pub and_then : {A B : Type 0} → Result A ImageError → (A → Result B ImageError) → Result B ImageError
-and_then (Ok x) next = next x
-and_then (Err e) next = Err e
+-- Refusals. Each row has what is true of a file, and the refusal that answers it; the first row that holds is the answer.
 
--- the word of a field, which the file's end may cut
-abbrev pub field : List ℕ → ℕ → Result ℕ ImageError
-field file place = if nat_le (place + 4) (length file) then Ok (word_at file place) else Err (errors.Truncated (length file))
+-- the file ends before this place
+abbrev pub is_cut : List ℕ → ℕ → Bool
+is_cut file place = not (nat_le place (length file))
 
 -- an origin that a block may have behind a block of the other
 abbrev pub is_origin : Option ℕ → ℕ → Bool
@@ -64,44 +61,31 @@ is_origin (Some first) origin = ((origin == text_origin) || (origin == pool_orig
 abbrev pub is_size : ℕ → ℕ → Bool
 is_size origin size = nat_le size 65536 && ((origin == text_origin) || (size % 4 == 0))
 
-abbrev pub block_from : List ℕ → ℕ → ℕ → ℕ → Result Block ImageError
-block_from file origin from size =
-    if is_size origin size
-    then (if nat_le (from + size) (length file) then Ok (record { origin = origin; from = from; to = from + size }) else Err (errors.Truncated (length file)))
-    else Err (errors.BadSize size)
+-- the block that begins at this place: its origin, its size and its bytes; `rows` are those behind it
+abbrev pub block_rows : List ℕ → ℕ → Option ℕ → List (Bool × ImageError) → List (Bool × ImageError)
+block_rows file place first rows =
+    (is_cut file (place + 4), errors.Truncated (length file)) ∷
+    (not (is_origin first (word_at file place)), errors.BadOrigin (word_at file place)) ∷
+    (is_cut file (place + 8), errors.Truncated (length file)) ∷
+    (not (is_size (word_at file place) (word_at file (place + 4))), errors.BadSize (word_at file (place + 4))) ∷
+    (is_cut file (place + 8 + word_at file (place + 4)), errors.Truncated (length file)) ∷ rows
 
--- the block at a place
-abbrev pub block_at : List ℕ → ℕ → Option ℕ → Result Block ImageError
-block_at file place first =
-    and_then (field file place) (λ origin.
-    if is_origin first origin
-    then and_then (field file (place + 4)) (λ size. block_from file origin (place + 8) size)
-    else Err (errors.BadOrigin origin))
+-- where the block that begins at this place ends
+abbrev pub block_end : List ℕ → ℕ → ℕ
+block_end file place = place + 8 + word_at file (place + 4)
 
--- a block's bytes lie in the file, and are as few as a size allows
-pub record IsWithin (file : List ℕ) (b : Block) : Type 0 where
-  pub ordered : b.from ≤ b.to
-  pub inside : b.to ≤ length file
-  pub small : b.to ≤ b.from + 65536
+abbrev pub refusals : List ℕ → List (Bool × ImageError)
+refusals file =
+    (is_cut file 4, errors.Truncated (length file)) ∷
+    (not (word_at file 0 == magic), errors.BadMagic) ∷
+    block_rows file 4 None
+    (block_rows file (block_end file 4) (Some (word_at file 4))
+    ((nat_lt (block_end file (block_end file 4)) (length file), errors.Trailing (block_end file (block_end file 4))) ∷ []))
 
--- so many words from a place on
-abbrev pub words_at : List ℕ → ℕ → ℕ → List ℕ
-words_at file place zero = []
-words_at file place (suc n) = word_at file place ∷ words_at file (place + 4) n
+abbrev pub first_refusal : List (Bool × ImageError) → Option ImageError
+first_refusal [] = None
+first_refusal (row ∷ rows) = if row.0 then Some row.1 else first_refusal rows
 
-abbrev pub image_of : List ℕ → Block → Block → ImageView
-image_of file text pool = record { text = slice_range file text.from text.to; pool = words_at file pool.from ((pool.to - pool.from) / 4) }
-
--- the image of both blocks
-abbrev pub joined : List ℕ → Block → Block → ImageView
-joined file first second = if first.origin == text_origin then image_of file first second else image_of file second first
-
-abbrev pub ended : List ℕ → Block → Block → Result ImageView ImageError
-ended file first second = if nat_lt second.to (length file) then Err (errors.Trailing second.to) else Ok (joined file first second)
-
-abbrev pub image_read : List ℕ → Result ImageView ImageError
-image_read file =
-    and_then (field file 0) (λ word.
-    if word == magic
-    then and_then (block_at file 4 None) (λ first. and_then (block_at file first.to (Some first.origin)) (λ second. ended file first second))
-    else Err errors.BadMagic)
+-- the file is refused so
+abbrev pub IsRefused : List ℕ → ImageError → Type 0
+IsRefused file e = first_refusal (refusals file) ≡ Some e

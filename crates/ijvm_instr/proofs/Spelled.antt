@@ -4,9 +4,10 @@ use Rattle.std.proofs.lemmas.Bool.Decides.{nat_tests}
 use Rattle.std.proofs.lemmas.List.{drop_more}
 use Rattle.std.specs.Int.{w8, w16, cast_signed, cast_unsigned}
 use Rattle.std.proofs.lemmas.Int.{of_z-to_z, to_z-of_z}
+use Rattle.std.proofs.Math.Facts.{sfits_to_z, Fits-of_lt}
 use Rattle.ijvm_instr.specs.declared.instr.Instr.{Instr}
-use Rattle.ijvm_instr.specs.declared.instr.Instr.TheVariants.{Nop, Bipush, LdcW, Iload, Istore, Pop, Dup, Swap, Iadd, Isub, Iand, Iinc, Ifeq, Iflt, IfIcmpeq, Goto, Ireturn, Ior, Invokevirtual, WideIload, WideIstore, In, Out, Err, Halt}
-use Rattle.ijvm_instr.specs.Instructions.{of_bytes, instr_at, whole, spelling, size_of, row_of, Spells, StandAt, IsInstr}
+use Rattle.ijvm_instr.specs.declared.instr.Instr.TheVariants.{Nop, Bipush, LdcW, Iload, Istore, Pop, Dup, Swap, Iadd, Isub, Iand, Iinc, Ifeq, Iflt, IfIcmpeq, Goto, Ireturn, Ior, Invokevirtual, WideIload, WideIstore, WideIinc, In, Out, Err, Halt}
+use Rattle.ijvm_instr.specs.Instructions.{of_bytes, begun_at, instr_at, whole, spelling, size_of, row_of, Spells, StandAt, IsInstr}
 
 chosen_by : (P : Instr → Type 0) (x y : ℕ) (j : Instr) (rest : Option Instr) (i : Instr) (t : Bool) → (x == y) ≡ t →
     (x ≡ y → P j) → (rest ≡ Some i → P i) → (if t then Some j else rest) ≡ Some i → P i
@@ -21,9 +22,9 @@ pub chosen : (P : Instr → Type 0) (x y : ℕ) (j : Instr) (rest : Option Instr
     (x ≡ y → P j) → (rest ≡ Some i → P i) → (if x == y then Some j else rest) ≡ Some i → P i
 chosen P x y j rest i here there e = chosen_by P x y j rest i (x == y) refl here there e
 
--- the four bytes begin with a spelling of the instruction
-abbrev pub IsRead : ℕ → ℕ → ℕ → ℕ → Instr → Type 0
-IsRead a b c d i = (take (size_of (row_of i)) (a ∷ b ∷ c ∷ d ∷ []) ≡ spelling i) ⊎ ((i ≡ Ior) × (a ≡ 0x80))
+-- the six bytes begin with a spelling of the instruction
+abbrev pub IsRead : ℕ → ℕ → ℕ → ℕ → ℕ → ℕ → Instr → Type 0
+IsRead a b c d e f i = (take (size_of (row_of i)) (a ∷ b ∷ c ∷ d ∷ e ∷ f ∷ []) ≡ spelling i) ⊎ ((i ≡ Ior) × (a ≡ 0x80))
 
 back8 : (b : ℕ) → b < 256 → cast_unsigned w8 (cast_signed w8 b) ≡ b
 back8 b h = of_z-to_z w8 b h
@@ -51,42 +52,47 @@ chosen_wide : (P : Instr → Type 0) (x y : ℕ) (some rest : Option Instr) (i :
     (x ≡ y → some ≡ Some i → P i) → (rest ≡ Some i → P i) → (if x == y then some else rest) ≡ Some i → P i
 chosen_wide P x y some rest i here there e = chosen_wide_by P x y some rest i (x == y) refl here there e
 
-wide_is_read : (a b c d : ℕ) (i : Instr) → c < 256 → d < 256 → a ≡ 0xC4 →
-    (if b == 0x15 then Some (WideIload (256 * c + d)) else (if b == 0x36 then Some (WideIstore (256 * c + d)) else None)) ≡ Some i → IsRead a b c d i
-wide_is_read a b c d i hc hd is =
+wide_is_read : (a b c d e f : ℕ) (i : Instr) → c < 256 → d < 256 → e < 256 → f < 256 → a ≡ 0xC4 →
+    (if b == 0x15 then Some (WideIload (256 * c + d)) else (if b == 0x36 then Some (WideIstore (256 * c + d)) else
+    (if b == 0x84 then Some (WideIinc (256 * c + d) (cast_signed w16 (256 * e + f))) else None))) ≡ Some i → IsRead a b c d e f i
+wide_is_read a b c d e f i hc hd he hf is =
     let h : (256 * c + d) / 256 ≡ c = high c d hd in
     let l : (256 * c + d) % 256 ≡ d = low c d hd in
-    chosen (IsRead a b c d) b 0x15 (WideIload (256 * c + d)) _ i (λ e. inl (cc))
-    (chosen (IsRead a b c d) b 0x36 (WideIstore (256 * c + d)) _ i (λ e. inl (cc)) (λ e. cc))
+    let hn : (256 * e + f) / 256 ≡ e = high e f hf in
+    let ln : (256 * e + f) % 256 ≡ f = low e f hf in
+    let s : cast_unsigned w16 (cast_signed w16 (256 * e + f)) ≡ 256 * e + f = back16 e f he hf in
+    chosen (IsRead a b c d e f) b 0x15 (WideIload (256 * c + d)) _ i (λ x. inl (cc))
+    (chosen (IsRead a b c d e f) b 0x36 (WideIstore (256 * c + d)) _ i (λ x. inl (cc))
+    (chosen (IsRead a b c d e f) b 0x84 (WideIinc (256 * c + d) (cast_signed w16 (256 * e + f))) _ i (λ x. inl (rw s (cc))) (λ x. cc)))
 
-pub of_bytes-read : (a b c d : ℕ) (i : Instr) → b < 256 → c < 256 → d < 256 → of_bytes a b c d ≡ Some i → IsRead a b c d i
+pub of_bytes-read : (a b c d e f : ℕ) (i : Instr) → b < 256 → c < 256 → d < 256 → e < 256 → f < 256 → of_bytes a b c d e f ≡ Some i → IsRead a b c d e f i
 unfolding of_bytes
-of_bytes-read a b c d i hb hc hd =
-    chosen (IsRead a b c d) a 0x00 Nop _ i (λ e. inl (ap (λ x. x ∷ []) e))
-    (chosen (IsRead a b c d) a 0x10 (Bipush (cast_signed w8 b)) _ i (λ e. inl (let s : cast_unsigned w8 (cast_signed w8 b) ≡ b = back8 b hb in cc))
-    (chosen (IsRead a b c d) a 0x13 (LdcW (256 * b + c)) _ i (λ e. inl (let h : (256 * b + c) / 256 ≡ b = high b c hc in let l : (256 * b + c) % 256 ≡ c = low b c hc in cc))
-    (chosen (IsRead a b c d) a 0x15 (Iload b) _ i (λ e. inl (ap (λ x. x ∷ b ∷ []) e))
-    (chosen (IsRead a b c d) a 0x36 (Istore b) _ i (λ e. inl (ap (λ x. x ∷ b ∷ []) e))
-    (chosen (IsRead a b c d) a 0x57 Pop _ i (λ e. inl (ap (λ x. x ∷ []) e))
-    (chosen (IsRead a b c d) a 0x59 Dup _ i (λ e. inl (ap (λ x. x ∷ []) e))
-    (chosen (IsRead a b c d) a 0x5F Swap _ i (λ e. inl (ap (λ x. x ∷ []) e))
-    (chosen (IsRead a b c d) a 0x60 Iadd _ i (λ e. inl (ap (λ x. x ∷ []) e))
-    (chosen (IsRead a b c d) a 0x64 Isub _ i (λ e. inl (ap (λ x. x ∷ []) e))
-    (chosen (IsRead a b c d) a 0x7E Iand _ i (λ e. inl (ap (λ x. x ∷ []) e))
-    (chosen (IsRead a b c d) a 0x80 Ior _ i (λ e. inr (refl, e))
-    (chosen (IsRead a b c d) a 0x84 (Iinc b (cast_signed w8 c)) _ i (λ e. inl (let s : cast_unsigned w8 (cast_signed w8 c) ≡ c = back8 c hc in cc))
-    (chosen (IsRead a b c d) a 0x99 (Ifeq (cast_signed w16 (256 * b + c))) _ i (λ e. inl (let h : (256 * b + c) / 256 ≡ b = high b c hc in let l : (256 * b + c) % 256 ≡ c = low b c hc in let s : cast_unsigned w16 (cast_signed w16 (256 * b + c)) ≡ 256 * b + c = back16 b c hb hc in rw s cc))
-    (chosen (IsRead a b c d) a 0x9B (Iflt (cast_signed w16 (256 * b + c))) _ i (λ e. inl (let h : (256 * b + c) / 256 ≡ b = high b c hc in let l : (256 * b + c) % 256 ≡ c = low b c hc in let s : cast_unsigned w16 (cast_signed w16 (256 * b + c)) ≡ 256 * b + c = back16 b c hb hc in rw s cc))
-    (chosen (IsRead a b c d) a 0x9F (IfIcmpeq (cast_signed w16 (256 * b + c))) _ i (λ e. inl (let h : (256 * b + c) / 256 ≡ b = high b c hc in let l : (256 * b + c) % 256 ≡ c = low b c hc in let s : cast_unsigned w16 (cast_signed w16 (256 * b + c)) ≡ 256 * b + c = back16 b c hb hc in rw s cc))
-    (chosen (IsRead a b c d) a 0xA7 (Goto (cast_signed w16 (256 * b + c))) _ i (λ e. inl (let h : (256 * b + c) / 256 ≡ b = high b c hc in let l : (256 * b + c) % 256 ≡ c = low b c hc in let s : cast_unsigned w16 (cast_signed w16 (256 * b + c)) ≡ 256 * b + c = back16 b c hb hc in rw s cc))
-    (chosen (IsRead a b c d) a 0xAC Ireturn _ i (λ e. inl (ap (λ x. x ∷ []) e))
-    (chosen (IsRead a b c d) a 0xB0 Ior _ i (λ e. inl (ap (λ x. x ∷ []) e))
-    (chosen (IsRead a b c d) a 0xB6 (Invokevirtual (256 * b + c)) _ i (λ e. inl (let h : (256 * b + c) / 256 ≡ b = high b c hc in let l : (256 * b + c) % 256 ≡ c = low b c hc in cc))
-    (chosen_wide (IsRead a b c d) a 0xC4 _ _ i (λ e. wide_is_read a b c d i hc hd e) (chosen (IsRead a b c d) a 0xFC In _ i (λ e. inl (ap (λ x. x ∷ []) e))
-    (chosen (IsRead a b c d) a 0xFD Out _ i (λ e. inl (ap (λ x. x ∷ []) e))
-    (chosen (IsRead a b c d) a 0xFE Err _ i (λ e. inl (ap (λ x. x ∷ []) e))
-    (chosen (IsRead a b c d) a 0xFF Halt _ i (λ e. inl (ap (λ x. x ∷ []) e))
-    (λ e. cc)))))))))))))))))))))))))
+of_bytes-read a b c d e f i hb hc hd he hf =
+    chosen (IsRead a b c d e f) a 0x00 Nop _ i (λ x. inl (ap (λ y. y ∷ []) x))
+    (chosen (IsRead a b c d e f) a 0x10 (Bipush (cast_signed w8 b)) _ i (λ x. inl (let s : cast_unsigned w8 (cast_signed w8 b) ≡ b = back8 b hb in cc))
+    (chosen (IsRead a b c d e f) a 0x13 (LdcW (256 * b + c)) _ i (λ x. inl (let h : (256 * b + c) / 256 ≡ b = high b c hc in let l : (256 * b + c) % 256 ≡ c = low b c hc in cc))
+    (chosen (IsRead a b c d e f) a 0x15 (Iload b) _ i (λ x. inl (ap (λ y. y ∷ b ∷ []) x))
+    (chosen (IsRead a b c d e f) a 0x36 (Istore b) _ i (λ x. inl (ap (λ y. y ∷ b ∷ []) x))
+    (chosen (IsRead a b c d e f) a 0x57 Pop _ i (λ x. inl (ap (λ y. y ∷ []) x))
+    (chosen (IsRead a b c d e f) a 0x59 Dup _ i (λ x. inl (ap (λ y. y ∷ []) x))
+    (chosen (IsRead a b c d e f) a 0x5F Swap _ i (λ x. inl (ap (λ y. y ∷ []) x))
+    (chosen (IsRead a b c d e f) a 0x60 Iadd _ i (λ x. inl (ap (λ y. y ∷ []) x))
+    (chosen (IsRead a b c d e f) a 0x64 Isub _ i (λ x. inl (ap (λ y. y ∷ []) x))
+    (chosen (IsRead a b c d e f) a 0x7E Iand _ i (λ x. inl (ap (λ y. y ∷ []) x))
+    (chosen (IsRead a b c d e f) a 0x80 Ior _ i (λ x. inr (refl, x))
+    (chosen (IsRead a b c d e f) a 0x84 (Iinc b (cast_signed w8 c)) _ i (λ x. inl (let s : cast_unsigned w8 (cast_signed w8 c) ≡ c = back8 c hc in cc))
+    (chosen (IsRead a b c d e f) a 0x99 (Ifeq (cast_signed w16 (256 * b + c))) _ i (λ x. inl (let h : (256 * b + c) / 256 ≡ b = high b c hc in let l : (256 * b + c) % 256 ≡ c = low b c hc in let s : cast_unsigned w16 (cast_signed w16 (256 * b + c)) ≡ 256 * b + c = back16 b c hb hc in rw s cc))
+    (chosen (IsRead a b c d e f) a 0x9B (Iflt (cast_signed w16 (256 * b + c))) _ i (λ x. inl (let h : (256 * b + c) / 256 ≡ b = high b c hc in let l : (256 * b + c) % 256 ≡ c = low b c hc in let s : cast_unsigned w16 (cast_signed w16 (256 * b + c)) ≡ 256 * b + c = back16 b c hb hc in rw s cc))
+    (chosen (IsRead a b c d e f) a 0x9F (IfIcmpeq (cast_signed w16 (256 * b + c))) _ i (λ x. inl (let h : (256 * b + c) / 256 ≡ b = high b c hc in let l : (256 * b + c) % 256 ≡ c = low b c hc in let s : cast_unsigned w16 (cast_signed w16 (256 * b + c)) ≡ 256 * b + c = back16 b c hb hc in rw s cc))
+    (chosen (IsRead a b c d e f) a 0xA7 (Goto (cast_signed w16 (256 * b + c))) _ i (λ x. inl (let h : (256 * b + c) / 256 ≡ b = high b c hc in let l : (256 * b + c) % 256 ≡ c = low b c hc in let s : cast_unsigned w16 (cast_signed w16 (256 * b + c)) ≡ 256 * b + c = back16 b c hb hc in rw s cc))
+    (chosen (IsRead a b c d e f) a 0xAC Ireturn _ i (λ x. inl (ap (λ y. y ∷ []) x))
+    (chosen (IsRead a b c d e f) a 0xB0 Ior _ i (λ x. inl (ap (λ y. y ∷ []) x))
+    (chosen (IsRead a b c d e f) a 0xB6 (Invokevirtual (256 * b + c)) _ i (λ x. inl (let h : (256 * b + c) / 256 ≡ b = high b c hc in let l : (256 * b + c) % 256 ≡ c = low b c hc in cc))
+    (chosen_wide (IsRead a b c d e f) a 0xC4 _ _ i (λ x. wide_is_read a b c d e f i hc hd he hf x) (chosen (IsRead a b c d e f) a 0xFC In _ i (λ x. inl (ap (λ y. y ∷ []) x))
+    (chosen (IsRead a b c d e f) a 0xFD Out _ i (λ x. inl (ap (λ y. y ∷ []) x))
+    (chosen (IsRead a b c d e f) a 0xFE Err _ i (λ x. inl (ap (λ y. y ∷ []) x))
+    (chosen (IsRead a b c d e f) a 0xFF Halt _ i (λ x. inl (ap (λ y. y ∷ []) x))
+    (λ x. cc)))))))))))))))))))))))))
 
 -- a number of two bytes is made of them
 whole_half : (n : ℕ) → 256 * (n / 256) + n % 256 ≡ n
@@ -98,50 +104,56 @@ from_half n b c e f = rw (e, f, whole_half n) refl
 from_offset : (z : ℤ) (b c : ℕ) → FitsSigned w16 z → b ≡ cast_unsigned w16 z / 256 → c ≡ cast_unsigned w16 z % 256 → cast_signed w16 (256 * b + c) ≡ z
 from_offset z b c fits e f = ap (cast_signed w16) (from_half (cast_unsigned w16 z) b c e f) ∙ to_z-of_z w16 z fits
 
--- four bytes that begin with an instruction's spelling are read as that instruction
-pub of_bytes-spelling : (a b c d : ℕ) (i : Instr) → IsInstr i → take (size_of (row_of i)) (a ∷ b ∷ c ∷ d ∷ []) ≡ spelling i → of_bytes a b c d ≡ Some i
+-- six bytes that begin with an instruction's spelling are read as that instruction
+pub of_bytes-spelling : (a b c d e f : ℕ) (i : Instr) → IsInstr i → take (size_of (row_of i)) (a ∷ b ∷ c ∷ d ∷ e ∷ f ∷ []) ≡ spelling i → of_bytes a b c d e f ≡ Some i
 unfolding of_bytes
-of_bytes-spelling a b c d Nop real e = let ea : a ≡ 0x00 = cc in rw ea
-of_bytes-spelling a b c d (Bipush z) real e =
+of_bytes-spelling a b c d e f Nop real is = let ea : a ≡ 0x00 = cc in rw ea
+of_bytes-spelling a b c d e f (Bipush z) real is =
     let ea : a ≡ 0x10 = cc in let eb : b ≡ cast_unsigned w8 z = cc in rw (ea, eb) (ap (λ (x : ℤ). Some (Bipush x)) (to_z-of_z w8 z real))
-of_bytes-spelling a b c d (LdcW k) real e =
+of_bytes-spelling a b c d e f (LdcW k) real is =
     let ea : a ≡ 0x13 = cc in let eb : b ≡ k / 256 = cc in let ec : c ≡ k % 256 = cc in rw ea (ap (λ (x : ℕ). Some (LdcW x)) (from_half k b c eb ec))
-of_bytes-spelling a b c d (Iload k) real e = let ea : a ≡ 0x15 = cc in let eb : b ≡ k = cc in rw (ea, eb)
-of_bytes-spelling a b c d (Istore k) real e = let ea : a ≡ 0x36 = cc in let eb : b ≡ k = cc in rw (ea, eb)
-of_bytes-spelling a b c d Pop real e = let ea : a ≡ 0x57 = cc in rw ea
-of_bytes-spelling a b c d Dup real e = let ea : a ≡ 0x59 = cc in rw ea
-of_bytes-spelling a b c d Swap real e = let ea : a ≡ 0x5F = cc in rw ea
-of_bytes-spelling a b c d Iadd real e = let ea : a ≡ 0x60 = cc in rw ea
-of_bytes-spelling a b c d Isub real e = let ea : a ≡ 0x64 = cc in rw ea
-of_bytes-spelling a b c d Iand real e = let ea : a ≡ 0x7E = cc in rw ea
-of_bytes-spelling a b c d (Iinc k z) real e =
+of_bytes-spelling a b c d e f (Iload k) real is = let ea : a ≡ 0x15 = cc in let eb : b ≡ k = cc in rw (ea, eb)
+of_bytes-spelling a b c d e f (Istore k) real is = let ea : a ≡ 0x36 = cc in let eb : b ≡ k = cc in rw (ea, eb)
+of_bytes-spelling a b c d e f Pop real is = let ea : a ≡ 0x57 = cc in rw ea
+of_bytes-spelling a b c d e f Dup real is = let ea : a ≡ 0x59 = cc in rw ea
+of_bytes-spelling a b c d e f Swap real is = let ea : a ≡ 0x5F = cc in rw ea
+of_bytes-spelling a b c d e f Iadd real is = let ea : a ≡ 0x60 = cc in rw ea
+of_bytes-spelling a b c d e f Isub real is = let ea : a ≡ 0x64 = cc in rw ea
+of_bytes-spelling a b c d e f Iand real is = let ea : a ≡ 0x7E = cc in rw ea
+of_bytes-spelling a b c d e f (Iinc k z) real is =
     let ea : a ≡ 0x84 = cc in let eb : b ≡ k = cc in let ec : c ≡ cast_unsigned w8 z = cc in rw (ea, eb, ec) (ap (λ (x : ℤ). Some (Iinc k x)) (to_z-of_z w8 z real.1))
-of_bytes-spelling a b c d (Ifeq z) real e =
+of_bytes-spelling a b c d e f (Ifeq z) real is =
     let ea : a ≡ 0x99 = cc in let eb : b ≡ cast_unsigned w16 z / 256 = cc in let ec : c ≡ cast_unsigned w16 z % 256 = cc in
     rw ea (ap (λ (x : ℤ). Some (Ifeq x)) (from_offset z b c real eb ec))
-of_bytes-spelling a b c d (Iflt z) real e =
+of_bytes-spelling a b c d e f (Iflt z) real is =
     let ea : a ≡ 0x9B = cc in let eb : b ≡ cast_unsigned w16 z / 256 = cc in let ec : c ≡ cast_unsigned w16 z % 256 = cc in
     rw ea (ap (λ (x : ℤ). Some (Iflt x)) (from_offset z b c real eb ec))
-of_bytes-spelling a b c d (IfIcmpeq z) real e =
+of_bytes-spelling a b c d e f (IfIcmpeq z) real is =
     let ea : a ≡ 0x9F = cc in let eb : b ≡ cast_unsigned w16 z / 256 = cc in let ec : c ≡ cast_unsigned w16 z % 256 = cc in
     rw ea (ap (λ (x : ℤ). Some (IfIcmpeq x)) (from_offset z b c real eb ec))
-of_bytes-spelling a b c d (Goto z) real e =
+of_bytes-spelling a b c d e f (Goto z) real is =
     let ea : a ≡ 0xA7 = cc in let eb : b ≡ cast_unsigned w16 z / 256 = cc in let ec : c ≡ cast_unsigned w16 z % 256 = cc in
     rw ea (ap (λ (x : ℤ). Some (Goto x)) (from_offset z b c real eb ec))
-of_bytes-spelling a b c d Ireturn real e = let ea : a ≡ 0xAC = cc in rw ea
-of_bytes-spelling a b c d Ior real e = let ea : a ≡ 0xB0 = cc in rw ea
-of_bytes-spelling a b c d (Invokevirtual k) real e =
+of_bytes-spelling a b c d e f Ireturn real is = let ea : a ≡ 0xAC = cc in rw ea
+of_bytes-spelling a b c d e f Ior real is = let ea : a ≡ 0xB0 = cc in rw ea
+of_bytes-spelling a b c d e f (Invokevirtual k) real is =
     let ea : a ≡ 0xB6 = cc in let eb : b ≡ k / 256 = cc in let ec : c ≡ k % 256 = cc in rw ea (ap (λ (x : ℕ). Some (Invokevirtual x)) (from_half k b c eb ec))
-of_bytes-spelling a b c d (WideIload k) real e =
+of_bytes-spelling a b c d e f (WideIload k) real is =
     let ea : a ≡ 0xC4 = cc in let eb : b ≡ 0x15 = cc in let ec : c ≡ k / 256 = cc in let ed : d ≡ k % 256 = cc in
     rw (ea, eb) (ap (λ (x : ℕ). Some (WideIload x)) (from_half k c d ec ed))
-of_bytes-spelling a b c d (WideIstore k) real e =
+of_bytes-spelling a b c d e f (WideIstore k) real is =
     let ea : a ≡ 0xC4 = cc in let eb : b ≡ 0x36 = cc in let ec : c ≡ k / 256 = cc in let ed : d ≡ k % 256 = cc in
     rw (ea, eb) (ap (λ (x : ℕ). Some (WideIstore x)) (from_half k c d ec ed))
-of_bytes-spelling a b c d In real e = let ea : a ≡ 0xFC = cc in rw ea
-of_bytes-spelling a b c d Out real e = let ea : a ≡ 0xFD = cc in rw ea
-of_bytes-spelling a b c d Err real e = let ea : a ≡ 0xFE = cc in rw ea
-of_bytes-spelling a b c d Halt real e = let ea : a ≡ 0xFF = cc in rw ea
+of_bytes-spelling a b c d e f (WideIinc k z) real is =
+    let ea : a ≡ 0xC4 = cc in let eb : b ≡ 0x84 = cc in let ec : c ≡ k / 256 = cc in let ed : d ≡ k % 256 = cc in
+    let ee : e ≡ cast_unsigned w16 z / 256 = cc in let ef : f ≡ cast_unsigned w16 z % 256 = cc in
+    let index : 256 * c + d ≡ k = from_half k c d ec ed in
+    let number : cast_signed w16 (256 * e + f) ≡ z = from_offset z e f real.1 ee ef in
+    rw (ea, eb) (cc)
+of_bytes-spelling a b c d e f In real is = let ea : a ≡ 0xFC = cc in rw ea
+of_bytes-spelling a b c d e f Out real is = let ea : a ≡ 0xFD = cc in rw ea
+of_bytes-spelling a b c d e f Err real is = let ea : a ≡ 0xFE = cc in rw ea
+of_bytes-spelling a b c d e f Halt real is = let ea : a ≡ 0xFF = cc in rw ea
 
 -- whether an instruction is whole
 whole_by : (many at : ℕ) (j i : Instr) (t : Bool) → nat_le (at + size_of (row_of j)) many ≡ t → (if t then Some j else None) ≡ Some i →
@@ -161,47 +173,42 @@ whole-some many at (Some j) i e =
 pub whole-fits : (many at : ℕ) (i : Instr) → at + size_of (row_of i) ≤ many → whole many at (Some i) ≡ Some i
 whole-fits many at i h = grind (arith, nat_tests)
 
--- the four bytes at an address
+-- so many bytes from an address on
+abbrev bytes_from : List ℕ → ℕ → ℕ → List ℕ
+bytes_from text at zero = []
+bytes_from text at (suc n) = slice_index text at ∷ bytes_from text (at + 1) n
+
+take-bytes_from : (text : List ℕ) (at n m : ℕ) → n ≤ m → take n (bytes_from text at m) ≡ bytes_from text at n
+take-bytes_from text at zero m h = refl
+take-bytes_from text at (suc n) zero h = absurd (omega arith)
+take-bytes_from text at (suc n) (suc m) h = ap (λ xs. slice_index text at ∷ xs) (take-bytes_from text (at + 1) n m (omega arith))
+
+-- the six bytes at an address
 abbrev front : List ℕ → ℕ → List ℕ
-front text at = slice_index text at ∷ slice_index text (at + 1) ∷ slice_index text (at + 2) ∷ slice_index text (at + 3) ∷ []
+front text at =
+    slice_index text at ∷ slice_index text (at + 1) ∷ slice_index text (at + 2) ∷ slice_index text (at + 3) ∷ slice_index text (at + 4) ∷ slice_index text (at + 5) ∷ []
 
--- bytes that the four at an address begin with stand there
-stand_front : (text : List ℕ) (at : ℕ) (bytes : List ℕ) → take (length bytes) (front text at) ≡ bytes → at + length bytes ≤ length text → StandAt text at bytes
-stand_front text at [] e h = omega arith
-stand_front text at (x ∷ []) e h = ((cc), omega arith)
-stand_front text at (x ∷ y ∷ []) e h = ((cc), ((cc), omega arith))
-stand_front text at (x ∷ y ∷ z ∷ []) e h =
-    let two : at + 1 + 1 ≡ at + 2 = omega arith in
-    ((cc), ((cc), (rw two (cc), omega arith)))
-stand_front text at (x ∷ y ∷ z ∷ w ∷ []) e h =
-    let two : at + 1 + 1 ≡ at + 2 = omega arith in
-    let three : at + 2 + 1 ≡ at + 3 = omega arith in
-    ((cc), ((cc), (rw two (cc), (rw (two, three) (cc), omega arith))))
-stand_front text at (x ∷ y ∷ z ∷ w ∷ v ∷ more) e h = absurd (cc)
-
--- and the other way round
-front_stand : (text : List ℕ) (at : ℕ) (bytes : List ℕ) → length bytes ≤ 4 → StandAt text at bytes → take (length bytes) (front text at) ≡ bytes
-front_stand text at [] short h = refl
-front_stand text at (x ∷ []) short h = let e : slice_index text at ≡ x = h.0 in cc
-front_stand text at (x ∷ y ∷ []) short h =
-    let e : slice_index text at ≡ x = h.0 in
-    let f : slice_index text (at + 1) ≡ y = h.1.0 in
-    cc
-front_stand text at (x ∷ y ∷ z ∷ []) short h =
-    let two : at + 1 + 1 ≡ at + 2 = omega arith in
-    let e : slice_index text at ≡ x = h.0 in
-    let f : slice_index text (at + 1) ≡ y = h.1.0 in
-    let g : slice_index text (at + 1 + 1) ≡ z = h.1.1.0 in
-    cc
-front_stand text at (x ∷ y ∷ z ∷ w ∷ []) short h =
+take-front : (text : List ℕ) (at n : ℕ) → n ≤ 6 → take n (front text at) ≡ bytes_from text at n
+take-front text at n h =
     let two : at + 1 + 1 ≡ at + 2 = omega arith in
     let three : at + 1 + 1 + 1 ≡ at + 3 = omega arith in
-    let e : slice_index text at ≡ x = h.0 in
-    let f : slice_index text (at + 1) ≡ y = h.1.0 in
-    let g : slice_index text (at + 1 + 1) ≡ z = h.1.1.0 in
-    let k : slice_index text (at + 1 + 1 + 1) ≡ w = h.1.1.1.0 in
+    let four : at + 1 + 1 + 1 + 1 ≡ at + 4 = omega arith in
+    let five : at + 1 + 1 + 1 + 1 + 1 ≡ at + 5 = omega arith in
+    let same : front text at ≡ bytes_from text at 6 = cc in
+    ap (take n) same ∙ take-bytes_from text at n 6 h
+
+-- bytes that an address begins with stand there
+stand_from : (text : List ℕ) (at : ℕ) (bytes : List ℕ) → bytes_from text at (length bytes) ≡ bytes → at + length bytes ≤ length text → StandAt text at bytes
+stand_from text at [] e h = omega arith
+stand_from text at (x ∷ xs) e h = ((cc), stand_from text (at + 1) xs (cc) (omega arith))
+
+-- and the other way round
+bytes_from-stand : (text : List ℕ) (at : ℕ) (bytes : List ℕ) → StandAt text at bytes → bytes_from text at (length bytes) ≡ bytes
+bytes_from-stand text at [] h = refl
+bytes_from-stand text at (x ∷ xs) h =
+    let first : slice_index text at ≡ x = h.0 in
+    let rest : bytes_from text (at + 1) (length xs) ≡ xs = bytes_from-stand text (at + 1) xs h.1 in
     cc
-front_stand text at (x ∷ y ∷ z ∷ w ∷ v ∷ more) short h = absurd (omega arith)
 
 stand_fits : (text : List ℕ) (at : ℕ) (bytes : List ℕ) → StandAt text at bytes → at + length bytes ≤ length text
 stand_fits text at [] h = omega arith
@@ -229,12 +236,13 @@ size_least Ior = omega arith
 size_least (Invokevirtual k) = omega arith
 size_least (WideIload k) = omega arith
 size_least (WideIstore k) = omega arith
+size_least (WideIinc k z) = omega arith
 size_least In = omega arith
 size_least Out = omega arith
 size_least Err = omega arith
 size_least Halt = omega arith
 
-size_most : (i : Instr) → size_of (row_of i) ≤ 4
+size_most : (i : Instr) → size_of (row_of i) ≤ 6
 size_most Nop = omega arith
 size_most (Bipush z) = omega arith
 size_most (LdcW k) = omega arith
@@ -256,6 +264,7 @@ size_most Ior = omega arith
 size_most (Invokevirtual k) = omega arith
 size_most (WideIload k) = omega arith
 size_most (WideIstore k) = omega arith
+size_most (WideIinc k z) = omega arith
 size_most In = omega arith
 size_most Out = omega arith
 size_most Err = omega arith
@@ -267,11 +276,11 @@ byte_below (x ∷ xs) zero h = h 0 0 (omega arith)
 byte_below (x ∷ xs) (suc k) h = byte_below xs k (λ j d below. h (suc j) d (omega arith))
 
 read_at : (text : List ℕ) (at : ℕ) (i : Instr) → at + size_of (row_of i) ≤ length text →
-    IsRead (slice_index text at) (slice_index text (at + 1)) (slice_index text (at + 2)) (slice_index text (at + 3)) i →
+    IsRead (slice_index text at) (slice_index text (at + 1)) (slice_index text (at + 2)) (slice_index text (at + 3)) (slice_index text (at + 4)) (slice_index text (at + 5)) i →
     (bytes : List ℕ) × Spells bytes i × StandAt text at bytes × (length bytes ≡ size_of (row_of i))
 read_at text at i fits read =
     elim read [
-      | inl e ↦ (spelling i, inl refl, stand_front text at (spelling i) e fits, refl)
+      | inl e ↦ (spelling i, inl refl, stand_from text at (spelling i) (sym (take-front text at (size_of (row_of i)) (size_most i)) ∙ e) fits, refl)
       | inr e ↦ (
         0x80 ∷ [],
         inr (e.0, refl),
@@ -285,16 +294,17 @@ pub instr_at-read : (text : List ℕ) (at : ℕ) (i : Instr) → All (λ (b : �
     (bytes : List ℕ) × Spells bytes i × StandAt text at bytes × (length bytes ≡ size_of (row_of i))
 unfolding instr_at
 instr_at-read text at i small e =
-    let found : (of_bytes (slice_index text at) (slice_index text (at + 1)) (slice_index text (at + 2)) (slice_index text (at + 3)) ≡ Some i)
+    let found : (begun_at text at ≡ Some i)
     × (at + size_of (row_of i) ≤ length text) = whole-some (length text) at _ i e in
-    read_at text at i found.1 (of_bytes-read _ _ _ _ i (byte_below text (at + 1) small) (byte_below text (at + 2) small) (byte_below text (at + 3) small) found.0)
+    read_at text at i found.1
+    (of_bytes-read _ _ _ _ _ _ i (byte_below text (at + 1) small) (byte_below text (at + 2) small) (byte_below text (at + 3) small)
+    (byte_below text (at + 4) small) (byte_below text (at + 5) small) found.0)
 
 whole_spelled : (text : List ℕ) (at : ℕ) (i : Instr) → IsInstr i → StandAt text at (spelling i) → instr_at text at ≡ Some i
 unfolding instr_at
 whole_spelled text at i real stands =
-    let short : length (spelling i) ≤ 4 = size_most i in
-    let read : of_bytes (slice_index text at) (slice_index text (at + 1)) (slice_index text (at + 2)) (slice_index text (at + 3)) ≡ Some i =
-    of_bytes-spelling _ _ _ _ i real (front_stand text at (spelling i) short stands) in
+    let read : begun_at text at ≡ Some i =
+    of_bytes-spelling _ _ _ _ _ _ i real (take-front text at (size_of (row_of i)) (size_most i) ∙ bytes_from-stand text at (spelling i) stands) in
     ap (whole (length text) at) read ∙ whole-fits (length text) at i (stand_fits text at (spelling i) stands)
 
 whole_second : (text : List ℕ) (at : ℕ) → StandAt text at (0x80 ∷ []) → instr_at text at ≡ Some Ior
@@ -312,7 +322,6 @@ instr_at-spelled text at i bytes real spells stands =
       | inr e ↦ rw e.0 (whole_second text at (subst (StandAt text at) e.1 stands))
     ]
 
--- an instruction is read inside the text
 -- bytes that stand at an address are a part of the text
 pub stand_take : (text : List ℕ) (at : ℕ) (bytes : List ℕ) → StandAt text at bytes → take (length bytes) (drop at text) ≡ bytes
 stand_take text at [] h = refl
@@ -355,3 +364,73 @@ decoded-front bytes i small e =
     let fits : 0 + length read.0 ≤ length bytes = stand_fits bytes 0 read.0 read.2 in
     let size : length read.0 ≡ size_of (row_of i) = read.3 in
     (subst (λ (n : ℕ). Spells (take n bytes) i) size (subst (λ (xs : List ℕ). Spells xs i) (sym part) read.1), omega arith)
+
+-- What is read has operands in the ranges of their types.
+
+half_fits : (b c : ℕ) → b < 256 → c < 256 → 256 * b + c < 65536
+half_fits b c hb hc = omega arith
+
+signed_byte_fits : (b : ℕ) → b < 256 → FitsSigned w8 (cast_signed w8 b)
+signed_byte_fits b hb = sfits_to_z {w = w8} (Fits-of_lt {w = w8} hb)
+
+signed_half_fits : (b c : ℕ) → b < 256 → c < 256 → FitsSigned w16 (cast_signed w16 (256 * b + c))
+signed_half_fits b c hb hc = sfits_to_z {w = w16} (Fits-of_lt {w = w16} (half_fits b c hb hc))
+
+wide_is_real : (b c d e f : ℕ) (i : Instr) → c < 256 → d < 256 → e < 256 → f < 256 →
+    (if b == 0x15 then Some (WideIload (256 * c + d)) else (if b == 0x36 then Some (WideIstore (256 * c + d)) else
+    (if b == 0x84 then Some (WideIinc (256 * c + d) (cast_signed w16 (256 * e + f))) else None))) ≡ Some i → IsInstr i
+wide_is_real b c d e f i hc hd he hf =
+    chosen IsInstr b 0x15 (WideIload (256 * c + d)) _ i (λ x. half_fits c d hc hd)
+    (chosen IsInstr b 0x36 (WideIstore (256 * c + d)) _ i (λ x. half_fits c d hc hd)
+    (chosen IsInstr b 0x84 (WideIinc (256 * c + d) (cast_signed w16 (256 * e + f))) _ i (λ x. (half_fits c d hc hd, signed_half_fits e f he hf)) (λ x. absurd (cc))))
+
+of_bytes-real : (a b c d e f : ℕ) (i : Instr) → b < 256 → c < 256 → d < 256 → e < 256 → f < 256 → of_bytes a b c d e f ≡ Some i → IsInstr i
+unfolding of_bytes
+of_bytes-real a b c d e f i hb hc hd he hf =
+    chosen IsInstr a 0x00 Nop _ i (λ x. tt)
+    (chosen IsInstr a 0x10 (Bipush (cast_signed w8 b)) _ i (λ x. signed_byte_fits b hb)
+    (chosen IsInstr a 0x13 (LdcW (256 * b + c)) _ i (λ x. half_fits b c hb hc)
+    (chosen IsInstr a 0x15 (Iload b) _ i (λ x. hb)
+    (chosen IsInstr a 0x36 (Istore b) _ i (λ x. hb)
+    (chosen IsInstr a 0x57 Pop _ i (λ x. tt)
+    (chosen IsInstr a 0x59 Dup _ i (λ x. tt)
+    (chosen IsInstr a 0x5F Swap _ i (λ x. tt)
+    (chosen IsInstr a 0x60 Iadd _ i (λ x. tt)
+    (chosen IsInstr a 0x64 Isub _ i (λ x. tt)
+    (chosen IsInstr a 0x7E Iand _ i (λ x. tt)
+    (chosen IsInstr a 0x80 Ior _ i (λ x. tt)
+    (chosen IsInstr a 0x84 (Iinc b (cast_signed w8 c)) _ i (λ x. (hb, signed_byte_fits c hc))
+    (chosen IsInstr a 0x99 (Ifeq (cast_signed w16 (256 * b + c))) _ i (λ x. signed_half_fits b c hb hc)
+    (chosen IsInstr a 0x9B (Iflt (cast_signed w16 (256 * b + c))) _ i (λ x. signed_half_fits b c hb hc)
+    (chosen IsInstr a 0x9F (IfIcmpeq (cast_signed w16 (256 * b + c))) _ i (λ x. signed_half_fits b c hb hc)
+    (chosen IsInstr a 0xA7 (Goto (cast_signed w16 (256 * b + c))) _ i (λ x. signed_half_fits b c hb hc)
+    (chosen IsInstr a 0xAC Ireturn _ i (λ x. tt)
+    (chosen IsInstr a 0xB0 Ior _ i (λ x. tt)
+    (chosen IsInstr a 0xB6 (Invokevirtual (256 * b + c)) _ i (λ x. half_fits b c hb hc)
+    (chosen_wide IsInstr a 0xC4 _ _ i (λ e1 x. wide_is_real b c d e f i hc hd he hf x)
+    (chosen IsInstr a 0xFC In _ i (λ x. tt)
+    (chosen IsInstr a 0xFD Out _ i (λ x. tt)
+    (chosen IsInstr a 0xFE Err _ i (λ x. tt)
+    (chosen IsInstr a 0xFF Halt _ i (λ x. tt)
+    (λ x. absurd (cc))))))))))))))))))))))))))
+
+-- what is read at an address has operands in range
+pub instr_at-real : (text : List ℕ) (at : ℕ) (i : Instr) → All (λ (b : ℕ). b < 256) text → instr_at text at ≡ Some i → IsInstr i
+unfolding instr_at
+instr_at-real text at i small e =
+    let found : (begun_at text at ≡ Some i) × (at + size_of (row_of i) ≤ length text) = whole-some (length text) at _ i e in
+    of_bytes-real _ _ _ _ _ _ i (byte_below text (at + 1) small) (byte_below text (at + 2) small) (byte_below text (at + 3) small)
+    (byte_below text (at + 4) small) (byte_below text (at + 5) small) found.0
+
+-- and stands inside the text
+pub instr_at-ends : (text : List ℕ) (at : ℕ) (i : Instr) → instr_at text at ≡ Some i → at + size_of (row_of i) ≤ length text
+unfolding instr_at
+instr_at-ends text at i e =
+    let found : (begun_at text at ≡ Some i) × (at + size_of (row_of i) ≤ length text) = whole-some (length text) at _ i e in
+    found.1
+
+pub instr_at-begins : (text : List ℕ) (at : ℕ) (i : Instr) → instr_at text at ≡ Some i → at < length text
+instr_at-begins text at i e =
+    let one : 1 ≤ size_of (row_of i) = size_least i in
+    let end : at + size_of (row_of i) ≤ length text = instr_at-ends text at i e in
+    omega arith

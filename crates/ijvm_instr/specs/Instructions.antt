@@ -3,10 +3,10 @@ use Rattle.std.specs.Prelude.{◌≡◌, ◌≤◌, ◌<◌, ◌⊎◌, FitsSign
 use Rattle.std.specs.Int.{w8, w16, w32, cast_signed, cast_unsigned}
 use Rattle.machine_words.specs.Arithmetic.{plus}
 use Rattle.ijvm_instr.specs.declared.instr.Instr.{Instr}
-use Rattle.ijvm_instr.specs.declared.instr.Instr.TheVariants.{Nop, Bipush, LdcW, Iload, Istore, Pop, Dup, Swap, Iadd, Isub, Iand, Iinc, Ifeq, Iflt, IfIcmpeq, Goto, Ireturn, Ior, Invokevirtual, WideIload, WideIstore, In, Out, Err, Halt}
+use Rattle.ijvm_instr.specs.declared.instr.Instr.TheVariants.{Nop, Bipush, LdcW, Iload, Istore, Pop, Dup, Swap, Iadd, Isub, Iand, Iinc, Ifeq, Iflt, IfIcmpeq, Goto, Ireturn, Ior, Invokevirtual, WideIload, WideIstore, WideIinc, In, Out, Err, Halt}
 use Rattle.ijvm_instr.specs.declared.row.Row.{Row}
 use Rattle.ijvm_instr.specs.declared.row.Operands.{Operands}
-use Rattle.ijvm_instr.specs.declared.row.Operands.TheVariants.{None as NoOperands, Byte, Local, LocalByte, Index, Offset}
+use Rattle.ijvm_instr.specs.declared.row.Operands.TheVariants.{None as NoOperands, Byte, Local, LocalByte, Index, IndexHalf, Offset}
 use Rattle.ijvm_instr.specs.declared.row.Flow.TheVariants.{Next, Jump, Branch, Call, Return, End}
 use Rattle.ijvm_instr.specs.declared.row.Cost.TheVariants.{Always, IfTaken, ByEntry}
 
@@ -27,12 +27,26 @@ plain opcode needs gives mic1 mic2 =
       mic2 = Always mic2;
     }
 
+-- the same behind the prefix WIDE
+abbrev pub wide : ℕ → ℕ → ℕ → ℕ → ℕ → Row
+wide opcode needs gives mic1 mic2 = record (plain opcode needs gives mic1 mic2) { wide = true }
+
+-- a jump: its opcode, its offset, and its cycles on Mic-1 and Mic-2
+abbrev pub jump : ℕ → ℤ → ℕ → ℕ → Row
+jump opcode offset mic1 mic2 = record (plain opcode 0 0 mic1 mic2) { operands = Offset offset; flow = Jump offset }
+
 -- a branch: its opcode, what it needs, its offset, and its cycles on Mic-1 and Mic-2, each taken and not
 abbrev pub branch : ℕ → ℕ → ℤ → ℕ → ℕ → ℕ → ℕ → Row
 branch opcode needs offset taken1 not1 taken2 not2 =
     record (plain opcode needs 0 0 0) { operands = Offset offset; flow = Branch offset; mic1 = IfTaken taken1 not1; mic2 = IfTaken taken2 not2 }
 
--- the table
+-- a call of a constant's method: its opcode, the constant, its cycles on Mic-1, and on Mic-2 where the entry modulo 4 is not 3 and where it is
+abbrev pub call : ℕ → ℕ → ℕ → ℕ → ℕ → Row
+call opcode constant cycles1 early2 late2 =
+    record (plain opcode 0 1 cycles1 0) { operands = Index constant; flow = Call constant; constant = Some constant; mic2 = ByEntry early2 late2 }
+
+-- The table: opcode, needs, gives, cycles on Mic-1 and on Mic-2; then the operands, where the instruction leads, and what it names.
+-- A call needs its method's parameters besides.
 abbrev pub row_of : Instr → Row
 row_of Nop = plain 0x00 0 0 2 1
 row_of (Bipush b) = record (plain 0x10 0 1 4 2) { operands = Byte b }
@@ -49,12 +63,13 @@ row_of (Iinc k b) = record (plain 0x84 0 0 7 3) { operands = LocalByte k b; read
 row_of (Ifeq o) = branch 0x99 1 o 11 8 8 6
 row_of (Iflt o) = branch 0x9B 1 o 11 8 8 6
 row_of (IfIcmpeq o) = branch 0x9F 2 o 13 10 10 8
-row_of (Goto o) = record (plain 0xA7 0 0 7 4) { operands = Offset o; flow = Jump o }
+row_of (Goto o) = jump 0xA7 o 7 4
 row_of Ireturn = record (plain 0xAC 1 0 9 8) { flow = Return }
 row_of Ior = plain 0xB0 2 1 4 3
-row_of (Invokevirtual k) = record (plain 0xB6 0 1 23 0) { operands = Index k; constant = Some k; flow = Call k; mic2 = ByEntry 12 13 }
-row_of (WideIload k) = record (plain 0x15 0 1 9 4) { wide = true; operands = Index k; reads = Some k }
-row_of (WideIstore k) = record (plain 0x36 1 0 10 6) { wide = true; operands = Index k; stores = Some k }
+row_of (Invokevirtual k) = call 0xB6 k 23 12 13
+row_of (WideIload k) = record (wide 0x15 0 1 9 4) { operands = Index k; reads = Some k }
+row_of (WideIstore k) = record (wide 0x36 1 0 10 6) { operands = Index k; stores = Some k }
+row_of (WideIinc k n) = record (wide 0x84 0 0 12 5) { operands = IndexHalf k n; reads = Some k }
 row_of In = plain 0xFC 0 1 6 5
 row_of Out = plain 0xFD 1 0 8 7
 row_of Err = record (plain 0xFE 0 0 1 0) { flow = End }
@@ -83,6 +98,7 @@ name_of Ior = codes "IOR"
 name_of (Invokevirtual k) = codes "INVOKEVIRTUAL"
 name_of (WideIload k) = codes "WIDE ILOAD"
 name_of (WideIstore k) = codes "WIDE ISTORE"
+name_of (WideIinc k n) = codes "WIDE IINC"
 name_of In = codes "IN"
 name_of Out = codes "OUT"
 name_of Err = codes "ERR"
@@ -106,6 +122,7 @@ operand_bytes (Byte b) = cast_unsigned w8 b ∷ []
 operand_bytes (Local k) = k ∷ []
 operand_bytes (LocalByte k b) = k ∷ cast_unsigned w8 b ∷ []
 operand_bytes (Index k) = two_bytes k
+operand_bytes (IndexHalf k n) = two_bytes k ++ two_bytes (cast_unsigned w16 n)
 operand_bytes (Offset o) = two_bytes (cast_unsigned w16 o)
 
 -- the operands' numbers are in the ranges of their types
@@ -115,6 +132,7 @@ AreInRange (Byte b) = FitsSigned w8 b
 AreInRange (Local k) = k < 256
 AreInRange (LocalByte k b) = (k < 256) × FitsSigned w8 b
 AreInRange (Index k) = k < 65536
+AreInRange (IndexHalf k n) = (k < 65536) × FitsSigned w16 n
 AreInRange (Offset o) = FitsSigned w16 o
 
 abbrev pub IsInstr : Instr → Type 0
@@ -146,9 +164,9 @@ abbrev pub StandAt : List ℕ → ℕ → List ℕ → Type 0
 StandAt text at [] = at ≤ length text
 StandAt text at (byte ∷ bytes) = (slice_index text at ≡ byte) × StandAt text (at + 1) bytes
 
--- the instruction that begins with these four bytes, of which it may need fewer
-unfoldable pub of_bytes : ℕ → ℕ → ℕ → ℕ → Option Instr
-of_bytes a b c d =
+-- the instruction that begins with these six bytes, of which it may need fewer
+unfoldable pub of_bytes : ℕ → ℕ → ℕ → ℕ → ℕ → ℕ → Option Instr
+of_bytes a b c d e f =
     if a == 0x00 then Some Nop else
     if a == 0x10 then Some (Bipush (cast_signed w8 b)) else
     if a == 0x13 then Some (LdcW (256 * b + c)) else
@@ -170,11 +188,18 @@ of_bytes a b c d =
     if a == 0xB0 then Some Ior else
     if a == 0xB6 then Some (Invokevirtual (256 * b + c)) else
     if a == 0xC4 then (if b == 0x15 then Some (WideIload (256 * c + d)) else
-    if b == 0x36 then Some (WideIstore (256 * c + d)) else None) else
+    if b == 0x36 then Some (WideIstore (256 * c + d)) else
+    if b == 0x84 then Some (WideIinc (256 * c + d) (cast_signed w16 (256 * e + f))) else None) else
     if a == 0xFC then Some In else
     if a == 0xFD then Some Out else
     if a == 0xFE then Some Err else
     if a == 0xFF then Some Halt else None
+
+-- the instruction that begins at this byte address of a text, where bytes past the end count as 0
+abbrev pub begun_at : List ℕ → ℕ → Option Instr
+begun_at text at =
+    of_bytes (slice_index text at) (slice_index text (at + 1)) (slice_index text (at + 2))
+    (slice_index text (at + 3)) (slice_index text (at + 4)) (slice_index text (at + 5))
 
 -- the instruction, if it ends inside a text of so many bytes
 abbrev pub whole : ℕ → ℕ → Option Instr → Option Instr
@@ -183,5 +208,4 @@ whole many at (Some i) = if nat_le (at + size_of (row_of i)) many then Some i el
 
 -- the whole instruction at this byte address of a text
 unfoldable pub instr_at : List ℕ → ℕ → Option Instr
-instr_at text at =
-    whole (length text) at (of_bytes (slice_index text at) (slice_index text (at + 1)) (slice_index text (at + 2)) (slice_index text (at + 3)))
+instr_at text at = whole (length text) at (begun_at text at)

@@ -4,9 +4,8 @@ use Rattle.std.specs.Fmt.{signed_decimal}
 use Rattle.mic_base.specs.Digits.{hex_text}
 use Rattle.ijvm_instr.specs.declared.instr.Instr.{Instr}
 use Rattle.ijvm_instr.specs.declared.row.Operands.{Operands}
-use Rattle.ijvm_instr.specs.declared.row.Operands.TheVariants.{None as NoOperands, Byte, Local, LocalByte, Index, Offset}
-use Rattle.ijvm_instr.specs.Instructions.{row_of, name_of}
-use Rattle.ijvm_instr.specs.Instructions.{target}
+use Rattle.ijvm_instr.specs.declared.row.Operands.TheVariants.{None as NoOperands, Byte, Local, LocalByte, Index, IndexHalf, Offset}
+use Rattle.ijvm_instr.specs.Instructions.{row_of, name_of, target}
 
 -- a space and a number
 abbrev pub number_text : ℤ → List ℕ
@@ -19,6 +18,7 @@ operand_text at (Byte b) = number_text b
 operand_text at (Local k) = number_text (pos k)
 operand_text at (LocalByte k b) = number_text (pos k) ++ number_text b
 operand_text at (Index k) = number_text (pos k)
+operand_text at (IndexHalf k n) = number_text (pos k) ++ number_text n
 operand_text at (Offset o) = 32 ∷ hex_text 8 (target at o)
 
 abbrev pub instr_text : Instr → ℕ → List ℕ

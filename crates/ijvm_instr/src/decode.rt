@@ -23,8 +23,8 @@ fn half(high: u8, low: u8) -> u16
 
 /// The instruction that begins with these bytes.
 #[tactic(auto, unfolding(crate::specs::Instructions::of_bytes))]
-fn read_instr(a: u8, b: u8, c: u8, d: u8) -> Option<Instr>
-    ensures { result ≡ of_bytes a b c d }
+fn read_instr(a: u8, b: u8, c: u8, d: u8, e: u8, f: u8) -> Option<Instr>
+    ensures { result ≡ of_bytes a b c d e f }
 {
     match a {
         0x00 => Some(Instr::Nop),
@@ -50,6 +50,7 @@ fn read_instr(a: u8, b: u8, c: u8, d: u8) -> Option<Instr>
         0xC4 => match b {
             0x15 => Some(Instr::WideIload(half(c, d))),
             0x36 => Some(Instr::WideIstore(half(c, d))),
+            0x84 => Some(Instr::WideIinc(half(c, d), half(e, f).cast_signed())),
             _ => None,
         },
         0xFC => Some(Instr::In),
@@ -72,6 +73,8 @@ pub fn decode_at(text: &[u8], at: u32) -> Option<Instr>
         byte_at(text, at + 1),
         byte_at(text, at + 2),
         byte_at(text, at + 3),
+        byte_at(text, at + 4),
+        byte_at(text, at + 5),
     )?;
     if at + instr.row().size() as usize <= text.len() {
         Some(instr)

@@ -18,7 +18,7 @@ fn push_half(bytes: &mut ArrayVec<u8, 6>, half: u16)
 }
 
 fn push_operands(bytes: &mut ArrayVec<u8, 6>, operands: Operands)
-    requires { array_vec_len bytes.old + 2 ≤ 6 }
+    requires { array_vec_len bytes.old + 4 ≤ 6 }
     ensures { bytes.new.items ≡ bytes.old.items ++ operand_bytes operands }
 {
     match operands {
@@ -30,6 +30,10 @@ fn push_operands(bytes: &mut ArrayVec<u8, 6>, operands: Operands)
             bytes.push(byte.cast_unsigned());
         }
         Operands::Index(index) => push_half(bytes, index),
+        Operands::IndexHalf(index, half) => {
+            push_half(bytes, index);
+            push_half(bytes, half.cast_unsigned());
+        }
         Operands::Offset(offset) => push_half(bytes, offset.cast_unsigned()),
     }
 }

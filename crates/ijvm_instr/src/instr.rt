@@ -1,3 +1,5 @@
+//! Instructions.
+
 /// An instruction with its operands.
 #[derive(Clone, Copy, Debug, PartialEq, Eq)]
 pub enum Instr {
@@ -22,6 +24,7 @@ pub enum Instr {
     Invokevirtual(u16),
     WideIload(u16),
     WideIstore(u16),
+    WideIinc(u16, i16),
     In,
     Out,
     Err,

@@ -4,11 +4,16 @@
 pub mod decode;
 pub mod encode;
 pub mod instr;
+pub mod laws;
 pub mod print;
 pub mod row;
 
 pub use decode::{decode_at, decode_instr};
 pub use encode::encode_instr;
 pub use instr::Instr;
+pub use laws::read_instructions_are_whole;
 pub use print::{name, print_instr, print_name, target_of};
 pub use row::{Cost, Flow, Operands, Row};
+
+#[cfg(test)]
+mod tests;

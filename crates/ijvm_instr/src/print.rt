@@ -1,8 +1,7 @@
 //! The text of an instruction in lists and traces.
 
 ghost use Rattle.std.specs.Prelude.{◌≡◌, ◌+◌, ◌≤◌, ◌<◌, ◌++◌, length, unsigned_abs};
-ghost use Rattle.ijvm_instr.specs.Instructions.{name_of, row_of};
-ghost use Rattle.ijvm_instr.specs.Instructions.{target};
+ghost use Rattle.ijvm_instr.specs.Instructions.{name_of, row_of, target};
 ghost use Rattle.ijvm_instr.specs.Text.{number_text, operand_text, instr_text};
 
 use crate::instr::Instr;
@@ -36,6 +35,7 @@ pub fn name(instr: Instr) -> &'static str
         Instr::Invokevirtual(_) => "INVOKEVIRTUAL",
         Instr::WideIload(_) => "WIDE ILOAD",
         Instr::WideIstore(_) => "WIDE ISTORE",
+        Instr::WideIinc(_, _) => "WIDE IINC",
         Instr::In => "IN",
         Instr::Out => "OUT",
         Instr::Err => "ERR",
@@ -75,6 +75,10 @@ fn print_operands(operands: Operands, at: u32, line: &mut Line)
             print_number(i64::from(byte), line);
         }
         Operands::Index(index) => print_number(i64::from(index), line),
+        Operands::IndexHalf(index, half) => {
+            print_number(i64::from(index), line);
+            print_number(i64::from(half), line);
+        }
         Operands::Offset(offset) => {
             line.text(" ");
             line.hex(u64::from(target_of(at, offset)), 8);

@@ -1,7 +1,7 @@
 //! The instruction table.
 
-ghost use Rattle.std.specs.Prelude.{◌≡◌, ◌≤◌, length};
-ghost use Rattle.ijvm_instr.specs.Instructions.{plain, branch, row_of, operand_bytes, size_of};
+ghost use Rattle.std.specs.Prelude.{◌≡◌, ◌≤◌, length, Some};
+ghost use Rattle.ijvm_instr.specs.Instructions.{plain, wide, jump, branch, call, row_of, operand_bytes, size_of};
 
 use crate::instr::Instr;
 
@@ -17,6 +17,8 @@ pub enum Operands {
     LocalByte(u8, i8),
     /// A constant or a local of two bytes, the high one first.
     Index(u16),
+    /// A local of two bytes and a signed number of two bytes.
+    IndexHalf(u16, i16),
     /// The distance of a jump from its opcode's address, of two bytes, the high one first.
     Offset(i16),
 }
@@ -74,6 +76,7 @@ impl Operands {
             Operands::None => 0,
             Operands::Byte(_) | Operands::Local(_) => 1,
             Operands::LocalByte(_, _) | Operands::Index(_) | Operands::Offset(_) => 2,
+            Operands::IndexHalf(_, _) => 4,
         }
     }
 }
@@ -98,6 +101,26 @@ impl Row {
         }
     }
 
+    /// The same behind the prefix WIDE.
+    fn wide(opcode: u8, needs: u32, gives: u32, mic1: u64, mic2: u64) -> Row
+        ensures { result ≡ wide opcode needs gives mic1 mic2 }
+    {
+        Row {
+            wide: true,
+            ..Row::plain(opcode, needs, gives, mic1, mic2)
+        }
+    }
+
+    fn jump(opcode: u8, offset: i16, mic1: u64, mic2: u64) -> Row
+        ensures { result ≡ jump opcode offset mic1 mic2 }
+    {
+        Row {
+            operands: Operands::Offset(offset),
+            flow: Flow::Jump(offset),
+            ..Row::plain(opcode, 0, 0, mic1, mic2)
+        }
+    }
+
     /// A branch, with its cycles where it is taken and where it is not.
     fn branch(opcode: u8, needs: u32, offset: i16, mic1: (u64, u64), mic2: (u64, u64)) -> Row
         ensures { result ≡ branch opcode needs offset mic1.0 mic1.1 mic2.0 mic2.1 }
@@ -117,11 +140,71 @@ impl Row {
         }
     }
 
-    /// How many bytes its instruction has, 1 to 4.
+    /// A call of the constant's method, with its cycles on Mic-1, and on Mic-2 by the method's entry.
+    fn call(opcode: u8, constant: u16, mic1: u64, mic2: (u64, u64)) -> Row
+        ensures { result ≡ call opcode constant mic1 mic2.0 mic2.1 }
+    {
+        Row {
+            flow: Flow::Call(constant),
+            mic2: Cost::ByEntry {
+                early: mic2.0,
+                late: mic2.1,
+            },
+            ..Row::plain(opcode, 0, 1, mic1, 0).names(constant)
+        }
+    }
+
+    /// With these operands.
+    fn with(self, operands: Operands) -> Row
+        ensures { result ≡ record self { operands = operands } }
+    {
+        Row { operands, ..self }
+    }
+
+    /// With a constant's index.
+    fn names(self, constant: u16) -> Row
+        ensures { result ≡ record self { operands = Operands.Index constant; constant = Some constant } }
+    {
+        Row {
+            operands: Operands::Index(constant),
+            constant: Some(constant),
+            ..self
+        }
+    }
+
+    /// With operands that name a local, which it reads.
+    fn reads(self, local: u16, operands: Operands) -> Row
+        ensures { result ≡ record self { operands = operands; reads = Some local } }
+    {
+        Row {
+            operands,
+            reads: Some(local),
+            ..self
+        }
+    }
+
+    /// With operands that name a local, which it stores to.
+    fn stores(self, local: u16, operands: Operands) -> Row
+        ensures { result ≡ record self { operands = operands; stores = Some local } }
+    {
+        Row {
+            operands,
+            stores: Some(local),
+            ..self
+        }
+    }
+
+    fn leads(self, flow: Flow) -> Row
+        ensures { result ≡ record self { flow = flow } }
+    {
+        Row { flow, ..self }
+    }
+
+    /// How many bytes its instruction has, 1 to 6.
     pub fn size(self) -> u32
         ensures is { result ≡ size_of self }
         ensures least { 1 ≤ result }
-        ensures most { result ≤ 4 }
+        ensures most { result ≤ 6 }
     {
         let opcode = if self.wide { 2 } else { 1 };
         opcode + self.operands.size()
@@ -133,83 +216,35 @@ impl Instr {
     pub fn row(self) -> Row
         ensures { result ≡ row_of self }
     {
+        use Operands::{Byte, Index, IndexHalf, Local, LocalByte};
         match self {
+            //    opcode, needs, gives, cycles on Mic-1, cycles on Mic-2
             Instr::Nop => Row::plain(0x00, 0, 0, 2, 1),
-            Instr::Bipush(b) => Row {
-                operands: Operands::Byte(b),
-                ..Row::plain(0x10, 0, 1, 4, 2)
-            },
-            Instr::LdcW(k) => Row {
-                operands: Operands::Index(k),
-                constant: Some(k),
-                ..Row::plain(0x13, 0, 1, 8, 3)
-            },
-            Instr::Iload(k) => Row {
-                operands: Operands::Local(k),
-                reads: Some(u16::from(k)),
-                ..Row::plain(0x15, 0, 1, 6, 3)
-            },
-            Instr::Istore(k) => Row {
-                operands: Operands::Local(k),
-                stores: Some(u16::from(k)),
-                ..Row::plain(0x36, 1, 0, 7, 5)
-            },
+            Instr::Bipush(b) => Row::plain(0x10, 0, 1, 4, 2).with(Byte(b)),
+            Instr::LdcW(k) => Row::plain(0x13, 0, 1, 8, 3).names(k),
+            Instr::Iload(k) => Row::plain(0x15, 0, 1, 6, 3).reads(u16::from(k), Local(k)),
+            Instr::Istore(k) => Row::plain(0x36, 1, 0, 7, 5).stores(u16::from(k), Local(k)),
             Instr::Pop => Row::plain(0x57, 1, 0, 4, 3),
             Instr::Dup => Row::plain(0x59, 1, 2, 3, 2),
             Instr::Swap => Row::plain(0x5F, 2, 2, 7, 6),
             Instr::Iadd => Row::plain(0x60, 2, 1, 4, 3),
             Instr::Isub => Row::plain(0x64, 2, 1, 4, 3),
             Instr::Iand => Row::plain(0x7E, 2, 1, 4, 3),
-            Instr::Iinc(k, b) => Row {
-                operands: Operands::LocalByte(k, b),
-                reads: Some(u16::from(k)),
-                ..Row::plain(0x84, 0, 0, 7, 3)
-            },
+            Instr::Iinc(k, b) => Row::plain(0x84, 0, 0, 7, 3).reads(u16::from(k), LocalByte(k, b)),
             Instr::Ifeq(o) => Row::branch(0x99, 1, o, (11, 8), (8, 6)),
             Instr::Iflt(o) => Row::branch(0x9B, 1, o, (11, 8), (8, 6)),
             Instr::IfIcmpeq(o) => Row::branch(0x9F, 2, o, (13, 10), (10, 8)),
-            Instr::Goto(o) => Row {
-                operands: Operands::Offset(o),
-                flow: Flow::Jump(o),
-                ..Row::plain(0xA7, 0, 0, 7, 4)
-            },
-            Instr::Ireturn => Row {
-                flow: Flow::Return,
-                ..Row::plain(0xAC, 1, 0, 9, 8)
-            },
+            Instr::Goto(o) => Row::jump(0xA7, o, 7, 4),
+            Instr::Ireturn => Row::plain(0xAC, 1, 0, 9, 8).leads(Flow::Return),
             Instr::Ior => Row::plain(0xB0, 2, 1, 4, 3),
-            Instr::Invokevirtual(k) => Row {
-                operands: Operands::Index(k),
-                flow: Flow::Call(k),
-                constant: Some(k),
-                mic2: Cost::ByEntry {
-                    early: 12,
-                    late: 13,
-                },
-                ..Row::plain(0xB6, 0, 1, 23, 0)
-            },
-            Instr::WideIload(k) => Row {
-                wide: true,
-                operands: Operands::Index(k),
-                reads: Some(k),
-                ..Row::plain(0x15, 0, 1, 9, 4)
-            },
-            Instr::WideIstore(k) => Row {
-                wide: true,
-                operands: Operands::Index(k),
-                stores: Some(k),
-                ..Row::plain(0x36, 1, 0, 10, 6)
-            },
+            Instr::Invokevirtual(k) => Row::call(0xB6, k, 23, (12, 13)),
+            Instr::WideIload(k) => Row::wide(0x15, 0, 1, 9, 4).reads(k, Index(k)),
+            Instr::WideIstore(k) => Row::wide(0x36, 1, 0, 10, 6).stores(k, Index(k)),
+            Instr::WideIinc(k, n) => Row::wide(0x84, 0, 0, 12, 5).reads(k, IndexHalf(k, n)),
             Instr::In => Row::plain(0xFC, 0, 1, 6, 5),
             Instr::Out => Row::plain(0xFD, 1, 0, 8, 7),
-            Instr::Err => Row {
-                flow: Flow::End,
-                ..Row::plain(0xFE, 0, 0, 1, 0)
-            },
-            Instr::Halt => Row {
-                flow: Flow::End,
-                ..Row::plain(0xFF, 0, 0, 1, 0)
-            },
+            Instr::Err => Row::plain(0xFE, 0, 0, 1, 0).leads(Flow::End),
+            Instr::Halt => Row::plain(0xFF, 0, 0, 1, 0).leads(Flow::End),
         }
     }
 }

@@ -1,5 +1,5 @@
 -- A number is never refused as a bad line.
-use Rattle.std.proofs.Common.{◌≡◌, ℕ, ℤ, Option, Some, None, ap}
+use Rattle.std.proofs.Common.{◌≡◌, ℕ, ℤ, Bool, Option, Some, None, ap}
 use Rattle.std.specs.Prelude.{Result, Ok, Err}
 use Rattle.ijvm_line.specs.declared.statement.Operand.TheVariants as operands
 use Rattle.ijvm_line.specs.declared.statement.Statement.{Statement}
@@ -8,7 +8,7 @@ use Rattle.ijvm_line.specs.declared.form.Form.{Form}
 use Rattle.ijvm_line.specs.declared.form.Form.TheVariants as forms
 use Rattle.ijvm_line.specs.declared.line.LineFault.{LineFault}
 use Rattle.ijvm_line.specs.declared.line.LineFault.TheVariants as faults
-use Rattle.ijvm_line.specs.Ranges.{byte, in_range, increment_by, index, instruction_of, made, narrow, number, word}
+use Rattle.ijvm_line.specs.Ranges.{addend, byte, in_range, increment_by, index, instruction_of, made, number, word}
 use Rattle.ijvm_line.specs.Lines.{line_by}
 
 in_fault : {A : Type 0} (o : Option A) → in_range o ≡ Err faults.BadLine → ⊥
@@ -23,9 +23,9 @@ made_fault : {A B : Type 0} (f : A → B) (r : Result A LineFault) → made f r 
 made_fault f (Ok a) h = absurd (cc)
 made_fault f (Err e) h = let k : e ≡ faults.BadLine = cc in ap Err k
 
-increment_fault : (r : Result ℕ LineFault) (by : Option ℤ) → (r ≡ Err faults.BadLine → ⊥) → increment_by r by ≡ Err faults.BadLine → ⊥
-increment_fault (Ok k) by n h = number_fault _ by (made_fault _ (byte by) h)
-increment_fault (Err e) by n h = let k : e ≡ faults.BadLine = cc in n (ap Err k)
+increment_fault : (wide : Bool) (r : Result ℕ LineFault) (by : Option ℤ) → (r ≡ Err faults.BadLine → ⊥) → increment_by wide r by ≡ Err faults.BadLine → ⊥
+increment_fault wide (Ok k) by n h = number_fault _ by (made_fault _ (addend by) h)
+increment_fault wide (Err e) by n h = let k : e ≡ faults.BadLine = cc in n (ap Err k)
 
 statement_fault : (st : Statement) → instruction_of st ≡ Err faults.BadLine → ⊥
 statement_fault (statements.Plain i) h = cc
@@ -34,8 +34,8 @@ statement_fault (statements.Constant (operands.Name n)) h = cc
 statement_fault (statements.Constant (operands.Number v)) h = number_fault _ v (made_fault _ (index v) h)
 statement_fault (statements.Local access wide (operands.Name n)) h = cc
 statement_fault (statements.Local access wide (operands.Number v)) h = number_fault _ v (made_fault _ (index v) h)
-statement_fault (statements.Increment (operands.Name n) by) h = number_fault _ by (made_fault _ (byte by) h)
-statement_fault (statements.Increment (operands.Number v) by) h = increment_fault (narrow v) by (number_fault _ v) h
+statement_fault (statements.Increment wide (operands.Name n) by) h = number_fault _ by (made_fault _ (addend by) h)
+statement_fault (statements.Increment wide (operands.Number v) by) h = increment_fault wide (index v) by (number_fault _ v) h
 statement_fault (statements.Jump j n) h = cc
 statement_fault (statements.Call n) h = cc
 

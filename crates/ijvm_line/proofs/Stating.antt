@@ -1,5 +1,5 @@
 -- An instruction is read as what its tokens spell.
-use Rattle.std.proofs.Common.{◌≡◌, ℕ, List, [], ◌∷◌, true, false, Option, Some, None, refl, ap, subst, ◌∙◌}
+use Rattle.std.proofs.Common.{◌≡◌, ℕ, ℤ, Bool, List, [], ◌∷◌, true, false, Option, Some, None, refl, ap, subst, ◌∙◌}
 use Rattle.std.specs.Prelude.{option_map, option_and_then}
 use Rattle.ijvm_tokens.specs.declared.sign.Sign.{Sign}
 use Rattle.ijvm_tokens.specs.declared.token.Token.{Token}
@@ -12,7 +12,7 @@ use Rattle.ijvm_line.specs.declared.statement.Operand.TheVariants as operands
 use Rattle.ijvm_line.specs.declared.statement.Statement.{Statement}
 use Rattle.ijvm_line.specs.declared.statement.Statement.TheVariants as statements
 use Rattle.ijvm_line.specs.Mnemonics.{find_mnemonic, kind_of}
-use Rattle.ijvm_line.specs.Statements.{Begins, IsStatement, operand_of, operand_token, statement_by, statement_of, wide, wide_by}
+use Rattle.ijvm_line.specs.Statements.{Begins, increment, IsStatement, operand_of, operand_token, statement_by, statement_of, wide, wide_by}
 use Rattle.ijvm_line.proofs.Options.{mapped}
 use Rattle.ijvm_line.proofs.Naming.{mnemonic_again, mnemonic_is}
 
@@ -30,6 +30,13 @@ begins n m k rest e h = record { mnemonic = m; has = h; text = n; spelled = mnem
 
 -- ---- what is read is spelled
 
+-- what the operands of an increment are
+increment_is : (wide : Bool) (ts : List Token) (st : Statement) → increment wide ts ≡ Some st
+    → (o : Operand) × (by : Option ℤ) × (ts ≡ operand_token o ∷ tokens.Number by ∷ []) × (statements.Increment wide o by ≡ st)
+increment_is wide (tokens.Name n ∷ tokens.Number v ∷ []) st h = (operands.Name n, v, refl, cc)
+increment_is wide (tokens.Number i ∷ tokens.Number v ∷ []) st h = (operands.Number i, v, refl, cc)
+increment_is wide _ st h = absurd (cc)
+
 wide_is : (rest : List Token) (st : Statement) (ts : List Token) → Begins kinds.Wide rest ts → wide rest ≡ Some st → IsStatement ts st
 wide_is [] st ts b h = absurd (cc)
 wide_is (tokens.Sign s ∷ more) st ts b h = absurd (cc)
@@ -40,6 +47,9 @@ wide_is (tokens.Name n ∷ more) st ts b h = go (find_mnemonic n) refl h
     inner m (kinds.Local access) e f h =
         let p = mapped (λ o. statements.Local access true o) (operand_of more) st h in
         subst (IsStatement ts) p.2 (tokens.Name n ∷ more, b, subst (λ r. Begins (kinds.Local access) r (tokens.Name n ∷ more)) (operand_is more p.0 p.1) (begins n m (kinds.Local access) more e f))
+    inner m kinds.Increment e f h =
+        let p = increment_is true more st h in
+        subst (IsStatement ts) p.3 (tokens.Name n ∷ more, b, subst (λ r. Begins kinds.Increment r (tokens.Name n ∷ more)) p.2 (begins n m kinds.Increment more e f))
     inner m _ e f h = absurd (cc)
 
     go : (r : Option Mnemonic) → find_mnemonic n ≡ r → wide_by (option_map kind_of r) more ≡ Some st → IsStatement ts st
@@ -57,9 +67,9 @@ alone_is kinds.Constant rest st ts b h =
 alone_is (kinds.Local access) rest st ts b h =
     let p = mapped (λ o. statements.Local access false o) (operand_of rest) st h in
     subst (IsStatement ts) p.2 (subst (λ r. Begins (kinds.Local access) r ts) (operand_is rest p.0 p.1) b)
-alone_is kinds.Increment (tokens.Name n ∷ tokens.Number v ∷ []) st ts b h = let k : statements.Increment (operands.Name n) v ≡ st = cc in subst (IsStatement ts) k b
-alone_is kinds.Increment (tokens.Number i ∷ tokens.Number v ∷ []) st ts b h = let k : statements.Increment (operands.Number i) v ≡ st = cc in subst (IsStatement ts) k b
-alone_is kinds.Increment _ st ts b h = absurd (cc)
+alone_is kinds.Increment rest st ts b h =
+    let p = increment_is false rest st h in
+    subst (IsStatement ts) p.3 (subst (λ r. Begins kinds.Increment r ts) p.2 b)
 alone_is (kinds.Jump j) (tokens.Name n ∷ []) st ts b h = let k : statements.Jump j n ≡ st = cc in subst (IsStatement ts) k b
 alone_is (kinds.Jump j) _ st ts b h = absurd (cc)
 alone_is kinds.Call (tokens.Name n ∷ []) st ts b h = let k : statements.Call n ≡ st = cc in subst (IsStatement ts) k b
@@ -97,8 +107,10 @@ statement_again ts (statements.Constant o) b = kind_again kinds.Constant (operan
 statement_again ts (statements.Local access false o) b = kind_again (kinds.Local access) (operand_token o ∷ []) ts b ∙ ap (option_map (λ o. statements.Local access false o)) (operand_again o)
 statement_again ts (statements.Local access true o) (rest, b, c) =
     kind_again kinds.Wide rest ts b ∙ (wide_again (kinds.Local access) (operand_token o ∷ []) rest c ∙ ap (option_map (λ o. statements.Local access true o)) (operand_again o))
-statement_again ts (statements.Increment (operands.Name n) v) b = kind_again kinds.Increment (tokens.Name n ∷ tokens.Number v ∷ []) ts b
-statement_again ts (statements.Increment (operands.Number i) v) b = kind_again kinds.Increment (tokens.Number i ∷ tokens.Number v ∷ []) ts b
+statement_again ts (statements.Increment false (operands.Name n) v) b = kind_again kinds.Increment (tokens.Name n ∷ tokens.Number v ∷ []) ts b
+statement_again ts (statements.Increment false (operands.Number i) v) b = kind_again kinds.Increment (tokens.Number i ∷ tokens.Number v ∷ []) ts b
+statement_again ts (statements.Increment true (operands.Name n) v) (rest, b, c) = kind_again kinds.Wide rest ts b ∙ wide_again kinds.Increment (tokens.Name n ∷ tokens.Number v ∷ []) rest c
+statement_again ts (statements.Increment true (operands.Number i) v) (rest, b, c) = kind_again kinds.Wide rest ts b ∙ wide_again kinds.Increment (tokens.Number i ∷ tokens.Number v ∷ []) rest c
 statement_again ts (statements.Jump j n) b = kind_again (kinds.Jump j) (tokens.Name n ∷ []) ts b
 statement_again ts (statements.Call n) b = kind_again kinds.Call (tokens.Name n ∷ []) ts b
 

@@ -23,10 +23,10 @@ abbrev pub index_of : ℤ → Option ℕ
 index_of (pos n) = if nat_lt n 65536 then Some n else None
 index_of (negsuc n) = None
 
--- 0 to 255
-abbrev pub narrow_of : ℤ → Option ℕ
-narrow_of (pos n) = if nat_lt n 256 then Some n else None
-narrow_of (negsuc n) = None
+-- -32768 to 32767
+abbrev pub addend_of : ℤ → Option ℤ
+addend_of (pos n) = if nat_lt n 32768 then Some (pos n) else None
+addend_of (negsuc n) = if nat_lt n 32768 then Some (negsuc n) else None
 
 -- -2147483648 to 4294967295, as a word: a number below zero and the one that is 4294967296 more are the same
 abbrev pub word_of : ℤ → Option ℕ
@@ -48,8 +48,8 @@ byte = number byte_of
 abbrev pub index : Option ℤ → Result ℕ LineFault
 index = number index_of
 
-abbrev pub narrow : Option ℤ → Result ℕ LineFault
-narrow = number narrow_of
+abbrev pub addend : Option ℤ → Result ℤ LineFault
+addend = number addend_of
 
 abbrev pub word : Option ℤ → Result ℕ LineFault
 word = number word_of
@@ -57,6 +57,10 @@ word = number word_of
 abbrev pub made : {A B : Type 0} → (A → B) → Result A LineFault → Result B LineFault
 made f (Ok a) = Ok (f a)
 made f (Err e) = Err e
+
+-- WIDE stands before it, or the index is above 255
+abbrev pub is_wide : Bool → ℕ → Bool
+is_wide wide k = wide || nat_lt 255 k
 
 abbrev pub wide_instr : Access → ℕ → Instr
 wide_instr accesses.Load k = instrs.WideIload k
@@ -68,7 +72,15 @@ narrow_instr accesses.Store k = instrs.Istore k
 
 -- the wide form where it is forced, and for an index above 255
 abbrev pub access_instr : Access → Bool → ℕ → Instr
-access_instr access wide k = if wide || nat_lt 255 k then wide_instr access k else narrow_instr access k
+access_instr access wide k = if is_wide wide k then wide_instr access k else narrow_instr access k
+
+abbrev pub short_increment : ℕ → ℤ → Option ℤ → Instr
+short_increment k by (Some b) = instrs.Iinc k b
+short_increment k by None = instrs.WideIinc k by
+
+-- the wide form where it is forced, for an index above 255, and for a number that is no byte
+abbrev pub increment_instr : Bool → ℕ → ℤ → Instr
+increment_instr wide k by = if is_wide wide k then instrs.WideIinc k by else short_increment k by (byte_of by)
 
 abbrev pub push : Option ℤ → Result Instruction LineFault
 push value = made (λ b. instructions.Plain (instrs.Bipush b)) (byte value)
@@ -81,14 +93,14 @@ abbrev pub local : Access → Bool → Operand → Result Instruction LineFault
 local access wide (operands.Name name) = Ok (instructions.Local access wide name)
 local access wide (operands.Number value) = made (λ k. instructions.Plain (access_instr access wide k)) (index value)
 
-abbrev pub increment_by : Result ℕ LineFault → Option ℤ → Result Instruction LineFault
-increment_by (Ok k) by = made (λ b. instructions.Plain (instrs.Iinc k b)) (byte by)
-increment_by (Err e) by = Err e
+abbrev pub increment_by : Bool → Result ℕ LineFault → Option ℤ → Result Instruction LineFault
+increment_by wide (Ok k) by = made (λ n. instructions.Plain (increment_instr wide k n)) (addend by)
+increment_by wide (Err e) by = Err e
 
 -- the left number comes first
-abbrev pub increment : Operand → Option ℤ → Result Instruction LineFault
-increment (operands.Name name) by = made (λ b. instructions.Increment name b) (byte by)
-increment (operands.Number value) by = increment_by (narrow value) by
+abbrev pub increment : Bool → Operand → Option ℤ → Result Instruction LineFault
+increment wide (operands.Name name) by = made (λ n. instructions.Increment wide name n) (addend by)
+increment wide (operands.Number value) by = increment_by wide (index value) by
 
 -- the instruction that is spelled so, or the refusal of its first number with one
 abbrev pub instruction_of : Statement → Result Instruction LineFault
@@ -96,6 +108,6 @@ instruction_of (statements.Plain instr) = Ok (instructions.Plain instr)
 instruction_of (statements.Push value) = push value
 instruction_of (statements.Constant operand) = constant operand
 instruction_of (statements.Local access wide operand) = local access wide operand
-instruction_of (statements.Increment operand by) = increment operand by
+instruction_of (statements.Increment wide operand by) = increment wide operand by
 instruction_of (statements.Jump jump label) = Ok (instructions.Jump jump label)
 instruction_of (statements.Call method) = Ok (instructions.Call method)

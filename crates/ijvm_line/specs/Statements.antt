@@ -36,7 +36,8 @@ IsStatement ts (statements.Push value) = Begins kinds.Push (tokens.Number value 
 IsStatement ts (statements.Constant constant) = Begins kinds.Constant (operand_token constant ∷ []) ts
 IsStatement ts (statements.Local access false local) = Begins (kinds.Local access) (operand_token local ∷ []) ts
 IsStatement ts (statements.Local access true local) = (rest : List Token) × Begins kinds.Wide rest ts × Begins (kinds.Local access) (operand_token local ∷ []) rest
-IsStatement ts (statements.Increment local by) = Begins kinds.Increment (operand_token local ∷ tokens.Number by ∷ []) ts
+IsStatement ts (statements.Increment false local by) = Begins kinds.Increment (operand_token local ∷ tokens.Number by ∷ []) ts
+IsStatement ts (statements.Increment true local by) = (rest : List Token) × Begins kinds.Wide rest ts × Begins kinds.Increment (operand_token local ∷ tokens.Number by ∷ []) rest
 IsStatement ts (statements.Jump jump label) = Begins (kinds.Jump jump) (tokens.Name label ∷ []) ts
 IsStatement ts (statements.Call method) = Begins kinds.Call (tokens.Name method ∷ []) ts
 
@@ -65,10 +66,10 @@ constant ts = option_map (λ o. statements.Constant o) (operand_of ts)
 abbrev pub local : Access → Bool → List Token → Option Statement
 local access wide ts = option_map (λ o. statements.Local access wide o) (operand_of ts)
 
-abbrev pub increment : List Token → Option Statement
-increment (tokens.Name name ∷ tokens.Number by ∷ []) = Some (statements.Increment (operands.Name name) by)
-increment (tokens.Number index ∷ tokens.Number by ∷ []) = Some (statements.Increment (operands.Number index) by)
-increment _ = None
+abbrev pub increment : Bool → List Token → Option Statement
+increment wide (tokens.Name name ∷ tokens.Number by ∷ []) = Some (statements.Increment wide (operands.Name name) by)
+increment wide (tokens.Number index ∷ tokens.Number by ∷ []) = Some (statements.Increment wide (operands.Number index) by)
+increment wide _ = None
 
 abbrev pub jump_to : Jump → List Token → Option Statement
 jump_to jump (tokens.Name label ∷ []) = Some (statements.Jump jump label)
@@ -80,6 +81,7 @@ call _ = None
 
 abbrev pub wide_by : Option Kind → List Token → Option Statement
 wide_by (Some (kinds.Local access)) ts = local access true ts
+wide_by (Some kinds.Increment) ts = increment true ts
 wide_by _ ts = None
 
 abbrev pub wide : List Token → Option Statement
@@ -91,7 +93,7 @@ statement_by (kinds.Alone instr) ts = alone instr ts
 statement_by kinds.Push ts = push ts
 statement_by kinds.Constant ts = constant ts
 statement_by (kinds.Local access) ts = local access false ts
-statement_by kinds.Increment ts = increment ts
+statement_by kinds.Increment ts = increment false ts
 statement_by (kinds.Jump jump) ts = jump_to jump ts
 statement_by kinds.Call ts = call ts
 statement_by kinds.Wide ts = wide ts

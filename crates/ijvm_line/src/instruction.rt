@@ -1,5 +1,5 @@
 ghost use Rattle.std.specs.Prelude.{◌≡◌};
-ghost use Rattle.ijvm_line.specs.Ranges.{access_instr, byte, byte_of, constant, increment, index, index_of, instruction_of, local, narrow, narrow_of, push, word, word_of};
+ghost use Rattle.ijvm_line.specs.Ranges.{access_instr, addend, addend_of, byte, byte_of, constant, increment, increment_instr, index, index_of, instruction_of, is_wide, local, push, word, word_of};
 
 use crate::line::LineFault;
 use crate::mnemonic::Access;
@@ -20,16 +20,28 @@ pub enum Instruction {
         wide: bool,
         local: Name,
     },
-    Increment(Name, i8),
+    Increment {
+        /// The wide form is forced.
+        wide: bool,
+        local: Name,
+        by: i16,
+    },
     Jump(Jump, Name),
     Call(Name),
+}
+
+/// Whether an index takes the wide form: where it is forced, and above 255.
+fn is_wide(wide: bool, index: u16) -> bool
+    ensures { result ≡ is_wide wide index }
+{
+    wide || index > 255
 }
 
 /// The instruction that loads or stores a local: the wide form where it is forced, and for an index above 255.
 pub fn access_instr(access: Access, wide: bool, index: u16) -> Instr
     ensures { result ≡ access_instr access wide index }
 {
-    if wide || index > 255 {
+    if is_wide(wide, index) {
         return match access {
             Access::Load => Instr::WideIload(index),
             Access::Store => Instr::WideIstore(index),
@@ -38,6 +50,20 @@ pub fn access_instr(access: Access, wide: bool, index: u16) -> Instr
     match access {
         Access::Load => Instr::Iload(index as u8),
         Access::Store => Instr::Istore(index as u8),
+    }
+}
+
+/// The instruction that adds to a local: the wide form where it is forced, for an index above 255, and for a number that
+/// is no byte.
+pub fn increment_instr(wide: bool, index: u16, by: i16) -> Instr
+    ensures { result ≡ increment_instr wide index by }
+{
+    if is_wide(wide, index) {
+        return Instr::WideIinc(index, by);
+    }
+    match byte_of(i64::from(by)) {
+        Some(byte) => Instr::Iinc(index as u8, byte),
+        None => Instr::WideIinc(index, by),
     }
 }
 
@@ -64,11 +90,11 @@ fn index_of(value: i64) -> Option<u16>
     }
 }
 
-fn narrow_of(value: i64) -> Option<u8>
-    ensures { result ≡ narrow_of value }
+fn addend_of(value: i64) -> Option<i16>
+    ensures { result ≡ addend_of value }
 {
-    if 0 <= value && value < 256 {
-        Some(value as u8)
+    if -0x8000 <= value && value < 0x8000 {
+        Some(value as i16)
     } else {
         None
     }
@@ -105,11 +131,11 @@ fn index(value: Option<i64>) -> Result<u16, LineFault>
     }
 }
 
-fn narrow(value: Option<i64>) -> Result<u8, LineFault>
-    ensures { result ≡ narrow value }
+fn addend(value: Option<i64>) -> Result<i16, LineFault>
+    ensures { result ≡ addend value }
 {
     match value {
-        Some(value) => narrow_of(value).ok_or(LineFault::OutOfRange),
+        Some(value) => addend_of(value).ok_or(LineFault::OutOfRange),
         None => Err(LineFault::BadNumber),
     }
 }
@@ -161,18 +187,18 @@ fn local(access: Access, wide: bool, operand: Operand) -> Result<Instruction, Li
 }
 
 /// Its numbers are looked at from left to right.
-fn increment(operand: Operand, by: Option<i64>) -> Result<Instruction, LineFault>
-    ensures { result ≡ increment operand by }
+fn increment(wide: bool, operand: Operand, by: Option<i64>) -> Result<Instruction, LineFault>
+    ensures { result ≡ increment wide operand by }
 {
     match operand {
-        Operand::Name(local) => match byte(by) {
-            Ok(by) => Ok(Instruction::Increment(local, by)),
+        Operand::Name(local) => match addend(by) {
+            Ok(by) => Ok(Instruction::Increment { wide, local, by }),
             Err(fault) => Err(fault),
         },
         Operand::Number(value) => {
-            let local = narrow(value)?;
-            match byte(by) {
-                Ok(by) => Ok(Instruction::Plain(Instr::Iinc(local, by))),
+            let local = index(value)?;
+            match addend(by) {
+                Ok(by) => Ok(Instruction::Plain(increment_instr(wide, local, by))),
                 Err(fault) => Err(fault),
             }
         }
@@ -192,7 +218,11 @@ pub(crate) fn instruction_of(statement: Statement) -> Result<Instruction, LineFa
             wide,
             local: operand,
         } => local(access, wide, operand),
-        Statement::Increment(operand, by) => increment(operand, by),
+        Statement::Increment {
+            wide,
+            local: operand,
+            by,
+        } => increment(wide, operand, by),
         Statement::Jump(jump, label) => Ok(Instruction::Jump(jump, label)),
         Statement::Call(method) => Ok(Instruction::Call(method)),
     }

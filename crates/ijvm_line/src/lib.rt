@@ -11,7 +11,7 @@ mod place;
 mod statement;
 
 pub use form::Form;
-pub use instruction::{Instruction, access_instr};
+pub use instruction::{Instruction, access_instr, increment_instr};
 pub use laws::{parameters_are_those_spelled, reads_what_is_spelled};
 pub use line::{Line, LineFault, line_of};
 pub use mnemonic::{Access, Kind, Mnemonic};

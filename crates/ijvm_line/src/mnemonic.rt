@@ -58,7 +58,7 @@ pub enum Kind {
     Jump(Jump),
     /// A method's name.
     Call,
-    /// ILOAD or ISTORE with its operand.
+    /// ILOAD, ISTORE or IINC with its operands.
     Wide,
 }
 

@@ -27,7 +27,12 @@ pub enum Statement {
         wide: bool,
         local: Operand,
     },
-    Increment(Operand, Option<i64>),
+    Increment {
+        /// WIDE stands before it.
+        wide: bool,
+        local: Operand,
+        by: Option<i64>,
+    },
     Jump(Jump, Name),
     Call(Name),
 }
@@ -86,16 +91,20 @@ fn local(access: Access, wide: bool, operands: &[Token]) -> Option<Statement>
     })
 }
 
-fn increment(operands: &[Token]) -> Option<Statement>
-    ensures { result ≡ increment operands.now }
+fn increment(wide: bool, operands: &[Token]) -> Option<Statement>
+    ensures { result ≡ increment wide operands.now }
 {
     match operands {
-        [Token::Name(name), Token::Number(by)] => {
-            Some(Statement::Increment(Operand::Name(*name), *by))
-        }
-        [Token::Number(index), Token::Number(by)] => {
-            Some(Statement::Increment(Operand::Number(*index), *by))
-        }
+        [Token::Name(name), Token::Number(by)] => Some(Statement::Increment {
+            wide,
+            local: Operand::Name(*name),
+            by: *by,
+        }),
+        [Token::Number(index), Token::Number(by)] => Some(Statement::Increment {
+            wide,
+            local: Operand::Number(*index),
+            by: *by,
+        }),
         _ => None,
     }
 }
@@ -124,6 +133,7 @@ fn wide(tokens: &[Token]) -> Option<Statement>
     let (first, operands) = tokens.split_first()?;
     match kind_at(*first) {
         Some(Kind::Local(access)) => local(access, true, operands),
+        Some(Kind::Increment) => increment(true, operands),
         _ => None,
     }
 }
@@ -138,7 +148,7 @@ pub(crate) fn statement_of(tokens: &[Token]) -> Option<Statement>
         Kind::Push => push(operands),
         Kind::Constant => constant(operands),
         Kind::Local(access) => local(access, false, operands),
-        Kind::Increment => increment(operands),
+        Kind::Increment => increment(false, operands),
         Kind::Jump(jump) => jump_to(jump, operands),
         Kind::Call => call(operands),
         Kind::Wide => wide(operands),

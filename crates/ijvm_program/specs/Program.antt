@@ -18,12 +18,16 @@ NamesPosition constants methods lines (operations.Constant index) = index < cons
 NamesPosition constants methods lines (operations.Call index) = index < methods
 NamesPosition constants methods lines (operations.To jump target) = target < lines
 
+-- the most parameters and locals of a unit: with the object reference they have numbers of two bytes
+abbrev pub most_names : ℕ
+most_names = 65534
+
 -- a unit of a program of so many constants and methods: its lines and labels name positions that there are, and its parameters
 -- and locals are few enough for the counts of a header
 pub record IsUnit (constants methods : ℕ) (unit : UnitView) : Type 0 where
   pub lines : All (λ line. NamesPosition constants methods (length unit.lines) line.operation) unit.lines
   pub labels : All (λ label. label.at < length unit.lines) unit.labels
-  pub few_locals : length unit.parameters + length unit.locals ≤ 65534
+  pub few_locals : length unit.parameters + length unit.locals ≤ most_names
 
 pub record IsProgram (program : ProgramView) : Type 0 where
   pub main : IsUnit (length program.constants) (length program.methods) program.main

@@ -6,7 +6,7 @@ use crate::line::{CodeLine, Operation};
 /// The bytes of a line's instruction.
 pub fn size_of(line: &CodeLine) -> u8
     ensures is { result ≡ line_size line.now }
-    ensures few { result ≤ 4 }
+    ensures few { result ≤ 6 }
 {
     match line.operation {
         Operation::Plain(instr) => instr.row().size() as u8,

@@ -145,6 +145,20 @@ wide : run_of Mic1 (0xC4 ∷ 0x15 ∷ 0x01 ∷ 0x2C ∷ 0xFF ∷ []) [] 301 [] 1
 unfolding of_bytes instr_at wrap params others
 wide = refl
 
+-- a local above 255 and a number above 127
+abbrev wide-increment : List ℕ
+wide-increment = 0x10 ∷ 0x01 ∷ 0xC4 ∷ 0x36 ∷ 0x01 ∷ 0x2C ∷ 0xC4 ∷ 0x84 ∷ 0x01 ∷ 0x2C ∷ 0x03 ∷ 0xE8 ∷ 0xC4 ∷ 0x15 ∷ 0x01 ∷ 0x2C ∷ 0xFF ∷ []
+
+wide-increment1 : run_of Mic1 wide-increment [] 301 [] 10000000 30
+    ≡ Some (record { end = ends.Halt; cycles = 38; instructions = 5; boundary = 37; at = 0x10; sp = 0x812D; lv = 0x8000; tos = Some 1001; given = []; untaken = [] })
+unfolding of_bytes instr_at wrap params others
+wide-increment1 = refl
+
+wide-increment2 : run_of Mic2 wide-increment [] 301 [] 10000000 30
+    ≡ Some (record { end = ends.Halt; cycles = 19; instructions = 5; boundary = 19; at = 0x10; sp = 0x812D; lv = 0x8000; tos = Some 1001; given = []; untaken = [] })
+unfolding of_bytes instr_at wrap params others
+wide-increment2 = refl
+
 full-stack : run_of Mic1 (0xFC ∷ 0xC4 ∷ 0x36 ∷ 0x7F ∷ 0xFF ∷ 0xFF ∷ []) [] 32768 (0x78 ∷ 0x79 ∷ []) 10000000 30
     ≡ Some (record { end = ends.StackLimit; cycles = 2; instructions = 0; boundary = 2; at = 0x0; sp = 0xFFFF; lv = 0x8000; tos = None; given = []; untaken = 0x79 ∷ [] })
 unfolding of_bytes instr_at wrap params others

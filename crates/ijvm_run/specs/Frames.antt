@@ -69,15 +69,20 @@ abbrev pub top_of : List ℕ → Option ℕ
 top_of [] = None
 top_of (x ∷ xs) = Some x
 
--- Operands and locals are words, and addresses too.
+-- Operands, locals and addresses are words, and the input has bytes.
 
 abbrev pub IsWord : ℕ → Type 0
 IsWord x = x < 2 ^ 32
+
+abbrev pub IsByte : ℕ → Type 0
+IsByte x = x < 256
 
 pub record HasWords (f : Frame) : Type 0 where
   pub locals : All (λ v. IfSome v IsWord) f.locals
   pub operands : All IsWord f.operands
   pub back : IfSome f.back IsWord
 
-abbrev pub AreWords : State → Type 0
-AreWords s = All HasWords (frames_of s)
+pub record AreWords (s : State) : Type 0 where
+  pub frames : All HasWords (frames_of s)
+  pub at : IsWord s.at
+  pub untaken : All IsByte s.untaken

@@ -3,7 +3,7 @@ use Rattle.std.specs.Prelude.{ℕ, zero, suc, ◌+◌, ◌%◌, Bool, true, fals
 use Rattle.machine_words.specs.Arithmetic.{plus, minus, is_negative}
 use Rattle.console_port.specs.World.{next_byte}
 use Rattle.ijvm_instr.specs.declared.instr.Instr.{Instr}
-use Rattle.ijvm_instr.specs.declared.instr.Instr.TheVariants.{Nop, Bipush, LdcW, Iload, Istore, Pop, Dup, Swap, Iadd, Isub, Iand, Iinc, Ifeq, Iflt, IfIcmpeq, Goto, Ireturn, Ior, Invokevirtual, WideIload, WideIstore, In, Out, Err, Halt}
+use Rattle.ijvm_instr.specs.declared.instr.Instr.TheVariants.{Nop, Bipush, LdcW, Iload, Istore, Pop, Dup, Swap, Iadd, Isub, Iand, Iinc, Ifeq, Iflt, IfIcmpeq, Goto, Ireturn, Ior, Invokevirtual, WideIload, WideIstore, WideIinc, In, Out, Err, Halt}
 use Rattle.ijvm_image.specs.declared.method.Method.{Method}
 use Rattle.ijvm_instr.specs.Instructions.{word_of, target, instr_at}
 use Rattle.ijvm_image.specs.Image.{ImageView, method_at}
@@ -54,10 +54,11 @@ stored s k [] to = Stuck
 stored s k (v ∷ rest) to =
     if is_own s.running.back k then (if nat_lt k (length s.running.locals) then Goes (with_local s k v rest to) else Stuck) else Stuck
 
-abbrev pub increased : State → ℕ → ℤ → Option (Option ℕ) → Outcome
-increased s k b None = Stuck
-increased s k b (Some None) = Stuck
-increased s k b (Some (Some v)) = Goes (with_local s k (plus v (word_of b)) s.running.operands (s.at + 3))
+-- a local with this number added, if the frame has it and it is set
+abbrev pub increased : State → ℕ → ℤ → Option (Option ℕ) → ℕ → Outcome
+increased s k n None to = Stuck
+increased s k n (Some None) to = Stuck
+increased s k n (Some (Some v)) to = Goes (with_local s k (plus v (word_of n)) s.running.operands to)
 
 abbrev pub popped : State → List ℕ → Outcome
 popped s [] = Stuck
@@ -147,7 +148,7 @@ step image stack_end Swap s = swapped s s.running.operands
 step image stack_end Iadd s = combined plus s s.running.operands
 step image stack_end Isub s = combined minus s s.running.operands
 step image stack_end Iand s = combined bit_and s s.running.operands
-step image stack_end (Iinc k b) s = increased s k b (slice_get s.running.locals k)
+step image stack_end (Iinc k b) s = increased s k b (slice_get s.running.locals k) (s.at + 3)
 step image stack_end (Ifeq o) s = branched (λ y. y == 0) s o s.running.operands
 step image stack_end (Iflt o) s = branched is_negative s o s.running.operands
 step image stack_end (IfIcmpeq o) s = compared s o s.running.operands
@@ -157,6 +158,7 @@ step image stack_end Ior s = combined bit_or s s.running.operands
 step image stack_end (Invokevirtual k) s = called_at stack_end s (method_at image.text (slice_get image.pool k))
 step image stack_end (WideIload k) s = loaded stack_end s (slice_get s.running.locals k) (s.at + 4)
 step image stack_end (WideIstore k) s = stored s k s.running.operands (s.at + 4)
+step image stack_end (WideIinc k n) s = increased s k n (slice_get s.running.locals k) (s.at + 6)
 step image stack_end In s = read_in stack_end s
 step image stack_end Out s = given_out s s.running.operands
 step image stack_end Err s = Errs

@@ -10,7 +10,7 @@ use Rattle.mic_base.specs.Name.{begins_digit, is_name, is_name_byte}
 use Rattle.source_text.specs.Tokens.{is_blank}
 use Rattle.source_text.specs.Runs.{name_len, begins_with}
 use Rattle.source_text.specs.Reading.{Agrees}
-use Rattle.source_text.proofs.Fronts.{run_all, run_passes, run_stops}
+use Rattle.ijvm_tokens.proofs.Fronts.{run_all, run_passes, run_stops}
 use Rattle.ijvm_tokens.specs.declared.sign.Sign.{Sign}
 use Rattle.ijvm_tokens.specs.declared.sign.Sign.TheVariants as signs
 use Rattle.ijvm_tokens.specs.declared.token.Token.{Token}

@@ -1,13 +1,12 @@
-ghost use Rattle.std.specs.Prelude.{◌≡◌, ◌+◌, ◌<◌, ◌≤◌, ◌∷◌, ◌↔◌, None, Some, length, IfOk, IsErrOf, List, ℕ};
+ghost use Rattle.std.specs.Prelude.{◌≡◌, ◌+◌, ◌<◌, ◌≤◌, ◌∷◌, ◌↔◌, Some, length, IfOk, IsErrOf, List, ℕ};
 ghost use Rattle.std.specs.List.{prefix_len};
-ghost use Rattle.mic_base.specs.Name.{is_name_byte};
 ghost use Rattle.ijvm_tokens.specs.declared.token.Token.{Token};
 ghost use Rattle.ijvm_tokens.specs.Tokens.{begins_number, is_word_byte, number_value, Spells};
 ghost use Rattle.ijvm_tokens.specs.Reading.{name_token, quote_len, read};
 
 use crate::sign::Sign;
 use mic_base::{Name, Number};
-use source_text::{Language, TokenError, name_len};
+use source_text::{Language, TokenError, is_name_byte, name_len};
 use std::alloc::Global;
 
 /// A token of a line.
@@ -26,6 +25,9 @@ impl Language for Ijvm {
     type Token = Token;
 
     ghost use Rattle.ijvm_tokens.specs.Reading.{lexer};
+    ghost use Rattle.ijvm_tokens.specs.Tokens.{ijvm};
+
+    ghost lexicon = { ijvm };
 
     ghost lexer = { lexer };
 
@@ -51,12 +53,6 @@ impl Language for Ijvm {
             None => name_token(text),
         }
     }
-}
-
-fn is_name_byte(byte: u8) -> bool
-    ensures { result ≡ is_name_byte byte }
-{
-    byte.is_ascii_alphanumeric() || byte == b'_'
 }
 
 fn is_word_byte(byte: u8) -> bool
@@ -109,17 +105,19 @@ fn name_token(text: &[u8]) -> Option<Token>
     }
 }
 
-/// The tokens of a line without its comment.
-#[tactic(auto, unfolding(crate::specs::Reading::read))]
+/// The tokens that a line without its comment spells; BadToken where it spells none.
+#[tactic(auto, using(crate::proofs::Lexemes::agrees))]
 pub fn tokens_of(alloc: Global, line: &[u8]) -> Result<Vec<Token>, TokenError>
-    ensures ok { IfOk result (λ tokens. read line.now ≡ Some tokens.items) }
-    ensures bad { IsErrOf result TokenError.BadToken → read line.now ≡ None }
+    ensures ok { IfOk result (λ tokens. Spells line.now tokens.items) }
+    ensures bad { IsErrOf result TokenError.BadToken → (tokens : List Token) → Spells line.now tokens → ⊥ }
 {
     source_text::tokens_of::<Ijvm>(alloc, line)
 }
 
-/// What is read is what the line spells: so a line spells at most one list of tokens, and BadToken comes exactly where
-/// it spells none.
+/// What is read from a line is what it spells: so it spells at most one list of tokens.
+#[tactic(auto, using(crate::proofs::Lexemes::agrees), unfolding(crate::specs::Reading::read))]
 pub fn reads_what_is_spelled()
     ensures { (line : List ℕ) (tokens : List Token) → (read line ≡ Some tokens) ↔ Spells line tokens }
-{}
+{
+    source_text::reads_what_is_spelled::<Ijvm>();
+}

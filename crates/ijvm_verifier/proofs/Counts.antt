@@ -2,25 +2,22 @@
 use Rattle.std.proofs.Common.{◌≡◌, ◌≢◌, ℕ, ◌+◌, ◌<◌, ◌≤◌, ◌⊎◌, inl, inr, Option, Some, None, List, length, refl, arith, ◌∙◌, ap, sym, subst}
 use Rattle.std.specs.Prelude.{slice_get}
 use Rattle.std.proofs.lemmas.Bool.{cases_lt}
+use Rattle.std.proofs.lemmas.Option.{slice_get_within}
 use Rattle.ijvm_instr.specs.declared.row.Row.{Row}
-use Rattle.ijvm_instr.specs.Instructions.{row_of, size_of}
 use Rattle.ijvm_image.specs.Image.{ImageView}
-use Rattle.ijvm_verifier.specs.declared.kept.Kept.{Kept}
-use Rattle.ijvm_verifier.specs.declared.graph.Node.{Node}
-use Rattle.ijvm_verifier.specs.declared.error.VerifyError.{VerifyError}
-use Rattle.ijvm_verifier.specs.declared.error.VerifyError.TheVariants.{BadCode, FallsOff, BadTarget, Overlap, BadConstant, BadEntry, BadHeader, LinkSlot, BadLocal, UnsetLocal, TooFewArguments, Underflow, DepthDiffers, ReturnInMain, MainFrame, OutOfMemory}
-use Rattle.ijvm_verifier.specs.Paths.{HasRow}
-use Rattle.ijvm_verifier.specs.declared.kind.Kind.{Kind}
-use Rattle.ijvm_verifier.specs.Facts.{Names, IsMainCount, Holds, Accepts, Piece, Code, Header, Covers}
-use Rattle.ijvm_verifier.specs.Search.{kept_at, kept_of, IsClosed, IsDecided}
-use Rattle.ijvm_verifier.specs.Graph.{IsNodeOf, IsGraph}
+use Rattle.ijvm_reach.specs.declared.kept.Kept.{Kept}
+use Rattle.ijvm_unset.specs.declared.graph.Node.{Node}
+use Rattle.ijvm_paths.specs.declared.error.VerifyError.{VerifyError}
+use Rattle.ijvm_paths.specs.declared.error.VerifyError.TheVariants.{BadCode, FallsOff, BadTarget, Overlap, BadConstant, BadEntry, BadHeader, LinkSlot, BadLocal, UnsetLocal, TooFewArguments, Underflow, DepthDiffers, ReturnInMain, MainFrame, OutOfMemory}
+use Rattle.ijvm_paths.specs.Paths.{Arrival, HasRow, Reached}
+use Rattle.ijvm_paths.specs.declared.kind.Kind.{Kind}
+use Rattle.ijvm_paths.specs.Facts.{Names, IsMainCount, Holds, Accepts}
+use Rattle.ijvm_reach.specs.Search.{kept_at, kept_of, IsClosed, IsDecided}
+use Rattle.ijvm_unset.specs.Graph.{IsNodeOf, IsGraph}
 use Rattle.ijvm_verifier.specs.Counted.{NodeNames, IsCounted}
 use Rattle.ijvm_verifier.specs.Survey.{IsSurvey}
-use Rattle.ijvm_verifier.specs.Accepted.{IsVerified}
-use Rattle.ijvm_verifier.proofs.Rows.{size_fits, size_above, one_row}
-use Rattle.ijvm_verifier.proofs.Keeping.{closed_all}
-use Rattle.ijvm_verifier.proofs.Unsets.{method_inside}
-use Rattle.ijvm_verifier.proofs.Sounds.{keeps_sound}
+use Rattle.ijvm_paths.specs.Sound.{KeepsSound}
+use Rattle.ijvm_paths.specs.Accepted.{IsVerified}
 
 pub counted_none : (image : ImageView) → IsCounted image 0 0
 counted_none image = record { above = λ a r k h lt row unit names. absurd (omega arith); least = inl refl }
@@ -30,7 +27,7 @@ counted_skip image seen n count closed s other = record {
   above = λ a r k h lt row unit names. elim (cases_lt a.at n) [
     | inl old ↦ s.above a r k h old row unit names
     | inr now ↦ let at : a.at ≡ n = omega arith in
-        absurd (other (kept_of a.unit a.depth) (ap (slice_get seen) (sym at) ∙ closed_all image seen closed a h) unit)
+        absurd (other (kept_of a.unit a.depth) (ap (slice_get seen) (sym at) ∙ closed.all a h) unit)
   ];
   least = s.least;
 }
@@ -48,13 +45,13 @@ pub counted_node : (image : ImageView) (seen : List (Option Kept)) (graph : List
     slice_get seen n ≡ Some (Some here) → here.unit ≡ None → slice_get graph n ≡ Some node → count ≤ next → ((k : ℕ) → NodeNames node k → k < next) →
     (next ≡ count) ⊎ ((k : ℕ) × NodeNames node k × (next ≡ k + 1)) → IsCounted image (n + 1) next
 counted_node image seen graph n count next here node closed g s is unit is_node keeps above least =
-    let d = (closed.done n here is).0 in
+    let d = closed.checked n here is in
     let of_row : IsNodeOf n d.0 node = (g.nodes n node is_node).here here d.0 is d.2.has_row in
     record {
       above = λ a q k h lt has main names. elim (cases_lt a.at n) [
         | inl old ↦ let below : k < count = s.above a q k h old has main names in omega arith
         | inr now ↦ let at : a.at ≡ n = omega arith in
-            let same : q ≡ d.0 = one_row image.text n d.0 q d.2.has_row (subst (λ (i : ℕ). HasRow image.text i q) at has) in
+            let same : q ≡ d.0 = d.2.alone q (subst (λ (i : ℕ). HasRow image.text i q) at has) in
             above k (named_by n d.0 node k of_row (subst (λ (x : Row). Names x k) same names))
       ];
       least = elim least [
@@ -63,16 +60,14 @@ counted_node image seen graph n count next here node closed g s is unit is_node 
       ];
     }
 
-pub counted_all : (image : ImageView) (count : ℕ) → IsCounted image (length image.text) count → IsMainCount image count
-counted_all image count s = record {
-  above = λ k w. s.above w.0 w.1 k w.2 (row_inside w.0.at w.1 w.3) w.3 w.4 w.5;
+pub counted_all : (image : ImageView) (seen : List (Option Kept)) (count : ℕ) → IsClosed image seen → IsCounted image (length image.text) count → IsMainCount image count
+counted_all image seen count closed s = record {
+  above = λ k w. s.above w.0 w.1 k w.2 (inside w.0 w.2) w.3 w.4 w.5;
   least = s.least;
 }
   where
-    row_inside : (at : ℕ) (r : Row) → HasRow image.text at r → at < length image.text
-    row_inside at r h =
-        let fits : at + size_of (row_of h.0) ≤ length image.text = size_fits image.text at h.0 h.1 in
-        let above : 0 < size_of (row_of h.0) = size_above (row_of h.0) in omega arith
+    inside : (a : Arrival) → Reached image a → a.at < length image.text
+    inside a h = omega (arith, slice_get_within seen a.at (Some (kept_of a.unit a.depth)) (closed.all a h), closed.long)
 
 -- there is one such count
 one_count : (image : ImageView) (c d : ℕ) → IsMainCount image c → IsMainCount image d → c ≤ d
@@ -99,18 +94,12 @@ accepted image z count s u o m fits (MainFrame n) h = let le : n ≤ count = one
 accepted image z count s u o m fits OutOfMemory h = s OutOfMemory tt h
 
 -- what is verified, by a survey and the size of main's frame
-pub verified : (image : ImageView) (main_locals methods : ℕ) (kinds : List Kind) → IsSurvey image main_locals methods kinds → 0x8000 + main_locals ≤ 0x10000 → IsVerified image main_locals methods kinds
-verified image main_locals methods kinds s fits =
+pub verified : (image : ImageView) (main_locals methods : ℕ) (kinds : List Kind) → IsSurvey image main_locals methods kinds → ((z count : ℕ) → Accepts image z → IsMainCount image count → KeepsSound image z count) →
+    0x8000 + main_locals ≤ 0x10000 → IsVerified image main_locals methods kinds
+verified image main_locals methods kinds s keeps fits =
     let accepts : Accepts image 0x10000 = accepted image 0x10000 main_locals (s.decided 0x10000) (s.set 0x10000) (s.apart 0x10000) s.main fits in
     record {
-      accepted = record { accepts = accepts; main = s.main; main_fits = omega arith; safe = (keeps_sound image 0x10000 main_locals accepts s.main).safe };
+      accepted = record { accepts = accepts; main = s.main; main_fits = omega arith; safe = (keeps 0x10000 main_locals accepts s.main).safe };
       methods_are = s.methods_are;
       kinds_are = s.kinds_are;
     }
-
--- nothing stands behind the text
-pub none_behind : (image : ImageView) (at : ℕ) → length image.text ≤ at → (p : Piece) → Covers image p at → ⊥
-none_behind image at past (Code u j) (a, reached, unit, place, q, row, low, high) =
-    let fits : j + size_of (row_of row.0) ≤ length image.text = size_fits image.text j row.0 row.1 in
-    let size : size_of q ≡ size_of (row_of row.0) = ap size_of row.2 in omega arith
-none_behind image at past (Header e) (method, low, high) = omega (arith, method_inside image e method.0 method.1 method.2)

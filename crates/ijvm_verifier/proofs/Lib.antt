@@ -1,11 +1,2 @@
-pub mod Rows
-pub mod Checking
-pub mod Reaches
-pub mod Sounds
-pub mod Keeping
-pub mod Graphs
-pub mod Traces
-pub mod Shortcuts
-pub mod Unsets
 pub mod Swept
 pub mod Counts

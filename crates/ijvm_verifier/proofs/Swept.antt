@@ -1,24 +1,32 @@
 -- The sweep over the bytes.
-use Rattle.std.proofs.Common.{◌≡◌, ◌≢◌, ℕ, ◌+◌, ◌*◌, ◌<◌, ◌≤◌, inl, inr, Option, Some, None, List, [], ◌∷◌, ◌++◌, length, length-append, refl, arith, ◌∙◌, ap, sym, subst}
+use Rattle.std.proofs.Common.{◌≡◌, ◌≢◌, ℕ, ◌+◌, ◌*◌, ◌<◌, ◌≤◌, ◌⊎◌, inl, inr, zero, suc, Option, Some, None, List, [], ◌∷◌, ◌++◌, length, length-append, refl, arith, ◌∙◌, ap, sym, subst}
 use Rattle.std.specs.Prelude.{slice_get, slice_index_or, Contains}
 use Rattle.std.proofs.lemmas.Bool.{cases_lt, cases_eq}
+use Rattle.std.proofs.lemmas.Option.{slice_get_within}
 use Rattle.std.proofs.lemmas.List.Quantifiers.{all_pairs_push}
 use Rattle.std.proofs.lemmas.List.Elements.{Contains-append_left, Contains-push, Contains-push_cases, Contains-get_or}
 use Rattle.ijvm_instr.specs.declared.row.Row.{Row}
-use Rattle.ijvm_instr.specs.Instructions.{row_of, size_of}
+use Rattle.ijvm_instr.specs.Instructions.{size_of}
 use Rattle.ijvm_image.specs.Image.{ImageView}
-use Rattle.ijvm_verifier.specs.declared.kept.Kept.{Kept}
-use Rattle.ijvm_verifier.specs.declared.error.VerifyError.TheVariants.{Overlap}
-use Rattle.ijvm_verifier.specs.Paths.{arrival, HasRow, IsReachedMethod}
-use Rattle.ijvm_verifier.specs.Facts.{Piece, Code, Header, Covers, Holds, IsMethodCount}
-use Rattle.ijvm_verifier.specs.declared.kind.Kind.{Kind}
-use Rattle.ijvm_verifier.specs.Kinds.{first, IsKind}
-use Rattle.ijvm_verifier.specs.Search.{kept_at, kept_of, IsClosed}
+use Rattle.ijvm_reach.specs.declared.kept.Kept.{Kept}
+use Rattle.ijvm_paths.specs.declared.error.VerifyError.TheVariants.{Overlap}
+use Rattle.ijvm_paths.specs.Paths.{HasRow, IsReachedMethod}
+use Rattle.ijvm_paths.specs.Facts.{Piece, Code, Header, Covers, Holds, IsMethodCount}
+use Rattle.ijvm_paths.specs.declared.kind.Kind.{Kind}
+use Rattle.ijvm_paths.specs.Kinds.{first, IsKind}
+use Rattle.ijvm_reach.specs.Search.{kept_at, kept_of, IsClosed}
 use Rattle.ijvm_verifier.specs.Sweep.{rank, IsSwept, AreMethodsBelow}
-use Rattle.ijvm_verifier.proofs.Rows.{size_fits, size_above, one_row}
-use Rattle.ijvm_verifier.proofs.Keeping.{closed_all}
-use Rattle.ijvm_verifier.proofs.Graphs.{get_push}
-use Rattle.ijvm_verifier.proofs.Unsets.{method_inside, entered_with}
+
+-- one element more at the end
+pub get_push : {X : Type 0} (xs : List X) (y v : X) (i : ℕ) → slice_get (xs ++ y ∷ []) i ≡ Some v → (slice_get xs i ≡ Some v) ⊎ ((i ≡ length xs) × (y ≡ v))
+get_push [] y v zero is = inr (refl, (cc))
+get_push [] y v (suc i) is = cc
+get_push (x ∷ xs) y v zero is = inl is
+get_push (x ∷ xs) y v (suc i) is = elim (get_push xs y v i is) [ inl old ↦ inl old | inr now ↦ inr (omega (arith, now.0), now.1) ]
+
+-- a reached method begins inside the text
+pub method_inside : (image : ImageView) (seen : List (Option Kept)) (e : ℕ) → IsClosed image seen → IsReachedMethod image e → e + 4 < length image.text
+method_inside image seen e closed m = omega (arith, slice_get_within seen (e + 4) (Some (kept_of (Some e) 0)) (closed.starts e m), closed.long)
 
 pub swept_none : (image : ImageView) → IsSwept image 0 0
 swept_none image = record { apart = λ p q b lp lq cp cq. absurd (omega arith); ends = λ p b l c. absurd (omega arith); last = λ b le lt. absurd (omega arith) }
@@ -66,10 +74,11 @@ pub code_only : (image : ImageView) (seen : List (Option Kept)) (at : ℕ) (here
     (p : Piece) (b : ℕ) → rank p ≡ 2 * at → Covers image p b → (p ≡ Code here.unit at) × (at ≤ b) × (b < at + size_of r)
 code_only image seen at here r closed is has_row (Code u j) b same (a, reached, unit, place, q, row, low, high) =
     let e : j ≡ at = omega arith in
-    let kept : slice_get seen a.at ≡ Some (Some (kept_of a.unit a.depth)) = closed_all image seen closed a reached in
+    let kept : slice_get seen a.at ≡ Some (Some (kept_of a.unit a.depth)) = closed.all a reached in
     let one : kept_of a.unit a.depth ≡ here = only (slice_get seen at) (ap (slice_get seen) (sym (place ∙ e)) ∙ kept) is in
     let u_is : u ≡ here.unit = sym unit ∙ ap (λ (k : Kept). k.unit) one in
-    let row_is : q ≡ r = one_row image.text at r q has_row (subst (λ (i : ℕ). HasRow image.text i q) e row) in
+    let d = closed.checked at here is in
+    let row_is : q ≡ r = d.2.alone q (subst (λ (i : ℕ). HasRow image.text i q) e row) ∙ sym (d.2.alone r has_row) in
     let size : size_of q ≡ size_of r = ap size_of row_is in
     ((λ i. Code (u_is i) (e i)), omega arith, omega arith)
   where
@@ -80,7 +89,7 @@ code_only image seen at here r closed is has_row (Header e) b same c = absurd (o
 pub code_none : (image : ImageView) (seen : List (Option Kept)) (at : ℕ) → IsClosed image seen → slice_get seen at ≡ Some None → (p : Piece) (b : ℕ) → rank p ≡ 2 * at → Covers image p b → ⊥
 code_none image seen at closed is (Code u j) b same (a, reached, unit, place, q, row, low, high) =
     let e : j ≡ at = omega arith in
-    let kept : slice_get seen a.at ≡ Some (Some (kept_of a.unit a.depth)) = closed_all image seen closed a reached in
+    let kept : slice_get seen a.at ≡ Some (Some (kept_of a.unit a.depth)) = closed.all a reached in
     let here : slice_get seen at ≡ Some (Some (kept_of a.unit a.depth)) = ap (slice_get seen) (sym (place ∙ e)) ∙ kept in cc
 code_none image seen at closed is (Header e) b same c = absurd (omega arith)
 
@@ -101,7 +110,7 @@ pub entry_kept : (image : ImageView) (seen : List (Option Kept)) (at : ℕ) (her
 entry_kept image seen at here closed is unit = (kept_at here (at + 4), closed.reached (at + 4) here is, unit)
 
 pub kept_entry : (image : ImageView) (seen : List (Option Kept)) (at : ℕ) → IsClosed image seen → IsReachedMethod image at → slice_get seen (at + 4) ≡ Some (Some (kept_of (Some at) 0))
-kept_entry image seen at closed m = closed_all image seen closed (arrival (Some at) (at + 4) 0 None) (entered_with image at None tt m.0 m.1 m.2)
+kept_entry image seen at closed m = closed.starts at m
 
 -- a byte behind the pieces so far, where none begins
 pub swept_free : (image : ImageView) (at end : ℕ) → IsSwept image (2 * at) end → end ≤ at → ((p : Piece) (b : ℕ) → rank p ≡ 2 * at → Covers image p b → ⊥) → ((p : Piece) (b : ℕ) → rank p ≡ 2 * at + 1 → Covers image p b → ⊥) →
@@ -129,18 +138,26 @@ swept_inside image at end s inside = let w = s.last at (omega arith) inside in (
     before (Code u j) lt = omega arith
     before (Header e) lt = omega arith
 
+-- what covers a byte ends inside the text
+pub covers_inside : (image : ImageView) (seen : List (Option Kept)) (p : Piece) (b : ℕ) → IsClosed image seen → Covers image p b → (first p < length image.text) × (b < length image.text)
+covers_inside image seen (Code u j) b closed (a, reached, unit, place, q, row, low, high) =
+    let d = closed.checked a.at (kept_of a.unit a.depth) (closed.all a reached) in
+    let size : size_of q ≡ size_of d.0 = ap size_of (d.2.alone q (subst (λ (i : ℕ). HasRow image.text i q) (sym place) row)) in
+    (omega (arith, d.2.whole.0, d.2.whole.1), omega (arith, d.2.whole.1))
+covers_inside image seen (Header e) b closed (method, low, high) =
+    let lt : e + 4 < length image.text = method_inside image seen e closed method in (omega arith, omega arith)
+
 -- at the end no byte belongs to two
-pub none_overlap : (image : ImageView) (end : ℕ) → IsSwept image (2 * length image.text) end → (z b : ℕ) → Holds image z (Overlap b) → ⊥
-none_overlap image end s z b (p, q, ne, cp, cq) = ne (s.apart p q b (met p cp) (met q cq) cp cq)
+pub none_overlap : (image : ImageView) (seen : List (Option Kept)) (end : ℕ) → IsClosed image seen → IsSwept image (2 * length image.text) end → (z b : ℕ) → Holds image z (Overlap b) → ⊥
+none_overlap image seen end closed s z b (p, q, ne, cp, cq) = ne (s.apart p q b (met p (covers_inside image seen p b closed cp).0) (met q (covers_inside image seen q b closed cq).0) cp cq)
   where
-    met : (o : Piece) → Covers image o b → rank o < 2 * length image.text
-    met (Code u j) (a, reached, unit, place, q, row, low, high) = let lt : b < length image.text = row_inside row high in omega arith
-      where
-        row_inside : HasRow image.text j q → b < j + size_of q → b < length image.text
-        row_inside w below =
-            let fits : j + size_of (row_of w.0) ≤ length image.text = size_fits image.text j w.0 w.1 in
-            let size : size_of q ≡ size_of (row_of w.0) = ap size_of w.2 in omega arith
-    met (Header e) ((a, reached, unit), low, high) = let lt : e + 4 < length image.text = method_inside image e a reached unit in omega arith
+    met : (o : Piece) → first o < length image.text → rank o < 2 * length image.text
+    met (Code u j) lt = omega arith
+    met (Header e) lt = omega arith
+
+-- and nothing stands behind the text
+pub none_behind : (image : ImageView) (seen : List (Option Kept)) (at : ℕ) → IsClosed image seen → length image.text ≤ at → (p : Piece) → Covers image p at → ⊥
+none_behind image seen at closed past p c = omega (arith, (covers_inside image seen p at closed c).1)
 
 -- one method more, and none
 pub methods_none : (image : ImageView) → AreMethodsBelow image 0 0
@@ -189,8 +206,8 @@ methods_skip image n count m none = record {
   few = omega (arith, m.few);
 }
 
-pub methods_all : (image : ImageView) (count : ℕ) → AreMethodsBelow image (length image.text) count → IsMethodCount image count
-methods_all image count m = record {
+pub methods_all : (image : ImageView) (seen : List (Option Kept)) (count : ℕ) → IsClosed image seen → AreMethodsBelow image (length image.text) count → IsMethodCount image count
+methods_all image seen count closed m = record {
   entries = m.entries;
   apart = m.apart;
   members = λ e. ((λ has. ((m.members e).0 has).1), (λ w. (m.members e).1 (inside e w, w)));
@@ -198,13 +215,13 @@ methods_all image count m = record {
 }
   where
     inside : (e : ℕ) → IsReachedMethod image e → e < length image.text
-    inside e w = omega (arith, method_inside image e w.0 w.1 w.2)
+    inside e w = omega (arith, method_inside image seen e closed w)
 
 -- a kept address is an instruction's first
 pub kept_start : (image : ImageView) (seen : List (Option Kept)) (at : ℕ) (here : Kept) → IsClosed image seen → slice_get seen at ≡ Some (Some here) → (unit : Option ℕ) × Covers image (Code unit at) at
 kept_start image seen at here closed is =
-    let d = (closed.done at here is).0 in
-    let above : 0 < size_of d.0 = size_above d.0 in
+    let d = closed.checked at here is in
+    let above : 0 < size_of d.0 = d.2.whole.0 in
     (here.unit, code_covers image seen at here d.0 closed is d.2.has_row at (omega arith) (omega arith))
 
 -- one kind more

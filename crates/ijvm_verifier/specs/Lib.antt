@@ -1,14 +1,3 @@
-pub mod Paths
-pub mod Facts
-pub mod Kinds
-pub mod Sound
-pub mod Search
-pub mod Graph
-pub mod Shortcut
-pub mod LocalSet
-pub mod Trace
-pub mod Unset
 pub mod Sweep
 pub mod Counted
-pub mod Accepted
 pub mod Survey

@@ -1,22 +1,19 @@
 //! Verifying an image.
 
 ghost use Rattle.std.specs.Prelude.{◌≡◌, ◌⊎◌, ◌≤◌, IfOk, IfErr};
-ghost use Rattle.ijvm_verifier.specs.Facts.{Holds};
-ghost use Rattle.ijvm_verifier.specs.Search.{States};
+ghost use Rattle.ijvm_paths.specs.Facts.{Holds};
+ghost use Rattle.ijvm_reach.specs.Search.{States};
 ghost use Rattle.ijvm_verifier.specs.Survey.{IsSurvey};
-ghost use Rattle.ijvm_verifier.specs.Accepted.{IsAccepted};
+ghost use Rattle.ijvm_paths.specs.Accepted.{IsAccepted};
 
-use crate::code::text_len;
 use crate::count::count_locals;
-use crate::error::VerifyError;
-use crate::graph::graph_of;
-use crate::kind::Kind;
-use crate::search::search_all;
 use crate::sweep::{count_methods, sweep_all};
-use crate::unset::check_locals;
 use crate::verified::VerifiedImage;
 use console_port::MemoryMap;
 use ijvm_image::Image;
+use ijvm_paths::{Kind, VerifyError, accepted_images_keep_sound};
+use ijvm_reach::{search_all, text_len};
+use ijvm_unset::{check_locals, graph_of};
 use std::alloc::Global;
 
 /// The word address of main's first local.
@@ -59,6 +56,7 @@ pub fn verify(alloc: Global, image: Image, map: MemoryMap) -> Result<VerifiedIma
     ensures accepted { IfOk result IsAccepted }
     ensures refused { IfErr result (λ e. (e ≡ VerifyError.OutOfMemory) ⊎ Holds image map.stack_end e) }
 {
+    accepted_images_keep_sound();
     match survey_of(alloc, &image) {
         Err(error) => Err(error),
         Ok(found) => {

@@ -1,14 +1,14 @@
 //! The number of main's locals.
 
 ghost use Rattle.std.specs.Prelude.{◌≡◌, ◌+◌, ◌<◌, ◌≤◌, ◌⊎◌, ℕ, Some, length};
-ghost use Rattle.ijvm_verifier.specs.Facts.{IsMainCount};
-ghost use Rattle.ijvm_verifier.specs.Search.{IsClosed};
-ghost use Rattle.ijvm_verifier.specs.Graph.{IsGraph};
+ghost use Rattle.ijvm_paths.specs.Facts.{IsMainCount};
+ghost use Rattle.ijvm_reach.specs.Search.{IsClosed};
+ghost use Rattle.ijvm_unset.specs.Graph.{IsGraph};
 ghost use Rattle.ijvm_verifier.specs.Counted.{NodeNames, IsCounted};
 
-use crate::graph::Node;
-use crate::kept::Kept;
 use ijvm_image::Image;
+use ijvm_reach::Kept;
+use ijvm_unset::Node;
 
 /// The count, raised above this local.
 fn larger(count: u32, named: Option<u16>) -> u32

@@ -1,20 +1,18 @@
 //! What stands at each byte of the text: no byte belongs to two reached instructions or headers.
 
 ghost use Rattle.std.specs.Prelude.{◌≡◌, ◌+◌, ◌*◌, ◌<◌, ◌≤◌, ℕ, true, false, IfOk, IfErr, length};
-ghost use Rattle.ijvm_verifier.specs.declared.error.VerifyError.{VerifyError};
-ghost use Rattle.ijvm_verifier.specs.declared.kept.Kept.{Kept};
-ghost use Rattle.ijvm_verifier.specs.declared.kind.Kind.{Kind};
-ghost use Rattle.ijvm_verifier.specs.Paths.{IsReachedMethod};
-ghost use Rattle.ijvm_verifier.specs.Facts.{Holds, IsMethodCount};
-ghost use Rattle.ijvm_verifier.specs.Kinds.{IsKind, AreKinds};
-ghost use Rattle.ijvm_verifier.specs.Search.{IsClosed, States};
+ghost use Rattle.ijvm_paths.specs.declared.error.VerifyError.{VerifyError};
+ghost use Rattle.ijvm_reach.specs.declared.kept.Kept.{Kept};
+ghost use Rattle.ijvm_paths.specs.declared.kind.Kind.{Kind};
+ghost use Rattle.ijvm_paths.specs.Paths.{IsReachedMethod};
+ghost use Rattle.ijvm_paths.specs.Facts.{Holds, IsMethodCount};
+ghost use Rattle.ijvm_paths.specs.Kinds.{IsKind, AreKinds};
+ghost use Rattle.ijvm_reach.specs.Search.{IsClosed, States};
 ghost use Rattle.ijvm_verifier.specs.Sweep.{IsSwept};
 
-use crate::code::decode;
-use crate::error::VerifyError;
-use crate::kept::Kept;
-use crate::kind::Kind;
 use ijvm_image::Image;
+use ijvm_paths::{Kind, VerifyError};
+use ijvm_reach::{Kept, decode};
 use std::alloc::Global;
 
 /// The header of a reached method begins here.

@@ -1,3 +1,5 @@
+//! Images that are refused and accepted, and what is told of them.
+
 use crate::{Kind, VerifiedImage, VerifyError, verify};
 use console_port::MemoryMap;
 use ijvm_image::{Image, read_image};
@@ -23,8 +25,8 @@ struct Refusal {
     error: VerifyError,
 }
 
-// Of each image exactly this fact is true.
-const REFUSALS: [Refusal; 19] = [
+// Of each image exactly this fact is true, and memory is ample.
+const REFUSALS: [Refusal; 20] = [
     Refusal {
         text: b"",
         pool: &[],
@@ -123,6 +125,12 @@ const REFUSALS: [Refusal; 19] = [
         pool: &[6],
         error: VerifyError::UnsetLocal(10, 1),
     },
+    // And so does a wide one.
+    Refusal {
+        text: b"\x10\x00\xB6\x00\x00\xFF\x00\x01\x00\x01\xC4\x84\x00\x01\x03\xE8\xFF",
+        pool: &[6],
+        error: VerifyError::UnsetLocal(10, 1),
+    },
 ];
 
 #[test]
@@ -143,7 +151,7 @@ struct Accepted {
     methods: u32,
 }
 
-const ACCEPTED: [Accepted; 6] = [
+const ACCEPTED: [Accepted; 7] = [
     Accepted {
         text: b"\xFF",
         pool: &[],
@@ -161,6 +169,13 @@ const ACCEPTED: [Accepted; 6] = [
         text: b"\x10\x07\x36\x04\x15\x04\x99\xFF\xFA\xFF",
         pool: &[],
         main_locals: 5,
+        methods: 0,
+    },
+    // A wide increment of a local that main has stored.
+    Accepted {
+        text: b"\x10\x01\xC4\x36\x01\x2C\xC4\x84\x01\x2C\x03\xE8\xC4\x15\x01\x2C\xFF",
+        pool: &[],
+        main_locals: 301,
         methods: 0,
     },
     // Both branches store the local that is read behind them.

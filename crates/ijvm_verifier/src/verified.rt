@@ -1,12 +1,12 @@
 //! An accepted image.
 
 ghost use Rattle.std.specs.Prelude.{◌≡◌, ◌≤◌};
-ghost use Rattle.ijvm_verifier.specs.Accepted.{IsAccepted};
-ghost use Rattle.ijvm_verifier.specs.Facts.{IsMethodCount};
-ghost use Rattle.ijvm_verifier.specs.Kinds.{IsKind};
+ghost use Rattle.ijvm_paths.specs.Accepted.{IsAccepted};
+ghost use Rattle.ijvm_paths.specs.Facts.{IsMethodCount};
+ghost use Rattle.ijvm_paths.specs.Kinds.{IsKind};
 
-use crate::kind::Kind;
 use ijvm_image::Image;
+use ijvm_paths::Kind;
 use std::marker::Model;
 
 /// An image that is accepted, which its type keeps, and what verifying has found.
@@ -19,7 +19,7 @@ pub struct VerifiedImage {
 }
 
 impl Model for VerifiedImage {
-    ghost use Rattle.ijvm_verifier.specs.Accepted.{VerifiedView, IsVerified};
+    ghost use Rattle.ijvm_paths.specs.Accepted.{VerifiedView, IsVerified};
 
     ghost Value = { VerifiedView };
 
@@ -29,7 +29,7 @@ impl Model for VerifiedImage {
 }
 
 impl VerifiedImage {
-    ghost use Rattle.ijvm_verifier.specs.Accepted.{IsVerified};
+    ghost use Rattle.ijvm_paths.specs.Accepted.{IsVerified};
 
     pub(crate) fn new(
         image: Image,

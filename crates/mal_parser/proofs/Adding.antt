@@ -14,10 +14,9 @@ use Rattle.mal_parser.specs.declared.error.MalError.{MalError}
 use Rattle.mal_parser.specs.declared.error.MalError.TheVariants as errors
 use Rattle.mal_parser.specs.declared.source.Draft.{Draft}
 use Rattle.mal_parser.specs.declared.source.Fix.{Fix}
-use Rattle.mal_parser.specs.Labels.{address_of, has_fix, has_label, has_name, is_label}
-use Rattle.mal_parser.specs.Sketch.{add_content, add_fix, add_said, content_at, empty, Sketch, step}
-use Rattle.mal_parser.specs.Sound.{AreDistinct, is_among, labels_of}
-use Rattle.mal_parser.specs.Text.{AreAddresses, fallbacks_from, first, fixes_from, IsFine, SayAll, sketch_of, statements_from}
+use Rattle.mal_parser.specs.Labels.{address_of, AreDistinct, has_fix, has_label, has_name, is_among, is_label, labels_of}
+use Rattle.mal_parser.specs.Text.{AreAddresses, fallbacks_from, fixes_from, IsFine, SayAll, statements_from}
+use Rattle.mal_parser.specs.Reading.{add_content, add_fix, add_said, content_at, empty, first, ReadsLines, Sketch, sketch_of, step}
 use Rattle.mal_parser.proofs.Naming.{any_append}
 use Rattle.mal_parser.proofs.Resolved.{same_text, text_same}
 use Rattle.mal_parser.proofs.Saying.{content_says, says_content}
@@ -94,28 +93,28 @@ keeps_machine k s (said.Statement label parts) u a = ap (λ (x : Sketch). x.mach
 
 -- ---- the walk over lines adds what they say
 
-pub leads_adds : (ls : List (List ℕ)) (k : ℕ) (s t : Sketch) → Leads step k s ls t → (cs : List Content) × SayAll s.machine ls cs × (adds k s cs ≡ Ok t)
+pub leads_adds : ReadsLines → (ls : List (List ℕ)) (k : ℕ) (s t : Sketch) → Leads step k s ls t → (cs : List Content) × SayAll s.machine ls cs × (adds k s cs ≡ Ok t)
 unfolding adds and_then
-leads_adds [] k s t e = ([], tt, ap Ok e)
-leads_adds (l ∷ ls) k s t (u, h, more) = by_content (content_at s.machine k l) refl h (leads_adds ls (k + 1) u t more)
+leads_adds laws [] k s t e = ([], tt, ap Ok e)
+leads_adds laws (l ∷ ls) k s t (u, h, more) = by_content (content_at s.machine k l) refl h (leads_adds laws ls (k + 1) u t more)
   where
     by_content : (r : Result Content MalError) → content_at s.machine k l ≡ r → add_said k s r ≡ Ok u → (cs : List Content) × SayAll u.machine ls cs × (adds (k + 1) u cs ≡ Ok t)
         → (cs : List Content) × SayAll s.machine (l ∷ ls) cs × (adds k s cs ≡ Ok t)
     by_content (Err x) e h rest = absurd (cc)
-    by_content (Ok c) e h rest = (c ∷ rest.0, (says_content s.machine k l c e, subst (λ m. SayAll m ls rest.0) (keeps_machine k s c u (content_adds k s c u h)) rest.1), ap (and_then (λ t. adds (k + 1) t rest.0)) h ∙ rest.2)
+    by_content (Ok c) e h rest = (c ∷ rest.0, (says_content laws s.machine k l c e, subst (λ m. SayAll m ls rest.0) (keeps_machine k s c u (content_adds k s c u h)) rest.1), ap (and_then (λ t. adds (k + 1) t rest.0)) h ∙ rest.2)
 
-pub adds_leads : (ls : List (List ℕ)) (cs : List Content) (k : ℕ) (s t : Sketch) → SayAll s.machine ls cs → adds k s cs ≡ Ok t → Leads step k s ls t
+pub adds_leads : ReadsLines → (ls : List (List ℕ)) (cs : List Content) (k : ℕ) (s t : Sketch) → SayAll s.machine ls cs → adds k s cs ≡ Ok t → Leads step k s ls t
 unfolding adds and_then
-adds_leads [] [] k s t say h = cc
-adds_leads [] (c ∷ cs) k s t say h = absurd say
-adds_leads (l ∷ ls) [] k s t say h = absurd say
-adds_leads (l ∷ ls) (c ∷ cs) k s t say h = go (add_content k s c) refl h (λ u e. adds_leads ls cs (k + 1) u t e)
+adds_leads laws [] [] k s t say h = cc
+adds_leads laws [] (c ∷ cs) k s t say h = absurd say
+adds_leads laws (l ∷ ls) [] k s t say h = absurd say
+adds_leads laws (l ∷ ls) (c ∷ cs) k s t say h = go (add_content k s c) refl h (λ u e. adds_leads laws ls cs (k + 1) u t e)
   where
     go : (r : Result Sketch MalError) → add_content k s c ≡ r → and_then (λ t. adds (k + 1) t cs) r ≡ Ok t
         → ((u : Sketch) → SayAll u.machine ls cs → adds (k + 1) u cs ≡ Ok t → Leads step (k + 1) u ls t) → Leads step k s (l ∷ ls) t
     go (Err x) e h rec = absurd (cc)
     go (Ok u) e h rec =
-        (u, ap (add_said k s) (content_says s.machine k l c say.0) ∙ e, rec u (subst (λ m. SayAll m ls cs) (sym (keeps_machine k s c u (content_adds k s c u e))) say.1) h)
+        (u, ap (add_said k s) (content_says laws s.machine k l c say.0) ∙ e, rec u (subst (λ m. SayAll m ls cs) (sym (keeps_machine k s c u (content_adds k s c u e))) say.1) h)
 
 -- ---- no name stands twice
 
@@ -394,14 +393,14 @@ fine_adds (c ∷ cs) k s h =
 empty_alone : (m : Machine) → IsFineAlone (empty m)
 empty_alone m = record { labels = tt; few = omega arith; fixed = tt }
 
-pub lead_fine : (m : Machine) (ls : List (List ℕ)) (t : Sketch) → Leads step 1 (empty m) ls t → (cs : List Content) × SayAll m ls cs × IsFine cs × (sketch_of m cs ≡ t)
+pub lead_fine : ReadsLines → (m : Machine) (ls : List (List ℕ)) (t : Sketch) → Leads step 1 (empty m) ls t → (cs : List Content) × SayAll m ls cs × IsFine cs × (sketch_of m cs ≡ t)
 unfolding joined
-lead_fine m ls t h =
-    let a = leads_adds ls 1 (empty m) t h in
+lead_fine laws m ls t h =
+    let a = leads_adds laws ls 1 (empty m) t h in
     let f = adds_fine a.0 1 (empty m) t (empty_alone m) a.2 in
     (a.0, a.1, record { labels = f.0.labels; few = f.0.few; addresses = f.0.addresses; fixed = f.0.fixed; one_default = f.0.one_default }, f.1)
 
-pub fine_leads : (m : Machine) (ls : List (List ℕ)) (cs : List Content) → SayAll m ls cs → IsFine cs → Leads step 1 (empty m) ls (sketch_of m cs)
+pub fine_leads : ReadsLines → (m : Machine) (ls : List (List ℕ)) (cs : List Content) → SayAll m ls cs → IsFine cs → Leads step 1 (empty m) ls (sketch_of m cs)
 unfolding joined
-fine_leads m ls cs say fine =
-    adds_leads ls cs 1 (empty m) (sketch_of m cs) say (fine_adds cs 1 (empty m) (record { labels = fine.labels; few = fine.few; addresses = fine.addresses; fixed = fine.fixed; one_default = fine.one_default }))
+fine_leads laws m ls cs say fine =
+    adds_leads laws ls cs 1 (empty m) (sketch_of m cs) say (fine_adds cs 1 (empty m) (record { labels = fine.labels; few = fine.few; addresses = fine.addresses; fixed = fine.fixed; one_default = fine.one_default }))

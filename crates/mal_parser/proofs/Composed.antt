@@ -12,16 +12,16 @@ use Rattle.mal_parser.specs.declared.source.Fix.{Fix}
 use Rattle.mal_parser.specs.declared.statement.Statement.{Statement}
 use Rattle.mal_parser.specs.declared.statement.MalNext.{MalNext}
 use Rattle.mal_parser.specs.declared.statement.MalNext.TheVariants as nexts
-use Rattle.mal_parser.specs.Labels.{address_of, has_label, is_label, is_labelled}
+use Rattle.mal_parser.specs.Labels.{address_of, AreDistinct, has_label, is_among, is_label, is_labelled, labels_of}
+use Rattle.mal_parser.specs.Text.{AreAddresses, AreResolved, fallbacks, fallbacks_from, fixes, fixes_from, IsFine, IsFixedBy, IsProgramOf, Leads, SayAll, Spells, statements, statements_from}
+use Rattle.mal_parser.specs.Reading.{address_at, fixed_of}
 use Rattle.mal_parser.specs.Program.{HasTargets, IsFallback, IsLabelled, IsProgram, label_at, Program}
-use Rattle.mal_parser.specs.Resolving.{address_at, fixed_of}
-use Rattle.mal_parser.specs.Sound.{AreDistinct, is_among, labels_of}
-use Rattle.mal_parser.specs.Text.{AreAddresses, AreResolved, fallbacks, fallbacks_from, fixes, fixes_from, IsFine, IsProgramOf, Leads, SayAll, Spells, statements, statements_from}
-use Rattle.mal_parser.specs.Canonical.{AreNamed, canonical_text, canonical_lines, fix_count, fix_line, on_line, on_lines, relined}
+use Rattle.mal_parser.specs.Canonical.{canonical_text, canonical_lines, fix_count, fix_line, on_line, on_lines, relined}
 use Rattle.mal_parser.proofs.Resolved.{same_text, text_same}
+use Rattle.mal_parser.proofs.Fixing.{fixed_is}
 use Rattle.mal_parser.proofs.Printed.{contents_text}
 use Rattle.mal_parser.proofs.Relined.{label_lined, program_lined}
-use Rattle.mal_parser.proofs.Spoken.{content_of, default_content, Each, each_at, fix_content, fix_said_by, lines_plain, lines_say, name_of, named_next, parts_for, statement_content}
+use Rattle.mal_parser.proofs.Spoken.{content_of, default_content, Each, each_at, fix_content, fix_said_by, lines_plain, LinesSpell, lines_say, name_of, named_next, parts_for, statement_content}
 
 -- ---- the drafts that the lines make
 
@@ -291,7 +291,7 @@ module _ (ss : List Statement) (k : ℕ) where
 
   all_resolve : (fs : List Fix) (xs : List Statement) (n : ℕ) → Each (IsBound fs) xs → AreResolved (on_lines k ss) fs (drafts ss n xs) (on_lines n xs)
   all_resolve fs [] n h = tt
-  all_resolve fs (x ∷ xs) n h = (record { label = refl; line = refl; part = refl; next = leads_there x.next h.0.targets; fixed = h.0.fixed }, all_resolve fs xs (n + 1) h.1)
+  all_resolve fs (x ∷ xs) n h = (record { label = refl; line = refl; part = refl; next = leads_there x.next h.0.targets; fixed = subst (IsFixedBy fs x.label) (sym h.0.fixed) (fixed_is fs x.label) }, all_resolve fs xs (n + 1) h.1)
 
 -- an address is fixed only where there is a label
 unlabelled : (o : Option (List ℕ)) (f : Option ℕ) → o ≡ None → IfSome f (λ address. (address < 512) × IsSome o) → f ≡ None
@@ -346,7 +346,7 @@ module _ (p : Program) (h : IsProgram p) where
   fallback_resolves : (o : Option Statement) → IfSome o (IsFallback p)
       → AreResolved (on_lines begin p.statements) (fixes_at p.statements 1) (option_to_list (option_map (default_draft p.statements (1 + fix_count p)) o)) (option_to_list (option_map (on_line (1 + fix_count p)) o))
   fallback_resolves None g = tt
-  fallback_resolves (Some s) g = (record { label = g.label; line = refl; part = refl; next = leads_there p.statements begin s.next g.targets; fixed = g.fixed }, tt)
+  fallback_resolves (Some s) g = (record { label = g.label; line = refl; part = refl; next = leads_there p.statements begin s.next g.targets; fixed = subst (IsFixedBy (fixes_at p.statements 1) None) (sym g.fixed) (fixed_is (fixes_at p.statements 1) None) }, tt)
 
   makes_it : IsProgramOf p.machine (content_of p) (relined p)
   makes_it = record {
@@ -367,10 +367,10 @@ module _ (p : Program) (h : IsProgram p) where
   }
 
   -- the canonical text of a program spells it, on its own lines
-  pub text_spells : AreNamed p.statements → Spells p.machine (canonical_text p) (relined p)
-  text_spells names = record {
+  pub text_spells : LinesSpell → Spells p.machine (canonical_text p) (relined p)
+  text_spells laws = record {
     content = content_of p;
-    says = subst (λ ls. SayAll p.machine ls (content_of p)) (sym (contents_text (canonical_lines p) (lines_plain p h names))) (lines_say p h names);
+    says = subst (λ ls. SayAll p.machine ls (content_of p)) (sym (contents_text (canonical_lines p) (lines_plain laws p h))) (lines_say laws p h);
     fine = is_fine;
     makes = makes_it;
   }

@@ -1,18 +1,20 @@
 -- The refusals of a whole source.
-use Rattle.std.proofs.Common.{◌≡◌, ℕ, zero, suc, ◌+◌, ◌≤◌, Bool, true, false, List, [], ◌∷◌, Option, Some, None, length, refl, sym, ap, subst, ◌∙◌, arith, cond}
-use Rattle.std.specs.Prelude.{Err, find, slice_get, not, min, nat_lt, option_map, ◌||◌, IsSome}
-use Rattle.std.specs.List.{cons_option, list_any, position, position_or_len}
+use Rattle.std.proofs.Common.{◌≡◌, ℕ, zero, suc, ◌+◌, ◌-◌, ◌≤◌, Bool, true, false, List, [], ◌∷◌, ◌++◌, Option, Some, None, length, refl, sym, ap, subst, ◌∙◌, arith, cond}
+use Rattle.std.specs.Prelude.{Err, find, slice_get, not, min, option_map, ◌||◌, ◌&&◌, IsSome}
+use Rattle.std.specs.List.{cons_option, list_any, position}
 use Rattle.std.proofs.lemmas.Bool.Decides.{nat_tests}
 use Rattle.machine_words.specs.declared.machine.Machine.{Machine}
 use Rattle.mal_line.specs.declared.content.Content.{Content}
 use Rattle.mal_line.specs.declared.content.Content.TheVariants as said
+use Rattle.mal_line.specs.declared.content.NamedNext.{NamedNext}
+use Rattle.mal_line.specs.declared.content.NamedNext.TheVariants as named
 use Rattle.mal_parser.specs.declared.error.MalError.{MalError}
 use Rattle.mal_parser.specs.declared.error.MalError.TheVariants as errors
 use Rattle.mal_parser.specs.declared.source.Draft.{Draft}
 use Rattle.mal_parser.specs.declared.source.Fix.{Fix}
 use Rattle.mal_parser.specs.Labels.{address_of, has_label, is_labelled}
-use Rattle.mal_parser.specs.Resolving.{by_entry, by_falling, by_unknown, earlier, first_falling, first_unknown, knows, main1, number_of, program_of, unknown_draft, unknown_fix, unknown_in}
-use Rattle.mal_parser.specs.Text.{AreAddresses, AreRefused, fallbacks_from, first, fixes_from, IsFine, names_unknown, sketch_of, statements, statements_from, unknown_line}
+use Rattle.mal_parser.specs.Text.{AreAddresses, AreRefused, fallbacks_from, falls, falls_off, FallsOff, fixes_from, is_statement, IsAt, IsFine, IsFirst, names_unknown, NamesUnknown, Never, statements, statements_from, targets_of}
+use Rattle.mal_parser.specs.Reading.{by_entry, by_falling, by_unknown, earlier, falling, first, first_falling, first_unknown, knows, main1, number_of, program_of, sketch_of, unknown_draft, unknown_fix, unknown_in}
 use Rattle.mal_parser.proofs.Resolved.{any_position, at_position}
 
 -- ---- the first line that names an unknown label
@@ -83,10 +85,17 @@ module _ (ds : List Draft) where
       go false = omega arith
   fallback_least (said.Statement l p ∷ cs) k = least_more k (unknown_in ds (first (fallbacks_from (k + 1) cs))) (fallback_least cs (k + 1))
 
+  -- the line names a label that no statement has
+  abbrev pub is_unknown : Content → Bool
+  is_unknown said.Nothing = false
+  is_unknown (said.Fix label number) = not (has_label ds label)
+  is_unknown (said.Fallback parts) = not (knows ds parts.next)
+  is_unknown (said.Statement label parts) = not (knows ds parts.next)
+
   -- the first such line, counted from this one on
   from_line : ℕ → List Content → Option ℕ
   from_line k [] = None
-  from_line k (c ∷ cs) = cond (names_unknown ds c) (Some k) (from_line (k + 1) cs)
+  from_line k (c ∷ cs) = cond (is_unknown c) (Some k) (from_line (k + 1) cs)
 
   of_three : ℕ → List Content → Option ℕ
   of_three k cs = earlier (unknown_draft ds (statements_from k cs)) (earlier (unknown_fix ds (fixes_from k cs)) (unknown_in ds (first (fallbacks_from k cs))))
@@ -120,31 +129,186 @@ module _ (ds : List Draft) where
       go false e h = rw e (first_wins k (earlier (unknown_fix ds (fixes_from (k + 1) cs)) (unknown_in ds (first (fallbacks_from (k + 1) cs))))
           (earlier_least (k + 1) (unknown_fix ds (fixes_from (k + 1) cs)) (unknown_in ds (first (fallbacks_from (k + 1) cs))) (fixes_least cs (k + 1)) (fallback_least cs (k + 1))))
 
-  line_place : (cs : List Content) (k : ℕ) → from_line k cs ≡ option_map (λ i. i + k) (position (names_unknown ds) cs)
-  unfolding from_line
-  line_place [] k = refl
-  line_place (c ∷ cs) k = go (names_unknown ds c) (line_place cs (k + 1))
+-- ---- the first line that passes a test
+
+-- counted from this one on
+line_from : (Content → List Content → Bool) → ℕ → List Content → Option ℕ
+line_from test k [] = None
+line_from test k (c ∷ cs) = cond (test c cs) (Some k) (line_from test (k + 1) cs)
+
+module _ (test : Content → List Content → Bool) where
+  Found : ℕ → List Content → Option ℕ → Type 0
+  Found k cs None = Never (IsAt test k cs)
+  Found k cs (Some n) = IsFirst (IsAt test k cs) n
+
+  at_none : (k n : ℕ) → IsAt test k [] n → ⊥
+  at_none k n a = go a.front a.split
     where
-      shift : (n : ℕ) → option_map (λ i. i + (k + 1)) (cond (nat_lt n (length cs)) (Some n) None) ≡ option_map (λ i. i + k) (cond (nat_lt (1 + n) (length (c ∷ cs))) (Some (1 + n)) None)
-      shift n = by_test (nat_lt n (length cs)) (nat_lt (1 + n) (length (c ∷ cs))) (same_test n)
-        where
-          same_test : (n : ℕ) → nat_lt n (length cs) ≡ nat_lt (1 + n) (length (c ∷ cs))
-          same_test n = grind (arith, nat_tests)
+      go : (front : List Content) → [] ≡ front ++ a.content ∷ a.behind → ⊥
+      go [] e = cc
+      go (x ∷ front) e = cc
 
-          by_test : (a b : Bool) → a ≡ b → option_map (λ i. i + (k + 1)) (cond a (Some n) None) ≡ option_map (λ i. i + k) (cond b (Some (1 + n)) None)
-          by_test true true e = ap Some (omega arith)
-          by_test false false e = refl
-          by_test true false e = absurd (cc)
-          by_test false true e = absurd (cc)
+  at_later : (k n : ℕ) (c : Content) (cs : List Content) → IsAt test (k + 1) cs n → IsAt test k (c ∷ cs) n
+  at_later k n c cs a = record { front = c ∷ a.front; content = a.content; behind = a.behind; split = ap (λ xs. c ∷ xs) a.split; number = omega (arith, a.number); passes = a.passes }
 
-      go : (b : Bool) → from_line (k + 1) cs ≡ option_map (λ i. i + (k + 1)) (position (names_unknown ds) cs)
-          → cond b (Some k) (from_line (k + 1) cs) ≡ option_map (λ i. i + k) (cond (nat_lt (cond (not b) (1 + position_or_len (names_unknown ds) cs) 0) (length (c ∷ cs))) (Some (cond (not b) (1 + position_or_len (names_unknown ds) cs) 0)) None)
-      go true h = let t : nat_lt 0 (suc (length cs)) ≡ true = grind (arith, nat_tests) in let z : k ≡ 0 + k = omega arith in rw t (ap Some z)
-      go false h = h ∙ shift (position_or_len (names_unknown ds) cs)
+  -- it is at the first line only where that passes
+  at_rest : (k n : ℕ) (c : Content) (cs : List Content) → test c cs ≡ false → IsAt test k (c ∷ cs) n → IsAt test (k + 1) cs n
+  at_rest k n c cs f a = go a.front a.split a.number
+    where
+      go : (front : List Content) → c ∷ cs ≡ front ++ a.content ∷ a.behind → n ≡ k + length front → IsAt test (k + 1) cs n
+      go [] e m = absurd (let p = a.passes in let g : c ≡ a.content = cc in let h : cs ≡ a.behind = cc in cc)
+      go (x ∷ front) e m = record { front = front; content = a.content; behind = a.behind; split = cc; number = omega (arith, m); passes = a.passes }
 
-unknown_same : (m : Machine) (cs : List Content) → IsFine cs → first_unknown (sketch_of m cs) ≡ unknown_line cs
+  line_found : (cs : List Content) (k : ℕ) → Found k cs (line_from test k cs)
+  unfolding Found line_from
+  line_found [] k = at_none k
+  line_found (c ∷ cs) k = go (test c cs) refl (line_from test (k + 1) cs) (line_found cs (k + 1))
+    where
+      rest : test c cs ≡ false → (o : Option ℕ) → Found (k + 1) cs o → Found k (c ∷ cs) o
+      rest e None none = λ n a. none n (at_rest k n c cs e a)
+      rest e (Some n) (a, lowest) = (at_later k n c cs a, λ j b. lowest j (at_rest k j c cs e b))
+
+      go : (b : Bool) → test c cs ≡ b → (o : Option ℕ) → Found (k + 1) cs o → Found k (c ∷ cs) (cond b (Some k) o)
+      go true e o f = (record { front = []; content = c; behind = cs; split = refl; number = omega arith; passes = e }, λ j a. omega (arith, a.number))
+      go false e o f = rest e o f
+
+  first_line : (k n : ℕ) (cs : List Content) → line_from test k cs ≡ Some n → IsFirst (IsAt test k cs) n
+  unfolding Found
+  first_line k n cs h = subst (Found k cs) h (line_found cs k)
+
+  no_first : (k : ℕ) (cs : List Content) → line_from test k cs ≡ None → Never (IsAt test k cs)
+  unfolding Found
+  no_first k cs h = subst (Found k cs) h (line_found cs k)
+
+  line_first : (k n : ℕ) (cs : List Content) → IsFirst (IsAt test k cs) n → line_from test k cs ≡ Some n
+  unfolding Found
+  line_first k n cs (a, lowest) = go (line_from test k cs) (line_found cs k)
+    where
+      go : (o : Option ℕ) → Found k cs o → o ≡ Some n
+      go None none = absurd (none n a)
+      go (Some j) (b, lower) = let p = lowest j b in let q = lower n a in let e : j ≡ n = omega (arith, p, q) in ap Some e
+
+  line_none : (k : ℕ) (cs : List Content) → Never (IsAt test k cs) → line_from test k cs ≡ None
+  unfolding Found
+  line_none k cs none = go (line_from test k cs) (line_found cs k)
+    where
+      go : (o : Option ℕ) → Found k cs o → o ≡ None
+      go None f = refl
+      go (Some j) (b, lower) = absurd (none j b)
+
+-- ---- unknown labels
+
+unknown_named : (ds : List Draft) (next : NamedNext) → not (knows ds next) ≡ list_any (λ label. not (has_label ds label)) (targets_of next)
+unknown_named ds named.Following = refl
+unknown_named ds (named.Goto label) = go (has_label ds label)
+  where
+    go : (b : Bool) → not b ≡ (not b || false)
+    go true = refl
+    go false = refl
+unknown_named ds (named.Dispatch high) = refl
+unknown_named ds (named.Branch test high low) = go (has_label ds high) (has_label ds low)
+  where
+    go : (a b : Bool) → not (a && b) ≡ (not a || (not b || false))
+    go true true = refl
+    go true false = refl
+    go false b = refl
+
+same_unknown : (ds : List Draft) (c : Content) (behind : List Content) → is_unknown ds c ≡ names_unknown ds c behind
+same_unknown ds said.Nothing behind = refl
+same_unknown ds (said.Fix label number) behind = unknown_named ds (named.Goto label)
+same_unknown ds (said.Fallback parts) behind = unknown_named ds parts.next
+same_unknown ds (said.Statement label parts) behind = unknown_named ds parts.next
+
+same_line : (ds : List Draft) (cs : List Content) (k : ℕ) → from_line ds k cs ≡ line_from (names_unknown ds) k cs
+unfolding from_line line_from
+same_line ds [] k = refl
+same_line ds (c ∷ cs) k = ap (λ b. cond b (Some k) (from_line ds (k + 1) cs)) (same_unknown ds c cs) ∙ ap (cond (names_unknown ds c cs) (Some k)) (same_line ds cs (k + 1))
+
+unknown_same : (m : Machine) (cs : List Content) → IsFine cs → first_unknown (sketch_of m cs) ≡ line_from (names_unknown (statements cs)) 1 cs
 unfolding of_three
-unknown_same m cs fine = three_lines (statements cs) cs 1 fine.addresses fine.one_default ∙ line_place (statements cs) cs 1
+unknown_same m cs fine = three_lines (statements cs) cs 1 fine.addresses fine.one_default ∙ same_line (statements cs) cs 1
+
+-- ---- no statement follows
+
+abbrev last_of : List Draft → Option Draft
+last_of ds = slice_get ds (length ds - 1)
+
+last_more : (d e : Draft) (es : List Draft) → last_of (d ∷ e ∷ es) ≡ last_of (e ∷ es)
+last_more d e es = let k : length (d ∷ e ∷ es) - 1 ≡ suc (length (e ∷ es) - 1) = omega arith in ap (slice_get (d ∷ e ∷ es)) k
+
+abbrev is_filled : List Draft → Bool
+is_filled [] = false
+is_filled (d ∷ ds) = true
+
+has_statement : (cs : List Content) (k : ℕ) → list_any is_statement cs ≡ is_filled (statements_from k cs)
+has_statement [] k = refl
+has_statement (said.Nothing ∷ cs) k = has_statement cs (k + 1)
+has_statement (said.Fix l n ∷ cs) k = has_statement cs (k + 1)
+has_statement (said.Fallback p ∷ cs) k = has_statement cs (k + 1)
+has_statement (said.Statement l p ∷ cs) k = refl
+
+cond_least : (k : ℕ) (b : Bool) → AtLeast k (cond b (Some k) None)
+unfolding AtLeast
+cond_least k true = omega arith
+cond_least k false = tt
+
+last_least : (cs : List Content) (k : ℕ) → AtLeast k (falling (last_of (statements_from k cs)))
+unfolding AtLeast
+last_least [] k = tt
+last_least (said.Nothing ∷ cs) k = least_more k (falling (last_of (statements_from (k + 1) cs))) (last_least cs (k + 1))
+last_least (said.Fix l n ∷ cs) k = least_more k (falling (last_of (statements_from (k + 1) cs))) (last_least cs (k + 1))
+last_least (said.Fallback p ∷ cs) k = least_more k (falling (last_of (statements_from (k + 1) cs))) (last_least cs (k + 1))
+last_least (said.Statement l p ∷ cs) k = go (statements_from (k + 1) cs) (last_least cs (k + 1))
+  where
+    go : (ds : List Draft) → AtLeast (k + 1) (falling (last_of ds)) → AtLeast k (falling (last_of ((record { label = l; line = k; parts = p }) ∷ ds)))
+    go [] h = cond_least k (falls p.next)
+    go (e ∷ es) h = subst (λ o. AtLeast k (falling o)) (sym (last_more (record { label = l; line = k; parts = p }) e es)) (least_more k (falling (last_of (e ∷ es))) h)
+
+default_least : (cs : List Content) (k : ℕ) → AtLeast k (falling (first (fallbacks_from k cs)))
+unfolding AtLeast
+default_least [] k = tt
+default_least (said.Nothing ∷ cs) k = least_more k (falling (first (fallbacks_from (k + 1) cs))) (default_least cs (k + 1))
+default_least (said.Fix l n ∷ cs) k = least_more k (falling (first (fallbacks_from (k + 1) cs))) (default_least cs (k + 1))
+default_least (said.Fallback p ∷ cs) k = cond_least k (falls p.next)
+default_least (said.Statement l p ∷ cs) k = least_more k (falling (first (fallbacks_from (k + 1) cs))) (default_least cs (k + 1))
+
+and_false : (b : Bool) → (b && false) ≡ false
+and_false true = refl
+and_false false = refl
+
+and_true : (b : Bool) → (b && true) ≡ b
+and_true true = refl
+and_true false = refl
+
+two_lines : (cs : List Content) (k : ℕ) → length (fallbacks_from k cs) ≤ 1 → earlier (falling (last_of (statements_from k cs))) (falling (first (fallbacks_from k cs))) ≡ line_from falls_off k cs
+unfolding line_from
+two_lines [] k le = refl
+two_lines (said.Nothing ∷ cs) k le = two_lines cs (k + 1) le
+two_lines (said.Fix l n ∷ cs) k le = two_lines cs (k + 1) le
+two_lines (said.Fallback p ∷ cs) k le = go (falls p.next) (fallbacks_from (k + 1) cs) le (two_lines cs (k + 1) (omega (arith, le)))
+  where
+    go : (b : Bool) (fb : List Draft) → suc (length fb) ≤ 1 → earlier (falling (last_of (statements_from (k + 1) cs))) (falling (first fb)) ≡ line_from falls_off (k + 1) cs
+        → earlier (falling (last_of (statements_from (k + 1) cs))) (cond b (Some k) None) ≡ cond b (Some k) (line_from falls_off (k + 1) cs)
+    go true fb lt h = second_wins k (falling (last_of (statements_from (k + 1) cs))) (last_least cs (k + 1))
+    go false [] lt h = h
+    go false (d ∷ fb) lt h = absurd (omega arith)
+two_lines (said.Statement l p ∷ cs) k le = go (statements_from (k + 1) cs) (has_statement cs (k + 1)) (two_lines cs (k + 1) le)
+  where
+    alone : (b : Bool) → earlier None (falling (first (fallbacks_from (k + 1) cs))) ≡ line_from falls_off (k + 1) cs
+        → earlier (cond b (Some k) None) (falling (first (fallbacks_from (k + 1) cs))) ≡ cond b (Some k) (line_from falls_off (k + 1) cs)
+    alone true h = first_wins k (falling (first (fallbacks_from (k + 1) cs))) (default_least cs (k + 1))
+    alone false h = h
+
+    go : (ds : List Draft) → list_any is_statement cs ≡ is_filled ds
+        → earlier (falling (last_of ds)) (falling (first (fallbacks_from (k + 1) cs))) ≡ line_from falls_off (k + 1) cs
+        → earlier (falling (last_of ((record { label = l; line = k; parts = p }) ∷ ds))) (falling (first (fallbacks_from (k + 1) cs))) ≡ cond (falls p.next && not (list_any is_statement cs)) (Some k) (line_from falls_off (k + 1) cs)
+    go [] e h = alone (falls p.next) h ∙ ap (λ b. cond b (Some k) (line_from falls_off (k + 1) cs)) (sym (ap (λ b. falls p.next && not b) e ∙ and_true (falls p.next)))
+    go (x ∷ ds) e h =
+        ap (λ o. earlier (falling o) (falling (first (fallbacks_from (k + 1) cs)))) (last_more (record { label = l; line = k; parts = p }) x ds)
+        ∙ (h ∙ ap (λ b. cond b (Some k) (line_from falls_off (k + 1) cs)) (sym (ap (λ b. falls p.next && not b) e ∙ and_false (falls p.next))))
+
+falling_same : (m : Machine) (cs : List Content) → IsFine cs → first_falling (sketch_of m cs) ≡ line_from falls_off 1 cs
+falling_same m cs fine = two_lines cs 1 fine.one_default
 
 -- ---- the refusals at the end
 
@@ -172,26 +336,36 @@ no_label ds label h = go (number_of ds label) refl
     go (Some i) e = absurd (let q = at_position (is_labelled label) ds i e in let k = passes_any ds i q.0 q.1 q.2 in cc)
 
 module _ (m : Machine) (cs : List Content) (fine : IsFine cs) where
-  pub ends_refused : (e : MalError) → program_of (sketch_of m cs) ≡ Err e → AreRefused m cs e
+  pub ends_refused : (e : MalError) → program_of (sketch_of m cs) ≡ Err e → AreRefused cs e
   unfolding program_of
   ends_refused e h = by_u (first_unknown (sketch_of m cs)) refl h
     where
-      by_e : (o : Option ℕ) → unknown_line cs ≡ None → first_falling (sketch_of m cs) ≡ None → number_of (statements cs) main1 ≡ o → by_entry (sketch_of m cs) o ≡ Err e → AreRefused m cs e
-      by_e (Some entry) u f n h = absurd (cc)
-      by_e None u f n h = let k : errors.NoEntry ≡ e = cc in subst (AreRefused m cs) k (u, f, no_number (statements cs) main1 n)
+      known : first_unknown (sketch_of m cs) ≡ None → Never (NamesUnknown cs)
+      known u = no_first (names_unknown (statements cs)) 1 cs (sym (unknown_same m cs fine) ∙ u)
 
-      by_f : (o : Option ℕ) → unknown_line cs ≡ None → first_falling (sketch_of m cs) ≡ o → by_falling (sketch_of m cs) o ≡ Err e → AreRefused m cs e
-      by_f (Some line) u f h = let k : errors.LastFalls line ≡ e = cc in subst (AreRefused m cs) k (u, f)
+      goes : first_falling (sketch_of m cs) ≡ None → Never (FallsOff cs)
+      goes f = no_first falls_off 1 cs (sym (falling_same m cs fine) ∙ f)
+
+      by_e : (o : Option ℕ) → first_unknown (sketch_of m cs) ≡ None → first_falling (sketch_of m cs) ≡ None → number_of (statements cs) main1 ≡ o → by_entry (sketch_of m cs) o ≡ Err e → AreRefused cs e
+      by_e (Some entry) u f n h = absurd (cc)
+      by_e None u f n h = let k : errors.NoEntry ≡ e = cc in subst (AreRefused cs) k (known u, goes f, no_number (statements cs) main1 n)
+
+      by_f : (o : Option ℕ) → first_unknown (sketch_of m cs) ≡ None → first_falling (sketch_of m cs) ≡ o → by_falling (sketch_of m cs) o ≡ Err e → AreRefused cs e
+      by_f (Some line) u f h = let k : errors.LastFalls line ≡ e = cc in subst (AreRefused cs) k (known u, first_line falls_off 1 line cs (sym (falling_same m cs fine) ∙ f))
       by_f None u f h = by_e (number_of (statements cs) main1) u f refl h
 
-      by_u : (o : Option ℕ) → first_unknown (sketch_of m cs) ≡ o → by_unknown (sketch_of m cs) o ≡ Err e → AreRefused m cs e
-      by_u (Some line) u h = let k : errors.UnknownLabel line ≡ e = cc in subst (AreRefused m cs) k (sym (unknown_same m cs fine) ∙ u)
-      by_u None u h = by_f (first_falling (sketch_of m cs)) (sym (unknown_same m cs fine) ∙ u) refl h
+      by_u : (o : Option ℕ) → first_unknown (sketch_of m cs) ≡ o → by_unknown (sketch_of m cs) o ≡ Err e → AreRefused cs e
+      by_u (Some line) u h = let k : errors.UnknownLabel line ≡ e = cc in subst (AreRefused cs) k (first_line (names_unknown (statements cs)) 1 line cs (sym (unknown_same m cs fine) ∙ u))
+      by_u None u h = by_f (first_falling (sketch_of m cs)) u refl h
 
-  pub refused_ends : (e : MalError) → AreRefused m cs e → program_of (sketch_of m cs) ≡ Err e
+  none_unknown : Never (NamesUnknown cs) → first_unknown (sketch_of m cs) ≡ None
+  none_unknown u = unknown_same m cs fine ∙ line_none (names_unknown (statements cs)) 1 cs u
+
+  pub refused_ends : (e : MalError) → AreRefused cs e → program_of (sketch_of m cs) ≡ Err e
   unfolding program_of
-  refused_ends (errors.UnknownLabel n) r = ap (by_unknown (sketch_of m cs)) (unknown_same m cs fine ∙ r)
-  refused_ends (errors.LastFalls n) (u, f) = ap (by_unknown (sketch_of m cs)) (unknown_same m cs fine ∙ u) ∙ ap (by_falling (sketch_of m cs)) f
+  refused_ends (errors.UnknownLabel n) r = ap (by_unknown (sketch_of m cs)) (unknown_same m cs fine ∙ line_first (names_unknown (statements cs)) 1 n cs r)
+  refused_ends (errors.LastFalls n) (u, f) = ap (by_unknown (sketch_of m cs)) (none_unknown u) ∙ ap (by_falling (sketch_of m cs)) (falling_same m cs fine ∙ line_first falls_off 1 n cs f)
   refused_ends errors.NoEntry (u, f, n) =
-      ap (by_unknown (sketch_of m cs)) (unknown_same m cs fine ∙ u) ∙ (ap (by_falling (sketch_of m cs)) f ∙ ap (by_entry (sketch_of m cs)) (no_label (statements cs) main1 n))
+      ap (by_unknown (sketch_of m cs)) (none_unknown u)
+      ∙ (ap (by_falling (sketch_of m cs)) (falling_same m cs fine ∙ line_none falls_off 1 cs f) ∙ ap (by_entry (sketch_of m cs)) (no_label (statements cs) main1 n))
   refused_ends _ r = absurd r

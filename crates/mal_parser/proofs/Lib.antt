@@ -1,5 +1,7 @@
+pub mod Options
 pub mod Naming
 pub mod Resolved
+pub mod Fixing
 pub mod Saying
 pub mod Adding
 pub mod Sounding

@@ -13,11 +13,11 @@ use Rattle.mal_parser.specs.declared.source.Fix.{Fix}
 use Rattle.mal_parser.specs.declared.statement.Statement.{Statement}
 use Rattle.mal_parser.specs.declared.statement.MalNext.{MalNext}
 use Rattle.mal_parser.specs.declared.statement.MalNext.TheVariants as nexts
-use Rattle.mal_parser.specs.Labels.{has_label, is_labelled}
+use Rattle.mal_parser.specs.Labels.{AreDistinct, has_label, is_labelled, labels_of}
+use Rattle.mal_parser.specs.Text.{AreResolved, fallbacks, falls, fixes, IsFine, IsProgramOf, IsResolved, Leads, statements}
+use Rattle.mal_parser.specs.Reading.{by_entry, by_falling, by_unknown, earlier, falling, first, first_falling, first_unknown, fixed_of, IsSound, knows, main1, next_of, number_of, program_of, program_with, resolved, sketch_of, target, unknown_draft, unknown_fix, unknown_in}
 use Rattle.mal_parser.specs.Program.{IsFallback, label_at, Program}
-use Rattle.mal_parser.specs.Sound.{AreDistinct, IsSound, labels_of}
-use Rattle.mal_parser.specs.Resolving.{by_entry, by_falling, by_unknown, earlier, falling, falls, first_falling, first_unknown, fixed_of, knows, main1, next_of, number_of, program_of, program_with, resolved, target, unknown_draft, unknown_fix, unknown_in}
-use Rattle.mal_parser.specs.Text.{AreResolved, fallbacks, first, fixes, IsFine, IsProgramOf, IsResolved, Leads, sketch_of, statements}
+use Rattle.mal_parser.proofs.Fixing.{fixed_is, fixed_there}
 use Rattle.mal_parser.proofs.Resolved.{among_at, any_position, at_position, found_later, label_is, neither, no_line, not_false, one_place, program_is, target_label}
 use Rattle.mal_parser.proofs.Adding.{label_among}
 
@@ -35,7 +35,7 @@ leads ds fs (named.Branch test high low) h = go (has_label ds high) (has_label d
     go false b e f h = absurd (cc)
 
 resolves : (ds : List Draft) (fs : List Fix) (d : Draft) → knows ds d.parts.next ≡ true → IsResolved (map (resolved ds fs) ds) fs d (resolved ds fs d)
-resolves ds fs d h = record { label = refl; line = refl; part = refl; next = leads ds fs d.parts.next h; fixed = refl }
+resolves ds fs d h = record { label = refl; line = refl; part = refl; next = leads ds fs d.parts.next h; fixed = fixed_is fs d.label }
 
 all_resolve : (ds : List Draft) (fs : List Fix) (xs : List Draft) → find (λ d. not (knows ds d.parts.next)) xs ≡ None → AreResolved (map (resolved ds fs) ds) fs xs (map (resolved ds fs) xs)
 all_resolve ds fs [] h = tt
@@ -125,7 +125,7 @@ number_at ds i label d h =
 target_at : (ds : List Draft) (i : ℕ) (label : List ℕ) → AreDistinct (labels_of ds) → draft_label ds i ≡ Some label → i ≡ target ds label
 target_at ds i label d h = sym (ap (λ o. unwrap_or o 0) (number_at ds i label d h))
 
-module _ (ds : List Draft) (fs : List Fix) (ss : List Statement) (distinct : AreDistinct (labels_of ds)) (all : AreResolved ss fs ds ss) where
+module _ (ds : List Draft) (fs : List Fix) (ss : List Statement) (distinct : AreDistinct (labels_of ds)) (once : AreDistinct (map (λ (f : Fix). f.label) fs)) (all : AreResolved ss fs ds ss) where
   label_here : (i : ℕ) (label : List ℕ) → label_at ss i ≡ Some label → draft_label ds i ≡ Some label
   label_here i label h = same_labels ss fs ds ss i all ∙ h
 
@@ -167,7 +167,7 @@ module _ (ds : List Draft) (fs : List Fix) (ss : List Statement) (distinct : Are
   leads_there (named.Branch test high low) (nexts.Dispatch h) l = absurd l
 
   statement_there : (d : Draft) (s : Statement) → IsResolved ss fs d s → s ≡ resolved ds fs d
-  statement_there d s r = one s.label d.label s.line d.line s.part d.parts.part s.next (next_of ds d.parts.next) s.fixed (fixed_of fs d.label) r.label r.line r.part (leads_there d.parts.next s.next r.next) r.fixed
+  statement_there d s r = one s.label d.label s.line d.line s.part d.parts.part s.next (next_of ds d.parts.next) s.fixed (fixed_of fs d.label) r.label r.line r.part (leads_there d.parts.next s.next r.next) (fixed_there fs d.label s.fixed once r.fixed)
     where
       one : (a a2 : Option (List ℕ)) (b b2 : ℕ) (c c2 : Part) (e e2 : MalNext) (f f2 : Option ℕ) → a ≡ a2 → b ≡ b2 → c ≡ c2 → e ≡ e2 → f ≡ f2
           → ◌≡◌ {A = Statement} (record { label = a; line = b; part = c; next = e; fixed = f }) (record { label = a2; line = b2; part = c2; next = e2; fixed = f2 })
@@ -220,7 +220,7 @@ falls_to ss (named.Branch test high low) t l f = absurd (cc)
 module _ (m : Machine) (cs : List Content) (p : Program) (fine : IsFine cs) (is : IsProgramOf m cs p) where
   no_unknown : first_unknown (sketch_of m cs) ≡ None
   no_unknown =
-      let d : unknown_draft (statements cs) (statements cs) ≡ None = ap (option_map (λ (d : Draft). d.line)) (none_unknown (statements cs) (fixes cs) p.statements fine.labels is.statements_are (statements cs) p.statements is.statements_are) in
+      let d : unknown_draft (statements cs) (statements cs) ≡ None = ap (option_map (λ (d : Draft). d.line)) (none_unknown (statements cs) (fixes cs) p.statements fine.labels fine.fixed is.statements_are (statements cs) p.statements is.statements_are) in
       let f : unknown_fix (statements cs) (fixes cs) ≡ None = ap (option_map (λ (f : Fix). f.line)) (no_fix_unknown (statements cs) (fixes cs) is.fixes_known) in
       let b : unknown_in (statements cs) (first (fallbacks cs)) ≡ None = go (fallbacks cs) (option_to_list p.fallback) is.fallback_is in
       ap (λ o. earlier o (earlier (unknown_fix (statements cs) (fixes cs)) (unknown_in (statements cs) (first (fallbacks cs))))) d ∙ (ap (λ o. earlier o (unknown_in (statements cs) (first (fallbacks cs)))) f ∙ b)
@@ -228,7 +228,7 @@ module _ (m : Machine) (cs : List Content) (p : Program) (fine : IsFine cs) (is 
       go : (fb : List Draft) (ys : List Statement) → AreResolved p.statements (fixes cs) fb ys → unknown_in (statements cs) (first fb) ≡ None
       go [] ys a = refl
       go (d ∷ fb) [] a = absurd a
-      go (d ∷ fb) (y ∷ ys) a = let k = knows_it (statements cs) (fixes cs) p.statements fine.labels is.statements_are d.parts.next y.next a.0.next in rw k refl
+      go (d ∷ fb) (y ∷ ys) a = let k = knows_it (statements cs) (fixes cs) p.statements fine.labels fine.fixed is.statements_are d.parts.next y.next a.0.next in rw k refl
 
   last_leads : falling (slice_get (statements cs) (length (statements cs) - 1)) ≡ None
   last_leads = go (slice_get (statements cs) (length (statements cs) - 1)) refl
@@ -263,7 +263,7 @@ module _ (m : Machine) (cs : List Content) (p : Program) (fine : IsFine cs) (is 
   no_falling = ap (λ o. earlier o (falling (first (fallbacks cs)))) last_leads ∙ fallback_leads
 
   has_entry : number_of (statements cs) main1 ≡ Some p.entry
-  has_entry = number_at (statements cs) p.entry main1 fine.labels (label_here (statements cs) (fixes cs) p.statements fine.labels is.statements_are p.entry main1 is.whole.entry)
+  has_entry = number_at (statements cs) p.entry main1 fine.labels (label_here (statements cs) (fixes cs) p.statements fine.labels fine.fixed is.statements_are p.entry main1 is.whole.entry)
 
   fallback_there : p.fallback ≡ option_map (resolved (statements cs) (fixes cs)) (first (fallbacks cs))
   fallback_there = go (fallbacks cs) p.fallback is.fallback_is
@@ -272,12 +272,12 @@ module _ (m : Machine) (cs : List Content) (p : Program) (fine : IsFine cs) (is 
       go [] None a = refl
       go [] (Some s) a = absurd a
       go (d ∷ fb) None a = absurd a
-      go (d ∷ fb) (Some s) a = ap Some (statement_there (statements cs) (fixes cs) p.statements fine.labels is.statements_are d s a.0)
+      go (d ∷ fb) (Some s) a = ap Some (statement_there (statements cs) (fixes cs) p.statements fine.labels fine.fixed is.statements_are d s a.0)
 
   program_there : program_with (sketch_of m cs) p.entry ≡ p
   program_there =
       one m p.machine (map (resolved (statements cs) (fixes cs)) (statements cs)) p.statements (option_map (resolved (statements cs) (fixes cs)) (first (fallbacks cs))) p.fallback
-      (sym is.machine_is) (sym (all_there (statements cs) (fixes cs) p.statements fine.labels is.statements_are (statements cs) p.statements is.statements_are)) (sym fallback_there)
+      (sym is.machine_is) (sym (all_there (statements cs) (fixes cs) p.statements fine.labels fine.fixed is.statements_are (statements cs) p.statements is.statements_are)) (sym fallback_there)
     where
       one : (a a2 : Machine) (b b2 : List Statement) (c c2 : Option Statement) → a ≡ a2 → b ≡ b2 → c ≡ c2
           → ◌≡◌ {A = Program} (record { machine = a; statements = b; fallback = c; entry = p.entry }) (record { machine = a2; statements = b2; fallback = c2; entry = p.entry })

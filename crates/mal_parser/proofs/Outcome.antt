@@ -1,75 +1,131 @@
--- What the reading of a text comes to: the program it spells, or its first refusal.
-use Rattle.std.proofs.Common.{◌≡◌, ℕ, ◌+◌, List, length, refl, ap, subst, ◌∙◌, arith, inl, inr}
-use Rattle.std.specs.Prelude.{Result, Ok, Err}
+-- What the reading of a text comes to: the program it spells, or its first refusal, and there is one of these at most.
+use Rattle.std.proofs.Common.{◌≡◌, ℕ, ◌+◌, List, true, false, length, refl, sym, ap, subst, ◌∙◌, arith, inl, inr}
+use Rattle.std.specs.Prelude.{Result, Ok, Err, IfOk, IfErr, ◌⊎◌}
 use Rattle.machine_words.specs.declared.machine.Machine.{Machine}
 use Rattle.source_text.specs.Content.{contents}
-use Rattle.source_text.specs.Walk.{FirstRefused, walk}
-use Rattle.source_text.proofs.Walking.{leads_walk, refused_walk, walk_leads, walk_refused}
+use Rattle.source_text.specs.Walk.{FirstRefused, Leads, StopsAt}
 use Rattle.mal_parser.specs.declared.error.MalError.{MalError}
+use Rattle.mal_parser.specs.declared.error.MalError.TheVariants as errors
 use Rattle.mal_parser.specs.Program.{Program}
-use Rattle.mal_parser.specs.Reading.{parsed, resolved_by}
-use Rattle.mal_parser.specs.Resolving.{program_of}
-use Rattle.mal_parser.specs.Sketch.{empty, Sketch, step}
-use Rattle.mal_parser.specs.Text.{IsRefused, IsRefusedAtLine, sketch_of, Spells}
+use Rattle.mal_parser.specs.Text.{is_memory, IsRefused, Spells}
+use Rattle.mal_parser.specs.Reading.{empty, FailsBy, IsSound, program_of, ReadsLines, Sketch, sketch_of, step}
 use Rattle.mal_parser.proofs.Adding.{fine_leads, lead_fine}
 use Rattle.mal_parser.proofs.Ending.{ends_refused, refused_ends}
 use Rattle.mal_parser.proofs.Meaning.{means_program, program_means}
 use Rattle.mal_parser.proofs.Refusing.{refused_step, step_refused}
 use Rattle.mal_parser.proofs.Sounding.{sound}
 
-module _ (m : Machine) (text : List ℕ) where
-  walked : Result Sketch MalError
-  walked = walk step 1 (empty m) (contents text)
+-- ---- what is read
 
-  pub program_spelled : (p : Program) → parsed m text ≡ Ok p → Spells m text p
-  unfolding parsed walked
-  program_spelled p h = by_walk walked refl h
-    where
-      by_walk : (r : Result Sketch MalError) → walked ≡ r → resolved_by r ≡ Ok p → Spells m text p
-      by_walk (Err e) w h = absurd (cc)
-      by_walk (Ok t) w h =
-          let r = lead_fine m (contents text) t (walk_leads step (contents text) 1 (empty m) t w) in
-          record { content = r.0; says = r.1; fine = r.2; makes = program_means m r.0 r.2 (sound m (contents text) r.0 r.1 r.2) p (ap program_of r.3 ∙ h) }
+module _ (laws : ReadsLines) (m : Machine) (text : List ℕ) (t : Sketch) (led : Leads step 1 (empty m) (contents text) t) where
+  pub led_sound : IsSound t
+  led_sound = let r = lead_fine laws m (contents text) t led in subst IsSound r.3 (sound laws m (contents text) r.0 r.1 r.2)
 
-  pub spelled_program : (p : Program) → Spells m text p → parsed m text ≡ Ok p
-  unfolding parsed
-  spelled_program p s =
-      ap resolved_by (leads_walk step (contents text) 1 (empty m) (sketch_of m s.content) (fine_leads m (contents text) s.content s.says s.fine)) ∙ means_program m s.content p s.fine s.makes
+  program_spelled : (p : Program) → program_of t ≡ Ok p → Spells m text p
+  program_spelled p h =
+      let r = lead_fine laws m (contents text) t led in
+      record { content = r.0; says = r.1; fine = r.2; makes = program_means m r.0 r.2 (sound laws m (contents text) r.0 r.1 r.2) p (ap program_of r.3 ∙ h) }
 
-  at_line : (e : MalError) → FirstRefused step 1 (empty m) (contents text) e → IsRefusedAtLine m text e
-  at_line e r =
-      let f = lead_fine m r.front r.before r.leads in
+  end_refused : (e : MalError) → program_of t ≡ Err e → IsRefused m text e
+  end_refused e h =
+      let r = lead_fine laws m (contents text) t led in
+      inr (record { content = r.0; says = r.1; fine = r.2; refused = ends_refused m r.0 r.2 e (ap program_of r.3 ∙ h) })
+
+  pub is_spelled : (r : Result Program MalError) → IfOk r (λ p. program_of t ≡ Ok p) → IfOk r (Spells m text)
+  is_spelled (Ok p) h = program_spelled p h
+  is_spelled (Err e) h = tt
+
+  pub is_refused : (r : Result Program MalError) → IfErr r (λ e. FailsBy e (program_of t)) → IfErr r (λ e. is_memory e ≡ false → IsRefused m text e)
+  is_refused (Ok p) h = tt
+  is_refused (Err e) h = λ free. end_refused e (h free)
+
+pub line_refused : ReadsLines → (m : Machine) (text : List ℕ) (t : Sketch) (e : MalError) → StopsAt step 1 (empty m) (contents text) e t → IsRefused m text e
+line_refused laws m text t e r =
+    let f = lead_fine laws m r.front t r.leads in
+    inl (record {
+      front = r.front;
+      line = r.line;
+      others = r.others;
+      split = r.split;
+      content = f.0;
+      says = f.1;
+      fine = f.2;
+      refused = step_refused laws m f.0 (length r.front + 1) r.line e (subst (λ k. step k (sketch_of m f.0) r.line ≡ Err e) (omega arith) (ap (λ s. step (1 + length r.front) s r.line) f.3 ∙ r.refused));
+    })
+
+-- ---- there is one at most
+
+-- lines lead one way, as their walk says by a law
+pub record LeadOneWay : Type 0 where
+  pub one : (k : ℕ) (s t u : Sketch) (ls : List (List ℕ)) → Leads step k s ls t → Leads step k s ls u → t ≡ u
+  pub apart : (k : ℕ) (s t : Sketch) (ls : List (List ℕ)) (e : MalError) → Leads step k s ls t → FirstRefused step k s ls e → ⊥
+  pub first : (k : ℕ) (s : Sketch) (ls : List (List ℕ)) (e f : MalError) → FirstRefused step k s ls e → FirstRefused step k s ls f → e ≡ f
+
+-- what the lines of a text come to
+Comes : Machine → List ℕ → Result Program MalError → Type 0
+Comes m text r = ((t : Sketch) × Leads step 1 (empty m) (contents text) t × (program_of t ≡ r)) ⊎ ((e : MalError) × FirstRefused step 1 (empty m) (contents text) e × (r ≡ Err e))
+
+one_end : LeadOneWay → (m : Machine) (text : List ℕ) (r s : Result Program MalError) → Comes m text r → Comes m text s → r ≡ s
+unfolding Comes
+one_end walks m text r s (inl (t, led, h)) (inl (u, other, g)) = sym h ∙ (ap program_of (walks.one 1 (empty m) t u (contents text) led other) ∙ g)
+one_end walks m text r s (inl (t, led, h)) (inr (f, stop, g)) = absurd (walks.apart 1 (empty m) t (contents text) f led stop)
+one_end walks m text r s (inr (e, stop, h)) (inl (u, other, g)) = absurd (walks.apart 1 (empty m) u (contents text) e other stop)
+one_end walks m text r s (inr (e, stop, h)) (inr (f, other, g)) = h ∙ (ap Err (walks.first 1 (empty m) (contents text) e f stop other) ∙ sym g)
+
+module _ (laws : ReadsLines) (walks : LeadOneWay) (m : Machine) (text : List ℕ) where
+  spelled_comes : (p : Program) → Spells m text p → Comes m text (Ok p)
+  unfolding Comes
+  spelled_comes p s = inl (sketch_of m s.content, fine_leads laws m (contents text) s.content s.says s.fine, means_program m s.content p s.fine s.makes)
+
+  refused_comes : (e : MalError) → IsRefused m text e → Comes m text (Err e)
+  unfolding Comes
+  refused_comes e (inl r) = inr (
+    e,
+    (
+      sketch_of m r.content,
       record {
         front = r.front;
         line = r.line;
         others = r.others;
         split = r.split;
-        content = f.0;
-        says = f.1;
-        fine = f.2;
-        refused = step_refused m f.0 (length r.front + 1) r.line e (subst (λ k. step k (sketch_of m f.0) r.line ≡ Err e) (omega arith) (ap (λ s. step (1 + length r.front) s r.line) f.3 ∙ r.refused));
-      }
+        leads = fine_leads laws m r.front r.content r.says r.fine;
+        refused = subst (λ k. step k (sketch_of m r.content) r.line ≡ Err e) (omega arith) (refused_step laws m r.content (length r.front + 1) r.line e r.refused);
+      },
+    ),
+    refl,
+  )
+  refused_comes e (inr r) = inl (sketch_of m r.content, fine_leads laws m (contents text) r.content r.says r.fine, refused_ends m r.content r.fine e r.refused)
 
-  pub refusal_found : (e : MalError) → parsed m text ≡ Err e → IsRefused m text e
-  unfolding parsed walked
-  refusal_found e h = by_walk walked refl h
+  pub one_program : (p q : Program) → Spells m text p → Spells m text q → p ≡ q
+  one_program p q a b = let e = one_end walks m text (Ok p) (Ok q) (spelled_comes p a) (spelled_comes q b) in cc
+
+  pub never_both : (p : Program) (e : MalError) → Spells m text p → IsRefused m text e → ⊥
+  never_both p e a b = let z = one_end walks m text (Ok p) (Err e) (spelled_comes p a) (refused_comes e b) in cc
+
+  pub one_refusal : (e f : MalError) → IsRefused m text e → IsRefused m text f → e ≡ f
+  one_refusal e f a b = let z = one_end walks m text (Err e) (Err f) (refused_comes e a) (refused_comes f b) in cc
+
+-- ---- Ok exactly where a program is spelled, each refusal exactly where it is the first
+
+memory_only : (e : MalError) → is_memory e ≡ true → e ≡ errors.OutOfMemory
+memory_only errors.OutOfMemory h = refl
+memory_only _ h = absurd (cc)
+
+module _ (m : Machine) (text : List ℕ) where
+  pub answers_program : (r : Result Program MalError) (p : Program) → ((q : Program) → Spells m text p → Spells m text q → p ≡ q) → ((e : MalError) → Spells m text p → IsRefused m text e → ⊥)
+      → IfOk r (Spells m text) → IfErr r (λ e. is_memory e ≡ false → IsRefused m text e) → Spells m text p → (r ≡ Ok p) ⊎ (r ≡ Err errors.OutOfMemory)
+  answers_program (Ok q) p one apart ok err s = inl (ap Ok (sym (one q s ok)))
+  answers_program (Err e) p one apart ok err s = go (is_memory e) refl
     where
-      by_walk : (r : Result Sketch MalError) → walked ≡ r → resolved_by r ≡ Err e → IsRefused m text e
-      by_walk (Err x) w h = let q : x ≡ e = cc in inl (at_line e (walk_refused step (contents text) 1 (empty m) e (w ∙ ap Err q)))
-      by_walk (Ok t) w h =
-          let r = lead_fine m (contents text) t (walk_leads step (contents text) 1 (empty m) t w) in
-          inr (record { content = r.0; says = r.1; fine = r.2; refused = ends_refused m r.0 r.2 e (ap program_of r.3 ∙ h) })
+      go : (b : _) → is_memory e ≡ b → (◌≡◌ {A = Result Program MalError} (Err e) (Ok p)) ⊎ (◌≡◌ {A = Result Program MalError} (Err e) (Err errors.OutOfMemory))
+      go true h = inr (ap Err (memory_only e h))
+      go false h = absurd (apart e s (err h))
 
-  pub found_refusal : (e : MalError) → IsRefused m text e → parsed m text ≡ Err e
-  unfolding parsed
-  found_refusal e (inl r) = ap resolved_by (refused_walk step (contents text) 1 (empty m) e (record {
-    front = r.front;
-    line = r.line;
-    others = r.others;
-    before = sketch_of m r.content;
-    split = r.split;
-    leads = fine_leads m r.front r.content r.says r.fine;
-    refused = subst (λ k. step k (sketch_of m r.content) r.line ≡ Err e) (omega arith) (refused_step m r.content (length r.front + 1) r.line e r.refused);
-  }))
-  found_refusal e (inr r) =
-      ap resolved_by (leads_walk step (contents text) 1 (empty m) (sketch_of m r.content) (fine_leads m (contents text) r.content r.says r.fine)) ∙ refused_ends m r.content r.fine e r.refused
+  pub answers_refusal : (r : Result Program MalError) (e : MalError) → ((p : Program) → Spells m text p → IsRefused m text e → ⊥) → ((f : MalError) → IsRefused m text e → IsRefused m text f → e ≡ f)
+      → IfOk r (Spells m text) → IfErr r (λ e. is_memory e ≡ false → IsRefused m text e) → IsRefused m text e → (r ≡ Err e) ⊎ (r ≡ Err errors.OutOfMemory)
+  answers_refusal (Ok q) e apart first ok err s = absurd (apart q ok s)
+  answers_refusal (Err f) e apart first ok err s = go (is_memory f) refl
+    where
+      go : (b : _) → is_memory f ≡ b → (◌≡◌ {A = Result Program MalError} (Err f) (Err e)) ⊎ (◌≡◌ {A = Result Program MalError} (Err f) (Err errors.OutOfMemory))
+      go true h = inr (ap Err (memory_only f h))
+      go false h = inl (ap Err (sym (first f s (err h))))

@@ -5,7 +5,7 @@ use Rattle.std.specs.List.{list_all, onto_first, slice_split}
 use Rattle.std.specs.Str.Lines.{lines, lines_of_parts, strip_carriage_return}
 use Rattle.std.proofs.lemmas.Bool.Decides.{nat_tests}
 use Rattle.source_text.specs.Content.{begins_comment, contents, without_comment}
-use Rattle.mal_line.proofs.Options.{and_parts}
+use Rattle.mal_parser.proofs.Options.{and_parts}
 use Rattle.mal_print.specs.Canonical.{is_plain}
 use Rattle.mal_parser.specs.Canonical.{text_of}
 

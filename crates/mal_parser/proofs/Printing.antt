@@ -9,9 +9,8 @@ use Rattle.micro_word.specs.declared.statement.PlacedNext.TheVariants as placed
 use Rattle.machine_words.specs.declared.machine.Machine.{Machine}
 use Rattle.micro_word.specs.declared.statement.Placed.{Placed}
 use Rattle.micro_word.specs.Canonical.{is_next, is_part, is_valid}
-use Rattle.mal_line.proofs.Options.{and_parts}
+use Rattle.mal_parser.proofs.Options.{and_parts}
 use Rattle.mal_print.specs.Canonical.{FitTargets}
-use Rattle.mal_print.proofs.Prints.{three_texts}
 use Rattle.mal_parser.specs.declared.statement.Statement.{Statement}
 use Rattle.mal_parser.specs.declared.statement.MalNext.{MalNext}
 use Rattle.mal_parser.specs.declared.statement.MalNext.TheVariants as nexts
@@ -125,6 +124,9 @@ line_added p s begun old new fresh line lt n l e f =
     let t = some_at p.statements s lt in
     let q : line ≡ line_of p t.0 = l ∙ (ap (λ x. x ++ statement_text p s) n ∙ line_here p s t.0 t.1) in
     line_behind p s t.0 begun old new t.1 e (f ∙ ap (λ x. old ++ (x ++ 10 ∷ [])) q)
+
+three_texts : (z a b c x y w : List ℕ) → x ≡ z ++ a → y ≡ x ++ b → w ≡ y ++ c → w ≡ z ++ (a ++ (b ++ c))
+three_texts z a b c x y w e f g = rw (g, f, e) (simp append_assoc)
 
 -- all of them
 pub mal_text : (p : Program) (z x y w : List ℕ) → z ≡ [] → x ≡ z ++ text_of (filter_map fix_line p.statements)

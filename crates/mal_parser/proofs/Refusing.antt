@@ -11,8 +11,8 @@ use Rattle.mal_parser.specs.declared.error.MalError.{MalError}
 use Rattle.mal_parser.specs.declared.error.MalError.TheVariants as errors
 use Rattle.mal_parser.specs.declared.source.Draft.{Draft}
 use Rattle.mal_parser.specs.Labels.{address_of, has_fix, has_name}
-use Rattle.mal_parser.specs.Sketch.{add_content, add_fallback, add_fix, add_said, at_line, content_at, step}
-use Rattle.mal_parser.specs.Text.{fallbacks, first, fixes, HasFault, IsBadFix, IsDuplicate, IsOneTooMany, IsRefusedBehind, Says, sketch_of, statements}
+use Rattle.mal_parser.specs.Text.{fallbacks, fixes, HasFault, IsBadFix, IsDuplicate, IsOneTooMany, IsRefusedBehind, Says, statements}
+use Rattle.mal_parser.specs.Reading.{add_content, add_fallback, add_fix, add_said, at_line, content_at, first, ReadsLines, sketch_of, step}
 use Rattle.mal_parser.proofs.Adding.{picked, with_fallback, with_fix, with_statement}
 use Rattle.mal_parser.proofs.Saying.{content_says, content_unsaid, says_content, Unsaid, unsaid_content}
 
@@ -30,7 +30,7 @@ first_some : (ds : List Draft) → 0 < length ds → is_some (first ds) ≡ true
 first_some [] h = absurd (omega arith)
 first_some (d ∷ ds) h = refl
 
-module _ (m : Machine) (cs : List Content) (k : ℕ) (line : List ℕ) where
+module _ (laws : ReadsLines) (m : Machine) (cs : List Content) (k : ℕ) (line : List ℕ) where
   unsaid_refused : (x : MalError) → Unsaid m k line x → IsRefusedBehind m cs k line x
   unfolding Unsaid
   unsaid_refused x (inl (e, none)) = subst (IsRefusedBehind m cs k line) (sym e) (refl, none)
@@ -65,18 +65,18 @@ module _ (m : Machine) (cs : List Content) (k : ℕ) (line : List ℕ) where
   step_refused x h = by_content (content_at m k line) refl h
     where
       by_content : (r : Result Content MalError) → content_at m k line ≡ r → add_said k (sketch_of m cs) r ≡ Err x → IsRefusedBehind m cs k line x
-      by_content (Err y) e h = let q : y ≡ x = cc in unsaid_refused x (unsaid_content m k line x (e ∙ ap Err q))
-      by_content (Ok c) e h = added_refused c x (says_content m k line c e) h
+      by_content (Err y) e h = let q : y ≡ x = cc in unsaid_refused x (unsaid_content laws m k line x (e ∙ ap Err q))
+      by_content (Ok c) e h = added_refused c x (says_content laws m k line c e) h
 
   unsaid_step : (x : MalError) → Unsaid m k line x → step k (sketch_of m cs) line ≡ Err x
-  unsaid_step x u = ap (add_said k (sketch_of m cs)) (content_unsaid m k line x u)
+  unsaid_step x u = ap (add_said k (sketch_of m cs)) (content_unsaid laws m k line x u)
 
   fault_step : (fault : LineFault) → HasFault m line fault → step k (sketch_of m cs) line ≡ Err (at_line k fault)
   unfolding Unsaid
   fault_step fault h = unsaid_step (at_line k fault) (inr (fault, refl, h))
 
   said_step : (c : Content) (x : MalError) → Says m line c → add_content k (sketch_of m cs) c ≡ Err x → step k (sketch_of m cs) line ≡ Err x
-  said_step c x s h = ap (add_said k (sketch_of m cs)) (content_says m k line c s) ∙ h
+  said_step c x s h = ap (add_said k (sketch_of m cs)) (content_says laws m k line c s) ∙ h
 
   bad_fix : (c : Content) → IsBadFix cs c → add_content k (sketch_of m cs) c ≡ Err (errors.BadFix k)
   unfolding with_fix with_fallback

@@ -16,11 +16,10 @@ use Rattle.mal_parser.specs.declared.source.Draft.{Draft}
 use Rattle.mal_parser.specs.declared.source.Fix.{Fix}
 use Rattle.mal_parser.specs.declared.statement.Statement.{Statement}
 use Rattle.mal_parser.specs.declared.statement.MalNext.TheVariants as nexts
-use Rattle.mal_parser.specs.Labels.{has_label, is_label, is_labelled}
+use Rattle.mal_parser.specs.Labels.{AreDistinct, has_label, is_among, is_label, is_labelled, labels_of}
+use Rattle.mal_parser.specs.Text.{falls}
+use Rattle.mal_parser.specs.Reading.{address_at, earlier, falling, first_falling, first_unknown, fixed_of, IsDraft, IsSound, knows, main1, next_of, number_of, program_with, resolved, Sketch, target, unknown_draft, unknown_fix, unknown_in}
 use Rattle.mal_parser.specs.Program.{HasTargets, IsFallback, IsLabelled, IsProgram, IsStatement, label_at}
-use Rattle.mal_parser.specs.Sketch.{Sketch}
-use Rattle.mal_parser.specs.Resolving.{address_at, earlier, falling, falls, first_falling, first_unknown, fixed_of, knows, main1, next_of, number_of, program_with, resolved, target, unknown_draft, unknown_fix, unknown_in}
-use Rattle.mal_parser.specs.Sound.{AreDistinct, is_among, IsDraft, IsSound, labels_of}
 
 -- ---- places of lists
 

@@ -1,20 +1,15 @@
 -- What fine lines say together is sound.
 use Rattle.std.proofs.Common.{◌≡◌, ℕ, zero, suc, ◌+◌, ◌<◌, Bool, true, false, List, [], ◌∷◌, Option, Some, None, refl, subst, arith, cond}
-use Rattle.std.specs.Prelude.{Ok, IfSome, All, nat_lt, option_map, ℤ, pos, negsuc}
+use Rattle.std.specs.Prelude.{IfSome, All, nat_lt, option_map, ℤ, pos, negsuc}
 use Rattle.std.specs.List.{cons_option}
 use Rattle.std.proofs.lemmas.Bool.Decides.{nat_tests}
-use Rattle.source_text.specs.Walk.{walk}
-use Rattle.source_text.proofs.Walking.{walk_leads}
 use Rattle.machine_words.specs.declared.machine.Machine.{Machine}
 use Rattle.mal_line.specs.declared.content.Content.{Content}
 use Rattle.mal_line.specs.declared.content.Content.TheVariants as said
-use Rattle.mal_line.proofs.Standing.{stands}
 use Rattle.mal_parser.specs.declared.source.Fix.{Fix}
 use Rattle.mal_parser.specs.Labels.{address_of}
-use Rattle.mal_parser.specs.Sketch.{empty, Sketch, step}
-use Rattle.mal_parser.specs.Sound.{IsDraft, IsSound}
-use Rattle.mal_parser.specs.Text.{fallbacks_from, first, fixes_from, IsFine, SayAll, sketch_of, statements_from}
-use Rattle.mal_parser.proofs.Adding.{lead_fine}
+use Rattle.mal_parser.specs.Text.{fallbacks_from, fixes_from, IsFine, SayAll, statements_from}
+use Rattle.mal_parser.specs.Reading.{first, IsDraft, IsSound, ReadsLines, sketch_of}
 use Rattle.mal_parser.proofs.Saying.{free_label}
 
 all_none : {A : Type 0} (P : A → Type 0) → All P []
@@ -27,7 +22,7 @@ all_more P x xs p all = go
     go zero d lt = p
     go (suc k) d lt = all k d (omega (arith, lt))
 
-module _ (m : Machine) where
+module _ (laws : ReadsLines) (m : Machine) where
   drafts : (ls : List (List ℕ)) (cs : List Content) (k : ℕ) → SayAll m ls cs → All (IsDraft m) (statements_from k cs)
   drafts [] [] k say = all_none (IsDraft m)
   drafts [] (c ∷ cs) k say = absurd say
@@ -37,7 +32,7 @@ module _ (m : Machine) where
   drafts (l ∷ ls) (said.Fallback parts ∷ cs) k say = drafts ls cs (k + 1) say.1
   drafts (l ∷ ls) (said.Statement label parts ∷ cs) k say =
       all_more (IsDraft m) (record { label = label; line = k; parts = parts }) (statements_from (k + 1) cs)
-      (record { part = stands m say.0.sequence (said.Statement label parts) say.0.means; label = free_label m l label parts say.0 }) (drafts ls cs (k + 1) say.1)
+      (record { part = laws.stands m say.0.sequence (said.Statement label parts) say.0.means; label = free_label m l label parts say.0 }) (drafts ls cs (k + 1) say.1)
 
   fallback : (ls : List (List ℕ)) (cs : List Content) (k : ℕ) → SayAll m ls cs → IfSome (first (fallbacks_from k cs)) (λ d. IsDraft m d × (d.label ≡ None))
   fallback [] [] k say = tt
@@ -45,7 +40,7 @@ module _ (m : Machine) where
   fallback (l ∷ ls) [] k say = absurd say
   fallback (l ∷ ls) (said.Nothing ∷ cs) k say = fallback ls cs (k + 1) say.1
   fallback (l ∷ ls) (said.Fix label number ∷ cs) k say = fallback ls cs (k + 1) say.1
-  fallback (l ∷ ls) (said.Fallback parts ∷ cs) k say = (record { part = stands m say.0.sequence (said.Fallback parts) say.0.means; label = tt }, refl)
+  fallback (l ∷ ls) (said.Fallback parts ∷ cs) k say = (record { part = laws.stands m say.0.sequence (said.Fallback parts) say.0.means; label = tt }, refl)
   fallback (l ∷ ls) (said.Statement label parts ∷ cs) k say = fallback ls cs (k + 1) say.1
 
 below : (number : ℤ) (a : ℕ) → address_of number ≡ Some a → a < 512
@@ -68,17 +63,11 @@ addresses (said.Fix label number ∷ cs) k = go (address_of number) refl (addres
 addresses (said.Fallback parts ∷ cs) k = addresses cs (k + 1)
 addresses (said.Statement label parts ∷ cs) k = addresses cs (k + 1)
 
-pub sound : (m : Machine) (ls : List (List ℕ)) (cs : List Content) → SayAll m ls cs → IsFine cs → IsSound (sketch_of m cs)
-sound m ls cs say fine = record {
+pub sound : ReadsLines → (m : Machine) (ls : List (List ℕ)) (cs : List Content) → SayAll m ls cs → IsFine cs → IsSound (sketch_of m cs)
+sound laws m ls cs say fine = record {
   few = fine.few;
   labels = fine.labels;
-  drafts = drafts m ls cs 1 say;
+  drafts = drafts laws m ls cs 1 say;
   addresses = addresses cs 1;
-  fallback = fallback m ls cs 1 say;
+  fallback = fallback laws m ls cs 1 say;
 }
-
--- so is what a walk over the lines leaves
-pub walk_sound : (m : Machine) (ls : List (List ℕ)) (t : Sketch) → walk step 1 (empty m) ls ≡ Ok t → IsSound t
-walk_sound m ls t h =
-    let r = lead_fine m ls t (walk_leads step ls 1 (empty m) t h) in
-    subst IsSound r.3 (sound m ls r.0 r.1 r.2)

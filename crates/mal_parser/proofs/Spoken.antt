@@ -1,24 +1,23 @@
 -- What the lines of a canonical text say.
 use Rattle.std.proofs.Common.{◌≡◌, ℕ, zero, suc, ◌<◌, true, false, List, [], ◌∷◌, ◌++◌, Option, Some, None, refl, ap, subst, ◌∙◌}
-use Rattle.std.specs.Prelude.{IfSome, IsSome, pos, map, slice_get, unwrap_or, option_map, option_and_then, option_to_list}
+use Rattle.std.specs.Prelude.{IfSome, IsSome, IsTrue, pos, map, slice_get, unwrap_or, option_map, option_and_then, option_to_list}
 use Rattle.std.specs.List.{cons_option, filter_map}
 use Rattle.machine_words.specs.declared.machine.Machine.{Machine}
 use Rattle.micro_word.specs.Canonical.{is_part}
-use Rattle.mal_tokens.specs.Words.{is_reserved}
+use Rattle.mal_tokens.specs.Words.{IsLabelText}
 use Rattle.mal_line.specs.declared.content.Content.{Content}
 use Rattle.mal_line.specs.declared.content.Content.TheVariants as said
 use Rattle.mal_line.specs.declared.content.Parts.{Parts}
 use Rattle.mal_line.specs.declared.content.NamedNext.{NamedNext}
 use Rattle.mal_line.specs.declared.content.NamedNext.TheVariants as named
 use Rattle.mal_print.specs.Pieces.{printed}
-use Rattle.mal_print.specs.Canonical.{fallback, fix, HasLabels, IsLabelText, labelled, statement}
+use Rattle.mal_print.specs.Canonical.{fallback, fix, HasLabels, labelled, statement}
 use Rattle.mal_print.specs.Lines.{IsLineOf}
-use Rattle.mal_print.proofs.Stated.{fallback_said, fix_said, statement_said}
 use Rattle.mal_parser.specs.declared.statement.Statement.{Statement}
 use Rattle.mal_parser.specs.declared.statement.MalNext.{MalNext}
 use Rattle.mal_parser.specs.declared.statement.MalNext.TheVariants as nexts
 use Rattle.mal_parser.specs.Program.{HasTargets, IsFallback, IsLabelled, IsProgram, label_at, Program}
-use Rattle.mal_parser.specs.Canonical.{AreNamed, by_labels, canonical_lines, default_line, fix_line, line_of}
+use Rattle.mal_parser.specs.Canonical.{by_labels, canonical_lines, default_line, fix_line, line_of}
 use Rattle.mal_parser.specs.Text.{SayAll}
 use Rattle.mal_parser.proofs.Printed.{ArePlain, plain_append}
 
@@ -97,13 +96,19 @@ pub each_at : {A : Type 0} (P : A → Type 0) (xs : List A) → ((i : ℕ) (x : 
 each_at P [] h = tt
 each_at P (x ∷ xs) h = (h zero x refl, each_at P xs (λ i y e. h (suc i) y e))
 
-module _ (p : Program) (h : IsProgram p) (names : AreNamed p.statements) where
+-- a canonical line spells what it was printed from, as its printer says by a law
+pub record LinesSpell : Type 0 where
+  pub statements : (m : Machine) (label : Option (List ℕ)) (p : Parts) → IsTrue (is_part m p.part) → IfSome label IsLabelText → HasLabels p.next → IsLineOf m (printed (statement m label p.part (labelled p.next))) (said.Statement label p)
+  pub fallbacks : (m : Machine) (p : Parts) → IsTrue (is_part m p.part) → HasLabels p.next → IsLineOf m (printed (fallback m p.part (labelled p.next))) (said.Fallback p)
+  pub fixes : (m : Machine) (label : List ℕ) (address : ℕ) → IsLabelText label → address < 512 → IsLineOf m (printed (fix label address)) (said.Fix label (pos address))
+
+module _ (laws : LinesSpell) (p : Program) (h : IsProgram p) where
   label_text : (i : ℕ) (label : List ℕ) → label_at p.statements i ≡ Some label → IsLabelText label
   label_text i label e = go (slice_get p.statements i) refl e
     where
       go : (o : Option Statement) → slice_get p.statements i ≡ o → option_and_then (λ (s : Statement). s.label) o ≡ Some label → IsLabelText label
       go None f e = absurd (cc)
-      go (Some s) f e = (names i label (ap (option_and_then (λ (s : Statement). s.label)) f ∙ e), subst (λ o. IfSome o (λ name. is_reserved name ≡ false)) e (h.statements i s f).label)
+      go (Some s) f e = subst (λ o. IfSome o IsLabelText) e (h.statements i s f).label
 
   target_text : (to : ℕ) → IsLabelled p.statements to → IsLabelText (name_of p.statements to)
   target_text to some = go (label_at p.statements to) refl some
@@ -142,14 +147,14 @@ module _ (p : Program) (h : IsProgram p) (names : AreNamed p.statements) where
           → AreSaid p.machine (cons_option (option_and_then (λ label. option_map (λ address. printed (fix label address)) f) o) (filter_map fix_line ss)) (cons_option (fix_said_by o f) (filter_map fix_content ss))
       go None f l a r = r
       go (Some label) None l a r = r
-      go (Some label) (Some address) l a r = said_more p.machine (printed (fix label address)) (said.Fix label (pos address)) (filter_map fix_line ss) (filter_map fix_content ss) (fix_said p.machine label address l a) r
+      go (Some label) (Some address) l a r = said_more p.machine (printed (fix label address)) (said.Fix label (pos address)) (filter_map fix_line ss) (filter_map fix_content ss) (laws.fixes p.machine label address l a) r
 
   said_statements : (ss : List Statement) → Each (IsSayable p.machine p.statements) ss → AreSaid p.machine (map (line_of p) ss) (map (statement_content p.statements) ss)
   said_statements [] e = said_none p.machine
   said_statements (s ∷ ss) e =
       said_more p.machine (line_of p s) (statement_content p.statements s) (map (line_of p) ss) (map (statement_content p.statements) ss)
       (subst (λ n. IsLineOf p.machine (printed (statement p.machine s.label s.part n)) (statement_content p.statements s)) (same_next p.statements s.next)
-      (statement_said p.machine s.label (parts_for p.statements s) e.0.part e.0.label e.0.next))
+      (laws.statements p.machine s.label (parts_for p.statements s) e.0.part e.0.label e.0.next))
       (said_statements ss e.1)
 
   said_default : (o : Option Statement) → IfSome o (IsFallback p) → AreSaid p.machine (option_to_list (option_map (default_line p) o)) (option_to_list (option_map (default_content p.statements) o))
@@ -157,7 +162,7 @@ module _ (p : Program) (h : IsProgram p) (names : AreNamed p.statements) where
   said_default (Some s) g =
       said_more p.machine (default_line p s) (default_content p.statements s) [] []
       (subst (λ n. IsLineOf p.machine (printed (fallback p.machine s.part n)) (default_content p.statements s)) (same_next p.statements s.next)
-      (fallback_said p.machine (parts_for p.statements s) g.part (next_texts s.next g.targets)))
+      (laws.fallbacks p.machine (parts_for p.statements s) g.part (next_texts s.next g.targets)))
       (said_none p.machine)
 
   all_said : AreSaid p.machine (canonical_lines p) (content_of p)

@@ -1,7 +1,6 @@
 -- The canonical text of a program: the fixed addresses, what unused words hold, and the statements, each on a line of its own.
-use Rattle.std.specs.Prelude.{◌≡◌, ℕ, ◌+◌, true, length, List, [], ◌∷◌, ◌++◌, map, slice_get, Option, Some, unwrap_or, option_map, option_and_then, option_to_list}
+use Rattle.std.specs.Prelude.{◌≡◌, ℕ, ◌+◌, length, List, [], ◌∷◌, ◌++◌, map, slice_get, Option, Some, unwrap_or, option_map, option_and_then, option_to_list}
 use Rattle.std.specs.List.{filter_map}
-use Rattle.mic_base.specs.Name.{is_name}
 use Rattle.machine_words.specs.declared.machine.Machine.{Machine}
 use Rattle.micro_word.specs.declared.statement.Placed.{Placed}
 use Rattle.micro_word.specs.declared.statement.PlacedNext.{PlacedNext}
@@ -108,7 +107,3 @@ relined p = record {
   fallback = option_map (on_line (1 + fix_count p)) p.fallback;
   entry = p.entry;
 }
-
--- each label is a name, as its type says
-abbrev pub AreNamed : List Statement → Type 0
-AreNamed ss = (s : ℕ) (label : List ℕ) → label_at ss s ≡ Some label → is_name label ≡ true

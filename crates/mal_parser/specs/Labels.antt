@@ -1,6 +1,6 @@
 -- Labels of statements and of `.label` lines.
-use Rattle.std.specs.Prelude.{◌≡◌, ℕ, ℤ, pos, negsuc, Bool, false, List, Option, Some, None, if◌then◌else◌, nat_lt}
-use Rattle.std.specs.List.{list_any}
+use Rattle.std.specs.Prelude.{◌≡◌, ℕ, ℤ, pos, negsuc, Bool, false, List, [], ◌∷◌, Option, Some, None, if◌then◌else◌, nat_lt}
+use Rattle.std.specs.List.{filter_map, list_any}
 use Rattle.std.specs.Str.{bytes_eq}
 use Rattle.std.specs.Ordering.{nat_cmp}
 use Rattle.std.specs.Cmp.Lexicographic.{slice_cmp}
@@ -26,6 +26,17 @@ has_name ds None = false
 -- a `.label` line has this label
 abbrev pub has_fix : List Fix → List ℕ → Bool
 has_fix fs label = list_any (λ f. bytes_eq f.label label) fs
+
+abbrev pub is_among : List ℕ → List (List ℕ) → Bool
+is_among label labels = list_any (λ other. bytes_eq other label) labels
+
+-- no name stands twice
+abbrev pub AreDistinct : List (List ℕ) → Type 0
+AreDistinct [] = Unit {0}
+AreDistinct (label ∷ labels) = (is_among label labels ≡ false) × AreDistinct labels
+
+abbrev pub labels_of : List Draft → List (List ℕ)
+labels_of = filter_map (λ d. d.label)
 
 -- the address that a number is, where it is one
 abbrev pub address_of : ℤ → Option ℕ

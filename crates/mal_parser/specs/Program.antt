@@ -1,8 +1,8 @@
 -- Programs of the microassembly language, and what holds of each.
-use Rattle.std.specs.Prelude.{◌≡◌, ℕ, ◌+◌, ◌<◌, ◌≤◌, false, List, length, slice_get, codes, option_and_then, Option, Some, None, IsTrue, IsSome, IfSome}
+use Rattle.std.specs.Prelude.{◌≡◌, ℕ, ◌+◌, ◌<◌, ◌≤◌, List, length, slice_get, codes, option_and_then, Option, Some, None, IsTrue, IsSome, IfSome}
 use Rattle.machine_words.specs.declared.machine.Machine.{Machine}
 use Rattle.micro_word.specs.Canonical.{is_part}
-use Rattle.mal_tokens.specs.Words.{is_reserved}
+use Rattle.mal_tokens.specs.Words.{IsLabelText}
 use Rattle.mal_parser.specs.declared.statement.Statement.{Statement}
 use Rattle.mal_parser.specs.declared.statement.MalNext.{MalNext}
 use Rattle.mal_parser.specs.declared.statement.MalNext.TheVariants as nexts
@@ -33,7 +33,7 @@ pub record IsStatement (program : Program) (number : ℕ) (s : Statement) : Type
   pub part : IsTrue (is_part program.machine s.part)
   pub targets : HasTargets program.statements s.next
   pub followed : s.next ≡ nexts.Following → number + 1 < length program.statements
-  pub label : IfSome s.label (λ name. is_reserved name ≡ false)
+  pub label : IfSome s.label IsLabelText
   pub fixed : IfSome s.fixed (λ address. (address < 512) × IsSome s.label)
 
 -- what unused words hold

@@ -1,16 +1,207 @@
--- Reading a text: its lines one after the other, then its labels.
-use Rattle.std.specs.Prelude.{ℕ, List, Result, Ok, Err}
+-- Computes which program a text spells, or its first refusal (`Spells` and `IsRefused` of `Text`): its lines one after the other, then its labels.
+use Rattle.std.specs.Prelude.{◌≡◌, ◌<◌, ◌≤◌, ◌↔◌, ℕ, ◌-◌, ◌&&◌, Bool, true, false, not, List, [], ◌∷◌, ◌++◌, Option, Some, None, Result, Ok, Err, if◌then◌else◌, nat_le, min, length, map, find, slice_get, is_some, option_map, option_and_then, unwrap_or, codes, All, IsTrue, IfSome}
+use Rattle.std.specs.List.{position}
+use Rattle.std.specs.Str.{bytes_eq}
 use Rattle.machine_words.specs.declared.machine.Machine.{Machine}
-use Rattle.source_text.specs.Content.{contents}
-use Rattle.source_text.specs.Walk.{walk}
+use Rattle.micro_word.specs.Canonical.{is_part}
+use Rattle.mal_tokens.specs.declared.token.Token.{Token}
+use Rattle.mal_tokens.specs.Reading.{read}
+use Rattle.mal_tokens.specs.Tokens as tokens
+use Rattle.mal_tokens.specs.Words.{IsLabelText}
+use Rattle.mal_line.specs.declared.content.Content.{Content}
+use Rattle.mal_line.specs.declared.content.Content.TheVariants as contents
+use Rattle.mal_line.specs.declared.content.NamedNext.{NamedNext}
+use Rattle.mal_line.specs.declared.content.NamedNext.TheVariants as named
+use Rattle.mal_line.specs.declared.content.Parts.{Parts}
+use Rattle.mal_line.specs.declared.line.LineFault.{LineFault}
+use Rattle.mal_line.specs.declared.line.LineFault.TheVariants as faults
+use Rattle.mal_line.specs.Lines as lines
+use Rattle.mal_line.specs.Lines.{HasPart, line_of}
 use Rattle.mal_parser.specs.declared.error.MalError.{MalError}
+use Rattle.mal_parser.specs.declared.error.MalError.TheVariants as errors
+use Rattle.mal_parser.specs.declared.source.Draft.{Draft}
+use Rattle.mal_parser.specs.declared.source.Fix.{Fix}
+use Rattle.mal_parser.specs.declared.statement.Statement.{Statement}
+use Rattle.mal_parser.specs.declared.statement.MalNext.{MalNext}
+use Rattle.mal_parser.specs.declared.statement.MalNext.TheVariants as nexts
+use Rattle.mal_parser.specs.Labels.{address_of, AreDistinct, has_fix, has_label, has_name, is_labelled, labels_of}
 use Rattle.mal_parser.specs.Program.{Program}
-use Rattle.mal_parser.specs.Sketch.{empty, Sketch, step}
-use Rattle.mal_parser.specs.Resolving.{program_of}
+use Rattle.mal_parser.specs.Text.{fallbacks, falls, fixes, is_memory, statements}
 
-abbrev pub resolved_by : Result Sketch MalError → Result Program MalError
-resolved_by (Ok s) = program_of s
-resolved_by (Err e) = Err e
+-- a line is read as what it spells, as the crates below say by their laws
+pub record ReadsLines : Type 0 where
+  pub tokens_read : (line : List ℕ) (ts : List Token) → (read line ≡ Some ts) ↔ tokens.Spells line ts
+  pub said : (machine : Machine) (ts : List Token) (content : Content) → (line_of machine ts ≡ Ok content) ↔ lines.Spells machine ts content
+  pub refused : (machine : Machine) (ts : List Token) (fault : LineFault) → (line_of machine ts ≡ Err fault) ↔ lines.IsRefused machine ts fault
+  pub stands : (machine : Machine) (ts : List Token) (content : Content) → lines.Spells machine ts content → HasPart machine content
 
-unfoldable pub parsed : Machine → List ℕ → Result Program MalError
-parsed machine text = resolved_by (walk step 1 (empty machine) (contents text))
+-- ---- computes what the lines say together (`SayAll` and `IsFine`), or which line is refused (`IsRefusedAtLine`)
+
+pub record Sketch : Type 0 where
+  pub machine : Machine
+  pub statements : List Draft
+  pub fixes : List Fix
+  pub fallback : Option Draft
+
+abbrev pub empty : Machine → Sketch
+empty machine = record { machine = machine; statements = []; fixes = []; fallback = None }
+
+abbrev pub add_fix : ℕ → Sketch → List ℕ → Option ℕ → Result Sketch MalError
+add_fix k s label None = Err (errors.BadFix k)
+add_fix k s label (Some address) = if has_fix s.fixes label then Err (errors.BadFix k)
+    else Ok (record s { fixes = s.fixes ++ (record { label = label; line = k; address = address }) ∷ [] })
+
+abbrev pub add_fallback : ℕ → Sketch → Parts → Result Sketch MalError
+add_fallback k s parts = if is_some s.fallback then Err (errors.BadFix k)
+    else Ok (record s { fallback = Some (record { label = None; line = k; parts = parts }) })
+
+abbrev pub add_statement : ℕ → Sketch → Option (List ℕ) → Parts → Result Sketch MalError
+add_statement k s label parts = if has_name s.statements label then Err (errors.DuplicateLabel k)
+    else (if nat_le 512 (length s.statements) then Err (errors.TooMany k)
+    else Ok (record s { statements = s.statements ++ (record { label = label; line = k; parts = parts }) ∷ [] }))
+
+-- what line `k` adds
+abbrev pub add_content : ℕ → Sketch → Content → Result Sketch MalError
+add_content k s contents.Nothing = Ok s
+add_content k s (contents.Fix label number) = add_fix k s label (address_of number)
+add_content k s (contents.Fallback parts) = add_fallback k s parts
+add_content k s (contents.Statement label parts) = add_statement k s label parts
+
+abbrev pub at_line : ℕ → LineFault → MalError
+at_line k faults.BadStatement = errors.BadStatement k
+at_line k faults.WrongMachine = errors.WrongMachine k
+at_line k faults.NoSuchOperation = errors.NoSuchOperation k
+
+abbrev pub placed_at : ℕ → Result Content LineFault → Result Content MalError
+placed_at k (Ok content) = Ok content
+placed_at k (Err fault) = Err (at_line k fault)
+
+abbrev pub said_by : Machine → ℕ → Option (List Token) → Result Content MalError
+said_by machine k None = Err (errors.BadToken k)
+said_by machine k (Some ts) = placed_at k (line_of machine ts)
+
+-- what line `k` says
+abbrev pub content_at : Machine → ℕ → List ℕ → Result Content MalError
+content_at machine k line = said_by machine k (read line)
+
+abbrev pub add_said : ℕ → Sketch → Result Content MalError → Result Sketch MalError
+add_said k s (Ok content) = add_content k s content
+add_said k s (Err e) = Err e
+
+abbrev pub step : ℕ → Sketch → List ℕ → Result Sketch MalError
+step k s line = add_said k s (content_at s.machine k line)
+
+-- a refusal is the one that is there, unless memory ran out
+abbrev pub FailsBy : {A : Type 0} → MalError → Result A MalError → Type 0
+FailsBy e outcome = is_memory e ≡ false → outcome ≡ Err e
+
+-- what lines that say this leave
+abbrev pub first : {A : Type 0} → List A → Option A
+first [] = None
+first (x ∷ xs) = Some x
+
+abbrev pub sketch_of : Machine → List Content → Sketch
+sketch_of machine cs = record { machine = machine; statements = statements cs; fixes = fixes cs; fallback = first (fallbacks cs) }
+
+-- ---- what holds of lines that are not refused
+
+-- the statement stands in a word, and its label is one
+pub record IsDraft (machine : Machine) (d : Draft) : Type 0 where
+  pub part : IsTrue (is_part machine d.parts.part)
+  pub label : IfSome d.label IsLabelText
+
+pub record IsSound (s : Sketch) : Type 0 where
+  pub few : length s.statements ≤ 512
+  pub labels : AreDistinct (labels_of s.statements)
+  pub drafts : All (IsDraft s.machine) s.statements
+  pub addresses : All (λ f. f.address < 512) s.fixes
+  pub fallback : IfSome s.fallback (λ d. IsDraft s.machine d × (d.label ≡ None))
+
+-- ---- unknown labels
+
+abbrev pub knows : List Draft → NamedNext → Bool
+knows ds named.Following = true
+knows ds (named.Goto label) = has_label ds label
+knows ds (named.Dispatch high) = true
+knows ds (named.Branch test high low) = has_label ds high && has_label ds low
+
+abbrev pub unknown_draft : List Draft → List Draft → Option ℕ
+unknown_draft ds among = option_map (λ d. d.line) (find (λ d. not (knows ds d.parts.next)) among)
+
+abbrev pub unknown_fix : List Draft → List Fix → Option ℕ
+unknown_fix ds fs = option_map (λ f. f.line) (find (λ f. not (has_label ds f.label)) fs)
+
+abbrev pub unknown_in : List Draft → Option Draft → Option ℕ
+unknown_in ds None = None
+unknown_in ds (Some d) = if knows ds d.parts.next then None else Some d.line
+
+-- the smaller of two lines, where there is one
+abbrev pub earlier : Option ℕ → Option ℕ → Option ℕ
+earlier None b = b
+earlier (Some a) None = Some a
+earlier (Some a) (Some b) = Some (min a b)
+
+-- computes the first line of which `NamesUnknown` holds
+abbrev pub first_unknown : Sketch → Option ℕ
+first_unknown s = earlier (unknown_draft s.statements s.statements) (earlier (unknown_fix s.statements s.fixes) (unknown_in s.statements s.fallback))
+
+-- ---- no statement follows
+
+abbrev pub falling : Option Draft → Option ℕ
+falling None = None
+falling (Some d) = if falls d.parts.next then Some d.line else None
+
+-- computes the first line of which `FallsOff` holds
+abbrev pub first_falling : Sketch → Option ℕ
+first_falling s = earlier (falling (slice_get s.statements (length s.statements - 1))) (falling s.fallback)
+
+-- ---- computes the program whose names are resolved (`IsProgramOf`)
+
+abbrev pub number_of : List Draft → List ℕ → Option ℕ
+number_of ds label = position (is_labelled label) ds
+
+abbrev pub target : List Draft → List ℕ → ℕ
+target ds label = unwrap_or (number_of ds label) 0
+
+abbrev pub next_of : List Draft → NamedNext → MalNext
+next_of ds named.Following = nexts.Following
+next_of ds (named.Goto label) = nexts.Goto (target ds label)
+next_of ds (named.Dispatch high) = nexts.Dispatch high
+next_of ds (named.Branch test high low) = nexts.Branch test (target ds high) (target ds low)
+
+abbrev pub address_at : List Fix → List ℕ → Option ℕ
+address_at fs label = option_map (λ f. f.address) (find (λ f. bytes_eq f.label label) fs)
+
+-- computes the address for which `IsFixedBy` holds
+abbrev pub fixed_of : List Fix → Option (List ℕ) → Option ℕ
+fixed_of fs label = option_and_then (address_at fs) label
+
+abbrev pub resolved : List Draft → List Fix → Draft → Statement
+resolved ds fs d = record { label = d.label; line = d.line; part = d.parts.part; next = next_of ds d.parts.next; fixed = fixed_of fs d.label }
+
+abbrev pub program_with : Sketch → ℕ → Program
+program_with s entry = record {
+  machine = s.machine;
+  statements = map (resolved s.statements s.fixes) s.statements;
+  fallback = option_map (resolved s.statements s.fixes) s.fallback;
+  entry = entry;
+}
+
+abbrev pub main1 : List ℕ
+main1 = codes "Main1"
+
+abbrev pub by_entry : Sketch → Option ℕ → Result Program MalError
+by_entry s None = Err errors.NoEntry
+by_entry s (Some entry) = Ok (program_with s entry)
+
+abbrev pub by_falling : Sketch → Option ℕ → Result Program MalError
+by_falling s (Some line) = Err (errors.LastFalls line)
+by_falling s None = by_entry s (number_of s.statements main1)
+
+abbrev pub by_unknown : Sketch → Option ℕ → Result Program MalError
+by_unknown s (Some line) = Err (errors.UnknownLabel line)
+by_unknown s None = by_falling s (first_falling s)
+
+-- the program, or the first refusal of the whole source
+unfoldable pub program_of : Sketch → Result Program MalError
+program_of s = by_unknown s (first_unknown s)

@@ -1,6 +1,6 @@
 -- Which program a text spells, and which refusal a text has.
-use Rattle.std.specs.Prelude.{◌≡◌, ◌⊎◌, ◌+◌, ◌≤◌, ◌<◌, ℕ, Bool, true, false, not, List, [], ◌∷◌, ◌++◌, Option, Some, None, IsSome, length, map, option_map, option_to_list}
-use Rattle.std.specs.List.{cons_option, list_all, position}
+use Rattle.std.specs.Prelude.{◌≡◌, ◌⊎◌, ◌+◌, ◌≤◌, ◌<◌, ℕ, Bool, true, false, not, ◌&&◌, List, [], ◌∷◌, ◌++◌, Option, Some, None, IsSome, length, map, slice_get, option_map, option_to_list, codes}
+use Rattle.std.specs.List.{cons_option, list_all, list_any}
 use Rattle.machine_words.specs.declared.machine.Machine.{Machine}
 use Rattle.source_text.specs.Content.{contents}
 use Rattle.mal_tokens.specs.declared.token.Token.{Token}
@@ -19,11 +19,8 @@ use Rattle.mal_parser.specs.declared.source.Fix.{Fix}
 use Rattle.mal_parser.specs.declared.statement.Statement.{Statement}
 use Rattle.mal_parser.specs.declared.statement.MalNext.{MalNext}
 use Rattle.mal_parser.specs.declared.statement.MalNext.TheVariants as nexts
-use Rattle.mal_parser.specs.Labels.{address_of, has_fix, has_label, has_name}
+use Rattle.mal_parser.specs.Labels.{address_of, AreDistinct, has_fix, has_label, has_name, labels_of}
 use Rattle.mal_parser.specs.Program.{IsProgram, label_at, Program}
-use Rattle.mal_parser.specs.Sketch.{Sketch}
-use Rattle.mal_parser.specs.Sound.{AreDistinct, labels_of}
-use Rattle.mal_parser.specs.Resolving.{first_falling, fixed_of, knows, main1}
 
 -- ---- what the lines say
 
@@ -90,12 +87,18 @@ Leads ss (named.Dispatch high) (nexts.Dispatch other) = high ≡ other
 Leads ss (named.Branch test high low) (nexts.Branch other to_high to_low) = (test ≡ other) × (label_at ss to_high ≡ Some high) × (label_at ss to_low ≡ Some low)
 Leads ss _ _ = ⊥
 
+-- the address that a `.label` line gives a statement with this label, where one does
+abbrev pub IsFixedBy : List Fix → Option (List ℕ) → Option ℕ → Type 0
+IsFixedBy fs label (Some address) = (i : ℕ) × (f : Fix) × (slice_get fs i ≡ Some f) × (label ≡ Some f.label) × (f.address ≡ address)
+IsFixedBy fs label None = (i : ℕ) (f : Fix) → slice_get fs i ≡ Some f → label ≡ Some f.label → ⊥
+
+-- the statement is what its line says, with its targets as numbers
 pub record IsResolved (ss : List Statement) (fs : List Fix) (d : Draft) (s : Statement) : Type 0 where
   pub label : s.label ≡ d.label
   pub line : s.line ≡ d.line
   pub part : s.part ≡ d.parts.part
   pub next : Leads ss d.parts.next s.next
-  pub fixed : s.fixed ≡ fixed_of fs d.label
+  pub fixed : IsFixedBy fs d.label s.fixed
 
 abbrev pub AreResolved : List Statement → List Fix → List Draft → List Statement → Type 0
 AreResolved ss fs [] [] = Unit {0}
@@ -149,31 +152,66 @@ IsRefusedBehind machine cs k line (errors.BadFix n) = (n ≡ k) × ((c : Content
 IsRefusedBehind machine cs k line (errors.TooMany n) = (n ≡ k) × ((c : Content) × Says machine line c × IsOneTooMany cs c)
 IsRefusedBehind machine cs k line _ = ⊥
 
+-- of lines that are counted from `k` on, line `n` says what passes the test with what the lines behind it say
+pub record IsAt (test : Content → List Content → Bool) (k : ℕ) (cs : List Content) (n : ℕ) : Type 0 where
+  pub front : List Content
+  pub content : Content
+  pub behind : List Content
+  pub split : cs ≡ front ++ content ∷ behind
+  pub number : n ≡ k + length front
+  pub passes : test content behind ≡ true
+
+-- the first line of which this holds
+abbrev pub IsFirst : (ℕ → Type 0) → ℕ → Type 0
+IsFirst P n = P n × ((other : ℕ) → P other → n ≤ other)
+
+abbrev pub Never : (ℕ → Type 0) → Type 0
+Never P = (n : ℕ) → P n → ⊥
+
+abbrev pub targets_of : NamedNext → List (List ℕ)
+targets_of named.Following = []
+targets_of (named.Goto label) = label ∷ []
+targets_of (named.Dispatch high) = []
+targets_of (named.Branch test high low) = high ∷ low ∷ []
+
+-- the labels that a line names, besides its own
+abbrev pub labels_named : Content → List (List ℕ)
+labels_named said.Nothing = []
+labels_named (said.Fix label number) = label ∷ []
+labels_named (said.Fallback parts) = targets_of parts.next
+labels_named (said.Statement label parts) = targets_of parts.next
+
+abbrev pub names_unknown : List Draft → Content → List Content → Bool
+names_unknown ds c behind = list_any (λ label. not (has_label ds label)) (labels_named c)
+
 -- the line names a label that no statement has
-abbrev pub names_unknown : List Draft → Content → Bool
-names_unknown ds said.Nothing = false
-names_unknown ds (said.Fix label number) = not (has_label ds label)
-names_unknown ds (said.Fallback parts) = not (knows ds parts.next)
-names_unknown ds (said.Statement label parts) = not (knows ds parts.next)
+abbrev pub NamesUnknown : List Content → ℕ → Type 0
+NamesUnknown cs = IsAt (names_unknown (statements cs)) 1 cs
 
--- the first line that names such a label
-abbrev pub unknown_line : List Content → Option ℕ
-unknown_line cs = option_map (λ i. i + 1) (position (names_unknown (statements cs)) cs)
+-- it has no goto
+abbrev pub falls : NamedNext → Bool
+falls named.Following = true
+falls _ = false
 
-abbrev pub first : {A : Type 0} → List A → Option A
-first [] = None
-first (x ∷ xs) = Some x
+abbrev pub is_statement : Content → Bool
+is_statement (said.Statement label parts) = true
+is_statement _ = false
 
--- what the lines say together
-abbrev pub sketch_of : Machine → List Content → Sketch
-sketch_of machine cs = record { machine = machine; statements = statements cs; fixes = fixes cs; fallback = first (fallbacks cs) }
+abbrev pub falls_off : Content → List Content → Bool
+falls_off (said.Fallback parts) behind = falls parts.next
+falls_off (said.Statement label parts) behind = falls parts.next && not (list_any is_statement behind)
+falls_off _ behind = false
+
+-- the line is the last statement or `.default`, and has no goto
+abbrev pub FallsOff : List Content → ℕ → Type 0
+FallsOff cs = IsAt falls_off 1 cs
 
 -- lines that say this are refused together
-abbrev pub AreRefused : Machine → List Content → MalError → Type 0
-AreRefused machine cs (errors.UnknownLabel n) = unknown_line cs ≡ Some n
-AreRefused machine cs (errors.LastFalls n) = (unknown_line cs ≡ None) × (first_falling (sketch_of machine cs) ≡ Some n)
-AreRefused machine cs errors.NoEntry = (unknown_line cs ≡ None) × (first_falling (sketch_of machine cs) ≡ None) × (has_label (statements cs) main1 ≡ false)
-AreRefused machine cs _ = ⊥
+abbrev pub AreRefused : List Content → MalError → Type 0
+AreRefused cs (errors.UnknownLabel n) = IsFirst (NamesUnknown cs) n
+AreRefused cs (errors.LastFalls n) = Never (NamesUnknown cs) × IsFirst (FallsOff cs) n
+AreRefused cs errors.NoEntry = Never (NamesUnknown cs) × Never (FallsOff cs) × (has_label (statements cs) (codes "Main1") ≡ false)
+AreRefused cs _ = ⊥
 
 -- a line is refused, and none before it is
 pub record IsRefusedAtLine (machine : Machine) (text : List ℕ) (e : MalError) : Type 0 where
@@ -191,8 +229,13 @@ pub record IsRefusedAtEnd (machine : Machine) (text : List ℕ) (e : MalError) :
   pub content : List Content
   pub says : SayAll machine (contents text) content
   pub fine : IsFine content
-  pub refused : AreRefused machine content e
+  pub refused : AreRefused content e
 
 -- the first refusal of a text
 abbrev pub IsRefused : Machine → List ℕ → MalError → Type 0
 IsRefused machine text e = IsRefusedAtLine machine text e ⊎ IsRefusedAtEnd machine text e
+
+-- want of memory, which may come at any time
+abbrev pub is_memory : MalError → Bool
+is_memory errors.OutOfMemory = true
+is_memory _ = false

@@ -1,19 +1,36 @@
-ghost use Rattle.std.specs.Prelude.{◌≡◌, ◌↔◌, ℕ, List, Ok, Err};
+ghost use Rattle.std.specs.Prelude.{◌≡◌, ℕ, List};
 ghost use Rattle.machine_words.specs.declared.machine.Machine.{Machine};
 ghost use Rattle.mal_parser.specs.declared.error.MalError.{MalError};
-ghost use Rattle.mal_parser.specs.Canonical.{AreNamed, canonical_text, relined};
+ghost use Rattle.mal_parser.specs.Canonical.{canonical_text, relined};
 ghost use Rattle.mal_parser.specs.Program.{IsProgram, Program};
-ghost use Rattle.mal_parser.specs.Reading.{parsed};
+ghost use Rattle.mal_parser.specs.Reading.{ReadsLines};
 ghost use Rattle.mal_parser.specs.Text.{IsRefused, Spells};
 
-/// A text is read as the program that it spells, and refused by its first refusal: so it spells at most one program, and
-/// a text that spells one has no refusal.
+use crate::source::SourceReader;
+use mal_print::lines_spell_what_is_printed;
+use source_text::{Reader, lines_lead_one_way};
+
+/// What the laws of the crates below say of one line.
+pub(crate) fn reads_lines()
+    ensures { ReadsLines }
+{
+    mal_tokens::reads_what_is_spelled();
+    mal_line::reads_what_is_spelled();
+}
+
+/// A text spells at most one program, and not also a refusal, of which it has at most one.
 pub fn reads_what_is_spelled()
-    ensures spelled { (machine : Machine) (text : List ℕ) (p : Program) → (parsed machine text ≡ Ok p) ↔ Spells machine text p }
-    ensures refused { (machine : Machine) (text : List ℕ) (e : MalError) → (parsed machine text ≡ Err e) ↔ IsRefused machine text e }
-{}
+    ensures one { (machine : Machine) (text : List ℕ) (p q : Program) → Spells machine text p → Spells machine text q → p ≡ q }
+    ensures apart { (machine : Machine) (text : List ℕ) (p : Program) (e : MalError) → Spells machine text p → IsRefused machine text e → ⊥ }
+    ensures first { (machine : Machine) (text : List ℕ) (e f : MalError) → IsRefused machine text e → IsRefused machine text f → e ≡ f }
+{
+    reads_lines();
+    lines_lead_one_way::<SourceReader>();
+}
 
 /// The canonical text of a program spells that program, with the lines of that text as its line numbers.
 pub fn canonical_text_spells_its_program()
-    ensures { (p : Program) → IsProgram p → AreNamed p.statements → Spells p.machine (canonical_text p) (relined p) }
-{}
+    ensures { (p : Program) → IsProgram p → Spells p.machine (canonical_text p) (relined p) }
+{
+    lines_spell_what_is_printed();
+}

@@ -1,9 +1,11 @@
 ghost use Rattle.std.specs.Prelude.{◌≡◌, ◌≤◌, ◌<◌, ◌+◌, ◌++◌, ◌∷◌, [], length, map, slice_get, option_map, option_and_then, option_to_list, IsSome, IsTrue, Some, IfOk, OnOk};
 ghost use Rattle.std.specs.List.{filter_map};
 ghost use Rattle.micro_word.specs.Canonical.{is_next, is_valid};
-ghost use Rattle.mal_parser.specs.Program.{HasTargets, IsLabelled};
-ghost use Rattle.mal_parser.specs.Canonical.{by_addresses, by_label, by_labels, canonical_text, default_line, fallback_text, fix_line, line_of, parts_text, placed_text, statement_text, text_of};
+ghost use Rattle.mal_parser.specs.Program.{HasTargets, IsLabelled, IsProgram};
+ghost use Rattle.mal_parser.specs.Canonical.{by_addresses, by_label, by_labels, canonical_text, default_line, fallback_text, fix_line, line_of, parts_text, placed_text, relined, statement_text, text_of};
+ghost use Rattle.mal_parser.specs.Text.{Spells};
 
+use crate::laws::canonical_text_spells_its_program;
 use crate::program::MalProgram;
 use crate::statement::MalNext;
 use mal_print::{
@@ -150,7 +152,8 @@ fn add_default(program: &MalProgram, text: &mut Vec<u8>) -> Result<(), AllocErro
 }
 
 fn add_statements(program: &MalProgram, text: &mut Vec<u8>) -> Result<(), AllocError>
-    ensures { OnOk result (text.new.items ≡ text.old.items ++ text_of (map (line_of program.now) program.now.statements)) }
+    ensures text { OnOk result (text.new.items ≡ text.old.items ++ text_of (map (line_of program.now) program.now.statements)) }
+    ensures program { IsProgram program.now }
 {
     for s in 0..program.len() {
         let mut line = Line::new();
@@ -160,10 +163,12 @@ fn add_statements(program: &MalProgram, text: &mut Vec<u8>) -> Result<(), AllocE
     Ok(())
 }
 
-/// The canonical text of a program.
+/// The canonical text of a program, which spells that program, with the lines of that text as its line numbers.
 pub fn print_mal(alloc: Global, program: &MalProgram) -> Result<Vec<u8>, AllocError>
-    ensures { IfOk result (λ text. text.items ≡ canonical_text program.now) }
+    ensures text { IfOk result (λ text. text.items ≡ canonical_text program.now) }
+    ensures spells { IfOk result (λ text. Spells program.now.machine text.items (relined program.now)) }
 {
+    canonical_text_spells_its_program();
     let mut text = Vec::new(alloc);
     add_fixes(program, &mut text)?;
     add_default(program, &mut text)?;

@@ -2,9 +2,8 @@ ghost use Rattle.std.specs.Prelude.{◌≡◌, ◌≤◌, ◌<◌, ◌-◌, leng
 ghost use Rattle.std.specs.List.{position};
 ghost use Rattle.std.specs.Str.{bytes_eq};
 ghost use Rattle.mal_parser.specs.Labels.{has_label, is_labelled};
-ghost use Rattle.mal_parser.specs.Resolving.{address_at, earlier, falling, falls, first_falling, first_unknown, fixed_of, knows, main1, next_of, number_of, program_of, resolved, target, unknown_draft, unknown_fix, unknown_in};
-ghost use Rattle.mal_parser.specs.Sketch.{FailsBy};
-ghost use Rattle.mal_parser.specs.Sound.{IsSound};
+ghost use Rattle.mal_parser.specs.Text.{falls};
+ghost use Rattle.mal_parser.specs.Reading.{address_at, earlier, FailsBy, falling, first_falling, first_unknown, fixed_of, IsSound, knows, main1, next_of, number_of, program_of, resolved, target, unknown_draft, unknown_fix, unknown_in};
 
 use crate::error::MalError;
 use crate::program::MalProgram;
@@ -201,7 +200,7 @@ fn main1() -> Name
 }
 
 /// The program that the lines make, or the first refusal of the whole source.
-#[tactic(auto, unfolding(crate::specs::Resolving::program_of))]
+#[tactic(auto, unfolding(crate::specs::Reading::program_of))]
 pub(crate) fn program_of(reader: &SourceReader) -> Result<MalProgram, MalError>
     requires { IsSound reader.now }
     ensures ok { IfOk result (λ p. program_of reader.now ≡ Ok p) }

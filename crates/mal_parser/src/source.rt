@@ -2,10 +2,11 @@ ghost use Rattle.std.specs.Prelude.{◌≡◌, ◌≤◌, ◌<◌, false, length
 ghost use Rattle.mal_tokens.specs.Reading.{read};
 ghost use Rattle.mal_line.specs.Lines.{HasPart};
 ghost use Rattle.mal_parser.specs.declared.error.MalError.TheVariants.{OutOfMemory};
-ghost use Rattle.mal_parser.specs.Sketch.{FailsBy, at_line, content_at};
 ghost use Rattle.mal_parser.specs.Labels.{address_of, has_fix, has_label, has_name, is_labelled};
+ghost use Rattle.mal_parser.specs.Reading.{at_line, content_at, FailsBy};
 
 use crate::error::MalError;
+use crate::laws::reads_lines;
 use mal_line::{Content, LineFault, Parts, line_of};
 use mal_tokens::tokens_of;
 use mic_base::Name;
@@ -78,7 +79,7 @@ pub(crate) struct SourceReader {
 }
 
 impl Model for SourceReader {
-    ghost use Rattle.mal_parser.specs.Sketch.{Sketch};
+    ghost use Rattle.mal_parser.specs.Reading.{Sketch};
     ghost use Rattle.mal_parser.specs.Labels.{AreLabels};
 
     ghost Value = { Sketch };
@@ -89,7 +90,7 @@ impl Model for SourceReader {
 }
 
 impl SourceReader {
-    ghost use Rattle.mal_parser.specs.Sketch.{add_content, add_fallback, add_fix, add_statement, content_at, empty, FailsBy};
+    ghost use Rattle.mal_parser.specs.Reading.{add_content, add_fallback, add_fix, add_statement, content_at, empty, FailsBy};
     ghost use Rattle.mal_line.specs.declared.content.Content.{Content};
 
     pub fn new(alloc: Global, machine: Machine) -> SourceReader
@@ -108,6 +109,7 @@ impl SourceReader {
     fn add_fix(&mut self, line: u32, label: Name, address: i64) -> Result<(), MalError>
         ensures ok { OnOk result (add_fix line self.old label (address_of address) ≡ Ok self.new) }
         ensures err { IfErr result (λ e. FailsBy e (add_fix line self.old label (address_of address))) }
+        ensures left { OnErr result (self.new ≡ self.old) }
     {
         let Some(address) = address_of(address) else {
             return Err(MalError::BadFix(line));
@@ -129,6 +131,7 @@ impl SourceReader {
     fn add_fallback(&mut self, line: u32, parts: Parts) -> Result<(), MalError>
         ensures ok { OnOk result (add_fallback line self.old parts ≡ Ok self.new) }
         ensures err { IfErr result (λ e. FailsBy e (add_fallback line self.old parts)) }
+        ensures left { OnErr result (self.new ≡ self.old) }
     {
         if self.fallback.is_some() {
             return Err(MalError::BadFix(line));
@@ -149,6 +152,7 @@ impl SourceReader {
     ) -> Result<(), MalError>
         ensures ok { OnOk result (add_statement line self.old label parts ≡ Ok self.new) }
         ensures err { IfErr result (λ e. FailsBy e (add_statement line self.old label parts)) }
+        ensures left { OnErr result (self.new ≡ self.old) }
     {
         if has_name(&self.statements, &label) {
             return Err(MalError::DuplicateLabel(line));
@@ -163,6 +167,7 @@ impl SourceReader {
     fn add(&mut self, line: u32, content: Content) -> Result<(), MalError>
         ensures ok { OnOk result (add_content line self.old content ≡ Ok self.new) }
         ensures err { IfErr result (λ e. FailsBy e (add_content line self.old content)) }
+        ensures left { OnErr result (self.new ≡ self.old) }
     {
         match content {
             Content::Nothing => Ok(()),
@@ -192,6 +197,7 @@ fn content_at(
     ensures ok { IfOk result (λ content. content_at machine number line.now ≡ Ok content) }
     ensures err { IfErr result (λ e. FailsBy e (content_at machine number line.now)) }
 {
+    reads_lines();
     match tokens_of(alloc, line) {
         Ok(tokens) => match line_of(machine, &tokens) {
             Ok(content) => Ok(content),
@@ -205,7 +211,8 @@ fn content_at(
 impl Reader for SourceReader {
     type Refusal = MalError;
 
-    ghost use Rattle.mal_parser.specs.Sketch.{Sketch, step, is_memory};
+    ghost use Rattle.mal_parser.specs.Text.{is_memory};
+    ghost use Rattle.mal_parser.specs.Reading.{Sketch, step};
 
     ghost State = { Sketch };
 

@@ -1,6 +1,6 @@
 -- In the canonical text of a statement no two words meet, and each text is its token's.
-use Rattle.std.proofs.Common.{◌≡◌, ℕ, zero, suc, ◌<◌, ◌/◌, ◌%◌, Bool, true, false, List, [], ◌∷◌, ◌++◌, Option, Some, None, refl, ap, ◌∙◌, arith, cond}
-use Rattle.std.specs.Prelude.{pos, codes, IfSome, ◌&&◌}
+use Rattle.std.proofs.Common.{◌≡◌, ℕ, zero, suc, ◌<◌, ◌≤◌, ◌/◌, ◌%◌, Bool, true, false, List, [], ◌∷◌, ◌++◌, Option, Some, None, refl, ap, ◌∙◌, arith, cond}
+use Rattle.std.specs.Prelude.{pos, codes, IfSome, Ok, ◌&&◌, ◌^◌}
 use Rattle.std.specs.Char.{digit_char}
 use Rattle.std.specs.List.{list_all}
 use Rattle.machine_words.specs.declared.machine.Machine.{Machine}
@@ -16,18 +16,18 @@ use Rattle.micro_word.specs.declared.statement.Part.{Part}
 use Rattle.mic_base.specs.Digits.{hex_text}
 use Rattle.mic_base.specs.Name.{is_name_byte}
 use Rattle.mic_base.specs.Number.{number_of}
-use Rattle.mic_base.proofs.NumberLemmas.{number_of-hex_text}
+use Rattle.mal_tokens.specs.Words.{IsLabelText}
 use Rattle.mal_tokens.specs.declared.word.Word.{Word}
 use Rattle.mal_tokens.specs.declared.word.Word.TheVariants as words
 use Rattle.mal_tokens.specs.declared.sign.Sign.TheVariants as signs
-use Rattle.mal_line.proofs.Options.{and_parts}
 use Rattle.mal_print.specs.declared.target.Target.{Target}
 use Rattle.mal_print.specs.declared.target.Target.TheVariants as targets
 use Rattle.mal_print.specs.declared.target.PrintedNext.{PrintedNext}
 use Rattle.mal_print.specs.declared.target.PrintedNext.TheVariants as nexts
 use Rattle.mal_print.specs.Pieces.{behind_space, number, Piece, sign, spaced, word}
-use Rattle.mal_print.specs.Canonical.{chain, chain_part, dest_pieces, dests_of, dispatch_part, else_part, expression, fallback, fetch_part, fix, goto_part, heads, if_part, is_absent, IsLabelText, joined_behind, lone, memory_part, next_parts, parts, pieces, plus_one, shifted, side, statement, target, value}
+use Rattle.mal_print.specs.Canonical.{chain, chain_part, dest_pieces, dests_of, dispatch_part, else_part, expression, fallback, fetch_part, fix, goto_part, heads, if_part, is_absent, joined_behind, lone, memory_part, next_parts, parts, pieces, plus_one, shifted, side, statement, target, value}
 use Rattle.mal_print.proofs.Spelling.{apart, apart_any, apart_append, apart_spaced, apart_weak, AreLexemes, lexemes_append, lexemes_spaced}
+use Rattle.mal_print.proofs.Halves.{and_parts}
 
 pub all_append : {A : Type 0} (p : A → Bool) (xs ys : List A) → list_all p xs ≡ true → list_all p ys ≡ true → list_all p (xs ++ ys) ≡ true
 all_append p [] ys h g = g
@@ -127,7 +127,7 @@ AreLabels (nexts.Dispatch high) = Unit {0}
 AreLabels (nexts.Branch test high low) = IsLabel high × IsLabel low
 
 fine_target : (to : Target) → IsLabel to → IsFine true (target to ∷ [])
-fine_target (targets.Label label) h = record { apart = refl; lexemes = ((refl, h.0, h.1), tt) }
+fine_target (targets.Label label) h = record { apart = refl; lexemes = ((refl, h), tt) }
 fine_target (targets.Address address) h = absurd h
 
 fine_goto : (to : Target) → IsLabel to → IsFine false (goto_part to)
@@ -202,7 +202,7 @@ pub fine_statement : (m : Machine) (label : Option (List ℕ)) (part : Part) (ne
 fine_statement m None part next l h = fine_lone (pieces m part next) (fine_pieces m part next h)
 fine_statement m (Some label) part next l h =
     let r = fine_spaced (pieces m part next) (fine_pieces m part next h) in
-    record { apart = r.apart; lexemes = ((refl, l.0, l.1), r.lexemes) }
+    record { apart = r.apart; lexemes = ((refl, l), r.lexemes) }
 
 pub fine_fallback : (m : Machine) (part : Part) (next : PrintedNext) → AreLabels next → IsFine false (fallback m part next)
 fine_fallback m part next h =
@@ -219,8 +219,12 @@ hex_name (suc n) value = all_append is_name_byte (hex_text n (value / 16)) (digi
     digit_name : (d : ℕ) → d < 16 → (is_name_byte (digit_char d) && true) ≡ true
     digit_name d h = grind arith
 
-pub fine_fix : (label : List ℕ) (address : ℕ) → IsLabelText label → address < 512 → IsFine false (fix label address)
-fine_fix label address l lt = record {
+-- digits behind `0x` are read as their value
+abbrev pub ReadsHex : Type 0
+ReadsHex = (digits value : ℕ) → 1 ≤ digits → value < 16 ^ digits → value < 2 ^ 32 → number_of (codes "0x" ++ hex_text digits value) ≡ Ok (pos value)
+
+pub fine_fix : ReadsHex → (label : List ℕ) (address : ℕ) → IsLabelText label → address < 512 → IsFine false (fix label address)
+fine_fix hex label address l lt = record {
   apart = refl;
-  lexemes = (refl, ((refl, l.0, l.1), ((refl, hex_name 3 address, number_of-hex_text 3 address (omega arith) (omega (arith, lt)) (omega (arith, lt))), tt)));
+  lexemes = (refl, ((refl, l), ((refl, hex_name 3 address, hex 3 address (omega arith) (omega (arith, lt)) (omega (arith, lt))), tt)));
 }

@@ -26,11 +26,11 @@ use Rattle.mal_line.specs.declared.chain.Assignment.{Assignment}
 use Rattle.mal_line.specs.Expressions as table
 use Rattle.mal_line.specs.Expressions.{fits, IsCoded, source_word, spelling, tail_with}
 use Rattle.mal_line.specs.Chains.{dest_bits, dest_tokens, is_dest, is_expr, is_expr_word, is_filled, IsAssignment, tail_tokens}
-use Rattle.mal_line.proofs.Options.{and_parts}
 use Rattle.mal_print.specs.declared.target.PrintedNext.{PrintedNext}
 use Rattle.mal_print.specs.declared.target.PrintedNext.TheVariants as nexts
 use Rattle.mal_print.specs.Pieces.{behind_space, number, Piece, sign, spaced, tokens_of, word}
 use Rattle.mal_print.specs.Canonical.{all_dests, chain, dest_pieces, dests_of, expression, has_dest, heads, is_absent, is_nothing, is_unshifted, is_zero, plus_one, shifted, side, tested, value}
+use Rattle.mal_print.proofs.Halves.{and_parts}
 
 pub tokens_append : (ps qs : List Piece) → tokens_of (ps ++ qs) ≡ tokens_of ps ++ tokens_of qs
 tokens_append [] qs = refl

@@ -1,3 +1,4 @@
+pub mod Halves
 pub mod Prints
 pub mod Bare
 pub mod Spelling

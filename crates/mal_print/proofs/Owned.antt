@@ -27,12 +27,12 @@ use Rattle.mal_line.specs.Expressions as table
 use Rattle.mal_line.specs.Expressions.{source_word, spelling, tail_with}
 use Rattle.mal_line.specs.Chains.{dest_tokens, tail_tokens}
 use Rattle.mal_line.specs.Lines.{is_foreign, is_foreign_word, names_foreign}
-use Rattle.mal_line.proofs.Options.{and_parts}
 use Rattle.mal_print.specs.declared.target.PrintedNext.{PrintedNext}
 use Rattle.mal_print.specs.declared.target.PrintedNext.TheVariants as nexts
 use Rattle.mal_print.specs.Pieces.{behind_space, Piece, tokens_of}
 use Rattle.mal_print.specs.Canonical.{all_dests, chain, chain_part, dests_of, fetch_part, has_dest, heads, is_absent, joined_behind, labelled, lone, memory_part, next_parts, parts, pieces, tested}
 use Rattle.mal_print.proofs.Chained.{chain_tokens, filtered, Fits, tokens_append, tokens_spaced}
+use Rattle.mal_print.proofs.Halves.{and_parts}
 
 -- none of the tokens is a word of the other machine
 abbrev pub are_own : Machine → List Token → Type 0

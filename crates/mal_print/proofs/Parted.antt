@@ -25,12 +25,12 @@ use Rattle.mal_line.specs.Expressions.{spelling, tail_with}
 use Rattle.mal_line.specs.Chains.{dest_tokens, is_expr, tail_tokens}
 use Rattle.mal_line.specs.Statements as statements
 use Rattle.mal_line.specs.Statements.{AreParts, AreTree, assign, assignments, counted, fetch_count, fetches, IsJumpLast, is_semicolon, jump, jumps_of, Kind, listed, listed_mem, memories, memory, nothing}
-use Rattle.mal_line.proofs.Options.{and_parts}
 use Rattle.mal_print.specs.Pieces.{behind_space, Piece, tokens_of}
 use Rattle.mal_print.specs.declared.target.PrintedNext.{PrintedNext}
 use Rattle.mal_print.specs.Canonical.{chain, chain_part, dest_pieces, dests_of, fetch_part, heads, is_absent, joined_behind, labelled, lone, memory_part, next_parts, parts, pieces, value}
 use Rattle.mal_print.proofs.Apart.{all_append}
 use Rattle.mal_print.proofs.Chained.{assignment_of, chain_is, chain_tokens, Fits, spelling_expr, tokens_append, tokens_spaced}
+use Rattle.mal_print.proofs.Halves.{and_parts}
 
 -- ---- no semicolon within a part
 

@@ -6,7 +6,6 @@ use Rattle.machine_words.specs.declared.machine.Machine.{Machine}
 use Rattle.micro_word.specs.declared.statement.Test.{Test}
 use Rattle.micro_word.specs.declared.statement.Part.{Part}
 use Rattle.mic_base.specs.Name.{is_name}
-use Rattle.mic_base.proofs.NameLemmas.{name_parts}
 use Rattle.mal_tokens.specs.declared.word.Word.{Word}
 use Rattle.mal_tokens.specs.declared.word.Word.TheVariants as words
 use Rattle.mal_tokens.specs.Words.{word_text}
@@ -14,6 +13,7 @@ use Rattle.mal_print.specs.declared.target.Target.{Target}
 use Rattle.mal_print.specs.Pieces.{Piece, printed, word}
 use Rattle.mal_print.specs.declared.target.PrintedNext.{PrintedNext}
 use Rattle.mal_print.specs.Canonical.{are_before, chain, chain_part, dest_pieces, dests_of, dispatch_part, divided, else_part, expression, fetch_part, goto_part, heads, if_part, is_absent, joined_behind, memory_part, next_parts, pieces, shifted, side, value}
+use Rattle.mal_print.proofs.Halves.{name_parts}
 
 pub printed_append : (ps qs : List Piece) → printed (ps ++ qs) ≡ printed ps ++ printed qs
 printed_append [] qs = refl

@@ -15,8 +15,9 @@ use Rattle.mal_line.specs.declared.content.Content.TheVariants as contents
 use Rattle.mal_line.specs.declared.line.Form.TheVariants as forms
 use Rattle.mal_line.specs.Lines.{names_foreign, next_of, part_by, part_of, parts_by, parts_of, Spells, with_access}
 use Rattle.mal_print.specs.Pieces.{printed, tokens_of}
-use Rattle.mal_print.specs.Canonical.{fallback, fix, HasLabels, is_absent, IsLabelText, labelled, pieces, statement}
-use Rattle.mal_print.proofs.Apart.{AreLabels, fine_fallback, fine_fix, fine_statement}
+use Rattle.mal_print.specs.Canonical.{fallback, fix, HasLabels, is_absent, labelled, pieces, statement}
+use Rattle.mal_tokens.specs.Words.{IsLabelText}
+use Rattle.mal_print.proofs.Apart.{AreLabels, ReadsHex, fine_fallback, fine_fix, fine_statement}
 use Rattle.mal_print.proofs.Chained.{absent_bare, Fits, part_fits, tokens_spaced}
 use Rattle.mal_print.proofs.Owned.{own_lone, own_pieces}
 use Rattle.mal_print.proofs.Parted.{assigned_by, jump_of, lone_is, lone_some, tree_for, tree_is}
@@ -113,9 +114,9 @@ fallback_said m p h n =
       means = fallback_means m p (part_fits m p.part h);
     }
 
-pub fix_said : (m : Machine) (label : List ℕ) (address : ℕ) → IsLabelText label → address < 512 → IsLineOf m (printed (fix label address)) (contents.Fix label (pos address))
-fix_said m label address l lt =
-    let f = fine_fix label address l lt in
+pub fix_said : ReadsHex → (m : Machine) (label : List ℕ) (address : ℕ) → IsLabelText label → address < 512 → IsLineOf m (printed (fix label address)) (contents.Fix label (pos address))
+fix_said hex m label address l lt =
+    let f = fine_fix hex label address l lt in
     record {
       sequence = tokens_of (fix label address);
       plain = plain_printed (fix label address) f.lexemes;

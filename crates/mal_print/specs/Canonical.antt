@@ -14,8 +14,7 @@ use Rattle.micro_word.specs.declared.statement.Test.{Test}
 use Rattle.micro_word.specs.declared.statement.Test.TheVariants as tests
 use Rattle.micro_word.specs.declared.statement.Part.{Part}
 use Rattle.mic_base.specs.Digits.{hex_text}
-use Rattle.mic_base.specs.Name.{is_name}
-use Rattle.mal_tokens.specs.Words.{is_reserved}
+use Rattle.mal_tokens.specs.Words.{IsLabelText}
 use Rattle.mal_tokens.specs.declared.word.Word.{Word}
 use Rattle.mal_tokens.specs.declared.word.Word.TheVariants as words
 use Rattle.mal_tokens.specs.declared.sign.Sign.TheVariants as signs
@@ -214,9 +213,6 @@ fix label address = sign signs.Label ∷ spaced (name label) ∷ spaced (number 
 -- no newline, no carriage return and no slash
 abbrev pub is_plain : ℕ → Bool
 is_plain b = not (b == 10) && (not (b == 13) && not (b == 47))
-
-abbrev pub IsLabelText : List ℕ → Type 0
-IsLabelText label = (is_name label ≡ true) × (is_reserved label ≡ false)
 
 abbrev pub HasLabels : NamedNext → Type 0
 HasLabels named.Following = Unit {0}

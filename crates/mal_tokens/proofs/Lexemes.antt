@@ -11,7 +11,7 @@ use Rattle.mic_base.specs.declared.number.NumberError.{NumberError}
 use Rattle.source_text.specs.Tokens.{is_blank}
 use Rattle.source_text.specs.Runs.{name_len, begins_with, ends_with}
 use Rattle.source_text.specs.Reading.{Agrees}
-use Rattle.source_text.proofs.Fronts.{run_all, run_passes, run_stops, ends_all}
+use Rattle.mal_tokens.proofs.Fronts.{run_all, run_passes, run_stops, ends_all}
 use Rattle.mal_tokens.specs.declared.word.Word.{Word}
 use Rattle.mal_tokens.specs.declared.word.Word.TheVariants as words
 use Rattle.mal_tokens.specs.declared.sign.Sign.{Sign}
@@ -218,7 +218,7 @@ far (tokens.Word w) text rest is e =
     far_name text rest n.starts n.all e
 far (tokens.Sign s) text rest is e = rw is (far_sign s rest (subst (λ x. Ends x rest) is e))
 far (tokens.Name m) text rest is e =
-    let n : IsNamed text = subst IsNamed (sym is.0) (named m is.1) in
+    let n : IsNamed text = subst IsNamed (sym is.0) (named m is.1.0) in
     far_name text rest n.starts n.all e
 far (tokens.Number v) text rest is e = far_name text rest (digit_name text is.0) is.1 e
 
@@ -239,7 +239,7 @@ read_name text h free =
 read : (t : Token) (text rest : List ℕ) → IsLexeme t text → Ends text rest → token_of text ≡ Some t
 read (tokens.Word w) text rest is e = rw is (read_word w)
 read (tokens.Sign s) text rest is e = rw is (rw (sign_digit s, sign_again s) refl)
-read (tokens.Name m) text rest is e = rw is.0 (read_name m is.1 is.2)
+read (tokens.Name m) text rest is e = rw is.0 (read_name m is.1.0 is.1.1)
 read (tokens.Number v) text rest is e = let d = is.0 in let n = is.2 in rw (d, n) refl
 
 -- ---- what is read is spelled
@@ -274,7 +274,7 @@ is_number text (Err x) t e d a h = absurd (cc)
 is_word : (text : List ℕ) (r : Option Word) (t : Token) → find_word text ≡ r → word_or_name text r ≡ Some t → IsLexeme t text
 is_word text (Some w) t e h = let k : tokens.Word w ≡ t = cc in subst (λ t. IsLexeme t text) k (found_word text w e)
 is_word text None t e h = elim (chosen (is_name text) (Some (tokens.Name text)) None (Some t) h) [
-  | inl w ↦ let k : tokens.Name text ≡ t = cc in subst (λ t. IsLexeme t text) k (refl, w.0, ap is_some e)
+  | inl w ↦ let k : tokens.Name text ≡ t = cc in subst (λ t. IsLexeme t text) k (refl, (w.0, ap is_some e))
   | inr w ↦ absurd (let z = w.1 in cc)
 ]
 

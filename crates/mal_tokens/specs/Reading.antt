@@ -1,4 +1,4 @@
--- How the first token of a line is read: how far it reaches, then which token these bytes are.
+-- Computes which tokens a line spells: how far its first token reaches, then which token these bytes are.
 use Rattle.std.specs.Prelude.{ℕ, ℤ, ◌+◌, ◌==◌, ◌&&◌, ◌||◌, Bool, false, List, [], ◌∷◌, Option, Some, None, Result, Ok, Err, if◌then◌else◌}
 use Rattle.mic_base.specs.Name.{begins_digit, is_name, is_name_byte}
 use Rattle.mic_base.specs.Number.{number_of}

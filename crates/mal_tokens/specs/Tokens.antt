@@ -1,20 +1,20 @@
 -- Which tokens a line of the microassembly language spells.
 use Rattle.std.specs.Prelude.{◌≡◌, ℕ, true, false, List, Ok}
 use Rattle.std.specs.List.{list_all}
-use Rattle.mic_base.specs.Name.{begins_digit, is_name, is_name_byte}
+use Rattle.mic_base.specs.Name.{begins_digit, is_name_byte}
 use Rattle.mic_base.specs.Number.{number_of}
 use Rattle.source_text.specs.Tokens as source
 use Rattle.source_text.specs.Tokens.{Lexicon}
 use Rattle.source_text.specs.Runs.{begins_with, ends_with}
 use Rattle.mal_tokens.specs.declared.token.Token.{Token}
 use Rattle.mal_tokens.specs.declared.token.Token.TheVariants as tokens
-use Rattle.mal_tokens.specs.Words.{word_text, sign_text, is_reserved}
+use Rattle.mal_tokens.specs.Words.{word_text, sign_text, IsLabelText}
 
 -- the token is spelled by these bytes
 abbrev pub IsLexeme : Token → List ℕ → Type 0
 IsLexeme (tokens.Word w) text = text ≡ word_text w
 IsLexeme (tokens.Sign s) text = text ≡ sign_text s
-IsLexeme (tokens.Name n) text = (text ≡ n) × (is_name n ≡ true) × (is_reserved n ≡ false)
+IsLexeme (tokens.Name n) text = (text ≡ n) × IsLabelText n
 IsLexeme (tokens.Number v) text = (begins_digit text ≡ true) × (list_all is_name_byte text ≡ true) × (number_of text ≡ Ok v)
 
 -- behind a letter, a digit or `_` no such byte follows

@@ -1,6 +1,7 @@
 -- The reserved words, the signs and the dotted words, and how each is spelled.
-use Rattle.std.specs.Prelude.{ℕ, Bool, List, [], ◌∷◌, Option, codes, find, is_some}
+use Rattle.std.specs.Prelude.{◌≡◌, ℕ, Bool, true, false, List, [], ◌∷◌, Option, codes, find, is_some}
 use Rattle.std.specs.Str.{bytes_eq}
+use Rattle.mic_base.specs.Name.{is_name}
 use Rattle.mal_tokens.specs.declared.word.Word.{Word}
 use Rattle.mal_tokens.specs.declared.word.Word.TheVariants as words
 use Rattle.mal_tokens.specs.declared.sign.Sign.{Sign}
@@ -62,3 +63,7 @@ find_sign text = find (λ s. bytes_eq (sign_text s) text) all_signs
 
 abbrev pub is_reserved : List ℕ → Bool
 is_reserved text = is_some (find_word text)
+
+-- a label is a name, and no reserved word
+abbrev pub IsLabelText : List ℕ → Type 0
+IsLabelText label = (is_name label ≡ true) × (is_reserved label ≡ false)

@@ -1,5 +1,5 @@
-ghost use Rattle.std.specs.Prelude.{◌≡◌, ◌+◌, ◌<◌, ◌≤◌, ◌∷◌, ◌↔◌, None, Some, length, IfOk, IsErrOf, List, ℕ};
-ghost use Rattle.mic_base.specs.Name.{begins_digit, is_name_byte};
+ghost use Rattle.std.specs.Prelude.{◌≡◌, ◌+◌, ◌<◌, ◌≤◌, ◌∷◌, ◌↔◌, Some, length, IfOk, IsErrOf, List, ℕ};
+ghost use Rattle.mic_base.specs.Name.{begins_digit};
 ghost use Rattle.mic_base.specs.Number.{number_of};
 ghost use Rattle.source_text.specs.Runs.{begins_with};
 ghost use Rattle.mal_tokens.specs.Words.{find_word};
@@ -10,7 +10,7 @@ ghost use Rattle.mal_tokens.specs.Tokens.{Spells};
 use crate::sign::Sign;
 use crate::word::Word;
 use mic_base::{Name, Number};
-use source_text::{Language, TokenError, name_len};
+use source_text::{Language, TokenError, is_name_byte, name_len};
 use std::alloc::Global;
 
 /// A token of a line.
@@ -19,7 +19,7 @@ pub enum Token {
     Word(Word),
     Sign(Sign),
     Name(Name),
-    /// Its value is not below zero.
+    /// Its value.
     Number(i64),
 }
 
@@ -30,6 +30,9 @@ impl Language for Mal {
     type Token = Token;
 
     ghost use Rattle.mal_tokens.specs.Reading.{lexer};
+    ghost use Rattle.mal_tokens.specs.Tokens.{mal};
+
+    ghost lexicon = { mal };
 
     ghost lexer = { lexer };
 
@@ -52,12 +55,6 @@ impl Language for Mal {
             None => word_or_name(text),
         }
     }
-}
-
-fn is_name_byte(byte: u8) -> bool
-    ensures { result ≡ is_name_byte byte }
-{
-    byte.is_ascii_alphanumeric() || byte == b'_'
 }
 
 fn begins(first: u8, rest: &[u8]) -> bool
@@ -99,17 +96,19 @@ fn word_or_name(text: &[u8]) -> Option<Token>
     }
 }
 
-/// The tokens of a line without its comment.
-#[tactic(auto, unfolding(crate::specs::Reading::read))]
+/// The tokens that a line without its comment spells; BadToken where it spells none.
+#[tactic(auto, using(crate::proofs::Lexemes::agrees))]
 pub fn tokens_of(alloc: Global, line: &[u8]) -> Result<Vec<Token>, TokenError>
-    ensures ok { IfOk result (λ tokens. read line.now ≡ Some tokens.items) }
-    ensures bad { IsErrOf result TokenError.BadToken → read line.now ≡ None }
+    ensures ok { IfOk result (λ tokens. Spells line.now tokens.items) }
+    ensures bad { IsErrOf result TokenError.BadToken → (tokens : List Token) → Spells line.now tokens → ⊥ }
 {
     source_text::tokens_of::<Mal>(alloc, line)
 }
 
-/// What is read is what the line spells: so a line spells at most one list of tokens, and BadToken comes exactly where
-/// it spells none.
+/// What is read from a line is what it spells: so it spells at most one list of tokens.
+#[tactic(auto, using(crate::proofs::Lexemes::agrees), unfolding(crate::specs::Reading::read))]
 pub fn reads_what_is_spelled()
     ensures { (line : List ℕ) (tokens : List Token) → (read line ≡ Some tokens) ↔ Spells line tokens }
-{}
+{
+    source_text::reads_what_is_spelled::<Mal>();
+}

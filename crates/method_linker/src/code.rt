@@ -1,9 +1,9 @@
 //! The code of a unit.
 
-ghost use Rattle.std.specs.Prelude.{◌≡◌, ◌≤◌, ◌∷◌, [], ◌++◌, length, All, IfOk};
+ghost use Rattle.std.specs.Prelude.{◌≡◌, ◌≤◌, ◌∷◌, [], ◌++◌, length, All, IfOk, Err, true};
 ghost use Rattle.ijvm_instr.specs.Instructions.{spelling};
 ghost use Rattle.ijvm_program.specs.Layout.{code_size, instr_of};
-ghost use Rattle.method_linker.specs.Linked.{code_bytes, code_distances};
+ghost use Rattle.method_linker.specs.Linked.{code_bytes, code_distances, is_far};
 ghost use Rattle.method_linker.specs.Steps.{line_places, HasIndex, IsLinkable, IsPushed};
 
 use crate::error::LinkError;
@@ -34,7 +34,8 @@ fn push_line(
     distance: i32,
 ) -> Result<(), LinkError>
     requires { HasIndex first line.now.operation }
-    ensures { IsPushed text.old.items text.new.items (spelling (instr_of first distance line.now.operation)) ((line.now.line, distance) ∷ []) result }
+    ensures pushed { IsPushed text.old.items text.new.items (spelling (instr_of first distance line.now.operation)) ((line.now.line, distance) ∷ []) result }
+    ensures far { is_far distance ≡ true → result ≡ Err (LinkError.JumpTooFar line.now.line distance) }
 {
     if is_far(distance) {
         return Err(LinkError::JumpTooFar(line.line, distance));

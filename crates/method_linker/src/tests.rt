@@ -33,7 +33,7 @@ fn check_operation(
 /// Stops where the unit is none of such a program.
 fn check_unit(rt: &impl Abort, constants: usize, methods: usize, unit: &Unit)
     ensures unit { IsUnit constants methods unit.now }
-    ensures size { code_size unit.now.lines ≤ 4 * length unit.now.lines }
+    ensures size { code_size unit.now.lines ≤ 6 * length unit.now.lines }
 {
     assert!(rt; unit.labels().is_empty());
     assert!(rt; unit.parameters().len() <= 100);
@@ -188,6 +188,25 @@ fn links_a_call(rt: HostRuntime) -> Result<(), Fail> {
         b"\x13\x00\x00\x10\x14\x10\x16\xB6\x00\x01\xFD\xFF\x00\x03\x00\x01\x15\x01\x15\x02\x60\x36\x03\x15\x03\xAC";
     assert_eq!(rt; image.text(), text);
     assert_eq!(rt; image.pool(), [0x40, 0x0C].as_slice());
+    Ok(())
+}
+
+#[test]
+fn links_wide_forms(rt: HostRuntime) -> Result<(), Fail> {
+    let alloc = rt.alloc();
+    let lines = code(
+        alloc,
+        &[
+            Operation::Plain(Instr::Bipush(1)),
+            Operation::Plain(Instr::WideIstore(300)),
+            Operation::Plain(Instr::WideIinc(300, 1000)),
+            Operation::Plain(Instr::WideIload(300)),
+            HALT,
+        ],
+    )?;
+    let image = link(alloc, &alone(&rt, alloc, Vec::new(alloc), lines))?;
+    let text: &[u8] = b"\x10\x01\xC4\x36\x01\x2C\xC4\x84\x01\x2C\x03\xE8\xC4\x15\x01\x2C\xFF";
+    assert_eq!(rt; image.text(), text);
     Ok(())
 }
 

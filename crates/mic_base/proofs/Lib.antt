@@ -1,3 +1,4 @@
 pub mod DigitLemmas
 pub mod NameLemmas
 pub mod NumberLemmas
+pub mod FileLemmas

@@ -18,3 +18,6 @@ writer_faults s = s.faults
 
 abbrev pub runtime_of : {R : Type 0} → StdFiles R → R
 runtime_of s = s.rt
+
+abbrev pub runtime_faults : {R : Type 0} → StdFiles R → ℕ
+runtime_faults s = s.faults

@@ -98,6 +98,9 @@ fn memory_is_there(rt: HostRuntime) -> Result<(), Fail> {
     assert_eq!(rt; sink.put(b"c"), Err(SinkFailed));
     assert_eq!(rt; sink.put(b"cd"), Ok(()));
     assert_eq!(rt; sink.bytes(), b"abcd".as_slice());
+    assert_eq!(rt; sink.passed(), b"".as_slice());
+    assert_eq!(rt; sink.flush(), Ok(()));
+    assert_eq!(rt; sink.passed(), b"abcd".as_slice());
 
     let mut files = MemFiles::new(alloc, vec![in alloc; 3]?);
     files.add("a", b"one")?;

@@ -9,10 +9,10 @@ use Rattle.ijvm_instr.specs.declared.row.Flow.{Flow}
 use Rattle.ijvm_instr.specs.declared.row.Flow.TheVariants.{Next, Call}
 use Rattle.ijvm_instr.specs.Instructions.{row_of, size_of, instr_at}
 use Rattle.ijvm_image.specs.Image.{ImageView}
-use Rattle.ijvm_verifier.specs.declared.error.VerifyError.TheVariants.{Underflow}
-use Rattle.ijvm_verifier.specs.Paths.{Arrival, arrival, Follows, On, Into, Goes, GoesOn, Reached, Start, Then, HasConstant, left_unset, need_of}
-use Rattle.ijvm_verifier.specs.Facts.{Accepts, IsMainCount, IsNoCall, MainNames, Names}
-use Rattle.ijvm_verifier.specs.Accepted.{IsAccepted, VerifiedView}
+use Rattle.ijvm_paths.specs.declared.error.VerifyError.TheVariants.{Underflow}
+use Rattle.ijvm_paths.specs.Paths.{Arrival, arrival, Follows, On, Into, Goes, GoesOn, Reached, Start, Then, HasConstant, left_unset, need_of, IsNoCall}
+use Rattle.ijvm_paths.specs.Facts.{Accepts, IsMainCount, MainNames, Names}
+use Rattle.ijvm_paths.specs.Accepted.{IsAccepted, VerifiedView}
 use Rattle.shipped_microcode.specs.Straight.{image_of, IsPlain, IsFrom, IsStraight, Runs, underflow}
 use Rattle.mic_tool.specs.Outside.{Streams}
 use Rattle.mic_tool.specs.RunEnds.{Built, ClockedEnd, IsBuilt, ProgramEnds}
@@ -52,10 +52,18 @@ module _ (image : ImageView) where
     from : IsFrom image.text a.at rest
 
   next_of : (r : Row) (at next to : ℕ) → r.flow ≡ Next → GoesOn r.flow at next to → to ≡ next
-  next_of r at next to flow way = subst (λ (f : Flow). GoesOn f at next to) flow way
+  next_of r at next to flow way = on_next (subst (λ (f : Flow). GoesOn f at next to) flow way)
+    where
+      on_next : GoesOn Next at next to → to ≡ next
+      on_next (inl on) = on.1
+      on_next (inr off) = cc off.1
 
   halted : (r : Row) (at next to : ℕ) → r ≡ row_of Halt → GoesOn r.flow at next to → ⊥
-  halted r at next to is way = subst (λ (s : Row). GoesOn s.flow at next to) is way
+  halted r at next to is way = no_way (subst (λ (s : Row). GoesOn s.flow at next to) is way)
+    where
+      no_way : GoesOn (row_of Halt).flow at next to → ⊥
+      no_way (inl on) = cc on.0
+      no_way (inr off) = cc off.1
 
   on_form_next : (a b : Arrival) → OnForm a → Follows image a b → OnForm b
   on_form_next a b o (On r need g) =
@@ -105,7 +113,7 @@ module _ (image : ImageView) where
       Accepts image 0x10000 → depth < (row_of i).needs → ⊥
   here at depth i reached e s accepts few =
       accepts (Underflow at)
-      (arrival None at depth None, reached, (refl, row_of i, (i, e, refl), subst IsNoCall (sym s.flow) tt, few))
+      (arrival None at depth None, reached, (refl, row_of i, (i, e, refl), subst IsNoCall (sym s.flow) refl, few))
 
   onward : (at depth : ℕ) (i : Instr) → Reached image (arrival None at depth None) → instr_at image.text at ≡ Some i → IsSimple (row_of i) →
       (row_of i).needs ≤ depth → at + size_of (row_of i) < length image.text →
@@ -119,7 +127,7 @@ module _ (image : ImageView) where
           needs = subst (λ (f : Flow). need_of image (row_of i).needs f ≡ Some (row_of i).needs) (sym s.flow) refl;
           enough = enough;
         };
-        way = subst (λ (f : Flow). GoesOn f at (at + size_of (row_of i)) (at + size_of (row_of i))) (sym s.flow) refl;
+        way = subst (λ (f : Flow). GoesOn f at (at + size_of (row_of i)) (at + size_of (row_of i))) (sym s.flow) (inl (refl, refl));
         inside = within;
         unit_is = refl;
         depth_is = omega arith;

@@ -8,7 +8,7 @@ use Rattle.mic1_datapath.specs.declared.mic1.Mic1.{Mic1}
 use Rattle.mic1_datapath.specs.Mic1.{registers_of}
 use Rattle.mic1_datapath.specs.View.{micro_of}
 use Rattle.ijvm_image.specs.Image.{ImageView}
-use Rattle.ijvm_verifier.specs.Accepted.{VerifiedView}
+use Rattle.ijvm_paths.specs.Accepted.{VerifiedView}
 use Rattle.shipped_microcode.specs.Straight.{IsStraight}
 use Rattle.shipped_microcode.specs.Headline.{HasRun, IsCutByWrite}
 use Rattle.mic_words.specs.Words.{default_bound}

@@ -3,7 +3,7 @@ use Rattle.std.proofs.Common.{◌≡◌, ◌≢◌, ◌<◌, ℕ, List, Option, 
 use Rattle.std.specs.Prelude.{IfSome, IsSomeAnd, replicate}
 use Rattle.std.proofs.lemmas.List.{length-replicate}
 use Rattle.mic_work.specs.Outside.{files_state}
-use Rattle.mic_base.specs.Files.{Contents, Tells, most_bytes}
+use Rattle.mic_base.specs.Files.{Contents, Tells, file_in, most_bytes}
 use Rattle.mic_base.specs.declared.files.FileError.{FileError}
 use Rattle.mic_base.specs.declared.files.FileError.TheVariants as errors
 
@@ -15,10 +15,10 @@ list_of : (n : ℕ) → (bytes : List ℕ) × (length bytes ≡ n)
 list_of n = (replicate n 0, length-replicate n 0)
 
 -- it has too many bytes, or may have
-pub too_long : (told : Option Contents) (name : List ℕ) → IfSome told (λ contents. IsSomeAnd (contents name) (λ bytes. most_bytes < length bytes)) →
+pub too_long : (told : Option Contents) (name : List ℕ) → IfSome told (λ contents. IsSomeAnd (file_in contents name) (λ bytes. most_bytes < length bytes)) →
     (bytes : List ℕ) × Tells told name bytes × (most_bytes < length bytes)
 too_long None name h = let list : (bytes : List ℕ) × (length bytes ≡ 1048577) = list_of 1048577 in (list.0, tt, omega (arith, list.1))
-too_long (Some contents) name h = in_file (contents name) h
+too_long (Some contents) name h = in_file (file_in contents name) h
 
 -- A call that answered another error did not fail.
 

@@ -9,7 +9,7 @@ use Rattle.mal_parser.specs.declared.error.MalError.{MalError}
 use Rattle.mal_parser.specs.declared.error.MalError.TheVariants as mal
 use Rattle.mal_parser.specs.declared.statement.Statement.{Statement}
 use Rattle.mal_parser.specs.Program.{Program}
-use Rattle.mal_parser.specs.Sketch.{is_memory}
+use Rattle.mal_parser.specs.Text.{is_memory}
 use Rattle.store_placement.specs.declared.refusal.PlaceError.{PlaceError}
 use Rattle.store_placement.specs.declared.refusal.PlaceError.TheVariants as place
 use Rattle.store_placement.specs.declared.store_error.StoreError.{StoreError}

@@ -1,4 +1,4 @@
-//! Names in the order in which they came, each found by its text in logarithmic time.
+//! Names in the order in which they came, each found by its text.
 #![tactic(auto)]
 
 mod names;

@@ -1,4 +1,4 @@
-ghost use Rattle.std.specs.Prelude.{◌≡◌, ◌<◌, ◌++◌, ◌∷◌, [], None, OnOk, length};
+ghost use Rattle.std.specs.Prelude.{◌≡◌, ◌<◌, ◌++◌, ◌∷◌, [], None, OnOk, OnErr, IfSome, length};
 ghost use Rattle.name_list.specs.Places.{place_of};
 
 use mic_base::Name;
@@ -48,8 +48,10 @@ impl NameList {
     }
 
     /// The place of a name, from 0.
+    #[tactic(auto, using(crate::proofs::Adding::place_below))]
     pub fn find(&self, name: &Name) -> Option<u32>
-        ensures { result ≡ place_of self.now name.now }
+        ensures is { result ≡ place_of self.now name.now }
+        ensures within { IfSome result (λ place. place < length self.now) }
     {
         self.places.get(name).copied()
     }
@@ -57,7 +59,8 @@ impl NameList {
     /// Puts a new name behind the others.
     pub fn add(&mut self, name: Name) -> Result<(), AllocError>
         requires { place_of self.old name ≡ None }
-        ensures { OnOk result (self.new ≡ self.old ++ name ∷ []) }
+        ensures ok { OnOk result (self.new ≡ self.old ++ name ∷ []) }
+        ensures err { OnErr result (self.new ≡ self.old) }
     {
         let place = self.len();
         if place >= u32::MAX {

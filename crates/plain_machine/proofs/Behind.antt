@@ -6,7 +6,7 @@ use Rattle.machine_words.specs.declared.machine.Machine.{Machine}
 use Rattle.machine_words.specs.Arithmetic.{plus, minus, is_negative}
 use Rattle.console_port.specs.World.{next_byte}
 use Rattle.ijvm_instr.specs.declared.instr.Instr.{Instr}
-use Rattle.ijvm_instr.specs.declared.instr.Instr.TheVariants.{Nop, Bipush, LdcW, Iload, Istore, Pop, Dup, Swap, Iadd, Isub, Iand, Iinc, Ifeq, Iflt, IfIcmpeq, Goto, Ireturn, Ior, Invokevirtual, WideIload, WideIstore, In, Out, Err, Halt}
+use Rattle.ijvm_instr.specs.declared.instr.Instr.TheVariants.{Nop, Bipush, LdcW, Iload, Istore, Pop, Dup, Swap, Iadd, Isub, Iand, Iinc, Ifeq, Iflt, IfIcmpeq, Goto, Ireturn, Ior, Invokevirtual, WideIload, WideIstore, WideIinc, In, Out, Err, Halt}
 use Rattle.ijvm_image.specs.declared.method.Method.{Method}
 use Rattle.ijvm_run.specs.declared.run.RunEnd.TheVariants as ends
 use Rattle.ijvm_instr.specs.Instructions.{instr_at}
@@ -56,10 +56,10 @@ stored_at : (g : List ℕ) (s : State) (k : ℕ) (operands : List ℕ) (to : ℕ
 stored_at g s k [] to = refl
 stored_at g s k (v ∷ rest) to = stored_by g (is_own s.running.back k) (nat_lt k (length s.running.locals)) (with_local s k v rest to)
 
-increased_at : (g : List ℕ) (s : State) (k : ℕ) (b : ℤ) (v : Option (Option ℕ)) → increased (behind g s) k b v ≡ lifted g (increased s k b v)
-increased_at g s k b None = refl
-increased_at g s k b (Some None) = refl
-increased_at g s k b (Some (Some v)) = refl
+increased_at : (g : List ℕ) (s : State) (k : ℕ) (b : ℤ) (v : Option (Option ℕ)) (to : ℕ) → increased (behind g s) k b v to ≡ lifted g (increased s k b v to)
+increased_at g s k b None to = refl
+increased_at g s k b (Some None) to = refl
+increased_at g s k b (Some (Some v)) to = refl
 
 popped_at : (g : List ℕ) (s : State) (operands : List ℕ) → popped (behind g s) operands ≡ lifted g (popped s operands)
 popped_at g s [] = refl
@@ -122,7 +122,7 @@ step_at image n Swap g s = swapped_at g s s.running.operands
 step_at image n Iadd g s = combined_at g plus s s.running.operands
 step_at image n Isub g s = combined_at g minus s s.running.operands
 step_at image n Iand g s = combined_at g bit_and s s.running.operands
-step_at image n (Iinc k b) g s = increased_at g s k b (slice_get s.running.locals k)
+step_at image n (Iinc k b) g s = increased_at g s k b (slice_get s.running.locals k) (s.at + 3)
 step_at image n (Ifeq o) g s = branched_at g (λ y. y == 0) s o s.running.operands
 step_at image n (Iflt o) g s = branched_at g is_negative s o s.running.operands
 step_at image n (IfIcmpeq o) g s = compared_at g s o s.running.operands
@@ -132,6 +132,7 @@ step_at image n Ior g s = combined_at g bit_or s s.running.operands
 step_at image n (Invokevirtual k) g s = called_to g n s (method_at image.text (slice_get image.pool k))
 step_at image n (WideIload k) g s = loaded_at g n s (slice_get s.running.locals k) (s.at + 4)
 step_at image n (WideIstore k) g s = stored_at g s k s.running.operands (s.at + 4)
+step_at image n (WideIinc k z) g s = increased_at g s k z (slice_get s.running.locals k) (s.at + 6)
 step_at image n In g s = pushed_at g n (taken s) (next_byte s.untaken) (s.at + 1)
 step_at image n Out g s = given_at g s s.running.operands
 step_at image n Err g s = refl

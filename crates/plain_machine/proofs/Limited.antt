@@ -4,7 +4,7 @@ use Rattle.std.specs.Prelude.{slice_get, bit_and, bit_or}
 use Rattle.machine_words.specs.Arithmetic.{plus, minus, is_negative}
 use Rattle.console_port.specs.World.{next_byte}
 use Rattle.ijvm_instr.specs.declared.instr.Instr.{Instr}
-use Rattle.ijvm_instr.specs.declared.instr.Instr.TheVariants.{Nop, Bipush, LdcW, Iload, Istore, Pop, Dup, Swap, Iadd, Isub, Iand, Iinc, Ifeq, Iflt, IfIcmpeq, Goto, Ireturn, Ior, Invokevirtual, WideIload, WideIstore, In, Out, Err, Halt}
+use Rattle.ijvm_instr.specs.declared.instr.Instr.TheVariants.{Nop, Bipush, LdcW, Iload, Istore, Pop, Dup, Swap, Iadd, Isub, Iand, Iinc, Ifeq, Iflt, IfIcmpeq, Goto, Ireturn, Ior, Invokevirtual, WideIload, WideIstore, WideIinc, In, Out, Err, Halt}
 use Rattle.ijvm_image.specs.declared.method.Method.{Method}
 use Rattle.ijvm_instr.specs.Instructions.{instr_at}
 use Rattle.ijvm_image.specs.Image.{ImageView, method_at}
@@ -44,10 +44,10 @@ stored_at : (s : State) (k : ℕ) (operands : List ℕ) (to : ℕ) (out : State)
 stored_at s k [] to out e = absurd (cc)
 stored_at s k (v ∷ rest) to out e = absurd (never_stored (is_own s.running.back k) (nat_lt k (length s.running.locals)) (with_local s k v rest to) out e)
 
-increased_at : (s : State) (k : ℕ) (b : ℤ) (v : Option (Option ℕ)) (out : State) → increased s k b v ≡ Limits out → SameFrames s out
-increased_at s k b None out e = absurd (cc)
-increased_at s k b (Some None) out e = absurd (cc)
-increased_at s k b (Some (Some v)) out e = absurd (cc)
+increased_at : (s : State) (k : ℕ) (b : ℤ) (v : Option (Option ℕ)) (to : ℕ) (out : State) → increased s k b v to ≡ Limits out → SameFrames s out
+increased_at s k b None to out e = absurd (cc)
+increased_at s k b (Some None) to out e = absurd (cc)
+increased_at s k b (Some (Some v)) to out e = absurd (cc)
 
 popped_at : (s : State) (operands : List ℕ) (out : State) → popped s operands ≡ Limits out → SameFrames s out
 popped_at s [] out e = absurd (cc)
@@ -115,7 +115,7 @@ step_at image n Swap s out e = swapped_at s s.running.operands out e
 step_at image n Iadd s out e = combined_at plus s s.running.operands out e
 step_at image n Isub s out e = combined_at minus s s.running.operands out e
 step_at image n Iand s out e = combined_at bit_and s s.running.operands out e
-step_at image n (Iinc k b) s out e = increased_at s k b (slice_get s.running.locals k) out e
+step_at image n (Iinc k b) s out e = increased_at s k b (slice_get s.running.locals k) (s.at + 3) out e
 step_at image n (Ifeq o) s out e = branched_at _ s o s.running.operands out e
 step_at image n (Iflt o) s out e = branched_at is_negative s o s.running.operands out e
 step_at image n (IfIcmpeq o) s out e = compared_at s o s.running.operands out e
@@ -125,6 +125,7 @@ step_at image n Ior s out e = combined_at bit_or s s.running.operands out e
 step_at image n (Invokevirtual k) s out e = called_to n s (method_at image.text (slice_get image.pool k)) out e
 step_at image n (WideIload k) s out e = loaded_at n s (slice_get s.running.locals k) (s.at + 4) out e
 step_at image n (WideIstore k) s out e = stored_at s k s.running.operands (s.at + 4) out e
+step_at image n (WideIinc k z) s out e = increased_at s k z (slice_get s.running.locals k) (s.at + 6) out e
 step_at image n In s out e = read_at n s out e
 step_at image n Out s out e = given_at s s.running.operands out e
 step_at image n Err s out e = absurd (cc)

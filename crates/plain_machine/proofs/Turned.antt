@@ -1,7 +1,7 @@
 -- What comes of an instruction on the machine.
 use Rattle.std.proofs.Common.{◌≡◌, ◌≢◌, ℕ, List, Some, refl, ap}
 use Rattle.ijvm_instr.specs.declared.instr.Instr.{Instr}
-use Rattle.ijvm_instr.specs.declared.instr.Instr.TheVariants.{Nop, Bipush, LdcW, Iload, Istore, Pop, Dup, Swap, Iadd, Isub, Iand, Iinc, Ifeq, Iflt, IfIcmpeq, Goto, Ireturn, Ior, Invokevirtual, WideIload, WideIstore, In, Out, Err, Halt}
+use Rattle.ijvm_instr.specs.declared.instr.Instr.TheVariants.{Nop, Bipush, LdcW, Iload, Istore, Pop, Dup, Swap, Iadd, Isub, Iand, Iinc, Ifeq, Iflt, IfIcmpeq, Goto, Ireturn, Ior, Invokevirtual, WideIload, WideIstore, WideIinc, In, Out, Err, Halt}
 use Rattle.plain_machine.specs.declared.compute.Effect.{Effect}
 use Rattle.plain_machine.specs.declared.compute.Effect.TheVariants as effects
 use Rattle.ijvm_instr.specs.Instructions.{instr_at}
@@ -33,6 +33,7 @@ is_computed Ior h e n m = tt
 is_computed (Invokevirtual k) h e n m = tt
 is_computed (WideIload k) h e n m = tt
 is_computed (WideIstore k) h e n m = tt
+is_computed (WideIinc k z) h e n m = tt
 is_computed Err h e n m = e refl
 is_computed Halt h e n m = h refl
 

@@ -1,16 +1,16 @@
 -- The plain machine: frames over an image. The console's bytes are not in it.
-use Rattle.std.specs.Prelude.{◌≡◌, ◌≤◌, ◌<◌, ℕ, ◌&&◌, Bool, true, false, nat_lt, List, [], ◌∷◌, length, replicate, take, drop, ◌+◌, ◌-◌, slice_set, Option, Some, None, bit_and, bit_or}
+use Rattle.std.specs.Prelude.{◌≡◌, ◌≤◌, ◌<◌, ℕ, ◌&&◌, Bool, true, false, nat_lt, List, [], ◌∷◌, length, ◌-◌, slice_set, Option, Some, None, bit_and, bit_or}
 use Rattle.ijvm_instr.specs.declared.instr.Instr.{Instr}
 use Rattle.ijvm_instr.specs.declared.instr.Instr.TheVariants.{In, Out, Err, Halt}
 use Rattle.ijvm_image.specs.declared.method.Method.{Method}
 use Rattle.ijvm_image.specs.Image.{ImageView}
-use Rattle.ijvm_run.specs.Frames.{Frame, State, base, IsWord}
+use Rattle.ijvm_run.specs.Frames.{Frame, State, start_of, base, IsWord}
 use Rattle.machine_words.specs.Arithmetic.{plus, minus}
 use Rattle.plain_machine.specs.declared.compute.Operator.{Operator}
 use Rattle.plain_machine.specs.declared.compute.Operator.TheVariants as operators
 use Rattle.plain_machine.specs.declared.compute.Effect.{Effect}
 use Rattle.plain_machine.specs.declared.compute.Effect.TheVariants as effects
-use Rattle.ijvm_run.specs.Step.{Outcome, Goes, Limits, Stuck, is_own, called}
+use Rattle.ijvm_run.specs.Step.{Outcome, Goes, Limits, Stuck, is_own, in_method}
 
 pub record MachineView : Type 0 where
   pub image : ImageView
@@ -24,16 +24,13 @@ pub record MachineView : Type 0 where
 abbrev pub state_of : MachineView → List ℕ → List ℕ → State
 state_of m untaken given = record { running = m.running; callers = m.callers; at = m.at; untaken = untaken; given = given }
 
+-- the machine with this state's frames and address
+abbrev pub machine_at : ImageView → ℕ → State → MachineView
+machine_at image stack_end s = record { image = image; stack_end = stack_end; running = s.running; callers = s.callers; at = s.at }
+
 -- the start of a run, with so many locals of main
 abbrev pub started : ImageView → ℕ → ℕ → MachineView
-started image stack_end main_locals =
-    record {
-      image = image;
-      stack_end = stack_end;
-      running = record { locals = replicate main_locals (Some 0); operands = []; back = None };
-      callers = [];
-      at = 0;
-    }
+started image stack_end main_locals = machine_at image stack_end (start_of main_locals [])
 
 -- where the frames lie: the running one begins at this word address, and all end before the stack's end
 pub record ArePlaced (stack_end lv : ℕ) (running : Frame) (callers : List Frame) : Type 0 where
@@ -48,12 +45,7 @@ pub record KeepsProgram (old new : MachineView) : Type 0 where
 
 -- the machine in a method that is called with the last operands
 abbrev pub in_call : MachineView → Method → MachineView
-in_call m method =
-    record m {
-      running = called (take (method.params - 1) m.running.operands) method.others (m.at + 3);
-      callers = record m.running { operands = drop (method.params - 1 + 1) m.running.operands } ∷ m.callers;
-      at = method.entry + 4;
-    }
+in_call m method = machine_at m.image m.stack_end (in_method (state_of m [] []) method (method.params - 1))
 
 -- the machine that has returned a value to a caller, at this address
 abbrev pub in_caller : MachineView → ℕ → ℕ → Frame → List Frame → MachineView

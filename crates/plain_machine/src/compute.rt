@@ -117,18 +117,18 @@ pub fn store(machine: &mut PlainMachine, index: u16, size: u32) -> Effect
     Effect::Went
 }
 
-/// Adds a signed byte to a local.
+/// Adds a signed number to a local.
 #[tactic(auto, unfolding(machine_words::specs::Arithmetic::wrap))]
-pub fn increase(machine: &mut PlainMachine, index: u16, by: i8) -> Effect
-    requires { machine.old.at + 3 < 2 ^ 32 }
-    ensures leads { Leads (λ s. increased s index by (slice_get s.running.locals index)) result machine.old machine.new }
+pub fn increase(machine: &mut PlainMachine, index: u16, by: i16, size: u32) -> Effect
+    requires { machine.old.at + size < 2 ^ 32 }
+    ensures leads { Leads (λ s. increased s index by (slice_get s.running.locals index) (s.at + size)) result machine.old machine.new }
     ensures program { KeepsProgram machine.old machine.new }
 {
     let Some(value) = machine.local(index) else {
         return Effect::Stuck;
     };
     machine.set_local(index, value.wrapping_add(i32::from(by).cast_unsigned()));
-    machine.go(machine.address() + 3);
+    machine.go(machine.address() + size);
     Effect::Went
 }
 
@@ -284,7 +284,7 @@ pub fn return_top(machine: &mut PlainMachine) -> Result<Effect, AllocError>
 
 /// Does one instruction.
 pub fn compute(machine: &mut PlainMachine, instr: Instr) -> Result<Effect, AllocError>
-    requires at { machine.old.at + 4 < 2 ^ 32 }
+    requires at { machine.old.at + 6 < 2 ^ 32 }
     requires computed { IsComputed instr }
     ensures ok { IfOk result (λ e. Leads (step machine.old.image machine.old.stack_end instr) e machine.old machine.new) }
     ensures err { OnErr result (machine.new ≡ machine.old) }
@@ -302,7 +302,7 @@ pub fn compute(machine: &mut PlainMachine, instr: Instr) -> Result<Effect, Alloc
         Instr::Iadd => Ok(combine(machine, Operator::Add)),
         Instr::Isub => Ok(combine(machine, Operator::Subtract)),
         Instr::Iand => Ok(combine(machine, Operator::And)),
-        Instr::Iinc(k, b) => Ok(increase(machine, u16::from(k), b)),
+        Instr::Iinc(k, b) => Ok(increase(machine, u16::from(k), i16::from(b), 3)),
         Instr::Ifeq(o) => Ok(branch_if_zero(machine, o)),
         Instr::Iflt(o) => Ok(branch_if_negative(machine, o)),
         Instr::IfIcmpeq(o) => Ok(branch_if_equal(machine, o)),
@@ -312,6 +312,7 @@ pub fn compute(machine: &mut PlainMachine, instr: Instr) -> Result<Effect, Alloc
         Instr::Invokevirtual(k) => call(machine, k),
         Instr::WideIload(k) => load(machine, k, 4),
         Instr::WideIstore(k) => Ok(store(machine, k, 4)),
+        Instr::WideIinc(k, n) => Ok(increase(machine, k, n, 6)),
         Instr::In | Instr::Out | Instr::Err | Instr::Halt => unreachable!(),
     }
 }

@@ -5,7 +5,7 @@ use Rattle.mic_work.specs.Work.{Answered, Prints, Refuses, Writes, IsCarriedOut,
 use Rattle.ijvm_image.specs.Image.{ImageView}
 use Rattle.ijvm_image.specs.ImageFile.{file_of}
 use Rattle.program_texts.specs.Summary.{sizes}
-use Rattle.ijvm_verifier.specs.Accepted.{VerifiedView}
+use Rattle.ijvm_paths.specs.Accepted.{VerifiedView}
 use Rattle.program_commands.specs.Program.{IsProgram, IsSource}
 use Rattle.program_commands.specs.Assemble as assemble
 use Rattle.program_commands.specs.Assemble.{AssembleComes, Assembled, Denied, IsDenied, IsPut, Put, Unassembled, writes}

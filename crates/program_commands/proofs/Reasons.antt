@@ -4,10 +4,10 @@ use Rattle.std.specs.Prelude.{IfErr}
 use Rattle.ijvm_image.specs.declared.image.ImageError.{ImageError}
 use Rattle.ijvm_image.specs.declared.image.ImageError.TheVariants as images
 use Rattle.ijvm_image.specs.Image.{ImageView}
-use Rattle.ijvm_image.specs.ImageFile.{image_read}
-use Rattle.ijvm_verifier.specs.declared.error.VerifyError.{VerifyError}
-use Rattle.ijvm_verifier.specs.declared.error.VerifyError.TheVariants as facts
-use Rattle.ijvm_verifier.specs.Facts.{Holds}
+use Rattle.ijvm_image.specs.ImageFile.{IsRefused as IsRefusedFile}
+use Rattle.ijvm_paths.specs.declared.error.VerifyError.{VerifyError}
+use Rattle.ijvm_paths.specs.declared.error.VerifyError.TheVariants as facts
+use Rattle.ijvm_paths.specs.Facts.{Holds}
 use Rattle.program_texts.specs.Refusals.{image_reason, link_reason, source_reason, verify_reason}
 use Rattle.program_commands.specs.declared.program.Unaccepted.{Unaccepted}
 use Rattle.program_commands.specs.Program.{IsNoSource, IsOf, IsRefused, IsUnaccepted, IsUnlinked, NoImage, NoProgram, NoSource, NotAccepted, NotLinked, begins_image, unaccepted_by}
@@ -25,7 +25,7 @@ by_reason : (bytes : List ℕ) (reason : Option (List ℕ)) → ((text : List �
 by_reason bytes None refuses = tt
 by_reason bytes (Some text) refuses = refuses text refl
 
-pub no_image : (bytes : List ℕ) (e : ImageError) (u : Unaccepted) → begins_image bytes ≡ true → (e ≡ images.OutOfMemory) ⊎ (image_read bytes ≡ Err e) →
+pub no_image : (bytes : List ℕ) (e : ImageError) (u : Unaccepted) → begins_image bytes ≡ true → (e ≡ images.OutOfMemory) ⊎ IsRefusedFile bytes e →
     u ≡ unaccepted_by (image_reason e) → IsUnaccepted bytes u
 no_image bytes e u begins (inl short) is =
     subst (IsUnaccepted bytes) (sym (is ∙ ap (λ (x : ImageError). unaccepted_by (image_reason x)) short)) tt

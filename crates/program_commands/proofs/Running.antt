@@ -6,7 +6,7 @@ use Rattle.plain_machine.specs.declared.plain.PlainEnd.TheVariants as ends
 use Rattle.plain_machine.specs.declared.plain.PlainReport.{PlainReport}
 use Rattle.plain_machine.specs.Runs.{HasRunCause}
 use Rattle.plain_machine.specs.Plain.{HasRun, IsCutByRead, IsCutByWrite}
-use Rattle.ijvm_verifier.specs.Accepted.{VerifiedView}
+use Rattle.ijvm_paths.specs.Accepted.{VerifiedView}
 use Rattle.mic_work.specs.Outside.{SinkState, SourceState, Says}
 use Rattle.program_texts.specs.Report.{report, status_of}
 use Rattle.program_commands.specs.Reference.{CutByRead, CutByWrite, IsRun, Ran, program_of}

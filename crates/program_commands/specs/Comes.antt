@@ -3,7 +3,7 @@ use Rattle.std.specs.Prelude.{◌≡◌, ℕ, List}
 use Rattle.mic_work.specs.Work.{Answered, Prints, Refuses}
 use Rattle.mic_work.specs.Messages.{message, out_of_memory}
 use Rattle.mic_work.specs.Outside.{SinkState, Says}
-use Rattle.ijvm_verifier.specs.Accepted.{VerifiedView}
+use Rattle.ijvm_paths.specs.Accepted.{VerifiedView}
 use Rattle.program_commands.specs.Program.{IsProgram, IsRefused}
 
 -- the answer where the file holds no accepted program

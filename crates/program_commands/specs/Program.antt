@@ -1,8 +1,8 @@
 -- What a file holds, by its bytes: an image or a source of one, that is accepted or refused for a reason.
-use Rattle.std.specs.Prelude.{◌≡◌, ℕ, Bool, false, true, ◌==◌, List, [], ◌∷◌, Option, None, Some, Err}
+use Rattle.std.specs.Prelude.{◌≡◌, ℕ, Bool, false, true, ◌==◌, List, [], ◌∷◌, Option, None, Some}
 use Rattle.ijvm_image.specs.declared.image.ImageError.{ImageError}
 use Rattle.ijvm_image.specs.Image.{ImageView, IsWithinLimits}
-use Rattle.ijvm_image.specs.ImageFile.{IsFileOf, image_read}
+use Rattle.ijvm_image.specs.ImageFile.{IsFileOf, IsRefused as IsRefusedFile}
 use Rattle.ijvm_program.specs.Program.{ProgramView}
 use Rattle.ijvm_asm.specs.declared.error.AsmError.{AsmError}
 use Rattle.ijvm_asm.specs.Text.{Spells}
@@ -10,9 +10,9 @@ use Rattle.ijvm_asm.specs.Text as assembler
 use Rattle.method_linker.specs.declared.error.LinkError.{LinkError}
 use Rattle.method_linker.specs.Linked.{IsLinked}
 use Rattle.method_linker.specs.Linked as linker
-use Rattle.ijvm_verifier.specs.declared.error.VerifyError.{VerifyError}
-use Rattle.ijvm_verifier.specs.Accepted.{IsAccepted, VerifiedView}
-use Rattle.ijvm_verifier.specs.Facts.{Holds}
+use Rattle.ijvm_paths.specs.declared.error.VerifyError.{VerifyError}
+use Rattle.ijvm_paths.specs.Accepted.{IsAccepted, VerifiedView}
+use Rattle.ijvm_paths.specs.Facts.{Holds}
 use Rattle.program_texts.specs.Refusals.{image_reason, link_reason, source_reason, verify_reason}
 use Rattle.program_commands.specs.declared.program.Unaccepted.{Unaccepted}
 use Rattle.program_commands.specs.declared.program.Unaccepted.TheVariants as reasons
@@ -45,7 +45,7 @@ pub record IsProgram (bytes : List ℕ) (program : VerifiedView) : Type 0 where
 
 -- the file is refused, for this reason
 pub data IsRefused (bytes reason : List ℕ) : Type 0 where
-  NoImage : (e : ImageError) → begins_image bytes ≡ true → image_read bytes ≡ Err e → image_reason e ≡ Some reason → IsRefused bytes reason
+  NoImage : (e : ImageError) → begins_image bytes ≡ true → IsRefusedFile bytes e → image_reason e ≡ Some reason → IsRefused bytes reason
   NoProgram : begins_image bytes ≡ false → IsNoSource bytes reason → IsRefused bytes reason
   NotAccepted : (image : ImageView) (e : VerifyError) → IsOf bytes image → Holds image 0x10000 e → verify_reason e ≡ Some reason → IsRefused bytes reason
 

@@ -6,7 +6,7 @@ use Rattle.plain_machine.specs.declared.plain.PlainEnd.TheVariants as ends
 use Rattle.plain_machine.specs.declared.plain.PlainReport.{PlainReport}
 use Rattle.ijvm_run.specs.Run.{Program}
 use Rattle.plain_machine.specs.Plain.{HasRun, IsCutByRead, IsCutByWrite, IsShort}
-use Rattle.ijvm_verifier.specs.Accepted.{VerifiedView}
+use Rattle.ijvm_paths.specs.Accepted.{VerifiedView}
 use Rattle.mic_work.specs.Outside.{Desk, SinkState, SourceState, Says}
 use Rattle.mic_work.specs.Messages.{out_of_memory}
 use Rattle.mic_work.specs.Work.{Ends, IsRead}

@@ -8,8 +8,8 @@ use Rattle.std.specs.List.{concat}
 use Rattle.std.proofs.Math.ListN.{get_or-append}
 use Rattle.std.proofs.Math.Seq.{get_or-append_seam}
 use Rattle.ijvm_image.specs.Image.{ImageView}
-use Rattle.ijvm_verifier.specs.declared.kind.Kind.TheVariants as kinds
-use Rattle.ijvm_verifier.specs.Kinds.{IsKind}
+use Rattle.ijvm_paths.specs.declared.kind.Kind.TheVariants as kinds
+use Rattle.ijvm_paths.specs.Kinds.{IsKind}
 use Rattle.ijvm_instr.specs.Instructions.{instr_at}
 use Rattle.program_texts.specs.Listing.{AreLines, IsLineAt, constant_line, pool_text}
 

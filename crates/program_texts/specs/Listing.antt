@@ -7,9 +7,9 @@ use Rattle.ijvm_instr.specs.declared.instr.Instr.{Instr}
 use Rattle.ijvm_instr.specs.Instructions.{instr_at}
 use Rattle.ijvm_image.specs.Image.{ImageView, params, others}
 use Rattle.ijvm_instr.specs.Text.{instr_text}
-use Rattle.ijvm_verifier.specs.declared.kind.Kind.TheVariants as kinds
-use Rattle.ijvm_verifier.specs.Accepted.{VerifiedView}
-use Rattle.ijvm_verifier.specs.Kinds.{IsKind}
+use Rattle.ijvm_paths.specs.declared.kind.Kind.TheVariants as kinds
+use Rattle.ijvm_paths.specs.Accepted.{VerifiedView}
+use Rattle.ijvm_paths.specs.Kinds.{IsKind}
 
 abbrev pub constant_line : ℕ → ℕ → List ℕ
 constant_line index value = codes "pool " ++ decimal index ++ codes " " ++ hex_text 8 value ++ codes "\n"

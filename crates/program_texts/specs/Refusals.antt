@@ -9,8 +9,8 @@ use Rattle.ijvm_asm.specs.declared.error.AsmError.{AsmError}
 use Rattle.ijvm_asm.specs.declared.error.AsmError.TheVariants as sources
 use Rattle.method_linker.specs.declared.error.LinkError.{LinkError}
 use Rattle.method_linker.specs.declared.error.LinkError.TheVariants as limits
-use Rattle.ijvm_verifier.specs.declared.error.VerifyError.{VerifyError}
-use Rattle.ijvm_verifier.specs.declared.error.VerifyError.TheVariants as facts
+use Rattle.ijvm_paths.specs.declared.error.VerifyError.{VerifyError}
+use Rattle.ijvm_paths.specs.declared.error.VerifyError.TheVariants as facts
 
 -- what is said of the byte at this address begins so
 abbrev pub of_byte : ℕ → List ℕ

@@ -1,8 +1,8 @@
 -- The lines that `verify` prints of an accepted program, and `assemble` of an image.
 use Rattle.std.specs.Prelude.{◌≡◌, ℕ, List, ◌++◌, length, codes}
 use Rattle.std.specs.Fmt.{decimal}
-use Rattle.ijvm_verifier.specs.Accepted.{VerifiedView}
-use Rattle.ijvm_verifier.specs.Facts.{IsMethodCount}
+use Rattle.ijvm_paths.specs.Accepted.{VerifiedView}
+use Rattle.ijvm_paths.specs.Facts.{IsMethodCount}
 
 -- the sizes of text and pool, the number of reached methods, and main's locals
 abbrev pub summary : ℕ → ℕ → ℕ → ℕ → List ℕ

@@ -4,7 +4,7 @@ ghost use Rattle.std.specs.Prelude.{◌≡◌, ◌<◌, ◌+◌, ◌*◌, ◌++�
 ghost use Rattle.std.specs.List.{concat};
 ghost use Rattle.ijvm_image.specs.Image.{params, others};
 ghost use Rattle.ijvm_instr.specs.Instructions.{instr_at};
-ghost use Rattle.ijvm_verifier.specs.Kinds.{IsKind};
+ghost use Rattle.ijvm_paths.specs.Kinds.{IsKind};
 ghost use Rattle.program_texts.specs.Listing.{AreLines, IsLineAt, Lists, byte_line, constant_line, header_line, instr_line, pool_text};
 
 use crate::parts::{addressed, number, numbered};

@@ -2,4 +2,3 @@ pub mod Lexing
 pub mod Walking
 pub mod Cutting
 pub mod Comments
-pub mod Fronts

@@ -1,7 +1,8 @@
 -- A walk over lines gives the last state where no line is refused, and else the first refusal.
-use Rattle.std.proofs.Common.{◌≡◌, ℕ, ◌+◌, List, [], ◌∷◌, ◌++◌, length, refl, sym, ap, subst, ◌∙◌, arith}
+use Rattle.std.proofs.Common.{◌≡◌, ℕ, ◌+◌, List, [], ◌∷◌, ◌++◌, length, refl, sym, ap, subst, ◌∙◌, arith, append_assoc, length-append}
 use Rattle.std.specs.Prelude.{Result, Ok, Err}
-use Rattle.source_text.specs.Walk.{Step, go_on, walk, Leads, FirstRefused}
+use Rattle.std.proofs.lemmas.List.{append-nil}
+use Rattle.source_text.specs.Walk.{Step, go_on, walk, Leads, FirstRefused, StopsAt}
 
 -- what the outcome of a walk says
 Says : {S E : Type 0} → Step S E → ℕ → S → List (List ℕ) → Result S E → Type 0
@@ -16,18 +17,20 @@ module _ {S E : Type 0} (step : Step S E) where
     where
       later : (u : S) (r : Result S E) → step k s l ≡ Ok u → Says step (k + 1) u ls r → Says step k s (l ∷ ls) r
       later u (Ok t) h m = (u, h, m)
-      later u (Err e) h m = record {
-        front = l ∷ m.front;
-        line = m.line;
-        others = m.others;
-        before = m.before;
-        split = ap (λ zs. l ∷ zs) m.split;
-        leads = (u, h, m.leads);
-        refused = subst (λ n. step n m.before m.line ≡ Err e) (omega arith) m.refused;
-      }
+      later u (Err e) h (before, m) = (
+        before,
+        record {
+          front = l ∷ m.front;
+          line = m.line;
+          others = m.others;
+          split = ap (λ zs. l ∷ zs) m.split;
+          leads = (u, h, m.leads);
+          refused = subst (λ n. step n before m.line ≡ Err e) (omega arith) m.refused;
+        },
+      )
 
       go : (r : Result S E) → step k s l ≡ r → ((t : S) → Says step (k + 1) t ls (walk step (k + 1) t ls)) → Says step k s (l ∷ ls) (go_on (λ t. walk step (k + 1) t ls) r)
-      go (Err e) h rec = record { front = []; line = l; others = ls; before = s; split = refl; leads = refl; refused = subst (λ n. step n s l ≡ Err e) (omega arith) h }
+      go (Err e) h rec = (s, record { front = []; line = l; others = ls; split = refl; leads = refl; refused = subst (λ n. step n s l ≡ Err e) (omega arith) h })
       go (Ok u) h rec = later u (walk step (k + 1) u ls) h (rec u)
 
   pub walk_leads : (ls : List (List ℕ)) (k : ℕ) (s t : S) → walk step k s ls ≡ Ok t → Leads step k s ls t
@@ -52,18 +55,42 @@ module _ {S E : Type 0} (step : Step S E) where
 
   pub refused_walk : (ls : List (List ℕ)) (k : ℕ) (s : S) (e : E) → FirstRefused step k s ls e → walk step k s ls ≡ Err e
   unfolding walk
-  refused_walk ls k s e r =
-      ap (walk step k s) r.split ∙ (walk_front r.front (r.line ∷ r.others) k s r.before r.leads ∙ ap (go_on (λ t. walk step (k + length r.front + 1) t r.others)) r.refused)
+  refused_walk ls k s e (before, r) =
+      ap (walk step k s) r.split ∙ (walk_front r.front (r.line ∷ r.others) k s before r.leads ∙ ap (go_on (λ t. walk step (k + length r.front + 1) t r.others)) r.refused)
 
-  -- one step of a loop over the lines
-  pub step_on : (k : ℕ) (s t : S) (l : List ℕ) (rest after : List (List ℕ)) (total : Result S E) → rest ≡ l ∷ after → step k s l ≡ Ok t → walk step k s rest ≡ total → walk step (k + 1) t after ≡ total
-  unfolding walk
-  step_on k s t l rest after total e h so_far = sym (ap (go_on (λ t. walk step (k + 1) t after)) h) ∙ (sym (ap (walk step k s) e) ∙ so_far)
+-- ---- a loop over the lines
 
-  pub step_off : (k : ℕ) (s : S) (l : List ℕ) (rest after : List (List ℕ)) (x : E) (total : Result S E) → rest ≡ l ∷ after → step k s l ≡ Err x → walk step k s rest ≡ total → total ≡ Err x
-  unfolding walk
-  step_off k s l rest after x total e h so_far = sym so_far ∙ (ap (walk step k s) e ∙ ap (go_on (λ t. walk step (k + 1) t after)) h)
+module _ {S E : Type 0} (step : Step S E) where
+  leads_more : (front : List (List ℕ)) (k : ℕ) (s t u : S) (l : List ℕ) → Leads step k s front t → step (k + length front) t l ≡ Ok u → Leads step k s (front ++ l ∷ []) u
+  leads_more [] k s t u l m h = let z : k + 0 ≡ k = omega arith in (u, rw (m, ← z) h, refl)
+  leads_more (x ∷ front) k s t u l (v, e, more) h =
+      let z : k + length (x ∷ front) ≡ k + 1 + length front = omega arith in
+      (v, e, leads_more front (k + 1) v t u l more (rw (← z) h))
 
-  pub step_end : (k : ℕ) (s : S) (rest : List (List ℕ)) (total : Result S E) → rest ≡ [] → walk step k s rest ≡ total → total ≡ Ok s
-  unfolding walk
-  step_end k s rest total e so_far = sym so_far ∙ ap (walk step k s) e
+  -- the lines before the rest, so many, lead to the state
+  pub record AreBefore (s : S) (all rest : List (List ℕ)) (number : ℕ) (t : S) : Type 0 where
+    pub front : List (List ℕ)
+    pub split : all ≡ front ++ rest
+    pub count : number ≡ length front
+    pub leads : Leads step 1 s front t
+
+  pub before_none : (s : S) (all : List (List ℕ)) → AreBefore s all all 0 s
+  before_none s all = record { front = []; split = refl; count = refl; leads = refl }
+
+  pub before_more : (s t u : S) (all rest after : List (List ℕ)) (number : ℕ) (l : List ℕ) → rest ≡ l ∷ after → step (number + 1) t l ≡ Ok u → AreBefore s all rest number t → AreBefore s all after (number + 1) u
+  before_more s t u all rest after number l e h b =
+      let n : 1 + length b.front ≡ number + 1 = omega (arith, b.count) in
+      record {
+        front = b.front ++ l ∷ [];
+        split = b.split ∙ (ap (λ r. b.front ++ r) e ∙ sym (append_assoc b.front (l ∷ []) after));
+        count = simp length-append (omega (arith, b.count));
+        leads = leads_more b.front 1 s t u l b.leads (rw n h);
+      }
+
+  pub before_all : (s t : S) (all rest : List (List ℕ)) (number : ℕ) → rest ≡ [] → AreBefore s all rest number t → Leads step 1 s all t
+  before_all s t all rest number e b = subst (λ ls. Leads step 1 s ls t) (sym (b.split ∙ (ap (λ r. b.front ++ r) e ∙ append-nil b.front))) b.leads
+
+  pub before_stop : (s t : S) (all rest after : List (List ℕ)) (number : ℕ) (l : List ℕ) (x : E) → rest ≡ l ∷ after → step (number + 1) t l ≡ Err x → AreBefore s all rest number t → StopsAt step 1 s all x t
+  before_stop s t all rest after number l x e h b =
+      let n : 1 + length b.front ≡ number + 1 = omega (arith, b.count) in
+      record { front = b.front; line = l; others = after; split = b.split ∙ ap (λ r. b.front ++ r) e; leads = b.leads; refused = rw n h }

@@ -1,4 +1,4 @@
--- How the tokens of a line are read from its front on, and what makes this right.
+-- Computes which tokens a line spells, from its front on: how far each reaches, and which it is. What makes this right is `Agrees`.
 use Rattle.std.specs.Prelude.{◌≡◌, ℕ, zero, suc, ◌-◌, ◌<◌, false, List, [], ◌∷◌, ◌++◌, length, take, drop, Option, Some, None, if◌then◌else◌, option_and_then, option_map}
 use Rattle.source_text.specs.Tokens.{Lexicon, is_blank}
 

@@ -19,12 +19,15 @@ abbrev pub Leads : {S E : Type 0} → Step S E → ℕ → S → List (List ℕ)
 Leads step k s [] t = s ≡ t
 Leads {S} step k s (l ∷ ls) t = (u : S) × (step k s l ≡ Ok u) × Leads step (k + 1) u ls t
 
--- one of the lines has this refusal, and none before it has one
-pub record FirstRefused {S E : Type 0} (step : Step S E) (k : ℕ) (s : S) (ls : List (List ℕ)) (e : E) : Type 0 where
+-- one of the lines is refused so, and those before it lead to the state
+pub record StopsAt {S E : Type 0} (step : Step S E) (k : ℕ) (s : S) (ls : List (List ℕ)) (e : E) (t : S) : Type 0 where
   pub front : List (List ℕ)
   pub line : List ℕ
   pub others : List (List ℕ)
-  pub before : S
   pub split : ls ≡ front ++ line ∷ others
-  pub leads : Leads step k s front before
-  pub refused : step (k + length front) before line ≡ Err e
+  pub leads : Leads step k s front t
+  pub refused : step (k + length front) t line ≡ Err e
+
+-- so is one of the lines, and none before it
+abbrev pub FirstRefused : {S E : Type 0} → Step S E → ℕ → S → List (List ℕ) → E → Type 0
+FirstRefused {S} step k s ls e = (before : S) × StopsAt step k s ls e before

@@ -7,6 +7,6 @@ mod tokens;
 mod walk;
 
 pub use content::{first_line, without_comment};
-pub use runs::name_len;
-pub use tokens::{Language, TokenError, tokens_of};
-pub use walk::{Reader, read_lines};
+pub use runs::{is_name_byte, name_len};
+pub use tokens::{Language, TokenError, reads_what_is_spelled, tokens_of};
+pub use walk::{Reader, lines_lead_one_way, read_lines};

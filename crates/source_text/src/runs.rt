@@ -2,7 +2,8 @@ ghost use Rattle.std.specs.Prelude.{◌≡◌, ◌≤◌, length};
 ghost use Rattle.mic_base.specs.Name.{is_name_byte};
 ghost use Rattle.source_text.specs.Runs.{name_len};
 
-fn is_name_byte(byte: u8) -> bool
+/// Whether the byte is a letter, a digit or `_`.
+pub fn is_name_byte(byte: u8) -> bool
     ensures { result ≡ is_name_byte byte }
 {
     byte.is_ascii_alphanumeric() || byte == b'_'

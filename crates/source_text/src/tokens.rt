@@ -1,6 +1,6 @@
-ghost use Rattle.std.specs.Prelude.{◌≡◌, ◌+◌, ◌≤◌, ◌<◌, ◌∷◌, length, IfOk, IsErrOf, None, Some};
-ghost use Rattle.source_text.specs.Reading.{lex};
-ghost use Rattle.source_text.specs.Tokens.{is_blank};
+ghost use Rattle.std.specs.Prelude.{◌≡◌, ◌+◌, ◌≤◌, ◌<◌, ◌∷◌, ◌↔◌, ℕ, List, length, IfOk, IsErrOf, Some};
+ghost use Rattle.source_text.specs.Reading.{Agrees, lex};
+ghost use Rattle.source_text.specs.Tokens.{Spells, is_blank};
 
 use std::alloc::{AllocFailed, Global};
 
@@ -15,8 +15,13 @@ pub enum TokenError {
 pub trait Language {
     type Token: Drop;
 
+    ghost use Rattle.source_text.specs.Tokens.{Lexicon};
     ghost use Rattle.source_text.specs.Reading.{Lexer};
 
+    /// How the tokens are spelled.
+    ghost lexicon: { Lexicon Self.Token };
+
+    /// How they are read.
     ghost lexer: { Lexer Self.Token };
 
     /// How far the first token of a line reaches.
@@ -30,10 +35,11 @@ pub trait Language {
         ensures { result ≡ lexer.token text.now };
 }
 
-/// The tokens of a line without its comment.
+/// The tokens that a line without its comment spells; BadToken where it spells none.
 pub fn tokens_of<L: Language>(alloc: Global, line: &[u8]) -> Result<Vec<L::Token>, TokenError>
-    ensures ok { IfOk result (λ tokens. lex L.lexer 0 line.now ≡ Some tokens.items) }
-    ensures bad { IsErrOf result TokenError.BadToken → lex L.lexer 0 line.now ≡ None }
+    requires { Agrees L.lexicon L.lexer }
+    ensures ok { IfOk result (λ tokens. Spells L.lexicon line.now tokens.items) }
+    ensures bad { IsErrOf result TokenError.BadToken → (tokens : List L.Token) → Spells L.lexicon line.now tokens → ⊥ }
 {
     let mut tokens = Vec::new(alloc);
     let mut rest = line;
@@ -51,6 +57,12 @@ pub fn tokens_of<L: Language>(alloc: Global, line: &[u8]) -> Result<Vec<L::Token
     }
     Ok(tokens)
 }
+
+/// What is read from a line, token by token, is what it spells: so it spells at most one list of tokens.
+pub fn reads_what_is_spelled<L: Language>()
+    requires { Agrees L.lexicon L.lexer }
+    ensures { (line : List ℕ) (tokens : List L.Token) → (lex L.lexer 0 line ≡ Some tokens) ↔ Spells L.lexicon line tokens }
+{}
 
 fn is_blank(byte: u8) -> bool
     ensures { result ≡ is_blank byte }

@@ -1,6 +1,6 @@
-ghost use Rattle.std.specs.Prelude.{◌≡◌, ◌<◌, ◌^◌, length, false, Ok, Err, OnOk, IfErr};
+ghost use Rattle.std.specs.Prelude.{◌≡◌, ◌<◌, ◌^◌, ℕ, List, length, false, Ok, Err, OnOk, IfErr};
 ghost use Rattle.source_text.specs.Content.{contents};
-ghost use Rattle.source_text.specs.Walk.{walk};
+ghost use Rattle.source_text.specs.Walk.{FirstRefused, Leads, StopsAt};
 
 use crate::content::{first_line, without_comment};
 
@@ -21,17 +21,19 @@ pub trait Reader {
     /// Want of memory, which may come at any line.
     ghost is_memory: { Self.Refusal → Bool };
 
-    /// Reads a line, which comes without its comment.
+    /// Reads a line, which comes without its comment. A line that is refused leaves what those before it left; want of
+    /// memory may leave anything.
     fn line(&mut self, number: u32, line: &[u8]) -> Result<(), Self::Refusal>
         ensures ok { OnOk result (step number (state self.old) line.now ≡ Ok (state self.new)) }
-        ensures err { IfErr result (λ e. is_memory e ≡ false → step number (state self.old) line.now ≡ Err e) };
+        ensures err { IfErr result (λ e. is_memory e ≡ false → step number (state self.old) line.now ≡ Err e) }
+        ensures left { IfErr result (λ e. is_memory e ≡ false → state self.new ≡ state self.old) };
 }
 
-/// Reads the lines of a text, up to the first refusal.
+/// Reads the lines of a text, up to the first refusal, which leaves what the lines before it left.
 pub fn read_lines<R: Reader>(reader: &mut R, text: &[u8]) -> Result<(), R::Refusal>
     requires { length text.now < 2 ^ 32 }
-    ensures ok { OnOk result (walk R.step 1 (R.state reader.old) (contents text.now) ≡ Ok (R.state reader.new)) }
-    ensures err { IfErr result (λ e. R.is_memory e ≡ false → walk R.step 1 (R.state reader.old) (contents text.now) ≡ Err e) }
+    ensures ok { OnOk result (Leads R.step 1 (R.state reader.old) (contents text.now) (R.state reader.new)) }
+    ensures err { IfErr result (λ e. R.is_memory e ≡ false → StopsAt R.step 1 (R.state reader.old) (contents text.now) e (R.state reader.new)) }
 {
     let mut rest = text;
     let mut number = 0;
@@ -46,3 +48,10 @@ pub fn read_lines<R: Reader>(reader: &mut R, text: &[u8]) -> Result<(), R::Refus
     }
     Ok(())
 }
+
+/// Lines lead to one state at most, and not also to a refusal, of which they have one at most.
+pub fn lines_lead_one_way<R: Reader>()
+    ensures one { (k : ℕ) (s t u : R.State) (ls : List (List ℕ)) → Leads R.step k s ls t → Leads R.step k s ls u → t ≡ u }
+    ensures apart { (k : ℕ) (s t : R.State) (ls : List (List ℕ)) (e : R.Refusal) → Leads R.step k s ls t → FirstRefused R.step k s ls e → ⊥ }
+    ensures first { (k : ℕ) (s : R.State) (ls : List (List ℕ)) (e f : R.Refusal) → FirstRefused R.step k s ls e → FirstRefused R.step k s ls f → e ≡ f }
+{}

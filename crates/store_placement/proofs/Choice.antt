@@ -11,7 +11,7 @@ use Rattle.store_placement.specs.First.{below, Never, NeverTwo}
 use Rattle.store_placement.specs.Forced.{forced, all_forced}
 use Rattle.store_placement.specs.Refusals.{stands_in, clashes, in_wrong_half, collide}
 use Rattle.store_placement.specs.Chosen.{is_free_low, free_lows, free_addresses, open_pairs, is_single, singles, before_singles, IsChosen, IsChosenList}
-use Rattle.store_placement.specs.Steps.{pair_address, with_pairs, filled}
+use Rattle.store_placement.specs.Reading.{pair_address, with_pairs, filled}
 use Rattle.store_placement.proofs.Among.{Among, All-among, All-from_among, none_of, left_or, right_or, among-below, among_below, among-filter, among_filter}
 use Rattle.store_placement.proofs.Below.{length-map_below}
 use Rattle.store_placement.proofs.ForcedLemmas.{length-all_forced, at_all_forced}

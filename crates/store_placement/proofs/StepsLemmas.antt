@@ -10,7 +10,7 @@ use Rattle.store_placement.specs.declared.pair.Pair.{Pair}
 use Rattle.store_placement.specs.First.{below}
 use Rattle.store_placement.specs.Forced.{same_address}
 use Rattle.store_placement.specs.Chosen.{is_taken, is_free, free_addresses}
-use Rattle.store_placement.specs.Steps.{pair_address, filled}
+use Rattle.store_placement.specs.Reading.{pair_address, filled}
 use Rattle.store_placement.proofs.Among.{Among, from_any, among-filter, among_filter_map}
 use Rattle.store_placement.proofs.Apart.{Apart, Apart-below, Apart-weaker, Apart-filter, length-le_from_among}
 use Rattle.store_placement.proofs.Below.{length-below, below_none, filter-below_kept, filter-below_dropped}

@@ -5,6 +5,6 @@ pub mod Forced
 pub mod Listed
 pub mod Placement
 pub mod Program
+pub mod Reading
 pub mod Refusals
-pub mod Steps
 pub mod StoreFile

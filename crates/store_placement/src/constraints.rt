@@ -26,7 +26,7 @@ impl Model for Constraints {
 
 impl Constraints {
     /// No statement and no pair.
-    pub fn new() -> Constraints
+    pub(crate) fn new() -> Constraints
         ensures fixed { result.fixed ≡ [] }
         ensures pairs { result.pairs ≡ [] }
     {
@@ -37,7 +37,7 @@ impl Constraints {
     }
 
     /// Adds the next statement, with the address that it is fixed at.
-    pub fn add(&mut self, fixed: Option<u16>)
+    pub(crate) fn add(&mut self, fixed: Option<u16>)
         requires room { length self.old.fixed < 512 }
         requires address { ForSome fixed (λ a. a < 512) }
         ensures fixed { self.new.fixed ≡ self.old.fixed ++ fixed ∷ [] }
@@ -47,7 +47,7 @@ impl Constraints {
     }
 
     /// Adds the targets of a conditional, which are statements that were added.
-    pub fn pair(&mut self, pair: Pair)
+    pub(crate) fn pair(&mut self, pair: Pair)
         requires room { length self.old.pairs < 513 }
         requires yes { pair.yes < length self.old.fixed }
         requires no { pair.no < length self.old.fixed }

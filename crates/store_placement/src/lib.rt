@@ -1,19 +1,19 @@
 //! Addresses for the statements of a microprogram, the control store that they make, and its file.
 #![tactic(auto)]
 
-pub mod chosen;
+mod chosen;
 mod clash;
 mod collision;
-pub mod constraints;
+mod constraints;
 mod demands;
 mod filling;
 mod forced;
 mod free;
 mod laws;
 mod open;
-pub mod pair;
-pub mod placement;
-pub mod refusal;
+mod pair;
+mod placement;
+mod refusal;
 mod steps;
 mod store_error;
 mod store_file;
@@ -23,7 +23,6 @@ pub use constraints::Constraints;
 pub use demands::constraints_of;
 pub use filling::{fill, statement_at};
 pub use laws::chosen_law;
-pub use pair::Pair;
 pub use placement::Placement;
 pub use refusal::PlaceError;
 pub use store_error::StoreError;

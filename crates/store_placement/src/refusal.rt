@@ -2,13 +2,14 @@ use thiserror::Error;
 
 /// Why there is no placement; statements are numbered from 0.
 #[derive(Clone, Copy, Debug, PartialEq, Eq, Error)]
+#[error("no placement")]
 pub enum PlaceError {
-    #[error("statement {0} stands in two pairs")]
+    /// It stands in two pairs, or in both roles.
     PairClash(u16),
-    #[error("statement {0} is fixed in the wrong half")]
+    /// It is a true target that is fixed below 256, or a false one at 256 or above.
     FixedWrongHalf(u16),
-    #[error("statements {0} and {1} are forced to one address")]
+    /// They are forced to one address, or are a pair that is fixed apart.
     FixedClash(u16, u16),
-    #[error("no room for the pairs")]
+    /// More pairs remain than free address pairs.
     NoRoom,
 }

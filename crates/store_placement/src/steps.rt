@@ -1,6 +1,6 @@
 //! Addresses for the statements that no fixed address forces.
 ghost use Rattle.std.specs.Prelude.{◌≡◌, ◌≤◌, ◌<◌, All, IfSome, is_none, length, count_by};
-ghost use Rattle.store_placement.specs.Steps.{pair_address, with_pairs, filled};
+ghost use Rattle.store_placement.specs.Reading.{pair_address, with_pairs, filled};
 
 use crate::pair::Pair;
 use arrayvec::ArrayVec;
@@ -23,7 +23,7 @@ fn pair_address(pairs: &[Pair], lows: &[u16], s: u16) -> Option<u16>
 }
 
 /// Forced addresses, and those of the pairs.
-#[tactic(auto, using(crate::proofs::Below::belows), unfolding(crate::specs::Steps::with_pairs))]
+#[tactic(auto, using(crate::proofs::Below::belows), unfolding(crate::specs::Reading::with_pairs))]
 pub fn with_pairs(
     forced: &[Option<u16>],
     pairs: &[Pair],

@@ -2,14 +2,13 @@ use thiserror::Error;
 
 /// Why bytes are no store file.
 #[derive(Clone, Copy, Debug, PartialEq, Eq, Error)]
+#[error("not read as a control store")]
 pub enum StoreError {
-    #[error("bad magic")]
+    /// The bytes begin with the magic of neither machine.
     BadMagic,
-    #[error("bad length {0}")]
+    /// There are so many bytes, and not 2,564.
     BadLength(usize),
     /// The lowest address whose word is not canonical.
-    #[error("bad word at {0:03x}")]
     BadWord(u16),
-    #[error("out of memory")]
     OutOfMemory,
 }

@@ -2,10 +2,13 @@
 ghost use Rattle.std.specs.Prelude.{◌≡◌, ◌≤◌, ◌<◌, ◌+◌, ◌*◌, length};
 
 use crate::filling::goto_end;
+use crate::pair::Pair;
 use crate::{
-    Constraints, Pair, PlaceError, StoreError, machine_of, place, read_store, store_bytes,
+    Constraints, PlaceError, StoreError, constraints_of, fill, machine_of, place, read_store,
+    store_bytes,
 };
 use arrayvec::ArrayVec;
+use mal_parser::parse_mal;
 use micro_word::{AluOp, BusSource, Machine, Mem, Part, Placed, PlacedNext, Shift, Store};
 use std::process::Abort;
 use std::test::Fail;
@@ -256,5 +259,53 @@ fn store_files(rt: HostRuntime) -> Result<(), Fail> {
         read_store(rt.alloc(), &bytes).err(),
         Some(StoreError::BadMagic)
     );
+    Ok(())
+}
+
+/// `H=SP-1; rd; goto (MBR1)`
+const LAST: Placed = Placed {
+    part: Part {
+        dests: 0b1_0000_0000,
+        op: AluOp::DecB,
+        a: None,
+        b: Some(BusSource::Sp),
+        shift: Shift::None,
+        mem: Mem::Read,
+        fetch: false,
+    },
+    next: PlacedNext::Dispatch { high: false },
+};
+
+#[test]
+fn store_of_the_second_machine(rt: HostRuntime) -> Result<(), Fail> {
+    let mut store = Store::filled(Machine::Mic2, &goto_end());
+    assert!(rt; LAST.valid(Machine::Mic2));
+    store.set(0x1ff, &LAST);
+    let bytes = store_bytes(rt.alloc(), &store)?;
+    assert_eq!(rt; bytes.len(), 2564);
+    assert_eq!(rt; machine_of(&bytes), Some(Machine::Mic2));
+    let again = read_store(rt.alloc(), &bytes)?;
+    assert_eq!(rt; again.machine(), Machine::Mic2);
+    for address in 0..512 {
+        assert_eq!(rt; again.word(address), store.word(address));
+    }
+    Ok(())
+}
+
+#[test]
+fn as_many_statements_as_words(rt: HostRuntime) -> Result<(), Fail> {
+    let mut text = Vec::new(rt.alloc());
+    text.extend_from_slice(b"Main1 wr; goto Main1\n")?;
+    for _ in 1..512 {
+        text.extend_from_slice(b"goto Main1\n")?;
+    }
+    assert!(rt; text.len() < 1 << 32);
+    let program = parse_mal(rt.alloc(), Machine::Mic2, &text)?;
+    assert_eq!(rt; program.len(), 512);
+    let placement = place(&constraints_of(&program))?;
+    let store = fill(&program, &placement);
+    assert_eq!(rt; placement.address(511), 511);
+    assert!(rt; store.word(0) != store.word(1));
+    assert_eq!(rt; store.word(1), store.word(511));
     Ok(())
 }

@@ -1,5 +1,5 @@
 ghost use Rattle.std.specs.Prelude.{◌≡◌, ◌<◌, ◌⊎◌, ◌↔◌, List, ℕ, Option, Some, None, option_map, length, IfOk, OnOk, OnErr, IsErrOf, Contains, ◌≢◌};
-ghost use Rattle.mic_base.specs.Files.{HasFileCause, KeepsOthers, most_bytes, Reads, Writes};
+ghost use Rattle.mic_base.specs.Files.{file_in, HasFileCause, KeepsOthers, most_bytes, Reads, Writes};
 ghost use Rattle.mic_base.specs.Numbering.{next_number};
 
 use super::calls::Calls;
@@ -20,9 +20,10 @@ impl MemFiles {
     ghost use Rattle.mic_base.specs.Memory.{IsUncounted, files_contents, files_failing, files_faults, files_number};
 
     pub fn new(alloc: Global, failing: Vec<u64>) -> MemFiles
-        ensures none { (name : List ℕ) → files_contents result name ≡ None }
+        ensures none { (name : List ℕ) → file_in (files_contents result) name ≡ None }
         ensures failing { files_failing result ≡ failing.items }
         ensures number { files_number result ≡ 1 }
+        ensures faults { files_faults result ≡ 0 }
     {
         MemFiles {
             alloc,
@@ -33,9 +34,9 @@ impl MemFiles {
 
     /// Makes the bytes the file's contents.
     pub fn add(&mut self, name: &str, bytes: &[u8]) -> Result<(), AllocError>
-        ensures added { OnOk result (files_contents self.new name.now ≡ Some bytes.now) }
+        ensures added { OnOk result (file_in (files_contents self.new) name.now ≡ Some bytes.now) }
         ensures others { KeepsOthers (files_contents self.old) name.now (files_contents self.new) }
-        ensures err { OnErr result ((name : List ℕ) → files_contents self.new name ≡ files_contents self.old name) }
+        ensures err { OnErr result ((name : List ℕ) → file_in (files_contents self.new) name ≡ file_in (files_contents self.old) name) }
         ensures uncounted { IsUncounted self.old self.new }
     {
         let name = String::from_str(self.alloc, name)?;
@@ -46,7 +47,7 @@ impl MemFiles {
 
     /// The file's contents, or none where there is no such file.
     pub fn find(&self, name: &str) -> Option<&[u8]>
-        ensures { option_map (λ bytes. bytes.now) result ≡ files_contents self.now name.now }
+        ensures { option_map (λ bytes. bytes.now) result ≡ file_in (files_contents self.now) name.now }
     {
         match self.files.get(name) {
             Some(bytes) => Some(bytes.as_slice()),
@@ -67,7 +68,7 @@ impl Files for MemFiles {
         ensures reads { Reads (Some (files_contents self.old)) name.now result }
         ensures cause { HasFileCause (files_faults self.old) (files_faults self.new) result }
 
-        ensures failing { IsErrOf result FileError.Failed ↔ (Contains (files_failing self.old) (files_number self.old) ⊎ (files_contents self.old name.now ≡ None)) }
+        ensures failing { IsErrOf result FileError.Failed ↔ (Contains (files_failing self.old) (files_number self.old) ⊎ (file_in (files_contents self.old) name.now ≡ None)) }
         ensures number { files_number self.new ≡ next_number (files_number self.old) }
         ensures kept { files_failing self.new ≡ files_failing self.old }
     {
@@ -89,7 +90,7 @@ impl Files for MemFiles {
         ensures cause { HasFileCause (files_faults self.old) (files_faults self.new) result }
 
         ensures failing { IsErrOf result FileError.Failed ↔ Contains (files_failing self.old) (files_number self.old) }
-        ensures err { OnErr result ((name : List ℕ) → files_contents self.new name ≡ files_contents self.old name) }
+        ensures err { OnErr result ((name : List ℕ) → file_in (files_contents self.new) name ≡ file_in (files_contents self.old) name) }
         ensures number { files_number self.new ≡ next_number (files_number self.old) }
         ensures kept { files_failing self.new ≡ files_failing self.old }
     {

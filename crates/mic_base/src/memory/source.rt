@@ -22,6 +22,7 @@ impl MemSource {
         ensures left { source_left result ≡ bytes.items }
         ensures failing { source_failing result ≡ failing.items }
         ensures number { source_number result ≡ 1 }
+        ensures faults { source_faults result ≡ 0 }
     {
         MemSource {
             bytes,

@@ -15,6 +15,8 @@ impl PlainSink {
 impl Sink for PlainSink {
     ghost held = { λ s. None };
 
+    ghost passed = { λ s. None };
+
     ghost faults = { λ s. 0 };
 
     fn put(&mut self, _piece: &[u8]) -> Result<(), SinkFailed>

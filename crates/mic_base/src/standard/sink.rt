@@ -2,6 +2,7 @@ ghost use Rattle.std.specs.Prelude.{◌≡◌, None, OnOk};
 ghost use Rattle.std.specs.Io.KnownBytes.{Appends, Keeps};
 ghost use Rattle.mic_base.specs.Causes.{HasCause};
 
+use super::answers::written;
 use crate::sink::{Sink, SinkFailed};
 use std::io::Write;
 
@@ -13,10 +14,11 @@ pub struct StdSink<W> {
 }
 
 impl<W> StdSink<W> {
-    ghost use Rattle.mic_base.specs.Standard.{writer_of};
+    ghost use Rattle.mic_base.specs.Standard.{writer_faults, writer_of};
 
     pub fn new(writer: W) -> StdSink<W>
-        ensures { writer_of result ≡ writer }
+        ensures writer { writer_of result ≡ writer }
+        ensures faults { writer_faults result ≡ 0 }
     {
         StdSink { writer, faults: 0 }
     }
@@ -27,6 +29,8 @@ impl<W: Write> Sink for StdSink<W> {
 
     ghost held = { λ s. None };
 
+    ghost passed = { λ s. None };
+
     ghost faults = { λ s. s.faults };
 
     fn put(&mut self, piece: &[u8]) -> Result<(), SinkFailed>
@@ -35,21 +39,13 @@ impl<W: Write> Sink for StdSink<W> {
         // The piece was written, where it is known what the writer holds.
         ensures written { OnOk result (Appends (W.contents (writer_of self.old)) (W.contents (writer_of self.new)) piece.now) }
     {
-        if self.writer.write_all(piece).is_err() {
-            self.faults = self.faults.saturating_add(1);
-            return Err(SinkFailed);
-        }
-        Ok(())
+        written(self.writer.write_all(piece), &mut self.faults)
     }
 
     fn flush(&mut self) -> Result<(), SinkFailed>
         ensures cause { HasCause (writer_faults self.old) (writer_faults self.new) result }
         ensures kept { OnOk result (Keeps (W.contents (writer_of self.old)) (W.contents (writer_of self.new))) }
     {
-        if self.writer.flush().is_err() {
-            self.faults = self.faults.saturating_add(1);
-            return Err(SinkFailed);
-        }
-        Ok(())
+        written(self.writer.flush(), &mut self.faults)
     }
 }

@@ -3,8 +3,9 @@ ghost use Rattle.std.specs.Io.KnownBytes.{Consumes};
 ghost use Rattle.mic_base.specs.Causes.{HasCause};
 ghost use Rattle.mic_base.specs.Streams.{Takes};
 
+use super::answers::byte_read;
 use crate::source::{Source, SourceFailed};
-use std::io::{ErrorKind, Read};
+use std::io::Read;
 
 /// The bytes of a reader, such as standard input.
 #[derive(Drop)]
@@ -14,10 +15,11 @@ pub struct StdSource<R> {
 }
 
 impl<R> StdSource<R> {
-    ghost use Rattle.mic_base.specs.Standard.{reader_of};
+    ghost use Rattle.mic_base.specs.Standard.{reader_faults, reader_of};
 
     pub fn new(reader: R) -> StdSource<R>
-        ensures { reader_of result ≡ reader }
+        ensures reader { reader_of result ≡ reader }
+        ensures faults { reader_faults result ≡ 0 }
     {
         StdSource { reader, faults: 0 }
     }
@@ -38,13 +40,7 @@ impl<R: Read> Source for StdSource<R> {
         ensures read { IfOk result (λ next. IfSome next (λ byte. Consumes (R.remaining (reader_of self.old)) (R.remaining (reader_of self.new)) (byte ∷ []))) }
     {
         let mut byte = [0];
-        match self.reader.read_exact(&mut byte) {
-            Ok(()) => Ok(Some(byte[0])),
-            Err(error) if error.kind() == ErrorKind::UnexpectedEof => Ok(None),
-            Err(_) => {
-                self.faults = self.faults.saturating_add(1);
-                Err(SourceFailed)
-            }
-        }
+        let answer = self.reader.read_exact(&mut byte);
+        byte_read(answer, byte[0], &mut self.faults)
     }
 }

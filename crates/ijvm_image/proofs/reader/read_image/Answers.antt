@@ -1,6 +1,7 @@
 use Rattle.std.proofs.Common.{◌<◌, All, ℕ}
 use Rattle.std.proofs.lemmas.List.Elements.{All-from_get_or}
 use Rattle.ijvm_image.proofs.Files.{read-ok, read-reads}
+use Rattle.ijvm_image.proofs.Refusals.{read-refused}
 use Rattle.ijvm_image.proofs.reader.read_image.Goals as goal
 
 pub returns-clause-ok : goal.returns-clause-ok
@@ -10,3 +11,6 @@ returns-clause-ok c =
 
 pub returns-clause-reads : goal.returns-clause-reads
 returns-clause-reads c = read-reads c.args.bytes.now c.read_file.result c.read_file.ensures.ok c.read_file.ensures.err
+
+pub returns-clause-err : goal.returns-clause-err
+returns-clause-err c = read-refused c.args.bytes.now c.read_file.result c.read_file.ensures.err

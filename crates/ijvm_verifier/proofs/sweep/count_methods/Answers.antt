@@ -17,4 +17,4 @@ loop-at-preserved c =
 pub returns : goal.returns
 returns c =
     let end : c.loop-at.at ≡ length c.args.image.now.text = omega (arith, c.requires.closed.long) in
-    methods_all c.args.image.now c.loop-at.count (subst (λ (n : ℕ). AreMethodsBelow c.args.image.now n c.loop-at.count) end c.loop-at.invariant)
+    methods_all c.args.image.now c.args.seen.now c.loop-at.count c.requires.closed (subst (λ (n : ℕ). AreMethodsBelow c.args.image.now n c.loop-at.count) end c.loop-at.invariant)

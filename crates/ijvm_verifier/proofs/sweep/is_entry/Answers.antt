@@ -2,8 +2,8 @@ use Rattle.std.proofs.Common.{◌≡◌, ◌<◌, ◌+◌, ◌∙◌, ℕ, ap, s
 use Rattle.std.specs.Prelude.{slice_get, ◌==◌}
 use Rattle.std.proofs.lemmas.Bool.{eqb-true, eq-eqb}
 use Rattle.std.proofs.lemmas.Option.{slice_get-get_or, slice_get_within}
-use Rattle.ijvm_verifier.specs.declared.kept.Kept.{Kept}
-use Rattle.ijvm_verifier.specs.Search.{kept_of}
+use Rattle.ijvm_reach.specs.declared.kept.Kept.{Kept}
+use Rattle.ijvm_reach.specs.Search.{kept_of}
 use Rattle.ijvm_verifier.proofs.Swept.{entry_kept, kept_entry}
 use Rattle.ijvm_verifier.proofs.sweep.is_entry.Goals as goal
 

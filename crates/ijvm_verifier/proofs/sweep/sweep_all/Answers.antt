@@ -1,6 +1,6 @@
 use Rattle.std.proofs.Common.{◌≡◌, ◌*◌, ◌++◌, ◌∷◌, [], ◌∙◌, ℕ, arith, ap, subst, length, length-append}
 use Rattle.ijvm_verifier.specs.Sweep.{IsSwept}
-use Rattle.ijvm_verifier.proofs.Swept.{none_overlap, kinds_push}
+use Rattle.ijvm_verifier.proofs.Swept.{none_overlap, none_behind, kinds_push}
 use Rattle.ijvm_verifier.proofs.sweep.sweep_all.Goals as goal
 
 pub loop-at-preserved : goal.loop-at-preserved
@@ -15,4 +15,11 @@ loop-at-preserved c =
 pub returns-clause-apart : goal.returns-clause-apart
 returns-clause-apart c =
     let end : 2 * c.loop-at.at ≡ 2 * length c.args.image.now.text = omega (arith, c.requires.closed.long) in
-    none_overlap c.args.image.now c.loop-at.end (subst (λ (n : ℕ). IsSwept c.args.image.now n c.loop-at.end) end c.loop-at.invariant.swept)
+    none_overlap c.args.image.now c.args.seen.now c.loop-at.end c.requires.closed (subst (λ (n : ℕ). IsSwept c.args.image.now n c.loop-at.end) end c.loop-at.invariant.swept)
+
+pub returns-clause-kinds : goal.returns-clause-kinds
+returns-clause-kinds c = record {
+  long = omega (arith, c.loop-at.invariant.long, c.requires.closed.long);
+  each = c.loop-at.invariant.kinds;
+  beyond = λ at past. none_behind c.args.image.now c.args.seen.now at c.requires.closed past;
+}

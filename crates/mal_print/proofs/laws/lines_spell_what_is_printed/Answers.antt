@@ -8,4 +8,4 @@ pub returns-clause-fallbacks : goal.returns-clause-fallbacks
 returns-clause-fallbacks c machine parts h n = fallback_said machine parts h n
 
 pub returns-clause-fixes : goal.returns-clause-fixes
-returns-clause-fixes c machine label address l lt = fix_said machine label address l lt
+returns-clause-fixes c machine label address l lt = fix_said c.hex_is_read_back.ensures machine label address l lt

@@ -12,14 +12,14 @@ returns-in_err-push_line c =
     rw (p.1, p.2)
     (line_stops c.args.first c.args.lines.now c.loop-position.position _ _ c.args.text.now.items c.loop-position.text.items _
     c.loop-position-test.true c.loop-position.invariant (to_z-of_z w32 c.distance-far.result fits ∙ c.distance-far.ensures)
-    c.in_err-push_line.ensures)
+    c.in_err-push_line.ensures.pushed)
 
 pub loop-position-preserved : goal.loop-position-preserved
 loop-position-preserved c =
     let fits : SFits w32 c.distance-far.result = search rules in
     line_more c.args.first c.args.lines.now c.loop-position.position _ _ c.args.text.now.items c.loop-position.text.items
     c.push_line.new.text.items c.loop-position-test.true c.loop-position.invariant
-    (to_z-of_z w32 c.distance-far.result fits ∙ c.distance-far.ensures) c.in_ok-push_line.ensures.0 c.in_ok-push_line.ensures.1
+    (to_z-of_z w32 c.distance-far.result fits ∙ c.distance-far.ensures) c.in_ok-push_line.ensures.pushed.0 c.in_ok-push_line.ensures.pushed.1
 
 pub returns : goal.returns
 returns c =

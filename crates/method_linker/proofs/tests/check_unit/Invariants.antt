@@ -6,4 +6,4 @@ use Rattle.method_linker.proofs.tests.check_unit.Given as goal
 abbrev pub invariant-loop-line : goal.invariant-loop-line
 invariant-loop-line g l =
     All (λ line. NamesPosition l.constants l.methods (length l.lines) line.operation) (take l.line-index l.lines)
-    × (code_size (take l.line-index l.lines) ≤ 4 * l.line-index)
+    × (code_size (take l.line-index l.lines) ≤ 6 * l.line-index)

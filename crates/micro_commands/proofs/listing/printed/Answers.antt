@@ -5,7 +5,7 @@ use Rattle.micro_commands.proofs.Answering.{is_refusal}
 use Rattle.micro_commands.proofs.listing.printed.Goals as goal
 
 pub returns-in_ok-print_mal-in-Ok : goal.returns-in_ok-print_mal-in-Ok
-returns-in_ok-print_mal-in-Ok c = Printed c.in-Ok.program c.in-Ok.ensures.ok (ap Prints c.in_ok-print_mal-in-Ok.ensures)
+returns-in_ok-print_mal-in-Ok c = Printed c.in-Ok.program c.in-Ok.ensures.ok (ap Prints c.in_ok-print_mal-in-Ok.ensures.text)
 
 pub returns-in_ok-mal_reason-in-Err : goal.returns-in_ok-mal_reason-in-Err
 returns-in_ok-mal_reason-in-Err c =

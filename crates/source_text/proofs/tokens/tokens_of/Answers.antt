@@ -1,7 +1,7 @@
 use Rattle.std.proofs.Common.{◌≡◌, ◌∙◌, sym, Some, None, true, false}
 use Rattle.source_text.specs.Tokens.{is_blank}
 use Rattle.source_text.specs.Reading.{lex}
-use Rattle.source_text.proofs.Lexing.{goes_blank, steps_on, steps_bad, is_done}
+use Rattle.source_text.proofs.Lexing.{goes_blank, is_done, is_read, spelled, steps_bad, steps_on}
 use Rattle.source_text.proofs.tokens.tokens_of.Goals as goal
 
 pub loop-first-preserved-then-is_blank : goal.loop-first-preserved-then-is_blank
@@ -10,11 +10,13 @@ loop-first-preserved-then-is_blank g c =
     goes_blank g.L.Language.lexer c.loop-first.tokens.items c.in-Some.first.now c.in-Some.after.now c.loop-first.rest.now (lex g.L.Language.lexer 0 c.args.line.now) c.in-Some.ensures.cases.0 b c.loop-first.invariant
 
 pub returns-in_default-token-clause-bad : goal.returns-in_default-token-clause-bad
-returns-in_default-token-clause-bad g c = λ _.
+returns-in_default-token-clause-bad g c = λ _ tokens s.
     let b : is_blank c.in-Some.first.now ≡ false = sym c.is_blank.ensures ∙ c.if-is_blank.false in
     let none : g.L.Language.lexer.token c.split_at.result.0.now ≡ None = sym c.token.ensures ∙ c.in_default-token.is in
-    steps_bad g.L.Language.lexer c.loop-first.tokens.items c.in-Some.first.now c.in-Some.after.now c.loop-first.rest.now c.extent.result c.split_at.result.0.now (lex g.L.Language.lexer 0 c.args.line.now)
-    c.in-Some.ensures.cases.0 c.extent.ensures.value c.extent.ensures.some c.split_at.ensures.front b none c.loop-first.invariant
+    let unread = steps_bad g.L.Language.lexer c.loop-first.tokens.items c.in-Some.first.now c.in-Some.after.now c.loop-first.rest.now c.extent.result c.split_at.result.0.now (lex g.L.Language.lexer 0 c.args.line.now)
+    c.in-Some.ensures.cases.0 c.extent.ensures.value c.extent.ensures.some c.split_at.ensures.front b none c.loop-first.invariant in
+    let read = is_read g.L.Language.lexicon g.L.Language.lexer c.requires tokens c.args.line.now s in
+    cc
 
 pub loop-first-preserved : goal.loop-first-preserved
 loop-first-preserved g c =
@@ -24,4 +26,6 @@ loop-first-preserved g c =
     c.in-Some.ensures.cases.0 c.extent.ensures.value c.extent.ensures.some c.split_at.ensures.front c.split_at.ensures.back b found c.loop-first.invariant)
 
 pub returns-clause-ok : goal.returns-clause-ok
-returns-clause-ok g c = is_done g.L.Language.lexer c.loop-first.tokens.items c.loop-first.rest.now (lex g.L.Language.lexer 0 c.args.line.now) c.in_default.ensures.cases c.loop-first.invariant
+returns-clause-ok g c =
+    spelled g.L.Language.lexicon g.L.Language.lexer c.requires c.args.line.now c.loop-first.tokens.items
+    (is_done g.L.Language.lexer c.loop-first.tokens.items c.loop-first.rest.now (lex g.L.Language.lexer 0 c.args.line.now) c.in_default.ensures.cases c.loop-first.invariant)

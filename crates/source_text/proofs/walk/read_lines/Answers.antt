@@ -1,10 +1,10 @@
-use Rattle.std.proofs.Common.{◌≡◌, ◌+◌, ◌∷◌, List, ℕ, [], true, refl, ap, ◌∙◌, sym, arith, length, map}
+use Rattle.std.proofs.Common.{◌≡◌, ◌+◌, ◌∷◌, List, ℕ, [], true, refl, ap, ◌∙◌, sym, subst, arith, length, map}
 use Rattle.std.specs.Prelude.{◌==◌}
 use Rattle.std.specs.Str.Lines.{lines}
 use Rattle.std.proofs.lemmas.Bool.Decides.{nat_tests}
 use Rattle.source_text.specs.Content.{contents, without_comment}
-use Rattle.source_text.specs.Walk.{walk}
-use Rattle.source_text.proofs.Walking.{step_on, step_off, step_end}
+use Rattle.source_text.specs.Walk.{StopsAt}
+use Rattle.source_text.proofs.Walking.{before_all, before_more, before_none, before_stop}
 use Rattle.source_text.proofs.walk.read_lines.Goals as goal
 
 contents_more : (text line after said : List ℕ) → lines text ≡ line ∷ lines after → said ≡ without_comment line → contents text ≡ said ∷ contents after
@@ -14,11 +14,15 @@ contents_none : (text : List ℕ) → (length text == 0) ≡ true → contents t
 contents_none [] h = refl
 contents_none (b ∷ rest) h = absurd (grind (arith, nat_tests))
 
+pub loop-rest-init : goal.loop-rest-init
+loop-rest-init g c = (omega arith, before_none g.R.Reader.step (g.R.Reader.state c.args.reader.now) (contents c.args.text.now))
+
 pub returns-in-Err-clause-err : goal.returns-in-Err-clause-err
 returns-in-Err-clause-err g c = λ free.
     let e : contents c.loop-rest.rest.now ≡ c.without_comment.result.now ∷ contents c.first_line.result.1.now = contents_more c.loop-rest.rest.now c.first_line.result.0.now c.first_line.result.1.now c.without_comment.result.now c.first_line.ensures.value c.without_comment.ensures in
-    step_off g.R.Reader.step (c.loop-rest.number + 1) (g.R.Reader.state c.loop-rest.reader) c.without_comment.result.now (contents c.loop-rest.rest.now) (contents c.first_line.result.1.now) c.in-Err.refusal
-    (walk g.R.Reader.step 1 (g.R.Reader.state c.args.reader.now) (contents c.args.text.now)) e (c.in-Err.ensures.err free) c.loop-rest.invariant.1
+    subst (StopsAt g.R.Reader.step 1 (g.R.Reader.state c.args.reader.now) (contents c.args.text.now) c.in-Err.refusal) (sym (c.in-Err.ensures.left free))
+    (before_stop g.R.Reader.step (g.R.Reader.state c.args.reader.now) (g.R.Reader.state c.loop-rest.reader) (contents c.args.text.now) (contents c.loop-rest.rest.now) (contents c.first_line.result.1.now) c.loop-rest.number c.without_comment.result.now c.in-Err.refusal
+    e (c.in-Err.ensures.err free) c.loop-rest.invariant.1)
 
 pub loop-rest-preserved : goal.loop-rest-preserved
 loop-rest-preserved g c =
@@ -26,11 +30,11 @@ loop-rest-preserved g c =
     let less = c.first_line.ensures.less in
     let i = c.loop-rest.invariant.0 in (
       omega (arith, less, i),
-      step_on g.R.Reader.step (c.loop-rest.number + 1) (g.R.Reader.state c.loop-rest.reader) (g.R.Reader.state c.line.new.self) c.without_comment.result.now (contents c.loop-rest.rest.now) (contents c.first_line.result.1.now)
-          (walk g.R.Reader.step 1 (g.R.Reader.state c.args.reader.now) (contents c.args.text.now)) e c.in-Ok.ensures.ok c.loop-rest.invariant.1,
+      before_more g.R.Reader.step (g.R.Reader.state c.args.reader.now) (g.R.Reader.state c.loop-rest.reader) (g.R.Reader.state c.line.new.self) (contents c.args.text.now) (contents c.loop-rest.rest.now) (contents c.first_line.result.1.now) c.loop-rest.number c.without_comment.result.now
+          e c.in-Ok.ensures.ok c.loop-rest.invariant.1,
     )
 
 pub returns-clause-ok : goal.returns-clause-ok
 returns-clause-ok g c =
     let none : contents c.loop-rest.rest.now ≡ [] = contents_none c.loop-rest.rest.now (sym c.is_empty.ensures ∙ c.loop-rest-test.false) in
-    step_end g.R.Reader.step (c.loop-rest.number + 1) (g.R.Reader.state c.loop-rest.reader) (contents c.loop-rest.rest.now) (walk g.R.Reader.step 1 (g.R.Reader.state c.args.reader.now) (contents c.args.text.now)) none c.loop-rest.invariant.1
+    before_all g.R.Reader.step (g.R.Reader.state c.args.reader.now) (g.R.Reader.state c.loop-rest.reader) (contents c.args.text.now) (contents c.loop-rest.rest.now) c.loop-rest.number none c.loop-rest.invariant.1

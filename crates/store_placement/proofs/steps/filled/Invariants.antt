@@ -1,6 +1,6 @@
 use Rattle.std.proofs.Common.{◌≡◌, ◌+◌, ◌≤◌, ◌++◌, drop, length}
 use Rattle.std.specs.Prelude.{count_by, is_none}
-use Rattle.store_placement.specs.Steps.{filled}
+use Rattle.store_placement.specs.Reading.{filled}
 use Rattle.store_placement.proofs.steps.filled.Given as goal
 
 abbrev pub invariant-loop-place : goal.invariant-loop-place

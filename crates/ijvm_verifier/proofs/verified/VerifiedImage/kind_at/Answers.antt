@@ -1,10 +1,9 @@
 use Rattle.std.proofs.Common.{◌≡◌, ◌≤◌, refl, length, Some, arith, subst}
 use Rattle.std.specs.Prelude.{slice_get}
 use Rattle.std.proofs.lemmas.Option.{slice_get_read}
-use Rattle.ijvm_verifier.specs.Accepted.{VerifiedView}
-use Rattle.ijvm_verifier.specs.Facts.{Piece, Covers}
-use Rattle.ijvm_verifier.specs.Kinds.{IsKind}
-use Rattle.ijvm_verifier.proofs.Counts.{none_behind}
+use Rattle.ijvm_paths.specs.Accepted.{VerifiedView}
+use Rattle.ijvm_paths.specs.Facts.{Piece, Covers}
+use Rattle.ijvm_paths.specs.Kinds.{IsKind}
 use Rattle.ijvm_verifier.proofs.verified.VerifiedImage.kind_at.Goals as goal
 
 pub returns-then-at-len : goal.returns-then-at-len
@@ -15,4 +14,4 @@ returns-then-at-len c =
 pub returns-else-at-len : goal.returns-else-at-len
 returns-else-at-len c =
     let past : length c.self.inside.image.text ≤ c.args.at = omega (arith, c.self.invariant.kinds_are.long) in
-    subst (λ (v : VerifiedView). (p : Piece) → Covers v.image p c.args.at → ⊥) c.self.view_is (none_behind c.self.inside.image c.args.at past)
+    subst (λ (v : VerifiedView). (p : Piece) → Covers v.image p c.args.at → ⊥) c.self.view_is (c.self.invariant.kinds_are.beyond c.args.at past)

@@ -1,6 +1,18 @@
-use Rattle.std.proofs.Common.{arith}
+use Rattle.std.proofs.Common.{◌≡◌, ◌∙◌, Some, arith, sym, rules}
+use Rattle.std.specs.Prelude.{option_map}
+use Rattle.std.specs.BTreeMap.{get_by_text}
 use Rattle.std.proofs.lemmas.Map.Text.{text_keys}
+use Rattle.mic_base.proofs.FileLemmas.{file_is}
 use Rattle.mic_base.proofs.memory.files.MemFiles.add.Goals as goal
 
+pub returns-clause-added : goal.returns-clause-added
+returns-clause-added c =
+    let new = record c.args.self.now { files = c.insert.new.self } in
+    let stored : option_map (λ bytes. bytes.items) (get_by_text c.insert.new.self c.args.name.now) ≡ Some c.args.bytes.now = search rules in
+    file_is new c.args.name.now ∙ stored
+
 pub returns-clause-others : goal.returns-clause-others
-returns-clause-others c = λ other differs. grind (arith, text_keys)
+returns-clause-others c = λ other differs.
+    let new = record c.args.self.now { files = c.insert.new.self } in
+    let kept : option_map (λ bytes. bytes.items) (get_by_text c.insert.new.self other) ≡ option_map (λ bytes. bytes.items) (get_by_text c.args.self.now.files other) = grind (arith, text_keys) in
+    file_is new other ∙ (kept ∙ sym (file_is c.args.self.now other))

@@ -1,0 +1,30 @@
+-- What an access of a machine to its bus says: when it is refused, what an Err leaves, and what becomes of the source and the sink.
+use Rattle.std.specs.Prelude.{◌≡◌, ◌≢◌, ◌⊎◌, ℕ, Bool, true, false, List, [], ◌∷◌, Option, Some, IsSome, Result, Err, OnOk, IfErr, IsErrOf, IsTrue}
+use Rattle.mic_base.specs.Streams.{Holds, IsFlushed}
+use Rattle.console_port.specs.View.{BusView}
+use Rattle.console_port.specs.World.{World}
+use Rattle.console_port.specs.Console.{Asks, IsFault, HasFaultCause, StaysFlushed}
+use Rattle.console_port.specs.Bus.{Shows, Stands}
+use Rattle.console_port.specs.declared.fault.BusFault.{BusFault}
+use Rattle.console_port.specs.declared.fault.BusFault.TheVariants.{ReadFault, WriteFault}
+
+module _ {S K : Type 0} (left : S → Option (List ℕ)) (source_faults : S → ℕ) (held passed : K → Option (List ℕ)) (sink_faults : K → ℕ) where
+  -- `Refuses w e` says that the access is refused with e in the world w.
+  -- `may_read` and `may_use` say whether it may take from the console, and whether it may take or give.
+  pub record IsAccess {T : Type 0} (Refuses : World → BusFault → Type 0) (may_read may_use : Bool)
+      (source source' : S) (sink sink' : K) (bus bus' : BusView) (result : Result T BusFault) : Type 0 where
+    -- what is refused is answered, and an Err that is no fault is of what is refused
+    pub refused : (w : World) (e : BusFault) → Shows (left source) (held sink) bus w → Refuses w e → result ≡ Err e
+    pub only_refused : IfErr result (λ e. (IsFault e → ⊥) → (w : World) → Shows (left source) (held sink) bus w → Refuses w e)
+    pub stands : IfErr result (Stands (left source) (held sink) bus (left source') (held sink') bus')
+    pub reads : IsErrOf result ReadFault → IsTrue may_read
+    pub uses : IsErrOf result WriteFault → IsTrue may_use
+    pub cause : HasFaultCause (source_faults source) (source_faults source') (sink_faults sink) (sink_faults sink') result
+    -- the source is asked once at most, and no more after the end was met
+    pub asked : (bytes : List ℕ) → left source ≡ Some bytes →
+        OnOk result ((source' ≡ source) × (bus'.console.ended ≡ bus.console.ended) ⊎ Asks bytes (left source') bus'.console.ended)
+    pub asked_no_more : bus.console.ended ≡ true → source' ≡ source
+    -- what the sink held it holds in front and tells, and unless it failed it has passed on all where it had before
+    pub keeps : (front : List ℕ) → Holds front (held sink) → Holds front (held sink')
+    pub tells : IsSome (held sink) → IsSome (held sink')
+    pub flushed : result ≢ Err WriteFault → StaysFlushed (held sink) (passed sink) (held sink') (passed sink')

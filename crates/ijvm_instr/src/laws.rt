@@ -1,0 +1,12 @@
+//! What holds of every instruction that is read.
+
+ghost use Rattle.std.specs.Prelude.{◌≡◌, ◌+◌, ◌<◌, ◌≤◌, ℕ, List, All, length, Some};
+ghost use Rattle.ijvm_instr.specs.declared.instr.Instr.{Instr};
+ghost use Rattle.ijvm_instr.specs.Instructions.{IsInstr, instr_at, row_of, size_of};
+
+/// What is read in a text begins and ends inside it, and its operands are in the ranges of their types.
+pub fn read_instructions_are_whole()
+    ensures begins { (text : List ℕ) (at : ℕ) (i : Instr) → instr_at text at ≡ Some i → at < length text }
+    ensures ends { (text : List ℕ) (at : ℕ) (i : Instr) → instr_at text at ≡ Some i → at + size_of (row_of i) ≤ length text }
+    ensures real { (text : List ℕ) (at : ℕ) (i : Instr) → All (λ (b : ℕ). b < 256) text → instr_at text at ≡ Some i → IsInstr i }
+{}

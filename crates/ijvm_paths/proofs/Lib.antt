@@ -1,0 +1,3 @@
+pub mod Sounds
+pub mod Reaches
+pub mod Rows

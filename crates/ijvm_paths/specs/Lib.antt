@@ -1,0 +1,5 @@
+pub mod Paths
+pub mod Facts
+pub mod Kinds
+pub mod Sound
+pub mod Accepted

@@ -1,0 +1,4 @@
+pub mod Graphs
+pub mod Traces
+pub mod Shortcuts
+pub mod Unsets

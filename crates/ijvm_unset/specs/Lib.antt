@@ -1,0 +1,5 @@
+pub mod Graph
+pub mod Shortcut
+pub mod LocalSet
+pub mod Trace
+pub mod Unset

@@ -1,0 +1,74 @@
+-- The address that the `.label` lines give a statement.
+use Rattle.std.proofs.Common.{◌≡◌, ℕ, zero, suc, Bool, true, false, List, [], ◌∷◌, Option, Some, None, refl, sym, ap, subst, ◌∙◌, cond}
+use Rattle.std.specs.Prelude.{map, find, slice_get, option_map, ◌||◌}
+use Rattle.std.specs.Str.{bytes_eq}
+use Rattle.mal_parser.specs.declared.source.Fix.{Fix}
+use Rattle.mal_parser.specs.Labels.{AreDistinct, is_among}
+use Rattle.mal_parser.specs.Text.{IsFixedBy}
+use Rattle.mal_parser.specs.Reading.{address_at, fixed_of}
+use Rattle.mal_parser.proofs.Resolved.{same_text, text_same}
+
+module _ (label : List ℕ) where
+  later : (f : Fix) (fs : List Fix) (o : Option ℕ) → bytes_eq f.label label ≡ false → IsFixedBy fs (Some label) o → IsFixedBy (f ∷ fs) (Some label) o
+  later f fs (Some a) h (i, g, at, own, is) = (suc i, g, at, own, is)
+  later f fs None h none = go
+    where
+      go : (i : ℕ) (g : Fix) → slice_get (f ∷ fs) i ≡ Some g → Some label ≡ Some g.label → ⊥
+      go zero g at own =
+          let e : f ≡ g = cc in
+          let l : f.label ≡ label = ap (λ (x : Fix). x.label) e ∙ cc in
+          let z : bytes_eq f.label label ≡ true = ap (bytes_eq f.label) (sym l) ∙ text_same f.label in
+          cc
+      go (suc i) g at own = none i g at own
+
+  address_is : (fs : List Fix) → IsFixedBy fs (Some label) (address_at fs label)
+  address_is [] = λ i g at own. cc
+  address_is (f ∷ fs) = go (bytes_eq f.label label) refl (address_is fs)
+    where
+      go : (b : Bool) → bytes_eq f.label label ≡ b → IsFixedBy fs (Some label) (address_at fs label)
+          → IsFixedBy (f ∷ fs) (Some label) (option_map (λ (f : Fix). f.address) (cond b (Some f) (find (λ f. bytes_eq f.label label) fs)))
+      go true e rec = (0, f, refl, ap Some (sym (same_text f.label label e)), refl)
+      go false e rec = later f fs (address_at fs label) e rec
+
+pub fixed_is : (fs : List Fix) (o : Option (List ℕ)) → IsFixedBy fs o (fixed_of fs o)
+fixed_is fs None = λ i g at own. cc
+fixed_is fs (Some label) = address_is label fs
+
+-- ---- there is one at most
+
+abbrev fix_labels : List Fix → List (List ℕ)
+fix_labels fs = map (λ (f : Fix). f.label) fs
+
+or_true : (a b : Bool) → b ≡ true → (a || b) ≡ true
+or_true true b h = refl
+or_true false b h = h
+
+fix_among : (fs : List Fix) (i : ℕ) (f : Fix) → slice_get fs i ≡ Some f → is_among f.label (fix_labels fs) ≡ true
+fix_among [] i f at = absurd (cc)
+fix_among (x ∷ fs) zero f at = let e : x ≡ f = cc in let t = text_same f.label in subst (λ (y : Fix). (bytes_eq y.label f.label || is_among f.label (fix_labels fs)) ≡ true) (sym e) (rw t refl)
+fix_among (x ∷ fs) (suc i) f at = or_true (bytes_eq x.label f.label) (is_among f.label (fix_labels fs)) (fix_among fs i f at)
+
+one_fix : (fs : List Fix) (i j : ℕ) (f g : Fix) → AreDistinct (fix_labels fs) → slice_get fs i ≡ Some f → slice_get fs j ≡ Some g → f.label ≡ g.label → f ≡ g
+one_fix [] i j f g d a b e = absurd (cc)
+one_fix (x ∷ fs) zero zero f g d a b e = cc
+one_fix (x ∷ fs) zero (suc j) f g d a b e =
+    let k : x ≡ f = cc in
+    let l : g.label ≡ x.label = sym e ∙ ap (λ (y : Fix). y.label) (sym k) in
+    absurd (let t : is_among x.label (fix_labels fs) ≡ true = subst (λ n. is_among n (fix_labels fs) ≡ true) l (fix_among fs j g b) in let n = d.0 in cc)
+one_fix (x ∷ fs) (suc i) zero f g d a b e =
+    let k : x ≡ g = cc in
+    let l : f.label ≡ x.label = e ∙ ap (λ (y : Fix). y.label) (sym k) in
+    absurd (let t : is_among x.label (fix_labels fs) ≡ true = subst (λ n. is_among n (fix_labels fs) ≡ true) l (fix_among fs i f a) in let n = d.0 in cc)
+one_fix (x ∷ fs) (suc i) (suc j) f g d a b e = one_fix fs i j f g d.1 a b e
+
+one_address : (fs : List Fix) (o : Option (List ℕ)) (a b : Option ℕ) → AreDistinct (fix_labels fs) → IsFixedBy fs o a → IsFixedBy fs o b → a ≡ b
+one_address fs o (Some a) (Some b) d (i, f, at, own, is) (j, g, bt, bown, bis) =
+    let l : f.label ≡ g.label = cc in
+    let e : f ≡ g = one_fix fs i j f g d at bt l in
+    ap Some (sym is ∙ (ap (λ (x : Fix). x.address) e ∙ bis))
+one_address fs o (Some a) None d (i, f, at, own, is) none = absurd (none i f at own)
+one_address fs o None (Some b) d none (i, f, at, own, is) = absurd (none i f at own)
+one_address fs o None None d none other = refl
+
+pub fixed_there : (fs : List Fix) (o : Option (List ℕ)) (a : Option ℕ) → AreDistinct (map (λ (f : Fix). f.label) fs) → IsFixedBy fs o a → a ≡ fixed_of fs o
+fixed_there fs o a d h = one_address fs o a (fixed_of fs o) d h (fixed_is fs o)

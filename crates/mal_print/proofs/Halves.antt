@@ -1,0 +1,20 @@
+-- What a conjunction says of its halves, and a name of its bytes.
+use Rattle.std.proofs.Common.{◌≡◌, ℕ, Bool, true, false, List, length, refl}
+use Rattle.std.specs.Prelude.{◌&&◌, not, nat_le}
+use Rattle.std.specs.List.{list_all}
+use Rattle.mic_base.specs.Name.{begins_digit, is_name, is_name_byte}
+
+pub and_parts : (a b : Bool) → (a && b) ≡ true → (a ≡ true) × (b ≡ true)
+and_parts true b h = (refl, h)
+and_parts false b h = absurd (cc)
+
+pub record IsName (text : List ℕ) : Type 0 where
+  pub short : nat_le (length text) 64 ≡ true
+  pub bytes : list_all is_name_byte text ≡ true
+
+pub name_parts : (text : List ℕ) → is_name text ≡ true → IsName text
+name_parts text h =
+    let p = and_parts (nat_le 1 (length text)) (nat_le (length text) 64 && (list_all is_name_byte text && not (begins_digit text))) h in
+    let q = and_parts (nat_le (length text) 64) (list_all is_name_byte text && not (begins_digit text)) p.1 in
+    let r = and_parts (list_all is_name_byte text) (not (begins_digit text)) q.1 in
+    record { short = q.0; bytes = r.0 }

@@ -1,0 +1,26 @@
+-- The files in memory by their names: the list of them tells what the map does.
+use Rattle.std.proofs.Common.{◌≡◌, ℕ, List, [], ◌∷◌, Some, refl, true, false, cond}
+use Rattle.std.specs.Prelude.{Vec, map, option_map, string_bytes, String}
+use Rattle.std.specs.BTreeMap.{get_by_text}
+use Rattle.std.specs.Map.{lookup}
+use Rattle.std.specs.Ordering.{nat_cmp, is_eq}
+use Rattle.std.specs.Cmp.Lexicographic.{slice_cmp}
+use Rattle.std.specs.FinMap.{find}
+use Rattle.std.specs.declared.alloc.Global.{Global}
+use Rattle.mic_base.specs.Files.{file_in}
+use Rattle.mic_base.specs.Memory.{files_contents}
+use Rattle.mic_base.specs.declared.memory.files.MemFiles.{MemFiles}
+
+by_entries : (name : List ℕ) (es : List (String Global × Vec ℕ Global)) →
+    find (slice_cmp nat_cmp) name (map (λ e. (string_bytes e.0, e.1.items)) es)
+    ≡ option_map (λ bytes. bytes.items) (lookup (λ k. is_eq (slice_cmp nat_cmp name (string_bytes k))) es)
+by_entries name [] = refl
+by_entries name (e ∷ es) =
+    elim (is_eq (slice_cmp nat_cmp name (string_bytes e.0))) as (λ b. cond b (Some e.1.items) (find (slice_cmp nat_cmp) name (map (λ e. (string_bytes e.0, e.1.items)) es))
+    ≡ option_map (λ bytes. bytes.items) (cond b (Some e.1) (lookup (λ k. is_eq (slice_cmp nat_cmp name (string_bytes k))) es))) [
+      | true ↦ refl
+      | false ↦ by_entries name es
+    ]
+
+pub file_is : (s : MemFiles) (name : List ℕ) → file_in (files_contents s) name ≡ option_map (λ bytes. bytes.items) (get_by_text s.files name)
+file_is s name = by_entries name s.files.entries
