@@ -8,12 +8,14 @@ use Rattle.std.proofs.lemmas.Slice.Eq.{bytes_eq-Decides}
 use Rattle.std.proofs.lemmas.Bool.Decides.{nat_tests}
 use Rattle.machine_words.specs.declared.machine.Machine.{Machine}
 use Rattle.micro_word.specs.Canonical.{is_part}
-use Rattle.mal_tokens.specs.Words.{is_reserved}
+use Rattle.mic_base.specs.Name.{is_name}
+use Rattle.mal_tokens.specs.Words.{is_reserved, IsLabelText}
 use Rattle.mal_parser.specs.declared.statement.Statement.{Statement}
 use Rattle.mal_parser.specs.declared.statement.MalNext.{MalNext}
 use Rattle.mal_parser.specs.declared.statement.MalNext.TheVariants as nexts
 use Rattle.mal_parser.specs.Program.{Program, label_at, IsLabelled, HasTargets, IsStatement, IsFallback, IsProgram}
-use Rattle.shipped_program.specs.Listing.{program1, rows1, program2, rows2}
+use Rattle.machine_words.specs.declared.machine.Machine.TheVariants.{Mic1, Mic2}
+use Rattle.shipped_program.specs.Listing.{program_of, program1, rows1, program2, rows2}
 
 both : (a b : Bool) → (a && b) ≡ true → (a ≡ true) × (b ≡ true)
 both true b h = (refl, h)
@@ -35,7 +37,7 @@ follows count number (nexts.Branch test high low) = true
 
 is_label : Option (List ℕ) → Bool
 is_label None = true
-is_label (Some name) = not (is_reserved name)
+is_label (Some name) = is_name name && not (is_reserved name)
 
 is_fix : Option ℕ → Option (List ℕ) → Bool
 is_fix None label = true
@@ -67,10 +69,10 @@ not_true : (b : Bool) → not b ≡ true → b ≡ false
 not_true true h = absurd (cc)
 not_true false h = refl
 
-is_label_is : (label : Option (List ℕ)) → is_label label ≡ true → IfSome label (λ name. is_reserved name ≡ false)
+is_label_is : (label : Option (List ℕ)) → is_label label ≡ true → IfSome label IsLabelText
 unfolding is_label
 is_label_is None h = tt
-is_label_is (Some name) h = not_true (is_reserved name) h
+is_label_is (Some name) h = let two = both (is_name name) _ h in (two.0, not_true (is_reserved name) two.1)
 
 is_fix_is : (fixed : Option ℕ) (label : Option (List ℕ)) → is_fix fixed label ≡ true → IfSome fixed (λ address. (address < 512) × IsSome label)
 unfolding is_fix
@@ -172,3 +174,7 @@ valid2 =
       fallback = record { part = refl; targets = refl; leads = λ e. cc; label = refl; fixed = refl };
       entry = refl;
     }
+
+pub valid : (machine : Machine) → IsProgram (program_of machine)
+valid Mic1 = valid1
+valid Mic2 = valid2

@@ -1,5 +1,6 @@
 -- The shipped microprograms, statement by statement in their order, each with its address in the control store.
-use Rattle.std.specs.Prelude.{ℕ, Bool, true, false, List, [], ◌∷◌, Option, Some, None, map, codes}
+use Rattle.std.specs.Prelude.{ℕ, Bool, true, false, List, [], ◌∷◌, Option, Some, None, map, option_map, codes}
+use Rattle.machine_words.specs.declared.machine.Machine.{Machine}
 use Rattle.machine_words.specs.declared.machine.Machine.TheVariants.{Mic1, Mic2}
 use Rattle.micro_word.specs.declared.statement.AluOp.{AluOp}
 use Rattle.micro_word.specs.declared.statement.AluOp.TheVariants as ops
@@ -15,6 +16,8 @@ use Rattle.mal_parser.specs.declared.statement.Statement.{Statement}
 use Rattle.mal_parser.specs.declared.statement.MalNext.{MalNext}
 use Rattle.mal_parser.specs.declared.statement.MalNext.TheVariants as nexts
 use Rattle.mal_parser.specs.Program.{Program}
+use Rattle.shipped_program.specs.declared.mic1.TheConstants.{MIC1}
+use Rattle.shipped_program.specs.declared.mic2.TheConstants.{MIC2}
 
 abbrev pub part_of : ℕ → AluOp → Option BusSource → Option BusSource → Shift → Mem → Bool → Part
 part_of dests op a b shift mem fetch = record { dests = dests; op = op; a = a; b = b; shift = shift; mem = mem; fetch = fetch }
@@ -292,3 +295,25 @@ program2 = record { machine = Mic2; statements = map (λ (r : Row). r.statement)
 
 abbrev pub addresses2 : List ℕ
 addresses2 = map (λ (r : Row). r.address) rows2
+
+-- by machine
+
+abbrev pub text_of : Machine → List ℕ
+text_of Mic1 = MIC1.now
+text_of Mic2 = MIC2.now
+
+abbrev pub program_of : Machine → Program
+program_of Mic1 = program1
+program_of Mic2 = program2
+
+abbrev pub addresses_of : Machine → List ℕ
+addresses_of Mic1 = addresses1
+addresses_of Mic2 = addresses2
+
+-- with 0 for each line number
+
+abbrev pub without_line : Statement → Statement
+without_line s = record s { line = 0 }
+
+abbrev pub unlined : Program → Program
+unlined p = record p { statements = map without_line p.statements; fallback = option_map without_line p.fallback }

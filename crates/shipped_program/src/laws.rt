@@ -1,13 +1,23 @@
-//! What the texts of both microprograms say.
+//! What holds of both shipped microprograms.
 
-ghost use Rattle.std.specs.Prelude.{◌≡◌};
+ghost use Rattle.std.specs.Prelude.{◌≡◌, ℕ, List};
+ghost use Rattle.machine_words.specs.declared.machine.Machine.{Machine};
 ghost use Rattle.mal_parser.specs.Canonical.{canonical_text};
-ghost use Rattle.shipped_program.specs.Listing.{program1, program2};
+ghost use Rattle.store_placement.specs.Chosen.{IsChosenList};
+ghost use Rattle.store_placement.specs.Program.{demands_of};
+ghost use Rattle.shipped_program.specs.Listing.{program_of, addresses_of, text_of};
 
-use crate::mic1::MIC1;
-use crate::mic2::MIC2;
+use store_placement::chosen_law;
 
-/// trial
-pub fn is_canonical()
-    ensures { MIC1.now ≡ canonical_text program1 }
+/// Each text is the canonical text of the program that is listed.
+pub fn shipped_texts_are_canonical()
+    ensures { (machine : Machine) → text_of machine ≡ canonical_text (program_of machine) }
 {}
+
+/// The listed addresses are the chosen placement, and no other addresses are.
+pub fn shipped_programs_are_listed()
+    ensures chosen { (machine : Machine) → IsChosenList (demands_of (program_of machine)) (addresses_of machine) }
+    ensures only { (machine : Machine) (addresses : List ℕ) → IsChosenList (demands_of (program_of machine)) addresses → addresses ≡ addresses_of machine }
+{
+    chosen_law();
+}
