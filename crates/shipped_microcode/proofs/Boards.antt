@@ -19,7 +19,7 @@ use Rattle.shipped_microcode.specs.Shipped.{HasShipped}
 use Rattle.shipped_microcode.specs.Straight.{image_of}
 use Rattle.shipped_microcode.specs.Simulates.{IsEnd}
 use Rattle.shipped_microcode.specs.Headline.{told_of, reset_run, Begins, HasRun, IsCutByWrite}
-use Rattle.shipped_microcode.proofs.Carried.{IsText, simulated, halted, size, keeps_input}
+use Rattle.shipped_microcode.proofs.Carried.{IsText, simulated, halted, keeps_input}
 use Rattle.shipped_microcode.proofs.Worlds.{same_end}
 use Rattle.shipped_microcode.proofs.Output.{Grows, front_of_end}
 use Rattle.shipped_microcode.proofs.Unread.{unread}
@@ -158,6 +158,6 @@ module _ (text : List ℕ) (known : IsText text) (bound : ℕ) (left held left' 
       let longer : List ℕ = input ++ 0 ∷ [] in
       let sim = simulated text known board0.bus.words s.loaded (told_of held) board.store.words has bound longer in
       let end = sim.ends sim.finishes.0 sim.finishes.1 in
-      unread board.store.words bound (reset_run 0 (world input)) (omega (arith, size text known board0.bus.words s.loaded (told_of held))) to.0 here.next here.reads
+      unread board.store.words bound (reset_run 0 (world input)) to.0 here.next here.reads
       end.0 sim.finishes.0.end end.1.end
       (end.1.untaken ∙ keeps_input text known board0.bus.words s.loaded (told_of held) board.store.words has bound longer sim.finishes.0 sim.finishes.1)

@@ -1,10 +1,11 @@
 -- The headline of a Mic-1 that was clocked over an image from its reset: its run stands for the definition's run, and the board that is left shows where that run ended, or where a fault cut it.
-use Rattle.std.specs.Prelude.{◌≡◌, ◌⊎◌, ℕ, ◌+◌, ◌-◌, List, [], ◌++◌, replicate, Option, Some, IfSome, IsSome, IsTrue, unwrap_or, false}
+use Rattle.std.specs.Prelude.{◌≡◌, ◌⊎◌, ℕ, ◌+◌, ◌-◌, List, [], ◌++◌, replicate, Option, Some, IfSome, IsSome, unwrap_or, false}
 use Rattle.machine_words.specs.declared.machine.Machine.TheVariants as machines
 use Rattle.console_port.specs.World.{World}
 use Rattle.console_port.specs.Loading.{IsLoaded}
 use Rattle.console_port.specs.Console.{Untaken}
 use Rattle.mic_clock.specs.View.{BoardView}
+use Rattle.mic_clock.specs.Meaning.{UsesConsole}
 use Rattle.mic_clock.specs.Run.{MicroRun, start_run, turns, word_at, IsClocking}
 use Rattle.mic1_datapath.specs.declared.micro.Micro.{Micro}
 use Rattle.mic1_datapath.specs.declared.mic1.Mic1.{Mic1}
@@ -67,6 +68,6 @@ module _ (image : ImageView) (main_locals bound : ℕ) where
       pub at : IsAtMoment (moment begins n)
       pub next :
           (IsClocking mic1_meaning board.store.words (Some bound) (moment begins n)
-          × IsTrue (mic1_meaning.uses_console (word_at mic1_meaning board.store.words (moment begins n).state) (moment begins n).state))
+          × UsesConsole mic1_meaning (word_at mic1_meaning board.store.words (moment begins n).state) (moment begins n).state (moment begins n).world)
           ⊎ IsSome (moment begins n).end
       pub given : IfSome held' (λ h. (some more : List ℕ) × (h ≡ told_of held ++ some) × (some ++ more ≡ begins.finish.left.given))

@@ -24,7 +24,7 @@ invariant-inside g l =
       keeps : (front : List ℕ) → Holds front (g.K.Sink.held l.fn.sink) → Holds front held;
       cause : HasEndCause (g.S.Source.faults l.fn.source) (g.S.Source.faults l.source) (g.K.Sink.faults l.fn.sink) (g.K.Sink.faults l.sink) None l.self.end;
       store : l.self.store ≡ l.fn.self.store;
-      in_time : InTime (l.fn.self.counts.cycles + 1) l.self.counts (m.is_boundary (state l.self.machine)) l.self.end;
+      in_time : InTime l.fn.self.counts.cycles l.self.counts (m.is_boundary (state l.self.machine)) l.self.end;
     }
 
 abbrev pub decreases-inside : goal.decreases-inside
