@@ -1,5 +1,5 @@
 -- A line of the microassembly language: what its tokens spell on a machine, and why they are refused.
-use Rattle.std.specs.Prelude.{◌≡◌, ◌≢◌, IsTrue, ℕ, Bool, true, false, List, [], ◌∷◌, ◌⊎◌, Option, Some, None, Result, Ok, Err, if◌then◌else◌, option_map}
+use Rattle.std.specs.Prelude.{◌≡◌, ◌≢◌, IsTrue, Bool, true, false, List, [], ◌∷◌, ◌⊎◌, Option, Some, None, option_map}
 use Rattle.std.specs.List.{list_any}
 use Rattle.machine_words.specs.declared.machine.Machine.{Machine}
 use Rattle.machine_words.specs.declared.machine.Machine.TheVariants.{Mic1, Mic2}
@@ -28,7 +28,6 @@ use Rattle.mal_line.specs.declared.line.LineFault.{LineFault}
 use Rattle.mal_line.specs.declared.line.LineFault.TheVariants as faults
 use Rattle.mal_line.specs.Expressions.{part_with}
 use Rattle.mal_line.specs.Statements.{AreTree}
-use Rattle.mal_line.specs.Reading.{tree_of}
 
 -- ---- the forms of a line
 
@@ -112,40 +111,6 @@ abbrev pub IsRefused : Machine → List Token → LineFault → Type 0
 IsRefused machine ts faults.BadStatement = (form : Form) → IsForm machine ts form → ⊥
 IsRefused machine ts faults.WrongMachine = (form : Form) × IsForm machine ts form × (names_foreign machine ts ≡ true)
 IsRefused machine ts faults.NoSuchOperation = (form : Form) × IsForm machine ts form × (names_foreign machine ts ≡ false) × (content_of form ≡ None)
-
--- ---- how it is read
-
-abbrev pub fix_of : List Token → Option Form
-fix_of (tokens.Name label ∷ tokens.Number address ∷ []) = Some (forms.Fix label address)
-fix_of _ = None
-
-abbrev pub behind_colon : List Token → List Token
-behind_colon (tokens.Sign signs.Colon ∷ rest) = rest
-behind_colon rest = rest
-
-abbrev pub labelled : Machine → Option (List ℕ) → List Token → Option Form
-labelled machine label ts = option_map (λ tree. forms.Statement label tree) (tree_of machine ts)
-
-abbrev pub form_by : Machine → Token → List Token → Option Form
-form_by machine (tokens.Sign signs.Label) rest = fix_of rest
-form_by machine (tokens.Sign signs.Default) rest = option_map (λ tree. forms.Fallback tree) (tree_of machine rest)
-form_by machine (tokens.Name label) rest = labelled machine (Some label) (behind_colon rest)
-form_by machine first rest = labelled machine None (first ∷ rest)
-
-abbrev pub form_of : Machine → List Token → Option Form
-form_of machine [] = Some forms.Nothing
-form_of machine (first ∷ rest) = form_by machine first rest
-
-abbrev pub said : Option Content → Result Content LineFault
-said None = Err faults.NoSuchOperation
-said (Some content) = Ok content
-
-abbrev pub said_by : Machine → List Token → Option Form → Result Content LineFault
-said_by machine ts None = Err faults.BadStatement
-said_by machine ts (Some form) = if names_foreign machine ts then Err faults.WrongMachine else said (content_of form)
-
-unfoldable pub line_of : Machine → List Token → Result Content LineFault
-line_of machine ts = said_by machine ts (form_of machine ts)
 
 -- a statement that the line says stands in a word of the machine
 abbrev pub HasPart : Machine → Content → Type 0

@@ -1,9 +1,17 @@
+//! What the reading of a line promises of all lines.
 ghost use Rattle.std.specs.Prelude.{◌≡◌, ◌↔◌, List, Ok, Err};
 ghost use Rattle.machine_words.specs.declared.machine.Machine.{Machine};
 ghost use Rattle.mal_tokens.specs.declared.token.Token.{Token};
+ghost use Rattle.mal_tokens.specs.declared.word.Word.{Word};
+ghost use Rattle.mal_line.specs.declared.chain.Tail.{Tail};
+ghost use Rattle.mal_line.specs.declared.operation.Operation.{Operation};
+ghost use Rattle.mal_line.specs.Expressions.{IsCoded, tail_with};
+ghost use Rattle.mal_line.specs.Table.{IsRow};
+ghost use Rattle.mal_line.specs.Chains.{dest_bits, LoadsNamed};
 ghost use Rattle.mal_line.specs.declared.content.Content.{Content};
 ghost use Rattle.mal_line.specs.declared.line.LineFault.{LineFault};
-ghost use Rattle.mal_line.specs.Lines.{HasPart, IsRefused, line_of, Spells};
+ghost use Rattle.mal_line.specs.Lines.{HasPart, IsRefused, Spells};
+ghost use Rattle.mal_line.specs.Reading.{line_of};
 
 /// A line is read as what it spells, and refused by the first refusal that it has: so it spells at most one thing, and
 /// what it spells is never refused. A statement that is spelled stands in a word of the machine.
@@ -11,4 +19,15 @@ pub fn reads_what_is_spelled()
     ensures spelled { (machine : Machine) (tokens : List Token) (content : Content) → (line_of machine tokens ≡ Ok content) ↔ Spells machine tokens content }
     ensures refused { (machine : Machine) (tokens : List Token) (fault : LineFault) → (line_of machine tokens ≡ Err fault) ↔ IsRefused machine tokens fault }
     ensures stands { (machine : Machine) (tokens : List Token) (content : Content) → Spells machine tokens content → HasPart machine content }
+{}
+
+/// The bits of the destinations that are named load their registers, and no other.
+pub fn named_registers_are_loaded()
+    ensures { (dests : List Word) → LoadsNamed (dest_bits 0 dests) dests }
+{}
+
+/// An expression has a coding exactly where it is a row of the table, and then a shift by 8 to the left, by 1 to the right, or none.
+pub fn each_coding_is_a_row()
+    ensures row { (machine : Machine) (body : List Token) (tail : Tail) (operation : Operation) → IsCoded machine body tail operation → IsRow machine body operation }
+    ensures coded { (machine : Machine) (body : List Token) (operation : Operation) → IsRow machine body operation → IsCoded machine body (tail_with operation.shift) operation }
 {}

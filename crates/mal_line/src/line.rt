@@ -1,5 +1,6 @@
 ghost use Rattle.std.specs.Prelude.{◌≡◌, ◌∷◌, IfOk};
-ghost use Rattle.mal_line.specs.Lines.{behind_colon, fix_of, form_of, HasPart, is_foreign, labelled, line_of, names_foreign};
+ghost use Rattle.mal_line.specs.Lines.{HasPart, is_foreign, names_foreign};
+ghost use Rattle.mal_line.specs.Reading.{behind_colon, fix_of, form_of, labelled, line_of};
 
 use crate::content::{Content, content_of};
 use crate::tally::tree_of;
@@ -89,7 +90,7 @@ pub fn line_of(machine: Machine, tokens: &[Token]) -> Result<Content, LineFault>
     read(machine, tokens)
 }
 
-#[tactic(auto, unfolding(crate::specs::Lines::line_of))]
+#[tactic(auto, unfolding(crate::specs::Reading::line_of))]
 fn read(machine: Machine, tokens: &[Token]) -> Result<Content, LineFault>
     ensures { result ≡ line_of machine tokens.now }
 {

@@ -14,7 +14,7 @@ use Rattle.mal_line.specs.declared.content.Parts.{Parts}
 use Rattle.mal_line.specs.declared.line.LineFault.{LineFault}
 use Rattle.mal_line.specs.declared.line.Form.{Form}
 use Rattle.mal_line.specs.declared.line.Form.TheVariants as forms
-use Rattle.mal_line.specs.Lines.{line_of}
+use Rattle.mal_line.specs.Reading.{line_of}
 use Rattle.mal_line.specs.Lines as lines
 use Rattle.mal_parser.specs.declared.error.MalError.{MalError}
 use Rattle.mal_parser.specs.declared.error.MalError.TheVariants as errors

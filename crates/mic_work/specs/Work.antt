@@ -49,7 +49,7 @@ pub data IsCarriedOut (file : List ℕ) (answer : Answered) (old new : Desk) (st
   Unwritten : (target bytes text : List ℕ) → answer ≡ Writes target bytes text → OthersKept old.files.contents new.files.contents target →
       Rose old.files.faults new.files.faults → new.out ≡ old.out → Says old.err new.err (message target cannot_write) 66 status →
       IsCarriedOut file answer old new status
-  -- the same, where memory was wanting for the writing
+  -- memory was wanting in the writing itself: that file may then contain anything, all of the bytes too, and nothing is printed
   HalfWritten : (target bytes text : List ℕ) → answer ≡ Writes target bytes text → OthersKept old.files.contents new.files.contents target →
       new.files.faults ≡ old.files.faults → new.out ≡ old.out → Says old.err new.err out_of_memory 75 status → IsCarriedOut file answer old new status
 

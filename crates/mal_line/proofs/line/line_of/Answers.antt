@@ -2,7 +2,8 @@ use Rattle.std.proofs.Common.{◌≡◌, Ok, Err, sym}
 use Rattle.std.specs.Prelude.{Result, IfOk}
 use Rattle.mal_line.specs.declared.content.Content.{Content}
 use Rattle.mal_line.specs.declared.line.LineFault.{LineFault}
-use Rattle.mal_line.specs.Lines.{HasPart, line_of}
+use Rattle.mal_line.specs.Lines.{HasPart}
+use Rattle.mal_line.specs.Reading.{line_of}
 use Rattle.mal_line.proofs.Lining.{line_spells}
 use Rattle.mal_line.proofs.Standing.{stands}
 use Rattle.mal_line.proofs.line.line_of.Goals as goal
