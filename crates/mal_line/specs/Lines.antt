@@ -3,16 +3,14 @@ use Rattle.std.specs.Prelude.{◌≡◌, ◌≢◌, IsTrue, Bool, true, false, L
 use Rattle.std.specs.List.{list_any}
 use Rattle.machine_words.specs.declared.machine.Machine.{Machine}
 use Rattle.machine_words.specs.declared.machine.Machine.TheVariants.{Mic1, Mic2}
-use Rattle.micro_word.specs.declared.statement.AluOp.TheVariants as ops
-use Rattle.micro_word.specs.declared.statement.Shift.TheVariants as shifts
 use Rattle.micro_word.specs.declared.statement.Part.{Part}
+use Rattle.micro_word.specs.Coding.{idle}
 use Rattle.micro_word.specs.Canonical.{is_part}
 use Rattle.mal_tokens.specs.declared.word.Word.{Word}
 use Rattle.mal_tokens.specs.declared.word.Word.TheVariants as words
 use Rattle.mal_tokens.specs.declared.sign.Sign.TheVariants as signs
 use Rattle.mal_tokens.specs.declared.token.Token.{Token}
 use Rattle.mal_tokens.specs.declared.token.Token.TheVariants as tokens
-use Rattle.mal_line.specs.declared.operation.Operation.{Operation}
 use Rattle.mal_line.specs.declared.chain.Assignment.{Assignment}
 use Rattle.mal_line.specs.declared.tree.Jump.{Jump}
 use Rattle.mal_line.specs.declared.tree.Jump.TheVariants as jumps
@@ -31,21 +29,20 @@ use Rattle.mal_line.specs.Statements.{AreTree}
 
 -- ---- the forms of a line
 
+-- the tokens follow the grammar in this form; an expression without a coding, and an OR with another number, stand in it as none
 abbrev pub IsForm : Machine → List Token → Form → Type 0
 IsForm machine ts forms.Nothing = ts ≡ []
 IsForm machine ts (forms.Fix label address) = ts ≡ tokens.Sign signs.Label ∷ tokens.Name label ∷ tokens.Number address ∷ []
 IsForm machine ts (forms.Fallback tree) = (rest : List Token) × (ts ≡ tokens.Sign signs.Default ∷ rest) × AreTree machine rest tree
 IsForm machine ts (forms.Statement None tree) = (ts ≢ []) × AreTree machine ts tree
-IsForm machine ts (forms.Statement (Some label) tree) = (rest : List Token) × ((ts ≡ tokens.Name label ∷ rest) ⊎ (ts ≡ tokens.Name label ∷ tokens.Sign signs.Colon ∷ rest)) × AreTree machine rest tree
+IsForm machine ts (forms.Statement (Some label) tree) =
+    (rest : List Token) × ((ts ≡ tokens.Name label ∷ rest) ⊎ (ts ≡ tokens.Name label ∷ tokens.Sign signs.Colon ∷ rest)) × AreTree machine rest tree
 
 -- ---- what a line of a form says
 
 -- a statement without an assignment computes nothing
-abbrev pub idle : Operation
-idle = record { op = ops.Zero; a = None; b = None; shift = shifts.None }
-
 abbrev pub part_by : Option Assignment → Option Part
-part_by None = Some (part_with idle 0)
+part_by None = Some idle
 part_by (Some a) = option_map (λ o. part_with o a.dests) a.operation
 
 abbrev pub with_access : Tree → Part → Part

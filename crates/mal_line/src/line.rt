@@ -1,5 +1,6 @@
-ghost use Rattle.std.specs.Prelude.{◌≡◌, ◌∷◌, IfOk};
-ghost use Rattle.mal_line.specs.Lines.{HasPart, is_foreign, names_foreign};
+//! A line, by its form.
+ghost use Rattle.std.specs.Prelude.{◌≡◌, ◌∷◌, IfOk, IfErr};
+ghost use Rattle.mal_line.specs.Lines.{HasPart, is_foreign, IsRefused, names_foreign, Spells};
 ghost use Rattle.mal_line.specs.Reading.{behind_colon, fix_of, form_of, labelled, line_of};
 
 use crate::content::{Content, content_of};
@@ -84,6 +85,8 @@ fn names_foreign(machine: Machine, tokens: &[Token]) -> bool
 
 /// What the tokens of a line say, or the first refusal.
 pub fn line_of(machine: Machine, tokens: &[Token]) -> Result<Content, LineFault>
+    ensures spells { IfOk result (Spells machine tokens.now) }
+    ensures refused { IfErr result (IsRefused machine tokens.now) }
     ensures value { result ≡ line_of machine tokens.now }
     ensures part { IfOk result (HasPart machine) }
 {

@@ -23,8 +23,10 @@ pub fn micro<F: Files, K: Sink, E: Sink>(
     err: &mut E,
 ) -> Status
     ensures { Ends (MicroAnswers machine store.now) mal.now
-        (desk (files_state (F.contents files.old) (F.faults files.old)) (sink_state (K.held out.old) (K.faults out.old)) (sink_state (E.held err.old) (E.faults err.old)))
-        (desk (files_state (F.contents files.new) (F.faults files.new)) (sink_state (K.held out.new) (K.faults out.new)) (sink_state (E.held err.new) (E.faults err.new)))
+        (desk (files_state (F.contents files.old) (F.faults files.old))
+        (sink_state (K.held out.old) (K.faults out.old)) (sink_state (E.held err.old) (E.faults err.old)))
+        (desk (files_state (F.contents files.new) (F.faults files.new))
+        (sink_state (K.held out.new) (K.faults out.new)) (sink_state (E.held err.new) (E.faults err.new)))
         result.0 }
 {
     let bytes = match read_named(alloc, mal, files, err) {
@@ -47,8 +49,10 @@ pub fn print_micro<F: Files, K: Sink, E: Sink>(
     err: &mut E,
 ) -> Status
     ensures { Ends (PrintMicroAnswers machine) file.now
-        (desk (files_state (F.contents files.old) (F.faults files.old)) (sink_state (K.held out.old) (K.faults out.old)) (sink_state (E.held err.old) (E.faults err.old)))
-        (desk (files_state (F.contents files.new) (F.faults files.new)) (sink_state (K.held out.new) (K.faults out.new)) (sink_state (E.held err.new) (E.faults err.new)))
+        (desk (files_state (F.contents files.old) (F.faults files.old))
+        (sink_state (K.held out.old) (K.faults out.old)) (sink_state (E.held err.old) (E.faults err.old)))
+        (desk (files_state (F.contents files.new) (F.faults files.new))
+        (sink_state (K.held out.new) (K.faults out.new)) (sink_state (E.held err.new) (E.faults err.new)))
         result.0 }
 {
     let bytes = match read_named(alloc, file, files, err) {
