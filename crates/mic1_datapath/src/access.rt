@@ -1,10 +1,11 @@
 //! The accesses of a cycle: their addresses are tested before anything is changed.
 
-ghost use Rattle.std.specs.Prelude.{◌≡◌, ◌==◌, ◌&&◌, ◌≤◌, ℕ, List, Some, None, Err, length, OnOk, IfOk, OnErr, IfErr, IsErrOf, IsTrue};
+ghost use Rattle.std.specs.Prelude.{◌≡◌, ◌≢◌, IsSome, ◌==◌, ◌&&◌, ◌≤◌, ℕ, List, Some, None, Err, length, OnOk, IfOk, OnErr, IfErr, IsErrOf, IsTrue};
 ghost use Rattle.mic_base.specs.Streams.{Holds};
 ghost use Rattle.console_port.specs.World.{World, console_at};
 ghost use Rattle.console_port.specs.Bus.{Shows, Stands, IsLed, ChangesOnly, refused_by};
-ghost use Rattle.console_port.specs.Console.{IsFault, HasFaultCause};
+ghost use Rattle.console_port.specs.Console.{IsFault, HasFaultCause, StaysFlushed};
+ghost use Rattle.mic_clock.specs.Edge.{AsksNoMore};
 ghost use Rattle.mic1_datapath.specs.Microstep.{memory_refusal, byte_refusal, access_refusal, byte_under_way};
 ghost use Rattle.mic1_datapath.specs.Access.{IsAccess, IsTransfer, is_read, is_access};
 
@@ -67,6 +68,9 @@ fn transfer<S: Source, K: Sink>(
     ensures reads { IsErrOf result BusFault.ReadFault → IsTrue (is_read mem && ports.now.mar == console_at) }
     ensures uses { IsErrOf result BusFault.WriteFault → IsTrue (is_access mem && ports.now.mar == console_at) }
     ensures keeps { (front : List ℕ) → Holds front (K.held sink.old) → Holds front (K.held sink.new) }
+    ensures asked_no_more { AsksNoMore bus.old.console.ended source.old bus.new.console.ended source.new }
+    ensures tells { IsSome (K.held sink.old) → IsSome (K.held sink.new) }
+    ensures flushed { result ≢ Err BusFault.WriteFault → StaysFlushed (K.held sink.old) (K.passed sink.old) (K.held sink.new) (K.passed sink.new) }
     ensures cause { HasFaultCause (S.faults source.old) (S.faults source.new) (K.faults sink.old) (K.faults sink.new) result }
 {
     match mem {
@@ -114,6 +118,9 @@ pub fn access<S: Source, K: Sink>(
     ensures reads { IsErrOf result BusFault.ReadFault → IsTrue (is_read mem && ports.now.mar == console_at) }
     ensures uses { IsErrOf result BusFault.WriteFault → IsTrue (is_access mem && ports.now.mar == console_at) }
     ensures keeps { (front : List ℕ) → Holds front (K.held sink.old) → Holds front (K.held sink.new) }
+    ensures asked_no_more { AsksNoMore bus.old.console.ended source.old bus.new.console.ended source.new }
+    ensures tells { IsSome (K.held sink.old) → IsSome (K.held sink.new) }
+    ensures flushed { result ≢ Err BusFault.WriteFault → StaysFlushed (K.held sink.old) (K.passed sink.old) (K.held sink.new) (K.passed sink.new) }
     ensures cause { HasFaultCause (S.faults source.old) (S.faults source.new) (K.faults sink.old) (K.faults sink.new) result }
 {
     check(bus, mem, fetch, ports)?;

@@ -1,5 +1,5 @@
 -- What a clock edge comes to between a source and a sink, by the step of the word that was set up.
-use Rattle.std.specs.Prelude.{◌≡◌, ℕ, List, Option, Some, Result, Err}
+use Rattle.std.specs.Prelude.{◌≡◌, ℕ, List, Option, Some, Result, Err, Bool, true}
 use Rattle.console_port.specs.View.{BusView}
 use Rattle.console_port.specs.World.{World}
 use Rattle.console_port.specs.Bus.{Shows, IsLed}
@@ -22,3 +22,7 @@ module _ {State : Type 0} (m : Meaning State) (word : ℕ) (s : State) (left hel
     pub refused : (IsFault e → ⊥) → (w : World) → Shows left held bus w → refusal_in (m.step word s w) ≡ Some e
     pub reads : e ≡ ReadFault → (w : World) → Shows left held bus w → ReadsConsole m word s w
     pub uses : e ≡ WriteFault → (w : World) → Shows left held bus w → UsesConsole m word s w
+
+-- the end of input, once met, stays met, and the source is asked no more
+abbrev pub AsksNoMore : {S : Type 0} → Bool → S → Bool → S → Type 0
+AsksNoMore ended source ended' source' = ended ≡ true → (ended' ≡ true) × (source' ≡ source)

@@ -1,10 +1,11 @@
 //! A machine with its control store and its bus, clocked, counted and ended.
 
 ghost use Rattle.mic_base.specs.Causes.{Rose};
-ghost use Rattle.mic_base.specs.Streams.{Holds};
-ghost use Rattle.std.specs.Prelude.{◌≡◌, [], ◌<◌, ◌≤◌, ◌+◌, ◌^◌, ℕ, List, Option, None, Some, IsOk, OnOk, IfErr, IsSome, true, false, length, max};
+ghost use Rattle.mic_base.specs.Streams.{Holds, IsFlushed};
+ghost use Rattle.std.specs.Prelude.{◌≡◌, ◌≢◌, [], ◌<◌, ◌≤◌, ◌+◌, ◌^◌, ℕ, List, Option, None, Some, IsOk, OnOk, IfErr, IsSome, true, false, length, max};
 ghost use Rattle.console_port.specs.Bus.{Stands};
-ghost use Rattle.console_port.specs.Console.{IsFault, IsLost, HasFaultCause};
+ghost use Rattle.console_port.specs.Console.{IsFault, IsLost, HasFaultCause, StaysFlushed};
+ghost use Rattle.mic_clock.specs.Edge.{AsksNoMore};
 ghost use Rattle.mic_clock.specs.Run.{MicroRun, start_counts, start_buses, bounded, word_at, last_cycles, end_by};
 ghost use Rattle.mic_clock.specs.Board.{ShowsRun, ShowsAs, IsReset, NoFault, HasEndCause, tick_of, IsTurned, IsCutByFault, IsRun, RunIsCutByRead, RunIsCutByWrite, BoundIsCutByWrite, IsLegRun, LegIsCutByRead, LegIsCutByWrite};
 ghost use Rattle.mic_clock.specs.Board.{EndsInTime, IsCounted, ShowsBuses, EndsUncounted, HasRoom};
@@ -90,6 +91,9 @@ impl<M: Clocked> Board<M> {
         ensures ended { (e : End) → self.old.end ≡ Some e → (self.new ≡ self.old) × (source.new ≡ source.old) × (sink.new ≡ sink.old) }
         ensures store { self.new.store ≡ self.old.store }
         ensures keeps { (front : List ℕ) → Holds front (K.held sink.old) → Holds front (K.held sink.new) }
+        ensures asked_no_more { AsksNoMore self.old.bus.console.ended source.old self.new.bus.console.ended source.new }
+        ensures tells { IsSome (K.held sink.old) → IsSome (K.held sink.new) }
+        ensures flushed { self.new.end ≢ Some End.WriteFault → StaysFlushed (K.held sink.old) (K.passed sink.old) (K.held sink.new) (K.passed sink.new) }
         ensures cause { HasEndCause (S.faults source.old) (S.faults source.new) (K.faults sink.old) (K.faults sink.new) self.old.end self.new.end }
 
         // These hold also of a source that does not tell what it has left.
@@ -140,6 +144,9 @@ impl<M: Clocked> Board<M> {
         ensures ended { (e : End) → self.old.end ≡ Some e → (self.new ≡ self.old) × (source.new ≡ source.old) × (sink.new ≡ sink.old) }
         ensures store { self.new.store ≡ self.old.store }
         ensures keeps { (front : List ℕ) → Holds front (K.held sink.old) → Holds front (K.held sink.new) }
+        ensures asked_no_more { AsksNoMore self.old.bus.console.ended source.old self.new.bus.console.ended source.new }
+        ensures tells { IsSome (K.held sink.old) → IsSome (K.held sink.new) }
+        ensures flushed { self.new.end ≢ Some End.WriteFault → StaysFlushed (K.held sink.old) (K.passed sink.old) (K.held sink.new) (K.passed sink.new) }
         ensures cause { HasEndCause (S.faults source.old) (S.faults source.new) (K.faults sink.old) (K.faults sink.new) self.old.end self.new.end }
     {
         if self.end.is_some() {
@@ -182,6 +189,8 @@ impl<M: Clocked> Board<M> {
         ensures input { self.new.bus.console.ended ≡ self.old.bus.console.ended }
         ensures kept { self.new.bus.console.kept ≡ [] }
         ensures keeps { (front : List ℕ) → Holds front (K.held sink.old) → Holds front (K.held sink.new) }
+        ensures tells { IsSome (K.held sink.old) → IsSome (K.held sink.new) }
+        ensures flushed { result ≡ true → StaysFlushed (K.held sink.old) (K.passed sink.old) (K.held sink.new) (K.passed sink.new) }
         ensures rose { result ≡ false → Rose (K.faults sink.old) (K.faults sink.new) }
         ensures quiet { result ≡ true → K.faults sink.new ≡ K.faults sink.old }
         ensures later { K.faults sink.old ≤ K.faults sink.new }
@@ -206,6 +215,8 @@ impl<M: Clocked> Board<M> {
         ensures memory { self.new.bus.words ≡ self.old.bus.words }
         ensures input { self.new.bus.console.ended ≡ self.old.bus.console.ended }
         ensures keeps { (front : List ℕ) → Holds front (K.held sink.old) → Holds front (K.held sink.new) }
+        ensures tells { IsSome (K.held sink.old) → IsSome (K.held sink.new) }
+        ensures flushed { self.new.end ≢ Some End.WriteFault → StaysFlushed (K.held sink.old) (K.passed sink.old) (K.held sink.new) (K.passed sink.new) }
         ensures cause { HasEndCause 0 0 (K.faults sink.old) (K.faults sink.new) self.old.end self.new.end }
     {
         if self.end.is_some() {
@@ -234,6 +245,9 @@ impl<M: Clocked> Board<M> {
         ensures kept { (e : BusFault) → self.old.end ≡ None → IsFault e → self.new.end ≡ Some (end_by e) → self.new.bus.console.kept ≡ [] }
         ensures store { self.new.store ≡ self.old.store }
         ensures keeps { (front : List ℕ) → Holds front (K.held sink.old) → Holds front (K.held sink.new) }
+        ensures asked_no_more { AsksNoMore self.old.bus.console.ended source.old self.new.bus.console.ended source.new }
+        ensures tells { IsSome (K.held sink.old) → IsSome (K.held sink.new) }
+        ensures flushed { self.new.end ≢ Some End.WriteFault → StaysFlushed (K.held sink.old) (K.passed sink.old) (K.held sink.new) (K.passed sink.new) }
         ensures cause { HasEndCause (S.faults source.old) (S.faults source.new) (K.faults sink.old) (K.faults sink.new) self.old.end self.new.end }
 
         // These hold also of a source that does not tell what it has left.
@@ -264,6 +278,9 @@ impl<M: Clocked> Board<M> {
         ensures kept { self.old.end ≡ None → self.new.bus.console.kept ≡ [] }
         ensures store { self.new.store ≡ self.old.store }
         ensures keeps { (front : List ℕ) → Holds front (K.held sink.old) → Holds front (K.held sink.new) }
+        ensures asked_no_more { AsksNoMore self.old.bus.console.ended source.old self.new.bus.console.ended source.new }
+        ensures tells { IsSome (K.held sink.old) → IsSome (K.held sink.new) }
+        ensures flushed { self.new.end ≢ Some End.WriteFault → StaysFlushed (K.held sink.old) (K.passed sink.old) (K.held sink.new) (K.passed sink.new) }
         ensures cause { HasEndCause (S.faults source.old) (S.faults source.new) (K.faults sink.old) (K.faults sink.new) self.old.end self.new.end }
     {
         if let Some(end) = self.end {
@@ -287,6 +304,9 @@ impl<M: Clocked> Board<M> {
         ensures memory { self.new.bus.words ≡ self.old.bus.words }
         ensures input { self.new.bus.console.ended ≡ self.old.bus.console.ended }
         ensures keeps { (front : List ℕ) → Holds front (K.held sink.old) → Holds front (K.held sink.new) }
+        ensures tells { IsSome (K.held sink.old) → IsSome (K.held sink.new) }
+        ensures flushed { OnOk result ((self.old.bus.console.kept ≡ [] →
+            IsFlushed (K.held sink.old) (K.passed sink.old)) → IsFlushed (K.held sink.new) (K.passed sink.new)) }
         ensures cause { HasFaultCause 0 0 (K.faults sink.old) (K.faults sink.new) result }
     {
         self.bus.flush(sink)

@@ -1,10 +1,10 @@
 //! What a board asks of a machine.
 
 ghost use Rattle.mic_base.specs.Streams.{Holds};
-ghost use Rattle.std.specs.Prelude.{◌≡◌, ◌<◌, ℕ, List, slice_index, OnOk, OnErr, IfErr};
+ghost use Rattle.std.specs.Prelude.{◌≡◌, ◌≢◌, IsSome, Err, ◌<◌, ℕ, List, slice_index, OnOk, OnErr, IfErr};
 ghost use Rattle.console_port.specs.Bus.{Stands, ChangesOnly};
-ghost use Rattle.console_port.specs.Console.{HasFaultCause};
-ghost use Rattle.mic_clock.specs.Edge.{IsStep, AnswersRefusal, IsErrOfStep};
+ghost use Rattle.console_port.specs.Console.{HasFaultCause, StaysFlushed};
+ghost use Rattle.mic_clock.specs.Edge.{IsStep, AnswersRefusal, IsErrOfStep, AsksNoMore};
 ghost use Rattle.mic_clock.specs.Meaning.{Meaning, Phase, AtRest, SetUp, Driven, AtEdge};
 
 use crate::buses::{Computed, Drive};
@@ -81,6 +81,9 @@ pub trait Clocked {
         ensures state { OnErr result (state self.new ≡ state self.old) }
         ensures stands { IfErr result (Stands (S.left source.old) (K.held sink.old) bus.old (S.left source.new) (K.held sink.new) bus.new) }
         ensures keeps { (front : List ℕ) → Holds front (K.held sink.old) → Holds front (K.held sink.new) }
+        ensures asked_no_more { AsksNoMore bus.old.console.ended source.old bus.new.console.ended source.new }
+        ensures tells { IsSome (K.held sink.old) → IsSome (K.held sink.new) }
+        ensures flushed { result ≢ Err BusFault.WriteFault → StaysFlushed (K.held sink.old) (K.passed sink.old) (K.held sink.new) (K.passed sink.new) }
         ensures cause { HasFaultCause (S.faults source.old) (S.faults source.new) (K.faults sink.old) (K.faults sink.new) result };
 
     fn registers(&self) -> Registers

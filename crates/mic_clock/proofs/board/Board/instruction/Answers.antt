@@ -36,6 +36,9 @@ inside-init g c =
       write = λ p. Leads-write state m words None left0 held0 first Along left0 held0 first left' held' new refl led
           going (c.cycle.ensures.cut faults.WriteFault going tt p) (λ r s. s.its_end ∙ going);
       keeps = c.cycle.ensures.keeps;
+      asked_no_more = c.cycle.ensures.asked_no_more;
+      tells = c.cycle.ensures.tells;
+      flushed = c.cycle.ensures.flushed;
       cause = rw going at c.cycle.ensures.cause;
       store = c.cycle.ensures.store;
       in_time = InTime-step m top top first.counts new.counts false (m.drives (word_at m words (state first.machine)) (state first.machine)).stalled (state new.machine) first.end new.end going (omega arith) in_time
@@ -71,6 +74,9 @@ inside-preserved g c =
       write = λ p. Leads-write state m words None left0 held0 first Along left held old left' held' new program led
           going (c.cycle-in-inside.ensures.cut faults.WriteFault going tt p) (λ r s. s.its_end ∙ going);
       keeps = λ front h. c.cycle-in-inside.ensures.keeps front (c.inside.invariant.keeps front h);
+      asked_no_more = λ e. let first = c.inside.invariant.asked_no_more e in let next = c.cycle-in-inside.ensures.asked_no_more first.0 in (next.0, next.1 ∙ first.1);
+      tells = λ h. c.cycle-in-inside.ensures.tells (c.inside.invariant.tells h);
+      flushed = λ q h. c.cycle-in-inside.ensures.flushed q (c.inside.invariant.flushed (λ w. cc) h);
       cause = HasEndCause-step _ _ _ _ _ _ old.end new.end going c.inside.invariant.cause c.cycle-in-inside.ensures.cause;
       store = c.cycle-in-inside.ensures.store ∙ c.inside.invariant.store;
       in_time = InTime-step m top top old.counts new.counts (m.is_boundary (state old.machine)) (m.drives (word_at m old.store.words (state old.machine)) (state old.machine)).stalled (state new.machine) old.end new.end going (omega arith) c.inside.invariant.in_time

@@ -42,6 +42,9 @@ turns-preserved g c =
       empty_read = λ p. c.turn.ensures.kept faults.ReadFault going tt p;
       empty_write = λ p. c.turn.ensures.kept faults.WriteFault going tt p;
       keeps = λ front h. c.turn.ensures.keeps front (c.turns.invariant.keeps front h);
+      asked_no_more = λ e. let before = c.turns.invariant.asked_no_more e in let next = c.turn.ensures.asked_no_more before.0 in (next.0, next.1 ∙ before.1);
+      tells = λ h. c.turn.ensures.tells (c.turns.invariant.tells h);
+      flushed = λ q h. c.turn.ensures.flushed q (c.turns.invariant.flushed (λ w. cc) h);
       cause = HasEndCause-step _ _ _ _ _ _ old.end new.end going c.turns.invariant.cause c.turn.ensures.cause;
       store = c.turn.ensures.store ∙ c.turns.invariant.store;
       in_time = InTime-step m top c.args.bound old.counts new.counts (m.is_boundary (state old.machine)) (m.drives (word_at m old.store.words (state old.machine)) (state old.machine)).stalled (state new.machine) old.end new.end going le c.turns.invariant.in_time
