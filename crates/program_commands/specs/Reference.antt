@@ -14,9 +14,9 @@ use Rattle.program_texts.specs.Report.{report, status_of}
 use Rattle.program_commands.specs.Program.{IsProgram}
 use Rattle.program_commands.specs.Comes.{IsRefusal}
 
--- an accepted program on the standard memory map, with this machine's costs
+-- an accepted program on its memory map, with this machine's costs
 abbrev pub program_of : VerifiedView → Machine → Program
-program_of program machine = record { image = program.image; stack_end = 0x10000; machine = machine }
+program_of program machine = record { image = program.image; stack_end = program.map.stack_end; machine = machine }
 
 -- A run of the program between a console and `out`, and what is said of it on `err`.
 pub data IsRun (program : VerifiedView) (machine : Machine) (bound : ℕ) (console console' : SourceState) (out out' err err' : SinkState) (status : ℕ) : Type 0 where

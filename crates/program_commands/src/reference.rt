@@ -7,7 +7,6 @@ ghost use Rattle.program_commands.specs.Reference.{EndsReference, IsRun};
 
 use crate::program::accepted_program;
 use crate::refusal::refuse;
-use console_port::MemoryMap;
 use ijvm_verifier::VerifiedImage;
 use machine_words::Machine;
 use mic_base::{Files, Sink, Source};
@@ -51,7 +50,7 @@ fn run_program<S: Source, K: Sink, E: Sink>(
         alloc,
         image,
         locals,
-        MemoryMap::STANDARD,
+        program.map(),
         machine,
         bound,
         console,
