@@ -46,16 +46,8 @@ fn run_program<S: Source, K: Sink, E: Sink>(
 {
     let locals = program.main_locals();
     let image = program.image();
-    match run_plain(
-        alloc,
-        image,
-        locals,
-        program.map(),
-        machine,
-        bound,
-        console,
-        out,
-    ) {
+    let map = program.map();
+    match run_plain(alloc, image, locals, map, machine, bound, console, out) {
         Ok(run) => say(err, report_of(&run).bytes(), status_of(run.end)),
         Err(_) => no_memory(err),
     }
