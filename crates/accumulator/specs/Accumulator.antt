@@ -1,8 +1,8 @@
 -- A machine of one register. Of a Mic-1 word it reads READ, WRITE, FETCH and Addr: its accesses and where it goes.
-use Rattle.std.specs.Prelude.{ℕ, ◌+◌, ◌/◌, ◌%◌, ◌^◌, ◌==◌, ◌||◌, nat_le, if◌then◌else◌, Bool, [], Option, Some, None, length}
-use Rattle.console_port.specs.World.{World, Refusal, console_at, read_value, after_read, after_write, write_refusal}
+use Rattle.std.specs.Prelude.{ℕ, ◌+◌, ◌/◌, ◌%◌, ◌^◌, ◌==◌, nat_le, if◌then◌else◌, Bool, [], length}
+use Rattle.console_port.specs.World.{World, console_at, read_value, after_read, after_write, write_refusal}
 use Rattle.machine_words.specs.declared.machine.Machine.TheVariants.{Mic1}
-use Rattle.mic_clock.specs.Meaning.{Meaning, Outcome, Done, Refused, Phase, AtRest, SetUp, Driven, Settled}
+use Rattle.mic_clock.specs.Meaning.{Meaning, Outcome, Done, unless_refused, Phase, AtRest, SetUp, Driven, AtEdge}
 use Rattle.mic_clock.specs.declared.registers.Tail.TheVariants.{Queue}
 use Rattle.accumulator.specs.declared.machine.Cells.{Cells}
 use Rattle.accumulator.specs.declared.machine.Stage.{Stage}
@@ -12,7 +12,7 @@ abbrev pub phase_of : Stage → Phase
 phase_of stages.Rest = AtRest
 phase_of stages.Set = SetUp
 phase_of stages.Drove = Driven
-phase_of stages.Computed = Settled
+phase_of stages.Computed = AtEdge
 
 abbrev pub next_of : ℕ → ℕ
 next_of word = word / 2 ^ 27 % 512
@@ -26,10 +26,6 @@ has_write word = word / 32 % 4 == 2
 -- a fetch does nothing here, and is counted as a stall
 abbrev pub has_fetch : ℕ → Bool
 has_fetch word = word / 16 % 2 == 1
-
-abbrev pub unless_refused : Option Refusal → Outcome Cells → Outcome Cells
-unless_refused None outcome = outcome
-unless_refused (Some r) outcome = Refused r
 
 -- without an access the memory word that the register names becomes the register, which is then counted up
 abbrev pub stored : ℕ → ℕ → Cells → World → Outcome Cells
@@ -69,6 +65,4 @@ meaning =
           };
       is_boundary = λ s. s.mpc == 0;
       address = λ s. s.acc;
-      reads_console = λ word s. has_read word;
-      uses_console = λ word s. has_read word || has_write word || s.acc == console_at;
     }

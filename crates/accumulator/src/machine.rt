@@ -1,6 +1,6 @@
 //! The machine.
 
-ghost use Rattle.std.specs.Prelude.{◌≡◌, ◌<◌};
+ghost use Rattle.std.specs.Prelude.{◌≡◌, ◌<◌, refl};
 
 use arrayvec::ArrayVec;
 use console_port::{Bus, BusFault};
@@ -74,7 +74,7 @@ impl Clocked for Accumulator {
 
     ghost phase = { phase };
 
-    ghost latched = { λ t. t.word };
+    ghost word = { λ t. t.word };
 
     fn machine(&self) -> Machine {
         Machine::Mic1
@@ -188,4 +188,6 @@ impl Clocked for Accumulator {
     fn instruction_address(&self) -> u32 {
         self.cells.acc
     }
+
+    ghost its_words = { refl };
 }

@@ -1,6 +1,6 @@
 -- What an access of a machine to its bus says: when it is refused, what an Err leaves, and what becomes of the source and the sink.
-use Rattle.std.specs.Prelude.{◌≡◌, ◌≢◌, ◌⊎◌, ℕ, Bool, true, false, List, [], ◌∷◌, Option, Some, IsSome, Result, Err, OnOk, IfErr, IsErrOf, IsTrue}
-use Rattle.mic_base.specs.Streams.{Holds, IsFlushed}
+use Rattle.std.specs.Prelude.{◌≡◌, ◌≢◌, ◌⊎◌, ℕ, Bool, true, List, Option, Some, IsSome, Result, Err, OnOk, IfErr, IsErrOf, IsTrue}
+use Rattle.mic_base.specs.Streams.{Holds}
 use Rattle.console_port.specs.View.{BusView}
 use Rattle.console_port.specs.World.{World}
 use Rattle.console_port.specs.Console.{Asks, IsFault, HasFaultCause, StaysFlushed}

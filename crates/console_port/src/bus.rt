@@ -1,7 +1,7 @@
 //! Memory and console behind one address: what the wires of a machine reach.
 
 ghost use Rattle.mic_base.specs.Streams.{Holds, IsFlushed};
-ghost use Rattle.std.specs.Prelude.{◌/◌, ◌==◌, ◌≡◌, ◌≢◌, ◌≤◌, ◌<◌, ◌+◌, [], ℕ, List, Option, Some, None, Ok, Err, false, length, replicate, IsTrue, ◌↔◌, IsSome, slice_get, slice_index, slice_set, IsOk, IfOk, OnOk, OnErr, IfErr, IsErrOf};
+ghost use Rattle.std.specs.Prelude.{◌/◌, ◌==◌, ◌≡◌, ◌≢◌, ◌≤◌, ◌<◌, ◌+◌, [], ℕ, List, Option, Some, None, Ok, Err, true, false, length, replicate, IsTrue, ◌↔◌, IsSome, slice_get, slice_index, slice_set, IsOk, IfOk, OnOk, OnErr, IfErr, IsErrOf};
 ghost use Rattle.console_port.specs.Access.{IsAccess};
 ghost use Rattle.console_port.specs.Bus.{Shows, Stands, IsLed, ChangesOnly, refused_by, IsRead};
 ghost use Rattle.console_port.specs.Console.{IsLost, IsFault, HasFaultCause, StaysFlushed};
@@ -122,6 +122,7 @@ impl Bus {
         ensures access { IsAccess S.left S.faults K.held K.passed K.faults (λ w e. refused_by (read_refusal (length self.old.words) at) ≡ Some e)
             (at == console_at) (at == console_at) source.old source.new sink.old sink.new self.old self.new result }
         ensures fault { IfErr result (λ e. read_refusal (length self.old.words) at ≡ None → (at ≡ console_at) × IsFault e) }
+        ensures ended { self.old.console.ended ≡ true → self.new.console.ended ≡ true }
         ensures words { self.new.words ≡ self.old.words }
         ensures memory { at < length self.old.words →
             (result ≡ Ok (slice_index self.old.words at)) × (self.new ≡ self.old) × (source.new ≡ source.old) × (sink.new ≡ sink.old) }

@@ -57,6 +57,7 @@ impl Console {
             OnOk result (Asks bytes (S.left source.new) self.new.ended) }
         ensures asked_no_more { self.old.ended ≡ true → (result ≡ Ok 0) × (self.new ≡ self.old) × (source.new ≡ source.old) × (sink.new ≡ sink.old) }
         ensures nothing_kept { self.old.kept ≡ [] → sink.new ≡ sink.old }
+        ensures put { result ≡ Err BusFault.WriteFault → self.old.kept ≢ [] }
         ensures keeps { (front : List ℕ) → Holds front (K.held sink.old) → Holds front (K.held sink.new) }
         ensures tells { IsSome (K.held sink.old) → IsSome (K.held sink.new) }
         ensures flushed { result ≢ Err BusFault.WriteFault → StaysFlushed (K.held sink.old) (K.passed sink.old) (K.held sink.new) (K.passed sink.new) }

@@ -1,7 +1,8 @@
 -- What an outcome behind a test says of the test.
-use Rattle.std.proofs.Common.{◌≡◌, Bool, true, false, List, [], ◌∷◌, ◌++◌, Option, Some, None, refl, ap, cond}
+use Rattle.std.proofs.Common.{◌≡◌, Bool, true, false, List, [], ◌∷◌, ◌++◌, Option, Some, None, refl, ap, sym, cond}
 use Rattle.std.specs.Prelude.{◌||◌, not, Result, Ok, Err, is_some}
 use Rattle.ijvm_asm.specs.declared.error.AsmError.{AsmError}
+use Rattle.ijvm_asm.specs.Drafts.{FailsBy, is_memory, RefusesBy}
 
 abbrev pub ok : {A : Type 0} → A → Result A AsmError
 ok a = Ok a
@@ -37,3 +38,7 @@ not_false false h = absurd (cc)
 pub not_true : (b : Bool) → b ≡ true → not b ≡ false
 not_true true e = refl
 not_true false e = absurd (cc)
+
+pub refuses_fails : {A : Type 0} (e : AsmError) (r : Result A AsmError) → RefusesBy e r → FailsBy e r
+refuses_fails e (Ok a) h = λ m. absurd (let k : is_memory e ≡ true = ap is_memory h in cc)
+refuses_fails e (Err f) h = λ m. ap Err (sym h)

@@ -28,7 +28,7 @@ make_lines (Main body) k s u e m = makes_main k s u body e m
 make_lines (Method n ps body) k s u e m = makes_method k s u n ps body e m
 
 -- behind a section the next one begins
-ends_outside : (x : Section) (k : ℕ) (s u : Source) → s.place ≡ places.Outside → Makes k s x u → u.place ≡ places.Outside
+pub ends_outside : (x : Section) (k : ℕ) (s u : Source) → s.place ≡ places.Outside → Makes k s x u → u.place ≡ places.Outside
 ends_outside Between k s u e m = ap (λ w. w.place) (sym m) ∙ e
 ends_outside (Constants items) k s u e (n, new, q) = ap (λ w. w.place) q
 ends_outside (Main body) k s u e m = ap (λ w. w.place) m.ends

@@ -56,10 +56,10 @@ pub opens_code : (o : Option Locals) (k : ℕ) (s v : Source) → s.place ≡ pl
 opens_code None k s v e q = (ap (λ w. w.place) (sym q) ∙ e, ap (λ w. w.unit.name) (sym q))
 opens_code (Some d) k s v e q = (ap (λ w. w.place) q.1, ap (λ w. w.unit.name) q.1)
 
-abbrev main_opened : ℕ → Source → Source
+abbrev pub main_opened : ℕ → Source → Source
 main_opened k s = record s { place = places.Code; section = k; may_declare = true; seen_main = true; unit = begun None [] }
 
-abbrev main_ended : Source → Source
+abbrev pub main_ended : Source → Source
 main_ended w = record w { place = places.Outside; unit = begun None []; main = Some w.unit }
 
 pub main_makes : (k : ℕ) (s u : Source) (b : Body) → s.place ≡ places.Outside → Build k s (section_lines (Main b) []) u → MakesMain k s b u

@@ -20,7 +20,7 @@ use Rattle.ijvm_asm.proofs.Conditions.{both, if_ok, neither, nil, none, ok, ok_i
 use Rattle.ijvm_asm.proofs.Units.{code_makes, makes_code}
 use Rattle.ijvm_asm.proofs.Mains.{open_locals, opens, opens_code}
 
-gathered : (ps seen qs : List (List ℕ)) → gather seen ps ≡ Some qs → AreNew seen ps × (qs ≡ seen ++ ps)
+pub gathered : (ps seen qs : List (List ℕ)) → gather seen ps ≡ Some qs → AreNew seen ps × (qs ≡ seen ++ ps)
 gathered [] seen qs h = let q : seen ≡ qs = cc in (tt, sym q ∙ sym (nil seen))
 gathered (n ∷ ns) seen qs h = go (names.place_of seen n) refl (gathered ns (seen ++ n ∷ []) qs) h
   where
@@ -28,7 +28,7 @@ gathered (n ∷ ns) seen qs h = go (names.place_of seen n) refl (gathered ns (se
     go None e f h = let r = f h in ((e, r.0), r.1 ∙ append_assoc seen (n ∷ []) ns)
     go (Some i) e f h = absurd (cc)
 
-gathers : (ps seen : List (List ℕ)) → AreNew seen ps → gather seen ps ≡ Some (seen ++ ps)
+pub gathers : (ps seen : List (List ℕ)) → AreNew seen ps → gather seen ps ≡ Some (seen ++ ps)
 gathers [] seen a = ap Some (sym (nil seen))
 gathers (n ∷ ns) seen a = ap (λ o. cond (is_some o) None (gather (seen ++ n ∷ []) ns)) a.0 ∙ (gathers ns (seen ++ n ∷ []) a.1 ∙ ap Some (append_assoc seen (n ∷ []) ns))
 
@@ -42,13 +42,13 @@ not_many n h = go (nat_lt most_names n) refl
     go false e = refl
     go true e = absurd (grind (arith, nat_tests))
 
-abbrev opened : ℕ → Source → List ℕ → List (List ℕ) → Source
+abbrev pub opened : ℕ → Source → List ℕ → List (List ℕ) → Source
 opened k s n ps = record s { place = places.Code; section = k; may_declare = true; methods = s.methods ++ n ∷ []; unit = begun (Some n) ps }
 
-abbrev ended : Source → Source
+abbrev pub ended : Source → Source
 ended w = record w { place = places.Outside; unit = begun None []; units = w.units ++ w.unit ∷ [] }
 
-begins : (k : ℕ) (s v : Source) (n : List ℕ) (ps : List (List ℕ)) (o : Option (List (List ℕ))) → gather [] ps ≡ o → method_by k s n o ≡ Ok v → AreNew [] ps × (length ps ≤ most_names) × (ok (opened k s n ps) ≡ ok v)
+pub begins : (k : ℕ) (s v : Source) (n : List ℕ) (ps : List (List ℕ)) (o : Option (List (List ℕ))) → gather [] ps ≡ o → method_by k s n o ≡ Ok v → AreNew [] ps × (length ps ≤ most_names) × (ok (opened k s n ps) ≡ ok v)
 begins k s v n ps None e h = absurd (cc)
 begins k s v n ps (Some qs) e h =
     let g = gathered ps [] qs e in

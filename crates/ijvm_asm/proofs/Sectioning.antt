@@ -224,7 +224,7 @@ module _ (k : ℕ) (s u : Source) (xs : List Said) (left : RestOf u xs) where
   by_code : (l : Option (List ℕ)) (i : Option Instruction) → s.place ≡ places.Code → add_code k s l i ≡ Ok u → RestOf s (Codes l i ∷ xs)
   by_code None i e h = by_instruction None i s.unit refl e h
   by_code (Some l) i e h =
-      let v : DraftView = record s.unit { labels = s.unit.labels ++ l ∷ []; ats = s.unit.ats ++ length s.unit.lines ∷ []; pending = true } in
+      let v : DraftView = record s.unit { labels = s.unit.labels ++ l ∷ []; label_positions = s.unit.label_positions ++ length s.unit.lines ∷ []; pending = true } in
       by_instruction (Some l) i v refl e (with_label (λ w. record s { unit = add_instruction k w i; may_declare = false }) (is_some (names.place_of s.unit.labels l)) v (errors.DuplicateName k) u h)
 
   by_mark : (m : Mark) → s.place ≡ place_of (Dotted m) → add k s (Dotted m) ≡ Ok u → RestOf s (Dotted m ∷ xs)

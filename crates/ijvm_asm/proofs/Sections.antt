@@ -1,8 +1,7 @@
--- A text spells a program exactly where its lines are those of sections that make the program.
-use Rattle.std.proofs.Common.{◌≡◌, ℕ, ◌+◌, List, [], ◌∷◌, Some, None, refl, sym, subst}
+-- Lines, one by one, make what is outside of all sections exactly where they are those of sections that make it.
+use Rattle.std.proofs.Common.{◌≡◌, ℕ, ◌+◌, List, [], ◌∷◌, Some, None, length, refl, ap, sym, subst, ◌∙◌}
 use Rattle.std.specs.Prelude.{Result, Ok, Err, ⊤}
 use Rattle.source_text.specs.Content.{contents}
-use Rattle.ijvm_program.specs.Program.{ProgramView}
 use Rattle.ijvm_tokens.specs.declared.token.Token.{Token}
 use Rattle.ijvm_tokens.specs.Tokens as tokens
 use Rattle.ijvm_line.specs.declared.place.Place.{Place}
@@ -17,14 +16,16 @@ use Rattle.ijvm_line.specs.Lines as lines
 use Rattle.ijvm_line.specs.Parameters.{parameters}
 use Rattle.ijvm_line.specs.Places.{mark_place}
 use Rattle.ijvm_line.specs.Ranges.{instruction_of, made, word}
+use Rattle.ijvm_asm.specs.declared.error.AsmError.{AsmError}
 use Rattle.ijvm_asm.specs.Said.{BlankAt, Codes, Declares, Defines, Dotted, Heads, line_of, Lists, place_of, Said, SayAll, Says}
-use Rattle.ijvm_asm.specs.Sections.{lines_of, Section}
+use Rattle.ijvm_asm.specs.Sections.{lines_of, Section, section_lines}
 use Rattle.ijvm_asm.specs.Source.{empty, Source}
-use Rattle.ijvm_asm.specs.Resolving.{by_missing, missing_at, program_of}
-use Rattle.ijvm_asm.specs.Text.{Adds, Make, Spells, SpellsSections}
+use Rattle.ijvm_asm.specs.Making.{SectionsMake}
+use Rattle.ijvm_asm.specs.Text.{IsSource}
 use Rattle.ijvm_asm.specs.Adding.{add_line}
+use Rattle.ijvm_asm.proofs.Saying.{Adds, Make}
 use Rattle.ijvm_asm.proofs.Building.{add, Build}
-use Rattle.ijvm_asm.proofs.InOrder.{from_order, in_order}
+use Rattle.ijvm_asm.proofs.InOrder.{ends_outside, from_order, in_order}
 use Rattle.ijvm_asm.proofs.Sectioning.{left_of}
 
 -- ---- where a line stands
@@ -61,22 +62,19 @@ stands p ts m s = form_stands p ts s.form s.has m s.says
 
 -- ---- from lines to what they say
 
-record Said-of (k : ℕ) (s : Source) (line : List ℕ) (u : Source) : Type 0 where
-  said : Said
-  at : s.place ≡ place_of said
-  is_said : Says line said
-  adds : add k s said ≡ Ok u
+-- what line `k` says, and what comes of it
+pub record SaidOf (k : ℕ) (s : Source) (ts : List Token) (r : Result Source AsmError) : Type 0 where
+  pub said : Said
+  pub at : s.place ≡ place_of said
+  pub means : lines.Spells (place_of said) ts (line_of said)
+  pub lists : Lists ts said
+  pub adds : add k s said ≡ r
 
-module _ (k : ℕ) (s : Source) (line : List ℕ) (u : Source) (ts : List Token) (w : tokens.Spells line ts) where
-  said_as : (x : Said) → s.place ≡ place_of x → lines.Spells s.place ts (line_of x) → Lists ts x → add k s x ≡ Ok u → Said-of k s line u
-  said_as x e m l h = record {
-    said = x;
-    at = e;
-    is_said = record { sequence = ts; spelled = w; means = subst (λ p. lines.Spells p ts (line_of x)) e m; lists = l };
-    adds = h;
-  }
+module _ (k : ℕ) (s : Source) (r : Result Source AsmError) (ts : List Token) where
+  said_as : (x : Said) → s.place ≡ place_of x → lines.Spells s.place ts (line_of x) → Lists ts x → add k s x ≡ r → SaidOf k s ts r
+  said_as x e m l h = record { said = x; at = e; means = subst (λ p. lines.Spells p ts (line_of x)) e m; lists = l; adds = h }
 
-  said_line : (m : Line) → lines.Spells s.place ts m → StandsAt s.place m → add_line k s (parameters ts) m ≡ Ok u → Said-of k s line u
+  said_line : (m : Line) → lines.Spells s.place ts m → StandsAt s.place m → add_line k s (parameters ts) m ≡ r → SaidOf k s ts r
   said_line says.Nothing m e h = said_as (BlankAt s.place) refl m tt h
   said_line (says.Mark mark) m e h = said_as (Dotted mark) e m tt h
   said_line (says.Method n) m e h = said_as (Heads n (parameters ts)) e m refl h
@@ -84,25 +82,25 @@ module _ (k : ℕ) (s : Source) (line : List ℕ) (u : Source) (ts : List Token)
   said_line (says.Local n) m e h = said_as (Declares n) e m tt h
   said_line (says.Code l i) m e h = said_as (Codes l i) e m tt h
 
-said_of : (k : ℕ) (s : Source) (line : List ℕ) (u : Source) → Adds k s line u → Said-of k s line u
-said_of k s line u a = said_line k s line u a.sequence a.spelled a.content a.means (stands s.place a.sequence a.content a.means) a.adds
+pub said_of : (k : ℕ) (s : Source) (r : Result Source AsmError) (ts : List Token) (m : Line) → lines.Spells s.place ts m → add_line k s (parameters ts) m ≡ r → SaidOf k s ts r
+said_of k s r ts m w h = said_line k s r ts m w (stands s.place ts m w) h
 
-all_said : (ls : List (List ℕ)) (k : ℕ) (s t : Source) → Make k s ls t → (xs : List Said) × SayAll ls xs × Build k s xs t
+pub all_said : (ls : List (List ℕ)) (k : ℕ) (s t : Source) → Make k s ls t → (xs : List Said) × SayAll ls xs × Build k s xs t
 all_said [] k s t m = ([], tt, m)
 all_said (l ∷ ls) k s t (u, a, more) =
-    let x = said_of k s l u a in
+    let x = said_of k s (Ok u) a.sequence a.content a.means a.adds in
     let others = all_said ls (k + 1) u t more in
-    (x.said ∷ others.0, (x.is_said, others.1), (u, x.at, x.adds, others.2))
+    (x.said ∷ others.0, (record { sequence = a.sequence; spelled = a.spelled; means = x.means; lists = x.lists }, others.1), (u, x.at, x.adds, others.2))
 
 -- ---- and back
 
-by_said : (k : ℕ) (s u : Source) (ts : List Token) (x : Said) → Lists ts x → add k s x ≡ Ok u → add_line k s (parameters ts) (line_of x) ≡ Ok u
-by_said k s u ts (BlankAt p) l h = h
-by_said k s u ts (Dotted m) l h = h
-by_said k s u ts (Heads n ps) l h = subst (λ qs. add_line k s qs (says.Method n) ≡ Ok u) (sym l) h
-by_said k s u ts (Defines n v) l h = h
-by_said k s u ts (Declares n) l h = h
-by_said k s u ts (Codes l i) e h = h
+pub by_said : (k : ℕ) (s : Source) (r : Result Source AsmError) (ts : List Token) (x : Said) → Lists ts x → add k s x ≡ r → add_line k s (parameters ts) (line_of x) ≡ r
+by_said k s r ts (BlankAt p) l h = h
+by_said k s r ts (Dotted m) l h = h
+by_said k s r ts (Heads n ps) l h = subst (λ qs. add_line k s qs (says.Method n) ≡ r) (sym l) h
+by_said k s r ts (Defines n v) l h = h
+by_said k s r ts (Declares n) l h = h
+by_said k s r ts (Codes l i) e h = h
 
 adds : (k : ℕ) (s u : Source) (line : List ℕ) (x : Said) → Says line x → s.place ≡ place_of x → add k s x ≡ Ok u → Adds k s line u
 adds k s u line x w e h = record {
@@ -110,10 +108,10 @@ adds k s u line x w e h = record {
   spelled = w.spelled;
   content = line_of x;
   means = subst (λ p. lines.Spells p w.sequence (line_of x)) (sym e) w.means;
-  adds = by_said k s u w.sequence x w.lists h;
+  adds = by_said k s (Ok u) w.sequence x w.lists h;
 }
 
-all_made : (ls : List (List ℕ)) (xs : List Said) (k : ℕ) (s t : Source) → SayAll ls xs → Build k s xs t → Make k s ls t
+pub all_made : (ls : List (List ℕ)) (xs : List Said) (k : ℕ) (s t : Source) → SayAll ls xs → Build k s xs t → Make k s ls t
 all_made [] [] k s t w b = b
 all_made (l ∷ ls) (x ∷ xs) k s t w (u, e, h, more) = (u, adds k s u l x w.0 e h, all_made ls xs (k + 1) u t w.1 more)
 all_made [] (x ∷ xs) k s t w b = absurd w
@@ -121,31 +119,23 @@ all_made (l ∷ ls) [] k s t w b = absurd w
 
 -- ---- the whole text
 
-ends_outside : (s : Source) (q : Place) (p : ProgramView) → by_missing s (missing_at q s) ≡ Ok p → q ≡ places.Outside
-ends_outside s places.Outside p h = refl
-ends_outside s places.Constants p h = absurd (cc)
-ends_outside s places.Locals p h = absurd (cc)
-ends_outside s places.Code p h = absurd (cc)
+-- what sections make stands outside of them
+made_outside : (xs : List Section) (k : ℕ) (s t : Source) → s.place ≡ places.Outside → SectionsMake k s xs t → t.place ≡ places.Outside
+made_outside [] k s t e m = ap (λ w. w.place) (sym m) ∙ e
+made_outside (x ∷ xs) k s t e (u, m, more) = made_outside xs (k + length (section_lines x [])) u t (ends_outside x k s u e m) more
 
-program_outside : (s : Source) (p : ProgramView) → program_of s ≡ Ok p → s.place ≡ places.Outside
-unfolding program_of
-program_outside s p h = ends_outside s s.place p h
-
-pub sections_of : (text : List ℕ) (p : ProgramView) → Spells text p → SpellsSections text p
-sections_of text p w =
-    let all = all_said (contents text) 1 empty w.source w.says in
-    let left : (rest : List Section) × (all.0 ≡ lines_of rest) = left_of all.0 1 empty w.source (program_outside w.source p w.makes) all.2 in
+pub sections_of : (text : List ℕ) (s : Source) → Make 1 empty (contents text) s → s.place ≡ places.Outside → IsSource text s
+sections_of text s says outside =
+    let all = all_said (contents text) 1 empty s says in
+    let left : (rest : List Section) × (all.0 ≡ lines_of rest) = left_of all.0 1 empty s outside all.2 in
     record {
       sections = left.0;
       say = subst (SayAll (contents text)) left.1 all.1;
-      source = w.source;
-      made = in_order left.0 1 empty w.source refl (subst (λ xs. Build 1 empty xs w.source) left.1 all.2);
-      resolves = w.makes;
+      made = in_order left.0 1 empty s refl (subst (λ xs. Build 1 empty xs s) left.1 all.2);
     }
 
-pub of_sections : (text : List ℕ) (p : ProgramView) → SpellsSections text p → Spells text p
-of_sections text p w = record {
-  source = w.source;
-  says = all_made (contents text) (lines_of w.sections) 1 empty w.source w.say (from_order w.sections 1 empty w.source refl w.made);
-  makes = w.resolves;
-}
+pub of_sections : (text : List ℕ) (s : Source) → IsSource text s → Make 1 empty (contents text) s × (s.place ≡ places.Outside)
+of_sections text s w = (
+  all_made (contents text) (lines_of w.sections) 1 empty s w.say (from_order w.sections 1 empty s refl w.made),
+  made_outside w.sections 1 empty s refl w.made,
+)

@@ -8,7 +8,7 @@ use Rattle.ijvm_line.specs.declared.instruction.Instruction.{Instruction}
 use Rattle.ijvm_asm.specs.Sections.{Between, Body, CodeItem, Constants, Locals, Main, Method, Section, section_lines}
 use Rattle.ijvm_asm.specs.Drafts.{DraftView}
 use Rattle.ijvm_asm.specs.Source.{empty, Source}
-use Rattle.ijvm_asm.specs.Units.{AreLocals, ats_in, behind_instruction, code_from, declared, lines_in, MakesBody, OpensLocals, waits, waits_behind, with_at, with_instruction}
+use Rattle.ijvm_asm.specs.Units.{AreLocals, positions_in, behind_instruction, code_from, declared, lines_in, MakesBody, OpensLocals, waits, waits_behind, with_position, with_instruction}
 use Rattle.ijvm_asm.specs.Making.{defined, Makes, SectionsMake}
 use Rattle.ijvm_asm.proofs.Conditions.{nil}
 use Rattle.ijvm_asm.proofs.Totals.{body_keeps, body_lines_are, opens_unit}
@@ -17,7 +17,7 @@ use Rattle.ijvm_asm.proofs.Totals.{body_keeps, body_lines_are, opens_unit}
 
 pub record Drafted (u : DraftView) : Type 0 where
   pub few : length u.names ≤ most_names
-  pub ats : All (λ at. at < length u.lines) u.ats
+  pub label_positions : All (λ at. at < length u.lines) u.label_positions
 
 abbrev pub IsMain : Option DraftView → Type 0
 IsMain None = ⊤
@@ -48,19 +48,19 @@ some_behind (Some c ∷ items) k w = go (is_some c.label) c.instruction (some_be
     go false None rec w = rec w
     go a (Some i) rec w = omega arith
 
-ats_below : (items : List (Option CodeItem)) (n k : ℕ) (b : Bool) → waits_behind b items ≡ false → All (λ at. at < n + length (lines_in k items)) (ats_in n items)
-ats_below [] n k b w = All-nil (λ at. at < n + 0)
-ats_below (None ∷ items) n k b w = ats_below items n (k + 1) b w
-ats_below (Some c ∷ items) n k b w = go c.label c.instruction (λ n b w. ats_below items n (k + 1) b w) w
+positions_below : (items : List (Option CodeItem)) (n k : ℕ) (b : Bool) → waits_behind b items ≡ false → All (λ at. at < n + length (lines_in k items)) (positions_in n items)
+positions_below [] n k b w = All-nil (λ at. at < n + 0)
+positions_below (None ∷ items) n k b w = positions_below items n (k + 1) b w
+positions_below (Some c ∷ items) n k b w = go c.label c.instruction (λ n b w. positions_below items n (k + 1) b w) w
   where
-    go : (l : Option (List ℕ)) (i : Option Instruction) → ((n : ℕ) (b : Bool) → waits_behind b items ≡ false → All (λ at. at < n + length (lines_in (k + 1) items)) (ats_in n items))
+    go : (l : Option (List ℕ)) (i : Option Instruction) → ((n : ℕ) (b : Bool) → waits_behind b items ≡ false → All (λ at. at < n + length (lines_in (k + 1) items)) (positions_in n items))
         → waits_behind (waits (is_some l || b) i) items ≡ false
-        → All (λ at. at < n + length (with_instruction k i (lines_in (k + 1) items))) (with_at n l (ats_in (behind_instruction n i) items))
+        → All (λ at. at < n + length (with_instruction k i (lines_in (k + 1) items))) (with_position n l (positions_in (behind_instruction n i) items))
     go None None rec w = rec n b w
-    go None (Some i) rec w = weaker ((n + 1) + length (lines_in (k + 1) items)) (n + length (with_instruction k (Some i) (lines_in (k + 1) items))) (ats_in (n + 1) items) (omega arith) (rec (n + 1) false w)
-    go (Some l) None rec w = All-cons (λ at. at < n + length (lines_in (k + 1) items)) n (ats_in n items) (let s = some_behind items (k + 1) w in omega (arith, s)) (rec n true w)
-    go (Some l) (Some i) rec w = All-cons (λ at. at < n + length (with_instruction k (Some i) (lines_in (k + 1) items))) n (ats_in (n + 1) items) (omega arith)
-        (weaker ((n + 1) + length (lines_in (k + 1) items)) (n + length (with_instruction k (Some i) (lines_in (k + 1) items))) (ats_in (n + 1) items) (omega arith) (rec (n + 1) false w))
+    go None (Some i) rec w = weaker ((n + 1) + length (lines_in (k + 1) items)) (n + length (with_instruction k (Some i) (lines_in (k + 1) items))) (positions_in (n + 1) items) (omega arith) (rec (n + 1) false w)
+    go (Some l) None rec w = All-cons (λ at. at < n + length (lines_in (k + 1) items)) n (positions_in n items) (let s = some_behind items (k + 1) w in omega (arith, s)) (rec n true w)
+    go (Some l) (Some i) rec w = All-cons (λ at. at < n + length (with_instruction k (Some i) (lines_in (k + 1) items))) n (positions_in (n + 1) items) (omega arith)
+        (weaker ((n + 1) + length (lines_in (k + 1) items)) (n + length (with_instruction k (Some i) (lines_in (k + 1) items))) (positions_in (n + 1) items) (omega arith) (rec (n + 1) false w))
 
 -- ---- a unit
 
@@ -75,26 +75,26 @@ opens_few None k s v q h = subst (λ w. length w.unit.names ≤ most_names) q h
 opens_few (Some d) k s v q h = subst (λ ns. length ns ≤ most_names) (sym (ap (λ w. w.unit.names) q.1)) (locals_few (declared d.names) s.unit.names q.0 h)
 
 -- the lines of a unit that has none before make a draft
-body_drafted : (k : ℕ) (s : Source) (b : Body) (t : Source) → MakesBody k s b t → length s.unit.names ≤ most_names → s.unit.lines ≡ [] → s.unit.ats ≡ [] → Drafted t.unit
-body_drafted k s b t m few no_lines no_ats =
+body_drafted : (k : ℕ) (s : Source) (b : Body) (t : Source) → MakesBody k s b t → length s.unit.names ≤ most_names → s.unit.lines ≡ [] → s.unit.label_positions ≡ [] → Drafted t.unit
+body_drafted k s b t m few no_lines no_positions =
     let v = m.behind_locals in
     let j = code_from k b.locals in
     let names : t.unit.names ≡ v.unit.names = ap (λ w. w.unit.names) m.makes.1 in
-    let ats0 : v.unit.ats ≡ [] = opens_unit (λ u. u.ats) (λ u ns. refl) b.locals k s v m.opens ∙ no_ats in
+    let positions0 : v.unit.label_positions ≡ [] = opens_unit (λ u. u.label_positions) (λ u ns. refl) b.locals k s v m.opens ∙ no_positions in
     let lines0 : v.unit.lines ≡ [] = opens_unit (λ u. u.lines) (λ u ns. refl) b.locals k s v m.opens ∙ no_lines in
     let lines : t.unit.lines ≡ lines_in j b.code = body_lines_are k s b t m ∙ ap (λ ls. ls ++ lines_in j b.code) no_lines in
-    let ats : t.unit.ats ≡ ats_in 0 b.code = ap (λ w. w.unit.ats) m.makes.1
-    ∙ (ap (λ ats. ats ++ ats_in (length v.unit.lines) b.code) ats0 ∙ ap (λ ls. ats_in (length ls) b.code) lines0) in
+    let label_positions : t.unit.label_positions ≡ positions_in 0 b.code = ap (λ w. w.unit.label_positions) m.makes.1
+    ∙ (ap (λ label_positions. label_positions ++ positions_in (length v.unit.lines) b.code) positions0 ∙ ap (λ ls. positions_in (length ls) b.code) lines0) in
     let waits : waits_behind v.unit.pending b.code ≡ false = sym (ap (λ w. w.unit.pending) m.makes.1) ∙ m.ready in
     record {
       few = subst (λ ns. length ns ≤ most_names) (sym names) (opens_few b.locals k s v m.opens few);
-      ats = subst (λ ats. All (λ at. at < length t.unit.lines) ats) (sym ats)
-          (subst (λ ls. All (λ at. at < length ls) (ats_in 0 b.code)) (sym lines)
-          (weaker (0 + length (lines_in j b.code)) (length (lines_in j b.code)) (ats_in 0 b.code) (omega arith) (ats_below b.code 0 j v.unit.pending waits)));
+      label_positions = subst (λ label_positions. All (λ at. at < length t.unit.lines) label_positions) (sym label_positions)
+          (subst (λ ls. All (λ at. at < length ls) (positions_in 0 b.code)) (sym lines)
+          (weaker (0 + length (lines_in j b.code)) (length (lines_in j b.code)) (positions_in 0 b.code) (omega arith) (positions_below b.code 0 j v.unit.pending waits)));
     }
 
 body_unit : {A : Type 0} (f : DraftView → A) → ((u : DraftView) (ns : List (List ℕ)) → f (record u { names = ns }) ≡ f u)
-    → ((u : DraftView) (ls : List (List ℕ)) (ats : List ℕ) (ds : List _) (p : Bool) → f (record u { labels = ls; ats = ats; lines = ds; pending = p }) ≡ f u)
+    → ((u : DraftView) (ls : List (List ℕ)) (label_positions : List ℕ) (ds : List _) (p : Bool) → f (record u { labels = ls; label_positions = label_positions; lines = ds; pending = p }) ≡ f u)
     → (k : ℕ) (s : Source) (b : Body) (t : Source) → MakesBody k s b t → f t.unit ≡ f s.unit
 body_unit f keeps stays k s b t m = ap (λ w. f w.unit) m.makes.1 ∙ (stays m.behind_locals.unit _ _ _ _ ∙ opens_unit f keeps b.locals k s m.behind_locals m.opens)
 
@@ -122,8 +122,8 @@ section_sound (Main body) k s u m h =
       methods = methods;
       main = (
         body_drafted (k + 1) _ body t c (omega arith) refl refl,
-        body_unit (λ u. u.name) (λ u ns. refl) (λ u ls ats ds p. refl) (k + 1) _ body t c,
-        body_unit (λ u. u.parameters) (λ u ns. refl) (λ u ls ats ds p. refl) (k + 1) _ body t c,
+        body_unit (λ u. u.name) (λ u ns. refl) (λ u ls label_positions ds p. refl) (k + 1) _ body t c,
+        body_unit (λ u. u.parameters) (λ u ns. refl) (λ u ls label_positions ds p. refl) (k + 1) _ body t c,
       );
       units = subst (All IsMethod) (sym units) h.units;
     })
@@ -135,7 +135,7 @@ section_sound (Method name ps body) k s u m h =
     let units : t.units ≡ s.units = body_keeps (λ w. w.units) (λ w p n b v. refl) (k + 1) _ body t c in
     let names : t.methods ≡ s.methods ++ name ∷ [] = body_keeps (λ w. w.methods) (λ w p n b v. refl) (k + 1) _ body t c in
     let main : t.main ≡ s.main = body_keeps (λ w. w.main) (λ w p n b v. refl) (k + 1) _ body t c in
-    let named : t.unit.name ≡ Some name = body_unit (λ u. u.name) (λ u ns. refl) (λ u ls ats ds p. refl) (k + 1) _ body t c in
+    let named : t.unit.name ≡ Some name = body_unit (λ u. u.name) (λ u ns. refl) (λ u ls label_positions ds p. refl) (k + 1) _ body t c in
     let method : IsMethod t.unit = (body_drafted (k + 1) _ body t c m.few refl refl, ap is_some named) in
     let a = length-append t.units (t.unit ∷ []) in
     let b = ap length units in

@@ -15,7 +15,7 @@ use Rattle.ijvm_asm.specs.Said.{Dotted, Said}
 use Rattle.ijvm_asm.specs.Sections.{code_line, CodeItem, local_line}
 use Rattle.ijvm_asm.specs.Drafts.{DraftView}
 use Rattle.ijvm_asm.specs.Source.{Source}
-use Rattle.ijvm_asm.specs.Units.{AreNew, ats_in, behind_instruction, declared, labels_in, lines_in, MakesCode, MakesLocals, may_declare_behind, waits, waits_behind, with_at, with_instruction, with_label}
+use Rattle.ijvm_asm.specs.Units.{AreNew, positions_in, behind_instruction, declared, labels_in, lines_in, MakesCode, MakesLocals, may_declare_behind, waits, waits_behind, with_position, with_instruction, with_label}
 use Rattle.ijvm_asm.specs.Adding.{add_code, add_instruction, with_unit}
 use Rattle.ijvm_asm.proofs.Building.{Build}
 use Rattle.ijvm_asm.proofs.Conditions.{nil, none, ok}
@@ -25,7 +25,7 @@ use Rattle.ijvm_asm.proofs.Conditions.{nil, none, ok}
 abbrev named : Source → List (List ℕ) → Source
 named s ns = record s { place = places.Code; unit = record s.unit { names = ns } }
 
-abbrev with_local : Source → List ℕ → Source
+abbrev pub with_local : Source → List ℕ → Source
 with_local s n = record s { unit = record s.unit { names = s.unit.names ++ n ∷ [] } }
 
 abbrev locals_end : List (Option (List ℕ)) → List Said
@@ -41,7 +41,7 @@ not_many n h = go (nat_le most_names n) refl
     go false e = refl
     go true e = absurd (grind (arith, nat_tests))
 
-with_both : (f : DraftView → Source) (a b : Bool) (v : DraftView) (e g : AsmError) (u : Source) → with_unit f (cond a (Err e) (cond b (Err g) (Ok v))) ≡ Ok u → (a ≡ false) × (b ≡ false) × (ok (f v) ≡ ok u)
+pub with_both : (f : DraftView → Source) (a b : Bool) (v : DraftView) (e g : AsmError) (u : Source) → with_unit f (cond a (Err e) (cond b (Err g) (Ok v))) ≡ Ok u → (a ≡ false) × (b ≡ false) × (ok (f v) ≡ ok u)
 with_both f true b v e g u h = absurd (cc)
 with_both f false true v e g u h = absurd (cc)
 with_both f false false v e g u h = (refl, refl, h)
@@ -77,20 +77,20 @@ make_locals (Some n ∷ items) k s u e ((new, less, more), q) = (
 
 -- ---- code
 
-abbrev labelled : DraftView → Option (List ℕ) → DraftView
+abbrev pub labelled : DraftView → Option (List ℕ) → DraftView
 labelled u None = u
-labelled u (Some l) = record u { labels = u.labels ++ l ∷ []; ats = u.ats ++ length u.lines ∷ []; pending = true }
+labelled u (Some l) = record u { labels = u.labels ++ l ∷ []; label_positions = u.label_positions ++ length u.lines ∷ []; pending = true }
 
-abbrev IsNew : List (List ℕ) → Option (List ℕ) → Type 0
+abbrev pub IsNew : List (List ℕ) → Option (List ℕ) → Type 0
 IsNew seen None = ⊤
 IsNew seen (Some l) = names.place_of seen l ≡ None
 
 -- the source behind code line `k`
-abbrev after : ℕ → Source → Option (List ℕ) → Option Instruction → Source
+abbrev pub after : ℕ → Source → Option (List ℕ) → Option Instruction → Source
 after k s l i = record s { unit = add_instruction k (labelled s.unit l) i; may_declare = false }
 
 abbrev coded : Source → List (List ℕ) → List ℕ → List DraftLine → Bool → Bool → Source
-coded s ls ats ds waiting may = record s { may_declare = may; unit = record s.unit { labels = ls; ats = ats; lines = ds; pending = waiting } }
+coded s ls label_positions ds waiting may = record s { may_declare = may; unit = record s.unit { labels = ls; label_positions = label_positions; lines = ds; pending = waiting } }
 
 coded_same : (s : Source) (a b : List (List ℕ)) (c d : List ℕ) (e f : List DraftLine) (p q m n : Bool) → a ≡ b → c ≡ d → e ≡ f → p ≡ q → m ≡ n → coded s a c e p m ≡ coded s b d f q n
 coded_same s a b c d e f p q m n ab cd ef pq mn =
@@ -120,11 +120,11 @@ count_over k u None (Some i) = length-append u.lines ((record { line = k; instru
 count_over k u (Some l) None = refl
 count_over k u (Some l) (Some i) = length-append u.lines ((record { line = k; instruction = i }) ∷ [])
 
-ats_over : (k : ℕ) (u : DraftView) (l : Option (List ℕ)) (i : Option Instruction) (xs : List ℕ) → (add_instruction k (labelled u l) i).ats ++ xs ≡ u.ats ++ with_at (length u.lines) l xs
-ats_over k u None None xs = refl
-ats_over k u None (Some i) xs = refl
-ats_over k u (Some l) None xs = append_assoc u.ats (length u.lines ∷ []) xs
-ats_over k u (Some l) (Some i) xs = append_assoc u.ats (length u.lines ∷ []) xs
+positions_over : (k : ℕ) (u : DraftView) (l : Option (List ℕ)) (i : Option Instruction) (xs : List ℕ) → (add_instruction k (labelled u l) i).label_positions ++ xs ≡ u.label_positions ++ with_position (length u.lines) l xs
+positions_over k u None None xs = refl
+positions_over k u None (Some i) xs = refl
+positions_over k u (Some l) None xs = append_assoc u.label_positions (length u.lines ∷ []) xs
+positions_over k u (Some l) (Some i) xs = append_assoc u.label_positions (length u.lines ∷ []) xs
 
 waits_over : (k : ℕ) (u : DraftView) (l : Option (List ℕ)) (i : Option Instruction) → (add_instruction k (labelled u l) i).pending ≡ waits (is_some l || u.pending) i
 waits_over k u None None = refl
@@ -139,24 +139,24 @@ stays_false (Some c ∷ items) = refl
 
 -- what code lines from line `k` on leave
 abbrev behind : ℕ → Source → List (Option CodeItem) → Source
-behind k s items = coded s (s.unit.labels ++ labels_in items) (s.unit.ats ++ ats_in (length s.unit.lines) items) (s.unit.lines ++ lines_in k items) (waits_behind s.unit.pending items) (may_declare_behind s.may_declare items)
+behind k s items = coded s (s.unit.labels ++ labels_in items) (s.unit.label_positions ++ positions_in (length s.unit.lines) items) (s.unit.lines ++ lines_in k items) (waits_behind s.unit.pending items) (may_declare_behind s.may_declare items)
 
 behind_none : (k : ℕ) (s : Source) → behind k s [] ≡ s
-behind_none k s = coded_same s (s.unit.labels ++ []) s.unit.labels (s.unit.ats ++ []) s.unit.ats (s.unit.lines ++ []) s.unit.lines s.unit.pending s.unit.pending s.may_declare s.may_declare
-    (nil s.unit.labels) (nil s.unit.ats) (nil s.unit.lines) refl refl
+behind_none k s = coded_same s (s.unit.labels ++ []) s.unit.labels (s.unit.label_positions ++ []) s.unit.label_positions (s.unit.lines ++ []) s.unit.lines s.unit.pending s.unit.pending s.may_declare s.may_declare
+    (nil s.unit.labels) (nil s.unit.label_positions) (nil s.unit.lines) refl refl
 
 behind_one : (k : ℕ) (s : Source) (c : CodeItem) (items : List (Option CodeItem)) → behind (k + 1) (after k s c.label c.instruction) items ≡ behind k s (Some c ∷ items)
 behind_one k s c items =
     let w : DraftView = add_instruction k (labelled s.unit c.label) c.instruction in
     let n : ℕ = behind_instruction (length s.unit.lines) c.instruction in
-    over k s c.label c.instruction (w.labels ++ labels_in items) (w.ats ++ ats_in (length w.lines) items) (w.lines ++ lines_in (k + 1) items) (waits_behind w.pending items) (may_declare_behind false items)
+    over k s c.label c.instruction (w.labels ++ labels_in items) (w.label_positions ++ positions_in (length w.lines) items) (w.lines ++ lines_in (k + 1) items) (waits_behind w.pending items) (may_declare_behind false items)
     ∙ coded_same s (w.labels ++ labels_in items) (s.unit.labels ++ with_label c.label (labels_in items))
-    (w.ats ++ ats_in (length w.lines) items) (s.unit.ats ++ with_at (length s.unit.lines) c.label (ats_in n items))
+    (w.label_positions ++ positions_in (length w.lines) items) (s.unit.label_positions ++ with_position (length s.unit.lines) c.label (positions_in n items))
     (w.lines ++ lines_in (k + 1) items) (s.unit.lines ++ with_instruction k c.instruction (lines_in (k + 1) items))
     (waits_behind w.pending items) (waits_behind (waits (is_some c.label || s.unit.pending) c.instruction) items)
     (may_declare_behind false items) false
     (labels_over k s.unit c.label c.instruction (labels_in items))
-    (ap (λ m. w.ats ++ ats_in m items) (count_over k s.unit c.label c.instruction) ∙ ats_over k s.unit c.label c.instruction (ats_in n items))
+    (ap (λ m. w.label_positions ++ positions_in m items) (count_over k s.unit c.label c.instruction) ∙ positions_over k s.unit c.label c.instruction (positions_in n items))
     (lines_over k s.unit c.label c.instruction (lines_in (k + 1) items))
     (ap (λ b. waits_behind b items) (waits_over k s.unit c.label c.instruction))
     (stays_false items)
@@ -181,7 +181,7 @@ if_with : (f : DraftView → Source) (a : Bool) (v : DraftView) (e : AsmError) �
 if_with f true v e h = absurd (cc)
 if_with f false v e h = refl
 
-line_made : (k : ℕ) (s v : Source) (l : Option (List ℕ)) (i : Option Instruction) → add_code k s l i ≡ Ok v → IsNew s.unit.labels l × (ok (after k s l i) ≡ ok v)
+pub line_made : (k : ℕ) (s v : Source) (l : Option (List ℕ)) (i : Option Instruction) → add_code k s l i ≡ Ok v → IsNew s.unit.labels l × (ok (after k s l i) ≡ ok v)
 line_made k s v None i h = (tt, h)
 line_made k s v (Some l) i h =
     let b = with_if (λ u. record s { unit = add_instruction k u i; may_declare = false }) (is_some (names.place_of s.unit.labels l)) (labelled s.unit (Some l)) (errors.DuplicateName k) v h in

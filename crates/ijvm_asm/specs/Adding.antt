@@ -9,7 +9,6 @@ use Rattle.ijvm_line.specs.declared.place.Mark.TheVariants as marks
 use Rattle.ijvm_line.specs.declared.line.Line.{Line}
 use Rattle.ijvm_line.specs.declared.line.Line.TheVariants as lines
 use Rattle.ijvm_line.specs.declared.line.LineFault.{LineFault}
-use Rattle.ijvm_line.specs.declared.line.LineFault.TheVariants as faults
 use Rattle.ijvm_line.specs.declared.instruction.Instruction.{Instruction}
 use Rattle.ijvm_line.specs.Lines.{line_of}
 use Rattle.ijvm_line.specs.Parameters.{parameters}
@@ -17,6 +16,7 @@ use Rattle.name_list.specs.Places.{place_of}
 use Rattle.ijvm_asm.specs.declared.error.AsmError.{AsmError}
 use Rattle.ijvm_asm.specs.declared.error.AsmError.TheVariants as errors
 use Rattle.ijvm_asm.specs.Drafts.{begun, DraftView}
+use Rattle.ijvm_asm.specs.Refusals.{at_line}
 use Rattle.ijvm_asm.specs.Source.{Source}
 
 -- ---- units
@@ -31,7 +31,7 @@ add_local k u name = if is_some (place_of u.names name) then Err (errors.Duplica
 abbrev pub add_label : ℕ → DraftView → Option (List ℕ) → Result DraftView AsmError
 add_label k u None = Ok u
 add_label k u (Some label) = if is_some (place_of u.labels label) then Err (errors.DuplicateName k)
-    else Ok (record u { labels = u.labels ++ label ∷ []; ats = u.ats ++ length u.lines ∷ []; pending = true })
+    else Ok (record u { labels = u.labels ++ label ∷ []; label_positions = u.label_positions ++ length u.lines ∷ []; pending = true })
 
 abbrev pub add_instruction : ℕ → DraftView → Option Instruction → DraftView
 add_instruction k u None = u
@@ -114,11 +114,6 @@ add_line k s ps (lines.Method name) = add_method k s name ps
 add_line k s ps (lines.Constant name value) = add_constant k s name value
 add_line k s ps (lines.Local name) = on_local k s name
 add_line k s ps (lines.Code label instruction) = add_code k s label instruction
-
-abbrev pub at_line : ℕ → LineFault → AsmError
-at_line k faults.BadLine = errors.BadLine k
-at_line k faults.BadNumber = errors.BadNumber k
-at_line k faults.OutOfRange = errors.OutOfRange k
 
 abbrev pub add_said : ℕ → Source → List (List ℕ) → Result Line LineFault → Result Source AsmError
 add_said k s ps (Ok line) = add_line k s ps line

@@ -4,6 +4,8 @@ pub mod Drafts
 pub mod Source
 pub mod Units
 pub mod Making
-pub mod Resolving
+pub mod Names
+pub mod ReadingNames
+pub mod Refusals
 pub mod Text
 pub mod Adding

@@ -54,19 +54,19 @@ lines_in k [] = []
 lines_in k (None ∷ items) = lines_in (k + 1) items
 lines_in k (Some c ∷ items) = with_instruction k c.instruction (lines_in (k + 1) items)
 
-abbrev pub with_at : ℕ → Option (List ℕ) → List ℕ → List ℕ
-with_at n None ats = ats
-with_at n (Some label) ats = n ∷ ats
+abbrev pub with_position : ℕ → Option (List ℕ) → List ℕ → List ℕ
+with_position n None label_positions = label_positions
+with_position n (Some label) label_positions = n ∷ label_positions
 
 abbrev pub behind_instruction : ℕ → Option Instruction → ℕ
 behind_instruction n None = n
 behind_instruction n (Some instruction) = n + 1
 
 -- for each label how many instructions of the unit stand before it, where `n` stand before all of these lines
-abbrev pub ats_in : ℕ → List (Option CodeItem) → List ℕ
-ats_in n [] = []
-ats_in n (None ∷ items) = ats_in n items
-ats_in n (Some c ∷ items) = with_at n c.label (ats_in (behind_instruction n c.instruction) items)
+abbrev pub positions_in : ℕ → List (Option CodeItem) → List ℕ
+positions_in n [] = []
+positions_in n (None ∷ items) = positions_in n items
+positions_in n (Some c ∷ items) = with_position n c.label (positions_in (behind_instruction n c.instruction) items)
 
 abbrev pub waits : Bool → Option Instruction → Bool
 waits label None = label
@@ -90,7 +90,7 @@ MakesCode k s items u = AreNew s.unit.labels (labels_in items)
       may_declare = may_declare_behind s.may_declare items;
       unit = record s.unit {
         labels = s.unit.labels ++ labels_in items;
-        ats = s.unit.ats ++ ats_in (length s.unit.lines) items;
+        label_positions = s.unit.label_positions ++ positions_in (length s.unit.lines) items;
         lines = s.unit.lines ++ lines_in k items;
         pending = waits_behind s.unit.pending items;
       };

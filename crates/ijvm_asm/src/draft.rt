@@ -1,5 +1,6 @@
-ghost use Rattle.std.specs.Prelude.{◌≡◌, ◌≤◌, length, Ok, OnOk, IfErr};
+ghost use Rattle.std.specs.Prelude.{◌≡◌, ◌≤◌, length, Ok, Err, OnOk, IfErr};
 ghost use Rattle.ijvm_program.specs.Program.{most_names};
+ghost use Rattle.ijvm_asm.specs.declared.error.AsmError.{AsmError};
 ghost use Rattle.ijvm_asm.specs.Drafts.{begun, FailsBy, StaysBy};
 
 use crate::error::AsmError;
@@ -27,7 +28,7 @@ pub(crate) struct Draft {
     pub(crate) parameters: u32,
     pub(crate) labels: NameList,
     /// For each label, how many code lines stand before it.
-    pub(crate) ats: Vec<u32>,
+    pub(crate) label_positions: Vec<u32>,
     pub(crate) lines: Vec<DraftLine>,
     /// A label has no instruction yet.
     pub(crate) pending: bool,
@@ -43,7 +44,7 @@ impl Model for Draft {
 
     ghost Value = { DraftView };
 
-    ghost view = { λ d. record { name = d.name; names = d.names; parameters = d.parameters; labels = d.labels; ats = d.ats.items; lines = d.lines.items; pending = d.pending } };
+    ghost view = { λ d. record { name = d.name; names = d.names; parameters = d.parameters; labels = d.labels; label_positions = d.label_positions.items; lines = d.lines.items; pending = d.pending } };
 
     ghost invariant = { λ d. length d.names ≤ most_names };
 }
@@ -61,7 +62,7 @@ impl Draft {
             names: parameters,
             parameters: count,
             labels: NameList::new(alloc),
-            ats: Vec::new(alloc),
+            label_positions: Vec::new(alloc),
             lines: Vec::new(alloc),
             pending: false,
         }
@@ -72,6 +73,7 @@ impl Draft {
         ensures ok { OnOk result (add_local line self.old name ≡ Ok self.new) }
         ensures err { IfErr result (λ e. FailsBy e (add_local line self.old name)) }
         ensures left { IfErr result (λ e. StaysBy e self.old self.new) }
+        ensures refused { (e : AsmError) → add_local line self.old name ≡ Err e → result ≡ Err e }
     {
         if self.names.find(&name).is_some() {
             return Err(AsmError::DuplicateName(line));
@@ -88,6 +90,7 @@ impl Draft {
         ensures ok { OnOk result (add_label line self.old label ≡ Ok self.new) }
         ensures err { IfErr result (λ e. FailsBy e (add_label line self.old label)) }
         ensures left { IfErr result (λ e. StaysBy e self.old self.new) }
+        ensures refused { (e : AsmError) → add_label line self.old label ≡ Err e → result ≡ Err e }
     {
         let Some(label) = label else {
             return Ok(());
@@ -99,7 +102,7 @@ impl Draft {
             return Err(AsmError::OutOfMemory);
         };
         self.labels.add(label)?;
-        self.ats.push(at)?;
+        self.label_positions.push(at)?;
         self.pending = true;
         Ok(())
     }

@@ -1,17 +1,11 @@
 ghost use Rattle.std.specs.Prelude.{◌≡◌, ◌↔◌, ℕ, List, Ok, Err};
 ghost use Rattle.ijvm_program.specs.Program.{ProgramView};
 ghost use Rattle.ijvm_asm.specs.declared.error.AsmError.{AsmError};
-ghost use Rattle.ijvm_asm.specs.Text.{IsRefused, parsed, Spells, SpellsSections};
+ghost use Rattle.ijvm_asm.specs.Text.{IsRefused, Spells};
 
-/// A text is read as the program that it spells, and refused by its first refusal: so it spells at most one program, and
-/// a text that spells one has no refusal.
-pub fn reads_what_is_spelled()
-    ensures spelled { (text : List ℕ) (p : ProgramView) → (parsed text ≡ Ok p) ↔ Spells text p }
-    ensures refused { (text : List ℕ) (e : AsmError) → (parsed text ≡ Err e) ↔ IsRefused text e }
-{}
-
-/// A text spells a program exactly where its lines are those of sections that make the program, each section what it says
-/// behind those before it.
-pub fn reads_sections()
-    ensures { (text : List ℕ) (p : ProgramView) → Spells text p ↔ SpellsSections text p }
+/// A text spells at most one program, or else has at most one first refusal, and never both.
+pub fn a_text_says_one_thing()
+    ensures one_program { (text : List ℕ) (p q : ProgramView) → Spells text p → Spells text q → p ≡ q }
+    ensures one_refusal { (text : List ℕ) (e f : AsmError) → IsRefused text e → IsRefused text f → e ≡ f }
+    ensures not_both { (text : List ℕ) (p : ProgramView) (e : AsmError) → Spells text p → IsRefused text e → ⊥ }
 {}

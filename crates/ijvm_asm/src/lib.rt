@@ -13,5 +13,5 @@ mod whole;
 
 pub use error::AsmError;
 pub use ijvm_program::{CodeLine, Constant, Jump, Label, Operation, Program, Unit, size_of};
-pub use laws::{reads_sections, reads_what_is_spelled};
+pub use laws::a_text_says_one_thing;
 pub use parse::parse_source;

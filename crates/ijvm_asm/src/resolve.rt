@@ -1,32 +1,15 @@
-ghost use Rattle.std.specs.Prelude.{◌≡◌, ◌≤◌, [], Ok, IfOk, IfErr, take, drop};
-ghost use Rattle.ijvm_asm.specs.Drafts.{FailsBy};
-ghost use Rattle.ijvm_asm.specs.Resolving.{call, code_line, constant, first_index, increment, index_of, jump_to, label_of, labels_of, lines_from, load, operation_of, unit_of, units_from};
+//! Names looked up: what a unit of the source stands for.
 
-use crate::draft::{Draft, DraftLine};
-use crate::error::AsmError;
-use ijvm_line::{Access, Instruction, access_instr, increment_instr};
-use ijvm_program::{CodeLine, Jump, Label, Operation, Unit};
+ghost use Rattle.std.specs.Prelude.{◌≡◌, ◌≤◌, [], None, Some, IfOk, IsSome, take, drop};
+ghost use Rattle.ijvm_asm.specs.Names.{first_index, labels_of};
+ghost use Rattle.ijvm_asm.specs.ReadingNames.{index_of, label_of, lines_from, lower, operation_of, unit_of, units_from, unknown_lines, unknown_units};
+
+use crate::draft::Draft;
+use ijvm_line::{Instruction, access_instr, increment_instr};
+use ijvm_program::{CodeLine, Label, Operation, Unit};
 use mic_base::Name;
 use name_list::NameList;
 use std::alloc::{AllocError, Global};
-
-fn constant(constants: &NameList, line: u32, name: &Name) -> Result<Operation, AsmError>
-    ensures { result ≡ constant constants.now line name.now }
-{
-    match constants.find(name) {
-        Some(place) => Ok(Operation::Constant(place)),
-        None => Err(AsmError::UnknownName(line)),
-    }
-}
-
-fn call(methods: &NameList, line: u32, name: &Name) -> Result<Operation, AsmError>
-    ensures { result ≡ call methods.now line name.now }
-{
-    match methods.find(name) {
-        Some(place) => Ok(Operation::Call(place)),
-        None => Err(AsmError::UnknownName(line)),
-    }
-}
 
 /// Main's locals are numbered from 0; a method's parameters from 1, and its locals behind them.
 fn first_index(unit: &Draft) -> u16
@@ -43,108 +26,114 @@ fn index_of(unit: &Draft, name: &Name) -> Option<u16>
     Some(place as u16 + first_index(unit))
 }
 
-fn load(
-    unit: &Draft,
-    line: u32,
-    access: Access,
-    wide: bool,
-    name: &Name,
-) -> Result<Operation, AsmError>
-    ensures { result ≡ load unit.now line access wide name.now }
-{
-    match index_of(unit, name) {
-        Some(index) => Ok(Operation::Plain(access_instr(access, wide, index))),
-        None => Err(AsmError::UnknownName(line)),
-    }
-}
-
-fn increment(
-    unit: &Draft,
-    line: u32,
-    wide: bool,
-    name: &Name,
-    by: i16,
-) -> Result<Operation, AsmError>
-    ensures { result ≡ increment unit.now line wide name.now by }
-{
-    match index_of(unit, name) {
-        Some(index) => Ok(Operation::Plain(increment_instr(wide, index, by))),
-        None => Err(AsmError::UnknownName(line)),
-    }
-}
-
 fn label_of(unit: &Draft, label: &Name) -> Option<u32>
     ensures { result ≡ label_of unit.now label.now }
 {
     let place = unit.labels.find(label)?;
-    unit.ats.get(place as usize).copied()
+    unit.label_positions.get(place as usize).copied()
 }
 
-fn jump_to(unit: &Draft, line: u32, jump: Jump, label: &Name) -> Result<Operation, AsmError>
-    ensures { result ≡ jump_to unit.now line jump label.now }
-{
-    match label_of(unit, label) {
-        Some(target) => Ok(Operation::To { jump, target }),
-        None => Err(AsmError::UnknownName(line)),
-    }
-}
-
+/// What an instruction stands for, where its name is declared.
 fn operation_of(
     constants: &NameList,
     methods: &NameList,
     unit: &Draft,
-    line: u32,
     instruction: &Instruction,
-) -> Result<Operation, AsmError>
-    ensures { result ≡ operation_of constants.now methods.now unit.now line instruction.now }
+) -> Option<Operation>
+    ensures { result ≡ operation_of constants.now methods.now unit.now instruction.now }
 {
     match instruction {
-        Instruction::Plain(instr) => Ok(Operation::Plain(*instr)),
-        Instruction::Constant(name) => constant(constants, line, name),
+        Instruction::Plain(instr) => Some(Operation::Plain(*instr)),
+        Instruction::Constant(name) => Some(Operation::Constant(constants.find(name)?)),
         Instruction::Local {
             access,
             wide,
             local,
-        } => load(unit, line, *access, *wide, local),
-        Instruction::Increment { wide, local, by } => increment(unit, line, *wide, local, *by),
-        Instruction::Jump(jump, label) => jump_to(unit, line, *jump, label),
-        Instruction::Call(name) => call(methods, line, name),
+        } => {
+            let index = index_of(unit, local)?;
+            Some(Operation::Plain(access_instr(*access, *wide, index)))
+        }
+        Instruction::Increment { wide, local, by } => {
+            let index = index_of(unit, local)?;
+            Some(Operation::Plain(increment_instr(*wide, index, *by)))
+        }
+        Instruction::Jump(jump, label) => {
+            let target = label_of(unit, label)?;
+            Some(Operation::To {
+                jump: *jump,
+                target,
+            })
+        }
+        Instruction::Call(name) => Some(Operation::Call(methods.find(name)?)),
     }
 }
 
-fn code_line(
+/// The lower of two lines, where there is a first.
+fn lower(least: Option<u32>, line: u32) -> Option<u32>
+    ensures { result ≡ lower least line }
+{
+    match least {
+        Some(least) if least <= line => Some(least),
+        _ => Some(line),
+    }
+}
+
+/// The lowest of a line and the unit's lines that name what is not declared.
+pub(crate) fn unknown_lines(
     constants: &NameList,
     methods: &NameList,
     unit: &Draft,
-    draft: &DraftLine,
-) -> Result<CodeLine, AsmError>
-    ensures { result ≡ code_line constants.now methods.now unit.now draft.now }
+    least: Option<u32>,
+) -> Option<u32>
+    ensures { result ≡ unknown_lines constants.now methods.now unit.now least unit.now.lines }
 {
-    match operation_of(constants, methods, unit, draft.line, &draft.instruction) {
-        Ok(operation) => Ok(CodeLine {
-            line: draft.line,
-            operation,
-        }),
-        Err(refusal) => Err(refusal),
+    let mut least = least;
+    let mut rest = unit.lines.as_slice();
+    while let Some((first, after)) = rest.split_first() {
+        if operation_of(constants, methods, unit, &first.instruction).is_none() {
+            least = lower(least, first.line);
+        }
+        rest = after;
     }
+    least
 }
 
+/// The lowest of a line and the lines of these units that name what is not declared.
+pub(crate) fn unknown_units(
+    constants: &NameList,
+    methods: &NameList,
+    least: Option<u32>,
+    units: &[Draft],
+) -> Option<u32>
+    ensures { result ≡ unknown_units constants.now methods.now least units.now }
+{
+    let mut least = least;
+    let mut rest = units;
+    while let Some((first, after)) = rest.split_first() {
+        least = unknown_lines(constants, methods, first, least);
+        rest = after;
+    }
+    least
+}
+
+#[tactic(auto, using(crate::proofs::Known::first_line))]
 fn lines_of(
     alloc: Global,
     constants: &NameList,
     methods: &NameList,
     unit: &Draft,
-) -> Result<Vec<CodeLine>, AsmError>
-    ensures ok { IfOk result (λ v. lines_from constants.now methods.now unit.now [] unit.now.lines ≡ Ok v.items) }
-    ensures err { IfErr result (λ e. FailsBy e (lines_from constants.now methods.now unit.now [] unit.now.lines)) }
+) -> Result<Vec<CodeLine>, AllocError>
+    requires { IsSome (lines_from constants.now methods.now unit.now [] unit.now.lines) }
+    ensures { IfOk result (λ v. lines_from constants.now methods.now unit.now [] unit.now.lines ≡ Some v.items) }
 {
     let mut lines = Vec::new(alloc);
     let mut rest = unit.lines.as_slice();
     while let Some((first, after)) = rest.split_first() {
-        match code_line(constants, methods, unit, first) {
-            Ok(line) => lines.push(line)?,
-            Err(refusal) => return Err(refusal),
-        }
+        let operation = operation_of(constants, methods, unit, &first.instruction).unwrap();
+        lines.push(CodeLine {
+            line: first.line,
+            operation,
+        })?;
         rest = after;
     }
     Ok(lines)
@@ -156,7 +145,7 @@ fn labels_of(alloc: Global, unit: &Draft) -> Result<Vec<Label>, AllocError>
     unit.labels
         .names()
         .iter()
-        .zip(unit.ats.iter())
+        .zip(unit.label_positions.iter())
         .map(|(name, at)| Label {
             name: *name,
             at: *at,
@@ -186,43 +175,39 @@ fn locals_of(alloc: Global, unit: &Draft) -> Result<Vec<Name>, AllocError>
         .collect(alloc)
 }
 
-/// The unit with its names looked up, or the first line whose name is refused.
+/// The unit with its names looked up, which are all declared.
+#[tactic(auto, using(crate::proofs::Known::lines_known))]
 pub(crate) fn unit_of(
     alloc: Global,
     constants: &NameList,
     methods: &NameList,
     draft: &Draft,
-) -> Result<Unit, AsmError>
-    ensures ok { IfOk result (λ u. unit_of constants.now methods.now draft.now ≡ Ok u) }
-    ensures err { IfErr result (λ e. FailsBy e (unit_of constants.now methods.now draft.now)) }
+) -> Result<Unit, AllocError>
+    requires { IsSome (unit_of constants.now methods.now draft.now) }
+    ensures { IfOk result (λ u. unit_of constants.now methods.now draft.now ≡ Some u) }
 {
-    let lines = match lines_of(alloc, constants, methods, draft) {
-        Ok(lines) => lines,
-        Err(refusal) => return Err(refusal),
-    };
+    let lines = lines_of(alloc, constants, methods, draft)?;
     let labels = labels_of(alloc, draft)?;
     let parameters = parameters_of(alloc, draft)?;
     let locals = locals_of(alloc, draft)?;
     Ok(Unit::new(draft.name, parameters, locals, lines, labels))
 }
 
-/// The methods, or the first line whose name is refused.
+/// The units with their names looked up, which are all declared.
+#[tactic(auto, using(crate::proofs::Known::first_unit))]
 pub(crate) fn units_of(
     alloc: Global,
     constants: &NameList,
     methods: &NameList,
     drafts: &[Draft],
-) -> Result<Vec<Unit>, AsmError>
-    ensures ok { IfOk result (λ v. units_from constants.now methods.now [] drafts.now ≡ Ok v.items) }
-    ensures err { IfErr result (λ e. FailsBy e (units_from constants.now methods.now [] drafts.now)) }
+) -> Result<Vec<Unit>, AllocError>
+    requires { IsSome (units_from constants.now methods.now [] drafts.now) }
+    ensures { IfOk result (λ v. units_from constants.now methods.now [] drafts.now ≡ Some v.items) }
 {
     let mut units = Vec::new(alloc);
     let mut rest = drafts;
     while let Some((first, after)) = rest.split_first() {
-        match unit_of(alloc, constants, methods, first) {
-            Ok(unit) => units.push(unit)?,
-            Err(refusal) => return Err(refusal),
-        }
+        units.push(unit_of(alloc, constants, methods, first)?)?;
         rest = after;
     }
     Ok(units)

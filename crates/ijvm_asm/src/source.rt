@@ -1,6 +1,7 @@
 ghost use Rattle.std.specs.Prelude.{◌≡◌, Ok, OnOk, IfOk, IfErr, None, []};
 ghost use Rattle.ijvm_asm.specs.Drafts.{begun, FailsBy, StaysBy};
-ghost use Rattle.ijvm_asm.specs.Adding.{at_line, gather};
+ghost use Rattle.ijvm_asm.specs.Adding.{gather};
+ghost use Rattle.ijvm_asm.specs.Refusals.{at_line};
 
 use crate::draft::{Draft, MOST};
 use crate::error::AsmError;

@@ -1,5 +1,7 @@
--- A verified image: acceptance, in the type.
-use Rattle.std.specs.Prelude.{ℕ, ◌≤◌, List}
+-- A verified image: acceptance for its memory map, in the type.
+use Rattle.std.specs.Prelude.{ℕ, ◌+◌, ◌≤◌, List}
+use Rattle.console_port.specs.declared.map.MemoryMap.{MemoryMap}
+use Rattle.console_port.specs.Map.{IsMap}
 use Rattle.ijvm_image.specs.Image.{ImageView}
 use Rattle.ijvm_run.specs.Safe.{IsSafe}
 use Rattle.ijvm_paths.specs.declared.kind.Kind.{Kind}
@@ -9,17 +11,19 @@ use Rattle.ijvm_paths.specs.Kinds.{AreKinds}
 pub record VerifiedView : Type 0 where
   pub image : ImageView
   pub main_locals : ℕ
+  pub map : MemoryMap
 
--- accepted for a stack that ends at 0x10000
+-- accepted for a stack that ends where its map says
 pub record IsAccepted (v : VerifiedView) : Type 0 where
-  pub accepts : Accepts v.image 0x10000
+  pub map_is : IsMap v.map.stack_end
+  pub accepts : Accepts v.image v.map.stack_end
   pub main : IsMainCount v.image v.main_locals
-  pub main_fits : v.main_locals ≤ 0x8000
+  pub main_fits : 0x8000 + v.main_locals ≤ v.map.stack_end
   -- so no run of it gets stuck
-  pub safe : IsSafe v.image 0x10000 v.main_locals
+  pub safe : IsSafe v.image v.map.stack_end v.main_locals
 
 -- what a verified image keeps beside the image
-pub record IsVerified (image : ImageView) (main_locals methods : ℕ) (kinds : List Kind) : Type 0 where
-  pub accepted : IsAccepted (record { image = image; main_locals = main_locals })
-  pub methods_are : IsMethodCount image methods
-  pub kinds_are : AreKinds image kinds
+pub record IsVerified (v : VerifiedView) (methods : ℕ) (found : List Kind) : Type 0 where
+  pub accepted : IsAccepted v
+  pub methods_are : IsMethodCount v.image methods
+  pub kinds_are : AreKinds v.image found

@@ -1,5 +1,5 @@
 -- What the search for reached addresses keeps.
-use Rattle.std.specs.Prelude.{◌≡◌, ◌≢◌, ℕ, ℤ, ◌+◌, ◌*◌, ◌<◌, ◌≤◌, ◌⊎◌, List, [], ◌∷◌, length, slice_get, Contains, Option, Some, None}
+use Rattle.std.specs.Prelude.{◌≡◌, ◌≢◌, ℕ, ℤ, ◌+◌, ◌*◌, ◌<◌, ◌≤◌, ◌⊎◌, List, [], ◌∷◌, ◌++◌, length, slice_get, Contains, Option, Some, None}
 use Rattle.ijvm_instr.specs.declared.row.Flow.TheVariants.{Return}
 use Rattle.ijvm_instr.specs.declared.row.Row.{Row}
 use Rattle.ijvm_instr.specs.Instructions.{size_of}
@@ -47,6 +47,10 @@ empties (Some k ∷ seen) = empties seen
 abbrev pub IsKept : List (Option Kept) → Arrival → Type 0
 IsKept seen b = slice_get seen b.at ≡ Some (Some (kept_of b.unit b.depth))
 
+-- the last waiting address is taken, and it is kept so
+abbrev pub IsTaken : List (Option Kept) → List ℕ → List ℕ → Kept → ℕ → Type 0
+IsTaken seen todo rest here at = (todo ≡ rest ++ at ∷ []) × (slice_get seen at ≡ Some (Some here))
+
 -- everything that follows from a kept address is kept, whatever it carries
 abbrev pub AllFollow : ImageView → List (Option Kept) → Kept → ℕ → Type 0
 AllFollow image seen k at = (unset : Option ℕ) (b : Arrival) → Follows image (arrival k.unit at k.depth unset) b → IsKept seen b
@@ -82,7 +86,7 @@ pub record IsClosed (image : ImageView) (seen : List (Option Kept)) : Type 0 whe
   pub reached : (at : ℕ) (k : Kept) → slice_get seen at ≡ Some (Some k) → Reached image (kept_at k at)
   pub all : (a : Arrival) → Reached image a → IsKept seen a
   -- each reached method from its start on
-  pub starts : (entry : ℕ) → IsReachedMethod image entry → slice_get seen (entry + 4) ≡ Some (Some (kept_of (Some entry) 0))
+  pub starts : (entry : ℕ) → IsReachedMethod image entry → IsKept seen (arrival (Some entry) (entry + 4) 0 None)
   pub checked : (at : ℕ) (k : Kept) → slice_get seen at ≡ Some (Some k) → (r : Row) × (need : ℕ) × IsChecked image (kept_at k at) r need
 
 -- the facts that this search decides: all but those of carried locals, of bytes in two instructions, and of main's frame

@@ -3,9 +3,9 @@
 ghost use Rattle.std.specs.Prelude.{◌≡◌, ◌≢◌, ◌+◌, ◌*◌, ◌<◌, ◌≤◌, ℕ, [], ◌∷◌, ◌++◌, length, slice_get, Contains, replicate, Some, None, IfOk, IfErr, OnOk, IfSome, IfNone};
 ghost use Rattle.ijvm_instr.specs.Instructions.{target};
 ghost use Rattle.ijvm_paths.specs.declared.error.VerifyError.{VerifyError};
-ghost use Rattle.ijvm_paths.specs.Paths.{Reached, HasJump};
+ghost use Rattle.ijvm_paths.specs.Paths.{arrival, Reached, HasJump};
 ghost use Rattle.ijvm_paths.specs.Facts.{Holds};
-ghost use Rattle.ijvm_reach.specs.Search.{kept_at, kept_of, States, IsChecked, IsDone, AllFollow, IsSearch, Grows, IsRunning, IsClosed, IsDecided, empties};
+ghost use Rattle.ijvm_reach.specs.Search.{kept_at, kept_of, States, IsChecked, IsKept, IsTaken, IsDone, AllFollow, IsSearch, Grows, IsRunning, IsClosed, IsDecided, empties};
 
 use crate::checks::{Found, check_at};
 use crate::code::{constant_at, decode, text_len};
@@ -98,7 +98,7 @@ impl Search {
         requires checked { IsChecked image.now (kept_at here at) found.row found.need }
         ensures search { OnOk result (IsSearch image.now self.new.seen.items self.new.todo.items) }
         ensures grows { OnOk result (Grows self.old.seen.items self.new.seen.items self.old.todo.items self.new.todo.items) }
-        ensures entry { OnOk result ((e : ℕ) → slice_get image.now.pool index ≡ Some e → slice_get self.new.seen.items (e + 4) ≡ Some (Some (kept_of (Some e) 0))) }
+        ensures entry { OnOk result ((e : ℕ) → slice_get image.now.pool index ≡ Some e → IsKept self.new.seen.items (arrival (Some e) (e + 4) 0 None)) }
         ensures err { IfErr result (λ e. States image.now e) }
     {
         match constant_at(image, index) {
@@ -172,7 +172,7 @@ impl Search {
     fn next(&mut self) -> Option<(Kept, u32)>
         requires { (at : ℕ) → Contains self.old.todo.items at → (k : Kept) × (slice_get self.old.seen.items at ≡ Some (Some k)) }
         ensures seen { self.new.seen.items ≡ self.old.seen.items }
-        ensures some { IfSome result (λ next. (self.old.todo.items ≡ self.new.todo.items ++ next.1 ∷ []) × (slice_get self.old.seen.items next.1 ≡ Some (Some next.0))) }
+        ensures some { IfSome result (λ next. IsTaken self.old.seen.items self.old.todo.items self.new.todo.items next.0 next.1) }
         ensures none { IfNone result (self.old.todo.items ≡ []) }
     {
         match self.todo.pop() {

@@ -39,9 +39,14 @@ told_of (Some f) =
       untaken = f.left.untaken;
     })
 
+-- on a memory map with this end of the stack
+abbrev run_on : ℕ → Machine → List ℕ → List ℕ → ℕ → List ℕ → ℕ → ℕ → Option Told
+run_on stack_end machine text pool main_locals input bound points =
+    told_of (finish_from (record { image = record { text = text; pool = pool }; stack_end = stack_end; machine = machine }) bound points (first_point main_locals input))
+
+-- on the standard map
 abbrev run_of : Machine → List ℕ → List ℕ → ℕ → List ℕ → ℕ → ℕ → Option Told
-run_of machine text pool main_locals input bound points =
-    told_of (finish_from (record { image = record { text = text; pool = pool }; stack_end = 0x10000; machine = machine }) bound points (first_point main_locals input))
+run_of = run_on 0x10000
 
 -- BIPUSH 72, OUT, HALT
 abbrev hello : List ℕ
@@ -163,6 +168,15 @@ full-stack : run_of Mic1 (0xFC ∷ 0xC4 ∷ 0x36 ∷ 0x7F ∷ 0xFF ∷ 0xFF ∷ 
     ≡ Some (record { end = ends.StackLimit; cycles = 2; instructions = 0; boundary = 2; at = 0x0; sp = 0xFFFF; lv = 0x8000; tos = None; given = []; untaken = 0x79 ∷ [] })
 unfolding of_bytes instr_at wrap params others
 full-stack = refl
+
+-- IN and HALT above 32,768 locals: a larger map has room for the byte
+abbrev full : List ℕ
+full = 0xFC ∷ 0xFF ∷ []
+
+full-large : run_on 0x20000 Mic1 full [] 32768 (0x78 ∷ 0x79 ∷ []) 10000000 30
+    ≡ Some (record { end = ends.Halt; cycles = 9; instructions = 2; boundary = 8; at = 0x1; sp = 0x10000; lv = 0x8000; tos = Some 0x78; given = []; untaken = 0x79 ∷ [] })
+unfolding of_bytes instr_at wrap params others
+full-large = refl
 
 increment1 : run_of Mic1 (0x84 ∷ 0x00 ∷ 0x41 ∷ 0x15 ∷ 0x00 ∷ 0xFD ∷ 0xFF ∷ []) [] 1 [] 10000000 30
     ≡ Some (record { end = ends.Halt; cycles = 24; instructions = 4; boundary = 23; at = 0x6; sp = 0x8000; lv = 0x8000; tos = None; given = 0x41 ∷ []; untaken = [] })

@@ -65,7 +65,8 @@ abbrev pub after_test : (Point → Option Finish) → Program → Point → Bool
 after_test more p at true = Some (stopped at ends.Bound at.state)
 after_test more p at false = after_outcome more p at (outcome p.image p.stack_end at.state)
 
--- where the run ends that goes on from this point, if it needs no more than so many points
+-- The definition of a run's end: where it ends that goes on from this point, if it needs no more than so many points. What follows says the
+-- same of ends, boundaries and states: by the law `runs_end_once` a run has one end, at a boundary that it passes.
 abbrev pub finish_from : Program → ℕ → ℕ → Point → Option Finish
 finish_from p bound zero at = None
 finish_from p bound (suc points) at = after_test (finish_from p bound points) p at (nat_le bound at.cycles)

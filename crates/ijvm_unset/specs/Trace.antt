@@ -4,7 +4,7 @@ use Rattle.std.specs.Int.{bit_at}
 use Rattle.ijvm_unset.specs.declared.graph.Node.{Node}
 use Rattle.ijvm_unset.specs.declared.local_set.LocalSet.{LocalSet}
 use Rattle.ijvm_unset.specs.declared.trace.Mark.{Mark}
-use Rattle.ijvm_unset.specs.LocalSet.{IsIn}
+use Rattle.ijvm_unset.specs.LocalSet.{Has, IsIn}
 use Rattle.ijvm_unset.specs.Graph.{LeadsTo, Carries}
 
 -- the bits of a mark, if the search of this number has made it
@@ -58,6 +58,22 @@ IsPassed graph search marks group at k =
 abbrev pub Passes : List Node → ℕ → List Mark → ℕ → ℕ → ℕ → ℕ → Type 0
 Passes graph search marks group at to k =
     (node : Node) × (slice_get graph at ≡ Some node) × (node.stores ≢ Some k) × LeadsTo node to × IsMarked search marks group at k
+
+-- what is newly held: locals of the set, at addresses of this kind
+abbrev pub HoldsMore : (ℕ → Type 0) → LocalSet → ℕ → List Mark → List Mark → Type 0
+HoldsMore IsThere locals search marks new = (at place : ℕ) → IsHeld search new at place → IsHeld search marks at place ⊎ (IsThere at × Has locals place)
+
+-- each local that is marked at the address is not read there, and goes on
+abbrev pub AllPass : List Node → ℕ → ℕ → ℕ → List Mark → List Mark → Type 0
+AllPass graph search group at marks new = (k : ℕ) → IsMarked search marks group at k → IsPassed graph search new group at k
+
+-- what is newly marked has gone on from the address
+abbrev pub OnlyPass : List Node → ℕ → ℕ → ℕ → List Mark → List Mark → Type 0
+OnlyPass graph search group at marks new = (to k : ℕ) → IsMarked search new group to k → IsMarked search marks group to k ⊎ Passes graph search marks group at to k
+
+-- the local is marked at the address, and read there
+abbrev pub ReadsMarked : List Node → ℕ → ℕ → ℕ → List Mark → ℕ → Type 0
+ReadsMarked graph search group at marks k = IsMarked search marks group at k × (node : Node) × (slice_get graph at ≡ Some node) × (node.reads ≡ Some k)
 
 -- the locals of the set are marked at the start, each mark is a way from there, and each marked address is waiting or done
 pub record IsTracing (graph : List Node) (search group start : ℕ) (locals : LocalSet) (marks : List Mark) (todo : List ℕ) : Type 0 where

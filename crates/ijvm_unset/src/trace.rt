@@ -5,7 +5,7 @@ ghost use Rattle.ijvm_unset.specs.declared.graph.Node.{Node};
 ghost use Rattle.ijvm_unset.specs.declared.trace.Mark.{Mark};
 ghost use Rattle.ijvm_unset.specs.LocalSet.{Has, IsIn};
 ghost use Rattle.ijvm_unset.specs.Graph.{LeadsTo, IsInside, Carries};
-ghost use Rattle.ijvm_unset.specs.Trace.{IsHeld, IsMarked, MarksMore, IsPassed, Passes, IsTracing, IsReady, ReadsUnset, ReadsNone, blanks, held_at};
+ghost use Rattle.ijvm_unset.specs.Trace.{HoldsMore, AllPass, OnlyPass, ReadsMarked, IsHeld, IsMarked, MarksMore, IsPassed, Passes, IsTracing, IsReady, ReadsUnset, ReadsNone, blanks, held_at};
 
 use crate::graph::Node;
 use crate::local_set::LocalSet;
@@ -92,7 +92,7 @@ impl Trace {
         requires { at < length self.old.marks.items }
         ensures more { OnOk result (MarksMore search self.old.marks.items self.new.marks.items self.old.todo.items self.new.todo.items) }
         ensures here { OnOk result ((place : ℕ) → Has locals place → IsHeld search self.new.marks.items at place) }
-        ensures only { OnOk result ((to place : ℕ) → IsHeld search self.new.marks.items to place → IsHeld search self.old.marks.items to place ⊎ ((to ≡ at) × Has locals place)) }
+        ensures only { OnOk result (HoldsMore (λ to. to ≡ at) locals search self.old.marks.items self.new.marks.items) }
     {
         let held = self.held(search, at);
         let joined = held.joined(locals);
@@ -116,7 +116,7 @@ impl Trace {
         requires { IfSome way (λ at. at < length self.old.marks.items) }
         ensures more { OnOk result (MarksMore search self.old.marks.items self.new.marks.items self.old.todo.items self.new.todo.items) }
         ensures here { OnOk result ((to place : ℕ) → way ≡ Some to → Has locals place → IsHeld search self.new.marks.items to place) }
-        ensures only { OnOk result ((to place : ℕ) → IsHeld search self.new.marks.items to place → IsHeld search self.old.marks.items to place ⊎ ((way ≡ Some to) × Has locals place)) }
+        ensures only { OnOk result (HoldsMore (λ to. way ≡ Some to) locals search self.old.marks.items self.new.marks.items) }
     {
         match way {
             Some(at) => self.mark(search, at, locals),
@@ -129,7 +129,7 @@ impl Trace {
         requires { (to : ℕ) → LeadsTo node to → to < length self.old.marks.items }
         ensures more { OnOk result (MarksMore search self.old.marks.items self.new.marks.items self.old.todo.items self.new.todo.items) }
         ensures here { OnOk result ((to place : ℕ) → LeadsTo node to → Has locals place → IsHeld search self.new.marks.items to place) }
-        ensures only { OnOk result ((to place : ℕ) → IsHeld search self.new.marks.items to place → IsHeld search self.old.marks.items to place ⊎ (LeadsTo node to × Has locals place)) }
+        ensures only { OnOk result (HoldsMore (LeadsTo node) locals search self.old.marks.items self.new.marks.items) }
     {
         self.mark_way(search, node.next, locals)?;
         self.mark_way(search, node.jump, locals)
@@ -149,9 +149,9 @@ impl Trace {
         requires inside { IsInside graph.now }
         requires at { at < length graph.now }
         ensures more { IfOk result (λ read. IfNone read (MarksMore search self.old.marks.items self.new.marks.items self.old.todo.items self.new.todo.items)) }
-        ensures done { IfOk result (λ read. IfNone read ((k : ℕ) → IsMarked search self.old.marks.items group at k → IsPassed graph.now search self.new.marks.items group at k)) }
-        ensures ways { IfOk result (λ read. IfNone read ((to k : ℕ) → IsMarked search self.new.marks.items group to k → IsMarked search self.old.marks.items group to k ⊎ Passes graph.now search self.old.marks.items group at to k)) }
-        ensures read { IfOk result (λ read. IfSome read (λ k. IsMarked search self.old.marks.items group at k × (node : Node) × (slice_get graph.now at ≡ Some node) × (node.reads ≡ Some k))) }
+        ensures done { IfOk result (λ read. IfNone read (AllPass graph.now search group at self.old.marks.items self.new.marks.items)) }
+        ensures ways { IfOk result (λ read. IfNone read (OnlyPass graph.now search group at self.old.marks.items self.new.marks.items)) }
+        ensures read { IfOk result (λ read. IfSome read (ReadsMarked graph.now search group at self.old.marks.items)) }
     {
         let node = graph[at as usize];
         let held = self.held(search, at);

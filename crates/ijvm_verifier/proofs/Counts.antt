@@ -3,6 +3,8 @@ use Rattle.std.proofs.Common.{◌≡◌, ◌≢◌, ℕ, ◌+◌, ◌<◌, ◌�
 use Rattle.std.specs.Prelude.{slice_get}
 use Rattle.std.proofs.lemmas.Bool.{cases_lt}
 use Rattle.std.proofs.lemmas.Option.{slice_get_within}
+use Rattle.console_port.specs.declared.map.MemoryMap.{MemoryMap}
+use Rattle.console_port.specs.Map.{IsMap}
 use Rattle.ijvm_instr.specs.declared.row.Row.{Row}
 use Rattle.ijvm_image.specs.Image.{ImageView}
 use Rattle.ijvm_reach.specs.declared.kept.Kept.{Kept}
@@ -94,12 +96,18 @@ accepted image z count s u o m fits (MainFrame n) h = let le : n ≤ count = one
 accepted image z count s u o m fits OutOfMemory h = s OutOfMemory tt h
 
 -- what is verified, by a survey and the size of main's frame
-pub verified : (image : ImageView) (main_locals methods : ℕ) (kinds : List Kind) → IsSurvey image main_locals methods kinds → ((z count : ℕ) → Accepts image z → IsMainCount image count → KeepsSound image z count) →
-    0x8000 + main_locals ≤ 0x10000 → IsVerified image main_locals methods kinds
-verified image main_locals methods kinds s keeps fits =
-    let accepts : Accepts image 0x10000 = accepted image 0x10000 main_locals (s.decided 0x10000) (s.set 0x10000) (s.apart 0x10000) s.main fits in
+pub verified : (image : ImageView) (main_locals : ℕ) (map : MemoryMap) (methods : ℕ) (kinds : List Kind) → IsSurvey image main_locals methods kinds →
+    ((z count : ℕ) → Accepts image z → IsMainCount image count → KeepsSound image z count) → IsMap map.stack_end → 0x8000 + main_locals ≤ map.stack_end →
+    IsVerified (record { image = image; main_locals = main_locals; map = map }) methods kinds
+verified image main_locals map methods kinds s keeps map_is fits =
+    let accepts : Accepts image map.stack_end = accepted image map.stack_end main_locals (s.decided map.stack_end) (s.set map.stack_end) (s.apart map.stack_end) s.main fits in
     record {
-      accepted = record { accepts = accepts; main = s.main; main_fits = omega arith; safe = (keeps 0x10000 main_locals accepts s.main).safe };
+      accepted = record { map_is = map_is; accepts = accepts; main = s.main; main_fits = fits; safe = (keeps map.stack_end main_locals accepts s.main).safe };
       methods_are = s.methods_are;
       kinds_are = s.kinds_are;
     }
+
+-- no search refuses the size of main's frame
+pub no_frame : (image : ImageView) (e : VerifyError) (count : ℕ) → e ≡ MainFrame count → (e ≡ OutOfMemory) ⊎ Holds image (0x8000 + count) e → ⊥
+no_frame image e count is (inl out) = cc (is, out)
+no_frame image e count is (inr holds) = let w : Holds image (0x8000 + count) (MainFrame count) = subst (λ (x : VerifyError). Holds image (0x8000 + count) x) is holds in omega (arith, w.1)

@@ -1,6 +1,7 @@
 //! Verifying an image.
 
-ghost use Rattle.std.specs.Prelude.{◌≡◌, ◌⊎◌, ◌≤◌, IfOk, IfErr};
+ghost use Rattle.std.specs.Prelude.{◌≡◌, ◌≢◌, ◌⊎◌, ◌≤◌, ℕ, IfOk, IfErr};
+ghost use Rattle.console_port.specs.Map.{IsMap};
 ghost use Rattle.ijvm_paths.specs.Facts.{Holds};
 ghost use Rattle.ijvm_reach.specs.Search.{States};
 ghost use Rattle.ijvm_verifier.specs.Survey.{IsSurvey};
@@ -9,15 +10,12 @@ ghost use Rattle.ijvm_paths.specs.Accepted.{IsAccepted};
 use crate::count::count_locals;
 use crate::sweep::{count_methods, sweep_all};
 use crate::verified::VerifiedImage;
-use console_port::MemoryMap;
+use console_port::{FRAME, MemoryMap};
 use ijvm_image::Image;
 use ijvm_paths::{Kind, VerifyError, accepted_images_keep_sound};
 use ijvm_reach::{search_all, text_len};
 use ijvm_unset::{check_locals, graph_of};
 use std::alloc::Global;
-
-/// The word address of main's first local.
-const LOCALS: u32 = 0x8000;
 
 /// What the searches find in an image.
 #[derive(Drop)]
@@ -51,19 +49,22 @@ fn survey_of(alloc: Global, image: &Image) -> Result<Survey, VerifyError>
 
 /// The image, if it is accepted. A refused image is given up; where several facts of it are true, any one of them is told.
 pub fn verify(alloc: Global, image: Image, map: MemoryMap) -> Result<VerifiedImage, VerifyError>
-    requires { map ≡ MemoryMap.STANDARD }
+    requires { IsMap map.stack_end }
     ensures image { IfOk result (λ v. v.image ≡ image) }
+    ensures map { IfOk result (λ v. v.map ≡ map) }
     ensures accepted { IfOk result IsAccepted }
     ensures refused { IfErr result (λ e. (e ≡ VerifyError.OutOfMemory) ⊎ Holds image map.stack_end e) }
+    // The large map has room for all locals that main may name.
+    ensures large { map ≡ MemoryMap.LARGE → IfErr result (λ e. (count : ℕ) → e ≢ VerifyError.MainFrame count) }
 {
     accepted_images_keep_sound();
     match survey_of(alloc, &image) {
         Err(error) => Err(error),
         Ok(found) => {
-            if map.stack_end < LOCALS + found.main_locals {
+            if map.stack_end < FRAME + found.main_locals {
                 return Err(VerifyError::MainFrame(found.main_locals));
             }
-            Ok(VerifiedImage::new(image, found.main_locals, found.methods, found.kinds))
+            Ok(VerifiedImage::new(image, found.main_locals, map, found.methods, found.kinds))
         }
     }
 }

@@ -12,11 +12,12 @@ fn verified(
     alloc: Global,
     text: &[u8],
     pool: &[u32],
+    map: MemoryMap,
 ) -> Result<Result<VerifiedImage, VerifyError>, AllocError> {
     assert!(rt; text.len() <= 65536);
     assert!(rt; pool.len() <= 16384);
     let image = Image::new(Vec::from_slice(alloc, text)?, Vec::from_slice(alloc, pool)?);
-    Ok(verify(alloc, image, MemoryMap::STANDARD))
+    Ok(verify(alloc, image, map))
 }
 
 struct Refusal {
@@ -136,7 +137,13 @@ const REFUSALS: [Refusal; 20] = [
 #[test]
 fn refuses(rt: HostRuntime) -> Result<(), Fail> {
     for refusal in &REFUSALS {
-        match verified(&rt, rt.alloc(), refusal.text, refusal.pool)? {
+        match verified(
+            &rt,
+            rt.alloc(),
+            refusal.text,
+            refusal.pool,
+            MemoryMap::STANDARD,
+        )? {
             Ok(_) => assert!(rt; false, "accepted, but for {:?}", refusal.error),
             Err(error) => assert_eq!(rt; error, refusal.error),
         }
@@ -204,7 +211,7 @@ const ACCEPTED: [Accepted; 7] = [
 #[test]
 fn accepts(rt: HostRuntime) -> Result<(), Fail> {
     for image in &ACCEPTED {
-        match verified(&rt, rt.alloc(), image.text, image.pool)? {
+        match verified(&rt, rt.alloc(), image.text, image.pool, MemoryMap::STANDARD)? {
             Err(error) => assert!(rt; false, "refused by {error:?}"),
             Ok(verified) => {
                 assert_eq!(rt; verified.main_locals(), image.main_locals);
@@ -247,7 +254,7 @@ fn tells_kinds(rt: HostRuntime) -> Result<(), Fail> {
             }
         },
     }
-    match verified(&rt, rt.alloc(), b"\xFF\x00", &[])? {
+    match verified(&rt, rt.alloc(), b"\xFF\x00", &[], MemoryMap::STANDARD)? {
         Err(error) => assert!(rt; false, "refused by {error:?}"),
         Ok(free) => assert_eq!(rt; free.kind_at(1), Kind::Unreached),
     }
@@ -260,9 +267,27 @@ fn accepts_the_longest_jump(rt: HostRuntime) -> Result<(), Fail> {
     for byte in [0xA7, 0x80, 0x00] {
         text.push(byte)?;
     }
-    match verified(&rt, rt.alloc(), &text, &[])? {
+    match verified(&rt, rt.alloc(), &text, &[], MemoryMap::STANDARD)? {
         Err(error) => assert!(rt; false, "refused by {error:?}"),
         Ok(image) => assert_eq!(rt; image.kind_at(32768), Kind::Start),
+    }
+    Ok(())
+}
+
+#[test]
+fn the_large_map_has_room_for_more_locals(rt: HostRuntime) -> Result<(), Fail> {
+    // IN, ISTORE 40000, HALT
+    let text = b"\xFC\xC4\x36\x9C\x40\xFF";
+    match verified(&rt, rt.alloc(), text, &[], MemoryMap::STANDARD)? {
+        Ok(_) => assert!(rt; false, "accepted"),
+        Err(error) => assert_eq!(rt; error, VerifyError::MainFrame(40001)),
+    }
+    match verified(&rt, rt.alloc(), text, &[], MemoryMap::LARGE)? {
+        Err(error) => assert!(rt; false, "refused by {error:?}"),
+        Ok(image) => {
+            assert_eq!(rt; image.main_locals(), 40001);
+            assert_eq!(rt; image.map(), MemoryMap::LARGE);
+        }
     }
     Ok(())
 }

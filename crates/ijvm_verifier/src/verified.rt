@@ -1,10 +1,11 @@
 //! An accepted image.
 
-ghost use Rattle.std.specs.Prelude.{◌≡◌, ◌≤◌};
+ghost use Rattle.std.specs.Prelude.{◌≡◌, ◌+◌, ◌≤◌};
 ghost use Rattle.ijvm_paths.specs.Accepted.{IsAccepted};
 ghost use Rattle.ijvm_paths.specs.Facts.{IsMethodCount};
 ghost use Rattle.ijvm_paths.specs.Kinds.{IsKind};
 
+use console_port::MemoryMap;
 use ijvm_image::Image;
 use ijvm_paths::Kind;
 use std::marker::Model;
@@ -14,6 +15,7 @@ use std::marker::Model;
 pub struct VerifiedImage {
     image: Image,
     main_locals: u32,
+    map: MemoryMap,
     methods: u32,
     kinds: Vec<Kind>,
 }
@@ -23,28 +25,31 @@ impl Model for VerifiedImage {
 
     ghost Value = { VerifiedView };
 
-    ghost view = { λ v. record { image = v.image; main_locals = v.main_locals } };
+    ghost view = { λ v. record { image = v.image; main_locals = v.main_locals; map = v.map } };
 
-    ghost invariant = { λ v. IsVerified v.image v.main_locals v.methods v.kinds.items };
+    ghost invariant = { λ v. IsVerified (record { image = v.image; main_locals = v.main_locals; map = v.map }) v.methods v.kinds.items };
 }
 
 impl VerifiedImage {
-    ghost use Rattle.ijvm_paths.specs.Accepted.{IsVerified};
+    ghost use Rattle.ijvm_paths.specs.Accepted.{VerifiedView, IsVerified};
 
     pub(crate) fn new(
         image: Image,
         main_locals: u32,
+        map: MemoryMap,
         methods: u32,
         kinds: Vec<Kind>,
     ) -> VerifiedImage
-        requires { IsVerified image main_locals methods kinds.items }
+        requires { IsVerified (record { image = image; main_locals = main_locals; map = map }) methods kinds.items }
         ensures image { result.image ≡ image }
         ensures main_locals { result.main_locals ≡ main_locals }
+        ensures map { result.map ≡ map }
         ensures accepted { IsAccepted result }
     {
         VerifiedImage {
             image,
             main_locals,
+            map,
             methods,
             kinds,
         }
@@ -60,10 +65,18 @@ impl VerifiedImage {
     /// One more than the highest local that a reached instruction of main names, or 0.
     pub fn main_locals(&self) -> u32
         ensures is { result ≡ self.now.main_locals }
-        ensures fits { result ≤ 0x8000 }
+        ensures fits { 0x8000 + result ≤ self.now.map.stack_end }
         ensures accepted { IsAccepted self.now }
     {
         self.main_locals
+    }
+
+    /// The memory map for which it is accepted.
+    pub fn map(&self) -> MemoryMap
+        ensures is { result ≡ self.now.map }
+        ensures accepted { IsAccepted self.now }
+    {
+        self.map
     }
 
     /// What stands at the byte address.

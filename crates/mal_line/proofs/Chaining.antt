@@ -13,7 +13,7 @@ use Rattle.mal_line.specs.declared.operation.Operation.{Operation}
 use Rattle.mal_line.specs.declared.chain.Assignment.{Assignment}
 use Rattle.mal_line.specs.declared.chain.Tail.{Tail}
 use Rattle.mal_line.specs.declared.chain.Tail.TheVariants as tails
-use Rattle.mal_line.specs.Chains.{bit, dest_bits, dest_tokens, HasCoding, is_dest, is_expr, is_filled, IsLinked, tail_tokens}
+use Rattle.mal_line.specs.Chains.{bit, dest_bits, dest_tokens, HasCoding, is_dest, is_expr, is_filled, IsAssignment, tail_tokens}
 use Rattle.mal_line.specs.Lookup.{coding_of}
 use Rattle.mal_line.specs.Reading.{assigned, chain_at, dest_of, last, on_dest, shifting, tail_of}
 use Rattle.mal_line.proofs.Options.{and_parts, chosen, mapped}
@@ -77,6 +77,19 @@ tail_begins (tails.Left v) = refl
 tail_begins (tails.Right v) = refl
 
 -- ---- the expression
+
+-- the tokens are this assignment, where some destinations with these bits were read before
+record IsLinked (machine : Machine) (had : Bool) (before : ℕ) (ts : List Token) (a : Assignment) : Type 0 where
+  dests : List Word
+  body : List Token
+  tail : Tail
+  are : list_all is_dest dests ≡ true
+  some : (had || is_filled dests) ≡ true
+  expr : list_all is_expr body ≡ true
+  filled : (length body == 0) ≡ false
+  spelled : ts ≡ dest_tokens dests ++ (body ++ tail_tokens tail)
+  bits : a.dests ≡ dest_bits before dests
+  coded : HasCoding machine body tail a.operation
 
 has_coding : (m : Machine) (body : List Token) (t : Tail) → HasCoding m body t (coding_of m body t)
 has_coding m body t = go (coding_of m body t) refl
@@ -171,9 +184,9 @@ all_last m some dests (d ∷ ds) body t are all filled =
     go true = refl
     go false = refl
 
--- what is spelled is read
-pub chain_again : (m : Machine) (some : Bool) (dests : ℕ) (ts : List Token) (a : Assignment) → IsLinked m some dests ts a → chain_at m some dests ts ≡ Some a
-chain_again m some dests ts a l =
+-- what is spelled is read, behind such destinations
+linked_again : (m : Machine) (some : Bool) (dests : ℕ) (ts : List Token) (a : Assignment) → IsLinked m some dests ts a → chain_at m some dests ts ≡ Some a
+linked_again m some dests ts a l =
     let e = all_last m some dests l.dests l.body l.tail l.are l.expr l.filled in
     let x = assigned_at m (dest_bits dests l.dests) l.body l.tail l.expr l.filled in
     let o = same_coding m l.body l.tail a.operation l.coded in
@@ -216,14 +229,24 @@ more_linked m some dests t u rest w a d l = record {
   coded = l.coded;
 }
 
--- what is read is spelled
-pub chain_is : (m : Machine) (some : Bool) (dests : ℕ) (ts : List Token) (a : Assignment) → chain_at m some dests ts ≡ Some a → IsLinked m some dests ts a
+-- what is read behind such destinations is spelled
+chain_linked : (m : Machine) (some : Bool) (dests : ℕ) (ts : List Token) (a : Assignment) → chain_at m some dests ts ≡ Some a → IsLinked m some dests ts a
 unfolding chain_at Dests
-chain_is m some dests [] a h = last_linked m some dests [] a h
-chain_is m some dests (t ∷ []) a h = last_linked m some dests (t ∷ []) a h
-chain_is m some dests (t ∷ u ∷ rest) a h = go (dest_of t u) (dest_is t u) h (λ w k. chain_is m true (bit_or dests (bit w)) rest a k)
+chain_linked m some dests [] a h = last_linked m some dests [] a h
+chain_linked m some dests (t ∷ []) a h = last_linked m some dests (t ∷ []) a h
+chain_linked m some dests (t ∷ u ∷ rest) a h = go (dest_of t u) (dest_is t u) h (λ w k. chain_linked m true (bit_or dests (bit w)) rest a k)
   where
     go : (o : Option Word) → Dests t u o → on_dest o (λ w. chain_at m true (bit_or dests (bit w)) rest) (last m some dests (t ∷ u ∷ rest)) ≡ Some a
         → ((w : Word) → chain_at m true (bit_or dests (bit w)) rest ≡ Some a → IsLinked m true (bit_or dests (bit w)) rest a) → IsLinked m some dests (t ∷ u ∷ rest) a
     go (Some w) d k rec = more_linked m some dests t u rest w a d (rec w k)
     go None d k rec = last_linked m some dests (t ∷ u ∷ rest) a k
+
+-- what is spelled is read
+pub chain_again : (m : Machine) (ts : List Token) (a : Assignment) → IsAssignment m ts a → chain_at m false 0 ts ≡ Some a
+chain_again m ts a h = linked_again m false 0 ts a (record { dests = h.dests; body = h.body; tail = h.tail; are = h.are; some = h.some; expr = h.expr; filled = h.filled; spelled = h.spelled; bits = h.bits; coded = h.coded })
+
+-- what is read is spelled
+pub chain_is : (m : Machine) (ts : List Token) (a : Assignment) → chain_at m false 0 ts ≡ Some a → IsAssignment m ts a
+chain_is m ts a h =
+    let l : IsLinked m false 0 ts a = chain_linked m false 0 ts a h in
+    record { dests = l.dests; body = l.body; tail = l.tail; are = l.are; some = l.some; expr = l.expr; filled = l.filled; spelled = l.spelled; bits = l.bits; coded = l.coded }

@@ -8,3 +8,5 @@ pub mod Piecing
 pub mod Parting
 pub mod Lining
 pub mod Standing
+pub mod Destinations
+pub mod Rows

@@ -15,7 +15,8 @@ use Rattle.mal_line.specs.declared.line.LineFault.{LineFault}
 use Rattle.mal_line.specs.declared.line.LineFault.TheVariants as faults
 use Rattle.mal_line.specs.Statements.{is_semicolon, pieces}
 use Rattle.mal_line.specs.Reading.{add, adds, chain_at, dest_of, empty, head_of, piece_by, piece_of, tree_of}
-use Rattle.mal_line.specs.Lines.{behind_colon, content_of, fix_of, form_of, IsForm, IsRefused, labelled, line_of, names_foreign, said, said_by, Spells}
+use Rattle.mal_line.specs.Lines.{content_of, IsForm, IsRefused, names_foreign, Spells}
+use Rattle.mal_line.specs.Reading.{behind_colon, fix_of, form_of, labelled, line_of, said, said_by}
 use Rattle.mal_line.proofs.Options.{mapped}
 use Rattle.mal_line.proofs.Parting.{tree_again, tree_is}
 

@@ -1,7 +1,7 @@
 -- What stands between two semicolons is read exactly as it is spelled.
 use Rattle.std.proofs.Common.{◌≡◌, ℕ, Bool, true, false, List, [], ◌∷◌, ◌++◌, Option, Some, None, refl, sym, ap, subst, ◌∙◌, inl, inr, cond, eqb→eq}
 use Rattle.std.specs.Bool.{passes}
-use Rattle.std.specs.Prelude.{ℤ, pos, negsuc, option_map, ◌==◌, ◌||◌, ◌≢◌}
+use Rattle.std.specs.Prelude.{ℤ, pos, negsuc, option_map, ◌==◌, ◌≢◌}
 use Rattle.std.specs.List.{list_all}
 use Rattle.machine_words.specs.declared.machine.Machine.{Machine}
 use Rattle.micro_word.specs.declared.statement.Mem.{Mem}
@@ -276,7 +276,7 @@ piece_is m (t ∷ rest) p h = go (head_of t) (heads_is t) h
     go heads.Else e k = subst (λ u. IsPiece m p (u ∷ rest)) (sym e) (else_piece m rest p k)
     go heads.Other e k =
         let q = mapped (λ a. found.Assign a) (chain_at m false 0 (t ∷ rest)) p k in
-        subst (λ p. IsPiece m p (t ∷ rest)) q.2 (chain_is m false 0 (t ∷ rest) q.0 q.1)
+        subst (λ p. IsPiece m p (t ∷ rest)) q.2 (chain_is m (t ∷ rest) q.0 q.1)
 
 -- ---- what is spelled is read
 
@@ -313,13 +313,13 @@ dest_head w = elim w as (λ w. is_dest w ≡ true → head_of (tokens.Word w) �
 assign_again : (m : Machine) (ts : List Token) (a : Assignment) → IsAssignment m ts a → piece_of m ts ≡ Some (found.Assign a)
 assign_again m ts a l = go l.dests l.are l.some l.spelled
   where
-    go : (ds : List Word) → list_all is_dest ds ≡ true → (false || is_filled ds) ≡ true → ts ≡ dest_tokens ds ++ (l.body ++ tail_tokens l.tail) → piece_of m ts ≡ Some (found.Assign a)
+    go : (ds : List Word) → list_all is_dest ds ≡ true → is_filled ds ≡ true → ts ≡ dest_tokens ds ++ (l.body ++ tail_tokens l.tail) → piece_of m ts ≡ Some (found.Assign a)
     go [] are some e = absurd (cc)
     go (d ∷ ds) are some e =
         let p = and_parts (is_dest d) (list_all is_dest ds) are in
         let h = dest_head d p.0 in
         let rest = tokens.Sign signs.Equals ∷ (dest_tokens ds ++ (l.body ++ tail_tokens l.tail)) in
-        let c : chain_at m false 0 (tokens.Word d ∷ rest) ≡ Some a = ap (chain_at m false 0) (sym e) ∙ chain_again m false 0 ts a l in
+        let c : chain_at m false 0 (tokens.Word d ∷ rest) ≡ Some a = ap (chain_at m false 0) (sym e) ∙ chain_again m ts a l in
         ap (piece_of m) e ∙ (ap (λ x. piece_by m x (tokens.Word d) rest) h ∙ ap (option_map (λ a. found.Assign a)) c)
 
 mem_again : (m : Machine) (ts : List Token) (x : Mem) → IsMem ts x → piece_of m ts ≡ Some (found.Mem x)

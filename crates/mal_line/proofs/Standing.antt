@@ -1,16 +1,14 @@
 -- What a line says stands in a word of its machine.
 use Rattle.std.proofs.Common.{◌≡◌, ℕ, ◌<◌, Bool, true, false, List, [], ◌∷◌, Option, Some, None, refl, sym, ap, subst, ◌∙◌, arith, inl, inr, cond}
-use Rattle.std.specs.Prelude.{◌⊎◌, ◌&&◌, ◌||◌, not, nat_lt, bit_or, IsTrue}
+use Rattle.std.specs.Prelude.{◌⊎◌, ◌&&◌, ◌||◌, not, nat_lt, IsTrue}
 use Rattle.std.specs.List.{list_any, list_all, onto_first}
-use Rattle.std.proofs.lemmas.Nat.{or_lt}
 use Rattle.std.proofs.lemmas.Bool.Decides.{nat_tests}
 use Rattle.machine_words.specs.declared.machine.Machine.{Machine}
 use Rattle.machine_words.specs.declared.machine.Machine.TheVariants.{Mic1, Mic2}
 use Rattle.micro_word.specs.declared.statement.Part.{Part}
-use Rattle.micro_word.specs.Coding.{row}
+use Rattle.micro_word.specs.declared.statement.Mem.{Mem}
+use Rattle.micro_word.specs.Coding.{idle, row}
 use Rattle.micro_word.specs.Canonical.{fits_side, has_operation, is_mixed, is_part, may_be_a, may_be_b, may_fetch}
-use Rattle.mal_tokens.specs.declared.word.Word.{Word}
-use Rattle.mal_tokens.specs.declared.word.Word.TheVariants as words
 use Rattle.mal_tokens.specs.declared.sign.Sign.TheVariants as signs
 use Rattle.mal_tokens.specs.declared.token.Token.{Token}
 use Rattle.mal_tokens.specs.declared.token.Token.TheVariants as tokens
@@ -25,46 +23,11 @@ use Rattle.mal_line.specs.declared.content.Parts.{Parts}
 use Rattle.mal_line.specs.declared.line.Form.{Form}
 use Rattle.mal_line.specs.declared.line.Form.TheVariants as forms
 use Rattle.mal_line.specs.Expressions.{fits, part_with}
-use Rattle.mal_line.specs.Chains.{bit, dest_bits, HasCoding, IsAssignment}
+use Rattle.mal_line.specs.Chains.{HasCoding, IsAssignment}
 use Rattle.mal_line.specs.Statements.{AreParts, AreTree, assign, assignments, counted, fetch_count, fetches, is_semicolon, jump, Kind, listed, memory, nothing, pieces}
-use Rattle.mal_line.specs.Lines.{content_of, HasPart, idle, is_foreign, IsForm, names_foreign, next_of, part_by, part_of, parts_by, parts_of, Spells, with_access}
+use Rattle.mal_line.specs.Lines.{content_of, HasPart, is_foreign, IsForm, names_foreign, next_of, part_by, part_of, parts_by, parts_of, Spells, with_access}
 use Rattle.mal_line.proofs.Options.{mapped}
-
--- ---- the destinations
-
-bit_small : (w : Word) → bit w < 512
-bit_small w = elim w as (λ w. bit w < 512) [
-  | words.Mar ↦ omega arith
-  | words.Mdr ↦ omega arith
-  | words.Pc ↦ omega arith
-  | words.Sp ↦ omega arith
-  | words.Lv ↦ omega arith
-  | words.Cpp ↦ omega arith
-  | words.Tos ↦ omega arith
-  | words.Opc ↦ omega arith
-  | words.H ↦ omega arith
-  | words.Mbr ↦ omega arith
-  | words.Mbru ↦ omega arith
-  | words.Mbr1 ↦ omega arith
-  | words.Mbr1u ↦ omega arith
-  | words.Mbr2 ↦ omega arith
-  | words.Mbr2u ↦ omega arith
-  | words.N ↦ omega arith
-  | words.Z ↦ omega arith
-  | words.And ↦ omega arith
-  | words.Or ↦ omega arith
-  | words.Not ↦ omega arith
-  | words.Rd ↦ omega arith
-  | words.Wr ↦ omega arith
-  | words.Fetch ↦ omega arith
-  | words.Goto ↦ omega arith
-  | words.If ↦ omega arith
-  | words.Else ↦ omega arith
-]
-
-dests_small : (ds : List Word) (n : ℕ) → n < 512 → dest_bits n ds < 512
-dests_small [] n lt = lt
-dests_small (d ∷ ds) n lt = dests_small ds (bit_or n (bit d)) (or_lt 9 n (bit d) lt (bit_small d))
+use Rattle.mal_line.proofs.Destinations.{dest_bits-lt}
 
 -- ---- no word of the other machine
 
@@ -148,9 +111,9 @@ with_dests : (m : Machine) (o : Operation) (dests : ℕ) (fetch : Bool) → fits
 with_dests m o dests fetch f d g =
     together (nat_lt 0 512) (has_operation m o.op) (fits_side (row o.op).uses_a (may_be_a m) o.a) (fits_side (row o.op).uses_b (may_be_b m) o.b) (not (is_mixed o.a o.b)) (may_fetch m false) (nat_lt dests 512) (may_fetch m fetch) f d g
 
-idle_fits : (m : Machine) → fits m idle ≡ true
-idle_fits Mic1 = refl
-idle_fits Mic2 = refl
+idle_part : (m : Machine) (mem : Mem) (fetch : Bool) → may_fetch m fetch ≡ true → is_part m (record idle { mem = mem; fetch = fetch }) ≡ true
+idle_part Mic1 mem fetch h = refl
+idle_part Mic2 mem fetch h = h
 
 small : (n : ℕ) → n < 512 → nat_lt n 512 ≡ true
 small n lt = grind (arith, nat_tests)
@@ -161,12 +124,12 @@ part_is m ts t p a own h =
     subst (λ p. is_part m p ≡ true) q.2 (go t.assignment a.assignment q.0 q.1)
   where
     go : (o : Option Assignment) → assignments a.parts ≡ listed o → (q : Part) → part_by o ≡ Some q → is_part m (with_access t q) ≡ true
-    go None e q k = let s : part_with idle 0 ≡ q = cc in subst (λ q. is_part m (with_access t q) ≡ true) s (with_dests m idle 0 t.fetch (idle_fits m) refl (may m ts t a own))
+    go None e q k = let s : idle ≡ q = cc in subst (λ q. is_part m (with_access t q) ≡ true) s (idle_part m t.mem t.fetch (may m ts t a own))
     go (Some b) e q k =
         let s = mapped (λ o. part_with o b.dests) b.operation q k in
         let x = some_assign m (pieces ts) a.parts b a.are e in
         let f = subst (λ o. HasCoding m x.1.body x.1.tail o) s.1 x.1.coded in
-        let d : b.dests < 512 = subst (λ n. n < 512) (sym x.1.bits) (dests_small x.1.dests 0 (omega arith)) in
+        let d : b.dests < 512 = subst (λ n. n < 512) (sym x.1.bits) (dest_bits-lt x.1.dests 0 (omega arith)) in
         subst (λ q. is_part m (with_access t q) ≡ true) s.2 (with_dests m s.0 b.dests t.fetch f.fitting (small b.dests d) (may m ts t a own))
 
 parts_is : (m : Machine) (ts : List Token) (t : Tree) (p : Parts) → AreTree m ts t → names_foreign m ts ≡ false → parts_of t ≡ Some p → IsTrue (is_part m p.part)

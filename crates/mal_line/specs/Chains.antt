@@ -1,7 +1,11 @@
 -- Assignments `D=D=E`: which tokens they are.
-use Rattle.std.specs.Prelude.{◌≡◌, ℕ, Bool, true, false, List, [], ◌∷◌, ◌++◌, Option, Some, None, bit_or, fold, ◌==◌, ◌||◌, length}
+use Rattle.std.specs.Prelude.{◌≡◌, ◌↔◌, ◌<◌, ℕ, Bool, true, false, List, [], ◌∷◌, ◌++◌, Option, Some, None, is_some, bit_or, fold, ◌==◌, length, Contains, IsTrue}
+use Rattle.std.specs.Option.{option_map_or}
 use Rattle.std.specs.List.{list_all}
 use Rattle.machine_words.specs.declared.machine.Machine.{Machine}
+use Rattle.micro_word.specs.declared.destination.Destination.{Destination}
+use Rattle.micro_word.specs.declared.destination.Destination.TheVariants as registers
+use Rattle.micro_word.specs.Destinations.{loads, register_bit}
 use Rattle.mal_tokens.specs.declared.word.Word.{Word}
 use Rattle.mal_tokens.specs.declared.word.Word.TheVariants as words
 use Rattle.mal_tokens.specs.declared.sign.Sign.TheVariants as signs
@@ -13,32 +17,40 @@ use Rattle.mal_line.specs.declared.chain.Tail.{Tail}
 use Rattle.mal_line.specs.declared.chain.Tail.TheVariants as tails
 use Rattle.mal_line.specs.Expressions.{IsCoded}
 
+-- the word of each register that C loads
+abbrev pub register_word : Destination → Word
+register_word registers.H = words.H
+register_word registers.Opc = words.Opc
+register_word registers.Tos = words.Tos
+register_word registers.Cpp = words.Cpp
+register_word registers.Lv = words.Lv
+register_word registers.Sp = words.Sp
+register_word registers.Pc = words.Pc
+register_word registers.Mdr = words.Mdr
+register_word registers.Mar = words.Mar
+
+-- the register of a word
+abbrev pub register_of : Word → Option Destination
+register_of words.H = Some registers.H
+register_of words.Opc = Some registers.Opc
+register_of words.Tos = Some registers.Tos
+register_of words.Cpp = Some registers.Cpp
+register_of words.Lv = Some registers.Lv
+register_of words.Sp = Some registers.Sp
+register_of words.Pc = Some registers.Pc
+register_of words.Mdr = Some registers.Mdr
+register_of words.Mar = Some registers.Mar
+register_of _ = None
+
+-- the bit of C of a register's word; other words have none
+abbrev pub bit : Word → ℕ
+bit word = option_map_or register_bit (register_of word) 0
+
+-- a destination: a register that C loads; or N or Z, which assign nothing
 abbrev pub is_dest : Word → Bool
-is_dest words.Mar = true
-is_dest words.Mdr = true
-is_dest words.Pc = true
-is_dest words.Sp = true
-is_dest words.Lv = true
-is_dest words.Cpp = true
-is_dest words.Tos = true
-is_dest words.Opc = true
-is_dest words.H = true
 is_dest words.N = true
 is_dest words.Z = true
-is_dest _ = false
-
--- the C bit of a destination; N and Z assign nothing
-abbrev pub bit : Word → ℕ
-bit words.H = 256
-bit words.Opc = 128
-bit words.Tos = 64
-bit words.Cpp = 32
-bit words.Lv = 16
-bit words.Sp = 8
-bit words.Pc = 4
-bit words.Mdr = 2
-bit words.Mar = 1
-bit _ = 0
+is_dest word = is_some (register_of word)
 
 -- a register word, AND, OR or NOT
 abbrev pub is_expr_word : Word → Bool
@@ -75,27 +87,29 @@ abbrev pub is_filled : List Word → Bool
 is_filled [] = false
 is_filled (d ∷ ds) = true
 
+-- the bits of all of them: one that is named twice has its bit once
 abbrev pub dest_bits : ℕ → List Word → ℕ
 dest_bits = fold (λ bits d. bit_or bits (bit d))
+
+-- C loads the registers that are named, and no other
+pub record LoadsNamed (c : ℕ) (dests : List Word) : Type 0 where
+  pub within : c < 512
+  pub each : (register : Destination) → IsTrue (loads c register) ↔ Contains dests (register_word register)
 
 -- the coding of an expression with what stands behind it, or none where it has none
 abbrev pub HasCoding : Machine → List Token → Tail → Option Operation → Type 0
 HasCoding machine body tail (Some o) = IsCoded machine body tail o
 HasCoding machine body tail None = (o : Operation) → IsCoded machine body tail o → ⊥
 
--- the tokens are this assignment: one destination at least, each with its `=`, then an expression, then its tail; with some destinations before it
-pub record IsLinked (machine : Machine) (had : Bool) (before : ℕ) (ts : List Token) (a : Assignment) : Type 0 where
+-- the tokens are this assignment: one destination at least, each with its `=`, then an expression, then its tail
+pub record IsAssignment (machine : Machine) (ts : List Token) (a : Assignment) : Type 0 where
   pub dests : List Word
   pub body : List Token
   pub tail : Tail
   pub are : list_all is_dest dests ≡ true
-  pub some : (had || is_filled dests) ≡ true
+  pub some : is_filled dests ≡ true
   pub expr : list_all is_expr body ≡ true
   pub filled : (length body == 0) ≡ false
   pub spelled : ts ≡ dest_tokens dests ++ (body ++ tail_tokens tail)
-  pub bits : a.dests ≡ dest_bits before dests
+  pub bits : a.dests ≡ dest_bits 0 dests
   pub coded : HasCoding machine body tail a.operation
-
--- the tokens are this assignment
-abbrev pub IsAssignment : Machine → List Token → Assignment → Type 0
-IsAssignment machine ts a = IsLinked machine false 0 ts a

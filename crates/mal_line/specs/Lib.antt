@@ -1,6 +1,7 @@
 pub mod Expressions
+pub mod Table
 pub mod Chains
 pub mod Statements
+pub mod Lines
 pub mod Lookup
 pub mod Reading
-pub mod Lines

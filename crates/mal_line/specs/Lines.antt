@@ -1,18 +1,16 @@
 -- A line of the microassembly language: what its tokens spell on a machine, and why they are refused.
-use Rattle.std.specs.Prelude.{◌≡◌, ◌≢◌, IsTrue, ℕ, Bool, true, false, List, [], ◌∷◌, ◌⊎◌, Option, Some, None, Result, Ok, Err, if◌then◌else◌, option_map}
+use Rattle.std.specs.Prelude.{◌≡◌, ◌≢◌, IsTrue, Bool, true, false, List, [], ◌∷◌, ◌⊎◌, Option, Some, None, option_map}
 use Rattle.std.specs.List.{list_any}
 use Rattle.machine_words.specs.declared.machine.Machine.{Machine}
 use Rattle.machine_words.specs.declared.machine.Machine.TheVariants.{Mic1, Mic2}
-use Rattle.micro_word.specs.declared.statement.AluOp.TheVariants as ops
-use Rattle.micro_word.specs.declared.statement.Shift.TheVariants as shifts
 use Rattle.micro_word.specs.declared.statement.Part.{Part}
+use Rattle.micro_word.specs.Coding.{idle}
 use Rattle.micro_word.specs.Canonical.{is_part}
 use Rattle.mal_tokens.specs.declared.word.Word.{Word}
 use Rattle.mal_tokens.specs.declared.word.Word.TheVariants as words
 use Rattle.mal_tokens.specs.declared.sign.Sign.TheVariants as signs
 use Rattle.mal_tokens.specs.declared.token.Token.{Token}
 use Rattle.mal_tokens.specs.declared.token.Token.TheVariants as tokens
-use Rattle.mal_line.specs.declared.operation.Operation.{Operation}
 use Rattle.mal_line.specs.declared.chain.Assignment.{Assignment}
 use Rattle.mal_line.specs.declared.tree.Jump.{Jump}
 use Rattle.mal_line.specs.declared.tree.Jump.TheVariants as jumps
@@ -28,25 +26,23 @@ use Rattle.mal_line.specs.declared.line.LineFault.{LineFault}
 use Rattle.mal_line.specs.declared.line.LineFault.TheVariants as faults
 use Rattle.mal_line.specs.Expressions.{part_with}
 use Rattle.mal_line.specs.Statements.{AreTree}
-use Rattle.mal_line.specs.Reading.{tree_of}
 
 -- ---- the forms of a line
 
+-- the tokens follow the grammar in this form; an expression without a coding, and an OR with another number, stand in it as none
 abbrev pub IsForm : Machine → List Token → Form → Type 0
 IsForm machine ts forms.Nothing = ts ≡ []
 IsForm machine ts (forms.Fix label address) = ts ≡ tokens.Sign signs.Label ∷ tokens.Name label ∷ tokens.Number address ∷ []
 IsForm machine ts (forms.Fallback tree) = (rest : List Token) × (ts ≡ tokens.Sign signs.Default ∷ rest) × AreTree machine rest tree
 IsForm machine ts (forms.Statement None tree) = (ts ≢ []) × AreTree machine ts tree
-IsForm machine ts (forms.Statement (Some label) tree) = (rest : List Token) × ((ts ≡ tokens.Name label ∷ rest) ⊎ (ts ≡ tokens.Name label ∷ tokens.Sign signs.Colon ∷ rest)) × AreTree machine rest tree
+IsForm machine ts (forms.Statement (Some label) tree) =
+    (rest : List Token) × ((ts ≡ tokens.Name label ∷ rest) ⊎ (ts ≡ tokens.Name label ∷ tokens.Sign signs.Colon ∷ rest)) × AreTree machine rest tree
 
 -- ---- what a line of a form says
 
 -- a statement without an assignment computes nothing
-abbrev pub idle : Operation
-idle = record { op = ops.Zero; a = None; b = None; shift = shifts.None }
-
 abbrev pub part_by : Option Assignment → Option Part
-part_by None = Some (part_with idle 0)
+part_by None = Some idle
 part_by (Some a) = option_map (λ o. part_with o a.dests) a.operation
 
 abbrev pub with_access : Tree → Part → Part
@@ -112,40 +108,6 @@ abbrev pub IsRefused : Machine → List Token → LineFault → Type 0
 IsRefused machine ts faults.BadStatement = (form : Form) → IsForm machine ts form → ⊥
 IsRefused machine ts faults.WrongMachine = (form : Form) × IsForm machine ts form × (names_foreign machine ts ≡ true)
 IsRefused machine ts faults.NoSuchOperation = (form : Form) × IsForm machine ts form × (names_foreign machine ts ≡ false) × (content_of form ≡ None)
-
--- ---- how it is read
-
-abbrev pub fix_of : List Token → Option Form
-fix_of (tokens.Name label ∷ tokens.Number address ∷ []) = Some (forms.Fix label address)
-fix_of _ = None
-
-abbrev pub behind_colon : List Token → List Token
-behind_colon (tokens.Sign signs.Colon ∷ rest) = rest
-behind_colon rest = rest
-
-abbrev pub labelled : Machine → Option (List ℕ) → List Token → Option Form
-labelled machine label ts = option_map (λ tree. forms.Statement label tree) (tree_of machine ts)
-
-abbrev pub form_by : Machine → Token → List Token → Option Form
-form_by machine (tokens.Sign signs.Label) rest = fix_of rest
-form_by machine (tokens.Sign signs.Default) rest = option_map (λ tree. forms.Fallback tree) (tree_of machine rest)
-form_by machine (tokens.Name label) rest = labelled machine (Some label) (behind_colon rest)
-form_by machine first rest = labelled machine None (first ∷ rest)
-
-abbrev pub form_of : Machine → List Token → Option Form
-form_of machine [] = Some forms.Nothing
-form_of machine (first ∷ rest) = form_by machine first rest
-
-abbrev pub said : Option Content → Result Content LineFault
-said None = Err faults.NoSuchOperation
-said (Some content) = Ok content
-
-abbrev pub said_by : Machine → List Token → Option Form → Result Content LineFault
-said_by machine ts None = Err faults.BadStatement
-said_by machine ts (Some form) = if names_foreign machine ts then Err faults.WrongMachine else said (content_of form)
-
-unfoldable pub line_of : Machine → List Token → Result Content LineFault
-line_of machine ts = said_by machine ts (form_of machine ts)
 
 -- a statement that the line says stands in a word of the machine
 abbrev pub HasPart : Machine → Content → Type 0

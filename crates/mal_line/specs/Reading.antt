@@ -1,5 +1,5 @@
--- How the parts of a statement are read.
-use Rattle.std.specs.Prelude.{ℕ, Bool, true, false, List, [], ◌∷◌, Option, Some, None, if◌then◌else◌, ◌==◌, length, take, drop, bit_or, is_some, option_map, option_and_then}
+-- The reading of a line, token by token. It computes what `Lines` states: `line_of` answers what a line spells, or the first refusal that it has.
+use Rattle.std.specs.Prelude.{ℕ, Bool, true, false, List, [], ◌∷◌, Option, Some, None, Result, Ok, Err, if◌then◌else◌, ◌==◌, length, take, drop, bit_or, is_some, option_map, option_and_then}
 use Rattle.std.specs.List.{prefix_len}
 use Rattle.machine_words.specs.declared.machine.Machine.{Machine}
 use Rattle.micro_word.specs.declared.statement.Mem.{Mem}
@@ -23,6 +23,12 @@ use Rattle.mal_line.specs.declared.tree.Jump.TheVariants as jumps
 use Rattle.mal_line.specs.declared.tree.Tree.{Tree}
 use Rattle.mal_line.specs.declared.tally.Half.{Half}
 use Rattle.mal_line.specs.declared.tally.Tally.{Tally}
+use Rattle.mal_line.specs.declared.content.Content.{Content}
+use Rattle.mal_line.specs.declared.line.Form.{Form}
+use Rattle.mal_line.specs.declared.line.Form.TheVariants as forms
+use Rattle.mal_line.specs.declared.line.LineFault.{LineFault}
+use Rattle.mal_line.specs.declared.line.LineFault.TheVariants as faults
+use Rattle.mal_line.specs.Lines.{content_of, names_foreign}
 use Rattle.mal_line.specs.Lookup.{coding_of, is_number}
 use Rattle.mal_line.specs.Chains.{bit, is_dest, is_expr}
 use Rattle.mal_line.specs.Statements.{is_byte_word, pieces}
@@ -195,3 +201,37 @@ adds machine tally (x ∷ xs) = option_and_then (λ t. adds machine t xs) (add_t
 
 abbrev pub tree_of : Machine → List Token → Option Tree
 tree_of machine ts = adds machine (record { tree = empty; waiting = None }) (pieces ts)
+
+-- ---- a line
+
+abbrev pub fix_of : List Token → Option Form
+fix_of (tokens.Name label ∷ tokens.Number address ∷ []) = Some (forms.Fix label address)
+fix_of _ = None
+
+abbrev pub behind_colon : List Token → List Token
+behind_colon (tokens.Sign signs.Colon ∷ rest) = rest
+behind_colon rest = rest
+
+abbrev pub labelled : Machine → Option (List ℕ) → List Token → Option Form
+labelled machine label ts = option_map (λ tree. forms.Statement label tree) (tree_of machine ts)
+
+abbrev pub form_by : Machine → Token → List Token → Option Form
+form_by machine (tokens.Sign signs.Label) rest = fix_of rest
+form_by machine (tokens.Sign signs.Default) rest = option_map (λ tree. forms.Fallback tree) (tree_of machine rest)
+form_by machine (tokens.Name label) rest = labelled machine (Some label) (behind_colon rest)
+form_by machine first rest = labelled machine None (first ∷ rest)
+
+abbrev pub form_of : Machine → List Token → Option Form
+form_of machine [] = Some forms.Nothing
+form_of machine (first ∷ rest) = form_by machine first rest
+
+abbrev pub said : Option Content → Result Content LineFault
+said None = Err faults.NoSuchOperation
+said (Some content) = Ok content
+
+abbrev pub said_by : Machine → List Token → Option Form → Result Content LineFault
+said_by machine ts None = Err faults.BadStatement
+said_by machine ts (Some form) = if names_foreign machine ts then Err faults.WrongMachine else said (content_of form)
+
+unfoldable pub line_of : Machine → List Token → Result Content LineFault
+line_of machine ts = said_by machine ts (form_of machine ts)

@@ -42,9 +42,14 @@ is_byte_word _ = false
 
 -- `goto (MBR)`, or with an OR: `Some true` where its number is 0x100, `None` where it is another
 abbrev pub IsDispatch : List Token → Option Bool → Type 0
-IsDispatch ts (Some false) = (w : Word) × (is_byte_word w ≡ true) × (ts ≡ tokens.Word words.Goto ∷ tokens.Sign signs.Open ∷ tokens.Word w ∷ tokens.Sign signs.Close ∷ [])
-IsDispatch ts (Some true) = (w : Word) × (is_byte_word w ≡ true) × (ts ≡ tokens.Word words.Goto ∷ tokens.Sign signs.Open ∷ tokens.Word w ∷ tokens.Word words.Or ∷ tokens.Number (pos 256) ∷ tokens.Sign signs.Close ∷ [])
-IsDispatch ts None = (w : Word) × (v : ℤ) × (is_byte_word w ≡ true) × (v ≢ pos 256) × (ts ≡ tokens.Word words.Goto ∷ tokens.Sign signs.Open ∷ tokens.Word w ∷ tokens.Word words.Or ∷ tokens.Number v ∷ tokens.Sign signs.Close ∷ [])
+IsDispatch ts (Some false) =
+    (w : Word) × (is_byte_word w ≡ true) × (ts ≡ tokens.Word words.Goto ∷ tokens.Sign signs.Open ∷ tokens.Word w ∷ tokens.Sign signs.Close ∷ [])
+IsDispatch ts (Some true) =
+    (w : Word) × (is_byte_word w ≡ true)
+    × (ts ≡ tokens.Word words.Goto ∷ tokens.Sign signs.Open ∷ tokens.Word w ∷ tokens.Word words.Or ∷ tokens.Number (pos 256) ∷ tokens.Sign signs.Close ∷ [])
+IsDispatch ts None =
+    (w : Word) × (v : ℤ) × (is_byte_word w ≡ true) × (v ≢ pos 256)
+    × (ts ≡ tokens.Word words.Goto ∷ tokens.Sign signs.Open ∷ tokens.Word w ∷ tokens.Word words.Or ∷ tokens.Number v ∷ tokens.Sign signs.Close ∷ [])
 
 abbrev pub IsGoto : List Token → List ℕ → Type 0
 IsGoto ts label = ts ≡ tokens.Word words.Goto ∷ tokens.Name label ∷ []
@@ -55,7 +60,8 @@ test_word tests.Z = words.Z
 
 -- `if (N) goto T`, which a semicolon divides from `else goto F`
 abbrev pub IsIf : List Token → Test → List ℕ → Type 0
-IsIf ts test label = ts ≡ tokens.Word words.If ∷ tokens.Sign signs.Open ∷ tokens.Word (test_word test) ∷ tokens.Sign signs.Close ∷ tokens.Word words.Goto ∷ tokens.Name label ∷ []
+IsIf ts test label =
+    ts ≡ tokens.Word words.If ∷ tokens.Sign signs.Open ∷ tokens.Word (test_word test) ∷ tokens.Sign signs.Close ∷ tokens.Word words.Goto ∷ tokens.Name label ∷ []
 
 abbrev pub IsElse : List Token → List ℕ → Type 0
 IsElse ts label = ts ≡ tokens.Word words.Else ∷ tokens.Word words.Goto ∷ tokens.Name label ∷ []

@@ -1,12 +1,13 @@
+//! Assignments: their destinations, and the expression behind them.
 ghost use Rattle.std.specs.Prelude.{◌≡◌, ◌≤◌, false, length};
 ghost use Rattle.std.specs.List.{prefix_len};
-ghost use Rattle.mal_line.specs.Chains.{bit, is_dest, is_expr};
+ghost use Rattle.mal_line.specs.Chains.{bit, is_dest, is_expr, register_of};
 ghost use Rattle.mal_line.specs.Reading.{assigned, chain_at, dest_of, last, shifting, tail_of};
 
 use crate::expression::coding_of;
 use crate::operation::Operation;
 use mal_tokens::{Sign, Token, Word};
-use micro_word::Machine;
+use micro_word::{Destination, Machine};
 
 /// What may stand behind an expression: a shift and its number.
 #[derive(Clone, Copy)]
@@ -25,46 +26,55 @@ pub struct Assignment {
     pub operation: Option<Operation>,
 }
 
-/// A destination and its `=`.
-fn dest_of(token: Token, equals: Token) -> Option<Word>
-    ensures { result ≡ dest_of token equals }
+/// The register of a word, where C loads it.
+fn register_of(word: Word) -> Option<Destination>
+    ensures { result ≡ register_of word }
 {
-    match equals {
-        Token::Sign(Sign::Equals) => match token {
-            Token::Word(
-                word @ (Word::Mar
-                | Word::Mdr
-                | Word::Pc
-                | Word::Sp
-                | Word::Lv
-                | Word::Cpp
-                | Word::Tos
-                | Word::Opc
-                | Word::H
-                | Word::N
-                | Word::Z),
-            ) => Some(word),
-            _ => None,
-        },
+    match word {
+        Word::H => Some(Destination::H),
+        Word::Opc => Some(Destination::Opc),
+        Word::Tos => Some(Destination::Tos),
+        Word::Cpp => Some(Destination::Cpp),
+        Word::Lv => Some(Destination::Lv),
+        Word::Sp => Some(Destination::Sp),
+        Word::Pc => Some(Destination::Pc),
+        Word::Mdr => Some(Destination::Mdr),
+        Word::Mar => Some(Destination::Mar),
         _ => None,
     }
 }
 
-/// The C bit of a destination; N and Z assign nothing.
+/// The bit of C of a register's word; other words have none.
 pub fn bit(word: Word) -> u16
     ensures { result ≡ bit word }
 {
+    match register_of(word) {
+        Some(register) => register.bit(),
+        None => 0,
+    }
+}
+
+/// N and Z assign nothing.
+fn is_dest(word: Word) -> bool
+    ensures { result ≡ is_dest word }
+{
     match word {
-        Word::H => 256,
-        Word::Opc => 128,
-        Word::Tos => 64,
-        Word::Cpp => 32,
-        Word::Lv => 16,
-        Word::Sp => 8,
-        Word::Pc => 4,
-        Word::Mdr => 2,
-        Word::Mar => 1,
-        _ => 0,
+        Word::N | Word::Z => true,
+        _ => register_of(word).is_some(),
+    }
+}
+
+/// A destination and its `=`.
+fn dest_of(token: Token, equals: Token) -> Option<Word>
+    ensures { result ≡ dest_of token equals }
+{
+    match (token, equals) {
+        (Token::Word(word), Token::Sign(Sign::Equals)) => if is_dest(word) {
+            Some(word)
+        } else {
+            None
+        },
+        _ => None,
     }
 }
 

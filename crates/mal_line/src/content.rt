@@ -1,8 +1,8 @@
+//! What a line says, from its form.
 ghost use Rattle.std.specs.Prelude.{◌≡◌};
 ghost use Rattle.mal_line.specs.Lines.{content_of, next_of, part_of, parts_of, target_of};
 
 use crate::line::Form;
-use crate::operation::Operation;
 use crate::tree::{Jump, Tree};
 use mic_base::Name;
 use micro_word::{Part, Test};
@@ -38,7 +38,7 @@ fn part_of(tree: Tree) -> Option<Part>
     ensures { result ≡ part_of tree }
 {
     let part = match tree.assignment {
-        None => Operation::IDLE.part(0),
+        None => Part::IDLE,
         Some(assignment) => assignment.operation?.part(assignment.dests),
     };
     Some(Part {

@@ -1,3 +1,4 @@
+//! The coding of an expression, looked up by its tokens.
 ghost use Rattle.std.specs.Prelude.{◌≡◌};
 ghost use Rattle.micro_word.specs.Canonical.{is_h};
 ghost use Rattle.mal_line.specs.Lookup.{added, both, checked, coding_of, form_of, is_number, is_plus, joined, lone, negated, next_of, on_a, on_b, operand_of, opposite, paired, prefixed, shift_of, single, source_of, taken, with_shift, work};
@@ -242,7 +243,7 @@ fn shift_of(tail: Tail) -> Option<Shift>
 }
 
 /// The coding of an expression with what stands behind it.
-pub fn coding_of(machine: Machine, body: &[Token], tail: Tail) -> Option<Operation>
+pub(crate) fn coding_of(machine: Machine, body: &[Token], tail: Tail) -> Option<Operation>
     ensures { result ≡ coding_of machine body.now tail }
 {
     let shift = shift_of(tail)?;

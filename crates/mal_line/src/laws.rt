@@ -1,14 +1,33 @@
+//! What the reading of a line promises of all lines.
 ghost use Rattle.std.specs.Prelude.{◌≡◌, ◌↔◌, List, Ok, Err};
 ghost use Rattle.machine_words.specs.declared.machine.Machine.{Machine};
 ghost use Rattle.mal_tokens.specs.declared.token.Token.{Token};
+ghost use Rattle.mal_tokens.specs.declared.word.Word.{Word};
+ghost use Rattle.mal_line.specs.declared.chain.Tail.{Tail};
+ghost use Rattle.mal_line.specs.declared.operation.Operation.{Operation};
+ghost use Rattle.mal_line.specs.Expressions.{IsCoded, tail_with};
+ghost use Rattle.mal_line.specs.Table.{IsRow};
+ghost use Rattle.mal_line.specs.Chains.{dest_bits, LoadsNamed};
 ghost use Rattle.mal_line.specs.declared.content.Content.{Content};
 ghost use Rattle.mal_line.specs.declared.line.LineFault.{LineFault};
-ghost use Rattle.mal_line.specs.Lines.{HasPart, IsRefused, line_of, Spells};
+ghost use Rattle.mal_line.specs.Lines.{HasPart, IsRefused, Spells};
+ghost use Rattle.mal_line.specs.Reading.{line_of};
 
 /// A line is read as what it spells, and refused by the first refusal that it has: so it spells at most one thing, and
 /// what it spells is never refused. A statement that is spelled stands in a word of the machine.
 pub fn reads_what_is_spelled()
-    ensures spelled { (machine : Machine) (tokens : List Token) (content : Content) → (line_of machine tokens ≡ Ok content) ↔ Spells machine tokens content }
-    ensures refused { (machine : Machine) (tokens : List Token) (fault : LineFault) → (line_of machine tokens ≡ Err fault) ↔ IsRefused machine tokens fault }
-    ensures stands { (machine : Machine) (tokens : List Token) (content : Content) → Spells machine tokens content → HasPart machine content }
+    ensures spelled { (m : Machine) (ts : List Token) (content : Content) → (line_of m ts ≡ Ok content) ↔ Spells m ts content }
+    ensures refused { (m : Machine) (ts : List Token) (fault : LineFault) → (line_of m ts ≡ Err fault) ↔ IsRefused m ts fault }
+    ensures stands { (m : Machine) (ts : List Token) (content : Content) → Spells m ts content → HasPart m content }
+{}
+
+/// The bits of the destinations that are named load their registers, and no other.
+pub fn named_registers_are_loaded()
+    ensures { (dests : List Word) → LoadsNamed (dest_bits 0 dests) dests }
+{}
+
+/// An expression has a coding exactly where it is a row of the table, and then a shift by 8 to the left, by 1 to the right, or none.
+pub fn each_coding_is_a_row()
+    ensures row { (m : Machine) (body : List Token) (tail : Tail) (o : Operation) → IsCoded m body tail o → IsRow m body o }
+    ensures coded { (m : Machine) (body : List Token) (o : Operation) → IsRow m body o → IsCoded m body (tail_with o.shift) o }
 {}

@@ -1,5 +1,7 @@
-ghost use Rattle.std.specs.Prelude.{◌≡◌, ◌∷◌, IfOk};
-ghost use Rattle.mal_line.specs.Lines.{behind_colon, fix_of, form_of, HasPart, is_foreign, labelled, line_of, names_foreign};
+//! A line, by its form.
+ghost use Rattle.std.specs.Prelude.{◌≡◌, ◌∷◌, IfOk, IfErr};
+ghost use Rattle.mal_line.specs.Lines.{HasPart, is_foreign, IsRefused, names_foreign, Spells};
+ghost use Rattle.mal_line.specs.Reading.{behind_colon, fix_of, form_of, labelled, line_of};
 
 use crate::content::{Content, content_of};
 use crate::tally::tree_of;
@@ -83,13 +85,15 @@ fn names_foreign(machine: Machine, tokens: &[Token]) -> bool
 
 /// What the tokens of a line say, or the first refusal.
 pub fn line_of(machine: Machine, tokens: &[Token]) -> Result<Content, LineFault>
+    ensures spells { IfOk result (Spells machine tokens.now) }
+    ensures refused { IfErr result (IsRefused machine tokens.now) }
     ensures value { result ≡ line_of machine tokens.now }
     ensures part { IfOk result (HasPart machine) }
 {
     read(machine, tokens)
 }
 
-#[tactic(auto, unfolding(crate::specs::Lines::line_of))]
+#[tactic(auto, unfolding(crate::specs::Reading::line_of))]
 fn read(machine: Machine, tokens: &[Token]) -> Result<Content, LineFault>
     ensures { result ≡ line_of machine tokens.now }
 {

@@ -1,3 +1,4 @@
+//! What an expression is coded as.
 ghost use Rattle.std.specs.Prelude.{◌≡◌};
 
 use micro_word::{AluOp, BusSource, Mem, Part, Shift};
@@ -13,14 +14,6 @@ pub struct Operation {
 
 impl Operation {
     ghost use Rattle.mal_line.specs.Expressions.{part_with};
-
-    /// What a statement without an assignment does.
-    pub const IDLE: Operation = Operation {
-        op: AluOp::Zero,
-        a: None,
-        b: None,
-        shift: Shift::None,
-    };
 
     /// A statement of this operation and these destinations, with nothing else.
     pub fn part(self, dests: u16) -> Part

@@ -1,3 +1,4 @@
+//! The parts of a statement, gathered one by one.
 ghost use Rattle.std.specs.Prelude.{◌≡◌, ◌≤◌, length, not, None, Some};
 ghost use Rattle.std.specs.List.{prefix_len};
 ghost use Rattle.mal_line.specs.Reading.{add, add_behind, add_else, add_free, add_tokens, empty, ended, going, is_access, tree_of};

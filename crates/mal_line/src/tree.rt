@@ -1,3 +1,4 @@
+//! The parts of a statement, as they are written.
 use crate::chain::Assignment;
 use mic_base::Name;
 use micro_word::{Mem, Test};

@@ -1,8 +1,7 @@
 -- The refusals of a whole source.
 use Rattle.std.proofs.Common.{◌≡◌, ℕ, zero, suc, ◌+◌, ◌-◌, ◌≤◌, Bool, true, false, List, [], ◌∷◌, ◌++◌, Option, Some, None, length, refl, sym, ap, subst, ◌∙◌, arith, cond}
 use Rattle.std.specs.Prelude.{Err, find, slice_get, not, min, option_map, ◌||◌, ◌&&◌, IsSome}
-use Rattle.std.specs.List.{cons_option, list_any, position}
-use Rattle.std.proofs.lemmas.Bool.Decides.{nat_tests}
+use Rattle.std.specs.List.{cons_option, list_any}
 use Rattle.machine_words.specs.declared.machine.Machine.{Machine}
 use Rattle.mal_line.specs.declared.content.Content.{Content}
 use Rattle.mal_line.specs.declared.content.Content.TheVariants as said

@@ -1,6 +1,6 @@
 -- What a line says is what is read from it, and its refusal is that of its reading.
 use Rattle.std.proofs.Common.{◌≡◌, ℕ, List, ◌∷◌, Option, Some, None, refl, sym, ap, subst, ◌∙◌, inl, inr}
-use Rattle.std.specs.Prelude.{Result, Ok, Err, IfSome, false, ◌⊎◌}
+use Rattle.std.specs.Prelude.{Result, Ok, Err, IfSome, ◌⊎◌}
 use Rattle.machine_words.specs.declared.machine.Machine.{Machine}
 use Rattle.mal_tokens.specs.declared.token.Token.{Token}
 use Rattle.mal_tokens.specs.declared.token.Token.TheVariants as tokens
@@ -14,7 +14,7 @@ use Rattle.mal_line.specs.declared.content.Parts.{Parts}
 use Rattle.mal_line.specs.declared.line.LineFault.{LineFault}
 use Rattle.mal_line.specs.declared.line.Form.{Form}
 use Rattle.mal_line.specs.declared.line.Form.TheVariants as forms
-use Rattle.mal_line.specs.Lines.{line_of}
+use Rattle.mal_line.specs.Reading.{line_of}
 use Rattle.mal_line.specs.Lines as lines
 use Rattle.mal_parser.specs.declared.error.MalError.{MalError}
 use Rattle.mal_parser.specs.declared.error.MalError.TheVariants as errors

@@ -16,7 +16,8 @@ use Rattle.mal_line.specs.declared.content.Parts.{Parts}
 use Rattle.mal_line.specs.declared.line.LineFault.{LineFault}
 use Rattle.mal_line.specs.declared.line.LineFault.TheVariants as faults
 use Rattle.mal_line.specs.Lines as lines
-use Rattle.mal_line.specs.Lines.{HasPart, line_of}
+use Rattle.mal_line.specs.Lines.{HasPart}
+use Rattle.mal_line.specs.Reading.{line_of}
 use Rattle.mal_parser.specs.declared.error.MalError.{MalError}
 use Rattle.mal_parser.specs.declared.error.MalError.TheVariants as errors
 use Rattle.mal_parser.specs.declared.source.Draft.{Draft}

@@ -24,7 +24,7 @@ use Rattle.mal_tokens.specs.declared.token.Token.TheVariants as tokens
 use Rattle.mal_line.specs.declared.operation.Operation.{Operation}
 use Rattle.mal_line.specs.declared.chain.Assignment.{Assignment}
 use Rattle.mal_line.specs.Expressions as table
-use Rattle.mal_line.specs.Expressions.{fits, IsCoded, source_word, spelling, tail_with}
+use Rattle.mal_line.specs.Expressions.{fits, source_word, spelling, tail_with}
 use Rattle.mal_line.specs.Chains.{dest_bits, dest_tokens, is_dest, is_expr, is_expr_word, is_filled, IsAssignment, tail_tokens}
 use Rattle.mal_print.specs.declared.target.PrintedNext.{PrintedNext}
 use Rattle.mal_print.specs.declared.target.PrintedNext.TheVariants as nexts

@@ -1,3 +1,4 @@
+//! The control lines of the ALU.
 ghost use Rattle.std.specs.Prelude.{◌≡◌};
 
 /// The six control lines of the ALU.

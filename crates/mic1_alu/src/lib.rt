@@ -1,10 +1,10 @@
 //! The ALU of both datapaths, from six control lines and two words, and the shifter behind it.
 #![tactic(auto)]
 
-pub mod controls;
-pub mod gates;
-pub mod shifter;
-pub mod table;
+mod controls;
+mod gates;
+mod shifter;
+mod table;
 #[cfg(test)]
 mod tests;
 

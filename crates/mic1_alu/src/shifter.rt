@@ -1,3 +1,4 @@
+//! The shifter behind the ALU.
 ghost use Rattle.std.specs.Prelude.{◌≡◌};
 ghost use Rattle.micro_word.specs.Operation.{shifted};
 

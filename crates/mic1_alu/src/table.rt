@@ -1,3 +1,4 @@
+//! The table of operations, by the gates.
 ghost use Rattle.std.specs.Prelude.{◌≡◌, ◌<◌, ◌^◌, ℕ};
 ghost use Rattle.micro_word.specs.declared.statement.AluOp.{AluOp};
 ghost use Rattle.micro_word.specs.Coding.{row};

@@ -1,15 +1,23 @@
 -- What is prepared of a statement, with its accesses, is its microstep or its refusal.
-use Rattle.std.proofs.Common.{◌≡◌, ℕ, ◌==◌, ◌&&◌, IsTrue, Option, Some, None, length, refl, sym, ap, ◌∙◌}
-use Rattle.console_port.specs.World.{World, Refusal, console_at}
+use Rattle.std.proofs.Common.{◌≡◌, ℕ, ◌%◌, ◌≤◌, ◌==◌, ◌&&◌, Bool, true, false, IsTrue, List, [], ◌∷◌, ◌++◌, drop, Option, Some, None, Result, Err, length, inl, inr, refl, sym, ap, subst, ◌∙◌, arith}
+use Rattle.std.specs.Prelude.{nat_lt}
+use Rattle.std.proofs.lemmas.Bool.Decides.{nat_tests}
+use Rattle.console_port.specs.World.{World, Refusal, StackLimit, OutOfMap, fault_of, console_at, untaken_after, given_after}
 use Rattle.console_port.specs.Bus.{refused_by}
+use Rattle.console_port.specs.Console.{IsFault}
 use Rattle.console_port.specs.declared.fault.BusFault.{BusFault}
+use Rattle.machine_words.specs.declared.machine.Machine.TheVariants as machines
+use Rattle.micro_word.specs.Coding.{statement_of}
+use Rattle.micro_word.specs.declared.statement.Mem.{Mem}
+use Rattle.micro_word.specs.declared.statement.Mem.TheVariants as mems
 use Rattle.micro_word.specs.declared.statement.Placed.{Placed}
-use Rattle.mic_clock.specs.Meaning.{Outcome, Done, fault_in}
+use Rattle.mic_clock.specs.Meaning.{Outcome, Done, refusal_in, untaken_by, given_by, ReadsConsole, WritesConsole, UsesConsole}
 use Rattle.mic1_datapath.specs.Microstep.{ports_of, result_of, settled, moved, access_refusal, refusal, clock, world_after, word_under_way, byte_under_way, written, sampled}
 use Rattle.mic1_datapath.specs.Access.{IsAccess, is_read, is_access}
 use Rattle.mic1_datapath.specs.Prepared.{IsPrepared}
-use Rattle.mic1_datapath.specs.Mic1.{outcome, microstep}
+use Rattle.mic1_datapath.specs.Mic1.{outcome, microstep, step_of_word, mic1_meaning}
 use Rattle.mic1_datapath.specs.declared.micro.Micro.{Micro}
+use Rattle.mic1_datapath.specs.declared.ports.Ports.{Ports}
 use Rattle.mic1_datapath.specs.declared.prepare.Prepared.{Prepared}
 
 same_refusal : (s : Placed) (m : Micro) (p : Prepared) → IsPrepared s m p → (n : ℕ) → refusal n s m ≡ access_refusal n p.mem p.fetch p.ports
@@ -36,20 +44,84 @@ is_done s m p h w v n size word byte clear a t moves =
     ∙ (λ i. Done (moved_on s m (its_word i) (its_byte i)) (after i))
     ∙ ap (λ (x : Micro). Done x v) (sym moves)
 
-answered : (r : Option Refusal) (m : Micro) (w : World) → fault_in (outcome r m w) ≡ refused_by r
+answered : (r : Option Refusal) (m : Micro) (w : World) → refusal_in (outcome r m w) ≡ refused_by r
 answered (Some why) m w = refl
 answered None m w = refl
 
-pub is_refused : (s : Placed) (m : Micro) (p : Prepared) → IsPrepared s m p → (w : World) (n : ℕ) → length w.words ≡ n → (e : BusFault) →
-    refused_by (access_refusal n p.mem p.fetch p.ports) ≡ Some e → fault_in (microstep s m w) ≡ Some e
-is_refused s m p h w n size e refused =
-    ap (λ (k : ℕ). fault_in (step_on k s m w)) size
-    ∙ answered (refusal n s m) (clock n s m w) (world_after n s m w) ∙ ap refused_by (same_refusal s m p h n) ∙ refused
+module _ (s : Placed) (m : Micro) (p : Prepared) (h : IsPrepared s m p) (n : ℕ) (w : World) (size : length w.words ≡ n) where
+  -- the step's refusal is that of its accesses
+  pub step_refusal : refusal_in (microstep s m w) ≡ refused_by (access_refusal n p.mem p.fetch p.ports)
+  step_refusal =
+      ap (λ (k : ℕ). refusal_in (step_on k s m w)) size
+      ∙ answered (refusal n s m) (clock n s m w) (world_after n s m w) ∙ ap refused_by (same_refusal s m p h n)
 
-pub reads_too : (s : Placed) (m : Micro) (p : Prepared) → IsPrepared s m p →
-    IsTrue (is_read p.mem && p.ports.mar == console_at) → IsTrue (is_read s.part.mem && (settled s.part m).mar == console_at)
-reads_too s m p h t = sym (λ i. is_read (h.memory i) && (h.given i).mar == console_at) ∙ t
+  done_with : access_refusal n p.mem p.fetch p.ports ≡ None → microstep s m w ≡ Done (clock n s m w) (sampled n p.mem p.ports (written n p.mem p.ports w))
+  done_with clear =
+      ap (λ (k : ℕ). step_on k s m w) size
+      ∙ (ap (λ (r : Option Refusal). outcome r (clock n s m w) (world_after n s m w)) (same_refusal s m p h n ∙ clear)
+      ∙ sym (λ i. Done (clock n s m w) (sampled n (h.memory i) (h.given i) (written n (h.memory i) (h.given i) w))))
 
-pub uses_too : (s : Placed) (m : Micro) (p : Prepared) → IsPrepared s m p →
-    IsTrue (is_access p.mem && p.ports.mar == console_at) → IsTrue (is_access s.part.mem && (settled s.part m).mar == console_at)
-uses_too s m p h t = sym (λ i. is_access (h.memory i) && (h.given i).mar == console_at) ∙ t
+-- an access that is answered by a fault is not refused
+pub not_refused : {T : Type 0} (r : Option Refusal) (result : Result T BusFault) (e : BusFault) → result ≡ Err e → IsFault e →
+    ((f : BusFault) → refused_by r ≡ Some f → result ≡ Err f) → r ≡ None
+not_refused None result e is fault answers = refl
+not_refused (Some why) result e is fault answers = absurd (no_fault why (subst IsFault same fault))
+  where
+    same : e ≡ fault_of why
+    same = let a = answers (fault_of why) refl in cc
+
+    no_fault : (r : Refusal) → IsFault (fault_of r) → ⊥
+    no_fault (StackLimit at) f = f
+    no_fault (OutOfMap at) f = f
+
+both : (a b : Bool) → (a && b) ≡ true → a ≡ true
+both true b h = refl
+both false b h = absurd (cc)
+
+module _ (n : ℕ) (q : Ports) (behind : n ≤ q.mar) where
+  off : nat_lt q.mar n ≡ false
+  off = grind (arith, nat_tests)
+
+  takes : (mem : Mem) (w : World) → is_read mem ≡ true → (sampled n mem q (written n mem q w)).untaken ≡ drop 1 w.untaken
+  unfolding untaken_after
+  takes mems.Read w is = rw off
+  takes mems.Write w is = absurd (cc)
+  takes mems.None w is = absurd (cc)
+
+  gives : (w : World) → (written n mems.Write q w).given ≡ w.given ++ (q.mdr % 256) ∷ []
+  unfolding given_after
+  gives w = rw off
+
+module _ (word : ℕ) (m : Micro) (p : Prepared) (h : IsPrepared (statement_of machines.Mic1 word) m p) (n : ℕ) (w : World) (size : length w.words ≡ n)
+    (clear : access_refusal n p.mem p.fetch p.ports ≡ None) (behind : n ≤ p.ports.mar) where
+  reads_by : is_read p.mem ≡ true → ReadsConsole mic1_meaning word m w
+  unfolding step_of_word
+  reads_by is =
+      record {
+        takes = λ input.
+            ap untaken_by (done_with (statement_of machines.Mic1 word) m p h n (record w { untaken = input }) size clear)
+            ∙ ap Some (takes n p.ports behind p.mem (record w { untaken = input }) is);
+      }
+
+  writes_by : p.mem ≡ mems.Write → WritesConsole mic1_meaning word m w
+  unfolding step_of_word
+  writes_by is =
+      record {
+        byte = p.ports.mdr % 256;
+        gives =
+            ap given_by (done_with (statement_of machines.Mic1 word) m p h n w size clear)
+            ∙ (ap (λ (mem : Mem). Some (sampled n mem p.ports (written n mem p.ports w)).given) is ∙ ap Some (gives n p.ports behind w));
+      }
+
+  -- a failed read of the console is of a step that reads it
+  pub reads_console : IsTrue (is_read p.mem && p.ports.mar == console_at) → ReadsConsole mic1_meaning word m w
+  reads_console t = reads_by (both _ _ t)
+
+  -- a failed access of the console is of a step that reads or writes it
+  pub uses_console : IsTrue (is_access p.mem && p.ports.mar == console_at) → UsesConsole mic1_meaning word m w
+  uses_console t = by_mem p.mem refl (both _ _ t)
+    where
+      by_mem : (mem : Mem) → p.mem ≡ mem → is_access mem ≡ true → UsesConsole mic1_meaning word m w
+      by_mem mems.Read is a = inl (reads_by (ap is_read is))
+      by_mem mems.Write is a = inr (writes_by is)
+      by_mem mems.None is a = absurd (cc)

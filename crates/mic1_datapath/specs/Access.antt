@@ -1,6 +1,6 @@
 -- What the accesses of a cycle come to, by what the ports are given.
-use Rattle.std.specs.Prelude.{◌≡◌, ℕ, Bool, true, false, List, Option, Some, None}
-use Rattle.console_port.specs.World.{World, byte_in}
+use Rattle.std.specs.Prelude.{◌≡◌, ℕ, Bool, true, false, Option}
+use Rattle.console_port.specs.World.{World}
 use Rattle.micro_word.specs.declared.statement.Mem.{Mem}
 use Rattle.micro_word.specs.declared.statement.Mem.TheVariants as mems
 use Rattle.mic1_datapath.specs.Microstep.{written, sampled, word_under_way, byte_under_way}
@@ -11,10 +11,6 @@ pub record IsTransfer (stack_end : ℕ) (mem : Mem) (p : Ports) (w : World) (wor
   pub its_word : word ≡ word_under_way stack_end mem p (written stack_end mem p w)
   pub after : v ≡ sampled stack_end mem p (written stack_end mem p w)
   pub words : v.words ≡ (written stack_end mem p w).words
-
-abbrev pub byte_sampled : Bool → List ℕ → ℕ → Option ℕ
-byte_sampled true words at = Some (byte_in words at)
-byte_sampled false words at = None
 
 -- all accesses lead the world w to v, and this word and this byte are under way
 pub record IsAccess (stack_end : ℕ) (mem : Mem) (fetch : Bool) (p : Ports) (w : World) (word byte : Option ℕ) (v : World) : Type 0 where

@@ -1,6 +1,6 @@
 -- What Mic-1 means as a clocked machine: the microstep of the statement that a word spells.
 use Rattle.std.specs.Prelude.{ℕ, Bool, false, ◌&&◌, ◌==◌, Option, Some, None, length}
-use Rattle.console_port.specs.World.{World, Refusal, console_at}
+use Rattle.console_port.specs.World.{World, Refusal}
 use Rattle.micro_word.specs.declared.statement.Placed.{Placed}
 use Rattle.machine_words.specs.declared.machine.Machine.TheVariants as machines
 use Rattle.micro_word.specs.Coding.{statement_of}
@@ -11,14 +11,12 @@ use Rattle.mic_clock.specs.declared.buses.Computed.{Computed}
 use Rattle.mic_clock.specs.declared.registers.Registers.{Registers}
 use Rattle.mic_clock.specs.declared.registers.Start.{Start}
 use Rattle.mic_clock.specs.declared.registers.Tail.TheVariants.{Mbr}
-use Rattle.mic_clock.specs.Meaning.{Meaning, Outcome, Done, Refused}
-use Rattle.mic1_datapath.specs.Microstep.{source, result_of, settled, clock, world_after, refusal}
-use Rattle.mic1_datapath.specs.Access.{is_read, is_access}
+use Rattle.mic_clock.specs.Meaning.{Meaning, Outcome, Done, unless_refused}
+use Rattle.mic1_datapath.specs.Microstep.{source, result_of, clock, world_after, refusal}
 use Rattle.mic1_datapath.specs.declared.micro.Micro.{Micro}
 
 abbrev pub outcome : Option Refusal → Micro → World → Outcome Micro
-outcome (Some why) m w = Refused why
-outcome None m w = Done m w
+outcome refusal m w = unless_refused refusal (Done m w)
 
 abbrev pub microstep : Placed → Micro → World → Outcome Micro
 microstep s m w = outcome (refusal (length w.words) s m) (clock (length w.words) s m w) (world_after (length w.words) s m w)
@@ -63,16 +61,6 @@ computed word m =
     let x = result_of (statement_of machines.Mic1 word).part m in
     record { alu = record { value = x; n = is_negative x; z = x == 0 }; c = shifted (statement_of machines.Mic1 word).part.shift x }
 
-unfoldable pub reads_console : ℕ → Micro → Bool
-reads_console word m =
-    let part = (statement_of machines.Mic1 word).part in
-    is_read part.mem && (settled part m).mar == console_at
-
-unfoldable pub uses_console : ℕ → Micro → Bool
-uses_console word m =
-    let part = (statement_of machines.Mic1 word).part in
-    is_access part.mem && (settled part m).mar == console_at
-
 -- After a first cycle an instruction begins where MPC is the address of Main1, and PC is its address.
 abbrev pub mic1_meaning : Meaning Micro
 mic1_meaning =
@@ -85,6 +73,4 @@ mic1_meaning =
       registers = registers_of;
       is_boundary = λ m. m.clocked && m.mpc == m.entry;
       address = λ m. m.pc;
-      reads_console = reads_console;
-      uses_console = uses_console;
     }

@@ -1,8 +1,10 @@
 -- The microstep of Mic-1 (chapter 4; the order of events at the clock edge is this profile's). A statement assigns whole words; `clock` is total, and `refusal` looks at addresses alone.
-use Rattle.std.specs.Prelude.{ℕ, ◌+◌, ◌/◌, ◌%◌, Bool, true, false, if◌then◌else◌, ◌==◌, Option, Some, None}
+use Rattle.std.specs.Prelude.{ℕ, ◌+◌, Bool, true, false, if◌then◌else◌, ◌==◌, Option, Some, None}
 use Rattle.machine_words.specs.Arithmetic.{is_negative, signed_byte}
 use Rattle.micro_word.specs.Operation.{alu, shifted}
 use Rattle.console_port.specs.World.{World, Refusal, after_write, after_read, read_value, byte_in, write_refusal, read_refusal, fetch_refusal}
+use Rattle.micro_word.specs.Destinations.{loads}
+use Rattle.micro_word.specs.declared.destination.Destination.TheVariants as registers
 use Rattle.micro_word.specs.declared.statement.BusSource.{BusSource}
 use Rattle.micro_word.specs.declared.statement.BusSource.TheVariants as sources
 use Rattle.micro_word.specs.declared.statement.Mem.{Mem}
@@ -42,10 +44,6 @@ result_of part m = alu part.op m.h (source part.b m)
 
 -- 2. The destinations become the shifted result. Then an arriving word becomes MDR and an arriving byte MBR.
 
--- whether the destination with this bit's worth is named: H 256, OPC, TOS, CPP, LV, SP, PC, MDR, MAR 1
-abbrev pub has : ℕ → ℕ → Bool
-has dests worth = dests / worth % 2 == 1
-
 abbrev pub arrived : Option ℕ → ℕ → ℕ
 arrived None x = x
 arrived (Some y) x = y
@@ -53,15 +51,15 @@ arrived (Some y) x = y
 abbrev pub assigned : ℕ → ℕ → Micro → Micro
 assigned dests v m =
     record {
-      mar = if has dests 1 then v else m.mar;
-      mdr = arrived m.word (if has dests 2 then v else m.mdr);
-      pc = if has dests 4 then v else m.pc;
-      sp = if has dests 8 then v else m.sp;
-      lv = if has dests 16 then v else m.lv;
-      cpp = if has dests 32 then v else m.cpp;
-      tos = if has dests 64 then v else m.tos;
-      opc = if has dests 128 then v else m.opc;
-      h = if has dests 256 then v else m.h;
+      mar = if loads dests registers.Mar then v else m.mar;
+      mdr = arrived m.word (if loads dests registers.Mdr then v else m.mdr);
+      pc = if loads dests registers.Pc then v else m.pc;
+      sp = if loads dests registers.Sp then v else m.sp;
+      lv = if loads dests registers.Lv then v else m.lv;
+      cpp = if loads dests registers.Cpp then v else m.cpp;
+      tos = if loads dests registers.Tos then v else m.tos;
+      opc = if loads dests registers.Opc then v else m.opc;
+      h = if loads dests registers.H then v else m.h;
       mbr = arrived m.byte m.mbr;
       mpc = m.mpc;
       word = None;

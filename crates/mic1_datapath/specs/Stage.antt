@@ -1,5 +1,5 @@
 -- The phase in which each of the four calls comes next.
-use Rattle.mic_clock.specs.Meaning.{Phase, AtRest, SetUp, Driven, Settled}
+use Rattle.mic_clock.specs.Meaning.{Phase, AtRest, SetUp, Driven, AtEdge}
 use Rattle.mic1_datapath.specs.declared.stage.Stage.{Stage}
 use Rattle.mic1_datapath.specs.declared.stage.Stage.TheVariants as stages
 
@@ -7,4 +7,4 @@ abbrev pub phase_of : Stage → Phase
 phase_of stages.Setup = AtRest
 phase_of stages.Drive = SetUp
 phase_of stages.Compute = Driven
-phase_of stages.Edge = Settled
+phase_of stages.Edge = AtEdge

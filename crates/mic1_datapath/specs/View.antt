@@ -12,5 +12,5 @@ abbrev pub phase : Mic1 → Phase
 phase t = phase_of t.stage
 
 -- the microinstruction that was set up last
-abbrev pub word_of : Mic1 → ℕ
-word_of t = t.word
+abbrev pub microinstruction_of : Mic1 → ℕ
+microinstruction_of t = t.word

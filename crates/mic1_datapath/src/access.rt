@@ -1,12 +1,13 @@
 //! The accesses of a cycle: their addresses are tested before anything is changed.
 
-ghost use Rattle.std.specs.Prelude.{◌≡◌, ◌==◌, ◌&&◌, ◌<◌, ℕ, Bool, List, Option, Some, None, length, OnOk, IfOk, IfErr, IsErrOf, IsTrue};
+ghost use Rattle.std.specs.Prelude.{◌≡◌, ◌≢◌, IsSome, ◌==◌, ◌&&◌, ◌≤◌, ℕ, List, Some, None, Err, length, OnOk, IfOk, OnErr, IfErr, IsErrOf, IsTrue};
 ghost use Rattle.mic_base.specs.Streams.{Holds};
 ghost use Rattle.console_port.specs.World.{World, console_at};
 ghost use Rattle.console_port.specs.Bus.{Shows, Stands, IsLed, ChangesOnly, refused_by};
-ghost use Rattle.console_port.specs.Console.{IsFault, HasFaultCause};
-ghost use Rattle.mic1_datapath.specs.Microstep.{memory_refusal, byte_refusal, access_refusal, written, sampled, word_under_way};
-ghost use Rattle.mic1_datapath.specs.Access.{IsAccess, IsTransfer, byte_sampled, is_read, is_access};
+ghost use Rattle.console_port.specs.Console.{IsFault, HasFaultCause, StaysFlushed};
+ghost use Rattle.mic_clock.specs.Edge.{AsksNoMore};
+ghost use Rattle.mic1_datapath.specs.Microstep.{memory_refusal, byte_refusal, access_refusal, byte_under_way};
+ghost use Rattle.mic1_datapath.specs.Access.{IsAccess, IsTransfer, is_read, is_access};
 
 use crate::ports::Ports;
 use console_port::{Bus, BusFault};
@@ -57,14 +58,19 @@ fn transfer<S: Source, K: Sink>(
     sink: &mut K,
 ) -> Result<Option<u32>, BusFault>
     requires { memory_refusal (length bus.old.words) mem ports.now.mar ≡ None }
-    ensures ok { IfOk result (λ word. IsLed (S.left source.old) (K.held sink.old) bus.old (S.left source.new) (K.held sink.new) bus.new (λ w v. IsTransfer (length bus.old.words) mem ports.now w word v)) }
+    ensures ok { IfOk result (λ word. IsLed (S.left source.old) (K.held sink.old) bus.old (S.left source.new) (K.held sink.new) bus.new
+        (λ w v. IsTransfer (length bus.old.words) mem ports.now w word v)) }
     ensures others { OnOk result (ChangesOnly ports.now.mar bus.old.words bus.new.words) }
     ensures size { length bus.new.words ≡ length bus.old.words }
     ensures fault { IfErr result IsFault }
+    ensures behind { OnErr result (length bus.old.words ≤ ports.now.mar) }
     ensures stands { IfErr result (Stands (S.left source.old) (K.held sink.old) bus.old (S.left source.new) (K.held sink.new) bus.new) }
     ensures reads { IsErrOf result BusFault.ReadFault → IsTrue (is_read mem && ports.now.mar == console_at) }
     ensures uses { IsErrOf result BusFault.WriteFault → IsTrue (is_access mem && ports.now.mar == console_at) }
     ensures keeps { (front : List ℕ) → Holds front (K.held sink.old) → Holds front (K.held sink.new) }
+    ensures asked_no_more { AsksNoMore bus.old.console.ended source.old bus.new.console.ended source.new }
+    ensures tells { IsSome (K.held sink.old) → IsSome (K.held sink.new) }
+    ensures flushed { result ≢ Err BusFault.WriteFault → StaysFlushed (K.held sink.old) (K.passed sink.old) (K.held sink.new) (K.passed sink.new) }
     ensures cause { HasFaultCause (S.faults source.old) (S.faults source.new) (K.faults sink.old) (K.faults sink.new) result }
 {
     match mem {
@@ -81,11 +87,15 @@ fn transfer<S: Source, K: Sink>(
 }
 
 #[tactic(auto, unfolding(console_port::specs::World::fetch_refusal))]
-fn sample(bus: &Bus, fetch: bool, at: u32) -> Option<u8>
-    requires { byte_refusal (length bus.now.words) fetch at ≡ None }
-    ensures { result ≡ byte_sampled fetch bus.now.words at }
+fn sample(bus: &Bus, fetch: bool, ports: &Ports) -> Option<u8>
+    requires { byte_refusal (length bus.now.words) fetch ports.now.pc ≡ None }
+    ensures { (w : World) → w.words ≡ bus.now.words → result ≡ byte_under_way fetch ports.now w }
 {
-    if fetch { Some(bus.byte(at)) } else { None }
+    if fetch {
+        Some(bus.byte(ports.pc))
+    } else {
+        None
+    }
 }
 
 /// Does what a cycle does on the bus.
@@ -98,17 +108,23 @@ pub fn access<S: Source, K: Sink>(
     sink: &mut K,
 ) -> Result<Sampled, BusFault>
     ensures allowed { OnOk result (access_refusal (length bus.old.words) mem fetch ports.now ≡ None) }
-    ensures ok { IfOk result (λ x. IsLed (S.left source.old) (K.held sink.old) bus.old (S.left source.new) (K.held sink.new) bus.new (λ w v. IsAccess (length bus.old.words) mem fetch ports.now w x.word x.byte v)) }
+    ensures ok { IfOk result (λ x. IsLed (S.left source.old) (K.held sink.old) bus.old (S.left source.new) (K.held sink.new) bus.new
+        (λ w v. IsAccess (length bus.old.words) mem fetch ports.now w x.word x.byte v)) }
     ensures others { OnOk result (ChangesOnly ports.now.mar bus.old.words bus.new.words) }
+    ensures refusal { (e : BusFault) → refused_by (access_refusal (length bus.old.words) mem fetch ports.now) ≡ Some e → result ≡ Err e }
+    ensures behind { IfErr result (λ e. IsFault e → length bus.old.words ≤ ports.now.mar) }
     ensures refused { IfErr result (λ e. (IsFault e → ⊥) → refused_by (access_refusal (length bus.old.words) mem fetch ports.now) ≡ Some e) }
     ensures stands { IfErr result (Stands (S.left source.old) (K.held sink.old) bus.old (S.left source.new) (K.held sink.new) bus.new) }
     ensures reads { IsErrOf result BusFault.ReadFault → IsTrue (is_read mem && ports.now.mar == console_at) }
     ensures uses { IsErrOf result BusFault.WriteFault → IsTrue (is_access mem && ports.now.mar == console_at) }
     ensures keeps { (front : List ℕ) → Holds front (K.held sink.old) → Holds front (K.held sink.new) }
+    ensures asked_no_more { AsksNoMore bus.old.console.ended source.old bus.new.console.ended source.new }
+    ensures tells { IsSome (K.held sink.old) → IsSome (K.held sink.new) }
+    ensures flushed { result ≢ Err BusFault.WriteFault → StaysFlushed (K.held sink.old) (K.passed sink.old) (K.held sink.new) (K.passed sink.new) }
     ensures cause { HasFaultCause (S.faults source.old) (S.faults source.new) (K.faults sink.old) (K.faults sink.new) result }
 {
     check(bus, mem, fetch, ports)?;
     let word = transfer(mem, ports, bus, source, sink)?;
-    let byte = sample(bus, fetch, ports.pc);
+    let byte = sample(bus, fetch, ports);
     Ok(Sampled { word, byte })
 }

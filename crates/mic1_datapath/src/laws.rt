@@ -9,7 +9,12 @@ ghost use Rattle.micro_word.specs.Canonical.{is_valid};
 ghost use Rattle.mic1_datapath.specs.Mic1.{step_of_word, microstep};
 ghost use Rattle.mic1_datapath.specs.declared.micro.Micro.{Micro};
 
+use machine_words::Machine;
+use micro_word::statement_law;
+
 /// The step of a valid statement's word is the microstep of the statement.
 pub fn step_law()
     ensures { (s : Placed) → IsTrue (is_valid Mic1 s) → (m : Micro) (w : World) → step_of_word (word_of Mic1 s) m w ≡ microstep s m w }
-{}
+{
+    statement_law(Machine::Mic1);
+}

@@ -1,7 +1,7 @@
-ghost use Rattle.std.specs.Prelude.{◌≡◌, ◌<◌, IsTrue};
+ghost use Rattle.std.specs.Prelude.{◌≡◌, ◌<◌, IsTrue, refl};
 ghost use Rattle.machine_words.specs.declared.machine.Machine.TheVariants.{Mic1 as Mic1Machine};
 ghost use Rattle.micro_word.specs.Canonical.{is_canonical};
-ghost use Rattle.mic_clock.specs.Meaning.{Driven, Settled};
+ghost use Rattle.mic_clock.specs.Meaning.{Driven, AtEdge};
 ghost use Rattle.mic1_datapath.specs.Stage.{phase_of};
 ghost use Rattle.mic1_datapath.specs.Mic1.{initial as initial_of, driven, computed as computed_of};
 
@@ -15,7 +15,6 @@ use crate::stage::Stage;
 use console_port::{Bus, BusFault};
 use mic_base::{Sink, Source};
 use mic_clock::{Clocked, Computed, Drive, Registers, Start, Tail};
-use mic1_alu::AluOut;
 use micro_word::{Machine, Store, Word1, fields1};
 
 /// The word of `goto 0x000`.
@@ -35,7 +34,7 @@ pub struct Mic1 {
     ghost small: { micro.mpc < 512 },
     ghost canonical: { IsTrue (is_canonical Mic1Machine word) },
     ghost drove: { phase_of stage ≡ Driven → drive ≡ driven word micro },
-    ghost settled: { phase_of stage ≡ Settled → computed ≡ computed_of word micro },
+    ghost settled: { phase_of stage ≡ AtEdge → computed ≡ computed_of word micro },
 }
 
 fn initial(start: &Start) -> Micro
@@ -78,19 +77,8 @@ impl Mic1 {
             }),
             stage: Stage::Setup,
             word: IDLE,
-            drive: Drive {
-                a: 0,
-                b: 0,
-                stalled: false,
-            },
-            computed: Computed {
-                alu: AluOut {
-                    value: 0,
-                    n: false,
-                    z: false,
-                },
-                c: 0,
-            },
+            drive: Drive::ZERO,
+            computed: Computed::ZERO,
         }
     }
 }
@@ -98,7 +86,7 @@ impl Mic1 {
 impl Clocked for Mic1 {
     ghost use Rattle.mic1_datapath.specs.declared.micro.Micro.{Micro};
     ghost use Rattle.mic1_datapath.specs.Mic1.{mic1_meaning};
-    ghost use Rattle.mic1_datapath.specs.View.{micro_of, phase, word_of};
+    ghost use Rattle.mic1_datapath.specs.View.{micro_of, phase, microinstruction_of};
 
     type Word = Word1;
 
@@ -110,7 +98,7 @@ impl Clocked for Mic1 {
 
     ghost phase = { phase };
 
-    ghost latched = { word_of };
+    ghost word = { microinstruction_of };
 
     fn machine(&self) -> Machine {
         Machine::Mic1
@@ -197,4 +185,6 @@ impl Clocked for Mic1 {
     fn mpc(&self) -> u16 {
         self.micro.mpc
     }
+
+    ghost its_words = { refl };
 }

@@ -8,8 +8,9 @@ ghost use Rattle.machine_words.specs.Arithmetic.{is_negative};
 ghost use Rattle.mic1_datapath.specs.Microstep.{target};
 ghost use Rattle.mic1_datapath.specs.Jam.{low_bits, high_bit, jammed};
 
+use machine_words::Machine;
 use mic1_alu::AluOut;
-use micro_word::fields1;
+use micro_word::{fields1, statement_law, word_law};
 
 /// With JMPC the low bits are those of Addr OR MBR.
 fn low_part(addr: u16, jam: u8, mbr: u8) -> u16
@@ -49,6 +50,8 @@ pub fn next_address(word: u64, out: AluOut, mbr: u8) -> u16
     ensures next { result ≡ target (statement_of Mic1 word).next out.value mbr }
     ensures small { result < 512 }
 {
+    word_law(Machine::Mic1);
+    statement_law(Machine::Mic1);
     let fields = fields1(word);
     jam_bits(fields.addr, fields.jam, out, mbr)
 }

@@ -7,8 +7,9 @@ ghost use Rattle.micro_word.specs.Coding.{shift_of, statement_of};
 ghost use Rattle.machine_words.specs.Arithmetic.{is_negative};
 ghost use Rattle.micro_word.specs.Operation.{alu, shifted};
 
-use mic1_alu::{AluOut, Controls, alu as gates, shift};
-use micro_word::{Shift, fields1};
+use machine_words::Machine;
+use mic1_alu::{AluOut, Controls, alu as gates, each_row_computes, shift};
+use micro_word::{Shift, fields1, word_law};
 
 /// What the gates give of the two buses.
 pub fn operate(word: u64, a: u32, b: u32) -> AluOut
@@ -17,6 +18,8 @@ pub fn operate(word: u64, a: u32, b: u32) -> AluOut
     ensures n { result.n ≡ is_negative result.value }
     ensures z { result.z ≡ (result.value == 0) }
 {
+    word_law(Machine::Mic1);
+    each_row_computes();
     gates(Controls::from_bits(fields1(word).gates), a, b)
 }
 

@@ -1,15 +1,15 @@
 -- How a run goes on on a board, and where a fault cuts it.
-use Rattle.std.proofs.Common.{◌≡◌, ◌⊎◌, inl, inr, suc, ℕ, List, Bool, Option, Some, None, IsSome, IsTrue, refl, sym, ◌∙◌, ap, subst}
+use Rattle.std.proofs.Common.{◌≡◌, ◌⊎◌, inl, inr, zero, suc, ℕ, ◌+◌, List, Bool, Option, Some, None, IsSome, refl, sym, ◌∙◌, ap, subst}
 use Rattle.console_port.specs.Console.{IsLost, Untaken}
 use Rattle.console_port.specs.declared.fault.BusFault.TheVariants as faults
 use Rattle.mic_clock.specs.declared.end.End.{End}
 use Rattle.mic_clock.specs.declared.end.End.TheVariants as ends
-use Rattle.mic_clock.specs.Meaning.{Meaning}
+use Rattle.mic_clock.specs.Meaning.{Meaning, ReadsConsole, UsesConsole}
 use Rattle.mic_clock.specs.View.{BoardView}
-use Rattle.mic_clock.specs.Run.{MicroRun, end_before, word_at, turn, turns, bounded, buses_of}
-use Rattle.mic_clock.specs.Board.{ShowsRun, IsLedTo, IsCut, IsCutByRead, IsCutByWrite, Leads, NoFault}
+use Rattle.mic_clock.specs.Run.{MicroRun, Buses, end_before, word_at, turn, turns, buses, bounded, buses_of}
+use Rattle.mic_clock.specs.Board.{ShowsRun, IsLedTo, IsCut, IsCutByRead, IsCutByWrite, Leads, NoFault, IsReached, IsTurned, ShowsAs, BoundIsCutByWrite}
 use Rattle.mic_clock.proofs.Front.{front_lost}
-use Rattle.mic_clock.proofs.Turns.{turns-suc}
+use Rattle.mic_clock.proofs.Turns.{turns-suc, turns-plus, buses-plus, turn_by_ended, bounded-world}
 
 module _ {M State : Type 0} (state : M → State) (left0 held0 : Option (List ℕ)) (board0 : BoardView M) where
   -- what is known of each run that a board leads to may be replaced by what follows
@@ -23,6 +23,12 @@ module _ {M State : Type 0} (state : M → State) (left0 held0 : Option (List �
       IsLedTo state left0 held0 board0 left board P → IsLedTo state left0 held0 board0 left' board' P
   IsLedTo-stays left left' board board' P same_left same_end led rest fits =
       led rest (subst (λ (o : Option (List ℕ)). Untaken o board.bus.console.ended rest) same_left (subst (λ (b : Bool). Untaken left' b rest) same_end fits))
+
+-- what holds of a step holds of the same step of a run
+same_step : {State : Type 0} (m : Meaning State) (P : ℕ → State → Type 0) (words words' : List ℕ) (s s' : State) → words ≡ words' → s' ≡ s →
+    P (word_at m words s) s → P (word_at m words' s') s'
+same_step m P words words' s s' program same h =
+    subst (λ (ws : List ℕ). P (word_at m ws s') s') program (subst (λ t. P (word_at m words t) t) (sym same) h)
 
 pub IsCutByWrite-lost : {M State : Type 0} (state : M → State) (m : Meaning State) (words : List ℕ) (bound : Option ℕ)
     (left left' held held' : Option (List ℕ)) (board board' : BoardView M) (r : MicroRun State) →
@@ -98,7 +104,7 @@ module _ {M State : Type 0} (state : M → State) (m : Meaning State) (words : L
                 counts = here.counts ∙ sym cut.counts;
                 kept = cut.world.emptied tt;
                 next = record { running = on q here; no_end = (λ i. end_before m (here.its_state i) (here.counts i)) ∙ cut.no_end };
-                reads = subst IsTrue (λ i. m.reads_console (word_at m (program i) (sym here.its_state i)) (sym here.its_state i)) (cut.reads refl);
+                reads = same_step m (λ (word : ℕ) (s : State). ReadsConsole m word s q.world) board.store.words words (state board.machine) q.state program here.its_state (cut.reads refl q.world here.world);
               };
               untaken = at.2.untaken;
               buses = cut.buses ∙ at.2.buses;
@@ -129,7 +135,7 @@ module _ {M State : Type 0} (state : M → State) (m : Meaning State) (words : L
                 front = front_lost held held' board.bus.console.kept board'.bus.console.kept q.world.given (cut.world.lost refl) here.world.given;
                 next = inl (
                   record { running = on q here; no_end = (λ i. end_before m (here.its_state i) (here.counts i)) ∙ cut.no_end },
-                  subst IsTrue (λ i. m.uses_console (word_at m (program i) (sym here.its_state i)) (sym here.its_state i)) (cut.uses refl),
+                  same_step m (λ (word : ℕ) (s : State). UsesConsole m word s q.world) board.store.words words (state board.machine) q.state program here.its_state (cut.uses refl q.world here.world),
                 );
               };
               untaken = at.2.untaken;
@@ -166,3 +172,95 @@ module _ {M State : Type 0} (state : M → State) (m : Meaning State) (words : L
         },
       ))
       led)
+
+module _ {M State : Type 0} (state : M → State) (m : Meaning State) (bound : Option ℕ) (left0 held0 : Option (List ℕ)) (board0 : BoardView M)
+    (left held : Option (List ℕ)) (board : BoardView M) (left' : Option (List ℕ)) (board' : BoardView M)
+    (H : List ℕ → MicroRun State → Type 0) where
+  -- turns that lead to a board, and turns on from there
+  pub Leads-on : (words : List ℕ) → board.store.words ≡ words →
+      IsLedTo state left0 held0 board0 left board (λ r rest. (n : ℕ) × Leads state m words bound board board0.buses rest n r (ShowsRun state left held board)) →
+      IsLedTo state left held board left' board' (λ r rest. (n : ℕ) × Leads state m board.store.words bound board' board.buses rest n r (H board.store.words)) →
+      IsLedTo state left0 held0 board0 left' board' (λ r rest. (n : ℕ) × Leads state m words bound board' board0.buses rest n r (H words))
+  Leads-on words program first next rest fits =
+      let next' = subst
+      (λ (ws : List ℕ). IsLedTo state left held board left' board' (λ r rest. (n : ℕ) × Leads state m ws bound board' board.buses rest n r (H ws)))
+      program next in
+      let there = next' rest fits in
+      let far = first there.0 there.1 in (
+        far.0,
+        far.1,
+        λ r s e.
+            let at = far.2 r s e in
+            let on = there.2 (turns m words bound at.0 r) at.1.here at.1.untaken in
+            let is : turns m words bound (at.0 + on.0) r ≡ turns m words bound on.0 (turns m words bound at.0 r) = turns-plus m words bound at.0 on.0 r in (
+              at.0 + on.0,
+              record {
+                here = subst (H words) (sym is) on.1.here;
+                untaken = ap (λ (x : MicroRun State). x.world.untaken) is ∙ on.1.untaken;
+                buses = on.1.buses ∙ (ap (λ (b : Buses). buses m words bound on.0 (turns m words bound at.0 r) b) at.1.buses ∙ sym (buses-plus m words bound at.0 on.0 r board0.buses));
+              },
+            ),
+      )
+
+pub IsReached-compose : {M State : Type 0} (state : M → State) (m : Meaning State) (left held left' held' left'' held'' : Option (List ℕ)) (bound : Option ℕ)
+    (a b c : BoardView M) → b.store ≡ a.store → IsReached state m left held a left' held' b bound → IsReached state m left' held' b left'' held'' c bound →
+    IsReached state m left held a left'' held'' c bound
+IsReached-compose state m left held left' held' left'' held'' bound a b c same first next =
+    Leads-on state m bound left held a left' held' b left'' c (λ (words : List ℕ). ShowsRun state left'' held'' c) a.store.words
+    (ap (λ s. s.words) same) first next
+
+module _ {M State : Type 0} (state : M → State) (m : Meaning State) (bound : ℕ) (left held : Option (List ℕ)) (board : BoardView M) where
+  -- no turn leads where the board is
+  pub Leads-start : IsLedTo state left held board left board
+      (λ r rest. (n : ℕ) × Unit {0} × Leads state m board.store.words (Some bound) board board.buses rest n r (ShowsRun state left held board))
+  Leads-start rest fits = (rest, fits, λ r s e. (0, tt, record { here = s; untaken = e; buses = refl }))
+
+  untaken_same : (r : MicroRun State) (rest : List ℕ) → r.world.untaken ≡ rest → (bounded m (Some bound) r).world.untaken ≡ rest
+  untaken_same r rest e = ap (λ w. w.untaken) (bounded-world m (Some bound) r) ∙ e
+
+  -- the bound does not end a board, and a cycle follows
+  pub IsTurned-bounded : (left' held' : Option (List ℕ)) (board' : BoardView M) → ShowsAs state held board held board (bounded m (Some bound)) →
+      IsTurned state m left held board left' held' board' None → IsTurned state m left held board left' held' board' (Some bound)
+  IsTurned-bounded left' held' board' shows turned plain rest fits =
+      let far = turned plain rest fits in
+      (far.0, far.1, λ r s e. far.2 (bounded m (Some bound) r) (shows left r s) (untaken_same r far.0 e))
+
+  module _ (held' : Option (List ℕ)) (board' : BoardView M) (same_end : board'.bus.console.ended ≡ board.bus.console.ended) where
+    fitting : (rest : List ℕ) → Untaken left board'.bus.console.ended rest → Untaken left board.bus.console.ended rest
+    fitting rest fits = subst (λ (b : Bool). Untaken left b rest) same_end fits
+
+    -- the bound ends a board
+    pub IsTurned-ended : IsSome board'.end → (NoFault board.end board'.end → ShowsAs state held board held' board' (bounded m (Some bound))) →
+        IsTurned state m left held board left held' board' (Some bound)
+    IsTurned-ended over shows plain rest fits = (
+      rest,
+      fitting rest fits,
+      λ r s e.
+          let b = bounded m (Some bound) r in
+          let there = shows plain left r s in
+          let still : turn m board.store.words b ≡ b = turn_by_ended m board.store.words b.end b (subst IsSome (sym there.its_end) over) in (
+            subst (λ (x : MicroRun State). ShowsRun state left held' board' x) (sym still) there,
+            ap (λ (x : MicroRun State). x.world.untaken) still ∙ untaken_same r rest e,
+          ),
+    )
+
+    -- the flush at the bound fails
+    pub Leads-bound : board.end ≡ None → board'.end ≡ Some ends.WriteFault → board'.buses ≡ board.buses → BoundIsCutByWrite state m left held board left held' board' bound →
+        IsLedTo state left held board left board'
+        (λ r rest. (n : ℕ) × Leads state m board.store.words (Some bound) board' board.buses rest n r (IsCutByWrite state m board.store.words (Some bound) left held' board'))
+    Leads-bound going failed same_buses cut rest fits = (
+      rest,
+      fitting rest fits,
+      λ r s e.
+          let words = board.store.words in
+          let b = bounded m (Some bound) r in
+          let c = cut going failed r s in
+          let still : turns m words (Some bound) (suc zero) r ≡ b = turn_by_ended m words b.end b (subst IsSome (sym c.0) refl) in (
+            suc zero,
+            record {
+              here = subst (λ (x : MicroRun State). IsCutByWrite state m words (Some bound) left held' board' x) (sym still) c.1;
+              untaken = ap (λ (x : MicroRun State). x.world.untaken) still ∙ untaken_same r rest e;
+              buses = same_buses ∙ sym (λ i. buses_of m words r.state board.buses ((ap (λ (x : MicroRun State). x.end) still ∙ c.0) i));
+            },
+          ),
+    )

@@ -1,20 +1,16 @@
 -- Turns of a run.
-use Rattle.std.proofs.Common.{◌≡◌, ◌≢◌, ◌+◌, ◌∙◌, ap, zero, suc, zero-add, suc-add, add_comm, ℕ, List, Bool, Option, Some, None, IsSome, refl, sym, subst, rules}
+use Rattle.std.proofs.Common.{◌≡◌, ◌≢◌, ◌+◌, ◌∙◌, ap, zero, suc, zero-add, suc-add, add-zero, add-suc, add_comm, ℕ, List, Bool, Option, Some, None, IsSome, refl, sym, subst, rules}
 use Rattle.std.specs.Fn.{iterate}
-use Rattle.console_port.specs.World.{World, Refusal, StackLimit, OutOfMap, fault_of}
+use Rattle.console_port.specs.World.{World, fault_of}
 use Rattle.console_port.specs.Bus.{Shows, Stands}
 use Rattle.console_port.specs.Console.{IsFault, Untaken}
 use Rattle.console_port.specs.declared.fault.BusFault.{BusFault}
 use Rattle.console_port.specs.declared.fault.BusFault.TheVariants as faults
 use Rattle.mic_clock.specs.declared.end.End.{End}
-use Rattle.mic_clock.specs.Meaning.{Meaning, Outcome, Done, Refused, fault_in}
-use Rattle.mic_clock.specs.Run.{MicroRun, word_at, end_of, end_before, stepped, gone, turn, turn_by, turns, bounded, bounded_by}
+use Rattle.mic_clock.specs.Meaning.{Meaning, Outcome, Done, Refused, refusal_in}
+use Rattle.mic_clock.specs.Run.{MicroRun, Buses, word_at, end_by, end_before, stepped, gone, turn, turn_by, turns, buses, buses_of, bounded, bounded_by}
 use Rattle.mic_clock.specs.View.{BoardView}
-use Rattle.mic_clock.specs.Board.{ShowsRun, IsLedTo, NoFault, end_by}
-
-end_of-fault : (r : Refusal) → end_of r ≡ end_by (fault_of r)
-end_of-fault (StackLimit at) = refl
-end_of-fault (OutOfMap at) = refl
+use Rattle.mic_clock.specs.Board.{ShowsRun, IsLedTo, NoFault}
 
 -- a refusal and no fault ended the board
 pub no_fault : (e : BusFault) → NoFault None (Some (end_by e)) → IsFault e → ⊥
@@ -28,25 +24,25 @@ abbrev pub ended_by : {State : Type 0} → MicroRun State → BusFault → Micro
 ended_by r e = record { state = r.state; world = r.world; counts = r.counts; end = Some (end_by e) }
 
 stepped-refused : {State : Type 0} (m : Meaning State) (words : List ℕ) (r : MicroRun State) (o : Outcome State) (e : BusFault) →
-    fault_in o ≡ Some e → stepped m words r o ≡ ended_by r e
+    refusal_in o ≡ Some e → stepped m words r o ≡ ended_by r e
 stepped-refused m words r (Done s w) e h = absurd (cc)
 stepped-refused m words r (Refused x) e h =
     let is : fault_of x ≡ e = cc in
-    ap (λ (y : End). record { state = r.state; world = r.world; counts = r.counts; end = Some y }) (end_of-fault x ∙ ap end_by is)
+    ap (λ (y : BusFault). record { state = r.state; world = r.world; counts = r.counts; end = Some (end_by y) }) is
 
 module _ {M State : Type 0} (state : M → State) (m : Meaning State) (left held left' held' : Option (List ℕ)) (board board' : BoardView M) (e : BusFault) where
   pub turn-refused : (r : MicroRun State) → ShowsRun state left held board r → board.end ≡ None → end_before m (state board.machine) board.counts ≡ None →
-      ((w : World) → Shows left held board.bus w → fault_in (m.step (word_at m board.store.words (state board.machine)) (state board.machine) w) ≡ Some e) →
+      ((w : World) → Shows left held board.bus w → refusal_in (m.step (word_at m board.store.words (state board.machine)) (state board.machine) w) ≡ Some e) →
       turn m board.store.words r ≡ ended_by r e
   turn-refused r s going no_end refused =
       let words = board.store.words in
       let here : end_before m r.state r.counts ≡ None = rw (s.its_state, s.counts) no_end in
-      let is : fault_in (m.step (word_at m words r.state) r.state r.world) ≡ Some e = rw s.its_state (refused r.world s.world) in
+      let is : refusal_in (m.step (word_at m words r.state) r.state r.world) ≡ Some e = rw s.its_state (refused r.world s.world) in
       ap (λ (x : Option End). turn_by m words x r) (s.its_end ∙ going) ∙ (ap (λ (x : Option End). gone m words x r) here ∙ stepped-refused m words r _ e is)
 
   -- a refused microstep leaves the run where it was
   pub led-refused : board.end ≡ None → end_before m (state board.machine) board.counts ≡ None →
-      ((w : World) → Shows left held board.bus w → fault_in (m.step (word_at m board.store.words (state board.machine)) (state board.machine) w) ≡ Some e) →
+      ((w : World) → Shows left held board.bus w → refusal_in (m.step (word_at m board.store.words (state board.machine)) (state board.machine) w) ≡ Some e) →
       (IsFault e → ⊥) → Stands left held board.bus left' held' board'.bus e →
       state board'.machine ≡ state board.machine → board'.counts ≡ board.counts → board'.end ≡ Some (end_by e) →
       IsLedTo state left held board left' board' (λ r rest. ShowsRun state left' held' board' (turn m board.store.words r) × ((turn m board.store.words r).world.untaken ≡ rest))
@@ -74,6 +70,14 @@ bounded_by-state m bound None r = search rules
 pub bounded-state : {State : Type 0} (m : Meaning State) (bound : Option ℕ) (r : MicroRun State) → (bounded m bound r).state ≡ r.state
 bounded-state m None r = refl
 bounded-state m (Some bound) r = bounded_by-state m bound r.end r
+
+pub bounded-world : {State : Type 0} (m : Meaning State) (bound : Option ℕ) (r : MicroRun State) → (bounded m bound r).world ≡ r.world
+bounded-world m None r = refl
+bounded-world m (Some bound) r = by_end r.end
+  where
+    by_end : (e : Option End) → (bounded_by m e bound r).world ≡ r.world
+    by_end (Some e) = refl
+    by_end None = search rules
 
 -- an ended run stays
 pub turn_by_ended : {State : Type 0} (m : Meaning State) (words : List ℕ) (end : Option End) (r : MicroRun State) → IsSome end → turn_by m words end r ≡ r
@@ -109,3 +113,17 @@ module _ {State : Type 0} (m : Meaning State) (words : List ℕ) (bound : Option
   pub turns-one_end : (n k : ℕ) → IsSome (turns m words bound n r).end → IsSome (turns m words bound k r).end →
       turns m words bound n r ≡ turns m words bound k r
   turns-one_end n k h i = sym (turns-add k n h) ∙ (ap (λ (x : ℕ). turns m words bound x r) (add_comm k n) ∙ turns-add n k i)
+
+-- turns and their bus values, counted from the first one
+module _ {State : Type 0} (m : Meaning State) (words : List ℕ) (bound : Option ℕ) where
+  pub turns-plus : (n k : ℕ) (r : MicroRun State) → turns m words bound (n + k) r ≡ turns m words bound k (turns m words bound n r)
+  turns-plus zero k r = ap (λ (x : ℕ). turns m words bound x r) (zero-add k)
+  turns-plus (suc n) k r = ap (λ (x : ℕ). turns m words bound x r) (suc-add n k) ∙ turns-plus n k (turn m words (bounded m bound r))
+
+  pub buses-plus : (n k : ℕ) (r : MicroRun State) (old : Buses) → buses m words bound (n + k) r old ≡ buses m words bound k (turns m words bound n r) (buses m words bound n r old)
+  buses-plus n zero r old = ap (λ (x : ℕ). buses m words bound x r old) (add-zero n)
+  buses-plus n (suc k) r old =
+      let last : turns m words bound (suc (n + k)) r ≡ turns m words bound (suc k) (turns m words bound n r) =
+      ap (λ (x : ℕ). turns m words bound x r) (sym (add-suc n k)) ∙ turns-plus n (suc k) r in
+      ap (λ (x : ℕ). buses m words bound x r old) (add-suc n k)
+      ∙ (λ i. buses_of m words (turns-plus n k r i).state (buses-plus n k r old i) (last i).end)

@@ -1,25 +1,20 @@
 -- A board between a source and a sink shows where a run stands; how the run goes on, and where a fault cuts it.
-use Rattle.std.specs.Prelude.{◌≡◌, ◌≢◌, ◌⊎◌, ℕ, ◌+◌, ◌≤◌, ◌==◌, if◌then◌else◌, List, [], ◌++◌, Option, Some, None, IfSome, IsSome, is_some, IsTrue}
+use Rattle.std.specs.Prelude.{◌≡◌, ◌≢◌, ◌⊎◌, ℕ, suc, ◌+◌, ◌<◌, ◌≤◌, ◌==◌, if◌then◌else◌, List, [], ◌++◌, Option, Some, None, IfSome, IsSome, is_some}
+use Rattle.console_port.specs.View.{BusView}
 use Rattle.console_port.specs.Bus.{Shows, Stands}
-use Rattle.console_port.specs.Console.{Untaken}
+use Rattle.console_port.specs.Console.{Untaken, IsFault}
+use Rattle.console_port.specs.World.{World}
 use Rattle.console_port.specs.declared.fault.BusFault.{BusFault}
-use Rattle.console_port.specs.declared.fault.BusFault.TheVariants.{ReadFault, WriteFault, StackLimit, OutOfMap}
+use Rattle.console_port.specs.declared.fault.BusFault.TheVariants.{ReadFault, WriteFault}
 use Rattle.mic_base.specs.Causes.{Rose}
 use Rattle.mic_clock.specs.declared.counts.Counts.{Counts}
 use Rattle.mic_clock.specs.declared.end.End.{End}
 use Rattle.mic_clock.specs.declared.end.End.TheVariants as ends
 use Rattle.mic_clock.specs.declared.end.Tick.{Tick}
 use Rattle.mic_clock.specs.declared.end.Tick.TheVariants as ticks
-use Rattle.mic_clock.specs.Meaning.{Meaning}
-use Rattle.mic_clock.specs.Run.{MicroRun, Buses, number_of, last_cycles, word_at, end_before, turns, buses, IsClocking}
+use Rattle.mic_clock.specs.Meaning.{Meaning, ReadsConsole, UsesConsole}
+use Rattle.mic_clock.specs.Run.{MicroRun, Buses, start_run, number_of, last_cycles, word_at, end_by, end_before, counts_ended, counts_after, turn, turns, bounded, buses, buses_of, IsClocking, IsLeg}
 use Rattle.mic_clock.specs.View.{BoardView}
-
--- the end by a refusal or a fault
-abbrev pub end_by : BusFault → End
-end_by ReadFault = ends.ReadFault
-end_by WriteFault = ends.WriteFault
-end_by (StackLimit at) = ends.StackLimit
-end_by (OutOfMap at) = ends.OutOfMap at
 
 -- no fault ended a board between these two
 abbrev pub NoFault : Option End → Option End → Type 0
@@ -55,28 +50,37 @@ module _ {M State : Type 0} (state : M → State) where
       (untaken : List ℕ) × Untaken left board.bus.console.ended untaken ×
       ((r : MicroRun State) → ShowsRun left held board r → r.world.untaken ≡ untaken → leads r rest)
 
+  -- after a call that takes no input, each run that the first board showed is this run on the second
+  abbrev pub ShowsAs : Option (List ℕ) → BoardView M → Option (List ℕ) → BoardView M → (MicroRun State → MicroRun State) → Type 0
+  ShowsAs held board held' board' run_of =
+      (left : Option (List ℕ)) (r : MicroRun State) → ShowsRun left held board r → ShowsRun left held' board' (run_of r)
+
   module _ (m : Meaning State) where
-    -- A fault stopped a cycle: all is as it was, but for what a bus leaves after an Err. The microstep has the access.
+    -- over whatever world a bus shows, a board shows the run at its reset there
+    abbrev pub IsReset : ℕ → ℕ → BusView → BoardView M → Type 0
+    IsReset first sp bus board = (left held : Option (List ℕ)) (w : World) → Shows left held bus w → ShowsRun left held board (start_run m first sp w)
+
+    -- A fault stopped a cycle: all is as it was, but for what a bus leaves after an Err. The microstep is not refused, and uses the console.
     pub record IsCut (left held : Option (List ℕ)) (board : BoardView M) (left' held' : Option (List ℕ)) (board' : BoardView M) (e : BusFault) : Type 0 where
       pub its_state : state board'.machine ≡ state board.machine
       pub counts : board'.counts ≡ board.counts
       pub buses : board'.buses ≡ board.buses
       pub world : Stands left held board.bus left' held' board'.bus e
       pub no_end : end_before m (state board.machine) board.counts ≡ None
-      pub reads : e ≡ ReadFault → IsTrue (m.reads_console (word_at m board.store.words (state board.machine)) (state board.machine))
-      pub uses : e ≡ WriteFault → IsTrue (m.uses_console (word_at m board.store.words (state board.machine)) (state board.machine))
+      pub reads : e ≡ ReadFault → (w : World) → Shows left held board.bus w → ReadsConsole m (word_at m board.store.words (state board.machine)) (state board.machine) w
+      pub uses : e ≡ WriteFault → (w : World) → Shows left held board.bus w → UsesConsole m (word_at m board.store.words (state board.machine)) (state board.machine) w
 
     module _ (words : List ℕ) (bound : Option ℕ) where
-      -- a failing source cut the run: its next step reads the console
+      -- a failing source cut the run: its next step is not refused, and reads the console
       pub record IsCutByRead (left held : Option (List ℕ)) (board : BoardView M) (r : MicroRun State) : Type 0 where
         pub its_state : r.state ≡ state board.machine
         pub world : Shows left held board.bus r.world
         pub counts : r.counts ≡ board.counts
         pub kept : board.bus.console.kept ≡ []
         pub next : IsClocking m words bound r
-        pub reads : IsTrue (m.reads_console (word_at m words r.state) r.state)
+        pub reads : ReadsConsole m (word_at m words r.state) r.state r.world
 
-      -- A failing sink cut the run: its next step reads or writes the console, or it has ended. The sink has a front of what was given.
+      -- A failing sink cut the run: its next step is not refused, and reads or writes the console; or it has ended. The sink has a front of what was given.
       pub record IsCutByWrite (left held : Option (List ℕ)) (board : BoardView M) (r : MicroRun State) : Type 0 where
         pub its_state : r.state ≡ state board.machine
         pub memory : r.world.words ≡ board.bus.words
@@ -84,13 +88,97 @@ module _ {M State : Type 0} (state : M → State) where
         pub counts : r.counts ≡ board.counts
         pub kept : board.bus.console.kept ≡ []
         pub front : IfSome held (λ h. (more : List ℕ) × (r.world.given ≡ h ++ more))
-        pub next : (IsClocking m words bound r × IsTrue (m.uses_console (word_at m words r.state) r.state)) ⊎ IsSome r.end
+        pub next : (IsClocking m words bound r × UsesConsole m (word_at m words r.state) r.state r.world) ⊎ IsSome r.end
 
       -- n turns lead here, with these bytes untaken
       pub record Leads (board : BoardView M) (old : Buses) (rest : List ℕ) (n : ℕ) (r : MicroRun State) (IsHere : MicroRun State → Type 0) : Type 0 where
         pub here : IsHere (turns m words bound n r)
         pub untaken : (turns m words bound n r).world.untaken ≡ rest
         pub buses : board.buses ≡ buses m words bound n r old
+
+    -- A call between two boards over the control store of the first: each run that the first shows, by which the second is reached.
+    module _ (left held : Option (List ℕ)) (board : BoardView M) (left' held' : Option (List ℕ)) (board' : BoardView M) where
+      -- without a fault, one turn leads to the second
+      abbrev pub IsTurned : Option ℕ → Type 0
+      IsTurned bound =
+          NoFault board.end board'.end → IsLedTo left held board left' board'
+          (λ r rest. ShowsRun left' held' board' (turn m board.store.words (bounded m bound r)) × ((turn m board.store.words (bounded m bound r)).world.untaken ≡ rest))
+
+      -- a fault cuts the cycle
+      abbrev pub IsCutByFault : Type 0
+      IsCutByFault = (e : BusFault) → board.end ≡ None → IsFault e → board'.end ≡ Some (end_by e) → IsCut left held board left' held' board' e
+
+      -- turns lead to the second
+      abbrev pub IsReached : Option ℕ → Type 0
+      IsReached bound =
+          IsLedTo left held board left' board'
+          (λ r rest. (n : ℕ) × Leads board.store.words bound board' board.buses rest n r (ShowsRun left' held' board'))
+
+      -- without a fault, turns lead to the second
+      abbrev pub IsRun : Option ℕ → Type 0
+      IsRun bound = board.end ≡ None → NoFault None board'.end → IsReached bound
+
+      -- the bound ends the run, and the flush there fails
+      abbrev pub BoundIsCutByWrite : ℕ → Type 0
+      BoundIsCutByWrite bound =
+          board.end ≡ None → board'.end ≡ Some ends.WriteFault → (r : MicroRun State) → ShowsRun left held board r →
+          ((bounded m (Some bound) r).end ≡ Some ends.Bound) × IsCutByWrite board.store.words (Some bound) left' held' board' (bounded m (Some bound) r)
+
+      -- a failing source cuts the run behind some turns
+      abbrev pub RunIsCutByRead : Option ℕ → Type 0
+      RunIsCutByRead bound =
+          board.end ≡ None → board'.end ≡ Some ends.ReadFault → IsLedTo left held board left' board'
+          (λ r rest. (n : ℕ) × Leads board.store.words bound board' board.buses rest n r (IsCutByRead board.store.words bound left' held' board'))
+
+      -- a failing sink cuts the run behind some turns
+      abbrev pub RunIsCutByWrite : Option ℕ → Type 0
+      RunIsCutByWrite bound =
+          board.end ≡ None → board'.end ≡ Some ends.WriteFault → IsLedTo left held board left' board'
+          (λ r rest. (n : ℕ) × Leads board.store.words bound board' board.buses rest n r (IsCutByWrite board.store.words bound left' held' board'))
+
+      -- without a fault, turns lead to the second with no boundary and no end between them
+      abbrev pub IsLegRun : Type 0
+      IsLegRun =
+          board.end ≡ None → NoFault None board'.end → IsLedTo left held board left' board'
+          (λ r rest. (n : ℕ) × IsLeg m board.store.words n r × Leads board.store.words None board' board.buses rest n r (ShowsRun left' held' board'))
+
+      -- a failing source cuts the turn behind them
+      abbrev pub LegIsCutByRead : Type 0
+      LegIsCutByRead =
+          board.end ≡ None → board'.end ≡ Some ends.ReadFault → IsLedTo left held board left' board'
+          (λ r rest. (n : ℕ) × IsLeg m board.store.words (suc n) r × Leads board.store.words None board' board.buses rest n r (IsCutByRead board.store.words None left' held' board'))
+
+      -- a failing sink cuts the turn behind them
+      abbrev pub LegIsCutByWrite : Type 0
+      LegIsCutByWrite =
+          board.end ≡ None → board'.end ≡ Some ends.WriteFault → IsLedTo left held board left' board'
+          (λ r rest. (n : ℕ) × IsLeg m board.store.words (suc n) r × Leads board.store.words None board' board.buses rest n r (IsCutByWrite board.store.words None left' held' board'))
+
+    -- What a turn between two boards counts, also over a source that does not tell what it has left.
+    module _ (board board' : BoardView M) where
+      -- an end that comes before a cycle comes
+      abbrev pub EndsInTime : Type 0
+      EndsInTime =
+          (e : End) → board.end ≡ None → end_before m (state board.machine) board.counts ≡ Some e →
+          (board'.end ≡ Some e) × (board'.counts ≡ counts_ended board.counts e)
+
+      -- a turn that does not end is a counted cycle
+      abbrev pub IsCounted : Type 0
+      IsCounted =
+          board'.end ≡ None → (end_before m (state board.machine) board.counts ≡ None)
+          × (board'.counts ≡ counts_after m board.counts (m.drives (word_at m board.store.words (state board.machine)) (state board.machine)).stalled (state board'.machine))
+
+      -- the bus values are those of the last clocked cycle
+      abbrev pub ShowsBuses : Type 0
+      ShowsBuses = board'.buses ≡ buses_of m board.store.words (state board.machine) board.buses board'.end
+
+-- an end counts no cycle and no boundary
+abbrev pub EndsUncounted : {M : Type 0} → BoardView M → BoardView M → Type 0
+EndsUncounted board board' = IsSome board'.end → (board'.counts.cycles ≡ board.counts.cycles) × (board'.counts.boundary ≡ board.counts.boundary)
+
+-- a cycle is clocked at most 1,024 cycles past the last boundary
+abbrev pub HasRoom : {M : Type 0} → BoardView M → BoardView M → Type 0
+HasRoom board board' = board'.end ≡ None → board.counts.cycles < last_cycles board.counts.boundary + 1024
 
 -- instructions and stalls are no more than cycles, no boundary is ahead of them, and none is more than 1,024 cycles back
 pub record AreCounts (c : Counts) (end : Option End) : Type 0 where

@@ -1,5 +1,5 @@
 -- What a clocked machine means: its microstep over the world, and what it shows of its state.
-use Rattle.std.specs.Prelude.{ℕ, Bool, Option, Some, None}
+use Rattle.std.specs.Prelude.{◌≡◌, ◌⊎◌, ℕ, Bool, List, [], ◌∷◌, ◌++◌, drop, Option, Some, None}
 use Rattle.console_port.specs.World.{World, Refusal, fault_of}
 use Rattle.console_port.specs.declared.fault.BusFault.{BusFault}
 use Rattle.machine_words.specs.declared.machine.Machine.{Machine}
@@ -13,17 +13,33 @@ pub data Phase : Type 0 where
   AtRest : Phase
   SetUp : Phase
   Driven : Phase
-  Settled : Phase
+  AtEdge : Phase
 
 -- a microstep is done, or refused with all as it was
 pub data Outcome (State : Type 0) : Type 0 where
   Done : State → World → Outcome State
   Refused : Refusal → Outcome State
 
--- what a refused step answers
-abbrev pub fault_in : {State : Type 0} → Outcome State → Option BusFault
-fault_in (Done s w) = None
-fault_in (Refused r) = Some (fault_of r)
+module _ {State : Type 0} where
+  -- a step's outcome, where it is not refused
+  abbrev pub unless_refused : Option Refusal → Outcome State → Outcome State
+  unless_refused None outcome = outcome
+  unless_refused (Some why) outcome = Refused why
+
+  -- what a refused step answers
+  abbrev pub refusal_in : Outcome State → Option BusFault
+  refusal_in (Done s w) = None
+  refusal_in (Refused r) = Some (fault_of r)
+
+  -- what a step that is done leaves of the input
+  abbrev pub untaken_by : Outcome State → Option (List ℕ)
+  untaken_by (Done s w) = Some w.untaken
+  untaken_by (Refused r) = None
+
+  -- all output behind a step that is done
+  abbrev pub given_by : Outcome State → Option (List ℕ)
+  given_by (Done s w) = Some w.given
+  given_by (Refused r) = None
 
 pub record Meaning (State : Type 0) : Type 0 where
   pub machine : Machine
@@ -37,6 +53,16 @@ pub record Meaning (State : Type 0) : Type 0 where
   -- whether an instruction boundary is here, and the address of the instruction there
   pub is_boundary : State → Bool
   pub address : State → ℕ
-  -- whether the step reads the console, and whether it reads or writes it
-  pub reads_console : ℕ → State → Bool
-  pub uses_console : ℕ → State → Bool
+
+module _ {State : Type 0} (m : Meaning State) (word : ℕ) (s : State) (w : World) where
+  -- A step reads the console where it is done and takes the first byte of whatever input is left.
+  pub record ReadsConsole : Type 0 where
+    pub takes : (input : List ℕ) → untaken_by (m.step word s (record w { untaken = input })) ≡ Some (drop 1 input)
+
+  -- A step writes to the console where it is done and gives one byte more.
+  pub record WritesConsole : Type 0 where
+    pub byte : ℕ
+    pub gives : given_by (m.step word s w) ≡ Some (w.given ++ byte ∷ [])
+
+  abbrev pub UsesConsole : Type 0
+  UsesConsole = ReadsConsole ⊎ WritesConsole

@@ -1,7 +1,9 @@
--- The clocked run of a machine over a world, turn by turn, with this profile's counts and ends.
+-- The clocked run of a machine over a world, turn by turn, with this profile's counts and ends. The rule that a turn keeps is in `Rule`.
 use Rattle.std.specs.Prelude.{◌≡◌, ℕ, zero, suc, ◌+◌, ◌-◌, ◌<◌, nat_le, ◌==◌, if◌then◌else◌, Bool, true, false, List, Option, Some, None, is_some, slice_index}
 use Rattle.std.specs.Fn.{iterate}
-use Rattle.console_port.specs.World.{World, Refusal, StackLimit, OutOfMap}
+use Rattle.console_port.specs.World.{World, fault_of}
+use Rattle.console_port.specs.declared.fault.BusFault.{BusFault}
+use Rattle.console_port.specs.declared.fault.BusFault.TheVariants as faults
 use Rattle.mic_clock.specs.declared.buses.Drive.{Drive}
 use Rattle.mic_clock.specs.declared.buses.Computed.{Computed}
 use Rattle.mic_clock.specs.declared.registers.Registers.{Registers}
@@ -64,10 +66,12 @@ counts_ended c e =
       boundary = c.boundary;
     }
 
--- the end by a refused microstep
-abbrev pub end_of : Refusal → End
-end_of (StackLimit at) = ends.StackLimit
-end_of (OutOfMap at) = ends.OutOfMap at
+-- the end by a refusal or a fault
+abbrev pub end_by : BusFault → End
+end_by faults.ReadFault = ends.ReadFault
+end_by faults.WriteFault = ends.WriteFault
+end_by (faults.StackLimit at) = ends.StackLimit
+end_by (faults.OutOfMap at) = ends.OutOfMap at
 
 -- the values on the buses in a microstep
 pub record Buses : Type 0 where
@@ -83,10 +87,10 @@ start_buses =
     }
 
 module _ {State : Type 0} (m : Meaning State) where
-  -- a run at its reset
+  -- a run at its reset, whose first MPC is `first`
   abbrev pub start_run : ℕ → ℕ → World → MicroRun State
-  start_run entry sp w =
-      record { state = m.initial (record { entry = entry; sp = sp; first = slice_index w.words 0 }); world = w; counts = start_counts; end = None }
+  start_run first sp w =
+      record { state = m.initial (record { entry = first; sp = sp; first = slice_index w.words 0 }); world = w; counts = start_counts; end = None }
 
   -- the end that comes before a cycle, if one does
   abbrev pub end_before : State → Counts → Option End
@@ -119,7 +123,7 @@ module _ {State : Type 0} (m : Meaning State) (words : List ℕ) where
   -- the run after its microstep
   abbrev pub stepped : MicroRun State → Outcome State → MicroRun State
   stepped r (Done s w) = record { state = s; world = w; counts = counts_after m r.counts (m.drives (word_at r.state) r.state).stalled s; end = None }
-  stepped r (Refused refusal) = record { state = r.state; world = r.world; counts = r.counts; end = Some (end_of refusal) }
+  stepped r (Refused refusal) = record { state = r.state; world = r.world; counts = r.counts; end = Some (end_by (fault_of refusal)) }
 
   -- the run after an end that comes before a cycle, else after a microstep
   abbrev pub gone : Option End → MicroRun State → MicroRun State

@@ -1,14 +1,14 @@
 //! A machine with its control store and its bus, clocked, counted and ended.
 
 ghost use Rattle.mic_base.specs.Causes.{Rose};
-ghost use Rattle.mic_base.specs.Streams.{Holds};
-ghost use Rattle.std.specs.Prelude.{◌≡◌, ◌≢◌, ◌⊎◌, [], ◌<◌, ◌≤◌, ◌+◌, ◌^◌, ℕ, suc, List, Option, None, Some, IsOk, OnOk, OnErr, IfErr, IsSome, IsTrue, is_some, if◌then◌else◌, true, false, length};
-ghost use Rattle.console_port.specs.World.{World};
-ghost use Rattle.console_port.specs.Bus.{Shows, Stands};
-ghost use Rattle.console_port.specs.Console.{IsFault, IsLost, HasFaultCause};
-ghost use Rattle.mic_clock.specs.Meaning.{Meaning, Phase, AtRest};
-ghost use Rattle.mic_clock.specs.Run.{MicroRun, Buses, start_counts, start_buses, start_run, turn, turns, bounded, word_at, end_before, counts_after, counts_ended, buses_of, last_cycles, IsLeg, IsClocking};
-ghost use Rattle.mic_clock.specs.Board.{ShowsRun, IsLedTo, IsCut, IsCutByRead, IsCutByWrite, Leads, NoFault, HasEndCause, end_by, tick_of};
+ghost use Rattle.mic_base.specs.Streams.{Holds, IsFlushed};
+ghost use Rattle.std.specs.Prelude.{◌≡◌, ◌≢◌, [], ◌<◌, ◌≤◌, ◌+◌, ◌^◌, ℕ, List, Option, None, Some, IsOk, OnOk, IfErr, IsSome, true, false, length, max};
+ghost use Rattle.console_port.specs.Bus.{Stands};
+ghost use Rattle.console_port.specs.Console.{IsFault, IsLost, HasFaultCause, StaysFlushed};
+ghost use Rattle.mic_clock.specs.Edge.{AsksNoMore};
+ghost use Rattle.mic_clock.specs.Run.{MicroRun, start_counts, start_buses, bounded, word_at, last_cycles, end_by};
+ghost use Rattle.mic_clock.specs.Board.{ShowsRun, ShowsAs, IsReset, NoFault, HasEndCause, tick_of, IsTurned, IsCutByFault, IsRun, RunIsCutByRead, RunIsCutByWrite, BoundIsCutByWrite, IsLegRun, LegIsCutByRead, LegIsCutByWrite};
+ghost use Rattle.mic_clock.specs.Board.{EndsInTime, IsCounted, ShowsBuses, EndsUncounted, HasRoom};
 
 use crate::buses::{Computed, Drive};
 use crate::clocked::Clocked;
@@ -17,10 +17,10 @@ use crate::counts::Counts;
 use crate::cycle::clock_once;
 use crate::end::{End, Tick};
 use crate::registers::{Registers, Start};
+use crate::word::MicroWord;
 use console_port::{Bus, BusFault};
 use mic_base::{Sink, Source};
-use mic1_alu::AluOut;
-use micro_word::Store;
+use micro_word::{Store, word_law};
 use std::marker::Model;
 
 /// A machine that is clocked over its control store and its bus, until it ends.
@@ -54,7 +54,7 @@ impl<M: Clocked> Board<M> {
         requires store { store.machine ≡ M.meaning.machine }
         requires entry { entry < 512 }
         requires memory { 0 < length bus.words }
-        ensures start { (left held : Option (List ℕ)) (w : World) → Shows left held bus w → ShowsRun M.state left held result (start_run M.meaning entry sp w) }
+        ensures start { IsReset M.state M.meaning entry sp bus result }
         ensures store { result.store ≡ store }
         ensures bus { result.bus ≡ bus }
         ensures counts { result.counts ≡ start_counts }
@@ -75,47 +75,40 @@ impl<M: Clocked> Board<M> {
                 boundary: None,
             },
             end: None,
-            drive: Drive {
-                a: 0,
-                b: 0,
-                stalled: false,
-            },
-            computed: Computed {
-                alu: AluOut {
-                    value: 0,
-                    n: false,
-                    z: false,
-                },
-                c: 0,
-            },
+            drive: Drive::ZERO,
+            computed: Computed::ZERO,
         }
     }
 
     /// One turn of the run, but for the test of the bound: an end that comes before a cycle, or a cycle.
+    #[tactic(auto, using(crate::proofs::Rules::ends_as_ruled, crate::proofs::Rules::ended_as_ruled, crate::proofs::Rules::counted_as_ruled))]
     pub fn cycle<S: Source, K: Sink>(&mut self, source: &mut S, sink: &mut K) -> Tick
         requires { self.old.counts.cycles ≤ 2 ^ 62 + 4096 }
-        ensures turn { NoFault self.old.end self.new.end → IsLedTo M.state (S.left source.old) (K.held sink.old) self.old (S.left source.new) self.new
-            (λ r rest. ShowsRun M.state (S.left source.new) (K.held sink.new) self.new (turn M.meaning self.old.store.words r) × ((turn M.meaning self.old.store.words r).world.untaken ≡ rest)) }
-        ensures cut { (e : BusFault) → self.old.end ≡ None → IsFault e → self.new.end ≡ Some (end_by e) → IsCut M.state M.meaning (S.left source.old) (K.held sink.old) self.old (S.left source.new) (K.held sink.new) self.new e }
+        ensures turn { IsTurned M.state M.meaning (S.left source.old) (K.held sink.old) self.old (S.left source.new) (K.held sink.new) self.new None }
+        ensures cut { IsCutByFault M.state M.meaning (S.left source.old) (K.held sink.old) self.old (S.left source.new) (K.held sink.new) self.new }
+        ensures kept { (e : BusFault) → self.old.end ≡ None → IsFault e → self.new.end ≡ Some (end_by e) → self.new.bus.console.kept ≡ [] }
         ensures tick { result ≡ tick_of self.old.counts self.new.counts self.new.end }
         ensures ended { (e : End) → self.old.end ≡ Some e → (self.new ≡ self.old) × (source.new ≡ source.old) × (sink.new ≡ sink.old) }
         ensures store { self.new.store ≡ self.old.store }
         ensures keeps { (front : List ℕ) → Holds front (K.held sink.old) → Holds front (K.held sink.new) }
+        ensures asked_no_more { AsksNoMore self.old.bus.console.ended source.old self.new.bus.console.ended source.new }
+        ensures tells { IsSome (K.held sink.old) → IsSome (K.held sink.new) }
+        ensures flushed { self.new.end ≢ Some End.WriteFault → StaysFlushed (K.held sink.old) (K.passed sink.old) (K.held sink.new) (K.passed sink.new) }
         ensures cause { HasEndCause (S.faults source.old) (S.faults source.new) (K.faults sink.old) (K.faults sink.new) self.old.end self.new.end }
 
         // These hold also of a source that does not tell what it has left.
-        ensures before { (e : End) → self.old.end ≡ None → end_before M.meaning (M.state self.old.machine) self.old.counts ≡ Some e → (self.new.end ≡ Some e) × (self.new.counts ≡ counts_ended self.old.counts e) }
-        ensures clocked { self.new.end ≡ None → (end_before M.meaning (M.state self.old.machine) self.old.counts ≡ None)
-            × (self.new.counts ≡ counts_after M.meaning self.old.counts (M.meaning.drives (word_at M.meaning self.old.store.words (M.state self.old.machine)) (M.state self.old.machine)).stalled (M.state self.new.machine)) }
-        ensures room { self.new.end ≡ None → self.old.counts.cycles < last_cycles self.old.counts.boundary + 1024 }
-        ensures still { IsSome self.new.end → (self.new.counts.cycles ≡ self.old.counts.cycles) × (self.new.counts.boundary ≡ self.old.counts.boundary) }
-        ensures buses { self.new.buses ≡ buses_of M.meaning self.old.store.words (M.state self.old.machine) self.old.buses self.new.end }
+        ensures before { EndsInTime M.state M.meaning self.old self.new }
+        ensures clocked { IsCounted M.state M.meaning self.old self.new }
+        ensures room { HasRoom self.old self.new }
+        ensures still { EndsUncounted self.old self.new }
+        ensures buses { ShowsBuses M.state M.meaning self.old self.new }
     {
         if let Some(end) = self.end {
             return Tick::Ended(end);
         }
         if let Some(end) = end_before(&self.machine, &self.counts) {
-            self.counts = ended_counts(self.counts, end);
+            let counts = ended_counts(self.counts, end);
+            self.counts = counts;
             self.end = Some(end);
             return Tick::Ended(end);
         }
@@ -141,17 +134,19 @@ impl<M: Clocked> Board<M> {
     /// Turns up to the next boundary, which answers none, or up to the end.
     pub fn instruction<S: Source, K: Sink>(&mut self, source: &mut S, sink: &mut K) -> Option<End>
         requires { self.old.counts.cycles ≤ 2 ^ 62 + 1024 }
-        ensures run { self.old.end ≡ None → NoFault None self.new.end → IsLedTo M.state (S.left source.old) (K.held sink.old) self.old (S.left source.new) self.new
-            (λ r rest. (n : ℕ) × IsLeg M.meaning self.old.store.words n r × Leads M.state M.meaning self.old.store.words None self.new self.old.buses rest n r (ShowsRun M.state (S.left source.new) (K.held sink.new) self.new)) }
-        ensures read { self.old.end ≡ None → self.new.end ≡ Some End.ReadFault → IsLedTo M.state (S.left source.old) (K.held sink.old) self.old (S.left source.new) self.new
-            (λ r rest. (n : ℕ) × IsLeg M.meaning self.old.store.words (suc n) r × Leads M.state M.meaning self.old.store.words None self.new self.old.buses rest n r (IsCutByRead M.state M.meaning self.old.store.words None (S.left source.new) (K.held sink.new) self.new)) }
-        ensures write { self.old.end ≡ None → self.new.end ≡ Some End.WriteFault → IsLedTo M.state (S.left source.old) (K.held sink.old) self.old (S.left source.new) self.new
-            (λ r rest. (n : ℕ) × IsLeg M.meaning self.old.store.words (suc n) r × Leads M.state M.meaning self.old.store.words None self.new self.old.buses rest n r (IsCutByWrite M.state M.meaning self.old.store.words None (S.left source.new) (K.held sink.new) self.new)) }
+        ensures run { IsLegRun M.state M.meaning (S.left source.old) (K.held sink.old) self.old (S.left source.new) (K.held sink.new) self.new }
+        ensures read { LegIsCutByRead M.state M.meaning (S.left source.old) (K.held sink.old) self.old (S.left source.new) (K.held sink.new) self.new }
+        ensures write { LegIsCutByWrite M.state M.meaning (S.left source.old) (K.held sink.old) self.old (S.left source.new) (K.held sink.new) self.new }
         ensures value { result ≡ self.new.end }
         ensures boundary { result ≡ None → M.meaning.is_boundary (M.state self.new.machine) ≡ true }
+        ensures growth { self.new.counts.cycles ≤ self.old.counts.cycles + 1024 }
+        ensures near { self.new.counts.cycles ≤ last_cycles self.new.counts.boundary + 1024 }
         ensures ended { (e : End) → self.old.end ≡ Some e → (self.new ≡ self.old) × (source.new ≡ source.old) × (sink.new ≡ sink.old) }
         ensures store { self.new.store ≡ self.old.store }
         ensures keeps { (front : List ℕ) → Holds front (K.held sink.old) → Holds front (K.held sink.new) }
+        ensures asked_no_more { AsksNoMore self.old.bus.console.ended source.old self.new.bus.console.ended source.new }
+        ensures tells { IsSome (K.held sink.old) → IsSome (K.held sink.new) }
+        ensures flushed { self.new.end ≢ Some End.WriteFault → StaysFlushed (K.held sink.old) (K.passed sink.old) (K.held sink.new) (K.passed sink.new) }
         ensures cause { HasEndCause (S.faults source.old) (S.faults source.new) (K.faults sink.old) (K.faults sink.new) self.old.end self.new.end }
     {
         if self.end.is_some() {
@@ -168,7 +163,7 @@ impl<M: Clocked> Board<M> {
     fn goes_on(&mut self, bound: u64) -> bool
         ensures stays { result ≡ true → (self.new ≡ self.old) × (self.old.end ≡ None) }
         ensures below { result ≡ true → M.meaning.is_boundary (M.state self.old.machine) ≡ true → self.old.counts.cycles < bound }
-        ensures bounded { (left held : Option (List ℕ)) (r : MicroRun M.State) → ShowsRun M.state left held self.old r → ShowsRun M.state left held self.new (bounded M.meaning (Some bound) r) }
+        ensures bounded { (held : Option (List ℕ)) → ShowsAs M.state held self.old held self.new (bounded M.meaning (Some bound)) }
         ensures world { (r : MicroRun M.State) → (bounded M.meaning (Some bound) r).world ≡ r.world }
         ensures same { self.new ≡ record self.old { end = self.new.end } }
         ensures stops { result ≡ false → IsSome self.new.end }
@@ -181,40 +176,24 @@ impl<M: Clocked> Board<M> {
         self.end.is_none()
     }
 
-    // One turn, with the test of the bound before it.
-    fn step<S: Source, K: Sink>(&mut self, bound: u64, source: &mut S, sink: &mut K)
-        requires { self.old.counts.cycles ≤ 2 ^ 62 + 4096 }
-        ensures turn { NoFault self.old.end self.new.end → IsLedTo M.state (S.left source.old) (K.held sink.old) self.old (S.left source.new) self.new
-            (λ r rest. ShowsRun M.state (S.left source.new) (K.held sink.new) self.new (turn M.meaning self.old.store.words (bounded M.meaning (Some bound) r)) × ((turn M.meaning self.old.store.words (bounded M.meaning (Some bound) r)).world.untaken ≡ rest)) }
-        ensures cut { (e : BusFault) → self.old.end ≡ None → IsFault e → self.new.end ≡ Some (end_by e) → IsCut M.state M.meaning (S.left source.old) (K.held sink.old) self.old (S.left source.new) (K.held sink.new) self.new e }
-        ensures on { (e : BusFault) → self.old.end ≡ None → IsFault e → self.new.end ≡ Some (end_by e) → (left held : Option (List ℕ)) (r : MicroRun M.State) → ShowsRun M.state left held self.old r → (bounded M.meaning (Some bound) r).end ≡ None }
-        ensures keeps { (front : List ℕ) → Holds front (K.held sink.old) → Holds front (K.held sink.new) }
-        ensures cause { HasEndCause (S.faults source.old) (S.faults source.new) (K.faults sink.old) (K.faults sink.new) self.old.end self.new.end }
-        ensures still { IsSome self.new.end → (self.new.counts.cycles ≡ self.old.counts.cycles) × (self.new.counts.boundary ≡ self.old.counts.boundary) }
-        ensures room { self.new.end ≡ None → self.old.counts.cycles < last_cycles self.old.counts.boundary + 1024 }
-        ensures clocked { self.new.end ≡ None → (end_before M.meaning (M.state self.old.machine) self.old.counts ≡ None)
-            × (self.new.counts ≡ counts_after M.meaning self.old.counts (M.meaning.drives (word_at M.meaning self.old.store.words (M.state self.old.machine)) (M.state self.old.machine)).stalled (M.state self.new.machine)) }
-        ensures below { self.new.end ≡ None → M.meaning.is_boundary (M.state self.old.machine) ≡ true → self.old.counts.cycles < bound }
-        ensures buses { self.new.buses ≡ buses_of M.meaning self.old.store.words (M.state self.old.machine) self.old.buses self.new.end }
-        ensures store { self.new.store ≡ self.old.store }
-    {
-        if self.goes_on(bound) {
-            self.cycle(source, sink);
-        }
-    }
-
     // Flushes the console, and tells whether that was done. Where it fails, the end is a write fault.
     fn finish<K: Sink>(&mut self, sink: &mut K) -> bool
         requires { IsSome self.old.end }
-        ensures done { result ≡ true → (self.new.end ≡ self.old.end) × ((left : Option (List ℕ)) (r : MicroRun M.State) → ShowsRun M.state left (K.held sink.old) self.old r → ShowsRun M.state left (K.held sink.new) self.new r) }
-        ensures lost { result ≡ false → (self.new.end ≡ Some End.WriteFault) × IsLost (K.held sink.old) self.old.bus.console.kept (K.held sink.new) self.new.bus.console.kept }
+        ensures done { result ≡ true → self.new.end ≡ self.old.end }
+        ensures shows { result ≡ true → ShowsAs M.state (K.held sink.old) self.old (K.held sink.new) self.new (λ r. r) }
+        ensures failed { result ≡ false → self.new.end ≡ Some End.WriteFault }
+        ensures lost { result ≡ false → IsLost (K.held sink.old) self.old.bus.console.kept (K.held sink.new) self.new.bus.console.kept }
         ensures empty { self.old.bus.console.kept ≡ [] → (result ≡ true) × (self.new ≡ self.old) × (sink.new ≡ sink.old) }
         ensures same { self.new ≡ record self.old { bus = self.new.bus; end = self.new.end } }
         ensures memory { self.new.bus.words ≡ self.old.bus.words }
         ensures input { self.new.bus.console.ended ≡ self.old.bus.console.ended }
         ensures kept { self.new.bus.console.kept ≡ [] }
         ensures keeps { (front : List ℕ) → Holds front (K.held sink.old) → Holds front (K.held sink.new) }
-        ensures cause { (result ≡ false → Rose (K.faults sink.old) (K.faults sink.new)) × (result ≡ true → K.faults sink.new ≡ K.faults sink.old) × (K.faults sink.old ≤ K.faults sink.new) }
+        ensures tells { IsSome (K.held sink.old) → IsSome (K.held sink.new) }
+        ensures flushed { result ≡ true → StaysFlushed (K.held sink.old) (K.passed sink.old) (K.held sink.new) (K.passed sink.new) }
+        ensures rose { result ≡ false → Rose (K.faults sink.old) (K.faults sink.new) }
+        ensures quiet { result ≡ true → K.faults sink.new ≡ K.faults sink.old }
+        ensures later { K.faults sink.old ≤ K.faults sink.new }
     {
         let done = self.bus.flush(sink).is_ok();
         if !done {
@@ -223,44 +202,21 @@ impl<M: Clocked> Board<M> {
         done
     }
 
-    /// Turns until the run ends, with the test of the bound before each, and then the flush.
-    pub fn run<S: Source, K: Sink>(&mut self, bound: u64, source: &mut S, sink: &mut K) -> End
-        requires bound { bound ≤ 2 ^ 62 }
-        requires cycles { self.old.counts.cycles ≤ 2 ^ 62 + 1024 }
-        ensures run { self.old.end ≡ None → NoFault None self.new.end → IsLedTo M.state (S.left source.old) (K.held sink.old) self.old (S.left source.new) self.new
-            (λ r rest. (n : ℕ) × Leads M.state M.meaning self.old.store.words (Some bound) self.new self.old.buses rest n r (ShowsRun M.state (S.left source.new) (K.held sink.new) self.new)) }
-        ensures read { self.old.end ≡ None → self.new.end ≡ Some End.ReadFault → IsLedTo M.state (S.left source.old) (K.held sink.old) self.old (S.left source.new) self.new
-            (λ r rest. (n : ℕ) × Leads M.state M.meaning self.old.store.words (Some bound) self.new self.old.buses rest n r (IsCutByRead M.state M.meaning self.old.store.words (Some bound) (S.left source.new) (K.held sink.new) self.new)) }
-        ensures write { self.old.end ≡ None → self.new.end ≡ Some End.WriteFault → IsLedTo M.state (S.left source.old) (K.held sink.old) self.old (S.left source.new) self.new
-            (λ r rest. (n : ℕ) × Leads M.state M.meaning self.old.store.words (Some bound) self.new self.old.buses rest n r (IsCutByWrite M.state M.meaning self.old.store.words (Some bound) (S.left source.new) (K.held sink.new) self.new)) }
-        ensures end { self.new.end ≡ Some result }
-        ensures ended { (e : End) → self.old.end ≡ Some e → (self.new ≡ self.old) × (source.new ≡ source.old) × (sink.new ≡ sink.old) }
-        ensures kept { self.old.end ≡ None → self.new.bus.console.kept ≡ [] }
-        ensures store { self.new.store ≡ self.old.store }
-        ensures keeps { (front : List ℕ) → Holds front (K.held sink.old) → Holds front (K.held sink.new) }
-        ensures cause { HasEndCause (S.faults source.old) (S.faults source.new) (K.faults sink.old) (K.faults sink.new) self.old.end self.new.end }
-    {
-        if let Some(end) = self.end {
-            return end;
-        }
-        'turns: while self.end.is_none() {
-            self.step(bound, source, sink);
-        }
-        self.finish(sink);
-        self.end.unwrap()
-    }
-
     /// The test of the bound alone, with the flush where it ends the board.
     pub fn stop_at<K: Sink>(&mut self, bound: u64, sink: &mut K) -> Option<End>
-        ensures run { (left : Option (List ℕ)) (r : MicroRun M.State) → ShowsRun M.state left (K.held sink.old) self.old r → NoFault self.old.end self.new.end → ShowsRun M.state left (K.held sink.new) self.new (bounded M.meaning (Some bound) r) }
-        ensures write { self.old.end ≡ None → self.new.end ≡ Some End.WriteFault → (left : Option (List ℕ)) (r : MicroRun M.State) → ShowsRun M.state left (K.held sink.old) self.old r →
-            IsCutByWrite M.state M.meaning self.old.store.words (Some bound) left (K.held sink.new) self.new (bounded M.meaning (Some bound) r) }
+        ensures run { NoFault self.old.end self.new.end → ShowsAs M.state (K.held sink.old) self.old (K.held sink.new) self.new (bounded M.meaning (Some bound)) }
+        ensures write { (left : Option (List ℕ)) → BoundIsCutByWrite M.state M.meaning left (K.held sink.old) self.old left (K.held sink.new) self.new bound }
         ensures value { result ≡ self.new.end }
+        ensures below { result ≡ None → M.meaning.is_boundary (M.state self.old.machine) ≡ true → self.old.counts.cycles < bound }
         ensures stays { result ≡ None → (self.new ≡ self.old) × (sink.new ≡ sink.old) }
         ensures ended { (e : End) → self.old.end ≡ Some e → (self.new ≡ self.old) × (sink.new ≡ sink.old) }
         ensures kept { self.old.end ≡ None → IsSome self.new.end → self.new.bus.console.kept ≡ [] }
         ensures same { self.new ≡ record self.old { bus = self.new.bus; end = self.new.end } }
+        ensures memory { self.new.bus.words ≡ self.old.bus.words }
+        ensures input { self.new.bus.console.ended ≡ self.old.bus.console.ended }
         ensures keeps { (front : List ℕ) → Holds front (K.held sink.old) → Holds front (K.held sink.new) }
+        ensures tells { IsSome (K.held sink.old) → IsSome (K.held sink.new) }
+        ensures flushed { self.new.end ≢ Some End.WriteFault → StaysFlushed (K.held sink.old) (K.passed sink.old) (K.held sink.new) (K.passed sink.new) }
         ensures cause { HasEndCause 0 0 (K.faults sink.old) (K.faults sink.new) self.old.end self.new.end }
     {
         if self.end.is_some() {
@@ -273,10 +229,74 @@ impl<M: Clocked> Board<M> {
         self.end
     }
 
+    /// One turn of a run: the test of the bound, and where it does not end the board, a cycle.
+    pub fn turn<S: Source, K: Sink>(
+        &mut self,
+        bound: u64,
+        source: &mut S,
+        sink: &mut K,
+    ) -> Option<End>
+        requires { self.old.counts.cycles ≤ 2 ^ 62 + 4096 }
+        ensures turn { IsTurned M.state M.meaning (S.left source.old) (K.held sink.old) self.old (S.left source.new) (K.held sink.new) self.new (Some bound) }
+        ensures read { RunIsCutByRead M.state M.meaning (S.left source.old) (K.held sink.old) self.old (S.left source.new) (K.held sink.new) self.new (Some bound) }
+        ensures write { RunIsCutByWrite M.state M.meaning (S.left source.old) (K.held sink.old) self.old (S.left source.new) (K.held sink.new) self.new (Some bound) }
+        ensures value { result ≡ self.new.end }
+        ensures ended { (e : End) → self.old.end ≡ Some e → (self.new ≡ self.old) × (source.new ≡ source.old) × (sink.new ≡ sink.old) }
+        ensures kept { (e : BusFault) → self.old.end ≡ None → IsFault e → self.new.end ≡ Some (end_by e) → self.new.bus.console.kept ≡ [] }
+        ensures store { self.new.store ≡ self.old.store }
+        ensures keeps { (front : List ℕ) → Holds front (K.held sink.old) → Holds front (K.held sink.new) }
+        ensures asked_no_more { AsksNoMore self.old.bus.console.ended source.old self.new.bus.console.ended source.new }
+        ensures tells { IsSome (K.held sink.old) → IsSome (K.held sink.new) }
+        ensures flushed { self.new.end ≢ Some End.WriteFault → StaysFlushed (K.held sink.old) (K.passed sink.old) (K.held sink.new) (K.passed sink.new) }
+        ensures cause { HasEndCause (S.faults source.old) (S.faults source.new) (K.faults sink.old) (K.faults sink.new) self.old.end self.new.end }
+
+        // These hold also of a source that does not tell what it has left.
+        ensures below { self.new.end ≡ None → M.meaning.is_boundary (M.state self.old.machine) ≡ true → self.old.counts.cycles < bound }
+        ensures clocked { IsCounted M.state M.meaning self.old self.new }
+        ensures room { HasRoom self.old self.new }
+        ensures still { EndsUncounted self.old self.new }
+        ensures buses { ShowsBuses M.state M.meaning self.old self.new }
+    {
+        if let Some(end) = self.stop_at(bound, sink) {
+            return Some(end);
+        }
+        self.cycle(source, sink);
+        self.end
+    }
+
+    /// Turns until the run ends, with the test of the bound before each, and then the flush.
+    pub fn run<S: Source, K: Sink>(&mut self, bound: u64, source: &mut S, sink: &mut K) -> End
+        requires bound { bound ≤ 2 ^ 62 }
+        requires cycles { self.old.counts.cycles ≤ 2 ^ 62 + 1024 }
+        ensures run { IsRun M.state M.meaning (S.left source.old) (K.held sink.old) self.old (S.left source.new) (K.held sink.new) self.new (Some bound) }
+        ensures read { RunIsCutByRead M.state M.meaning (S.left source.old) (K.held sink.old) self.old (S.left source.new) (K.held sink.new) self.new (Some bound) }
+        ensures write { RunIsCutByWrite M.state M.meaning (S.left source.old) (K.held sink.old) self.old (S.left source.new) (K.held sink.new) self.new (Some bound) }
+        ensures end { self.new.end ≡ Some result }
+        ensures growth { self.new.counts.cycles ≤ max bound self.old.counts.cycles + 1024 }
+        ensures near { self.new.counts.cycles ≤ last_cycles self.new.counts.boundary + 1024 }
+        ensures ended { (e : End) → self.old.end ≡ Some e → (self.new ≡ self.old) × (source.new ≡ source.old) × (sink.new ≡ sink.old) }
+        ensures kept { self.old.end ≡ None → self.new.bus.console.kept ≡ [] }
+        ensures store { self.new.store ≡ self.old.store }
+        ensures keeps { (front : List ℕ) → Holds front (K.held sink.old) → Holds front (K.held sink.new) }
+        ensures asked_no_more { AsksNoMore self.old.bus.console.ended source.old self.new.bus.console.ended source.new }
+        ensures tells { IsSome (K.held sink.old) → IsSome (K.held sink.new) }
+        ensures flushed { self.new.end ≢ Some End.WriteFault → StaysFlushed (K.held sink.old) (K.passed sink.old) (K.held sink.new) (K.passed sink.new) }
+        ensures cause { HasEndCause (S.faults source.old) (S.faults source.new) (K.faults sink.old) (K.faults sink.new) self.old.end self.new.end }
+    {
+        if let Some(end) = self.end {
+            return end;
+        }
+        'turns: while self.end.is_none() {
+            self.turn(bound, source, sink);
+        }
+        self.finish(sink);
+        self.end.unwrap()
+    }
+
     /// Puts what the console keeps to the sink, at any time.
     pub fn flush<K: Sink>(&mut self, sink: &mut K) -> Result<(), BusFault>
         ensures same { self.new ≡ record self.old { bus = self.new.bus } }
-        ensures ok { OnOk result ((left : Option (List ℕ)) (r : MicroRun M.State) → ShowsRun M.state left (K.held sink.old) self.old r → ShowsRun M.state left (K.held sink.new) self.new r) }
+        ensures ok { OnOk result (ShowsAs M.state (K.held sink.old) self.old (K.held sink.new) self.new (λ r. r)) }
         ensures err { (left : Option (List ℕ)) → IfErr result (Stands left (K.held sink.old) self.old.bus left (K.held sink.new) self.new.bus) }
         ensures fault { IfErr result (λ e. e ≡ BusFault.WriteFault) }
         ensures kept { self.new.bus.console.kept ≡ [] }
@@ -284,6 +304,9 @@ impl<M: Clocked> Board<M> {
         ensures memory { self.new.bus.words ≡ self.old.bus.words }
         ensures input { self.new.bus.console.ended ≡ self.old.bus.console.ended }
         ensures keeps { (front : List ℕ) → Holds front (K.held sink.old) → Holds front (K.held sink.new) }
+        ensures tells { IsSome (K.held sink.old) → IsSome (K.held sink.new) }
+        ensures flushed { OnOk result ((self.old.bus.console.kept ≡ [] →
+            IsFlushed (K.held sink.old) (K.passed sink.old)) → IsFlushed (K.held sink.new) (K.passed sink.new)) }
         ensures cause { HasFaultCause 0 0 (K.faults sink.old) (K.faults sink.new) result }
     {
         self.bus.flush(sink)
@@ -293,6 +316,14 @@ impl<M: Clocked> Board<M> {
         ensures { result ≡ M.meaning.registers (M.state self.now.machine) }
     {
         self.machine.registers()
+    }
+
+    /// The word at MPC, which the next cycle sets up.
+    pub fn microinstruction(&self) -> M::Word
+        ensures { M.Word.number result ≡ word_at M.meaning self.now.store.words (M.state self.now.machine) }
+    {
+        word_law(self.machine.machine());
+        M::Word::from_bits(self.store.word(self.machine.mpc())).unwrap()
     }
 
     pub fn counts(&self) -> Counts
@@ -327,10 +358,3 @@ impl<M: Clocked> Board<M> {
         self.computed
     }
 }
-
-/// A run has one end.
-pub fn one_end<M: Clocked>(_machine: &M)
-    ensures { (words : List ℕ) (bound : Option ℕ) (r : MicroRun M.State) (n k : ℕ) →
-        IsSome (turns M.meaning words bound n r).end → IsSome (turns M.meaning words bound k r).end →
-        turns M.meaning words bound n r ≡ turns M.meaning words bound k r }
-{}

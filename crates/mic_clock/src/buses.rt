@@ -16,3 +16,23 @@ pub struct Computed {
     pub alu: AluOut,
     pub c: u32,
 }
+
+impl Drive {
+    /// Nothing drives the buses.
+    pub const ZERO: Drive = Drive {
+        a: 0,
+        b: 0,
+        stalled: false,
+    };
+}
+
+impl Computed {
+    pub const ZERO: Computed = Computed {
+        alu: AluOut {
+            value: 0,
+            n: false,
+            z: false,
+        },
+        c: 0,
+    };
+}

@@ -1,11 +1,11 @@
 //! What a board asks of a machine.
 
 ghost use Rattle.mic_base.specs.Streams.{Holds};
-ghost use Rattle.std.specs.Prelude.{◌≡◌, ◌≢◌, ◌<◌, ◌≤◌, ℕ, List, Option, Some, slice_index, slice_get, OnOk, OnErr, IfErr, IsErrOf, IsTrue, ◌↔◌};
-ghost use Rattle.console_port.specs.World.{World};
-ghost use Rattle.console_port.specs.Bus.{Shows, Stands, IsLed, ChangesOnly};
-ghost use Rattle.console_port.specs.Console.{IsFault, HasFaultCause};
-ghost use Rattle.mic_clock.specs.Meaning.{Meaning, Phase, AtRest, SetUp, Driven, Settled, Outcome, Done, fault_in};
+ghost use Rattle.std.specs.Prelude.{◌≡◌, ◌≢◌, IsSome, Err, ◌<◌, ℕ, List, slice_index, OnOk, OnErr, IfErr};
+ghost use Rattle.console_port.specs.Bus.{Stands, ChangesOnly};
+ghost use Rattle.console_port.specs.Console.{HasFaultCause, StaysFlushed};
+ghost use Rattle.mic_clock.specs.Edge.{IsStep, AnswersRefusal, IsErrOfStep, AsksNoMore};
+ghost use Rattle.mic_clock.specs.Meaning.{Meaning, Phase, AtRest, SetUp, Driven, AtEdge};
 
 use crate::buses::{Computed, Drive};
 use crate::registers::{Registers, Start};
@@ -16,7 +16,7 @@ use micro_word::{Machine, Store};
 
 /// A machine that is clocked in four calls: `setup`, `drive`, `compute` and `edge`, in this order, are one microstep.
 pub trait Clocked {
-    /// The words of its control store.
+    /// The words of its control store, which are those of its machine.
     type Word: MicroWord;
 
     /// What a machine is between cycles.
@@ -30,7 +30,7 @@ pub trait Clocked {
     ghost phase: { Self → Phase };
 
     /// The word that was set up last.
-    ghost latched: { Self → ℕ };
+    ghost word: { Self → ℕ };
 
     fn machine(&self) -> Machine
         ensures { result ≡ meaning.machine };
@@ -46,23 +46,23 @@ pub trait Clocked {
         requires machine { store.now.machine ≡ meaning.machine }
         ensures state { state self.new ≡ state self.old }
         ensures phase { phase self.new ≡ SetUp }
-        ensures latched { latched self.new ≡ slice_index store.now.words (meaning.registers (state self.old)).mpc };
+        ensures word { word self.new ≡ slice_index store.now.words (meaning.registers (state self.old)).mpc };
 
     /// Drives the operand buses.
     fn drive(&mut self) -> Drive
         requires { phase self.old ≡ SetUp }
         ensures state { state self.new ≡ state self.old }
         ensures phase { phase self.new ≡ Driven }
-        ensures latched { latched self.new ≡ latched self.old }
-        ensures value { result ≡ meaning.drives (latched self.old) (state self.old) };
+        ensures word { word self.new ≡ word self.old }
+        ensures value { result ≡ meaning.drives (word self.old) (state self.old) };
 
     /// Lets the ALU and the shifter work.
     fn compute(&mut self) -> Computed
         requires { phase self.old ≡ Driven }
         ensures state { state self.new ≡ state self.old }
-        ensures phase { phase self.new ≡ Settled }
-        ensures latched { latched self.new ≡ latched self.old }
-        ensures value { result ≡ meaning.computes (latched self.old) (state self.old) };
+        ensures phase { phase self.new ≡ AtEdge }
+        ensures word { word self.new ≡ word self.old }
+        ensures value { result ≡ meaning.computes (word self.old) (state self.old) };
 
     /// The clock edge. An Err leaves the machine's state.
     fn edge<S: Source, K: Sink>(
@@ -71,16 +71,19 @@ pub trait Clocked {
         source: &mut S,
         sink: &mut K,
     ) -> Result<(), BusFault>
-        requires { phase self.old ≡ Settled }
+        requires { phase self.old ≡ AtEdge }
         ensures phase { phase self.new ≡ AtRest }
-        ensures ok { OnOk result (IsLed (S.left source.old) (K.held sink.old) bus.old (S.left source.new) (K.held sink.new) bus.new (λ w v. meaning.step (latched self.old) (state self.old) w ≡ Done (state self.new) v)) }
+        ensures ok { OnOk result (IsStep meaning (word self.old) (state self.old) (S.left source.old) (K.held sink.old) bus.old
+            (state self.new) (S.left source.new) (K.held sink.new) bus.new) }
         ensures others { OnOk result (ChangesOnly (meaning.registers (state self.new)).mar bus.old.words bus.new.words) }
+        ensures refusal { AnswersRefusal meaning (word self.old) (state self.old) (S.left source.old) (K.held sink.old) bus.old result }
+        ensures err { IfErr result (IsErrOfStep meaning (word self.old) (state self.old) (S.left source.old) (K.held sink.old) bus.old) }
         ensures state { OnErr result (state self.new ≡ state self.old) }
-        ensures refused { IfErr result (λ e. (IsFault e → ⊥) → (w : World) → Shows (S.left source.old) (K.held sink.old) bus.old w → fault_in (meaning.step (latched self.old) (state self.old) w) ≡ Some e) }
         ensures stands { IfErr result (Stands (S.left source.old) (K.held sink.old) bus.old (S.left source.new) (K.held sink.new) bus.new) }
-        ensures reads { IsErrOf result BusFault.ReadFault → IsTrue (meaning.reads_console (latched self.old) (state self.old)) }
-        ensures uses { IsErrOf result BusFault.WriteFault → IsTrue (meaning.uses_console (latched self.old) (state self.old)) }
         ensures keeps { (front : List ℕ) → Holds front (K.held sink.old) → Holds front (K.held sink.new) }
+        ensures asked_no_more { AsksNoMore bus.old.console.ended source.old bus.new.console.ended source.new }
+        ensures tells { IsSome (K.held sink.old) → IsSome (K.held sink.new) }
+        ensures flushed { result ≢ Err BusFault.WriteFault → StaysFlushed (K.held sink.old) (K.passed sink.old) (K.held sink.new) (K.passed sink.new) }
         ensures cause { HasFaultCause (S.faults source.old) (S.faults source.new) (K.faults sink.old) (K.faults sink.new) result };
 
     fn registers(&self) -> Registers
@@ -102,4 +105,6 @@ pub trait Clocked {
     {
         self.registers().mpc
     }
+
+    ghost its_words: { Self.Word.machine ≡ meaning.machine };
 }

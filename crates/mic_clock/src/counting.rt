@@ -1,8 +1,8 @@
 //! What a turn counts, and the ends that come before a cycle.
 
 ghost use Rattle.std.specs.Prelude.{◌≡◌, ◌<◌, ◌≤◌, ◌+◌, ◌^◌, IfNone};
-ghost use Rattle.mic_clock.specs.Board.{end_by};
-ghost use Rattle.mic_clock.specs.Run.{end_before, counts_after, counts_ended, last_cycles};
+ghost use Rattle.mic_clock.specs.Rule.{EndsBefore, CountsEnd, CountsCycle};
+ghost use Rattle.mic_clock.specs.Run.{end_by, last_cycles};
 
 use crate::clocked::Clocked;
 use crate::counts::{Boundary, Counts};
@@ -30,7 +30,7 @@ pub fn end_of(fault: BusFault) -> End
 /// The end that comes before a cycle, if one does.
 pub fn end_before<M: Clocked>(machine: &M, counts: &Counts) -> Option<End>
     requires { last_cycles counts.now.boundary ≤ counts.now.cycles }
-    ensures value { result ≡ end_before M.meaning (M.state machine.now) counts.now }
+    ensures rule { EndsBefore (M.meaning.registers (M.state machine.now)).mpc counts.now result }
     ensures room { IfNone result (counts.now.cycles < last_cycles counts.now.boundary + 1024) }
 {
     let mpc = machine.mpc();
@@ -53,7 +53,7 @@ pub fn end_before<M: Clocked>(machine: &M, counts: &Counts) -> Option<End>
 /// The counts after an end that comes before a cycle.
 pub fn ended_counts(counts: Counts, end: End) -> Counts
     requires { counts.instructions ≤ 2 ^ 63 }
-    ensures { result ≡ counts_ended counts end }
+    ensures { CountsEnd counts end result }
 {
     let mut counts = counts;
     if matches!(end, End::Halt | End::Err) && counts.boundary.is_some() {
@@ -67,7 +67,7 @@ pub fn count<M: Clocked>(counts: &mut Counts, stalled: bool, machine: &M)
     requires cycles { counts.old.cycles ≤ 2 ^ 63 }
     requires instructions { counts.old.instructions ≤ 2 ^ 63 }
     requires stalls { counts.old.stalls ≤ 2 ^ 63 }
-    ensures { counts.new ≡ counts_after M.meaning counts.old stalled (M.state machine.now) }
+    ensures { CountsCycle M.meaning counts.old stalled (M.state machine.now) counts.new }
 {
     counts.cycles += 1;
     if stalled {

@@ -8,6 +8,7 @@ mod counting;
 pub mod counts;
 mod cycle;
 pub mod end;
+pub mod laws;
 pub mod registers;
 pub mod word;
 
@@ -16,5 +17,6 @@ pub use buses::{Computed, Drive};
 pub use clocked::Clocked;
 pub use counts::{Boundary, Counts};
 pub use end::{End, Tick};
+pub use laws::{one_end, runs_compose, turn_law, turns_add};
 pub use registers::{Registers, Start, Tail};
 pub use word::MicroWord;

@@ -9,18 +9,19 @@ use Rattle.mic1_datapath.specs.Mic1.{registers_of}
 use Rattle.mic1_datapath.specs.View.{micro_of}
 use Rattle.ijvm_image.specs.Image.{ImageView}
 use Rattle.shipped_microcode.specs.Headline.{HasRun, IsCutByWrite}
-use Rattle.mic_words.specs.Words.{default_bound}
+use Rattle.mic_words.specs.declared.options.TheConstants.{DEFAULT_BOUND}
 use Rattle.mic_work.specs.Outside.{Says}
 use Rattle.mic_tool.specs.Outside.{Streams}
-use Rattle.mic_tool.specs.Report.{report as report_of}
-use Rattle.mic_tool.specs.RunEnds.{ClockedEnd, Ran, Cut, IsReport, status_of}
+use Rattle.run_texts.specs.Ends.{status_of}
+use Rattle.run_texts.specs.Report.{report as report_of}
+use Rattle.mic_tool.specs.RunEnds.{ClockedEnd, Ran, Cut, IsReport}
 
 -- what is known of a board that was run between these streams
 pub record IsRun (image : ImageView) (old new : Streams) (board : BoardView Mic1) : Type 0 where
-  pub run : NoFault None board.end → HasRun image 0 default_bound old.console.left old.out.held new.console.left new.out.held board
+  pub run : NoFault None board.end → HasRun image 0 DEFAULT_BOUND old.console.left old.out.held new.console.left new.out.held board
   pub halt : NoFault None board.end → board.end ≡ Some ends.Halt
   pub unread : board.end ≢ Some ends.ReadFault
-  pub write : board.end ≡ Some ends.WriteFault → IsCutByWrite image 0 default_bound old.console.left old.out.held new.console.left new.out.held board
+  pub write : board.end ≡ Some ends.WriteFault → IsCutByWrite image 0 DEFAULT_BOUND old.console.left old.out.held new.console.left new.out.held board
   pub cause : HasEndCause old.console.faults new.console.faults old.out.faults new.out.faults None board.end
 
 -- no fault ended the board

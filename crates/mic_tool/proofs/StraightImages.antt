@@ -109,9 +109,9 @@ module _ (image : ImageView) where
   pub no_locals : (count : ℕ) → IsStraight image.text → IsMainCount image count → count ≡ 0
   no_locals count straight main = elim main.least [ inl none ↦ none | inr some ↦ absurd (unnamed straight some.0 some.1) ]
 
-  here : (at depth : ℕ) (i : Instr) → Reached image (arrival None at depth None) → instr_at image.text at ≡ Some i → IsSimple (row_of i) →
-      Accepts image 0x10000 → depth < (row_of i).needs → ⊥
-  here at depth i reached e s accepts few =
+  here : (z at depth : ℕ) (i : Instr) → Reached image (arrival None at depth None) → instr_at image.text at ≡ Some i → IsSimple (row_of i) →
+      Accepts image z → depth < (row_of i).needs → ⊥
+  here z at depth i reached e s accepts few =
       accepts (Underflow at)
       (arrival None at depth None, reached, (refl, row_of i, (i, e, refl), subst IsNoCall (sym s.flow) refl, few))
 
@@ -140,19 +140,19 @@ module _ (image : ImageView) where
   decided at depth i is true t few on = absurd (few (grind (arith, nat_tests)))
   decided at depth i is false t few on = rw t (on (grind (arith, nat_tests)))
 
-  no_underflow : Accepts image 0x10000 → (is : List Instr) (at depth : ℕ) → IsFrom image.text at is → Reached image (arrival None at depth None) →
+  no_underflow : (z : ℕ) → Accepts image z → (is : List Instr) (at depth : ℕ) → IsFrom image.text at is → Reached image (arrival None at depth None) →
       underflow at depth is ≡ None
-  no_underflow accepts [] at depth h reached = refl
-  no_underflow accepts (i ∷ is) at depth h reached =
+  no_underflow z accepts [] at depth h reached = refl
+  no_underflow z accepts (i ∷ is) at depth h reached =
       let s : IsSimple (row_of i) = simple i h.1 in
-      decided at depth i is (nat_lt depth (row_of i).needs) refl (here at depth i reached h.0 s accepts)
+      decided at depth i is (nat_lt depth (row_of i).needs) refl (here z at depth i reached h.0 s accepts)
       (λ (enough : (row_of i).needs ≤ depth).
-      no_underflow accepts is (at + size_of (row_of i)) (depth - (row_of i).needs + (row_of i).gives) h.2
+      no_underflow z accepts is (at + size_of (row_of i)) (depth - (row_of i).needs + (row_of i).gives) h.2
       (onward at depth i reached h.0 s enough (inside image.text (at + size_of (row_of i)) is h.2)))
 
   -- each instruction finds its operands
-  pub runs : Accepts image 0x10000 → IsStraight image.text → Runs image.text
-  runs accepts straight = (straight.0, straight.1, no_underflow accepts straight.0 0 0 straight.1 Start)
+  pub runs : (z : ℕ) → Accepts image z → IsStraight image.text → Runs image.text
+  runs z accepts straight = (straight.0, straight.1, no_underflow z accepts straight.0 0 0 straight.1 Start)
 
 -- What is told of a program by whether its text is one of the form.
 module _ (program : VerifiedView) (text : List ℕ) (accepted : IsAccepted program) (is : text ≡ program.image.text) where
@@ -161,7 +161,7 @@ module _ (program : VerifiedView) (text : List ℕ) (accepted : IsAccepted progr
       no_locals program.image program.main_locals (subst IsStraight is (runs.0, runs.1)) accepted.main
 
   pub unbuilt : (Runs text → ⊥) → IsBuilt program.image → ⊥
-  unbuilt none built = none (subst Runs (sym is) (runs program.image accepted.accepts built.straight))
+  unbuilt none built = none (subst Runs (sym is) (runs program.image program.map.stack_end accepted.accepts built.straight))
 
 image_is : (image : ImageView) (text : List ℕ) → text ≡ image.text → image.pool ≡ [] → image_of text ≡ image
 image_is image text is bare =

@@ -1,5 +1,4 @@
-pub mod Report
-pub mod Usage
 pub mod Outside
+pub mod Usage
 pub mod RunEnds
 pub mod Ends

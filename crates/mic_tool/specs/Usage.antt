@@ -5,9 +5,9 @@ use Rattle.std.specs.Prelude.{ℕ, List, ◌++◌, codes}
 abbrev pub usage : List ℕ
 usage =
     codes "usage: mic assemble SOURCE IMAGE\n"
-    ++ codes "       mic list FILE\n"
-    ++ codes "       mic verify FILE\n"
+    ++ codes "       mic list FILE [--map W]\n"
+    ++ codes "       mic verify FILE [--map W]\n"
     ++ codes "       mic run FILE\n"
-    ++ codes "       mic reference FILE [--machine V] [--bound N]\n"
+    ++ codes "       mic reference FILE [--machine V] [--bound N] [--map W]\n"
     ++ codes "       mic micro MAL STORE [--machine V]\n"
     ++ codes "       mic print-micro FILE [--machine V]\n"

@@ -1,7 +1,6 @@
 //! The program `mic`: it assembles, verifies, lists and runs programs of IJVM, and places and prints microprograms.
 #![tactic(auto)]
 
-mod report;
 mod run;
 #[cfg(test)]
 mod tests;

@@ -3,38 +3,28 @@
 ghost use Rattle.std.specs.Prelude.{◌≡◌, ◌≤◌, length};
 ghost use Rattle.std.specs.Bool.{OnFalse, OnTrue};
 ghost use Rattle.mic_base.specs.Files.{most_bytes};
+ghost use Rattle.mic_work.specs.Status as exits;
 ghost use Rattle.mic_work.specs.Messages.{message};
-ghost use Rattle.mic_work.specs.Outside.{Says, files_state, sink_state, source_state};
+ghost use Rattle.mic_work.specs.Outside.{Says, files_of, sink_of, source_of};
 ghost use Rattle.shipped_microcode.specs.Straight.{Runs, image_of};
 ghost use Rattle.mic_tool.specs.Outside.{outside, streams};
-ghost use Rattle.mic_tool.specs.RunEnds.{BytesEnd, ClockedEnd, IsBuilt, ProgramEnds, RunEnds, not_built, status_of};
+ghost use Rattle.mic_tool.specs.RunEnds.{BytesEnd, ClockedEnd, IsBuilt, ProgramEnds, RunEnds, not_built};
 
-use crate::report::report;
+use console_port::MemoryMap;
 use ijvm_verifier::VerifiedImage;
 use mic_base::{Files, Sink, Source};
-use mic_clock::End;
+use mic_words::DEFAULT_BOUND;
 use mic_work::{Status, no_memory, read_named, say, say_of};
 use program_commands::{accepted_program, refuse};
+use run_texts::{clocked_report, status_of};
 use shipped_microcode::{check_straight, run_straight};
 use std::alloc::Global;
 
-const DEFAULT_BOUND: u64 = 10_000_000;
-
 /// Says that a program of this form is not built.
 fn not_built<E: Sink>(err: &mut E, file: &str) -> Status
-    ensures { Says (sink_state (E.held err.old) (E.faults err.old)) (sink_state (E.held err.new) (E.faults err.new)) (message file.now not_built) 77 result.0 }
+    ensures { Says (sink_of E.held E.passed E.faults err.old) (sink_of E.held E.passed E.faults err.new) (message file.now not_built) exits.not_built result.0 }
 {
     say_of(err, file, b": not built", Status::NOT_BUILT)
-}
-
-/// The status of a run that ended so.
-fn status_of(end: End) -> Status
-    ensures { result.0 ≡ status_of end }
-{
-    match end {
-        End::WriteFault => Status::SINK,
-        _ => Status::DONE,
-    }
 }
 
 /// Reads the file and runs its program.
@@ -47,8 +37,10 @@ pub fn run_file<F: Files, S: Source, K: Sink, E: Sink>(
     err: &mut E,
 ) -> Status
     ensures { RunEnds file.now
-        (outside (files_state (F.contents files.old) (F.faults files.old)) (streams (source_state (S.left console.old) (S.faults console.old)) (sink_state (K.held out.old) (K.faults out.old)) (sink_state (E.held err.old) (E.faults err.old))))
-        (outside (files_state (F.contents files.new) (F.faults files.new)) (streams (source_state (S.left console.new) (S.faults console.new)) (sink_state (K.held out.new) (K.faults out.new)) (sink_state (E.held err.new) (E.faults err.new))))
+        (outside (files_of F.contents F.faults files.old)
+        (streams (source_of S.left S.faults console.old) (sink_of K.held K.passed K.faults out.old) (sink_of E.held E.passed E.faults err.old)))
+        (outside (files_of F.contents F.faults files.new)
+        (streams (source_of S.left S.faults console.new) (sink_of K.held K.passed K.faults out.new) (sink_of E.held E.passed E.faults err.new)))
         result.0 }
 {
     match read_named(alloc, file, files, err) {
@@ -68,11 +60,11 @@ fn run_bytes<S: Source, K: Sink, E: Sink>(
 ) -> Status
     requires { length bytes.now ≤ most_bytes }
     ensures { BytesEnd file.now bytes.now
-        (streams (source_state (S.left console.old) (S.faults console.old)) (sink_state (K.held out.old) (K.faults out.old)) (sink_state (E.held err.old) (E.faults err.old)))
-        (streams (source_state (S.left console.new) (S.faults console.new)) (sink_state (K.held out.new) (K.faults out.new)) (sink_state (E.held err.new) (E.faults err.new)))
+        (streams (source_of S.left S.faults console.old) (sink_of K.held K.passed K.faults out.old) (sink_of E.held E.passed E.faults err.old))
+        (streams (source_of S.left S.faults console.new) (sink_of K.held K.passed K.faults out.new) (sink_of E.held E.passed E.faults err.new))
         result.0 }
 {
-    match accepted_program(alloc, bytes) {
+    match accepted_program(alloc, bytes, MemoryMap::STANDARD) {
         Ok(program) => run_program(alloc, file, &program, console, out, err),
         Err(unaccepted) => refuse(file, unaccepted, err),
     }
@@ -105,8 +97,8 @@ fn run_program<S: Source, K: Sink, E: Sink>(
     err: &mut E,
 ) -> Status
     ensures { ProgramEnds file.now program.now
-        (streams (source_state (S.left console.old) (S.faults console.old)) (sink_state (K.held out.old) (K.faults out.old)) (sink_state (E.held err.old) (E.faults err.old)))
-        (streams (source_state (S.left console.new) (S.faults console.new)) (sink_state (K.held out.new) (K.faults out.new)) (sink_state (E.held err.new) (E.faults err.new)))
+        (streams (source_of S.left S.faults console.old) (sink_of K.held K.passed K.faults out.old) (sink_of E.held E.passed E.faults err.old))
+        (streams (source_of S.left S.faults console.new) (sink_of K.held K.passed K.faults out.new) (sink_of E.held E.passed E.faults err.new))
         result.0 }
 {
     if is_built(program) {
@@ -127,14 +119,14 @@ fn run_text<S: Source, K: Sink, E: Sink>(
     requires size { length text.now ≤ 65536 }
     requires form { Runs text.now }
     ensures { ClockedEnd (image_of text.now) 0
-        (streams (source_state (S.left console.old) (S.faults console.old)) (sink_state (K.held out.old) (K.faults out.old)) (sink_state (E.held err.old) (E.faults err.old)))
-        (streams (source_state (S.left console.new) (S.faults console.new)) (sink_state (K.held out.new) (K.faults out.new)) (sink_state (E.held err.new) (E.faults err.new)))
+        (streams (source_of S.left S.faults console.old) (sink_of K.held K.passed K.faults out.old) (sink_of E.held E.passed E.faults err.old))
+        (streams (source_of S.left S.faults console.new) (sink_of K.held K.passed K.faults out.new) (sink_of E.held E.passed E.faults err.new))
         result.0 }
 {
     match run_straight(alloc, text, DEFAULT_BOUND, console, out) {
         Ok(board) => {
             let end = board.ended().unwrap();
-            let line = report(end, &board.counts(), &board.registers());
+            let line = clocked_report(end, &board.counts(), &board.registers());
             say(err, line.bytes(), status_of(end))
         }
         Err(_) => no_memory(err),

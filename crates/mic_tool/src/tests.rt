@@ -21,10 +21,10 @@ const POOL: &[u8] = b"\x1D\xEA\xDF\xAD\0\x01\0\0\0\0\0\x04\0\0\0\x07\0\0\0\0\0\0
 const UNDERFLOW: &[u8] = b"\x1D\xEA\xDF\xAD\0\x01\0\0\0\0\0\0\0\0\0\0\0\0\0\x02\x60\xFF";
 
 const USAGE: &str = "usage: mic assemble SOURCE IMAGE
-       mic list FILE
-       mic verify FILE
+       mic list FILE [--map W]
+       mic verify FILE [--map W]
        mic run FILE
-       mic reference FILE [--machine V] [--bound N]
+       mic reference FILE [--machine V] [--bound N] [--map W]
        mic micro MAL STORE [--machine V]
        mic print-micro FILE [--machine V]
 ";

@@ -2,7 +2,7 @@
 
 ghost use Rattle.std.specs.Prelude.{map, string_bytes};
 ghost use Rattle.mic_words.specs.Words.{request_of};
-ghost use Rattle.mic_work.specs.Outside.{files_state, sink_state, source_state};
+ghost use Rattle.mic_work.specs.Outside.{files_of, sink_of, source_of};
 ghost use Rattle.mic_tool.specs.Outside.{outside, streams};
 ghost use Rattle.mic_tool.specs.Ends.{Ends};
 
@@ -25,8 +25,10 @@ pub fn mic_main<F: Files, S: Source, K: Sink, E: Sink>(
     err: &mut E,
 ) -> Status
     ensures { Ends (request_of (map string_bytes words.now))
-        (outside (files_state (F.contents files.old) (F.faults files.old)) (streams (source_state (S.left console.old) (S.faults console.old)) (sink_state (K.held out.old) (K.faults out.old)) (sink_state (E.held err.old) (E.faults err.old))))
-        (outside (files_state (F.contents files.new) (F.faults files.new)) (streams (source_state (S.left console.new) (S.faults console.new)) (sink_state (K.held out.new) (K.faults out.new)) (sink_state (E.held err.new) (E.faults err.new))))
+        (outside (files_of F.contents F.faults files.old)
+        (streams (source_of S.left S.faults console.old) (sink_of K.held K.passed K.faults out.old) (sink_of E.held E.passed E.faults err.old)))
+        (outside (files_of F.contents F.faults files.new)
+        (streams (source_of S.left S.faults console.new) (sink_of K.held K.passed K.faults out.new) (sink_of E.held E.passed E.faults err.new)))
         result.0 }
 {
     match read_words(words) {
@@ -34,16 +36,17 @@ pub fn mic_main<F: Files, S: Source, K: Sink, E: Sink>(
         Some(Request::Assemble { source, image }) => {
             assemble_file(alloc, source, image, files, out, err)
         }
-        Some(Request::List { file }) => list_file(alloc, file, files, out, err),
-        Some(Request::Verify { file }) => verify_file(alloc, file, files, out, err),
+        Some(Request::List { file, map }) => list_file(alloc, file, map, files, out, err),
+        Some(Request::Verify { file, map }) => verify_file(alloc, file, map, files, out, err),
         Some(Request::Run { file }) => run_file(alloc, file, files, console, out, err),
         Some(
             Request::Reference {
                 file,
                 machine,
                 bound,
+                map,
             },
-        ) => reference_file(alloc, file, machine, bound, files, console, out, err),
+        ) => reference_file(alloc, file, machine, bound, map, files, console, out, err),
         Some(
             Request::Micro {
                 mal,

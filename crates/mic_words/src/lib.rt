@@ -5,5 +5,6 @@ mod options;
 mod read;
 mod request;
 
+pub use options::{DEFAULT_BOUND, MOST_CYCLES};
 pub use read::read_words;
 pub use request::Request;

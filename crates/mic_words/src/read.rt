@@ -2,19 +2,11 @@
 
 ghost use Rattle.std.specs.Prelude.{◌≡◌, IfSome, map, string_bytes};
 ghost use Rattle.std.specs.Option.{option_map};
-ghost use Rattle.mic_words.specs.Words.{asked, assemble_of, file_of, micro_of, print_micro_of, reference_of, request_of, HasBound};
+ghost use Rattle.mic_words.specs.Words.{HasLimits, HasMap, asked, assemble_of, file_of, micro_of, over_map, print_micro_of, reference_of, request_of};
 
-use crate::options::{is_plain, machine_alone, options_of};
+use crate::options::{is_plain, machine_alone, map_alone, run_options};
 use crate::request::Request;
-
-fn one_file(words: &[String]) -> Option<&str>
-    ensures { option_map (λ file. file.now) result ≡ file_of (map string_bytes words.now) }
-{
-    match words {
-        [file] if is_plain(file.as_str()) => Some(file.as_str()),
-        _ => None,
-    }
-}
+use console_port::MemoryMap;
 
 fn assemble(words: &[String]) -> Option<Request<'_>>
     ensures { option_map asked result ≡ assemble_of (map string_bytes words.now) }
@@ -30,18 +22,42 @@ fn assemble(words: &[String]) -> Option<Request<'_>>
     }
 }
 
+fn one_file(words: &[String]) -> Option<&str>
+    ensures { option_map (λ file. file.now) result ≡ file_of (map string_bytes words.now) }
+{
+    match words {
+        [file] if is_plain(file.as_str()) => Some(file.as_str()),
+        _ => None,
+    }
+}
+
+/// A file and the map.
+fn over_map(words: &[String]) -> Option<(&str, MemoryMap)>
+    ensures value { option_map (λ pair. (pair.0.now, pair.1)) result ≡ over_map (map string_bytes words.now) }
+    ensures is { IfSome result (λ pair. HasMap pair.1) }
+{
+    let [file, rest @ ..] = words else {
+        return None;
+    };
+    match map_alone(rest) {
+        Some(map) if is_plain(file.as_str()) => Some((file.as_str(), map)),
+        _ => None,
+    }
+}
+
 fn reference(words: &[String]) -> Option<Request<'_>>
-    ensures bound { IfSome result HasBound }
+    ensures limits { IfSome result HasLimits }
     ensures asks { option_map asked result ≡ reference_of (map string_bytes words.now) }
 {
     let [file, rest @ ..] = words else {
         return None;
     };
-    match options_of(rest) {
+    match run_options(rest) {
         Some(options) if is_plain(file.as_str()) => Some(Request::Reference {
             file: file.as_str(),
-            machine: options.machine(),
-            bound: options.bound(),
+            machine: options.machine,
+            bound: options.bound,
+            map: options.map,
         }),
         _ => None,
     }
@@ -82,7 +98,7 @@ fn print_micro(words: &[String]) -> Option<Request<'_>>
 
 /// Reads the words after the program's name; none where they ask for nothing.
 pub fn read_words(words: &[String]) -> Option<Request<'_>>
-    ensures bound { IfSome result HasBound }
+    ensures limits { IfSome result HasLimits }
     ensures asks { option_map asked result ≡ request_of (map string_bytes words.now) }
 {
     let [command, rest @ ..] = words else {
@@ -90,8 +106,8 @@ pub fn read_words(words: &[String]) -> Option<Request<'_>>
     };
     match command.as_str() {
         "assemble" => assemble(rest),
-        "list" => one_file(rest).map(|file| Request::List { file }),
-        "verify" => one_file(rest).map(|file| Request::Verify { file }),
+        "list" => over_map(rest).map(|(file, map)| Request::List { file, map }),
+        "verify" => over_map(rest).map(|(file, map)| Request::Verify { file, map }),
         "run" => one_file(rest).map(|file| Request::Run { file }),
         "reference" => reference(rest),
         "micro" => micro(rest),

@@ -1,3 +1,4 @@
+use console_port::MemoryMap;
 use machine_words::Machine;
 
 /// What a command line asks for.
@@ -9,9 +10,11 @@ pub enum Request<'a> {
     },
     List {
         file: &'a str,
+        map: MemoryMap,
     },
     Verify {
         file: &'a str,
+        map: MemoryMap,
     },
     Run {
         file: &'a str,
@@ -20,6 +23,7 @@ pub enum Request<'a> {
         file: &'a str,
         machine: Machine,
         bound: u64,
+        map: MemoryMap,
     },
     Micro {
         mal: &'a str,

@@ -1,3 +1,4 @@
+pub mod Status
 pub mod Outside
 pub mod Messages
 pub mod Work

@@ -2,12 +2,14 @@
 #![tactic(auto)]
 
 mod answer;
+mod parts;
 mod reading;
 mod said;
 mod status;
 mod work;
 
 pub use answer::Answer;
+pub use parts::{addressed, line_of, number, numbered, of_line, signed, word};
 pub use reading::{no_memory, read_named};
 pub use said::{say, say_of};
 pub use status::Status;

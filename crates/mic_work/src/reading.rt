@@ -1,8 +1,9 @@
 //! The reading of a file that a command names.
 
 ghost use Rattle.std.specs.Prelude.{◌≡◌, IfOk, IfErr, MatchResult};
+ghost use Rattle.mic_work.specs.Status as exits;
 ghost use Rattle.mic_work.specs.Messages.{out_of_memory};
-ghost use Rattle.mic_work.specs.Outside.{Says, files_state, sink_state};
+ghost use Rattle.mic_work.specs.Outside.{Says, files_of, sink_of};
 ghost use Rattle.mic_work.specs.Work.{IsRead, IsUnread};
 
 use crate::said::{say, say_of};
@@ -14,7 +15,7 @@ const OUT_OF_MEMORY: &[u8] = b"mic: out of memory\n";
 
 /// Says that memory is wanting.
 pub fn no_memory<E: Sink>(err: &mut E) -> Status
-    ensures { Says (sink_state (E.held err.old) (E.faults err.old)) (sink_state (E.held err.new) (E.faults err.new)) out_of_memory 75 result.0 }
+    ensures { Says (sink_of E.held E.passed E.faults err.old) (sink_of E.held E.passed E.faults err.new) out_of_memory exits.memory result.0 }
 {
     say(err, OUT_OF_MEMORY, Status::MEMORY)
 }
@@ -26,11 +27,11 @@ pub fn read_named<F: Files, E: Sink>(
     files: &mut F,
     err: &mut E,
 ) -> Result<Vec<u8>, Status>
-    ensures read { IfOk result (λ bytes. IsRead file.now bytes.items (files_state (F.contents files.old) (F.faults files.old))) }
-    ensures same { IfOk result (λ bytes. files_state (F.contents files.new) (F.faults files.new) ≡ files_state (F.contents files.old) (F.faults files.old)) }
+    ensures read { IfOk result (λ bytes. IsRead file.now bytes.items (files_of F.contents F.faults files.old)) }
+    ensures same { IfOk result (λ bytes. files_of F.contents F.faults files.new ≡ files_of F.contents F.faults files.old) }
     ensures silent { IfOk result (λ bytes. err.new ≡ err.old) }
-    ensures unread { IfErr result (λ status. IsUnread file.now (files_state (F.contents files.old) (F.faults files.old)) (files_state (F.contents files.new) (F.faults files.new))
-        (sink_state (E.held err.old) (E.faults err.old)) (sink_state (E.held err.new) (E.faults err.new)) status.0) }
+    ensures unread { IfErr result (λ status. IsUnread file.now (files_of F.contents F.faults files.old) (files_of F.contents F.faults files.new)
+        (sink_of E.held E.passed E.faults err.old) (sink_of E.held E.passed E.faults err.new) status.0) }
 {
     match files.read_file(alloc, file) {
         Ok(bytes) => Ok(bytes),

@@ -1,7 +1,7 @@
 //! What a command came to is carried out.
 
 ghost use Rattle.std.specs.Prelude.{◌≡◌};
-ghost use Rattle.mic_work.specs.Outside.{desk, files_state, sink_state};
+ghost use Rattle.mic_work.specs.Outside.{desk, files_of, sink_of};
 ghost use Rattle.mic_work.specs.Work.{IsCarriedOut, answered};
 
 use crate::answer::Answer;
@@ -21,8 +21,8 @@ pub fn carry_out<F: Files, K: Sink, E: Sink>(
     err: &mut E,
 ) -> Status
     ensures { IsCarriedOut file.now (answered answer.entry)
-        (desk (files_state (F.contents files.old) (F.faults files.old)) (sink_state (K.held out.old) (K.faults out.old)) (sink_state (E.held err.old) (E.faults err.old)))
-        (desk (files_state (F.contents files.new) (F.faults files.new)) (sink_state (K.held out.new) (K.faults out.new)) (sink_state (E.held err.new) (E.faults err.new)))
+        (desk (files_of F.contents F.faults files.old) (sink_of K.held K.passed K.faults out.old) (sink_of E.held E.passed E.faults err.old))
+        (desk (files_of F.contents F.faults files.new) (sink_of K.held K.passed K.faults out.new) (sink_of E.held E.passed E.faults err.new))
         result.0 }
 {
     match answer {
@@ -37,6 +37,6 @@ pub fn carry_out<F: Files, K: Sink, E: Sink>(
             Err(FileError::OutOfMemory) => no_memory(err),
             Err(FileError::TooLong) => unreachable!(),
         },
-        Answer::Refuses(reason) => say_of(err, file, reason.bytes(), Status::DATA),
+        Answer::Refuses(reason) => say_of(err, file, reason.bytes(), Status::REFUSED),
     }
 }

@@ -31,10 +31,14 @@ counts_line program =
     codes "statements " ++ decimal (length program.statements) ++ codes " fixed " ++ decimal (fixed_count (demands_of program))
     ++ codes " pairs " ++ decimal (pair_count (demands_of program))
 
--- a line for each statement in order, then the counts
+-- a line for each statement in order
+abbrev pub statement_lines : Program → List ℕ → ControlStore → List (List ℕ)
+statement_lines program addresses s = map (statement_line program addresses s) (below (length program.statements))
+
+-- the same, then the counts
 abbrev pub placement_text : Program → List ℕ → ControlStore → List ℕ
 placement_text program addresses s =
-    text_of (map (statement_line program addresses s) (below (length program.statements)) ++ counts_line program ∷ [])
+    text_of (statement_lines program addresses s ++ counts_line program ∷ [])
 
 -- an address, its word, and the canonical text of the statement whose word it is
 abbrev pub store_line : ControlStore → ℕ → List ℕ

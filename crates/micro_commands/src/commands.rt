@@ -1,7 +1,7 @@
 //! The two commands, from the file that they read to their status.
 
 ghost use Rattle.std.specs.Prelude.{◌≡◌};
-ghost use Rattle.mic_work.specs.Outside.{desk, files_state, sink_state};
+ghost use Rattle.mic_work.specs.Outside.{desk, files_of, sink_of};
 ghost use Rattle.mic_work.specs.Work.{Ends};
 ghost use Rattle.micro_commands.specs.Answers.{MicroAnswers, PrintMicroAnswers};
 
@@ -23,8 +23,8 @@ pub fn micro<F: Files, K: Sink, E: Sink>(
     err: &mut E,
 ) -> Status
     ensures { Ends (MicroAnswers machine store.now) mal.now
-        (desk (files_state (F.contents files.old) (F.faults files.old)) (sink_state (K.held out.old) (K.faults out.old)) (sink_state (E.held err.old) (E.faults err.old)))
-        (desk (files_state (F.contents files.new) (F.faults files.new)) (sink_state (K.held out.new) (K.faults out.new)) (sink_state (E.held err.new) (E.faults err.new)))
+        (desk (files_of F.contents F.faults files.old) (sink_of K.held K.passed K.faults out.old) (sink_of E.held E.passed E.faults err.old))
+        (desk (files_of F.contents F.faults files.new) (sink_of K.held K.passed K.faults out.new) (sink_of E.held E.passed E.faults err.new))
         result.0 }
 {
     let bytes = match read_named(alloc, mal, files, err) {
@@ -47,8 +47,8 @@ pub fn print_micro<F: Files, K: Sink, E: Sink>(
     err: &mut E,
 ) -> Status
     ensures { Ends (PrintMicroAnswers machine) file.now
-        (desk (files_state (F.contents files.old) (F.faults files.old)) (sink_state (K.held out.old) (K.faults out.old)) (sink_state (E.held err.old) (E.faults err.old)))
-        (desk (files_state (F.contents files.new) (F.faults files.new)) (sink_state (K.held out.new) (K.faults out.new)) (sink_state (E.held err.new) (E.faults err.new)))
+        (desk (files_of F.contents F.faults files.old) (sink_of K.held K.passed K.faults out.old) (sink_of E.held E.passed E.faults err.old))
+        (desk (files_of F.contents F.faults files.new) (sink_of K.held K.passed K.faults out.new) (sink_of E.held E.passed E.faults err.new))
         result.0 }
 {
     let bytes = match read_named(alloc, file, files, err) {

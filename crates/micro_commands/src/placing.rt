@@ -7,7 +7,7 @@ ghost use Rattle.store_placement.specs.Placement.{Places};
 ghost use Rattle.store_placement.specs.Program.{demands_of};
 ghost use Rattle.mic_work.specs.Work.{answered};
 ghost use Rattle.micro_commands.specs.Answers.{MicroAnswers};
-ghost use Rattle.micro_commands.specs.Texts.{counts_line, placement_text, statement_line};
+ghost use Rattle.micro_commands.specs.Texts.{counts_line, placement_text, statement_line, statement_lines};
 
 use crate::lines::{add_line, store_law, word_text};
 use crate::reasons::{mal_reason, number, place_reason};
@@ -52,7 +52,7 @@ fn add_statements(
     store: &Store,
 ) -> Result<(), AllocError>
     requires { Places (demands_of program.now) placement.now }
-    ensures { OnOk result (text.new.items ≡ text.old.items ++ text_of (map (statement_line program.now placement.now store.now) (below (length program.now.statements)))) }
+    ensures { OnOk result (text.new.items ≡ text.old.items ++ text_of (statement_lines program.now placement.now store.now)) }
 {
     for s in 0..program.len() {
         add_line(text, &statement_line(program, placement, store, s))?;

@@ -57,7 +57,7 @@ fn expect(rt: &impl Abort, done: &Done, status: u8, out: &str, err: &str) {
 }
 
 #[test]
-fn one_statement(rt: HostRuntime) -> Result<(), Fail> {
+fn one_statement_is_printed_placed_and_listed(rt: HostRuntime) -> Result<(), Fail> {
     let printed = call(rt.alloc(), false, Machine::Mic1, ONE.as_bytes(), &[], &[])?;
     expect(
         &rt,
@@ -93,7 +93,7 @@ fn many(alloc: Global, count: u16) -> Result<String, Fail> {
 }
 
 #[test]
-fn full_stores(rt: HostRuntime) -> Result<(), Fail> {
+fn all_512_words_may_be_used(rt: HostRuntime) -> Result<(), Fail> {
     let full = many(rt.alloc(), 512)?;
     let placed = call(rt.alloc(), true, Machine::Mic1, full.as_bytes(), &[], &[])?;
     assert_eq!(rt; placed.status, 0);
@@ -215,13 +215,22 @@ fn label(line: &[u8]) -> &[u8] {
         .unwrap_or(b"")
 }
 
-/// Each statement is printed with the listing's address, and in the listing's text.
+/// Whether a line says this behind its address.
+fn says(text: &[u8], of_an_address: &str) -> bool {
+    text.split(|byte| *byte == b'\n').any(|line| line
+        .split_at(line.len().min(4))
+        .1
+        .starts_with(of_an_address.as_bytes()))
+}
+
+/// Each statement is printed with the listing's address, and in the listing's text; the store file holds its word there.
 fn check_listing(
     rt: &impl Abort,
     alloc: Global,
     machine: Machine,
     listing: &[u8],
     counts: &[u8],
+    words: &[&str],
 ) -> Result<(), Fail> {
     let text = microprogram(alloc, listing)?;
     let placed = call(alloc, true, machine, &text, &[], &[])?;
@@ -238,17 +247,57 @@ fn check_listing(
     assert_eq!(rt; printed.next().unwrap_or(b""), counts);
     let again = call(alloc, false, machine, &text, &[], &[])?;
     assert_eq!(rt; again.out.as_slice(), text.as_slice());
+    for word in words {
+        assert!(rt; says(&placed.out, word), "{word}");
+    }
+    check_stored(rt, alloc, machine, &placed)
+}
+
+/// The store file is read again: it has 512 words, and at each statement's address the word that was printed.
+fn check_stored(
+    rt: &impl Abort,
+    alloc: Global,
+    machine: Machine,
+    placed: &Done,
+) -> Result<(), Fail> {
+    let listed = call(alloc, false, Machine::Mic1, &placed.store, &[], &[])?;
+    assert_eq!(rt; listed.status, 0);
+    assert_eq!(rt;
+        listed.out.iter().filter(|byte| **byte == b'\n').count(),
+        512
+    );
+    let digits = match machine {
+        Machine::Mic1 => 9,
+        Machine::Mic2 => 10,
+    };
+    for line in placed.out.split(|byte| *byte == b'\n') {
+        let word = line.split_at(line.len().min(4 + digits)).0;
+        let is_counts = line.is_empty() || word.starts_with(b"stat");
+        assert!(rt;
+            is_counts
+                || listed
+                    .out
+                    .split(|byte| *byte == b'\n')
+                    .any(|stored| stored.starts_with(word))
+        );
+    }
     Ok(())
 }
 
 #[test]
-fn microprograms_are_placed_as_listed(rt: HostRuntime) -> Result<(), Fail> {
+fn shipped_microprograms_are_placed_as_listed(rt: HostRuntime) -> Result<(), Fail> {
     check_listing(
         &rt,
         rt.alloc(),
         Machine::Mic1,
         listings::MIC1,
         b"statements 127 fixed 27 pairs 1",
+        &[
+            "004350211 Main1 ",
+            "0183604a4 iadd1 ",
+            "00a140008 iflt4 ",
+            "7f8100009 halt1 ",
+        ],
     )?;
     check_listing(
         &rt,
@@ -256,5 +305,6 @@ fn microprograms_are_placed_as_listed(rt: HostRuntime) -> Result<(), Fail> {
         Machine::Mic2,
         listings::MIC2,
         b"statements 97 fixed 27 pairs 1",
+        &["00208000cc Main1 ", "05c1e00553 iload1 "],
     )
 }

@@ -13,10 +13,15 @@ use Rattle.micro_word.specs.declared.statement.Mem.TheVariants as mems
 use Rattle.micro_word.specs.declared.statement.Test.TheVariants as tests
 use Rattle.micro_word.specs.declared.statement.PlacedNext.{PlacedNext}
 use Rattle.micro_word.specs.declared.statement.PlacedNext.TheVariants as nexts
+use Rattle.micro_word.specs.declared.statement.Part.{Part}
 use Rattle.micro_word.specs.declared.statement.Placed.{Placed}
 use Rattle.micro_word.specs.declared.operation.Row.{Row}
 use Rattle.micro_word.specs.declared.layout.Fields.{Fields}
 use Rattle.micro_word.specs.Layout.{word_with, fields_of}
+
+-- a statement without parts: it computes 0 and keeps it nowhere
+abbrev pub idle : Part
+idle = record { dests = 0; op = ops.Zero; a = None; b = None; shift = shifts.None; mem = mems.None; fetch = false }
 
 abbrev pub entry : ℕ → Bool → Bool → Row
 entry gates uses_a uses_b = record { gates = gates; uses_a = uses_a; uses_b = uses_b }

@@ -16,7 +16,7 @@ fn first_with_code(sources: &[BusSource], machine: Machine, code: u8) -> Option<
 }
 
 impl BusSource {
-    pub const ALL: [BusSource; 14] = [
+    const ALL: [BusSource; 14] = [
         BusSource::Mdr,
         BusSource::Pc,
         BusSource::Mbr,

@@ -55,7 +55,7 @@ fn is_in_reach(jam: u8, addr: u16) -> bool
 
 impl Fields {
     /// Whether they are the fields of a canonical word.
-    pub fn canonical(&self, machine: Machine) -> bool
+    pub(crate) fn canonical(&self, machine: Machine) -> bool
         ensures { result ≡ are_canonical machine self.now }
     {
         let row = AluOp::of_gates(self.gates).row();

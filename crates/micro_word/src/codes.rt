@@ -102,7 +102,7 @@ fn bit_of_fetch(machine: Machine, fetch: bool) -> u8
 
 impl Fields {
     /// The fields that spell a statement.
-    pub fn of_placed(machine: Machine, placed: &Placed) -> Fields
+    pub(crate) fn of_placed(machine: Machine, placed: &Placed) -> Fields
         ensures { result ≡ codes machine placed.now }
     {
         let part = placed.part;
@@ -120,7 +120,7 @@ impl Fields {
     }
 
     /// The statement that the fields name.
-    pub fn placed(&self, machine: Machine) -> Placed
+    pub(crate) fn placed(&self, machine: Machine) -> Placed
         ensures { result ≡ named machine self.now }
     {
         let op = AluOp::of_gates(self.gates);

@@ -66,7 +66,7 @@ pub fn fields2(word: u64) -> Fields
 }
 
 /// The word of Mic-1 with these fields.
-pub fn word_with1(f: &Fields) -> u64
+pub(crate) fn word_with1(f: &Fields) -> u64
     ensures { result ≡ word_with Mic1 f.now }
 {
     ((f.addr as u64) << 27)
@@ -80,7 +80,7 @@ pub fn word_with1(f: &Fields) -> u64
 }
 
 /// The word of Mic-2 with these fields.
-pub fn word_with2(f: &Fields) -> u64
+pub(crate) fn word_with2(f: &Fields) -> u64
     ensures { result ≡ word_with Mic2 f.now }
 {
     ((f.addr as u64) << 30)

@@ -4,18 +4,18 @@
 mod bus;
 mod canonical;
 mod codes;
-pub mod destination;
+mod destination;
 mod laws;
-pub mod layout;
+mod layout;
 mod operation;
-pub mod statement;
+mod statement;
 mod store;
 mod valid;
 mod word;
 
 pub use destination::Destination;
 pub use laws::{statement_law, word_law};
-pub use layout::{Fields, fields1, fields2, word_with1, word_with2};
+pub use layout::{Fields, fields1, fields2};
 pub use machine_words::Machine;
 pub use operation::Row;
 pub use statement::{AluOp, BusSource, Mem, Part, Placed, PlacedNext, Shift, Test};

@@ -31,7 +31,7 @@ fn first_with_gates(ops: &[AluOp], gates: u8) -> Option<AluOp>
 
 impl AluOp {
     /// Every operation, in the table's order.
-    pub const ALL: [AluOp; 16] = [
+    const ALL: [AluOp; 16] = [
         AluOp::A,
         AluOp::B,
         AluOp::NotA,
@@ -76,14 +76,14 @@ impl AluOp {
     }
 
     /// The operation of six bits; none where they are no row of the table.
-    pub fn with_gates(gates: u8) -> Option<AluOp>
+    pub(crate) fn with_gates(gates: u8) -> Option<AluOp>
         ensures { result ≡ row_of gates }
     {
         first_with_gates(&AluOp::ALL, gates)
     }
 
     /// The operation of six bits that are a row of the table.
-    pub fn of_gates(gates: u8) -> AluOp
+    pub(crate) fn of_gates(gates: u8) -> AluOp
         ensures { result ≡ op_of gates }
     {
         AluOp::with_gates(gates).unwrap_or(AluOp::MinusOne)

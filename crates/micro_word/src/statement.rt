@@ -72,6 +72,19 @@ pub struct Part {
     pub fetch: bool,
 }
 
+impl Part {
+    /// Of a statement without parts: it computes 0 and keeps it nowhere.
+    pub const IDLE: Part = Part {
+        dests: 0,
+        op: AluOp::Zero,
+        a: None,
+        b: None,
+        shift: Shift::None,
+        mem: Mem::None,
+        fetch: false,
+    };
+}
+
 #[derive(Clone, Copy, Debug, PartialEq, Eq)]
 pub enum PlacedNext {
     Goto(u16),

@@ -6,15 +6,7 @@ use crate::{
 
 fn goto(to: u16) -> Placed {
     Placed {
-        part: Part {
-            dests: 0,
-            op: AluOp::Zero,
-            a: None,
-            b: None,
-            shift: Shift::None,
-            mem: Mem::None,
-            fetch: false,
-        },
+        part: Part::IDLE,
         next: PlacedNext::Goto(to),
     }
 }

@@ -4,6 +4,7 @@ use Rattle.std.specs.Prelude.{slice_get, bit_and, bit_or}
 use Rattle.std.specs.Option.{option_map}
 use Rattle.machine_words.specs.declared.machine.Machine.{Machine}
 use Rattle.machine_words.specs.Arithmetic.{plus, minus, is_negative}
+use Rattle.console_port.specs.View.{ConsoleView}
 use Rattle.console_port.specs.World.{next_byte}
 use Rattle.ijvm_instr.specs.declared.instr.Instr.{Instr}
 use Rattle.ijvm_instr.specs.declared.instr.Instr.TheVariants.{Nop, Bipush, LdcW, Iload, Istore, Pop, Dup, Swap, Iadd, Isub, Iand, Iinc, Ifeq, Iflt, IfIcmpeq, Goto, Ireturn, Ior, Invokevirtual, WideIload, WideIstore, WideIinc, In, Out, Err, Halt}
@@ -15,7 +16,8 @@ use Rattle.ijvm_run.specs.Frames.{Frame, State, base, frames_of}
 use Rattle.ijvm_instr.specs.Instructions.{word_of}
 use Rattle.ijvm_run.specs.Step.{Outcome, Goes, Halts, Errs, Limits, Stuck, moved, limited, pushed, pushed_constant, loaded, stored, with_local, is_own, increased, popped, doubled, swapped, combined, branched, compared, returned, in_method, entered, called_at, taken, given_out, step, stepped, outcome}
 use Rattle.ijvm_run.specs.Cost.{cost_at}
-use Rattle.ijvm_run.specs.Run.{Program, Point, Finish, point_after, after_outcome, after_test, finish_from, EndsBy, Passes, Start, More}
+use Rattle.ijvm_run.specs.Run.{Program, Point, Finish, point_after, after_outcome, after_test, finish_from, EndsBy}
+use Rattle.plain_machine.specs.Runs.{GoesOn, Reaches, Begins, Onward}
 
 -- the same state, where these bytes were given before
 abbrev pub behind : List ℕ → State → State
@@ -201,13 +203,22 @@ gone g Errs to e = absurd (cc)
 gone g (Limits left) to e = absurd (cc)
 gone g Stuck to e = absurd (cc)
 
--- and so are the boundaries that it passes
-pub passed_behind : (p : Program) (bound : ℕ) (g : List ℕ) (from at : Point) → Passes p bound (point_behind g from) at → (first : Point) × Passes p bound from first × (at ≡ point_behind g first)
-passed_behind p bound g from at (Start a same) = (from, Start from refl, same)
-passed_behind p bound g from at (More b next to before under goes is) =
-    let a = passed_behind p bound g from b before in
-    let step = gone g (outcome p.image p.stack_end a.0.state) to (sym (outcome-behind p.image p.stack_end g a.0.state) ∙ ap (λ (x : Point). outcome p.image p.stack_end x.state) (sym a.2) ∙ goes) in
-    let less : a.0.cycles < bound = subst (λ (x : Point). x.cycles < bound) a.2 under in
-    let there : next ≡ point_behind g (point_after p a.0 step.0) =
-    is ∙ ap (λ (x : Point). point_after p x to) a.2 ∙ ap (point_after p (point_behind g a.0)) step.2 ∙ next-behind p g a.0 step.0 in
-    (point_after p a.0 step.0, More a.0 (point_after p a.0 step.0) step.0 a.1 less step.1 refl, there)
+on_behind : (told : Bool) (p : Program) (bound : ℕ) (g : List ℕ) (b next : Point) (c c' : ConsoleView) → GoesOn told p bound (point_behind g b) next c c' →
+    (first : Point) × GoesOn told p bound b first c c' × (next ≡ point_behind g first)
+on_behind told p bound g b next c c' on =
+    let step = gone g (outcome p.image p.stack_end b.state) next.state (sym (outcome-behind p.image p.stack_end g b.state) ∙ on.goes) in
+    let to : Point = point_after p b step.0 in
+    let is : next ≡ point_behind g to = on.counts ∙ ap (point_after p (point_behind g b)) step.2 ∙ next-behind p g b step.0 in (
+      to,
+      record { under = on.under; goes = step.1; counts = refl; keeps = on.keeps },
+      is,
+    )
+
+-- and so are the boundaries that it reaches
+pub reached_behind : (told : Bool) (p : Program) (bound : ℕ) (g : List ℕ) (from : Point) (c0 : ConsoleView) (at : Point) (c : ConsoleView) → Reaches told p bound (point_behind g from) c0 at c →
+    (first : Point) × Reaches told p bound from c0 first c × (at ≡ point_behind g first)
+reached_behind told p bound g from c0 at c (Begins a d same is) = (from, Begins from d refl is, same)
+reached_behind told p bound g from c0 at c (Onward b next d d' before on) =
+    let a = reached_behind told p bound g from c0 b d before in
+    let step = on_behind told p bound g a.0 next d d' (subst (λ (x : Point). GoesOn told p bound x next d d') a.2 on) in
+    (step.0, Onward a.0 step.0 d d' a.1 step.1, step.2)

@@ -5,6 +5,7 @@ pub mod Turned
 pub mod Limited
 pub mod SafeLemmas
 pub mod Costs
+pub mod Keeping
 pub mod Running
 pub mod Behind
 pub mod Told

@@ -1,5 +1,6 @@
 -- The plain machine: frames over an image. The console's bytes are not in it.
-use Rattle.std.specs.Prelude.{◌≡◌, ◌≤◌, ◌<◌, ℕ, ◌&&◌, Bool, true, false, nat_lt, List, [], ◌∷◌, length, ◌-◌, slice_set, Option, Some, None, bit_and, bit_or}
+use Rattle.std.specs.Prelude.{◌≡◌, ◌≤◌, ◌<◌, ℕ, ◌&&◌, Bool, true, false, nat_lt, List, [], ◌∷◌, length, ◌-◌, slice_set, Option, Some, None, Result, IfOk, bit_and, bit_or}
+use Rattle.std.specs.declared.alloc.AllocError.{AllocError}
 use Rattle.ijvm_instr.specs.declared.instr.Instr.{Instr}
 use Rattle.ijvm_instr.specs.declared.instr.Instr.TheVariants.{In, Out, Err, Halt}
 use Rattle.ijvm_image.specs.declared.method.Method.{Method}
@@ -78,6 +79,10 @@ outcome_of effects.Stuck s = Stuck
 -- this comes of the old machine, and leaves the new one; the console's bytes stay
 abbrev pub Leads : (State → Outcome) → Effect → MachineView → MachineView → Type 0
 Leads does effect old new = (untaken given : List ℕ) → does (state_of old untaken given) ≡ outcome_of effect (state_of new untaken given)
+
+-- the same, of an instruction that may want memory
+abbrev pub LeadsBy : Result Effect AllocError → (State → Outcome) → MachineView → MachineView → Type 0
+LeadsBy result does old new = IfOk result (λ effect. Leads does effect old new)
 
 abbrev pub operate : Operator → ℕ → ℕ → ℕ
 operate operators.Add second top = plus second top

@@ -1,18 +1,21 @@
--- A step of frames over a console, a source and a sink. What these have left and hold are the state's untaken and given bytes.
-use Rattle.std.specs.Prelude.{◌≡◌, ◌≢◌, ◌⊎◌, ℕ, ◌≤◌, List, [], Option, Some, None, Result, Err, IsErrOf}
+-- A step of frames over a console, a source and a sink is the definition's `outcome`, where what these have left and hold are the state's
+-- untaken and given bytes.
+use Rattle.std.specs.Prelude.{◌≡◌, ◌≢◌, ℕ, ◌≤◌, List, [], ◌++◌, false, Option, Some, None, Result, Err, IsErrOf}
 use Rattle.mic_base.specs.Causes.{Rose}
 use Rattle.console_port.specs.View.{ConsoleView}
 use Rattle.console_port.specs.Console.{Untaken, Given, IsLost}
 use Rattle.ijvm_instr.specs.declared.instr.Instr.{Instr}
-use Rattle.ijvm_instr.specs.declared.instr.Instr.TheVariants.{In, Out}
+use Rattle.ijvm_instr.specs.declared.instr.Instr.TheVariants.{In}
 use Rattle.plain_machine.specs.declared.frames.StepEnd.{StepEnd}
 use Rattle.plain_machine.specs.declared.frames.StepEnd.TheVariants as ends
 use Rattle.plain_machine.specs.declared.frames.StepError.{StepError}
 use Rattle.plain_machine.specs.declared.frames.StepError.TheVariants as errors
-use Rattle.ijvm_run.specs.Step.{Goes, Halts, Errs, Limits, Stuck, outcome}
+use Rattle.ijvm_run.specs.Frames.{State}
+use Rattle.ijvm_run.specs.Step.{Outcome, Goes, Halts, Errs, Limits, Stuck, outcome}
 use Rattle.plain_machine.specs.declared.compute.Effect.{Effect}
 use Rattle.plain_machine.specs.declared.compute.Effect.TheVariants as effects
-use Rattle.plain_machine.specs.Machine.{MachineView, state_of}
+use Rattle.plain_machine.specs.Machine.{MachineView, state_of, outcome_of}
+use Rattle.plain_machine.specs.Kept.{PutsKept}
 
 -- Whatever may be left untaken after a step, something may have been left before it from which the step leads there, whatever was given.
 -- A step leads from untaken and given bytes to untaken and given bytes.
@@ -22,6 +25,15 @@ IsLedOn left held c left' held' c' leads =
     (rest : List ℕ) → Untaken left' c'.ended rest →
     (untaken : List ℕ) × Untaken left c.ended untaken ×
     ((given : List ℕ) → Given held c.kept given → (more : List ℕ) × Given held' c'.kept more × leads untaken given rest more)
+
+-- what comes of an instruction over the console
+abbrev pub LedBy : (State → Outcome) → Option (List ℕ) → Option (List ℕ) → ConsoleView → Option (List ℕ) → Option (List ℕ) → ConsoleView → MachineView → MachineView → Effect → Type 0
+LedBy does left held c left' held' c' old new effect =
+    IsLedOn left held c left' held' c' (λ u g u' g'. does (state_of old u g) ≡ outcome_of effect (state_of new u' g'))
+
+-- these bytes are given behind those that were
+abbrev pub Gives : List ℕ → Option (List ℕ) → List ℕ → Option (List ℕ) → List ℕ → Type 0
+Gives bytes held kept held' kept' = (given : List ℕ) → Given held kept given → Given held' kept' (given ++ bytes)
 
 abbrev pub end_of : Effect → Option StepEnd
 end_of effects.Went = Some ends.Went
@@ -52,10 +64,10 @@ pub record IsCutOff (left held : Option (List ℕ)) (c : ConsoleView) (left' hel
   -- after a fault nothing is kept
   pub emptied : e ≢ errors.OutOfMemory → c'.kept ≡ []
 
--- the instruction at which an Err comes: the source is read by IN alone, and the sink is written by IN, which empties the console first, or OUT
-pub record IsMetBy (e : StepError) (i : Option Instr) : Type 0 where
-  pub read : e ≡ errors.ReadFault → i ≡ Some In
-  pub write : e ≡ errors.WriteFault → (i ≡ Some In) ⊎ (i ≡ Some Out)
+-- the instruction at which an Err comes, over this console: the source is asked by IN alone, and the sink gets what the console keeps
+pub record IsMetBy (e : StepError) (i : Option Instr) (c : ConsoleView) : Type 0 where
+  pub read : e ≡ errors.ReadFault → (i ≡ Some In) × (c.ended ≡ false)
+  pub write : e ≡ errors.WriteFault → PutsKept i c
 
 -- a fault comes only where its object's count rose, and each count stays otherwise
 pub record HasStepCause {T : Type 0} (source source' sink sink' : ℕ) (result : Result T StepError) : Type 0 where

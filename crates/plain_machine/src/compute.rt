@@ -1,11 +1,11 @@
 //! The instructions that neither need the console nor end the run.
 
-ghost use Rattle.std.specs.Prelude.{◌≡◌, ◌==◌, ◌+◌, ◌<◌, ◌^◌, slice_get, IfOk, OnErr};
+ghost use Rattle.std.specs.Prelude.{◌≡◌, ◌==◌, ◌+◌, ◌<◌, ◌^◌, slice_get, OnErr};
 ghost use Rattle.ijvm_instr.specs.Instructions.{target};
 ghost use Rattle.ijvm_run.specs.Step.{Goes, moved, step, pushed, pushed_constant, loaded, stored, increased, popped, doubled, swapped, combined, way, branched, compared, called_at, returned};
 ghost use Rattle.ijvm_image.specs.Image.{method_at};
 ghost use Rattle.machine_words.specs.Arithmetic.{is_negative};
-ghost use Rattle.plain_machine.specs.Machine.{Leads, KeepsProgram, operate, IsComputed};
+ghost use Rattle.plain_machine.specs.Machine.{Leads, LeadsBy, KeepsProgram, operate, IsComputed};
 
 use crate::machine::PlainMachine;
 use ijvm_instr::{Instr, target_of};
@@ -64,7 +64,7 @@ fn jump(machine: &mut PlainMachine, offset: i16) -> Effect
 /// Pushes a value and goes on behind an instruction of this size.
 pub fn push(machine: &mut PlainMachine, value: u32, size: u32) -> Result<Effect, AllocError>
     requires { machine.old.at + size < 2 ^ 32 }
-    ensures ok { IfOk result (λ e. Leads (λ s. pushed machine.old.stack_end s value (s.at + size)) e machine.old machine.new) }
+    ensures ok { LeadsBy result (λ s. pushed machine.old.stack_end s value (s.at + size)) machine.old machine.new }
     ensures err { OnErr result (machine.new ≡ machine.old) }
     ensures program { KeepsProgram machine.old machine.new }
 {
@@ -78,7 +78,7 @@ pub fn push(machine: &mut PlainMachine, value: u32, size: u32) -> Result<Effect,
 
 pub fn push_constant(machine: &mut PlainMachine, index: u16) -> Result<Effect, AllocError>
     requires { machine.old.at + 3 < 2 ^ 32 }
-    ensures ok { IfOk result (λ e. Leads (λ s. pushed_constant machine.old.stack_end s (slice_get machine.old.image.pool index)) e machine.old machine.new) }
+    ensures ok { LeadsBy result (λ s. pushed_constant machine.old.stack_end s (slice_get machine.old.image.pool index)) machine.old machine.new }
     ensures err { OnErr result (machine.new ≡ machine.old) }
     ensures program { KeepsProgram machine.old machine.new }
 {
@@ -91,7 +91,7 @@ pub fn push_constant(machine: &mut PlainMachine, index: u16) -> Result<Effect, A
 /// Pushes a local.
 pub fn load(machine: &mut PlainMachine, index: u16, size: u32) -> Result<Effect, AllocError>
     requires { machine.old.at + size < 2 ^ 32 }
-    ensures ok { IfOk result (λ e. Leads (λ s. loaded machine.old.stack_end s (slice_get machine.old.running.locals index) (s.at + size)) e machine.old machine.new) }
+    ensures ok { LeadsBy result (λ s. loaded machine.old.stack_end s (slice_get machine.old.running.locals index) (s.at + size)) machine.old machine.new }
     ensures err { OnErr result (machine.new ≡ machine.old) }
     ensures program { KeepsProgram machine.old machine.new }
 {
@@ -148,7 +148,7 @@ pub fn discard(machine: &mut PlainMachine) -> Effect
 /// Pushes the top again.
 pub fn double(machine: &mut PlainMachine) -> Result<Effect, AllocError>
     requires { machine.old.at + 1 < 2 ^ 32 }
-    ensures ok { IfOk result (λ e. Leads (λ s. doubled machine.old.stack_end s s.running.operands) e machine.old machine.new) }
+    ensures ok { LeadsBy result (λ s. doubled machine.old.stack_end s s.running.operands) machine.old machine.new }
     ensures err { OnErr result (machine.new ≡ machine.old) }
     ensures program { KeepsProgram machine.old machine.new }
 {
@@ -246,7 +246,7 @@ pub fn branch_if_equal(machine: &mut PlainMachine, offset: i16) -> Effect
 /// Calls a method with the last operands.
 pub fn call(machine: &mut PlainMachine, index: u16) -> Result<Effect, AllocError>
     requires { machine.old.at + 3 < 2 ^ 32 }
-    ensures ok { IfOk result (λ e. Leads (λ s. called_at machine.old.stack_end s (method_at machine.old.image.text (slice_get machine.old.image.pool index))) e machine.old machine.new) }
+    ensures ok { LeadsBy result (λ s. called_at machine.old.stack_end s (method_at machine.old.image.text (slice_get machine.old.image.pool index))) machine.old machine.new }
     ensures err { OnErr result (machine.new ≡ machine.old) }
     ensures program { KeepsProgram machine.old machine.new }
 {
@@ -265,7 +265,7 @@ pub fn call(machine: &mut PlainMachine, index: u16) -> Result<Effect, AllocError
 
 /// Returns the top to the caller.
 pub fn return_top(machine: &mut PlainMachine) -> Result<Effect, AllocError>
-    ensures ok { IfOk result (λ e. Leads (λ s. returned s s.running.back s.callers s.running.operands) e machine.old machine.new) }
+    ensures ok { LeadsBy result (λ s. returned s s.running.back s.callers s.running.operands) machine.old machine.new }
     ensures err { OnErr result (machine.new ≡ machine.old) }
     ensures program { KeepsProgram machine.old machine.new }
 {
@@ -286,7 +286,7 @@ pub fn return_top(machine: &mut PlainMachine) -> Result<Effect, AllocError>
 pub fn compute(machine: &mut PlainMachine, instr: Instr) -> Result<Effect, AllocError>
     requires at { machine.old.at + 6 < 2 ^ 32 }
     requires computed { IsComputed instr }
-    ensures ok { IfOk result (λ e. Leads (step machine.old.image machine.old.stack_end instr) e machine.old machine.new) }
+    ensures ok { LeadsBy result (step machine.old.image machine.old.stack_end instr) machine.old machine.new }
     ensures err { OnErr result (machine.new ≡ machine.old) }
     ensures program { KeepsProgram machine.old machine.new }
 {

@@ -1,12 +1,13 @@
 //! The plain machine, which computes the definition's run step by step.
 
-ghost use Rattle.std.specs.Prelude.{◌≡◌, ◌+◌, ◌≤◌, [], ◌∷◌, ℕ, List, IfOk, IfErr, OnErr};
+ghost use Rattle.std.specs.Prelude.{◌≡◌, ◌+◌, ◌≤◌, [], ◌∷◌, ℕ, List, IsSome, IfOk, OnOk, IfErr, OnErr};
 ghost use Rattle.mic_base.specs.Streams.{Holds};
 ghost use Rattle.ijvm_instr.specs.Instructions.{instr_at};
 ghost use Rattle.ijvm_run.specs.Cost.{next_cost};
 ghost use Rattle.ijvm_run.specs.Frames.{base, top_of};
 ghost use Rattle.ijvm_run.specs.Safe.{NeverStuck, IsSafe};
 ghost use Rattle.plain_machine.specs.Machine.{MachineView, KeepsProgram, state_of, started};
+ghost use Rattle.plain_machine.specs.Kept.{IsTold, HasKept};
 ghost use Rattle.plain_machine.specs.Steps.{IsLedOn, end_of, Does, Turns, IsCutOff, IsMetBy, HasStepCause};
 
 use crate::compute::{Effect, compute};
@@ -63,18 +64,21 @@ fn end_of(effect: Effect) -> Option<StepEnd>
 }
 
 /// Does one instruction of the machine; none where it is stuck.
-#[tactic(auto, using(crate::proofs::Turned::is_computed))]
+#[tactic(auto, using(crate::proofs::Turned::is_computed, crate::proofs::Keeping::kept_read, crate::proofs::Keeping::kept_written, crate::proofs::Keeping::kept_same))]
 pub fn turn<S: Source, K: Sink>(
     machine: &mut PlainMachine,
     console: &mut Console,
     source: &mut S,
     sink: &mut K,
 ) -> Result<Option<StepEnd>, StepError>
-    ensures ok { IfOk result (λ end. IsLedOn (S.left source.old) (K.held sink.old) console.old (S.left source.new) (K.held sink.new) console.new (Turns end machine.old machine.new)) }
+    ensures ok { IfOk result (λ end. IsLedOn (S.left source.old) (K.held sink.old) console.old (S.left source.new) (K.held sink.new) console.new
+        (Turns end machine.old machine.new)) }
     ensures frames { OnErr result (machine.new ≡ machine.old) }
     ensures err { IfErr result (IsCutOff (S.left source.old) (K.held sink.old) console.old (S.left source.new) (K.held sink.new) console.new) }
     ensures keeps { (front : List ℕ) → Holds front (K.held sink.old) → Holds front (K.held sink.new) }
-    ensures met { IfErr result (λ e. IsMetBy e (instr_at machine.old.image.text machine.old.at)) }
+    ensures met { IfErr result (λ e. IsMetBy e (instr_at machine.old.image.text machine.old.at) console.old) }
+    ensures kept { IfOk result (λ end. IsSome end → HasKept (S.left source.old) (instr_at machine.old.image.text machine.old.at) console.old console.new) }
+    ensures tells { IsTold (S.left source.old) console.old.ended → IsTold (S.left source.new) console.new.ended }
     ensures cause { HasStepCause (S.faults source.old) (S.faults source.new) (K.faults sink.old) (K.faults sink.new) result }
     ensures program { KeepsProgram machine.old machine.new }
 {
@@ -137,12 +141,15 @@ impl Frames {
         source: &mut S,
         sink: &mut K,
     ) -> Result<StepEnd, StepError>
-        ensures ok { IfOk result (λ end. IsLedOn (S.left source.old) (K.held sink.old) console.old (S.left source.new) (K.held sink.new) console.new (Does end self.old self.new)) }
+        ensures ok { IfOk result (λ end. IsLedOn (S.left source.old) (K.held sink.old) console.old (S.left source.new) (K.held sink.new) console.new
+            (Does end self.old self.new)) }
         ensures program { KeepsProgram self.old self.new }
         ensures frames { OnErr result (self.new ≡ self.old) }
         ensures err { IfErr result (IsCutOff (S.left source.old) (K.held sink.old) console.old (S.left source.new) (K.held sink.new) console.new) }
         ensures keeps { (front : List ℕ) → Holds front (K.held sink.old) → Holds front (K.held sink.new) }
-        ensures met { IfErr result (λ e. IsMetBy e (instr_at self.old.image.text self.old.at)) }
+        ensures met { IfErr result (λ e. IsMetBy e (instr_at self.old.image.text self.old.at) console.old) }
+        ensures kept { OnOk result (HasKept (S.left source.old) (instr_at self.old.image.text self.old.at) console.old console.new) }
+        ensures tells { IsTold (S.left source.old) console.old.ended → IsTold (S.left source.new) console.new.ended }
         ensures cause { HasStepCause (S.faults source.old) (S.faults source.new) (K.faults sink.old) (K.faults sink.new) result }
     {
         match turn(&mut self.machine, console, source, sink) {

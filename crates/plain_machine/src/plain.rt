@@ -4,8 +4,9 @@ ghost use Rattle.std.specs.Prelude.{◌≡◌, ◌≢◌, ◌≤◌, ◌<◌, �
 ghost use Rattle.mic_base.specs.Streams.{Holds};
 ghost use Rattle.plain_machine.specs.Machine.{KeepsProgram};
 ghost use Rattle.ijvm_run.specs.Safe.{IsSafe};
-ghost use Rattle.plain_machine.specs.Runs.{LedTo, IsShown, ShownBy, StoppedBy, TurnsTo, IsEmptied, HasRunCause, cut_by};
-ghost use Rattle.plain_machine.specs.Plain.{program, HasRun, IsCutByRead, IsCutByWrite, IsShort};
+ghost use Rattle.plain_machine.specs.Kept.{IsTold};
+ghost use Rattle.plain_machine.specs.Runs.{IsDriven, IsEmptied, HasRunCause, cut_by};
+ghost use Rattle.plain_machine.specs.Plain.{program, RunsWhole, FailsToRead, FailsToWrite, IsShort};
 
 use crate::frames::{Frames, StepEnd, StepError};
 use console_port::{Console, MemoryMap};
@@ -72,7 +73,9 @@ fn pass<S: Source, K: Sink>(
     requires bound { bound ≤ 2 ^ 62 }
     requires boundary { counts.old.boundary ≡ counts.old.cycles }
     requires few { counts.old.instructions ≤ counts.old.cycles }
-    ensures led { LedTo (ShownBy result) (S.left source.old) (K.held sink.old) console.old (S.left source.new) (K.held sink.new) console.new (TurnsTo result bound machine counts.old counts.new frames.old frames.new) }
+    ensures led { IsDriven result bound machine counts.old counts.new (S.left source.old) (K.held sink.old) console.old
+        (S.left source.new) (K.held sink.new) console.new frames.old frames.new }
+    ensures tells { IsTold (S.left source.old) console.old.ended → IsTold (S.left source.new) console.new.ended }
     ensures program { KeepsProgram frames.old frames.new }
     ensures boundary { IfNone result (counts.new.boundary ≡ counts.new.cycles) }
     ensures few { IfNone result (counts.new.instructions ≤ counts.new.cycles) }
@@ -121,7 +124,9 @@ fn drive<S: Source, K: Sink>(
     requires bound { bound ≤ 2 ^ 62 }
     requires boundary { counts.old.boundary ≡ counts.old.cycles }
     requires few { counts.old.instructions ≤ counts.old.cycles }
-    ensures led { LedTo (IsShown result) (S.left source.old) (K.held sink.old) console.old (S.left source.new) (K.held sink.new) console.new (TurnsTo (Some result) bound machine counts.old counts.new frames.old frames.new) }
+    ensures led { IsDriven (Some result) bound machine counts.old counts.new (S.left source.old) (K.held sink.old) console.old
+        (S.left source.new) (K.held sink.new) console.new frames.old frames.new }
+    ensures tells { IsTold (S.left source.old) console.old.ended → IsTold (S.left source.new) console.new.ended }
     ensures program { KeepsProgram frames.old frames.new }
     ensures emptied { IsEmptied (Some result) console.new }
     ensures keeps { (front : List ℕ) → Holds front (K.held sink.old) → Holds front (K.held sink.new) }
@@ -149,11 +154,15 @@ pub fn run_plain<S: Source, K: Sink>(
     requires room { 0x8000 + main_locals ≤ map.stack_end }
     requires safe { IsSafe image.now map.stack_end main_locals }
     requires bound { bound ≤ 2 ^ 62 }
-    ensures run { IfOk result (λ r. r.end ≢ PlainEnd.ReadFault → r.end ≢ PlainEnd.WriteFault → HasRun (program image.now map machine) main_locals bound (S.left source.old) (K.held sink.old) (S.left source.new) (K.held sink.new) r) }
-    ensures read { IfOk result (λ r. r.end ≡ PlainEnd.ReadFault → IsCutByRead (program image.now map machine) main_locals bound (S.left source.old) (K.held sink.old) (S.left source.new) (K.held sink.new) r) }
-    ensures write { IfOk result (λ r. r.end ≡ PlainEnd.WriteFault → IsCutByWrite (program image.now map machine) main_locals bound (S.left source.old) (K.held sink.old) (S.left source.new) (K.held sink.new) r) }
+    ensures run { IfOk result (RunsWhole (program image.now map machine) main_locals bound
+        (S.left source.old) (K.held sink.old) (S.left source.new) (K.held sink.new)) }
+    ensures read { IfOk result (FailsToRead (program image.now map machine) main_locals bound
+        (S.left source.old) (K.held sink.old) (S.left source.new) (K.held sink.new)) }
+    ensures write { IfOk result (FailsToWrite (program image.now map machine) main_locals bound
+        (S.left source.old) (K.held sink.old) (S.left source.new) (K.held sink.new)) }
     ensures cause { IfOk result (λ r. HasRunCause (S.faults source.old) (S.faults source.new) (K.faults sink.old) (K.faults sink.new) (Some (Ok r.end))) }
-    ensures short { OnErr result (IsShort (program image.now map machine) main_locals bound (S.left source.old) (K.held sink.old) (S.left source.new) (K.held sink.new)) }
+    ensures short { OnErr result (IsShort (program image.now map machine) main_locals bound
+        (S.left source.old) (K.held sink.old) (S.left source.new) (K.held sink.new)) }
     ensures quiet { OnErr result ((S.faults source.new ≡ S.faults source.old) × (K.faults sink.new ≡ K.faults sink.old)) }
 {
     let mut frames = Frames::new(alloc, image, main_locals, map)?;

@@ -1,12 +1,13 @@
 //! IN and OUT, which need the console.
 
-ghost use Rattle.std.specs.Prelude.{◌≡◌, ◌≢◌, ◌+◌, ◌<◌, ◌^◌, ◌∷◌, ◌++◌, [], ℕ, List, drop, Ok, Err, IfOk, OnOk, IfErr, OnErr, Option};
+ghost use Rattle.std.specs.Prelude.{◌≡◌, ◌≢◌, ◌+◌, ◌<◌, ◌≤◌, ◌^◌, length, ◌∷◌, [], ℕ, List, drop, IfOk, OnOk, IfErr, OnErr, Option};
 ghost use Rattle.mic_base.specs.Streams.{Holds};
-ghost use Rattle.console_port.specs.World.{next_byte};
 ghost use Rattle.console_port.specs.Console.{Untaken, Given, IsFault};
+ghost use Rattle.console_port.specs.World.{next_byte};
 ghost use Rattle.ijvm_run.specs.Step.{read_in, given_out};
 ghost use Rattle.plain_machine.specs.Machine.{KeepsProgram, state_of, outcome_of};
-ghost use Rattle.plain_machine.specs.Steps.{IsLedOn, IsCutOff, HasStepCause};
+ghost use Rattle.plain_machine.specs.Kept.{IsTold, HasRead, HasAsked, WritesOut};
+ghost use Rattle.plain_machine.specs.Steps.{IsLedOn, LedBy, Gives, IsCutOff, HasStepCause};
 
 use crate::compute::Effect;
 use crate::frames::StepError;
@@ -27,14 +28,20 @@ fn step_error(fault: BusFault) -> StepError
     }
 }
 
+#[tactic(auto, using(crate::proofs::Keeping::take_reads, crate::proofs::Keeping::take_tells, crate::proofs::Keeping::told_as))]
 fn take_byte<S: Source, K: Sink>(
     console: &mut Console,
     source: &mut S,
     sink: &mut K,
 ) -> Result<u8, StepError>
-    ensures ok { IfOk result (λ byte. (rest : List ℕ) → Untaken (S.left source.new) console.new.ended rest → (untaken : List ℕ) × Untaken (S.left source.old) console.old.ended untaken × (byte ≡ next_byte untaken) × (drop 1 untaken ≡ rest)) }
-    ensures given { OnOk result ((given : List ℕ) → Given (K.held sink.old) console.old.kept given → Given (K.held sink.new) console.new.kept given) }
+    ensures ok { IfOk result (λ byte. (rest : List ℕ) → Untaken (S.left source.new) console.new.ended rest →
+        (untaken : List ℕ) × Untaken (S.left source.old) console.old.ended untaken × (byte ≡ next_byte untaken) × (drop 1 untaken ≡ rest)) }
+    ensures given { OnOk result ((given : List ℕ) →
+        Given (K.held sink.old) console.old.kept given → Given (K.held sink.new) console.new.kept given) }
     ensures err { IfErr result (IsCutOff (S.left source.old) (K.held sink.old) console.old (S.left source.new) (K.held sink.new) console.new) }
+    ensures kept { OnOk result (HasRead (S.left source.old) console.old console.new) }
+    ensures tells { IsTold (S.left source.old) console.old.ended → IsTold (S.left source.new) console.new.ended }
+    ensures asked { IfErr result (λ e. HasAsked e console.old) }
     ensures keeps { (front : List ℕ) → Holds front (K.held sink.old) → Holds front (K.held sink.new) }
     ensures cause { HasStepCause (S.faults source.old) (S.faults source.new) (K.faults sink.old) (K.faults sink.new) result }
 {
@@ -44,10 +51,13 @@ fn take_byte<S: Source, K: Sink>(
     }
 }
 
+#[tactic(auto, using(crate::proofs::Keeping::give_writes, crate::proofs::Keeping::not_roomy))]
 fn give_byte<K: Sink>(console: &mut Console, byte: u8, sink: &mut K) -> Result<(), StepError>
     ensures ended { console.new.ended ≡ console.old.ended }
-    ensures ok { OnOk result ((given : List ℕ) → Given (K.held sink.old) console.old.kept given → Given (K.held sink.new) console.new.kept (given ++ byte ∷ [])) }
+    ensures ok { OnOk result (Gives (byte ∷ []) (K.held sink.old) console.old.kept (K.held sink.new) console.new.kept) }
     ensures err { (left : Option (List ℕ)) → IfErr result (IsCutOff left (K.held sink.old) console.old left (K.held sink.new) console.new) }
+    ensures kept { OnOk result (WritesOut console.old console.new) }
+    ensures full { OnErr result (4096 ≤ length console.old.kept) }
     ensures keeps { (front : List ℕ) → Holds front (K.held sink.old) → Holds front (K.held sink.new) }
     ensures cause { HasStepCause 0 0 (K.faults sink.old) (K.faults sink.new) result }
 {
@@ -65,12 +75,16 @@ pub fn read_in<S: Source, K: Sink>(
     sink: &mut K,
 ) -> Result<Effect, StepError>
     requires { machine.old.at + 1 < 2 ^ 32 }
-    ensures ok { IfOk result (λ e. IsLedOn (S.left source.old) (K.held sink.old) console.old (S.left source.new) (K.held sink.new) console.new (λ u g u' g'. read_in machine.old.stack_end (state_of machine.old u g) ≡ outcome_of e (state_of machine.new u' g'))) }
+    ensures ok { IfOk result (λ e. IsLedOn (S.left source.old) (K.held sink.old) console.old (S.left source.new) (K.held sink.new) console.new
+        (λ u g u' g'. read_in machine.old.stack_end (state_of machine.old u g) ≡ outcome_of e (state_of machine.new u' g'))) }
     ensures frames { OnErr result (machine.new ≡ machine.old) }
     ensures err { IfErr result (IsCutOff (S.left source.old) (K.held sink.old) console.old (S.left source.new) (K.held sink.new) console.new) }
     ensures keeps { (front : List ℕ) → Holds front (K.held sink.old) → Holds front (K.held sink.new) }
     ensures cause { HasStepCause (S.faults source.old) (S.faults source.new) (K.faults sink.old) (K.faults sink.new) result }
     ensures program { KeepsProgram machine.old machine.new }
+    ensures kept { OnOk result (HasRead (S.left source.old) console.old console.new) }
+    ensures tells { IsTold (S.left source.old) console.old.ended → IsTold (S.left source.new) console.new.ended }
+    ensures asked { IfErr result (λ e. e ≢ StepError.OutOfMemory → HasAsked e console.old) }
 {
     if !machine.has_room(1) {
         take_byte(console, source, sink)?;
@@ -98,12 +112,16 @@ pub fn write_out<K: Sink>(
     sink: &mut K,
 ) -> Result<Effect, StepError>
     requires { machine.old.at + 1 < 2 ^ 32 }
-    ensures ok { (left : Option (List ℕ)) → IfOk result (λ e. IsLedOn left (K.held sink.old) console.old left (K.held sink.new) console.new (λ u g u' g'. given_out (state_of machine.old u g) machine.old.running.operands ≡ outcome_of e (state_of machine.new u' g'))) }
+    ensures ok { (left : Option (List ℕ)) → IfOk result (LedBy (λ s. given_out s machine.old.running.operands)
+        left (K.held sink.old) console.old left (K.held sink.new) console.new machine.old machine.new) }
     ensures frames { OnErr result (machine.new ≡ machine.old) }
     ensures err { (left : Option (List ℕ)) → IfErr result (IsCutOff left (K.held sink.old) console.old left (K.held sink.new) console.new) }
     ensures keeps { (front : List ℕ) → Holds front (K.held sink.old) → Holds front (K.held sink.new) }
     ensures cause { HasStepCause 0 0 (K.faults sink.old) (K.faults sink.new) result }
     ensures program { KeepsProgram machine.old machine.new }
+    ensures kept { IfOk result (λ e. e ≢ Effect.Stuck → WritesOut console.old console.new) }
+    ensures ended { console.new.ended ≡ console.old.ended }
+    ensures full { OnErr result (4096 ≤ length console.old.kept) }
 {
     let Some(value) = machine.top() else {
         return Ok(Effect::Stuck);

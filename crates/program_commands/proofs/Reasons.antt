@@ -1,6 +1,7 @@
 -- Why no accepted program is had.
 use Rattle.std.proofs.Common.{◌≡◌, ◌⊎◌, inl, inr, ℕ, List, Option, Some, None, refl, sym, ◌∙◌, ap, subst, true, false, Result, Ok, Err}
 use Rattle.std.specs.Prelude.{IfErr}
+use Rattle.console_port.specs.declared.map.MemoryMap.{MemoryMap}
 use Rattle.ijvm_image.specs.declared.image.ImageError.{ImageError}
 use Rattle.ijvm_image.specs.declared.image.ImageError.TheVariants as images
 use Rattle.ijvm_image.specs.Image.{ImageView}
@@ -10,7 +11,7 @@ use Rattle.ijvm_paths.specs.declared.error.VerifyError.TheVariants as facts
 use Rattle.ijvm_paths.specs.Facts.{Holds}
 use Rattle.program_texts.specs.Refusals.{image_reason, link_reason, source_reason, verify_reason}
 use Rattle.program_commands.specs.declared.program.Unaccepted.{Unaccepted}
-use Rattle.program_commands.specs.Program.{IsNoSource, IsOf, IsRefused, IsUnaccepted, IsUnlinked, NoImage, NoProgram, NoSource, NotAccepted, NotLinked, begins_image, unaccepted_by}
+use Rattle.program_commands.specs.Program.{IsNoSource, IsOf, IsRefused, IsUnaccepted, IsUnlinked, IsUnread, NoImage, NoProgram, NoSource, NotAccepted, NotLinked, begins_image, unaccepted_by}
 use Rattle.program_commands.specs.declared.program.Unaccepted.TheVariants as reasons
 use Rattle.ijvm_program.specs.Program.{ProgramView}
 use Rattle.ijvm_asm.specs.declared.error.AsmError.{AsmError}
@@ -21,23 +22,23 @@ use Rattle.ijvm_asm.specs.Text as assembler
 use Rattle.method_linker.specs.declared.error.LinkError.{LinkError}
 use Rattle.method_linker.specs.Linked as linker
 
-by_reason : (bytes : List ℕ) (reason : Option (List ℕ)) → ((text : List ℕ) → reason ≡ Some text → IsRefused bytes text) → IsUnaccepted bytes (unaccepted_by reason)
-by_reason bytes None refuses = tt
-by_reason bytes (Some text) refuses = refuses text refl
+by_reason : (map : MemoryMap) (bytes : List ℕ) (reason : Option (List ℕ)) → ((text : List ℕ) → reason ≡ Some text → IsRefused map bytes text) → IsUnaccepted map bytes (unaccepted_by reason)
+by_reason map bytes None refuses = tt
+by_reason map bytes (Some text) refuses = refuses text refl
 
-pub no_image : (bytes : List ℕ) (e : ImageError) (u : Unaccepted) → begins_image bytes ≡ true → (e ≡ images.OutOfMemory) ⊎ IsRefusedFile bytes e →
-    u ≡ unaccepted_by (image_reason e) → IsUnaccepted bytes u
-no_image bytes e u begins (inl short) is =
-    subst (IsUnaccepted bytes) (sym (is ∙ ap (λ (x : ImageError). unaccepted_by (image_reason x)) short)) tt
-no_image bytes e u begins (inr read) is =
-    subst (IsUnaccepted bytes) (sym is) (by_reason bytes (image_reason e) (λ text said. NoImage e begins read said))
+pub no_image : (map : MemoryMap) (bytes : List ℕ) (e : ImageError) (u : Unaccepted) → begins_image bytes ≡ true → (e ≡ images.OutOfMemory) ⊎ IsRefusedFile bytes e →
+    u ≡ unaccepted_by (image_reason e) → IsUnaccepted map bytes u
+no_image map bytes e u begins (inl short) is =
+    subst (IsUnaccepted map bytes) (sym (is ∙ ap (λ (x : ImageError). unaccepted_by (image_reason x)) short)) tt
+no_image map bytes e u begins (inr read) is =
+    subst (IsUnaccepted map bytes) (sym is) (by_reason map bytes (image_reason e) (λ text said. NoImage e begins read said))
 
-pub not_accepted : (bytes : List ℕ) (image : ImageView) (e : VerifyError) (u : Unaccepted) → IsOf bytes image → (e ≡ facts.OutOfMemory) ⊎ Holds image 0x10000 e →
-    u ≡ unaccepted_by (verify_reason e) → IsUnaccepted bytes u
-not_accepted bytes image e u of (inl short) is =
-    subst (IsUnaccepted bytes) (sym (is ∙ ap (λ (x : VerifyError). unaccepted_by (verify_reason x)) short)) tt
-not_accepted bytes image e u of (inr holds) is =
-    subst (IsUnaccepted bytes) (sym is) (by_reason bytes (verify_reason e) (λ text said. NotAccepted image e of holds said))
+pub not_accepted : (map : MemoryMap) (bytes : List ℕ) (image : ImageView) (e : VerifyError) (u : Unaccepted) → IsOf bytes image → (e ≡ facts.OutOfMemory) ⊎ Holds image map.stack_end e →
+    u ≡ unaccepted_by (verify_reason e) → IsUnaccepted map bytes u
+not_accepted map bytes image e u of (inl short) is =
+    subst (IsUnaccepted map bytes) (sym (is ∙ ap (λ (x : VerifyError). unaccepted_by (verify_reason x)) short)) tt
+not_accepted map bytes image e u of (inr holds) is =
+    subst (IsUnaccepted map bytes) (sym is) (by_reason map bytes (verify_reason e) (λ text said. NotAccepted image e of holds said))
 
 by_text : (text : List ℕ) (reason : Option (List ℕ)) → ((said : List ℕ) → reason ≡ Some said → IsNoSource text said) → IsUnlinked text (unaccepted_by reason)
 by_text text None refuses = tt
@@ -66,10 +67,10 @@ not_linked text source e u spelled refused is =
     subst (IsUnlinked text) (sym is) (by_text text (link_reason e) (λ said h. NotLinked source e spelled refused h))
 
 -- a source that has no image holds no accepted program
-pub no_program : (bytes : List ℕ) (u : Unaccepted) → begins_image bytes ≡ false → IsUnlinked bytes u → IsUnaccepted bytes u
-no_program bytes (reasons.Refused reason) begins h = NoProgram begins h
-no_program bytes reasons.OutOfMemory begins h = tt
+pub no_program : (map : MemoryMap) (bytes : List ℕ) (u : Unaccepted) → begins_image bytes ≡ false → IsUnlinked bytes u → IsUnaccepted map bytes u
+no_program map bytes (reasons.Refused reason) begins h = NoProgram begins h
+no_program map bytes reasons.OutOfMemory begins h = tt
 
-pub no_program_in : {T : Type 0} (bytes : List ℕ) (r : Result T Unaccepted) → begins_image bytes ≡ false → IfErr r (IsUnlinked bytes) → IfErr r (IsUnaccepted bytes)
+pub no_program_in : {T : Type 0} (bytes : List ℕ) (r : Result T Unaccepted) → begins_image bytes ≡ false → IfErr r (IsUnlinked bytes) → IfErr r (IsUnread bytes)
 no_program_in bytes (Ok x) begins h = tt
-no_program_in bytes (Err u) begins h = no_program bytes u begins h
+no_program_in bytes (Err u) begins h = λ map. no_program map bytes u begins h

@@ -1,4 +1,3 @@
 pub mod Program
-pub mod Comes
+pub mod Answers
 pub mod Reference
-pub mod Assemble

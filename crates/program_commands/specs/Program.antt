@@ -1,5 +1,6 @@
 -- What a file holds, by its bytes: an image or a source of one, that is accepted or refused for a reason.
 use Rattle.std.specs.Prelude.{◌≡◌, ℕ, Bool, false, true, ◌==◌, List, [], ◌∷◌, Option, None, Some}
+use Rattle.console_port.specs.declared.map.MemoryMap.{MemoryMap}
 use Rattle.ijvm_image.specs.declared.image.ImageError.{ImageError}
 use Rattle.ijvm_image.specs.Image.{ImageView, IsWithinLimits}
 use Rattle.ijvm_image.specs.ImageFile.{IsFileOf, IsRefused as IsRefusedFile}
@@ -38,16 +39,17 @@ pub data IsOf (bytes : List ℕ) (image : ImageView) : Type 0 where
   AsFile : begins_image bytes ≡ true → IsWithinLimits image.text image.pool → IsFileOf bytes image → IsOf bytes image
   AsSource : begins_image bytes ≡ false → IsSource bytes image → IsOf bytes image
 
--- the file is an accepted image's
-pub record IsProgram (bytes : List ℕ) (program : VerifiedView) : Type 0 where
+-- the file is an image's that is accepted for this map
+pub record IsProgram (map : MemoryMap) (bytes : List ℕ) (program : VerifiedView) : Type 0 where
   pub is : IsOf bytes program.image
+  pub map_is : program.map ≡ map
   pub accepted : IsAccepted program
 
 -- the file is refused, for this reason
-pub data IsRefused (bytes reason : List ℕ) : Type 0 where
-  NoImage : (e : ImageError) → begins_image bytes ≡ true → IsRefusedFile bytes e → image_reason e ≡ Some reason → IsRefused bytes reason
-  NoProgram : begins_image bytes ≡ false → IsNoSource bytes reason → IsRefused bytes reason
-  NotAccepted : (image : ImageView) (e : VerifyError) → IsOf bytes image → Holds image 0x10000 e → verify_reason e ≡ Some reason → IsRefused bytes reason
+pub data IsRefused (map : MemoryMap) (bytes reason : List ℕ) : Type 0 where
+  NoImage : (e : ImageError) → begins_image bytes ≡ true → IsRefusedFile bytes e → image_reason e ≡ Some reason → IsRefused map bytes reason
+  NoProgram : begins_image bytes ≡ false → IsNoSource bytes reason → IsRefused map bytes reason
+  NotAccepted : (image : ImageView) (e : VerifyError) → IsOf bytes image → Holds image map.stack_end e → verify_reason e ≡ Some reason → IsRefused map bytes reason
 
 -- for a reason, or for want of memory where there is none
 abbrev pub unaccepted_by : Option (List ℕ) → Unaccepted
@@ -55,9 +57,13 @@ unaccepted_by None = reasons.OutOfMemory
 unaccepted_by (Some reason) = reasons.Refused reason
 
 -- what it means that no accepted program is had from these bytes
-abbrev pub IsUnaccepted : List ℕ → Unaccepted → Type 0
-IsUnaccepted bytes (reasons.Refused reason) = IsRefused bytes reason
-IsUnaccepted bytes reasons.OutOfMemory = Unit {0}
+abbrev pub IsUnaccepted : MemoryMap → List ℕ → Unaccepted → Type 0
+IsUnaccepted map bytes (reasons.Refused reason) = IsRefused map bytes reason
+IsUnaccepted map bytes reasons.OutOfMemory = Unit {0}
+
+-- what it means that no image is had from these bytes: no map has an accepted program then
+abbrev pub IsUnread : List ℕ → Unaccepted → Type 0
+IsUnread bytes unaccepted = (map : MemoryMap) → IsUnaccepted map bytes unaccepted
 
 -- what it means that no image is had from this source
 abbrev pub IsUnlinked : List ℕ → Unaccepted → Type 0

@@ -2,45 +2,48 @@
 use Rattle.std.specs.Prelude.{◌≡◌, ℕ, List}
 use Rattle.mic_base.specs.Causes.{Rose}
 use Rattle.machine_words.specs.declared.machine.Machine.{Machine}
+use Rattle.console_port.specs.declared.map.MemoryMap.{MemoryMap}
 use Rattle.plain_machine.specs.declared.plain.PlainEnd.TheVariants as ends
 use Rattle.plain_machine.specs.declared.plain.PlainReport.{PlainReport}
 use Rattle.ijvm_run.specs.Run.{Program}
 use Rattle.plain_machine.specs.Plain.{HasRun, IsCutByRead, IsCutByWrite, IsShort}
 use Rattle.ijvm_paths.specs.Accepted.{VerifiedView}
+use Rattle.mic_work.specs.Status as exits
 use Rattle.mic_work.specs.Outside.{Desk, SinkState, SourceState, Says}
 use Rattle.mic_work.specs.Messages.{out_of_memory}
 use Rattle.mic_work.specs.Work.{Ends, IsRead}
-use Rattle.program_texts.specs.Report.{report, status_of}
+use Rattle.run_texts.specs.Ends.{end_of, status_of}
+use Rattle.run_texts.specs.Report.{plain_head}
 use Rattle.program_commands.specs.Program.{IsProgram}
-use Rattle.program_commands.specs.Comes.{IsRefusal}
+use Rattle.program_commands.specs.Answers.{IsRefusal}
 
--- an accepted program on the standard memory map, with this machine's costs
+-- an accepted program on its memory map, with this machine's costs
 abbrev pub program_of : VerifiedView → Machine → Program
-program_of program machine = record { image = program.image; stack_end = 0x10000; machine = machine }
+program_of program machine = record { image = program.image; stack_end = program.map.stack_end; machine = machine }
 
--- A run of the program between a console and `out`, and what is said of it on `err`.
-pub data IsRun (program : VerifiedView) (machine : Machine) (bound : ℕ) (console console' : SourceState) (out out' err err' : SinkState) (status : ℕ) : Type 0 where
+-- What a report says of a run between a console and `out`.
+pub data IsReported (program : VerifiedView) (machine : Machine) (bound : ℕ) (console console' : SourceState) (out out' : SinkState) (r : PlainReport) : Type 0 where
   -- the definition's run to its end; `out` has got its output
-  Ran : (r : PlainReport) → HasRun (program_of program machine) program.main_locals bound console.left out.held console'.left out'.held r →
-      console'.faults ≡ console.faults → out'.faults ≡ out.faults → Says err err' (report r) (status_of r.end) status →
-      IsRun program machine bound console console' out out' err err' status
+  Ran : HasRun (program_of program machine) program.main_locals bound console.left out.held console'.left out'.held r →
+      console'.faults ≡ console.faults → out'.faults ≡ out.faults → IsReported program machine bound console console' out out' r
   -- the console failed, which cut the run at an IN; `out` has got all the output before it
-  CutByRead : (r : PlainReport) → r.end ≡ ends.ReadFault →
-      IsCutByRead (program_of program machine) program.main_locals bound console.left out.held console'.left out'.held r →
-      Rose console.faults console'.faults → out'.faults ≡ out.faults → Says err err' (report r) 70 status →
-      IsRun program machine bound console console' out out' err err' status
+  CutByRead : r.end ≡ ends.ReadFault → IsCutByRead (program_of program machine) program.main_locals bound console.left out.held console'.left out'.held r →
+      Rose console.faults console'.faults → out'.faults ≡ out.faults → IsReported program machine bound console console' out out' r
   -- `out` failed, which cut the run at an IN or an OUT, or at its end; `out` has got a front of the output
-  CutByWrite : (r : PlainReport) → r.end ≡ ends.WriteFault →
-      IsCutByWrite (program_of program machine) program.main_locals bound console.left out.held console'.left out'.held r →
-      console'.faults ≡ console.faults → Rose out.faults out'.faults → Says err err' (report r) 71 status →
+  CutByWrite : r.end ≡ ends.WriteFault → IsCutByWrite (program_of program machine) program.main_locals bound console.left out.held console'.left out'.held r →
+      console'.faults ≡ console.faults → Rose out.faults out'.faults → IsReported program machine bound console console' out out' r
+
+-- A run of the program, and what is said of it on `err`.
+pub data IsRun (program : VerifiedView) (machine : Machine) (bound : ℕ) (console console' : SourceState) (out out' err err' : SinkState) (status : ℕ) : Type 0 where
+  Reported : (r : PlainReport) → IsReported program machine bound console console' out out' r → Says err err' (plain_head r) (status_of (end_of r.end)) status →
       IsRun program machine bound console console' out out' err err' status
   -- memory was wanting at a boundary; `out` has got a front of the output
   Short : IsShort (program_of program machine) program.main_locals bound console.left out.held console'.left out'.held →
-      console'.faults ≡ console.faults → out'.faults ≡ out.faults → Says err err' out_of_memory 75 status →
+      console'.faults ≡ console.faults → out'.faults ≡ out.faults → Says err err' out_of_memory exits.memory status →
       IsRun program machine bound console console' out out' err err' status
 
-pub data EndsReference (file : List ℕ) (machine : Machine) (bound : ℕ) (console console' : SourceState) (old new : Desk) (status : ℕ) : Type 0 where
+pub data EndsReference (file : List ℕ) (machine : Machine) (bound : ℕ) (map : MemoryMap) (console console' : SourceState) (old new : Desk) (status : ℕ) : Type 0 where
   -- nothing was run: the file was not had, or is refused
-  NotRun : Ends IsRefusal file old new status → console' ≡ console → EndsReference file machine bound console console' old new status
-  Did : (bytes : List ℕ) (program : VerifiedView) → IsRead file bytes old.files → IsProgram bytes program → new.files ≡ old.files →
-      IsRun program machine bound console console' old.out new.out old.err new.err status → EndsReference file machine bound console console' old new status
+  NotRun : Ends (IsRefusal map) file old new status → console' ≡ console → EndsReference file machine bound map console console' old new status
+  Did : (bytes : List ℕ) (program : VerifiedView) → IsRead file bytes old.files → IsProgram map bytes program → new.files ≡ old.files →
+      IsRun program machine bound console console' old.out new.out old.err new.err status → EndsReference file machine bound map console console' old new status

@@ -1,57 +1,35 @@
 //! `assemble SOURCE IMAGE`: the image of a source is written to a file.
 
-ghost use Rattle.std.specs.Prelude.{ℕ, List};
-ghost use Rattle.mic_work.specs.Outside.{desk, files_state, sink_state};
-ghost use Rattle.mic_work.specs.Work.{Ends};
-ghost use Rattle.program_commands.specs.Assemble.{AssembleComes, IsDenied, IsPut};
-ghost use Rattle.program_commands.specs.Program.{IsUnlinked};
+ghost use Rattle.std.specs.Prelude.{◌≤◌, length, IfOk};
+ghost use Rattle.mic_base.specs.Files.{most_bytes};
+ghost use Rattle.mic_work.specs.Outside.{desk, files_of, sink_of};
+ghost use Rattle.mic_work.specs.Work.{Ends, answered};
+ghost use Rattle.program_commands.specs.Answers.{Assembled};
 
-use crate::program::{Unaccepted, assembled};
-use ijvm_image::{Image, write_image};
+use crate::program::assembled;
+use crate::refusal::refusal_of;
+use ijvm_image::write_image;
 use mic_base::{Files, Sink};
-use mic_work::{Answer, Status, carry_out, no_memory, read_named, say_of};
+use mic_work::{Answer, Status, carry_out, no_memory, read_named};
 use program_texts::sizes_of;
-use std::alloc::Global;
+use std::alloc::{AllocError, Global};
 
-/// Writes an image, and prints its sizes.
-fn put_image<F: Files, K: Sink, E: Sink>(
-    alloc: Global,
-    source: &str,
-    target: &str,
-    image: &Image,
-    files: &mut F,
-    out: &mut K,
-    err: &mut E,
-) -> Status
-    ensures { IsPut source.now target.now image.now
-        (desk (files_state (F.contents files.old) (F.faults files.old)) (sink_state (K.held out.old) (K.faults out.old)) (sink_state (E.held err.old) (E.faults err.old)))
-        (desk (files_state (F.contents files.new) (F.faults files.new)) (sink_state (K.held out.new) (K.faults out.new)) (sink_state (E.held err.new) (E.faults err.new)))
-        result.0 }
+/// The image file of a source, and its sizes.
+fn image_answer<'a>(alloc: Global, target: &'a str, text: &[u8]) -> Result<Answer<'a>, AllocError>
+    requires { length text.now ≤ most_bytes }
+    ensures { IfOk result (λ answer. Assembled target.now text.now (answered answer)) }
 {
-    let bytes = match write_image(alloc, image) {
-        Ok(bytes) => bytes,
-        Err(_) => return no_memory(err),
-    };
-    let text = match Vec::from_slice(alloc, sizes_of(image).bytes()) {
-        Ok(text) => text,
-        Err(_) => return no_memory(err),
-    };
-    let answer = Answer::Writes {
-        target,
-        bytes,
-        text,
-    };
-    carry_out(alloc, source, answer, files, out, err)
-}
-
-/// Says why a source has no image.
-fn deny<E: Sink>(source: &str, unaccepted: Unaccepted, err: &mut E) -> Status
-    ensures { (text : List ℕ) → IsUnlinked text unaccepted →
-        IsDenied source.now text (sink_state (E.held err.old) (E.faults err.old)) (sink_state (E.held err.new) (E.faults err.new)) result.0 }
-{
-    match unaccepted {
-        Unaccepted::Refused(reason) => say_of(err, source, reason.bytes(), Status::DATA),
-        Unaccepted::OutOfMemory => no_memory(err),
+    match assembled(alloc, text) {
+        Ok(image) => {
+            let bytes = write_image(alloc, &image)?;
+            let text = Vec::from_slice(alloc, sizes_of(&image).bytes())?;
+            Ok(Answer::Writes {
+                target,
+                bytes,
+                text,
+            })
+        }
+        Err(unaccepted) => refusal_of(unaccepted),
     }
 }
 
@@ -64,17 +42,17 @@ pub fn assemble_file<F: Files, K: Sink, E: Sink>(
     out: &mut K,
     err: &mut E,
 ) -> Status
-    ensures { Ends (AssembleComes image.now) source.now
-        (desk (files_state (F.contents files.old) (F.faults files.old)) (sink_state (K.held out.old) (K.faults out.old)) (sink_state (E.held err.old) (E.faults err.old)))
-        (desk (files_state (F.contents files.new) (F.faults files.new)) (sink_state (K.held out.new) (K.faults out.new)) (sink_state (E.held err.new) (E.faults err.new)))
+    ensures { Ends (Assembled image.now) source.now
+        (desk (files_of F.contents F.faults files.old) (sink_of K.held K.passed K.faults out.old) (sink_of E.held E.passed E.faults err.old))
+        (desk (files_of F.contents F.faults files.new) (sink_of K.held K.passed K.faults out.new) (sink_of E.held E.passed E.faults err.new))
         result.0 }
 {
     let text = match read_named(alloc, source, files, err) {
         Ok(text) => text,
         Err(status) => return status,
     };
-    match assembled(alloc, &text) {
-        Ok(made) => put_image(alloc, source, image, &made, files, out, err),
-        Err(unaccepted) => deny(source, unaccepted, err),
+    match image_answer(alloc, image, &text) {
+        Ok(answer) => carry_out(alloc, source, answer, files, out, err),
+        Err(_) => no_memory(err),
     }
 }

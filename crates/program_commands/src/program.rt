@@ -2,7 +2,8 @@
 
 ghost use Rattle.std.specs.Prelude.{◌≡◌, ◌≤◌, true, length, IfOk, IfErr};
 ghost use Rattle.mic_base.specs.Files.{most_bytes};
-ghost use Rattle.program_commands.specs.Program.{IsOf, IsProgram, IsSource, IsUnaccepted, IsUnlinked, begins_image, unaccepted_by};
+ghost use Rattle.console_port.specs.Map.{IsMap};
+ghost use Rattle.program_commands.specs.Program.{IsOf, IsProgram, IsSource, IsUnaccepted, IsUnlinked, IsUnread, begins_image, unaccepted_by};
 
 use console_port::MemoryMap;
 use ijvm_asm::parse_source;
@@ -41,7 +42,7 @@ fn begins_image(bytes: &[u8]) -> bool
 fn image_of(alloc: Global, bytes: &[u8]) -> Result<Image, Unaccepted>
     requires { begins_image bytes.now ≡ true }
     ensures ok { IfOk result (IsOf bytes.now) }
-    ensures err { IfErr result (IsUnaccepted bytes.now) }
+    ensures err { IfErr result (IsUnread bytes.now) }
 {
     match read_image(alloc, bytes) {
         Ok(image) => Ok(image),
@@ -69,7 +70,7 @@ pub(crate) fn assembled(alloc: Global, text: &[u8]) -> Result<Image, Unaccepted>
 fn found_image(alloc: Global, bytes: &[u8]) -> Result<Image, Unaccepted>
     requires { length bytes.now ≤ most_bytes }
     ensures ok { IfOk result (IsOf bytes.now) }
-    ensures err { IfErr result (IsUnaccepted bytes.now) }
+    ensures err { IfErr result (IsUnread bytes.now) }
 {
     if begins_image(bytes) {
         image_of(alloc, bytes)
@@ -78,14 +79,19 @@ fn found_image(alloc: Global, bytes: &[u8]) -> Result<Image, Unaccepted>
     }
 }
 
-/// The program of a file, if it is an accepted one.
-pub fn accepted_program(alloc: Global, bytes: &[u8]) -> Result<VerifiedImage, Unaccepted>
-    requires { length bytes.now ≤ most_bytes }
-    ensures ok { IfOk result (IsProgram bytes.now) }
-    ensures err { IfErr result (IsUnaccepted bytes.now) }
+/// The program of a file, if it is accepted for this map.
+pub fn accepted_program(
+    alloc: Global,
+    bytes: &[u8],
+    map: MemoryMap,
+) -> Result<VerifiedImage, Unaccepted>
+    requires few { length bytes.now ≤ most_bytes }
+    requires map { IsMap map.stack_end }
+    ensures ok { IfOk result (IsProgram map bytes.now) }
+    ensures err { IfErr result (IsUnaccepted map bytes.now) }
 {
     let image = found_image(alloc, bytes)?;
-    match verify(alloc, image, MemoryMap::STANDARD) {
+    match verify(alloc, image, map) {
         Ok(program) => Ok(program),
         Err(error) => Err(refused(verify_reason(error))),
     }

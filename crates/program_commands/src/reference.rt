@@ -1,8 +1,8 @@
 //! `reference FILE`: a run of the plain machine, and its report.
 
-ghost use Rattle.std.specs.Prelude.{◌≡◌, ◌≤◌, ◌^◌};
-ghost use Rattle.mic_work.specs.Outside.{desk, files_state, sink_state, source_state};
-ghost use Rattle.program_texts.specs.Report.{status_of};
+ghost use Rattle.std.specs.Prelude.{◌≤◌, ◌^◌};
+ghost use Rattle.console_port.specs.Map.{IsMap};
+ghost use Rattle.mic_work.specs.Outside.{desk, files_of, sink_of, source_of};
 ghost use Rattle.program_commands.specs.Reference.{EndsReference, IsRun};
 
 use crate::program::accepted_program;
@@ -12,23 +12,9 @@ use ijvm_verifier::VerifiedImage;
 use machine_words::Machine;
 use mic_base::{Files, Sink, Source};
 use mic_work::{Status, no_memory, read_named, say};
-use plain_machine::{PlainEnd, run_plain};
-use program_texts::report_of;
+use plain_machine::run_plain;
+use run_texts::{end_of, plain_report, status_of};
 use std::alloc::Global;
-
-/// The status of a run that ended so.
-fn status_of(end: PlainEnd) -> Status
-    ensures { result.0 ≡ status_of end }
-{
-    match end {
-        PlainEnd::Halt => Status::DONE,
-        PlainEnd::Err => Status(1),
-        PlainEnd::Bound => Status(2),
-        PlainEnd::StackLimit => Status(3),
-        PlainEnd::ReadFault => Status(70),
-        PlainEnd::WriteFault => Status::SINK,
-    }
-}
 
 /// Runs an accepted program, and reports.
 fn run_program<S: Source, K: Sink, E: Sink>(
@@ -41,23 +27,15 @@ fn run_program<S: Source, K: Sink, E: Sink>(
     err: &mut E,
 ) -> Status
     requires { bound ≤ 2 ^ 62 }
-    ensures { IsRun program.now machine bound (source_state (S.left console.old) (S.faults console.old)) (source_state (S.left console.new) (S.faults console.new))
-        (sink_state (K.held out.old) (K.faults out.old)) (sink_state (K.held out.new) (K.faults out.new))
-        (sink_state (E.held err.old) (E.faults err.old)) (sink_state (E.held err.new) (E.faults err.new)) result.0 }
+    ensures { IsRun program.now machine bound (source_of S.left S.faults console.old) (source_of S.left S.faults console.new)
+        (sink_of K.held K.passed K.faults out.old) (sink_of K.held K.passed K.faults out.new)
+        (sink_of E.held E.passed E.faults err.old) (sink_of E.held E.passed E.faults err.new) result.0 }
 {
     let locals = program.main_locals();
     let image = program.image();
-    match run_plain(
-        alloc,
-        image,
-        locals,
-        MemoryMap::STANDARD,
-        machine,
-        bound,
-        console,
-        out,
-    ) {
-        Ok(run) => say(err, report_of(&run).bytes(), status_of(run.end)),
+    let map = program.map();
+    match run_plain(alloc, image, locals, map, machine, bound, console, out) {
+        Ok(run) => say(err, plain_report(&run).bytes(), status_of(end_of(run.end))),
         Err(_) => no_memory(err),
     }
 }
@@ -68,22 +46,24 @@ pub fn reference_file<F: Files, S: Source, K: Sink, E: Sink>(
     file: &str,
     machine: Machine,
     bound: u64,
+    map: MemoryMap,
     files: &mut F,
     console: &mut S,
     out: &mut K,
     err: &mut E,
 ) -> Status
-    requires { bound ≤ 2 ^ 62 }
-    ensures { EndsReference file.now machine bound (source_state (S.left console.old) (S.faults console.old)) (source_state (S.left console.new) (S.faults console.new))
-        (desk (files_state (F.contents files.old) (F.faults files.old)) (sink_state (K.held out.old) (K.faults out.old)) (sink_state (E.held err.old) (E.faults err.old)))
-        (desk (files_state (F.contents files.new) (F.faults files.new)) (sink_state (K.held out.new) (K.faults out.new)) (sink_state (E.held err.new) (E.faults err.new)))
+    requires bound { bound ≤ 2 ^ 62 }
+    requires map { IsMap map.stack_end }
+    ensures { EndsReference file.now machine bound map (source_of S.left S.faults console.old) (source_of S.left S.faults console.new)
+        (desk (files_of F.contents F.faults files.old) (sink_of K.held K.passed K.faults out.old) (sink_of E.held E.passed E.faults err.old))
+        (desk (files_of F.contents F.faults files.new) (sink_of K.held K.passed K.faults out.new) (sink_of E.held E.passed E.faults err.new))
         result.0 }
 {
     let bytes = match read_named(alloc, file, files, err) {
         Ok(bytes) => bytes,
         Err(status) => return status,
     };
-    match accepted_program(alloc, &bytes) {
+    match accepted_program(alloc, &bytes, map) {
         Ok(program) => run_program(alloc, &program, machine, bound, console, out, err),
         Err(unaccepted) => refuse(file, unaccepted, err),
     }

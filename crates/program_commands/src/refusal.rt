@@ -1,21 +1,34 @@
-//! What is said where a file holds no accepted program.
+//! What comes of a file that holds no accepted program.
 
-ghost use Rattle.std.specs.Prelude.{ℕ, List};
-ghost use Rattle.mic_work.specs.Outside.{sink_state};
-ghost use Rattle.program_commands.specs.Comes.{IsTold};
+ghost use Rattle.std.specs.Prelude.{◌≡◌, ℕ, List, Some, None, MatchResult};
+ghost use Rattle.console_port.specs.declared.map.MemoryMap.{MemoryMap};
+ghost use Rattle.mic_work.specs.Outside.{sink_of};
+ghost use Rattle.mic_work.specs.Work.{answered};
+ghost use Rattle.program_commands.specs.Answers.{SaysWhyRefused, refusal_of};
 ghost use Rattle.program_commands.specs.Program.{IsUnaccepted};
 
 use crate::program::Unaccepted;
 use mic_base::Sink;
-use mic_work::{Status, no_memory, say_of};
+use mic_work::{Answer, Status, no_memory, say_of};
+use std::alloc::AllocError;
+
+/// The answer of a command to it.
+pub(crate) fn refusal_of(unaccepted: Unaccepted) -> Result<Answer<'static>, AllocError>
+    ensures { MatchResult result (λ answer. refusal_of unaccepted ≡ Some (answered answer)) (λ e. refusal_of unaccepted ≡ None) }
+{
+    match unaccepted {
+        Unaccepted::Refused(reason) => Ok(Answer::Refuses(reason)),
+        Unaccepted::OutOfMemory => Err(AllocError),
+    }
+}
 
 /// Says why there is no accepted program.
 pub fn refuse<E: Sink>(file: &str, unaccepted: Unaccepted, err: &mut E) -> Status
-    ensures { (bytes : List ℕ) → IsUnaccepted bytes unaccepted →
-        IsTold file.now bytes (sink_state (E.held err.old) (E.faults err.old)) (sink_state (E.held err.new) (E.faults err.new)) result.0 }
+    ensures { (map : MemoryMap) (bytes : List ℕ) → IsUnaccepted map bytes unaccepted →
+        SaysWhyRefused map file.now bytes (sink_of E.held E.passed E.faults err.old) (sink_of E.held E.passed E.faults err.new) result.0 }
 {
     match unaccepted {
-        Unaccepted::Refused(reason) => say_of(err, file, reason.bytes(), Status::DATA),
+        Unaccepted::Refused(reason) => say_of(err, file, reason.bytes(), Status::REFUSED),
         Unaccepted::OutOfMemory => no_memory(err),
     }
 }

@@ -1,4 +1,5 @@
 use crate::{assemble_file, list_file, reference_file, verify_file};
+use console_port::MemoryMap;
 use ijvm_image::{Image, write_image};
 use machine_words::Machine;
 use mic_base::{MemFiles, MemSink, MemSource};
@@ -53,6 +54,7 @@ struct World<'a> {
     console_fails: &'a [u64],
     out_fails: &'a [u64],
     err_fails: &'a [u64],
+    large: bool,
 }
 
 fn quiet<'a>(file: &'a [u8], console: &'a [u8]) -> World<'a> {
@@ -62,6 +64,7 @@ fn quiet<'a>(file: &'a [u8], console: &'a [u8]) -> World<'a> {
         console_fails: &[],
         out_fails: &[],
         err_fails: &[],
+        large: false,
     }
 }
 
@@ -84,9 +87,14 @@ fn call(alloc: Global, command: Command, world: World<'_>) -> Result<Done, Fail>
     );
     let mut out = MemSink::new(alloc, 2_000_000, Vec::from_slice(alloc, world.out_fails)?)?;
     let mut err = MemSink::new(alloc, 1000, Vec::from_slice(alloc, world.err_fails)?)?;
+    let map = if world.large {
+        MemoryMap::LARGE
+    } else {
+        MemoryMap::STANDARD
+    };
     let status = match command {
-        Command::Verify => verify_file(alloc, "F", &mut files, &mut out, &mut err),
-        Command::List => list_file(alloc, "F", &mut files, &mut out, &mut err),
+        Command::Verify => verify_file(alloc, "F", map, &mut files, &mut out, &mut err),
+        Command::List => list_file(alloc, "F", map, &mut files, &mut out, &mut err),
         Command::Reference(machine, bound) => {
             if bound > 1_000_000_000 {
                 return Err(Fail::from(AllocError));
@@ -96,6 +104,7 @@ fn call(alloc: Global, command: Command, world: World<'_>) -> Result<Done, Fail>
                 "F",
                 machine,
                 bound,
+                map,
                 &mut files,
                 &mut console,
                 &mut out,
@@ -150,6 +159,12 @@ fn accepted_programs_are_told_and_listed(rt: HostRuntime) -> Result<(), Fail> {
     expect(&rt, &listed, 0, lines, "");
     let told = call(alloc, Command::Verify, quiet(&jumps, b""))?;
     expect(&rt, &told, 0, b"ok text 10 pool 0 methods 0 main 2\n", "");
+
+    let wide = image(&rt, alloc, WIDE_INC, &[])?;
+    let listed = call(alloc, Command::List, quiet(&wide, b""))?;
+    expect(&rt, &listed, 0, WIDE_INC_LISTING.as_bytes(), "");
+    let told = call(alloc, Command::Verify, quiet(&wide, b""))?;
+    expect(&rt, &told, 0, b"ok text 17 pool 0 methods 0 main 301\n", "");
     Ok(())
 }
 
@@ -333,6 +348,16 @@ fn add_behind(rt: &impl Abort, alloc: Global, nops: u32) -> Result<Vec<u8>, Fail
     Ok(image(rt, alloc, &text, &[64, 12 + nops])?)
 }
 
+/// `BIPUSH 1`, `ISTORE 300`, `IINC 300 1000`, `ILOAD 300`, `HALT`.
+const WIDE_INC: &[u8] = b"\x10\x01\xC4\x36\x01\x2C\xC4\x84\x01\x2C\x03\xE8\xC4\x15\x01\x2C\xFF";
+
+const WIDE_INC_LISTING: &str = "00000000 BIPUSH 1
+00000002 WIDE ISTORE 300
+00000006 WIDE IINC 300 1000
+0000000c WIDE ILOAD 300
+00000010 HALT
+";
+
 struct Row {
     text: &'static [u8],
     pool: &'static [u32],
@@ -345,7 +370,7 @@ struct Row {
 
 const DEEP: &[u8] = b"\x13\0\0\xB6\0\x01\xFF\0\x01\0\0\x13\0\0\xB6\0\x01\xAC";
 
-const ROWS: [Row; 5] = [
+const ROWS: [Row; 7] = [
     Row {
         text: ECHO,
         pool: &[],
@@ -381,6 +406,24 @@ const ROWS: [Row; 5] = [
         status: 0,
         out: b"",
         report: "end halt\ncycles 3 instructions 1\nboundary 2 at 00000000 sp 00007fff lv 00008000\n",
+    },
+    Row {
+        text: WIDE_INC,
+        pool: &[],
+        input: b"",
+        command: MIC1,
+        status: 0,
+        out: b"",
+        report: "end halt\ncycles 38 instructions 5\nboundary 37 at 00000010 sp 0000812d lv 00008000\n",
+    },
+    Row {
+        text: WIDE_INC,
+        pool: &[],
+        input: b"",
+        command: MIC2,
+        status: 0,
+        out: b"",
+        report: "end halt\ncycles 19 instructions 5\nboundary 19 at 00000010 sp 0000812d lv 00008000\n",
     },
     Row {
         text: b"\xFE",
@@ -739,5 +782,39 @@ fn jumps_have_a_limit(rt: HostRuntime) -> Result<(), Fail> {
         b"",
         "mic: F:32771: jump of -32769 is too far\n",
     );
+    Ok(())
+}
+
+#[test]
+fn the_large_map_has_more_room(rt: HostRuntime) -> Result<(), Fail> {
+    let alloc = rt.alloc();
+    let local = image(&rt, alloc, b"\xFC\xC4\x36\x9C\x40\xFF", &[])?;
+    let told = call(alloc, Command::Verify, quiet(&local, b""))?;
+    expect(&rt, &told, 65, b"", "mic: F: 40001 locals in main\n");
+    let large = World {
+        large: true,
+        ..quiet(&local, b"")
+    };
+    let told = call(alloc, Command::Verify, large)?;
+    expect(
+        &rt,
+        &told,
+        0,
+        b"ok text 6 pool 0 methods 0 main 40001\n",
+        "",
+    );
+
+    let deep = image(&rt, alloc, DEEP, &[0, 7])?;
+    for (command, cycles) in [(MIC1, 1_015_810), (MIC2, 524_290)] {
+        let large = World {
+            large: true,
+            ..quiet(&deep, b"")
+        };
+        let done = call(alloc, command, large)?;
+        let report = format!(in alloc;
+            "end stack-limit\ncycles {cycles} instructions 65536\nboundary {cycles} at 0000000b sp 0001ffff lv 0001fffd\n"
+        )?;
+        expect(&rt, &done, 3, b"", report.as_str());
+    }
     Ok(())
 }

@@ -1,36 +1,61 @@
-//! `verify FILE`: whether a program is accepted, and its sizes.
+//! `verify FILE [--map W]`: whether a program is accepted, and its sizes.
 
-ghost use Rattle.mic_work.specs.Outside.{desk, files_state, sink_state};
-ghost use Rattle.mic_work.specs.Work.{Ends};
+ghost use Rattle.std.specs.Prelude.{◌≤◌, length, IfOk};
+ghost use Rattle.mic_base.specs.Files.{most_bytes};
+ghost use Rattle.console_port.specs.Map.{IsMap};
+ghost use Rattle.mic_work.specs.Outside.{desk, files_of, sink_of};
+ghost use Rattle.mic_work.specs.Work.{Ends, answered};
 ghost use Rattle.program_texts.specs.Summary.{Summarizes};
-ghost use Rattle.program_commands.specs.Comes.{Comes};
+ghost use Rattle.program_commands.specs.Answers.{Shown};
 
 use crate::program::accepted_program;
-use crate::refusal::refuse;
+use crate::refusal::refusal_of;
+use console_port::MemoryMap;
 use mic_base::{Files, Sink};
-use mic_work::{Status, read_named, say};
+use mic_work::{Answer, Status, carry_out, no_memory, read_named};
 use program_texts::summary_of;
-use std::alloc::Global;
+use std::alloc::{AllocError, Global};
+
+/// The sizes of the program that a file holds.
+fn summary_answer(
+    alloc: Global,
+    bytes: &[u8],
+    map: MemoryMap,
+) -> Result<Answer<'static>, AllocError>
+    requires few { length bytes.now ≤ most_bytes }
+    requires map { IsMap map.stack_end }
+    ensures { IfOk result (λ answer. Shown map Summarizes bytes.now (answered answer)) }
+{
+    match accepted_program(alloc, bytes, map) {
+        Ok(program) => {
+            let text = Vec::from_slice(alloc, summary_of(&program).bytes())?;
+            Ok(Answer::Prints(text))
+        }
+        Err(unaccepted) => refusal_of(unaccepted),
+    }
+}
 
 /// Reads the file, and says whether it is accepted.
 pub fn verify_file<F: Files, K: Sink, E: Sink>(
     alloc: Global,
     file: &str,
+    map: MemoryMap,
     files: &mut F,
     out: &mut K,
     err: &mut E,
 ) -> Status
-    ensures { Ends (Comes Summarizes) file.now
-        (desk (files_state (F.contents files.old) (F.faults files.old)) (sink_state (K.held out.old) (K.faults out.old)) (sink_state (E.held err.old) (E.faults err.old)))
-        (desk (files_state (F.contents files.new) (F.faults files.new)) (sink_state (K.held out.new) (K.faults out.new)) (sink_state (E.held err.new) (E.faults err.new)))
+    requires { IsMap map.stack_end }
+    ensures { Ends (Shown map Summarizes) file.now
+        (desk (files_of F.contents F.faults files.old) (sink_of K.held K.passed K.faults out.old) (sink_of E.held E.passed E.faults err.old))
+        (desk (files_of F.contents F.faults files.new) (sink_of K.held K.passed K.faults out.new) (sink_of E.held E.passed E.faults err.new))
         result.0 }
 {
     let bytes = match read_named(alloc, file, files, err) {
         Ok(bytes) => bytes,
         Err(status) => return status,
     };
-    match accepted_program(alloc, &bytes) {
-        Ok(program) => say(out, summary_of(&program).bytes(), Status::DONE),
-        Err(unaccepted) => refuse(file, unaccepted, err),
+    match summary_answer(alloc, &bytes, map) {
+        Ok(answer) => carry_out(alloc, file, answer, files, out, err),
+        Err(_) => no_memory(err),
     }
 }

@@ -1,4 +1,3 @@
 pub mod Refusals
 pub mod Summary
 pub mod Listing
-pub mod Report

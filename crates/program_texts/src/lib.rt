@@ -4,10 +4,8 @@
 mod listing;
 mod parts;
 mod refusals;
-mod report;
 mod summary;
 
 pub use listing::listing_of;
 pub use refusals::{image_reason, link_reason, source_reason, verify_reason};
-pub use report::report_of;
 pub use summary::{sizes_of, summary_of};

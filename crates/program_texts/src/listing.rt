@@ -7,10 +7,10 @@ ghost use Rattle.ijvm_instr.specs.Instructions.{instr_at};
 ghost use Rattle.ijvm_paths.specs.Kinds.{IsKind};
 ghost use Rattle.program_texts.specs.Listing.{AreLines, IsLineAt, Lists, byte_line, constant_line, header_line, instr_line, pool_text};
 
-use crate::parts::{addressed, number, numbered};
 use ijvm_instr::{Instr, decode_at, print_instr};
 use ijvm_verifier::{Kind, VerifiedImage};
 use mic_base::Line;
+use mic_work::{addressed, number, numbered};
 use std::alloc::{AllocError, Global};
 
 fn constant_line(index: usize, value: u32) -> Line

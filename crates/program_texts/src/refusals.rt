@@ -3,12 +3,13 @@
 ghost use Rattle.std.specs.Prelude.{◌≡◌};
 ghost use Rattle.program_texts.specs.Refusals.{image_reason, link_reason, source_reason, verify_reason};
 
-use crate::parts::{addressed, at_byte, at_line, distance, number, numbered, said};
+use crate::parts::at_byte;
 use ijvm_asm::AsmError;
 use ijvm_image::ImageError;
 use ijvm_verifier::VerifyError;
 use method_linker::LinkError;
 use mic_base::Line;
+use mic_work::{addressed, line_of, number, numbered, of_line, signed};
 
 /// Why a file is no image file, unless memory was wanting.
 pub fn image_reason(error: ImageError) -> Option<Line>
@@ -16,7 +17,7 @@ pub fn image_reason(error: ImageError) -> Option<Line>
 {
     match error {
         ImageError::Truncated(place) => Some(numbered(": truncated at ", place as u64)),
-        ImageError::BadMagic => Some(said(": bad magic")),
+        ImageError::BadMagic => Some(line_of(": bad magic")),
         ImageError::BadOrigin(value) => Some(addressed(": bad origin ", value)),
         ImageError::BadSize(value) => Some(numbered(": bad size ", u64::from(value))),
         ImageError::Trailing(place) => Some(numbered(": trailing bytes at ", place as u64)),
@@ -29,15 +30,15 @@ pub fn source_reason(error: AsmError) -> Option<Line>
     ensures { result ≡ source_reason error }
 {
     match error {
-        AsmError::BadToken(line) => Some(at_line(line, "bad token")),
-        AsmError::BadLine(line) => Some(at_line(line, "bad line")),
-        AsmError::BadNumber(line) => Some(at_line(line, "bad number")),
-        AsmError::OutOfRange(line) => Some(at_line(line, "out of range")),
-        AsmError::DuplicateName(line) => Some(at_line(line, "name used twice")),
-        AsmError::TooManyNames(line) => Some(at_line(line, "too many names")),
-        AsmError::MissingEnd(line) => Some(at_line(line, "section is not ended")),
-        AsmError::UnknownName(line) => Some(at_line(line, "unknown name")),
-        AsmError::NoMain => Some(said(": no main")),
+        AsmError::BadToken(line) => Some(of_line(line, "bad token")),
+        AsmError::BadLine(line) => Some(of_line(line, "bad line")),
+        AsmError::BadNumber(line) => Some(of_line(line, "bad number")),
+        AsmError::OutOfRange(line) => Some(of_line(line, "out of range")),
+        AsmError::DuplicateName(line) => Some(of_line(line, "name used twice")),
+        AsmError::TooManyNames(line) => Some(of_line(line, "too many names")),
+        AsmError::MissingEnd(line) => Some(of_line(line, "section is not ended")),
+        AsmError::UnknownName(line) => Some(of_line(line, "unknown name")),
+        AsmError::NoMain => Some(line_of(": no main")),
         AsmError::OutOfMemory => None,
     }
 }
@@ -58,8 +59,8 @@ pub fn link_reason(error: LinkError) -> Option<Line>
             Some(line)
         }
         LinkError::JumpTooFar(line, far) => {
-            let mut line = at_line(line, "jump of ");
-            distance(&mut line, far);
+            let mut line = of_line(line, "jump of ");
+            signed(&mut line, far);
             line.text(" is too far");
             Some(line)
         }

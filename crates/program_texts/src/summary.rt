@@ -3,10 +3,10 @@
 ghost use Rattle.std.specs.Prelude.{◌≡◌, length};
 ghost use Rattle.program_texts.specs.Summary.{Summarizes, sizes, summary};
 
-use crate::parts::{number, numbered};
 use ijvm_image::Image;
 use ijvm_verifier::VerifiedImage;
 use mic_base::Line;
+use mic_work::{number, numbered};
 
 /// The line of four counts.
 fn counts(text: usize, pool: usize, methods: u32, main: u32) -> Line

@@ -1,6 +1,6 @@
 -- What a board that was run over a text from its reset says of the run.
 use Rattle.std.proofs.Common.{◌≡◌, ℕ, ◌+◌, ◌*◌, ◌≤◌, List, [], ◌∷◌, ◌++◌, length, replicate, Option, Some, None, IfSome, Bool, true, false, refl, arith, sym, ◌∙◌, ap, subst, append_assoc}
-use Rattle.std.proofs.lemmas.List.{append-nil, append_cancel_left}
+use Rattle.std.proofs.lemmas.List.{append-nil}
 use Rattle.mic_base.specs.Streams.{Holds}
 use Rattle.console_port.specs.World.{World}
 use Rattle.console_port.specs.Bus.{Shows}
@@ -19,7 +19,7 @@ use Rattle.shipped_microcode.specs.Shipped.{HasShipped}
 use Rattle.shipped_microcode.specs.Straight.{image_of}
 use Rattle.shipped_microcode.specs.Simulates.{IsEnd}
 use Rattle.shipped_microcode.specs.Headline.{told_of, reset_run, Begins, HasRun, IsCutByWrite}
-use Rattle.shipped_microcode.proofs.Carried.{IsText, simulated, halted, size, keeps_input}
+use Rattle.shipped_microcode.proofs.Carried.{IsText, simulated, halted, keeps_input}
 use Rattle.shipped_microcode.proofs.Worlds.{same_end}
 use Rattle.shipped_microcode.proofs.Output.{Grows, front_of_end}
 use Rattle.shipped_microcode.proofs.Unread.{unread}
@@ -48,15 +48,11 @@ all_put None kept given given' e same g = tt
 all_put (Some h) kept given given' e same g = sym (append-nil h) ∙ (ap (λ (k : List ℕ). h ++ k) (sym e) ∙ (sym g ∙ same))
 
 -- where it holds a front of them
-front_put : (held : Option (List ℕ)) (before given all output : List ℕ) → Holds before held → IfSome held (λ h. (more : List ℕ) × (given ≡ h ++ more)) → Grows given all → all ≡ before ++ output →
-    IfSome held (λ h. (some more : List ℕ) × (h ≡ before ++ some) × (some ++ more ≡ output))
-front_put None before given all output kept front grows is = tt
-front_put (Some h) before given all output kept front grows is =
-    let whole : before ++ (kept.0 ++ (front.0 ++ grows.more)) ≡ before ++ output =
-    sym (append_assoc before kept.0 (front.0 ++ grows.more))
-    ∙ (ap (λ (l : List ℕ). l ++ (front.0 ++ grows.more)) (sym kept.1)
-    ∙ (sym (append_assoc h front.0 grows.more) ∙ (ap (λ (l : List ℕ). l ++ grows.more) (sym front.1) ∙ (sym grows.are ∙ is)))) in
-    (kept.0, front.0 ++ grows.more, kept.1, append_cancel_left before (kept.0 ++ (front.0 ++ grows.more)) output whole)
+front_put : (held : Option (List ℕ)) (before given : List ℕ) → Holds before held → IfSome held (λ h. (more : List ℕ) × (given ≡ h ++ more)) →
+    IfSome held (λ h. (some more : List ℕ) × (h ≡ before ++ some) × (before ++ (some ++ more) ≡ given))
+front_put None before given kept front = tt
+front_put (Some h) before given kept front =
+    (kept.0, front.0, kept.1, sym (front.1 ∙ (ap (λ (l : List ℕ). l ++ front.0) kept.1 ∙ append_assoc before kept.0 front.0)))
 
 -- a board at its reset over a text
 pub record Starts (text : List ℕ) (board : BoardView Mic1) : Type 0 where
@@ -73,7 +69,7 @@ module _ (text : List ℕ) (known : IsText text) (bound : ℕ) (left held left' 
   abbrev begins : (input : List ℕ) → Untaken left false input → Begins (image_of text) 0 bound board.store.words left (told_of held)
   begins input told =
       let sim = simulated text known board0.bus.words s.loaded (told_of held) board.store.words has bound input in
-      record { words = board0.bus.words; loaded = s.loaded; input = input; told = told; simulates = sim; finish = sim.finishes.0; finishes = sim.finishes.1 }
+      record { shipped = has; words = board0.bus.words; loaded = s.loaded; input = input; told = told; simulates = sim; finish = sim.finishes.0; finishes = sim.finishes.1 }
 
   abbrev world : List ℕ → World
   world input = record { words = board0.bus.words; untaken = input; given = told_of held }
@@ -130,7 +126,9 @@ module _ (text : List ℕ) (known : IsText text) (bound : ℕ) (left held left' 
         n = n;
         at = record { state = here.its_state; counts = here.counts };
         next = here.next;
-        given = front_put held' (told_of held) (after n input).world.given (after end.0 input).world.given b.finish.left.given (keeps (told_of held) (holds_told held)) here.front grows end.1.given;
+        untaken = here.untaken;
+        given = front_put held' (told_of held) (after n input).world.given (keeps (told_of held) (holds_told held)) here.front;
+        front = (grows.more, sym grows.are ∙ end.1.given);
       }
 
   -- with a bound that is far enough the end is Halt
@@ -158,6 +156,6 @@ module _ (text : List ℕ) (known : IsText text) (bound : ℕ) (left held left' 
       let longer : List ℕ = input ++ 0 ∷ [] in
       let sim = simulated text known board0.bus.words s.loaded (told_of held) board.store.words has bound longer in
       let end = sim.ends sim.finishes.0 sim.finishes.1 in
-      unread board.store.words bound (reset_run 0 (world input)) (omega (arith, size text known board0.bus.words s.loaded (told_of held))) to.0 here.next here.reads
+      unread board.store.words bound (reset_run 0 (world input)) to.0 here.next here.reads
       end.0 sim.finishes.0.end end.1.end
       (end.1.untaken ∙ keeps_input text known board0.bus.words s.loaded (told_of held) board.store.words has bound longer sim.finishes.0 sim.finishes.1)

@@ -27,7 +27,7 @@ use Rattle.shipped_microcode.proofs.Guided.{clocked, pass-clocked, outcome_is, s
 use Rattle.shipped_microcode.proofs.Boundaries.{Comes, Counts, counts, at_main, starts, shows}
 use Rattle.shipped_microcode.proofs.Operands.{nop, bipush, iadd}
 use Rattle.shipped_microcode.proofs.Consoles.{out}
-use Rattle.shipped_microcode.proofs.Instruction.{HasWord, Moves, Stops, Overruns, Law}
+use Rattle.shipped_microcode.proofs.Instruction.{Behind, HasWord, Moves, Stops, Overruns, Law}
 use Rattle.shipped_microcode.proofs.Decoded.{Decoded, decoded}
 
 -- the instructions of the sixteen words
@@ -197,7 +197,7 @@ module _ (program : List ℕ) (has : HasShipped program) (o : Origin) (p : Progr
       let code : byte_in o.words s.at ≡ 0xFF = loads.bytes s.at (omega (arith, d.fits)) ∙ d.reads in
       let c : Counts o s q.state q.world = counts o loads.map s q.state q.world h inside in
       let op : q.state.mbr ≡ 0xFF = h.mbr ∙ code in
-      record {
+      Behind (record {
         n = 0;
         spent_is = ap (λ (k : Machine). next_cost p.image k s) machine ∙ ap (cost_at p.image Mic1 s) at;
         short = omega arith;
@@ -208,7 +208,7 @@ module _ (program : List ℕ) (has : HasShipped program) (o : Origin) (p : Progr
         off = refl;
         mpc_is = refl;
         world = refl;
-      }
+      })
   halts s q i at built h e = absurd built
 
   errs : (s : State) (i : Instr) → IsBuilt i → step p.image (length o.words) i s ≡ Errs → ⊥

@@ -17,7 +17,7 @@ use Rattle.ijvm_run.specs.Cost.{next_cost}
 use Rattle.ijvm_run.specs.Run.{Program, Point, Finish, point_after, finish_from, after_test, after_outcome, completed, stopped}
 use Rattle.shipped_microcode.specs.Simulates.{point_at, below, going_on, end_of, IsBoundary, IsEnd}
 use Rattle.shipped_microcode.proofs.Passes.{Moment, is_inside, not_boundary, outcome_at, pass}
-use Rattle.shipped_microcode.proofs.Turns.{moment_of, run_inside, run_at, IsReady, ready_inside, whole_turn, turns-add, ending_turn, clocks, pass_turns, pass_turns_inside, Shorter, shorter}
+use Rattle.shipped_microcode.proofs.Turns.{moment_of, run_inside, run_at, IsReady, ready_inside, whole_turn, turns-add, ending_turn, clocks, ending_turn_at, pass_turns, pass_turns_inside, Shorter, shorter}
 
 -- MPC is at no end
 pub record HasWord {S : Type 0} (m : Meaning S) (x : S) : Type 0 where
@@ -36,7 +36,7 @@ module _ {S : Type 0} (m : Meaning S) (words : List ℕ) (IsAt : State → S →
     pub stands : IsAt to there.state there.world
 
   -- so many cycles lead from a boundary to where the clock ends the run
-  pub record Stops (q : Moment S) (spent mpc : ℕ) : Type 0 where
+  pub record StopsBehind (q : Moment S) (spent mpc : ℕ) : Type 0 where
     pub n : ℕ
     pub spent_is : spent ≡ n + 1
     pub short : n < 1023
@@ -46,6 +46,11 @@ module _ {S : Type 0} (m : Meaning S) (words : List ℕ) (IsAt : State → S →
     pub off : m.is_boundary there.state ≡ false
     pub mpc_is : (m.registers there.state).mpc ≡ mpc
     pub world : there.world ≡ q.world
+
+  -- the clock ends the run behind a boundary, or at the boundary itself
+  pub data Stops (q : Moment S) (spent mpc : ℕ) : Type 0 where
+    Behind : StopsBehind q spent mpc → Stops q spent mpc
+    AtOnce : spent ≡ 0 → (m.registers q.state).mpc ≡ mpc → Stops q spent mpc
 
   -- some cycles behind a boundary a write meets the stack's end, with this state's bytes of the console
   pub record Overruns (q : Moment S) (left : State) : Type 0 where
@@ -160,7 +165,7 @@ module _ {S : Type 0} (m : Meaning S) (words : List ℕ) (IsAt : State → S →
       }
 
   -- by HALT or ERR
-  stops : (mpc : ℕ) (e : End) (f : Finish) (v : Stops m words IsAt before (moment_of r) (next_cost p.image p.machine at.state) mpc) → nat_le bound at.cycles ≡ false →
+  stops : (mpc : ℕ) (e : End) (f : Finish) (v : StopsBehind m words IsAt before (moment_of r) (next_cost p.image p.machine at.state) mpc) → nat_le bound at.cycles ≡ false →
       end_before m v.there.state (run_inside m r (r.counts.cycles + v.n + 1) v.there).counts ≡ Some e →
       IsEnd before f (gone m words (Some e) (run_inside m r (r.counts.cycles + v.n + 1) v.there)) → Ended f
   stops mpc e f v t ending is =
@@ -182,7 +187,7 @@ module _ {S : Type 0} (m : Meaning S) (words : List ℕ) (IsAt : State → S →
       }
 
   -- what is counted where an instruction ends the run
-  is_completed : (mpc : ℕ) (e : RunEnd) (v : Stops m words IsAt before (moment_of r) (next_cost p.image p.machine at.state) mpc) → completes (end_of e) ≡ true →
+  is_completed : (mpc : ℕ) (e : RunEnd) (v : StopsBehind m words IsAt before (moment_of r) (next_cost p.image p.machine at.state) mpc) → completes (end_of e) ≡ true →
       IsEnd before (completed p at e) (gone m words (Some (end_of e)) (run_inside m r (r.counts.cycles + v.n + 1) v.there))
   is_completed mpc e v t =
       record {
@@ -194,18 +199,49 @@ module _ {S : Type 0} (m : Meaning S) (words : List ℕ) (IsAt : State → S →
         given = ap (λ (w : World). w.given) v.world ∙ shown.given;
       }
 
-  pub halts : nat_le bound at.cycles ≡ false → outcome p.image p.stack_end at.state ≡ Halts → Ended (completed p at defined.Halt)
-  halts t o =
-      let v : Stops m words IsAt before (moment_of r) (next_cost p.image p.machine at.state) 255 = law.halts at.state (moment_of r) fine h.stands o in
+  -- by HALT or ERR, where no cycle is spent on it
+  stops_at_once : (e : RunEnd) → nat_le bound at.cycles ≡ false → next_cost p.image p.machine at.state ≡ 0 → completes (end_of e) ≡ true →
+      end_before m r.state r.counts ≡ Some (end_of e) → Ended (completed p at e)
+  stops_at_once e t none done ending =
+      let under : nat_le bound r.counts.cycles ≡ false = ap (nat_le bound) h.cycles ∙ t in
+      let is : IsEnd before (completed p at e) (gone m words (Some (end_of e)) r) = record {
+        end = refl;
+        cycles = λ ne. omega (arith, none, h.cycles);
+        instructions = rw done (ap₂ (λ (i : ℕ) (b : Option Boundary). i + number_of (is_some b)) h.instructions h.boundary);
+        boundary = h.boundary;
+        untaken = shown.untaken;
+        given = shown.given;
+      } in
+      record {
+        k = 1;
+        some = omega arith;
+        is = subst (λ (x : MicroRun S). IsEnd before (completed p at e) x) (sym (ending_turn_at m words bound r (end_of e) h.going shown.boundary under ending)) is;
+        quiet = λ j pos l. absurd (omega arith);
+      }
+
+  halts_by : nat_le bound at.cycles ≡ false → Stops m words IsAt before (moment_of r) (next_cost p.image p.machine at.state) 255 → Ended (completed p at defined.Halt)
+  halts_by t (Behind v) =
       let at_halt : ((m.registers v.there.state).mpc == 255) ≡ true = ap (λ (i : ℕ). i == 255) v.mpc_is in
       stops 255 clocked.Halt (completed p at defined.Halt) v t (rw at_halt) (is_completed 255 defined.Halt v refl)
+  halts_by t (AtOnce none mpc_is) =
+      let at_halt : ((m.registers r.state).mpc == 255) ≡ true = ap (λ (i : ℕ). i == 255) mpc_is in
+      stops_at_once defined.Halt t none refl (rw at_halt)
 
-  pub errs : nat_le bound at.cycles ≡ false → outcome p.image p.stack_end at.state ≡ Errs → Ended (completed p at defined.Err)
-  errs t o =
-      let v : Stops m words IsAt before (moment_of r) (next_cost p.image p.machine at.state) 254 = law.errs at.state (moment_of r) fine h.stands o in
+  pub halts : nat_le bound at.cycles ≡ false → outcome p.image p.stack_end at.state ≡ Halts → Ended (completed p at defined.Halt)
+  halts t o = halts_by t (law.halts at.state (moment_of r) fine h.stands o)
+
+  errs_by : nat_le bound at.cycles ≡ false → Stops m words IsAt before (moment_of r) (next_cost p.image p.machine at.state) 254 → Ended (completed p at defined.Err)
+  errs_by t (Behind v) =
       let not_halt : ((m.registers v.there.state).mpc == 255) ≡ false = ap (λ (i : ℕ). i == 255) v.mpc_is in
       let at_err : ((m.registers v.there.state).mpc == 254) ≡ true = ap (λ (i : ℕ). i == 254) v.mpc_is in
       stops 254 clocked.Err (completed p at defined.Err) v t (rw (not_halt, at_err)) (is_completed 254 defined.Err v refl)
+  errs_by t (AtOnce none mpc_is) =
+      let not_halt : ((m.registers r.state).mpc == 255) ≡ false = ap (λ (i : ℕ). i == 255) mpc_is in
+      let at_err : ((m.registers r.state).mpc == 254) ≡ true = ap (λ (i : ℕ). i == 254) mpc_is in
+      stops_at_once defined.Err t none refl (rw (not_halt, at_err))
+
+  pub errs : nat_le bound at.cycles ≡ false → outcome p.image p.stack_end at.state ≡ Errs → Ended (completed p at defined.Err)
+  errs t o = errs_by t (law.errs at.state (moment_of r) fine h.stands o)
 
   -- by the stack limit
   pub limits : (left : State) → nat_le bound at.cycles ≡ false → outcome p.image p.stack_end at.state ≡ Limits left → Ended (stopped at defined.StackLimit left)

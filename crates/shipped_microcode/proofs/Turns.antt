@@ -74,6 +74,13 @@ module _ {State : Type 0} (m : Meaning State) (program : List ℕ) (bound : ℕ)
       let same : bounded m (Some bound) r ≡ r = ap (λ (x : Option End). bounded_by m x bound r) going ∙ rw off in
       ap (turn m program) same ∙ (ap (λ (x : Option End). turn_by m program x r) going ∙ ap (λ (x : Option End). gone m program x r) h)
 
+  -- the same at a boundary below the bound
+  pub ending_turn_at : (r : MicroRun State) (e : End) → r.end ≡ None → m.is_boundary r.state ≡ true → nat_le bound r.counts.cycles ≡ false → end_before m r.state r.counts ≡ Some e →
+      whole_turn r ≡ gone m program (Some e) r
+  ending_turn_at r e going at under h =
+      let same : bounded m (Some bound) r ≡ r = ap (λ (x : Option End). bounded_by m x bound r) going ∙ rw (at, under) in
+      ap (turn m program) same ∙ (ap (λ (x : Option End). turn_by m program x r) going ∙ ap (λ (x : Option End). gone m program x r) h)
+
   pub clocks : (r : MicroRun State) (o : Outcome State) → IsReady m bound r → r.counts.cycles < last_cycles r.counts.boundary + 1024 →
       outcome_at m program (moment_of r) ≡ o → whole_turn r ≡ stepped m program r o
   clocks r o h nearby is =

@@ -1,3 +1,5 @@
 mod Texts
 mod Placed
 mod Valid
+mod Entries
+mod Lines

@@ -1,16 +1,12 @@
 -- What a program asks of a placement, and each of its statements at one.
-use Rattle.std.specs.Prelude.{◌≡◌, ◌≢◌, ◌<◌, ℕ, ◌+◌, false, List, ◌++◌, Option, Some, None, length, map, slice_get, slice_index, option_and_then, IsTrue}
+use Rattle.std.specs.Prelude.{◌≡◌, ◌≢◌, ◌<◌, ℕ, ◌+◌, List, ◌++◌, Option, Some, None, length, map, slice_get, slice_index, option_and_then, IsTrue}
 use Rattle.std.specs.List.{filter_map}
 use Rattle.std.specs.Option.{option_to_list}
 use Rattle.machine_words.specs.declared.machine.Machine.{Machine}
-use Rattle.micro_word.specs.declared.statement.AluOp.TheVariants as ops
-use Rattle.micro_word.specs.declared.statement.Shift.TheVariants as shifts
-use Rattle.micro_word.specs.declared.statement.Mem.TheVariants as mems
-use Rattle.micro_word.specs.declared.statement.Part.{Part}
 use Rattle.micro_word.specs.declared.statement.Placed.{Placed}
 use Rattle.micro_word.specs.declared.statement.PlacedNext.{PlacedNext}
 use Rattle.micro_word.specs.declared.statement.PlacedNext.TheVariants as placed
-use Rattle.micro_word.specs.Coding.{word_of}
+use Rattle.micro_word.specs.Coding.{idle, word_of}
 use Rattle.micro_word.specs.Canonical.{is_valid}
 use Rattle.mal_parser.specs.declared.statement.Statement.{Statement}
 use Rattle.mal_parser.specs.declared.statement.MalNext.{MalNext}
@@ -53,10 +49,6 @@ LeadsInside count number (nexts.Branch test high low) = low < count
 
 abbrev pub placed_statement : (ℕ → ℕ) → ℕ → Statement → Placed
 placed_statement address number s = record { part = s.part; next = placed_next address number s.next }
-
--- a statement that does nothing
-abbrev pub idle : Part
-idle = record { dests = 0; op = ops.Zero; a = None; b = None; shift = shifts.None; mem = mems.None; fetch = false }
 
 -- `goto` address 0x0FE, where a run ends by error
 abbrev pub goto_end : Placed

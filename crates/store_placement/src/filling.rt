@@ -9,7 +9,7 @@ ghost use Rattle.store_placement.specs.Program.{demands_of, placed_next, LeadsIn
 
 use crate::placement::Placement;
 use mal_parser::{MalNext, MalProgram};
-use micro_word::{AluOp, Mem, Part, Placed, PlacedNext, Shift, Store};
+use micro_word::{Part, Placed, PlacedNext, Store};
 
 fn placed_next(placement: &Placement, number: u16, next: MalNext) -> PlacedNext
     requires inside { LeadsInside (length placement.now) number next }
@@ -47,15 +47,7 @@ pub(crate) fn goto_end() -> Placed
     ensures valid { (machine : Machine) → IsTrue (is_valid machine result) }
 {
     Placed {
-        part: Part {
-            dests: 0,
-            op: AluOp::Zero,
-            a: None,
-            b: None,
-            shift: Shift::None,
-            mem: Mem::None,
-            fetch: false,
-        },
+        part: Part::IDLE,
         next: PlacedNext::Goto(0xfe),
     }
 }

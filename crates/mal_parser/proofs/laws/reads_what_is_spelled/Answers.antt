@@ -1,4 +1,4 @@
-use Rattle.mal_parser.proofs.Outcome.{LeadOneWay, never_both, one_program, one_refusal}
+use Rattle.mal_parser.proofs.Outcome.{never_both, one_program, one_refusal}
 use Rattle.mal_parser.proofs.laws.reads_what_is_spelled.Goals as goal
 
 pub returns-clause-one : goal.returns-clause-one

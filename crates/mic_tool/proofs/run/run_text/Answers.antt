@@ -5,8 +5,8 @@ use Rattle.mic_clock.specs.declared.registers.Registers.{Registers}
 use Rattle.mic1_datapath.specs.Mic1.{registers_of}
 use Rattle.mic1_datapath.specs.View.{micro_of}
 use Rattle.mic_work.specs.Outside.{Says, sink_state, source_state}
-use Rattle.mic_tool.specs.Report.{report as report_of}
-use Rattle.mic_tool.specs.RunEnds.{NoRoom, status_of}
+use Rattle.run_texts.specs.Report.{report as report_of}
+use Rattle.mic_tool.specs.RunEnds.{NoRoom}
 use Rattle.mic_tool.proofs.Ending.{ends_by}
 use Rattle.mic_tool.proofs.run.run_text.Goals as goal
 
@@ -15,7 +15,7 @@ returns-in-Ok g c =
     let end : End = c.unwrap-end.result in
     let ended : c.in-Ok.board.end ≡ Some end = sym c.ended.ensures ∙ c.unwrap-end.ensures in
     let printed : c.bytes.result.now ≡ report_of end c.in-Ok.board.counts (registers_of (micro_of c.in-Ok.board.machine)) =
-    c.bytes.ensures.value ∙ c.report-line.ensures
+    c.bytes.ensures.value ∙ c.clocked_report-line.ensures
     ∙ (ap (λ (k : Counts). report_of end k c.registers.result) c.counts.ensures ∙ ap (λ (r : Registers). report_of end c.in-Ok.board.counts r) c.registers.ensures) in
     ends_by _ c.bytes.result.now _ _ c.in-Ok.board c.say.result.0
     (record {
@@ -25,13 +25,13 @@ returns-in-Ok g c =
       write = c.in-Ok.ensures.write;
       cause = c.in-Ok.ensures.cause;
     })
-    end ended printed (subst (λ (n : ℕ). Says (sink_state (g.E.Sink.held c.args.err.now) (g.E.Sink.faults c.args.err.now))
-    (sink_state (g.E.Sink.held c.say.new.err) (g.E.Sink.faults c.say.new.err)) c.bytes.result.now n c.say.result.0) c.status_of.ensures c.say.ensures)
+    end ended printed (subst (λ (n : ℕ). Says (sink_state (g.E.Sink.held c.args.err.now) (g.E.Sink.passed c.args.err.now) (g.E.Sink.faults c.args.err.now))
+    (sink_state (g.E.Sink.held c.say.new.err) (g.E.Sink.passed c.say.new.err) (g.E.Sink.faults c.say.new.err)) c.bytes.result.now n c.say.result.0) c.status_of.ensures c.say.ensures)
 
 pub returns-in-Err : goal.returns-in-Err
 returns-in-Err g c =
     NoRoom (record {
       console = ap (λ s. source_state (g.S.Source.left s) (g.S.Source.faults s)) c.in-Err.ensures.none.0;
-      out = ap (λ s. sink_state (g.K.Sink.held s) (g.K.Sink.faults s)) c.in-Err.ensures.none.1;
+      out = ap (λ s. sink_state (g.K.Sink.held s) (g.K.Sink.passed s) (g.K.Sink.faults s)) c.in-Err.ensures.none.1;
     })
     c.no_memory.ensures

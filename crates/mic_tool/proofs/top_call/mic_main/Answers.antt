@@ -11,12 +11,12 @@ returns-in-Some-Assemble g c =
 
 pub returns-in-Some-List : goal.returns-in-Some-List
 returns-in-Some-List g c =
-    asked_ends (Some (ListOf c.in-Some-List.file.now)) _ _ _ _
+    asked_ends (Some (ListOf c.in-Some-List.file.now c.in-Some-List.map)) _ _ _ _
     (sym (ap (option_map asked) (c.in-Some-List.is ∙ ap Some c.in-Some-List.field-0-is)) ∙ c.read_words.ensures.asks) (record { console = refl; ends = c.list_file.ensures })
 
 pub returns-in-Some-Verify : goal.returns-in-Some-Verify
 returns-in-Some-Verify g c =
-    asked_ends (Some (Verify c.in-Some-Verify.file.now)) _ _ _ _
+    asked_ends (Some (Verify c.in-Some-Verify.file.now c.in-Some-Verify.map)) _ _ _ _
     (sym (ap (option_map asked) (c.in-Some-Verify.is ∙ ap Some c.in-Some-Verify.field-0-is)) ∙ c.read_words.ensures.asks) (record { console = refl; ends = c.verify_file.ensures })
 
 pub returns-in-Some-Run : goal.returns-in-Some-Run
@@ -26,7 +26,7 @@ returns-in-Some-Run g c =
 
 pub returns-in-Some-Reference : goal.returns-in-Some-Reference
 returns-in-Some-Reference g c =
-    asked_ends (Some (Reference c.in-Some-Reference.file.now c.in-Some-Reference.machine c.in-Some-Reference.bound)) _ _ _ _
+    asked_ends (Some (Reference c.in-Some-Reference.file.now c.in-Some-Reference.machine c.in-Some-Reference.bound c.in-Some-Reference.map)) _ _ _ _
     (sym (ap (option_map asked) (c.in-Some-Reference.is ∙ ap Some c.in-Some-Reference.field-0-is)) ∙ c.read_words.ensures.asks) (c.reference_file.ensures)
 
 pub returns-in-Some-Micro : goal.returns-in-Some-Micro

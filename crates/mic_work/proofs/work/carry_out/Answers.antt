@@ -1,5 +1,5 @@
 use Rattle.std.proofs.Common.{ap, refl, Err}
-use Rattle.mic_work.specs.Work.{answered, HalfWritten, Printed, Refused, Unwritten, Written}
+use Rattle.mic_work.specs.Work.{answered, Printed, Refused, Short, Unwritten, Written}
 use Rattle.mic_work.proofs.Files.{memory_is_no_failure}
 use Rattle.mic_work.proofs.work.carry_out.Goals as goal
 
@@ -20,7 +20,7 @@ returns-in-Err-Failed g c =
 
 pub returns-in-Err-OutOfMemory : goal.returns-in-Err-OutOfMemory
 returns-in-Err-OutOfMemory g c =
-    HalfWritten c.in-Writes.target.now c.in-Writes.bytes.items c.in-Writes.text.items (ap answered c.in-Writes.is)
+    Short c.in-Writes.target.now c.in-Writes.bytes.items c.in-Writes.text.items (ap answered c.in-Writes.is)
     c.in-Err-OutOfMemory.ensures.writes.others
     (c.in-Err-OutOfMemory.ensures.cause.quiet (memory_is_no_failure (Err c.in-Err-OutOfMemory.field-0) (ap Err c.in-Err-OutOfMemory.field-0-is)))
     refl c.no_memory.ensures

@@ -24,8 +24,8 @@ returns-in_err-driven-clause-short g c =
     (short c.in_err-driven.field-0.0 (g.S.Source.left c.args.source.now) (g.K.Sink.held c.args.sink.now) (g.S.Source.left c.drive.new.source) (g.K.Sink.held c.drive.new.sink) c.drive.new.console
     (program c.args.image.now c.args.map c.args.machine) c.args.main_locals c.args.bound c.drive.new.counts c.drive.new.frames
     (driven (Err c.in_err-driven.field-0.0) (g.S.Source.left c.args.source.now) (g.K.Sink.held c.args.sink.now) (g.S.Source.left c.drive.new.source) (g.K.Sink.held c.drive.new.sink)
-    c.new-console.result c.drive.new.console c.args.image.now c.args.map.stack_end c.args.main_locals c.args.bound c.args.machine c.drive.new.counts c.in_ok-frames.frames c.drive.new.frames
-    c.new-console.ensures.kept c.new-console.ensures.ended c.in_ok-frames.ensures c.in_err-driven.ensures.led)
+    c.new-console.result c.drive.new.console c.args.image.now c.args.map.stack_end c.args.main_locals c.args.bound c.args.machine (record { boundary = 2; cycles = 2; instructions = 0 }) c.drive.new.counts c.in_ok-frames.frames c.drive.new.frames
+    c.new-console.ensures.kept c.new-console.ensures.ended refl refl c.in_ok-frames.ensures c.drive.ensures.tells c.in_err-driven.ensures.led)
     (c.drive.ensures.keeps (told_of (g.K.Sink.held c.args.sink.now)) (holds_told (g.K.Sink.held c.args.sink.now))))
 
 pub returns-clause-run : goal.returns-clause-run
@@ -44,8 +44,8 @@ returns-clause-run g c = λ not_read not_write.
     let d : Driven (Ok end) (g.S.Source.left c.args.source.now) (g.K.Sink.held c.args.sink.now) (g.S.Source.left c.drive.new.source) (g.K.Sink.held c.drive.new.sink) c.drive.new.console
     (program c.args.image.now c.args.map c.args.machine) c.args.main_locals c.args.bound c.drive.new.counts c.drive.new.frames =
     driven (Ok c.in_ok-driven.driven) (g.S.Source.left c.args.source.now) (g.K.Sink.held c.args.sink.now) (g.S.Source.left c.drive.new.source) (g.K.Sink.held c.drive.new.sink)
-    c.new-console.result c.drive.new.console c.args.image.now c.args.map.stack_end c.args.main_locals c.args.bound c.args.machine c.drive.new.counts c.in_ok-frames.frames c.drive.new.frames
-    c.new-console.ensures.kept c.new-console.ensures.ended c.in_ok-frames.ensures c.in_ok-driven.ensures.led in
+    c.new-console.result c.drive.new.console c.args.image.now c.args.map.stack_end c.args.main_locals c.args.bound c.args.machine (record { boundary = 2; cycles = 2; instructions = 0 }) c.drive.new.counts c.in_ok-frames.frames c.drive.new.frames
+    c.new-console.ensures.kept c.new-console.ensures.ended refl refl c.in_ok-frames.ensures c.drive.ensures.tells c.in_ok-driven.ensures.led in
     elim c.match-flush.branch [
       | in-Ok w ↦
           ran end (g.S.Source.left c.args.source.now) (g.K.Sink.held c.args.sink.now) (g.S.Source.left c.drive.new.source) (g.K.Sink.held c.drive.new.sink) (g.K.Sink.held c.flush.new.sink) c.drive.new.console
@@ -71,8 +71,8 @@ returns-clause-read g c = λ by.
     let d : Driven (Ok end) (g.S.Source.left c.args.source.now) (g.K.Sink.held c.args.sink.now) (g.S.Source.left c.drive.new.source) (g.K.Sink.held c.drive.new.sink) c.drive.new.console
     (program c.args.image.now c.args.map c.args.machine) c.args.main_locals c.args.bound c.drive.new.counts c.drive.new.frames =
     driven (Ok c.in_ok-driven.driven) (g.S.Source.left c.args.source.now) (g.K.Sink.held c.args.sink.now) (g.S.Source.left c.drive.new.source) (g.K.Sink.held c.drive.new.sink)
-    c.new-console.result c.drive.new.console c.args.image.now c.args.map.stack_end c.args.main_locals c.args.bound c.args.machine c.drive.new.counts c.in_ok-frames.frames c.drive.new.frames
-    c.new-console.ensures.kept c.new-console.ensures.ended c.in_ok-frames.ensures c.in_ok-driven.ensures.led in
+    c.new-console.result c.drive.new.console c.args.image.now c.args.map.stack_end c.args.main_locals c.args.bound c.args.machine (record { boundary = 2; cycles = 2; instructions = 0 }) c.drive.new.counts c.in_ok-frames.frames c.drive.new.frames
+    c.new-console.ensures.kept c.new-console.ensures.ended refl refl c.in_ok-frames.ensures c.drive.ensures.tells c.in_ok-driven.ensures.led in
     elim c.match-flush.branch [
       | in-Ok w ↦
           cut_by_read (g.S.Source.left c.args.source.now) (g.K.Sink.held c.args.sink.now) (g.S.Source.left c.drive.new.source) (g.K.Sink.held c.drive.new.sink) (g.K.Sink.held c.flush.new.sink) c.drive.new.console
@@ -99,8 +99,8 @@ returns-clause-write g c = λ by.
     let d : Driven (Ok end) (g.S.Source.left c.args.source.now) (g.K.Sink.held c.args.sink.now) (g.S.Source.left c.drive.new.source) (g.K.Sink.held c.drive.new.sink) c.drive.new.console
     (program c.args.image.now c.args.map c.args.machine) c.args.main_locals c.args.bound c.drive.new.counts c.drive.new.frames =
     driven (Ok c.in_ok-driven.driven) (g.S.Source.left c.args.source.now) (g.K.Sink.held c.args.sink.now) (g.S.Source.left c.drive.new.source) (g.K.Sink.held c.drive.new.sink)
-    c.new-console.result c.drive.new.console c.args.image.now c.args.map.stack_end c.args.main_locals c.args.bound c.args.machine c.drive.new.counts c.in_ok-frames.frames c.drive.new.frames
-    c.new-console.ensures.kept c.new-console.ensures.ended c.in_ok-frames.ensures c.in_ok-driven.ensures.led in
+    c.new-console.result c.drive.new.console c.args.image.now c.args.map.stack_end c.args.main_locals c.args.bound c.args.machine (record { boundary = 2; cycles = 2; instructions = 0 }) c.drive.new.counts c.in_ok-frames.frames c.drive.new.frames
+    c.new-console.ensures.kept c.new-console.ensures.ended refl refl c.in_ok-frames.ensures c.drive.ensures.tells c.in_ok-driven.ensures.led in
     let front : List ℕ = told_of (g.K.Sink.held c.args.sink.now) in
     let holds = c.drive.ensures.keeps front (holds_told (g.K.Sink.held c.args.sink.now)) in
     elim c.match-flush.branch [

@@ -5,4 +5,4 @@ use Rattle.program_commands.proofs.program.image_of.Goals as goal
 
 pub returns-in-Err-clause-err : goal.returns-in-Err-clause-err
 returns-in-Err-clause-err c =
-    no_image c.args.bytes.now c.in-Err.error c.refused.result c.requires c.in-Err.ensures.err (c.refused.ensures ∙ ap unaccepted_by c.image_reason.ensures)
+    λ map. no_image map c.args.bytes.now c.in-Err.error c.refused.result c.requires c.in-Err.ensures.err (c.refused.ensures ∙ ap unaccepted_by c.image_reason.ensures)

@@ -1,8 +1,7 @@
 use Rattle.std.proofs.Common.{refl}
 use Rattle.mic_work.specs.Work.{Unread}
-use Rattle.program_commands.specs.Comes.{IsRefusal}
 use Rattle.program_commands.specs.Reference.{Did, NotRun}
-use Rattle.program_commands.proofs.Ending.{told_ends}
+use Rattle.program_commands.proofs.Ending.{refused_ends}
 use Rattle.program_commands.proofs.reference.reference_file.Goals as goal
 
 pub returns-in-Err : goal.returns-in-Err
@@ -15,5 +14,5 @@ returns-in-Ok-accepted_program g c =
 
 pub returns : goal.returns
 returns g c =
-    NotRun (told_ends IsRefusal c.args.file.now c.in-Ok.bytes.items _ _ _ _ _ _ (λ answer h. h) c.in-Ok.ensures.read c.in-Ok.ensures.same
-    (rw c.in-Ok.ensures.silent at (c.refuse.ensures c.in-Ok.bytes.items (rw c.deref.ensures.value at c.in-Err-accepted_program.ensures.err)))) refl
+    NotRun (refused_ends c.args.map c.args.file.now c.in-Ok.bytes.items _ _ _ _ _ _ c.in-Ok.ensures.read c.in-Ok.ensures.same
+    (rw c.in-Ok.ensures.silent at (c.refuse.ensures c.args.map c.in-Ok.bytes.items (rw c.deref.ensures.value at c.in-Err-accepted_program.ensures.err)))) refl

@@ -9,7 +9,7 @@ use Rattle.shipped_microcode.proofs.straight.first_underflow.Goals as goal
 
 pub loop-instr-smaller : goal.loop-instr-smaller
 loop-instr-smaller c =
-    let e : instr_at c.args.text.now c.loop-instr.at ≡ Some c.in-Some.instr = sym c.in-Some.ensures in
+    let e : instr_at c.args.text.now c.loop-instr.at ≡ Some c.in-Some.instr = sym c.in-Some.ensures.is in
     let d : Decoded c.args.text.now c.loop-instr.at c.in-Some.instr = decoded c.args.text.now c.loop-instr.at c.in-Some.instr e in
     let size : c.size-at.result ≡ size_of (row_of c.in-Some.instr) = c.size-at.ensures.is ∙ ap size_of c.row-row.ensures in
     omega (arith, d.fits)
@@ -21,7 +21,7 @@ pub loop-instr-preserved : goal.loop-instr-preserved
 loop-instr-preserved c =
     let i : Instr = c.in-Some.instr in
     let text : List ℕ = c.args.text.now in
-    let e : instr_at text c.loop-instr.at ≡ Some i = sym c.in-Some.ensures in
+    let e : instr_at text c.loop-instr.at ≡ Some i = sym c.in-Some.ensures.is in
     let d : Decoded text c.loop-instr.at i = decoded text c.loop-instr.at i e in
     let row : c.row-row.result ≡ row_of i = c.row-row.ensures in
     let size : c.size-at.result ≡ size_of (row_of i) = c.size-at.ensures.is ∙ ap size_of row in
@@ -41,7 +41,7 @@ loop-instr-preserved c =
 pub returns-then-depth-row : goal.returns-then-depth-row
 returns-then-depth-row c = λ is h.
     let i : Instr = c.in-Some.instr in
-    let e : instr_at c.args.text.now c.loop-instr.at ≡ Some i = sym c.in-Some.ensures in
+    let e : instr_at c.args.text.now c.loop-instr.at ≡ Some i = sym c.in-Some.ensures.is in
     let needs : c.row-row.result.needs ≡ (row_of i).needs = ap (λ (r : Row). r.needs) c.row-row.ensures in
     left_underflow c.args.text.now c.loop-instr.at c.loop-instr.depth i is e (c.is_plain.ensures.0 c.if-not-is_plain.false) (omega (arith, c.if-depth-row.true))
     (c.loop-instr.invariant.rest is h)
@@ -50,7 +50,7 @@ pub returns-then-not-is_plain : goal.returns-then-not-is_plain
 returns-then-not-is_plain c = λ is h.
     left_end c.args.text.now c.loop-instr.at c.loop-instr.depth is
     (λ j e plain.
-    let same : j ≡ c.in-Some.instr = some_instr (sym e ∙ sym c.in-Some.ensures) in
+    let same : j ≡ c.in-Some.instr = some_instr (sym e ∙ sym c.in-Some.ensures.is) in
     let t : c.is_plain.result ≡ true = c.is_plain.ensures.1 (subst IsPlain same plain) in
     cc)
     (c.loop-instr.invariant.rest is h)
@@ -58,5 +58,5 @@ returns-then-not-is_plain c = λ is h.
 pub returns-in_default : goal.returns-in_default
 returns-in_default c = λ is h.
     left_end c.args.text.now c.loop-instr.at c.loop-instr.depth is
-    (λ j e plain. let f : None ≡ Some j = c.in_default.ensures ∙ e in cc)
+    (λ j e plain. let f : None ≡ Some j = c.in_default.ensures.is ∙ e in cc)
     (c.loop-instr.invariant.rest is h)

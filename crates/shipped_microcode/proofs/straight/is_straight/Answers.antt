@@ -10,7 +10,7 @@ use Rattle.shipped_microcode.proofs.straight.is_straight.Goals as goal
 
 pub loop-instr-smaller : goal.loop-instr-smaller
 loop-instr-smaller c =
-    let e : instr_at c.args.text.now c.loop-instr.at ≡ Some c.in-Some.instr = sym c.in-Some.ensures in
+    let e : instr_at c.args.text.now c.loop-instr.at ≡ Some c.in-Some.instr = sym c.in-Some.ensures.is in
     let d : Decoded c.args.text.now c.loop-instr.at c.in-Some.instr = decoded c.args.text.now c.loop-instr.at c.in-Some.instr e in
     let size : c.size-at.result ≡ size_of (row_of c.in-Some.instr) = c.size-at.ensures.is ∙ ap size_of c.row.ensures in
     omega (arith, d.fits)
@@ -18,7 +18,7 @@ loop-instr-smaller c =
 pub loop-instr-preserved : goal.loop-instr-preserved
 loop-instr-preserved c =
     let i : Instr = c.in-Some.instr in
-    let e : instr_at c.args.text.now c.loop-instr.at ≡ Some i = sym c.in-Some.ensures in
+    let e : instr_at c.args.text.now c.loop-instr.at ≡ Some i = sym c.in-Some.ensures.is in
     let d : Decoded c.args.text.now c.loop-instr.at i = decoded c.args.text.now c.loop-instr.at i e in
     let size : c.size-at.result ≡ size_of (row_of i) = c.size-at.ensures.is ∙ ap size_of c.row.ensures in
     let plain : IsPlain i = c.is_plain.ensures.0 c.if-not-is_plain.false in
@@ -33,12 +33,12 @@ loop-instr-preserved c =
 pub returns : goal.returns
 returns c = (
   λ t. absurd (cc),
-  λ h. let f = c.loop-instr.invariant.forward h in absurd (missing c.args.text.now c.loop-instr.at f.0 (sym c.in_default.ensures) f.1),
+  λ h. let f = c.loop-instr.invariant.forward h in absurd (missing c.args.text.now c.loop-instr.at f.0 (sym c.in_default.ensures.is) f.1),
 )
 
 pub returns-in-Halt : goal.returns-in-Halt
 returns-in-Halt c =
-    let e : instr_at c.args.text.now c.loop-instr.at ≡ Some Halt = sym c.in-Some.ensures ∙ ap Some c.in-Halt.is in (
+    let e : instr_at c.args.text.now c.loop-instr.at ≡ Some Halt = sym c.in-Some.ensures.is ∙ ap Some c.in-Halt.is in (
       λ t. c.loop-instr.invariant.back [] (e, grind (arith, nat_tests)),
       λ h.
           let f = c.loop-instr.invariant.forward h in
@@ -49,7 +49,7 @@ returns-in-Halt c =
 pub returns-in_default-instr : goal.returns-in_default-instr
 returns-in_default-instr c =
     let i : Instr = c.in-Some.instr in
-    let e : instr_at c.args.text.now c.loop-instr.at ≡ Some i = sym c.in-Some.ensures in (
+    let e : instr_at c.args.text.now c.loop-instr.at ≡ Some i = sym c.in-Some.ensures.is in (
       λ t. absurd (cc),
       λ h.
           let f = c.loop-instr.invariant.forward h in

@@ -1,4 +1,3 @@
-use Rattle.std.proofs.Common.{◌≡◌}
 use Rattle.source_text.proofs.Walking.{leads_walk, refused_walk}
 use Rattle.source_text.proofs.walk.lines_lead_one_way.Goals as goal
 

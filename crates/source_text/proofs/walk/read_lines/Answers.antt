@@ -1,4 +1,4 @@
-use Rattle.std.proofs.Common.{◌≡◌, ◌+◌, ◌∷◌, List, ℕ, [], true, refl, ap, ◌∙◌, sym, subst, arith, length, map}
+use Rattle.std.proofs.Common.{◌≡◌, ◌∷◌, List, ℕ, [], true, refl, ap, ◌∙◌, sym, subst, arith, length, map}
 use Rattle.std.specs.Prelude.{◌==◌}
 use Rattle.std.specs.Str.Lines.{lines}
 use Rattle.std.proofs.lemmas.Bool.Decides.{nat_tests}

@@ -2,14 +2,22 @@ use Rattle.std.proofs.Common.{◌≡◌, None, Some, Option, subst, rules}
 use Rattle.console_port.specs.World.{World}
 use Rattle.console_port.specs.Bus.{Shows}
 use Rattle.mic_clock.specs.declared.end.End.{End}
-use Rattle.mic_clock.specs.Meaning.{fault_in}
+use Rattle.mic_clock.specs.Meaning.{refusal_in}
 use Rattle.mic_clock.specs.Run.{end_before, word_at}
+use Rattle.mic_clock.specs.Rule.{EndsBefore}
 use Rattle.mic_clock.specs.Board.{NoFault}
+use Rattle.mic_clock.proofs.Rules.{ends_as_ruled, ended_as_ruled}
 use Rattle.mic_clock.proofs.Turns.{led-refused, no_fault}
 use Rattle.mic_clock.proofs.board.Board.cycle.Goals as goal
 
 pub returns-in-Some-end_before-clause-turn : goal.returns-in-Some-end_before-clause-turn
-returns-in-Some-end_before-clause-turn g c = λ q rest u. (rest, search rules, λ r s e. search rules)
+returns-in-Some-end_before-clause-turn g c =
+    let m = g.M.Clocked.meaning in
+    let board = c.args.self.now in
+    let rule : EndsBefore (m.registers (g.M.Clocked.state board.machine)).mpc board.counts (Some c.in-Some-end_before.end) = search rules in
+    let ends : Some c.in-Some-end_before.end ≡ end_before m (g.M.Clocked.state board.machine) board.counts = ends_as_ruled m _ _ _ rule in
+    let counts = ended_as_ruled _ _ _ c.ended_counts-counts.ensures in
+    λ q rest u. (rest, search rules, λ r s e. search rules)
 
 pub returns-in-Err-clause-turn : goal.returns-in-Err-clause-turn
 returns-in-Err-clause-turn g c =
@@ -22,5 +30,5 @@ returns-in-Err-clause-turn g c =
     let plain : NoFault None (Some c.end_of-end.result) = subst (λ (x : Option End). NoFault x (Some c.end_of-end.result)) going q in
     let other = no_fault c.in-Err.fault (subst (λ (x : End). NoFault None (Some x)) c.end_of-end.ensures plain) in
     let refused : (w : World) → Shows (g.S.Source.left c.args.source.now) (g.K.Sink.held c.args.sink.now) board.bus w →
-    fault_in (m.step (word_at m board.store.words (state board.machine)) (state board.machine) w) ≡ Some c.in-Err.fault = search rules in
+    refusal_in (m.step (word_at m board.store.words (state board.machine)) (state board.machine) w) ≡ Some c.in-Err.fault = search rules in
     led-refused state m _ _ _ (g.K.Sink.held c.clock_once.new.sink) board _ c.in-Err.fault going no_end refused other (search rules) (search rules) (search rules) (search rules)

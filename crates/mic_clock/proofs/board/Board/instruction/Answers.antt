@@ -1,4 +1,4 @@
-use Rattle.std.proofs.Common.{◌≡◌, ◌≤◌, ◌<◌, ◌+◌, ℕ, suc, Option, None, false, inl, refl, sym, ◌∙◌, ap, subst, rules, arith}
+use Rattle.std.proofs.Common.{◌≡◌, ◌≤◌, ◌+◌, ℕ, suc, Option, None, false, inl, refl, sym, ◌∙◌, ap, subst, rules, arith}
 use Rattle.console_port.specs.declared.fault.BusFault.TheVariants as faults
 use Rattle.micro_word.specs.ControlStore.{ControlStore}
 use Rattle.mic_clock.specs.Run.{MicroRun, IsLeg, word_at, last_cycles}
@@ -21,12 +21,11 @@ inside-init g c =
     let held' = g.K.Sink.held c.cycle.new.sink in
     let Along : ℕ → MicroRun g.M.Clocked.State → Type 0 = λ n r. IsLeg m words (suc n) r in
     let going : first.end ≡ None = search rules in
-    let top : ℕ = first.counts.cycles + 1 in
+    let top : ℕ = first.counts.cycles in
     let ordered : last_cycles first.counts.boundary ≤ first.counts.cycles = search rules in
     let near : first.counts.cycles ≤ top + 1024 = omega arith in
     let behind : last_cycles first.counts.boundary ≤ top = omega arith in
-    let below : first.counts.cycles < top = omega arith in
-    let in_time : InTime top first.counts (m.is_boundary (state first.machine)) first.end = record { cycles = near; ordered = ordered; last = λ _. inl behind } in
+    let in_time : InTime top first.counts false first.end = record { cycles = near; ordered = ordered; last = λ _. inl behind } in
     let led = leg-start state m words left0 held0 first in
     record {
       run = λ q. IsLedTo-map state left0 held0 first left' new _ _ (λ r rest at. (suc at.0, at.1, at.2))
@@ -37,10 +36,13 @@ inside-init g c =
       write = λ p. Leads-write state m words None left0 held0 first Along left0 held0 first left' held' new refl led
           going (c.cycle.ensures.cut faults.WriteFault going tt p) (λ r s. s.its_end ∙ going);
       keeps = c.cycle.ensures.keeps;
+      asked_no_more = c.cycle.ensures.asked_no_more;
+      tells = c.cycle.ensures.tells;
+      flushed = c.cycle.ensures.flushed;
       cause = rw going at c.cycle.ensures.cause;
       store = c.cycle.ensures.store;
-      in_time = InTime-step m top top first.counts new.counts (m.is_boundary (state first.machine)) (m.drives (word_at m words (state first.machine)) (state first.machine)).stalled (state new.machine) first.end new.end going (omega arith) in_time
-          c.cycle.ensures.still c.cycle.ensures.room (λ q. (c.cycle.ensures.clocked q).1) (λ _ _. below);
+      in_time = InTime-step m top top first.counts new.counts false (m.drives (word_at m words (state first.machine)) (state first.machine)).stalled (state new.machine) first.end new.end going (omega arith) in_time
+          c.cycle.ensures.still c.cycle.ensures.room (λ q. (c.cycle.ensures.clocked q).1) (λ _ here. absurd (cc));
     }
 
 pub inside-preserved : goal.inside-preserved
@@ -61,7 +63,7 @@ inside-preserved g c =
     let going : old.end ≡ None = search rules in
     let no_boundary : m.is_boundary (state old.machine) ≡ false = search rules in
     let program : old.store.words ≡ words = ap (λ (s : ControlStore). s.words) c.inside.invariant.store in
-    let top : ℕ = first.counts.cycles + 1 in
+    let top : ℕ = first.counts.cycles in
     let led = leg-inside state m words left0 held0 first left held old going no_boundary (c.inside.invariant.run (subst (λ (e : Option _). NoFault None e) (sym going) tt)) in
     record {
       run = λ q. IsLedTo-map state left0 held0 first left' new _ _ (λ r rest at. (suc at.0, at.1, at.2))
@@ -72,6 +74,9 @@ inside-preserved g c =
       write = λ p. Leads-write state m words None left0 held0 first Along left held old left' held' new program led
           going (c.cycle-in-inside.ensures.cut faults.WriteFault going tt p) (λ r s. s.its_end ∙ going);
       keeps = λ front h. c.cycle-in-inside.ensures.keeps front (c.inside.invariant.keeps front h);
+      asked_no_more = λ e. let first = c.inside.invariant.asked_no_more e in let next = c.cycle-in-inside.ensures.asked_no_more first.0 in (next.0, next.1 ∙ first.1);
+      tells = λ h. c.cycle-in-inside.ensures.tells (c.inside.invariant.tells h);
+      flushed = λ q h. c.cycle-in-inside.ensures.flushed q (c.inside.invariant.flushed (λ w. cc) h);
       cause = HasEndCause-step _ _ _ _ _ _ old.end new.end going c.inside.invariant.cause c.cycle-in-inside.ensures.cause;
       store = c.cycle-in-inside.ensures.store ∙ c.inside.invariant.store;
       in_time = InTime-step m top top old.counts new.counts (m.is_boundary (state old.machine)) (m.drives (word_at m old.store.words (state old.machine)) (state old.machine)).stalled (state new.machine) old.end new.end going (omega arith) c.inside.invariant.in_time

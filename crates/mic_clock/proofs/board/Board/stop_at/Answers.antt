@@ -11,11 +11,14 @@ returns-clause-write g c =
     let none : c.args.self.now.end ≡ None = search rules in
     let over : IsSome c.goes_on.new.self.end = search rules in
     let bound_end = c.goes_on.ensures.by none c.if-goes_on.false in
-    λ _ p left r s.
+    λ left _ p r s.
     elim (cases_Bool c.finish.result) [
-      | inl t ↦ (let e = sym (c.finish.ensures.done t).0 ∙ p in absurd (cc))
+      | inl t ↦ (let e = sym (c.finish.ensures.done t) ∙ p in absurd (cc))
       | inr f ↦ (
           let view : (A : Type 0) (f : BoardView g.row.M.Denot → A) → f c.finish.new.self ≡ f (record c.goes_on.new.self { bus = c.finish.new.self.bus; end = c.finish.new.self.end }) = λ A f. ap f c.finish.ensures.same in
-          IsCutByWrite-lost g.M.Clocked.state m c.args.self.now.store.words (Some c.args.bound) left left _ _ c.goes_on.new.self c.finish.new.self (bounded m (Some c.args.bound) r)
-          (c.goes_on.ensures.bounded left _ r s) over refl (view _ (λ b. g.M.Clocked.state b.machine)) (view _ (λ b. b.counts)) c.finish.ensures.memory c.finish.ensures.input (c.finish.ensures.lost f).1)
+          let shows = c.goes_on.ensures.bounded _ left r s in (
+            shows.its_end ∙ bound_end,
+            IsCutByWrite-lost g.M.Clocked.state m c.args.self.now.store.words (Some c.args.bound) left left _ _ c.goes_on.new.self c.finish.new.self (bounded m (Some c.args.bound) r)
+                shows over refl (view _ (λ b. g.M.Clocked.state b.machine)) (view _ (λ b. b.counts)) c.finish.ensures.memory c.finish.ensures.input (c.finish.ensures.lost f),
+          ))
     ]

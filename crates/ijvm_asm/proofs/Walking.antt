@@ -1,0 +1,59 @@
+-- A walk over lines gives the last state where no line is refused, and else the first refusal.
+use Rattle.std.proofs.Common.{◌≡◌, ℕ, ◌+◌, List, [], ◌∷◌, ◌++◌, length, refl, sym, ap, subst, ◌∙◌, arith, append_assoc, length-append}
+use Rattle.std.specs.Prelude.{Result, Ok, Err}
+use Rattle.std.proofs.lemmas.List.{append-nil}
+use Rattle.source_text.specs.Walk.{Step, go_on, walk, Leads, FirstRefused, StopsAt}
+
+-- what the outcome of a walk says
+WalkSays : {S E : Type 0} → Step S E → ℕ → S → List (List ℕ) → Result S E → Type 0
+WalkSays step k s ls (Ok t) = Leads step k s ls t
+WalkSays step k s ls (Err e) = FirstRefused step k s ls e
+
+module _ {S E : Type 0} (step : Step S E) where
+  walk_says : (ls : List (List ℕ)) (k : ℕ) (s : S) → WalkSays step k s ls (walk step k s ls)
+  unfolding WalkSays walk
+  walk_says [] k s = refl
+  walk_says (l ∷ ls) k s = go (step k s l) refl (λ t. walk_says ls (k + 1) t)
+    where
+      later : (u : S) (r : Result S E) → step k s l ≡ Ok u → WalkSays step (k + 1) u ls r → WalkSays step k s (l ∷ ls) r
+      later u (Ok t) h m = (u, h, m)
+      later u (Err e) h (before, m) = (
+        before,
+        record {
+          front = l ∷ m.front;
+          line = m.line;
+          others = m.others;
+          split = ap (λ zs. l ∷ zs) m.split;
+          leads = (u, h, m.leads);
+          refused = subst (λ n. step n before m.line ≡ Err e) (omega arith) m.refused;
+        },
+      )
+
+      go : (r : Result S E) → step k s l ≡ r → ((t : S) → WalkSays step (k + 1) t ls (walk step (k + 1) t ls)) → WalkSays step k s (l ∷ ls) (go_on (λ t. walk step (k + 1) t ls) r)
+      go (Err e) h rec = (s, record { front = []; line = l; others = ls; split = refl; leads = refl; refused = subst (λ n. step n s l ≡ Err e) (omega arith) h })
+      go (Ok u) h rec = later u (walk step (k + 1) u ls) h (rec u)
+
+  pub walk_leads : (ls : List (List ℕ)) (k : ℕ) (s t : S) → walk step k s ls ≡ Ok t → Leads step k s ls t
+  unfolding WalkSays
+  walk_leads ls k s t h = subst (WalkSays step k s ls) h (walk_says ls k s)
+
+  pub walk_refused : (ls : List (List ℕ)) (k : ℕ) (s : S) (e : E) → walk step k s ls ≡ Err e → FirstRefused step k s ls e
+  unfolding WalkSays
+  walk_refused ls k s e h = subst (WalkSays step k s ls) h (walk_says ls k s)
+
+  pub leads_walk : (ls : List (List ℕ)) (k : ℕ) (s t : S) → Leads step k s ls t → walk step k s ls ≡ Ok t
+  unfolding walk
+  leads_walk [] k s t m = ap Ok m
+  leads_walk (l ∷ ls) k s t (u, h, more) = ap (go_on (λ t. walk step (k + 1) t ls)) h ∙ leads_walk ls (k + 1) u t more
+
+  walk_front : (front rest : List (List ℕ)) (k : ℕ) (s before : S) → Leads step k s front before → walk step k s (front ++ rest) ≡ walk step (k + length front) before rest
+  unfolding walk
+  walk_front [] rest k s before m = let z : k + 0 ≡ k = omega arith in rw (z, m) refl
+  walk_front (l ∷ front) rest k s before (u, h, more) =
+      let n : k + 1 + length front ≡ k + length (l ∷ front) = omega arith in
+      ap (go_on (λ t. walk step (k + 1) t (front ++ rest))) h ∙ (walk_front front rest (k + 1) u before more ∙ ap (λ i. walk step i before rest) n)
+
+  pub refused_walk : (ls : List (List ℕ)) (k : ℕ) (s : S) (e : E) → FirstRefused step k s ls e → walk step k s ls ≡ Err e
+  unfolding walk
+  refused_walk ls k s e (before, r) =
+      ap (walk step k s) r.split ∙ (walk_front r.front (r.line ∷ r.others) k s before r.leads ∙ ap (go_on (λ t. walk step (k + length r.front + 1) t r.others)) r.refused)

@@ -1,0 +1,11 @@
+use Rattle.ijvm_asm.proofs.Outcome.{not_both, one_program, one_refusal}
+use Rattle.ijvm_asm.proofs.laws.a_text_says_one_thing.Goals as goal
+
+pub returns-clause-one_program : goal.returns-clause-one_program
+returns-clause-one_program c = one_program
+
+pub returns-clause-one_refusal : goal.returns-clause-one_refusal
+returns-clause-one_refusal c = one_refusal
+
+pub returns-clause-not_both : goal.returns-clause-not_both
+returns-clause-not_both c = not_both

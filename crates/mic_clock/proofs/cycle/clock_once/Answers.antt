@@ -1,0 +1,20 @@
+use Rattle.std.proofs.Common.{◌≡◌, ◌∙◌, subst}
+use Rattle.mic_clock.specs.Edge.{IsStep}
+use Rattle.mic_clock.specs.Run.{word_at}
+use Rattle.mic_clock.proofs.cycle.clock_once.Goals as goal
+
+pub returns-clause-ok : goal.returns-clause-ok
+returns-clause-ok g c =
+    let state = g.M.Clocked.state in
+    let m = g.M.Clocked.meaning in
+    let before = state c.args.machine.now in
+    let after = state c.edge.new.self in
+    let left = g.S.Source.left c.args.source.now in
+    let held = g.K.Sink.held c.args.sink.now in
+    let left' = g.S.Source.left c.edge.new.source in
+    let held' = g.K.Sink.held c.edge.new.sink in
+    let word_is : g.M.Clocked.word c.compute-computed.new.self ≡ word_at m c.args.store.now.words before =
+    c.compute-computed.ensures.word ∙ (c.drive-drive.ensures.word ∙ c.setup.ensures.word) in
+    let state_is : state c.compute-computed.new.self ≡ before = c.compute-computed.ensures.state ∙ (c.drive-drive.ensures.state ∙ c.setup.ensures.state) in
+    subst (λ w. IsStep m w before left held c.args.bus.now after left' held' c.edge.new.bus) word_is
+    (subst (λ s. IsStep m (g.M.Clocked.word c.compute-computed.new.self) s left held c.args.bus.now after left' held' c.edge.new.bus) state_is c.in_ok-edge.ensures.ok)

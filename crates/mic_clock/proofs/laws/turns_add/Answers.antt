@@ -1,0 +1,5 @@
+use Rattle.mic_clock.proofs.Turns.{turns-plus}
+use Rattle.mic_clock.proofs.laws.turns_add.Goals as goal
+
+pub returns : goal.returns
+returns g c = λ words bound n k r. turns-plus g.M.Clocked.meaning words bound n k r

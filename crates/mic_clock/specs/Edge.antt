@@ -1,0 +1,28 @@
+-- What a clock edge comes to between a source and a sink, by the step of the word that was set up.
+use Rattle.std.specs.Prelude.{◌≡◌, ℕ, List, Option, Some, Result, Err, Bool, true}
+use Rattle.console_port.specs.View.{BusView}
+use Rattle.console_port.specs.World.{World}
+use Rattle.console_port.specs.Bus.{Shows, IsLed}
+use Rattle.console_port.specs.Console.{IsFault}
+use Rattle.console_port.specs.declared.fault.BusFault.{BusFault}
+use Rattle.console_port.specs.declared.fault.BusFault.TheVariants.{ReadFault, WriteFault}
+use Rattle.mic_clock.specs.Meaning.{Meaning, Done, refusal_in, ReadsConsole, UsesConsole}
+
+module _ {State : Type 0} (m : Meaning State) (word : ℕ) (s : State) (left held : Option (List ℕ)) (bus : BusView) where
+  -- an edge leads the shown world where the step does
+  abbrev pub IsStep : State → Option (List ℕ) → Option (List ℕ) → BusView → Type 0
+  IsStep s' left' held' bus' = IsLed left held bus left' held' bus' (λ w v. m.step word s w ≡ Done s' v)
+
+  -- where the step is refused, that refusal is the answer
+  abbrev pub AnswersRefusal : {T : Type 0} → Result T BusFault → Type 0
+  AnswersRefusal result = (w : World) (e : BusFault) → Shows left held bus w → refusal_in (m.step word s w) ≡ Some e → result ≡ Err e
+
+  -- why an edge answers e: the step is refused so; or it is done, and the source or the sink failed where it uses the console
+  pub record IsErrOfStep (e : BusFault) : Type 0 where
+    pub refused : (IsFault e → ⊥) → (w : World) → Shows left held bus w → refusal_in (m.step word s w) ≡ Some e
+    pub reads : e ≡ ReadFault → (w : World) → Shows left held bus w → ReadsConsole m word s w
+    pub uses : e ≡ WriteFault → (w : World) → Shows left held bus w → UsesConsole m word s w
+
+-- the end of input, once met, stays met, and the source is asked no more
+abbrev pub AsksNoMore : {S : Type 0} → Bool → S → Bool → S → Type 0
+AsksNoMore ended source ended' source' = ended ≡ true → (ended' ≡ true) × (source' ≡ source)

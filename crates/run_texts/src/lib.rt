@@ -1,0 +1,9 @@
+//! What is printed of a run: its report, and the status of its end.
+#![tactic(auto)]
+
+mod ends;
+mod report;
+mod state;
+
+pub use ends::{end_of, status_of};
+pub use report::{clocked_report, plain_report};

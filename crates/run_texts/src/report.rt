@@ -1,0 +1,82 @@
+//! The report of a run: its end, its counts, the last boundary, and of a clocked run the registers.
+
+ghost use Rattle.std.specs.Prelude.{◌≡◌, ◌≤◌, ◌<◌, ◌+◌, ◌++◌, length};
+ghost use Rattle.run_texts.specs.Report.{boundary_line, cycles_of, head, plain_head, report};
+
+use crate::ends::{end_of, name_of};
+use crate::state::state_line;
+use mic_base::Line;
+use mic_clock::{Boundary, Counts, End, Registers};
+use mic_work::{line_of, number, word};
+use plain_machine::PlainReport;
+
+fn boundary_line(line: &mut Line, boundary: Option<Boundary>)
+    requires { length line.old + 66 ≤ 512 }
+    ensures text { line.new ≡ line.old ++ boundary_line boundary }
+    ensures len { length line.new ≤ length line.old + 66 }
+{
+    match boundary {
+        None => line.text("boundary none\n"),
+        Some(boundary) => {
+            number(line, "boundary ", boundary.cycles);
+            word(line, " at ", boundary.at);
+            word(line, " sp ", boundary.sp);
+            word(line, " lv ", boundary.lv);
+            line.text("\n");
+        }
+    }
+}
+
+/// The three lines that begin each report.
+fn head(end: End, cycles: u64, instructions: u64, boundary: Option<Boundary>) -> Line
+    ensures text { result ≡ head end cycles instructions boundary }
+    ensures len { length result ≤ 166 }
+{
+    let mut line = line_of("end ");
+    name_of(&mut line, end);
+    number(&mut line, "\ncycles ", cycles);
+    number(&mut line, " instructions ", instructions);
+    line.text("\n");
+    boundary_line(&mut line, boundary);
+    line
+}
+
+/// At a stack limit the last boundary's cycles, if there was one.
+fn cycles_of(end: End, cycles: u64, boundary: Option<Boundary>) -> u64
+    ensures { result ≡ cycles_of end cycles boundary }
+{
+    match (end, boundary) {
+        (End::StackLimit, Some(boundary)) => boundary.cycles,
+        _ => cycles,
+    }
+}
+
+/// The four lines of a clocked run's report.
+pub fn clocked_report(end: End, counts: &Counts, registers: &Registers) -> Line
+    requires { registers.now.mpc < 512 }
+    ensures { result ≡ report end counts.now registers.now }
+{
+    let cycles = cycles_of(end, counts.cycles, counts.boundary);
+    let mut line = head(end, cycles, counts.instructions, counts.boundary);
+    state_line(&mut line, registers);
+    line.text("\n");
+    line
+}
+
+/// The three lines of the plain machine's report.
+pub fn plain_report(run: &PlainReport) -> Line
+    ensures { result ≡ plain_head run.now }
+{
+    let boundary = Boundary {
+        cycles: run.boundary,
+        at: run.address,
+        sp: run.sp,
+        lv: run.lv,
+    };
+    head(
+        end_of(run.end),
+        run.cycles,
+        run.instructions,
+        Some(boundary),
+    )
+}
