@@ -51,25 +51,39 @@ inside (x ∷ fixed) h (suc s) a e = inside fixed (second _ _ h) s a e
 leads_inside : ℕ → Pair → Bool
 leads_inside count p = nat_lt p.yes count && nat_lt p.no count
 
+pairs_at : (count : ℕ) (p : Pair) (pairs : List Pair) → IsOfStatements count p → All (IsOfStatements count) pairs →
+    (k : ℕ) (d : Pair) → k < length (p ∷ pairs) → IsOfStatements count (slice_index_or (p ∷ pairs) k d)
+pairs_at count p pairs here later zero d below = here
+pairs_at count p pairs here later (suc k) d below = later k d (omega arith)
+
+both : (a b : Bool) → (a && b) ≡ true → (a ≡ true) × (b ≡ true)
+both true b h = (refl, h)
+both false b h = absurd (cc)
+
 each_leads : (count : ℕ) (pairs : List Pair) → list_all (leads_inside count) pairs ≡ true → All (IsOfStatements count) pairs
 unfolding leads_inside
 each_leads count [] h = λ k d below. absurd (omega arith)
-each_leads count (p ∷ pairs) h = λ k d below. elim_at k d below
-  where
-    both : (a b : Bool) → (a && b) ≡ true → (a ≡ true) × (b ≡ true)
-    both true b h = (refl, h)
-    both false b h = absurd (cc)
-    elim_at : (k : ℕ) (d : Pair) → k < length (p ∷ pairs) → IsOfStatements count (slice_index_or (p ∷ pairs) k d)
-    elim_at zero d below = let two = both _ _ (both _ _ h).0 in (ltb-true p.yes count two.0, ltb-true p.no count two.1)
-    elim_at (suc k) d below = each_leads count pairs (both _ _ h).1 k d (omega arith)
+each_leads count (p ∷ pairs) h =
+    let two = both _ _ (both _ _ h).0 in
+    pairs_at count p pairs (ltb-true p.yes count two.0, ltb-true p.no count two.1) (each_leads count pairs (both _ _ h).1)
 
 within1 : AreWithin (demands_of program1).fixed (demands_of program1).pairs
 unfolding program1 rows1 demands_of is_inside leads_inside
-within1 = record { count = omega arith; addresses = inside _ refl; targets = each_leads _ _ refl }
+within1 =
+    record {
+      count = omega arith;
+      addresses = inside (demands_of program1).fixed refl;
+      targets = each_leads (length (demands_of program1).fixed) (demands_of program1).pairs refl;
+    }
 
 within2 : AreWithin (demands_of program2).fixed (demands_of program2).pairs
 unfolding program2 rows2 demands_of is_inside leads_inside
-within2 = record { count = omega arith; addresses = inside _ refl; targets = each_leads _ _ refl }
+within2 =
+    record {
+      count = omega arith;
+      addresses = inside (demands_of program2).fixed refl;
+      targets = each_leads (length (demands_of program2).fixed) (demands_of program2).pairs refl;
+    }
 
 pub within : (machine : Machine) → AreWithin (demands_of (program_of machine)).fixed (demands_of (program_of machine)).pairs
 within Mic1 = within1
