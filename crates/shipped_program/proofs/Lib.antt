@@ -3,3 +3,4 @@ mod Placed
 mod Valid
 mod Entries
 mod Lines
+mod Words

@@ -41,7 +41,7 @@ text_spells : (machine : Machine) → ((q : Program) → IsProgram q → Spells 
 text_spells machine law =
     let spells : Spells (program_of machine).machine (canonical_text (program_of machine)) (relined (program_of machine)) = law (program_of machine) (valid machine) in
     let here : Spells machine (canonical_text (program_of machine)) (relined (program_of machine)) =
-        subst (λ (m : Machine). Spells m (canonical_text (program_of machine)) (relined (program_of machine))) (machine_of machine) spells in
+    subst (λ (m : Machine). Spells m (canonical_text (program_of machine)) (relined (program_of machine))) (machine_of machine) spells in
     subst (λ (text : List ℕ). Spells machine text (relined (program_of machine))) (sym (canonical machine)) here
 
 -- what a text is read as, where it spells this program

@@ -6,7 +6,7 @@ use Rattle.shipped_program.proofs.loaded.load_micro.Goals as goal
 pub address-entry-requires : goal.address-entry-requires
 address-entry-requires c =
     let inside : c.args.program.now.entry < length c.args.program.now.statements =
-        labelled_inside c.args.program.now.statements c.args.program.now.entry (codes "Main1") c.entry.ensures.program.entry in
+    labelled_inside c.args.program.now.statements c.args.program.now.entry (codes "Main1") c.entry.ensures.program.entry in
     let count : length c.in_ok-placement.placement ≡ length c.args.program.now.statements =
-        (c.in_ok-placement.ensures.chosen).places.count ∙ c.constraints_of.ensures.count in
+    (c.in_ok-placement.ensures.chosen).places.count ∙ c.constraints_of.ensures.count in
     rw (c.entry.ensures.is, count) inside
