@@ -1,5 +1,5 @@
 -- A labelled statement is one of the program's.
-use Rattle.std.proofs.Common.{◌≡◌, ◌<◌, ℕ, zero, suc, List, [], ◌∷◌, length, Option, Some, None, arith}
+use Rattle.std.proofs.Common.{◌≡◌, ◌<◌, ℕ, zero, suc, List, [], ◌∷◌, length, Some, arith}
 use Rattle.mal_parser.specs.declared.statement.Statement.{Statement}
 use Rattle.mal_parser.specs.Program.{label_at}
 

@@ -1,7 +1,7 @@
 -- Line numbers: the program of a text, without them, is the listed one.
-use Rattle.std.proofs.Common.{◌≡◌, ℕ, ◌+◌, ◌<◌, ◌≤◌, List, [], ◌∷◌, ◌++◌, length, take, map, Option, Some, None, Result, Ok, Err, ◌⊎◌, inl, inr, refl, sym, ap, ◌∙◌, subst, arith}
+use Rattle.std.proofs.Common.{◌≡◌, ℕ, ◌+◌, ◌<◌, List, [], ◌∷◌, ◌++◌, length, take, map, Some, Result, Ok, Err, ◌⊎◌, inl, inr, refl, sym, ap, ◌∙◌, subst}
 use Rattle.std.specs.Prelude.{slice_get}
-use Rattle.std.proofs.lemmas.List.{map-append, take_more, take_all}
+use Rattle.std.proofs.lemmas.List.{map-append, take_more}
 use Rattle.std.proofs.lemmas.Option.{slice_get_within, get_or_from_slice_get}
 use Rattle.machine_words.specs.declared.machine.Machine.{Machine}
 use Rattle.machine_words.specs.declared.machine.Machine.TheVariants.{Mic1, Mic2}
@@ -13,7 +13,6 @@ use Rattle.mal_parser.specs.Text.{Spells}
 use Rattle.mal_parser.specs.Program.{IsProgram, Program}
 use Rattle.shipped_program.proofs.Valid.{valid}
 use Rattle.shipped_program.proofs.Texts.{canonical}
-use Rattle.mic_base.specs.Digits.{hex_text}
 use Rattle.shipped_program.specs.Listing.{program_of, text_of, unlined, without_line, program1, rows1, program2, rows2}
 
 pub one_more : (ss : List Statement) (k : ℕ) (s : Statement) → slice_get ss k ≡ Some s →

@@ -1,13 +1,13 @@
 -- The listed addresses are the chosen placement.
 use Rattle.std.proofs.Common.{◌≡◌, ℕ, List, refl}
-use Rattle.std.proofs.Common.{◌<◌, ◌≤◌, zero, suc, ◌==◌, ◌&&◌, Bool, true, false, nat_lt, [], ◌∷◌, length, All, Option, Some, None, sym, subst, arith}
-use Rattle.std.specs.Prelude.{slice_index_or, slice_get}
+use Rattle.std.proofs.Common.{◌<◌, zero, suc, ◌&&◌, Bool, true, false, nat_lt, [], ◌∷◌, length, All, Option, Some, None, subst, arith}
+use Rattle.std.specs.Prelude.{slice_index_or}
 use Rattle.std.specs.List.{list_all}
 use Rattle.std.proofs.lemmas.Bool.{ltb-true}
 use Rattle.machine_words.specs.declared.machine.Machine.{Machine}
 use Rattle.machine_words.specs.declared.machine.Machine.TheVariants.{Mic1, Mic2}
 use Rattle.store_placement.specs.declared.pair.Pair.{Pair}
-use Rattle.store_placement.specs.Demands.{fixed_at, AreFixedInside, IsOfStatements, AreWithin}
+use Rattle.store_placement.specs.Demands.{AreFixedInside, IsOfStatements, AreWithin}
 use Rattle.store_placement.specs.Program.{demands_of}
 use Rattle.store_placement.specs.Listed.{IsListed}
 use Rattle.store_placement.specs.Chosen as chosen

@@ -1,5 +1,5 @@
 -- The texts are the canonical texts of the listed statements.
-use Rattle.std.proofs.Common.{◌≡◌, ℕ, List, refl}
+use Rattle.std.proofs.Common.{◌≡◌, refl}
 use Rattle.mic_base.specs.Digits.{hex_text}
 use Rattle.mal_parser.specs.Canonical.{canonical_text}
 use Rattle.shipped_program.specs.declared.mic1.TheConstants.{MIC1}

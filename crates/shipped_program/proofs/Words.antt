@@ -1,5 +1,5 @@
 -- The words of a loaded shipped microprogram are those that are listed.
-use Rattle.std.proofs.Common.{◌≡◌, ◌≢◌, ◌<◌, ℕ, zero, suc, ◌+◌, add-zero, ◌==◌, Bool, true, false, List, [], ◌∷◌, length, map, Option, Some, None, refl, sym, ap, ◌∙◌, subst, IsTrue, arith}
+use Rattle.std.proofs.Common.{◌≡◌, ◌≢◌, ◌<◌, ℕ, zero, suc, ◌+◌, add-zero, ◌==◌, Bool, true, false, List, [], ◌∷◌, length, map, Some, refl, sym, ap, ◌∙◌, subst, IsTrue, arith}
 use Rattle.std.specs.Prelude.{slice_get, slice_index}
 use Rattle.std.proofs.lemmas.Bool.Decides.{nat_tests}
 use Rattle.machine_words.specs.declared.machine.Machine.{Machine}
@@ -11,7 +11,7 @@ use Rattle.mal_parser.specs.declared.statement.Statement.{Statement}
 use Rattle.mal_parser.specs.Program.{Program}
 use Rattle.store_placement.specs.Program.{placed_statement, placed_default, IsFilled, Decodes}
 use Rattle.shipped_program.specs.Listing.{Row, program_of, addresses_of, program1, rows1, program2, rows2}
-use Rattle.shipped_program.specs.Shipped.{rows_of, statement_among, shipped, HasShipped}
+use Rattle.shipped_program.specs.Shipped.{statement_among, HasShipped}
 
 same_test : (x y : ℕ) → (x == y) ≡ true → x ≡ y
 same_test x y e = grind (arith, nat_tests)

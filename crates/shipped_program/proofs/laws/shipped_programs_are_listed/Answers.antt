@@ -1,4 +1,3 @@
-use Rattle.std.proofs.Common.{List, ℕ}
 use Rattle.store_placement.specs.Program.{demands_of}
 use Rattle.shipped_program.specs.Listing.{program_of, addresses_of}
 use Rattle.shipped_program.proofs.Placed.{listed, within}

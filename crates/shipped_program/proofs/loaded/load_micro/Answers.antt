@@ -1,4 +1,4 @@
-use Rattle.std.proofs.Common.{◌≡◌, ◌<◌, ℕ, length, sym, ◌∙◌, subst, codes, arith}
+use Rattle.std.proofs.Common.{◌≡◌, ◌<◌, length, ◌∙◌, codes}
 use Rattle.shipped_program.proofs.Entries.{labelled_inside}
 use Rattle.shipped_program.proofs.loaded.load_micro.Goals as goal
 

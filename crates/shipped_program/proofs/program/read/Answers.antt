@@ -1,4 +1,4 @@
-use Rattle.std.proofs.Common.{◌≡◌, ◌∙◌, List, ℕ}
+use Rattle.std.proofs.Common.{◌≡◌, ◌∙◌}
 use Rattle.shipped_program.specs.Listing.{text_of}
 use Rattle.shipped_program.proofs.Lines.{read_as}
 use Rattle.shipped_program.proofs.program.read.Goals as goal

@@ -1,4 +1,4 @@
-use Rattle.std.proofs.Common.{◌≡◌, sym, subst}
+use Rattle.std.proofs.Common.{sym, subst}
 use Rattle.mal_parser.specs.Program.{IsProgram, Program}
 use Rattle.shipped_program.specs.Listing.{unlined}
 use Rattle.shipped_program.proofs.Lines.{unlined_is_program}

@@ -1,7 +1,6 @@
-use Rattle.std.proofs.Common.{◌≡◌, ◌≤◌, ℕ, length, take, map, ◌∙◌, ap, subst, sym, arith}
+use Rattle.std.proofs.Common.{◌≡◌, ◌≤◌, length, map, ◌∙◌, ap, arith}
 use Rattle.std.proofs.lemmas.List.{take_all}
-use Rattle.mal_parser.specs.Program.{IsProgram, Program}
-use Rattle.shipped_program.specs.Listing.{unlined, without_line}
+use Rattle.shipped_program.specs.Listing.{without_line}
 use Rattle.shipped_program.proofs.program.unlined.Goals as goal
 
 pub new-requires : goal.new-requires
