@@ -1,5 +1,5 @@
 -- What comes next in a run of a verified image, and how the law of a machine's instructions becomes the law of its boundaries.
-use Rattle.std.proofs.Common.{◌≡◌, ℕ, ◌+◌, ◌*◌, ◌<◌, Some, List, [], length, refl, arith, sym, ◌∙◌, ap, ap₂, subst, inl, inr}
+use Rattle.std.proofs.Common.{◌≡◌, ℕ, ◌+◌, ◌*◌, ◌<◌, Bool, true, false, Some, List, [], ◌∷◌, ◌++◌, length, refl, arith, sym, ◌∙◌, ap, ap₂, subst, inl, inr}
 use Rattle.std.specs.Prelude.{slice_index}
 use Rattle.std.specs.Int.{w8, w16, cast_signed}
 use Rattle.machine_words.specs.declared.machine.Machine.{Machine}
@@ -7,7 +7,7 @@ use Rattle.console_port.specs.World.{World, byte_in}
 use Rattle.mic_clock.specs.Meaning.{Meaning}
 use Rattle.ijvm_instr.specs.declared.instr.Instr.{Instr}
 use Rattle.ijvm_instr.specs.declared.instr.Instr.TheVariants.{Nop, Bipush, LdcW, Iload, Istore, Pop, Dup, Swap, Iadd, Isub, Iand, Iinc, Ifeq, Iflt, IfIcmpeq, Goto, Ireturn, Ior, Invokevirtual, WideIload, WideIstore, WideIinc, In, Out, Err, Halt}
-use Rattle.ijvm_instr.specs.Instructions.{row_of, size_of, instr_at}
+use Rattle.ijvm_instr.specs.Instructions.{row_of, size_of, prefix, operand_bytes, instr_at}
 use Rattle.ijvm_run.specs.Frames.{State, AreWords, start_of}
 use Rattle.ijvm_run.specs.Step.{Outcome, Goes, Halts, Errs, Limits, Stuck, outcome, stepped}
 use Rattle.ijvm_run.specs.Cost.{next_cost, cost_at, cost}
@@ -20,7 +20,7 @@ use Rattle.ijvm_simulation.specs.Outcomes.{Says}
 use Rattle.ijvm_simulation.specs.Verified.{program, Loads, Fine, IsNext}
 use Rattle.ijvm_simulation.specs.Passes.{Moment}
 use Rattle.ijvm_simulation.specs.Law.{Moves, Stops, Overruns, Law}
-use Rattle.ijvm_simulation.proofs.Decoded.{Decoded, decoded}
+use Rattle.ijvm_simulation.proofs.Decoded.{decoded}
 use Rattle.ijvm_simulation.proofs.Cases.{says}
 use Rattle.ijvm_simulation.proofs.Instruction.{Keeps, Law as BoundaryLaw}
 
@@ -91,10 +91,16 @@ module _ (v : VerifiedView) (o : Origin) (loads : Loads v o) (known : Known v) w
       (λ l. loads.bytes (s.at + 5) (omega (arith, finds.whole, l)))
       (decoded v.image.text s.at i finds.code).reads
 
+  -- an instruction has an opcode
+  some_byte : (wide : Bool) (opcode : ℕ) (operands : List ℕ) → 0 < length (prefix wide ++ opcode ∷ operands)
+  some_byte true opcode operands = omega arith
+  some_byte false opcode operands = omega arith
+
   pub next : (s : State) → Fine v s → (i : Instr) × IsNext v o s i
   next s fine =
       let f = known.sound.finds s (known.sound.comes_to [] s fine.reached) in
-      (f.0, record { finds = f.1; reads = reads s f.0 f.1 })
+      let some : 0 < size_of (row_of f.0) = some_byte (row_of f.0).wide (row_of f.0).opcode (operand_bytes (row_of f.0).operands) in
+      (f.0, record { begins = omega (arith, some, f.1.whole); finds = f.1; reads = reads s f.0 f.1 })
 
   -- what the outcome of the next instruction says
   said : (s : State) (i : Instr) (out : Outcome) → instr_at v.image.text s.at ≡ Some i → outcome v.image v.map.stack_end s ≡ out → Says v.image v.map.stack_end s i out

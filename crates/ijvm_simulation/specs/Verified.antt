@@ -32,6 +32,7 @@ pub record Fine (v : VerifiedView) (s : State) : Type 0 where
 
 -- an instruction comes next: its bytes stand in the memory, and it finds what it needs
 pub record IsNext (v : VerifiedView) (o : Origin) (s : State) (i : Instr) : Type 0 where
+  pub begins : s.at < length v.image.text
   pub finds : Finds v.image s i
   pub reads : Reads (byte_in o.words s.at) (byte_in o.words (s.at + 1)) (byte_in o.words (s.at + 2))
       (byte_in o.words (s.at + 3)) (byte_in o.words (s.at + 4)) (byte_in o.words (s.at + 5)) i

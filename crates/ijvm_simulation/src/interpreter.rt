@@ -1,6 +1,6 @@
 //! What is asked of a machine that interprets IJVM.
 
-ghost use Rattle.std.specs.Prelude.{◌≡◌, ◌<◌, ℕ, List};
+ghost use Rattle.std.specs.Prelude.{◌≡◌, ◌<◌, ℕ, List, IfOk};
 ghost use Rattle.console_port.specs.World.{World};
 ghost use Rattle.ijvm_run.specs.Frames.{start_of};
 ghost use Rattle.ijvm_paths.specs.Accepted.{VerifiedView};
@@ -10,6 +10,7 @@ ghost use Rattle.ijvm_simulation.specs.Law.{Law, Boots, reset_moment, OnDone, Gr
 
 use mic_clock::Clocked;
 use micro_word::Store;
+use std::alloc::{AllocError, Global};
 
 /// A clocked machine with the store that ships for it: together they interpret IJVM.
 pub trait Interpreter {
@@ -29,9 +30,9 @@ pub trait Interpreter {
     fn machine() -> Self::Machine;
 
     /// The control store that ships.
-    fn store() -> Store
-        ensures machine { result.machine ≡ Self.Machine.meaning.machine }
-        ensures shipped { IsShipped result.words };
+    fn store(alloc: Global) -> Result<Store, AllocError>
+        ensures machine { IfOk result (λ store. store.machine ≡ Self.Machine.meaning.machine) }
+        ensures shipped { IfOk result (λ store. IsShipped store.words) };
 
     /// What each instruction takes over a verified image, how a run boots, and that what is given stays.
     fn law()

@@ -38,10 +38,11 @@ pub fn reset_board<I: Interpreter>(
     ensures counts { IfOk result (λ board. board.counts ≡ start_counts) }
     ensures end { IfOk result (λ board. board.end ≡ None) }
 {
+    let store = I::store(alloc)?;
     let mut bus = Bus::new(alloc, image.map())?;
     bus.load(image.image().text(), image.image().pool());
     let sp = FRAME + image.main_locals() - 1;
-    Ok(Board::new(I::machine(), I::store(), I::entry(), sp, bus))
+    Ok(Board::new(I::machine(), store, I::entry(), sp, bus))
 }
 
 /// Runs a verified image on a machine, from its reset to its end. Want of memory is told before the first cycle.
