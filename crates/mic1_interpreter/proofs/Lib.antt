@@ -1,0 +1,9 @@
+pub mod Shipped
+pub mod Guided
+pub mod Accesses
+pub mod Keeps
+pub mod Facts
+pub mod Boundaries
+pub mod Boot
+pub mod Output
+pub mod Operands

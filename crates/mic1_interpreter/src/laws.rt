@@ -1,0 +1,18 @@
+//! What each group of instructions takes of Mic-1.
+
+ghost use Rattle.std.specs.Prelude.{◌≡◌, ℕ, List};
+ghost use Rattle.machine_words.specs.declared.machine.Machine.TheVariants.{Mic1};
+ghost use Rattle.mic1_datapath.specs.Mic1.{mic1_meaning};
+ghost use Rattle.ijvm_paths.specs.Accepted.{VerifiedView};
+ghost use Rattle.shipped_program.specs.Shipped.{HasShipped};
+ghost use Rattle.ijvm_simulation.specs.Stands.{Origin};
+ghost use Rattle.ijvm_simulation.specs.Verified.{Loads};
+ghost use Rattle.ijvm_simulation.specs.Law.{Takes};
+ghost use Rattle.mic1_interpreter.specs.Stands.{Stands};
+ghost use Rattle.mic1_interpreter.specs.Groups.{IsOfOperands};
+
+/// The instructions on the operands alone.
+pub(crate) fn operands_law()
+    ensures { (store : List ℕ) (o : Origin) (v : VerifiedView) → HasShipped Mic1 store → Loads v o →
+        Takes mic1_meaning store (Stands o) o.given v o IsOfOperands }
+{}

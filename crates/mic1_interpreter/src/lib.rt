@@ -1,0 +1,4 @@
+//! That Mic-1, with the microprogram that ships for it, interprets IJVM.
+#![tactic(auto)]
+
+mod laws;
