@@ -7,3 +7,5 @@ pub mod Boundaries
 pub mod Boot
 pub mod Output
 pub mod Operands
+pub mod Consoles
+pub mod Jumps

@@ -9,10 +9,22 @@ ghost use Rattle.ijvm_simulation.specs.Stands.{Origin};
 ghost use Rattle.ijvm_simulation.specs.Verified.{Loads};
 ghost use Rattle.ijvm_simulation.specs.Law.{Takes};
 ghost use Rattle.mic1_interpreter.specs.Stands.{Stands};
-ghost use Rattle.mic1_interpreter.specs.Groups.{IsOfOperands};
+ghost use Rattle.mic1_interpreter.specs.Groups.{IsOfOperands, IsOfConsole, IsJump};
 
 /// The instructions on the operands alone.
 pub(crate) fn operands_law()
     ensures { (store : List ℕ) (o : Origin) (v : VerifiedView) → HasShipped Mic1 store → Loads v o →
         Takes mic1_meaning store (Stands o) o.given v o IsOfOperands }
+{}
+
+/// IN and OUT.
+pub(crate) fn consoles_law()
+    ensures { (store : List ℕ) (o : Origin) (v : VerifiedView) → HasShipped Mic1 store → Loads v o →
+        Takes mic1_meaning store (Stands o) o.given v o IsOfConsole }
+{}
+
+/// The jumps and branches.
+pub(crate) fn jumps_law()
+    ensures { (store : List ℕ) (o : Origin) (v : VerifiedView) → HasShipped Mic1 store → Loads v o →
+        Takes mic1_meaning store (Stands o) o.given v o IsJump }
 {}
