@@ -25,7 +25,7 @@ pub IsTop_at : {x y : ℕ} (rest : List ℕ) → x ≡ y → IsTop y rest → Is
 IsTop_at {x} {y} rest e h = subst (λ (k : ℕ). IsTop k rest) (sym e) h
 
 -- the word at the last of these operands is TOS
-next_top_is : (words : List ℕ) (at a v : ℕ) (rest : List ℕ) → a + 1 ≡ at + length rest → v ≡ slice_index words a → OperandsAt words at rest → IsTop v rest
+pub next_top_is : (words : List ℕ) (at a v : ℕ) (rest : List ℕ) → a + 1 ≡ at + length rest → v ≡ slice_index words a → OperandsAt words at rest → IsTop v rest
 next_top_is words at a v [] e is h = tt
 next_top_is words at a v (x ∷ xs) e is h = let same : a ≡ at + length xs = omega arith in is ∙ (ap (slice_index words) same ∙ h.0)
 

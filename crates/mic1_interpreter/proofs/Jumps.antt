@@ -2,7 +2,6 @@
 use Rattle.std.proofs.Common.{◌≡◌, ◌⊎◌, ℕ, suc, ◌+◌, ◌-◌, ◌*◌, ◌^◌, ◌<◌, ◌≤◌, Bool, true, false, ◌==◌, Some, None, List, [], ◌∷◌, length, refl, arith, sym, ◌∙◌, ap, ap₂, subst, All, inl, inr}
 use Rattle.std.specs.Prelude.{bit_or, nat_lt, nat_le, if◌then◌else◌, pos, negsuc, ℤ}
 use Rattle.std.specs.Int.{w16, cast_signed}
-use mir.Val.{sel}
 use Rattle.std.proofs.lemmas.Bool.Decides.{nat_tests}
 use Rattle.std.proofs.lemmas.List.Elements.{All-get_or}
 use Rattle.machine_words.specs.declared.machine.Machine.TheVariants.{Mic1}
@@ -26,20 +25,9 @@ use Rattle.mic1_interpreter.specs.Stands.{Stands}
 use Rattle.mic1_interpreter.specs.Groups.{IsJump}
 use Rattle.mic1_interpreter.proofs.Shipped.{HasStatements}
 use Rattle.mic1_interpreter.proofs.Accesses.{IsMap, Access, before_is, fetch_ok, byte_bound, byte_kept, plus_comm, signed_pair_is}
+use Rattle.mic1_interpreter.proofs.Numbers.{half_word}
 use Rattle.mic1_interpreter.proofs.Facts.{place, base_above, Top, top, Two, two, two_down, two_next, drops, IsTop_at}
 use Rattle.mic1_interpreter.proofs.Boundaries.{Comes, comes, Counts, counts, at_boundary, map_of, moves}
-
--- a signed number of two bytes is the same word for both
-pub half_word : (a b : ℕ) → a < 256 → b < 256 → word_of (cast_signed w16 (256 * a + b)) ≡ signed_pair a b
-unfolding signed_pair
-half_word a b la lb = by_tests (nat_lt (256 * a + b) 32768) (nat_lt a 128) refl refl
-  where
-    by_tests : (t u : Bool) → nat_lt (256 * a + b) 32768 ≡ t → nat_lt a 128 ≡ u →
-        word_of (sel t (pos (256 * a + b)) (negsuc (65536 - suc (256 * a + b)))) ≡ (if u then 256 * a + b else 256 * a + b + 4294901760)
-    by_tests true true e f = refl
-    by_tests false false e f = let l : 32768 ≤ 256 * a + b = grind (arith, nat_tests) in omega arith
-    by_tests true false e f = absurd (let l : 256 * a + b < 32768 = grind (arith, nat_tests) in let n : 128 ≤ a = grind (arith, nat_tests) in omega arith)
-    by_tests false true e f = absurd (let l : 32768 ≤ 256 * a + b = grind (arith, nat_tests) in let n : a < 128 = grind (arith, nat_tests) in omega arith)
 
 -- where the words of goto come to
 abbrev pub goes_to : Micro → World → ℕ

@@ -9,3 +9,5 @@ pub mod Output
 pub mod Operands
 pub mod Consoles
 pub mod Jumps
+pub mod Numbers
+pub mod Locals

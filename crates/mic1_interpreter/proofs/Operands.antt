@@ -2,7 +2,6 @@
 use Rattle.std.proofs.Common.{◌≡◌, ◌≢◌, ℕ, suc, ◌+◌, ◌-◌, ◌<◌, ◌≤◌, Some, None, List, [], ◌∷◌, ◌++◌, length, refl, arith, sym, ◌∙◌, ap, ap₂, add_comm, length-set, inl, inr}
 use Rattle.std.specs.Prelude.{slice_index, slice_set, nat_lt, if◌then◌else◌, pos, negsuc, Bool, true, false, bit_and, bit_or, Option}
 use Rattle.std.specs.Int.{w8, cast_signed}
-use mir.Val.{sel}
 use Rattle.std.proofs.lemmas.Bool.Decides.{nat_tests}
 use Rattle.std.proofs.lemmas.Nat.{and_comm, or_comm}
 use Rattle.std.proofs.lemmas.List.{set_comm}
@@ -28,18 +27,10 @@ use Rattle.mic1_interpreter.specs.Stands.{Stands}
 use Rattle.mic1_interpreter.specs.Groups.{IsOfOperands}
 use Rattle.mic1_interpreter.proofs.Shipped.{HasStatements}
 use Rattle.mic1_interpreter.proofs.Accesses.{IsMap, Access, access, next_is, write_limit, given_ok, plus_comm, byte_bound}
+use Rattle.mic1_interpreter.proofs.Numbers.{byte_word}
 use Rattle.mic1_interpreter.proofs.Keeps.{pushed, set_same, memory_set, frames_at, memory_at}
 use Rattle.mic1_interpreter.proofs.Facts.{with_operands, place, base_above, room, Top, top, Two, two, pushes, drops}
 use Rattle.mic1_interpreter.proofs.Boundaries.{Comes, comes, Counts, counts, at_boundary, map_of, moves, overruns}
-
--- a signed byte is the same word for both
-pub byte_word : (x : ℕ) → x < 256 → word_of (cast_signed w8 x) ≡ signed_byte x
-unfolding signed_byte
-byte_word x h = by_test (nat_lt x 128) refl
-  where
-    by_test : (t : Bool) → nat_lt x 128 ≡ t → word_of (sel t (pos x) (negsuc (256 - suc x))) ≡ (if t then x else x + 4294967040)
-    by_test true e = refl
-    by_test false e = let l : 128 ≤ x = grind (arith, nat_tests) in omega arith
 
 module _ (program : List ℕ) (has : HasStatements program) (o : Origin) (map : IsMap (length o.words)) (s : State) (m : Micro) (w : World) (k : ℕ) (h : Stands o s m w) (inside : s.at < 0x10000) where
   nop : byte_in o.words s.at ≡ 0x00 → Comes program o 1 (record { state = m; world = w; stalls = k }) (moved s s.running.operands (s.at + 1))

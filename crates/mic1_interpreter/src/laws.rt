@@ -9,7 +9,7 @@ ghost use Rattle.ijvm_simulation.specs.Stands.{Origin};
 ghost use Rattle.ijvm_simulation.specs.Verified.{Loads};
 ghost use Rattle.ijvm_simulation.specs.Law.{Takes};
 ghost use Rattle.mic1_interpreter.specs.Stands.{Stands};
-ghost use Rattle.mic1_interpreter.specs.Groups.{IsOfOperands, IsOfConsole, IsJump};
+ghost use Rattle.mic1_interpreter.specs.Groups.{IsOfOperands, IsOfLocals, IsOfConsole, IsJump};
 
 /// The instructions on the operands alone.
 pub(crate) fn operands_law()
@@ -27,4 +27,10 @@ pub(crate) fn consoles_law()
 pub(crate) fn jumps_law()
     ensures { (store : List ℕ) (o : Origin) (v : VerifiedView) → HasShipped Mic1 store → Loads v o →
         Takes mic1_meaning store (Stands o) o.given v o IsJump }
+{}
+
+/// The instructions that name a local or a constant.
+pub(crate) fn locals_law()
+    ensures { (store : List ℕ) (o : Origin) (v : VerifiedView) → HasShipped Mic1 store → Loads v o →
+        Takes mic1_meaning store (Stands o) o.given v o IsOfLocals }
 {}
