@@ -12,6 +12,7 @@ use Rattle.console_port.specs.World.{World, StackLimit, next_byte, read_value, u
 pub record IsMap (top : ℕ) : Type 0 where
   pub low : 0x8000 ≤ top
   pub high : top < 0x80000000
+  pub near : top ≤ 0x20000
 
 pub wrap_small : (x : ℕ) → x < 2 ^ 32 → wrap x ≡ x
 unfolding wrap

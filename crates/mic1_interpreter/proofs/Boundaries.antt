@@ -121,8 +121,8 @@ shows program o s m w h =
 -- a verified image's memory ends where a map has it
 pub map_of : (v : VerifiedView) (o : Origin) → Loads v o → IsMap (length o.words)
 map_of v o loads = elim loads.accepted.map_is [
-  | inl e ↦ let long : length o.words ≡ v.map.stack_end = loads.long in record { low = omega (arith, e); high = omega (arith, e) }
-  | inr e ↦ let long : length o.words ≡ v.map.stack_end = loads.long in record { low = omega (arith, e); high = omega (arith, e) }
+  | inl e ↦ let long : length o.words ≡ v.map.stack_end = loads.long in record { low = omega (arith, e); high = omega (arith, e); near = omega (arith, e) }
+  | inr e ↦ let long : length o.words ≡ v.map.stack_end = loads.long in record { low = omega (arith, e); high = omega (arith, e); near = omega (arith, e) }
 ]
 
 pub begins : (o : Origin) (s : State) (m : Micro) (w : World) → Stands o s m w → HasWord mic1_meaning m

@@ -11,3 +11,4 @@ pub mod Consoles
 pub mod Jumps
 pub mod Numbers
 pub mod Locals
+pub mod Calls

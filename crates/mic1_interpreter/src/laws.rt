@@ -9,7 +9,7 @@ ghost use Rattle.ijvm_simulation.specs.Stands.{Origin};
 ghost use Rattle.ijvm_simulation.specs.Verified.{Loads};
 ghost use Rattle.ijvm_simulation.specs.Law.{Takes};
 ghost use Rattle.mic1_interpreter.specs.Stands.{Stands};
-ghost use Rattle.mic1_interpreter.specs.Groups.{IsOfOperands, IsOfLocals, IsOfConsole, IsJump};
+ghost use Rattle.mic1_interpreter.specs.Groups.{IsOfOperands, IsOfLocals, IsOfConsole, IsJump, IsCall};
 
 /// The instructions on the operands alone.
 pub(crate) fn operands_law()
@@ -33,4 +33,10 @@ pub(crate) fn jumps_law()
 pub(crate) fn locals_law()
     ensures { (store : List ℕ) (o : Origin) (v : VerifiedView) → HasShipped Mic1 store → Loads v o →
         Takes mic1_meaning store (Stands o) o.given v o IsOfLocals }
+{}
+
+/// Calls and returns.
+pub(crate) fn calls_law()
+    ensures { (store : List ℕ) (o : Origin) (v : VerifiedView) → HasShipped Mic1 store → Loads v o →
+        Takes mic1_meaning store (Stands o) o.given v o IsCall }
 {}
