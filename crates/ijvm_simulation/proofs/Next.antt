@@ -123,12 +123,12 @@ module _ (v : VerifiedView) (o : Origin) (loads : Loads v o) (known : Known v) w
               let n = next s fine in
               let is : n.0 ≡ Halt = said s n.0 Halts n.1.finds.code e in
               subst (λ (c : ℕ). Stops m store IsAt o.given q c 255) (cost_is s Halt (n.1.finds.code ∙ ap Some is))
-              (law.halts s q fine (subst (λ (i : Instr). IsNext v o s i) is n.1) at);
+              (law.ends.halts s q fine (subst (λ (i : Instr). IsNext v o s i) is n.1) at);
           errs = λ s q fine at e.
               let n = next s fine in
               let is : n.0 ≡ Err = said s n.0 Errs n.1.finds.code e in
               subst (λ (c : ℕ). Stops m store IsAt o.given q c 254) (cost_is s Err (n.1.finds.code ∙ ap Some is))
-              (law.errs s q fine (subst (λ (i : Instr). IsNext v o s i) is n.1) at);
+              (law.ends.errs s q fine (subst (λ (i : Instr). IsNext v o s i) is n.1) at);
           limits = λ s left q fine at e.
               let n = next s fine in
               law.takes.limits s left q n.0 tt fine n.1 at (said s n.0 (Limits left) n.1.finds.code e);

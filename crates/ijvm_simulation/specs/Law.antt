@@ -82,12 +82,16 @@ module _ {S : Type 0} (m : Meaning S) (words : List ℕ) (IsAt : State → S →
     pub limits : (s left : State) (q : Moment S) (i : Instr) → Has i → Fine v s → IsNext v o s i → IsAt s q.state q.world →
         Overran v.image v.map.stack_end s left i → Overruns q left
 
+  -- where HALT and ERR lead
+  pub record Ends (v : VerifiedView) (o : Origin) : Type 0 where
+    pub halts : (s : State) (q : Moment S) → Fine v s → IsNext v o s Halt → IsAt s q.state q.world → Stops q (cost v.image m.machine Halt s) 0x0FF
+    pub errs : (s : State) (q : Moment S) → Fine v s → IsNext v o s Err → IsAt s q.state q.world → Stops q (cost v.image m.machine Err s) 0x0FE
+
   -- what each instruction takes, in the states that a run comes to
   pub record Law (v : VerifiedView) (o : Origin) : Type 0 where
     pub shows : (s : State) (x : S) (w : World) → IsAt s x w → Shows s x w
     pub takes : Takes v o (λ i. Unit {0})
-    pub halts : (s : State) (q : Moment S) → Fine v s → IsNext v o s Halt → IsAt s q.state q.world → Stops q (cost v.image m.machine Halt s) 0x0FF
-    pub errs : (s : State) (q : Moment S) → Fine v s → IsNext v o s Err → IsAt s q.state q.world → Stops q (cost v.image m.machine Err s) 0x0FE
+    pub ends : Ends v o
 
 -- the moment at a reset over these words, with this input left
 abbrev pub reset_moment : {S : Type 0} → Meaning S → ℕ → ℕ → Origin → List ℕ → Moment S

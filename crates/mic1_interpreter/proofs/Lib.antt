@@ -12,3 +12,5 @@ pub mod Jumps
 pub mod Numbers
 pub mod Locals
 pub mod Calls
+pub mod Ends
+pub mod Groups
