@@ -14,3 +14,4 @@ pub mod Locals
 pub mod Calls
 pub mod Ends
 pub mod Groups
+pub mod Store
