@@ -30,7 +30,7 @@ fn a_call_on_both_maps(rt: HostRuntime) -> Result<(), Fail> {
                 let board = run_image1(alloc, &image, 1000, &mut source, &mut sink)?;
                 assert_eq!(rt; board.ended(), Some(End::Halt));
                 assert_eq!(rt; board.counts().cycles, 65);
-                assert_eq!(rt; sink.bytes(), b"B");
+                assert_eq!(rt; sink.bytes(), b"B".as_slice());
             }
         }
     }
