@@ -70,6 +70,9 @@ impl Clocked for Accumulator {
 
     ghost meaning = { meaning };
 
+    // A run of the accumulator has no instructions: its boundaries are at word 0.
+    ghost IsReady = { λ entry words at s. s.mpc ≡ entry };
+
     ghost state = { cells_of };
 
     ghost phase = { phase };

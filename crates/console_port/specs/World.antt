@@ -46,10 +46,10 @@ word_refusal stack_end at = if nat_lt at stack_end then None else Some (OutOfMap
 unfoldable pub fetch_refusal : ℕ → ℕ → Option Refusal
 fetch_refusal stack_end byte = if nat_lt (byte / 4) stack_end then None else Some (OutOfMap (byte / 4))
 
--- the next input byte, or 0 where none is left
+-- the next input byte, which is the low 8 bits of what comes next, or 0 where none is left
 abbrev pub next_byte : List ℕ → ℕ
 next_byte [] = 0
-next_byte (byte ∷ bytes) = byte
+next_byte (byte ∷ bytes) = byte % 256
 
 -- What follows is of accesses that are not refused.
 

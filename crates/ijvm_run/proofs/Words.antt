@@ -5,7 +5,7 @@ use Rattle.std.specs.Int.{w8}
 use Rattle.std.specs.Int.Bits.{and_lt}
 use Rattle.std.proofs.lemmas.Nat.{or_lt}
 use Rattle.std.proofs.lemmas.Bool.Decides.{nat_tests}
-use Rattle.std.proofs.lemmas.List.Elements.{All-nil, All-cons, All-drop, All-take, All-set, All-replicate, All-get_or}
+use Rattle.std.proofs.lemmas.List.Elements.{All-nil, All-cons, All-take, All-drop, All-set, All-replicate, All-get_or}
 use Rattle.machine_words.specs.Arithmetic.{wrap, plus, minus, is_negative}
 use Rattle.console_port.specs.World.{next_byte}
 use Rattle.ijvm_instr.specs.declared.instr.Instr.{Instr}
@@ -13,7 +13,7 @@ use Rattle.ijvm_instr.specs.declared.instr.Instr.TheVariants.{Nop, Bipush, LdcW,
 use Rattle.ijvm_instr.specs.Instructions.{IsInstr, instr_at, word_of, target}
 use Rattle.ijvm_image.specs.declared.method.Method.{Method}
 use Rattle.ijvm_image.specs.Image.{ImageView, IsImage, method_at, params, others}
-use Rattle.ijvm_run.specs.Frames.{Frame, State, frames_of, base, start_of, IsWord, IsByte, HasWords, AreWords}
+use Rattle.ijvm_run.specs.Frames.{Frame, State, frames_of, base, start_of, IsWord, HasWords, AreWords}
 use Rattle.ijvm_run.specs.Step.{Outcome, Goes, Halts, Errs, Limits, Stuck, limited, moved, pushed, pushed_constant, loaded, is_own, with_local, stored, increased, popped, doubled, swapped, combined, way, branched, compared, returned, onto, called, in_method, entered, called_at, taken, read_in, given_out, step, stepped, outcome}
 use Rattle.ijvm_run.specs.Run.{Program, Point, Passes, Start, More}
 
@@ -51,7 +51,7 @@ callers s h = tail HasWords s.running s.callers h.frames
 
 -- a state with another running frame and address
 with_frame : (s : State) (f : Frame) (to : ℕ) → AreWords s → HasWords f → IsWord to → AreWords (record s { running = f; at = to })
-with_frame s f to h hf there = record { frames = All-cons HasWords f s.callers hf (callers s h); at = there; untaken = h.untaken }
+with_frame s f to h hf there = record { frames = All-cons HasWords f s.callers hf (callers s h); at = there }
 
 moved_words : (s : State) (operands : List ℕ) (to : ℕ) → AreWords s → All IsWord operands → IsWord to → AreWords (moved s operands to)
 moved_words s operands to h ops there =
@@ -147,7 +147,7 @@ returned_words s (Some back) (f ∷ fs) (y ∷ rest) h hb hf ops =
     let caller : HasWords f = head HasWords f fs hf in
     let pushed_on : HasWords (record f { operands = y ∷ f.operands }) =
     record { locals = caller.locals; operands = All-cons IsWord y f.operands (head IsWord y rest ops) caller.operands; back = caller.back } in
-    record { frames = All-cons HasWords (record f { operands = y ∷ f.operands }) fs pushed_on (tail HasWords f fs hf); at = hb; untaken = h.untaken }
+    record { frames = All-cons HasWords (record f { operands = y ∷ f.operands }) fs pushed_on (tail HasWords f fs hf); at = hb }
 
 onto_words : (ps : List ℕ) (locals : List (Option ℕ)) → All IsWord ps → All IsSet locals → All IsSet (onto ps locals)
 onto_words [] locals hp hl = hl
@@ -168,7 +168,6 @@ in_method_words s m n h there entry =
       frames = All-cons HasWords (called (take n s.running.operands) m.others (s.at + 3)) (record s.running { operands = drop (n + 1) s.running.operands } ∷ s.callers) frame
           (All-cons HasWords (record s.running { operands = drop (n + 1) s.running.operands }) s.callers caller (callers s h));
       at = entry;
-      untaken = h.untaken;
     }
 
 entered_by : (t u : Bool) (s to : State) → AreWords s → AreWords to → Keeps (if t then (if u then Goes to else Limits s) else Stuck)
@@ -193,17 +192,17 @@ method_inside text (Some entry) fits = by_test (nat_lt (entry + 4) (length text)
     by_test false e = tt
 
 taken_words : (s : State) → AreWords s → AreWords (taken s)
-taken_words s h = record { frames = h.frames; at = h.at; untaken = All-drop IsByte 1 s.untaken h.untaken }
+taken_words s h = record { frames = h.frames; at = h.at }
 
-next_word : (bytes : List ℕ) → All IsByte bytes → IsWord (next_byte bytes)
-next_word [] h = omega arith
-next_word (b ∷ bytes) h = let small : b < 256 = head IsByte b bytes h in omega arith
+next_word : (bytes : List ℕ) → IsWord (next_byte bytes)
+next_word [] = omega arith
+next_word (b ∷ bytes) = omega arith
 
 given_words : (s : State) (operands : List ℕ) → AreWords s → All IsWord operands → IsWord (s.at + 1) → Keeps (given_out s operands)
 given_words s [] h ops there = tt
 given_words s (y ∷ rest) h ops there =
     let next : AreWords (moved s rest (s.at + 1)) = moved_words s rest (s.at + 1) h (tail IsWord y rest ops) there in
-    record { frames = next.frames; at = there; untaken = h.untaken }
+    record { frames = next.frames; at = there }
 
 byte_word : (z : ℤ) → FitsSigned w8 z → IsWord (word_of z)
 byte_word (pos n) h = let small : n < 2 ^ 7 = h.sfits in omega arith
@@ -237,7 +236,7 @@ step_words image n (WideIload k) s fits pool real at h = loaded_words n s (slice
 step_words image n (WideIstore k) s fits pool real at h = stored_words s k s.running.operands (s.at + 4) h (running s h).operands (near s.at 4 at (omega arith))
 step_words image n (WideIinc k z) s fits pool real at h = increased_words s k z (slice_get s.running.locals k) (s.at + 6) h (near s.at 6 at (omega arith))
 step_words image n In s fits pool real at h =
-    pushed_words n (taken s) (next_byte s.untaken) (s.at + 1) (taken_words s h) (next_word s.untaken h.untaken) (near s.at 1 at (omega arith))
+    pushed_words n (taken s) (next_byte s.untaken) (s.at + 1) (taken_words s h) (next_word s.untaken) (near s.at 1 at (omega arith))
 step_words image n Out s fits pool real at h = given_words s s.running.operands h (running s h).operands (near s.at 1 at (omega arith))
 step_words image n Err s fits pool real at h = tt
 step_words image n Halt s fits pool real at h = tt
@@ -260,13 +259,12 @@ goes_words image n s to good reads h goes = subst Keeps goes (stepped_words imag
 pub limits_words : (image : ImageView) (n : ℕ) (s left : State) → IsImage image → Reads image → AreWords s → outcome image n s ≡ Limits left → AreWords left
 limits_words image n s left good reads h limits = subst Keeps limits (stepped_words image n s (instr_at image.text s.at) good reads refl h)
 
-pub start_words : (main_locals : ℕ) (input : List ℕ) → All IsByte input → AreWords (start_of main_locals input)
-start_words main_locals input bytes =
+pub start_words : (main_locals : ℕ) (input : List ℕ) → AreWords (start_of main_locals input)
+start_words main_locals input =
     let zero_set : IsSet (Some 0) = omega arith in
     record {
       frames = All-cons HasWords _ [] (record { locals = All-replicate IsSet main_locals (Some 0) zero_set; operands = All-nil IsWord; back = tt }) (All-nil HasWords);
       at = omega arith;
-      untaken = bytes;
     }
 
 pub passed_words : (p : Program) (bound : ℕ) (from at : Point) → IsImage p.image → Reads p.image → AreWords from.state → Passes p bound from at → AreWords at.state

@@ -69,13 +69,10 @@ abbrev pub top_of : List ℕ → Option ℕ
 top_of [] = None
 top_of (x ∷ xs) = Some x
 
--- Operands, locals and addresses are words, and the input has bytes.
+-- Operands, locals and addresses are words.
 
 abbrev pub IsWord : ℕ → Type 0
 IsWord x = x < 2 ^ 32
-
-abbrev pub IsByte : ℕ → Type 0
-IsByte x = x < 256
 
 pub record HasWords (f : Frame) : Type 0 where
   pub locals : All (λ v. IfSome v IsWord) f.locals
@@ -85,4 +82,3 @@ pub record HasWords (f : Frame) : Type 0 where
 pub record AreWords (s : State) : Type 0 where
   pub frames : All HasWords (frames_of s)
   pub at : IsWord s.at
-  pub untaken : All IsByte s.untaken

@@ -1,8 +1,8 @@
 //! What holds of every run of the definition.
 
-ghost use Rattle.std.specs.Prelude.{◌≡◌, ◌↔◌, ℕ, List, All, Some};
+ghost use Rattle.std.specs.Prelude.{◌≡◌, ◌↔◌, ℕ, List, Some};
 ghost use Rattle.ijvm_image.specs.Image.{ImageView, IsImage};
-ghost use Rattle.ijvm_run.specs.Frames.{State, AreWords, IsByte, start_of};
+ghost use Rattle.ijvm_run.specs.Frames.{State, AreWords, start_of};
 ghost use Rattle.ijvm_run.specs.Step.{Goes, Limits, outcome};
 ghost use Rattle.ijvm_run.specs.Run.{Program, Point, Finish, first_point, EndsBy, Passes, state_after};
 
@@ -16,12 +16,12 @@ pub fn runs_end_once()
     ensures states { (p : Program) (bound : ℕ) (from at : Point) → Passes p bound from at → (k : ℕ) × (state_after p.image p.stack_end k from.state ≡ Some at.state) }
 {}
 
-/// The words of every state that a run of an image comes to are words, and its input has bytes.
+/// The words of every state that a run of an image comes to are words, whatever its input is.
 pub fn runs_keep_words()
-    ensures start { (main_locals : ℕ) (input : List ℕ) → All IsByte input → AreWords (start_of main_locals input) }
+    ensures start { (main_locals : ℕ) (input : List ℕ) → AreWords (start_of main_locals input) }
     ensures goes { (image : ImageView) (stack_end : ℕ) (s to : State) → IsImage image → AreWords s → outcome image stack_end s ≡ Goes to → AreWords to }
     ensures limits { (image : ImageView) (stack_end : ℕ) (s left : State) → IsImage image → AreWords s → outcome image stack_end s ≡ Limits left → AreWords left }
-    ensures passes { (p : Program) (bound main_locals : ℕ) (input : List ℕ) (at : Point) → IsImage p.image → All IsByte input →
+    ensures passes { (p : Program) (bound main_locals : ℕ) (input : List ℕ) (at : Point) → IsImage p.image →
         Passes p bound (first_point main_locals input) at → AreWords at.state }
 {
     read_instructions_are_whole();

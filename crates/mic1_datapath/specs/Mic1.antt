@@ -1,6 +1,6 @@
 -- What Mic-1 means as a clocked machine: the microstep of the statement that a word spells.
-use Rattle.std.specs.Prelude.{ℕ, Bool, false, ◌&&◌, ◌==◌, Option, Some, None, length}
-use Rattle.console_port.specs.World.{World, Refusal}
+use Rattle.std.specs.Prelude.{◌≡◌, ℕ, Bool, true, false, ◌&&◌, ◌==◌, List, Option, Some, None, length}
+use Rattle.console_port.specs.World.{World, Refusal, byte_in}
 use Rattle.micro_word.specs.declared.statement.Placed.{Placed}
 use Rattle.machine_words.specs.declared.machine.Machine.TheVariants as machines
 use Rattle.micro_word.specs.Coding.{statement_of}
@@ -74,3 +74,13 @@ mic1_meaning =
       is_boundary = λ m. m.clocked && m.mpc == m.entry;
       address = λ m. m.pc;
     }
+
+-- what a Mic-1 has before the instruction at an address: PC there, its byte in MBR, MPC at Main1, and nothing under way
+pub record IsReady (main : ℕ) (words : List ℕ) (at : ℕ) (m : Micro) : Type 0 where
+  pub pc : m.pc ≡ at
+  pub mbr : m.mbr ≡ byte_in words at
+  pub mpc : m.mpc ≡ m.entry
+  pub entry : m.entry ≡ main
+  pub clocked : m.clocked ≡ true
+  pub word : m.word ≡ None
+  pub byte : m.byte ≡ None

@@ -85,7 +85,7 @@ impl Mic1 {
 
 impl Clocked for Mic1 {
     ghost use Rattle.mic1_datapath.specs.declared.micro.Micro.{Micro};
-    ghost use Rattle.mic1_datapath.specs.Mic1.{mic1_meaning};
+    ghost use Rattle.mic1_datapath.specs.Mic1.{mic1_meaning, IsReady as IsReadyAt};
     ghost use Rattle.mic1_datapath.specs.View.{micro_of, phase, microinstruction_of};
 
     type Word = Word1;
@@ -93,6 +93,8 @@ impl Clocked for Mic1 {
     ghost State = { Micro };
 
     ghost meaning = { mic1_meaning };
+
+    ghost IsReady = { IsReadyAt };
 
     ghost state = { micro_of };
 

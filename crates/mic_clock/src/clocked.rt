@@ -25,6 +25,9 @@ pub trait Clocked {
     /// What its calls mean.
     ghost meaning: { Meaning State };
 
+    /// Where a microprogram begins at this entry, that the instruction at a byte address of a memory comes next: a boundary is there, and nothing is under way.
+    ghost IsReady: { ℕ → List ℕ → ℕ → State → Type 0 };
+
     ghost state: { Self → State };
 
     ghost phase: { Self → Phase };

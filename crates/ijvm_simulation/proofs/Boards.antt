@@ -1,0 +1,162 @@
+-- What a board that was run over a verified image from its reset says of the run.
+use Rattle.std.proofs.Common.{◌≡◌, ℕ, List, [], ◌++◌, replicate, Option, Some, None, IfSome, Bool, true, false, refl, sym, ◌∙◌, ap, subst}
+use Rattle.std.proofs.lemmas.List.{append-nil}
+use Rattle.mic_base.specs.Streams.{Holds}
+use Rattle.console_port.specs.World.{World}
+use Rattle.console_port.specs.Bus.{Shows}
+use Rattle.console_port.specs.Console.{Untaken, Given}
+use Rattle.console_port.specs.Loading.{IsLoaded}
+use Rattle.mic_clock.specs.Meaning.{Meaning}
+use Rattle.mic_clock.specs.View.{BoardView}
+use Rattle.mic_clock.specs.declared.end.End.{End}
+use Rattle.mic_clock.specs.Run.{MicroRun, turns}
+use Rattle.mic_clock.specs.Board.{ShowsRun, IsLedTo, Leads, IsCutByRead as IsReadCut, IsCutByWrite as IsCut}
+use Rattle.ijvm_image.specs.Image.{IsImage}
+use Rattle.ijvm_paths.specs.Accepted.{VerifiedView, IsAccepted}
+use Rattle.ijvm_simulation.specs.Simulates.{IsEnd}
+use Rattle.ijvm_simulation.specs.Law.{Grows}
+use Rattle.ijvm_simulation.specs.Headline.{told_of, reset_run, Begins, HasRun, IsCutByRead, IsCutByWrite}
+use Rattle.ijvm_simulation.proofs.Next.{Known}
+use Rattle.ijvm_simulation.proofs.Carried.{Promises, simulated}
+use Rattle.ijvm_simulation.proofs.Worlds.{same_end, front_of_end}
+
+-- some bytes that may be untaken
+abbrev pub rest_of : Option (List ℕ) → Bool → List ℕ
+rest_of left true = []
+rest_of left false = told_of left
+
+pub rest_fits : (left : Option (List ℕ)) (ended : Bool) → Untaken left ended (rest_of left ended)
+rest_fits left true = refl
+rest_fits None false = tt
+rest_fits (Some l) false = refl
+
+given_told : (held : Option (List ℕ)) → Given held [] (told_of held)
+given_told None = tt
+given_told (Some h) = sym (append-nil h)
+
+holds_told : (held : Option (List ℕ)) → Holds (told_of held) held
+holds_told None = tt
+holds_told (Some h) = ([], sym (append-nil h))
+
+-- what the sink holds, where all that was given was put
+all_put : (held : Option (List ℕ)) (kept given given' : List ℕ) → kept ≡ [] → given ≡ given' → Given held kept given → IfSome held (λ h. h ≡ given')
+all_put None kept given given' e same g = tt
+all_put (Some h) kept given given' e same g = sym (append-nil h) ∙ (ap (λ (k : List ℕ). h ++ k) (sym e) ∙ (sym g ∙ same))
+
+-- where it holds a front of them
+front_put : (held : Option (List ℕ)) (before given : List ℕ) → Holds before held → IfSome held (λ h. (more : List ℕ) × (given ≡ h ++ more)) → IfSome held (λ h. Grows before h × Grows h given)
+front_put None before given kept front = tt
+front_put (Some h) before given kept front = (record { more = kept.0; are = kept.1 }, record { more = front.0; are = front.1 })
+
+-- a board at its reset over an image
+pub record Starts {M S : Type 0} (state : M → S) (m : Meaning S) (entry : ℕ) (v : VerifiedView) (board : BoardView M) : Type 0 where
+  pub start : (left held : Option (List ℕ)) (w : World) → Shows left held board.bus w → ShowsRun state left held board (reset_run m entry v.main_locals w)
+  pub loaded : IsLoaded v.image.text v.image.pool (replicate v.map.stack_end 0) board.bus.words
+  pub kept : board.bus.console.kept ≡ []
+  pub input : board.bus.console.ended ≡ false
+
+module _ {M S : Type 0} (state : M → S) (m : Meaning S) (IsReady : ℕ → List ℕ → ℕ → S → Type 0) (IsShipped : List ℕ → Type 0) (entry : ℕ) (promises : Promises m IsReady IsShipped entry)
+    (v : VerifiedView) (image : IsImage v.image) (accepted : IsAccepted v) (known : Known v) (bound : ℕ) (left held left' held' : Option (List ℕ)) (board0 board : BoardView M) (s : Starts state m entry v board0) (has : IsShipped board.store.words) where
+  abbrev Here : Type 0
+  Here = Begins state m IsReady IsShipped entry v bound board.store.words left (told_of held)
+
+  -- the bytes that were left when the run began
+  untaken_at : (input : List ℕ) → Untaken left board0.bus.console.ended input → Untaken left false input
+  untaken_at input h = subst (λ (e : Bool). Untaken left e input) s.input h
+
+  abbrev begins : (input : List ℕ) → Untaken left false input → Here
+  begins input told =
+      let sim = simulated v image accepted board0.bus.words s.loaded (told_of held) m IsReady IsShipped entry promises known board.store.words has bound input in
+      record { shipped = has; words = board0.bus.words; loaded = s.loaded; input = input; told = told; simulates = sim; finish = sim.finishes.0; finishes = sim.finishes.1 }
+
+  abbrev world : List ℕ → World
+  world input = record { words = board0.bus.words; untaken = input; given = told_of held }
+
+  abbrev after : ℕ → List ℕ → MicroRun S
+  after n input = turns m board.store.words (Some bound) n (reset_run m entry v.main_locals (world input))
+
+  shown : (input : List ℕ) → Untaken left board0.bus.console.ended input → ShowsRun state left held board0 (reset_run m entry v.main_locals (world input))
+  shown input h =
+      s.start left held (world input)
+      (record { words = refl; untaken = h; given = subst (λ (k : List ℕ). Given held k (told_of held)) (sym s.kept) (given_told held) })
+
+  -- what has been given at a moment is a front of the definition's output
+  front : (b : Here) (n : ℕ) → Grows (turns m board.store.words (Some bound) n (reset_run m entry v.main_locals (record { words = b.words; untaken = b.input; given = told_of held }))).world.given (told_of held ++ b.finish.left.given)
+  front b n =
+      let end = b.simulates.ends b.finish b.finishes in
+      subst (λ (all : List ℕ). Grows (turns m board.store.words (Some bound) n (reset_run m entry v.main_locals (record { words = b.words; untaken = b.input; given = told_of held }))).world.given all) end.1.given
+      (front_of_end m promises.grows board.store.words bound n end.0 _ (reset_run m entry v.main_locals (record { words = b.words; untaken = b.input; given = told_of held })) end.1.end)
+
+  pub has_run : (e : End) → board.end ≡ Some e → board.bus.console.kept ≡ [] →
+      IsLedTo state left held board0 left' board
+      (λ r rest. (n : ℕ) × Leads state m board.store.words (Some bound) board board0.buses rest n r (ShowsRun state left' held' board)) →
+      HasRun state m IsReady IsShipped entry v bound left held left' held' board
+  has_run e ended kept led =
+      let rest : List ℕ = rest_of left' board.bus.console.ended in
+      let l = led rest (rest_fits left' board.bus.console.ended) in
+      let input : List ℕ = l.0 in
+      let b : Here = begins input (untaken_at input l.1) in
+      let to = l.2 (reset_run m entry v.main_locals (world input)) (shown input l.1) refl in
+      let n : ℕ = to.0 in
+      let here : ShowsRun state left' held' board (after n input) = to.1.here in
+      let end = b.simulates.ends b.finish b.finishes in
+      let same : after n input ≡ after end.0 input = same_end m board.store.words bound n end.0 e _ (reset_run m entry v.main_locals (world input)) (here.its_end ∙ ended) end.1.end in
+      let agrees : IsEnd (told_of held) b.finish (after n input) = subst (λ (r : MicroRun S). IsEnd (told_of held) b.finish r) (sym same) end.1 in
+      record {
+        begins = b;
+        n = n;
+        at = record { its_state = here.its_state; memory = here.world.words; counts = here.counts; untaken = here.world.untaken };
+        end = here.its_end;
+        agrees = agrees;
+        untaken = subst (λ (u : List ℕ). Untaken left' board.bus.console.ended u) agrees.untaken here.world.untaken;
+        given = all_put held' board.bus.console.kept (after n input).world.given (told_of held ++ b.finish.left.given) kept agrees.given here.world.given;
+      }
+
+  pub is_cut_by_read :
+      IsLedTo state left held board0 left' board
+      (λ r rest. (n : ℕ) × Leads state m board.store.words (Some bound) board board0.buses rest n r (IsReadCut state m board.store.words (Some bound) left' held' board)) →
+      IsCutByRead state m IsReady IsShipped entry v bound left held left' held' board
+  is_cut_by_read led =
+      let rest : List ℕ = rest_of left' board.bus.console.ended in
+      let l = led rest (rest_fits left' board.bus.console.ended) in
+      let input : List ℕ = l.0 in
+      let b : Here = begins input (untaken_at input l.1) in
+      let to = l.2 (reset_run m entry v.main_locals (world input)) (shown input l.1) refl in
+      let n : ℕ = to.0 in
+      let here : IsReadCut state m board.store.words (Some bound) left' held' board (after n input) = to.1.here in
+      record {
+        begins = b;
+        n = n;
+        at = record { its_state = here.its_state; memory = here.world.words; counts = here.counts; untaken = here.world.untaken };
+        next = here.next;
+        reads = here.reads;
+        given = all_put held' board.bus.console.kept (after n input).world.given (after n input).world.given here.kept refl here.world.given;
+        front = front b n;
+      }
+
+  pub is_cut_by_write : ((front : List ℕ) → Holds front held → Holds front held') →
+      IsLedTo state left held board0 left' board
+      (λ r rest. (n : ℕ) × Leads state m board.store.words (Some bound) board board0.buses rest n r (IsCut state m board.store.words (Some bound) left' held' board)) →
+      IsCutByWrite state m IsReady IsShipped entry v bound left held left' held' board
+  is_cut_by_write keeps led =
+      let rest : List ℕ = rest_of left' board.bus.console.ended in
+      let l = led rest (rest_fits left' board.bus.console.ended) in
+      let input : List ℕ = l.0 in
+      let b : Here = begins input (untaken_at input l.1) in
+      let to = l.2 (reset_run m entry v.main_locals (world input)) (shown input l.1) refl in
+      let n : ℕ = to.0 in
+      let here : IsCut state m board.store.words (Some bound) left' held' board (after n input) = to.1.here in
+      record {
+        begins = b;
+        n = n;
+        at = record { its_state = here.its_state; memory = here.memory; counts = here.counts; untaken = here.untaken };
+        next = here.next;
+        given = front_put held' (told_of held) (after n input).world.given (keeps (told_of held) (holds_told held)) here.front;
+        front = front b n;
+      }
+
+-- an image by its parts
+pub image_by_parts : (v : VerifiedView) (text pool : List ℕ) → text ≡ v.image.text → pool ≡ v.image.pool → IsImage (record { text = text; pool = pool }) → IsImage v.image
+image_by_parts v text pool e f h =
+    let same : record { text = text; pool = pool } ≡ v.image = λ i. record { text = e i; pool = f i } in
+    subst IsImage same h

@@ -1,0 +1,62 @@
+-- From the reset of a machine over a loaded image to its end: the machine's promises carry its whole run.
+use Rattle.std.proofs.Common.{◌≡◌, ℕ, zero, suc, ◌+◌, ◌<◌, ◌≤◌, List, length, replicate, refl, arith, sym, ◌∙◌, inl, inr}
+use Rattle.std.specs.Prelude.{slice_index}
+use Rattle.std.proofs.lemmas.List.{length-replicate}
+use Rattle.console_port.specs.World.{World}
+use Rattle.console_port.specs.Loading.{IsLoaded}
+use Rattle.mic_clock.specs.Meaning.{Meaning}
+use Rattle.ijvm_image.specs.Image.{IsImage}
+use Rattle.ijvm_run.specs.Frames.{start_of}
+use Rattle.ijvm_run.specs.Run.{first_point}
+use Rattle.ijvm_paths.specs.Accepted.{VerifiedView, IsAccepted}
+use Rattle.ijvm_simulation.specs.Stands.{Origin, IsAt}
+use Rattle.ijvm_simulation.specs.Verified.{program, Loads, Fine}
+use Rattle.ijvm_simulation.specs.Law.{Law, Boots, reset_moment, OnDone, Grows}
+use Rattle.ijvm_simulation.specs.Simulates.{Simulates}
+use Rattle.ijvm_simulation.specs.Headline.{reset_run}
+use Rattle.ijvm_simulation.proofs.Instruction.{Law as BoundaryLaw}
+use Rattle.ijvm_simulation.proofs.Next.{Known, fine_start, keeps, boundary_law}
+use Rattle.ijvm_simulation.proofs.Boots.{booted, quiet}
+use Rattle.ijvm_simulation.proofs.Whole.{simulates}
+
+-- what a machine promises
+pub record Promises {S : Type 0} (m : Meaning S) (IsReady : ℕ → List ℕ → ℕ → S → Type 0) (IsShipped : List ℕ → Type 0) (entry : ℕ) : Type 0 where
+  pub law : (store : List ℕ) (o : Origin) (v : VerifiedView) → IsShipped store → Loads v o → Law m store (IsAt m IsReady entry o) o.given v o
+  pub boots : (store : List ℕ) (o : Origin) (v : VerifiedView) (input : List ℕ) → IsShipped store → Loads v o →
+      Boots m store (IsAt m IsReady entry o) o.given (reset_moment m entry v.main_locals o input) (start_of v.main_locals input)
+  pub grows : (word : ℕ) (s : S) (w : World) → OnDone (λ (u : World). Grows w.given u.given) (m.step word s w)
+
+zero_word : (n k : ℕ) → slice_index (replicate n 0) k ≡ 0
+zero_word zero k = refl
+zero_word (suc n) zero = refl
+zero_word (suc n) (suc k) = zero_word n k
+
+module _ (v : VerifiedView) (image : IsImage v.image) (accepted : IsAccepted v) (words : List ℕ) (loaded : IsLoaded v.image.text v.image.pool (replicate v.map.stack_end 0) words) (before : List ℕ) where
+  abbrev pub origin : Origin
+  origin = record { words = words; given = before }
+
+  pub loads : Loads v origin
+  loads =
+      let text_fits : length v.image.text ≤ 65536 = image.limits.text_fits in
+      let pool_fits : length v.image.pool ≤ 16384 = image.limits.pool_fits in
+      record {
+        accepted = accepted;
+        image = image;
+        bytes = λ b l. loaded.text_bytes b (omega arith);
+        pool = loaded.pool_words;
+        zeros = λ k l. loaded.others (0x8000 + k) (omega arith) (inr (omega arith)) ∙ zero_word v.map.stack_end (0x8000 + k);
+        long = loaded.size ∙ length-replicate {A = ℕ} v.map.stack_end 0;
+      }
+
+  module _ {S : Type 0} (m : Meaning S) (IsReady : ℕ → List ℕ → ℕ → S → Type 0) (IsShipped : List ℕ → Type 0) (entry : ℕ) (promises : Promises m IsReady IsShipped entry) (known : Known v) where
+    pub simulated : (store : List ℕ) (has : IsShipped store) (bound : ℕ) (input : List ℕ) →
+        Simulates m (IsAt m IsReady entry origin) store bound (program m.machine v) (first_point v.main_locals input) before
+        (reset_run m entry v.main_locals (record { words = words; untaken = input; given = before }))
+    simulated store has bound input =
+        let law : Law m store (IsAt m IsReady entry origin) before v origin = promises.law store origin v has loads in
+        let each : BoundaryLaw m store (IsAt m IsReady entry origin) before (program m.machine v) (Fine v) = boundary_law v origin loads known m store (IsAt m IsReady entry origin) law in
+        let b : Boots m store (IsAt m IsReady entry origin) before (reset_moment m entry v.main_locals origin input) (start_of v.main_locals input) = promises.boots store origin v input has loads in
+        simulates m store (IsAt m IsReady entry origin) before (program m.machine v) (Fine v) each (keeps v m.machine known) bound (first_point v.main_locals input)
+        (reset_run m entry v.main_locals (record { words = words; untaken = input; given = before }))
+        (booted m store (IsAt m IsReady entry origin) entry v.main_locals origin input b law.shows bound) (fine_start v known input)
+        (quiet m store (IsAt m IsReady entry origin) entry v.main_locals origin input b law.shows bound)

@@ -1,0 +1,257 @@
+-- What one instruction takes of a machine, and how a run goes on from a boundary or ends behind it.
+use Rattle.std.proofs.Common.{◌≡◌, ℕ, zero, suc, ◌+◌, ◌<◌, Bool, true, false, Option, Some, None, List, refl, arith, sym, ◌∙◌, ap, ap₂, subst, inl, inr}
+use Rattle.std.specs.Prelude.{nat_le, ◌==◌, is_some}
+use Rattle.std.proofs.lemmas.Bool.Decides.{nat_tests}
+use Rattle.std.proofs.lemmas.Bool.{cases_lt}
+use Rattle.console_port.specs.World.{World, StackLimit}
+use Rattle.mic_clock.specs.declared.counts.Boundary.{Boundary}
+use Rattle.mic_clock.specs.declared.counts.Counts.{Counts}
+use Rattle.mic_clock.specs.declared.end.End.{End}
+use Rattle.mic_clock.specs.declared.end.End.TheVariants as clocked
+use Rattle.mic_clock.specs.Meaning.{Meaning, Refused}
+use Rattle.mic_clock.specs.Run.{MicroRun, turn, turn_by, turns, bounded, stepped, gone, end_before, completes, last_cycles, number_of}
+use Rattle.ijvm_run.specs.declared.run.RunEnd.{RunEnd}
+use Rattle.ijvm_run.specs.declared.run.RunEnd.TheVariants as defined
+use Rattle.ijvm_run.specs.Frames.{State}
+use Rattle.ijvm_run.specs.Step.{Outcome, Goes, Halts, Errs, Limits, Stuck, outcome}
+use Rattle.ijvm_run.specs.Cost.{next_cost}
+use Rattle.ijvm_run.specs.Run.{Program, Point, Finish, point_after, finish_from, after_test, after_outcome, completed, stopped}
+use Rattle.ijvm_simulation.specs.Simulates.{point_at, below, going_on, end_of, IsBoundary, IsEnd}
+use Rattle.ijvm_simulation.specs.Passes.{Moment, pass}
+use Rattle.ijvm_simulation.specs.Law.{HasWord, Moves, Stops, StopsHere, StopsBehind, Overruns, Shows}
+use Rattle.ijvm_simulation.proofs.Passes.{not_boundary}
+use Rattle.ijvm_simulation.proofs.Turns.{moment_of, run_inside, run_at, IsReady, ready_inside, whole_turn, turns-add, ending_turn, clocks, pass_turns, pass_turns_inside, Shorter, shorter}
+
+-- what the states of a run have in common: each is one before it that goes on, and none is stuck
+pub record Keeps (p : Program) (Fine : State → Type 0) : Type 0 where
+  pub stays : (s to : State) → Fine s → outcome p.image p.stack_end s ≡ Goes to → Fine to
+  pub unstuck : (s : State) → Fine s → outcome p.image p.stack_end s ≡ Stuck → ⊥
+
+-- what each instruction of a program takes, in the states that its run comes to
+pub record Law {S : Type 0} (m : Meaning S) (words : List ℕ) (IsAt : State → S → World → Type 0) (before : List ℕ) (p : Program) (Fine : State → Type 0) : Type 0 where
+  pub shows : (s : State) (x : S) (w : World) → IsAt s x w → Shows m words IsAt before s x w
+  pub goes : (s to : State) (q : Moment S) → Fine s → IsAt s q.state q.world → outcome p.image p.stack_end s ≡ Goes to →
+      Moves m words IsAt before q (next_cost p.image p.machine s) to
+  pub halts : (s : State) (q : Moment S) → Fine s → IsAt s q.state q.world → outcome p.image p.stack_end s ≡ Halts →
+      Stops m words IsAt before q (next_cost p.image p.machine s) 255
+  pub errs : (s : State) (q : Moment S) → Fine s → IsAt s q.state q.world → outcome p.image p.stack_end s ≡ Errs →
+      Stops m words IsAt before q (next_cost p.image p.machine s) 254
+  pub limits : (s left : State) (q : Moment S) → Fine s → IsAt s q.state q.world → outcome p.image p.stack_end s ≡ Limits left →
+      Overruns m words IsAt before q left
+
+module _ {S : Type 0} (m : Meaning S) (words : List ℕ) (IsAt : State → S → World → Type 0) (before : List ℕ) (p : Program) (Fine : State → Type 0)
+    (law : Law m words IsAt before p Fine) (keep : Keeps p Fine) (bound : ℕ) (at : Point) (r : MicroRun S) (h : IsBoundary IsAt at r) (fine : Fine at.state) where
+  ready : nat_le bound at.cycles ≡ false → HasWord m r.state → IsReady m bound r
+  ready t begins =
+      let e : nat_le bound r.counts.cycles ≡ false = ap (nat_le bound) h.cycles ∙ t in
+      record { no_bound = grind (arith, nat_tests); no_halt = begins.no_halt; no_err = begins.no_err; going = h.going }
+
+  near : (n : ℕ) → n < 1024 → r.counts.cycles + n < last_cycles r.counts.boundary + 1024
+  near n l =
+      let e : last_cycles r.counts.boundary ≡ at.cycles = ap last_cycles h.boundary in
+      omega (arith, h.cycles)
+
+  -- the boundary behind an instruction that goes on
+  pub record Moved (to : State) : Type 0 where
+    pub k : ℕ
+    pub spent : next_cost p.image p.machine at.state ≡ k
+    pub some : 0 < k
+    pub is : IsBoundary IsAt (point_after p at to) (turns m words (Some bound) k r)
+    pub inside : (j : ℕ) → 0 < j → j < k → m.is_boundary (turns m words (Some bound) j r).state ≡ false
+
+  -- no boundary is inside a pass
+  inside_pass : (n : ℕ) (q : Moment S) → nat_le bound at.cycles ≡ false → HasWord m r.state → n < 1024 → pass m words n (moment_of r) ≡ Some q →
+      (j : ℕ) → 0 < j → j < suc n → m.is_boundary (turns m words (Some bound) j r).state ≡ false
+  inside_pass n q t begins short passes zero pos l = absurd (omega arith)
+  inside_pass n q t begins short passes (suc j) pos l =
+      let lt : j < n = omega arith in
+      let s : Shorter m words bound j (moment_of r) = shorter m words bound n j (moment_of r) q lt passes in
+      let off : m.is_boundary s.to.state ≡ false = not_boundary m s.to.state s.inside in
+      let e : turns m words (Some bound) (suc j) r ≡ run_inside m r (r.counts.cycles + j + 1) s.to =
+      pass_turns_inside m words bound j r s.to (r.counts.cycles + j + 1) refl (ready t begins) (near j (omega arith)) s.passes off in
+      ap (λ (x : MicroRun S). m.is_boundary x.state) e ∙ off
+
+  pub moved : (to : State) → nat_le bound at.cycles ≡ false → outcome p.image p.stack_end at.state ≡ Goes to → Moved to
+  moved to t goes =
+      let v : Moves m words IsAt before (moment_of r) (next_cost p.image p.machine at.state) to = law.goes at.state to (moment_of r) fine h.stands goes in
+      let shows : Shows m words IsAt before to v.there.state v.there.world = law.shows to v.there.state v.there.world v.stands in
+      let c : ℕ = r.counts.cycles + v.n + 1 in
+      let e : turns m words (Some bound) (suc v.n) r ≡ run_at m r c v.there =
+      pass_turns m words bound v.n r v.there c refl (ready t v.begins) (near v.n v.short) v.passes shows.boundary in
+      let cycles : c ≡ at.cycles + next_cost p.image p.machine at.state = omega (arith, v.spent_is, h.cycles) in
+      record {
+        k = suc v.n;
+        spent = v.spent_is ∙ omega arith;
+        some = omega arith;
+        is = subst (λ (x : MicroRun S). IsBoundary IsAt (point_after p at to) x) (sym e)
+            (record {
+              stands = v.stands;
+              cycles = cycles;
+              instructions = ap₂ (λ (i : ℕ) (b : Option Boundary). i + number_of (is_some b)) h.instructions h.boundary;
+              boundary = λ i. Some (record { cycles = cycles i; at = shows.address i; sp = shows.sp i; lv = shows.lv i });
+              going = refl;
+            });
+        inside = inside_pass v.n v.there t v.begins v.short v.passes;
+      }
+
+  -- the run ends behind this boundary, where the definition's does
+  pub record Ended (f : Finish) : Type 0 where
+    pub k : ℕ
+    pub some : 0 < k
+    pub is : IsEnd before f (turns m words (Some bound) k r)
+    pub quiet : (j : ℕ) → 0 < j → j < k → m.is_boundary (turns m words (Some bound) j r).state ≡ false
+
+  shown : Shows m words IsAt before at.state r.state r.world
+  shown = law.shows at.state r.state r.world h.stands
+
+  -- by the bound
+  pub bounds : nat_le bound at.cycles ≡ true → Ended (stopped at defined.Bound at.state)
+  bounds t =
+      let e1 : r.end ≡ None = h.going in
+      let e2 : m.is_boundary r.state ≡ true = shown.boundary in
+      let e3 : nat_le bound r.counts.cycles ≡ true = ap (nat_le bound) h.cycles ∙ t in
+      let e : bounded m (Some bound) r ≡ record r { end = Some clocked.Bound } = rw (e1, e2, e3) in
+      record {
+        k = 1;
+        some = omega arith;
+        is = subst (λ (x : MicroRun S). IsEnd before (stopped at defined.Bound at.state) x) (sym (ap (turn m words) e))
+            (record { end = refl; cycles = λ ne. h.cycles; instructions = h.instructions; boundary = h.boundary; untaken = shown.untaken; given = shown.given });
+        quiet = λ j pos l. absurd (omega arith);
+      }
+
+  -- by HALT or ERR
+  stops_behind : (mpc : ℕ) (e : End) (f : Finish) (v : StopsBehind m words IsAt before (moment_of r) (next_cost p.image p.machine at.state) mpc) → nat_le bound at.cycles ≡ false →
+      end_before m v.there.state (run_inside m r (r.counts.cycles + v.n + 1) v.there).counts ≡ Some e →
+      IsEnd before f (gone m words (Some e) (run_inside m r (r.counts.cycles + v.n + 1) v.there)) → Ended f
+  stops_behind mpc e f v t ending is =
+      let q : MicroRun S = run_inside m r (r.counts.cycles + v.n + 1) v.there in
+      let first : turns m words (Some bound) (suc v.n) r ≡ q =
+      pass_turns_inside m words bound v.n r v.there (r.counts.cycles + v.n + 1) refl (ready t v.begins) (near v.n (omega (arith, v.short))) v.passes v.off in
+      let whole : turns m words (Some bound) (suc v.n + 1) r ≡ gone m words (Some e) q =
+      turns-add m words bound (suc v.n) 1 r ∙ (ap (whole_turn m words bound) first ∙ ending_turn m words bound q e refl v.off ending) in
+      record {
+        k = suc v.n + 1;
+        some = omega arith;
+        is = subst (λ (x : MicroRun S). IsEnd before f x) (sym whole) is;
+        quiet = λ j pos l. elim (cases_lt j (suc v.n)) [
+          | inl low ↦ inside_pass v.n v.there t v.begins (omega (arith, v.short)) v.passes j pos low
+          | inr high ↦
+              let here : j ≡ suc v.n = omega arith in
+              ap (λ (i : ℕ). m.is_boundary (turns m words (Some bound) i r).state) here ∙ (ap (λ (x : MicroRun S). m.is_boundary x.state) first ∙ v.off)
+        ];
+      }
+
+  -- what is counted where an instruction ends the run
+  completed_behind : (mpc : ℕ) (e : RunEnd) (v : StopsBehind m words IsAt before (moment_of r) (next_cost p.image p.machine at.state) mpc) → completes (end_of e) ≡ true →
+      IsEnd before (completed p at e) (gone m words (Some (end_of e)) (run_inside m r (r.counts.cycles + v.n + 1) v.there))
+  completed_behind mpc e v t =
+      record {
+        end = refl;
+        cycles = λ ne. omega (arith, v.spent_is, h.cycles);
+        instructions = rw t (ap₂ (λ (i : ℕ) (b : Option Boundary). i + number_of (is_some b)) h.instructions h.boundary);
+        boundary = h.boundary;
+        untaken = ap (λ (w : World). w.untaken) v.world ∙ shown.untaken;
+        given = ap (λ (w : World). w.given) v.world ∙ shown.given;
+      }
+
+  -- the clock ends the run here
+  stops_here : (mpc : ℕ) (e : RunEnd) (v : StopsHere m words IsAt before (moment_of r) (next_cost p.image p.machine at.state) mpc) → nat_le bound at.cycles ≡ false →
+      end_before m r.state r.counts ≡ Some (end_of e) → completes (end_of e) ≡ true → Ended (completed p at e)
+  stops_here mpc e v t ending done =
+      let e1 : r.end ≡ None = h.going in
+      let e2 : m.is_boundary r.state ≡ true = shown.boundary in
+      let e3 : nat_le bound r.counts.cycles ≡ false = ap (nat_le bound) h.cycles ∙ t in
+      let same : bounded m (Some bound) r ≡ r = rw (e1, e2, e3) in
+      let last : whole_turn m words bound r ≡ gone m words (Some (end_of e)) r =
+      ap (turn m words) same ∙ (ap (λ (x : Option End). turn_by m words x r) e1 ∙ ap (λ (x : Option End). gone m words x r) ending) in
+      record {
+        k = 1;
+        some = omega arith;
+        is = subst (λ (x : MicroRun S). IsEnd before (completed p at e) x) (sym last)
+            (record {
+              end = refl;
+              cycles = λ ne. omega (arith, v.spent_is, h.cycles);
+              instructions = rw done (ap₂ (λ (i : ℕ) (b : Option Boundary). i + number_of (is_some b)) h.instructions h.boundary);
+              boundary = h.boundary;
+              untaken = shown.untaken;
+              given = shown.given;
+            });
+        quiet = λ j pos l. absurd (omega arith);
+      }
+
+  stops : (mpc : ℕ) (e : RunEnd) (v : Stops m words IsAt before (moment_of r) (next_cost p.image p.machine at.state) mpc) → nat_le bound at.cycles ≡ false →
+      ((x : S) (c : Counts) → (m.registers x).mpc ≡ mpc → end_before m x c ≡ Some (end_of e)) → completes (end_of e) ≡ true → Ended (completed p at e)
+  stops mpc e (inl v) t ending done = stops_here mpc e v t (ending r.state r.counts v.mpc_is) done
+  stops mpc e (inr v) t ending done =
+      stops_behind mpc (end_of e) (completed p at e) v t (ending v.there.state (run_inside m r (r.counts.cycles + v.n + 1) v.there).counts v.mpc_is) (completed_behind mpc e v done)
+
+  pub halts : nat_le bound at.cycles ≡ false → outcome p.image p.stack_end at.state ≡ Halts → Ended (completed p at defined.Halt)
+  halts t o = stops 255 defined.Halt (law.halts at.state (moment_of r) fine h.stands o) t ends_by refl
+    where
+      ends_by : (x : S) (c : Counts) → (m.registers x).mpc ≡ 255 → end_before m x c ≡ Some clocked.Halt
+      ends_by x c is = let at_halt : ((m.registers x).mpc == 255) ≡ true = ap (λ (i : ℕ). i == 255) is in rw at_halt
+
+  pub errs : nat_le bound at.cycles ≡ false → outcome p.image p.stack_end at.state ≡ Errs → Ended (completed p at defined.Err)
+  errs t o = stops 254 defined.Err (law.errs at.state (moment_of r) fine h.stands o) t ends_by refl
+    where
+      ends_by : (x : S) (c : Counts) → (m.registers x).mpc ≡ 254 → end_before m x c ≡ Some clocked.Err
+      ends_by x c is =
+          let not_halt : ((m.registers x).mpc == 255) ≡ false = ap (λ (i : ℕ). i == 255) is in
+          let at_err : ((m.registers x).mpc == 254) ≡ true = ap (λ (i : ℕ). i == 254) is in
+          rw (not_halt, at_err)
+
+  -- by the stack limit
+  pub limits : (left : State) → nat_le bound at.cycles ≡ false → outcome p.image p.stack_end at.state ≡ Limits left → Ended (stopped at defined.StackLimit left)
+  limits left t o =
+      let v : Overruns m words IsAt before (moment_of r) left = law.limits at.state left (moment_of r) fine h.stands o in
+      let q : MicroRun S = run_inside m r (r.counts.cycles + v.n + 1) v.there in
+      let off : m.is_boundary v.there.state ≡ false = not_boundary m v.there.state v.inside in
+      let first : turns m words (Some bound) (suc v.n) r ≡ q =
+      pass_turns_inside m words bound v.n r v.there (r.counts.cycles + v.n + 1) refl (ready t v.begins) (near v.n (omega (arith, v.short))) v.passes off in
+      let nearby : r.counts.cycles + v.n + 1 < last_cycles r.counts.boundary + 1024 = omega (arith, near (v.n + 1) (omega (arith, v.short))) in
+      let last : whole_turn m words bound q ≡ stepped m words q (Refused (StackLimit v.at)) =
+      clocks m words bound q (Refused (StackLimit v.at)) (ready_inside m words bound r v.there (r.counts.cycles + v.n + 1) v.inside) nearby v.refused in
+      let whole : turns m words (Some bound) (suc v.n + 1) r ≡ stepped m words q (Refused (StackLimit v.at)) =
+      turns-add m words bound (suc v.n) 1 r ∙ (ap (whole_turn m words bound) first ∙ last) in
+      record {
+        k = suc v.n + 1;
+        some = omega arith;
+        is = subst (λ (x : MicroRun S). IsEnd before (stopped at defined.StackLimit left) x) (sym whole)
+            (record { end = refl; cycles = λ ne. absurd (ne refl); instructions = h.instructions; boundary = h.boundary; untaken = v.untaken; given = v.given });
+        quiet = λ j pos l. elim (cases_lt j (suc v.n)) [
+          | inl low ↦ inside_pass v.n v.there t v.begins (omega (arith, v.short)) v.passes j pos low
+          | inr high ↦
+              let here : j ≡ suc v.n = omega arith in
+              ap (λ (i : ℕ). m.is_boundary (turns m words (Some bound) i r).state) here ∙ (ap (λ (x : MicroRun S). m.is_boundary x.state) first ∙ off)
+        ];
+      }
+
+  -- how both runs go on from here, or end
+  pub data Turnout : Type 0 where
+    On : (to : State) → Fine to → ((n : ℕ) → finish_from p bound (suc n) at ≡ finish_from p bound n (point_after p at to)) →
+        ((i : ℕ) → point_at p bound (suc i) at ≡ point_at p bound i (point_after p at to)) → Moved to → Turnout
+    Over : (f : Finish) → ((n : ℕ) → finish_from p bound (suc n) at ≡ Some f) → ((i : ℕ) → point_at p bound (suc i) at ≡ None) → Ended f → Turnout
+
+  finish_is : nat_le bound at.cycles ≡ false → (n : ℕ) → {out : Outcome} → outcome p.image p.stack_end at.state ≡ out →
+      finish_from p bound (suc n) at ≡ after_outcome (finish_from p bound n) p at out
+  finish_is t n o = ap (after_test (finish_from p bound n) p at) t ∙ ap (after_outcome (finish_from p bound n) p at) o
+
+  point_is : nat_le bound at.cycles ≡ false → (i : ℕ) → {out : Outcome} → outcome p.image p.stack_end at.state ≡ out →
+      point_at p bound (suc i) at ≡ going_on (point_at p bound i) p at out
+  point_is t i o = ap (below (point_at p bound i) p at) t ∙ ap (going_on (point_at p bound i) p at) o
+
+  by_outcome : nat_le bound at.cycles ≡ false → (out : Outcome) → outcome p.image p.stack_end at.state ≡ out → Turnout
+  by_outcome t (Goes to) o =
+      On to (keep.stays at.state to fine o) (λ n. finish_is t n o) (λ i. point_is t i o) (moved to t o)
+  by_outcome t Halts o = Over (completed p at defined.Halt) (λ n. finish_is t n o) (λ i. point_is t i o) (halts t o)
+  by_outcome t Errs o = Over (completed p at defined.Err) (λ n. finish_is t n o) (λ i. point_is t i o) (errs t o)
+  by_outcome t (Limits left) o = Over (stopped at defined.StackLimit left) (λ n. finish_is t n o) (λ i. point_is t i o) (limits left t o)
+  by_outcome t Stuck o = absurd (keep.unstuck at.state fine o)
+
+  by_test : (b : Bool) → nat_le bound at.cycles ≡ b → Turnout
+  by_test true t =
+      Over (stopped at defined.Bound at.state) (λ n. ap (after_test (finish_from p bound n) p at) t) (λ i. ap (below (point_at p bound i) p at) t) (bounds t)
+  by_test false t = by_outcome t (outcome p.image p.stack_end at.state) refl
+
+  pub turnout : Turnout
+  turnout = by_test (nat_le bound at.cycles) refl

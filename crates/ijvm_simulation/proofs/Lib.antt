@@ -1,0 +1,11 @@
+pub mod Passes
+pub mod Turns
+pub mod Instruction
+pub mod Whole
+pub mod Worlds
+pub mod Boots
+pub mod Decoded
+pub mod Cases
+pub mod Next
+pub mod Carried
+pub mod Boards

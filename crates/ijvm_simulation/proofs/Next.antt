@@ -1,0 +1,135 @@
+-- What comes next in a run of a verified image, and how the law of a machine's instructions becomes the law of its boundaries.
+use Rattle.std.proofs.Common.{◌≡◌, ℕ, ◌+◌, ◌*◌, ◌<◌, Bool, true, false, Some, List, [], ◌∷◌, ◌++◌, length, refl, arith, sym, ◌∙◌, ap, ap₂, subst, inl, inr}
+use Rattle.std.specs.Prelude.{slice_index}
+use Rattle.std.specs.Int.{w8, w16, cast_signed}
+use Rattle.machine_words.specs.declared.machine.Machine.{Machine}
+use Rattle.console_port.specs.World.{World, byte_in}
+use Rattle.mic_clock.specs.Meaning.{Meaning}
+use Rattle.ijvm_instr.specs.declared.instr.Instr.{Instr}
+use Rattle.ijvm_instr.specs.declared.instr.Instr.TheVariants.{Nop, Bipush, LdcW, Iload, Istore, Pop, Dup, Swap, Iadd, Isub, Iand, Iinc, Ifeq, Iflt, IfIcmpeq, Goto, Ireturn, Ior, Invokevirtual, WideIload, WideIstore, WideIinc, In, Out, Err, Halt}
+use Rattle.ijvm_instr.specs.Instructions.{row_of, size_of, prefix, operand_bytes, instr_at}
+use Rattle.ijvm_run.specs.Frames.{State, AreWords, start_of}
+use Rattle.ijvm_run.specs.Step.{Outcome, Goes, Halts, Errs, Limits, Stuck, outcome, stepped}
+use Rattle.ijvm_run.specs.Cost.{next_cost, cost_at, cost}
+use Rattle.ijvm_run.specs.Safe.{SameFrames, ComesTo, Here, On}
+use Rattle.ijvm_paths.specs.Sound.{Finds, KeepsSound}
+use Rattle.ijvm_paths.specs.Accepted.{VerifiedView}
+use Rattle.ijvm_simulation.specs.Stands.{Origin}
+use Rattle.ijvm_simulation.specs.Bytes.{Reads}
+use Rattle.ijvm_simulation.specs.Outcomes.{Says}
+use Rattle.ijvm_simulation.specs.Verified.{program, Loads, Fine, IsNext}
+use Rattle.ijvm_simulation.specs.Passes.{Moment}
+use Rattle.ijvm_simulation.specs.Law.{Moves, Stops, Overruns, Law}
+use Rattle.ijvm_simulation.proofs.Decoded.{decoded}
+use Rattle.ijvm_simulation.proofs.Cases.{says}
+use Rattle.ijvm_simulation.proofs.Instruction.{Keeps, Law as BoundaryLaw}
+
+module _ (a b c d e f a' b' c' d' e' f' : ℕ) where
+  two : {x y x' y' : ℕ} → x' ≡ x → y' ≡ y → 256 * x + y ≡ 256 * x' + y'
+  two p q = sym (ap₂ (λ (m n : ℕ). 256 * m + n) p q)
+
+  -- what one row of bytes reads as, another does that has the same bytes as far as the instruction goes
+  reads_along : (i : Instr) → (0 < size_of (row_of i) → a' ≡ a) → (1 < size_of (row_of i) → b' ≡ b) → (2 < size_of (row_of i) → c' ≡ c) →
+      (3 < size_of (row_of i) → d' ≡ d) → (4 < size_of (row_of i) → e' ≡ e) → (5 < size_of (row_of i) → f' ≡ f) → Reads a b c d e f i → Reads a' b' c' d' e' f' i
+  reads_along Nop p q r s t u h = p (omega arith) ∙ h
+  reads_along (Bipush z) p q r s t u h = (p (omega arith) ∙ h.0, h.1 ∙ ap (cast_signed w8) (sym (q (omega arith))))
+  reads_along (LdcW k) p q r s t u h = (p (omega arith) ∙ h.0, h.1 ∙ two (q (omega arith)) (r (omega arith)))
+  reads_along (Iload k) p q r s t u h = (p (omega arith) ∙ h.0, h.1 ∙ sym (q (omega arith)))
+  reads_along (Istore k) p q r s t u h = (p (omega arith) ∙ h.0, h.1 ∙ sym (q (omega arith)))
+  reads_along Pop p q r s t u h = p (omega arith) ∙ h
+  reads_along Dup p q r s t u h = p (omega arith) ∙ h
+  reads_along Swap p q r s t u h = p (omega arith) ∙ h
+  reads_along Iadd p q r s t u h = p (omega arith) ∙ h
+  reads_along Isub p q r s t u h = p (omega arith) ∙ h
+  reads_along Iand p q r s t u h = p (omega arith) ∙ h
+  reads_along (Iinc k z) p q r s t u h = (p (omega arith) ∙ h.0, h.1 ∙ sym (q (omega arith)), h.2 ∙ ap (cast_signed w8) (sym (r (omega arith))))
+  reads_along (Ifeq z) p q r s t u h = (p (omega arith) ∙ h.0, h.1 ∙ ap (cast_signed w16) (two (q (omega arith)) (r (omega arith))))
+  reads_along (Iflt z) p q r s t u h = (p (omega arith) ∙ h.0, h.1 ∙ ap (cast_signed w16) (two (q (omega arith)) (r (omega arith))))
+  reads_along (IfIcmpeq z) p q r s t u h = (p (omega arith) ∙ h.0, h.1 ∙ ap (cast_signed w16) (two (q (omega arith)) (r (omega arith))))
+  reads_along (Goto z) p q r s t u h = (p (omega arith) ∙ h.0, h.1 ∙ ap (cast_signed w16) (two (q (omega arith)) (r (omega arith))))
+  reads_along Ireturn p q r s t u h = p (omega arith) ∙ h
+  reads_along Ior p q r s t u h = elim h [ inl x ↦ inl (p (omega arith) ∙ x) | inr x ↦ inr (p (omega arith) ∙ x) ]
+  reads_along (Invokevirtual k) p q r s t u h = (p (omega arith) ∙ h.0, h.1 ∙ two (q (omega arith)) (r (omega arith)))
+  reads_along (WideIload k) p q r s t u h = (p (omega arith) ∙ h.0, q (omega arith) ∙ h.1, h.2 ∙ two (r (omega arith)) (s (omega arith)))
+  reads_along (WideIstore k) p q r s t u h = (p (omega arith) ∙ h.0, q (omega arith) ∙ h.1, h.2 ∙ two (r (omega arith)) (s (omega arith)))
+  reads_along (WideIinc k z) p q r s t u h =
+      (p (omega arith) ∙ h.0, q (omega arith) ∙ h.1, h.2 ∙ two (r (omega arith)) (s (omega arith)), h.3 ∙ ap (cast_signed w16) (two (t (omega arith)) (u (omega arith))))
+  reads_along In p q r s t u h = p (omega arith) ∙ h
+  reads_along Out p q r s t u h = p (omega arith) ∙ h
+  reads_along Err p q r s t u h = p (omega arith) ∙ h
+  reads_along Halt p q r s t u h = p (omega arith) ∙ h
+
+-- what is known of a verified image's runs
+pub record Known (v : VerifiedView) : Type 0 where
+  pub sound : KeepsSound v.image v.map.stack_end v.main_locals
+  pub start_words : (input : List ℕ) → AreWords (start_of v.main_locals input)
+  pub goes_words : (s to : State) → AreWords s → outcome v.image v.map.stack_end s ≡ Goes to → AreWords to
+
+pub fine_start : (v : VerifiedView) → Known v → (input : List ℕ) → Fine v (start_of v.main_locals input)
+fine_start v known input = record { reached = Here _ (record { running = refl; callers = refl; at = refl }); words = known.start_words input }
+
+pub keeps : (v : VerifiedView) (machine : Machine) → Known v → Keeps (program machine v) (Fine v)
+keeps v machine known =
+    record {
+      stays = λ s to fine goes. record {
+        reached = On s to to fine.reached goes (record { running = refl; callers = refl; at = refl });
+        words = known.goes_words s to fine.words goes;
+      };
+      unstuck = λ s fine stuck. known.sound.safe s fine.reached stuck;
+    }
+
+module _ (v : VerifiedView) (o : Origin) (loads : Loads v o) (known : Known v) where
+  reads : (s : State) (i : Instr) → Finds v.image s i →
+      Reads (byte_in o.words s.at) (byte_in o.words (s.at + 1)) (byte_in o.words (s.at + 2)) (byte_in o.words (s.at + 3)) (byte_in o.words (s.at + 4)) (byte_in o.words (s.at + 5)) i
+  reads s i finds =
+      reads_along _ _ _ _ _ _ _ _ _ _ _ _ i
+      (λ l. loads.bytes s.at (omega (arith, finds.whole, l)))
+      (λ l. loads.bytes (s.at + 1) (omega (arith, finds.whole, l)))
+      (λ l. loads.bytes (s.at + 2) (omega (arith, finds.whole, l)))
+      (λ l. loads.bytes (s.at + 3) (omega (arith, finds.whole, l)))
+      (λ l. loads.bytes (s.at + 4) (omega (arith, finds.whole, l)))
+      (λ l. loads.bytes (s.at + 5) (omega (arith, finds.whole, l)))
+      (decoded v.image.text s.at i finds.code).reads
+
+  -- an instruction has an opcode
+  some_byte : (wide : Bool) (opcode : ℕ) (operands : List ℕ) → 0 < length (prefix wide ++ opcode ∷ operands)
+  some_byte true opcode operands = omega arith
+  some_byte false opcode operands = omega arith
+
+  pub next : (s : State) → Fine v s → (i : Instr) × IsNext v o s i
+  next s fine =
+      let f = known.sound.finds s (known.sound.comes_to [] s fine.reached) in
+      let some : 0 < size_of (row_of f.0) = some_byte (row_of f.0).wide (row_of f.0).opcode (operand_bytes (row_of f.0).operands) in
+      (f.0, record { begins = omega (arith, some, f.1.whole); finds = f.1; reads = reads s f.0 f.1 })
+
+  -- what the outcome of the next instruction says
+  said : (s : State) (i : Instr) (out : Outcome) → instr_at v.image.text s.at ≡ Some i → outcome v.image v.map.stack_end s ≡ out → Says v.image v.map.stack_end s i out
+  said s i out code e =
+      subst (λ (x : Outcome). Says v.image v.map.stack_end s i x) (ap (stepped v.image v.map.stack_end s) (sym code) ∙ e) (says v.image v.map.stack_end s i)
+
+  module _ {S : Type 0} (m : Meaning S) (store : List ℕ) (IsAt : State → S → World → Type 0) (law : Law m store IsAt o.given v o) where
+    cost_is : (s : State) (i : Instr) → instr_at v.image.text s.at ≡ Some i → cost v.image m.machine i s ≡ next_cost v.image m.machine s
+    cost_is s i code = ap (cost_at v.image m.machine s) (sym code)
+
+    pub boundary_law : BoundaryLaw m store IsAt o.given (program m.machine v) (Fine v)
+    boundary_law =
+        record {
+          shows = law.shows;
+          goes = λ s to q fine at e.
+              let n = next s fine in
+              subst (λ (c : ℕ). Moves m store IsAt o.given q c to) (cost_is s n.0 n.1.finds.code)
+              (law.takes.goes s to q n.0 tt fine n.1 at (said s n.0 (Goes to) n.1.finds.code e));
+          halts = λ s q fine at e.
+              let n = next s fine in
+              let is : n.0 ≡ Halt = said s n.0 Halts n.1.finds.code e in
+              subst (λ (c : ℕ). Stops m store IsAt o.given q c 255) (cost_is s Halt (n.1.finds.code ∙ ap Some is))
+              (law.ends.halts s q fine (subst (λ (i : Instr). IsNext v o s i) is n.1) at);
+          errs = λ s q fine at e.
+              let n = next s fine in
+              let is : n.0 ≡ Err = said s n.0 Errs n.1.finds.code e in
+              subst (λ (c : ℕ). Stops m store IsAt o.given q c 254) (cost_is s Err (n.1.finds.code ∙ ap Some is))
+              (law.ends.errs s q fine (subst (λ (i : Instr). IsNext v o s i) is n.1) at);
+          limits = λ s left q fine at e.
+              let n = next s fine in
+              law.takes.limits s left q n.0 tt fine n.1 at (said s n.0 (Limits left) n.1.finds.code e);
+        }

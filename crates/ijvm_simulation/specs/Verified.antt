@@ -1,0 +1,38 @@
+-- A verified image that a machine runs: its memory when the run begins, and the states that its run comes to.
+use Rattle.std.specs.Prelude.{◌≡◌, ℕ, ◌+◌, ◌<◌, List, [], length, slice_index}
+use Rattle.machine_words.specs.declared.machine.Machine.{Machine}
+use Rattle.console_port.specs.World.{byte_in}
+use Rattle.ijvm_instr.specs.declared.instr.Instr.{Instr}
+use Rattle.ijvm_image.specs.Image.{IsImage}
+use Rattle.ijvm_run.specs.Frames.{State, AreWords, start_of}
+use Rattle.ijvm_run.specs.Run.{Program}
+use Rattle.ijvm_run.specs.Safe.{ComesTo}
+use Rattle.ijvm_paths.specs.Sound.{Finds}
+use Rattle.ijvm_paths.specs.Accepted.{VerifiedView, IsAccepted}
+use Rattle.ijvm_simulation.specs.Stands.{Origin}
+use Rattle.ijvm_simulation.specs.Bytes.{Reads}
+
+-- what a machine's run of it runs
+abbrev pub program : Machine → VerifiedView → Program
+program machine v = record { image = v.image; stack_end = v.map.stack_end; machine = machine }
+
+-- it stands in the memory that a run begins over, and main's locals are 0
+pub record Loads (v : VerifiedView) (o : Origin) : Type 0 where
+  pub accepted : IsAccepted v
+  pub image : IsImage v.image
+  pub bytes : (at : ℕ) → at < length v.image.text → byte_in o.words at ≡ slice_index v.image.text at
+  pub pool : (k : ℕ) → k < length v.image.pool → slice_index o.words (0x4000 + k) ≡ slice_index v.image.pool k
+  pub zeros : (k : ℕ) → k < v.main_locals → slice_index o.words (0x8000 + k) ≡ 0
+  pub long : length o.words ≡ v.map.stack_end
+
+-- a state that a run of it may come to
+pub record Fine (v : VerifiedView) (s : State) : Type 0 where
+  pub reached : ComesTo v.image v.map.stack_end (start_of v.main_locals []) s
+  pub words : AreWords s
+
+-- an instruction comes next: its bytes stand in the memory, and it finds what it needs
+pub record IsNext (v : VerifiedView) (o : Origin) (s : State) (i : Instr) : Type 0 where
+  pub begins : s.at < length v.image.text
+  pub finds : Finds v.image s i
+  pub reads : Reads (byte_in o.words s.at) (byte_in o.words (s.at + 1)) (byte_in o.words (s.at + 2))
+      (byte_in o.words (s.at + 3)) (byte_in o.words (s.at + 4)) (byte_in o.words (s.at + 5)) i

@@ -1,0 +1,171 @@
+-- Mic-1 between two boundaries: what it knows at the one, and when a symbolic run comes to the next.
+use Rattle.std.proofs.Common.{◌≡◌, ℕ, ◌+◌, ◌<◌, ◌++◌, Some, None, true, List, length, arith, ◌∙◌, ap, sym, subst, inl, inr}
+use Rattle.std.specs.Prelude.{nat_lt, ◌==◌}
+use Rattle.std.proofs.lemmas.Bool.Decides.{nat_tests}
+use Rattle.console_port.specs.World.{World, StackLimit, byte_in, fetch_refusal}
+use Rattle.machine_words.specs.Arithmetic.{next}
+use Rattle.ijvm_run.specs.Frames.{State}
+use Rattle.mic1_datapath.specs.declared.micro.Micro.{Micro}
+use Rattle.mic1_datapath.specs.Mic1.{mic1_meaning}
+use Rattle.mic1_datapath.specs.Microstep.{refusal}
+use Rattle.machine_words.specs.declared.machine.Machine.TheVariants.{Mic1}
+use Rattle.ijvm_instr.specs.declared.instr.Instr.{Instr}
+use Rattle.ijvm_run.specs.Cost.{cost}
+use Rattle.ijvm_paths.specs.Accepted.{VerifiedView}
+use Rattle.ijvm_simulation.specs.Verified.{Loads}
+use Rattle.mic1_interpreter.proofs.Shipped.{shipped, HasStatements}
+use Rattle.mic1_interpreter.specs.Stands.{Stands}
+use Rattle.mic1_interpreter.proofs.Guided.{clocked, IsSmooth, pass-clocked, outcome_is, step-refused}
+use Rattle.mic1_interpreter.proofs.Accesses.{IsMap, next_is, fetch_ok, byte_kept}
+use Rattle.ijvm_simulation.specs.Stands.{Origin, Holds}
+use Rattle.ijvm_simulation.specs.Passes.{Moment, is_inside, pass}
+use Rattle.ijvm_simulation.specs.Law.{Shows, HasWord, Moves, Overruns}
+
+-- the moment at Main1, with nothing under way
+abbrev pub at_main : Micro → World → ℕ → Moment Micro
+at_main m w stalls = record { state = record m { mpc = 2; word = None; byte = None; entry = 2; clocked = true }; world = w; stalls = stalls }
+
+pub starts : (o : Origin) (s : State) (m : Micro) (w : World) (stalls : ℕ) → Stands o s m w → record { state = m; world = w; stalls = stalls } ≡ at_main m w stalls
+starts o s m w stalls h =
+    λ i. record { state = record m { mpc = (h.ready.mpc ∙ h.ready.entry) i; word = h.ready.word i; byte = h.ready.byte i; entry = h.ready.entry i; clocked = h.ready.clocked i }; world = w; stalls = stalls }
+
+-- n + 1 microsteps come to the next boundary, which stands for this state
+pub record Comes (program : List ℕ) (o : Origin) (n : ℕ) (p : Moment Micro) (s : State) : Type 0 where
+  pub to : Moment Micro
+  pub passes : pass mic1_meaning program n p ≡ Some to
+  pub stands : Stands o s to.state to.world
+  pub stalls : to.stalls ≡ p.stalls
+
+pub comes : (program : List ℕ) (has : HasStatements program) (o : Origin) (gs : List ℕ) (n : ℕ) (m : Micro) (w : World) (k : ℕ) (s s' : State) → Stands o s m w →
+    IsSmooth (length o.words) gs n (at_main m w k) →
+    Stands o s' (clocked (length o.words) gs n (at_main m w k)).state (clocked (length o.words) gs n (at_main m w k)).world →
+    (clocked (length o.words) gs n (at_main m w k)).stalls ≡ k →
+    Comes program o n (record { state = m; world = w; stalls = k }) s'
+comes program has o gs n m w k s s' h smooth new stalls =
+    record {
+      to = clocked (length o.words) gs n (at_main m w k);
+      passes = ap (pass mic1_meaning program n) (starts o s m w k h) ∙ pass-clocked program has (length o.words) gs n (at_main m w k) h.holds.memory.long smooth;
+      stands = new;
+      stalls = stalls;
+    }
+
+-- the program counter, and what is fetched there
+pub record Counts (o : Origin) (s : State) (m : Micro) (w : World) : Type 0 where
+  pub pc1 : next m.pc ≡ s.at + 1
+  pub pc2 : next (next m.pc) ≡ s.at + 2
+  pub pc3 : next (next (next m.pc)) ≡ s.at + 3
+  pub pc4 : next (next (next (next m.pc))) ≡ s.at + 4
+  pub pc5 : next (next (next (next (next m.pc)))) ≡ s.at + 5
+  pub pc6 : next (next (next (next (next (next m.pc))))) ≡ s.at + 6
+  pub fetch1 : fetch_refusal (length o.words) (next m.pc) ≡ None
+  pub fetch2 : fetch_refusal (length o.words) (next (next m.pc)) ≡ None
+  pub fetch3 : fetch_refusal (length o.words) (next (next (next m.pc))) ≡ None
+  pub fetch4 : fetch_refusal (length o.words) (next (next (next (next m.pc)))) ≡ None
+  pub fetch5 : fetch_refusal (length o.words) (next (next (next (next (next m.pc))))) ≡ None
+  pub fetch6 : fetch_refusal (length o.words) (next (next (next (next (next (next m.pc)))))) ≡ None
+  pub byte1 : byte_in w.words (next m.pc) ≡ byte_in o.words (s.at + 1)
+  pub byte2 : byte_in w.words (next (next m.pc)) ≡ byte_in o.words (s.at + 2)
+  pub byte3 : byte_in w.words (next (next (next m.pc))) ≡ byte_in o.words (s.at + 3)
+  pub byte4 : byte_in w.words (next (next (next (next m.pc)))) ≡ byte_in o.words (s.at + 4)
+  pub byte5 : byte_in w.words (next (next (next (next (next m.pc))))) ≡ byte_in o.words (s.at + 5)
+  pub byte6 : byte_in w.words (next (next (next (next (next (next m.pc)))))) ≡ byte_in o.words (s.at + 6)
+
+pub counts : (o : Origin) (map : IsMap (length o.words)) (s : State) (m : Micro) (w : World) → Stands o s m w → s.at < 0x10000 → Counts o s m w
+counts o map s m w h inside =
+    let e1 : next m.pc ≡ s.at + 1 = next_is m.pc (s.at + 1) (omega (arith, h.ready.pc)) (omega arith) in
+    let e2 : next (next m.pc) ≡ s.at + 2 = next_is (next m.pc) (s.at + 2) (omega arith) (omega arith) in
+    let e3 : next (next (next m.pc)) ≡ s.at + 3 = next_is (next (next m.pc)) (s.at + 3) (omega arith) (omega arith) in
+    let e4 : next (next (next (next m.pc))) ≡ s.at + 4 = next_is (next (next (next m.pc))) (s.at + 4) (omega arith) (omega arith) in
+    let e5 : next (next (next (next (next m.pc)))) ≡ s.at + 5 = next_is (next (next (next (next m.pc)))) (s.at + 5) (omega arith) (omega arith) in
+    let e6 : next (next (next (next (next (next m.pc))))) ≡ s.at + 6 = next_is (next (next (next (next (next m.pc))))) (s.at + 6) (omega arith) (omega arith) in
+    let kept = h.holds.memory.kept in
+    record {
+      pc1 = e1;
+      pc2 = e2;
+      pc3 = e3;
+      pc4 = e4;
+      pc5 = e5;
+      pc6 = e6;
+      fetch1 = fetch_ok (length o.words) map e1 (omega arith);
+      fetch2 = fetch_ok (length o.words) map e2 (omega arith);
+      fetch3 = fetch_ok (length o.words) map e3 (omega arith);
+      fetch4 = fetch_ok (length o.words) map e4 (omega arith);
+      fetch5 = fetch_ok (length o.words) map e5 (omega arith);
+      fetch6 = fetch_ok (length o.words) map e6 (omega arith);
+      byte1 = byte_kept w.words o.words kept e1 (omega arith);
+      byte2 = byte_kept w.words o.words kept e2 (omega arith);
+      byte3 = byte_kept w.words o.words kept e3 (omega arith);
+      byte4 = byte_kept w.words o.words kept e4 (omega arith);
+      byte5 = byte_kept w.words o.words kept e5 (omega arith);
+      byte6 = byte_kept w.words o.words kept e6 (omega arith);
+    }
+
+-- a boundary, by what the machine has beside what it holds
+pub at_boundary : (o : Origin) (s : State) (m : Micro) (w : World) → Holds o s m.sp m.lv m.cpp m.tos w →
+    m.pc ≡ s.at → m.mbr ≡ byte_in o.words s.at → m.mpc ≡ 2 → m.entry ≡ 2 → m.clocked ≡ true → m.word ≡ None → m.byte ≡ None → Stands o s m w
+at_boundary o s m w holds pc mbr mpc entry clocked word byte =
+    record { holds = holds; ready = record { pc = pc; mbr = mbr; mpc = mpc ∙ sym entry; entry = entry; clocked = clocked; word = word; byte = byte } }
+
+-- what a Mic-1 shows at a boundary
+pub shows : (program : List ℕ) (o : Origin) (s : State) (m : Micro) (w : World) → Stands o s m w → Shows mic1_meaning program (Stands o) o.given s m w
+shows program o s m w h =
+    record {
+      boundary = let e : m.mpc ≡ m.entry = h.ready.mpc in let on : m.clocked ≡ true = h.ready.clocked in rw on (grind (arith, nat_tests));
+      address = h.ready.pc;
+      sp = omega (arith, h.holds.sp_is);
+      lv = h.holds.lv_is;
+      untaken = h.holds.untaken;
+      given = h.holds.given;
+    }
+
+-- a verified image's memory ends where a map has it
+pub map_of : (v : VerifiedView) (o : Origin) → Loads v o → IsMap (length o.words)
+map_of v o loads = elim loads.accepted.map_is [
+  | inl e ↦ let long : length o.words ≡ v.map.stack_end = loads.long in record { low = omega (arith, e); high = omega (arith, e); near = omega (arith, e) }
+  | inr e ↦ let long : length o.words ≡ v.map.stack_end = loads.long in record { low = omega (arith, e); high = omega (arith, e); near = omega (arith, e) }
+]
+
+pub begins : (o : Origin) (s : State) (m : Micro) (w : World) → Stands o s m w → HasWord mic1_meaning m
+begins o s m w h =
+    let e : m.mpc ≡ 2 = h.ready.mpc ∙ h.ready.entry in
+    record { no_halt = ap (λ (k : ℕ). k == 255) e; no_err = ap (λ (k : ℕ). k == 254) e }
+
+module _ (program : List ℕ) (o : Origin) (v : VerifiedView) where
+  -- a pass to the next boundary, where it takes the instruction's cycles
+  pub moves : (s to a : State) (q : Moment Micro) (i : Instr) (n : ℕ) → Stands o s q.state q.world → cost v.image Mic1 i s ≡ n + 1 → n < 1024 → a ≡ to →
+      Comes program o n q a → Moves mic1_meaning program (Stands o) o.given q (cost v.image Mic1 i s) to
+  moves s to a q i n h spent short same c =
+      record {
+        n = n;
+        spent_is = spent;
+        short = short;
+        begins = begins o s q.state q.world h;
+        there = c.to;
+        passes = c.passes;
+        stands = subst (λ (t : State). Stands o t c.to.state c.to.world) same c.stands;
+      }
+
+-- some steps of a symbolic run, and then a write that is refused
+pub overruns : (program : List ℕ) (has : HasStatements program) (o : Origin) (s left : State) (q : Moment Micro) (gs : List ℕ) (n x : ℕ) → Stands o s q.state q.world → n < 1023 →
+    IsSmooth (length o.words) gs n (at_main q.state q.world q.stalls) →
+    is_inside mic1_meaning (clocked (length o.words) gs n (at_main q.state q.world q.stalls)).state ≡ true →
+    nat_lt (clocked (length o.words) gs n (at_main q.state q.world q.stalls)).state.mpc 512 ≡ true →
+    length (clocked (length o.words) gs n (at_main q.state q.world q.stalls)).world.words ≡ length o.words →
+    refusal (length o.words) (shipped (clocked (length o.words) gs n (at_main q.state q.world q.stalls)).state.mpc) (clocked (length o.words) gs n (at_main q.state q.world q.stalls)).state ≡ Some (StackLimit x) →
+    (clocked (length o.words) gs n (at_main q.state q.world q.stalls)).world.untaken ≡ left.untaken →
+    (clocked (length o.words) gs n (at_main q.state q.world q.stalls)).world.given ≡ o.given ++ left.given →
+    Overruns mic1_meaning program (Stands o) o.given q left
+overruns program has o s left q gs n x h short smooth inside low long refused untaken given =
+    let there : Moment Micro = clocked (length o.words) gs n (at_main q.state q.world q.stalls) in
+    record {
+      n = n;
+      short = short;
+      begins = begins o s q.state q.world h;
+      there = there;
+      passes = ap (pass mic1_meaning program n) (starts o s q.state q.world q.stalls h) ∙ pass-clocked program has (length o.words) gs n (at_main q.state q.world q.stalls) h.holds.memory.long smooth;
+      inside = inside;
+      at = x;
+      refused = outcome_is program has (length o.words) there (grind (arith, nat_tests)) ∙ step-refused (length o.words) (shipped there.state.mpc) there.state there.world (StackLimit x) long refused;
+      untaken = untaken;
+      given = given;
+    }

@@ -1,0 +1,64 @@
+-- HALT and ERR.
+use Rattle.std.proofs.Common.{◌≡◌, ℕ, ◌+◌, ◌<◌, Some, None, List, [], ◌∷◌, length, refl, arith, ◌∙◌, ap, inr}
+use Rattle.machine_words.specs.declared.machine.Machine.TheVariants.{Mic1}
+use Rattle.console_port.specs.World.{byte_in}
+use Rattle.ijvm_instr.specs.declared.instr.Instr.{Instr}
+use Rattle.ijvm_instr.specs.declared.instr.Instr.TheVariants.{Err, Halt}
+use Rattle.ijvm_run.specs.Frames.{State}
+use Rattle.ijvm_run.specs.Cost.{cost}
+use Rattle.ijvm_paths.specs.Accepted.{VerifiedView}
+use Rattle.mic1_datapath.specs.declared.micro.Micro.{Micro}
+use Rattle.mic1_datapath.specs.Mic1.{mic1_meaning}
+use Rattle.ijvm_simulation.specs.Stands.{Origin}
+use Rattle.ijvm_simulation.specs.Passes.{Moment, pass}
+use Rattle.ijvm_simulation.specs.Verified.{Loads, Fine, IsNext}
+use Rattle.ijvm_simulation.specs.Law.{Stops, Ends}
+use Rattle.mic1_interpreter.specs.Stands.{Stands}
+use Rattle.mic1_interpreter.proofs.Shipped.{HasStatements}
+use Rattle.mic1_interpreter.proofs.Guided.{clocked, pass-clocked}
+use Rattle.mic1_interpreter.proofs.Accesses.{IsMap}
+use Rattle.mic1_interpreter.proofs.Boundaries.{Counts, counts, at_main, starts, begins, map_of}
+
+module _ (program : List ℕ) (has : HasStatements program) (o : Origin) (v : VerifiedView) (loads : Loads v o) where
+  abbrev map : IsMap (length o.words)
+  map = map_of v o loads
+
+  inside : (s : State) (i : Instr) → IsNext v o s i → s.at < 0x10000
+  inside s i n = omega (arith, n.begins, loads.image.limits.text_fits)
+
+  halts : (s : State) (q : Moment Micro) → Fine v s → IsNext v o s Halt → Stands o s q.state q.world → Stops mic1_meaning program (Stands o) o.given q (cost v.image Mic1 Halt s) 0x0FF
+  halts s q fine n h =
+      let c : Counts o s q.state q.world = counts o map s q.state q.world h (inside s Halt n) in
+      let op : q.state.mbr ≡ 0xFF = h.ready.mbr ∙ n.reads in
+      inr (record {
+        n = 0;
+        spent_is = refl;
+        short = omega arith;
+        begins = begins o s q.state q.world h;
+        there = clocked (length o.words) (0xFF ∷ []) 0 (at_main q.state q.world q.stalls);
+        passes = ap (pass mic1_meaning program 0) (starts o s q.state q.world q.stalls h)
+            ∙ pass-clocked program has (length o.words) (0xFF ∷ []) 0 (at_main q.state q.world q.stalls) h.holds.memory.long (assumption);
+        off = refl;
+        mpc_is = refl;
+        world = refl;
+      })
+
+  errs : (s : State) (q : Moment Micro) → Fine v s → IsNext v o s Err → Stands o s q.state q.world → Stops mic1_meaning program (Stands o) o.given q (cost v.image Mic1 Err s) 0x0FE
+  errs s q fine n h =
+      let c : Counts o s q.state q.world = counts o map s q.state q.world h (inside s Err n) in
+      let op : q.state.mbr ≡ 0xFE = h.ready.mbr ∙ n.reads in
+      inr (record {
+        n = 0;
+        spent_is = refl;
+        short = omega arith;
+        begins = begins o s q.state q.world h;
+        there = clocked (length o.words) (0xFE ∷ []) 0 (at_main q.state q.world q.stalls);
+        passes = ap (pass mic1_meaning program 0) (starts o s q.state q.world q.stalls h)
+            ∙ pass-clocked program has (length o.words) (0xFE ∷ []) 0 (at_main q.state q.world q.stalls) h.holds.memory.long (assumption);
+        off = refl;
+        mpc_is = refl;
+        world = refl;
+      })
+
+  pub ends : Ends mic1_meaning program (Stands o) o.given v o
+  ends = record { halts = halts; errs = errs }

@@ -1,0 +1,41 @@
+-- The bytes that a microstep of Mic-1 gives come behind what had been given.
+use Rattle.std.proofs.Common.{ℕ, Bool, true, false, Some, List, [], ◌∷◌, ◌++◌, refl, sym}
+use Rattle.std.specs.Prelude.{nat_lt, ◌%◌, if◌then◌else◌}
+use Rattle.std.proofs.lemmas.List.{append-nil}
+use Rattle.console_port.specs.World.{given_after}
+use Rattle.micro_word.specs.declared.statement.Mem.{Mem}
+use Rattle.micro_word.specs.declared.statement.Mem.TheVariants.{None as Idle, Read, Write}
+use Rattle.mic1_datapath.specs.declared.micro.Micro.{Micro}
+use Rattle.mic1_datapath.specs.declared.ports.Ports.{Ports}
+use Rattle.mic1_datapath.specs.Microstep.{ports_of, settled, written, sampled}
+use Rattle.std.specs.Prelude.{length, Option, None}
+use Rattle.console_port.specs.World.{World, Refusal}
+use Rattle.machine_words.specs.declared.machine.Machine.TheVariants as machines
+use Rattle.micro_word.specs.Coding.{statement_of}
+use Rattle.mic1_datapath.specs.Microstep.{clock, world_after, refusal}
+use Rattle.mic1_datapath.specs.Mic1.{outcome, step_of_word}
+use Rattle.ijvm_simulation.specs.Law.{Grows, OnDone}
+
+stays : (xs : List ℕ) → Grows xs xs
+stays xs = record { more = []; are = sym (append-nil xs) }
+
+given_grows : (top : ℕ) (given : List ℕ) (at value : ℕ) → Grows given (given_after top given at value)
+unfolding given_after
+given_grows top given at value = by_test (nat_lt at top)
+  where
+    by_test : (t : Bool) → Grows given (if t then given else given ++ (value % 256) ∷ [])
+    by_test true = stays given
+    by_test false = record { more = (value % 256) ∷ []; are = refl }
+
+access_grows : (top : ℕ) (mem : Mem) (p : Ports) (w : World) → Grows w.given (sampled top mem p (written top mem p w)).given
+access_grows top Write p w = given_grows top w.given p.mar p.mdr
+access_grows top Read p w = stays w.given
+access_grows top Idle p w = stays w.given
+
+pub step_grows : (word : ℕ) (m : Micro) (w : World) → OnDone (λ (v : World). Grows w.given v.given) (step_of_word word m w)
+unfolding step_of_word
+step_grows word m w = by_refusal (refusal (length w.words) (statement_of machines.Mic1 word) m)
+  where
+    by_refusal : (r : Option Refusal) → OnDone (λ (v : World). Grows w.given v.given) (outcome r (clock (length w.words) (statement_of machines.Mic1 word) m w) (world_after (length w.words) (statement_of machines.Mic1 word) m w))
+    by_refusal (Some why) = tt
+    by_refusal None = access_grows (length w.words) (statement_of machines.Mic1 word).part.mem (ports_of (settled (statement_of machines.Mic1 word).part m)) w

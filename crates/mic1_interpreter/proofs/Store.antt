@@ -1,0 +1,16 @@
+-- The shipped program has a placement, and is one of Mic-1.
+use Rattle.std.proofs.Common.{◌≡◌, ℕ, List, ap}
+use Rattle.std.specs.Prelude.{slice_index}
+use Rattle.machine_words.specs.declared.machine.Machine.TheVariants.{Mic1}
+use Rattle.mal_parser.specs.Program.{Program}
+use Rattle.store_placement.specs.Demands.{Demands}
+use Rattle.store_placement.specs.Placement.{HasPlacement}
+use Rattle.store_placement.specs.Chosen.{IsChosenList}
+use Rattle.shipped_program.specs.Listing.{program1, program_of}
+
+pub has_placement : (d : Demands) (addresses : List ℕ) → IsChosenList d addresses → HasPlacement d
+has_placement d addresses h = (slice_index addresses, h.places.places)
+
+pub of_mic1 : (p : Program) → p ≡ program_of Mic1 → p.machine ≡ Mic1
+unfolding program1
+of_mic1 p e = ap (λ (q : Program). q.machine) e

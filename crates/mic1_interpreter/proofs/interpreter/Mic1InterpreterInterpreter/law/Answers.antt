@@ -1,0 +1,20 @@
+use Rattle.mic1_interpreter.proofs.Shipped.{has_statements}
+use Rattle.mic1_interpreter.proofs.Groups.{takes}
+use Rattle.mic1_interpreter.proofs.Boundaries.{shows}
+use Rattle.mic1_interpreter.proofs.Boot.{boots}
+use Rattle.mic1_interpreter.proofs.Output.{step_grows}
+use Rattle.mic1_interpreter.proofs.interpreter.Mic1InterpreterInterpreter.law.Goals as goal
+
+pub returns-clause-law : goal.returns-clause-law
+returns-clause-law c = λ store o v has loads. record {
+  shows = shows store o;
+  takes = takes store o v (c.operands_law.ensures store o v has loads) (c.locals_law.ensures store o v has loads) (c.jumps_law.ensures store o v has loads)
+      (c.calls_law.ensures store o v has loads) (c.consoles_law.ensures store o v has loads);
+  ends = c.ends_law.ensures store o v has loads;
+}
+
+pub returns-clause-boots : goal.returns-clause-boots
+returns-clause-boots c = λ store o v input has loads. boots store (has_statements store has) o v loads input
+
+pub returns-clause-grows : goal.returns-clause-grows
+returns-clause-grows c = λ word s w. step_grows word s w

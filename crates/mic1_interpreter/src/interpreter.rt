@@ -1,0 +1,90 @@
+//! Mic-1 as an interpreter of IJVM.
+
+ghost use Rattle.std.specs.Prelude.{◌≡◌, ◌≤◌, ◌^◌, Some, None, IfOk, OnErr, IsSome};
+ghost use Rattle.machine_words.specs.declared.machine.Machine.TheVariants as machines;
+ghost use Rattle.mic_clock.specs.Board.{NoFault, HasEndCause};
+ghost use Rattle.mic1_datapath.specs.Mic1.{mic1_meaning, IsReady};
+ghost use Rattle.mic1_datapath.specs.View.{micro_of};
+ghost use Rattle.shipped_program.specs.Shipped.{HasShipped};
+ghost use Rattle.ijvm_simulation.specs.Headline.{HasRun, IsCutByRead, IsCutByWrite};
+
+use crate::laws::{calls_law, consoles_law, ends_law, jumps_law, locals_law, operands_law};
+use ijvm_simulation::{Interpreter, run_image};
+use ijvm_verifier::VerifiedImage;
+use mic_base::{Sink, Source};
+use mic_clock::{Board, End};
+use mic1_datapath::Mic1;
+use micro_word::{Machine, Store};
+use shipped_program::{
+    load_micro, loaded_programs_are_shipped, shipped_program, shipped_programs_are_listed,
+};
+use std::alloc::{AllocError, Global};
+
+/// The address of Main1, where a run begins.
+const MAIN1: u16 = 0x002;
+
+/// Mic-1 with the microprogram that ships for it.
+pub struct Mic1Interpreter;
+
+impl Interpreter for Mic1Interpreter {
+    ghost use Rattle.machine_words.specs.declared.machine.Machine.TheVariants as machines;
+    ghost use Rattle.shipped_program.specs.Shipped.{HasShipped};
+
+    type Machine = Mic1;
+
+    ghost IsShipped = { HasShipped machines.Mic1 };
+
+    ghost entry = { 0x002 };
+
+    fn entry() -> u16 {
+        MAIN1
+    }
+
+    fn machine() -> Mic1 {
+        Mic1::new()
+    }
+
+    fn store(alloc: Global) -> Result<Store, AllocError> {
+        let program = shipped_program(alloc, Machine::Mic1)?;
+        shipped_programs_are_listed();
+        loaded_programs_are_shipped();
+        match load_micro(&program) {
+            Ok(loaded) => Ok(loaded.store),
+            Err(_) => unreachable!(),
+        }
+    }
+
+    fn law() {
+        operands_law();
+        locals_law();
+        jumps_law();
+        calls_law();
+        consoles_law();
+        ends_law();
+    }
+}
+
+/// Runs a verified image on a Mic-1, from its reset to its end. Want of memory is told before the first cycle.
+pub fn run_image1<S: Source, K: Sink>(
+    alloc: Global,
+    image: &VerifiedImage,
+    bound: u64,
+    source: &mut S,
+    sink: &mut K,
+) -> Result<Board<Mic1>, AllocError>
+    requires { bound ≤ 2 ^ 62 }
+    ensures ended { IfOk result (λ board. IsSome board.end) }
+    ensures run { IfOk result (λ board. NoFault None board.end →
+        HasRun micro_of mic1_meaning IsReady (HasShipped machines.Mic1) 0x002 image.now bound
+        (S.left source.old) (K.held sink.old) (S.left source.new) (K.held sink.new) board) }
+    ensures read { IfOk result (λ board. board.end ≡ Some End.ReadFault →
+        IsCutByRead micro_of mic1_meaning IsReady (HasShipped machines.Mic1) 0x002 image.now bound
+        (S.left source.old) (K.held sink.old) (S.left source.new) (K.held sink.new) board) }
+    ensures write { IfOk result (λ board. board.end ≡ Some End.WriteFault →
+        IsCutByWrite micro_of mic1_meaning IsReady (HasShipped machines.Mic1) 0x002 image.now bound
+        (S.left source.old) (K.held sink.old) (S.left source.new) (K.held sink.new) board) }
+    ensures cause { IfOk result (λ board. HasEndCause (S.faults source.old) (S.faults source.new) (K.faults sink.old) (K.faults sink.new) None board.end) }
+    ensures none { OnErr result ((source.new ≡ source.old) × (sink.new ≡ sink.old)) }
+{
+    run_image::<Mic1Interpreter, S, K>(alloc, image, bound, source, sink)
+}

@@ -1,0 +1,10 @@
+//! That Mic-1, with the microprogram that ships for it, interprets IJVM.
+#![tactic(auto)]
+
+mod interpreter;
+mod laws;
+
+pub use interpreter::{Mic1Interpreter, run_image1};
+
+#[cfg(test)]
+mod tests;
