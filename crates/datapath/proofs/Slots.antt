@@ -5,20 +5,20 @@ use Rattle.std.proofs.lemmas.Bool.{cases_eq, cases_lt}
 use Rattle.micro_word.specs.Lines.{AreSlots, IsSlot, names}
 
 slot_within : (c place : ℕ) → IsSlot c place → place < 16
-slot_within c place (inl is) = omega (arith, is)
-slot_within c place (inr named) = omega (arith, named.0)
+slot_within c place slot = elim (cases_eq place 15) [ | inl is ↦ omega (arith, is) | inr other ↦ omega (arith, (slot other).0) ]
 
 -- a place below 9 that the field does not name is no slot
 not_slot : (c place k : ℕ) → IsSlot c place → k < 9 → names c k ≡ false → k ≢ place
-not_slot c place k (inl is) h not_named same = let no : ⊥ = omega (arith, is) in no
-not_slot c place k (inr named) h not_named same =
-    let is : names c k ≡ true = subst (λ (p : ℕ). names c p ≡ true) (sym same) named.1 in
+not_slot c place k slot h not_named same =
+    let other : place ≢ 15 = omega (arith, same, h) in
+    let is : names c k ≡ true = subst (λ (p : ℕ). names c p ≡ true) (sym same) (slot other).1 in
     let no : true ≡ false = sym is ∙ not_named in absurd (cc)
 
 -- and none from 9 on but the last
 behind_slot : (c place k : ℕ) → IsSlot c place → 9 ≤ k → k < 15 → k ≢ place
-behind_slot c place k (inl is) low high same = let no : ⊥ = omega (arith, is) in no
-behind_slot c place k (inr named) low high same = let no : ⊥ = omega (arith, named.0) in no
+behind_slot c place k slot low high same =
+    let other : place ≢ 15 = omega (arith, same, high) in
+    let no : ⊥ = omega (arith, (slot other).0, same, low) in no
 
 abbrev pub both_slots : List ℕ → ℕ → ℕ → ℕ → List ℕ
 both_slots old first second v = slice_set (slice_set old first v) second v
@@ -59,10 +59,14 @@ module _ (c first second further v : ℕ) (old : List ℕ) (slots : AreSlots c f
 
         by_name : (b : Bool) → names c k ≡ b → slice_index new k ≡ (if b then v else slice_index old k)
         by_name true is =
-            elim (slots.all k h is) [
+            elim (cases_eq k first) [
               | inl first_is ↦ named is (inl first_is)
-              | inr (inl second_is) ↦ named is (inr second_is)
-              | inr (inr higher) ↦ later k higher h ∙ ap (λ (b : Bool). if b then v else slice_index (both_slots old first second v) k) is
+              | inr not_first ↦
+                  elim (cases_eq k second) [
+                    | inl second_is ↦ named is (inr second_is)
+                    | inr not_second ↦
+                        later k (slots.others k h is not_first not_second) h ∙ ap (λ (b : Bool). if b then v else slice_index (both_slots old first second v) k) is
+                  ]
             ]
         by_name false is =
             let other = at_other k (not_slot c first k slots.first_slot h is) (not_slot c second k slots.second_slot h is) in

@@ -10,7 +10,7 @@ use Rattle.micro_word.specs.declared.statement.BusSource.{BusSource}
 use Rattle.micro_word.specs.declared.statement.BusSource.TheVariants as sources
 use Rattle.mic1_alu.specs.Gates.{enabled}
 use Rattle.mic1_datapath.specs.Microstep.{source}
-use Rattle.mic1_datapath.specs.View.{AreLatches, micro_in}
+use Rattle.mic1_datapath.specs.Latches.{AreLatches, micro_in}
 use Rattle.mic1_datapath.specs.declared.latches.Latches.{Latches}
 
 not_here : (used : Bool) → IsTrue (used && false) → ⊥

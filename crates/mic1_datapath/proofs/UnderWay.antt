@@ -3,7 +3,7 @@ use Rattle.std.proofs.Common.{◌≡◌, ℕ, ◌==◌, Bool, true, false, Optio
 use Rattle.std.proofs.lemmas.Bool.Decides.{nat_tests}
 use Rattle.micro_word.specs.Coding.{mem_of}
 use Rattle.datapath.specs.Access.{is_read}
-use Rattle.mic1_datapath.specs.View.{under_way}
+use Rattle.mic1_datapath.specs.Latches.{under_way}
 
 pub kept_under_way : (o : Option ℕ) (is : Bool) (old : ℕ) → is_some o ≡ is → under_way is (unwrap_or o old) ≡ o
 kept_under_way None true old e = absurd (cc)

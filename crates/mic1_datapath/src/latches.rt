@@ -11,7 +11,7 @@ ghost use Rattle.micro_word.specs.Operation.{shifted};
 ghost use Rattle.datapath.specs.Registers.{arrived as arrived_of};
 ghost use Rattle.mic1_datapath.specs.Mic1.{initial as initial_of};
 ghost use Rattle.mic1_datapath.specs.Microstep.{assigned, ports_of, result_of, settled, moved};
-ghost use Rattle.mic1_datapath.specs.View.{AreLatches, micro_in, reads, fetches, under_way};
+ghost use Rattle.mic1_datapath.specs.Latches.{AreLatches, micro_in, reads, fetches, under_way};
 
 use datapath::{Places, Ports, Sampled, arrived, next_address, port, settle};
 use mic_clock::Start;

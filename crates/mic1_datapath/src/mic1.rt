@@ -10,15 +10,15 @@ ghost use Rattle.micro_word.specs.Operation.{shifted};
 ghost use Rattle.mic_clock.specs.Meaning.{Driven, AtEdge};
 ghost use Rattle.mic1_datapath.specs.Stage.{phase_of};
 ghost use Rattle.mic1_datapath.specs.Microstep.{source, result_of};
-ghost use Rattle.mic1_datapath.specs.View.{AreLatches, micro_in};
+ghost use Rattle.mic1_datapath.specs.Latches.{AreLatches, micro_in};
 
 use crate::latches::{IDLE, Latches};
 use crate::stage::Stage;
 use console_port::{Bus, BusFault};
 use datapath::{access, operate, shift_by};
-use mic1_alu::AluOut;
 use mic_base::{Sink, Source};
 use mic_clock::{Clocked, Computed, Drive, Registers, Start, Tail};
+use mic1_alu::AluOut;
 use micro_word::{Lines, Machine, Mem, Store, Word1, bits, fields1, statement_law, word_law};
 
 const H: usize = 8;

@@ -1,5 +1,5 @@
 -- The control lines of a word: what its fields keep on for a whole cycle, and the places of a datapath that they name.
-use Rattle.std.specs.Prelude.{◌≡◌, ◌⊎◌, ℕ, ◌<◌, ◌≤◌, ◌/◌, ◌%◌, ◌^◌, ◌==◌, Bool, true, if◌then◌else◌, Option, Some, None}
+use Rattle.std.specs.Prelude.{◌≡◌, ◌≢◌, ℕ, ◌<◌, ◌≤◌, ◌/◌, ◌%◌, ◌^◌, ◌==◌, Bool, true, if◌then◌else◌, Option, Some, None}
 use Rattle.machine_words.specs.declared.machine.Machine.{Machine}
 use Rattle.micro_word.specs.declared.layout.Fields.{Fields}
 use Rattle.micro_word.specs.declared.lines.Lines.{Lines}
@@ -40,13 +40,13 @@ on_each_bit on = if on then 0xFFFFFFFF else 0
 
 -- the place of a destination, or the place that nothing reads
 abbrev pub IsSlot : ℕ → ℕ → Type 0
-IsSlot c place = (place ≡ NOWHERE) ⊎ ((place < 9) × (names c place ≡ true))
+IsSlot c place = place ≢ NOWHERE → (place < 9) × (names c place ≡ true)
 
 -- each destination of a field C is one of two, or stands from `further` on
 pub record AreSlots (c first second further : ℕ) : Type 0 where
   pub first_slot : IsSlot c first
   pub second_slot : IsSlot c second
-  pub all : (place : ℕ) → place < 9 → names c place ≡ true → (place ≡ first) ⊎ (place ≡ second) ⊎ (further ≤ place)
+  pub others : (place : ℕ) → place < 9 → names c place ≡ true → place ≢ first → place ≢ second → further ≤ place
 
 -- the lines of a word with these fields
 pub record AreLines (machine : Machine) (f : Fields) (l : Lines) : Type 0 where

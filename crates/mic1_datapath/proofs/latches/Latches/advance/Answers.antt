@@ -8,7 +8,7 @@ use Rattle.datapath.specs.Places.{registers_at}
 use Rattle.datapath.specs.Registers.{NineRegisters, arrived, loaded}
 use Rattle.datapath.specs.Next.{target}
 use Rattle.mic1_datapath.specs.Microstep.{result_of, registers_in}
-use Rattle.mic1_datapath.specs.View.{micro_in}
+use Rattle.mic1_datapath.specs.Latches.{micro_in, reads, fetches, under_way}
 use Rattle.mic1_datapath.proofs.UnderWay.{kept_under_way}
 use Rattle.mic1_datapath.proofs.latches.Latches.advance.Goals as goal
 
@@ -37,9 +37,9 @@ returns-clause-micro c =
       opc = (kept 7 (omega arith) (omega arith) ∙ ap (λ (r : NineRegisters). r.opc) became) i;
       h = (kept 8 (omega arith) (omega arith) ∙ ap (λ (r : NineRegisters). r.h) became) i;
       mbr = mbr i;
-      mpc = (c.next_address.ensures.next s.next valid.next addr jam ∙ ap (λ (x : ℕ). target s.next c.args.value x) mbr) i;
-      word = (ap (λ (x : ℕ). x) refl ∙ kept_under_way c.args.sampled.word _ c.args.self.now.word c.requires.word_sampled) i;
-      byte = kept_under_way c.args.sampled.byte _ c.args.self.now.byte c.requires.byte_sampled i;
+      mpc = (c.next_address-self.ensures.next s.next valid.next addr jam ∙ ap (λ (x : ℕ). target s.next c.args.value x) mbr) i;
+      word = (ap (λ (x : ℕ). under_way (reads c.args.word) x) c.unwrap_or-self.ensures ∙ kept_under_way c.args.sampled.word _ c.args.self.now.word c.requires.word_sampled) i;
+      byte = (ap (λ (x : ℕ). under_way (fetches c.args.word) x) c.unwrap_or-self-2.ensures ∙ kept_under_way c.args.sampled.byte _ c.args.self.now.byte c.requires.byte_sampled) i;
       entry = c.args.self.now.entry;
       clocked = true;
     }

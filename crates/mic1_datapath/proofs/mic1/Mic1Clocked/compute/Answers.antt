@@ -7,7 +7,7 @@ use Rattle.machine_words.specs.declared.machine.Machine.TheVariants as machines
 use Rattle.mic1_alu.specs.Gates.{enabled}
 use Rattle.mic1_datapath.specs.Microstep.{source, result_of}
 use Rattle.mic1_datapath.specs.Mic1.{computed}
-use Rattle.mic1_datapath.specs.View.{micro_in}
+use Rattle.mic1_datapath.specs.Latches.{micro_in}
 use Rattle.mic1_datapath.proofs.Sources.{enabled_source}
 use Rattle.mic1_datapath.proofs.mic1.Mic1Clocked.compute.Goals as goal
 

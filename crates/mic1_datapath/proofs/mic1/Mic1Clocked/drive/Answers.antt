@@ -4,7 +4,7 @@ use Rattle.micro_word.specs.declared.statement.BusSource.{BusSource}
 use Rattle.machine_words.specs.declared.machine.Machine.TheVariants as machines
 use Rattle.mic1_datapath.specs.Microstep.{source}
 use Rattle.mic1_datapath.specs.Mic1.{driven}
-use Rattle.mic1_datapath.specs.View.{micro_in}
+use Rattle.mic1_datapath.specs.Latches.{micro_in}
 use Rattle.mic1_datapath.proofs.Sources.{at_place}
 use Rattle.mic1_datapath.proofs.mic1.Mic1Clocked.drive.Goals as goal
 

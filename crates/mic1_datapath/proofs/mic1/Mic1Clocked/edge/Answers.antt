@@ -9,7 +9,7 @@ use Rattle.datapath.specs.Memory.{access_refusal}
 use Rattle.datapath.specs.Access.{is_read}
 use Rattle.mic1_datapath.specs.Microstep.{assigned, ports_of, result_of, settled}
 use Rattle.mic1_datapath.specs.Mic1.{step_of_word}
-use Rattle.mic1_datapath.specs.View.{micro_in}
+use Rattle.mic1_datapath.specs.Latches.{micro_in}
 use Rattle.mic1_datapath.proofs.Steps.{Asked, IsAsked, is_done, step_refusal, not_refused, reads_console, uses_console}
 use Rattle.mic1_datapath.proofs.UnderWay.{read_bit}
 use Rattle.mic1_datapath.proofs.mic1.Mic1Clocked.edge.Goals as goal
