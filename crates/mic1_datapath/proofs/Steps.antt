@@ -7,13 +7,15 @@ use Rattle.console_port.specs.Bus.{refused_by}
 use Rattle.console_port.specs.Console.{IsFault}
 use Rattle.console_port.specs.declared.fault.BusFault.{BusFault}
 use Rattle.machine_words.specs.declared.machine.Machine.TheVariants as machines
-use Rattle.micro_word.specs.Coding.{statement_of}
+use Rattle.micro_word.specs.Coding.{statement_of, mem_of}
+use Rattle.micro_word.specs.Layout.{fields_of}
+use Rattle.micro_word.specs.Operation.{shifted}
 use Rattle.micro_word.specs.declared.statement.Mem.{Mem}
 use Rattle.micro_word.specs.declared.statement.Mem.TheVariants as mems
 use Rattle.micro_word.specs.declared.statement.Placed.{Placed}
 use Rattle.mic_clock.specs.Meaning.{Outcome, Done, refusal_in, untaken_by, given_by, ReadsConsole, WritesConsole, UsesConsole}
 use Rattle.datapath.specs.Memory.{access_refusal, word_under_way, byte_under_way, written, sampled, outcome}
-use Rattle.mic1_datapath.specs.Microstep.{ports_of, result_of, settled, moved, refusal, clock, world_after}
+use Rattle.mic1_datapath.specs.Microstep.{assigned, ports_of, result_of, settled, moved, refusal, clock, world_after}
 use Rattle.datapath.specs.Access.{IsAccess, is_read, is_access}
 use Rattle.mic1_datapath.specs.Mic1.{microstep, step_of_word, mic1_meaning}
 use Rattle.mic1_datapath.specs.Micro.{Micro}
@@ -30,6 +32,21 @@ pub record IsAsked (s : Placed) (m : Micro) (p : Asked) : Type 0 where
   pub given : p.ports ≡ ports_of (settled s.part m)
   pub memory : p.mem ≡ s.part.mem
   pub fetched : p.fetch ≡ s.part.fetch
+
+-- what is asked is asked for the statement of the word that was set up
+pub is_asked : (word : ℕ) (m : Micro) (value c dests : ℕ) (ports : Ports) (mem : Mem) (fetch : Bool) →
+    value ≡ result_of (statement_of machines.Mic1 word).part m → c ≡ shifted (statement_of machines.Mic1 word).part.shift value →
+    dests ≡ (fields_of machines.Mic1 word).c → ports ≡ ports_of (assigned dests c m) →
+    mem ≡ mem_of (fields_of machines.Mic1 word).mem → fetch ≡ ((fields_of machines.Mic1 word).fetch == 1) →
+    IsAsked (statement_of machines.Mic1 word) m (record { ports = ports; mem = mem; fetch = fetch })
+unfolding statement_of
+is_asked word m value c dests ports mem fetch value_is c_is dests_are ports_are mem_is fetch_is =
+    let v = c_is ∙ ap (λ (x : ℕ). shifted (statement_of machines.Mic1 word).part.shift x) value_is in
+    record {
+      given = ports_are ∙ (λ i. ports_of (assigned (dests_are i) (v i) m));
+      memory = mem_is;
+      fetched = fetch_is;
+    }
 
 same_refusal : (s : Placed) (m : Micro) (p : Asked) → IsAsked s m p → (n : ℕ) → refusal n s m ≡ access_refusal n p.mem p.fetch p.ports
 same_refusal s m p h n = sym (λ i. access_refusal n (h.memory i) (h.fetched i) (h.given i))

@@ -1,7 +1,7 @@
-use Rattle.std.proofs.Common.{◌≡◌, ℕ, ◌==◌, Option, true, refl, sym, ap, ◌∙◌, arith, rules}
+use Rattle.std.proofs.Common.{◌≡◌, ℕ, ◌<◌, true, subst, sym, ap, ◌∙◌, arith}
+use Rattle.machine_words.specs.Arithmetic.{signed_byte}
 use Rattle.machine_words.specs.declared.machine.Machine.TheVariants.{Mic1}
-use Rattle.micro_word.specs.Canonical.{Spells, Valid}
-use Rattle.micro_word.specs.Coding.{statement_of, addr_bits, jam_bits}
+use Rattle.micro_word.specs.Coding.{statement_of}
 use Rattle.micro_word.specs.Operation.{shifted}
 use Rattle.micro_word.specs.declared.layout.Fields.{Fields}
 use Rattle.datapath.specs.Places.{registers_at}
@@ -42,4 +42,16 @@ returns-clause-micro c =
       byte = (ap (λ (x : ℕ). under_way (fetches c.args.word) x) c.unwrap_or-self-2.ensures ∙ kept_under_way c.args.sampled.byte _ c.args.self.now.byte c.requires.byte_sampled) i;
       entry = c.args.self.now.entry;
       clocked = true;
+    }
+
+pub returns-clause-latches : goal.returns-clause-latches
+returns-clause-latches c =
+    let was = c.settle.ensures.others in
+    let old = c.requires.latches in
+    let mbr = was 10 (omega arith) (omega arith) in
+    record {
+      mpc = c.next_address-self.ensures.small;
+      mbr = c.load_mbr.ensures.byte (subst (λ (x : ℕ). x < 256) (sym mbr) old.mbr);
+      signed = c.load_mbr.ensures.mbr (was 9 (omega arith) (omega arith) ∙ old.signed ∙ ap signed_byte (sym mbr));
+      nothing = c.load_mbr.ensures.others 13 (omega arith) (omega arith) ∙ was 13 (omega arith) (omega arith) ∙ old.nothing;
     }

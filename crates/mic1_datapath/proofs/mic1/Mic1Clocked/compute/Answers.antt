@@ -45,4 +45,5 @@ returns-clause-value c =
     let gates = c.gates-gates.ensures ∙ ap (λ (f : Fields). f.gates) spelled.fields in
     let x : c.operate-value.result ≡ result_of s.part (micro_in old.latches) =
     c.operate-value.ensures s.part.op (sym gates) ∙ ap (λ (x : ℕ). alu s.part.op (micro_in old.latches).h x) (old.drove c.requires) in
-    ?
+    let shift = c.shift_by-c.ensures ∙ (λ i. shifted (shift_of (c.shift.ensures i)) (x i)) in
+    λ i. record { alu = record { value = x i; n = is_negative (x i); z = x i == 0 }; c = shift i }
