@@ -9,7 +9,7 @@ ghost use Rattle.mic_clock.specs.Edge.{AsksNoMore};
 ghost use Rattle.datapath.specs.Memory.{memory_refusal, byte_refusal, access_refusal, byte_under_way, ports_with};
 ghost use Rattle.datapath.specs.Access.{IsAccess, IsTransfer, is_read, is_access};
 
-use crate::memory::{access_memory, is_in_memory};
+use crate::memory::{access_memory, is_in_memory, is_quiet, no_access};
 use crate::ports::Ports;
 use console_port::{Bus, BusFault};
 use mic_base::{Sink, Source};
@@ -138,7 +138,7 @@ fn access_tested<S: Source, K: Sink>(
     Ok(Sampled { word, byte })
 }
 
-/// Does what a cycle does on the bus. Most cycles reach memory alone.
+/// Does what a cycle does on the bus. Most cycles do nothing, and most others reach memory alone.
 pub fn access<S: Source, K: Sink>(
     mem: Mem,
     fetch: bool,
@@ -165,6 +165,9 @@ pub fn access<S: Source, K: Sink>(
     ensures flushed { result ≢ Err BusFault.WriteFault → StaysFlushed (K.held sink.old) (K.passed sink.old) (K.held sink.new) (K.passed sink.new) }
     ensures cause { HasFaultCause (S.faults source.old) (S.faults source.new) (K.faults sink.old) (K.faults sink.new) result }
 {
+    if is_quiet(mem, fetch) {
+        return Ok(no_access(mem, fetch, ports, bus));
+    }
     if is_in_memory(mem, fetch, ports.mar, ports.pc, bus) {
         return Ok(access_memory(mem, fetch, ports, bus));
     }

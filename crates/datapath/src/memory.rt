@@ -1,6 +1,6 @@
 //! The accesses of a cycle that reach memory alone, which none refuses and no fault stops.
 
-ghost use Rattle.std.specs.Prelude.{◌≡◌, ◌<◌, ◌/◌, ℕ, None, is_some, length, true};
+ghost use Rattle.std.specs.Prelude.{◌≡◌, ◌<◌, ◌/◌, ℕ, None, is_some, length, true, false};
 ghost use Rattle.console_port.specs.Bus.{ChangesOnly};
 ghost use Rattle.console_port.specs.World.{World};
 ghost use Rattle.datapath.specs.Memory.{access_refusal, memory_refusal};
@@ -21,6 +21,29 @@ pub fn is_in_memory(mem: Mem, fetch: bool, mar: u32, pc: u32, bus: &Bus) -> bool
     match mem {
         Mem::None => true,
         _ => bus.has(mar),
+    }
+}
+
+/// Whether nothing is accessed.
+pub fn is_quiet(mem: Mem, fetch: bool) -> bool
+    ensures { result ≡ true → (mem ≡ Mem.None) × (fetch ≡ false) }
+{
+    mem == Mem::None && !fetch
+}
+
+/// What no access samples.
+pub fn no_access(mem: Mem, fetch: bool, ports: &Ports, bus: &Bus) -> Sampled
+    requires mem { mem ≡ Mem.None }
+    requires fetch { fetch ≡ false }
+    ensures clear { access_refusal (length bus.now.words) mem fetch ports.now ≡ None }
+    ensures access { (w : World) → w.words ≡ bus.now.words →
+        IsAccess (length bus.now.words) mem fetch ports.now w result.word result.byte w }
+    ensures word { is_some result.word ≡ is_read mem }
+    ensures byte { is_some result.byte ≡ fetch }
+{
+    Sampled {
+        word: None,
+        byte: None,
     }
 }
 

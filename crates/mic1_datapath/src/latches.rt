@@ -1,6 +1,6 @@
 //! What Mic-1 keeps between cycles.
 
-ghost use Rattle.std.specs.Prelude.{◌≡◌, ◌≢◌, ◌<◌, ℕ, IsTrue, is_some, slice_index};
+ghost use Rattle.std.specs.Prelude.{◌≡◌, ◌≢◌, ◌<◌, ℕ, IsTrue, is_some, slice_index, unwrap_or};
 ghost use Rattle.machine_words.specs.Arithmetic.{signed_byte};
 ghost use Rattle.machine_words.specs.declared.machine.Machine.TheVariants.{Mic1};
 ghost use Rattle.micro_word.specs.Canonical.{is_canonical};
@@ -66,6 +66,23 @@ fn taken_byte(is: bool, byte: u8) -> Option<u8>
     ensures { result ≡ under_way is byte }
 {
     if is { Some(byte) } else { None }
+}
+
+/// Keeps what was sampled, if something was.
+fn take(sampled: Option<u32>, kept: &mut u32)
+    ensures { kept.new ≡ unwrap_or sampled kept.old }
+{
+    if let Some(word) = sampled {
+        *kept = word;
+    }
+}
+
+fn take_byte(sampled: Option<u8>, kept: &mut u8)
+    ensures { kept.new ≡ unwrap_or sampled kept.old }
+{
+    if let Some(byte) = sampled {
+        *kept = byte;
+    }
 }
 
 /// A byte that arrives becomes MBR, in both its forms.
@@ -173,8 +190,8 @@ impl Latches {
             value,
             self.places[MBRU] as u8,
         );
-        self.word = sampled.word.unwrap_or(self.word);
-        self.byte = sampled.byte.unwrap_or(self.byte);
+        take(sampled.word, &mut self.word);
+        take_byte(sampled.byte, &mut self.byte);
         self.before = word;
         self.clocked = true;
     }
