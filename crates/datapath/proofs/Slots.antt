@@ -5,7 +5,7 @@ use Rattle.std.proofs.lemmas.Bool.{cases_eq, cases_lt}
 use Rattle.micro_word.specs.Lines.{AreSlots, IsSlot, names}
 
 slot_within : (c place : ℕ) → IsSlot c place → place < 16
-slot_within c place slot = elim (cases_eq place 15) [ | inl is ↦ omega (arith, is) | inr other ↦ omega (arith, (slot other).0) ]
+slot_within c place slot = elim (cases_eq place 15) [ inl is ↦ omega (arith, is) | inr other ↦ omega (arith, (slot other).0) ]
 
 -- a place below 9 that the field does not name is no slot
 not_slot : (c place k : ℕ) → IsSlot c place → k < 9 → names c k ≡ false → k ≢ place

@@ -2,15 +2,15 @@
 #![tactic(auto)]
 
 pub mod accesses;
-pub mod c_bus;
-pub mod memory;
-pub mod jam;
 pub mod alu;
+pub mod c_bus;
+pub mod jam;
+pub mod memory;
 pub mod ports;
 
 pub use accesses::{Sampled, access, check_memory, transfer};
-pub use c_bus::{Places, arrived, port, settle};
-pub use memory::{access_memory, is_in_memory};
-pub use jam::next_address;
 pub use alu::{operate, shift_by};
+pub use c_bus::{Places, arrived, port, settle};
+pub use jam::next_address;
+pub use memory::{access_memory, is_in_memory};
 pub use ports::Ports;
