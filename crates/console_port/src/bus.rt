@@ -55,7 +55,8 @@ impl Bus {
         write_image(&mut self.words, text, pool);
     }
 
-    fn has(&self, at: u32) -> bool
+    /// Whether a memory word is there.
+    pub fn has(&self, at: u32) -> bool
         ensures { IsTrue result ↔ (at < length self.now.words) }
     {
         (at as usize) < self.words.len()
@@ -204,6 +205,15 @@ impl Bus {
         ensures { result ≡ slice_index self.now.words at }
     {
         self.words[at as usize]
+    }
+
+    /// Stores a memory word.
+    pub fn set_word(&mut self, at: u32, value: u32)
+        requires { at < length self.old.words }
+        ensures words { self.new.words ≡ slice_set self.old.words at value }
+        ensures console { self.new.console ≡ self.old.console }
+    {
+        self.words[at as usize] = value;
     }
 
     /// The byte at a byte address of the memory.

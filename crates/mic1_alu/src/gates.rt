@@ -1,7 +1,7 @@
 //! The gates of the ALU.
-ghost use Rattle.std.specs.Prelude.{◌≡◌, ◌==◌, if◌then◌else◌};
+ghost use Rattle.std.specs.Prelude.{◌≡◌, ◌/◌, ◌%◌, ◌==◌, if◌then◌else◌};
 ghost use Rattle.machine_words.specs.Arithmetic.{is_negative};
-ghost use Rattle.mic1_alu.specs.Gates.{enabled, combined, gates};
+ghost use Rattle.mic1_alu.specs.Gates.{enabled, combined, gates, controls_of};
 
 use crate::controls::Controls;
 
@@ -47,4 +47,20 @@ pub fn alu(controls: Controls, a: u32, b: u32) -> AluOut
         n: value >= 0x8000_0000,
         z: value == 0,
     }
+}
+
+/// The value of the same six bits, where ENA and INVA reach each bit of a word and B is 0 when ENB is off.
+pub fn alu_by_lines(bits: u8, ena: u32, inva: u32, a: u32, b: u32) -> u32
+    requires ena { ena ≡ enabled (bits / 8 % 2 == 1) 0xFFFFFFFF }
+    requires inva { inva ≡ enabled (bits / 2 % 2 == 1) 0xFFFFFFFF }
+    requires b { enabled (bits / 4 % 2 == 1) b ≡ b }
+    ensures { result ≡ gates (controls_of bits) a b }
+{
+    combine(
+        bits / 32 % 2 == 1,
+        bits / 16 % 2 == 1,
+        bits % 2 == 1,
+        (a & ena) ^ inva,
+        b,
+    )
 }

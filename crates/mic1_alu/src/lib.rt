@@ -9,6 +9,6 @@ mod table;
 mod tests;
 
 pub use controls::Controls;
-pub use gates::{AluOut, alu};
+pub use gates::{AluOut, alu, alu_by_lines};
 pub use shifter::shift;
 pub use table::each_row_computes;

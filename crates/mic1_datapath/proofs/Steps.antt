@@ -1,4 +1,4 @@
--- What is prepared of a statement, with its accesses, is its microstep or its refusal.
+-- What is asked of the bus for a statement, with its accesses, is its microstep or its refusal.
 use Rattle.std.proofs.Common.{◌≡◌, ℕ, ◌%◌, ◌≤◌, ◌==◌, ◌&&◌, Bool, true, false, IsTrue, List, [], ◌∷◌, ◌++◌, drop, Option, Some, None, Result, Err, length, inl, inr, refl, sym, ap, subst, ◌∙◌, arith}
 use Rattle.std.specs.Prelude.{nat_lt}
 use Rattle.std.proofs.lemmas.Bool.Decides.{nat_tests}
@@ -7,20 +7,48 @@ use Rattle.console_port.specs.Bus.{refused_by}
 use Rattle.console_port.specs.Console.{IsFault}
 use Rattle.console_port.specs.declared.fault.BusFault.{BusFault}
 use Rattle.machine_words.specs.declared.machine.Machine.TheVariants as machines
-use Rattle.micro_word.specs.Coding.{statement_of}
+use Rattle.micro_word.specs.Coding.{statement_of, mem_of}
+use Rattle.micro_word.specs.Layout.{fields_of}
+use Rattle.micro_word.specs.Operation.{shifted}
 use Rattle.micro_word.specs.declared.statement.Mem.{Mem}
 use Rattle.micro_word.specs.declared.statement.Mem.TheVariants as mems
 use Rattle.micro_word.specs.declared.statement.Placed.{Placed}
 use Rattle.mic_clock.specs.Meaning.{Outcome, Done, refusal_in, untaken_by, given_by, ReadsConsole, WritesConsole, UsesConsole}
-use Rattle.mic1_datapath.specs.Microstep.{ports_of, result_of, settled, moved, access_refusal, refusal, clock, world_after, word_under_way, byte_under_way, written, sampled}
-use Rattle.mic1_datapath.specs.Access.{IsAccess, is_read, is_access}
-use Rattle.mic1_datapath.specs.Prepared.{IsPrepared}
-use Rattle.mic1_datapath.specs.Mic1.{outcome, microstep, step_of_word, mic1_meaning}
-use Rattle.mic1_datapath.specs.declared.micro.Micro.{Micro}
-use Rattle.mic1_datapath.specs.declared.ports.Ports.{Ports}
-use Rattle.mic1_datapath.specs.declared.prepare.Prepared.{Prepared}
+use Rattle.datapath.specs.Memory.{access_refusal, word_under_way, byte_under_way, written, sampled, outcome}
+use Rattle.mic1_datapath.specs.Microstep.{assigned, ports_of, result_of, settled, moved, refusal, clock, world_after}
+use Rattle.datapath.specs.Access.{IsAccess, is_read, is_access}
+use Rattle.mic1_datapath.specs.Mic1.{microstep, step_of_word, mic1_meaning}
+use Rattle.mic1_datapath.specs.Micro.{Micro}
+use Rattle.datapath.specs.declared.ports.Ports.{Ports}
 
-same_refusal : (s : Placed) (m : Micro) (p : Prepared) → IsPrepared s m p → (n : ℕ) → refusal n s m ≡ access_refusal n p.mem p.fetch p.ports
+-- what a cycle asks of the bus
+pub record Asked : Type 0 where
+  pub ports : Ports
+  pub mem : Mem
+  pub fetch : Bool
+
+-- the accesses of a statement, and what the ports are given for them
+pub record IsAsked (s : Placed) (m : Micro) (p : Asked) : Type 0 where
+  pub given : p.ports ≡ ports_of (settled s.part m)
+  pub memory : p.mem ≡ s.part.mem
+  pub fetched : p.fetch ≡ s.part.fetch
+
+-- what is asked is asked for the statement of the word that was set up
+pub is_asked : (word : ℕ) (m : Micro) (value c dests : ℕ) (ports : Ports) (mem : Mem) (fetch : Bool) →
+    value ≡ result_of (statement_of machines.Mic1 word).part m → c ≡ shifted (statement_of machines.Mic1 word).part.shift value →
+    dests ≡ (fields_of machines.Mic1 word).c → ports ≡ ports_of (assigned dests c m) →
+    mem ≡ mem_of (fields_of machines.Mic1 word).mem → fetch ≡ ((fields_of machines.Mic1 word).fetch == 1) →
+    IsAsked (statement_of machines.Mic1 word) m (record { ports = ports; mem = mem; fetch = fetch })
+unfolding statement_of
+is_asked word m value c dests ports mem fetch value_is c_is dests_are ports_are mem_is fetch_is =
+    let v = c_is ∙ ap (λ (x : ℕ). shifted (statement_of machines.Mic1 word).part.shift x) value_is in
+    record {
+      given = ports_are ∙ (λ i. ports_of (assigned (dests_are i) (v i) m));
+      memory = mem_is;
+      fetched = fetch_is;
+    }
+
+same_refusal : (s : Placed) (m : Micro) (p : Asked) → IsAsked s m p → (n : ℕ) → refusal n s m ≡ access_refusal n p.mem p.fetch p.ports
 same_refusal s m p h n = sym (λ i. access_refusal n (h.memory i) (h.fetched i) (h.given i))
 
 abbrev step_on : ℕ → Placed → Micro → World → Outcome Micro
@@ -29,7 +57,7 @@ step_on n s m w = outcome (refusal n s m) (clock n s m w) (world_after n s m w)
 abbrev moved_on : Placed → Micro → Option ℕ → Option ℕ → Micro
 moved_on s m word byte = moved s.next (result_of s.part m) (settled s.part m) word byte
 
-pub is_done : (s : Placed) (m : Micro) (p : Prepared) → IsPrepared s m p → (w v : World) (n : ℕ) → length w.words ≡ n → (word byte : Option ℕ) →
+pub is_done : (s : Placed) (m : Micro) (p : Asked) → IsAsked s m p → (w v : World) (n : ℕ) → length w.words ≡ n → (word byte : Option ℕ) →
     access_refusal n p.mem p.fetch p.ports ≡ None → IsAccess n p.mem p.fetch p.ports w word byte v →
     (t : Micro) → t ≡ moved_on s m word byte → microstep s m w ≡ Done t v
 is_done s m p h w v n size word byte clear a t moves =
@@ -48,7 +76,7 @@ answered : (r : Option Refusal) (m : Micro) (w : World) → refusal_in (outcome 
 answered (Some why) m w = refl
 answered None m w = refl
 
-module _ (s : Placed) (m : Micro) (p : Prepared) (h : IsPrepared s m p) (n : ℕ) (w : World) (size : length w.words ≡ n) where
+module _ (s : Placed) (m : Micro) (p : Asked) (h : IsAsked s m p) (n : ℕ) (w : World) (size : length w.words ≡ n) where
   -- the step's refusal is that of its accesses
   pub step_refusal : refusal_in (microstep s m w) ≡ refused_by (access_refusal n p.mem p.fetch p.ports)
   step_refusal =
@@ -92,7 +120,7 @@ module _ (n : ℕ) (q : Ports) (behind : n ≤ q.mar) where
   unfolding given_after
   gives w = rw off
 
-module _ (word : ℕ) (m : Micro) (p : Prepared) (h : IsPrepared (statement_of machines.Mic1 word) m p) (n : ℕ) (w : World) (size : length w.words ≡ n)
+module _ (word : ℕ) (m : Micro) (p : Asked) (h : IsAsked (statement_of machines.Mic1 word) m p) (n : ℕ) (w : World) (size : length w.words ≡ n)
     (clear : access_refusal n p.mem p.fetch p.ports ≡ None) (behind : n ≤ p.ports.mar) where
   reads_by : is_read p.mem ≡ true → ReadsConsole mic1_meaning word m w
   unfolding step_of_word

@@ -1,7 +1,6 @@
+pub mod Micro
 pub mod Microstep
-pub mod Jam
-pub mod Access
-pub mod Prepared
 pub mod Stage
 pub mod Mic1
+pub mod Latches
 pub mod View

@@ -1,6 +1,6 @@
 -- What Mic-1 means as a clocked machine: the microstep of the statement that a word spells.
-use Rattle.std.specs.Prelude.{◌≡◌, ℕ, Bool, true, false, ◌&&◌, ◌==◌, List, Option, Some, None, length}
-use Rattle.console_port.specs.World.{World, Refusal, byte_in}
+use Rattle.std.specs.Prelude.{◌≡◌, ℕ, Bool, true, false, ◌&&◌, ◌==◌, List, None, length}
+use Rattle.console_port.specs.World.{World, byte_in}
 use Rattle.micro_word.specs.declared.statement.Placed.{Placed}
 use Rattle.machine_words.specs.declared.machine.Machine.TheVariants as machines
 use Rattle.micro_word.specs.Coding.{statement_of}
@@ -11,12 +11,10 @@ use Rattle.mic_clock.specs.declared.buses.Computed.{Computed}
 use Rattle.mic_clock.specs.declared.registers.Registers.{Registers}
 use Rattle.mic_clock.specs.declared.registers.Start.{Start}
 use Rattle.mic_clock.specs.declared.registers.Tail.TheVariants.{Mbr}
-use Rattle.mic_clock.specs.Meaning.{Meaning, Outcome, Done, unless_refused}
+use Rattle.mic_clock.specs.Meaning.{Meaning, Outcome}
+use Rattle.datapath.specs.Memory.{outcome}
 use Rattle.mic1_datapath.specs.Microstep.{source, result_of, clock, world_after, refusal}
-use Rattle.mic1_datapath.specs.declared.micro.Micro.{Micro}
-
-abbrev pub outcome : Option Refusal → Micro → World → Outcome Micro
-outcome refusal m w = unless_refused refusal (Done m w)
+use Rattle.mic1_datapath.specs.Micro.{Micro}
 
 abbrev pub microstep : Placed → Micro → World → Outcome Micro
 microstep s m w = outcome (refusal (length w.words) s m) (clock (length w.words) s m w) (world_after (length w.words) s m w)

@@ -2,11 +2,12 @@
 use Rattle.std.specs.Prelude.{ℕ}
 use Rattle.mic_clock.specs.Meaning.{Phase}
 use Rattle.mic1_datapath.specs.Stage.{phase_of}
-use Rattle.mic1_datapath.specs.declared.micro.Micro.{Micro}
+use Rattle.mic1_datapath.specs.Micro.{Micro}
+use Rattle.mic1_datapath.specs.Latches.{micro_in}
 use Rattle.mic1_datapath.specs.declared.mic1.Mic1.{Mic1}
 
 abbrev pub micro_of : Mic1 → Micro
-micro_of t = t.micro
+micro_of t = micro_in t.latches
 
 abbrev pub phase : Mic1 → Phase
 phase t = phase_of t.stage

@@ -7,7 +7,7 @@ ghost use Rattle.micro_word.specs.declared.statement.Placed.{Placed};
 ghost use Rattle.micro_word.specs.Coding.{word_of};
 ghost use Rattle.micro_word.specs.Canonical.{is_valid};
 ghost use Rattle.mic1_datapath.specs.Mic1.{step_of_word, microstep};
-ghost use Rattle.mic1_datapath.specs.declared.micro.Micro.{Micro};
+ghost use Rattle.mic1_datapath.specs.Micro.{Micro};
 
 use machine_words::Machine;
 use micro_word::statement_law;

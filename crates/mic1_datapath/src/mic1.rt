@@ -1,67 +1,55 @@
-ghost use Rattle.std.specs.Prelude.{◌≡◌, ◌<◌, IsTrue, refl};
+//! The machine: its four calls, which are the book's subcycles.
+
+ghost use Rattle.std.specs.Prelude.{◌≡◌, IsTrue, refl};
 ghost use Rattle.machine_words.specs.declared.machine.Machine.TheVariants.{Mic1 as Mic1Machine};
 ghost use Rattle.micro_word.specs.Canonical.{is_canonical};
+ghost use Rattle.micro_word.specs.Coding.{statement_of};
+ghost use Rattle.micro_word.specs.Layout.{fields_of};
+ghost use Rattle.micro_word.specs.Lines.{AreLines};
+ghost use Rattle.micro_word.specs.Operation.{shifted};
 ghost use Rattle.mic_clock.specs.Meaning.{Driven, AtEdge};
 ghost use Rattle.mic1_datapath.specs.Stage.{phase_of};
-ghost use Rattle.mic1_datapath.specs.Mic1.{initial as initial_of, driven, computed as computed_of};
+ghost use Rattle.mic1_datapath.specs.Microstep.{source, result_of};
+ghost use Rattle.mic1_datapath.specs.Latches.{AreLatches, micro_in};
 
-use crate::access::access;
-use crate::advance::advance;
-use crate::b_bus::b_bus;
-use crate::micro::Micro;
-use crate::operate::{operate, shift_by};
-use crate::prepare::prepare;
+use crate::latches::{IDLE, Latches};
 use crate::stage::Stage;
 use console_port::{Bus, BusFault};
+use datapath::{access, operate, shift_by};
 use mic_base::{Sink, Source};
 use mic_clock::{Clocked, Computed, Drive, Registers, Start, Tail};
-use micro_word::{Machine, Store, Word1, fields1};
+use mic1_alu::AluOut;
+use micro_word::{Lines, Machine, Mem, Store, Word1, bits, fields1, statement_law, word_law};
 
-/// The word of `goto 0x000`.
-const IDLE: u64 = 0x10_0009;
+const H: usize = 8;
 
-/// Mic-1. A microinstruction is decoded in each call, for the bits that the call needs.
+const MBRU: usize = 10;
+
+/// Mic-1. Most of a microinstruction is decoded before, into its control lines.
 #[derive(Drop)]
 pub struct Mic1 {
-    micro: Micro,
+    latches: Latches,
     stage: Stage,
-    /// The microinstruction that was set up last.
+    /// The microinstruction that was set up last, and its control lines.
     word: u64,
-    /// What drives the operand buses.
-    drive: Drive,
-    /// What the ALU and the shifter give of it.
-    computed: Computed,
-    ghost small: { micro.mpc < 512 },
+    lines: Lines,
+    /// What is on the B bus.
+    b: u32,
+    /// What leaves the ALU.
+    value: u32,
+    /// What is on the C bus.
+    c: u32,
+    ghost kept: { AreLatches latches },
     ghost canonical: { IsTrue (is_canonical Mic1Machine word) },
-    ghost drove: { phase_of stage ≡ Driven → drive ≡ driven word micro },
-    ghost settled: { phase_of stage ≡ AtEdge → computed ≡ computed_of word micro },
-}
-
-fn initial(start: &Start) -> Micro
-    ensures { result ≡ initial_of start.now }
-{
-    Micro {
-        mar: 0,
-        mdr: 0,
-        pc: 0xFFFF_FFFF,
-        sp: start.sp,
-        lv: 0x8000,
-        cpp: 0x4000,
-        tos: 0,
-        opc: 0,
-        h: 0,
-        mbr: 0,
-        mpc: start.entry,
-        word: None,
-        byte: None,
-        entry: start.entry,
-        clocked: false,
-    }
+    ghost decoded: { AreLines Mic1Machine (fields_of Mic1Machine word) lines },
+    ghost drove: { phase_of stage ≡ Driven → b ≡ source (statement_of Mic1Machine word).part.b (micro_in latches) },
+    ghost computed: { phase_of stage ≡ AtEdge → value ≡ result_of (statement_of Mic1Machine word).part (micro_in latches) },
+    ghost shifted_by: { phase_of stage ≡ AtEdge → c ≡ shifted (statement_of Mic1Machine word).part.shift value },
 }
 
 impl Mic1 {
     ghost use Rattle.mic_clock.specs.Meaning.{AtRest};
-    ghost use Rattle.mic1_datapath.specs.Mic1.{at_zero};
+    ghost use Rattle.mic1_datapath.specs.Mic1.{at_zero, initial as initial_of};
     ghost use Rattle.mic1_datapath.specs.View.{micro_of, phase};
 
     /// As a reset at entry 0 with SP 0 leaves it.
@@ -70,21 +58,23 @@ impl Mic1 {
         ensures phase { phase result ≡ AtRest }
     {
         Mic1 {
-            micro: initial(&Start {
+            latches: Latches::initial(&Start {
                 entry: 0,
                 sp: 0,
                 first: 0,
             }),
             stage: Stage::Setup,
             word: IDLE,
-            drive: Drive::ZERO,
-            computed: Computed::ZERO,
+            lines: Lines::of_fields(Machine::Mic1, &fields1(IDLE)),
+            b: 0,
+            value: 0,
+            c: 0,
         }
     }
 }
 
 impl Clocked for Mic1 {
-    ghost use Rattle.mic1_datapath.specs.declared.micro.Micro.{Micro};
+    ghost use Rattle.mic1_datapath.specs.Micro.{Micro};
     ghost use Rattle.mic1_datapath.specs.Mic1.{mic1_meaning, IsReady as IsReadyAt};
     ghost use Rattle.mic1_datapath.specs.View.{micro_of, phase, microinstruction_of};
 
@@ -108,32 +98,46 @@ impl Clocked for Mic1 {
 
     fn reset(&mut self, start: &Start) {
         self.stage = Stage::Setup;
-        self.micro = initial(start);
+        self.latches = Latches::initial(start);
     }
 
     fn setup(&mut self, store: &Store) {
         self.stage = Stage::Drive;
-        self.word = store.word(self.micro.mpc);
+        self.word = store.word(self.latches.mpc);
+        self.lines = store.lines(self.latches.mpc);
     }
 
     fn drive(&mut self) -> Drive {
-        let drive = Drive {
-            a: self.micro.h,
-            b: b_bus(fields1(self.word).b, &self.micro),
-            stalled: false,
-        };
-        self.drive = drive;
+        word_law(Machine::Mic1);
+        statement_law(Machine::Mic1);
+        // Loaded before the stage is written, so that no store stands between.
+        let b = self.latches.places[self.lines.b as usize];
+        self.b = b;
         self.stage = Stage::Compute;
-        drive
+        Drive {
+            a: self.latches.places[H],
+            b,
+            stalled: false,
+        }
     }
 
     fn compute(&mut self) -> Computed {
-        let alu = operate(self.word, self.drive.a, self.drive.b);
-        let c = shift_by(self.word, alu.value);
-        let computed = Computed { alu, c };
-        self.computed = computed;
+        word_law(Machine::Mic1);
+        statement_law(Machine::Mic1);
+        let gates = bits::gates(Machine::Mic1, self.word);
+        let value = operate(gates, &self.lines, self.latches.places[H], self.b);
+        let c = shift_by(bits::shift(Machine::Mic1, self.word), value);
+        self.value = value;
+        self.c = c;
         self.stage = Stage::Edge;
-        computed
+        Computed {
+            alu: AluOut {
+                value,
+                n: value >= 0x8000_0000,
+                z: value == 0,
+            },
+            c,
+        }
     }
 
     fn edge<S: Source, K: Sink>(
@@ -142,17 +146,16 @@ impl Clocked for Mic1 {
         source: &mut S,
         sink: &mut K,
     ) -> Result<(), BusFault> {
-        let asked = prepare(self.word, &self.micro, self.computed);
+        let mem = Mem::of_bits(bits::mem(Machine::Mic1, self.word));
+        let fetch = bits::fetch(Machine::Mic1, self.word);
+        let ports = self
+            .latches
+            .ports(bits::destinations(Machine::Mic1, self.word), self.c);
         self.stage = Stage::Setup;
-        match access(asked.mem, asked.fetch, &asked.ports, bus, source, sink) {
+        match access(mem, fetch, &ports, bus, source, sink) {
             Ok(sampled) => {
-                advance(
-                    self.word,
-                    self.computed,
-                    asked.ports,
-                    sampled,
-                    &mut self.micro,
-                );
+                self.latches
+                    .advance(self.word, &self.lines, self.value, self.c, sampled);
                 Ok(())
             }
             Err(fault) => Err(fault),
@@ -160,32 +163,32 @@ impl Clocked for Mic1 {
     }
 
     fn registers(&self) -> Registers {
-        let m = self.micro;
+        let places = self.latches.places;
         Registers {
-            mar: m.mar,
-            mdr: m.mdr,
-            pc: m.pc,
-            sp: m.sp,
-            lv: m.lv,
-            cpp: m.cpp,
-            tos: m.tos,
-            opc: m.opc,
-            h: m.h,
-            mpc: m.mpc,
-            tail: Tail::Mbr(m.mbr),
+            mar: places[0],
+            mdr: places[1],
+            pc: places[2],
+            sp: places[3],
+            lv: places[4],
+            cpp: places[5],
+            tos: places[6],
+            opc: places[7],
+            h: places[H],
+            mpc: self.latches.mpc,
+            tail: Tail::Mbr(places[MBRU] as u8),
         }
     }
 
     fn at_boundary(&self) -> bool {
-        self.micro.clocked && self.micro.mpc == self.micro.entry
+        self.latches.clocked && self.latches.mpc == self.latches.entry
     }
 
     fn instruction_address(&self) -> u32 {
-        self.micro.pc
+        self.latches.places[2]
     }
 
     fn mpc(&self) -> u16 {
-        self.micro.mpc
+        self.latches.mpc
     }
 
     ghost its_words = { refl };

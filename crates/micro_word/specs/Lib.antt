@@ -3,4 +3,5 @@ pub mod Destinations
 pub mod Layout
 pub mod Coding
 pub mod Canonical
+pub mod Lines
 pub mod ControlStore

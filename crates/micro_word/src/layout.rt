@@ -23,7 +23,7 @@ pub struct Fields {
 }
 
 /// The bits of a word from a place on, of this width.
-fn field(word: u64, place: u32, width: u32) -> u64
+pub(crate) fn field(word: u64, place: u32, width: u32) -> u64
     requires place { place < 64 }
     requires width { width < 64 }
     ensures { result ≡ word / 2 ^ place % 2 ^ width }

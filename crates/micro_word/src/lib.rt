@@ -1,12 +1,14 @@
 //! A microinstruction: its structured form, its word on each machine, and the control store.
 #![tactic(auto)]
 
+pub mod bits;
 mod bus;
 mod canonical;
 mod codes;
 mod destination;
 mod laws;
 mod layout;
+mod lines;
 mod operation;
 mod statement;
 mod store;
@@ -16,6 +18,7 @@ mod word;
 pub use destination::Destination;
 pub use laws::{statement_law, word_law};
 pub use layout::{Fields, fields1, fields2};
+pub use lines::{Lines, NOTHING, NOWHERE, is_named};
 pub use machine_words::Machine;
 pub use operation::Row;
 pub use statement::{AluOp, BusSource, Mem, Part, Placed, PlacedNext, Shift, Test};

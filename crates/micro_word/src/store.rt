@@ -2,7 +2,11 @@
 ghost use Rattle.std.specs.Prelude.{◌≡◌, ◌<◌, IsTrue, replicate, slice_index, slice_set};
 ghost use Rattle.micro_word.specs.Coding.{word_of};
 ghost use Rattle.micro_word.specs.Canonical.{is_valid, is_canonical};
+ghost use Rattle.micro_word.specs.Layout.{fields_of};
+ghost use Rattle.micro_word.specs.Lines.{AreLines};
 
+use crate::layout::{fields1, fields2};
+use crate::lines::Lines;
 use crate::statement::Placed;
 use crate::word::{encode1, encode2};
 use machine_words::Machine;
@@ -13,16 +17,18 @@ use std::marker::Model;
 pub struct Store {
     machine: Machine,
     words: [u64; 512],
+    /// The control lines of each word.
+    lines: [Lines; 512],
 }
 
 impl Model for Store {
-    ghost use Rattle.micro_word.specs.ControlStore.{ControlStore, AreCanonical};
+    ghost use Rattle.micro_word.specs.ControlStore.{ControlStore, IsKept};
 
     ghost Value = { ControlStore };
 
     ghost view = { λ s. record { machine = s.machine; words = s.words } };
 
-    ghost invariant = { λ s. AreCanonical s.machine s.words };
+    ghost invariant = { λ s. IsKept s.machine s.words s.lines };
 }
 
 fn word(machine: Machine, placed: &Placed) -> u64
@@ -36,6 +42,15 @@ fn word(machine: Machine, placed: &Placed) -> u64
     }
 }
 
+fn lines_of(machine: Machine, word: u64) -> Lines
+    ensures { AreLines machine (fields_of machine word) result }
+{
+    match machine {
+        Machine::Mic1 => Lines::of_fields(Machine::Mic1, &fields1(word)),
+        Machine::Mic2 => Lines::of_fields(Machine::Mic2, &fields2(word)),
+    }
+}
+
 impl Store {
     ghost use Rattle.micro_word.specs.ControlStore.{IsStore};
 
@@ -45,9 +60,11 @@ impl Store {
         ensures machine { result.machine ≡ machine }
         ensures words { result.words ≡ replicate 512 (word_of machine placed.now) }
     {
+        let word = word(machine, placed);
         Store {
             machine,
-            words: [word(machine, placed); 512],
+            words: [word; 512],
+            lines: [lines_of(machine, word); 512],
         }
     }
 
@@ -58,7 +75,9 @@ impl Store {
         ensures machine { self.new.machine ≡ self.old.machine }
         ensures words { self.new.words ≡ slice_set self.old.words address (word_of self.old.machine placed.now) }
     {
-        self.words[address as usize] = word(self.machine, placed);
+        let word = word(self.machine, placed);
+        self.words[address as usize] = word;
+        self.lines[address as usize] = lines_of(self.machine, word);
     }
 
     pub fn machine(&self) -> Machine
@@ -75,5 +94,13 @@ impl Store {
         ensures store { IsStore self.now }
     {
         self.words[address as usize]
+    }
+
+    /// The control lines of the word there.
+    pub fn lines(&self, address: u16) -> Lines
+        requires { address < 512 }
+        ensures { AreLines self.now.machine (fields_of self.now.machine (slice_index self.now.words address)) result }
+    {
+        self.lines[address as usize]
     }
 }

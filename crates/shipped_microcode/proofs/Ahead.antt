@@ -11,10 +11,12 @@ use Rattle.mic_clock.specs.declared.end.End.{End}
 use Rattle.mic_clock.specs.declared.end.End.TheVariants as ends
 use Rattle.mic_clock.specs.Meaning.{Outcome, Done, Refused}
 use Rattle.mic_clock.specs.Run.{MicroRun, turn, turn_by, turns, bounded, bounded_by, gone, stepped, end_before, word_at}
-use Rattle.mic1_datapath.specs.declared.micro.Micro.{Micro}
-use Rattle.mic1_datapath.specs.declared.ports.Ports.{Ports}
-use Rattle.mic1_datapath.specs.Microstep.{ports_of, result_of, settled, written, sampled, word_under_way, byte_under_way, moved, clock, world_after, refusal}
-use Rattle.mic1_datapath.specs.Mic1.{mic1_meaning, outcome, step_of_word}
+use Rattle.mic1_datapath.specs.Micro.{Micro}
+use Rattle.datapath.specs.declared.ports.Ports.{Ports}
+use Rattle.datapath.specs.Memory.{written, sampled, word_under_way, byte_under_way}
+use Rattle.mic1_datapath.specs.Microstep.{ports_of, result_of, settled, moved, clock, world_after, refusal}
+use Rattle.datapath.specs.Memory.{outcome}
+use Rattle.mic1_datapath.specs.Mic1.{mic1_meaning, step_of_word}
 use Rattle.shipped_microcode.proofs.Turns.{whole_turn}
 
 -- the second list is the first and a 0, or both are taken whole

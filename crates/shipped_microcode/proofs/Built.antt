@@ -8,8 +8,8 @@ use Rattle.machine_words.specs.declared.machine.Machine.{Machine}
 use Rattle.machine_words.specs.declared.machine.Machine.TheVariants.{Mic1}
 use Rattle.machine_words.specs.Arithmetic.{plus, next, signed_byte}
 use Rattle.console_port.specs.World.{World, Refusal, StackLimit, write_refusal, byte_in}
-use Rattle.mic1_datapath.specs.declared.micro.Micro.{Micro}
-use Rattle.mic1_datapath.specs.Microstep.{first_refusal}
+use Rattle.mic1_datapath.specs.Micro.{Micro}
+use Rattle.datapath.specs.Memory.{first_refusal}
 use Rattle.mic1_datapath.specs.Mic1.{mic1_meaning}
 use Rattle.ijvm_instr.specs.declared.instr.Instr.{Instr}
 use Rattle.ijvm_instr.specs.declared.instr.Instr.TheVariants.{Nop, Bipush, Iadd, Out, Halt}

@@ -5,7 +5,7 @@ use Rattle.machine_words.specs.Arithmetic.{wrap, plus, next, before, signed_byte
 use Rattle.console_port.specs.World.{World, read_value, byte_in}
 use Rattle.ijvm_run.specs.Frames.{State, frames_of, base}
 use Rattle.ijvm_run.specs.Step.{moved}
-use Rattle.mic1_datapath.specs.declared.micro.Micro.{Micro}
+use Rattle.mic1_datapath.specs.Micro.{Micro}
 use Rattle.shipped_microcode.specs.Shipped.{HasShipped}
 use Rattle.shipped_microcode.specs.Stands.{Origin, Stands}
 use Rattle.shipped_microcode.proofs.Accesses.{IsMap, Access}

@@ -8,9 +8,10 @@ use Rattle.micro_word.specs.declared.statement.Mem.{Mem}
 use Rattle.micro_word.specs.declared.statement.Mem.TheVariants.{None as Idle, Read, Write}
 use Rattle.mic_clock.specs.declared.end.End.{End}
 use Rattle.mic_clock.specs.Run.{MicroRun, turns}
-use Rattle.mic1_datapath.specs.declared.micro.Micro.{Micro}
-use Rattle.mic1_datapath.specs.declared.ports.Ports.{Ports}
-use Rattle.mic1_datapath.specs.Microstep.{ports_of, settled, written, sampled}
+use Rattle.mic1_datapath.specs.Micro.{Micro}
+use Rattle.datapath.specs.declared.ports.Ports.{Ports}
+use Rattle.datapath.specs.Memory.{written, sampled}
+use Rattle.mic1_datapath.specs.Microstep.{ports_of, settled}
 use Rattle.mic1_datapath.specs.Mic1.{mic1_meaning}
 use Rattle.shipped_microcode.proofs.Worlds.{turns_keep, between, behind_end}
 

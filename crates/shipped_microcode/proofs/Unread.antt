@@ -9,9 +9,10 @@ use Rattle.mic_clock.specs.declared.end.End.{End}
 use Rattle.mic_clock.specs.declared.end.End.TheVariants as ends
 use Rattle.mic_clock.specs.Meaning.{Outcome, Done, Refused, untaken_by, ReadsConsole}
 use Rattle.mic_clock.specs.Run.{MicroRun, turn, turn_by, turns, bounded, bounded_by, gone, stepped, word_at, IsClocking}
-use Rattle.mic1_datapath.specs.declared.micro.Micro.{Micro}
-use Rattle.mic1_datapath.specs.declared.ports.Ports.{Ports}
-use Rattle.mic1_datapath.specs.Microstep.{ports_of, settled, written, sampled}
+use Rattle.mic1_datapath.specs.Micro.{Micro}
+use Rattle.datapath.specs.declared.ports.Ports.{Ports}
+use Rattle.datapath.specs.Memory.{written, sampled}
+use Rattle.mic1_datapath.specs.Microstep.{ports_of, settled}
 use Rattle.mic1_datapath.specs.Mic1.{mic1_meaning, step_of_word}
 use Rattle.ijvm_run.specs.declared.run.RunEnd.{RunEnd}
 use Rattle.shipped_microcode.specs.Simulates.{end_of}

@@ -10,9 +10,10 @@ use Rattle.mic_clock.specs.declared.end.End.{End}
 use Rattle.mic_clock.specs.declared.end.End.TheVariants as ends
 use Rattle.mic_clock.specs.Meaning.{Outcome, Done, Refused}
 use Rattle.mic_clock.specs.Run.{MicroRun, turn, turn_by, turns, bounded, bounded_by, gone, stepped, end_before, word_at}
-use Rattle.mic1_datapath.specs.declared.micro.Micro.{Micro}
+use Rattle.mic1_datapath.specs.Micro.{Micro}
 use Rattle.mic1_datapath.specs.Microstep.{clock, world_after, refusal}
-use Rattle.mic1_datapath.specs.Mic1.{mic1_meaning, outcome, step_of_word}
+use Rattle.datapath.specs.Memory.{outcome}
+use Rattle.mic1_datapath.specs.Mic1.{mic1_meaning, step_of_word}
 use Rattle.shipped_microcode.proofs.Turns.{whole_turn, turns-add, ended_stays}
 
 module _ (words : List ℕ) (bound : ℕ) where

@@ -7,7 +7,7 @@ use Rattle.console_port.specs.Console.{Untaken}
 use Rattle.mic_clock.specs.View.{BoardView}
 use Rattle.mic_clock.specs.Meaning.{UsesConsole}
 use Rattle.mic_clock.specs.Run.{MicroRun, start_run, turns, word_at, IsClocking}
-use Rattle.mic1_datapath.specs.declared.micro.Micro.{Micro}
+use Rattle.mic1_datapath.specs.Micro.{Micro}
 use Rattle.mic1_datapath.specs.declared.mic1.Mic1.{Mic1}
 use Rattle.mic1_datapath.specs.Mic1.{mic1_meaning}
 use Rattle.mic1_datapath.specs.View.{micro_of}

@@ -2,7 +2,7 @@
 use Rattle.std.specs.Prelude.{◌≡◌, ℕ, ◌+◌, ◌<◌, ◌≤◌, List, [], ◌∷◌, ◌++◌, length, slice_index, slice_get, Option, Some, None, true}
 use Rattle.console_port.specs.World.{World, byte_in}
 use Rattle.ijvm_run.specs.Frames.{Frame, State, frames_of, operands_at, base, lv_of}
-use Rattle.mic1_datapath.specs.declared.micro.Micro.{Micro}
+use Rattle.mic1_datapath.specs.Micro.{Micro}
 
 -- what a run is over: the memory's words when it began, and the bytes that had been given before
 pub record Origin : Type 0 where

@@ -1,23 +1,49 @@
-use Rattle.std.proofs.Common.{◌≡◌, ℕ, ◌==◌, ap, ◌∙◌}
-use Rattle.micro_word.specs.Coding.{statement_of}
+use Rattle.std.proofs.Common.{◌≡◌, ℕ, ◌/◌, ◌%◌, ◌==◌, sym, ap, subst, ◌∙◌}
+use Rattle.micro_word.specs.Coding.{row, statement_of, shift_of}
 use Rattle.machine_words.specs.Arithmetic.{is_negative}
 use Rattle.micro_word.specs.Operation.{alu, shifted}
+use Rattle.micro_word.specs.declared.layout.Fields.{Fields}
 use Rattle.machine_words.specs.declared.machine.Machine.TheVariants as machines
-use Rattle.mic1_datapath.specs.Microstep.{result_of}
-use Rattle.mic1_datapath.specs.Mic1.{driven, computed}
+use Rattle.mic1_alu.specs.Gates.{enabled}
+use Rattle.mic1_datapath.specs.Microstep.{source, result_of}
+use Rattle.mic1_datapath.specs.Mic1.{computed}
+use Rattle.mic1_datapath.specs.Latches.{micro_in}
+use Rattle.mic1_datapath.proofs.Sources.{enabled_source}
 use Rattle.mic1_datapath.proofs.mic1.Mic1Clocked.compute.Goals as goal
 
-pub invariant_of-self-clause-settled : goal.invariant_of-self-clause-settled
-unfolding driven computed
-invariant_of-self-clause-settled c =
-    let d : c.args.self.now.drive ≡ driven c.args.self.now.word c.args.self.now.micro = c.args.self.now.drove c.requires in
-    let x : c.operate-alu.result.value ≡ result_of (statement_of machines.Mic1 c.args.self.now.word).part c.args.self.now.micro =
-    c.operate-alu.ensures.value ∙ (λ i. alu (statement_of machines.Mic1 c.args.self.now.word).part.op (d i).a (d i).b) in
-    λ e i. record {
-      alu = record {
-        value = x i;
-        n = (c.operate-alu.ensures.n ∙ ap is_negative x) i;
-        z = (c.operate-alu.ensures.z ∙ ap (λ (y : ℕ). y == 0) x) i;
-      };
-      c = (c.shift_by-c.ensures ∙ ap (λ (y : ℕ). shifted (statement_of machines.Mic1 c.args.self.now.word).part.shift y) x) i;
-    }
+pub operate-value-requires-clause-b : goal.operate-value-requires-clause-b
+unfolding statement_of
+operate-value-requires-clause-b c =
+    let old = c.args.self.now in
+    let s = statement_of machines.Mic1 old.word in
+    let spelled = c.word_law.ensures.spells old.word old.canonical in
+    let valid = c.statement_law.ensures.conditions s spelled.valid in
+    let gates = c.gates-gates.ensures ∙ ap (λ (f : Fields). f.gates) spelled.fields in
+    let b = old.drove c.requires in
+    let on = λ (bits x : ℕ). enabled (bits / 4 % 2 == 1) x in
+    (λ i. on (gates i) (b i)) ∙ (enabled_source old.latches s.part.op s.part.b valid.b ∙ sym b)
+
+pub invariant_of-self-clause-computed : goal.invariant_of-self-clause-computed
+unfolding statement_of
+invariant_of-self-clause-computed c =
+    let old = c.args.self.now in
+    let s = statement_of machines.Mic1 old.word in
+    let spelled = c.word_law.ensures.spells old.word old.canonical in
+    let gates = c.gates-gates.ensures ∙ ap (λ (f : Fields). f.gates) spelled.fields in
+    λ e. c.operate-value.ensures s.part.op (sym gates) ∙ ap (λ (x : ℕ). alu s.part.op (micro_in old.latches).h x) (old.drove c.requires)
+
+pub invariant_of-self-clause-shifted_by : goal.invariant_of-self-clause-shifted_by
+unfolding statement_of
+invariant_of-self-clause-shifted_by c = λ e. c.shift_by-c.ensures ∙ ap (λ (bits : ℕ). shifted (shift_of bits) c.operate-value.result) c.shift.ensures
+
+pub returns-clause-value : goal.returns-clause-value
+unfolding computed statement_of
+returns-clause-value c =
+    let old = c.args.self.now in
+    let s = statement_of machines.Mic1 old.word in
+    let spelled = c.word_law.ensures.spells old.word old.canonical in
+    let gates = c.gates-gates.ensures ∙ ap (λ (f : Fields). f.gates) spelled.fields in
+    let x : c.operate-value.result ≡ result_of s.part (micro_in old.latches) =
+    c.operate-value.ensures s.part.op (sym gates) ∙ ap (λ (x : ℕ). alu s.part.op (micro_in old.latches).h x) (old.drove c.requires) in
+    let shift = c.shift_by-c.ensures ∙ (λ i. shifted (shift_of (c.shift.ensures i)) (x i)) in
+    λ i. record { alu = record { value = x i; n = is_negative (x i); z = x i == 0 }; c = shift i }

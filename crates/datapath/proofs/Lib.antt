@@ -1,0 +1,3 @@
+pub mod Jams
+pub mod Slots
+pub mod Quiet

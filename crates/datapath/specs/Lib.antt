@@ -1,0 +1,6 @@
+pub mod Registers
+pub mod Places
+pub mod Memory
+pub mod Access
+pub mod Next
+pub mod Jam

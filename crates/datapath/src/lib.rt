@@ -1,0 +1,16 @@
+//! What the datapaths of Mic-1 and Mic-2 share: nine registers and the buses between them, the ALU by its control lines, the memory's ports, and the next address.
+#![tactic(auto)]
+
+pub mod accesses;
+pub mod alu;
+pub mod c_bus;
+pub mod jam;
+pub mod memory;
+pub mod ports;
+
+pub use accesses::{Sampled, access, check_memory, transfer};
+pub use alu::{operate, shift_by};
+pub use c_bus::{Places, arrived, port, settle};
+pub use jam::next_address;
+pub use memory::{access_memory, is_in_memory};
+pub use ports::Ports;

@@ -1,0 +1,64 @@
+-- What stands at the place of a source is what the source puts on the B bus; and an operation that does not use the bus finds 0 there.
+use Rattle.std.proofs.Common.{◌≡◌, ℕ, ◌/◌, ◌%◌, ◌==◌, Bool, true, false, ◌&&◌, IsTrue, Option, Some, None, is_some, slice_index, refl, sym, ap, ◌∙◌}
+use Rattle.machine_words.specs.declared.machine.Machine.TheVariants.{Mic1}
+use Rattle.micro_word.specs.Canonical.{fits_side, may_be_b}
+use Rattle.micro_word.specs.Coding.{row}
+use Rattle.micro_word.specs.Lines.{place_on_bus}
+use Rattle.micro_word.specs.declared.statement.AluOp.{AluOp}
+use Rattle.micro_word.specs.declared.statement.AluOp.TheVariants as ops
+use Rattle.micro_word.specs.declared.statement.BusSource.{BusSource}
+use Rattle.micro_word.specs.declared.statement.BusSource.TheVariants as sources
+use Rattle.mic1_alu.specs.Gates.{enabled}
+use Rattle.mic1_datapath.specs.Microstep.{source}
+use Rattle.mic1_datapath.specs.Latches.{AreLatches, micro_in}
+use Rattle.mic1_datapath.specs.declared.latches.Latches.{Latches}
+
+not_here : (used : Bool) → IsTrue (used && false) → ⊥
+not_here true h = absurd (cc)
+not_here false h = absurd (cc)
+
+pub at_place : (l : Latches) → AreLatches l → (used : Bool) (b : Option BusSource) → IsTrue (fits_side used (may_be_b Mic1) b) →
+    slice_index l.places (place_on_bus b) ≡ source b (micro_in l)
+at_place l a used None h = a.nothing
+at_place l a used (Some sources.Mdr) h = refl
+at_place l a used (Some sources.Pc) h = refl
+at_place l a used (Some sources.Mbr) h = a.signed
+at_place l a used (Some sources.Mbru) h = refl
+at_place l a used (Some sources.Sp) h = refl
+at_place l a used (Some sources.Lv) h = refl
+at_place l a used (Some sources.Cpp) h = refl
+at_place l a used (Some sources.Tos) h = refl
+at_place l a used (Some sources.Opc) h = refl
+at_place l a used (Some sources.Mbr1) h = absurd (not_here used h)
+at_place l a used (Some sources.Mbr1u) h = absurd (not_here used h)
+at_place l a used (Some sources.Mbr2) h = absurd (not_here used h)
+at_place l a used (Some sources.Mbr2u) h = absurd (not_here used h)
+at_place l a used (Some sources.H) h = absurd (not_here used h)
+
+-- ENB is on for the operations that use side B
+enb : (op : AluOp) → ((row op).gates / 4 % 2 == 1) ≡ (row op).uses_b
+enb ops.A = refl
+enb ops.B = refl
+enb ops.NotA = refl
+enb ops.NotB = refl
+enb ops.Sum = refl
+enb ops.SumInc = refl
+enb ops.IncA = refl
+enb ops.IncB = refl
+enb ops.Sub = refl
+enb ops.DecB = refl
+enb ops.NegA = refl
+enb ops.And = refl
+enb ops.Or = refl
+enb ops.Zero = refl
+enb ops.One = refl
+enb ops.MinusOne = refl
+
+by_use : (l : Latches) (used : Bool) (b : Option BusSource) → IsTrue (fits_side used (may_be_b Mic1) b) → enabled used (source b (micro_in l)) ≡ source b (micro_in l)
+by_use l true b h = refl
+by_use l false None h = refl
+by_use l false (Some s) h = absurd (cc)
+
+pub enabled_source : (l : Latches) (op : AluOp) (b : Option BusSource) → IsTrue (fits_side (row op).uses_b (may_be_b Mic1) b) →
+    enabled ((row op).gates / 4 % 2 == 1) (source b (micro_in l)) ≡ source b (micro_in l)
+enabled_source l op b h = ap (λ (on : Bool). enabled on (source b (micro_in l))) (enb op) ∙ by_use l (row op).uses_b b h

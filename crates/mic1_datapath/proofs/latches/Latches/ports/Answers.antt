@@ -1,0 +1,11 @@
+use Rattle.std.proofs.Common.{ℕ, Option, ap, ◌∙◌}
+use Rattle.datapath.specs.Registers.{arrived}
+use Rattle.mic1_datapath.proofs.latches.Latches.ports.Goals as goal
+
+pub returns : goal.returns
+returns c =
+    λ i. record {
+      mar = c.port-mar.ensures i;
+      mdr = (c.arrived-mdr.ensures ∙ (λ j. arrived (c.arriving.ensures j) (c.port-there.ensures j))) i;
+      pc = c.port-pc.ensures i;
+    }

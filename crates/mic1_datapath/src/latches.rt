@@ -1,0 +1,198 @@
+//! What Mic-1 keeps between cycles.
+
+ghost use Rattle.std.specs.Prelude.{◌≡◌, ◌≢◌, ◌<◌, ℕ, IsTrue, is_some, slice_index, unwrap_or};
+ghost use Rattle.machine_words.specs.Arithmetic.{signed_byte};
+ghost use Rattle.machine_words.specs.declared.machine.Machine.TheVariants.{Mic1};
+ghost use Rattle.micro_word.specs.Canonical.{is_canonical};
+ghost use Rattle.micro_word.specs.Coding.{statement_of};
+ghost use Rattle.micro_word.specs.Layout.{fields_of};
+ghost use Rattle.micro_word.specs.Lines.{AreLines};
+ghost use Rattle.micro_word.specs.Operation.{shifted};
+ghost use Rattle.datapath.specs.Registers.{arrived as arrived_of};
+ghost use Rattle.mic1_datapath.specs.Mic1.{initial as initial_of};
+ghost use Rattle.mic1_datapath.specs.Microstep.{assigned, ports_of, result_of, settled, moved};
+ghost use Rattle.mic1_datapath.specs.Latches.{AreLatches, micro_in, reads, fetches, under_way};
+
+use datapath::{Places, Ports, Sampled, arrived, next_address, port, settle};
+use mic_clock::Start;
+use micro_word::{Lines, Machine, bits, statement_law, word_law};
+
+/// The word of `goto 0x000`, which reads and fetches nothing.
+pub const IDLE: u64 = 0x10_0009;
+
+/// The places of the registers that the memory's ports are given, and of the two forms of MBR.
+const MAR: u8 = 0;
+
+const MDR: u8 = 1;
+
+const PC: u8 = 2;
+
+const MBR: usize = 9;
+
+const MBRU: usize = 10;
+
+#[derive(Clone, Copy, Debug, PartialEq, Eq)]
+pub struct Latches {
+    pub places: Places,
+    /// The microinstruction that was clocked last: it tells whether `word` and `byte` arrive at the next edge.
+    pub before: u64,
+    pub word: u32,
+    pub byte: u8,
+    pub mpc: u16,
+    /// The address of Main1, where instructions begin. No microstep changes it.
+    pub entry: u16,
+    /// Whether a cycle was clocked since the reset.
+    pub clocked: bool,
+}
+
+#[tactic(auto, unfolding(machine_words::specs::Arithmetic::signed_byte))]
+fn sign_extended(byte: u8) -> u32
+    ensures { result ≡ signed_byte byte }
+{
+    if byte < 128 {
+        byte as u32
+    } else {
+        byte as u32 + 0xFFFF_FF00
+    }
+}
+
+fn taken(is: bool, word: u32) -> Option<u32>
+    ensures { result ≡ under_way is word }
+{
+    if is { Some(word) } else { None }
+}
+
+fn taken_byte(is: bool, byte: u8) -> Option<u8>
+    ensures { result ≡ under_way is byte }
+{
+    if is { Some(byte) } else { None }
+}
+
+/// Keeps what was sampled, if something was.
+fn take(sampled: Option<u32>, kept: &mut u32)
+    ensures { kept.new ≡ unwrap_or sampled kept.old }
+{
+    if let Some(word) = sampled {
+        *kept = word;
+    }
+}
+
+fn take_byte(sampled: Option<u8>, kept: &mut u8)
+    ensures { kept.new ≡ unwrap_or sampled kept.old }
+{
+    if let Some(byte) = sampled {
+        *kept = byte;
+    }
+}
+
+/// A byte that arrives becomes MBR, in both its forms.
+fn load_mbr(byte: Option<u8>, places: &mut Places)
+    ensures mbru { slice_index places.new 10 ≡ arrived_of byte (slice_index places.old 10) }
+    ensures mbr { slice_index places.old 9 ≡ signed_byte (slice_index places.old 10) → slice_index places.new 9 ≡ signed_byte (slice_index places.new 10) }
+    ensures byte { slice_index places.old 10 < 256 → slice_index places.new 10 < 256 }
+    ensures others { (k : ℕ) → k ≢ 9 → k ≢ 10 → slice_index places.new k ≡ slice_index places.old k }
+{
+    if let Some(byte) = byte {
+        places[MBR] = sign_extended(byte);
+        places[MBRU] = byte as u32;
+    }
+}
+
+impl Latches {
+    /// As a reset leaves them.
+    #[tactic(auto, unfolding(machine_words::specs::Arithmetic::signed_byte))]
+    pub fn initial(start: &Start) -> Latches
+        requires { start.now.entry < 512 }
+        ensures micro { micro_in result ≡ initial_of start.now }
+        ensures latches { AreLatches result }
+    {
+        Latches {
+            places: [
+                0,
+                0,
+                0xFFFF_FFFF,
+                start.sp,
+                0x8000,
+                0x4000,
+                0,
+                0,
+                0,
+                0,
+                0,
+                0,
+                0,
+                0,
+                0,
+                0,
+            ],
+            before: IDLE,
+            word: 0,
+            byte: 0,
+            mpc: start.entry,
+            entry: start.entry,
+            clocked: false,
+        }
+    }
+
+    /// The word that arrives at this edge.
+    fn arriving(&self) -> Option<u32>
+        ensures { result ≡ under_way (reads self.now.before) self.now.word }
+    {
+        taken(bits::mem(Machine::Mic1, self.before) == 1, self.word)
+    }
+
+    /// The byte that arrives at this edge.
+    fn arriving_byte(&self) -> Option<u8>
+        ensures { result ≡ under_way (fetches self.now.before) self.now.byte }
+    {
+        taken_byte(bits::fetch(Machine::Mic1, self.before), self.byte)
+    }
+
+    /// What the memory's ports are given: their registers as they become.
+    pub fn ports(&self, c: u16, value: u32) -> Ports
+        ensures { result ≡ ports_of (assigned c value (micro_in self.now)) }
+    {
+        let mar = port(c, MAR, value, &self.places);
+        let there = port(c, MDR, value, &self.places);
+        let mdr = arrived(self.arriving(), there);
+        let pc = port(c, PC, value, &self.places);
+        Ports { mar, mdr, pc }
+    }
+
+    /// Moves the registers and MPC on behind a clocked word, with what its accesses sampled under way.
+    pub fn advance(&mut self, word: u64, lines: &Lines, value: u32, c: u32, sampled: Sampled)
+        requires latches { AreLatches self.old }
+        requires word { IsTrue (is_canonical Mic1 word) }
+        requires lines { AreLines Mic1 (fields_of Mic1 word) lines.now }
+        requires value { value ≡ result_of (statement_of Mic1 word).part (micro_in self.old) }
+        requires c { c ≡ shifted (statement_of Mic1 word).part.shift value }
+        requires word_sampled { is_some sampled.word ≡ reads word }
+        requires byte_sampled { is_some sampled.byte ≡ fetches word }
+        ensures latches { AreLatches self.new }
+        ensures micro { let s = statement_of Mic1 word in
+            micro_in self.new ≡ moved s.next value (settled s.part (micro_in self.old)) sampled.word sampled.byte }
+    {
+        word_law(Machine::Mic1);
+        statement_law(Machine::Mic1);
+        let arriving = self.arriving();
+        let byte = self.arriving_byte();
+        settle(
+            bits::destinations(Machine::Mic1, word),
+            lines,
+            c,
+            arriving,
+            &mut self.places,
+        );
+        load_mbr(byte, &mut self.places);
+        self.mpc = next_address(
+            lines.addr,
+            bits::jam(Machine::Mic1, word),
+            value,
+            self.places[MBRU] as u8,
+        );
+        take(sampled.word, &mut self.word);
+        take_byte(sampled.byte, &mut self.byte);
+        self.before = word;
+        self.clocked = true;
+    }
+}

@@ -1,0 +1,136 @@
+//! The control lines of a word, decoded before it is clocked.
+ghost use Rattle.std.specs.Prelude.{◌≡◌, ◌<◌, ◌≤◌, ◌==◌, ℕ, true, false};
+ghost use Rattle.micro_word.specs.Lines.{AreLines, AreSlots, IsSlot, names, on_each_bit, place_of, place_on_bus};
+
+use crate::bus::side_a;
+use crate::layout::Fields;
+use crate::statement::{AluOp, BusSource};
+use machine_words::Machine;
+
+/// The place that holds 0, for a bus that nothing drives.
+pub const NOTHING: u8 = 13;
+
+/// The place that nothing reads, for a slot without a destination.
+pub const NOWHERE: u8 = 15;
+
+/// What a word keeps on for a whole cycle. Places are those of a datapath: see `BusSource::place`.
+#[derive(Clone, Copy, Debug, PartialEq, Eq)]
+pub struct Lines {
+    /// ENA, to each bit.
+    pub ena: u32,
+    /// INVA, to each bit.
+    pub inva: u32,
+    pub addr: u16,
+    /// The places of what drives the A bus and the B bus.
+    pub a: u8,
+    pub b: u8,
+    /// The places of two destinations.
+    pub first: u8,
+    pub second: u8,
+    /// The first place at which a third one stands, or 9.
+    pub further: u8,
+}
+
+impl BusSource {
+    /// Its place: the registers stand by their bits of the field C, and behind them the fetched bytes.
+    pub const fn place(self) -> u8
+        ensures place { result ≡ place_of self }
+        ensures within { result < 16 }
+    {
+        match self {
+            BusSource::Mdr => 1,
+            BusSource::Pc => 2,
+            BusSource::Sp => 3,
+            BusSource::Lv => 4,
+            BusSource::Cpp => 5,
+            BusSource::Tos => 6,
+            BusSource::Opc => 7,
+            BusSource::H => 8,
+            BusSource::Mbr | BusSource::Mbr1 => 9,
+            BusSource::Mbru | BusSource::Mbr1u => 10,
+            BusSource::Mbr2 => 11,
+            BusSource::Mbr2u => 12,
+        }
+    }
+}
+
+fn place_on_bus(source: Option<BusSource>) -> u8
+    ensures place { result ≡ place_on_bus source }
+    ensures within { result < 16 }
+{
+    match source {
+        None => NOTHING,
+        Some(source) => source.place(),
+    }
+}
+
+fn on_each_bit(on: bool) -> u32
+    ensures { result ≡ on_each_bit on }
+{
+    if on { 0xFFFF_FFFF } else { 0 }
+}
+
+/// Whether a field C names the register at a place.
+pub fn is_named(c: u16, place: u8) -> bool
+    requires { place < 16 }
+    ensures { result ≡ names c place }
+{
+    (c >> place) % 2 == 1
+}
+
+/// The first place from there on that the field names, or 9.
+fn first_named(c: u16, from: u8) -> u8
+    requires { from ≤ 9 }
+    ensures within { result ≤ 9 }
+    ensures behind { from ≤ result }
+    ensures skipped { (place : ℕ) → from ≤ place → place < result → names c place ≡ false }
+    ensures named { result < 9 → names c result ≡ true }
+{
+    let mut place = from;
+    'places: while place < 9 && !is_named(c, place) {
+        place += 1;
+    }
+    place
+}
+
+fn next_named(c: u16, place: u8) -> u8
+    requires { place ≤ 9 }
+    ensures within { result ≤ 9 }
+    ensures skipped { (other : ℕ) → place < other → other < result → names c other ≡ false }
+    ensures named { result < 9 → names c result ≡ true }
+{
+    if place == 9 {
+        return 9;
+    }
+    first_named(c, place + 1)
+}
+
+fn slot(c: u16, place: u8) -> u8
+    requires within { place ≤ 9 }
+    requires named { place < 9 → names c place ≡ true }
+    ensures slot { IsSlot c result }
+    ensures same { place < 9 → result ≡ place }
+{
+    if place < 9 { place } else { NOWHERE }
+}
+
+impl Lines {
+    /// The lines of a word with these fields.
+    pub fn of_fields(machine: Machine, f: &Fields) -> Lines
+        ensures { AreLines machine f.now result }
+    {
+        let first = first_named(f.c, 0);
+        let second = next_named(f.c, first);
+        let further = next_named(f.c, second);
+        Lines {
+            ena: on_each_bit(f.gates / 8 % 2 == 1),
+            inva: on_each_bit(f.gates / 2 % 2 == 1),
+            addr: f.addr,
+            a: place_on_bus(side_a(machine, AluOp::of_gates(f.gates), f.a)),
+            b: place_on_bus(BusSource::of_code(machine, f.b)),
+            first: slot(f.c, first),
+            second: slot(f.c, second),
+            further,
+        }
+    }
+}
