@@ -5,7 +5,7 @@ use Rattle.std.proofs.lemmas.List.{length-replicate, append-nil}
 use Rattle.machine_words.specs.Arithmetic.{next, wrap}
 use Rattle.console_port.specs.World.{World, fetch_refusal, byte_in}
 use Rattle.mic_clock.specs.Run.{MicroRun, start_run}
-use Rattle.mic1_datapath.specs.declared.micro.Micro.{Micro}
+use Rattle.mic1_datapath.specs.Micro.{Micro}
 use Rattle.mic1_datapath.specs.Mic1.{mic1_meaning}
 use Rattle.ijvm_run.specs.Frames.{start_of}
 use Rattle.mic1_interpreter.proofs.Shipped.{HasStatements}

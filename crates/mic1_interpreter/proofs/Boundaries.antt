@@ -5,7 +5,7 @@ use Rattle.std.proofs.lemmas.Bool.Decides.{nat_tests}
 use Rattle.console_port.specs.World.{World, StackLimit, byte_in, fetch_refusal}
 use Rattle.machine_words.specs.Arithmetic.{next}
 use Rattle.ijvm_run.specs.Frames.{State}
-use Rattle.mic1_datapath.specs.declared.micro.Micro.{Micro}
+use Rattle.mic1_datapath.specs.Micro.{Micro}
 use Rattle.mic1_datapath.specs.Mic1.{mic1_meaning}
 use Rattle.mic1_datapath.specs.Microstep.{refusal}
 use Rattle.machine_words.specs.declared.machine.Machine.TheVariants.{Mic1}

@@ -7,7 +7,7 @@ use Rattle.ijvm_instr.specs.declared.instr.Instr.TheVariants.{Err, Halt}
 use Rattle.ijvm_run.specs.Frames.{State}
 use Rattle.ijvm_run.specs.Cost.{cost}
 use Rattle.ijvm_paths.specs.Accepted.{VerifiedView}
-use Rattle.mic1_datapath.specs.declared.micro.Micro.{Micro}
+use Rattle.mic1_datapath.specs.Micro.{Micro}
 use Rattle.mic1_datapath.specs.Mic1.{mic1_meaning}
 use Rattle.ijvm_simulation.specs.Stands.{Origin}
 use Rattle.ijvm_simulation.specs.Passes.{Moment, pass}

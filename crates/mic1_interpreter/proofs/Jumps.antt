@@ -14,7 +14,7 @@ use Rattle.ijvm_run.specs.Frames.{State, IsWord, HasWords, frames_of, base}
 use Rattle.ijvm_run.specs.Cost.{cost, cycles_of, is_taken, tests, are_equal}
 use Rattle.ijvm_run.specs.Step.{moved, way}
 use Rattle.ijvm_paths.specs.Accepted.{VerifiedView}
-use Rattle.mic1_datapath.specs.declared.micro.Micro.{Micro}
+use Rattle.mic1_datapath.specs.Micro.{Micro}
 use Rattle.mic1_datapath.specs.Mic1.{mic1_meaning}
 use Rattle.ijvm_simulation.specs.Stands.{Origin}
 use Rattle.ijvm_simulation.specs.Passes.{Moment}

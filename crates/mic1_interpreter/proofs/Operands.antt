@@ -15,8 +15,8 @@ use Rattle.ijvm_run.specs.Frames.{State, frames_of, base}
 use Rattle.ijvm_run.specs.Cost.{cost}
 use Rattle.ijvm_run.specs.Step.{moved}
 use Rattle.ijvm_paths.specs.Accepted.{VerifiedView}
-use Rattle.mic1_datapath.specs.declared.micro.Micro.{Micro}
-use Rattle.mic1_datapath.specs.Microstep.{first_refusal}
+use Rattle.mic1_datapath.specs.Micro.{Micro}
+use Rattle.datapath.specs.Memory.{first_refusal}
 use Rattle.mic1_datapath.specs.Mic1.{mic1_meaning}
 use Rattle.ijvm_simulation.specs.Stands.{Origin, FramesStand, IsMemory}
 use Rattle.ijvm_simulation.specs.Passes.{Moment}

@@ -5,15 +5,17 @@ use Rattle.std.proofs.lemmas.List.{append-nil}
 use Rattle.console_port.specs.World.{given_after}
 use Rattle.micro_word.specs.declared.statement.Mem.{Mem}
 use Rattle.micro_word.specs.declared.statement.Mem.TheVariants.{None as Idle, Read, Write}
-use Rattle.mic1_datapath.specs.declared.micro.Micro.{Micro}
-use Rattle.mic1_datapath.specs.declared.ports.Ports.{Ports}
-use Rattle.mic1_datapath.specs.Microstep.{ports_of, settled, written, sampled}
+use Rattle.mic1_datapath.specs.Micro.{Micro}
+use Rattle.datapath.specs.declared.ports.Ports.{Ports}
+use Rattle.datapath.specs.Memory.{written, sampled}
+use Rattle.mic1_datapath.specs.Microstep.{ports_of, settled}
 use Rattle.std.specs.Prelude.{length, Option, None}
 use Rattle.console_port.specs.World.{World, Refusal}
 use Rattle.machine_words.specs.declared.machine.Machine.TheVariants as machines
 use Rattle.micro_word.specs.Coding.{statement_of}
 use Rattle.mic1_datapath.specs.Microstep.{clock, world_after, refusal}
-use Rattle.mic1_datapath.specs.Mic1.{outcome, step_of_word}
+use Rattle.datapath.specs.Memory.{outcome}
+use Rattle.mic1_datapath.specs.Mic1.{step_of_word}
 use Rattle.ijvm_simulation.specs.Law.{Grows, OnDone}
 
 stays : (xs : List ℕ) → Grows xs xs

@@ -1,7 +1,7 @@
 -- When a Mic-1 at a boundary stands for a state of the plain machine.
 use Rattle.console_port.specs.World.{World}
 use Rattle.ijvm_run.specs.Frames.{State}
-use Rattle.mic1_datapath.specs.declared.micro.Micro.{Micro}
+use Rattle.mic1_datapath.specs.Micro.{Micro}
 use Rattle.mic1_datapath.specs.Mic1.{mic1_meaning, IsReady}
 use Rattle.ijvm_simulation.specs.Stands.{Origin, IsAt}
 
