@@ -1,0 +1,212 @@
+//! A case is read from its text, whose lines begin its parts or hold their contents.
+//!
+//! ```text
+//! # What is read is written.
+//! mic reference echo.jas
+//! file echo.jas = examples/echo.jas
+//! console
+//! | ab
+//! out
+//! | ab
+//! err
+//! | end halt
+//! ```
+
+use crate::case::{Answer, Case, CaseFile, Refusal};
+use crate::content::content_of;
+use std::alloc::{AllocError, Global};
+use std::fs;
+
+/// The part that contents belong to.
+#[derive(Clone, Copy, Drop, PartialEq, Eq)]
+enum Part {
+    Start,
+    File,
+    Console,
+    Out,
+    Err,
+    Status,
+    Left,
+    Written,
+}
+
+impl Part {
+    /// Whether the part says what must come of the call.
+    fn is_wanted(self) -> bool {
+        !matches!(self, Part::Start | Part::File | Part::Console)
+    }
+}
+
+/// The case of a text, or the number of the line that is none of a case, and why.
+pub fn read_case(rt: &HostRuntime, text: &str) -> Result<Case, (u64, Refusal)> {
+    let mut case = Case::new(rt.alloc());
+    let mut part = Part::Start;
+    let mut number: u64 = 0;
+    for line in text.lines() {
+        number = number.saturating_add(1);
+        match take_line(rt, &mut case, part, line) {
+            Ok(next) => part = next,
+            Err(refusal) => return Err((number, refusal)),
+        }
+    }
+    if case.words.is_empty() {
+        return Err((number, Refusal("no line says how `mic` is called")));
+    }
+    Ok(case)
+}
+
+/// The lines of a text up to the first that says what must come of the call.
+pub fn inputs_of(alloc: Global, text: &str) -> Result<String, AllocError> {
+    let mut inputs = String::new(alloc);
+    for line in text.lines() {
+        let (head, _) = line.split_once(' ').unwrap_or((line, ""));
+        if matches!(head, "out" | "err" | "status" | "left" | "written") {
+            break;
+        }
+        inputs.push_str(line)?;
+        inputs.push_str("\n")?;
+    }
+    Ok(inputs)
+}
+
+/// Takes a line, and answers the part that follows.
+fn take_line(rt: &HostRuntime, case: &mut Case, part: Part, line: &str) -> Result<Part, Refusal> {
+    if line.is_empty() || line.starts_with('#') {
+        return Ok(part);
+    }
+    if let Some(bytes) = content_of(rt.alloc(), line)? {
+        add(case, part, &bytes)?;
+        return Ok(part);
+    }
+    let (head, rest) = line.split_once(' ').unwrap_or((line, ""));
+    match head {
+        "mic" | "file" | "console" | "fails" => {
+            if part.is_wanted() {
+                return Err(Refusal("stands behind what must come of the call"));
+            }
+            begin_input(rt, case, part, head, rest)
+        }
+        _ => begin_wanted(rt, &mut case.wanted, head, rest),
+    }
+}
+
+/// A line that says how `mic` is called, or what lies before the call.
+fn begin_input(
+    rt: &HostRuntime,
+    case: &mut Case,
+    part: Part,
+    head: &str,
+    rest: &str,
+) -> Result<Part, Refusal> {
+    match head {
+        "mic" => {
+            if !case.words.is_empty() {
+                return Err(Refusal("a second call"));
+            }
+            case.words = words_of(rt.alloc(), rest)?;
+            Ok(part)
+        }
+        "file" => {
+            push_file(&mut case.files, named_file(rt, rest)?)?;
+            Ok(Part::File)
+        }
+        "fails" => {
+            fail(case, rest)?;
+            Ok(part)
+        }
+        _ => Ok(Part::Console),
+    }
+}
+
+/// A line that says what must come of the call.
+fn begin_wanted(
+    rt: &HostRuntime,
+    wanted: &mut Answer,
+    head: &str,
+    rest: &str,
+) -> Result<Part, Refusal> {
+    match head {
+        "out" => Ok(Part::Out),
+        "err" => Ok(Part::Err),
+        "left" => Ok(Part::Left),
+        "status" => match rest.parse::<u8>() {
+            Ok(status) => {
+                wanted.status = status;
+                Ok(Part::Status)
+            }
+            Err(_) => Err(Refusal("no status from 0 to 255")),
+        },
+        "written" => {
+            push_file(&mut wanted.written, named_file(rt, rest)?)?;
+            Ok(Part::Written)
+        }
+        _ => Err(Refusal("no line of a case")),
+    }
+}
+
+/// Appends to the part, if it has contents.
+fn add(case: &mut Case, part: Part, bytes: &[u8]) -> Result<(), Refusal> {
+    match part {
+        Part::Start | Part::Status => return Err(Refusal("contents of no part")),
+        Part::File => add_to_last(&mut case.files, bytes)?,
+        Part::Written => add_to_last(&mut case.wanted.written, bytes)?,
+        Part::Console => case.console.extend_from_slice(bytes)?,
+        Part::Out => case.wanted.out.extend_from_slice(bytes)?,
+        Part::Err => case.wanted.err.extend_from_slice(bytes)?,
+        Part::Left => case.wanted.left.extend_from_slice(bytes)?,
+    }
+    Ok(())
+}
+
+fn add_to_last(files: &mut Vec<CaseFile>, bytes: &[u8]) -> Result<(), AllocError> {
+    if let Some(file) = files.last_mut() {
+        file.bytes.extend_from_slice(bytes)?;
+    }
+    Ok(())
+}
+
+fn push_file(files: &mut Vec<CaseFile>, file: CaseFile) -> Result<(), AllocError> {
+    files.push(file)?;
+    Ok(())
+}
+
+/// `NAME`, whose contents follow, or `NAME = PATH`, which begins with those of a file beside the cases.
+fn named_file(rt: &HostRuntime, text: &str) -> Result<CaseFile, Refusal> {
+    let (name, path) = text.split_once(" = ").unwrap_or((text, ""));
+    let bytes = if path.is_empty() {
+        Vec::new(rt.alloc())
+    } else {
+        match fs::read(rt, path) {
+            Ok(bytes) => bytes,
+            Err(_) => return Err(Refusal("the file it names cannot be read")),
+        }
+    };
+    Ok(CaseFile::new(rt.alloc(), name, bytes)?)
+}
+
+/// `fails files 1 2`: these calls fail.
+fn fail(case: &mut Case, text: &str) -> Result<(), Refusal> {
+    let (what, numbers) = text.split_once(' ').unwrap_or((text, ""));
+    for number in numbers.split_whitespace() {
+        let Ok(number) = number.parse::<u64>() else {
+            return Err(Refusal("no number of a call"));
+        };
+        let failing = &mut case.failing;
+        match what {
+            "files" => failing.files.extend_from_slice(&[number])?,
+            "console" => failing.console.extend_from_slice(&[number])?,
+            "out" => failing.out.extend_from_slice(&[number])?,
+            "err" => failing.err.extend_from_slice(&[number])?,
+            _ => return Err(Refusal("files, console, out or err fails")),
+        }
+    }
+    Ok(())
+}
+
+fn words_of(alloc: Global, text: &str) -> Result<Vec<String>, AllocError> {
+    let mut words = Vec::new(alloc);
+    for word in text.split_whitespace() {
+        words.push(String::from_str(alloc, word)?)?;
+    }
+    Ok(words)
+}
