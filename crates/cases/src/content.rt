@@ -1,55 +1,89 @@
-//! The lines that hold a part's contents: `| text` with its newline, `: text` without, `= 1D EA` bytes. A number behind the mark says how often.
+//! The lines that hold a part's contents: `| text` with its newline, `: text` without, `= 1D EA` bytes.
+//!
+//! A number behind the mark says how often a line stands: `|511 x{n}`. There `{n}` is the number of its turn, from 1, and `{3x}` and `{8x}` are that number in so many hexadecimal digits.
 
 use crate::case::Refusal;
 use std::alloc::Global;
 
 /// What a line of contents adds, or none where it is no line of contents.
 pub fn content_of(alloc: Global, line: &str) -> Result<Option<Vec<u8>>, Refusal> {
-    let (ending, is_hex, rest) = if let Some(rest) = line.strip_prefix('|') {
-        ("\n", false, rest)
+    if let Some(rest) = line.strip_prefix('|') {
+        Ok(Some(text_of(alloc, rest, "\n")?))
     } else if let Some(rest) = line.strip_prefix(':') {
-        ("", false, rest)
+        Ok(Some(text_of(alloc, rest, "")?))
     } else if let Some(rest) = line.strip_prefix('=') {
-        ("", true, rest)
+        Ok(Some(bytes_of(alloc, rest)?))
     } else {
-        return Ok(None);
-    };
-    let (count, text) = rest.split_once(' ').unwrap_or((rest, ""));
-    let piece = if is_hex {
-        bytes_of(alloc, text)?
-    } else {
-        text_of(alloc, text, ending)?
-    };
-    Ok(Some(repeated(alloc, &piece, times(count)?)?))
+        Ok(None)
+    }
 }
 
-/// How often a line stands.
-fn times(count: &str) -> Result<u32, Refusal> {
+/// How often a line stands, where its mark says so.
+fn times(count: &str) -> Result<Option<u32>, Refusal> {
     if count.is_empty() {
-        return Ok(1);
+        return Ok(None);
     }
     match count.parse::<u32>() {
-        Ok(times) => Ok(times),
+        Ok(times) => Ok(Some(times)),
         Err(_) => Err(Refusal("a mark has a space or a number behind it")),
     }
 }
 
-fn repeated(alloc: Global, piece: &[u8], times: u32) -> Result<Vec<u8>, Refusal> {
+/// The text behind a mark, as often as it stands, each time with the ending.
+fn text_of(alloc: Global, rest: &str, ending: &str) -> Result<Vec<u8>, Refusal> {
+    let (count, text) = rest.split_once(' ').unwrap_or((rest, ""));
     let mut all = Vec::new(alloc);
-    for _ in 0..times {
-        all.extend_from_slice(piece)?;
+    match times(count)? {
+        None => {
+            all.extend_from_slice(text.as_bytes())?;
+            all.extend_from_slice(ending.as_bytes())?;
+        }
+        Some(times) => {
+            for turn in 0..times {
+                push_numbered(alloc, &mut all, text, u64::from(turn) + 1)?;
+                all.extend_from_slice(ending.as_bytes())?;
+            }
+        }
     }
     Ok(all)
 }
 
-fn text_of(alloc: Global, text: &str, ending: &str) -> Result<Vec<u8>, Refusal> {
-    let mut bytes = Vec::from_slice(alloc, text.as_bytes())?;
-    bytes.extend_from_slice(ending.as_bytes())?;
-    Ok(bytes)
+/// Appends a text with the number of its turn in place of each `{n}`, `{3x}` and `{8x}`.
+fn push_numbered(alloc: Global, all: &mut Vec<u8>, text: &str, turn: u64) -> Result<(), Refusal> {
+    let (front, rest) = text.split_once('{').unwrap_or((text, ""));
+    all.extend_from_slice(front.as_bytes())?;
+    if front.len() == text.len() {
+        return Ok(());
+    }
+    for piece in rest.split('{') {
+        let Some((form, behind)) = piece.split_once('}') else {
+            return Err(Refusal("a brace is not closed"));
+        };
+        let number = match form {
+            "n" => format!(in alloc; "{turn}")?,
+            "3x" => format!(in alloc; "{turn:03x}")?,
+            "8x" => format!(in alloc; "{turn:08x}")?,
+            _ => return Err(Refusal("braces hold n, 3x or 8x")),
+        };
+        all.extend_from_slice(number.as_bytes())?;
+        all.extend_from_slice(behind.as_bytes())?;
+    }
+    Ok(())
+}
+
+/// The bytes behind a mark, as often as they stand.
+fn bytes_of(alloc: Global, rest: &str) -> Result<Vec<u8>, Refusal> {
+    let (count, digits) = rest.split_once(' ').unwrap_or((rest, ""));
+    let piece = hex_bytes(alloc, digits)?;
+    let mut all = Vec::new(alloc);
+    for _ in 0..times(count)?.unwrap_or(1) {
+        all.extend_from_slice(&piece)?;
+    }
+    Ok(all)
 }
 
 /// The bytes of hexadecimal digits, two for a byte.
-fn bytes_of(alloc: Global, digits: &str) -> Result<Vec<u8>, Refusal> {
+fn hex_bytes(alloc: Global, digits: &str) -> Result<Vec<u8>, Refusal> {
     let mut bytes = Vec::new(alloc);
     let mut high: Option<u8> = None;
     for digit in digits.chars() {

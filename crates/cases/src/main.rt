@@ -103,9 +103,11 @@ fn show(rt: &HostRuntime, name: &str) -> io::Result<ExitCode> {
 
 fn main(rt: HostRuntime) -> io::Result<ExitCode> {
     let mut words = env::args(&rt)?.skip(1);
-    match (words.next(), words.next()) {
-        (None, _) => run_all(&rt),
-        (Some(word), Some(name)) if word.as_str() == "show" => show(&rt, &name),
+    let Some(word) = words.next() else {
+        return run_all(&rt);
+    };
+    match words.next() {
+        Some(name) if word.as_str() == "show" => show(&rt, &name),
         _ => {
             eprintln!(rt; "usage: cases [show FILE]")?;
             Ok(ExitCode::from(64))

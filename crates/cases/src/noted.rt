@@ -39,13 +39,14 @@ impl NotedFiles {
         }
         Ok(written)
     }
+}
 
-    fn note(&mut self, name: &str) -> Result<(), AllocError> {
-        if !self.names.iter().any(|noted| noted.as_str() == name) {
-            self.names.push(String::from_str(self.alloc, name)?)?;
-        }
-        Ok(())
+/// Adds a name, if it is not there.
+fn note(alloc: Global, names: &mut Vec<String>, name: &str) -> Result<(), AllocError> {
+    if !names.iter().any(|noted| noted.as_str() == name) {
+        names.push(String::from_str(alloc, name)?)?;
     }
+    Ok(())
 }
 
 impl Files for NotedFiles {
@@ -58,9 +59,8 @@ impl Files for NotedFiles {
     }
 
     fn write_file(&mut self, alloc: Global, name: &str, bytes: &[u8]) -> Result<(), FileError> {
-        self.files.write_file(alloc, name, bytes)?;
-        match self.note(name) {
-            Ok(()) => Ok(()),
+        match note(self.alloc, &mut self.names, name) {
+            Ok(()) => self.files.write_file(alloc, name, bytes),
             Err(_) => Err(FileError::OutOfMemory),
         }
     }

@@ -49,7 +49,7 @@ pub fn read_case(rt: &HostRuntime, text: &str) -> Result<Case, (u64, Refusal)> {
             Err(refusal) => return Err((number, refusal)),
         }
     }
-    if case.words.is_empty() {
+    if !case.is_called {
         return Err((number, Refusal("no line says how `mic` is called")));
     }
     Ok(case)
@@ -90,6 +90,22 @@ fn take_line(rt: &HostRuntime, case: &mut Case, part: Part, line: &str) -> Resul
     }
 }
 
+/// Nothing, or `= PATH`: the contents of a file beside the cases.
+fn contents_at(rt: &HostRuntime, rest: &str) -> Result<Vec<u8>, Refusal> {
+    match rest.strip_prefix("= ") {
+        Some(path) => file_at(rt, path),
+        None if rest.is_empty() => Ok(Vec::new(rt.alloc())),
+        None => Err(Refusal("contents stand on lines of their own")),
+    }
+}
+
+fn file_at(rt: &HostRuntime, path: &str) -> Result<Vec<u8>, Refusal> {
+    match fs::read(rt, path) {
+        Ok(bytes) => Ok(bytes),
+        Err(_) => Err(Refusal("the file it names cannot be read")),
+    }
+}
+
 /// A line that says how `mic` is called, or what lies before the call.
 fn begin_input(
     rt: &HostRuntime,
@@ -100,9 +116,10 @@ fn begin_input(
 ) -> Result<Part, Refusal> {
     match head {
         "mic" => {
-            if !case.words.is_empty() {
+            if case.is_called {
                 return Err(Refusal("a second call"));
             }
+            case.is_called = true;
             case.words = words_of(rt.alloc(), rest)?;
             Ok(part)
         }
@@ -114,7 +131,10 @@ fn begin_input(
             fail(case, rest)?;
             Ok(part)
         }
-        _ => Ok(Part::Console),
+        _ => {
+            case.console = contents_at(rt, rest)?;
+            Ok(Part::Console)
+        }
     }
 }
 
@@ -126,9 +146,18 @@ fn begin_wanted(
     rest: &str,
 ) -> Result<Part, Refusal> {
     match head {
-        "out" => Ok(Part::Out),
-        "err" => Ok(Part::Err),
-        "left" => Ok(Part::Left),
+        "out" => {
+            wanted.out = contents_at(rt, rest)?;
+            Ok(Part::Out)
+        }
+        "err" => {
+            wanted.err = contents_at(rt, rest)?;
+            Ok(Part::Err)
+        }
+        "left" => {
+            wanted.left = contents_at(rt, rest)?;
+            Ok(Part::Left)
+        }
         "status" => match rest.parse::<u8>() {
             Ok(status) => {
                 wanted.status = status;
@@ -172,16 +201,10 @@ fn push_file(files: &mut Vec<CaseFile>, file: CaseFile) -> Result<(), AllocError
 
 /// `NAME`, whose contents follow, or `NAME = PATH`, which begins with those of a file beside the cases.
 fn named_file(rt: &HostRuntime, text: &str) -> Result<CaseFile, Refusal> {
-    let (name, path) = text.split_once(" = ").unwrap_or((text, ""));
-    let bytes = if path.is_empty() {
-        Vec::new(rt.alloc())
-    } else {
-        match fs::read(rt, path) {
-            Ok(bytes) => bytes,
-            Err(_) => return Err(Refusal("the file it names cannot be read")),
-        }
-    };
-    Ok(CaseFile::new(rt.alloc(), name, bytes)?)
+    match text.split_once(" = ") {
+        Some((name, path)) => Ok(CaseFile::new(rt.alloc(), name, file_at(rt, path)?)?),
+        None => Ok(CaseFile::new(rt.alloc(), text, Vec::new(rt.alloc()))?),
+    }
 }
 
 /// `fails files 1 2`: these calls fail.
