@@ -1,10 +1,14 @@
 //! What the words of a command line ask `mic` for.
 #![tactic(auto)]
 
+mod error;
 mod options;
 mod read;
 mod request;
+mod table;
+mod taking;
 
+pub use error::WordsError;
 pub use options::{DEFAULT_BOUND, MOST_CYCLES};
 pub use read::read_words;
 pub use request::Request;
