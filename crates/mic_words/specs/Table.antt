@@ -10,24 +10,34 @@ form_for name.Assemble = record { plain = codes "SOURCE" ∷ codes "IMAGE" ∷ [
 form_for name.List = record { plain = codes "FILE" ∷ []; is_whole = true; options = codes "map" ∷ []; flags = [] }
 form_for name.Verify = record { plain = codes "FILE" ∷ []; is_whole = true; options = codes "map" ∷ []; flags = [] }
 form_for name.Run = record {
-  plain = codes "FILE" ∷ []; is_whole = true;
-  options = codes "machine" ∷ codes "bound" ∷ codes "micro" ∷ codes "map" ∷ []; flags = [];
+  plain = codes "FILE" ∷ [];
+  is_whole = true;
+  options = codes "machine" ∷ codes "bound" ∷ codes "micro" ∷ codes "map" ∷ [];
+  flags = [];
 }
 form_for name.Trace = record {
-  plain = codes "FILE" ∷ []; is_whole = true;
-  options = codes "machine" ∷ codes "bound" ∷ codes "micro" ∷ codes "map" ∷ []; flags = codes "buses" ∷ [];
+  plain = codes "FILE" ∷ [];
+  is_whole = true;
+  options = codes "machine" ∷ codes "bound" ∷ codes "micro" ∷ codes "map" ∷ [];
+  flags = codes "buses" ∷ [];
 }
 form_for name.Profile = record {
-  plain = codes "FILE" ∷ []; is_whole = true;
-  options = codes "machine" ∷ codes "bound" ∷ codes "micro" ∷ codes "map" ∷ []; flags = [];
+  plain = codes "FILE" ∷ [];
+  is_whole = true;
+  options = codes "machine" ∷ codes "bound" ∷ codes "micro" ∷ codes "map" ∷ [];
+  flags = [];
 }
 form_for name.Debug = record {
-  plain = codes "FILE" ∷ []; is_whole = true;
-  options = codes "machine" ∷ codes "bound" ∷ codes "micro" ∷ codes "input" ∷ codes "map" ∷ []; flags = [];
+  plain = codes "FILE" ∷ [];
+  is_whole = true;
+  options = codes "machine" ∷ codes "bound" ∷ codes "micro" ∷ codes "input" ∷ codes "map" ∷ [];
+  flags = [];
 }
 form_for name.Reference = record {
-  plain = codes "FILE" ∷ []; is_whole = true;
-  options = codes "machine" ∷ codes "bound" ∷ codes "map" ∷ []; flags = [];
+  plain = codes "FILE" ∷ [];
+  is_whole = true;
+  options = codes "machine" ∷ codes "bound" ∷ codes "map" ∷ [];
+  flags = [];
 }
 form_for name.Micro = record { plain = codes "MAL" ∷ codes "STORE" ∷ []; is_whole = true; options = codes "machine" ∷ []; flags = [] }
 form_for name.PrintMicro = record { plain = codes "FILE" ∷ []; is_whole = false; options = codes "machine" ∷ []; flags = [] }

@@ -7,6 +7,8 @@ mod read;
 mod request;
 mod table;
 mod taking;
+#[cfg(test)]
+mod tests;
 
 pub use error::WordsError;
 pub use options::{DEFAULT_BOUND, MOST_CYCLES};
