@@ -46,6 +46,11 @@ boundary 6 at 00000002 sp 00008000 lv 00008000
 MAR 00008000 MDR ffffffff PC 00000003 MBR ff SP 00008000 LV 00008000 CPP 00004000 TOS ffffffff OPC 00000000 H 00000000 MPC 0ff
 ";
 
+const AT_12: &str = "end bound
+cycles 14 instructions 2
+boundary 14 at 00000003 sp 00007fff lv 00008000
+";
+
 /// What a call answered.
 #[derive(Debug, Drop)]
 struct Answer {
@@ -108,10 +113,17 @@ fn refusals_say_why(rt: HostRuntime) -> Result<(), Fail> {
         ("walk F", HELLO, 64, USAGE),
         ("run -F", HELLO, 64, USAGE),
         ("run F F", HELLO, 64, USAGE),
+        ("run F --buses", HELLO, 64, USAGE),
+        ("run F --bound 12", HELLO, 64, USAGE),
+        ("trace F", HELLO, 64, USAGE),
         ("reference F --bound -1", HELLO, 64, USAGE),
+        ("reference F --bound=-1", HELLO, 64, USAGE),
+        ("reference F --bound 1 --bound 2", HELLO, 64, USAGE),
+        ("reference F --bound=", HELLO, 64, USAGE),
         ("reference F --bound 1000000001", HELLO, 64, USAGE),
         ("reference F --machine mic3", HELLO, 64, USAGE),
         ("run G", HELLO, 66, "mic: G: cannot read\n"),
+        ("run -", HELLO, 66, "mic: -: cannot read\n"),
         ("run F", b"", 65, "mic: F: no main\n"),
         ("run F", b"\x1D\0\0\0", 65, "mic: F: bad magic\n"),
         ("run F", NOP, 77, "mic: F: not built\n"),
@@ -168,17 +180,14 @@ fn reference_is_the_definitions_run(rt: HostRuntime) -> Result<(), Fail> {
             "end halt\ncycles 15 instructions 3\nboundary 14 at 00000003 sp 00007fff lv 00008000\n",
         ),
         (
-            "reference F --machine mic2",
+            "reference --machine=mic2 F",
             0,
             "H",
             "end halt\ncycles 11 instructions 3\nboundary 11 at 00000003 sp 00007fff lv 00008000\n",
         ),
-        (
-            "reference F --machine mic1 --bound 12",
-            2,
-            "H",
-            "end bound\ncycles 14 instructions 2\nboundary 14 at 00000003 sp 00007fff lv 00008000\n",
-        ),
+        ("reference F --bound=12", 2, "H", AT_12),
+        ("reference --bound 12 -- F", 2, "H", AT_12),
+        ("reference F --bound 0xC", 2, "H", AT_12),
         (
             "reference F --bound 0",
             2,

@@ -9,8 +9,8 @@ ghost use Rattle.mic_call.specs.Ends.{Ends};
 use crate::run::run_file;
 use crate::usage::misused;
 use mic_base::{Files, Sink, Source};
-use mic_words::{Request, read_words};
-use mic_work::Status;
+use mic_words::{Request, WordsError, read_words};
+use mic_work::{Status, no_memory};
 use micro_commands::{micro, print_micro};
 use program_commands::{assemble_file, list_file, reference_file, verify_file};
 use std::alloc::Global;
@@ -31,15 +31,16 @@ pub fn mic_main<F: Files, S: Source, K: Sink, E: Sink>(
         (streams (source_of S.left S.faults console.new) (sink_of K.held K.passed K.faults out.new) (sink_of E.held E.passed E.faults err.new)))
         result.0 }
 {
-    match read_words(words) {
-        None => misused(err),
-        Some(Request::Assemble { source, image }) => {
+    match read_words(alloc, words) {
+        Err(WordsError::Usage) => misused(err),
+        Err(WordsError::OutOfMemory) => no_memory(err),
+        Ok(Request::Assemble { source, image }) => {
             assemble_file(alloc, source, image, files, out, err)
         }
-        Some(Request::List { file, map }) => list_file(alloc, file, map, files, out, err),
-        Some(Request::Verify { file, map }) => verify_file(alloc, file, map, files, out, err),
-        Some(Request::Run { file }) => run_file(alloc, file, files, console, out, err),
-        Some(
+        Ok(Request::List { file, map }) => list_file(alloc, file, map, files, out, err),
+        Ok(Request::Verify { file, map }) => verify_file(alloc, file, map, files, out, err),
+        Ok(Request::Run { file }) => run_file(alloc, file, files, console, out, err),
+        Ok(
             Request::Reference {
                 file,
                 machine,
@@ -47,14 +48,14 @@ pub fn mic_main<F: Files, S: Source, K: Sink, E: Sink>(
                 map,
             },
         ) => reference_file(alloc, file, machine, bound, map, files, console, out, err),
-        Some(
+        Ok(
             Request::Micro {
                 mal,
                 store,
                 machine,
             },
         ) => micro(alloc, mal, store, machine, files, out, err),
-        Some(Request::PrintMicro { file, machine }) => {
+        Ok(Request::PrintMicro { file, machine }) => {
             print_micro(alloc, file, machine, files, out, err)
         }
     }

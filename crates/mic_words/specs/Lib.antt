@@ -1,1 +1,4 @@
+pub mod Reading
+pub mod Table
+pub mod Taking
 pub mod Words

@@ -1,10 +1,16 @@
 //! What the words of a command line ask `mic` for.
 #![tactic(auto)]
 
+mod error;
 mod options;
 mod read;
 mod request;
+mod table;
+mod taking;
+#[cfg(test)]
+mod tests;
 
+pub use error::WordsError;
 pub use options::{DEFAULT_BOUND, MOST_CYCLES};
 pub use read::read_words;
 pub use request::Request;

@@ -1,117 +1,133 @@
 //! What the words of a command line ask for.
 
-ghost use Rattle.std.specs.Prelude.{◌≡◌, IfSome, map, string_bytes};
+ghost use Rattle.std.specs.Prelude.{◌≡◌, IfOk, IfSome, List, is_some, map, string_bytes};
 ghost use Rattle.std.specs.Option.{option_map};
-ghost use Rattle.mic_words.specs.Words.{HasLimits, HasMap, asked, assemble_of, file_of, micro_of, over_map, print_micro_of, reference_of, request_of};
+ghost use Rattle.mic_words.specs.Reading.{Entry};
+ghost use Rattle.mic_words.specs.Table.{form_for};
+ghost use Rattle.mic_words.specs.Taking.{Holds};
+ghost use Rattle.mic_words.specs.Words.{AnswersAs, HasLimits, asked, asked_of, assemble_of, list_of, micro_of, print_micro_of, reference_of, request_of, run_of, verify_of};
 
-use crate::options::{is_plain, machine_alone, map_alone, run_options};
+use crate::error::WordsError;
+use crate::options::{bound_in, machine_in, map_in};
 use crate::request::Request;
-use console_port::MemoryMap;
+use crate::table::{CommandName, named};
+use crate::taking::take_command;
+use clap::ArgMatches;
+use std::alloc::Global;
 
-fn assemble(words: &[String]) -> Option<Request<'_>>
-    ensures { option_map asked result ≡ assemble_of (map string_bytes words.now) }
-{
-    match words {
-        [source, image] if is_plain(source.as_str()) && is_plain(image.as_str()) => {
-            Some(Request::Assemble {
-                source: source.as_str(),
-                image: image.as_str(),
-            })
-        }
-        _ => None,
-    }
-}
-
-fn one_file(words: &[String]) -> Option<&str>
-    ensures { option_map (λ file. file.now) result ≡ file_of (map string_bytes words.now) }
-{
-    match words {
-        [file] if is_plain(file.as_str()) => Some(file.as_str()),
-        _ => None,
-    }
-}
-
-/// A file and the map.
-fn over_map(words: &[String]) -> Option<(&str, MemoryMap)>
-    ensures value { option_map (λ pair. (pair.0.now, pair.1)) result ≡ over_map (map string_bytes words.now) }
-    ensures is { IfSome result (λ pair. HasMap pair.1) }
-{
-    let [file, rest @ ..] = words else {
-        return None;
-    };
-    match map_alone(rest) {
-        Some(map) if is_plain(file.as_str()) => Some((file.as_str(), map)),
-        _ => None,
-    }
-}
-
-fn reference(words: &[String]) -> Option<Request<'_>>
+fn assemble<'a>(matches: &ArgMatches<'a>) -> Option<Request<'a>>
     ensures limits { IfSome result HasLimits }
-    ensures asks { option_map asked result ≡ reference_of (map string_bytes words.now) }
+    ensures asks { (g : List Entry) → Holds (form_for CommandName.Assemble) g matches.now → option_map asked result ≡ assemble_of g }
 {
-    let [file, rest @ ..] = words else {
-        return None;
-    };
-    match run_options(rest) {
-        Some(options) if is_plain(file.as_str()) => Some(Request::Reference {
-            file: file.as_str(),
-            machine: options.machine,
-            bound: options.bound,
-            map: options.map,
-        }),
-        _ => None,
-    }
+    let source = matches.get_str("SOURCE")?;
+    let image = matches.get_str("IMAGE")?;
+    Some(Request::Assemble { source, image })
 }
 
-fn micro(words: &[String]) -> Option<Request<'_>>
-    ensures { option_map asked result ≡ micro_of (map string_bytes words.now) }
-{
-    let [mal, store, rest @ ..] = words else {
-        return None;
-    };
-    match machine_alone(rest) {
-        Some(machine) if is_plain(mal.as_str()) && is_plain(store.as_str()) => {
-            Some(Request::Micro {
-                mal: mal.as_str(),
-                store: store.as_str(),
-                machine,
-            })
-        }
-        _ => None,
-    }
-}
-
-fn print_micro(words: &[String]) -> Option<Request<'_>>
-    ensures { option_map asked result ≡ print_micro_of (map string_bytes words.now) }
-{
-    let [file, rest @ ..] = words else {
-        return None;
-    };
-    match machine_alone(rest) {
-        Some(machine) if is_plain(file.as_str()) => Some(Request::PrintMicro {
-            file: file.as_str(),
-            machine,
-        }),
-        _ => None,
-    }
-}
-
-/// Reads the words after the program's name; none where they ask for nothing.
-pub fn read_words(words: &[String]) -> Option<Request<'_>>
+fn list<'a>(matches: &ArgMatches<'a>) -> Option<Request<'a>>
     ensures limits { IfSome result HasLimits }
-    ensures asks { option_map asked result ≡ request_of (map string_bytes words.now) }
+    ensures asks { (g : List Entry) → Holds (form_for CommandName.List) g matches.now → option_map asked result ≡ list_of g }
+{
+    let file = matches.get_str("FILE")?;
+    let map = map_in(matches.get_str("map"))?;
+    Some(Request::List { file, map })
+}
+
+fn verify<'a>(matches: &ArgMatches<'a>) -> Option<Request<'a>>
+    ensures limits { IfSome result HasLimits }
+    ensures asks { (g : List Entry) → Holds (form_for CommandName.Verify) g matches.now → option_map asked result ≡ verify_of g }
+{
+    let file = matches.get_str("FILE")?;
+    let map = map_in(matches.get_str("map"))?;
+    Some(Request::Verify { file, map })
+}
+
+fn run<'a>(matches: &ArgMatches<'a>) -> Option<Request<'a>>
+    ensures limits { IfSome result HasLimits }
+    ensures asks { (g : List Entry) → Holds (form_for CommandName.Run) g matches.now → option_map asked result ≡ run_of g }
+{
+    let file = matches.get_str("FILE")?;
+    Some(Request::Run { file })
+}
+
+fn reference<'a>(matches: &ArgMatches<'a>) -> Option<Request<'a>>
+    ensures limits { IfSome result HasLimits }
+    ensures asks { (g : List Entry) → Holds (form_for CommandName.Reference) g matches.now → option_map asked result ≡ reference_of g }
+{
+    let file = matches.get_str("FILE")?;
+    let machine = machine_in(matches.get_str("machine"))?;
+    let bound = bound_in(matches.get_str("bound"))?;
+    let map = map_in(matches.get_str("map"))?;
+    Some(Request::Reference {
+        file,
+        machine,
+        bound,
+        map,
+    })
+}
+
+fn micro<'a>(matches: &ArgMatches<'a>) -> Option<Request<'a>>
+    ensures limits { IfSome result HasLimits }
+    ensures asks { (g : List Entry) → Holds (form_for CommandName.Micro) g matches.now → option_map asked result ≡ micro_of g }
+{
+    let mal = matches.get_str("MAL")?;
+    let store = matches.get_str("STORE")?;
+    let machine = machine_in(matches.get_str("machine"))?;
+    Some(Request::Micro {
+        mal,
+        store,
+        machine,
+    })
+}
+
+fn print_micro<'a>(matches: &ArgMatches<'a>) -> Option<Request<'a>>
+    ensures limits { IfSome result HasLimits }
+    ensures asks { (g : List Entry) → Holds (form_for CommandName.PrintMicro) g matches.now → option_map asked result ≡ print_micro_of g }
+{
+    let file = matches.get_str("FILE")?;
+    let machine = machine_in(matches.get_str("machine"))?;
+    Some(Request::PrintMicro { file, machine })
+}
+
+/// What a command asks for; nothing where its work is not built yet, or that of a word behind it.
+fn request_in<'a>(command: CommandName, matches: &ArgMatches<'a>) -> Option<Request<'a>>
+    ensures limits { IfSome result HasLimits }
+    ensures asks { (g : List Entry) → Holds (form_for command) g matches.now → option_map asked result ≡ asked_of command g }
+{
+    match command {
+        CommandName::Assemble => assemble(matches),
+        CommandName::List => list(matches),
+        CommandName::Verify => verify(matches),
+        CommandName::Run if matches.get_str("machine").is_some() => None,
+        CommandName::Run if matches.get_str("bound").is_some() => None,
+        CommandName::Run if matches.get_str("micro").is_some() => None,
+        CommandName::Run if matches.get_str("map").is_some() => None,
+        CommandName::Run => run(matches),
+        CommandName::Trace => None,
+        CommandName::Profile => None,
+        CommandName::Debug => None,
+        CommandName::Reference => reference(matches),
+        CommandName::Micro => micro(matches),
+        CommandName::PrintMicro if matches.get_str("FILE").is_none() => None,
+        CommandName::PrintMicro => print_micro(matches),
+        CommandName::Soak => None,
+    }
+}
+
+/// Reads the words after the program's name.
+pub fn read_words<'a>(alloc: Global, words: &'a [String]) -> Result<Request<'a>, WordsError>
+    ensures limits { IfOk result HasLimits }
+    ensures asks { AnswersAs (request_of (map string_bytes words.entry.now)) result }
 {
     let [command, rest @ ..] = words else {
-        return None;
+        return Err(WordsError::Usage);
     };
-    match command.as_str() {
-        "assemble" => assemble(rest),
-        "list" => over_map(rest).map(|(file, map)| Request::List { file, map }),
-        "verify" => over_map(rest).map(|(file, map)| Request::Verify { file, map }),
-        "run" => one_file(rest).map(|file| Request::Run { file }),
-        "reference" => reference(rest),
-        "micro" => micro(rest),
-        "print-micro" => print_micro(rest),
-        _ => None,
+    let Some(command) = named(command.as_str()) else {
+        return Err(WordsError::Usage);
+    };
+    let matches = take_command(alloc, command, rest)?;
+    match request_in(command, &matches) {
+        Some(request) => Ok(request),
+        None => Err(WordsError::Usage),
     }
 }

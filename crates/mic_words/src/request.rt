@@ -1,3 +1,5 @@
+//! What a command line can ask for.
+
 use console_port::MemoryMap;
 use machine_words::Machine;
 

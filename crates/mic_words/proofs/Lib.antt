@@ -1,0 +1,6 @@
+pub mod Rules
+pub mod Looks
+pub mod Adding
+pub mod Walks
+pub mod Ends
+pub mod Getting

@@ -1,0 +1,8 @@
+//! Why words are not taken.
+
+/// Why the words of a command line ask for nothing.
+#[derive(Clone, Copy, Debug, PartialEq, Eq)]
+pub enum WordsError {
+    Usage,
+    OutOfMemory,
+}
