@@ -1,6 +1,6 @@
 //! The lines that hold a part's contents: `| text` with its newline, `: text` without, `= 1D EA` bytes.
 //!
-//! A number behind the mark says how often a line stands: `|511 x{n}`. There `{n}` is the number of its turn, from 1, and `{3x}` and `{8x}` are that number in so many hexadecimal digits.
+//! A number behind the mark says how often a line stands: `|511 x{n}`. There `{n}` is the number of its turn, from 1, and `{3x}` and `{8x}` are that number in so many hexadecimal digits. `|4..511 x{n}` has the turns from 4 to 511.
 
 use crate::case::Refusal;
 use std::alloc::Global;
@@ -18,14 +18,15 @@ pub fn content_of(alloc: Global, line: &str) -> Result<Option<Vec<u8>>, Refusal>
     }
 }
 
-/// How often a line stands, where its mark says so.
-fn times(count: &str) -> Result<Option<u32>, Refusal> {
+/// The first and the last turn of a line that stands more than once: `8` is the turns from 1 to 8, `4..511` those from 4 to 511.
+fn turns(count: &str) -> Result<Option<(u64, u64)>, Refusal> {
     if count.is_empty() {
         return Ok(None);
     }
-    match count.parse::<u32>() {
-        Ok(times) => Ok(Some(times)),
-        Err(_) => Err(Refusal("a mark has a space or a number behind it")),
+    let (first, last) = count.split_once("..").unwrap_or(("1", count));
+    match (first.parse::<u32>(), last.parse::<u32>()) {
+        (Ok(first), Ok(last)) => Ok(Some((u64::from(first), u64::from(last)))),
+        _ => Err(Refusal("a mark has a space or a number behind it")),
     }
 }
 
@@ -33,14 +34,14 @@ fn times(count: &str) -> Result<Option<u32>, Refusal> {
 fn text_of(alloc: Global, rest: &str, ending: &str) -> Result<Vec<u8>, Refusal> {
     let (count, text) = rest.split_once(' ').unwrap_or((rest, ""));
     let mut all = Vec::new(alloc);
-    match times(count)? {
+    match turns(count)? {
         None => {
             all.extend_from_slice(text.as_bytes())?;
             all.extend_from_slice(ending.as_bytes())?;
         }
-        Some(times) => {
-            for turn in 0..times {
-                push_numbered(alloc, &mut all, text, u64::from(turn) + 1)?;
+        Some((first, last)) => {
+            for turn in first..=last {
+                push_numbered(alloc, &mut all, text, turn)?;
                 all.extend_from_slice(ending.as_bytes())?;
             }
         }
@@ -76,7 +77,8 @@ fn bytes_of(alloc: Global, rest: &str) -> Result<Vec<u8>, Refusal> {
     let (count, digits) = rest.split_once(' ').unwrap_or((rest, ""));
     let piece = hex_bytes(alloc, digits)?;
     let mut all = Vec::new(alloc);
-    for _ in 0..times(count)?.unwrap_or(1) {
+    let (first, last) = turns(count)?.unwrap_or((1, 1));
+    for _ in first..=last {
         all.extend_from_slice(&piece)?;
     }
     Ok(all)
