@@ -63,8 +63,6 @@ pub struct Failing {
 
 #[derive(Drop)]
 pub struct Case {
-    /// Whether a line says how `mic` is called.
-    pub is_called: bool,
     pub words: Vec<String>,
     pub files: Vec<CaseFile>,
     pub console: Vec<u8>,
@@ -75,7 +73,6 @@ pub struct Case {
 impl Case {
     pub fn new(alloc: Global) -> Case {
         Case {
-            is_called: false,
             words: Vec::new(alloc),
             files: Vec::new(alloc),
             console: Vec::new(alloc),

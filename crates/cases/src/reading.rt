@@ -12,17 +12,19 @@
 //! | end halt
 //! ```
 
-use crate::case::{Answer, Case, CaseFile, Refusal};
+use crate::case::{Case, CaseFile, Refusal};
 use crate::content::content_of;
 use std::alloc::{AllocError, Global};
 use std::fs;
 
-/// The part that contents belong to.
+/// The parts of a case, in the order in which they stand.
 #[derive(Clone, Copy, Drop, PartialEq, Eq)]
 enum Part {
     Start,
+    Call,
     File,
     Console,
+    Fails,
     Out,
     Err,
     Status,
@@ -31,9 +33,34 @@ enum Part {
 }
 
 impl Part {
+    /// The part that a line with this first word begins.
+    fn of(head: &str) -> Option<Part> {
+        match head {
+            "mic" => Some(Part::Call),
+            "file" => Some(Part::File),
+            "console" => Some(Part::Console),
+            "fails" => Some(Part::Fails),
+            "out" => Some(Part::Out),
+            "err" => Some(Part::Err),
+            "status" => Some(Part::Status),
+            "left" => Some(Part::Left),
+            "written" => Some(Part::Written),
+            _ => None,
+        }
+    }
+
+    /// Whether the other part may stand behind this one. The call is the first, and files and failing calls may be several.
+    fn may_precede(self, next: Part) -> bool {
+        match self {
+            Part::Start => next == Part::Call,
+            Part::File | Part::Fails | Part::Written => self as u8 <= next as u8,
+            _ => (self as u8) < next as u8,
+        }
+    }
+
     /// Whether the part says what must come of the call.
     fn is_wanted(self) -> bool {
-        !matches!(self, Part::Start | Part::File | Part::Console)
+        self as u8 >= Part::Out as u8
     }
 }
 
@@ -49,7 +76,7 @@ pub fn read_case(rt: &HostRuntime, text: &str) -> Result<Case, (u64, Refusal)> {
             Err(refusal) => return Err((number, refusal)),
         }
     }
-    if !case.is_called {
+    if part == Part::Start {
         return Err((number, Refusal("no line says how `mic` is called")));
     }
     Ok(case)
@@ -60,8 +87,10 @@ pub fn inputs_of(alloc: Global, text: &str) -> Result<String, AllocError> {
     let mut inputs = String::new(alloc);
     for line in text.lines() {
         let (head, _) = line.split_once(' ').unwrap_or((line, ""));
-        if matches!(head, "out" | "err" | "status" | "left" | "written") {
-            break;
+        if let Some(part) = Part::of(head) {
+            if part.is_wanted() {
+                break;
+            }
         }
         inputs.push_str(line)?;
         inputs.push_str("\n")?;
@@ -69,7 +98,7 @@ pub fn inputs_of(alloc: Global, text: &str) -> Result<String, AllocError> {
     Ok(inputs)
 }
 
-/// Takes a line, and answers the part that follows.
+/// Takes a line, and answers the part that it belongs to.
 fn take_line(rt: &HostRuntime, case: &mut Case, part: Part, line: &str) -> Result<Part, Refusal> {
     if line.is_empty() || line.starts_with('#') {
         return Ok(part);
@@ -79,14 +108,37 @@ fn take_line(rt: &HostRuntime, case: &mut Case, part: Part, line: &str) -> Resul
         return Ok(part);
     }
     let (head, rest) = line.split_once(' ').unwrap_or((line, ""));
-    match head {
-        "mic" | "file" | "console" | "fails" => {
-            if part.is_wanted() {
-                return Err(Refusal("stands behind what must come of the call"));
-            }
-            begin_input(rt, case, part, head, rest)
-        }
-        _ => begin_wanted(rt, &mut case.wanted, head, rest),
+    let Some(next) = Part::of(head) else {
+        return Err(Refusal("no line of a case"));
+    };
+    if !part.may_precede(next) {
+        return Err(Refusal("the part stands behind a later one, or twice"));
+    }
+    begin(rt, case, next, rest)?;
+    Ok(next)
+}
+
+/// Takes what stands behind the first word of a part.
+fn begin(rt: &HostRuntime, case: &mut Case, part: Part, rest: &str) -> Result<(), Refusal> {
+    match part {
+        Part::Start => {}
+        Part::Call => case.words = words_of(rt.alloc(), rest)?,
+        Part::File => push_file(&mut case.files, named_file(rt, rest)?)?,
+        Part::Console => case.console = contents_at(rt, rest)?,
+        Part::Fails => fail(case, rest)?,
+        Part::Out => case.wanted.out = contents_at(rt, rest)?,
+        Part::Err => case.wanted.err = contents_at(rt, rest)?,
+        Part::Status => case.wanted.status = status_of(rest)?,
+        Part::Left => case.wanted.left = contents_at(rt, rest)?,
+        Part::Written => push_file(&mut case.wanted.written, named_file(rt, rest)?)?,
+    }
+    Ok(())
+}
+
+fn status_of(text: &str) -> Result<u8, Refusal> {
+    match text.parse::<u8>() {
+        Ok(status) => Ok(status),
+        Err(_) => Err(Refusal("no status from 0 to 255")),
     }
 }
 
@@ -102,81 +154,16 @@ fn contents_at(rt: &HostRuntime, rest: &str) -> Result<Vec<u8>, Refusal> {
 fn file_at(rt: &HostRuntime, path: &str) -> Result<Vec<u8>, Refusal> {
     match fs::read(rt, path) {
         Ok(bytes) => Ok(bytes),
-        Err(_) => Err(Refusal("the file it names cannot be read")),
-    }
-}
-
-/// A line that says how `mic` is called, or what lies before the call.
-fn begin_input(
-    rt: &HostRuntime,
-    case: &mut Case,
-    part: Part,
-    head: &str,
-    rest: &str,
-) -> Result<Part, Refusal> {
-    match head {
-        "mic" => {
-            if case.is_called {
-                return Err(Refusal("a second call"));
-            }
-            case.is_called = true;
-            case.words = words_of(rt.alloc(), rest)?;
-            Ok(part)
-        }
-        "file" => {
-            push_file(&mut case.files, named_file(rt, rest)?)?;
-            Ok(Part::File)
-        }
-        "fails" => {
-            fail(case, rest)?;
-            Ok(part)
-        }
-        _ => {
-            case.console = contents_at(rt, rest)?;
-            Ok(Part::Console)
-        }
-    }
-}
-
-/// A line that says what must come of the call.
-fn begin_wanted(
-    rt: &HostRuntime,
-    wanted: &mut Answer,
-    head: &str,
-    rest: &str,
-) -> Result<Part, Refusal> {
-    match head {
-        "out" => {
-            wanted.out = contents_at(rt, rest)?;
-            Ok(Part::Out)
-        }
-        "err" => {
-            wanted.err = contents_at(rt, rest)?;
-            Ok(Part::Err)
-        }
-        "left" => {
-            wanted.left = contents_at(rt, rest)?;
-            Ok(Part::Left)
-        }
-        "status" => match rest.parse::<u8>() {
-            Ok(status) => {
-                wanted.status = status;
-                Ok(Part::Status)
-            }
-            Err(_) => Err(Refusal("no status from 0 to 255")),
-        },
-        "written" => {
-            push_file(&mut wanted.written, named_file(rt, rest)?)?;
-            Ok(Part::Written)
-        }
-        _ => Err(Refusal("no line of a case")),
+        Err(_) => Err(Refusal("the file that it names cannot be read")),
     }
 }
 
 /// Appends to the part, if it has contents.
 fn add(case: &mut Case, part: Part, bytes: &[u8]) -> Result<(), Refusal> {
     match part {
-        Part::Start | Part::Status => return Err(Refusal("contents of no part")),
+        Part::Start | Part::Call | Part::Fails | Part::Status => return Err(Refusal(
+            "contents of no part",
+        )),
         Part::File => add_to_last(&mut case.files, bytes)?,
         Part::Written => add_to_last(&mut case.wanted.written, bytes)?,
         Part::Console => case.console.extend_from_slice(bytes)?,
