@@ -1,5 +1,7 @@
 //! Images that are refused and accepted, and what is told of them.
 
+ghost use Rattle.console_port.specs.Map.{IsMap};
+
 use crate::{Kind, VerifiedImage, VerifyError, verify};
 use console_port::MemoryMap;
 use ijvm_image::{Image, read_image};
@@ -13,7 +15,9 @@ fn verified(
     text: &[u8],
     pool: &[u32],
     map: MemoryMap,
-) -> Result<Result<VerifiedImage, VerifyError>, AllocError> {
+) -> Result<Result<VerifiedImage, VerifyError>, AllocError>
+    requires { IsMap map.stack_end }
+{
     assert!(rt; text.len() <= 65536);
     assert!(rt; pool.len() <= 16384);
     let image = Image::new(Vec::from_slice(alloc, text)?, Vec::from_slice(alloc, pool)?);

@@ -89,7 +89,8 @@ impl MalProgram {
 
     /// The number of the statement labelled Main1.
     pub fn entry(&self) -> u16
-        ensures { result ≡ self.now.entry }
+        ensures is { result ≡ self.now.entry }
+        ensures program { IsProgram self.now }
     {
         self.entry
     }

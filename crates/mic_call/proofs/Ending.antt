@@ -1,5 +1,5 @@
 -- How a run ends, by the end of its board.
-use Rattle.std.proofs.Common.{◌≡◌, ◌≢◌, ℕ, List, Option, Some, None, refl, sym, subst}
+use Rattle.std.proofs.Common.{◌≡◌, ◌≢◌, ℕ, List, Some, None, refl, sym, subst}
 use Rattle.mic_clock.specs.declared.end.End.{End}
 use Rattle.mic_clock.specs.declared.end.End.TheVariants as ends
 use Rattle.mic_clock.specs.Board.{NoFault, HasEndCause}
@@ -14,7 +14,7 @@ use Rattle.mic_work.specs.Outside.{Says}
 use Rattle.mic_call.specs.Outside.{Streams}
 use Rattle.run_texts.specs.Ends.{status_of}
 use Rattle.run_texts.specs.Report.{report as report_of}
-use Rattle.mic_call.specs.RunEnds.{ClockedEnd, Ran, Cut, IsReport}
+use Rattle.mic_call.specs.RunEnds.{ClockedEnd, Ran, Cut}
 
 -- what is known of a board that was run between these streams
 pub record IsRun (image : ImageView) (old new : Streams) (board : BoardView Mic1) : Type 0 where

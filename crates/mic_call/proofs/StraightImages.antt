@@ -10,7 +10,7 @@ use Rattle.ijvm_instr.specs.declared.row.Flow.TheVariants.{Next, Call}
 use Rattle.ijvm_instr.specs.Instructions.{row_of, size_of, instr_at}
 use Rattle.ijvm_image.specs.Image.{ImageView}
 use Rattle.ijvm_paths.specs.declared.error.VerifyError.TheVariants.{Underflow}
-use Rattle.ijvm_paths.specs.Paths.{Arrival, arrival, Follows, On, Into, Goes, GoesOn, Reached, Start, Then, HasConstant, left_unset, need_of, IsNoCall}
+use Rattle.ijvm_paths.specs.Paths.{Arrival, arrival, Follows, On, Into, GoesOn, Reached, Start, Then, HasConstant, left_unset, need_of, IsNoCall}
 use Rattle.ijvm_paths.specs.Facts.{Accepts, IsMainCount, MainNames, Names}
 use Rattle.ijvm_paths.specs.Accepted.{IsAccepted, VerifiedView}
 use Rattle.shipped_microcode.specs.Straight.{image_of, IsPlain, IsFrom, IsStraight, Runs, underflow}

@@ -1,5 +1,5 @@
 -- How `run` ends, as the outside sees it.
-use Rattle.std.specs.Prelude.{◌≡◌, ℕ, List, [], Option, Some, codes}
+use Rattle.std.specs.Prelude.{◌≡◌, ℕ, List, [], Some, codes}
 use Rattle.mic_base.specs.Causes.{Rose}
 use Rattle.console_port.specs.declared.map.TheConstants.MemoryMap.{STANDARD}
 use Rattle.mic_clock.specs.declared.end.End.{End}

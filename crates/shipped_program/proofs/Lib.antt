@@ -1,0 +1,6 @@
+mod Texts
+mod Placed
+mod Valid
+mod Entries
+mod Lines
+mod Words
