@@ -18,14 +18,14 @@ pub fn content_of(alloc: Global, line: &str) -> Result<Option<Vec<u8>>, Refusal>
     }
 }
 
-/// The first and the last turn of a line that stands more than once: `8` is the turns from 1 to 8, `4..511` those from 4 to 511.
+/// The first turn of a line that stands more than once, and the one behind the last: `8` is the turns from 1 to 8, `4..511` those from 4 to 511.
 fn turns(count: &str) -> Result<Option<(u64, u64)>, Refusal> {
     if count.is_empty() {
         return Ok(None);
     }
     let (first, last) = count.split_once("..").unwrap_or(("1", count));
     match (first.parse::<u32>(), last.parse::<u32>()) {
-        (Ok(first), Ok(last)) => Ok(Some((u64::from(first), u64::from(last)))),
+        (Ok(first), Ok(last)) => Ok(Some((u64::from(first), u64::from(last) + 1))),
         _ => Err(Refusal("a mark has a space or a number behind it")),
     }
 }
@@ -39,8 +39,8 @@ fn text_of(alloc: Global, rest: &str, ending: &str) -> Result<Vec<u8>, Refusal> 
             all.extend_from_slice(text.as_bytes())?;
             all.extend_from_slice(ending.as_bytes())?;
         }
-        Some((first, last)) => {
-            for turn in first..=last {
+        Some((first, end)) => {
+            for turn in first..end {
                 push_numbered(alloc, &mut all, text, turn)?;
                 all.extend_from_slice(ending.as_bytes())?;
             }
@@ -77,8 +77,8 @@ fn bytes_of(alloc: Global, rest: &str) -> Result<Vec<u8>, Refusal> {
     let (count, digits) = rest.split_once(' ').unwrap_or((rest, ""));
     let piece = hex_bytes(alloc, digits)?;
     let mut all = Vec::new(alloc);
-    let (first, last) = turns(count)?.unwrap_or((1, 1));
-    for _ in first..=last {
+    let (first, end) = turns(count)?.unwrap_or((0, 1));
+    for _ in first..end {
         all.extend_from_slice(&piece)?;
     }
     Ok(all)
