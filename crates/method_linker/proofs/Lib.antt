@@ -3,5 +3,4 @@ pub mod Pushed
 pub mod Texts
 pub mod Linkable
 pub mod Images
-pub mod Checked
 mod Examples

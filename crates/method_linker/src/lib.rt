@@ -11,6 +11,3 @@ mod size;
 
 pub use error::LinkError;
 pub use image::link;
-
-#[cfg(test)]
-mod tests;

@@ -1,18 +1,11 @@
-//! The program `mic`: it assembles, verifies, lists and runs programs of IJVM, and places and prints microprograms.
+//! The program `mic`: one call, with the words, the files and the streams that the system has.
 #![tactic(auto)]
 
-mod run;
-#[cfg(test)]
-mod tests;
-mod top_call;
-mod usage;
-
 use mic_base::{StdFiles, StdSink, StdSource};
+use mic_call::{mic_main, misused};
 use mic_work::no_memory;
 use std::process::ExitCode;
 use std::{env, io};
-use top_call::mic_main;
-use usage::misused;
 
 /// The words after the program's name.
 fn words_of(rt: &HostRuntime) -> io::Result<Vec<String>> {

@@ -6,8 +6,6 @@ mod lines;
 mod listing;
 mod placing;
 mod reasons;
-#[cfg(test)]
-mod tests;
 
 pub use commands::{micro, print_micro};
 pub use listing::printed_answer;

@@ -6,8 +6,6 @@ mod list;
 mod program;
 mod reference;
 mod refusal;
-#[cfg(test)]
-mod tests;
 mod verify;
 
 pub use assemble::assemble_file;

@@ -1,0 +1,40 @@
+//! A case's call is made, with files, console and streams in memory.
+
+use crate::case::{Answer, Case};
+use crate::noted::NotedFiles;
+use mic_base::{MemSink, MemSource};
+use mic_call::mic_main;
+use std::alloc::{AllocError, Global};
+
+/// The most bytes that `out` and `err` take.
+const ROOM: u32 = 1_200_000;
+
+/// What comes of the case's call.
+pub fn answer_of(alloc: Global, case: &Case) -> Result<Answer, AllocError> {
+    let failing = &case.failing;
+    let mut files = NotedFiles::new(alloc, Vec::from_slice(alloc, &failing.files)?);
+    for file in &case.files {
+        files.add(file)?;
+    }
+    let mut console = MemSource::new(
+        Vec::from_slice(alloc, &case.console)?,
+        Vec::from_slice(alloc, &failing.console)?,
+    );
+    let mut out = MemSink::new(alloc, ROOM, Vec::from_slice(alloc, &failing.out)?)?;
+    let mut err = MemSink::new(alloc, ROOM, Vec::from_slice(alloc, &failing.err)?)?;
+    let status = mic_main(
+        alloc,
+        &case.words,
+        &mut files,
+        &mut console,
+        &mut out,
+        &mut err,
+    );
+    Ok(Answer {
+        status: status.0,
+        out: Vec::from_slice(alloc, out.bytes())?,
+        err: Vec::from_slice(alloc, err.bytes())?,
+        left: Vec::from_slice(alloc, console.left())?,
+        written: files.written()?,
+    })
+}

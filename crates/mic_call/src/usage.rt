@@ -1,0 +1,24 @@
+//! How `mic` is called.
+
+ghost use Rattle.mic_call.specs.Usage.{usage};
+ghost use Rattle.mic_work.specs.Status as exits;
+ghost use Rattle.mic_work.specs.Outside.{Says, sink_of};
+
+use mic_base::Sink;
+use mic_work::{Status, say};
+
+const USAGE: &[u8] = b"usage: mic assemble SOURCE IMAGE
+       mic list FILE [--map W]
+       mic verify FILE [--map W]
+       mic run FILE
+       mic reference FILE [--machine V] [--bound N] [--map W]
+       mic micro MAL STORE [--machine V]
+       mic print-micro FILE [--machine V]
+";
+
+/// Says how `mic` is called.
+pub fn misused<E: Sink>(err: &mut E) -> Status
+    ensures { Says (sink_of E.held E.passed E.faults err.old) (sink_of E.held E.passed E.faults err.new) usage exits.usage result.0 }
+{
+    say(err, USAGE, Status::USAGE)
+}
