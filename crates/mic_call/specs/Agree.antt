@@ -22,5 +22,5 @@ pub record Agrees (old ran told : Streams) (status status' : ℕ) : Type 0 where
   -- `reference` says three lines, and `run` these and the state line
   pub report : PlainReport
   pub registers : Registers
-  pub run_says : Got old.err.held (plain_head report ++ (state_line registers ++ codes "\n")) ran.err.held
+  pub run_says : Got old.err.held (plain_head report ++ state_line registers ++ codes "\n") ran.err.held
   pub reference_says : Got old.err.held (plain_head report) told.err.held
