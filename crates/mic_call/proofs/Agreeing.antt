@@ -25,7 +25,8 @@ use Rattle.mic_work.specs.Status as exits
 use Rattle.mic_work.specs.Outside.{Got, Said, Says, SinkState, Unsaid}
 use Rattle.run_texts.specs.Ends.{status_of}
 use Rattle.run_texts.specs.Ends as texts
-use Rattle.run_texts.specs.Report.{clocked_head, cycles_of, head, last_boundary, plain_head, state_line}
+use Rattle.mic_clock.specs.State.{state_line}
+use Rattle.run_texts.specs.Report.{clocked_head, cycles_of, head, last_boundary, plain_head}
 use Rattle.program_commands.specs.Reference.{IsReported, IsRun, Reported}
 use Rattle.program_commands.specs.Reference as reference
 use Rattle.mic_call.specs.Outside.{Streams}

@@ -5,7 +5,8 @@ use Rattle.mic_clock.specs.declared.registers.Registers.{Registers}
 use Rattle.plain_machine.specs.declared.plain.PlainReport.{PlainReport}
 use Rattle.mic_work.specs.Status as exits
 use Rattle.mic_work.specs.Outside.{Got}
-use Rattle.run_texts.specs.Report.{plain_head, state_line}
+use Rattle.mic_clock.specs.State.{state_line}
+use Rattle.run_texts.specs.Report.{plain_head}
 use Rattle.mic_call.specs.Outside.{Streams}
 
 -- a call met no fault of these streams, and memory was not wanting
