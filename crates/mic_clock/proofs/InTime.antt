@@ -1,5 +1,5 @@
 -- How far the cycles of a run go.
-use Rattle.std.proofs.Common.{◌≡◌, ◌⊎◌, inl, inr, ℕ, ◌+◌, ◌<◌, ◌≤◌, Bool, true, false, if◌then◌else◌, Option, Some, None, IsSome, refl, sym, ap, subst, arith}
+use Rattle.std.proofs.Common.{◌≡◌, ◌⊎◌, inl, inr, ℕ, ◌+◌, ◌<◌, ◌≤◌, max, Bool, true, false, if◌then◌else◌, Option, Some, None, IsSome, refl, sym, ap, subst, arith}
 use Rattle.mic_clock.specs.declared.counts.Counts.{Counts}
 use Rattle.mic_clock.specs.declared.end.End.{End}
 use Rattle.mic_clock.specs.declared.registers.Registers.{Registers}
@@ -37,6 +37,42 @@ InTime-step m top bound c c' was stalled s end (Some e) going le t still room co
 InTime-step m top bound c c' was stalled s end None going le t still room counted below =
     subst (λ x. InTime top x (m.is_boundary s) None) (sym (counted refl))
     (clocked (m.is_boundary s) c stalled (m.address s) (m.registers s) was top bound (room refl) t.ordered le (below refl) (t.last going))
+
+-- after the turns of an instruction, before which the bound was tested at a boundary
+pub InTime-stride : (top bound : ℕ) (c c' : Counts) (was is : Bool) (end end' : Option End) → end ≡ None → bound ≤ top → InTime top c was end →
+    last_cycles c'.boundary ≤ c'.cycles → c'.cycles ≤ last_cycles c.boundary + 1024 → (was ≡ true → c'.cycles ≤ max (bound + 1024) c.cycles) →
+    (end' ≡ None → is ≡ true) → InTime top c' is end'
+InTime-stride top bound c c' was is end end' going le t ordered within growth boundary =
+    record { cycles = by_last (t.last going); ordered = ordered; last = λ q. inr (boundary q) }
+  where
+    by_last : (last_cycles c.boundary ≤ top) ⊎ (was ≡ true) → c'.cycles ≤ top + 1024
+    by_last (inl last) = omega arith
+    by_last (inr here) = let far = growth here in let near = t.cycles in omega arith
+
+-- How far the cycles of one instruction go.
+pub record InLeg (first c : Counts) (is_boundary : Bool) (end : Option End) : Type 0 where
+  pub within : c.cycles ≤ last_cycles first.boundary + 1024
+  pub onward : end ≡ None → first.cycles < c.cycles
+  pub same : end ≡ None → is_boundary ≡ false → last_cycles c.boundary ≡ last_cycles first.boundary
+
+clocked_inside : (b : Bool) (first c : Counts) (stalled : Bool) (at : ℕ) (r : Registers) →
+    c.cycles < last_cycles c.boundary + 1024 → last_cycles c.boundary ≡ last_cycles first.boundary → first.cycles ≤ c.cycles →
+    InLeg first (if b then counts_at c stalled at r else counts_between c stalled) b None
+clocked_inside true first c stalled at r room same later = record { within = omega arith; onward = λ _. omega arith; same = λ _ f. absurd (cc) }
+clocked_inside false first c stalled at r room same later = record { within = omega arith; onward = λ _. omega arith; same = λ _ _. same }
+
+pub InLeg-step : {State : Type 0} (m : Meaning State) (first c c' : Counts) (stalled : Bool) (s : State) (end' : Option End) →
+    c.cycles ≤ last_cycles first.boundary + 1024 → last_cycles c.boundary ≡ last_cycles first.boundary → first.cycles ≤ c.cycles →
+    (IsSome end' → (c'.cycles ≡ c.cycles) × (c'.boundary ≡ c.boundary)) →
+    (end' ≡ None → c.cycles < last_cycles c.boundary + 1024) →
+    (end' ≡ None → c' ≡ counts_after m c stalled s) →
+    InLeg first c' (m.is_boundary s) end'
+InLeg-step m first c c' stalled s (Some e) within same later still room counted =
+    let at = (still refl).0 in
+    record { within = omega arith; onward = λ q. absurd (cc); same = λ q _. absurd (cc) }
+InLeg-step m first c c' stalled s None within same later still room counted =
+    subst (λ x. InLeg first x (m.is_boundary s) None) (sym (counted refl))
+    (clocked_inside (m.is_boundary s) first c stalled (m.address s) (m.registers s) (room refl) same later)
 
 -- causes of one call after another
 pub HasEndCause-step : (a b c d e f : ℕ) (end end' : Option End) → end ≡ None → HasEndCause a b c d None end → HasEndCause b e d f end end' → HasEndCause a e c f None end'

@@ -209,6 +209,11 @@ IsReached-compose state m left held left' held' left'' held'' bound a b c same f
     Leads-on state m bound left held a left' held' b left'' c (λ (words : List ℕ). ShowsRun state left'' held'' c) a.store.words
     (ap (λ s. s.words) same) first next
 
+-- an end leaves the bus values
+pub buses_of-ended : {State : Type 0} (m : Meaning State) (words : List ℕ) (s : State) (old : Buses) (end : Option End) → IsSome end → buses_of m words s old end ≡ old
+buses_of-ended m words s old (Some e) over = refl
+buses_of-ended m words s old None over = cc
+
 module _ {M State : Type 0} (state : M → State) (m : Meaning State) (bound : ℕ) (left held : Option (List ℕ)) (board : BoardView M) where
   -- no turn leads where the board is
   pub Leads-start : IsLedTo state left held board left board

@@ -180,6 +180,10 @@ EndsUncounted board board' = IsSome board'.end → (board'.counts.cycles ≡ boa
 abbrev pub HasRoom : {M : Type 0} → BoardView M → BoardView M → Type 0
 HasRoom board board' = board'.end ≡ None → board.counts.cycles < last_cycles board.counts.boundary + 1024
 
+-- the cycles at which a run is adrift, if it comes to no boundary before
+abbrev pub IsLimit : Counts → ℕ → Type 0
+IsLimit c limit = limit ≡ last_cycles c.boundary + 1024
+
 -- instructions and stalls are no more than cycles, no boundary is ahead of them, and none is more than 1,024 cycles back
 pub record AreCounts (c : Counts) (end : Option End) : Type 0 where
   pub instructions : c.instructions ≤ c.cycles + number_of (is_some end)

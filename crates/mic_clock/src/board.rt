@@ -7,12 +7,12 @@ ghost use Rattle.console_port.specs.Bus.{Stands};
 ghost use Rattle.console_port.specs.Console.{IsFault, IsLost, HasFaultCause, StaysFlushed};
 ghost use Rattle.mic_clock.specs.Edge.{AsksNoMore};
 ghost use Rattle.mic_clock.specs.Run.{MicroRun, start_counts, start_buses, bounded, word_at, last_cycles, end_by};
-ghost use Rattle.mic_clock.specs.Board.{ShowsRun, ShowsAs, IsReset, NoFault, HasEndCause, tick_of, IsTurned, IsCutByFault, IsRun, RunIsCutByRead, RunIsCutByWrite, BoundIsCutByWrite, IsLegRun, LegIsCutByRead, LegIsCutByWrite};
+ghost use Rattle.mic_clock.specs.Board.{ShowsRun, ShowsAs, IsReset, NoFault, HasEndCause, tick_of, IsTurned, IsCutByFault, IsReached, IsRun, RunIsCutByRead, RunIsCutByWrite, BoundIsCutByWrite, IsLegRun, LegIsCutByRead, LegIsCutByWrite};
 ghost use Rattle.mic_clock.specs.Board.{EndsInTime, IsCounted, ShowsBuses, EndsUncounted, HasRoom};
 
 use crate::buses::{Computed, Drive};
 use crate::clocked::Clocked;
-use crate::counting::{count, end_before, end_of, ended_counts};
+use crate::counting::{DRIFT, count, end_before, end_of, ended_counts};
 use crate::counts::Counts;
 use crate::cycle::clock_once;
 use crate::end::{End, Tick};
@@ -30,6 +30,8 @@ pub struct Board<M: Clocked> {
     store: Store,
     bus: Bus,
     counts: Counts,
+    /// The cycles at which the run is adrift, if it comes to no boundary before.
+    limit: u64,
     end: Option<End>,
     drive: Drive,
     computed: Computed,
@@ -39,13 +41,13 @@ impl<M: Clocked> Model for Board<M> {
     ghost use Rattle.std.specs.Prelude.{◌≡◌};
     ghost use Rattle.mic_clock.specs.View.{BoardView};
     ghost use Rattle.mic_clock.specs.Meaning.{AtRest};
-    ghost use Rattle.mic_clock.specs.Board.{AreCounts};
+    ghost use Rattle.mic_clock.specs.Board.{AreCounts, IsLimit};
 
     ghost Value = { BoardView M };
 
     ghost view = { λ b. record { machine = b.machine; store = b.store; bus = b.bus; counts = b.counts; end = b.end; buses = record { drive = b.drive; computed = b.computed } } };
 
-    ghost invariant = { λ b. (M.phase b.machine ≡ AtRest) × (b.store.machine ≡ M.meaning.machine) × AreCounts b.counts b.end };
+    ghost invariant = { λ b. (M.phase b.machine ≡ AtRest) × (b.store.machine ≡ M.meaning.machine) × AreCounts b.counts b.end × IsLimit b.counts b.limit };
 }
 
 impl<M: Clocked> Board<M> {
@@ -74,6 +76,7 @@ impl<M: Clocked> Board<M> {
                 stalls: 0,
                 boundary: None,
             },
+            limit: DRIFT,
             end: None,
             drive: Drive::ZERO,
             computed: Computed::ZERO,
@@ -106,7 +109,7 @@ impl<M: Clocked> Board<M> {
         if let Some(end) = self.end {
             return Tick::Ended(end);
         }
-        if let Some(end) = end_before(&self.machine, &self.counts) {
+        if let Some(end) = end_before(&self.machine, &self.counts, self.limit) {
             let counts = ended_counts(self.counts, end);
             self.counts = counts;
             self.end = Some(end);
@@ -114,9 +117,19 @@ impl<M: Clocked> Board<M> {
         }
         match clock_once(&mut self.machine, &self.store, &mut self.bus, source, sink) {
             Ok((drive, computed)) => {
-                count(&mut self.counts, drive.stalled, &self.machine);
-                self.drive = drive;
-                self.computed = computed;
+                count(
+                    &mut self.counts,
+                    &mut self.limit,
+                    drive.stalled,
+                    &self.machine,
+                );
+                self.drive.a = drive.a;
+                self.drive.b = drive.b;
+                self.drive.stalled = drive.stalled;
+                self.computed.alu.value = computed.alu.value;
+                self.computed.alu.n = computed.alu.n;
+                self.computed.alu.z = computed.alu.z;
+                self.computed.c = computed.c;
                 if drive.stalled {
                     Tick::Stalled
                 } else {
@@ -133,7 +146,7 @@ impl<M: Clocked> Board<M> {
 
     /// Turns up to the next boundary, which answers none, or up to the end.
     pub fn instruction<S: Source, K: Sink>(&mut self, source: &mut S, sink: &mut K) -> Option<End>
-        requires { self.old.counts.cycles ≤ 2 ^ 62 + 1024 }
+        requires { self.old.counts.cycles ≤ 2 ^ 62 + 2048 }
         ensures run { IsLegRun M.state M.meaning (S.left source.old) (K.held sink.old) self.old (S.left source.new) (K.held sink.new) self.new }
         ensures read { LegIsCutByRead M.state M.meaning (S.left source.old) (K.held sink.old) self.old (S.left source.new) (K.held sink.new) self.new }
         ensures write { LegIsCutByWrite M.state M.meaning (S.left source.old) (K.held sink.old) self.old (S.left source.new) (K.held sink.new) self.new }
@@ -141,7 +154,11 @@ impl<M: Clocked> Board<M> {
         ensures boundary { result ≡ None → M.meaning.is_boundary (M.state self.new.machine) ≡ true }
         ensures growth { self.new.counts.cycles ≤ self.old.counts.cycles + 1024 }
         ensures near { self.new.counts.cycles ≤ last_cycles self.new.counts.boundary + 1024 }
+        ensures within { self.new.counts.cycles ≤ last_cycles self.old.counts.boundary + 1024 }
+        ensures ordered { last_cycles self.new.counts.boundary ≤ self.new.counts.cycles }
+        ensures onward { self.old.end ≡ None → self.new.end ≡ None → self.old.counts.cycles < self.new.counts.cycles }
         ensures ended { (e : End) → self.old.end ≡ Some e → (self.new ≡ self.old) × (source.new ≡ source.old) × (sink.new ≡ sink.old) }
+        ensures kept { (e : BusFault) → self.old.end ≡ None → IsFault e → self.new.end ≡ Some (end_by e) → self.new.bus.console.kept ≡ [] }
         ensures store { self.new.store ≡ self.old.store }
         ensures keeps { (front : List ℕ) → Holds front (K.held sink.old) → Holds front (K.held sink.new) }
         ensures asked_no_more { AsksNoMore self.old.bus.console.ended source.old self.new.bus.console.ended source.new }
@@ -213,6 +230,8 @@ impl<M: Clocked> Board<M> {
         ensures kept { self.old.end ≡ None → IsSome self.new.end → self.new.bus.console.kept ≡ [] }
         ensures same { self.new ≡ record self.old { bus = self.new.bus; end = self.new.end } }
         ensures memory { self.new.bus.words ≡ self.old.bus.words }
+        ensures near { self.new.counts.cycles ≤ last_cycles self.new.counts.boundary + 1024 }
+        ensures ordered { last_cycles self.new.counts.boundary ≤ self.new.counts.cycles }
         ensures input { self.new.bus.console.ended ≡ self.old.bus.console.ended }
         ensures keeps { (front : List ℕ) → Holds front (K.held sink.old) → Holds front (K.held sink.new) }
         ensures tells { IsSome (K.held sink.old) → IsSome (K.held sink.new) }
@@ -264,6 +283,33 @@ impl<M: Clocked> Board<M> {
         self.end
     }
 
+    // The test of the bound, and where it does not end the board, the turns of an instruction, which has no other boundary to test it at.
+    fn stride<S: Source, K: Sink>(&mut self, bound: u64, source: &mut S, sink: &mut K)
+        requires running { self.old.end ≡ None }
+        requires cycles { self.old.counts.cycles ≤ 2 ^ 62 + 2048 }
+        ensures run { NoFault None self.new.end → IsReached M.state M.meaning (S.left source.old) (K.held sink.old) self.old (S.left source.new) (K.held sink.new) self.new (Some bound) }
+        ensures read { RunIsCutByRead M.state M.meaning (S.left source.old) (K.held sink.old) self.old (S.left source.new) (K.held sink.new) self.new (Some bound) }
+        ensures write { RunIsCutByWrite M.state M.meaning (S.left source.old) (K.held sink.old) self.old (S.left source.new) (K.held sink.new) self.new (Some bound) }
+        ensures kept { (e : BusFault) → IsFault e → self.new.end ≡ Some (end_by e) → self.new.bus.console.kept ≡ [] }
+        ensures below { self.new.end ≡ None → M.meaning.is_boundary (M.state self.old.machine) ≡ true → self.old.counts.cycles < bound }
+        ensures within { self.new.counts.cycles ≤ last_cycles self.old.counts.boundary + 1024 }
+        ensures ordered { last_cycles self.new.counts.boundary ≤ self.new.counts.cycles }
+        ensures growth { M.meaning.is_boundary (M.state self.old.machine) ≡ true → self.new.counts.cycles ≤ max (bound + 1024) self.old.counts.cycles }
+        ensures onward { self.new.end ≡ None → self.old.counts.cycles < self.new.counts.cycles }
+        ensures boundary { self.new.end ≡ None → M.meaning.is_boundary (M.state self.new.machine) ≡ true }
+        ensures store { self.new.store ≡ self.old.store }
+        ensures keeps { (front : List ℕ) → Holds front (K.held sink.old) → Holds front (K.held sink.new) }
+        ensures asked_no_more { AsksNoMore self.old.bus.console.ended source.old self.new.bus.console.ended source.new }
+        ensures tells { IsSome (K.held sink.old) → IsSome (K.held sink.new) }
+        ensures flushed { self.new.end ≢ Some End.WriteFault → StaysFlushed (K.held sink.old) (K.passed sink.old) (K.held sink.new) (K.passed sink.new) }
+        ensures cause { HasEndCause (S.faults source.old) (S.faults source.new) (K.faults sink.old) (K.faults sink.new) None self.new.end }
+    {
+        if self.stop_at(bound, sink).is_some() {
+            return;
+        }
+        self.instruction(source, sink);
+    }
+
     /// Turns until the run ends, with the test of the bound before each, and then the flush.
     pub fn run<S: Source, K: Sink>(&mut self, bound: u64, source: &mut S, sink: &mut K) -> End
         requires bound { bound ≤ 2 ^ 62 }
@@ -286,8 +332,8 @@ impl<M: Clocked> Board<M> {
         if let Some(end) = self.end {
             return end;
         }
-        'turns: while self.end.is_none() {
-            self.turn(bound, source, sink);
+        'strides: while self.end.is_none() {
+            self.stride(bound, source, sink);
         }
         self.finish(sink);
         self.end.unwrap()

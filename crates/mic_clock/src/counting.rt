@@ -2,6 +2,7 @@
 
 ghost use Rattle.std.specs.Prelude.{◌≡◌, ◌<◌, ◌≤◌, ◌+◌, ◌^◌, IfNone};
 ghost use Rattle.mic_clock.specs.Rule.{EndsBefore, CountsEnd, CountsCycle};
+ghost use Rattle.mic_clock.specs.Board.{IsLimit};
 ghost use Rattle.mic_clock.specs.Run.{end_by, last_cycles};
 
 use crate::clocked::Clocked;
@@ -13,7 +14,8 @@ const HALT: u16 = 0x0FF;
 
 const ERR: u16 = 0x0FE;
 
-const DRIFT: u64 = 1024;
+/// So many cycles without a boundary end a run.
+pub const DRIFT: u64 = 1024;
 
 /// The end by a refusal or a fault.
 pub fn end_of(fault: BusFault) -> End
@@ -28,8 +30,9 @@ pub fn end_of(fault: BusFault) -> End
 }
 
 /// The end that comes before a cycle, if one does.
-pub fn end_before<M: Clocked>(machine: &M, counts: &Counts) -> Option<End>
-    requires { last_cycles counts.now.boundary ≤ counts.now.cycles }
+pub fn end_before<M: Clocked>(machine: &M, counts: &Counts, limit: u64) -> Option<End>
+    requires ordered { last_cycles counts.now.boundary ≤ counts.now.cycles }
+    requires limit { IsLimit counts.now limit }
     ensures rule { EndsBefore (M.meaning.registers (M.state machine.now)).mpc counts.now result }
     ensures room { IfNone result (counts.now.cycles < last_cycles counts.now.boundary + 1024) }
 {
@@ -40,11 +43,7 @@ pub fn end_before<M: Clocked>(machine: &M, counts: &Counts) -> Option<End>
     if mpc == ERR {
         return Some(End::Err);
     }
-    let last = match counts.boundary {
-        Some(boundary) => boundary.cycles,
-        None => 0,
-    };
-    if DRIFT <= counts.cycles - last {
+    if limit <= counts.cycles {
         return Some(End::Adrift);
     }
     None
@@ -63,11 +62,13 @@ pub fn ended_counts(counts: Counts, end: End) -> Counts
 }
 
 /// Counts a clocked cycle.
-pub fn count<M: Clocked>(counts: &mut Counts, stalled: bool, machine: &M)
+pub fn count<M: Clocked>(counts: &mut Counts, limit: &mut u64, stalled: bool, machine: &M)
     requires cycles { counts.old.cycles ≤ 2 ^ 63 }
     requires instructions { counts.old.instructions ≤ 2 ^ 63 }
     requires stalls { counts.old.stalls ≤ 2 ^ 63 }
-    ensures { CountsCycle M.meaning counts.old stalled (M.state machine.now) counts.new }
+    requires limit { IsLimit counts.old limit.old }
+    ensures counts { CountsCycle M.meaning counts.old stalled (M.state machine.now) counts.new }
+    ensures limit { IsLimit counts.new limit.new }
 {
     counts.cycles += 1;
     if stalled {
@@ -84,5 +85,6 @@ pub fn count<M: Clocked>(counts: &mut Counts, stalled: bool, machine: &M)
             sp: registers.sp,
             lv: registers.lv,
         });
+        *limit = counts.cycles + DRIFT;
     }
 }

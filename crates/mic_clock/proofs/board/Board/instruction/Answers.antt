@@ -3,7 +3,7 @@ use Rattle.console_port.specs.declared.fault.BusFault.TheVariants as faults
 use Rattle.micro_word.specs.ControlStore.{ControlStore}
 use Rattle.mic_clock.specs.Run.{MicroRun, IsLeg, word_at, last_cycles}
 use Rattle.mic_clock.specs.Board.{NoFault}
-use Rattle.mic_clock.proofs.InTime.{InTime, InTime-step, HasEndCause-step}
+use Rattle.mic_clock.proofs.InTime.{InTime, InTime-step, InLeg-step, HasEndCause-step}
 use Rattle.mic_clock.proofs.Legs.{leg-start, leg-inside}
 use Rattle.mic_clock.proofs.Reach.{IsLedTo-map, Leads-turn, Leads-read, Leads-write}
 use Rattle.mic_clock.proofs.board.Board.instruction.Goals as goal
@@ -41,6 +41,10 @@ inside-init g c =
       flushed = c.cycle.ensures.flushed;
       cause = rw going at c.cycle.ensures.cause;
       store = c.cycle.ensures.store;
+      empty_read = λ p. c.cycle.ensures.kept faults.ReadFault going tt p;
+      empty_write = λ p. c.cycle.ensures.kept faults.WriteFault going tt p;
+      in_leg = InLeg-step m first.counts first.counts new.counts (m.drives (word_at m words (state first.machine)) (state first.machine)).stalled (state new.machine) new.end (search rules) refl (omega arith)
+          c.cycle.ensures.still c.cycle.ensures.room (λ q. (c.cycle.ensures.clocked q).1);
       in_time = InTime-step m top top first.counts new.counts false (m.drives (word_at m words (state first.machine)) (state first.machine)).stalled (state new.machine) first.end new.end going (omega arith) in_time
           c.cycle.ensures.still c.cycle.ensures.room (λ q. (c.cycle.ensures.clocked q).1) (λ _ here. absurd (cc));
     }
@@ -64,6 +68,8 @@ inside-preserved g c =
     let no_boundary : m.is_boundary (state old.machine) ≡ false = search rules in
     let program : old.store.words ≡ words = ap (λ (s : ControlStore). s.words) c.inside.invariant.store in
     let top : ℕ = first.counts.cycles in
+    let past = c.inside.invariant.in_leg.onward going in
+    let later : first.counts.cycles ≤ old.counts.cycles = omega arith in
     let led = leg-inside state m words left0 held0 first left held old going no_boundary (c.inside.invariant.run (subst (λ (e : Option _). NoFault None e) (sym going) tt)) in
     record {
       run = λ q. IsLedTo-map state left0 held0 first left' new _ _ (λ r rest at. (suc at.0, at.1, at.2))
@@ -79,6 +85,11 @@ inside-preserved g c =
       flushed = λ q h. c.cycle-in-inside.ensures.flushed q (c.inside.invariant.flushed (λ w. cc) h);
       cause = HasEndCause-step _ _ _ _ _ _ old.end new.end going c.inside.invariant.cause c.cycle-in-inside.ensures.cause;
       store = c.cycle-in-inside.ensures.store ∙ c.inside.invariant.store;
+      empty_read = λ p. c.cycle-in-inside.ensures.kept faults.ReadFault going tt p;
+      empty_write = λ p. c.cycle-in-inside.ensures.kept faults.WriteFault going tt p;
+      in_leg = InLeg-step m first.counts old.counts new.counts (m.drives (word_at m old.store.words (state old.machine)) (state old.machine)).stalled (state new.machine) new.end
+          c.inside.invariant.in_leg.within (c.inside.invariant.in_leg.same going no_boundary) later
+          c.cycle-in-inside.ensures.still c.cycle-in-inside.ensures.room (λ q. (c.cycle-in-inside.ensures.clocked q).1);
       in_time = InTime-step m top top old.counts new.counts (m.is_boundary (state old.machine)) (m.drives (word_at m old.store.words (state old.machine)) (state old.machine)).stalled (state new.machine) old.end new.end going (omega arith) c.inside.invariant.in_time
           c.cycle-in-inside.ensures.still c.cycle-in-inside.ensures.room (λ q. (c.cycle-in-inside.ensures.clocked q).1) (λ _ here. absurd (cc));
     }

@@ -1,11 +1,11 @@
-use Rattle.std.proofs.Common.{◌≡◌, ◌≢◌, IsSome, ◌||◌, List, ℕ, suc, ◌+◌, ◌-◌, None, Some, is_some, if◌then◌else◌}
+use Rattle.std.proofs.Common.{◌≡◌, ◌≢◌, IsSome, ◌||◌, List, [], ℕ, suc, ◌+◌, ◌-◌, None, Some, is_some, if◌then◌else◌}
 use Rattle.mic_clock.specs.declared.end.End.TheVariants as ends
 use Rattle.mic_base.specs.Streams.{Holds}
 use Rattle.console_port.specs.Console.{StaysFlushed}
 use Rattle.mic_clock.specs.Edge.{AsksNoMore}
 use Rattle.mic_clock.specs.Run.{IsLeg}
 use Rattle.mic_clock.specs.Board.{ShowsRun, IsLedTo, IsCutByRead, IsCutByWrite, Leads, NoFault, HasEndCause}
-use Rattle.mic_clock.proofs.InTime.{InTime}
+use Rattle.mic_clock.proofs.InTime.{InTime, InLeg}
 use Rattle.mic_clock.proofs.board.Board.instruction.Given as goal
 
 -- the turns so far lead here or are cut here, with no boundary and no end between them
@@ -29,6 +29,9 @@ invariant-inside g l =
       flushed : l.self.end ≢ Some ends.WriteFault → StaysFlushed (g.K.Sink.held l.fn.sink) (g.K.Sink.passed l.fn.sink) held (g.K.Sink.passed l.sink);
       cause : HasEndCause (g.S.Source.faults l.fn.source) (g.S.Source.faults l.source) (g.K.Sink.faults l.fn.sink) (g.K.Sink.faults l.sink) None l.self.end;
       store : l.self.store ≡ l.fn.self.store;
+      in_leg : InLeg l.fn.self.counts l.self.counts (m.is_boundary (state l.self.machine)) l.self.end;
+      empty_read : l.self.end ≡ Some ends.ReadFault → l.self.bus.console.kept ≡ [];
+      empty_write : l.self.end ≡ Some ends.WriteFault → l.self.bus.console.kept ≡ [];
       in_time : InTime l.fn.self.counts.cycles l.self.counts (m.is_boundary (state l.self.machine)) l.self.end;
     }
 

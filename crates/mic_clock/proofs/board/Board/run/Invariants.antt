@@ -9,8 +9,8 @@ use Rattle.mic_clock.proofs.InTime.{InTime}
 use Rattle.mic_clock.proofs.board.Board.run.Given as goal
 
 -- the turns so far lead here or are cut here, and the cycles stay within 1,024 of the last boundary
-abbrev pub invariant-turns : goal.invariant-turns
-invariant-turns g l =
+abbrev pub invariant-strides : goal.invariant-strides
+invariant-strides g l =
     let state = g.M.Clocked.state in
     let m = g.M.Clocked.meaning in
     let left = g.S.Source.left l.source in
@@ -34,5 +34,5 @@ invariant-turns g l =
       in_time : InTime (max l.bound (last_cycles l.fn.self.counts.boundary)) l.self.counts (m.is_boundary (state l.self.machine)) l.self.end;
     }
 
-abbrev pub decreases-turns : goal.decreases-turns
-decreases-turns g l = if is_some l.self.end then 0 else max l.bound (last_cycles l.fn.self.counts.boundary) + 1025 - l.self.counts.cycles
+abbrev pub decreases-strides : goal.decreases-strides
+decreases-strides g l = if is_some l.self.end then 0 else max l.bound (last_cycles l.fn.self.counts.boundary) + 1025 - l.self.counts.cycles

@@ -1,0 +1,101 @@
+use Rattle.std.proofs.Common.{◌≡◌, ℕ, None, Some, IsSome, Option, List, suc, ◌∙◌, ap, subst, sym, refl, rules, arith}
+use Rattle.mic_clock.specs.View.{BoardView}
+use Rattle.mic_clock.specs.Run.{MicroRun, bounded, last_cycles}
+use Rattle.mic_clock.specs.Board.{ShowsAs, NoFault, IsLegRun, LegIsCutByRead, LegIsCutByWrite}
+use Rattle.mic_clock.proofs.Reach.{IsLedTo-map, Leads-start, Leads-turn, Leads-bound, IsTurned-ended, buses_of-ended}
+use Rattle.mic_clock.proofs.Strides.{stride-run, stride-read, stride-write}
+use Rattle.mic_clock.proofs.board.Board.stride.Goals as goal
+
+-- the bound ends the board
+
+pub returns-then-is_some-clause-run : goal.returns-then-is_some-clause-run
+returns-then-is_some-clause-run g c = λ plain.
+    let state = g.M.Clocked.state in
+    let m = g.M.Clocked.meaning in
+    let board = c.args.self.now in
+    let new = c.stop_at.new.self in
+    let left = g.S.Source.left c.args.source.now in
+    let held = g.K.Sink.held c.args.sink.now in
+    let held' = g.K.Sink.held c.stop_at.new.sink in
+    let Along : ℕ → MicroRun g.M.Clocked.State → Type 0 = λ n r. Unit {0} in
+    let going : board.end ≡ None = search rules in
+    let over : IsSome new.end = search rules in
+    let plain_turn : NoFault board.end new.end = subst (λ (e : Option _). NoFault e new.end) (sym going) plain in
+    IsLedTo-map state left held board left new _ _ (λ r rest at. (suc at.0, at.2))
+    (Leads-turn state m board.store.words (Some c.args.bound) left held board Along left held board left held' new refl (Leads-start state m c.args.bound left held board)
+    (IsTurned-ended state m c.args.bound left held board held' new c.stop_at.ensures.input over c.stop_at.ensures.run plain_turn)
+    (ap (λ (b : BoardView g.row.M.Denot). b.buses) c.stop_at.ensures.same ∙ sym (buses_of-ended m board.store.words (state board.machine) board.buses new.end over)))
+
+pub returns-then-is_some-clause-write : goal.returns-then-is_some-clause-write
+returns-then-is_some-clause-write g c = λ going p.
+    Leads-bound g.M.Clocked.state g.M.Clocked.meaning c.args.bound _ _ c.args.self.now _ c.stop_at.new.self c.stop_at.ensures.input going p
+    (ap (λ (b : BoardView g.row.M.Denot). b.buses) c.stop_at.ensures.same) (c.stop_at.ensures.write _)
+
+pub returns-then-is_some-clause-within : goal.returns-then-is_some-clause-within
+returns-then-is_some-clause-within g c =
+    let same = ap (λ (b : BoardView g.row.M.Denot). last_cycles b.counts.boundary) c.stop_at.ensures.same in
+    let near = c.stop_at.ensures.near in
+    omega (arith, same, near)
+
+-- it does not, and an instruction follows
+
+pub returns-clause-run : goal.returns-clause-run
+returns-clause-run g c = λ plain.
+    let state = g.M.Clocked.state in
+    let m = g.M.Clocked.meaning in
+    let board = c.args.self.now in
+    let left = g.S.Source.left c.args.source.now in
+    let held = g.K.Sink.held c.args.sink.now in
+    let left' = g.S.Source.left c.instruction.new.source in
+    let held' = g.K.Sink.held c.instruction.new.sink in
+    let new = c.instruction.new.self in
+    let none : c.stop_at.result ≡ None = search rules in
+    let stays = c.stop_at.ensures.stays none in
+    let same_held : g.K.Sink.held c.stop_at.new.sink ≡ held = ap g.K.Sink.held stays.1 in
+    let here : (P : BoardView g.row.M.Denot → Option (List ℕ) → Type 0) → P c.stop_at.new.self (g.K.Sink.held c.stop_at.new.sink) → P board held =
+    λ P p. subst (λ b. P b held) stays.0 (subst (λ h. P c.stop_at.new.self h) same_held p) in
+    let shows : NoFault board.end board.end → ShowsAs state held board held board (bounded m (Some c.args.bound)) =
+    here (λ b h. NoFault board.end b.end → ShowsAs state held board h b (bounded m (Some c.args.bound))) c.stop_at.ensures.run in
+    let going : board.end ≡ None = search rules in
+    stride-run state m c.args.bound left held board (shows (search rules)) left' held' new
+    (here (λ b h. IsLegRun state m left h b left' held' new) c.instruction.ensures.run going plain)
+
+pub returns-clause-read : goal.returns-clause-read
+returns-clause-read g c = λ going p.
+    let state = g.M.Clocked.state in
+    let m = g.M.Clocked.meaning in
+    let board = c.args.self.now in
+    let left = g.S.Source.left c.args.source.now in
+    let held = g.K.Sink.held c.args.sink.now in
+    let left' = g.S.Source.left c.instruction.new.source in
+    let held' = g.K.Sink.held c.instruction.new.sink in
+    let new = c.instruction.new.self in
+    let none : c.stop_at.result ≡ None = search rules in
+    let stays = c.stop_at.ensures.stays none in
+    let same_held : g.K.Sink.held c.stop_at.new.sink ≡ held = ap g.K.Sink.held stays.1 in
+    let here : (P : BoardView g.row.M.Denot → Option (List ℕ) → Type 0) → P c.stop_at.new.self (g.K.Sink.held c.stop_at.new.sink) → P board held =
+    λ P p. subst (λ b. P b held) stays.0 (subst (λ h. P c.stop_at.new.self h) same_held p) in
+    let shows : NoFault board.end board.end → ShowsAs state held board held board (bounded m (Some c.args.bound)) =
+    here (λ b h. NoFault board.end b.end → ShowsAs state held board h b (bounded m (Some c.args.bound))) c.stop_at.ensures.run in
+    stride-read state m c.args.bound left held board (shows (search rules)) left' held' new
+    (here (λ b h. LegIsCutByRead state m left h b left' held' new) c.instruction.ensures.read going p)
+
+pub returns-clause-write : goal.returns-clause-write
+returns-clause-write g c = λ going p.
+    let state = g.M.Clocked.state in
+    let m = g.M.Clocked.meaning in
+    let board = c.args.self.now in
+    let left = g.S.Source.left c.args.source.now in
+    let held = g.K.Sink.held c.args.sink.now in
+    let left' = g.S.Source.left c.instruction.new.source in
+    let held' = g.K.Sink.held c.instruction.new.sink in
+    let new = c.instruction.new.self in
+    let none : c.stop_at.result ≡ None = search rules in
+    let stays = c.stop_at.ensures.stays none in
+    let same_held : g.K.Sink.held c.stop_at.new.sink ≡ held = ap g.K.Sink.held stays.1 in
+    let here : (P : BoardView g.row.M.Denot → Option (List ℕ) → Type 0) → P c.stop_at.new.self (g.K.Sink.held c.stop_at.new.sink) → P board held =
+    λ P p. subst (λ b. P b held) stays.0 (subst (λ h. P c.stop_at.new.self h) same_held p) in
+    let shows : NoFault board.end board.end → ShowsAs state held board held board (bounded m (Some c.args.bound)) =
+    here (λ b h. NoFault board.end b.end → ShowsAs state held board h b (bounded m (Some c.args.bound))) c.stop_at.ensures.run in
+    stride-write state m c.args.bound left held board (shows (search rules)) left' held' new
+    (here (λ b h. LegIsCutByWrite state m left h b left' held' new) c.instruction.ensures.write going p)
