@@ -18,7 +18,6 @@ pub mod Tokens
 pub mod Costs
 pub mod Totals
 pub mod Sound
-pub mod Walking
 pub mod Standing
 pub mod Known
 pub mod Unknowns

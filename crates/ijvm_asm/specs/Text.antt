@@ -1,7 +1,7 @@
 -- Which program a text spells, and which refusal it has.
-use Rattle.std.specs.Prelude.{◌≡◌, ◌⊎◌, ◌<◌, ◌^◌, ℕ, List, length, None, Result, Ok, Err}
+use Rattle.std.specs.Prelude.{◌≡◌, ◌⊎◌, ◌<◌, ◌^◌, ℕ, List, length, None}
 use Rattle.source_text.specs.Content.{contents}
-use Rattle.source_text.specs.Walk.{walk}
+use Rattle.source_text.specs.Walk.{Leads}
 use Rattle.ijvm_program.specs.Program.{ProgramView}
 use Rattle.ijvm_asm.specs.declared.error.AsmError.{AsmError}
 use Rattle.ijvm_asm.specs.declared.error.AsmError.TheVariants as errors
@@ -10,7 +10,6 @@ use Rattle.ijvm_asm.specs.Sections.{lines_of, Section}
 use Rattle.ijvm_asm.specs.Source.{empty, Source}
 use Rattle.ijvm_asm.specs.Making.{SectionsMake}
 use Rattle.ijvm_asm.specs.Names.{IsLowest, IsProgramOf, NamesUnknown}
-use Rattle.ijvm_asm.specs.ReadingNames.{program_of}
 use Rattle.ijvm_asm.specs.Refusals.{IsFront, IsInnermost, IsRefusedAtLine}
 use Rattle.ijvm_asm.specs.Adding.{step}
 
@@ -62,13 +61,6 @@ IsRefused text e = IsRefusedAtLine text e ⊎ IsRefusedAtEnd text e
 
 -- ---- how it is read
 
--- this is what the lines of a text make
+-- the lines of a text lead to this
 abbrev pub IsRead : Source → Type 0
-IsRead s = (text : List ℕ) × (length text < 2 ^ 32) × (walk step 1 empty (contents text) ≡ Ok s)
-
-abbrev pub parsed_by : Result Source AsmError → Result ProgramView AsmError
-parsed_by (Ok s) = program_of s
-parsed_by (Err e) = Err e
-
-unfoldable pub parsed : List ℕ → Result ProgramView AsmError
-parsed text = parsed_by (walk step 1 empty (contents text))
+IsRead s = (text : List ℕ) × (length text < 2 ^ 32) × Leads step 1 empty (contents text) s

@@ -7,6 +7,7 @@ ghost use Rattle.ijvm_asm.specs.ReadingNames.{missing, program_of, unknown};
 ghost use Rattle.ijvm_asm.specs.Text.{IsRead};
 
 use crate::error::AsmError;
+use crate::laws::reads_lines;
 use crate::resolve::{unit_of, units_of, unknown_lines, unknown_units};
 use crate::source::SourceReader;
 use ijvm_line::Place;
@@ -57,6 +58,7 @@ pub(crate) fn program_of(reader: &SourceReader) -> Result<Program, AsmError>
     ensures ok { IfOk result (λ p. program_of reader.now ≡ Ok p) }
     ensures err { IfErr result (λ e. RefusesBy e (program_of reader.now)) }
 {
+    reads_lines();
     if let Some(line) = missing(reader) {
         return Err(AsmError::MissingEnd(line));
     }

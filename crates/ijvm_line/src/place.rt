@@ -1,5 +1,5 @@
 ghost use Rattle.std.specs.Prelude.{◌≡◌};
-ghost use Rattle.ijvm_line.specs.Places.{mark_of};
+ghost use Rattle.ijvm_line.specs.Reading.{mark_of};
 
 use ijvm_tokens::Sign;
 
