@@ -8,6 +8,8 @@ pub mod Mains
 pub mod Methods
 pub mod InOrder
 pub mod Sectioning
+pub mod Made
+pub mod Declaring
 pub mod Sections
 pub mod Fronts
 pub mod Reasons

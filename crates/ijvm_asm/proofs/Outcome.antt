@@ -1,5 +1,5 @@
 -- What the reading of a text comes to: the program that it spells, or its first refusal, and there is one of these at most.
-use Rattle.std.proofs.Common.{◌≡◌, ℕ, List, refl, ap, sym, ◌∙◌, inl, inr, length, ◌+◌, false}
+use Rattle.std.proofs.Common.{◌≡◌, ℕ, List, refl, ap, sym, subst, ◌∙◌, inl, inr, length, ◌+◌, false}
 use Rattle.std.specs.Prelude.{◌⊎◌, Result, Ok, Err, IfOk, IfErr}
 use Rattle.source_text.specs.Content.{contents}
 use Rattle.source_text.specs.Walk.{FirstRefused, Leads, StopsAt}
@@ -7,7 +7,9 @@ use Rattle.ijvm_program.specs.Program.{ProgramView}
 use Rattle.ijvm_asm.specs.declared.error.AsmError.{AsmError}
 use Rattle.ijvm_asm.specs.declared.error.AsmError.TheVariants as errors
 use Rattle.ijvm_asm.specs.Drafts.{is_memory, RefusesBy}
-use Rattle.ijvm_asm.specs.Source.{empty, Source}
+use Rattle.ijvm_asm.specs.Source.{declarations_of, empty, Source}
+use Rattle.ijvm_asm.specs.Making.{Declarations}
+use Rattle.ijvm_asm.specs.Names.{IsLowest, IsProgramOf, NamesUnknown}
 use Rattle.ijvm_asm.specs.Refusals.{IsRefusedAtLine}
 use Rattle.ijvm_asm.specs.Text.{IsRefused, IsRefusedAtEnd, Spells}
 use Rattle.ijvm_asm.specs.ReadingNames.{program_of}
@@ -27,15 +29,15 @@ module _ (laws : ReadsLines) (text : List ℕ) (s : Source) (led : Leads step 1 
   made = leads_make laws (contents text) 1 empty s led
 
   program_spelled : (p : ProgramView) → program_of s ≡ Ok p → Spells text p
-  program_spelled p h = let is = whole_is s p h in record { source = s; sections = sections_of text s made is.0; program = is.1 }
+  program_spelled p h = let is = whole_is s p h in record { source = declarations_of s; sections = sections_of text s made is.0; program = is.1 }
 
   at_end : (e : AsmError) → IsLate s e → IsRefusedAtEnd text e
   at_end (errors.MissingEnd k) w =
       let all = all_said (contents text) 1 empty s made in
       let m = missing_is s k w in
       record { before = all.0; say = all.1; fits = front_of all.0 s all.2; began = (m.0, sym (opens_are all.0 1 empty s all.2) ∙ m.1) }
-  at_end (errors.UnknownName k) (out, w) = record { source = s; sections = sections_of text s made out; first = w }
-  at_end errors.NoMain (out, known, at) = record { source = s; sections = sections_of text s made out; known = known; no_main = at }
+  at_end (errors.UnknownName k) (out, w) = record { source = declarations_of s; sections = sections_of text s made out; first = w }
+  at_end errors.NoMain (out, known, at) = record { source = declarations_of s; sections = sections_of text s made out; known = known; no_main = at }
   at_end _ w = absurd w
 
   pub is_spelled : (r : Result ProgramView AsmError) → IfOk r (λ p. program_of s ≡ Ok p) → IfOk r (Spells text)
@@ -84,7 +86,7 @@ module _ (laws : ReadsLines) (walks : LeadOneWay) (text : List ℕ) where
   unfolding Comes
   spelled_comes p w =
       let of = of_sections text w.source w.sections in
-      inl (w.source, make_leads laws (contents text) 1 empty w.source of.0, whole_again w.source p of.1 w.program)
+      inl (of.0, make_leads laws (contents text) 1 empty of.0 of.1, whole_again of.0 p of.2 (subst (λ d. IsProgramOf d p) (sym of.3) w.program))
 
   from_line : (e : AsmError) → IsRefusedAtLine text e → FirstRefused step 1 empty (contents text) e
   from_line e r =
@@ -105,8 +107,12 @@ module _ (laws : ReadsLines) (walks : LeadOneWay) (text : List ℕ) where
       let of = of_front w.before w.fits in
       let began = w.began in
       (of.0, all_made (contents text) w.before 1 empty of.0 w.say of.1, is_missing of.0 k began.0 (opens_are w.before 1 empty of.0 of.1 ∙ began.1))
-  from_end (errors.UnknownName k) w = let of = of_sections text w.source w.sections in (w.source, of.0, (of.1, w.first))
-  from_end errors.NoMain w = let of = of_sections text w.source w.sections in (w.source, of.0, (of.1, w.known, w.no_main))
+  from_end (errors.UnknownName k) w =
+      let of = of_sections text w.source w.sections in
+      (of.0, of.1, (of.2, subst (λ d. IsLowest (NamesUnknown d) k) (sym of.3) w.first))
+  from_end errors.NoMain w =
+      let of = of_sections text w.source w.sections in
+      (of.0, of.1, (of.2, subst (λ d. (k : ℕ) → NamesUnknown d k → ⊥) (sym of.3) w.known, ap (λ (d : Declarations). d.main) of.3 ∙ w.no_main))
   from_end _ w = absurd w
 
   refused_comes : (e : AsmError) → IsRefused text e → Comes text (Err e)

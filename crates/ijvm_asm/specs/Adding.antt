@@ -1,5 +1,7 @@
--- What the reader adds to a source for a line, or its refusal. Computes, line by line, the source that sections make (`SectionsMake`), and which line is refused (`IsRefusedAtLine`).
-use Rattle.std.specs.Prelude.{◌≡◌, ◌↔◌, ℕ, ◌||◌, Bool, true, false, not, List, [], ◌∷◌, ◌++◌, Option, Some, None, Result, Ok, Err, if◌then◌else◌, is_some, length, nat_le, nat_lt}
+-- What the reader adds to a source for a line, or its refusal. Computes, line by line, the source that sections make (`SectionsDeclare`), and which line is refused (`IsRefusedAtLine`).
+use Rattle.std.specs.Prelude.{◌≡◌, ◌↔◌, ◌<◌, ◌^◌, ℕ, ◌||◌, Bool, true, false, not, List, [], ◌∷◌, ◌++◌, Option, Some, None, Result, Ok, Err, if◌then◌else◌, is_some, length, nat_le, nat_lt}
+use Rattle.source_text.specs.Content.{contents}
+use Rattle.source_text.specs.Walk.{Leads}
 use Rattle.ijvm_program.specs.Program.{most_names}
 use Rattle.ijvm_tokens.specs.declared.token.Token.{Token}
 use Rattle.ijvm_tokens.specs.Reading.{read}
@@ -20,7 +22,7 @@ use Rattle.ijvm_asm.specs.declared.error.AsmError.{AsmError}
 use Rattle.ijvm_asm.specs.declared.error.AsmError.TheVariants as errors
 use Rattle.ijvm_asm.specs.Drafts.{begun, DraftView}
 use Rattle.ijvm_asm.specs.Refusals.{at_line}
-use Rattle.ijvm_asm.specs.Source.{Source}
+use Rattle.ijvm_asm.specs.Source.{empty, Source}
 
 -- ---- units
 
@@ -131,6 +133,10 @@ add_read k s (Some ts) = add_tokens k s ts
 
 abbrev pub step : ℕ → Source → List ℕ → Result Source AsmError
 step k s line = add_read k s (read line)
+
+-- the lines of a text lead to this
+abbrev pub IsRead : Source → Type 0
+IsRead s = (text : List ℕ) × (length text < 2 ^ 32) × Leads step 1 empty (contents text) s
 
 -- a line is read as what it spells, as the crates below say by their laws
 pub record ReadsLines : Type 0 where

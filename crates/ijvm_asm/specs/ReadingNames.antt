@@ -18,7 +18,7 @@ use Rattle.ijvm_asm.specs.declared.error.AsmError.{AsmError}
 use Rattle.ijvm_asm.specs.declared.error.AsmError.TheVariants as errors
 use Rattle.ijvm_asm.specs.Drafts.{DraftView}
 use Rattle.ijvm_asm.specs.Names.{constants_of, first_index, labels_of}
-use Rattle.ijvm_asm.specs.Source.{Source}
+use Rattle.ijvm_asm.specs.Source.{declarations_of, Source}
 
 -- ---- one line
 
@@ -103,7 +103,7 @@ or_no_main (Some p) = Ok p
 
 abbrev pub by_main : Source → Option DraftView → Result ProgramView AsmError
 by_main s None = Err errors.NoMain
-by_main s (Some u) = or_no_main (program_with (constants_of s) (unit_of s.constants s.methods u) (units_from s.constants s.methods [] s.units))
+by_main s (Some u) = or_no_main (program_with (constants_of (declarations_of s)) (unit_of s.constants s.methods u) (units_from s.constants s.methods [] s.units))
 
 abbrev pub by_unknown : Source → Option ℕ → Result ProgramView AsmError
 by_unknown s (Some k) = Err (errors.UnknownName k)
