@@ -10,7 +10,6 @@ use Rattle.ijvm_line.specs.declared.instruction.Instruction.TheVariants as instr
 use Rattle.ijvm_asm.specs.declared.error.AsmError.TheVariants as errors
 use Rattle.ijvm_asm.specs.Said.{BlankAt, Codes, Dotted, place_of, Said}
 use Rattle.ijvm_asm.specs.Sections.{lines_of, Section}
-use Rattle.ijvm_asm.specs.Drafts.{begun}
 use Rattle.ijvm_asm.specs.Source.{declarations_of, empty, Source}
 use Rattle.ijvm_asm.specs.Adding.{add_instruction}
 use Rattle.ijvm_asm.specs.Refusals.{IsFront, StandsAt}

@@ -1,5 +1,5 @@
 -- What a text spells is a program: its entries and its bytes are fewer than the text's own.
-use Rattle.std.proofs.Common.{◌≡◌, ℕ, ◌+◌, ◌<◌, ◌≤◌, ◌^◌, List, [], Some, None, length, arith}
+use Rattle.std.proofs.Common.{◌≡◌, ◌+◌, ◌≤◌, List, [], Some, None, arith}
 use Rattle.source_text.specs.Content.{contents}
 use Rattle.ijvm_program.specs.declared.line.Constant.{Constant}
 use Rattle.ijvm_program.specs.Unit.{UnitView}

@@ -3,7 +3,6 @@ use Rattle.std.proofs.Common.{◌≡◌, ℕ, ◌+◌, List, [], ◌∷◌, Some
 use Rattle.std.specs.Prelude.{Result, Ok, Err, ⊤}
 use Rattle.source_text.specs.Content.{contents}
 use Rattle.ijvm_tokens.specs.declared.token.Token.{Token}
-use Rattle.ijvm_tokens.specs.Tokens as tokens
 use Rattle.ijvm_line.specs.declared.place.Place.{Place}
 use Rattle.ijvm_line.specs.declared.place.Place.TheVariants as places
 use Rattle.ijvm_line.specs.declared.form.Form.{Form}

@@ -1,4 +1,5 @@
--- What the reader adds to a source for a line, or its refusal. Computes, line by line, the source that sections make (`SectionsDeclare`), and which line is refused (`IsRefusedAtLine`).
+-- What the reader's record becomes by a line, or its refusal. Computes, line by line, what sections declare (`SectionsDeclare`), and which line
+-- is refused (`IsRefusedAtLine`).
 use Rattle.std.specs.Prelude.{◌≡◌, ◌↔◌, ◌<◌, ◌^◌, ℕ, ◌||◌, Bool, true, false, not, List, [], ◌∷◌, ◌++◌, Option, Some, None, Result, Ok, Err, if◌then◌else◌, is_some, length, nat_le, nat_lt}
 use Rattle.source_text.specs.Content.{contents}
 use Rattle.source_text.specs.Walk.{Leads}

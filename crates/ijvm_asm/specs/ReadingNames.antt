@@ -1,6 +1,7 @@
--- How the reader looks names up: what an instruction stands for, the lowest line that names what is not declared, and the whole program. Computes the rules of `Names`.
-use Rattle.std.specs.Prelude.{ℕ, ◌+◌, List, [], ◌∷◌, ◌++◌, Option, Some, None, Result, Ok, Err, if◌then◌else◌, is_none, nat_le, map, take, drop, option_map, option_and_then}
-use Rattle.std.specs.List.{slice_get, zip}
+-- How the reader looks names up: what an instruction stands for, the lowest line that names what is not declared, and the whole program.
+-- Computes the rules of `Names`.
+use Rattle.std.specs.Prelude.{ℕ, ◌+◌, List, [], ◌∷◌, ◌++◌, Option, Some, None, Result, Ok, Err, if◌then◌else◌, nat_le, take, drop, option_map, option_and_then}
+use Rattle.std.specs.List.{slice_get}
 use Rattle.ijvm_program.specs.declared.line.CodeLine.{CodeLine}
 use Rattle.ijvm_program.specs.declared.line.Constant.{Constant}
 use Rattle.ijvm_program.specs.declared.line.Operation.{Operation}

@@ -41,4 +41,12 @@ empty = record {
 }
 
 abbrev pub declarations_of : Source → Declarations
-declarations_of s = record { seen_constants = s.seen_constants; constants = s.constants; values = s.values; methods = s.methods; main = s.main; units = s.units }
+declarations_of s =
+    record {
+      seen_constants = s.seen_constants;
+      constants = s.constants;
+      values = s.values;
+      methods = s.methods;
+      main = s.main;
+      units = s.units;
+    }

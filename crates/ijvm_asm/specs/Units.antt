@@ -84,7 +84,8 @@ abbrev pub locals_in : Option Locals → List (List ℕ)
 locals_in None = []
 locals_in (Some d) = declared d.names
 
--- the unit of a body that begins at line `k`, by the name of a method and with these parameters: no local and no label comes twice, and its last label has an instruction
+-- the unit of a body that begins at line `k`, by the name of a method and with these parameters: no local and no label comes twice, and its last
+-- label has an instruction
 pub record MakesUnit (k : ℕ) (name : Option (List ℕ)) (ps : List (List ℕ)) (body : Body) (unit : DraftView) : Type 0 where
   pub locals : AreLocals ps (locals_in body.locals)
   pub labels : AreNew [] (labels_in body.code)

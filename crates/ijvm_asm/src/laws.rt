@@ -1,3 +1,5 @@
+//! A text says one thing.
+
 ghost use Rattle.std.specs.Prelude.{◌≡◌, ℕ, List};
 ghost use Rattle.ijvm_program.specs.Program.{ProgramView};
 ghost use Rattle.ijvm_asm.specs.declared.error.AsmError.{AsmError};

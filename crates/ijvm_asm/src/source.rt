@@ -1,3 +1,5 @@
+//! The reader of a source, line by line.
+
 ghost use Rattle.std.specs.Prelude.{◌≡◌, Ok, OnOk, IfOk, IfErr, None, []};
 ghost use Rattle.ijvm_asm.specs.Drafts.{begun, FailsBy, StaysBy};
 ghost use Rattle.ijvm_asm.specs.Adding.{gather};

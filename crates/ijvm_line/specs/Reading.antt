@@ -1,4 +1,5 @@
--- How a line is read: the first form that its tokens have at its place, and what that says. Computes which line tokens spell, or are refused for (`Lines`), by their forms (`Forms`), instructions (`Statements`), dotted words (`Places`) and lists (`Parameters`).
+-- How a line is read: the form that its tokens have at its place, and what that says. Computes what tokens spell, or are refused for (`Lines`),
+-- by their forms (`Forms`), instructions (`Statements`), dotted words (`Places`) and lists (`Parameters`).
 use Rattle.std.specs.Prelude.{ℕ, ◌&&◌, Bool, true, false, List, [], ◌∷◌, Option, Some, None, Result, Err, option_map, option_and_then, if◌then◌else◌}
 use Rattle.ijvm_instr.specs.declared.instr.Instr.{Instr}
 use Rattle.ijvm_program.specs.declared.line.Jump.{Jump}

@@ -1,7 +1,6 @@
 -- How instructions are spelled by tokens.
 use Rattle.std.specs.Prelude.{◌≡◌, ℕ, true, false, List, [], ◌∷◌}
 use Rattle.std.specs.Str.{str_to_ascii_lowercase}
-use Rattle.ijvm_program.specs.declared.line.Jump.{Jump}
 use Rattle.ijvm_tokens.specs.declared.token.Token.{Token}
 use Rattle.ijvm_tokens.specs.declared.token.Token.TheVariants as tokens
 use Rattle.ijvm_line.specs.declared.mnemonic.Mnemonic.{Mnemonic}

@@ -1,3 +1,5 @@
+//! What is read from a line is what it spells.
+
 ghost use Rattle.std.specs.Prelude.{◌≡◌, ◌↔◌, ℕ, List, Ok, Err};
 ghost use Rattle.ijvm_tokens.specs.declared.token.Token.{Token};
 ghost use Rattle.ijvm_line.specs.declared.place.Place.{Place};

@@ -1,3 +1,5 @@
+//! What a line says, or why it is refused.
+
 ghost use Rattle.std.specs.Prelude.{◌≡◌};
 ghost use Rattle.ijvm_line.specs.Lines.{code_line, constant_line, line_by};
 ghost use Rattle.ijvm_line.specs.Reading.{line_of};

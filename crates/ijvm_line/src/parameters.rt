@@ -1,3 +1,5 @@
+//! The list of a method's parameters.
+
 ghost use Rattle.std.specs.Prelude.{◌≡◌, ◌<◌, ◌≤◌, length, IfOk};
 ghost use Rattle.std.specs.List.{filter_map};
 ghost use Rattle.ijvm_line.specs.Parameters.{name_of, parameters};

@@ -1,3 +1,5 @@
+//! The places of a line, and the dotted words that stand alone there.
+
 ghost use Rattle.std.specs.Prelude.{◌≡◌};
 ghost use Rattle.ijvm_line.specs.Reading.{mark_of};
 

@@ -1,3 +1,5 @@
+//! Instructions as their tokens spell them.
+
 ghost use Rattle.std.specs.Prelude.{◌≡◌};
 ghost use Rattle.ijvm_line.specs.Reading.{alone, call, constant, increment, jump_to, kind_at, local, operand_of, push, statement_of, wide};
 

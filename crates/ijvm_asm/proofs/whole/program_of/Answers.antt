@@ -1,6 +1,6 @@
 use Rattle.std.proofs.Common.{◌≡◌, Some, None, ◌∙◌, subst, sym, rules}
 use Rattle.ijvm_asm.specs.Source.{Source}
-use Rattle.ijvm_asm.specs.ReadingNames.{missing, unknown}
+use Rattle.ijvm_asm.specs.ReadingNames.{missing}
 use Rattle.ijvm_asm.proofs.Programs.{parts_are_program}
 use Rattle.ijvm_asm.proofs.whole.program_of.Goals as goal
 
