@@ -10,7 +10,8 @@ use Rattle.ijvm_asm.specs.declared.error.AsmError.TheVariants as errors
 use Rattle.ijvm_asm.specs.Said.{Dotted, Said}
 use Rattle.ijvm_asm.specs.Sections.{constant_line, Constants, section_lines}
 use Rattle.ijvm_asm.specs.Source.{Source}
-use Rattle.ijvm_asm.specs.Making.{AreConstants, defined, MakesConstants}
+use Rattle.ijvm_asm.specs.Making.{AreConstants, defined}
+use Rattle.ijvm_asm.proofs.Made.{MakesConstants}
 use Rattle.ijvm_asm.specs.Adding.{is_declared}
 use Rattle.ijvm_asm.proofs.Building.{Build}
 use Rattle.ijvm_asm.proofs.Conditions.{both, if_ok, neither, nil, none, ok, ok_if}

@@ -10,12 +10,12 @@ use Rattle.ijvm_line.specs.declared.instruction.Instruction.TheVariants as instr
 use Rattle.ijvm_asm.specs.declared.error.AsmError.TheVariants as errors
 use Rattle.ijvm_asm.specs.Said.{BlankAt, Codes, Dotted, place_of, Said}
 use Rattle.ijvm_asm.specs.Sections.{lines_of, Section}
-use Rattle.ijvm_asm.specs.Drafts.{begun}
-use Rattle.ijvm_asm.specs.Source.{empty, Source}
+use Rattle.ijvm_asm.specs.Source.{declarations_of, empty, Source}
 use Rattle.ijvm_asm.specs.Adding.{add_instruction}
 use Rattle.ijvm_asm.specs.Refusals.{IsFront, StandsAt}
 use Rattle.ijvm_asm.proofs.Building.{add, Build, join, split}
 use Rattle.ijvm_asm.proofs.Conditions.{neither, not_true, ok, ok_if}
+use Rattle.ijvm_asm.proofs.Declaring.{declared_make, sections_declare}
 use Rattle.ijvm_asm.proofs.InOrder.{from_order, in_order}
 use Rattle.ijvm_asm.proofs.Mains.{main_ended}
 use Rattle.ijvm_asm.proofs.Methods.{ended}
@@ -76,12 +76,19 @@ front_of xs t b =
     let r = ends (1 + length xs) t in
     let all : Build 1 empty (xs ++ r.0) r.1 = join xs r.0 1 empty t r.1 b r.2 in
     let left : (rest : List Section) × (xs ++ r.0 ≡ lines_of rest) = left_of (xs ++ r.0) 1 empty r.1 r.3 all in
-    record { others = r.0; sections = left.0; source = r.1; split = left.1; made = in_order left.0 1 empty r.1 refl (subst (λ ws. Build 1 empty ws r.1) left.1 all) }
+    record {
+      others = r.0;
+      sections = left.0;
+      declares = declarations_of r.1;
+      split = left.1;
+      made = sections_declare left.0 1 empty r.1 refl (in_order left.0 1 empty r.1 refl (subst (λ ws. Build 1 empty ws r.1) left.1 all));
+    }
 
 pub of_front : (xs : List Said) → IsFront xs → (t : Source) × Build 1 empty xs t
 of_front xs f =
-    let b = subst (λ ws. Build 1 empty ws f.source) (sym f.split) (from_order f.sections 1 empty f.source refl f.made) in
-    let r = split xs f.others 1 empty f.source b in
+    let m = declared_make f.sections 1 empty f.declares refl f.made in
+    let b = subst (λ ws. Build 1 empty ws m.0) (sym f.split) (from_order f.sections 1 empty m.0 refl m.1) in
+    let r = split xs f.others 1 empty m.0 b in
     (r.0, r.1)
 
 -- ---- one line more

@@ -8,6 +8,8 @@ pub mod Mains
 pub mod Methods
 pub mod InOrder
 pub mod Sectioning
+pub mod Made
+pub mod Declaring
 pub mod Sections
 pub mod Fronts
 pub mod Reasons
@@ -18,7 +20,6 @@ pub mod Tokens
 pub mod Costs
 pub mod Totals
 pub mod Sound
-pub mod Walking
 pub mod Standing
 pub mod Known
 pub mod Unknowns

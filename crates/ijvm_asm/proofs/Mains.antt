@@ -9,8 +9,8 @@ use Rattle.ijvm_asm.specs.Said.{BlankAt, Dotted, Said}
 use Rattle.ijvm_asm.specs.Sections.{Body, code_line, local_line, Locals, locals_lines, Main, section_lines}
 use Rattle.ijvm_asm.specs.Drafts.{begun}
 use Rattle.ijvm_asm.specs.Source.{Source}
-use Rattle.ijvm_asm.specs.Units.{code_from, OpensLocals}
-use Rattle.ijvm_asm.specs.Making.{MakesMain}
+use Rattle.ijvm_asm.specs.Units.{code_from}
+use Rattle.ijvm_asm.proofs.Made.{MakesMain, OpensLocals}
 use Rattle.ijvm_asm.proofs.Building.{Build, join, moved, same, split}
 use Rattle.ijvm_asm.proofs.Conditions.{both, if_ok, neither, not_true, ok, ok_if}
 use Rattle.ijvm_asm.proofs.Units.{code_makes, locals_make, make_locals, makes_code}

@@ -13,7 +13,7 @@ use Rattle.ijvm_asm.specs.Sections.{Body, code_line, locals_lines, Method, secti
 use Rattle.ijvm_asm.specs.Drafts.{begun}
 use Rattle.ijvm_asm.specs.Source.{Source}
 use Rattle.ijvm_asm.specs.Units.{AreNew, code_from}
-use Rattle.ijvm_asm.specs.Making.{MakesMethod}
+use Rattle.ijvm_asm.proofs.Made.{MakesMethod}
 use Rattle.ijvm_asm.specs.Adding.{gather, is_declared, method_by}
 use Rattle.ijvm_asm.proofs.Building.{Build, join, split}
 use Rattle.ijvm_asm.proofs.Conditions.{both, if_ok, neither, nil, none, ok, ok_if}

@@ -1,14 +1,12 @@
 -- The refusal of a line is that it does not fit behind the lines before it.
-use Rattle.std.proofs.Common.{◌≡◌, ℕ, suc, ◌+◌, List, [], ◌∷◌, length, refl, ap, sym, subst, ◌∙◌, inl, inr}
+use Rattle.std.proofs.Common.{◌≡◌, ℕ, suc, ◌+◌, List, [], ◌∷◌, length, refl, ap, sym, subst, inl, inr}
 use Rattle.std.specs.Prelude.{Err}
-use Rattle.ijvm_tokens.specs.declared.token.Token.{Token}
 use Rattle.ijvm_line.specs.Lines as lines
-use Rattle.ijvm_line.specs.Parameters.{parameters}
 use Rattle.ijvm_asm.specs.declared.error.AsmError.{AsmError}
 use Rattle.ijvm_asm.specs.Said.{line_of, place_of, Said, SayAll}
 use Rattle.ijvm_asm.specs.Source.{empty, Source}
-use Rattle.ijvm_asm.specs.Refusals.{HasFault, IsMisfit, IsRefusedBehind, SaysMisfit}
-use Rattle.ijvm_asm.proofs.Building.{add, Build}
+use Rattle.ijvm_asm.specs.Refusals.{IsRefusedBehind}
+use Rattle.ijvm_asm.proofs.Building.{Build}
 use Rattle.ijvm_asm.proofs.Fronts.{stands, stands_at}
 use Rattle.ijvm_asm.proofs.Reasons.{misfit_again, misfit_is}
 use Rattle.ijvm_asm.proofs.Saying.{RefusesLine}

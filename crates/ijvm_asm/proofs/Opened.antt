@@ -1,12 +1,11 @@
 -- The line that began the innermost open section is the first of those that are open.
-use Rattle.std.proofs.Common.{◌≡◌, ℕ, ◌+◌, Bool, true, false, List, [], ◌∷◌, ◌++◌, Option, Some, None, length, refl, ap, sym, ◌∙◌}
+use Rattle.std.proofs.Common.{◌≡◌, ℕ, ◌+◌, true, false, List, [], ◌∷◌, ◌++◌, Some, length, refl, ap, sym, ◌∙◌}
 use Rattle.std.specs.Prelude.{◌||◌, not, Ok, is_some, nat_le}
 use Rattle.ijvm_program.specs.Program.{most_names}
 use Rattle.ijvm_line.specs.declared.place.Place.{Place}
 use Rattle.ijvm_line.specs.declared.place.Place.TheVariants as places
 use Rattle.ijvm_line.specs.declared.place.Mark.{Mark}
 use Rattle.ijvm_line.specs.declared.place.Mark.TheVariants as marks
-use Rattle.ijvm_line.specs.declared.instruction.Instruction.{Instruction}
 use Rattle.name_list.specs.Places as names
 use Rattle.ijvm_asm.specs.declared.error.AsmError.TheVariants as errors
 use Rattle.ijvm_asm.specs.Said.{BlankAt, Codes, Declares, Defines, Dotted, Heads, place_of, Said}

@@ -1,44 +1,36 @@
 -- What a text spells is a program: its entries and its bytes are fewer than the text's own.
-use Rattle.std.proofs.Common.{◌≡◌, ℕ, ◌+◌, ◌<◌, ◌≤◌, ◌^◌, List, [], Some, None, length, arith}
-use Rattle.std.specs.Prelude.{Ok}
+use Rattle.std.proofs.Common.{◌≡◌, ◌+◌, ◌≤◌, List, [], Some, None, arith}
 use Rattle.source_text.specs.Content.{contents}
-use Rattle.source_text.specs.Walk.{Leads}
 use Rattle.ijvm_program.specs.declared.line.Constant.{Constant}
 use Rattle.ijvm_program.specs.Unit.{UnitView}
 use Rattle.ijvm_program.specs.Program.{IsProgram, ProgramView}
 use Rattle.ijvm_line.specs.declared.place.Place.TheVariants as places
 use Rattle.ijvm_asm.specs.Drafts.{DraftView}
 use Rattle.ijvm_asm.specs.Sections.{lines_of}
-use Rattle.ijvm_asm.specs.Source.{empty, Source}
+use Rattle.ijvm_asm.specs.Source.{declarations_of, empty, Source}
 use Rattle.ijvm_asm.specs.Names.{constants_of, IsProgramOf}
 use Rattle.ijvm_asm.specs.ReadingNames.{missing, unit_of, units_from}
-use Rattle.ijvm_asm.specs.Text.{IsRead}
-use Rattle.ijvm_asm.specs.Adding.{step}
+use Rattle.ijvm_asm.specs.Adding.{IsRead, ReadsLines}
 use Rattle.ijvm_asm.proofs.Bytes.{contents_bytes}
 use Rattle.ijvm_asm.proofs.Costs.{all_cost, costs}
 use Rattle.ijvm_asm.proofs.Resolved.{is_program}
 use Rattle.ijvm_asm.proofs.Saying.{leads_make}
-use Rattle.ijvm_asm.proofs.Sections.{sections_of}
+use Rattle.ijvm_asm.proofs.Sections.{made_of}
 use Rattle.ijvm_asm.proofs.Sound.{made_sound}
 use Rattle.ijvm_asm.proofs.Totals.{sections_total, total}
-use Rattle.ijvm_asm.proofs.Walking.{leads_walk, walk_leads}
 use Rattle.ijvm_asm.proofs.WholeSource.{ends_outside, is_program_of}
 
--- what the reader has read of a text
-pub is_read : (text : List ℕ) (s : Source) → length text < 2 ^ 32 → Leads step 1 empty (contents text) s → IsRead s
-is_read text s few led = (text, few, leads_walk step (contents text) 1 empty s led)
-
-read_program : (s : Source) (p : ProgramView) → IsRead s → s.place ≡ places.Outside → IsProgramOf s p → IsProgram p
-read_program s p (text, few, h) outside is =
-    let w = sections_of text s (leads_make (contents text) 1 empty s (walk_leads step (contents text) 1 empty s h)) outside in
+read_program : ReadsLines → (s : Source) (p : ProgramView) → IsRead s → s.place ≡ places.Outside → IsProgramOf (declarations_of s) p → IsProgram p
+read_program laws s p (text, few, led) outside is =
+    let w = made_of text s (leads_make laws (contents text) 1 empty s led) outside in
     let a : total s ≤ 0 + costs (lines_of w.sections) = sections_total w.sections 1 empty s w.made in
     let b = all_cost (contents text) (lines_of w.sections) w.say in
     let c = contents_bytes text in
     is_program s (made_sound w.sections s w.made) (omega (arith, few, a, b, c)) p is
 
 -- constants, main and methods of what was read
-pub parts_are_program : (s : Source) (cs : List Constant) (u : DraftView) (v : UnitView) (us : List UnitView) → IsRead s → missing s ≡ None → s.main ≡ Some u
-    → unit_of s.constants s.methods u ≡ Some v → units_from s.constants s.methods [] s.units ≡ Some us → cs ≡ constants_of s → IsProgram (record { constants = cs; main = v; methods = us })
-parts_are_program s cs u v us read none at main methods e =
-    read_program s (record { constants = cs; main = v; methods = us }) read (ends_outside s none)
+pub parts_are_program : ReadsLines → (s : Source) (cs : List Constant) (u : DraftView) (v : UnitView) (us : List UnitView) → IsRead s → missing s ≡ None → s.main ≡ Some u
+    → unit_of s.constants s.methods u ≡ Some v → units_from s.constants s.methods [] s.units ≡ Some us → cs ≡ constants_of (declarations_of s) → IsProgram (record { constants = cs; main = v; methods = us })
+parts_are_program laws s cs u v us read none at main methods e =
+    read_program laws s (record { constants = cs; main = v; methods = us }) read (ends_outside s none)
     (is_program_of s (record { constants = cs; main = v; methods = us }) u v us at main methods (cc))

@@ -1,5 +1,5 @@
 -- The program that a sound source is, where its entries and its bytes are few enough, keeps what holds of each program.
-use Rattle.std.proofs.Common.{◌≡◌, ℕ, suc, ◌+◌, ◌<◌, ◌≤◌, ◌^◌, Bool, true, false, List, [], ◌∷◌, ◌++◌, map, take, drop, length, Option, Some, None, refl, ap, sym, subst, ◌∙◌, arith, cond, length-append}
+use Rattle.std.proofs.Common.{◌≡◌, ℕ, suc, ◌+◌, ◌<◌, ◌≤◌, ◌^◌, Bool, true, false, List, [], ◌∷◌, map, take, drop, length, Option, Some, None, refl, ap, sym, subst, ◌∙◌, arith, cond, length-append}
 use Rattle.std.specs.Prelude.{All, IsSome, IsSomeAnd, option_map, sum_by}
 use Rattle.std.specs.List.{slice_get, zip}
 use Rattle.std.specs.Str.{bytes_eq}
@@ -16,14 +16,14 @@ use Rattle.ijvm_program.specs.declared.line.Label.{Label}
 use Rattle.ijvm_program.specs.declared.line.Operation.{Operation}
 use Rattle.ijvm_program.specs.declared.line.Operation.TheVariants as operations
 use Rattle.ijvm_program.specs.Layout.{code_size, line_size, method_size}
-use Rattle.ijvm_program.specs.Program.{IsProgram, IsUnit, most_names, NamesPosition, ProgramView}
+use Rattle.ijvm_program.specs.Program.{IsProgram, IsUnit, NamesPosition, ProgramView}
 use Rattle.ijvm_program.specs.Unit.{UnitView}
 use Rattle.ijvm_line.specs.declared.instruction.Instruction.{Instruction}
 use Rattle.ijvm_line.specs.declared.instruction.Instruction.TheVariants as instructions
 use Rattle.ijvm_asm.specs.declared.draft.DraftLine.{DraftLine}
 use Rattle.ijvm_asm.specs.Drafts.{DraftView}
-use Rattle.ijvm_asm.specs.Source.{Source}
-use Rattle.ijvm_asm.specs.Names.{constants_of, IsLineOf, IsProgramOf, IsUnitOf, Pairwise, StandsFor}
+use Rattle.ijvm_asm.specs.Source.{declarations_of, Source}
+use Rattle.ijvm_asm.specs.Names.{IsLineOf, IsProgramOf, IsUnitOf, Pairwise, StandsFor}
 use Rattle.ijvm_asm.proofs.Costs.{access_size, increment_instr_size, instruction_size}
 use Rattle.ijvm_asm.proofs.Sound.{Drafted, IsMain, IsMethod, Sound}
 use Rattle.ijvm_asm.proofs.Totals.{lines_size, main_total, total, units_total}
@@ -149,7 +149,7 @@ constants_few [] values e = refl
 constants_few (n ∷ names) [] e = absurd (omega (arith, e))
 constants_few (n ∷ names) (v ∷ values) e = let r = constants_few names values (omega (arith, e)) in omega (arith, r)
 
-pub is_program : (s : Source) → Sound s → total s ≤ 2 ^ 32 → (p : ProgramView) → IsProgramOf s p → IsProgram p
+pub is_program : (s : Source) → Sound s → total s ≤ 2 ^ 32 → (p : ProgramView) → IsProgramOf (declarations_of s) p → IsProgram p
 is_program s sound few p w = by_main s.main refl w.main
   where
     by_main : (o : Option DraftView) → s.main ≡ o → IsSomeAnd o (λ u. IsUnitOf s.constants s.methods u p.main) → IsProgram p

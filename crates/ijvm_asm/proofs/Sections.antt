@@ -3,7 +3,6 @@ use Rattle.std.proofs.Common.{◌≡◌, ℕ, ◌+◌, List, [], ◌∷◌, Some
 use Rattle.std.specs.Prelude.{Result, Ok, Err, ⊤}
 use Rattle.source_text.specs.Content.{contents}
 use Rattle.ijvm_tokens.specs.declared.token.Token.{Token}
-use Rattle.ijvm_tokens.specs.Tokens as tokens
 use Rattle.ijvm_line.specs.declared.place.Place.{Place}
 use Rattle.ijvm_line.specs.declared.place.Place.TheVariants as places
 use Rattle.ijvm_line.specs.declared.form.Form.{Form}
@@ -19,12 +18,14 @@ use Rattle.ijvm_line.specs.Ranges.{instruction_of, made, word}
 use Rattle.ijvm_asm.specs.declared.error.AsmError.{AsmError}
 use Rattle.ijvm_asm.specs.Said.{BlankAt, Codes, Declares, Defines, Dotted, Heads, line_of, Lists, place_of, Said, SayAll, Says}
 use Rattle.ijvm_asm.specs.Sections.{lines_of, Section, section_lines}
-use Rattle.ijvm_asm.specs.Source.{empty, Source}
-use Rattle.ijvm_asm.specs.Making.{SectionsMake}
+use Rattle.ijvm_asm.specs.Source.{declarations_of, empty, Source}
+use Rattle.ijvm_asm.specs.Making.{Declarations}
+use Rattle.ijvm_asm.proofs.Made.{SectionsMake}
 use Rattle.ijvm_asm.specs.Text.{IsSource}
 use Rattle.ijvm_asm.specs.Adding.{add_line}
 use Rattle.ijvm_asm.proofs.Saying.{Adds, Make}
 use Rattle.ijvm_asm.proofs.Building.{add, Build}
+use Rattle.ijvm_asm.proofs.Declaring.{declared_make, sections_declare}
 use Rattle.ijvm_asm.proofs.InOrder.{ends_outside, from_order, in_order}
 use Rattle.ijvm_asm.proofs.Sectioning.{left_of}
 
@@ -124,8 +125,14 @@ made_outside : (xs : List Section) (k : ℕ) (s t : Source) → s.place ≡ plac
 made_outside [] k s t e m = ap (λ w. w.place) (sym m) ∙ e
 made_outside (x ∷ xs) k s t e (u, m, more) = made_outside xs (k + length (section_lines x [])) u t (ends_outside x k s u e m) more
 
-pub sections_of : (text : List ℕ) (s : Source) → Make 1 empty (contents text) s → s.place ≡ places.Outside → IsSource text s
-sections_of text s says outside =
+-- the text's lines are those of sections, which make this of the reader's record
+pub record AreSections (text : List ℕ) (s : Source) : Type 0 where
+  pub sections : List Section
+  pub say : SayAll (contents text) (lines_of sections)
+  pub made : SectionsMake 1 empty sections s
+
+pub made_of : (text : List ℕ) (s : Source) → Make 1 empty (contents text) s → s.place ≡ places.Outside → AreSections text s
+made_of text s says outside =
     let all = all_said (contents text) 1 empty s says in
     let left : (rest : List Section) × (all.0 ≡ lines_of rest) = left_of all.0 1 empty s outside all.2 in
     record {
@@ -134,8 +141,16 @@ sections_of text s says outside =
       made = in_order left.0 1 empty s refl (subst (λ xs. Build 1 empty xs s) left.1 all.2);
     }
 
-pub of_sections : (text : List ℕ) (s : Source) → IsSource text s → Make 1 empty (contents text) s × (s.place ≡ places.Outside)
-of_sections text s w = (
-  all_made (contents text) (lines_of w.sections) 1 empty s w.say (from_order w.sections 1 empty s refl w.made),
-  made_outside w.sections 1 empty s refl w.made,
-)
+pub sections_of : (text : List ℕ) (s : Source) → Make 1 empty (contents text) s → s.place ≡ places.Outside → IsSource text (declarations_of s)
+sections_of text s says outside =
+    let w = made_of text s says outside in
+    record { sections = w.sections; say = w.say; made = sections_declare w.sections 1 empty s refl w.made }
+
+pub of_sections : (text : List ℕ) (d : Declarations) → IsSource text d → (s : Source) × Make 1 empty (contents text) s × (s.place ≡ places.Outside) × (declarations_of s ≡ d)
+of_sections text d w =
+    let m = declared_make w.sections 1 empty d refl w.made in (
+      m.0,
+      all_made (contents text) (lines_of w.sections) 1 empty m.0 w.say (from_order w.sections 1 empty m.0 refl m.1),
+      made_outside w.sections 1 empty m.0 refl m.1,
+      m.2,
+    )

@@ -8,8 +8,9 @@ use Rattle.ijvm_line.specs.declared.instruction.Instruction.{Instruction}
 use Rattle.ijvm_asm.specs.Sections.{Between, Body, CodeItem, Constants, Locals, Main, Method, Section, section_lines}
 use Rattle.ijvm_asm.specs.Drafts.{DraftView}
 use Rattle.ijvm_asm.specs.Source.{empty, Source}
-use Rattle.ijvm_asm.specs.Units.{AreLocals, positions_in, behind_instruction, code_from, declared, lines_in, MakesBody, OpensLocals, waits, waits_behind, with_position, with_instruction}
-use Rattle.ijvm_asm.specs.Making.{defined, Makes, SectionsMake}
+use Rattle.ijvm_asm.specs.Units.{AreLocals, positions_in, behind_instruction, code_from, declared, lines_in, waits, waits_behind, with_position, with_instruction}
+use Rattle.ijvm_asm.specs.Making.{defined}
+use Rattle.ijvm_asm.proofs.Made.{Makes, MakesBody, OpensLocals, SectionsMake}
 use Rattle.ijvm_asm.proofs.Conditions.{nil}
 use Rattle.ijvm_asm.proofs.Totals.{body_keeps, body_lines_are, opens_unit}
 

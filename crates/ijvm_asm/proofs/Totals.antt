@@ -11,8 +11,9 @@ use Rattle.ijvm_asm.specs.Said.{BlankAt, Dotted, Said}
 use Rattle.ijvm_asm.specs.Sections.{Between, Body, body_lines, code_line, CodeItem, constant_line, Constants, lines_of, local_line, Locals, locals_lines, Main, Method, Section, section_lines}
 use Rattle.ijvm_asm.specs.Drafts.{DraftView}
 use Rattle.ijvm_asm.specs.Source.{Source}
-use Rattle.ijvm_asm.specs.Units.{code_from, lines_in, MakesBody, OpensLocals}
-use Rattle.ijvm_asm.specs.Making.{defined, Makes, SectionsMake}
+use Rattle.ijvm_asm.specs.Units.{code_from, lines_in}
+use Rattle.ijvm_asm.specs.Making.{defined}
+use Rattle.ijvm_asm.proofs.Made.{Makes, MakesBody, OpensLocals, SectionsMake}
 use Rattle.ijvm_asm.proofs.Costs.{costs, instruction_size}
 
 -- ---- the total of a source

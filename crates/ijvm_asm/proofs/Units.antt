@@ -15,7 +15,8 @@ use Rattle.ijvm_asm.specs.Said.{Dotted, Said}
 use Rattle.ijvm_asm.specs.Sections.{code_line, CodeItem, local_line}
 use Rattle.ijvm_asm.specs.Drafts.{DraftView}
 use Rattle.ijvm_asm.specs.Source.{Source}
-use Rattle.ijvm_asm.specs.Units.{AreNew, positions_in, behind_instruction, declared, labels_in, lines_in, MakesCode, MakesLocals, may_declare_behind, waits, waits_behind, with_position, with_instruction, with_label}
+use Rattle.ijvm_asm.specs.Units.{AreNew, positions_in, behind_instruction, declared, labels_in, lines_in, waits, waits_behind, with_position, with_instruction, with_label}
+use Rattle.ijvm_asm.proofs.Made.{MakesCode, MakesLocals, may_declare_behind}
 use Rattle.ijvm_asm.specs.Adding.{add_code, add_instruction, with_unit}
 use Rattle.ijvm_asm.proofs.Building.{Build}
 use Rattle.ijvm_asm.proofs.Conditions.{nil, none, ok}

@@ -1,11 +1,11 @@
 -- The look-up finds the lowest line that names what is not declared.
-use Rattle.std.proofs.Common.{◌≡◌, ℕ, ◌≤◌, Bool, true, false, List, [], ◌∷◌, Option, Some, None, refl, ap, sym, subst, ◌∙◌, inl, inr, cond, arith}
+use Rattle.std.proofs.Common.{◌≡◌, ℕ, ◌≤◌, Bool, true, false, List, [], ◌∷◌, Option, Some, None, refl, ap, subst, ◌∙◌, inl, inr, cond, arith}
 use Rattle.std.specs.Prelude.{◌⊎◌, nat_le}
 use Rattle.std.proofs.lemmas.Bool.Decides.{nat_tests}
 use Rattle.ijvm_program.specs.declared.line.Operation.{Operation}
 use Rattle.ijvm_asm.specs.declared.draft.DraftLine.{DraftLine}
 use Rattle.ijvm_asm.specs.Drafts.{DraftView}
-use Rattle.ijvm_asm.specs.Source.{Source}
+use Rattle.ijvm_asm.specs.Source.{declarations_of, Source}
 use Rattle.ijvm_asm.specs.Names.{all_units, IsLowest, IsUnknownAt, IsUnknownIn, IsUnknownLine, NamesNone, NamesUnknown}
 use Rattle.ijvm_asm.specs.ReadingNames.{lower, operation_of, or_line, unknown, unknown_lines, unknown_main, unknown_units}
 use Rattle.ijvm_asm.proofs.Standing.{operation_again, operation_is}
@@ -127,20 +127,20 @@ module _ (constants methods : List (List ℕ)) where
       back j (inl q) = inl (inr q)
       back j (inr r) = inr r
 
-pub unknown_is : (s : Source) (k : ℕ) → unknown s ≡ Some k → IsLowest (NamesUnknown s) k
-unknown_is s k h = subst (λ o. Least o (NamesUnknown s)) h (least_main s.constants s.methods s.main s.units)
+pub unknown_is : (s : Source) (k : ℕ) → unknown s ≡ Some k → IsLowest (NamesUnknown (declarations_of s)) k
+unknown_is s k h = subst (λ o. Least o (NamesUnknown (declarations_of s))) h (least_main s.constants s.methods s.main s.units)
 
-pub all_known : (s : Source) → unknown s ≡ None → (k : ℕ) → NamesUnknown s k → ⊥
-all_known s h = subst (λ o. Least o (NamesUnknown s)) h (least_main s.constants s.methods s.main s.units)
+pub all_known : (s : Source) → unknown s ≡ None → (k : ℕ) → NamesUnknown (declarations_of s) k → ⊥
+all_known s h = subst (λ o. Least o (NamesUnknown (declarations_of s))) h (least_main s.constants s.methods s.main s.units)
 
-pub none_unknown : (s : Source) → ((k : ℕ) → NamesUnknown s k → ⊥) → unknown s ≡ None
+pub none_unknown : (s : Source) → ((k : ℕ) → NamesUnknown (declarations_of s) k → ⊥) → unknown s ≡ None
 none_unknown s h = go (unknown s) refl
   where
     go : (o : Option ℕ) → unknown s ≡ o → o ≡ None
     go None e = refl
     go (Some k) e = absurd (h k (unknown_is s k e).holds)
 
-pub is_unknown : (s : Source) (k : ℕ) → IsLowest (NamesUnknown s) k → unknown s ≡ Some k
+pub is_unknown : (s : Source) (k : ℕ) → IsLowest (NamesUnknown (declarations_of s)) k → unknown s ≡ Some k
 is_unknown s k h = go (unknown s) refl
   where
     go : (o : Option ℕ) → unknown s ≡ o → unknown s ≡ Some k

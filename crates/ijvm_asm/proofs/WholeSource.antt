@@ -1,6 +1,6 @@
 -- What the whole source is read as is the program that it is, or its late refusal.
-use Rattle.std.proofs.Common.{◌≡◌, ℕ, List, [], ◌∷◌, ◌++◌, Option, Some, None, refl, ap, sym, subst, ◌∙◌, inl, inr}
-use Rattle.std.specs.Prelude.{Result, Ok, Err, IsSome, IsSomeAnd}
+use Rattle.std.proofs.Common.{◌≡◌, ℕ, List, [], ◌∷◌, Option, Some, None, refl, ap, sym, subst, ◌∙◌, inl, inr}
+use Rattle.std.specs.Prelude.{Ok, Err, IsSome, IsSomeAnd}
 use Rattle.ijvm_program.specs.declared.line.CodeLine.{CodeLine}
 use Rattle.ijvm_program.specs.Unit.{UnitView}
 use Rattle.ijvm_program.specs.Program.{ProgramView}
@@ -10,7 +10,7 @@ use Rattle.ijvm_asm.specs.declared.draft.DraftLine.{DraftLine}
 use Rattle.ijvm_asm.specs.declared.error.AsmError.{AsmError}
 use Rattle.ijvm_asm.specs.declared.error.AsmError.TheVariants as errors
 use Rattle.ijvm_asm.specs.Drafts.{DraftView, RefusesBy}
-use Rattle.ijvm_asm.specs.Source.{Source}
+use Rattle.ijvm_asm.specs.Source.{declarations_of, Source}
 use Rattle.ijvm_asm.specs.Names.{all_units, constants_of, IsLineOf, IsLowest, IsProgramOf, IsUnitOf, IsUnknownAt, IsUnknownIn, NamesUnknown, Pairwise}
 use Rattle.ijvm_asm.specs.ReadingNames.{by_main, by_missing, by_unknown, missing, missing_at, or_no_main, program_of, program_with, unit_of, units_from, unknown}
 use Rattle.ijvm_asm.proofs.Known.{main_known, units_known}
@@ -51,32 +51,32 @@ ends_outside s h = go s.place h
 
 module _ (s : Source) where
   pub is_program_of : (p : ProgramView) (u : DraftView) (v : UnitView) (vs : List UnitView) → s.main ≡ Some u → unit_of s.constants s.methods u ≡ Some v
-      → units_from s.constants s.methods [] s.units ≡ Some vs → p ≡ record { constants = constants_of s; main = v; methods = vs } → IsProgramOf s p
-  is_program_of p u v vs at e f q = subst (IsProgramOf s) (sym q) (record {
+      → units_from s.constants s.methods [] s.units ≡ Some vs → p ≡ record { constants = constants_of (declarations_of s); main = v; methods = vs } → IsProgramOf (declarations_of s) p
+  is_program_of p u v vs at e f q = subst (IsProgramOf (declarations_of s)) (sym q) (record {
     constants = refl;
     main = subst (λ m. IsSomeAnd m (λ u. IsUnitOf s.constants s.methods u v)) (sym at) (unit_is s.constants s.methods u v e);
     methods = all_units_are s.constants s.methods s.units vs f;
   })
 
-  pub whole_is : (p : ProgramView) → program_of s ≡ Ok p → (s.place ≡ places.Outside) × IsProgramOf s p
+  pub whole_is : (p : ProgramView) → program_of s ≡ Ok p → (s.place ≡ places.Outside) × IsProgramOf (declarations_of s) p
   unfolding program_of
   whole_is p h = at_place s.place refl h
     where
       parts : (u : DraftView) (v : Option UnitView) (vs : Option (List UnitView)) → s.main ≡ Some u → unit_of s.constants s.methods u ≡ v → units_from s.constants s.methods [] s.units ≡ vs
-          → or_no_main (program_with (constants_of s) v vs) ≡ Ok p → IsProgramOf s p
+          → or_no_main (program_with (constants_of (declarations_of s)) v vs) ≡ Ok p → IsProgramOf (declarations_of s) p
       parts u (Some v) (Some vs) at e f h = is_program_of p u v vs at e f (cc)
       parts u (Some v) None at e f h = absurd (cc)
       parts u None vs at e f h = absurd (cc)
 
-      with_main : (m : Option DraftView) → s.main ≡ m → by_main s m ≡ Ok p → IsProgramOf s p
+      with_main : (m : Option DraftView) → s.main ≡ m → by_main s m ≡ Ok p → IsProgramOf (declarations_of s) p
       with_main None at h = absurd (cc)
       with_main (Some u) at h = parts u (unit_of s.constants s.methods u) (units_from s.constants s.methods [] s.units) at refl refl h
 
-      by_line : (o : Option ℕ) → by_unknown s o ≡ Ok p → IsProgramOf s p
+      by_line : (o : Option ℕ) → by_unknown s o ≡ Ok p → IsProgramOf (declarations_of s) p
       by_line None h = with_main s.main refl h
       by_line (Some k) h = absurd (cc)
 
-      at_place : (q : Place) → s.place ≡ q → by_missing s (missing_at q s) ≡ Ok p → (s.place ≡ places.Outside) × IsProgramOf s p
+      at_place : (q : Place) → s.place ≡ q → by_missing s (missing_at q s) ≡ Ok p → (s.place ≡ places.Outside) × IsProgramOf (declarations_of s) p
       at_place places.Outside e h = (e, by_line (unknown s) h)
       at_place places.Constants e h = absurd (cc)
       at_place places.Locals e h = absurd (cc)
@@ -86,30 +86,30 @@ module _ (s : Source) where
   unfolding program_of
   outside e = ap (λ q. by_missing s (missing_at q s)) e
 
-  pub whole_again : (p : ProgramView) → s.place ≡ places.Outside → IsProgramOf s p → program_of s ≡ Ok p
+  pub whole_again : (p : ProgramView) → s.place ≡ places.Outside → IsProgramOf (declarations_of s) p → program_of s ≡ Ok p
   whole_again p e w =
       outside e ∙ (ap (by_unknown s) (none_unknown s (all_none s.constants s.methods s.main s.units p.main p.methods w.main w.methods)) ∙ with_main s.main w.main)
     where
       with_main : (m : Option DraftView) → IsSomeAnd m (λ u. IsUnitOf s.constants s.methods u p.main) → by_main s m ≡ Ok p
       with_main None a = absurd a
       with_main (Some u) a =
-          ap (λ v. or_no_main (program_with (constants_of s) v (units_from s.constants s.methods [] s.units))) (unit_again s.constants s.methods u p.main a)
-          ∙ (ap (λ vs. or_no_main (program_with (constants_of s) (Some p.main) vs)) (units_again s.constants s.methods s.units [] p.methods w.methods)
+          ap (λ v. or_no_main (program_with (constants_of (declarations_of s)) v (units_from s.constants s.methods [] s.units))) (unit_again s.constants s.methods u p.main a)
+          ∙ (ap (λ vs. or_no_main (program_with (constants_of (declarations_of s)) (Some p.main) vs)) (units_again s.constants s.methods s.units [] p.methods w.methods)
           ∙ ap (λ c. or_no_main (program_with c (Some p.main) (Some p.methods))) (sym w.constants))
 
   -- ---- refusals
 
   abbrev pub IsLate : AsmError → Type 0
   IsLate (errors.MissingEnd k) = missing s ≡ Some k
-  IsLate (errors.UnknownName k) = (s.place ≡ places.Outside) × IsLowest (NamesUnknown s) k
-  IsLate errors.NoMain = (s.place ≡ places.Outside) × ((k : ℕ) → NamesUnknown s k → ⊥) × (s.main ≡ None)
+  IsLate (errors.UnknownName k) = (s.place ≡ places.Outside) × IsLowest (NamesUnknown (declarations_of s)) k
+  IsLate errors.NoMain = (s.place ≡ places.Outside) × ((k : ℕ) → NamesUnknown (declarations_of s) k → ⊥) × (s.main ≡ None)
   IsLate _ = ⊥
 
   pub refused_is : (e : AsmError) → program_of s ≡ Err e → IsLate e
   unfolding program_of
   refused_is e h = at_place s.place refl h
     where
-      parts : (v : Option UnitView) (vs : Option (List UnitView)) → IsSome v → IsSome vs → or_no_main (program_with (constants_of s) v vs) ≡ Err e → IsLate e
+      parts : (v : Option UnitView) (vs : Option (List UnitView)) → IsSome v → IsSome vs → or_no_main (program_with (constants_of (declarations_of s)) v vs) ≡ Err e → IsLate e
       parts (Some v) (Some vs) a b h = absurd (cc)
       parts (Some v) None a b h = absurd (cc)
       parts None vs a b h = absurd (cc)
@@ -145,7 +145,7 @@ memory_only s u none known at =
     subst (RefusesBy errors.OutOfMemory) (sym (ap (by_missing s) none ∙ (ap (by_unknown s) known ∙ ap (by_main s) at)))
     (go (unit_of s.constants s.methods u) (units_from s.constants s.methods [] s.units) (main_known s u known at) (units_known s known))
   where
-    go : (v : Option UnitView) (vs : Option (List UnitView)) → IsSome v → IsSome vs → RefusesBy errors.OutOfMemory (or_no_main (program_with (constants_of s) v vs))
+    go : (v : Option UnitView) (vs : Option (List UnitView)) → IsSome v → IsSome vs → RefusesBy errors.OutOfMemory (or_no_main (program_with (constants_of (declarations_of s)) v vs))
     go (Some v) (Some vs) a b = refl
     go (Some v) None a b = absurd (cc)
     go None vs a b = absurd (cc)

@@ -1,8 +1,13 @@
--- What a line adds to a source, or its refusal: how a source is read, line by line.
-use Rattle.std.specs.Prelude.{ℕ, ◌||◌, Bool, true, false, not, List, [], ◌∷◌, ◌++◌, Option, Some, None, Result, Ok, Err, if◌then◌else◌, is_some, length, nat_le, nat_lt}
+-- What the reader's record becomes by a line, or its refusal. Computes, line by line, what sections declare (`SectionsDeclare`), and which line
+-- is refused (`IsRefusedAtLine`).
+use Rattle.std.specs.Prelude.{◌≡◌, ◌↔◌, ◌<◌, ◌^◌, ℕ, ◌||◌, Bool, true, false, not, List, [], ◌∷◌, ◌++◌, Option, Some, None, Result, Ok, Err, if◌then◌else◌, is_some, length, nat_le, nat_lt}
+use Rattle.source_text.specs.Content.{contents}
+use Rattle.source_text.specs.Walk.{Leads}
 use Rattle.ijvm_program.specs.Program.{most_names}
 use Rattle.ijvm_tokens.specs.declared.token.Token.{Token}
 use Rattle.ijvm_tokens.specs.Reading.{read}
+use Rattle.ijvm_tokens.specs.Tokens as tokens
+use Rattle.ijvm_line.specs.declared.place.Place.{Place}
 use Rattle.ijvm_line.specs.declared.place.Place.TheVariants as places
 use Rattle.ijvm_line.specs.declared.place.Mark.{Mark}
 use Rattle.ijvm_line.specs.declared.place.Mark.TheVariants as marks
@@ -10,14 +15,15 @@ use Rattle.ijvm_line.specs.declared.line.Line.{Line}
 use Rattle.ijvm_line.specs.declared.line.Line.TheVariants as lines
 use Rattle.ijvm_line.specs.declared.line.LineFault.{LineFault}
 use Rattle.ijvm_line.specs.declared.instruction.Instruction.{Instruction}
-use Rattle.ijvm_line.specs.Lines.{line_of}
+use Rattle.ijvm_line.specs.Lines as spelled
+use Rattle.ijvm_line.specs.Reading.{line_of}
 use Rattle.ijvm_line.specs.Parameters.{parameters}
 use Rattle.name_list.specs.Places.{place_of}
 use Rattle.ijvm_asm.specs.declared.error.AsmError.{AsmError}
 use Rattle.ijvm_asm.specs.declared.error.AsmError.TheVariants as errors
 use Rattle.ijvm_asm.specs.Drafts.{begun, DraftView}
 use Rattle.ijvm_asm.specs.Refusals.{at_line}
-use Rattle.ijvm_asm.specs.Source.{Source}
+use Rattle.ijvm_asm.specs.Source.{empty, Source}
 
 -- ---- units
 
@@ -128,3 +134,13 @@ add_read k s (Some ts) = add_tokens k s ts
 
 abbrev pub step : ℕ → Source → List ℕ → Result Source AsmError
 step k s line = add_read k s (read line)
+
+-- the lines of a text lead to this
+abbrev pub IsRead : Source → Type 0
+IsRead s = (text : List ℕ) × (length text < 2 ^ 32) × Leads step 1 empty (contents text) s
+
+-- a line is read as what it spells, as the crates below say by their laws
+pub record ReadsLines : Type 0 where
+  pub tokens_read : (line : List ℕ) (ts : List Token) → (read line ≡ Some ts) ↔ tokens.Spells line ts
+  pub said : (place : Place) (ts : List Token) (line : Line) → (line_of place ts ≡ Ok line) ↔ spelled.Spells place ts line
+  pub refused : (place : Place) (ts : List Token) (fault : LineFault) → (line_of place ts ≡ Err fault) ↔ spelled.IsRefused place ts fault

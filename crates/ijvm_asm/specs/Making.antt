@@ -1,13 +1,26 @@
--- What sections make of a source, one behind the other: no name comes twice among those that it must differ from.
-use Rattle.std.specs.Prelude.{◌≡◌, ℕ, ◌+◌, ◌≤◌, true, false, List, [], ◌∷◌, ◌++◌, map, length, Option, Some, None, ⊤}
+-- What sections declare, one behind the other: no name comes twice among those that it must differ from.
+use Rattle.std.specs.Prelude.{◌≡◌, ℕ, ◌+◌, ◌≤◌, Bool, true, false, List, [], ◌∷◌, ◌++◌, map, length, Option, Some, None, ⊤}
 use Rattle.ijvm_program.specs.Program.{most_names}
 use Rattle.ijvm_program.specs.declared.line.Constant.{Constant}
-use Rattle.ijvm_line.specs.declared.place.Place.TheVariants as places
 use Rattle.name_list.specs.Places as names
 use Rattle.ijvm_asm.specs.Sections.{Between, Body, Constants, Main, Method, Section, section_lines}
-use Rattle.ijvm_asm.specs.Drafts.{begun}
-use Rattle.ijvm_asm.specs.Source.{Source}
-use Rattle.ijvm_asm.specs.Units.{AreNew, MakesBody}
+use Rattle.ijvm_asm.specs.Drafts.{DraftView}
+use Rattle.ijvm_asm.specs.Units.{AreNew, MakesUnit}
+
+-- what sections declare so far: constants with their values, methods with their units, and main
+pub record Declarations : Type 0 where
+  -- there was a section of constants
+  pub seen_constants : Bool
+  pub constants : List (List ℕ)
+  -- for each constant its value
+  pub values : List ℕ
+  pub methods : List (List ℕ)
+  pub main : Option DraftView
+  -- for each method its unit
+  pub units : List DraftView
+
+abbrev pub nothing : Declarations
+nothing = record { seen_constants = false; constants = []; values = []; methods = []; main = None; units = [] }
 
 -- ---- constants
 
@@ -21,47 +34,44 @@ abbrev pub AreConstants : List (List ℕ) → List (List ℕ) → List Constant 
 AreConstants methods seen [] = ⊤
 AreConstants methods seen (c ∷ cs) = (names.place_of seen c.name ≡ None) × (names.place_of methods c.name ≡ None) × AreConstants methods (seen ++ c.name ∷ []) cs
 
--- it is the only one, its names are new, and it adds them in order with their values
-abbrev pub MakesConstants : ℕ → Source → List (Option Constant) → Source → Type 0
-MakesConstants k s items u = (s.seen_constants ≡ false) × AreConstants s.methods s.constants (defined items)
-    × (u ≡ record s {
-      place = places.Outside;
-      section = k;
-      seen_constants = true;
-      constants = s.constants ++ map (λ c. c.name) (defined items);
-      values = s.values ++ map (λ c. c.value) (defined items);
-    })
+-- it is the only section of constants, its names are new, and it adds them in order with their values
+pub record AddsConstants (d : Declarations) (items : List (Option Constant)) (e : Declarations) : Type 0 where
+  pub first : d.seen_constants ≡ false
+  pub new : AreConstants d.methods d.constants (defined items)
+  pub adds : e ≡ record d {
+    seen_constants = true;
+    constants = d.constants ++ map (λ c. c.name) (defined items);
+    values = d.values ++ map (λ c. c.value) (defined items);
+  }
 
--- ---- main
+-- ---- units
 
--- there is one main
-pub record MakesMain (k : ℕ) (s : Source) (body : Body) (u : Source) : Type 0 where
-  pub first : s.seen_main ≡ false
-  pub last : Source
-  pub content : MakesBody (k + 1) (record s { place = places.Code; section = k; may_declare = true; seen_main = true; unit = begun None [] }) body last
-  pub ends : u ≡ record last { place = places.Outside; unit = begun None []; main = Some last.unit }
+-- it is the only main; line `k` begins it
+pub record AddsMain (k : ℕ) (d : Declarations) (body : Body) (e : Declarations) : Type 0 where
+  pub first : d.main ≡ None
+  pub unit : DraftView
+  pub is : MakesUnit (k + 1) None [] body unit
+  pub adds : e ≡ record d { main = Some unit }
 
--- ---- methods
-
--- its name is that of no constant and of no method before it, its parameters are at most 65,534
-pub record MakesMethod (k : ℕ) (s : Source) (name : List ℕ) (ps : List (List ℕ)) (body : Body) (u : Source) : Type 0 where
-  pub is_new : (names.place_of s.constants name ≡ None) × (names.place_of s.methods name ≡ None)
+-- its name is that of no constant and of no method before it, and its parameters are at most 65,534; line `k` begins it
+pub record AddsMethod (k : ℕ) (d : Declarations) (name : List ℕ) (ps : List (List ℕ)) (body : Body) (e : Declarations) : Type 0 where
+  pub new : (names.place_of d.constants name ≡ None) × (names.place_of d.methods name ≡ None)
   pub once : AreNew [] ps
   pub few : length ps ≤ most_names
-  pub last : Source
-  pub content : MakesBody (k + 1) (record s { place = places.Code; section = k; may_declare = true; methods = s.methods ++ name ∷ []; unit = begun (Some name) ps }) body last
-  pub ends : u ≡ record last { place = places.Outside; unit = begun None []; units = last.units ++ last.unit ∷ [] }
+  pub unit : DraftView
+  pub is : MakesUnit (k + 1) (Some name) ps body unit
+  pub adds : e ≡ record d { methods = d.methods ++ name ∷ []; units = d.units ++ unit ∷ [] }
 
 -- ---- sections, one behind the other
 
--- what a section makes, behind the sections before it
-abbrev pub Makes : ℕ → Source → Section → Source → Type 0
-Makes k s Between u = s ≡ u
-Makes k s (Constants items) u = MakesConstants k s items u
-Makes k s (Main body) u = MakesMain k s body u
-Makes k s (Method name ps body) u = MakesMethod k s name ps body u
+-- what a section adds to what the sections before it declare
+abbrev pub SectionAdds : ℕ → Declarations → Section → Declarations → Type 0
+SectionAdds k d Between e = d ≡ e
+SectionAdds k d (Constants items) e = AddsConstants d items e
+SectionAdds k d (Main body) e = AddsMain k d body e
+SectionAdds k d (Method name ps body) e = AddsMethod k d name ps body e
 
--- each section makes something of the source that the sections before it leave
-abbrev pub SectionsMake : ℕ → Source → List Section → Source → Type 0
-SectionsMake k s [] t = s ≡ t
-SectionsMake k s (x ∷ xs) t = (u : Source) × Makes k s x u × SectionsMake (k + length (section_lines x [])) u xs t
+-- sections from line `k` on, each behind those before it
+abbrev pub SectionsDeclare : ℕ → Declarations → List Section → Declarations → Type 0
+SectionsDeclare k d [] e = d ≡ e
+SectionsDeclare k d (x ∷ xs) e = (c : Declarations) × SectionAdds k d x c × SectionsDeclare (k + length (section_lines x [])) c xs e

@@ -14,7 +14,7 @@ use Rattle.ijvm_line.specs.Ranges.{access_instr, increment_instr}
 use Rattle.name_list.specs.Places.{place_of}
 use Rattle.ijvm_asm.specs.declared.draft.DraftLine.{DraftLine}
 use Rattle.ijvm_asm.specs.Drafts.{DraftView}
-use Rattle.ijvm_asm.specs.Source.{Source}
+use Rattle.ijvm_asm.specs.Making.{Declarations}
 
 -- the lists have the same length, and each two elements at one place are so
 abbrev pub Pairwise : {A B : Type 0} → (A → B → Type 0) → List A → List B → Type 0
@@ -63,14 +63,14 @@ pub record IsUnitOf (constants methods : List (List ℕ)) (u : DraftView) (unit 
   pub labels : unit.labels ≡ labels_of u
   pub lines : Pairwise (IsLineOf constants methods u) u.lines unit.lines
 
-abbrev pub constants_of : Source → List Constant
-constants_of s = map (λ p. record { name = p.0; value = p.1 }) (zip s.constants s.values)
+abbrev pub constants_of : Declarations → List Constant
+constants_of d = map (λ p. record { name = p.0; value = p.1 }) (zip d.constants d.values)
 
--- the program that a source is: its constants in order with their values, its main, and its methods in order
-pub record IsProgramOf (s : Source) (p : ProgramView) : Type 0 where
-  pub constants : p.constants ≡ constants_of s
-  pub main : IsSomeAnd s.main (λ u. IsUnitOf s.constants s.methods u p.main)
-  pub methods : Pairwise (IsUnitOf s.constants s.methods) s.units p.methods
+-- the program of what a source declares: its constants in order with their values, its main, and its methods in order
+pub record IsProgramOf (d : Declarations) (p : ProgramView) : Type 0 where
+  pub constants : p.constants ≡ constants_of d
+  pub main : IsSomeAnd d.main (λ u. IsUnitOf d.constants d.methods u p.main)
+  pub methods : Pairwise (IsUnitOf d.constants d.methods) d.units p.methods
 
 -- ---- names that are not declared
 
@@ -98,5 +98,5 @@ pub record IsLowest (P : ℕ → Type 0) (k : ℕ) : Type 0 where
   pub lowest : (j : ℕ) → P j → k ≤ j
 
 -- line `k` names what is not declared
-abbrev pub NamesUnknown : Source → ℕ → Type 0
-NamesUnknown s k = IsUnknownAt s.constants s.methods (all_units s.main s.units) k
+abbrev pub NamesUnknown : Declarations → ℕ → Type 0
+NamesUnknown d k = IsUnknownAt d.constants d.methods (all_units d.main d.units) k

@@ -1,6 +1,7 @@
--- How the reader looks names up: what an instruction stands for, the lowest line that names what is not declared, and the whole program. Computes the rules of `Names`.
-use Rattle.std.specs.Prelude.{ℕ, ◌+◌, List, [], ◌∷◌, ◌++◌, Option, Some, None, Result, Ok, Err, if◌then◌else◌, is_none, nat_le, map, take, drop, option_map, option_and_then}
-use Rattle.std.specs.List.{slice_get, zip}
+-- How the reader looks names up: what an instruction stands for, the lowest line that names what is not declared, and the whole program.
+-- Computes the rules of `Names`.
+use Rattle.std.specs.Prelude.{ℕ, ◌+◌, List, [], ◌∷◌, ◌++◌, Option, Some, None, Result, Ok, Err, if◌then◌else◌, nat_le, take, drop, option_map, option_and_then}
+use Rattle.std.specs.List.{slice_get}
 use Rattle.ijvm_program.specs.declared.line.CodeLine.{CodeLine}
 use Rattle.ijvm_program.specs.declared.line.Constant.{Constant}
 use Rattle.ijvm_program.specs.declared.line.Operation.{Operation}
@@ -18,7 +19,7 @@ use Rattle.ijvm_asm.specs.declared.error.AsmError.{AsmError}
 use Rattle.ijvm_asm.specs.declared.error.AsmError.TheVariants as errors
 use Rattle.ijvm_asm.specs.Drafts.{DraftView}
 use Rattle.ijvm_asm.specs.Names.{constants_of, first_index, labels_of}
-use Rattle.ijvm_asm.specs.Source.{Source}
+use Rattle.ijvm_asm.specs.Source.{declarations_of, Source}
 
 -- ---- one line
 
@@ -103,7 +104,7 @@ or_no_main (Some p) = Ok p
 
 abbrev pub by_main : Source → Option DraftView → Result ProgramView AsmError
 by_main s None = Err errors.NoMain
-by_main s (Some u) = or_no_main (program_with (constants_of s) (unit_of s.constants s.methods u) (units_from s.constants s.methods [] s.units))
+by_main s (Some u) = or_no_main (program_with (constants_of (declarations_of s)) (unit_of s.constants s.methods u) (units_from s.constants s.methods [] s.units))
 
 abbrev pub by_unknown : Source → Option ℕ → Result ProgramView AsmError
 by_unknown s (Some k) = Err (errors.UnknownName k)

@@ -13,17 +13,16 @@ use Rattle.ijvm_asm.specs.declared.error.AsmError.{AsmError}
 use Rattle.ijvm_asm.specs.declared.error.AsmError.TheVariants as errors
 use Rattle.ijvm_asm.specs.Said.{BlankAt, Codes, Declares, Defines, Dotted, Heads, line_of, Lists, place_of, Said, SayAll}
 use Rattle.ijvm_asm.specs.Sections.{lines_of, Section}
-use Rattle.ijvm_asm.specs.Source.{empty, Source}
 use Rattle.ijvm_asm.specs.Units.{AreNew}
-use Rattle.ijvm_asm.specs.Making.{SectionsMake}
+use Rattle.ijvm_asm.specs.Making.{Declarations, nothing, SectionsDeclare}
 
 -- with further lines these are the lines of sections
 pub record IsFront (xs : List Said) : Type 0 where
   pub others : List Said
   pub sections : List Section
-  pub source : Source
+  pub declares : Declarations
   pub split : xs ++ others ≡ lines_of sections
-  pub made : SectionsMake 1 empty sections source
+  pub made : SectionsDeclare 1 nothing sections declares
 
 -- the line behind these stands at this place: it may be blank there
 abbrev pub StandsAt : List Said → Place → Type 0

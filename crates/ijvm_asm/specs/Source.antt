@@ -1,8 +1,9 @@
--- A source, as its lines so far make it: its sections one after the other, and the one that is open.
+-- The reader's record: what the sections that are ended declare, and the one that is open.
 use Rattle.std.specs.Prelude.{ℕ, Bool, false, List, [], Option, None}
 use Rattle.ijvm_line.specs.declared.place.Place.{Place}
 use Rattle.ijvm_line.specs.declared.place.Place.TheVariants as places
 use Rattle.ijvm_asm.specs.Drafts.{begun, DraftView}
+use Rattle.ijvm_asm.specs.Making.{Declarations}
 
 pub record Source : Type 0 where
   -- where the next line stands
@@ -38,3 +39,14 @@ empty = record {
   main = None;
   units = [];
 }
+
+abbrev pub declarations_of : Source → Declarations
+declarations_of s =
+    record {
+      seen_constants = s.seen_constants;
+      constants = s.constants;
+      values = s.values;
+      methods = s.methods;
+      main = s.main;
+      units = s.units;
+    }

@@ -1,30 +1,26 @@
 -- Which program a text spells, and which refusal it has.
-use Rattle.std.specs.Prelude.{◌≡◌, ◌⊎◌, ◌<◌, ◌^◌, ℕ, List, length, None, Result, Ok, Err}
+use Rattle.std.specs.Prelude.{◌≡◌, ◌⊎◌, ℕ, List, None}
 use Rattle.source_text.specs.Content.{contents}
-use Rattle.source_text.specs.Walk.{walk}
 use Rattle.ijvm_program.specs.Program.{ProgramView}
 use Rattle.ijvm_asm.specs.declared.error.AsmError.{AsmError}
 use Rattle.ijvm_asm.specs.declared.error.AsmError.TheVariants as errors
 use Rattle.ijvm_asm.specs.Said.{Said, SayAll}
 use Rattle.ijvm_asm.specs.Sections.{lines_of, Section}
-use Rattle.ijvm_asm.specs.Source.{empty, Source}
-use Rattle.ijvm_asm.specs.Making.{SectionsMake}
+use Rattle.ijvm_asm.specs.Making.{Declarations, nothing, SectionsDeclare}
 use Rattle.ijvm_asm.specs.Names.{IsLowest, IsProgramOf, NamesUnknown}
-use Rattle.ijvm_asm.specs.ReadingNames.{program_of}
 use Rattle.ijvm_asm.specs.Refusals.{IsFront, IsInnermost, IsRefusedAtLine}
-use Rattle.ijvm_asm.specs.Adding.{step}
 
 -- ---- programs
 
--- the text's lines are those of sections, which make this source
-pub record IsSource (text : List ℕ) (source : Source) : Type 0 where
+-- the text's lines are those of sections, which declare this
+pub record IsSource (text : List ℕ) (declares : Declarations) : Type 0 where
   pub sections : List Section
   pub say : SayAll (contents text) (lines_of sections)
-  pub made : SectionsMake 1 empty sections source
+  pub made : SectionsDeclare 1 nothing sections declares
 
 -- the text's lines are those of sections, and their names stand for the program's positions
 pub record Spells (text : List ℕ) (p : ProgramView) : Type 0 where
-  pub source : Source
+  pub source : Declarations
   pub sections : IsSource text source
   pub program : IsProgramOf source p
 
@@ -39,13 +35,13 @@ pub record IsUnended (text : List ℕ) (k : ℕ) : Type 0 where
 
 -- all sections are ended, and this is the lowest line that names what is not declared
 pub record HasUnknown (text : List ℕ) (k : ℕ) : Type 0 where
-  pub source : Source
+  pub source : Declarations
   pub sections : IsSource text source
   pub first : IsLowest (NamesUnknown source) k
 
 -- all sections are ended and all names are declared, but there is no main
 pub record HasNoMain (text : List ℕ) : Type 0 where
-  pub source : Source
+  pub source : Declarations
   pub sections : IsSource text source
   pub known : (k : ℕ) → NamesUnknown source k → ⊥
   pub no_main : source.main ≡ None
@@ -59,16 +55,3 @@ IsRefusedAtEnd text _ = ⊥
 -- the first refusal of a text
 abbrev pub IsRefused : List ℕ → AsmError → Type 0
 IsRefused text e = IsRefusedAtLine text e ⊎ IsRefusedAtEnd text e
-
--- ---- how it is read
-
--- this is what the lines of a text make
-abbrev pub IsRead : Source → Type 0
-IsRead s = (text : List ℕ) × (length text < 2 ^ 32) × (walk step 1 empty (contents text) ≡ Ok s)
-
-abbrev pub parsed_by : Result Source AsmError → Result ProgramView AsmError
-parsed_by (Ok s) = program_of s
-parsed_by (Err e) = Err e
-
-unfoldable pub parsed : List ℕ → Result ProgramView AsmError
-parsed text = parsed_by (walk step 1 empty (contents text))

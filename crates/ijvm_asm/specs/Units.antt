@@ -1,14 +1,13 @@
--- What the lines of a unit make of it: its locals stand behind its parameters, and its labels and instructions in order.
+-- The unit that a body makes: its locals stand behind its parameters, and its labels and instructions in order.
 use Rattle.std.specs.Prelude.{◌≡◌, ℕ, ◌+◌, ◌<◌, ◌||◌, Bool, false, List, [], ◌∷◌, ◌++◌, map, length, Option, Some, None, is_some, ⊤}
 use Rattle.ijvm_program.specs.Program.{most_names}
-use Rattle.ijvm_line.specs.declared.place.Place.TheVariants as places
 use Rattle.ijvm_line.specs.declared.place.Mark.TheVariants as marks
 use Rattle.ijvm_line.specs.declared.instruction.Instruction.{Instruction}
 use Rattle.name_list.specs.Places as names
 use Rattle.ijvm_asm.specs.declared.draft.DraftLine.{DraftLine}
+use Rattle.ijvm_asm.specs.Drafts.{DraftView}
 use Rattle.ijvm_asm.specs.Said.{Dotted}
 use Rattle.ijvm_asm.specs.Sections.{Body, CodeItem, local_line, Locals}
-use Rattle.ijvm_asm.specs.Source.{Source}
 
 -- no name comes twice, nor is one of those that were seen
 abbrev pub AreNew : List (List ℕ) → List (List ℕ) → Type 0
@@ -26,11 +25,6 @@ declared (Some name ∷ items) = name ∷ declared items
 abbrev pub AreLocals : List (List ℕ) → List (List ℕ) → Type 0
 AreLocals seen [] = ⊤
 AreLocals seen (n ∷ ns) = (names.place_of seen n ≡ None) × (length seen < most_names) × AreLocals (seen ++ n ∷ []) ns
-
--- the locals stand behind the parameters, and the code of the unit follows
-abbrev pub MakesLocals : Source → List (Option (List ℕ)) → Source → Type 0
-MakesLocals s items u = AreLocals s.unit.names (declared items)
-    × (u ≡ record s { place = places.Code; unit = record s.unit { names = s.unit.names ++ declared items } })
 
 -- ---- its code
 
@@ -78,38 +72,30 @@ waits_behind label [] = label
 waits_behind label (None ∷ items) = waits_behind label items
 waits_behind label (Some c ∷ items) = waits_behind (waits (is_some c.label || label) c.instruction) items
 
-abbrev pub may_declare_behind : Bool → List (Option CodeItem) → Bool
-may_declare_behind may [] = may
-may_declare_behind may (None ∷ items) = may_declare_behind may items
-may_declare_behind may (Some c ∷ items) = false
+-- ---- the unit
 
--- code lines from line `k` on give the unit their labels and their instructions
-abbrev pub MakesCode : ℕ → Source → List (Option CodeItem) → Source → Type 0
-MakesCode k s items u = AreNew s.unit.labels (labels_in items)
-    × (u ≡ record s {
-      may_declare = may_declare_behind s.may_declare items;
-      unit = record s.unit {
-        labels = s.unit.labels ++ labels_in items;
-        label_positions = s.unit.label_positions ++ positions_in (length s.unit.lines) items;
-        lines = s.unit.lines ++ lines_in k items;
-        pending = waits_behind s.unit.pending items;
-      };
-    })
-
--- ---- both
-
--- the unit may declare locals, behind blank lines, and its code starts at `code_from`
-abbrev pub OpensLocals : ℕ → Source → Option Locals → Source → Type 0
-OpensLocals k s None u = s ≡ u
-OpensLocals k s (Some d) u = MakesLocals (record s { place = places.Locals; inner = k + d.blank_lines; may_declare = false }) d.names u
-
+-- the line where the code begins of a body that begins at line `k`
 abbrev pub code_from : ℕ → Option Locals → ℕ
 code_from k None = k
 code_from k (Some d) = ((k + d.blank_lines) + 1) + length (map local_line d.names ++ (Dotted marks.EndLocals ∷ []))
 
--- the locals, then the code, whose last label has an instruction
-pub record MakesBody (k : ℕ) (s : Source) (body : Body) (u : Source) : Type 0 where
-  pub behind_locals : Source
-  pub opens : OpensLocals k s body.locals behind_locals
-  pub makes : MakesCode (code_from k body.locals) behind_locals body.code u
-  pub ready : u.unit.pending ≡ false
+-- the names of its `.var` section, where it has one
+abbrev pub locals_in : Option Locals → List (List ℕ)
+locals_in None = []
+locals_in (Some d) = declared d.names
+
+-- the unit of a body that begins at line `k`, by the name of a method and with these parameters: no local and no label comes twice, and its last
+-- label has an instruction
+pub record MakesUnit (k : ℕ) (name : Option (List ℕ)) (ps : List (List ℕ)) (body : Body) (unit : DraftView) : Type 0 where
+  pub locals : AreLocals ps (locals_in body.locals)
+  pub labels : AreNew [] (labels_in body.code)
+  pub ready : waits_behind false body.code ≡ false
+  pub is : unit ≡ record {
+    name = name;
+    names = ps ++ locals_in body.locals;
+    parameters = length ps;
+    labels = labels_in body.code;
+    label_positions = positions_in 0 body.code;
+    lines = lines_in (code_from k body.locals) body.code;
+    pending = false;
+  }

@@ -1,3 +1,5 @@
+//! Main or a method, as its lines so far make it.
+
 ghost use Rattle.std.specs.Prelude.{◌≡◌, ◌≤◌, length, Ok, Err, OnOk, IfErr};
 ghost use Rattle.ijvm_program.specs.Program.{most_names};
 ghost use Rattle.ijvm_asm.specs.declared.error.AsmError.{AsmError};

@@ -1,3 +1,5 @@
+//! The reader of a source, line by line.
+
 ghost use Rattle.std.specs.Prelude.{◌≡◌, Ok, OnOk, IfOk, IfErr, None, []};
 ghost use Rattle.ijvm_asm.specs.Drafts.{begun, FailsBy, StaysBy};
 ghost use Rattle.ijvm_asm.specs.Adding.{gather};
@@ -5,8 +7,9 @@ ghost use Rattle.ijvm_asm.specs.Refusals.{at_line};
 
 use crate::draft::{Draft, MOST};
 use crate::error::AsmError;
+use crate::laws::reads_lines;
 use ijvm_line::{Instruction, Line, LineFault, Mark, Place, line_of, parameters_of};
-use ijvm_tokens::{Token, reads_what_is_spelled, tokens_of};
+use ijvm_tokens::{Token, tokens_of};
 use mic_base::Name;
 use name_list::NameList;
 use source_text::{Reader, TokenError};
@@ -77,7 +80,7 @@ fn at_line(fault: LineFault, line: u32) -> AsmError
 impl SourceReader {
     ghost use Rattle.ijvm_asm.specs.Adding.{add_code, add_constant, add_line, add_mark, add_method, add_tokens, begin_constants, begin_locals, begin_main, end_main, end_method, is_declared, on_local};
     ghost use Rattle.ijvm_asm.specs.Source.{empty};
-    ghost use Rattle.ijvm_line.specs.Lines.{line_of};
+    ghost use Rattle.ijvm_line.specs.Reading.{line_of};
     ghost use Rattle.ijvm_line.specs.Parameters.{parameters};
 
     pub(crate) fn new(alloc: Global) -> SourceReader
@@ -328,7 +331,7 @@ impl Reader for SourceReader {
     ghost is_memory = { is_memory };
 
     fn line(&mut self, number: u32, line: &[u8]) -> Result<(), AsmError> {
-        reads_what_is_spelled();
+        reads_lines();
         match tokens_of(self.alloc, line) {
             Ok(tokens) => self.read(number, &tokens),
             Err(TokenError::BadToken) => Err(AsmError::BadToken(number)),

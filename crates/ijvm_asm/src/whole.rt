@@ -4,9 +4,11 @@ ghost use Rattle.std.specs.Prelude.{◌≡◌, Ok, None, Some, IfOk, IfErr, IsSo
 ghost use Rattle.ijvm_asm.specs.Drafts.{RefusesBy};
 ghost use Rattle.ijvm_asm.specs.Names.{constants_of};
 ghost use Rattle.ijvm_asm.specs.ReadingNames.{missing, program_of, unknown};
-ghost use Rattle.ijvm_asm.specs.Text.{IsRead};
+ghost use Rattle.ijvm_asm.specs.Adding.{IsRead};
+ghost use Rattle.ijvm_asm.specs.Source.{declarations_of};
 
 use crate::error::AsmError;
+use crate::laws::reads_lines;
 use crate::resolve::{unit_of, units_of, unknown_lines, unknown_units};
 use crate::source::SourceReader;
 use ijvm_line::Place;
@@ -36,7 +38,7 @@ fn unknown(reader: &SourceReader) -> Option<u32>
 }
 
 fn constants_of(reader: &SourceReader) -> Result<Vec<Constant>, AllocError>
-    ensures { IfOk result (λ v. v.items ≡ constants_of reader.now) }
+    ensures { IfOk result (λ v. v.items ≡ constants_of (declarations_of reader.now)) }
 {
     reader
         .constants
@@ -57,6 +59,7 @@ pub(crate) fn program_of(reader: &SourceReader) -> Result<Program, AsmError>
     ensures ok { IfOk result (λ p. program_of reader.now ≡ Ok p) }
     ensures err { IfErr result (λ e. RefusesBy e (program_of reader.now)) }
 {
+    reads_lines();
     if let Some(line) = missing(reader) {
         return Err(AsmError::MissingEnd(line));
     }

@@ -12,10 +12,10 @@ use Rattle.ijvm_line.specs.declared.place.Mark.TheVariants as marks
 use Rattle.ijvm_line.specs.declared.statement.Statement.{Statement}
 use Rattle.ijvm_line.specs.declared.form.Form.{Form}
 use Rattle.ijvm_line.specs.declared.form.Form.TheVariants as forms
-use Rattle.ijvm_line.specs.Parameters.{is_list, method_tokens}
-use Rattle.ijvm_line.specs.Places.{mark_of, mark_place, mark_sign}
-use Rattle.ijvm_line.specs.Statements.{statement_of}
-use Rattle.ijvm_line.specs.Forms.{code, constant_of, form_of, is_open, IsCode, IsForm, labelled, local_of, mark_at, method_of, named, signed, unlabelled, with_label}
+use Rattle.ijvm_line.specs.Parameters.{method_tokens}
+use Rattle.ijvm_line.specs.Reading.{code, constant_of, form_of, is_list, is_open, labelled, local_of, mark_at, mark_of, method_of, named, signed, statement_of, unlabelled, with_label}
+use Rattle.ijvm_line.specs.Places.{mark_place, mark_sign}
+use Rattle.ijvm_line.specs.Forms.{IsCode, IsForm}
 use Rattle.ijvm_line.proofs.Options.{and_parts, chosen, mapped}
 use Rattle.ijvm_line.proofs.Listing.{list_again, list_is}
 use Rattle.ijvm_line.proofs.Stating.{no_sign, statement_again, statement_is}

@@ -7,8 +7,9 @@ use Rattle.ijvm_line.specs.declared.form.Form.{Form}
 use Rattle.ijvm_line.specs.declared.line.Line.{Line}
 use Rattle.ijvm_line.specs.declared.line.LineFault.{LineFault}
 use Rattle.ijvm_line.specs.declared.line.LineFault.TheVariants as faults
-use Rattle.ijvm_line.specs.Forms.{form_of, IsForm}
-use Rattle.ijvm_line.specs.Lines.{IsRefused, line_by, line_of, said_by, Spells}
+use Rattle.ijvm_line.specs.Forms.{IsForm}
+use Rattle.ijvm_line.specs.Reading.{form_of, line_of, said_by}
+use Rattle.ijvm_line.specs.Lines.{IsRefused, line_by, Spells}
 use Rattle.ijvm_line.proofs.Forming.{form_again, form_is}
 use Rattle.ijvm_line.proofs.Ranging.{no_bad_line}
 

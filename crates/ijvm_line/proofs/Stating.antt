@@ -12,7 +12,8 @@ use Rattle.ijvm_line.specs.declared.statement.Operand.TheVariants as operands
 use Rattle.ijvm_line.specs.declared.statement.Statement.{Statement}
 use Rattle.ijvm_line.specs.declared.statement.Statement.TheVariants as statements
 use Rattle.ijvm_line.specs.Mnemonics.{find_mnemonic, kind_of}
-use Rattle.ijvm_line.specs.Statements.{Begins, increment, IsStatement, operand_of, operand_token, statement_by, statement_of, wide, wide_by}
+use Rattle.ijvm_line.specs.Statements.{Begins, IsStatement, operand_token}
+use Rattle.ijvm_line.specs.Reading.{increment, operand_of, statement_by, statement_of, wide, wide_by}
 use Rattle.ijvm_line.proofs.Options.{mapped}
 use Rattle.ijvm_line.proofs.Naming.{mnemonic_again, mnemonic_is}
 

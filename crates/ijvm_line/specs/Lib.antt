@@ -5,3 +5,4 @@ pub mod Statements
 pub mod Forms
 pub mod Ranges
 pub mod Lines
+pub mod Reading

@@ -9,7 +9,7 @@ use Rattle.ijvm_line.specs.declared.line.Line.{Line}
 use Rattle.ijvm_line.specs.declared.line.Line.TheVariants as lines
 use Rattle.ijvm_line.specs.declared.line.LineFault.{LineFault}
 use Rattle.ijvm_line.specs.declared.line.LineFault.TheVariants as faults
-use Rattle.ijvm_line.specs.Forms.{form_of, IsForm}
+use Rattle.ijvm_line.specs.Forms.{IsForm}
 use Rattle.ijvm_line.specs.Ranges.{instruction_of, made, word}
 
 abbrev pub constant_line : List ℕ → Option ℤ → Result Line LineFault
@@ -38,12 +38,3 @@ pub record Spells (place : Place) (ts : List Token) (line : Line) : Type 0 where
 abbrev pub IsRefused : Place → List Token → LineFault → Type 0
 IsRefused place ts faults.BadLine = (form : Form) → IsForm place ts form → ⊥
 IsRefused place ts fault = (form : Form) × IsForm place ts form × (line_by form ≡ Err fault)
-
--- ---- how it is read
-
-abbrev pub said_by : Option Form → Result Line LineFault
-said_by None = Err faults.BadLine
-said_by (Some form) = line_by form
-
-unfoldable pub line_of : Place → List Token → Result Line LineFault
-line_of place ts = said_by (form_of place ts)

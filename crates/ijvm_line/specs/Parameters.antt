@@ -1,5 +1,5 @@
 -- The list of a method's parameters.
-use Rattle.std.specs.Prelude.{ℕ, Bool, true, false, List, [], ◌∷◌, drop, Option, Some, None}
+use Rattle.std.specs.Prelude.{ℕ, List, [], ◌∷◌, drop, Option, Some, None}
 use Rattle.std.specs.List.{filter_map}
 use Rattle.ijvm_tokens.specs.declared.sign.Sign.TheVariants as signs
 use Rattle.ijvm_tokens.specs.declared.token.Token.{Token}
@@ -17,24 +17,6 @@ list_tokens (p ∷ ps) = tokens.Name p ∷ more_tokens ps
 
 abbrev pub method_tokens : List ℕ → List (List ℕ) → List Token
 method_tokens name ps = tokens.Sign signs.Method ∷ tokens.Name name ∷ tokens.Sign signs.Open ∷ list_tokens ps
-
--- ---- how they are read
-
-abbrev pub is_close : List Token → Bool
-is_close (tokens.Sign signs.Close ∷ []) = true
-is_close _ = false
-
-abbrev pub begins_comma : List Token → Bool
-begins_comma (tokens.Sign signs.Comma ∷ tokens.Name p ∷ rest) = true
-begins_comma _ = false
-
-abbrev pub is_more : List Token → Bool
-is_more (tokens.Sign signs.Comma ∷ tokens.Name p ∷ rest) = is_more rest
-is_more rest = is_close rest
-
-abbrev pub is_list : List Token → Bool
-is_list (tokens.Name p ∷ rest) = is_more rest
-is_list rest = is_close rest
 
 abbrev pub name_of : Token → Option (List ℕ)
 name_of (tokens.Name name) = Some name

@@ -1,5 +1,7 @@
+//! The form of a line at its place.
+
 ghost use Rattle.std.specs.Prelude.{◌≡◌};
-ghost use Rattle.ijvm_line.specs.Forms.{code, constant_of, form_of, is_open, labelled, local_of, mark_at, method_of, named, signed};
+ghost use Rattle.ijvm_line.specs.Reading.{code, constant_of, form_of, is_open, labelled, local_of, mark_at, method_of, named, signed};
 
 use crate::parameters::is_list;
 use crate::place::{Mark, Place};

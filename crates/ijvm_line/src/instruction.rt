@@ -1,3 +1,5 @@
+//! Instructions whose names are not yet looked up, with their numbers in range.
+
 ghost use Rattle.std.specs.Prelude.{◌≡◌};
 ghost use Rattle.ijvm_line.specs.Ranges.{access_instr, addend, addend_of, byte, byte_of, constant, increment, increment_instr, index, index_of, instruction_of, is_wide, local, push, word, word_of};
 

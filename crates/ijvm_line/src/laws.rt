@@ -1,9 +1,12 @@
+//! What is read from a line is what it spells.
+
 ghost use Rattle.std.specs.Prelude.{◌≡◌, ◌↔◌, ℕ, List, Ok, Err};
 ghost use Rattle.ijvm_tokens.specs.declared.token.Token.{Token};
 ghost use Rattle.ijvm_line.specs.declared.place.Place.{Place};
 ghost use Rattle.ijvm_line.specs.declared.line.Line.{Line};
 ghost use Rattle.ijvm_line.specs.declared.line.LineFault.{LineFault};
-ghost use Rattle.ijvm_line.specs.Lines.{IsRefused, line_of, Spells};
+ghost use Rattle.ijvm_line.specs.Lines.{IsRefused, Spells};
+ghost use Rattle.ijvm_line.specs.Reading.{line_of};
 ghost use Rattle.ijvm_line.specs.Parameters.{method_tokens, parameters};
 
 /// A line is read as what it spells at its place, and refused by the first refusal that it has: so it spells at most one

@@ -1,5 +1,8 @@
+//! What a line says, or why it is refused.
+
 ghost use Rattle.std.specs.Prelude.{◌≡◌};
-ghost use Rattle.ijvm_line.specs.Lines.{code_line, constant_line, line_by, line_of};
+ghost use Rattle.ijvm_line.specs.Lines.{code_line, constant_line, line_by};
+ghost use Rattle.ijvm_line.specs.Reading.{line_of};
 
 use crate::form::{Form, form_of};
 use crate::instruction::{Instruction, instruction_of, word};
@@ -65,7 +68,7 @@ fn line_by(form: Form) -> Result<Line, LineFault>
 }
 
 /// What the tokens of a line say at the place where it stands, or the first refusal.
-#[tactic(auto, unfolding(crate::specs::Lines::line_of))]
+#[tactic(auto, unfolding(crate::specs::Reading::line_of))]
 pub fn line_of(place: Place, tokens: &[Token]) -> Result<Line, LineFault>
     ensures { result ≡ line_of place tokens.now }
 {

@@ -1,3 +1,5 @@
+//! The mnemonics, and what kind of operands each takes.
+
 ghost use Rattle.std.specs.Prelude.{◌≡◌};
 ghost use Rattle.std.specs.Str.{str_eq_ignore_ascii_case};
 ghost use Rattle.ijvm_line.specs.Mnemonics.{find_mnemonic, kind_of, mnemonic_text};

@@ -1,5 +1,7 @@
+//! The places of a line, and the dotted words that stand alone there.
+
 ghost use Rattle.std.specs.Prelude.{◌≡◌};
-ghost use Rattle.ijvm_line.specs.Places.{mark_of};
+ghost use Rattle.ijvm_line.specs.Reading.{mark_of};
 
 use ijvm_tokens::Sign;
 

@@ -1,5 +1,7 @@
+//! Instructions as their tokens spell them.
+
 ghost use Rattle.std.specs.Prelude.{◌≡◌};
-ghost use Rattle.ijvm_line.specs.Statements.{alone, call, constant, increment, jump_to, kind_at, local, operand_of, push, statement_of, wide};
+ghost use Rattle.ijvm_line.specs.Reading.{alone, call, constant, increment, jump_to, kind_at, local, operand_of, push, statement_of, wide};
 
 use crate::mnemonic::{Access, Kind, Mnemonic};
 use ijvm_instr::Instr;

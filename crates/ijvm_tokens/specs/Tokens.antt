@@ -40,7 +40,8 @@ IsLexeme (tokens.Sign s) text = text ≡ sign_text s
 IsLexeme (tokens.Name n) text = (text ≡ n) × (is_name n ≡ true)
 IsLexeme (tokens.Number v) text = IsNumberText text × (number_value text ≡ v)
 
--- a token with this first byte may have this length and stand before those bytes: runs are the longest, and two bytes stand behind a quote where the line has them
+-- a token with this first byte may have this length and stand before those bytes: runs are the longest, and two bytes stand behind a quote
+-- where the line has them
 pub record MayEnd (first len : ℕ) (rest : List ℕ) : Type 0 where
   pub run : (is_name_byte first || first == 45) ≡ true → begins_with is_name_byte rest ≡ false
   pub word : first ≡ 46 → begins_with is_word_byte rest ≡ false

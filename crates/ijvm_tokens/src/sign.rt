@@ -1,3 +1,5 @@
+//! The signs and the dotted words.
+
 ghost use Rattle.std.specs.Prelude.{◌≡◌};
 ghost use Rattle.ijvm_tokens.specs.Signs.{find_sign, sign_text};
 

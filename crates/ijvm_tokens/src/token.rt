@@ -1,3 +1,5 @@
+//! The tokens of a line.
+
 ghost use Rattle.std.specs.Prelude.{◌≡◌, ◌+◌, ◌<◌, ◌≤◌, ◌∷◌, ◌↔◌, Some, length, IfOk, IsErrOf, List, ℕ};
 ghost use Rattle.std.specs.List.{prefix_len};
 ghost use Rattle.ijvm_tokens.specs.declared.token.Token.{Token};

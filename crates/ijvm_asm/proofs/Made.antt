@@ -1,0 +1,89 @@
+-- What sections make of the reader's record, one behind the other: the lines of a unit, then the sections that hold them.
+use Rattle.std.specs.Prelude.{◌≡◌, ℕ, ◌+◌, ◌≤◌, Bool, true, false, List, [], ◌∷◌, ◌++◌, map, length, Option, Some, None}
+use Rattle.ijvm_program.specs.Program.{most_names}
+use Rattle.ijvm_program.specs.declared.line.Constant.{Constant}
+use Rattle.ijvm_line.specs.declared.place.Place.TheVariants as places
+use Rattle.name_list.specs.Places as names
+use Rattle.ijvm_asm.specs.Drafts.{begun}
+use Rattle.ijvm_asm.specs.Sections.{Between, Body, CodeItem, Constants, Locals, Main, Method, Section, section_lines}
+use Rattle.ijvm_asm.specs.Source.{Source}
+use Rattle.ijvm_asm.specs.Units.{AreLocals, AreNew, code_from, declared, labels_in, lines_in, positions_in, waits_behind}
+use Rattle.ijvm_asm.specs.Making.{AreConstants, defined}
+
+-- ---- a unit
+
+-- the locals stand behind the parameters, and the code of the unit follows
+abbrev pub MakesLocals : Source → List (Option (List ℕ)) → Source → Type 0
+MakesLocals s items u = AreLocals s.unit.names (declared items)
+    × (u ≡ record s { place = places.Code; unit = record s.unit { names = s.unit.names ++ declared items } })
+
+abbrev pub may_declare_behind : Bool → List (Option CodeItem) → Bool
+may_declare_behind may [] = may
+may_declare_behind may (None ∷ items) = may_declare_behind may items
+may_declare_behind may (Some c ∷ items) = false
+
+-- code lines from line `k` on give the unit their labels and their instructions
+abbrev pub MakesCode : ℕ → Source → List (Option CodeItem) → Source → Type 0
+MakesCode k s items u = AreNew s.unit.labels (labels_in items)
+    × (u ≡ record s {
+      may_declare = may_declare_behind s.may_declare items;
+      unit = record s.unit {
+        labels = s.unit.labels ++ labels_in items;
+        label_positions = s.unit.label_positions ++ positions_in (length s.unit.lines) items;
+        lines = s.unit.lines ++ lines_in k items;
+        pending = waits_behind s.unit.pending items;
+      };
+    })
+
+-- the unit may declare locals, behind blank lines, and its code starts at `code_from`
+abbrev pub OpensLocals : ℕ → Source → Option Locals → Source → Type 0
+OpensLocals k s None u = s ≡ u
+OpensLocals k s (Some d) u = MakesLocals (record s { place = places.Locals; inner = k + d.blank_lines; may_declare = false }) d.names u
+
+-- the locals, then the code, whose last label has an instruction
+pub record MakesBody (k : ℕ) (s : Source) (body : Body) (u : Source) : Type 0 where
+  pub behind_locals : Source
+  pub opens : OpensLocals k s body.locals behind_locals
+  pub makes : MakesCode (code_from k body.locals) behind_locals body.code u
+  pub ready : u.unit.pending ≡ false
+
+-- ---- sections
+
+-- it is the only one, its names are new, and it adds them in order with their values
+abbrev pub MakesConstants : ℕ → Source → List (Option Constant) → Source → Type 0
+MakesConstants k s items u = (s.seen_constants ≡ false) × AreConstants s.methods s.constants (defined items)
+    × (u ≡ record s {
+      place = places.Outside;
+      section = k;
+      seen_constants = true;
+      constants = s.constants ++ map (λ c. c.name) (defined items);
+      values = s.values ++ map (λ c. c.value) (defined items);
+    })
+
+-- there is one main
+pub record MakesMain (k : ℕ) (s : Source) (body : Body) (u : Source) : Type 0 where
+  pub first : s.seen_main ≡ false
+  pub last : Source
+  pub content : MakesBody (k + 1) (record s { place = places.Code; section = k; may_declare = true; seen_main = true; unit = begun None [] }) body last
+  pub ends : u ≡ record last { place = places.Outside; unit = begun None []; main = Some last.unit }
+
+-- its name is that of no constant and of no method before it, its parameters are at most 65,534
+pub record MakesMethod (k : ℕ) (s : Source) (name : List ℕ) (ps : List (List ℕ)) (body : Body) (u : Source) : Type 0 where
+  pub is_new : (names.place_of s.constants name ≡ None) × (names.place_of s.methods name ≡ None)
+  pub once : AreNew [] ps
+  pub few : length ps ≤ most_names
+  pub last : Source
+  pub content : MakesBody (k + 1) (record s { place = places.Code; section = k; may_declare = true; methods = s.methods ++ name ∷ []; unit = begun (Some name) ps }) body last
+  pub ends : u ≡ record last { place = places.Outside; unit = begun None []; units = last.units ++ last.unit ∷ [] }
+
+-- what a section makes, behind the sections before it
+abbrev pub Makes : ℕ → Source → Section → Source → Type 0
+Makes k s Between u = s ≡ u
+Makes k s (Constants items) u = MakesConstants k s items u
+Makes k s (Main body) u = MakesMain k s body u
+Makes k s (Method name ps body) u = MakesMethod k s name ps body u
+
+-- each section makes something of the source that the sections before it leave
+abbrev pub SectionsMake : ℕ → Source → List Section → Source → Type 0
+SectionsMake k s [] t = s ≡ t
+SectionsMake k s (x ∷ xs) t = (u : Source) × Makes k s x u × SectionsMake (k + length (section_lines x [])) u xs t
