@@ -1,8 +1,0 @@
-/// Which of the four calls comes next.
-#[derive(Clone, Copy, Debug, PartialEq, Eq)]
-pub enum Stage {
-    Setup,
-    Drive,
-    Compute,
-    Edge,
-}
