@@ -1,0 +1,13 @@
+//! The fetch unit of Mic-2: it fetches instruction words ahead of the machine, and keeps their bytes in a queue.
+#![tactic(auto)]
+
+mod fetch_unit;
+mod laws;
+mod queue;
+mod sampling;
+#[cfg(test)]
+mod tests;
+
+pub use fetch_unit::FetchUnit;
+pub use laws::standing_law;
+pub use sampling::check_sample;
