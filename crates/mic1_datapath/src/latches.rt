@@ -149,6 +149,7 @@ impl Latches {
     }
 
     /// Moves the registers and MPC on behind a clocked word, with what its accesses sampled under way.
+    #[inline(always)]
     pub fn advance(&mut self, word: u64, lines: &Lines, value: u32, c: u32, sampled: Sampled)
         requires latches { AreLatches self.old }
         requires word { IsTrue (is_canonical Mic1 word) }

@@ -1,9 +1,9 @@
 //! The machine: its four calls, which are the book's subcycles.
 
-ghost use Rattle.std.specs.Prelude.{◌≡◌, IsTrue, refl};
+ghost use Rattle.std.specs.Prelude.{◌≡◌, ◌==◌, IsTrue, refl, true, false};
 ghost use Rattle.machine_words.specs.declared.machine.Machine.TheVariants.{Mic1 as Mic1Machine};
 ghost use Rattle.micro_word.specs.Canonical.{is_canonical};
-ghost use Rattle.micro_word.specs.Coding.{statement_of};
+ghost use Rattle.micro_word.specs.Coding.{mem_of, statement_of};
 ghost use Rattle.micro_word.specs.Layout.{fields_of};
 ghost use Rattle.micro_word.specs.Lines.{AreLines};
 ghost use Rattle.micro_word.specs.Operation.{shifted};
@@ -14,7 +14,7 @@ ghost use Rattle.mic1_datapath.specs.Latches.{AreLatches, micro_in};
 
 use crate::latches::{IDLE, Latches};
 use console_port::{Bus, BusFault};
-use datapath::{Stage, access, operate, shift_by};
+use datapath::{Sampled, Stage, access, access_memory, is_in_memory, operate, shift_by};
 use mic_base::{Sink, Source};
 use mic_clock::{Clocked, Computed, Drive, Registers, Start, Tail};
 use mic1_alu::AluOut;
@@ -44,6 +44,13 @@ pub struct Mic1 {
     ghost drove: { phase_of stage ≡ Driven → b ≡ source (statement_of Mic1Machine word).part.b (micro_in latches) },
     ghost computed: { phase_of stage ≡ AtEdge → value ≡ result_of (statement_of Mic1Machine word).part (micro_in latches) },
     ghost shifted_by: { phase_of stage ≡ AtEdge → c ≡ shifted (statement_of Mic1Machine word).part.shift value },
+}
+
+/// Whether a word accesses nothing.
+fn is_quiet(word: u64) -> bool
+    ensures { result ≡ true → (mem_of (fields_of Mic1Machine word).mem ≡ Mem.None) × (((fields_of Mic1Machine word).fetch == 1) ≡ false) }
+{
+    bits::mem(Machine::Mic1, word) == 0 && !bits::fetch(Machine::Mic1, word)
 }
 
 impl Mic1 {
@@ -145,12 +152,28 @@ impl Clocked for Mic1 {
         source: &mut S,
         sink: &mut K,
     ) -> Result<(), BusFault> {
+        self.stage = Stage::Setup;
+        // Most words access nothing, and most others memory alone.
+        if is_quiet(self.word) {
+            let sampled = Sampled {
+                word: None,
+                byte: None,
+            };
+            self.latches
+                .advance(self.word, &self.lines, self.value, self.c, sampled);
+            return Ok(());
+        }
         let mem = Mem::of_bits(bits::mem(Machine::Mic1, self.word));
         let fetch = bits::fetch(Machine::Mic1, self.word);
         let ports = self
             .latches
             .ports(bits::destinations(Machine::Mic1, self.word), self.c);
-        self.stage = Stage::Setup;
+        if is_in_memory(mem, fetch, ports.mar, ports.pc, bus) {
+            let sampled = access_memory(mem, fetch, &ports, bus);
+            self.latches
+                .advance(self.word, &self.lines, self.value, self.c, sampled);
+            return Ok(());
+        }
         match access(mem, fetch, &ports, bus, source, sink) {
             Ok(sampled) => {
                 self.latches

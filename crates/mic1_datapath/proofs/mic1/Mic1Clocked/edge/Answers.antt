@@ -1,22 +1,113 @@
-use Rattle.std.proofs.Common.{◌≡◌, ◌==◌, length, List, ℕ, Err, refl, sym, ◌∙◌, ap, subst}
+use Rattle.std.proofs.Common.{◌≡◌, ◌==◌, length, List, ℕ, false, None, Err, refl, sym, ◌∙◌, ap, subst}
 use Rattle.console_port.specs.Bus.{refused_by, ChangesOnly}
 use Rattle.console_port.specs.Console.{IsFault}
+use Rattle.console_port.specs.declared.fault.BusFault.TheVariants as faults
 use Rattle.micro_word.specs.Coding.{statement_of, mem_of}
+use Rattle.micro_word.specs.Layout.{fields_of}
+use Rattle.micro_word.specs.declared.statement.Mem.TheVariants as mems
 use Rattle.machine_words.specs.declared.machine.Machine.TheVariants as machines
 use Rattle.datapath.specs.Memory.{access_refusal}
-use Rattle.datapath.specs.Access.{is_read}
 use Rattle.datapath.specs.declared.ports.Ports.{Ports}
 use Rattle.mic1_datapath.specs.Micro.{Micro}
-use Rattle.mic1_datapath.specs.Microstep.{settled, moved}
+use Rattle.mic1_datapath.specs.Microstep.{assigned, ports_of, settled, moved}
 use Rattle.mic1_datapath.specs.Mic1.{step_of_word}
 use Rattle.mic1_datapath.specs.Latches.{micro_in}
+use Rattle.mic1_datapath.proofs.Inside.{led_inside}
 use Rattle.mic1_datapath.proofs.Steps.{Asked, IsAsked, is_asked, is_done, step_refusal, not_refused, reads_console, uses_console}
-use Rattle.mic1_datapath.proofs.UnderWay.{read_bit}
 use Rattle.mic1_datapath.proofs.mic1.Mic1Clocked.edge.Goals as goal
 
-pub advance-requires-clause-word_sampled : goal.advance-requires-clause-word_sampled
-advance-requires-clause-word_sampled g c =
-    c.in-Ok.ensures.word ∙ ap is_read c.of_bits-mem.ensures ∙ (read_bit c.mem.result ∙ ap (λ (bits : ℕ). bits == 1) c.mem.ensures)
+-- a word that accesses nothing
+
+pub returns-then-is_quiet-clause-ok : goal.returns-then-is_quiet-clause-ok
+unfolding step_of_word
+returns-then-is_quiet-clause-ok g c =
+    let old = c.args.self.now in
+    let s = statement_of machines.Mic1 old.word in
+    let m = micro_in old.latches in
+    let quiet = c.is_quiet.ensures c.if-is_quiet.true in
+    let dests = (fields_of machines.Mic1 old.word).c in
+    let asked : Asked = record { ports = ports_of (assigned dests old.c m); mem = mems.None; fetch = false } in
+    let is : IsAsked s m asked =
+    is_asked old.word m old.value old.c dests (ports_of (assigned dests old.c m)) mems.None false
+    (old.computed c.requires) (old.shifted_by c.requires) refl refl (sym quiet.0) (sym quiet.1) in
+    λ rest fits. (
+      rest,
+      fits,
+      λ w shows same. (
+        w,
+        is_done s m asked is w w _ (ap (λ (ws : List ℕ). length ws) shows.words) None None refl (record { its_word = refl; its_byte = refl; after = refl }) _
+            (c.advance.ensures.micro ∙ ap (λ (x : ℕ). moved s.next x (settled s.part m) None None) (old.computed c.requires)),
+        shows,
+        same,
+      ),
+    )
+
+pub returns-then-is_quiet-clause-refusal : goal.returns-then-is_quiet-clause-refusal
+unfolding step_of_word
+returns-then-is_quiet-clause-refusal g c =
+    let old = c.args.self.now in
+    let s = statement_of machines.Mic1 old.word in
+    let m = micro_in old.latches in
+    let quiet = c.is_quiet.ensures c.if-is_quiet.true in
+    let dests = (fields_of machines.Mic1 old.word).c in
+    let asked : Asked = record { ports = ports_of (assigned dests old.c m); mem = mems.None; fetch = false } in
+    let is : IsAsked s m asked =
+    is_asked old.word m old.value old.c dests (ports_of (assigned dests old.c m)) mems.None false
+    (old.computed c.requires) (old.shifted_by c.requires) refl refl (sym quiet.0) (sym quiet.1) in
+    λ w e shows refused.
+    let why = step_refusal s m asked is _ w (ap (λ (ws : List ℕ). length ws) shows.words) in
+    let none = sym refused ∙ why in
+    absurd (cc)
+
+-- its accesses reach memory alone
+
+pub returns-then-is_in_memory-clause-ok : goal.returns-then-is_in_memory-clause-ok
+unfolding step_of_word
+returns-then-is_in_memory-clause-ok g c =
+    let old = c.args.self.now in
+    let s = statement_of machines.Mic1 old.word in
+    let m = micro_in old.latches in
+    let asked : Asked = record { ports = c.ports-ports.result; mem = c.of_bits-mem.result; fetch = c.fetch-fetch.result } in
+    let is : IsAsked s m asked =
+    is_asked old.word m old.value old.c c.destinations.result c.ports-ports.result c.of_bits-mem.result c.fetch-fetch.result
+    (old.computed c.requires) (old.shifted_by c.requires) c.destinations.ensures.value c.ports-ports.ensures
+    (c.of_bits-mem.ensures ∙ ap mem_of c.mem.ensures) c.fetch-fetch.ensures in
+    led_inside (g.S.Source.left c.args.source.now) (g.K.Sink.held c.args.sink.now) c.args.bus.now c.access_memory-sampled.new.bus c.access_memory-sampled.ensures.console _
+    (λ w shows.
+    is_done s m asked is w (record w { words = c.access_memory-sampled.new.bus.words }) _ (ap (λ (ws : List ℕ). length ws) shows.words) _ _ c.access_memory-sampled.ensures.clear (c.access_memory-sampled.ensures.access w shows.words) _
+    (c.advance-then-is_in_memory.ensures.micro ∙ ap (λ (x : ℕ). moved s.next x (settled s.part m) c.access_memory-sampled.result.word c.access_memory-sampled.result.byte) (old.computed c.requires)))
+
+pub returns-then-is_in_memory-clause-others : goal.returns-then-is_in_memory-clause-others
+returns-then-is_in_memory-clause-others g c =
+    let old = c.args.self.now in
+    let s = statement_of machines.Mic1 old.word in
+    let m = micro_in old.latches in
+    let asked : Asked = record { ports = c.ports-ports.result; mem = c.of_bits-mem.result; fetch = c.fetch-fetch.result } in
+    let is : IsAsked s m asked =
+    is_asked old.word m old.value old.c c.destinations.result c.ports-ports.result c.of_bits-mem.result c.fetch-fetch.result
+    (old.computed c.requires) (old.shifted_by c.requires) c.destinations.ensures.value c.ports-ports.ensures
+    (c.of_bits-mem.ensures ∙ ap mem_of c.mem.ensures) c.fetch-fetch.ensures in
+    let mar = ap (λ (p : Ports). p.mar) is.given ∙ sym (ap (λ (n : Micro). n.mar) c.advance-then-is_in_memory.ensures.micro) in
+    subst (λ (at : ℕ). ChangesOnly at c.args.bus.now.words c.access_memory-sampled.new.bus.words) mar c.access_memory-sampled.ensures.others
+
+pub returns-then-is_in_memory-clause-refusal : goal.returns-then-is_in_memory-clause-refusal
+unfolding step_of_word
+returns-then-is_in_memory-clause-refusal g c =
+    let old = c.args.self.now in
+    let s = statement_of machines.Mic1 old.word in
+    let m = micro_in old.latches in
+    let asked : Asked = record { ports = c.ports-ports.result; mem = c.of_bits-mem.result; fetch = c.fetch-fetch.result } in
+    let is : IsAsked s m asked =
+    is_asked old.word m old.value old.c c.destinations.result c.ports-ports.result c.of_bits-mem.result c.fetch-fetch.result
+    (old.computed c.requires) (old.shifted_by c.requires) c.destinations.ensures.value c.ports-ports.ensures
+    (c.of_bits-mem.ensures ∙ ap mem_of c.mem.ensures) c.fetch-fetch.ensures in
+    λ w e shows refused.
+    let why = step_refusal s m asked is _ w (ap (λ (ws : List ℕ). length ws) shows.words) in
+    let clear = ap refused_by c.access_memory-sampled.ensures.clear in
+    let none = sym refused ∙ why ∙ clear in
+    absurd (cc)
+
+-- one of them may reach the console, or be refused
 
 pub returns-in-Ok-clause-ok : goal.returns-in-Ok-clause-ok
 unfolding step_of_word
@@ -37,7 +128,7 @@ returns-in-Ok-clause-ok g c =
           let to = led.2 w shows same in (
             to.0,
             is_done s m asked is w to.0 _ (ap (λ (ws : List ℕ). length ws) shows.words) _ _ c.in-Ok.ensures.allowed to.1 _
-                (c.advance.ensures.micro ∙ ap (λ (x : ℕ). moved s.next x (settled s.part m) c.in-Ok.sampled.word c.in-Ok.sampled.byte) (old.computed c.requires)),
+                (c.advance-in-Ok.ensures.micro ∙ ap (λ (x : ℕ). moved s.next x (settled s.part m) c.in-Ok.sampled.word c.in-Ok.sampled.byte) (old.computed c.requires)),
             to.2,
             to.3,
           ),
@@ -53,7 +144,7 @@ returns-in-Ok-clause-others g c =
     is_asked old.word m old.value old.c c.destinations.result c.ports-ports.result c.of_bits-mem.result c.fetch-fetch.result
     (old.computed c.requires) (old.shifted_by c.requires) c.destinations.ensures.value c.ports-ports.ensures
     (c.of_bits-mem.ensures ∙ ap mem_of c.mem.ensures) c.fetch-fetch.ensures in
-    let mar = ap (λ (p : Ports). p.mar) is.given ∙ sym (ap (λ (n : Micro). n.mar) c.advance.ensures.micro) in
+    let mar = ap (λ (p : Ports). p.mar) is.given ∙ sym (ap (λ (n : Micro). n.mar) c.advance-in-Ok.ensures.micro) in
     subst (λ (at : ℕ). ChangesOnly at c.args.bus.now.words c.access.new.bus.words) mar c.in-Ok.ensures.others
 
 pub returns-in-Ok-clause-refusal : goal.returns-in-Ok-clause-refusal
@@ -111,4 +202,19 @@ returns-in-Err-clause-err g c =
       uses = λ e w shows.
           let fault : IsFault c.in-Err.fault = subst IsFault (sym e) tt in
           uses_console old.word m asked is _ w (ap (λ (ws : List ℕ). length ws) shows.words) (clear fault) (c.in-Err.ensures.behind fault) (c.in-Err.ensures.uses (cc));
+    }
+
+pub returns-in-Err-clause-flushed : goal.returns-in-Err-clause-flushed
+returns-in-Err-clause-flushed g c = λ q. c.in-Err.ensures.flushed (λ e. let f : c.in-Err.fault ≡ faults.WriteFault = cc in q (cc))
+
+pub returns-in-Err-clause-cause : goal.returns-in-Err-clause-cause
+returns-in-Err-clause-cause g c =
+    let h = c.in-Err.ensures.cause in
+    record {
+      source_later = h.source_later;
+      sink_later = h.sink_later;
+      read = λ q. h.read (let f : c.in-Err.fault ≡ faults.ReadFault = cc in cc);
+      write = λ q. h.write (let f : c.in-Err.fault ≡ faults.WriteFault = cc in cc);
+      source_same = λ q. h.source_same (λ e. let f : c.in-Err.fault ≡ faults.ReadFault = cc in q (cc));
+      sink_same = λ q. h.sink_same (λ e. let f : c.in-Err.fault ≡ faults.WriteFault = cc in q (cc));
     }
