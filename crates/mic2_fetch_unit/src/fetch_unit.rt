@@ -46,7 +46,7 @@ impl FetchUnit {
         ensures { result ≡ at_start first }
     {
         FetchUnit {
-            bytes: ArrayVec::new(),
+            bytes: Queue::new(),
             left: 0,
             imar: 0,
             skip: 0,
@@ -81,7 +81,8 @@ impl FetchUnit {
     /// The number that the first two bytes spell.
     pub fn two(&self) -> u16
         requires { 2 ≤ length self.now.bytes }
-        ensures { result ≡ 256 * slice_index self.now.bytes 0 + slice_index self.now.bytes 1 }
+        ensures value { result ≡ 256 * slice_index self.now.bytes 0 + slice_index self.now.bytes 1 }
+        ensures low { slice_index self.now.bytes 1 < 256 }
     {
         256 * self.byte_at(0) as u16 + self.byte_at(1) as u16
     }
