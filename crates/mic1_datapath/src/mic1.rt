@@ -147,6 +147,7 @@ impl Clocked for Mic1 {
         }
     }
 
+    #[inline(always)]
     fn edge<S: Source, K: Sink>(
         &mut self,
         bus: &mut Bus,
