@@ -57,5 +57,5 @@ module _ {Kept : Type 0} (keeps : Kept → Cycle → Kept) (Says : Kept → Cycl
       record { kept = kept; text = text; says = (text, [], says, refl, sym (append-nil text)); said = said }
 
 -- causes of one call after another
-pub cause-then : {E : Type 0} (a b c : ℕ) (done : Unit) (result : Result Unit E) → HasCause {E = E} a b (Ok done) → HasCause b c result → HasCause a c result
+pub cause-then : {E : Type 0} (a b c : ℕ) (done : Unit {0}) (result : Result Unit E) → HasCause {E = E} a b (Ok done) → HasCause b c result → HasCause a c result
 cause-then a b c done result first next = subst (λ (x : ℕ). HasCause x c result) first.quiet next

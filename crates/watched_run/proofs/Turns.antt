@@ -57,6 +57,11 @@ counted_cycles false c stalled at r = refl
 abbrev Counted : {State : Type 0} → MicroRun State → MicroRun State → Type 0
 Counted r q = (c : Cycle) → length (shown_where q.end c) + r.counts.cycles ≡ q.counts.cycles
 
+either_counts : {State : Type 0} (b over : Bool) (r e : MicroRun State) → e.counts ≡ r.counts → (if b then (if over then e else r) else r).counts ≡ r.counts
+either_counts true true r e same = same
+either_counts true false r e same = refl
+either_counts false over r e same = refl
+
 module _ {State : Type 0} (m : Meaning State) (words : List ℕ) where
   step_counts : (r : MicroRun State) (o : Outcome State) → Counted r (stepped m words r o)
   step_counts r (Done s w) c = omega (arith, counted_cycles (m.is_boundary s) r.counts (m.drives (word_at m words r.state) r.state).stalled (m.address s) (m.registers s))
@@ -72,15 +77,8 @@ module _ {State : Type 0} (m : Meaning State) (words : List ℕ) where
 
   bounded_counts : (bound : ℕ) (r : MicroRun State) (e : Option End) → (bounded_by m e bound r).counts ≡ r.counts
   bounded_counts bound r (Some e) = refl
-  bounded_counts bound r None = by_boundary (m.is_boundary r.state) (nat_le bound r.counts.cycles)
-    where
-      ended : MicroRun State
-      ended = record { state = r.state; world = r.world; counts = r.counts; end = Some ends.Bound }
-      by_boundary : (b over : Bool) → (if b then (if over then ended else r) else r).counts ≡ r.counts
-      unfolding ended
-      by_boundary true true = refl
-      by_boundary true false = refl
-      by_boundary false over = refl
+  bounded_counts bound r None =
+      either_counts (m.is_boundary r.state) (nat_le bound r.counts.cycles) r (record { state = r.state; world = r.world; counts = r.counts; end = Some ends.Bound }) refl
 
   bounded-counts : (bound : Option ℕ) (r : MicroRun State) → (bounded m bound r).counts ≡ r.counts
   bounded-counts None r = refl

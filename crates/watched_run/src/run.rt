@@ -1,6 +1,6 @@
 //! A board is clocked to its end, and a watcher sees each cycle.
 
-ghost use Rattle.std.specs.Prelude.{◌≡◌, ◌≢◌, ◌≤◌, ◌+◌, ◌^◌, ℕ, List, [], Some, None, IsSome, IfOk, OnOk, OnErr};
+ghost use Rattle.std.specs.Prelude.{◌≡◌, ◌≢◌, ◌≤◌, ◌<◌, ◌+◌, ◌^◌, ℕ, List, [], Some, None, IsSome, IfOk, OnOk, OnErr};
 ghost use Rattle.mic_base.specs.Causes.{HasCause};
 ghost use Rattle.mic_base.specs.Streams.{Holds};
 ghost use Rattle.console_port.specs.Console.{IsFault, StaysFlushed};
@@ -22,7 +22,9 @@ fn show<M: Clocked, W: Watcher, E: Sink>(
     watcher: &mut W,
     err: &mut E,
 ) -> Result<(), SinkFailed>
+    requires { mpc < 512 }
     ensures saw { Saw W.keeps W.Says (W.kept watcher.old) (W.kept watcher.new) (E.held err.old) (E.held err.new) (shown_on M.state M.meaning mpc board.now) result }
+    ensures going { OnErr result (board.now.end ≡ None) }
     ensures cause { HasCause (E.faults err.old) (E.faults err.new) result }
 {
     if board.ended().is_some() {
@@ -57,7 +59,7 @@ fn watch_turns<M: Clocked, W: Watcher, S: Source, K: Sink, E: Sink>(
     ensures said { HasCause (E.faults err.old) (E.faults err.new) result }
 {
     'turns: while board.ended().is_none() {
-        let mpc = board.registers().mpc;
+        let mpc = board.mpc();
         board.turn(bound, source, sink);
         match show(board, mpc, watcher, err) {
             Ok(()) => {}

@@ -21,7 +21,8 @@ pub trait Watcher {
     ghost Says: { Kept → Cycle → List ℕ → Type 0 };
 
     fn see<E: Sink>(&mut self, cycle: &Cycle, err: &mut E) -> Result<(), SinkFailed>
-        requires { cycle.now.registers.mpc < 512 }
+        requires word { cycle.now.mpc < 512 }
+        requires next { cycle.now.registers.mpc < 512 }
         ensures keeps { kept self.new ≡ keeps (kept self.old) cycle.now }
         ensures says { (text : List ℕ) × Says (kept self.old) cycle.now text × Puts (E.held err.old) text result (E.held err.new) }
         ensures cause { HasCause (E.faults err.old) (E.faults err.new) result };

@@ -18,12 +18,12 @@ invariant-turns g l =
     let m = g.M.Clocked.meaning in
     record {
       watched : IsWatched state m l.bound g.W.Watcher.keeps g.W.Watcher.Says {E = SinkFailed} (g.S.Source.left l.fn.source) (g.K.Sink.held l.fn.sink) l.fn.board
-          (g.S.Source.left l.source) (g.K.Sink.held l.sink) l.board (g.W.Watcher.kept l.fn.watcher) (g.W.Watcher.kept l.watcher) (g.E.Sink.held l.fn.err) (g.E.Sink.held l.err) l.board.end (Ok tt);
+          (g.S.Source.left l.source) (g.K.Sink.held l.sink) l.board (g.W.Watcher.kept l.fn.watcher) (g.W.Watcher.kept l.watcher) (g.E.Sink.held l.fn.err) (g.E.Sink.held l.err) l.board.end (Ok (tt {0}));
       kept : (e : BusFault) → IsFault e → l.board.end ≡ Some (end_by e) → l.board.bus.console.kept ≡ [];
       keeps : (front : List ℕ) → Holds front (g.K.Sink.held l.fn.sink) → Holds front (g.K.Sink.held l.sink);
       flushed : l.board.end ≢ Some ends.WriteFault → StaysFlushed (g.K.Sink.held l.fn.sink) (g.K.Sink.passed l.fn.sink) (g.K.Sink.held l.sink) (g.K.Sink.passed l.sink);
       cause : HasEndCause (g.S.Source.faults l.fn.source) (g.S.Source.faults l.source) (g.K.Sink.faults l.fn.sink) (g.K.Sink.faults l.sink) None l.board.end;
-      said : HasCause {E = SinkFailed} (g.E.Sink.faults l.fn.err) (g.E.Sink.faults l.err) (Ok tt);
+      said : HasCause {E = SinkFailed} (g.E.Sink.faults l.fn.err) (g.E.Sink.faults l.err) (Ok (tt {0}));
       store : l.board.store ≡ l.fn.board.store;
       in_time : InTime (max l.bound (last_cycles l.fn.board.counts.boundary)) l.board.counts (m.is_boundary (state l.board.machine)) l.board.end;
     }
