@@ -5,6 +5,6 @@ pub mod lines;
 pub mod names;
 pub mod trace;
 
-pub use lines::{bus_line, cycle_line, state_line};
-pub use names::{instruction_text, print_word};
+pub use lines::{bus_line, cycle_line, state_lines};
+pub use names::{instruction_text, print_word, reached_at};
 pub use trace::Tracer;

@@ -90,7 +90,7 @@ pub fn print_word(
 }
 
 /// The reached instruction that begins at an address, if one does.
-fn reached_at(image: &VerifiedImage, at: u32) -> Option<Instr>
+pub fn reached_at(image: &VerifiedImage, at: u32) -> Option<Instr>
     ensures { IsReached image.now.image at result }
 {
     match image.kind_at(at) {

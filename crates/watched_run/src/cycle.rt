@@ -1,6 +1,6 @@
 //! One clocked cycle, as it is shown.
 
-ghost use Rattle.std.specs.Prelude.{◌≡◌, ◌<◌};
+ghost use Rattle.std.specs.Prelude.{◌≡◌, ◌<◌, is_some};
 ghost use Rattle.watched_run.specs.Cycles.{boundary_in, cycle_on};
 
 use mic_clock::{Board, Clocked, Computed, Counts, Drive, Registers};
@@ -37,6 +37,13 @@ pub fn cycle_of<M: Clocked>(board: &Board<M>, mpc: u16) -> Cycle
         registers: board.registers(),
         boundary: boundary_in(&counts),
     }
+}
+
+/// Whether the last cycle of a board reached a boundary.
+pub(crate) fn reached_boundary<M: Clocked>(board: &Board<M>) -> bool
+    ensures { result ≡ is_some (boundary_in board.now.counts) }
+{
+    boundary_in(&board.counts()).is_some()
 }
 
 /// The address of the last boundary, where the last cycle reached it.

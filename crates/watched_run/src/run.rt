@@ -9,7 +9,7 @@ ghost use Rattle.mic_clock.specs.Board.{HasEndCause};
 ghost use Rattle.watched_run.specs.Cycles.{shown_on};
 ghost use Rattle.watched_run.specs.Watched.{IsWatched, Saw, end_in, done};
 
-use crate::cycle::cycle_of;
+use crate::cycle::{cycle_of, reached_boundary};
 use crate::watcher::Watcher;
 use console_port::BusFault;
 use mic_base::{Sink, SinkFailed, Source};
@@ -28,6 +28,9 @@ fn show<M: Clocked, W: Watcher, E: Sink>(
     ensures cause { HasCause (E.faults err.old) (E.faults err.new) result }
 {
     if board.ended().is_some() {
+        return Ok(());
+    }
+    if !watcher.wants(reached_boundary(board)) {
         return Ok(());
     }
     watcher.see(&cycle_of(board, mpc), err)

@@ -1,6 +1,6 @@
 //! What sees the cycles of a run.
 
-ghost use Rattle.std.specs.Prelude.{◌≡◌, ◌<◌, ℕ, List};
+ghost use Rattle.std.specs.Prelude.{◌≡◌, ◌<◌, ℕ, List, [], false, is_some};
 ghost use Rattle.mic_base.specs.Causes.{HasCause};
 ghost use Rattle.mic_base.specs.Streams.{Puts};
 ghost use Rattle.watched_run.specs.declared.cycle.Cycle.{Cycle};
@@ -19,6 +19,13 @@ pub trait Watcher {
     ghost keeps: { Kept → Cycle → Kept };
 
     ghost Says: { Kept → Cycle → List ℕ → Type 0 };
+
+    /// Whether it has anything to do with cycles that reach a boundary, or with those that do not.
+    fn wants(&self, boundary: bool) -> bool
+        ensures { result ≡ false → (cycle : Cycle) → is_some cycle.boundary ≡ boundary → (keeps (kept self.now) cycle ≡ kept self.now) × Says (kept self.now) cycle [] }
+    {
+        true
+    }
 
     fn see<E: Sink>(&mut self, cycle: &Cycle, err: &mut E) -> Result<(), SinkFailed>
         requires word { cycle.now.mpc < 512 }

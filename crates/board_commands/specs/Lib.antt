@@ -1,0 +1,3 @@
+pub mod Reset
+pub mod Own
+pub mod Traced

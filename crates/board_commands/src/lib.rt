@@ -1,0 +1,10 @@
+//! The commands that clock a board with any microprogram and print what it does, for any clocked machine.
+#![tactic(auto)]
+
+mod microprogram;
+mod reset;
+mod trace;
+
+pub use microprogram::{Microprogram, NoMicroprogram, placed_microprogram, shipped_microprogram};
+pub use reset::reset_board;
+pub use trace::trace_program;
