@@ -1,3 +1,4 @@
 pub mod Reset
 pub mod Own
 pub mod Traced
+pub mod Over

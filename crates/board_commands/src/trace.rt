@@ -1,19 +1,17 @@
 //! The trace of an accepted program's run.
 
-ghost use Rattle.std.specs.Prelude.{◌≡◌, ◌≤◌, ◌<◌, ◌^◌, ◌++◌, ℕ, List, Option};
-ghost use Rattle.mic_base.specs.Causes.{HasCause};
-ghost use Rattle.mic_base.specs.Streams.{Puts};
-ghost use Rattle.mic_work.specs.Outside.{sink_of, source_of, Says};
+ghost use Rattle.std.specs.Prelude.{◌≡◌, ◌≤◌, ◌^◌};
+ghost use Rattle.mic_work.specs.Outside.{sink_of, source_of};
 ghost use Rattle.board_commands.specs.Traced.{IsTraced};
 
 use crate::microprogram::Microprogram;
+use crate::report::report_behind;
 use crate::reset::reset_board;
 use cycle_texts::Tracer;
 use ijvm_verifier::VerifiedImage;
 use mic_base::{Sink, Source};
 use mic_clock::Clocked;
-use mic_work::{Status, no_memory, say};
-use run_texts::{clocked_report, status_of};
+use mic_work::{Status, no_memory};
 use shipped_program::Loaded;
 use std::alloc::Global;
 use watched_run::run_watched;
@@ -56,11 +54,7 @@ pub fn trace_program<M: Clocked, S: Source, K: Sink, E: Sink>(
         buses,
     };
     match run_watched(&mut board, bound, &mut tracer, console, out, err) {
-        Ok(end) => {
-            let _next = board.mpc();
-            let line = clocked_report(end, &board.counts(), &board.registers());
-            say(err, line.bytes(), status_of(end))
-        }
+        Ok(end) => report_behind(Ok(()), end, &board, err),
         Err(_) => Status::SINK,
     }
 }

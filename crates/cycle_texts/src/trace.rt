@@ -3,7 +3,8 @@
 ghost use Rattle.std.specs.Prelude.{◌≡◌, ◌++◌, ℕ, List, Option};
 ghost use Rattle.mic_base.specs.Causes.{HasCause};
 ghost use Rattle.mic_base.specs.Streams.{Puts};
-ghost use Rattle.cycle_texts.specs.Naming.{IsInstruction};
+ghost use Rattle.store_placement.specs.Placement.{Places};
+ghost use Rattle.store_placement.specs.Program.{demands_of};
 ghost use Rattle.cycle_texts.specs.Lines.{AreLinesOf, IsBoundaryLine, Traced};
 
 use crate::lines::{cycle_line, state_lines};
@@ -11,7 +12,7 @@ use crate::names::instruction_text;
 use ijvm_verifier::VerifiedImage;
 use mal_parser::MalProgram;
 use mic_base::{Sink, SinkFailed};
-use mic_work::addressed;
+use mic_work::{addressed, put_after};
 use store_placement::Placement;
 use watched_run::{Cycle, Watcher};
 
@@ -23,22 +24,6 @@ pub struct Tracer<'a> {
     /// Whether the values on the buses are printed too.
     pub buses: bool,
     ghost placed: { Places (demands_of program.now) placement.now },
-}
-
-/// Puts a piece behind what was put, unless that failed.
-fn put_after<E: Sink>(
-    said: Result<(), SinkFailed>,
-    err: &mut E,
-    piece: &[u8],
-) -> Result<(), SinkFailed>
-    ensures puts { (old : Option (List ℕ)) (text : List ℕ) →
-        Puts old text said (E.held err.old) → Puts old (text ++ piece.now) result (E.held err.new) }
-    ensures cause { (before : ℕ) → HasCause before (E.faults err.old) said → HasCause before (E.faults err.new) result }
-{
-    match said {
-        Ok(()) => err.put(piece),
-        Err(failed) => Err(failed),
-    }
 }
 
 /// Puts the line of a boundary behind what was put, if one was reached.

@@ -1,8 +1,10 @@
 -- The rows of a profile: one for each instruction, in the table's order, and one for what is none.
-use Rattle.std.specs.Prelude.{◌≡◌, ◌==◌, ◌<◌, ℕ, List, if◌then◌else◌, Option, Some, None, codes, length, slice_get}
+use Rattle.std.specs.Prelude.{◌≡◌, ℕ, List, Option, Some, None, codes, length, option_map, slice_get, unwrap_or}
 use Rattle.ijvm_image.specs.Image.{ImageView}
 use Rattle.ijvm_instr.specs.declared.instr.Instr.{Instr}
 use Rattle.ijvm_instr.specs.declared.instr.Instr.TheVariants as instrs
+use Rattle.ijvm_instr.specs.Instructions.{name_of}
+use Rattle.run_profile.specs.declared.rows.TheConstants.{TABLE}
 use Rattle.cycle_texts.specs.Naming.{IsReached}
 
 -- the place of an instruction's row
@@ -38,35 +40,9 @@ row_number instrs.Halt = 25
 abbrev pub other : ℕ
 other = 26
 
-unfoldable pub row_name : ℕ → List ℕ
-row_name row =
-    if row == 0 then codes "NOP" else
-    if row == 1 then codes "BIPUSH" else
-    if row == 2 then codes "LDC_W" else
-    if row == 3 then codes "ILOAD" else
-    if row == 4 then codes "ISTORE" else
-    if row == 5 then codes "POP" else
-    if row == 6 then codes "DUP" else
-    if row == 7 then codes "SWAP" else
-    if row == 8 then codes "IADD" else
-    if row == 9 then codes "ISUB" else
-    if row == 10 then codes "IAND" else
-    if row == 11 then codes "IINC" else
-    if row == 12 then codes "IFEQ" else
-    if row == 13 then codes "IFLT" else
-    if row == 14 then codes "IF_ICMPEQ" else
-    if row == 15 then codes "GOTO" else
-    if row == 16 then codes "IRETURN" else
-    if row == 17 then codes "IOR" else
-    if row == 18 then codes "INVOKEVIRTUAL" else
-    if row == 19 then codes "WIDE ILOAD" else
-    if row == 20 then codes "WIDE ISTORE" else
-    if row == 21 then codes "WIDE IINC" else
-    if row == 22 then codes "IN" else
-    if row == 23 then codes "OUT" else
-    if row == 24 then codes "ERR" else
-    if row == 25 then codes "HALT" else
-    codes "?"
+-- the name of a row
+abbrev pub row_name : ℕ → List ℕ
+row_name row = unwrap_or (option_map name_of (slice_get TABLE row)) (codes "?")
 
 abbrev pub row_in : Option Instr → ℕ
 row_in (Some i) = row_number i
@@ -78,7 +54,7 @@ pub record IsRow (image : ImageView) (at row : ℕ) : Type 0 where
   pub reached : IsReached image at instr
   pub is : row ≡ row_in instr
 
--- the rows of the addresses of a text, in order
-pub record AreRows (image : ImageView) (rows : List ℕ) : Type 0 where
-  pub long : length rows ≡ length image.text
+-- the rows of so many addresses, from the first on
+pub record AreRows (image : ImageView) (count : ℕ) (rows : List ℕ) : Type 0 where
+  pub long : length rows ≡ count
   pub each : (at row : ℕ) → slice_get rows at ≡ Some row → IsRow image at row

@@ -1,12 +1,12 @@
 //! The rows of a profile: one for each instruction, in the table's order, and one for what is none.
 
-ghost use Rattle.std.specs.Prelude.{◌≡◌, ◌<◌, ◌≤◌, length, Some, IfOk, slice_get};
+ghost use Rattle.std.specs.Prelude.{◌≡◌, ◌≤◌, length, IfOk};
 ghost use Rattle.ijvm_instr.specs.declared.instr.Instr.{Instr};
 ghost use Rattle.ijvm_instr.specs.Instructions.{name_of};
 ghost use Rattle.run_profile.specs.Rows.{AreRows, IsRow, row_name, row_number};
 
 use cycle_texts::reached_at;
-use ijvm_instr::Instr;
+use ijvm_instr::{Instr, name};
 use ijvm_verifier::VerifiedImage;
 use std::alloc::{AllocError, Global};
 
@@ -15,6 +15,36 @@ pub const ROWS: usize = 27;
 
 /// The row of what is no reached instruction.
 pub const OTHER: u8 = 26;
+
+/// An instruction of each row but the last.
+pub const TABLE: [Instr; 26] = [
+    Instr::Nop,
+    Instr::Bipush(0),
+    Instr::LdcW(0),
+    Instr::Iload(0),
+    Instr::Istore(0),
+    Instr::Pop,
+    Instr::Dup,
+    Instr::Swap,
+    Instr::Iadd,
+    Instr::Isub,
+    Instr::Iand,
+    Instr::Iinc(0, 0),
+    Instr::Ifeq(0),
+    Instr::Iflt(0),
+    Instr::IfIcmpeq(0),
+    Instr::Goto(0),
+    Instr::Ireturn,
+    Instr::Ior,
+    Instr::Invokevirtual(0),
+    Instr::WideIload(0),
+    Instr::WideIstore(0),
+    Instr::WideIinc(0, 0),
+    Instr::In,
+    Instr::Out,
+    Instr::Err,
+    Instr::Halt,
+];
 
 /// The place of an instruction's row, from 0.
 fn row_number(instr: Instr) -> u8
@@ -55,34 +85,9 @@ pub fn row_name(row: usize) -> &'static str
     ensures name { result.now ≡ row_name row }
     ensures len { length result.now ≤ 13 }
 {
-    match row {
-        0 => "NOP",
-        1 => "BIPUSH",
-        2 => "LDC_W",
-        3 => "ILOAD",
-        4 => "ISTORE",
-        5 => "POP",
-        6 => "DUP",
-        7 => "SWAP",
-        8 => "IADD",
-        9 => "ISUB",
-        10 => "IAND",
-        11 => "IINC",
-        12 => "IFEQ",
-        13 => "IFLT",
-        14 => "IF_ICMPEQ",
-        15 => "GOTO",
-        16 => "IRETURN",
-        17 => "IOR",
-        18 => "INVOKEVIRTUAL",
-        19 => "WIDE ILOAD",
-        20 => "WIDE ISTORE",
-        21 => "WIDE IINC",
-        22 => "IN",
-        23 => "OUT",
-        24 => "ERR",
-        25 => "HALT",
-        _ => "?",
+    match TABLE.get(row) {
+        Some(instr) => name(*instr),
+        None => "?",
     }
 }
 
@@ -103,7 +108,7 @@ fn row_at(image: &VerifiedImage, at: u32) -> u8
 
 /// The row of each address of an image's text.
 pub fn rows_of(alloc: Global, image: &VerifiedImage) -> Result<Vec<u8>, AllocError>
-    ensures { IfOk result (λ rows. AreRows image.now.image rows.items) }
+    ensures { IfOk result (λ rows. AreRows image.now.image (length image.now.image.text) rows.items) }
 {
     let len = image.image().text().len() as u32;
     let mut rows = Vec::new(alloc);

@@ -9,23 +9,7 @@ use crate::profiler::{Profiler, Tally, complete};
 use crate::rows::row_name;
 use mic_base::{Line, Sink, SinkFailed};
 use mic_clock::{Counts, End};
-use mic_work::number;
-
-/// Puts a piece behind what was put, unless that failed.
-fn put_after<E: Sink>(
-    said: Result<(), SinkFailed>,
-    err: &mut E,
-    piece: &[u8],
-) -> Result<(), SinkFailed>
-    ensures puts { (old : Option (List ℕ)) (text : List ℕ) →
-        Puts old text said (E.held err.old) → Puts old (text ++ piece.now) result (E.held err.new) }
-    ensures cause { (before : ℕ) → HasCause before (E.faults err.old) said → HasCause before (E.faults err.new) result }
-{
-    match said {
-        Ok(()) => err.put(piece),
-        Err(failed) => Err(failed),
-    }
-}
+use mic_work::{number, put_after};
 
 /// A name and a number.
 fn line_of(name: &str, value: u64) -> Line
@@ -55,15 +39,15 @@ fn row_line(row: usize, tally: &Tally) -> Line
 
 /// Puts the lines of all rows behind what was put, unless that failed.
 fn put_rows<E: Sink>(
-    said: Result<(), SinkFailed>,
+    before: Result<(), SinkFailed>,
     err: &mut E,
     tallies: &[Tally],
 ) -> Result<(), SinkFailed>
     ensures puts { (old : Option (List ℕ)) (text : List ℕ) →
-        Puts old text said (E.held err.old) → Puts old (text ++ rows_text 0 tallies.now) result (E.held err.new) }
-    ensures cause { (before : ℕ) → HasCause before (E.faults err.old) said → HasCause before (E.faults err.new) result }
+        Puts old text before (E.held err.old) → Puts old (text ++ rows_text 0 tallies.now) result (E.held err.new) }
+    ensures cause { (count : ℕ) → HasCause count (E.faults err.old) before → HasCause count (E.faults err.new) result }
 {
-    let mut said = said;
+    let mut said = before;
     for (row, tally) in tallies.iter().enumerate() {
         said = put_after(said, err, row_line(row, tally).bytes());
     }
