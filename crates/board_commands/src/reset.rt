@@ -10,7 +10,7 @@ use micro_word::Store;
 use std::alloc::{AllocError, Global};
 
 /// A machine at its reset with this control store, and a verified image loaded. SP is the place before the first operand of main.
-pub fn reset_board<M: Clocked>(
+pub fn reset_board<M: Clocked + Drop>(
     alloc: Global,
     machine: M,
     store: Store,

@@ -17,7 +17,7 @@ use std::alloc::Global;
 use watched_run::run_watched;
 
 /// Clocks an accepted program with a microprogram to its end, prints the lines of each cycle as it is clocked, and reports.
-pub fn trace_program<M: Clocked, S: Source, K: Sink, E: Sink>(
+pub fn trace_program<M: Clocked + Drop, S: Source, K: Sink, E: Sink>(
     alloc: Global,
     machine: M,
     micro: Microprogram,

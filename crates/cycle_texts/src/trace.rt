@@ -17,6 +17,7 @@ use store_placement::Placement;
 use watched_run::{Cycle, Watcher};
 
 /// Prints each cycle that it sees.
+#[derive(Drop)]
 pub struct Tracer<'a> {
     pub program: &'a MalProgram,
     pub placement: &'a Placement,

@@ -1,11 +1,12 @@
 -- The profile of a run by its boundaries: at each boundary the instruction at the boundary before is completed, and what was clocked up to the first is boot.
-use Rattle.std.specs.Prelude.{ℕ, ◌+◌, ◌-◌, ◌^◌, ◌==◌, if◌then◌else◌, min, List, [], ◌∷◌, ◌++◌, Option, Some, None, codes, slice_get, slice_index_or, slice_set, unwrap_or}
+use Rattle.std.specs.Prelude.{◌≡◌, ℕ, ◌+◌, ◌-◌, ◌^◌, ◌==◌, if◌then◌else◌, min, List, [], ◌∷◌, ◌++◌, Option, Some, None, codes, replicate, slice_get, slice_set, unwrap_or}
 use Rattle.std.specs.Fmt.{decimal}
 use Rattle.mic_clock.specs.declared.counts.Boundary.{Boundary}
 use Rattle.mic_clock.specs.declared.counts.Counts.{Counts}
 use Rattle.mic_clock.specs.declared.end.End.{End}
 use Rattle.mic_clock.specs.Run.{completes}
 use Rattle.watched_run.specs.declared.cycle.Cycle.{Cycle}
+use Rattle.watched_run.specs.Watched.{kept_of}
 use Rattle.run_profile.specs.declared.profiler.Tally.{Tally}
 use Rattle.run_profile.specs.Rows.{other, row_name}
 
@@ -77,3 +78,15 @@ line_of name value = name ++ codes " " ++ decimal value ++ codes "\n"
 abbrev pub profile_text : Profile → End → Counts → List ℕ
 profile_text p e c =
     line_of (codes "boot") (boot_of p.last p.boot c.cycles) ++ rows_text 0 (tallies_at p e c.cycles) ++ line_of (codes "stalls") c.stalls
+
+-- before the first cycle
+abbrev pub start_profile : List ℕ → Profile
+start_profile rows = record { rows = rows; boot = 0; last = None; tallies = replicate 27 no_tally }
+
+-- nothing is said of a cycle
+abbrev pub Silent : Profile → Cycle → List ℕ → Type 0
+Silent p c text = text ≡ []
+
+-- the profile of these cycles
+abbrev pub profile_of : List ℕ → List Cycle → Profile
+profile_of rows cs = kept_of counted Silent (start_profile rows) cs

@@ -34,6 +34,7 @@ impl Tally {
 }
 
 /// The tallies of a run, by the rows of the addresses of its image.
+#[derive(Drop)]
 pub struct Profiler<'a> {
     pub rows: &'a [u8],
     pub boot: u64,
@@ -102,8 +103,7 @@ impl<'a> Profiler<'a> {
 }
 
 impl<'a> Watcher for Profiler<'a> {
-    ghost use Rattle.std.specs.Prelude.{◌≡◌, []};
-    ghost use Rattle.run_profile.specs.Profile.{Profile, counted};
+    ghost use Rattle.run_profile.specs.Profile.{Profile, Silent, counted};
 
     ghost Kept = { Profile };
 
@@ -111,7 +111,7 @@ impl<'a> Watcher for Profiler<'a> {
 
     ghost keeps = { counted };
 
-    ghost Says = { λ p c text. text ≡ [] };
+    ghost Says = { Silent };
 
     fn wants(&self, boundary: bool) -> bool {
         boundary

@@ -1,6 +1,6 @@
 //! The rows of a profile: one for each instruction, in the table's order, and one for what is none.
 
-ghost use Rattle.std.specs.Prelude.{◌≡◌, ◌≤◌, length, IfOk};
+ghost use Rattle.std.specs.Prelude.{◌≡◌, ◌≤◌, length, slice_get, IfOk};
 ghost use Rattle.ijvm_instr.specs.declared.instr.Instr.{Instr};
 ghost use Rattle.ijvm_instr.specs.Instructions.{name_of};
 ghost use Rattle.run_profile.specs.Rows.{AreRows, IsRow, row_name, row_number};
@@ -80,13 +80,20 @@ fn row_number(instr: Instr) -> u8
     }
 }
 
+/// An instruction of a row.
+fn instr_in(row: usize) -> Option<Instr>
+    ensures { result ≡ slice_get TABLE row }
+{
+    TABLE.get(row).copied()
+}
+
 /// The name of a row.
 pub fn row_name(row: usize) -> &'static str
     ensures name { result.now ≡ row_name row }
     ensures len { length result.now ≤ 13 }
 {
-    match TABLE.get(row) {
-        Some(instr) => name(*instr),
+    match instr_in(row) {
+        Some(instr) => name(instr),
         None => "?",
     }
 }

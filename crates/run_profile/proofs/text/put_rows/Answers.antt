@@ -22,3 +22,6 @@ returns-clause-puts g c = λ old text h.
     let so = c.loop-row.invariant.puts in
     let all = rows_end c.loop-row.row c.args.tallies.now so.0 _ c.loop-row-test.false so.1 in
     rw (← all) (so.2 old text h)
+
+pub returns-clause-cause : goal.returns-clause-cause
+returns-clause-cause g c = λ count h. c.loop-row.invariant.cause count h
