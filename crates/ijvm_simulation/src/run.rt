@@ -1,6 +1,6 @@
 //! The run of a verified image on a machine, from its reset to its end.
 
-ghost use Rattle.std.specs.Prelude.{◌≡◌, ◌≤◌, ◌^◌, ℕ, List, [], Option, Some, None, replicate, IfOk, OnErr, IsSome, false};
+ghost use Rattle.std.specs.Prelude.{◌≡◌, ◌<◌, ◌≤◌, ◌+◌, ◌-◌, ◌^◌, ℕ, List, [], length, Option, Some, None, replicate, IfOk, OnErr, IsSome, false};
 ghost use Rattle.console_port.specs.World.{World};
 ghost use Rattle.console_port.specs.Bus.{Shows};
 ghost use Rattle.console_port.specs.Loading.{IsLoaded};
@@ -24,6 +24,25 @@ fn is_image(text: &[u8], pool: &[u32])
     ensures { IsImage (record { text = text.now; pool = pool.now }) }
 {}
 
+/// Memory of a verified image's map with the image loaded, and a console that has been asked nothing.
+pub fn loaded_bus(alloc: Global, image: &VerifiedImage) -> Result<Bus, AllocError>
+    ensures words { IfOk result (λ bus. IsLoaded image.now.image.text image.now.image.pool (replicate image.now.map.stack_end 0) bus.words) }
+    ensures long { IfOk result (λ bus. 0 < length bus.words) }
+    ensures kept { IfOk result (λ bus. bus.console.kept ≡ []) }
+    ensures input { IfOk result (λ bus. bus.console.ended ≡ false) }
+{
+    let mut bus = Bus::new(alloc, image.map())?;
+    bus.load(image.image().text(), image.image().pool());
+    Ok(bus)
+}
+
+/// SP before the first operand of main.
+pub fn first_sp(image: &VerifiedImage) -> u32
+    ensures { result ≡ 0x8000 + image.now.main_locals - 1 }
+{
+    FRAME + image.main_locals() - 1
+}
+
 /// A machine at its reset, over the store that ships, with a verified image loaded.
 pub fn reset_board<I: Interpreter>(
     alloc: Global,
@@ -39,10 +58,8 @@ pub fn reset_board<I: Interpreter>(
     ensures end { IfOk result (λ board. board.end ≡ None) }
 {
     let store = I::store(alloc)?;
-    let mut bus = Bus::new(alloc, image.map())?;
-    bus.load(image.image().text(), image.image().pool());
-    let sp = FRAME + image.main_locals() - 1;
-    Ok(Board::new(I::machine(), store, I::entry(), sp, bus))
+    let bus = loaded_bus(alloc, image)?;
+    Ok(Board::new(I::machine(), store, I::entry(), first_sp(image), bus))
 }
 
 /// Runs a verified image on a machine, from its reset to its end. Want of memory is told before the first cycle.
