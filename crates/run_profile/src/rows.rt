@@ -80,11 +80,14 @@ fn row_number(instr: Instr) -> u8
     }
 }
 
-/// An instruction of a row.
-fn instr_in(row: usize) -> Option<Instr>
-    ensures { result ≡ slice_get TABLE row }
+/// The instruction at a place of a table.
+fn instr_in(table: &[Instr], row: usize) -> Option<Instr>
+    ensures { result ≡ slice_get table.now row }
 {
-    TABLE.get(row).copied()
+    match table.get(row) {
+        Some(instr) => Some(*instr),
+        None => None,
+    }
 }
 
 /// The name of a row.
@@ -92,7 +95,7 @@ pub fn row_name(row: usize) -> &'static str
     ensures name { result.now ≡ row_name row }
     ensures len { length result.now ≤ 13 }
 {
-    match instr_in(row) {
+    match instr_in(&TABLE, row) {
         Some(instr) => name(instr),
         None => "?",
     }
