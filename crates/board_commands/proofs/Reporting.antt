@@ -33,9 +33,9 @@ front_of_more old new p q h =
 pub says-behind : (old mid new : SinkState) (text rest : List ℕ) (code status : ℕ) → mid.held ≡ option_map (λ held. held ++ text) old.held → mid.faults ≡ old.faults →
     Says mid new rest code status → Says old new (text ++ rest) code status
 says-behind old mid new text rest code status put quiet (Said is got flushed same) =
-    Said is (puts_then {E = Unit {0}} old.held mid.held new.held text rest (Ok tt) put got) flushed (same ∙ quiet)
+    Said is (puts_then {E = Unit {0}} old.held mid.held new.held text rest (Ok (tt {0})) put got) flushed (same ∙ quiet)
 says-behind old mid new text rest code status put quiet (Unsaid is front rose) =
-    Unsaid is (puts_then {E = Unit {0}} old.held mid.held new.held text rest (Err tt) put front) (subst (λ (n : ℕ). Rose n new.faults) quiet rose)
+    Unsaid is (puts_then {E = Unit {0}} old.held mid.held new.held text rest (Err (tt {0})) put front) (subst (λ (n : ℕ). Rose n new.faults) quiet rose)
 
 -- nothing is said behind a text that was not put whole
 pub unsaid-behind : {E : Type 0} (old new : SinkState) (text rest : List ℕ) (code status : ℕ) (x : E) → Puts old.held text (Err x) new.held →
