@@ -1,8 +1,14 @@
 -- Why there is no microprogram, and where one begins.
-use Rattle.std.proofs.Common.{◌≡◌, ◌<◌, ◌≤◌, ℕ, List, length, get_or, Some, false, refl, subst, arith, inl, inr}
+use Rattle.std.proofs.Common.{◌≡◌, ◌<◌, ◌≤◌, ◌∙◌, ℕ, List, [], ◌∷◌, ◌++◌, length, get_or, Some, false, refl, ap, subst, arith, inl, inr}
+use Rattle.machine_words.specs.declared.machine.Machine.{Machine}
+use Rattle.machine_words.specs.declared.machine.Machine.TheVariants.{Mic1, Mic2}
+use Rattle.watched_run.specs.declared.cycle.Cycle.{Cycle}
+use Rattle.watched_run.specs.Watched.{SaysOf}
+use Rattle.run_profile.specs.Profile.{Profile, Silent, counted}
+use Rattle.shipped_program.specs.Listing.{program1, program2, program_of}
 use Rattle.std.proofs.lemmas.Bool.{cases_lt}
-use Rattle.std.proofs.lemmas.List.{get_or_past, length-map}
-use Rattle.std.specs.Prelude.{slice_index}
+use Rattle.std.proofs.lemmas.List.{append-nil, get_or_past, length-map}
+use Rattle.std.specs.Prelude.{Option, None, option_map, slice_index}
 use Rattle.mal_parser.specs.declared.error.MalError.{MalError}
 use Rattle.mal_parser.specs.declared.error.MalError.TheVariants as mal
 use Rattle.mal_parser.specs.declared.statement.Statement.{Statement}
@@ -57,3 +63,22 @@ entry_inside p l h = elim (cases_lt p.entry (length (demands_of p).fixed)) [
   | inl inside ↦ (let low = h.chosen.places.places.in_store p.entry inside in omega (arith, low, h.entry))
   | inr past ↦ (let none = get_or_past l.placement p.entry 0 (omega (arith, h.chosen.places.count, past)) in omega (arith, none, h.entry))
 ]
+
+-- each shipped microprogram is its machine's
+pub shipped_machine : (machine : Machine) (p : Program) → p ≡ program_of machine → p.machine ≡ machine
+unfolding program1 program2
+shipped_machine machine p e = ap (λ (q : Program). q.machine) e ∙ of_machine machine
+  where
+    of_machine : (machine : Machine) → (program_of machine).machine ≡ machine
+    of_machine Mic1 = refl
+    of_machine Mic2 = refl
+
+-- nothing was said of any cycle
+pub silent_says : (p : Profile) (cs : List Cycle) (text : List ℕ) → SaysOf counted Silent p cs text → text ≡ []
+silent_says p [] text h = h
+silent_says p (c ∷ cs) text h = h.4 ∙ (λ i. h.2 i ++ silent_says (counted p c) cs h.1 h.3 i)
+
+-- a sink that got nothing is as it was
+pub nothing_put : (old new : Option (List ℕ)) (text : List ℕ) → text ≡ [] → new ≡ option_map (λ held. held ++ text) old → new ≡ old
+nothing_put None new text none put = put
+nothing_put (Some held) new text none put = put ∙ ap (λ (t : List ℕ). Some (held ++ t)) none ∙ ap Some (append-nil held)

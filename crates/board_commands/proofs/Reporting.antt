@@ -3,7 +3,7 @@ use Rattle.std.proofs.Common.{◌≡◌, ℕ, ◌+◌, ◌≤◌, min, List, ◌
 use Rattle.std.specs.Option.{option_map}
 use Rattle.std.proofs.Math.Seq.{take-append-add}
 use Rattle.std.proofs.lemmas.List.{take_min, take-append-le}
-use Rattle.mic_base.specs.Causes.{HasCause, Rose}
+use Rattle.mic_base.specs.Causes.{Rose}
 use Rattle.mic_base.specs.Streams.{Puts}
 use Rattle.mic_work.specs.Status as exits
 use Rattle.mic_work.specs.Outside.{GotFront, Said, Says, SinkState, Unsaid}
@@ -39,5 +39,5 @@ says-behind old mid new text rest code status put quiet (Unsaid is front rose) =
 
 -- nothing is said behind a text that was not put whole
 pub unsaid-behind : {E : Type 0} (old new : SinkState) (text rest : List ℕ) (code status : ℕ) (x : E) → Puts old.held text (Err x) new.held →
-    HasCause {E = E} {T = Unit {0}} old.faults new.faults (Err x) → status ≡ exits.sink → Says old new (text ++ rest) code status
-unsaid-behind old new text rest code status x put cause is = Unsaid is (front_of_more old.held new.held text rest put) cause.failed
+    Rose old.faults new.faults → status ≡ exits.sink → Says old new (text ++ rest) code status
+unsaid-behind old new text rest code status x put rose is = Unsaid is (front_of_more old.held new.held text rest put) rose

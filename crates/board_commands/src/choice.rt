@@ -21,6 +21,7 @@ fn own_microprogram<F: Files, E: Sink>(
     err: &mut E,
 ) -> Result<Microprogram, Status>
     ensures ok { IfOk result (λ micro. IsOwn machine name.now (files_of F.contents F.faults files.old) micro.program) }
+    ensures machine { IfOk result (λ micro. micro.program.machine ≡ machine) }
     ensures same { IfOk result (λ micro. files_of F.contents F.faults files.new ≡ files_of F.contents F.faults files.old) }
     ensures silent { IfOk result (λ micro. err.new ≡ err.old) }
     ensures err { IfErr result (λ status. HasNoOwn machine name.now (files_of F.contents F.faults files.old) (files_of F.contents F.faults files.new)
@@ -48,6 +49,7 @@ pub fn chosen_microprogram<F: Files, E: Sink>(
     err: &mut E,
 ) -> Result<Microprogram, Status>
     ensures ok { IfOk result (λ micro. IsChosen machine (option_map (λ name. name.now) own.entry) (files_of F.contents F.faults files.old) micro.program) }
+    ensures machine { IfOk result (λ micro. micro.program.machine ≡ machine) }
     ensures same { IfOk result (λ micro. files_of F.contents F.faults files.new ≡ files_of F.contents F.faults files.old) }
     ensures silent { IfOk result (λ micro. err.new ≡ err.old) }
     ensures err { IfErr result (λ status. NoneChosen machine (option_map (λ name. name.now) own.entry) (files_of F.contents F.faults files.old) (files_of F.contents F.faults files.new)

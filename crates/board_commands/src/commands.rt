@@ -99,9 +99,7 @@ pub fn profile_file<M: Clocked + Drop, F: Files, S: Source, K: Sink, E: Sink>(
         Ok(micro) => micro,
         Err(status) => return status,
     };
-    profile_program(
-        alloc, machine, micro, &program, bound, console, out, err,
-    )
+    profile_program(alloc, machine, micro, &program, bound, console, out, err)
 }
 
 /// Reads a program and a microprogram, and runs one by the other.
@@ -141,7 +139,5 @@ pub fn run_file<M: Clocked + Drop, F: Files, S: Source, K: Sink, E: Sink>(
         Ok(micro) => micro,
         Err(status) => return status,
     };
-    run_program(
-        alloc, machine, micro, &program, bound, console, out, err,
-    )
+    run_program(alloc, machine, micro, &program, bound, console, out, err)
 }

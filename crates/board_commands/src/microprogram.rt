@@ -37,6 +37,7 @@ pub fn placed_microprogram(
 ) -> Result<Microprogram, NoMicroprogram>
     requires { length bytes.now < 2 ^ 32 }
     ensures ok { IfOk result (λ micro. Spells machine bytes.now micro.program) }
+    ensures machine { IfOk result (λ micro. micro.program.machine ≡ machine) }
     ensures err { IfErr result (IsNoMicroprogram machine bytes.now) }
 {
     let program = match parse_mal(alloc, machine, bytes) {
@@ -55,8 +56,10 @@ pub fn placed_microprogram(
 }
 
 /// The microprogram that ships for a machine.
+#[tactic(auto, using(crate::proofs::Micros::shipped_machine))]
 pub fn shipped_microprogram(alloc: Global, machine: Machine) -> Result<Microprogram, AllocError>
-    ensures { IfOk result (λ micro. micro.program ≡ program_of machine) }
+    ensures is { IfOk result (λ micro. micro.program ≡ program_of machine) }
+    ensures machine { IfOk result (λ micro. micro.program.machine ≡ machine) }
 {
     let program = shipped_program(alloc, machine)?;
     shipped_programs_are_listed();

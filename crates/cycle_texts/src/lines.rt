@@ -24,7 +24,13 @@ pub fn cycle_line(program: &MalProgram, placement: &Placement, cycle: &Cycle) ->
     line.text(" ");
     line.hex(u64::from(cycle.mpc), 3);
     line.text(" ");
-    print_word(program, placement, cycle.mpc, cycle.drive.stalled, &mut line);
+    print_word(
+        program,
+        placement,
+        cycle.mpc,
+        cycle.drive.stalled,
+        &mut line,
+    );
     line.text("\n");
     line
 }

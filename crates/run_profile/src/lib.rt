@@ -6,5 +6,5 @@ pub mod rows;
 pub mod text;
 
 pub use profiler::{Profiler, Tally};
-pub use rows::{rows_of, rows_law};
+pub use rows::{rows_law, rows_of};
 pub use text::put_profile;

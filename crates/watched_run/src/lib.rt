@@ -6,6 +6,5 @@ pub mod run;
 pub mod watcher;
 
 pub use cycle::{Cycle, cycle_of};
-
 pub use run::run_watched;
 pub use watcher::Watcher;

@@ -16,3 +16,6 @@ pub returns-in-Err-load_micro-clause-err : goal.returns-in-Err-load_micro-clause
 returns-in-Err-load_micro-clause-err c =
     NoPlacement c.in-Ok.program c.in-Err-load_micro.error c.in-Ok.ensures.ok
     ((c.in-Err-load_micro.ensures.err c.in-Err-load_micro.error).0 refl) c.place_reason.ensures
+
+pub returns-in-Ok-load_micro-clause-machine : goal.returns-in-Ok-load_micro-clause-machine
+returns-in-Ok-load_micro-clause-machine c = c.in-Ok.ensures.ok.makes.machine_is

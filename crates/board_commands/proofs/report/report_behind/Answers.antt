@@ -21,4 +21,4 @@ pub returns-in-Err : goal.returns-in-Err
 returns-in-Err g c = λ old text put cause.
     let new : SinkState = sink_of g.E.Sink.held g.E.Sink.passed g.E.Sink.faults c.args.err.now in
     unsaid-behind old new text (report_on g.M.Clocked.state g.M.Clocked.meaning c.args.end c.args.board.now) (status_of c.args.end) _ c.in-Err.field-0
-    (rw c.in-Err.is at put) (rw c.in-Err.is at cause) refl
+    (rw c.in-Err.is at put) (let failed = rw c.in-Err.is at cause in failed.failed) refl

@@ -1,20 +1,21 @@
-use Rattle.std.proofs.Common.{◌≡◌, ◌<◌, ◌∙◌, ℕ, List, Option, None, Some, refl, sym, ap, subst, rules}
-use Rattle.mic_work.specs.Outside.{Says, SinkState, sink_of}
-use Rattle.mic_clock.specs.declared.end.End.{End}
-use Rattle.mic_clock.specs.Board.{HasEndCause}
-use Rattle.run_texts.specs.Ends.{status_of}
-use Rattle.shipped_program.specs.Loaded.{IsLoaded}
-use Rattle.board_commands.specs.Traced.{IsFirst, report_on}
+use Rattle.std.proofs.Common.{refl}
+use Rattle.mic_work.specs.Outside.{SinkState, sink_of}
 use Rattle.board_commands.specs.Traced.{Stopped, Whole}
-use Rattle.board_commands.proofs.Micros.{entry_inside}
 use Rattle.board_commands.proofs.trace.trace_program.Goals as goal
 
-pub reset_board-requires-clause-machine : goal.reset_board-requires-clause-machine
-reset_board-requires-clause-machine g c =
-    let loaded : IsLoaded c.args.micro.program c.args.micro.loaded = search rules in
-    loaded.machine ∙ c.requires.machine
+pub returns-in-Ok-run_watched : goal.returns-in-Ok-run_watched
+returns-in-Ok-run_watched g c =
+    let old : SinkState = sink_of g.E.Sink.held g.E.Sink.passed g.E.Sink.faults c.args.err.now in
+    let watched = c.in-Ok-run_watched.ensures.watched in
+    let said = c.in-Ok-run_watched.ensures.said in
+    Whole c.args.micro.loaded c.in-Ok.board c.run_watched.new.board watched.cycles c.in-Ok-run_watched.end watched.saw.text
+    (record { loaded = c.args.micro.is_loaded; store = c.in-Ok.ensures.store; reset = c.in-Ok.ensures.reset })
+    watched.run c.in-Ok-run_watched.ensures.end c.in-Ok-run_watched.ensures.cause watched.saw.says
+    (c.report_behind.ensures old watched.saw.text watched.saw.said (record { later = said.later; failed = tt; quiet = said.quiet }))
 
-pub reset_board-requires-clause-entry : goal.reset_board-requires-clause-entry
-reset_board-requires-clause-entry g c =
-    let loaded : IsLoaded c.args.micro.program c.args.micro.loaded = search rules in
-    entry_inside c.args.micro.program c.args.micro.loaded loaded
+pub returns : goal.returns
+returns g c =
+    let watched = c.in-Err-run_watched.ensures.watched in
+    Stopped c.args.micro.loaded c.in-Ok.board c.run_watched.new.board watched.cycles watched.saw.text
+    (record { loaded = c.args.micro.is_loaded; store = c.in-Ok.ensures.store; reset = c.in-Ok.ensures.reset })
+    watched.run c.in-Err-run_watched.ensures.cause watched.saw.says watched.saw.said c.in-Err-run_watched.ensures.said.failed refl

@@ -12,8 +12,11 @@ loop-row-preserved g c =
     let so = c.loop-row.invariant.puts in
     let line = c.bytes.result.now in
     record {
-      puts = (so.0 ++ line, rows_step c.loop-row.row c.args.tallies.now no_tally so.0 _ line (omega arith) (c.bytes.ensures.value ∙ c.row_line.ensures) so.1,
-          λ old text h. rw (← append_assoc text so.0 line) (c.put_after-said.ensures.puts old (text ++ so.0) (so.2 old text h)));
+      puts = (
+        so.0 ++ line,
+        rows_step c.loop-row.row c.args.tallies.now no_tally so.0 _ line (omega arith) (c.bytes.ensures.value ∙ c.row_line.ensures) so.1,
+        λ old text h. rw (← append_assoc text so.0 line) (c.put_after-said.ensures.puts old (text ++ so.0) (so.2 old text h)),
+      );
       cause = λ count h. c.put_after-said.ensures.cause count (c.loop-row.invariant.cause count h);
     }
 
