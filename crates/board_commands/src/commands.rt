@@ -103,7 +103,7 @@ pub fn profile_file<M: Clocked + Drop, F: Files, S: Source, K: Sink, E: Sink>(
 }
 
 /// Reads a program and a microprogram, and runs one by the other.
-pub fn run_file<M: Clocked + Drop, F: Files, S: Source, K: Sink, E: Sink>(
+pub fn run_own_file<M: Clocked + Drop, F: Files, S: Source, K: Sink, E: Sink>(
     alloc: Global,
     machine: M,
     file: &str,

@@ -11,7 +11,7 @@ mod run;
 mod trace;
 
 pub use choice::chosen_microprogram;
-pub use commands::{profile_file, run_file, trace_file};
+pub use commands::{profile_file, run_own_file, trace_file};
 pub use microprogram::{Microprogram, NoMicroprogram, placed_microprogram, shipped_microprogram};
 pub use profile::profile_program;
 pub use reset::reset_board;

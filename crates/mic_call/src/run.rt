@@ -91,6 +91,7 @@ where
     match run_image::<I, S, K>(alloc, program, bound, console, out) {
         Ok(board) => {
             let end = board.ended().unwrap();
+            board.mpc();
             let line = clocked_report(end, &board.counts(), &board.registers());
             say(err, line.bytes(), status_of(end))
         }

@@ -8,7 +8,7 @@ ghost use Rattle.mic_call.specs.Ends.{Ends};
 
 use crate::run::run_file;
 use crate::usage::misused;
-use board_commands::{profile_file, trace_file};
+use board_commands::{profile_file, run_own_file, trace_file};
 use machine_words::Machine;
 use mic_base::{Files, Sink, Source};
 use mic_words::{Request, WordsError, read_words};
@@ -67,7 +67,7 @@ pub fn mic_main<F: Files, S: Source, K: Sink, E: Sink>(
                 map,
                 micro,
             },
-        ) => board_commands::run_file(
+        ) => run_own_file(
             alloc,
             Mic1::new(),
             file,

@@ -30,17 +30,37 @@ returns-in-Ok-Micro g c =
     asked_ends _ (Some (Micro c.in-Ok-Micro.mal.now c.in-Ok-Micro.store.now c.in-Ok-Micro.machine)) _ _ _ (c.in-Ok-Micro.ensures.asks ∙ ap (λ request. Some (asked request)) c.in-Ok-Micro.field-0-is)
     (record { console = refl; ends = c.micro.ensures })
 
-pub returns-in-Ok-RunOwn : goal.returns-in-Ok-RunOwn
-returns-in-Ok-RunOwn g c =
-    asked_ends _ (Some (RunOwn c.in-Ok-RunOwn.file.now Mic1 c.in-Ok-RunOwn.bound c.in-Ok-RunOwn.map c.in-Ok-RunOwn.micro.now)) _ _ _ (c.in-Ok-RunOwn.ensures.asks ∙ ap (λ request. Some (asked request)) c.in-Ok-RunOwn.field-0-is)
+pub returns-in-Ok-Run-default-Mic1-default-default : goal.returns-in-Ok-Run-default-Mic1-default-default
+returns-in-Ok-Run-default-Mic1-default-default g c =
+    let r = c.in-Ok-Run-default-Mic1-default-default in
+    asked_ends _ (Some (Run r.file.now Mic1 r.bound r.map)) _ _ _
+    (r.ensures.asks ∙ (ap (λ request. Some (asked request)) r.field-0-is ∙ ap (λ machine. Some (Run r.file.now machine r.bound r.map)) r.field-0-1-is))
     c.run_file.ensures
 
-pub returns-in-Ok-Trace : goal.returns-in-Ok-Trace
-returns-in-Ok-Trace g c =
-    asked_ends _ (Some (Trace c.in-Ok-Trace.file.now Mic1 c.in-Ok-Trace.bound c.in-Ok-Trace.map (option_map (λ micro. micro.now) c.in-Ok-Trace.micro) c.in-Ok-Trace.buses)) _ _ _ (c.in-Ok-Trace.ensures.asks ∙ ap (λ request. Some (asked request)) c.in-Ok-Trace.field-0-is)
+pub returns-in-Ok-PrintMicro-Some-default : goal.returns-in-Ok-PrintMicro-Some-default
+returns-in-Ok-PrintMicro-Some-default g c =
+    let p = c.in-Ok-PrintMicro-Some-default in
+    asked_ends _ (Some (PrintMicro (Some p.file.now) p.machine)) _ _ _
+    (p.ensures.asks ∙ (ap (λ request. Some (asked request)) p.field-0-is ∙ ap (λ file. Some (PrintMicro (option_map (λ f. f.now) file) p.machine)) p.field-0-0-is))
+    (record { console = refl; ends = c.print_micro.ensures })
+
+pub returns-in-Ok-RunOwn-default-Mic1-default-default-default : goal.returns-in-Ok-RunOwn-default-Mic1-default-default-default
+returns-in-Ok-RunOwn-default-Mic1-default-default-default g c =
+    let r = c.in-Ok-RunOwn-default-Mic1-default-default-default in
+    asked_ends _ (Some (RunOwn r.file.now Mic1 r.bound r.map r.micro.now)) _ _ _
+    (r.ensures.asks ∙ (ap (λ request. Some (asked request)) r.field-0-is ∙ ap (λ machine. Some (RunOwn r.file.now machine r.bound r.map r.micro.now)) r.field-0-1-is))
+    c.run_own_file.ensures
+
+pub returns-in-Ok-Trace-default-Mic1-default-default-default-default : goal.returns-in-Ok-Trace-default-Mic1-default-default-default-default
+returns-in-Ok-Trace-default-Mic1-default-default-default-default g c =
+    let r = c.in-Ok-Trace-default-Mic1-default-default-default-default in
+    asked_ends _ (Some (Trace r.file.now Mic1 r.bound r.map (option_map (λ micro. micro.now) r.micro) r.buses)) _ _ _
+    (r.ensures.asks ∙ (ap (λ request. Some (asked request)) r.field-0-is ∙ ap (λ machine. Some (Trace r.file.now machine r.bound r.map (option_map (λ micro. micro.now) r.micro) r.buses)) r.field-0-1-is))
     c.trace_file.ensures
 
-pub returns-in-Ok-Profile : goal.returns-in-Ok-Profile
-returns-in-Ok-Profile g c =
-    asked_ends _ (Some (Profile c.in-Ok-Profile.file.now Mic1 c.in-Ok-Profile.bound c.in-Ok-Profile.map (option_map (λ micro. micro.now) c.in-Ok-Profile.micro))) _ _ _ (c.in-Ok-Profile.ensures.asks ∙ ap (λ request. Some (asked request)) c.in-Ok-Profile.field-0-is)
+pub returns-in-Ok-Profile-default-Mic1-default-default-default : goal.returns-in-Ok-Profile-default-Mic1-default-default-default
+returns-in-Ok-Profile-default-Mic1-default-default-default g c =
+    let r = c.in-Ok-Profile-default-Mic1-default-default-default in
+    asked_ends _ (Some (Profile r.file.now Mic1 r.bound r.map (option_map (λ micro. micro.now) r.micro))) _ _ _
+    (r.ensures.asks ∙ (ap (λ request. Some (asked request)) r.field-0-is ∙ ap (λ machine. Some (Profile r.file.now machine r.bound r.map (option_map (λ micro. micro.now) r.micro))) r.field-0-1-is))
     c.profile_file.ensures

@@ -1,6 +1,6 @@
 use Rattle.std.proofs.Common.{◌∙◌, refl}
 use Rattle.board_commands.specs.Over.{Clocked, NoMicroprogram, Refused, Unread}
-use Rattle.board_commands.proofs.commands.run_file.Goals as goal
+use Rattle.board_commands.proofs.commands.run_own_file.Goals as goal
 
 pub returns-in-Err : goal.returns-in-Err
 returns-in-Err g c = Unread c.in-Err.ensures.unread refl refl
