@@ -23,7 +23,9 @@ returns-in-Ok-run_watched g c =
     λ i. record { rows = (c.new-profiler.ensures.rows ∙ c.deref.ensures.value) i; boot = c.new-profiler.ensures.boot i; last = c.new-profiler.ensures.last i; tallies = c.new-profiler.ensures.tallies i } in
     let counted_all = watched.saw.kept ∙ ap (λ (p : Profile). kept_of counted Silent p watched.cycles) begun in
     let held = nothing_put (g.E.Sink.held c.args.err.now) (g.E.Sink.held c.run_watched.new.err) watched.saw.text (silent_says _ watched.cycles watched.saw.text watched.saw.says) watched.saw.said in
-    let text : profile_text _ end c.counts.result ≡ profile_text (profile_of rows watched.cycles) end last.counts =
+    let profiler = c.run_watched.new.watcher in
+    let now : Profile = record { rows = profiler.rows.now; boot = profiler.boot; last = profiler.last; tallies = profiler.tallies } in
+    let text : profile_text now end c.counts.result ≡ profile_text (profile_of rows watched.cycles) end last.counts =
     λ i. profile_text (counted_all i) end (c.counts.ensures i) in
     let put = rw (text, held) at c.put_profile-said.ensures.puts in
     let cause = rw said.quiet at c.put_profile-said.ensures.cause in
