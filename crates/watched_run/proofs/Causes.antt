@@ -1,6 +1,6 @@
 -- Why a run failed.
-use Rattle.std.proofs.Common.{◌≡◌, ◌≤◌, ℕ, Option, Some, None, refl, sym, ◌∙◌, subst, arith}
-use Rattle.mic_base.specs.Causes.{HasCause, Rose}
+use Rattle.std.proofs.Common.{◌≡◌, ◌≤◌, ℕ, Option, Some, None, refl, subst, arith}
+use Rattle.mic_base.specs.Causes.{Rose}
 use Rattle.mic_clock.specs.declared.end.End.{End}
 use Rattle.mic_clock.specs.declared.end.End.TheVariants as ends
 use Rattle.mic_clock.specs.Board.{HasEndCause, NoFault}

@@ -1,19 +1,15 @@
 -- The cycles between boards of a run.
-use Rattle.std.proofs.Common.{◌≡◌, ◌≢◌, ◌≤◌, inl, inr, ℕ, zero, suc, ◌+◌, List, [], ◌∷◌, ◌++◌, Bool, if◌then◌else◌, Option, Some, None, IfErr, Result, Ok, Err, IsSome, refl, sym, ◌∙◌, ap, subst, take, drop, append_assoc}
-use Rattle.std.proofs.lemmas.List.{append-nil}
+use Rattle.std.proofs.Common.{◌≡◌, ◌≢◌, ◌≤◌, inr, ℕ, zero, suc, ◌+◌, List, [], ◌∷◌, ◌++◌, Bool, Option, Some, None, IsSome, refl, sym, ◌∙◌, ap, subst, take, drop, append_assoc}
 use Rattle.std.proofs.Math.ListN.{take-append-drop}
 use Rattle.std.specs.Prelude.{IfSome}
-use Rattle.console_port.specs.Bus.{Stands}
 use Rattle.console_port.specs.Console.{IsLost, Given, Untaken}
 use Rattle.mic_clock.specs.declared.counts.Counts.{Counts}
-use Rattle.mic_clock.specs.declared.buses.Drive.{Drive}
-use Rattle.mic_clock.specs.declared.buses.Computed.{Computed}
 use Rattle.mic_clock.specs.declared.end.End.{End}
 use Rattle.mic_clock.specs.declared.end.End.TheVariants as ends
 use Rattle.mic_clock.specs.Meaning.{Meaning}
 use Rattle.mic_clock.specs.View.{BoardView}
-use Rattle.mic_clock.specs.Run.{MicroRun, Buses, last_cycles, word_at, turn, turns, buses, bounded, buses_of, counts_after}
-use Rattle.mic_clock.specs.Board.{ShowsRun, ShowsAs, IsLedTo, IsCutByRead, IsCutByWrite, Leads, NoFault, IsReached, IsTurned, RunIsCutByRead, RunIsCutByWrite, EndsUncounted, IsCounted, ShowsBuses}
+use Rattle.mic_clock.specs.Run.{MicroRun, Buses, last_cycles, word_at, turn, turns, buses, bounded, buses_of}
+use Rattle.mic_clock.specs.Board.{ShowsRun, ShowsAs, IsLedTo, IsCutByRead, IsCutByWrite, Leads, NoFault, IsTurned, RunIsCutByRead, RunIsCutByWrite, EndsUncounted, IsCounted, ShowsBuses}
 use Rattle.watched_run.specs.declared.cycle.Cycle.{Cycle}
 use Rattle.watched_run.specs.Cycles.{shown_where, cycle_between, shown, cycles_of, boundary_in, boundary_of, cycle_on, shown_on}
 use Rattle.watched_run.specs.Watched.{LeadsOver, ShowsCycles}

@@ -1,10 +1,9 @@
 -- Turns of a run, and the cycles that they show.
-use Rattle.std.proofs.Common.{◌≡◌, ◌+◌, ◌≤◌, ◌∙◌, ap, zero, suc, zero-add, suc-add, add-zero, add-suc, ℕ, List, [], ◌∷◌, ◌++◌, length, length-append, append_assoc, Bool, true, false, if◌then◌else◌, Option, Some, None, refl, sym, subst, arith}
+use Rattle.std.proofs.Common.{◌≡◌, ◌+◌, ◌≤◌, ◌∙◌, ap, zero, suc, zero-add, suc-add, add-zero, add-suc, ℕ, List, [], ◌++◌, length, length-append, append_assoc, Bool, true, false, if◌then◌else◌, Option, Some, None, refl, sym, subst, arith}
 use Rattle.std.specs.Prelude.{nat_le}
 use Rattle.std.proofs.lemmas.List.{append-nil, nil_from_length}
 use Rattle.std.proofs.lemmas.Bool.{eq-eqb, ne_eqb}
 use Rattle.std.specs.Fn.{iterate}
-use Rattle.console_port.specs.World.{fault_of}
 use Rattle.mic_clock.specs.declared.counts.Boundary.{Boundary}
 use Rattle.mic_clock.specs.declared.counts.Counts.{Counts}
 use Rattle.mic_clock.specs.declared.end.End.{End}

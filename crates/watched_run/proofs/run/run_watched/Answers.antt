@@ -1,7 +1,6 @@
-use Rattle.std.proofs.Common.{◌≡◌, ◌≢◌, ℕ, [], Option, None, Some, IsSome, refl, sym, ap, subst, rules, arith}
+use Rattle.std.proofs.Common.{◌≡◌, [], Option, None, Some, ap, subst, rules}
 use Rattle.console_port.specs.declared.fault.BusFault.TheVariants as faults
 use Rattle.mic_clock.specs.declared.end.End.{End}
-use Rattle.mic_clock.specs.declared.end.End.TheVariants as ends
 use Rattle.mic_clock.specs.Board.{NoFault}
 use Rattle.watched_run.specs.Watched.{ShowsCycles}
 use Rattle.watched_run.proofs.Shown.{flush-done, flush-lost, no_fault}

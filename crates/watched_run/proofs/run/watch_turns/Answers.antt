@@ -1,7 +1,5 @@
-use Rattle.std.proofs.Common.{◌≡◌, ◌++◌, ◌∙◌, ℕ, max, List, [], Option, None, Some, Ok, Err, inl, refl, sym, ap, rules, arith}
-use Rattle.console_port.specs.declared.fault.BusFault.TheVariants as faults
+use Rattle.std.proofs.Common.{◌≡◌, ◌++◌, ◌∙◌, ℕ, max, List, [], None, Ok, Err, inl, refl, ap, rules, arith}
 use Rattle.micro_word.specs.ControlStore.{ControlStore}
-use Rattle.mic_clock.specs.declared.end.End.{End}
 use Rattle.mic_clock.specs.Run.{last_cycles, word_at}
 use Rattle.watched_run.specs.declared.cycle.Cycle.{Cycle}
 use Rattle.watched_run.specs.Cycles.{shown_on}
