@@ -1,0 +1,4 @@
+pub mod Accesses
+pub mod Keeps
+pub mod Facts
+pub mod Numbers

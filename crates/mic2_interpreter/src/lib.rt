@@ -1,0 +1,2 @@
+//! That Mic-2, with the microprogram that ships for it, interprets IJVM.
+#![tactic(auto)]
