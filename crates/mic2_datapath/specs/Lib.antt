@@ -1,0 +1,3 @@
+pub mod Micro
+pub mod Microstep
+pub mod Mic2

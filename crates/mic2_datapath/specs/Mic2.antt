@@ -1,0 +1,104 @@
+-- What Mic-2 means as a clocked machine: the microstep of the statement that a word spells.
+use Rattle.std.specs.Prelude.{◌≡◌, ◌≤◌, ℕ, ◌+◌, ◌==◌, Bool, true, false, if◌then◌else◌, List, None, length}
+use Rattle.console_port.specs.World.{World, byte_in}
+use Rattle.micro_word.specs.declared.statement.Placed.{Placed}
+use Rattle.machine_words.specs.declared.machine.Machine.TheVariants as machines
+use Rattle.micro_word.specs.Coding.{statement_of}
+use Rattle.machine_words.specs.Arithmetic.{before, is_negative}
+use Rattle.micro_word.specs.Operation.{shifted}
+use Rattle.mic_clock.specs.declared.buses.Drive.{Drive}
+use Rattle.mic_clock.specs.declared.buses.Computed.{Computed}
+use Rattle.mic_clock.specs.declared.registers.Registers.{Registers}
+use Rattle.mic_clock.specs.declared.registers.Start.{Start}
+use Rattle.mic_clock.specs.declared.registers.Tail.TheVariants.{Queue}
+use Rattle.mic_clock.specs.Meaning.{Meaning, Outcome}
+use Rattle.mic2_fetch_unit.specs.FetchUnit.{at_start}
+use Rattle.mic2_fetch_unit.specs.Place.{StandsAt}
+use Rattle.mic2_datapath.specs.Microstep.{source, result_of, is_stalled, microstep}
+use Rattle.mic2_datapath.specs.Micro.{Micro}
+
+unfoldable pub step_of_word : ℕ → Micro → World → Outcome Micro
+step_of_word word m w = microstep (statement_of machines.Mic2 word) m w
+
+-- the word at address 0 is pending
+abbrev pub initial : Start → Micro
+initial start =
+    record {
+      mar = 0;
+      mdr = 0;
+      pc = 0;
+      sp = start.sp;
+      lv = 0x8000;
+      cpp = 0x4000;
+      tos = 0;
+      opc = 0;
+      h = 0;
+      mpc = start.entry;
+      word = None;
+      unit = at_start start.first;
+      begins = false;
+    }
+
+abbrev pub registers_of : Micro → Registers
+registers_of m =
+    record {
+      mar = m.mar;
+      mdr = m.mdr;
+      pc = m.pc;
+      sp = m.sp;
+      lv = m.lv;
+      cpp = m.cpp;
+      tos = m.tos;
+      opc = m.opc;
+      h = m.h;
+      mpc = m.mpc;
+      tail = Queue (record { items = m.unit.bytes }) m.unit.imar;
+    }
+
+-- What is on the buses; in a stall nothing drives them.
+
+abbrev pub stalled_drive : Drive
+stalled_drive = record { a = 0; b = 0; stalled = true }
+
+abbrev pub driven_by : Placed → Micro → Drive
+driven_by s m = if is_stalled s m then stalled_drive else record { a = source s.part.a m; b = source s.part.b m; stalled = false }
+
+unfoldable pub driven : ℕ → Micro → Drive
+driven word m = driven_by (statement_of machines.Mic2 word) m
+
+-- the result with N and Z, and the shifted result
+
+abbrev pub stalled_value : Computed
+stalled_value = record { alu = record { value = 0; n = false; z = false }; c = 0 }
+
+abbrev pub value_of : Placed → ℕ → Computed
+value_of s x = record { alu = record { value = x; n = is_negative x; z = x == 0 }; c = shifted s.part.shift x }
+
+abbrev pub computed_by : Placed → Micro → Computed
+computed_by s m = if is_stalled s m then stalled_value else value_of s (result_of s.part m)
+
+unfoldable pub computed : ℕ → Micro → Computed
+computed word m = computed_by (statement_of machines.Mic2 word) m
+
+-- An instruction begins where the cycle before went to its first word. Its opcode was taken then: PC is one more than its address.
+abbrev pub mic2_meaning : Meaning Micro
+mic2_meaning =
+    record {
+      machine = machines.Mic2;
+      initial = initial;
+      step = step_of_word;
+      drives = driven;
+      computes = computed;
+      registers = registers_of;
+      is_boundary = λ m. m.begins;
+      address = λ m. before m.pc;
+    }
+
+-- what a Mic-2 has before the instruction at an address: PC behind its opcode, which is MPC, the unit there with at least two bytes, and no word under way
+pub record IsReady (main : ℕ) (words : List ℕ) (at : ℕ) (m : Micro) : Type 0 where
+  pub pc : m.pc ≡ at + 1
+  pub mpc : m.mpc ≡ byte_in words at
+  pub unit : StandsAt words (at + 1) m.unit
+  pub two : 2 ≤ length m.unit.bytes
+  pub begins : m.begins ≡ true
+  pub word : m.word ≡ None

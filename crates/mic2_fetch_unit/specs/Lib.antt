@@ -1,0 +1,2 @@
+pub mod FetchUnit
+pub mod Place
