@@ -27,6 +27,7 @@ use Rattle.mic2_datapath.specs.Mic2.{mic2_meaning, step_of_word, driven, driven_
 use Rattle.ijvm_simulation.specs.Stands.{IsMemory}
 use Rattle.ijvm_simulation.specs.Passes.{Moment, is_inside, outcome_at, stalls_at, last, onward, pass}
 use Rattle.mic2_interpreter.proofs.Accesses.{wrap_small}
+use Rattle.mic2_interpreter.proofs.Keeps.{memory_set}
 use Rattle.mic2_interpreter.proofs.Shipped.{shipped, HasStatements}
 use Rattle.mic2_interpreter.proofs.Units.{unit_at, bytes_from, have_after, byte_there, length-bytes, Fits, edge_stands, edge_allowed, jump_stands, jump_allowed}
 use Rattle.mic2_interpreter.proofs.Queue.{Held, Jumped, IsHeld, is_enough, held_after, held_fits, held_enough, held_edge, Beat, Goes, Waits, WaitsLate, WaitsOn, IsWait, held_waited, wait_short, wait_held}
@@ -156,8 +157,18 @@ abbrev have_behind : Bool → ℕ → ℕ → ℕ → ℕ
 have_behind true pc t have = 0
 have_behind false pc t have = have_after pc have t
 
--- `top` is the end of the memory, and `origin` holds its words below the stack.
-module _ (top : ℕ) (origin : List ℕ) where
+-- a write is no write below the stack
+abbrev pub IsAbove : Mem → ℕ → Type 0
+IsAbove Write at = 0x8000 ≤ at
+IsAbove Read at = Unit {0}
+IsAbove Idle at = Unit {0}
+
+-- `origin` has the memory's words when the run began.
+module _ (origin : List ℕ) where
+  -- the end of the memory
+  abbrev pub top : ℕ
+  top = length origin
+
   abbrev pub guided : Placed → List ℕ → Short → Short
   guided s gs t =
       let x = text_result origin s.part t.state in
@@ -176,7 +187,7 @@ module _ (top : ℕ) (origin : List ℕ) where
       (is_enough (demand s) t.queue ≡ true)
       × (memory_refusal top s.part.mem r.mar ≡ None)
       × (target s.next x (text_from origin t.state.pc (operand_bytes s.part)) ≡ next_of s.next gs)
-      × IsMemory origin (written top s.part.mem (ports_given r) t.world).words
+      × IsAbove s.part.mem r.mar
       × (t.state.pc < 0x1FF00)
       × (r.pc < 0x1FF00)
       × (nat_lt t.state.mpc 512 ≡ true)
@@ -185,7 +196,7 @@ module _ (top : ℕ) (origin : List ℕ) where
   waited b t = record { state = record t.state { begins = false }; queue = held_waited b; world = t.world; stalls = t.stalls + 1 }
 
   abbrev pub IsStall : Beat → Placed → Short → Type 0
-  IsStall b s t = IsWait b t.queue t.state.pc (demand s) × IsMemory origin t.world.words × (t.state.pc < 0x1FF00) × (nat_lt t.state.mpc 512 ≡ true)
+  IsStall b s t = IsWait b t.queue t.state.pc (demand s) × (t.state.pc < 0x1FF00) × (nat_lt t.state.mpc 512 ≡ true)
 
   abbrev pub step_of : Beat → Placed → List ℕ → Short → Short
   step_of Goes s gs t = guided s gs t
@@ -249,9 +260,19 @@ module _ (top : ℕ) (origin : List ℕ) where
   abbrev there_of : Placed → List ℕ → Short → ℕ → Moment Micro
   there_of s gs t have = moment_of origin (guided s gs t) (have_behind (jumps s.part) t.state.pc (demand s) have)
 
-  step-clear : (s : Placed) (gs : List ℕ) (t : Short) (have : ℕ) → 0x8000 ≤ top → length t.world.words ≡ top → IsHeld t.queue t.state.pc have → IsClear s gs t →
+  written-memory : (mem : Mem) (p : Ports) (w : World) → IsAbove mem p.mar → IsMemory origin w.words → IsMemory origin (written top mem p w).words
+  written-memory Write p w above h = memory_set origin w.words p.mar p.mdr above h
+  written-memory Read p w above h = h
+  written-memory Idle p w above h = h
+
+  sampled-memory : (mem : Mem) (p : Ports) (w : World) → IsMemory origin w.words → IsMemory origin (sampled top mem p w).words
+  sampled-memory Write p w h = h
+  sampled-memory Read p w h = h
+  sampled-memory Idle p w h = h
+
+  step-clear : (s : Placed) (gs : List ℕ) (t : Short) (have : ℕ) → 0x8000 ≤ top → IsMemory origin t.world.words → IsHeld t.queue t.state.pc have → IsClear s gs t →
       microstep s (standing origin t.state have) t.world ≡ Done (there_of s gs t have).state (there_of s gs t have).world
-  step-clear s gs t have map long held c =
+  step-clear s gs t have map ms held c =
       let m : Micro = t.state in
       let w : World = t.world in
       let x : ℕ = text_result origin s.part m in
@@ -265,28 +286,29 @@ module _ (top : ℕ) (origin : List ℕ) where
       let next : target s.next x (byte_at (unit_at origin m.pc have) (operand_bytes s.part)) ≡ next_of s.next gs = target_same s.next x _ _ byte ∙ c.2 in
       let after : unit_after (jumps s.part) (written top s.part.mem (ports_given (settled_by s x m)) w).words (settled_by s x m).pc (demand s) (unit_at origin m.pc have)
       ≡ unit_at origin (settled_by s x m).pc (have_behind (jumps s.part) m.pc (demand s) have) =
-      unit_is s m have x (written top s.part.mem (ports_given (settled_by s x m)) w).words (jumps s.part) refl les f.few c.3 c.4 c.5 in
+      unit_is s m have x (written top s.part.mem (ports_given (settled_by s x m)) w).words (jumps s.part) refl les f.few
+      (written-memory s.part.mem (ports_given (settled_by s x m)) w c.3 ms) c.4 c.5 in
       let stepped : (top' x' : ℕ) → Outcome Micro =
       λ top' x'. outcome (refusal_by top' s x' (standing origin m have))
       (clock_by top' s x' (target s.next x' (byte_at (unit_at origin m.pc have) (operand_bytes s.part)))
       (unit_after (jumps s.part) (written top' s.part.mem (ports_given (settled_by s x' m)) w).words (settled_by s x' m).pc (demand s) (unit_at origin m.pc have)) m w)
       (world_by top' s x' m w) in
       ap (λ (b : Bool). step_if b (length w.words) s (standing origin m have) w) (not_stalled s m have les)
-      ∙ (ap₂ stepped long same
+      ∙ (ap₂ stepped ms.long same
       ∙ (λ i. outcome (none i) (clock_by top s x (next i) (after i) m w) (world_by top s x m w)))
 
-  step-waits : (s : Placed) (b : Beat) (t : Short) (have : ℕ) → 0x8000 ≤ top → length t.world.words ≡ top → IsHeld t.queue t.state.pc have → IsStall b s t →
+  step-waits : (s : Placed) (b : Beat) (t : Short) (have : ℕ) → 0x8000 ≤ top → IsMemory origin t.world.words → IsHeld t.queue t.state.pc have → IsStall b s t →
       microstep s (standing origin t.state have) t.world ≡ Done (moment_of origin (waited b t) (have_after t.state.pc have 0)).state t.world
-  step-waits s b t have map long held c =
+  step-waits s b t have map ms held c =
       let m : Micro = t.state in
       let f : Fits m.pc have = held_fits t.queue m.pc have held in
       let short : have < demand s = wait_short b t.queue m.pc (demand s) have c.0 held in
-      let none : edge_refusal top 0 (unit_at origin m.pc have) ≡ None = edge_allowed top origin m.pc have 0 map (omega arith) f.few c.2 in
+      let none : edge_refusal top 0 (unit_at origin m.pc have) ≡ None = edge_allowed top origin m.pc have 0 map (omega arith) f.few c.1 in
       let same : m.pc + 0 ≡ m.pc = omega arith in
       let unit : edge t.world.words 0 (unit_at origin m.pc have) ≡ unit_at origin m.pc (have_after m.pc have 0) =
-      edge_stands origin t.world.words m.pc have 0 (omega arith) f.few c.1 c.2 ∙ ap (λ (p : ℕ). unit_at origin p (have_after m.pc have 0)) same in
+      edge_stands origin t.world.words m.pc have 0 (omega arith) f.few ms c.1 ∙ ap (λ (p : ℕ). unit_at origin p (have_after m.pc have 0)) same in
       ap (λ (k : Bool). step_if k (length t.world.words) s (standing origin m have) t.world) (is_short s m have short)
-      ∙ (ap (λ (n : ℕ). outcome (edge_refusal n 0 (unit_at origin m.pc have)) (stalled t.world.words (standing origin m have)) t.world) long
+      ∙ (ap (λ (n : ℕ). outcome (edge_refusal n 0 (unit_at origin m.pc have)) (stalled t.world.words (standing origin m have)) t.world) ms.long
       ∙ (λ i. outcome (none i) (record m { unit = unit i; begins = false }) t.world))
 
   held-guided : (s : Placed) (gs : List ℕ) (t : Short) (have : ℕ) → IsHeld t.queue t.state.pc have → IsClear s gs t →
@@ -303,29 +325,19 @@ module _ (top : ℕ) (origin : List ℕ) where
           subst (λ (p : ℕ). IsHeld (held_after (demand s) t.queue) p (have_after t.state.pc have (demand s))) (sym pc)
           (held_edge (demand s) t.queue t.state.pc have c.0 held)
 
-  written-long : (mem : Mem) (p : Ports) (w : World) → length (written top mem p w).words ≡ length w.words
-  written-long Write p w = length-set w.words p.mar p.mdr
-  written-long Read p w = refl
-  written-long Idle p w = refl
-
-  sampled-long : (mem : Mem) (p : Ports) (w : World) → length (sampled top mem p w).words ≡ length w.words
-  sampled-long Write p w = refl
-  sampled-long Read p w = refl
-  sampled-long Idle p w = refl
-
-  step-long : (b : Beat) (s : Placed) (gs : List ℕ) (t : Short) → length (step_of b s gs t).world.words ≡ length t.world.words
-  step-long Goes s gs t =
+  step-memory : (b : Beat) (s : Placed) (gs : List ℕ) (t : Short) → IsRight b s gs t → IsMemory origin t.world.words → IsMemory origin (step_of b s gs t).world.words
+  step-memory Goes s gs t c ms =
       let p = ports_given (settled_by s (text_result origin s.part t.state) t.state) in
-      sampled-long s.part.mem p (written top s.part.mem p t.world) ∙ written-long s.part.mem p t.world
-  step-long Waits s gs t = refl
-  step-long WaitsLate s gs t = refl
-  step-long WaitsOn s gs t = refl
+      sampled-memory s.part.mem p (written top s.part.mem p t.world) (written-memory s.part.mem p t.world c.3 ms)
+  step-memory Waits s gs t c ms = ms
+  step-memory WaitsLate s gs t c ms = ms
+  step-memory WaitsOn s gs t c ms = ms
 
   -- the refusal of a step that does not stall, where its memory access is refused
-  pub step-refused : (s : Placed) (t : Short) (have : ℕ) (why : Refusal) → length t.world.words ≡ top → IsHeld t.queue t.state.pc have → is_enough (demand s) t.queue ≡ true →
+  pub step-refused : (s : Placed) (t : Short) (have : ℕ) (why : Refusal) → IsMemory origin t.world.words → IsHeld t.queue t.state.pc have → is_enough (demand s) t.queue ≡ true →
       memory_refusal top s.part.mem (settled_by s (text_result origin s.part t.state) t.state).mar ≡ Some why →
       microstep s (standing origin t.state have) t.world ≡ Refused why
-  step-refused s t have why long held enough h =
+  step-refused s t have why ms held enough h =
       let m : Micro = t.state in
       let w : World = t.world in
       let x : ℕ = text_result origin s.part m in
@@ -334,7 +346,7 @@ module _ (top : ℕ) (origin : List ℕ) where
       let refused : (top' x' : ℕ) → Outcome Micro =
       λ top' x'. outcome (refusal_by top' s x' (standing origin m have)) (clock top' s (standing origin m have) w) (world_after top' s (standing origin m have) w) in
       ap (λ (b : Bool). step_if b (length w.words) s (standing origin m have) w) (not_stalled s m have les)
-      ∙ (ap₂ refused long same
+      ∙ (ap₂ refused ms.long same
       ∙ ap (λ (r : Option Refusal). outcome (first_refusal r (unit_refusal (jumps s.part) top (settled_by s x m).pc (demand s) (unit_at origin m.pc have)))
       (clock top s (standing origin m have) w) (world_after top s (standing origin m have) w)) h)
 
@@ -356,7 +368,7 @@ onward-inside : (program : List ℕ) (more : Moment Micro → Option (Moment Mic
 onward-inside program more p h = simp (h, onward)
 
 -- `program` has the words of a control store that holds the shipped microprogram.
-module _ (program : List ℕ) (has : HasStatements program) (top : ℕ) (map : 0x8000 ≤ top) (origin : List ℕ) where
+module _ (program : List ℕ) (has : HasStatements program) (origin : List ℕ) (map : 0x8000 ≤ length origin) where
   -- the outcome of the word at MPC is that of the shipped statement
   pub outcome_is : (p : Moment Micro) → p.state.mpc < 512 → outcome_at mic2_meaning program p ≡ microstep (shipped p.state.mpc) p.state p.world
   unfolding step_of_word
@@ -373,48 +385,48 @@ module _ (program : List ℕ) (has : HasStatements program) (top : ℕ) (map : 0
       by_stall true = refl
       by_stall false = refl
 
-  waits : (b : Beat) (t : Short) (have : ℕ) → length t.world.words ≡ top → IsHeld t.queue t.state.pc have → IsStall top origin b (shipped t.state.mpc) t →
-      Steps program origin (moment_of origin t have) (waited top origin b t)
-  waits b t have long held c =
+  waits : (b : Beat) (t : Short) (have : ℕ) → IsMemory origin t.world.words → IsHeld t.queue t.state.pc have → IsStall origin b (shipped t.state.mpc) t →
+      Steps program origin (moment_of origin t have) (waited origin b t)
+  waits b t have ms held c =
       let s : Placed = shipped t.state.mpc in
-      let clear : nat_lt t.state.mpc 512 ≡ true = c.3 in
+      let clear : nat_lt t.state.mpc 512 ≡ true = c.2 in
       let l : t.state.mpc < 512 = grind (arith, nat_tests) in
       let short : have < demand s = wait_short b t.queue t.state.pc (demand s) have c.0 held in
       record {
         have = have_after t.state.pc have 0;
-        done = outcome_is (moment_of origin t have) l ∙ step-waits top origin s b t have map long held c;
-        stalls = stalls_are (moment_of origin t have) true l (is_short top origin s t.state have short);
+        done = outcome_is (moment_of origin t have) l ∙ step-waits origin s b t have map ms held c;
+        stalls = stalls_are (moment_of origin t have) true l (is_short origin s t.state have short);
         held = wait_held b t.queue t.state.pc (demand s) have c.0 held;
       }
 
-  steps : (b : Beat) (gs : List ℕ) (t : Short) (have : ℕ) → length t.world.words ≡ top → IsHeld t.queue t.state.pc have → IsRight top origin b (shipped t.state.mpc) gs t →
-      Steps program origin (moment_of origin t have) (step_of top origin b (shipped t.state.mpc) gs t)
-  steps Goes gs t have long held c =
+  steps : (b : Beat) (gs : List ℕ) (t : Short) (have : ℕ) → IsMemory origin t.world.words → IsHeld t.queue t.state.pc have → IsRight origin b (shipped t.state.mpc) gs t →
+      Steps program origin (moment_of origin t have) (step_of origin b (shipped t.state.mpc) gs t)
+  steps Goes gs t have ms held c =
       let s : Placed = shipped t.state.mpc in
       let clear : nat_lt t.state.mpc 512 ≡ true = c.6 in
       let l : t.state.mpc < 512 = grind (arith, nat_tests) in
       let les : demand s ≤ have = held_enough (demand s) t.queue t.state.pc have c.0 held in
       record {
         have = have_behind (jumps s.part) t.state.pc (demand s) have;
-        done = outcome_is (moment_of origin t have) l ∙ step-clear top origin s gs t have map long held c;
-        stalls = stalls_are (moment_of origin t have) false l (not_stalled top origin s t.state have les) ∙ add-zero t.stalls;
-        held = held-guided top origin s gs t have held c;
+        done = outcome_is (moment_of origin t have) l ∙ step-clear origin s gs t have map ms held c;
+        stalls = stalls_are (moment_of origin t have) false l (not_stalled origin s t.state have les) ∙ add-zero t.stalls;
+        held = held-guided origin s gs t have held c;
       }
-  steps Waits gs t have long held c = waits Waits t have long held c
-  steps WaitsLate gs t have long held c = waits WaitsLate t have long held c
-  steps WaitsOn gs t have long held c = waits WaitsOn t have long held c
+  steps Waits gs t have ms held c = waits Waits t have ms held c
+  steps WaitsLate gs t have ms held c = waits WaitsLate t have ms held c
+  steps WaitsOn gs t have ms held c = waits WaitsOn t have ms held c
 
-  pub pass-clocked : (b : Beat) (bs : List Beat) (gs : List ℕ) (t : Short) (have : ℕ) → length t.world.words ≡ top → IsHeld t.queue t.state.pc have → IsSmooth top origin (b ∷ bs) gs t →
-      Arrives origin (pass mic2_meaning program (length bs) (moment_of origin t have)) (clocked top origin (b ∷ bs) gs t)
-  pass-clocked b [] gs t have long held h =
-      let a : Steps program origin (moment_of origin t have) (step_of top origin b (shipped t.state.mpc) gs t) = steps b gs t have long held h in
+  pub pass-clocked : (b : Beat) (bs : List Beat) (gs : List ℕ) (t : Short) (have : ℕ) → IsMemory origin t.world.words → IsHeld t.queue t.state.pc have → IsSmooth origin (b ∷ bs) gs t →
+      Arrives origin (pass mic2_meaning program (length bs) (moment_of origin t have)) (clocked origin (b ∷ bs) gs t)
+  pass-clocked b [] gs t have ms held h =
+      let a : Steps program origin (moment_of origin t have) (step_of origin b (shipped t.state.mpc) gs t) = steps b gs t have ms held h in
       record { have = a.have; is = ap₂ (last mic2_meaning program) a.stalls a.done; held = a.held }
-  pass-clocked b (c ∷ cs) gs t have long held h =
+  pass-clocked b (c ∷ cs) gs t have ms held h =
       let s : Placed = shipped t.state.mpc in
-      let u : Short = step_of top origin b s gs t in
-      let a : Steps program origin (moment_of origin t have) u = steps b gs t have long held h.0 in
-      let r : Arrives origin (pass mic2_meaning program (length cs) (moment_of origin u a.have)) (clocked top origin (c ∷ cs) (guesses_of top origin b s gs) u) =
-      pass-clocked c cs (guesses_of top origin b s gs) u a.have (step-long top origin b s gs t ∙ long) a.held h.2 in
+      let u : Short = step_of origin b s gs t in
+      let a : Steps program origin (moment_of origin t have) u = steps b gs t have ms held h.0 in
+      let r : Arrives origin (pass mic2_meaning program (length cs) (moment_of origin u a.have)) (clocked origin (c ∷ cs) (guesses_of origin b s gs) u) =
+      pass-clocked c cs (guesses_of origin b s gs) u a.have (step-memory origin b s gs t h.0 ms) a.held h.2 in
       record {
         have = r.have;
         is = ap₂ (onward mic2_meaning program (pass mic2_meaning program (length cs))) a.stalls a.done
