@@ -1,5 +1,5 @@
 -- What Mic-2 means as a clocked machine: the microstep of the statement that a word spells.
-use Rattle.std.specs.Prelude.{◌≡◌, ◌≤◌, ℕ, ◌+◌, ◌==◌, Bool, true, false, if◌then◌else◌, List, None, length}
+use Rattle.std.specs.Prelude.{◌≡◌, ◌<◌, ◌≤◌, ℕ, ◌+◌, ◌^◌, ◌==◌, Bool, true, false, if◌then◌else◌, List, None, length}
 use Rattle.console_port.specs.World.{World, byte_in}
 use Rattle.micro_word.specs.declared.statement.Placed.{Placed}
 use Rattle.machine_words.specs.declared.machine.Machine.TheVariants as machines
@@ -97,6 +97,7 @@ mic2_meaning =
 -- what a Mic-2 has before the instruction at an address: PC behind its opcode, which is MPC, the unit there with at least two bytes, and no word under way
 pub record IsReady (main : ℕ) (words : List ℕ) (at : ℕ) (m : Micro) : Type 0 where
   pub pc : m.pc ≡ at + 1
+  pub low : m.pc < 2 ^ 32
   pub mpc : m.mpc ≡ byte_in words at
   pub unit : StandsAt words (at + 1) m.unit
   pub two : 2 ≤ length m.unit.bytes
