@@ -355,6 +355,7 @@ pub record Arrives (origin : List ℕ) (run : Option (Moment Micro)) (t : Short)
   pub have : ℕ
   pub is : run ≡ Some (moment_of origin t have)
   pub held : IsHeld t.queue t.state.pc have
+  pub memory : IsMemory origin t.world.words
 
 -- a step leads from a moment to where the symbolic one leads
 record Steps (program origin : List ℕ) (p : Moment Micro) (t : Short) : Type 0 where
@@ -420,7 +421,7 @@ module _ (program : List ℕ) (has : HasStatements program) (origin : List ℕ) 
       Arrives origin (pass mic2_meaning program (length bs) (moment_of origin t have)) (clocked origin (b ∷ bs) gs t)
   pass-clocked b [] gs t have ms held h =
       let a : Steps program origin (moment_of origin t have) (step_of origin b (shipped t.state.mpc) gs t) = steps b gs t have ms held h in
-      record { have = a.have; is = ap₂ (last mic2_meaning program) a.stalls a.done; held = a.held }
+      record { have = a.have; is = ap₂ (last mic2_meaning program) a.stalls a.done; held = a.held; memory = step-memory origin b (shipped t.state.mpc) gs t h ms }
   pass-clocked b (c ∷ cs) gs t have ms held h =
       let s : Placed = shipped t.state.mpc in
       let u : Short = step_of origin b s gs t in
@@ -432,4 +433,5 @@ module _ (program : List ℕ) (has : HasStatements program) (origin : List ℕ) 
         is = ap₂ (onward mic2_meaning program (pass mic2_meaning program (length cs))) a.stalls a.done
             ∙ (onward-inside program (pass mic2_meaning program (length cs)) (moment_of origin u a.have) h.1 ∙ r.is);
         held = r.held;
+        memory = r.memory;
       }

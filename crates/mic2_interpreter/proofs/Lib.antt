@@ -6,3 +6,6 @@ pub mod Numbers
 pub mod Units
 pub mod Queue
 pub mod Guided
+pub mod Places
+pub mod Boundaries
+pub mod Boot
