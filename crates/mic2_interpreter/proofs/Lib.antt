@@ -9,3 +9,4 @@ pub mod Guided
 pub mod Places
 pub mod Boundaries
 pub mod Boot
+pub mod Operands
