@@ -151,3 +151,8 @@ pub signed_pair_is : (words : List ℕ) (p q : ℕ) {x y : ℕ} → x ≡ byte_i
 signed_pair_is words p q {x} {y} ex ey =
     ap₂ (λ (i : ℕ) (j : ℕ). bit_or (wrap (256 * signed_byte i)) j) ex ey
     ∙ signed_two (byte_in words p) (byte_in words q) (byte_bound words p) (byte_bound words q)
+
+-- the console is no word below the stack
+pub console_above : 0x8000 ≤ console
+unfolding wrap
+console_above = omega arith

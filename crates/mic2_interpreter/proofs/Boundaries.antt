@@ -1,9 +1,9 @@
 -- Mic-2 between two boundaries: what it knows at the one, and when a symbolic run comes to the next.
-use Rattle.std.proofs.Common.{◌≡◌, ℕ, zero, suc, ◌+◌, ◌<◌, ◌≤◌, ◌++◌, Some, None, true, false, List, [], ◌∷◌, length, arith, ◌∙◌, ap, sym, subst, inl, inr, refl, add-zero}
+use Rattle.std.proofs.Common.{◌≡◌, ℕ, zero, suc, ◌+◌, ◌*◌, ◌<◌, ◌≤◌, ◌++◌, Some, None, true, false, List, [], ◌∷◌, length, arith, ◌∙◌, ap, ap₂, sym, subst, inl, inr, refl, add-zero}
 use Rattle.std.specs.Prelude.{nat_lt, nat_le, ◌==◌}
 use Rattle.std.proofs.lemmas.Bool.Decides.{nat_tests}
 use Rattle.console_port.specs.World.{World, StackLimit, byte_in}
-use Rattle.machine_words.specs.Arithmetic.{wrap, plus, before}
+use Rattle.machine_words.specs.Arithmetic.{wrap, plus, before, signed_pair}
 use Rattle.ijvm_run.specs.Frames.{State}
 use Rattle.datapath.specs.Memory.{memory_refusal}
 use Rattle.mic2_fetch_unit.specs.FetchUnit.{Prefetch}
@@ -234,3 +234,11 @@ overruns program has o map s left q b bs gs code x h is no_halt no_err short smo
       untaken = untaken;
       given = given;
     }
+
+-- the number that the two bytes at a place make
+pub pair_at : (words : List ℕ) (x a b : ℕ) → Place words x a → a + 1 ≡ b → 256 * byte_in words x + byte_in words (x + 1) ≡ 256 * byte_in words a + byte_in words b
+pair_at words x a b p e = ap₂ (λ (i : ℕ) (j : ℕ). 256 * i + j) p.byte (p.second ∙ ap (byte_in words) e)
+
+-- and the signed one
+pub signed_pair_at : (words : List ℕ) (x a b : ℕ) → Place words x a → a + 1 ≡ b → signed_pair (byte_in words x) (byte_in words (x + 1)) ≡ signed_pair (byte_in words a) (byte_in words b)
+signed_pair_at words x a b p e = ap₂ signed_pair p.byte (p.second ∙ ap (byte_in words) e)

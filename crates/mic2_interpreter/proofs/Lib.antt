@@ -10,3 +10,6 @@ pub mod Places
 pub mod Boundaries
 pub mod Boot
 pub mod Operands
+pub mod Consoles
+pub mod Ends
+pub mod Jumps
