@@ -13,3 +13,4 @@ pub mod Operands
 pub mod Consoles
 pub mod Ends
 pub mod Jumps
+pub mod Locals
