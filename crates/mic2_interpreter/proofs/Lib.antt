@@ -14,3 +14,4 @@ pub mod Consoles
 pub mod Ends
 pub mod Jumps
 pub mod Locals
+pub mod Calls
