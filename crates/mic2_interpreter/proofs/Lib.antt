@@ -15,3 +15,6 @@ pub mod Ends
 pub mod Jumps
 pub mod Locals
 pub mod Calls
+pub mod Output
+pub mod Groups
+pub mod Store

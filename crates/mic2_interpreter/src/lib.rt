@@ -1,2 +1,4 @@
 //! That Mic-2, with the microprogram that ships for it, interprets IJVM.
 #![tactic(auto)]
+
+mod laws;

@@ -1,0 +1,48 @@
+//! What each group of instructions takes of Mic-2.
+
+ghost use Rattle.std.specs.Prelude.{◌≡◌, ℕ, List};
+ghost use Rattle.machine_words.specs.declared.machine.Machine.TheVariants.{Mic2};
+ghost use Rattle.mic2_datapath.specs.Mic2.{mic2_meaning};
+ghost use Rattle.ijvm_paths.specs.Accepted.{VerifiedView};
+ghost use Rattle.shipped_program.specs.Shipped.{HasShipped};
+ghost use Rattle.ijvm_simulation.specs.Stands.{Origin};
+ghost use Rattle.ijvm_simulation.specs.Verified.{Loads};
+ghost use Rattle.ijvm_simulation.specs.Law.{Takes, Ends};
+ghost use Rattle.mic2_interpreter.specs.Stands.{Stands};
+ghost use Rattle.mic2_interpreter.specs.Groups.{IsOfOperands, IsOfLocals, IsOfConsole, IsJump, IsCall};
+
+/// The instructions on the operands alone.
+pub(crate) fn operands_law()
+    ensures { (store : List ℕ) (o : Origin) (v : VerifiedView) → HasShipped Mic2 store → Loads v o →
+        Takes mic2_meaning store (Stands o) o.given v o IsOfOperands }
+{}
+
+/// IN and OUT.
+pub(crate) fn consoles_law()
+    ensures { (store : List ℕ) (o : Origin) (v : VerifiedView) → HasShipped Mic2 store → Loads v o →
+        Takes mic2_meaning store (Stands o) o.given v o IsOfConsole }
+{}
+
+/// The jumps and branches.
+pub(crate) fn jumps_law()
+    ensures { (store : List ℕ) (o : Origin) (v : VerifiedView) → HasShipped Mic2 store → Loads v o →
+        Takes mic2_meaning store (Stands o) o.given v o IsJump }
+{}
+
+/// The instructions that name a local or a constant.
+pub(crate) fn locals_law()
+    ensures { (store : List ℕ) (o : Origin) (v : VerifiedView) → HasShipped Mic2 store → Loads v o →
+        Takes mic2_meaning store (Stands o) o.given v o IsOfLocals }
+{}
+
+/// Calls and returns.
+pub(crate) fn calls_law()
+    ensures { (store : List ℕ) (o : Origin) (v : VerifiedView) → HasShipped Mic2 store → Loads v o →
+        Takes mic2_meaning store (Stands o) o.given v o IsCall }
+{}
+
+/// HALT and ERR.
+pub(crate) fn ends_law()
+    ensures { (store : List ℕ) (o : Origin) (v : VerifiedView) → HasShipped Mic2 store → Loads v o →
+        Ends mic2_meaning store (Stands o) o.given v o }
+{}
