@@ -10,6 +10,7 @@ use Rattle.mic2_datapath.specs.Micro.{Micro}
 use Rattle.mic2_datapath.specs.Mic2.{mic2_meaning}
 use Rattle.ijvm_run.specs.Frames.{start_of}
 use Rattle.mic2_interpreter.specs.Stands.{Stands}
+use Rattle.mic2_interpreter.specs.Stalls.{BootsWithStall}
 use Rattle.mic2_interpreter.proofs.Shipped.{HasStatements}
 use Rattle.mic2_interpreter.proofs.Accesses.{IsMap}
 use Rattle.mic2_interpreter.proofs.Units.{unit_at}
@@ -74,10 +75,14 @@ module _ (program : List ℕ) (has : HasStatements program) (o : Origin) (v : Ve
         stalls = refl;
       }
 
-  pub boots : Boots mic2_meaning program (Stands o) o.given start (start_of v.main_locals input)
+  pub boots : BootsWithStall program o v input
   boots =
       let c : Comes program o 1 1 start (start_of v.main_locals input) = boot in
       record {
-        off = refl;
         moves = record { n = 1; spent_is = refl; short = omega arith; begins = record { no_halt = refl; no_err = refl }; there = c.to; passes = c.passes; stands = c.stands };
+        stalled = c.stalls;
       }
+
+  -- a reset is no boundary
+  pub boots_off : Boots mic2_meaning program (Stands o) o.given start (start_of v.main_locals input)
+  boots_off = record { off = refl; moves = boots.moves }

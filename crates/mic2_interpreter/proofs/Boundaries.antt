@@ -17,6 +17,7 @@ use Rattle.ijvm_run.specs.Cost.{cost}
 use Rattle.ijvm_paths.specs.Accepted.{VerifiedView}
 use Rattle.ijvm_simulation.specs.Verified.{Loads}
 use Rattle.mic2_interpreter.specs.Stands.{Stands}
+use Rattle.mic2_interpreter.specs.Stalls.{MovesWithStalls}
 use Rattle.mic2_interpreter.proofs.Shipped.{shipped, HasStatements}
 use Rattle.mic2_interpreter.proofs.Units.{unit_at}
 use Rattle.mic2_interpreter.proofs.Queue.{Held, AtLeast, IsHeld, Bounds, is_enough, Beat, Goes}
@@ -25,7 +26,7 @@ use Rattle.mic2_interpreter.proofs.Guided.{Short, standing, moment_of, settled_b
 use Rattle.mic2_interpreter.proofs.Accesses.{IsMap, wrap_small, before_is}
 use Rattle.ijvm_simulation.specs.Stands.{Origin, Holds, IsMemory}
 use Rattle.ijvm_simulation.specs.Passes.{Moment, is_inside, pass}
-use Rattle.ijvm_simulation.specs.Law.{Shows, HasWord, Moves, Overruns}
+use Rattle.ijvm_simulation.specs.Law.{Shows, HasWord, Overruns}
 
 -- so many steps, none of which stalls
 abbrev pub steps : ℕ → List Beat
@@ -188,16 +189,19 @@ begins o s m w code h is no_halt no_err =
 module _ (program : List ℕ) (o : Origin) (v : VerifiedView) where
   -- a pass to the next boundary, where it takes the instruction's cycles
   pub moves : (s to a : State) (q : Moment Micro) (i : Instr) (n waits code : ℕ) → Stands o s q.state q.world → byte_in o.words s.at ≡ code → (code == 255) ≡ false → (code == 254) ≡ false →
-      cost v.image Mic2 i s ≡ n + 1 → n < 1024 → a ≡ to → Comes program o n waits q a → Moves mic2_meaning program (Stands o) o.given q (cost v.image Mic2 i s) to
+      cost v.image Mic2 i s ≡ n + 1 → n < 1024 → a ≡ to → Comes program o n waits q a → MovesWithStalls program o q (cost v.image Mic2 i s) waits to
   moves s to a q i n waits code h is no_halt no_err spent short same c =
       record {
-        n = n;
-        spent_is = spent;
-        short = short;
-        begins = begins o s q.state q.world code h is no_halt no_err;
-        there = c.to;
-        passes = c.passes;
-        stands = subst (λ (t : State). Stands o t c.to.state c.to.world) same c.stands;
+        moves = record {
+          n = n;
+          spent_is = spent;
+          short = short;
+          begins = begins o s q.state q.world code h is no_halt no_err;
+          there = c.to;
+          passes = c.passes;
+          stands = subst (λ (t : State). Stands o t c.to.state c.to.world) same c.stands;
+        };
+        stalled = c.stalls;
       }
 
 -- the next step of a symbolic state does not stall, and its access is refused

@@ -22,8 +22,9 @@ use Rattle.ijvm_simulation.specs.Stands.{Origin, OperandsAt, IsLinked, FramesSta
 use Rattle.ijvm_simulation.specs.Passes.{Moment}
 use Rattle.ijvm_simulation.specs.Outcomes.{Went, Overran}
 use Rattle.ijvm_simulation.specs.Verified.{Loads, Fine, IsNext}
-use Rattle.ijvm_simulation.specs.Law.{Moves, Overruns, Takes}
+use Rattle.ijvm_simulation.specs.Law.{Overruns}
 use Rattle.mic2_interpreter.specs.Stands.{Stands}
+use Rattle.mic2_interpreter.specs.Stalls.{MovesWithStalls, TakesWithStalls, stalls_of}
 use Rattle.mic2_interpreter.specs.Groups.{IsCall}
 use Rattle.mic2_interpreter.proofs.Shipped.{HasStatements}
 use Rattle.mic2_interpreter.proofs.Accesses.{IsMap, Access, access, next_is, write_limit, plus_is, minus_is, byte_bound, given_ok}
@@ -187,8 +188,8 @@ abbrev plan : Bool → List Beat → List Beat
 plan false bs = Goes ∷ Goes ∷ Waits ∷ bs
 plan true bs = Goes ∷ Goes ∷ WaitsLate ∷ WaitsOn ∷ bs
 
-abbrev stalls_of : Bool → ℕ
-stalls_of late = if late then 2 else 1
+abbrev stalls_of_call : Bool → ℕ
+stalls_of_call late = if late then 2 else 1
 
 module _ (program : List ℕ) (has : HasStatements program) (o : Origin) (map : IsMap (length o.words)) (s : State) (m : Micro) (w : World) (k : ℕ) (h : Stands o s m w) (inside : s.at < 0x10000) where
   ireturn : (y r : ℕ) (rest : List ℕ) (f : Frame) (fs : List Frame) → byte_in o.words s.at ≡ 0xAC → s.running.operands ≡ y ∷ rest → s.running.back ≡ Some r → s.callers ≡ f ∷ fs → r < 0x10000 →
@@ -279,7 +280,7 @@ module _ (program : List ℕ) (has : HasStatements program) (o : Origin) (map : 
 
   invoke : (i e more : ℕ) (ps : List ℕ) (x : ℕ) (rest : List ℕ) (late : Bool) → (e % 4 == 3) ≡ late → byte_in o.words s.at ≡ 0xB6 → Entering o s m w i e (length ps) more rest → e + 4 < 0x10000 →
       s.running.operands ≡ ps ++ x ∷ rest → place s rest + length ps + 1 + more + 1 < length o.words →
-      Comes program o (length (plan late (steps 8))) (stalls_of late) (record { state = m; world = w; stalls = k })
+      Comes program o (length (plan late (steps 8))) (stalls_of_call late) (record { state = m; world = w; stalls = k })
       (record s { running = called ps more (s.at + 3); callers = with_operands s rest ∷ s.callers; at = e + 4 })
   invoke i e more ps x rest false remainder code en text ops space =
       let c : Counts o s m = counts o s m w h inside in
@@ -428,14 +429,18 @@ module _ (program : List ℕ) (has : HasStatements program) (o : Origin) (v : Ve
 
   -- the cycles of a call by its entry
   invoked : (s to : State) (q : Moment Micro) (k e : ℕ) (late : Bool) (a : State) → Stands o s q.state q.world → byte_in o.words s.at ≡ 0xB6 → slice_index v.image.pool k ≡ e → (e % 4 == 3) ≡ late → a ≡ to →
-      Comes program o (length (plan late (steps 8))) (stalls_of late) q a → Moves mic2_meaning program (Stands o) o.given q (cost v.image Mic2 (Invokevirtual k) s) to
+      Comes program o (length (plan late (steps 8))) (stalls_of_call late) q a → MovesWithStalls program o q (cost v.image Mic2 (Invokevirtual k) s) (stalls_of v.image (Invokevirtual k)) to
   invoked s to q k e false a h code named late same c =
-      moves program o v s to a q (Invokevirtual k) 11 1 0xB6 h code refl refl (ap (λ (b : Bool). if b then 13 else 12) (ap (λ (j : ℕ). j % 4 == 3) named ∙ late)) (omega arith) same c
+      let early : (slice_index v.image.pool k % 4 == 3) ≡ false = ap (λ (j : ℕ). j % 4 == 3) named ∙ late in
+      subst (λ (n : ℕ). MovesWithStalls program o q (cost v.image Mic2 (Invokevirtual k) s) n to) (sym (ap (λ (b : Bool). stalls_of_call b) early))
+      (moves program o v s to a q (Invokevirtual k) 11 1 0xB6 h code refl refl (ap (λ (b : Bool). if b then 13 else 12) early) (omega arith) same c)
   invoked s to q k e true a h code named late same c =
-      moves program o v s to a q (Invokevirtual k) 12 2 0xB6 h code refl refl (ap (λ (b : Bool). if b then 13 else 12) (ap (λ (j : ℕ). j % 4 == 3) named ∙ late)) (omega arith) same c
+      let later : (slice_index v.image.pool k % 4 == 3) ≡ true = ap (λ (j : ℕ). j % 4 == 3) named ∙ late in
+      subst (λ (n : ℕ). MovesWithStalls program o q (cost v.image Mic2 (Invokevirtual k) s) n to) (sym (ap (λ (b : Bool). stalls_of_call b) later))
+      (moves program o v s to a q (Invokevirtual k) 12 2 0xB6 h code refl refl (ap (λ (b : Bool). if b then 13 else 12) later) (omega arith) same c)
 
   goes : (s to : State) (q : Moment Micro) (i : Instr) → IsCall i → Fine v s → IsNext v o s i → Stands o s q.state q.world → Went v.image v.map.stack_end s to i →
-      Moves mic2_meaning program (Stands o) o.given q (cost v.image Mic2 i s) to
+      MovesWithStalls program o q (cost v.image Mic2 i s) (stalls_of v.image i) to
   goes s to q Ireturn is fine n h went =
       let r = n.finds.returns refl in
       let same : r.0 ≡ went.back = some_same r.0 went.back (sym r.3 ∙ went.back_is) in
@@ -515,5 +520,5 @@ module _ (program : List ℕ) (has : HasStatements program) (o : Origin) (v : Ve
       ]
   limits s left q i is fine n h over = absurd is
 
-  pub calls : Takes mic2_meaning program (Stands o) o.given v o IsCall
+  pub calls : TakesWithStalls program o v IsCall
   calls = record { goes = goes; limits = limits }

@@ -16,8 +16,9 @@ use Rattle.ijvm_simulation.specs.Stands.{Origin}
 use Rattle.ijvm_simulation.specs.Passes.{Moment}
 use Rattle.ijvm_simulation.specs.Outcomes.{Went, Overran, push}
 use Rattle.ijvm_simulation.specs.Verified.{Loads, Fine, IsNext}
-use Rattle.ijvm_simulation.specs.Law.{Moves, Overruns, Takes}
+use Rattle.ijvm_simulation.specs.Law.{Overruns}
 use Rattle.mic2_interpreter.specs.Stands.{Stands}
+use Rattle.mic2_interpreter.specs.Stalls.{MovesWithStalls, TakesWithStalls, stalls_of}
 use Rattle.mic2_interpreter.specs.Groups.{IsOfConsole}
 use Rattle.mic2_interpreter.proofs.Shipped.{HasStatements}
 use Rattle.mic2_interpreter.proofs.Accesses.{IsMap, Access, next_is, write_limit, Port, console, port, console_above}
@@ -68,7 +69,7 @@ module _ (program : List ℕ) (has : HasStatements program) (o : Origin) (v : Ve
   inside s i n = omega (arith, n.begins, loads.image.limits.text_fits)
 
   goes : (s to : State) (q : Moment Micro) (i : Instr) → IsOfConsole i → Fine v s → IsNext v o s i → Stands o s q.state q.world → Went v.image v.map.stack_end s to i →
-      Moves mic2_meaning program (Stands o) o.given q (cost v.image Mic2 i s) to
+      MovesWithStalls program o q (cost v.image Mic2 i s) (stalls_of v.image i) to
   goes s to q In is fine n h went =
       moves program o v s to _ q In 4 0 0xFC h n.reads refl refl refl (omega arith) went.goes (inp program has o map s q.state q.world q.stalls h (inside s In n) n.reads (omega (arith, went.fits, loads.long)))
   goes s to q Out is fine n h went =
@@ -89,5 +90,5 @@ module _ (program : List ℕ) (has : HasStatements program) (o : Origin) (v : Ve
   limits s left q Out is fine n h over = absurd over
   limits s left q i is fine n h over = absurd is
 
-  pub consoles : Takes mic2_meaning program (Stands o) o.given v o IsOfConsole
+  pub consoles : TakesWithStalls program o v IsOfConsole
   consoles = record { goes = goes; limits = limits }

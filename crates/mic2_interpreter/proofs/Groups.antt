@@ -13,17 +13,18 @@ use Rattle.ijvm_simulation.specs.Stands.{Origin}
 use Rattle.ijvm_simulation.specs.Passes.{Moment}
 use Rattle.ijvm_simulation.specs.Outcomes.{Went, Overran}
 use Rattle.ijvm_simulation.specs.Verified.{Fine, IsNext}
-use Rattle.ijvm_simulation.specs.Law.{Moves, Overruns, Takes}
+use Rattle.ijvm_simulation.specs.Law.{Overruns, Takes}
 use Rattle.mic2_interpreter.specs.Stands.{Stands}
+use Rattle.mic2_interpreter.specs.Stalls.{MovesWithStalls, TakesWithStalls, stalls_of}
 use Rattle.mic2_interpreter.specs.Groups.{IsOfOperands, IsOfLocals, IsJump, IsCall, IsOfConsole}
 
 module _ (program : List ℕ) (o : Origin) (v : VerifiedView) where
   abbrev Of : (Instr → Type 0) → Type 0
-  Of Has = Takes mic2_meaning program (Stands o) o.given v o Has
+  Of Has = TakesWithStalls program o v Has
 
   module _ (operands : Of IsOfOperands) (locals : Of IsOfLocals) (jumps : Of IsJump) (calls : Of IsCall) (consoles : Of IsOfConsole) where
     goes : (s to : State) (q : Moment Micro) (i : Instr) → Fine v s → IsNext v o s i → Stands o s q.state q.world → Went v.image v.map.stack_end s to i →
-        Moves mic2_meaning program (Stands o) o.given q (cost v.image Mic2 i s) to
+        MovesWithStalls program o q (cost v.image Mic2 i s) (stalls_of v.image i) to
     goes s to q Nop = operands.goes s to q Nop tt
     goes s to q (Bipush b) = operands.goes s to q (Bipush b) tt
     goes s to q (LdcW k) = locals.goes s to q (LdcW k) tt
@@ -64,3 +65,7 @@ module _ (program : List ℕ) (o : Origin) (v : VerifiedView) where
 
     pub takes : Of (λ i. Unit {0})
     takes = record { goes = λ s to q i any. goes s to q i; limits = λ s left q i any. limits s left q i }
+
+-- without their stalls
+pub without_stalls : (program : List ℕ) (o : Origin) (v : VerifiedView) → TakesWithStalls program o v (λ i. Unit {0}) → Takes mic2_meaning program (Stands o) o.given v o (λ i. Unit {0})
+without_stalls program o v takes = record { goes = λ s to q i any fine n h went. (takes.goes s to q i any fine n h went).moves; limits = takes.limits }

@@ -20,8 +20,9 @@ use Rattle.ijvm_simulation.specs.Stands.{Origin}
 use Rattle.ijvm_simulation.specs.Passes.{Moment}
 use Rattle.ijvm_simulation.specs.Outcomes.{Went, Overran}
 use Rattle.ijvm_simulation.specs.Verified.{Loads, Fine, IsNext}
-use Rattle.ijvm_simulation.specs.Law.{Moves, Overruns, Takes}
+use Rattle.ijvm_simulation.specs.Law.{Overruns}
 use Rattle.mic2_interpreter.specs.Stands.{Stands}
+use Rattle.mic2_interpreter.specs.Stalls.{MovesWithStalls, TakesWithStalls, stalls_of}
 use Rattle.mic2_interpreter.specs.Groups.{IsJump}
 use Rattle.mic2_interpreter.proofs.Shipped.{HasStatements}
 use Rattle.mic2_interpreter.proofs.Accesses.{IsMap, Access, before_is, byte_bound, plus_comm}
@@ -186,7 +187,7 @@ module _ (program : List ℕ) (has : HasStatements program) (o : Origin) (v : Ve
   branched : (s to : State) (q : Moment Micro) (i : Instr) (z : ℤ) (t : Bool) (rest : List ℕ) (code : ℕ) → Stands o s q.state q.world → byte_in o.words s.at ≡ code → (code == 255) ≡ false → (code == 254) ≡ false → jump o.words s.at ≡ target s.at z →
       moved s rest (way s.at z t) ≡ to → (t ≡ true → cost v.image Mic2 i s ≡ 8) → (t ≡ false → cost v.image Mic2 i s ≡ 6) →
       (t ≡ true → Comes program o 7 0 q (moved s rest (jump o.words s.at))) → (t ≡ false → Comes program o 5 0 q (moved s rest (s.at + 3))) →
-      Moves mic2_meaning program (Stands o) o.given q (cost v.image Mic2 i s) to
+      MovesWithStalls program o q (cost v.image Mic2 i s) 0 to
   branched s to q i z true rest code h is no_halt no_err e same jumps_in falls_in taken not =
       moves program o v s to _ q i 7 0 code h is no_halt no_err (jumps_in refl) (omega arith) (ap (moved s rest) e ∙ same) (taken refl)
   branched s to q i z false rest code h is no_halt no_err e same jumps_in falls_in taken not =
@@ -196,14 +197,14 @@ module _ (program : List ℕ) (has : HasStatements program) (o : Origin) (v : Ve
   compared : (s to : State) (q : Moment Micro) (i : Instr) (z : ℤ) (t : Bool) (rest : List ℕ) (code : ℕ) → Stands o s q.state q.world → byte_in o.words s.at ≡ code → (code == 255) ≡ false → (code == 254) ≡ false → jump o.words s.at ≡ target s.at z →
       moved s rest (way s.at z t) ≡ to → (t ≡ true → cost v.image Mic2 i s ≡ 10) → (t ≡ false → cost v.image Mic2 i s ≡ 8) →
       (t ≡ true → Comes program o 9 0 q (moved s rest (jump o.words s.at))) → (t ≡ false → Comes program o 7 0 q (moved s rest (s.at + 3))) →
-      Moves mic2_meaning program (Stands o) o.given q (cost v.image Mic2 i s) to
+      MovesWithStalls program o q (cost v.image Mic2 i s) 0 to
   compared s to q i z true rest code h is no_halt no_err e same jumps_in falls_in taken not =
       moves program o v s to _ q i 9 0 code h is no_halt no_err (jumps_in refl) (omega arith) (ap (moved s rest) e ∙ same) (taken refl)
   compared s to q i z false rest code h is no_halt no_err e same jumps_in falls_in taken not =
       moves program o v s to _ q i 7 0 code h is no_halt no_err (falls_in refl) (omega arith) same (not refl)
 
   goes : (s to : State) (q : Moment Micro) (i : Instr) → IsJump i → Fine v s → IsNext v o s i → Stands o s q.state q.world → Went v.image v.map.stack_end s to i →
-      Moves mic2_meaning program (Stands o) o.given q (cost v.image Mic2 i s) to
+      MovesWithStalls program o q (cost v.image Mic2 i s) (stalls_of v.image i) to
   goes s to q (Goto z) is fine n h went =
       let e : jump o.words s.at ≡ target s.at z = target_is s z n.reads.1 in
       let there : jump o.words s.at < 0x10000 = target_inside s z e (n.finds.inside (target s.at z) (inr (z, refl, refl))) in
@@ -246,5 +247,5 @@ module _ (program : List ℕ) (has : HasStatements program) (o : Origin) (v : Ve
   limits s left q (IfIcmpeq z) is fine n h over = absurd over
   limits s left q i is fine n h over = absurd is
 
-  pub jumping : Takes mic2_meaning program (Stands o) o.given v o IsJump
+  pub jumping : TakesWithStalls program o v IsJump
   jumping = record { goes = goes; limits = limits }

@@ -19,8 +19,9 @@ use Rattle.ijvm_simulation.specs.Stands.{Origin, FramesStand, IsMemory, IsTop}
 use Rattle.ijvm_simulation.specs.Passes.{Moment}
 use Rattle.ijvm_simulation.specs.Outcomes.{Went, Overran, push}
 use Rattle.ijvm_simulation.specs.Verified.{Loads, Fine, IsNext}
-use Rattle.ijvm_simulation.specs.Law.{Moves, Overruns, Takes}
+use Rattle.ijvm_simulation.specs.Law.{Overruns}
 use Rattle.mic2_interpreter.specs.Stands.{Stands}
+use Rattle.mic2_interpreter.specs.Stalls.{MovesWithStalls, TakesWithStalls, stalls_of}
 use Rattle.mic2_interpreter.specs.Groups.{IsOfLocals}
 use Rattle.mic2_interpreter.proofs.Shipped.{HasStatements}
 use Rattle.mic2_interpreter.proofs.Accesses.{IsMap, Access, access, next_is, write_limit, plus_is, byte_bound}
@@ -255,7 +256,7 @@ module _ (program : List ℕ) (has : HasStatements program) (o : Origin) (v : Ve
       record { small = omega (arith, loads.image.limits.pool_fits); there = loads.pool k l ∙ get_or_from_slice_get v.image.pool k x 0 e }
 
   goes : (s to : State) (q : Moment Micro) (i : Instr) → IsOfLocals i → Fine v s → IsNext v o s i → Stands o s q.state q.world → Went v.image v.map.stack_end s to i →
-      Moves mic2_meaning program (Stands o) o.given q (cost v.image Mic2 i s) to
+      MovesWithStalls program o q (cost v.image Mic2 i s) (stalls_of v.image i) to
   goes s to q (LdcW k) is fine n h went =
       let c : Constant k went.value = constant k went.value went.found in
       moves program o v s to _ q (LdcW k) 2 0 0x13 h n.reads.0 refl refl refl (omega arith) went.leads.goes
@@ -327,5 +328,5 @@ module _ (program : List ℕ) (has : HasStatements program) (o : Origin) (v : Ve
   limits s left q (WideIinc k z) is fine n h over = absurd over
   limits s left q i is fine n h over = absurd is
 
-  pub locals : Takes mic2_meaning program (Stands o) o.given v o IsOfLocals
+  pub locals : TakesWithStalls program o v IsOfLocals
   locals = record { goes = goes; limits = limits }

@@ -20,8 +20,9 @@ use Rattle.ijvm_simulation.specs.Stands.{Origin, FramesStand, IsMemory}
 use Rattle.ijvm_simulation.specs.Passes.{Moment}
 use Rattle.ijvm_simulation.specs.Outcomes.{Went, Overran, push}
 use Rattle.ijvm_simulation.specs.Verified.{Loads, Fine, IsNext}
-use Rattle.ijvm_simulation.specs.Law.{Moves, Overruns, Takes}
+use Rattle.ijvm_simulation.specs.Law.{Overruns}
 use Rattle.mic2_interpreter.specs.Stands.{Stands}
+use Rattle.mic2_interpreter.specs.Stalls.{MovesWithStalls, TakesWithStalls, stalls_of}
 use Rattle.mic2_interpreter.specs.Groups.{IsOfOperands}
 use Rattle.mic2_interpreter.proofs.Shipped.{HasStatements}
 use Rattle.mic2_interpreter.proofs.Accesses.{IsMap, Access, access, next_is, write_limit, given_ok, byte_bound}
@@ -203,7 +204,7 @@ module _ (program : List ℕ) (has : HasStatements program) (o : Origin) (v : Ve
   inside s i n = omega (arith, n.begins, loads.image.limits.text_fits)
 
   goes : (s to : State) (q : Moment Micro) (i : Instr) → IsOfOperands i → Fine v s → IsNext v o s i → Stands o s q.state q.world → Went v.image v.map.stack_end s to i →
-      Moves mic2_meaning program (Stands o) o.given q (cost v.image Mic2 i s) to
+      MovesWithStalls program o q (cost v.image Mic2 i s) (stalls_of v.image i) to
   goes s to q Nop is fine n h went = moves program o v s to _ q Nop 0 0 0x00 h n.reads refl refl refl (omega arith) went (nop program has o map s q.state q.world q.stalls h (inside s Nop n) n.reads)
   goes s to q (Bipush b) is fine n h went =
       let word : signed_byte (byte_in o.words (s.at + 1)) ≡ word_of b = sym (byte_word (byte_in o.words (s.at + 1)) (byte_bound o.words (s.at + 1))) ∙ ap word_of (sym n.reads.1) in
@@ -257,5 +258,5 @@ module _ (program : List ℕ) (has : HasStatements program) (o : Origin) (v : Ve
   limits s left q Ior is fine n h over = absurd over
   limits s left q i is fine n h over = absurd is
 
-  pub operands : Takes mic2_meaning program (Stands o) o.given v o IsOfOperands
+  pub operands : TakesWithStalls program o v IsOfOperands
   operands = record { goes = goes; limits = limits }

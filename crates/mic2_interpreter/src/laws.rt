@@ -1,4 +1,4 @@
-//! What each group of instructions takes of Mic-2.
+//! What each instruction takes of Mic-2, with its stalls.
 
 ghost use Rattle.std.specs.Prelude.{◌≡◌, ℕ, List};
 ghost use Rattle.machine_words.specs.declared.machine.Machine.TheVariants.{Mic2};
@@ -7,38 +7,39 @@ ghost use Rattle.ijvm_paths.specs.Accepted.{VerifiedView};
 ghost use Rattle.shipped_program.specs.Shipped.{HasShipped};
 ghost use Rattle.ijvm_simulation.specs.Stands.{Origin};
 ghost use Rattle.ijvm_simulation.specs.Verified.{Loads};
-ghost use Rattle.ijvm_simulation.specs.Law.{Takes, Ends};
+ghost use Rattle.ijvm_simulation.specs.Law.{Ends};
 ghost use Rattle.mic2_interpreter.specs.Stands.{Stands};
+ghost use Rattle.mic2_interpreter.specs.Stalls.{TakesWithStalls, BootsWithStall};
 ghost use Rattle.mic2_interpreter.specs.Groups.{IsOfOperands, IsOfLocals, IsOfConsole, IsJump, IsCall};
 
 /// The instructions on the operands alone.
 pub(crate) fn operands_law()
     ensures { (store : List ℕ) (o : Origin) (v : VerifiedView) → HasShipped Mic2 store → Loads v o →
-        Takes mic2_meaning store (Stands o) o.given v o IsOfOperands }
+        TakesWithStalls store o v IsOfOperands }
 {}
 
 /// IN and OUT.
 pub(crate) fn consoles_law()
     ensures { (store : List ℕ) (o : Origin) (v : VerifiedView) → HasShipped Mic2 store → Loads v o →
-        Takes mic2_meaning store (Stands o) o.given v o IsOfConsole }
+        TakesWithStalls store o v IsOfConsole }
 {}
 
 /// The jumps and branches.
 pub(crate) fn jumps_law()
     ensures { (store : List ℕ) (o : Origin) (v : VerifiedView) → HasShipped Mic2 store → Loads v o →
-        Takes mic2_meaning store (Stands o) o.given v o IsJump }
+        TakesWithStalls store o v IsJump }
 {}
 
 /// The instructions that name a local or a constant.
 pub(crate) fn locals_law()
     ensures { (store : List ℕ) (o : Origin) (v : VerifiedView) → HasShipped Mic2 store → Loads v o →
-        Takes mic2_meaning store (Stands o) o.given v o IsOfLocals }
+        TakesWithStalls store o v IsOfLocals }
 {}
 
 /// Calls and returns.
 pub(crate) fn calls_law()
     ensures { (store : List ℕ) (o : Origin) (v : VerifiedView) → HasShipped Mic2 store → Loads v o →
-        Takes mic2_meaning store (Stands o) o.given v o IsCall }
+        TakesWithStalls store o v IsCall }
 {}
 
 /// HALT and ERR.
@@ -46,3 +47,15 @@ pub(crate) fn ends_law()
     ensures { (store : List ℕ) (o : Origin) (v : VerifiedView) → HasShipped Mic2 store → Loads v o →
         Ends mic2_meaning store (Stands o) o.given v o }
 {}
+
+/// How a run boots, and what every instruction takes. Behind the boot, whose one stall waits for the first word of the text, only a call stalls: once, or twice where its method's entry is the last byte of a word.
+pub fn stalls_law()
+    ensures boots { (store : List ℕ) (o : Origin) (v : VerifiedView) (input : List ℕ) → HasShipped Mic2 store → Loads v o → BootsWithStall store o v input }
+    ensures takes { (store : List ℕ) (o : Origin) (v : VerifiedView) → HasShipped Mic2 store → Loads v o → TakesWithStalls store o v (λ i. Unit {0}) }
+{
+    operands_law();
+    locals_law();
+    jumps_law();
+    calls_law();
+    consoles_law();
+}
