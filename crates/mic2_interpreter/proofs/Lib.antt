@@ -18,3 +18,5 @@ pub mod Calls
 pub mod Output
 pub mod Groups
 pub mod Store
+pub mod Alike
+pub mod Waits

@@ -1,10 +1,13 @@
 -- What an instruction takes of Mic-2 with its stalls: behind the boot only a call stalls.
-use Rattle.std.specs.Prelude.{◌≡◌, ℕ, ◌+◌, ◌%◌, ◌==◌, if◌then◌else◌, List}
+use Rattle.std.specs.Prelude.{◌≡◌, ℕ, ◌+◌, ◌%◌, ◌<◌, ◌==◌, if◌then◌else◌, List, Some}
 use Rattle.console_port.specs.World.{World}
 use Rattle.ijvm_image.specs.Image.{ImageView}
 use Rattle.ijvm_instr.specs.declared.instr.Instr.{Instr}
 use Rattle.ijvm_instr.specs.declared.instr.Instr.TheVariants.{Invokevirtual}
 use Rattle.ijvm_run.specs.Frames.{State, start_of}
+use Rattle.ijvm_instr.specs.Instructions.{instr_at}
+use Rattle.ijvm_run.specs.Step.{Goes, outcome}
+use Rattle.ijvm_run.specs.Run.{Program, Point, point_after}
 use Rattle.ijvm_run.specs.Cost.{boot, cost, entry_of}
 use Rattle.ijvm_paths.specs.Accepted.{VerifiedView}
 use Rattle.machine_words.specs.declared.machine.Machine.TheVariants.{Mic2}
@@ -39,3 +42,10 @@ module _ (program : List ℕ) (o : Origin) where
   -- from its reset a Mic-2 comes to the first boundary, with one stall
   abbrev pub BootsWithStall : VerifiedView → List ℕ → Type 0
   BootsWithStall v input = MovesWithStalls (reset_moment mic2_meaning 0x002 v.main_locals o input) boot 1 (start_of v.main_locals input)
+
+-- The boundaries that the definition's run passes, each with the stalls before it: one of the boot, and those of the calls.
+pub data HasStalled (p : Program) (bound : ℕ) (first : Point) : Point → ℕ → Type 0 where
+  Booted : (at : Point) → at ≡ first → HasStalled p bound first at 1
+  Behind : (at next : Point) (stalls : ℕ) (i : Instr) (to : State) → HasStalled p bound first at stalls → at.cycles < bound →
+      instr_at p.image.text at.state.at ≡ Some i → outcome p.image p.stack_end at.state ≡ Goes to → next ≡ point_after p at to →
+      HasStalled p bound first next (stalls + stalls_of p.image i)

@@ -1,16 +1,22 @@
 //! What each instruction takes of Mic-2, with its stalls.
 
-ghost use Rattle.std.specs.Prelude.{◌≡◌, ℕ, List};
+ghost use Rattle.std.specs.Prelude.{◌≡◌, ℕ, List, Some};
 ghost use Rattle.machine_words.specs.declared.machine.Machine.TheVariants.{Mic2};
 ghost use Rattle.mic2_datapath.specs.Mic2.{mic2_meaning};
 ghost use Rattle.ijvm_paths.specs.Accepted.{VerifiedView};
 ghost use Rattle.shipped_program.specs.Shipped.{HasShipped};
 ghost use Rattle.ijvm_simulation.specs.Stands.{Origin};
-ghost use Rattle.ijvm_simulation.specs.Verified.{Loads};
+ghost use Rattle.mic_clock.specs.Run.{turns};
+ghost use Rattle.ijvm_run.specs.Run.{Point, first_point};
+ghost use Rattle.ijvm_simulation.specs.Verified.{Loads, program};
+ghost use Rattle.ijvm_simulation.specs.Headline.{reset_run};
 ghost use Rattle.ijvm_simulation.specs.Law.{Ends};
 ghost use Rattle.mic2_interpreter.specs.Stands.{Stands};
-ghost use Rattle.mic2_interpreter.specs.Stalls.{TakesWithStalls, BootsWithStall};
+ghost use Rattle.mic2_interpreter.specs.Stalls.{TakesWithStalls, BootsWithStall, HasStalled};
 ghost use Rattle.mic2_interpreter.specs.Groups.{IsOfOperands, IsOfLocals, IsOfConsole, IsJump, IsCall};
+
+use ijvm_paths::accepted_images_keep_sound;
+use ijvm_run::runs_keep_words;
 
 /// The instructions on the operands alone.
 pub(crate) fn operands_law()
@@ -58,4 +64,16 @@ pub fn stalls_law()
     jumps_law();
     calls_law();
     consoles_law();
+}
+
+/// So at each boundary of a run the clock has counted the stall of the boot and those of the calls, and no other.
+pub fn runs_stall_at_calls()
+    ensures { (store : List ℕ) (o : Origin) (v : VerifiedView) (input : List ℕ) (bound : ℕ) → HasShipped Mic2 store → Loads v o →
+        (at : Point) (stalls : ℕ) → HasStalled (program Mic2 v) bound (first_point v.main_locals input) at stalls →
+        (turns mic2_meaning store (Some bound) at.cycles (reset_run mic2_meaning 0x002 v.main_locals (record { words = o.words; untaken = input; given = o.given }))).counts.stalls ≡ stalls }
+{
+    stalls_law();
+    ends_law();
+    accepted_images_keep_sound();
+    runs_keep_words();
 }
