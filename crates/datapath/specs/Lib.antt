@@ -4,3 +4,4 @@ pub mod Memory
 pub mod Access
 pub mod Next
 pub mod Jam
+pub mod Stage

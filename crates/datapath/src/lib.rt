@@ -1,16 +1,22 @@
-//! What the datapaths of Mic-1 and Mic-2 share: nine registers and the buses between them, the ALU by its control lines, the memory's ports, and the next address.
+//! What the datapaths of Mic-1 and Mic-2 share: nine registers and the buses between them, the ALU by its control lines, the memory's ports, the next address, and the order of a cycle's calls.
 #![tactic(auto)]
 
 pub mod accesses;
 pub mod alu;
 pub mod c_bus;
 pub mod jam;
+pub mod laws;
 pub mod memory;
 pub mod ports;
+pub mod signs;
+pub mod stage;
 
 pub use accesses::{Sampled, access, check_memory, transfer};
 pub use alu::{operate, shift_by};
 pub use c_bus::{Places, arrived, port, settle};
 pub use jam::next_address;
+pub use laws::{console_law, side_law};
 pub use memory::{access_memory, is_in_memory};
 pub use ports::Ports;
+pub use signs::sign_extended;
+pub use stage::Stage;

@@ -13,7 +13,7 @@ ghost use Rattle.mic1_datapath.specs.Mic1.{initial as initial_of};
 ghost use Rattle.mic1_datapath.specs.Microstep.{assigned, ports_of, result_of, settled, moved};
 ghost use Rattle.mic1_datapath.specs.Latches.{AreLatches, micro_in, reads, fetches, under_way};
 
-use datapath::{Places, Ports, Sampled, arrived, next_address, port, settle};
+use datapath::{Places, Ports, Sampled, arrived, next_address, port, settle, sign_extended};
 use mic_clock::Start;
 use micro_word::{Lines, Machine, bits, statement_law, word_law};
 
@@ -43,17 +43,6 @@ pub struct Latches {
     pub entry: u16,
     /// Whether a cycle was clocked since the reset.
     pub clocked: bool,
-}
-
-#[tactic(auto, unfolding(machine_words::specs::Arithmetic::signed_byte))]
-fn sign_extended(byte: u8) -> u32
-    ensures { result ≡ signed_byte byte }
-{
-    if byte < 128 {
-        byte as u32
-    } else {
-        byte as u32 + 0xFFFF_FF00
-    }
 }
 
 fn taken(is: bool, word: u32) -> Option<u32>

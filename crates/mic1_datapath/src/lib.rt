@@ -4,7 +4,6 @@
 pub mod latches;
 pub mod laws;
 pub mod mic1;
-pub mod stage;
 #[cfg(test)]
 mod tests;
 

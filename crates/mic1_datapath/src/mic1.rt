@@ -8,14 +8,13 @@ ghost use Rattle.micro_word.specs.Layout.{fields_of};
 ghost use Rattle.micro_word.specs.Lines.{AreLines};
 ghost use Rattle.micro_word.specs.Operation.{shifted};
 ghost use Rattle.mic_clock.specs.Meaning.{Driven, AtEdge};
-ghost use Rattle.mic1_datapath.specs.Stage.{phase_of};
+ghost use Rattle.datapath.specs.Stage.{phase_of};
 ghost use Rattle.mic1_datapath.specs.Microstep.{source, result_of};
 ghost use Rattle.mic1_datapath.specs.Latches.{AreLatches, micro_in};
 
 use crate::latches::{IDLE, Latches};
-use crate::stage::Stage;
 use console_port::{Bus, BusFault};
-use datapath::{access, operate, shift_by};
+use datapath::{Stage, access, operate, shift_by};
 use mic_base::{Sink, Source};
 use mic_clock::{Clocked, Computed, Drive, Registers, Start, Tail};
 use mic1_alu::AluOut;

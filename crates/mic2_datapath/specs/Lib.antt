@@ -1,3 +1,5 @@
 pub mod Micro
 pub mod Microstep
 pub mod Mic2
+pub mod Latches
+pub mod View

@@ -39,6 +39,9 @@ initial start =
       begins = false;
     }
 
+abbrev pub at_zero : Start
+at_zero = record { entry = 0; sp = 0; first = 0 }
+
 abbrev pub registers_of : Micro → Registers
 registers_of m =
     record {

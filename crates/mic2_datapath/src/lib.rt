@@ -1,2 +1,15 @@
 //! Mic-2 as a clocked machine: control lines, two operand buses, latches and a fetch unit. Its four calls are one microstep, which assigns whole words or stalls.
 #![tactic(auto)]
+
+mod access;
+mod control;
+mod latches;
+mod laws;
+mod mic2;
+#[cfg(test)]
+mod soak;
+#[cfg(test)]
+mod tests;
+
+pub use laws::step_law;
+pub use mic2::Mic2;

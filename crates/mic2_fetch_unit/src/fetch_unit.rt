@@ -1,28 +1,43 @@
 //! The queue, its edge and its jump.
 
-ghost use Rattle.std.specs.Prelude.{◌≡◌, ◌≤◌, ◌<◌, length};
-ghost use Rattle.mic2_fetch_unit.specs.FetchUnit.{at_start};
+ghost use Rattle.std.specs.Prelude.{◌≡◌, ◌+◌, ◌*◌, ◌≤◌, ◌<◌, Some, None, OnOk, OnErr, IfErr, if◌then◌else◌, length, nat_le, slice_index};
+ghost use Rattle.console_port.specs.Bus.{refused_by};
+ghost use Rattle.mic2_fetch_unit.specs.FetchUnit.{at_start, sampled_at, edge as edge_of, jump as jump_of, edge_refusal, jump_refusal};
 
+use crate::queue::{Queue, behind, filled};
+use crate::sampling::{check_jump, check_sample, sampled};
 use arrayvec::ArrayVec;
+use console_port::{Bus, BusFault};
 use std::marker::Model;
 
-/// A queue of at most six bytes, and the word that was sampled for it.
+/// A queue of at most six instruction bytes, and the word that was sampled for it.
 #[derive(Drop)]
 pub struct FetchUnit {
-    bytes: ArrayVec<u8, 6>,
+    bytes: Queue,
+    /// How many bytes at the front of `bytes` have left the queue.
+    left: u8,
     imar: u32,
     skip: u8,
     pending: Option<u32>,
 }
 
 impl Model for FetchUnit {
+    ghost use Rattle.std.specs.Prelude.{◌≤◌, drop, length};
     ghost use Rattle.mic2_fetch_unit.specs.FetchUnit.{Prefetch, IsUnit};
 
     ghost Value = { Prefetch };
 
-    ghost view = { λ u. record { bytes = u.bytes.items; imar = u.imar; skip = u.skip; pending = u.pending } };
+    ghost view = { λ u. record { bytes = drop u.left u.bytes.items; imar = u.imar; skip = u.skip; pending = u.pending } };
 
-    ghost invariant = { λ u. IsUnit (record { bytes = u.bytes.items; imar = u.imar; skip = u.skip; pending = u.pending }) };
+    ghost invariant = { λ u. (u.left ≤ length u.bytes.items) × (length u.bytes.items ≤ 6)
+        × IsUnit (record { bytes = drop u.left u.bytes.items; imar = u.imar; skip = u.skip; pending = u.pending }) };
+}
+
+/// The address where few bytes are there, and else none.
+fn at_if_short(have: u8, imar: u32) -> Option<u32>
+    ensures { result ≡ (if nat_le have 2 then Some imar else None) }
+{
+    if have <= 2 { Some(imar) } else { None }
 }
 
 impl FetchUnit {
@@ -31,7 +46,8 @@ impl FetchUnit {
         ensures { result ≡ at_start first }
     {
         FetchUnit {
-            bytes: ArrayVec::new(),
+            bytes: Queue::new(),
+            left: 0,
             imar: 0,
             skip: 0,
             pending: Some(first),
@@ -43,6 +59,130 @@ impl FetchUnit {
         ensures value { result ≡ length self.now.bytes }
         ensures few { result ≤ 6 }
     {
-        self.bytes.len() as u8
+        self.bytes.len() as u8 - self.left
+    }
+
+    /// The byte at a place of the queue.
+    pub fn byte_at(&self, place: u8) -> u8
+        requires { place < length self.now.bytes }
+        ensures { result ≡ slice_index self.now.bytes place }
+    {
+        self.bytes[(self.left + place) as usize]
+    }
+
+    /// The first byte.
+    pub fn one(&self) -> u8
+        requires { 1 ≤ length self.now.bytes }
+        ensures { result ≡ slice_index self.now.bytes 0 }
+    {
+        self.byte_at(0)
+    }
+
+    /// The number that the first two bytes spell.
+    pub fn two(&self) -> u16
+        requires { 2 ≤ length self.now.bytes }
+        ensures value { result ≡ 256 * slice_index self.now.bytes 0 + slice_index self.now.bytes 1 }
+        ensures low { slice_index self.now.bytes 1 < 256 }
+    {
+        256 * self.byte_at(0) as u16 + self.byte_at(1) as u16
+    }
+
+    /// The bytes of the queue.
+    pub fn bytes(&self) -> ArrayVec<u8, 6>
+        ensures { result.items ≡ self.now.bytes }
+    {
+        behind(&self.bytes, self.left)
+    }
+
+    /// The word address of the pending word, or of the next one where none is pending.
+    pub fn imar(&self) -> u32
+        ensures { result ≡ self.now.imar }
+    {
+        self.imar
+    }
+
+    /// The word address that an edge samples which takes so many bytes; none where it samples none.
+    pub fn will_fetch(&self, taken: u8) -> Option<u32>
+        requires { taken ≤ length self.now.bytes }
+        ensures { result ≡ sampled_at taken self.now }
+    {
+        let rest = self.have() - taken;
+        match self.pending {
+            Some(_) => at_if_short(rest + 4 - self.skip, self.imar.wrapping_add(1)),
+            None => at_if_short(rest, self.imar),
+        }
+    }
+
+    /// Tests the address that an edge samples.
+    #[tactic(auto, unfolding(crate::specs::FetchUnit::edge_refusal))]
+    pub fn check_edge(&self, taken: u8, bus: &Bus) -> Result<(), BusFault>
+        requires { taken ≤ length self.now.bytes }
+        ensures ok { OnOk result (edge_refusal (length bus.now.words) taken self.now ≡ None) }
+        ensures err { IfErr result (λ e. refused_by (edge_refusal (length bus.now.words) taken self.now) ≡ Some e) }
+    {
+        check_sample(self.will_fetch(taken), bus)
+    }
+
+    /// The edge where it is not refused: so many bytes leave the queue, a pending word enters it, and where few bytes are there the next word is sampled.
+    pub fn go_on(&mut self, taken: u8, bus: &Bus)
+        requires within { taken ≤ length self.old.bytes }
+        requires allowed { edge_refusal (length bus.now.words) taken self.old ≡ None }
+        ensures { self.new ≡ edge_of bus.now.words taken self.old }
+    {
+        let at = self.will_fetch(taken);
+        let pending = sampled(at, bus);
+        match self.pending {
+            None => {
+                self.left += taken;
+                self.pending = pending;
+            }
+            Some(word) => {
+                self.bytes = filled(&self.bytes, self.left + taken, word, self.skip);
+                self.left = 0;
+                self.imar = self.imar.wrapping_add(1);
+                self.skip = 0;
+                self.pending = pending;
+            }
+        }
+    }
+
+    /// The jump where it is not refused: the unit goes on at this byte address.
+    #[tactic(auto, unfolding(crate::specs::FetchUnit::jump, console_port::specs::World::word_refusal))]
+    pub fn go_to(&mut self, pc: u32, bus: &Bus)
+        requires { jump_refusal (length bus.now.words) pc ≡ None }
+        ensures { self.new ≡ jump_of bus.now.words pc }
+    {
+        *self = FetchUnit {
+            bytes: ArrayVec::new(),
+            left: 0,
+            imar: pc / 4,
+            skip: (pc % 4) as u8,
+            pending: Some(bus.word(pc / 4)),
+        };
+    }
+
+    /// The edge that takes so many bytes. An Err is `OutOfMap`.
+    pub fn edge(&mut self, taken: u8, bus: &Bus) -> Result<(), BusFault>
+        requires { taken ≤ length self.old.bytes }
+        ensures ok { OnOk result (self.new ≡ edge_of bus.now.words taken self.old) }
+        ensures allowed { OnOk result (edge_refusal (length bus.now.words) taken self.old ≡ None) }
+        ensures err { IfErr result (λ e. refused_by (edge_refusal (length bus.now.words) taken self.old) ≡ Some e) }
+        ensures stays { OnErr result (self.new ≡ self.old) }
+    {
+        self.check_edge(taken, bus)?;
+        self.go_on(taken, bus);
+        Ok(())
+    }
+
+    /// The jump to a byte address. An Err is `OutOfMap`.
+    pub fn jump(&mut self, pc: u32, bus: &Bus) -> Result<(), BusFault>
+        ensures ok { OnOk result (self.new ≡ jump_of bus.now.words pc) }
+        ensures allowed { OnOk result (jump_refusal (length bus.now.words) pc ≡ None) }
+        ensures err { IfErr result (λ e. refused_by (jump_refusal (length bus.now.words) pc) ≡ Some e) }
+        ensures stays { OnErr result (self.new ≡ self.old) }
+    {
+        check_jump(pc, bus)?;
+        self.go_to(pc, bus);
+        Ok(())
     }
 }

@@ -2,5 +2,12 @@
 #![tactic(auto)]
 
 mod fetch_unit;
+mod laws;
+mod queue;
+mod sampling;
+#[cfg(test)]
+mod tests;
 
 pub use fetch_unit::FetchUnit;
+pub use laws::standing_law;
+pub use sampling::check_sample;

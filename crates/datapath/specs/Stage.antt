@@ -1,7 +1,7 @@
 -- The phase in which each of the four calls comes next.
 use Rattle.mic_clock.specs.Meaning.{Phase, AtRest, SetUp, Driven, AtEdge}
-use Rattle.mic1_datapath.specs.declared.stage.Stage.{Stage}
-use Rattle.mic1_datapath.specs.declared.stage.Stage.TheVariants as stages
+use Rattle.datapath.specs.declared.stage.Stage.{Stage}
+use Rattle.datapath.specs.declared.stage.Stage.TheVariants as stages
 
 abbrev pub phase_of : Stage → Phase
 phase_of stages.Setup = AtRest

@@ -1,4 +1,4 @@
-/// Which of the four calls comes next.
+/// Which of a machine's four calls comes next.
 #[derive(Clone, Copy, Debug, PartialEq, Eq)]
 pub enum Stage {
     Setup,

@@ -1,0 +1,36 @@
+-- An operation that does not use side B finds 0 there.
+use Rattle.std.proofs.Common.{◌≡◌, ℕ, ◌/◌, ◌%◌, ◌==◌, Bool, true, false, IsTrue, Option, Some, None, refl, sym, ap, ◌∙◌}
+use Rattle.micro_word.specs.Canonical.{fits_side}
+use Rattle.micro_word.specs.Coding.{row}
+use Rattle.micro_word.specs.declared.statement.AluOp.{AluOp}
+use Rattle.micro_word.specs.declared.statement.AluOp.TheVariants as ops
+use Rattle.micro_word.specs.declared.statement.BusSource.{BusSource}
+use Rattle.mic1_alu.specs.Gates.{enabled}
+
+-- ENB is on for the operations that use side B
+enb : (op : AluOp) → ((row op).gates / 4 % 2 == 1) ≡ (row op).uses_b
+enb ops.A = refl
+enb ops.B = refl
+enb ops.NotA = refl
+enb ops.NotB = refl
+enb ops.Sum = refl
+enb ops.SumInc = refl
+enb ops.IncA = refl
+enb ops.IncB = refl
+enb ops.Sub = refl
+enb ops.DecB = refl
+enb ops.NegA = refl
+enb ops.And = refl
+enb ops.Or = refl
+enb ops.Zero = refl
+enb ops.One = refl
+enb ops.MinusOne = refl
+
+by_use : (used : Bool) (may : BusSource → Bool) (b : Option BusSource) (x : ℕ) → IsTrue (fits_side used may b) → (b ≡ None → x ≡ 0) → enabled used x ≡ x
+by_use true may b x h zero = refl
+by_use false may None x h zero = sym (zero refl)
+by_use false may (Some s) x h zero = absurd (cc)
+
+pub side_passes : (op : AluOp) (may : BusSource → Bool) (b : Option BusSource) (x : ℕ) →
+    IsTrue (fits_side (row op).uses_b may b) → (b ≡ None → x ≡ 0) → enabled ((row op).gates / 4 % 2 == 1) x ≡ x
+side_passes op may b x h zero = ap (λ (on : Bool). enabled on x) (enb op) ∙ by_use (row op).uses_b may b x h zero

@@ -1,0 +1,16 @@
+//! Bytes as signed words.
+
+ghost use Rattle.std.specs.Prelude.{◌≡◌};
+ghost use Rattle.machine_words.specs.Arithmetic.{signed_byte};
+
+/// A byte with its sign on each higher bit.
+#[tactic(auto, unfolding(machine_words::specs::Arithmetic::signed_byte))]
+pub fn sign_extended(byte: u8) -> u32
+    ensures { result ≡ signed_byte byte }
+{
+    if byte < 128 {
+        byte as u32
+    } else {
+        byte as u32 + 0xFFFF_FF00
+    }
+}

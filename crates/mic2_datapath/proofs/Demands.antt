@@ -1,0 +1,103 @@
+-- The bytes that a statement demands, by what stands in its word.
+use Rattle.std.proofs.Common.{◌≡◌, ℕ, zero, suc, ◌+◌, ◌≤◌, ◌<◌, ◌^◌, ◌%◌, ◌==◌, ◌||◌, ◌&&◌, Bool, true, false, not, IsTrue, Option, Some, None, if◌then◌else◌, refl, arith}
+use Rattle.std.specs.Prelude.{nat_lt}
+use Rattle.std.proofs.lemmas.Bool.Decides.{nat_tests}
+use Rattle.machine_words.specs.Arithmetic.{wrap}
+use Rattle.machine_words.specs.declared.machine.Machine.TheVariants.{Mic2}
+use Rattle.micro_word.specs.Canonical.{fits_side, is_byte, is_pair, may_be_b}
+use Rattle.micro_word.specs.Coding.{addr_bits, jam_bits}
+use Rattle.micro_word.specs.Lines.{place_on_bus}
+use Rattle.micro_word.specs.declared.statement.BusSource.{BusSource}
+use Rattle.micro_word.specs.declared.statement.BusSource.TheVariants as sources
+use Rattle.micro_word.specs.declared.statement.PlacedNext.{PlacedNext}
+use Rattle.micro_word.specs.declared.statement.PlacedNext.TheVariants as nexts
+use Rattle.micro_word.specs.declared.statement.Test.TheVariants as tests
+use Rattle.mic2_datapath.specs.Microstep.{advanced, dispatch_bytes, is_to_instruction}
+
+pub not_here : (used : Bool) → IsTrue (used && false) → ⊥
+not_here true h = absurd (cc)
+not_here false h = absurd (cc)
+
+pub byte_place : (s : Option BusSource) (used : Bool) → IsTrue (fits_side used (may_be_b Mic2) s) → (place_on_bus s == 9 || place_on_bus s == 10) ≡ is_byte s
+byte_place None used h = refl
+byte_place (Some sources.Mdr) used h = refl
+byte_place (Some sources.Pc) used h = refl
+byte_place (Some sources.Mbr) used h = absurd (not_here used h)
+byte_place (Some sources.Mbru) used h = absurd (not_here used h)
+byte_place (Some sources.Sp) used h = refl
+byte_place (Some sources.Lv) used h = refl
+byte_place (Some sources.Cpp) used h = refl
+byte_place (Some sources.Tos) used h = refl
+byte_place (Some sources.Opc) used h = refl
+byte_place (Some sources.Mbr1) used h = refl
+byte_place (Some sources.Mbr1u) used h = refl
+byte_place (Some sources.Mbr2) used h = refl
+byte_place (Some sources.Mbr2u) used h = refl
+byte_place (Some sources.H) used h = refl
+
+pub pair_place : (s : Option BusSource) → (place_on_bus s == 11 || place_on_bus s == 12) ≡ is_pair s
+pair_place None = refl
+pair_place (Some sources.Mdr) = refl
+pair_place (Some sources.Pc) = refl
+pair_place (Some sources.Mbr) = refl
+pair_place (Some sources.Mbru) = refl
+pair_place (Some sources.Sp) = refl
+pair_place (Some sources.Lv) = refl
+pair_place (Some sources.Cpp) = refl
+pair_place (Some sources.Tos) = refl
+pair_place (Some sources.Opc) = refl
+pair_place (Some sources.Mbr1) = refl
+pair_place (Some sources.Mbr1u) = refl
+pair_place (Some sources.Mbr2) = refl
+pair_place (Some sources.Mbr2u) = refl
+pair_place (Some sources.H) = refl
+
+pub dispatch_bits : (n : PlacedNext) → (if jam_bits n == 4 then 1 else 0) ≡ dispatch_bytes n
+dispatch_bits (nexts.Goto to) = refl
+dispatch_bits (nexts.Dispatch high) = refl
+dispatch_bits (nexts.Branch tests.N low) = refl
+dispatch_bits (nexts.Branch tests.Z low) = refl
+
+pub first_bits : (n : PlacedNext) → (jam_bits n == 4 && addr_bits n == 0) ≡ is_to_instruction n
+first_bits (nexts.Goto to) = refl
+first_bits (nexts.Dispatch true) = refl
+first_bits (nexts.Dispatch false) = refl
+first_bits (nexts.Branch tests.N low) = refl
+first_bits (nexts.Branch tests.Z low) = refl
+
+pub goes_behind : (taken pc : ℕ) → pc < 2 ^ 32 → (pc + taken) % 4294967296 ≡ advanced taken pc
+unfolding wrap
+goes_behind zero pc h = omega arith
+goes_behind (suc taken) pc h = refl
+
+pub less : (a b : ℕ) → a < b → nat_lt a b ≡ true
+less a b h = grind (arith, nat_tests)
+
+pub not_less : (a b : ℕ) → b ≤ a → nat_lt a b ≡ false
+not_less a b h = grind (arith, nat_tests)
+
+-- the bytes of the operands, by what each side names
+abbrev pub bytes_by : Bool → Bool → Bool → Bool → ℕ
+bytes_by pair_a pair_b byte_a byte_b = if pair_a || pair_b then 2 else if byte_a || byte_b then 1 else 0
+
+pub byte_a : (pa pb ba bb : Bool) → ba ≡ true → 1 ≤ bytes_by pa pb ba bb
+byte_a true pb ba bb is = omega arith
+byte_a false true ba bb is = omega arith
+byte_a false false true bb is = omega arith
+byte_a false false false bb is = absurd (cc)
+
+pub byte_b : (pa pb ba bb : Bool) → bb ≡ true → 1 ≤ bytes_by pa pb ba bb
+byte_b true pb ba bb is = omega arith
+byte_b false true ba bb is = omega arith
+byte_b false false true bb is = omega arith
+byte_b false false false true is = omega arith
+byte_b false false false false is = absurd (cc)
+
+pub pair_a : (pa pb ba bb : Bool) → pa ≡ true → 2 ≤ bytes_by pa pb ba bb
+pair_a true pb ba bb is = omega arith
+pair_a false pb ba bb is = absurd (cc)
+
+pub pair_b : (pa pb ba bb : Bool) → pb ≡ true → 2 ≤ bytes_by pa pb ba bb
+pair_b true pb ba bb is = omega arith
+pair_b false true ba bb is = omega arith
+pair_b false false ba bb is = absurd (cc)

@@ -1,0 +1,29 @@
+-- What stands at the place of a source is what the source puts on its bus, once the front of the queue is shown.
+use Rattle.std.proofs.Common.{◌≡◌, ℕ, ◌≤◌, Bool, true, IsTrue, Option, Some, None, slice_index, refl}
+use Rattle.machine_words.specs.declared.machine.Machine.TheVariants.{Mic2}
+use Rattle.micro_word.specs.Canonical.{fits_side, is_byte, is_pair, may_be_b}
+use Rattle.micro_word.specs.Lines.{place_on_bus}
+use Rattle.micro_word.specs.declared.statement.BusSource.{BusSource}
+use Rattle.micro_word.specs.declared.statement.BusSource.TheVariants as sources
+use Rattle.mic2_datapath.specs.Microstep.{source}
+use Rattle.mic2_datapath.specs.Latches.{AreLatches, HasFront, micro_in}
+use Rattle.mic2_datapath.specs.declared.latches.Latches.{Latches}
+use Rattle.mic2_datapath.proofs.Demands.{not_here}
+
+pub at_place : (l : Latches) (operands : ℕ) → AreLatches l → HasFront operands l → (s : Option BusSource) (used : Bool) → IsTrue (fits_side used (may_be_b Mic2) s) →
+    (is_byte s ≡ true → 1 ≤ operands) → (is_pair s ≡ true → 2 ≤ operands) → slice_index l.places (place_on_bus s) ≡ source s (micro_in l)
+at_place l operands a f None used h one two = a.nothing
+at_place l operands a f (Some sources.Mdr) used h one two = refl
+at_place l operands a f (Some sources.Pc) used h one two = refl
+at_place l operands a f (Some sources.Mbr) used h one two = absurd (not_here used h)
+at_place l operands a f (Some sources.Mbru) used h one two = absurd (not_here used h)
+at_place l operands a f (Some sources.Sp) used h one two = refl
+at_place l operands a f (Some sources.Lv) used h one two = refl
+at_place l operands a f (Some sources.Cpp) used h one two = refl
+at_place l operands a f (Some sources.Tos) used h one two = refl
+at_place l operands a f (Some sources.Opc) used h one two = refl
+at_place l operands a f (Some sources.Mbr1) used h one two = f.byte (one refl)
+at_place l operands a f (Some sources.Mbr1u) used h one two = f.unsigned (one refl)
+at_place l operands a f (Some sources.Mbr2) used h one two = f.pair (two refl)
+at_place l operands a f (Some sources.Mbr2u) used h one two = f.unsigned_pair (two refl)
+at_place l operands a f (Some sources.H) used h one two = refl

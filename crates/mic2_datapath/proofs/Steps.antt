@@ -1,0 +1,194 @@
+-- What is asked of the bus for a statement, with its accesses, is its microstep or its refusal.
+use Rattle.std.proofs.Common.{◌≡◌, ℕ, ◌%◌, ◌≤◌, ◌==◌, ◌&&◌, Bool, true, false, IsTrue, List, [], ◌∷◌, ◌++◌, drop, Option, Some, None, Result, Err, length, inl, inr, refl, sym, ap, subst, ◌∙◌}
+use Rattle.console_port.specs.World.{World, Refusal, StackLimit, OutOfMap, fault_of, console_at}
+use Rattle.console_port.specs.Bus.{refused_by}
+use Rattle.console_port.specs.Console.{IsFault}
+use Rattle.console_port.specs.declared.fault.BusFault.{BusFault}
+use Rattle.machine_words.specs.declared.machine.Machine.TheVariants as machines
+use Rattle.micro_word.specs.Coding.{statement_of, mem_of}
+use Rattle.micro_word.specs.Layout.{fields_of}
+use Rattle.micro_word.specs.Lines.{names}
+use Rattle.micro_word.specs.Operation.{shifted}
+use Rattle.micro_word.specs.declared.statement.Mem.{Mem}
+use Rattle.micro_word.specs.declared.statement.Mem.TheVariants as mems
+use Rattle.micro_word.specs.declared.statement.Placed.{Placed}
+use Rattle.mic_clock.specs.Meaning.{Outcome, Done, refusal_in, untaken_by, given_by, ReadsConsole, WritesConsole, UsesConsole}
+use Rattle.datapath.specs.Access.{IsTransfer, is_read, is_access}
+use Rattle.datapath.specs.Memory.{first_refusal, memory_refusal, word_under_way, written, sampled, outcome}
+use Rattle.datapath.specs.Next.{target}
+use Rattle.datapath.specs.Registers.{loaded, ports_given}
+use Rattle.datapath.specs.declared.ports.Ports.{Ports}
+use Rattle.mic2_fetch_unit.specs.FetchUnit.{edge_refusal, sample_refusal}
+use Rattle.mic2_datapath.specs.Microstep.{advanced, byte_at, clock, demand, is_stalled, is_to_instruction, jumps, microstep, moved, operand_bytes, refusal, registers_in, result_of, settled, stalled, step_if, unit_after, unit_refusal, world_after}
+use Rattle.mic2_datapath.specs.Latches.{HasComputed}
+use Rattle.mic2_datapath.specs.Mic2.{mic2_meaning, step_of_word}
+use Rattle.mic2_datapath.specs.Micro.{Micro}
+
+-- what a cycle asks of the bus: an access, and the word that the fetch unit samples
+pub record Asked : Type 0 where
+  pub ports : Ports
+  pub mem : Mem
+  pub at : Option ℕ
+
+-- it is what the statement does, in a cycle that does not stall
+pub record IsAsked (s : Placed) (m : Micro) (p : Asked) : Type 0 where
+  pub goes : is_stalled s m ≡ false
+  pub given : p.ports ≡ ports_given (settled s m)
+  pub memory : p.mem ≡ s.part.mem
+  pub samples : (n : ℕ) → sample_refusal n p.at ≡ unit_refusal (jumps s.part) n p.ports.pc (demand s) m.unit
+
+-- what is asked is asked for the statement of the word that was set up
+pub is_asked : (word : ℕ) (m : Micro) (stalled : Bool) (value c dests taken : ℕ) (jump : Bool) (ports : Ports) (mem : Mem) (at : Option ℕ) →
+    let s = statement_of machines.Mic2 word in
+    HasComputed s m stalled value c → stalled ≡ false → dests ≡ (fields_of machines.Mic2 word).c → taken ≡ demand s → jump ≡ names dests 2 →
+    ports ≡ ports_given (loaded dests c m.word (record (registers_in m) { pc = advanced taken m.pc })) →
+    mem ≡ mem_of (fields_of machines.Mic2 word).mem →
+    ((n : ℕ) → sample_refusal n at ≡ unit_refusal jump n ports.pc taken m.unit) → IsAsked s m (record { ports = ports; mem = mem; at = at })
+unfolding statement_of
+is_asked word m stalled value c dests taken jump ports mem at computed goes dests_are taken_is jump_is ports_are mem_is samples =
+    let s = statement_of machines.Mic2 word in
+    let v : c ≡ shifted s.part.shift (result_of s.part m) = computed.shifter goes ∙ ap (λ (x : ℕ). shifted s.part.shift x) (computed.alu goes) in
+    let jump : jump ≡ jumps s.part = jump_is ∙ ap (λ (d : ℕ). names d 2) dests_are in
+    record {
+      goes = sym computed.waits ∙ goes;
+      given = ports_are ∙ (λ i. ports_given (loaded (dests_are i) (v i) m.word (record (registers_in m) { pc = advanced (taken_is i) m.pc })));
+      memory = mem_is;
+      samples = λ n. samples n ∙ (λ i. unit_refusal (jump i) n ports.pc (taken_is i) m.unit);
+    }
+
+abbrev pub refusal_on : ℕ → Asked → Option Refusal
+refusal_on n p = first_refusal (memory_refusal n p.mem p.ports.mar) (sample_refusal n p.at)
+
+same_refusal : (s : Placed) (m : Micro) (p : Asked) → IsAsked s m p → (n : ℕ) → refusal n s m ≡ refusal_on n p
+same_refusal s m p h n =
+    sym
+    (ap (λ (r : Option Refusal). first_refusal (memory_refusal n p.mem p.ports.mar) r) (h.samples n)
+    ∙ (λ i. first_refusal (memory_refusal n (h.memory i) (h.given i).mar) (unit_refusal (jumps s.part) n (h.given i).pc (demand s) m.unit)))
+
+abbrev step_on : ℕ → Placed → Micro → World → Outcome Micro
+step_on n s m w = outcome (refusal n s m) (clock n s m w) (world_after n s m w)
+
+goes_on : (s : Placed) (m : Micro) (p : Asked) → IsAsked s m p → (n : ℕ) (w : World) → length w.words ≡ n → microstep s m w ≡ step_on n s m w
+goes_on s m p h n w size = (λ i. step_if (h.goes i) (size i) s m w)
+
+-- behind the edge, with the result x, with this word under way and the unit over these words
+abbrev pub moved_on : Placed → Micro → ℕ → List ℕ → Option ℕ → Micro
+moved_on s m x words word =
+    let r = settled s m in
+    moved r (target s.next x (byte_at m.unit (operand_bytes s.part))) word (unit_after (jumps s.part) words r.pc (demand s) m.unit)
+    (is_to_instruction s.next)
+
+pub is_done : (s : Placed) (m : Micro) (p : Asked) → IsAsked s m p → (w v : World) (n : ℕ) → length w.words ≡ n → (word : Option ℕ) (words : List ℕ) →
+    refusal_on n p ≡ None → IsTransfer n p.mem p.ports w word v → v.words ≡ words →
+    (t : Micro) → t ≡ moved_on s m (result_of s.part m) words word → microstep s m w ≡ Done t v
+is_done s m p h w v n size word words clear a shown t moves =
+    let its_word : word_under_way n s.part.mem (ports_given (settled s m)) (written n s.part.mem (ports_given (settled s m)) w) ≡ word =
+    sym (a.its_word ∙ (λ i. word_under_way n (h.memory i) (h.given i) (written n (h.memory i) (h.given i) w))) in
+    let after : world_after n s m w ≡ v =
+    sym (a.after ∙ (λ i. sampled n (h.memory i) (h.given i) (written n (h.memory i) (h.given i) w))) in
+    let over : (written n s.part.mem (ports_given (settled s m)) w).words ≡ words =
+    sym (a.words ∙ (λ i. (written n (h.memory i) (h.given i) w).words)) ∙ shown in
+    goes_on s m p h n w size
+    ∙ ap (λ (r : Option Refusal). outcome r (clock n s m w) (world_after n s m w)) (same_refusal s m p h n ∙ clear)
+    ∙ (λ i. Done (moved_on s m (result_of s.part m) (over i) (its_word i)) (after i))
+    ∙ ap (λ (x : Micro). Done x v) (sym moves)
+
+answered : (r : Option Refusal) (m : Micro) (w : World) → refusal_in (outcome r m w) ≡ refused_by r
+answered (Some why) m w = refl
+answered None m w = refl
+
+module _ (s : Placed) (m : Micro) (p : Asked) (h : IsAsked s m p) (n : ℕ) (w : World) (size : length w.words ≡ n) where
+  -- the step's refusal is that of its accesses
+  pub step_refusal : refusal_in (microstep s m w) ≡ refused_by (refusal_on n p)
+  step_refusal =
+      ap refusal_in (goes_on s m p h n w size)
+      ∙ answered (refusal n s m) (clock n s m w) (world_after n s m w) ∙ ap refused_by (same_refusal s m p h n)
+
+  done_with : refusal_on n p ≡ None → microstep s m w ≡ Done (clock n s m w) (sampled n p.mem p.ports (written n p.mem p.ports w))
+  done_with clear =
+      goes_on s m p h n w size
+      ∙ (ap (λ (r : Option Refusal). outcome r (clock n s m w) (world_after n s m w)) (same_refusal s m p h n ∙ clear)
+      ∙ sym (λ i. Done (clock n s m w) (sampled n (h.memory i) (h.given i) (written n (h.memory i) (h.given i) w))))
+
+-- an access that is answered by a fault is not refused
+pub not_refused : {T : Type 0} (r : Option Refusal) (result : Result T BusFault) (e : BusFault) → result ≡ Err e → IsFault e →
+    ((f : BusFault) → refused_by r ≡ Some f → result ≡ Err f) → r ≡ None
+not_refused None result e is fault answers = refl
+not_refused (Some why) result e is fault answers = absurd (no_fault why (subst IsFault same fault))
+  where
+    same : e ≡ fault_of why
+    same = let a = answers (fault_of why) refl in cc
+
+    no_fault : (r : Refusal) → IsFault (fault_of r) → ⊥
+    no_fault (StackLimit at) f = f
+    no_fault (OutOfMap at) f = f
+
+-- a refusal is no fault
+pub refused_no_fault : (r : Option Refusal) (e : BusFault) → refused_by r ≡ Some e → IsFault e → ⊥
+refused_no_fault None e is fault = absurd (cc)
+refused_no_fault (Some (StackLimit at)) e is fault = let same : e ≡ fault_of (StackLimit at) = cc in subst IsFault same fault
+refused_no_fault (Some (OutOfMap at)) e is fault = let same : e ≡ fault_of (OutOfMap at) = cc in subst IsFault same fault
+
+pub second_clear : (a b : Option Refusal) → first_refusal a b ≡ None → b ≡ None
+second_clear (Some why) b h = absurd (cc)
+second_clear None b h = h
+
+both : (a b : Bool) → (a && b) ≡ true → a ≡ true
+both true b h = refl
+both false b h = absurd (cc)
+
+-- what an access behind the memory's words does at the console
+pub record AtConsole : Type 0 where
+  pub takes : (n : ℕ) (p : Ports) (mem : Mem) (w : World) → n ≤ p.mar → is_read mem ≡ true → (sampled n mem p (written n mem p w)).untaken ≡ drop 1 w.untaken
+  pub gives : (n : ℕ) (p : Ports) (w : World) → n ≤ p.mar → (written n mems.Write p w).given ≡ w.given ++ (p.mdr % 256) ∷ []
+
+module _ (law : AtConsole) (word : ℕ) (m : Micro) (p : Asked) (h : IsAsked (statement_of machines.Mic2 word) m p) (n : ℕ) (w : World) (size : length w.words ≡ n)
+    (clear : refusal_on n p ≡ None) (behind : n ≤ p.ports.mar) where
+  reads_by : is_read p.mem ≡ true → ReadsConsole mic2_meaning word m w
+  unfolding step_of_word
+  reads_by is =
+      record {
+        takes = λ input.
+            ap untaken_by (done_with (statement_of machines.Mic2 word) m p h n (record w { untaken = input }) size clear)
+            ∙ ap Some (law.takes n p.ports p.mem (record w { untaken = input }) behind is);
+      }
+
+  writes_by : p.mem ≡ mems.Write → WritesConsole mic2_meaning word m w
+  unfolding step_of_word
+  writes_by is =
+      record {
+        byte = p.ports.mdr % 256;
+        gives =
+            ap given_by (done_with (statement_of machines.Mic2 word) m p h n w size clear)
+            ∙ (ap (λ (mem : Mem). Some (sampled n mem p.ports (written n mem p.ports w)).given) is ∙ ap Some (law.gives n p.ports w behind));
+      }
+
+  -- a failed read of the console is of a step that reads it
+  pub reads_console : IsTrue (is_read p.mem && p.ports.mar == console_at) → ReadsConsole mic2_meaning word m w
+  reads_console t = reads_by (both _ _ t)
+
+  -- a failed access of the console is of a step that reads or writes it
+  pub uses_console : IsTrue (is_access p.mem && p.ports.mar == console_at) → UsesConsole mic2_meaning word m w
+  uses_console t = by_mem p.mem refl (both _ _ t)
+    where
+      by_mem : (mem : Mem) → p.mem ≡ mem → is_access mem ≡ true → UsesConsole mic2_meaning word m w
+      by_mem mems.Read is a = inl (reads_by (ap is_read is))
+      by_mem mems.Write is a = inr (writes_by is)
+      by_mem mems.None is a = absurd (cc)
+
+-- a cycle that stalls
+
+waits_on : (s : Placed) (m : Micro) (w : World) (n : ℕ) → is_stalled s m ≡ true → length w.words ≡ n →
+    microstep s m w ≡ outcome (edge_refusal n 0 m.unit) (stalled w.words m) w
+waits_on s m w n waits size = λ i. step_if (waits i) (size i) s m w
+
+pub stall_done : (s : Placed) (m : Micro) (w : World) (n : ℕ) → is_stalled s m ≡ true → length w.words ≡ n → edge_refusal n 0 m.unit ≡ None →
+    (words : List ℕ) → w.words ≡ words → (t : Micro) → t ≡ stalled words m → microstep s m w ≡ Done t w
+stall_done s m w n waits size clear words shown t moves =
+    waits_on s m w n waits size
+    ∙ (λ i. outcome (clear i) (stalled (shown i) m) w)
+    ∙ ap (λ (x : Micro). Done x w) (sym moves)
+
+pub stall_refusal : (s : Placed) (m : Micro) (w : World) (n : ℕ) → is_stalled s m ≡ true → length w.words ≡ n →
+    refusal_in (microstep s m w) ≡ refused_by (edge_refusal n 0 m.unit)
+stall_refusal s m w n waits size = ap refusal_in (waits_on s m w n waits size) ∙ answered (edge_refusal n 0 m.unit) (stalled w.words m) w

@@ -1,0 +1,9 @@
+use Rattle.std.proofs.Common.{ap}
+use Rattle.micro_word.specs.declared.statement.Placed.{Placed}
+use Rattle.mic2_datapath.specs.Mic2.{step_of_word}
+use Rattle.mic2_datapath.specs.Microstep.{microstep}
+use Rattle.mic2_datapath.proofs.laws.step_law.Goals as goal
+
+pub returns : goal.returns
+unfolding step_of_word
+returns c = λ s h m w. ap (λ (p : Placed). microstep p m w) (c.statement_law.ensures.statement s h)

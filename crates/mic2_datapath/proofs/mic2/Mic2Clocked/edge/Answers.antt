@@ -1,0 +1,178 @@
+use Rattle.std.proofs.Common.{◌≡◌, ◌==◌, length, List, ℕ, true, Err, refl, sym, ◌∙◌, ap, subst}
+use Rattle.console_port.specs.Bus.{refused_by, ChangesOnly}
+use Rattle.console_port.specs.Console.{IsFault}
+use Rattle.micro_word.specs.Coding.{statement_of, mem_of}
+use Rattle.machine_words.specs.declared.machine.Machine.TheVariants as machines
+use Rattle.datapath.specs.declared.ports.Ports.{Ports}
+use Rattle.datapath.specs.Memory.{memory_refusal}
+use Rattle.mic2_fetch_unit.specs.FetchUnit.{edge_refusal, sample_refusal}
+use Rattle.mic2_datapath.specs.Micro.{Micro}
+use Rattle.mic2_datapath.specs.Microstep.{demand, is_stalled, jumps, settled, unit_refusal}
+use Rattle.mic2_datapath.specs.Mic2.{step_of_word}
+use Rattle.mic2_datapath.specs.Latches.{micro_in}
+use Rattle.mic2_datapath.proofs.Steps.{Asked, AtConsole, IsAsked, is_asked, is_done, moved_on, not_refused, reads_console, refusal_on, refused_no_fault, second_clear, stall_done, stall_refusal, step_refusal, uses_console}
+use Rattle.mic2_datapath.proofs.mic2.Mic2Clocked.edge.Goals as goal
+
+pub returns-in-Ok-clause-ok : goal.returns-in-Ok-clause-ok
+unfolding step_of_word
+returns-in-Ok-clause-ok g c =
+    let old = c.args.self.now in
+    let s = statement_of machines.Mic2 old.control.word in
+    let m = micro_in old.latches in
+    let waits : is_stalled s m ≡ true = sym (old.computed c.requires).waits ∙ c.if-self.true in
+    λ rest fits. (
+      rest,
+      fits,
+      λ w shows same. (w, stall_done s m w _ waits (ap (λ (ws : List ℕ). length ws) shows.words) c.in-Ok.ensures.allowed _ shows.words _ c.in-Ok.ensures.ok, shows, same),
+    )
+
+pub returns-in-Ok-clause-refusal : goal.returns-in-Ok-clause-refusal
+unfolding step_of_word
+returns-in-Ok-clause-refusal g c =
+    let old = c.args.self.now in
+    let s = statement_of machines.Mic2 old.control.word in
+    let m = micro_in old.latches in
+    let waits : is_stalled s m ≡ true = sym (old.computed c.requires).waits ∙ c.if-self.true in
+    λ w e shows refused.
+    let why = stall_refusal s m w _ waits (ap (λ (ws : List ℕ). length ws) shows.words) in
+    let clear = ap refused_by c.in-Ok.ensures.allowed in
+    let none = sym refused ∙ why ∙ clear in
+    absurd (cc)
+
+pub returns-in-Err-clause-refusal : goal.returns-in-Err-clause-refusal
+unfolding step_of_word
+returns-in-Err-clause-refusal g c =
+    let old = c.args.self.now in
+    let s = statement_of machines.Mic2 old.control.word in
+    let m = micro_in old.latches in
+    let waits : is_stalled s m ≡ true = sym (old.computed c.requires).waits ∙ c.if-self.true in
+    λ w e shows refused.
+    let why = stall_refusal s m w _ waits (ap (λ (ws : List ℕ). length ws) shows.words) in
+    let same = sym c.in-Err.ensures.err ∙ (sym why ∙ refused) in
+    cc
+
+pub returns-in-Err-clause-err : goal.returns-in-Err-clause-err
+unfolding step_of_word
+returns-in-Err-clause-err g c =
+    let old = c.args.self.now in
+    let s = statement_of machines.Mic2 old.control.word in
+    let m = micro_in old.latches in
+    let waits : is_stalled s m ≡ true = sym (old.computed c.requires).waits ∙ c.if-self.true in
+    let never = refused_no_fault (edge_refusal (length c.args.bus.now.words) 0 m.unit) c.in-Err.fault c.in-Err.ensures.err in
+    record {
+      refused = λ no_fault w shows. stall_refusal s m w _ waits (ap (λ (ws : List ℕ). length ws) shows.words) ∙ c.in-Err.ensures.err;
+      reads = λ e w shows. absurd (never (subst IsFault (sym e) tt));
+      uses = λ e w shows. absurd (never (subst IsFault (sym e) tt));
+    }
+
+pub advance-requires-clause-allowed : goal.advance-requires-clause-allowed
+advance-requires-clause-allowed g c =
+    let old = c.args.self.now in
+    let s = statement_of machines.Mic2 old.control.word in
+    let m = micro_in old.latches in
+    let asked : Asked = record { ports = c.ports-ports.result; mem = c.of_bits-mem.result; at = c.will_fetch-at.result } in
+    let is : IsAsked s m asked =
+    is_asked old.control.word m old.stalled old.value old.c c.destinations-destinations.result old.control.demand c.is_named.result c.ports-ports.result c.of_bits-mem.result
+    c.will_fetch-at.result (old.computed c.requires) c.if-self.false c.destinations-destinations.ensures.value old.control.demands c.is_named.ensures c.ports-ports.ensures
+    (c.of_bits-mem.ensures ∙ ap mem_of c.mem.ensures) c.will_fetch-at.ensures in
+    let n = length c.args.bus.now.words in
+    let clear = second_clear (memory_refusal n asked.mem asked.ports.mar) (sample_refusal n asked.at) c.in-Ok-access.ensures.allowed in
+    ap (λ (k : ℕ). unit_refusal (jumps s.part) k (settled s m).pc (demand s) m.unit) c.in-Ok-access.ensures.size
+    ∙ ap (λ (p : Ports). unit_refusal (jumps s.part) n p.pc (demand s) m.unit) (sym is.given)
+    ∙ sym (is.samples n) ∙ clear
+
+pub returns-in-Ok-access-clause-ok : goal.returns-in-Ok-access-clause-ok
+unfolding step_of_word
+returns-in-Ok-access-clause-ok g c =
+    let old = c.args.self.now in
+    let s = statement_of machines.Mic2 old.control.word in
+    let m = micro_in old.latches in
+    let asked : Asked = record { ports = c.ports-ports.result; mem = c.of_bits-mem.result; at = c.will_fetch-at.result } in
+    let is : IsAsked s m asked =
+    is_asked old.control.word m old.stalled old.value old.c c.destinations-destinations.result old.control.demand c.is_named.result c.ports-ports.result c.of_bits-mem.result
+    c.will_fetch-at.result (old.computed c.requires) c.if-self.false c.destinations-destinations.ensures.value old.control.demands c.is_named.ensures c.ports-ports.ensures
+    (c.of_bits-mem.ensures ∙ ap mem_of c.mem.ensures) c.will_fetch-at.ensures in
+    λ rest fits.
+    let led = c.in-Ok-access.ensures.ok rest fits in (
+      led.0,
+      led.1,
+      λ w shows same.
+          let to = led.2 w shows same in (
+            to.0,
+            is_done s m asked is w to.0 _ (ap (λ (ws : List ℕ). length ws) shows.words) _ _ c.in-Ok-access.ensures.allowed to.1 to.2.words _
+                (c.advance.ensures.micro ∙ ap (λ (x : ℕ). moved_on s m x c.access.new.bus.words c.in-Ok-access.word) ((old.computed c.requires).alu c.if-self.false)),
+            to.2,
+            to.3,
+          ),
+    )
+
+pub returns-in-Ok-access-clause-others : goal.returns-in-Ok-access-clause-others
+returns-in-Ok-access-clause-others g c =
+    let old = c.args.self.now in
+    let s = statement_of machines.Mic2 old.control.word in
+    let m = micro_in old.latches in
+    let asked : Asked = record { ports = c.ports-ports.result; mem = c.of_bits-mem.result; at = c.will_fetch-at.result } in
+    let is : IsAsked s m asked =
+    is_asked old.control.word m old.stalled old.value old.c c.destinations-destinations.result old.control.demand c.is_named.result c.ports-ports.result c.of_bits-mem.result
+    c.will_fetch-at.result (old.computed c.requires) c.if-self.false c.destinations-destinations.ensures.value old.control.demands c.is_named.ensures c.ports-ports.ensures
+    (c.of_bits-mem.ensures ∙ ap mem_of c.mem.ensures) c.will_fetch-at.ensures in
+    let mar = ap (λ (p : Ports). p.mar) is.given ∙ sym (ap (λ (n : Micro). n.mar) c.advance.ensures.micro) in
+    subst (λ (at : ℕ). ChangesOnly at c.args.bus.now.words c.access.new.bus.words) mar c.in-Ok-access.ensures.others
+
+pub returns-in-Ok-access-clause-refusal : goal.returns-in-Ok-access-clause-refusal
+unfolding step_of_word
+returns-in-Ok-access-clause-refusal g c =
+    let old = c.args.self.now in
+    let s = statement_of machines.Mic2 old.control.word in
+    let m = micro_in old.latches in
+    let asked : Asked = record { ports = c.ports-ports.result; mem = c.of_bits-mem.result; at = c.will_fetch-at.result } in
+    let is : IsAsked s m asked =
+    is_asked old.control.word m old.stalled old.value old.c c.destinations-destinations.result old.control.demand c.is_named.result c.ports-ports.result c.of_bits-mem.result
+    c.will_fetch-at.result (old.computed c.requires) c.if-self.false c.destinations-destinations.ensures.value old.control.demands c.is_named.ensures c.ports-ports.ensures
+    (c.of_bits-mem.ensures ∙ ap mem_of c.mem.ensures) c.will_fetch-at.ensures in
+    λ w e shows refused.
+    let why = step_refusal s m asked is _ w (ap (λ (ws : List ℕ). length ws) shows.words) in
+    let clear = ap refused_by c.in-Ok-access.ensures.allowed in
+    let none = sym refused ∙ why ∙ clear in
+    absurd (cc)
+
+pub returns-in-Err-access-clause-refusal : goal.returns-in-Err-access-clause-refusal
+unfolding step_of_word
+returns-in-Err-access-clause-refusal g c =
+    let old = c.args.self.now in
+    let s = statement_of machines.Mic2 old.control.word in
+    let m = micro_in old.latches in
+    let asked : Asked = record { ports = c.ports-ports.result; mem = c.of_bits-mem.result; at = c.will_fetch-at.result } in
+    let is : IsAsked s m asked =
+    is_asked old.control.word m old.stalled old.value old.c c.destinations-destinations.result old.control.demand c.is_named.result c.ports-ports.result c.of_bits-mem.result
+    c.will_fetch-at.result (old.computed c.requires) c.if-self.false c.destinations-destinations.ensures.value old.control.demands c.is_named.ensures c.ports-ports.ensures
+    (c.of_bits-mem.ensures ∙ ap mem_of c.mem.ensures) c.will_fetch-at.ensures in
+    λ w e shows refused.
+    let why = step_refusal s m asked is _ w (ap (λ (ws : List ℕ). length ws) shows.words) in
+    let answer = c.in-Err-access.ensures.refusal e (sym why ∙ refused) in
+    cc
+
+pub returns-in-Err-access-clause-err : goal.returns-in-Err-access-clause-err
+unfolding step_of_word
+returns-in-Err-access-clause-err g c =
+    let old = c.args.self.now in
+    let s = statement_of machines.Mic2 old.control.word in
+    let m = micro_in old.latches in
+    let asked : Asked = record { ports = c.ports-ports.result; mem = c.of_bits-mem.result; at = c.will_fetch-at.result } in
+    let is : IsAsked s m asked =
+    is_asked old.control.word m old.stalled old.value old.c c.destinations-destinations.result old.control.demand c.is_named.result c.ports-ports.result c.of_bits-mem.result
+    c.will_fetch-at.result (old.computed c.requires) c.if-self.false c.destinations-destinations.ensures.value old.control.demands c.is_named.ensures c.ports-ports.ensures
+    (c.of_bits-mem.ensures ∙ ap mem_of c.mem.ensures) c.will_fetch-at.ensures in
+    let law : AtConsole = record { takes = c.console_law.ensures.takes; gives = c.console_law.ensures.gives } in
+    let clear = λ (fault : IsFault c.in-Err-access.fault). not_refused (refusal_on (length c.args.bus.now.words) asked) (Err c.in-Err-access.fault) c.in-Err-access.fault refl fault c.in-Err-access.ensures.refusal in
+    record {
+      refused = λ no_fault w shows.
+          step_refusal s m asked is _ w (ap (λ (ws : List ℕ). length ws) shows.words)
+          ∙ c.in-Err-access.ensures.refused no_fault;
+      reads = λ e w shows.
+          let fault : IsFault c.in-Err-access.fault = subst IsFault (sym e) tt in
+          reads_console law old.control.word m asked is _ w (ap (λ (ws : List ℕ). length ws) shows.words) (clear fault) (c.in-Err-access.ensures.behind fault) (c.in-Err-access.ensures.reads (cc));
+      uses = λ e w shows.
+          let fault : IsFault c.in-Err-access.fault = subst IsFault (sym e) tt in
+          uses_console law old.control.word m asked is _ w (ap (λ (ws : List ℕ). length ws) shows.words) (clear fault) (c.in-Err-access.ensures.behind fault) (c.in-Err-access.ensures.uses (cc));
+    }

@@ -1,0 +1,51 @@
+-- What the latches of Mic-2 mean: the microstep's state, and what its buses carry between its calls.
+use Rattle.std.specs.Prelude.{◌≡◌, ℕ, ◌*◌, ◌+◌, ◌<◌, ◌≤◌, Bool, false, slice_index}
+use Rattle.machine_words.specs.Arithmetic.{signed_byte, signed_pair}
+use Rattle.micro_word.specs.Operation.{shifted}
+use Rattle.micro_word.specs.declared.lines.TheConstants.{NOTHING}
+use Rattle.micro_word.specs.declared.statement.Placed.{Placed}
+use Rattle.mic2_datapath.specs.Micro.{Micro}
+use Rattle.mic2_datapath.specs.Microstep.{is_stalled, result_of, source}
+use Rattle.mic2_datapath.specs.declared.latches.Latches.{Latches}
+
+abbrev pub micro_in : Latches → Micro
+micro_in l =
+    record {
+      mar = slice_index l.places 0;
+      mdr = slice_index l.places 1;
+      pc = slice_index l.places 2;
+      sp = slice_index l.places 3;
+      lv = slice_index l.places 4;
+      cpp = slice_index l.places 5;
+      tos = slice_index l.places 6;
+      opc = slice_index l.places 7;
+      h = slice_index l.places 8;
+      mpc = l.mpc;
+      word = l.word;
+      unit = l.unit;
+      begins = l.begins;
+    }
+
+-- what holds of all latches
+pub record AreLatches (l : Latches) : Type 0 where
+  pub mpc : l.mpc < 512
+  pub nothing : slice_index l.places NOTHING ≡ 0
+
+-- the front of the queue stands on its places, as far as so many bytes of it are named
+pub record HasFront (operands : ℕ) (l : Latches) : Type 0 where
+  pub byte : 1 ≤ operands → slice_index l.places 9 ≡ signed_byte (slice_index l.unit.bytes 0)
+  pub unsigned : 1 ≤ operands → slice_index l.places 10 ≡ slice_index l.unit.bytes 0
+  pub pair : 2 ≤ operands → slice_index l.places 11 ≡ signed_pair (slice_index l.unit.bytes 0) (slice_index l.unit.bytes 1)
+  pub unsigned_pair : 2 ≤ operands → slice_index l.places 12 ≡ 256 * slice_index l.unit.bytes 0 + slice_index l.unit.bytes 1
+
+-- behind the call that drives the operand buses: whether the cycle stalls, and what is on them where it does not
+pub record HasDriven (s : Placed) (m : Micro) (stalled : Bool) (a b : ℕ) : Type 0 where
+  pub waits : stalled ≡ is_stalled s m
+  pub a_side : stalled ≡ false → a ≡ source s.part.a m
+  pub b_side : stalled ≡ false → b ≡ source s.part.b m
+
+-- behind the call that lets ALU and shifter work: what leaves them
+pub record HasComputed (s : Placed) (m : Micro) (stalled : Bool) (value c : ℕ) : Type 0 where
+  pub waits : stalled ≡ is_stalled s m
+  pub alu : stalled ≡ false → value ≡ result_of s.part m
+  pub shifter : stalled ≡ false → c ≡ shifted s.part.shift value

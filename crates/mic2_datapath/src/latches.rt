@@ -1,0 +1,241 @@
+//! What Mic-2 keeps between cycles.
+
+ghost use Rattle.std.specs.Prelude.{◌≡◌, ◌≢◌, ◌≤◌, ◌<◌, ◌*◌, ◌+◌, ℕ, None, OnOk, OnErr, IfErr, IsTrue, length, nat_lt, slice_index, zero};
+ghost use Rattle.machine_words.specs.Arithmetic.{signed_byte, signed_pair};
+ghost use Rattle.micro_word.specs.declared.statement.PlacedNext.{PlacedNext};
+ghost use Rattle.micro_word.specs.Coding.{addr_bits, jam_bits, statement_of};
+ghost use Rattle.micro_word.specs.Lines.{AreSlots};
+ghost use Rattle.micro_word.specs.Operation.{shifted};
+ghost use Rattle.machine_words.specs.declared.machine.Machine.TheVariants.{Mic2};
+ghost use Rattle.console_port.specs.Bus.{refused_by};
+ghost use Rattle.datapath.specs.Next.{target};
+ghost use Rattle.datapath.specs.Places.{registers_at};
+ghost use Rattle.datapath.specs.Registers.{loaded, ports_given};
+ghost use Rattle.mic2_fetch_unit.specs.FetchUnit.{edge_refusal, sample_refusal};
+ghost use Rattle.mic2_datapath.specs.Mic2.{initial as initial_of};
+ghost use Rattle.mic2_datapath.specs.Microstep.{advanced, byte_at, demand, fetched, is_to_instruction, jumps, moved, operand_bytes, result_of, settled, stalled, unit_after, unit_refusal};
+ghost use Rattle.mic2_datapath.specs.Latches.{AreLatches, HasFront, micro_in};
+
+use crate::control::{Control, JMPC};
+use console_port::{Bus, BusFault};
+use datapath::{Places, Ports, arrived, next_address, port, settle, sign_extended};
+use mic_clock::Start;
+use mic2_fetch_unit::FetchUnit;
+use micro_word::{Machine, bits, is_named, statement_law, word_law};
+
+/// The places of the registers that the memory's ports are given, and of the front of the queue in its four forms.
+const MAR: u8 = 0;
+
+const MDR: u8 = 1;
+
+pub const PC: u8 = 2;
+
+const MBR1: usize = 9;
+
+const MBR1U: usize = 10;
+
+const MBR2: usize = 11;
+
+const MBR2U: usize = 12;
+
+#[derive(Drop)]
+pub struct Latches {
+    pub places: Places,
+    pub unit: FetchUnit,
+    /// The memory word that the next edge loads into MDR.
+    pub word: Option<u32>,
+    pub mpc: u16,
+    /// Whether the cycle before went to an instruction's first word.
+    pub begins: bool,
+}
+
+#[tactic(auto, unfolding(machine_words::specs::Arithmetic::signed_pair))]
+fn sign_extended_pair(pair: u16) -> u32
+    ensures { (high low : ℕ) → low < 256 → pair ≡ 256 * high + low → result ≡ signed_pair high low }
+{
+    if pair < 0x8000 {
+        pair as u32
+    } else {
+        pair as u32 + 0xFFFF_0000
+    }
+}
+
+/// Puts the first byte of the queue on its two places.
+fn show_byte(first: u8, places: &mut Places)
+    ensures byte { slice_index places.new 9 ≡ signed_byte first }
+    ensures unsigned { slice_index places.new 10 ≡ first }
+    ensures others { (k : ℕ) → k ≢ 9 → k ≢ 10 → slice_index places.new k ≡ slice_index places.old k }
+{
+    places[MBR1] = sign_extended(first);
+    places[MBR1U] = first as u32;
+}
+
+/// Puts the first two bytes on theirs.
+fn show_pair(pair: u16, places: &mut Places)
+    ensures pair { (high low : ℕ) → low < 256 → pair ≡ 256 * high + low → slice_index places.new 11 ≡ signed_pair high low }
+    ensures unsigned { slice_index places.new 12 ≡ pair }
+    ensures others { (k : ℕ) → k ≢ 11 → k ≢ 12 → slice_index places.new k ≡ slice_index places.old k }
+{
+    places[MBR2] = sign_extended_pair(pair);
+    places[MBR2U] = pair as u32;
+}
+
+/// PC behind the bytes that are taken.
+#[tactic(auto, unfolding(machine_words::specs::Arithmetic::wrap))]
+fn behind(pc: u32, taken: u8) -> u32
+    ensures { result ≡ advanced taken pc }
+{
+    pc.wrapping_add(taken as u32)
+}
+
+/// The registers at a clock edge: PC goes on, those that are named become the value on the C bus, and then a word that was read arrives.
+fn load(destinations: u16, control: &Control, c: u32, arriving: Option<u32>, places: &mut Places)
+    requires { AreSlots destinations control.now.lines.first control.now.lines.second control.now.lines.further }
+    ensures registers { registers_at places.new ≡
+        loaded destinations c arriving (record (registers_at places.old) { pc = advanced control.now.demand (registers_at places.old).pc }) }
+    ensures others { (k : ℕ) → 9 ≤ k → k < 15 → slice_index places.new k ≡ slice_index places.old k }
+{
+    places[PC as usize] = behind(places[PC as usize], control.demand);
+    settle(destinations, &control.lines, c, arriving, places);
+}
+
+/// The fetch unit at a clock edge: it jumps to PC, or so many bytes are taken.
+fn go(jumps: bool, pc: u32, taken: u8, bus: &Bus, unit: &mut FetchUnit)
+    requires there { taken ≤ length unit.old.bytes }
+    requires allowed { unit_refusal jumps (length bus.now.words) pc taken unit.old ≡ None }
+    ensures { unit.new ≡ unit_after jumps bus.now.words pc taken unit.old }
+{
+    if jumps {
+        unit.go_to(pc, bus);
+    } else {
+        unit.go_on(taken, bus);
+    }
+}
+
+/// Whether a statement with these bits goes to an instruction's first word.
+fn is_first(jam: u8, addr: u16) -> bool
+    ensures { (n : PlacedNext) → jam ≡ jam_bits n → addr ≡ addr_bits n → result ≡ is_to_instruction n }
+{
+    jam == JMPC && addr == 0
+}
+
+impl Latches {
+    /// As a reset leaves them.
+    pub fn initial(start: &Start) -> Latches
+        requires { start.now.entry < 512 }
+        ensures micro { micro_in result ≡ initial_of start.now }
+        ensures latches { AreLatches result }
+    {
+        Latches {
+            places: [
+                0, 0, 0, start.sp, 0x8000, 0x4000, 0, 0, 0, 0, 0, 0, 0, 0, 0, 0,
+            ],
+            unit: FetchUnit::new(start.first),
+            word: None,
+            mpc: start.entry,
+            begins: false,
+        }
+    }
+
+    /// Puts the front of the queue on its places, as far as operands name it.
+    pub fn show_front(&mut self, operands: u8)
+        requires latches { AreLatches self.old }
+        requires there { operands ≤ length self.old.unit.bytes }
+        requires few { operands < 3 }
+        ensures latches { AreLatches self.new }
+        ensures micro { micro_in self.new ≡ micro_in self.old }
+        ensures front { HasFront operands self.new }
+    {
+        if operands == 0 {
+            return;
+        }
+        show_byte(self.unit.one(), &mut self.places);
+        if operands == 2 {
+            show_pair(self.unit.two(), &mut self.places);
+        }
+    }
+
+    /// What the memory's ports are given: their registers as they become.
+    pub fn ports(&self, c: u16, value: u32, taken: u8) -> Ports
+        ensures { result ≡ ports_given (loaded c value self.now.word (record (registers_at self.now.places) { pc = advanced taken (registers_at self.now.places).pc })) }
+    {
+        let mar = port(c, MAR, value, &self.places);
+        let there = port(c, MDR, value, &self.places);
+        let mdr = arrived(self.word, there);
+        let pc = if is_named(c, PC) {
+            value
+        } else {
+            behind(self.places[PC as usize], taken)
+        };
+        Ports { mar, mdr, pc }
+    }
+
+    /// The word address that the fetch unit samples, if it samples one: where it jumps, that of the new PC.
+    #[tactic(auto, unfolding(mic2_fetch_unit::specs::FetchUnit::edge_refusal))]
+    pub fn will_fetch(&self, jumps: bool, pc: u32, taken: u8) -> Option<u32>
+        requires { taken ≤ length self.now.unit.bytes }
+        ensures { (stack_end : ℕ) → sample_refusal stack_end result ≡ unit_refusal jumps stack_end pc taken self.now.unit }
+    {
+        if jumps {
+            Some(pc / 4)
+        } else {
+            self.unit.will_fetch(taken)
+        }
+    }
+
+    /// A cycle in which the machine waits for bytes. An Err leaves all.
+    pub fn stall(&mut self, bus: &Bus) -> Result<(), BusFault>
+        requires { AreLatches self.old }
+        ensures latches { AreLatches self.new }
+        ensures ok { OnOk result (micro_in self.new ≡ stalled bus.now.words (micro_in self.old)) }
+        ensures allowed { OnOk result (edge_refusal (length bus.now.words) 0 self.old.unit ≡ None) }
+        ensures err { IfErr result (λ e. refused_by (edge_refusal (length bus.now.words) 0 self.old.unit) ≡ Some e) }
+        ensures state { OnErr result (micro_in self.new ≡ micro_in self.old) }
+    {
+        self.unit.edge(0, bus)?;
+        self.begins = false;
+        Ok(())
+    }
+
+    /// The byte at a place of the queue; 0 behind its end.
+    fn byte_at(&self, place: u8) -> u8
+        ensures { result ≡ slice_index self.now.unit.bytes place }
+    {
+        if place < self.unit.have() {
+            self.unit.byte_at(place)
+        } else {
+            0
+        }
+    }
+
+    /// The edge of a cycle that does not stall, behind its accesses: this word is under way.
+    pub fn advance(&mut self, control: &Control, value: u32, c: u32, word: Option<u32>, bus: &Bus)
+        requires latches { AreLatches self.old }
+        requires there { control.now.demand ≤ length self.old.unit.bytes }
+        requires value { value ≡ result_of (statement_of Mic2 control.now.word).part (micro_in self.old) }
+        requires c { c ≡ shifted (statement_of Mic2 control.now.word).part.shift value }
+        requires allowed { let s = statement_of Mic2 control.now.word in
+            unit_refusal (jumps s.part) (length bus.now.words) (settled s (micro_in self.old)).pc (demand s) self.old.unit ≡ None }
+        ensures latches { AreLatches self.new }
+        ensures micro { let s = statement_of Mic2 control.now.word in let m = micro_in self.old in
+            micro_in self.new ≡ moved (settled s m) (target s.next value (byte_at m.unit (operand_bytes s.part))) word
+            (unit_after (jumps s.part) bus.now.words (settled s m).pc (demand s) m.unit) (is_to_instruction s.next) }
+    {
+        word_law(Machine::Mic2);
+        statement_law(Machine::Mic2);
+        let destinations = bits::destinations(Machine::Mic2, control.word);
+        let jam = bits::jam(Machine::Mic2, control.word);
+        let dispatched = self.byte_at(control.operands);
+        load(destinations, control, c, self.word, &mut self.places);
+        go(
+            is_named(destinations, PC),
+            self.places[PC as usize],
+            control.demand,
+            bus,
+            &mut self.unit,
+        );
+        self.mpc = next_address(control.lines.addr, jam, value, dispatched);
+        self.word = word;
+        self.begins = is_first(jam, control.lines.addr);
+    }
+}

@@ -1,0 +1,225 @@
+//! The machine: its four calls, which are the book's subcycles.
+
+ghost use Rattle.std.specs.Prelude.{◌≡◌, refl};
+ghost use Rattle.machine_words.specs.declared.machine.Machine.TheVariants.{Mic2 as Mic2Machine};
+ghost use Rattle.micro_word.specs.Coding.{statement_of};
+ghost use Rattle.mic_clock.specs.Meaning.{Driven, AtEdge};
+ghost use Rattle.datapath.specs.Stage.{phase_of};
+ghost use Rattle.mic2_datapath.specs.Latches.{AreLatches, HasDriven, HasComputed, micro_in};
+
+use crate::access::access;
+use crate::control::Control;
+use crate::latches::{Latches, PC};
+use console_port::{Bus, BusFault};
+use datapath::{Stage, console_law, operate, shift_by, side_law};
+use mic_base::{Sink, Source};
+use mic_clock::{Clocked, Computed, Drive, Registers, Start, Tail};
+use mic1_alu::AluOut;
+use micro_word::{Machine, Mem, Store, Word2, bits, is_named, statement_law, word_law};
+
+/// Mic-2.
+#[derive(Drop)]
+pub struct Mic2 {
+    latches: Latches,
+    stage: Stage,
+    /// The word that was set up last.
+    control: Control,
+    /// Whether too few bytes are there for it.
+    stalled: bool,
+    /// What is on the operand buses.
+    a: u32,
+    b: u32,
+    /// What leaves the ALU.
+    value: u32,
+    /// What is on the C bus.
+    c: u32,
+    ghost kept: { AreLatches latches },
+    ghost drove: { phase_of stage ≡ Driven → HasDriven (statement_of Mic2Machine control.word) (micro_in latches) stalled a b },
+    ghost computed: { phase_of stage ≡ AtEdge → HasComputed (statement_of Mic2Machine control.word) (micro_in latches) stalled value c },
+}
+
+impl Mic2 {
+    ghost use Rattle.mic_clock.specs.Meaning.{AtRest};
+    ghost use Rattle.mic2_datapath.specs.Mic2.{at_zero, initial as initial_of};
+    ghost use Rattle.mic2_datapath.specs.View.{micro_of, phase};
+
+    /// As a reset at entry 0 with SP 0 leaves it, where the memory's first word is 0.
+    pub fn new() -> Mic2
+        ensures micro { micro_of result ≡ initial_of at_zero }
+        ensures phase { phase result ≡ AtRest }
+    {
+        Mic2 {
+            latches: Latches::initial(&Start {
+                entry: 0,
+                sp: 0,
+                first: 0,
+            }),
+            stage: Stage::Setup,
+            control: Control::idle(),
+            stalled: false,
+            a: 0,
+            b: 0,
+            value: 0,
+            c: 0,
+        }
+    }
+}
+
+impl Clocked for Mic2 {
+    ghost use Rattle.mic2_datapath.specs.Micro.{Micro};
+    ghost use Rattle.mic2_datapath.specs.Mic2.{mic2_meaning, IsReady as IsReadyAt};
+    ghost use Rattle.mic2_datapath.specs.View.{micro_of, phase, microinstruction_of};
+
+    type Word = Word2;
+
+    ghost State = { Micro };
+
+    ghost meaning = { mic2_meaning };
+
+    ghost IsReady = { IsReadyAt };
+
+    ghost state = { micro_of };
+
+    ghost phase = { phase };
+
+    ghost word = { microinstruction_of };
+
+    fn machine(&self) -> Machine {
+        Machine::Mic2
+    }
+
+    fn reset(&mut self, start: &Start) {
+        self.stage = Stage::Setup;
+        self.latches = Latches::initial(start);
+    }
+
+    fn setup(&mut self, store: &Store) {
+        self.stage = Stage::Drive;
+        self.control = Control::of(store, self.latches.mpc);
+    }
+
+    fn drive(&mut self) -> Drive {
+        word_law(Machine::Mic2);
+        statement_law(Machine::Mic2);
+        let stalled = self.latches.unit.have() < self.control.demand;
+        self.stalled = stalled;
+        if stalled {
+            self.stage = Stage::Compute;
+            return Drive {
+                a: 0,
+                b: 0,
+                stalled: true,
+            };
+        }
+        self.latches.show_front(self.control.operands);
+        let a = self.latches.places[self.control.lines.a as usize];
+        let b = self.latches.places[self.control.lines.b as usize];
+        self.a = a;
+        self.b = b;
+        self.stage = Stage::Compute;
+        Drive {
+            a,
+            b,
+            stalled: false,
+        }
+    }
+
+    fn compute(&mut self) -> Computed {
+        word_law(Machine::Mic2);
+        statement_law(Machine::Mic2);
+        side_law();
+        if self.stalled {
+            self.stage = Stage::Edge;
+            return Computed {
+                alu: AluOut {
+                    value: 0,
+                    n: false,
+                    z: false,
+                },
+                c: 0,
+            };
+        }
+        let word = self.control.word;
+        let gates = bits::gates(Machine::Mic2, word);
+        let value = operate(gates, &self.control.lines, self.a, self.b);
+        let c = shift_by(bits::shift(Machine::Mic2, word), value);
+        self.value = value;
+        self.c = c;
+        self.stage = Stage::Edge;
+        Computed {
+            alu: AluOut {
+                value,
+                n: value >= 0x8000_0000,
+                z: value == 0,
+            },
+            c,
+        }
+    }
+
+    fn edge<S: Source, K: Sink>(
+        &mut self,
+        bus: &mut Bus,
+        source: &mut S,
+        sink: &mut K,
+    ) -> Result<(), BusFault> {
+        console_law();
+        self.stage = Stage::Setup;
+        if self.stalled {
+            return match self.latches.stall(bus) {
+                Ok(()) => Ok(()),
+                Err(fault) => Err(fault),
+            };
+        }
+        let word = self.control.word;
+        let mem = Mem::of_bits(bits::mem(Machine::Mic2, word));
+        let destinations = bits::destinations(Machine::Mic2, word);
+        let ports = self
+            .latches
+            .ports(destinations, self.c, self.control.demand);
+        let at = self
+            .latches
+            .will_fetch(is_named(destinations, PC), ports.pc, self.control.demand);
+        match access(mem, at, &ports, bus, source, sink) {
+            Ok(word) => {
+                self.latches
+                    .advance(&self.control, self.value, self.c, word, bus);
+                Ok(())
+            }
+            Err(fault) => Err(fault),
+        }
+    }
+
+    fn registers(&self) -> Registers {
+        let places = self.latches.places;
+        Registers {
+            mar: places[0],
+            mdr: places[1],
+            pc: places[2],
+            sp: places[3],
+            lv: places[4],
+            cpp: places[5],
+            tos: places[6],
+            opc: places[7],
+            h: places[8],
+            mpc: self.latches.mpc,
+            tail: Tail::Queue {
+                bytes: self.latches.unit.bytes(),
+                imar: self.latches.unit.imar(),
+            },
+        }
+    }
+
+    fn at_boundary(&self) -> bool {
+        self.latches.begins
+    }
+
+    fn instruction_address(&self) -> u32 {
+        self.latches.places[2].wrapping_sub(1)
+    }
+
+    fn mpc(&self) -> u16 {
+        self.latches.mpc
+    }
+
+    ghost its_words = { refl };
+}
