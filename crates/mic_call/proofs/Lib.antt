@@ -1,3 +1,3 @@
-pub mod StraightImages
 pub mod Ending
 pub mod Asking
+pub mod Agreeing

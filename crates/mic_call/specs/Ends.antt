@@ -1,6 +1,13 @@
 -- How a call of `mic` ends, by what its words ask for.
 use Rattle.std.specs.Prelude.{◌≡◌, ℕ, List, Option, Some, None}
 use Rattle.mic_words.specs.Words.{Asked, Assemble, ListOf, Verify, Run, Reference, Micro, PrintMicro}
+use Rattle.machine_words.specs.declared.machine.Machine.TheVariants.{Mic1, Mic2}
+use Rattle.mal_parser.specs.Canonical.{canonical_text}
+use Rattle.mic1_datapath.specs.Mic1.{mic1_meaning, IsReady}
+use Rattle.mic1_datapath.specs.View.{micro_of}
+use Rattle.shipped_program.specs.Listing.{program_of}
+use Rattle.shipped_program.specs.Shipped.{HasShipped}
+use Rattle.console_port.specs.declared.map.MemoryMap.{MemoryMap}
 use Rattle.mic_work.specs.Status as exits
 use Rattle.mic_work.specs.Messages.{out_of_memory}
 use Rattle.mic_work.specs.Outside.{Says}
@@ -25,17 +32,30 @@ pub record OnlySays (text : List ℕ) (exit : ℕ) (old new : Outside) (status :
   pub untouched : IsUntouched old.streams new.streams
   pub says : Says old.streams.err new.streams.err text exit status
 
--- where the words ask for nothing, the usage text says how `mic` is called
+-- nothing is done but that this text is put to `out`
+pub record OnlyPrints (text : List ℕ) (old new : Outside) (status : ℕ) : Type 0 where
+  pub files : new.files ≡ old.files
+  pub console : new.streams.console ≡ old.streams.console
+  pub err : new.streams.err ≡ old.streams.err
+  pub says : Says old.streams.out new.streams.out text exits.done status
+
+-- Mic-1 with the microprogram that ships for it, and Main1 at 0x002
+abbrev pub RunsMic1 : List ℕ → ℕ → MemoryMap → Outside → Outside → ℕ → Type 0
+RunsMic1 = RunEnds micro_of mic1_meaning IsReady (HasShipped Mic1) 0x002
+
+-- Where the words ask for nothing, the usage text says how `mic` is called. `run` on Mic-2 is not built, and is answered so too.
 abbrev pub EndsAs : Option Asked → Outside → Outside → ℕ → Type 0
 EndsAs None old new status = OnlySays usage exits.usage old new status
 EndsAs (Some (Assemble source image)) old new status = EndsAside (Assembled image) source old new status
 EndsAs (Some (ListOf file map)) old new status = EndsAside (Shown map Lists) file old new status
 EndsAs (Some (Verify file map)) old new status = EndsAside (Shown map Summarizes) file old new status
-EndsAs (Some (Run file)) old new status = RunEnds file old new status
+EndsAs (Some (Run file Mic1 bound map)) old new status = RunsMic1 file bound map old new status
+EndsAs (Some (Run file Mic2 bound map)) old new status = OnlySays usage exits.usage old new status
 EndsAs (Some (Reference file machine bound map)) old new status =
     EndsReference file machine bound map old.streams.console new.streams.console (desk_of old) (desk_of new) status
 EndsAs (Some (Micro mal store machine)) old new status = EndsAside (MicroAnswers machine store) mal old new status
-EndsAs (Some (PrintMicro file machine)) old new status = EndsAside (PrintMicroAnswers machine) file old new status
+EndsAs (Some (PrintMicro (Some file) machine)) old new status = EndsAside (PrintMicroAnswers machine) file old new status
+EndsAs (Some (PrintMicro None machine)) old new status = OnlyPrints (canonical_text (program_of machine)) old new status
 
 -- memory is wanting before anything is done, or the call ends as its words ask
 pub data Ends (asks : Option Asked) (old new : Outside) (status : ℕ) : Type 0 where

@@ -2,3 +2,4 @@ pub mod Outside
 pub mod Usage
 pub mod RunEnds
 pub mod Ends
+pub mod Agree

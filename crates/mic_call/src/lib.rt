@@ -1,11 +1,13 @@
 //! One call of the program `mic`: its words, its files and its streams. It assembles, verifies, lists and runs programs of IJVM, and places and prints microprograms.
 #![tactic(auto)]
 
+mod laws;
 mod run;
 #[cfg(test)]
 mod tests;
 mod top_call;
 mod usage;
 
+pub use laws::run_agrees_with_reference;
 pub use top_call::mic_main;
 pub use usage::misused;

@@ -8,11 +8,13 @@ ghost use Rattle.mic_call.specs.Ends.{Ends};
 
 use crate::run::run_file;
 use crate::usage::misused;
+use machine_words::Machine;
 use mic_base::{Files, Sink, Source};
 use mic_words::{Request, WordsError, read_words};
 use mic_work::{Status, no_memory};
-use micro_commands::{micro, print_micro};
+use micro_commands::{micro, print_micro, print_shipped};
 use program_commands::{assemble_file, list_file, reference_file, verify_file};
+use shipped_microcode::Mic1Interpreter;
 use std::alloc::Global;
 
 /// Does what the words after the program's name ask for.
@@ -39,7 +41,22 @@ pub fn mic_main<F: Files, S: Source, K: Sink, E: Sink>(
         }
         Ok(Request::List { file, map }) => list_file(alloc, file, map, files, out, err),
         Ok(Request::Verify { file, map }) => verify_file(alloc, file, map, files, out, err),
-        Ok(Request::Run { file }) => run_file(alloc, file, files, console, out, err),
+        Ok(
+            Request::Run {
+                file,
+                machine: Machine::Mic1,
+                bound,
+                map,
+            },
+        ) => run_file::<Mic1Interpreter, F, S, K, E>(
+            alloc, file, bound, map, files, console, out, err,
+        ),
+        Ok(
+            Request::Run {
+                machine: Machine::Mic2,
+                ..
+            },
+        ) => misused(err),
         Ok(
             Request::Reference {
                 file,
@@ -55,8 +72,17 @@ pub fn mic_main<F: Files, S: Source, K: Sink, E: Sink>(
                 machine,
             },
         ) => micro(alloc, mal, store, machine, files, out, err),
-        Ok(Request::PrintMicro { file, machine }) => {
-            print_micro(alloc, file, machine, files, out, err)
-        }
+        Ok(
+            Request::PrintMicro {
+                file: Some(file),
+                machine,
+            },
+        ) => print_micro(alloc, file, machine, files, out, err),
+        Ok(
+            Request::PrintMicro {
+                file: None,
+                machine,
+            },
+        ) => print_shipped(machine, out),
     }
 }

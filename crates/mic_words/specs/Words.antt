@@ -22,19 +22,20 @@ pub data Asked : Type 0 where
   Assemble : (source image : Text) → Asked
   ListOf : (file : Text) (map : MemoryMap) → Asked
   Verify : (file : Text) (map : MemoryMap) → Asked
-  Run : (file : Text) → Asked
+  Run : (file : Text) (machine : Machine) (bound : ℕ) (map : MemoryMap) → Asked
   Reference : (file : Text) (machine : Machine) (bound : ℕ) (map : MemoryMap) → Asked
   Micro : (mal store : Text) (machine : Machine) → Asked
-  PrintMicro : (file : Text) (machine : Machine) → Asked
+  -- without a file the microprogram that ships is asked for
+  PrintMicro : (file : Option Text) (machine : Machine) → Asked
 
 abbrev pub asked : Request → Asked
 asked (requests.Assemble source image) = Assemble source.now image.now
 asked (requests.List file map) = ListOf file.now map
 asked (requests.Verify file map) = Verify file.now map
-asked (requests.Run file) = Run file.now
+asked (requests.Run file machine bound map) = Run file.now machine bound map
 asked (requests.Reference file machine bound map) = Reference file.now machine bound map
 asked (requests.Micro mal store machine) = Micro mal.now store.now machine
-asked (requests.PrintMicro file machine) = PrintMicro file.now machine
+asked (requests.PrintMicro file machine) = PrintMicro (option_map (λ file. file.now) file) machine
 
 -- one of the two maps
 abbrev pub HasMap : MemoryMap → Type 0
@@ -44,6 +45,7 @@ HasMap map = IsMap map.stack_end
 abbrev pub HasLimits : Request → Type 0
 HasLimits (requests.List file map) = HasMap map
 HasLimits (requests.Verify file map) = HasMap map
+HasLimits (requests.Run file machine bound map) = (bound ≤ MOST_CYCLES) × HasMap map
 HasLimits (requests.Reference file machine bound map) = (bound ≤ MOST_CYCLES) × HasMap map
 HasLimits request = Unit {0}
 
@@ -87,7 +89,9 @@ abbrev pub verify_of : List Entry → Option Asked
 verify_of given = option_and_then (λ file. option_map (λ map. Verify file map) (map_of given)) (text_in (codes "FILE") given)
 
 abbrev pub run_of : List Entry → Option Asked
-run_of given = option_map (λ file. Run file) (text_in (codes "FILE") given)
+run_of given = option_and_then (λ file. option_and_then (λ machine. option_and_then (λ bound.
+    option_map (λ map. Run file machine bound map)
+    (map_of given)) (bound_from given)) (machine_of given)) (text_in (codes "FILE") given)
 
 abbrev pub reference_of : List Entry → Option Asked
 reference_of given = option_and_then (λ file. option_and_then (λ machine. option_and_then (λ bound.
@@ -99,7 +103,7 @@ micro_of given = option_and_then (λ mal. option_and_then (λ store. option_map 
     (machine_of given)) (text_in (codes "STORE") given)) (text_in (codes "MAL") given)
 
 abbrev pub print_micro_of : List Entry → Option Asked
-print_micro_of given = option_and_then (λ file. option_map (λ machine. PrintMicro file machine) (machine_of given)) (text_in (codes "FILE") given)
+print_micro_of given = option_map (λ machine. PrintMicro (text_in (codes "FILE") given) machine) (machine_of given)
 
 abbrev pub is_given : Text → List Entry → Bool
 is_given option given = is_some (text_in option given)
@@ -109,17 +113,13 @@ abbrev pub asked_of : CommandName → List Entry → Option Asked
 asked_of name.Assemble given = assemble_of given
 asked_of name.List given = list_of given
 asked_of name.Verify given = verify_of given
-asked_of name.Run given =
-    if is_given (codes "machine") given then None
-    else (if is_given (codes "bound") given then None
-    else (if is_given (codes "micro") given then None
-    else (if is_given (codes "map") given then None else run_of given)))
+asked_of name.Run given = if is_given (codes "micro") given then None else run_of given
 asked_of name.Trace given = None
 asked_of name.Profile given = None
 asked_of name.Debug given = None
 asked_of name.Reference given = reference_of given
 asked_of name.Micro given = micro_of given
-asked_of name.PrintMicro given = if is_given (codes "FILE") given then print_micro_of given else None
+asked_of name.PrintMicro given = print_micro_of given
 asked_of name.Soak given = None
 
 abbrev pub asked_by : Option CommandName → List Text → Option Asked

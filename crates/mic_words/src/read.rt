@@ -47,7 +47,15 @@ fn run<'a>(matches: &ArgMatches<'a>) -> Option<Request<'a>>
     ensures asks { (g : List Entry) → Holds (form_for CommandName.Run) g matches.now → option_map asked result ≡ run_of g }
 {
     let file = matches.get_str("FILE")?;
-    Some(Request::Run { file })
+    let machine = machine_in(matches.get_str("machine"))?;
+    let bound = bound_in(matches.get_str("bound"))?;
+    let map = map_in(matches.get_str("map"))?;
+    Some(Request::Run {
+        file,
+        machine,
+        bound,
+        map,
+    })
 }
 
 fn reference<'a>(matches: &ArgMatches<'a>) -> Option<Request<'a>>
@@ -84,7 +92,7 @@ fn print_micro<'a>(matches: &ArgMatches<'a>) -> Option<Request<'a>>
     ensures limits { IfSome result HasLimits }
     ensures asks { (g : List Entry) → Holds (form_for CommandName.PrintMicro) g matches.now → option_map asked result ≡ print_micro_of g }
 {
-    let file = matches.get_str("FILE")?;
+    let file = matches.get_str("FILE");
     let machine = machine_in(matches.get_str("machine"))?;
     Some(Request::PrintMicro { file, machine })
 }
@@ -98,17 +106,13 @@ fn request_in<'a>(command: CommandName, matches: &ArgMatches<'a>) -> Option<Requ
         CommandName::Assemble => assemble(matches),
         CommandName::List => list(matches),
         CommandName::Verify => verify(matches),
-        CommandName::Run if matches.get_str("machine").is_some() => None,
-        CommandName::Run if matches.get_str("bound").is_some() => None,
         CommandName::Run if matches.get_str("micro").is_some() => None,
-        CommandName::Run if matches.get_str("map").is_some() => None,
         CommandName::Run => run(matches),
         CommandName::Trace => None,
         CommandName::Profile => None,
         CommandName::Debug => None,
         CommandName::Reference => reference(matches),
         CommandName::Micro => micro(matches),
-        CommandName::PrintMicro if matches.get_str("FILE").is_none() => None,
         CommandName::PrintMicro => print_micro(matches),
         CommandName::Soak => None,
     }

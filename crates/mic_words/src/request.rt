@@ -20,6 +20,9 @@ pub enum Request<'a> {
     },
     Run {
         file: &'a str,
+        machine: Machine,
+        bound: u64,
+        map: MemoryMap,
     },
     Reference {
         file: &'a str,
@@ -32,8 +35,9 @@ pub enum Request<'a> {
         store: &'a str,
         machine: Machine,
     },
+    /// Without a file the microprogram that ships is asked for.
     PrintMicro {
-        file: &'a str,
+        file: Option<&'a str>,
         machine: Machine,
     },
 }

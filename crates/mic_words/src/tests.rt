@@ -23,22 +23,22 @@ help|
 walk F|
 Run F|
 run|
-run F|run F
+run F|run F mic1 10000000 standard
 run F G|
-run -|run -
+run -|run - mic1 10000000 standard
 run - F|
 run ''|
 run F ''|
 run '' F|
-run -- F|run F
-run F --|run F
+run -- F|run F mic1 10000000 standard
+run F --|run F mic1 10000000 standard
 run -- F --|
 run --|
-run -- --|run --
-run -- -|run -
-run -- -F|run -F
-run -- --machine|run --machine
-run -- --bound=12|run --bound=12
+run -- --|run -- mic1 10000000 standard
+run -- -|run - mic1 10000000 standard
+run -- -F|run -F mic1 10000000 standard
+run -- --machine|run --machine mic1 10000000 standard
+run -- --bound=12|run --bound=12 mic1 10000000 standard
 run -- ''|
 run -F|
 run -f F|
@@ -49,10 +49,10 @@ run F --help|
 run F -h|
 run F -V|
 run F --version|
-run help|run help
-run run|run run
-run a=b|run a=b
-run =|run =
+run help|run help mic1 10000000 standard
+run run|run run mic1 10000000 standard
+run a=b|run a=b mic1 10000000 standard
+run =|run = mic1 10000000 standard
 run F --=v|
 run F ---|
 run F --F|
@@ -83,12 +83,12 @@ micro M S T|
 micro S M|micro S M mic1
 micro - --|
 micro -- - --|micro - -- mic1
-print-micro|
+print-micro|print-micro mic1
 print-micro F|print-micro F mic1
 print-micro F G|
 print-micro -|print-micro - mic1
 print-micro ''|
-print-micro --|
+print-micro --|print-micro mic1
 print-micro -- -F|print-micro -F mic1
 list|
 list F|list F standard
@@ -131,8 +131,8 @@ print-micro F --machine mic2|print-micro F mic2
 print-micro --machine mic2 F|print-micro F mic2
 print-micro F --machine=mic2|print-micro F mic2
 print-micro --machine=mic2 F|print-micro F mic2
-print-micro --machine=mic2|
-print-micro --machine mic2|
+print-micro --machine=mic2|print-micro mic2
+print-micro --machine mic2|print-micro mic2
 print-micro --machine mic2 -- -F|print-micro -F mic2
 reference F --machine mic2|reference F mic2 10000000 standard
 reference --machine mic2 F|reference F mic2 10000000 standard
@@ -152,7 +152,20 @@ reference --bound=12 --map large --machine=mic2 -- F|reference F mic2 12 large
 reference --machine mic2 F --map large --bound 7|reference F mic2 7 large
 reference --machine mic2 --bound 7 -|reference - mic2 7 standard
 reference --machine mic2 --bound 7 -- --map|reference --map mic2 7 standard
-reference F -- --bound=12|";
+reference F -- --bound=12|
+run F --machine mic1|run F mic1 10000000 standard
+run F --machine=mic2|run F mic2 10000000 standard
+run --machine mic2 F|run F mic2 10000000 standard
+run F --bound 12|run F mic1 12 standard
+run hello.jas --bound=12|run hello.jas mic1 12 standard
+run --bound 12 -- hello.jas|run hello.jas mic1 12 standard
+run --bound=12 hello.jas|run hello.jas mic1 12 standard
+run hello.jas --bound 0xC|run hello.jas mic1 12 standard
+run F --map standard|run F mic1 10000000 standard
+run --map=large F|run F mic1 10000000 large
+run F --machine mic2 --bound 12 --map large|run F mic2 12 large
+run --map=large F --bound=12 --machine mic2|run F mic2 12 large
+run --bound 0 --machine mic1 -- --map|run --map mic1 0 standard";
 
 /// Options that are repeated, missing, empty, unknown, or another command's.
 const FAULTS: &str = "\
@@ -197,6 +210,7 @@ micro M S --machine=|
 micro M --machine S|
 print-micro F --machine|
 print-micro --machine F|
+print-micro --machine mic2 --|print-micro mic2
 print-micro F --machine=|
 reference F --boun 1|
 reference F --bounds 1|
@@ -220,7 +234,16 @@ print-micro F --bound=1|
 reference F ---bound 1|
 reference F --=1|
 reference F --bound =1|
-reference F '--bound'|";
+reference F '--bound'|
+run hello.jas --bound 1 --bound 2|
+run hello.jas --bound=|
+run --bound hello.jas|
+run hello.jas --buses|
+run F --input I|
+run F --machine mic1 --machine=mic1|
+run F --map=large --map standard|
+run F --machine|
+run F --map ''|";
 
 /// Values at the edges of their ranges, and values that begin with `-`.
 const VALUES: &str = "\
@@ -286,27 +309,21 @@ verify F --map=-|
 micro M S --machine MIC2|
 micro M S --machine=-|
 print-micro F --machine Mic1|
-print-micro F --machine=0|";
+print-micro F --machine=0|
+print-micro --machine Mic1|
+run hello.jas --bound -1|
+run hello.jas --bound=-1|
+run hello.jas --bound=1000000000|run hello.jas mic1 1000000000 standard
+run hello.jas --bound=1000000001|
+run F --machine mic3|
+run F --map=small|";
 
 /// Commands and options whose work comes later.
 const LATER: &str = "\
-run F --machine mic1|
-run F --machine=mic2|
-run --machine mic1 F|
-run F --bound 12|
-run hello.jas --bound=12|
-run --bound 12 -- hello.jas|
-run hello.jas --bound 0xC|
-run hello.jas --bound -1|
-run hello.jas --bound=-1|
-run hello.jas --bound 1 --bound 2|
-run hello.jas --bound=|
-run hello.jas --buses|
 run F --micro M|
 run F --micro=-|
-run F --map standard|
-run --map=large F|
-run F --input I|
+run F --micro M --machine mic2|
+run --bound 1 --micro M F|
 trace|
 trace F|
 trace F --buses|
@@ -364,7 +381,16 @@ fn shown(alloc: Global, request: Request<'_>) -> Result<String, AllocError> {
             let map = map_name(map);
             format!(in alloc; "verify {file} {map}")
         }
-        Request::Run { file } => format!(in alloc; "run {file}"),
+        Request::Run {
+            file,
+            machine,
+            bound,
+            map,
+        } => {
+            let machine = machine_name(machine);
+            let map = map_name(map);
+            format!(in alloc; "run {file} {machine} {bound} {map}")
+        }
         Request::Reference {
             file,
             machine,
@@ -385,7 +411,10 @@ fn shown(alloc: Global, request: Request<'_>) -> Result<String, AllocError> {
         }
         Request::PrintMicro { file, machine } => {
             let machine = machine_name(machine);
-            format!(in alloc; "print-micro {file} {machine}")
+            match file {
+                Some(file) => format!(in alloc; "print-micro {file} {machine}"),
+                None => format!(in alloc; "print-micro {machine}"),
+            }
         }
     }
 }

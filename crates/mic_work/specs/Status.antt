@@ -51,7 +51,3 @@ sink = 71
 -- memory is wanting
 abbrev pub memory : ℕ
 memory = 75
-
--- a form of input that is not built
-abbrev pub not_built : ℕ
-not_built = 77

@@ -36,8 +36,6 @@ impl Status {
     pub const SINK: Status = Status(71);
     /// Memory is wanting.
     pub const MEMORY: Status = Status(75);
-    /// A form of input that is not built.
-    pub const NOT_BUILT: Status = Status(77);
 
     /// This status, unless what had to be said of it was not said.
     pub fn once(self, said: Result<(), SinkFailed>) -> Status

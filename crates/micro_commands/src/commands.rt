@@ -1,15 +1,19 @@
-//! The two commands, from the file that they read to their status.
+//! The commands, from the file that they read to their status.
 
 ghost use Rattle.std.specs.Prelude.{◌≡◌};
-ghost use Rattle.mic_work.specs.Outside.{desk, files_of, sink_of};
+ghost use Rattle.mal_parser.specs.Canonical.{canonical_text};
+ghost use Rattle.shipped_program.specs.Listing.{program_of};
+ghost use Rattle.mic_work.specs.Status as exits;
+ghost use Rattle.mic_work.specs.Outside.{Says, desk, files_of, sink_of};
 ghost use Rattle.mic_work.specs.Work.{Ends};
 ghost use Rattle.micro_commands.specs.Answers.{MicroAnswers, PrintMicroAnswers};
 
 use crate::listing::printed_answer;
 use crate::placing::placed_answer;
 use mic_base::{Files, Sink};
-use mic_work::{Status, carry_out, no_memory, read_named};
+use mic_work::{Status, carry_out, no_memory, read_named, say};
 use micro_word::Machine;
+use shipped_program::{shipped_text, shipped_texts_are_canonical};
 use std::alloc::Global;
 
 /// Places the microprogram of a file, writes its store file, and then prints its addresses and words.
@@ -59,4 +63,12 @@ pub fn print_micro<F: Files, K: Sink, E: Sink>(
         Ok(answer) => carry_out(alloc, file, answer, files, out, err),
         Err(_) => no_memory(err),
     }
+}
+
+/// Prints the microprogram that ships for a machine, in canonical text.
+pub fn print_shipped<K: Sink>(machine: Machine, out: &mut K) -> Status
+    ensures { Says (sink_of K.held K.passed K.faults out.old) (sink_of K.held K.passed K.faults out.new) (canonical_text (program_of machine)) exits.done result.0 }
+{
+    shipped_texts_are_canonical();
+    say(out, shipped_text(machine).as_bytes(), Status::DONE)
 }

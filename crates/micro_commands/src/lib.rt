@@ -7,6 +7,6 @@ mod listing;
 mod placing;
 mod reasons;
 
-pub use commands::{micro, print_micro};
+pub use commands::{micro, print_micro, print_shipped};
 pub use listing::printed_answer;
 pub use placing::placed_answer;

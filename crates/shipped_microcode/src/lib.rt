@@ -1,13 +1,9 @@
-//! The control store that ships, and that what it makes of Mic-1 interprets IJVM: the clocked run stands for the definition's run, boundary by boundary.
+//! The microprograms that ship for Mic-1 and Mic-2, their control stores, and the runs of verified images that they interpret.
 #![tactic(auto)]
 
-mod run;
-mod store;
-mod straight;
+mod board;
 
-pub use run::{run_straight, straight_law};
-pub use store::{MAIN1, first_store};
-pub use straight::{StraightError, check_straight};
-
-#[cfg(test)]
-mod tests;
+pub use board::board1;
+pub use ijvm_simulation::{Interpreter, run_image};
+pub use mic1_interpreter::{Mic1Interpreter, run_image1};
+pub use shipped_program::{Loaded, load_micro, shipped_program, shipped_text};

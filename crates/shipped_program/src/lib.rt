@@ -13,7 +13,7 @@ pub use laws::{
 pub use loaded::{Loaded, load_micro};
 pub use mic1::MIC1;
 pub use mic2::MIC2;
-pub use program::shipped_program;
+pub use program::{shipped_program, shipped_text};
 
 #[cfg(test)]
 mod tests;

@@ -11,8 +11,8 @@ use mal_parser::{MalProgram, Statement, canonical_text_spells_its_program, parse
 use micro_word::Machine;
 use std::alloc::{AllocError, Global};
 
-/// The text of a machine's microprogram.
-fn text_of(machine: Machine) -> &'static str
+/// The text of the microprogram that interprets IJVM on this machine.
+pub fn shipped_text(machine: Machine) -> &'static str
     ensures { result.now ≡ text_of machine }
 {
     match machine {
@@ -58,7 +58,7 @@ fn read(alloc: Global, machine: Machine) -> Result<MalProgram, AllocError>
     ensures { IfOk result (λ p. p ≡ relined (program_of machine)) }
 {
     canonical_text_spells_its_program();
-    match parse_mal(alloc, machine, text_of(machine).as_bytes()) {
+    match parse_mal(alloc, machine, shipped_text(machine).as_bytes()) {
         Ok(program) => Ok(program),
         Err(_) => Err(AllocError),
     }

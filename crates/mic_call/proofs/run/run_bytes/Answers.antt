@@ -1,5 +1,4 @@
 use Rattle.std.proofs.Common.{refl}
-use Rattle.console_port.specs.declared.map.TheConstants.MemoryMap.{STANDARD}
 use Rattle.mic_call.specs.RunEnds.{Accepted, Refused}
 use Rattle.mic_call.proofs.run.run_bytes.Goals as goal
 
@@ -7,4 +6,4 @@ pub returns-in-Ok : goal.returns-in-Ok
 returns-in-Ok g c = Accepted c.in-Ok.program c.in-Ok.ensures.ok c.run_program.ensures
 
 pub returns-in-Err : goal.returns-in-Err
-returns-in-Err g c = Refused (c.refuse.ensures STANDARD c.args.bytes.now c.in-Err.ensures.err) (record { console = refl; out = refl })
+returns-in-Err g c = Refused (c.refuse.ensures c.args.map c.args.bytes.now c.in-Err.ensures.err) (record { console = refl; out = refl })

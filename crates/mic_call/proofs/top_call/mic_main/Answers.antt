@@ -18,11 +18,6 @@ returns-in-Ok-Verify g c =
     asked_ends _ (Some (Verify c.in-Ok-Verify.file.now c.in-Ok-Verify.map)) _ _ _ (c.in-Ok-Verify.ensures.asks ∙ ap (λ request. Some (asked request)) c.in-Ok-Verify.field-0-is)
     (record { console = refl; ends = c.verify_file.ensures })
 
-pub returns-in-Ok-Run : goal.returns-in-Ok-Run
-returns-in-Ok-Run g c =
-    asked_ends _ (Some (Run c.in-Ok-Run.file.now)) _ _ _ (c.in-Ok-Run.ensures.asks ∙ ap (λ request. Some (asked request)) c.in-Ok-Run.field-0-is)
-    c.run_file.ensures
-
 pub returns-in-Ok-Reference : goal.returns-in-Ok-Reference
 returns-in-Ok-Reference g c =
     asked_ends _ (Some (Reference c.in-Ok-Reference.file.now c.in-Ok-Reference.machine c.in-Ok-Reference.bound c.in-Ok-Reference.map)) _ _ _ (c.in-Ok-Reference.ensures.asks ∙ ap (λ request. Some (asked request)) c.in-Ok-Reference.field-0-is)
@@ -32,8 +27,3 @@ pub returns-in-Ok-Micro : goal.returns-in-Ok-Micro
 returns-in-Ok-Micro g c =
     asked_ends _ (Some (Micro c.in-Ok-Micro.mal.now c.in-Ok-Micro.store.now c.in-Ok-Micro.machine)) _ _ _ (c.in-Ok-Micro.ensures.asks ∙ ap (λ request. Some (asked request)) c.in-Ok-Micro.field-0-is)
     (record { console = refl; ends = c.micro.ensures })
-
-pub returns-in-Ok-PrintMicro : goal.returns-in-Ok-PrintMicro
-returns-in-Ok-PrintMicro g c =
-    asked_ends _ (Some (PrintMicro c.in-Ok-PrintMicro.file.now c.in-Ok-PrintMicro.machine)) _ _ _ (c.in-Ok-PrintMicro.ensures.asks ∙ ap (λ request. Some (asked request)) c.in-Ok-PrintMicro.field-0-is)
-    (record { console = refl; ends = c.print_micro.ensures })
