@@ -5,4 +5,4 @@ pub mod interpreter;
 pub mod run;
 
 pub use interpreter::Interpreter;
-pub use run::{loaded_board, reset_board, run_image};
+pub use run::{first_sp, loaded_bus, reset_board, run_image};

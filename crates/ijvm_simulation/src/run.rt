@@ -1,6 +1,6 @@
 //! The run of a verified image on a machine, from its reset to its end.
 
-ghost use Rattle.std.specs.Prelude.{◌≡◌, ◌<◌, ◌≤◌, ◌^◌, ℕ, List, [], Option, Some, None, replicate, IfOk, OnErr, IsSome, false};
+ghost use Rattle.std.specs.Prelude.{◌≡◌, ◌<◌, ◌≤◌, ◌+◌, ◌-◌, ◌^◌, ℕ, List, [], length, Option, Some, None, replicate, IfOk, OnErr, IsSome, false};
 ghost use Rattle.console_port.specs.World.{World};
 ghost use Rattle.console_port.specs.Bus.{Shows};
 ghost use Rattle.console_port.specs.Loading.{IsLoaded};
@@ -15,8 +15,7 @@ use ijvm_paths::accepted_images_keep_sound;
 use ijvm_run::runs_keep_words;
 use ijvm_verifier::VerifiedImage;
 use mic_base::{Sink, Source};
-use mic_clock::{Board, Clocked, End};
-use micro_word::Store;
+use mic_clock::{Board, End};
 use std::alloc::{AllocError, Global};
 
 /// The bytes of a text and the words of a pool are what their types say.
@@ -25,29 +24,23 @@ fn is_image(text: &[u8], pool: &[u32])
     ensures { IsImage (record { text = text.now; pool = pool.now }) }
 {}
 
-/// A machine at its reset over a control store whose microprogram begins at the entry, with a verified image in its memory.
-pub fn loaded_board<M: Clocked>(
-    alloc: Global,
-    machine: M,
-    store: Store,
-    entry: u16,
-    image: &VerifiedImage,
-) -> Result<Board<M>, AllocError>
-    requires store { store.machine ≡ M.meaning.machine }
-    requires entry { entry < 512 }
-    ensures start { IfOk result (λ board. (left held : Option (List ℕ)) (w : World) → Shows left held board.bus w →
-        ShowsRun M.state left held board (reset_run M.meaning entry image.now.main_locals w)) }
-    ensures store { IfOk result (λ board. board.store ≡ store) }
-    ensures words { IfOk result (λ board. IsLoaded image.now.image.text image.now.image.pool (replicate image.now.map.stack_end 0) board.bus.words) }
-    ensures kept { IfOk result (λ board. board.bus.console.kept ≡ []) }
-    ensures input { IfOk result (λ board. board.bus.console.ended ≡ false) }
-    ensures counts { IfOk result (λ board. board.counts ≡ start_counts) }
-    ensures end { IfOk result (λ board. board.end ≡ None) }
+/// Memory of a verified image's map with the image loaded, and a console that has been asked nothing.
+pub fn loaded_bus(alloc: Global, image: &VerifiedImage) -> Result<Bus, AllocError>
+    ensures words { IfOk result (λ bus. IsLoaded image.now.image.text image.now.image.pool (replicate image.now.map.stack_end 0) bus.words) }
+    ensures long { IfOk result (λ bus. 0 < length bus.words) }
+    ensures kept { IfOk result (λ bus. bus.console.kept ≡ []) }
+    ensures input { IfOk result (λ bus. bus.console.ended ≡ false) }
 {
     let mut bus = Bus::new(alloc, image.map())?;
     bus.load(image.image().text(), image.image().pool());
-    let sp = FRAME + image.main_locals() - 1;
-    Ok(Board::new(machine, store, entry, sp, bus))
+    Ok(bus)
+}
+
+/// SP before the first operand of main.
+pub fn first_sp(image: &VerifiedImage) -> u32
+    ensures { result ≡ 0x8000 + image.now.main_locals - 1 }
+{
+    FRAME + image.main_locals() - 1
 }
 
 /// A machine at its reset, over the store that ships, with a verified image loaded.
@@ -65,7 +58,8 @@ pub fn reset_board<I: Interpreter>(
     ensures end { IfOk result (λ board. board.end ≡ None) }
 {
     let store = I::store(alloc)?;
-    loaded_board(alloc, I::machine(), store, I::entry(), image)
+    let bus = loaded_bus(alloc, image)?;
+    Ok(Board::new(I::machine(), store, I::entry(), first_sp(image), bus))
 }
 
 /// Runs a verified image on a machine, from its reset to its end. Want of memory is told before the first cycle.

@@ -25,7 +25,8 @@ use Rattle.mic_work.specs.Status as exits
 use Rattle.mic_work.specs.Outside.{Got, Said, Says, SinkState, Unsaid}
 use Rattle.run_texts.specs.Ends.{status_of}
 use Rattle.run_texts.specs.Ends as texts
-use Rattle.run_texts.specs.Report.{clocked_head, cycles_of, head, last_boundary, plain_head, state_line}
+use Rattle.mic_clock.specs.State.{state_line}
+use Rattle.run_texts.specs.Report.{clocked_head, cycles_of, head, last_boundary, plain_head}
 use Rattle.program_commands.specs.Reference.{IsReported, IsRun, Reported}
 use Rattle.program_commands.specs.Reference as reference
 use Rattle.mic_call.specs.Outside.{Streams}
@@ -110,7 +111,7 @@ module _ {M S : Type 0} (state : M → S) (m : Meaning S) (IsReady : ℕ → Lis
     -- both ran to their ends
     both : ((p : Program) (n : ℕ) (from : Point) (f g : Finish) → EndsBy p n from f → EndsBy p n from g → f ≡ g) → old.console.left ≡ Some input →
         (board : BoardView M) (run : HasRun state m IsReady IsShipped entry program bound old.console.left old.out.held ran.console.left ran.out.held board) →
-        Says old.err ran.err (clocked_head (end_of run.begins.finish.end) board.counts ++ (state_line (m.registers (state board.machine)) ++ codes "\n")) (status_of (end_of run.begins.finish.end)) status →
+        Says old.err ran.err (clocked_head (end_of run.begins.finish.end) board.counts ++ state_line (m.registers (state board.machine)) ++ codes "\n") (status_of (end_of run.begins.finish.end)) status →
         (r : PlainReport) → HasPlainRun (reference.program_of program m.machine) program.main_locals bound old.console.left old.out.held told.console.left told.out.held r →
         Says old.err told.err (plain_head r) (status_of (texts.end_of r.end)) status' →
         IsQuiet old ran status → IsQuiet old told status' → Agrees old ran told status status'
@@ -139,13 +140,13 @@ module _ {M S : Type 0} (state : M → S) (m : Meaning S) (IsReady : ℕ → Lis
           same_out = λ one other a b. held_is ran.out.held one _ a run.given ∙ sym (held_is told.out.held other _ b given);
           report = r;
           registers = m.registers (state board.machine);
-          run_says = subst (λ (h : List ℕ). Got old.err.held (h ++ (state_line (m.registers (state board.machine)) ++ codes "\n")) ran.err.held) heads run_said.1;
+          run_says = subst (λ (h : List ℕ). Got old.err.held (h ++ state_line (m.registers (state board.machine)) ++ codes "\n") ran.err.held) heads run_said.1;
           reference_says = reference_said.1;
         }
 
     by_reference : ((p : Program) (n : ℕ) (from : Point) (f g : Finish) → EndsBy p n from f → EndsBy p n from g → f ≡ g) → old.console.left ≡ Some input →
         (board : BoardView M) (run : HasRun state m IsReady IsShipped entry program bound old.console.left old.out.held ran.console.left ran.out.held board) →
-        Says old.err ran.err (clocked_head (end_of run.begins.finish.end) board.counts ++ (state_line (m.registers (state board.machine)) ++ codes "\n")) (status_of (end_of run.begins.finish.end)) status →
+        Says old.err ran.err (clocked_head (end_of run.begins.finish.end) board.counts ++ state_line (m.registers (state board.machine)) ++ codes "\n") (status_of (end_of run.begins.finish.end)) status →
         IsRun program m.machine bound old.console told.console old.out told.out old.err told.err status' →
         IsQuiet old ran status → IsQuiet old told status' → Agrees old ran told status status'
     by_reference one tells board run says (Reported r (reference.Ran plainly console out) says') quiet quiet' =

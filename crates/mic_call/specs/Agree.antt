@@ -5,7 +5,8 @@ use Rattle.mic_clock.specs.declared.registers.Registers.{Registers}
 use Rattle.plain_machine.specs.declared.plain.PlainReport.{PlainReport}
 use Rattle.mic_work.specs.Status as exits
 use Rattle.mic_work.specs.Outside.{Got}
-use Rattle.run_texts.specs.Report.{plain_head, state_line}
+use Rattle.mic_clock.specs.State.{state_line}
+use Rattle.run_texts.specs.Report.{plain_head}
 use Rattle.mic_call.specs.Outside.{Streams}
 
 -- a call met no fault of these streams, and memory was not wanting
@@ -22,5 +23,5 @@ pub record Agrees (old ran told : Streams) (status status' : ℕ) : Type 0 where
   -- `reference` says three lines, and `run` these and the state line
   pub report : PlainReport
   pub registers : Registers
-  pub run_says : Got old.err.held (plain_head report ++ (state_line registers ++ codes "\n")) ran.err.held
+  pub run_says : Got old.err.held (plain_head report ++ state_line registers ++ codes "\n") ran.err.held
   pub reference_says : Got old.err.held (plain_head report) told.err.held

@@ -15,7 +15,7 @@ use ijvm_run::runs_end_once;
 
 /// `run` and `reference` of one accepted program, on the same machine, with the same bound and input, agree where no fault comes and memory is not wanting.
 pub fn run_agrees_with_reference()
-    ensures mic1 { (program : VerifiedView) (bound : ℕ) (input : List ℕ) (old ran told : Streams) (status status' : ℕ) → old.console.left ≡ Some input →
+    ensures { (program : VerifiedView) (bound : ℕ) (input : List ℕ) (old ran told : Streams) (status status' : ℕ) → old.console.left ≡ Some input →
         ClockedEnd micro_of mic1_meaning IsReady (HasShipped Mic1) 0x002 program bound old ran status →
         IsRun program Mic1 bound old.console told.console old.out told.out old.err told.err status' →
         IsQuiet old ran status → IsQuiet old told status' → Agrees old ran told status status' }

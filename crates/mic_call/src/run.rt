@@ -27,6 +27,8 @@ pub fn run_file<I: Interpreter, F: Files, S: Source, K: Sink, E: Sink>(
     out: &mut K,
     err: &mut E,
 ) -> Status
+where
+    I::Machine: Drop,
     requires bound { bound ≤ 2 ^ 62 }
     requires map { IsMap map.stack_end }
     ensures { RunEnds I.Machine.state I.Machine.meaning I.Machine.IsReady I.IsShipped I.entry file.now bound map
@@ -53,6 +55,8 @@ fn run_bytes<I: Interpreter, S: Source, K: Sink, E: Sink>(
     out: &mut K,
     err: &mut E,
 ) -> Status
+where
+    I::Machine: Drop,
     requires few { length bytes.now ≤ most_bytes }
     requires bound { bound ≤ 2 ^ 62 }
     requires map { IsMap map.stack_end }
@@ -76,6 +80,8 @@ fn run_program<I: Interpreter, S: Source, K: Sink, E: Sink>(
     out: &mut K,
     err: &mut E,
 ) -> Status
+where
+    I::Machine: Drop,
     requires { bound ≤ 2 ^ 62 }
     ensures { ClockedEnd I.Machine.state I.Machine.meaning I.Machine.IsReady I.IsShipped I.entry program.now bound
         (streams (source_of S.left S.faults console.old) (sink_of K.held K.passed K.faults out.old) (sink_of E.held E.passed E.faults err.old))
@@ -85,6 +91,7 @@ fn run_program<I: Interpreter, S: Source, K: Sink, E: Sink>(
     match run_image::<I, S, K>(alloc, program, bound, console, out) {
         Ok(board) => {
             let end = board.ended().unwrap();
+            board.mpc();
             let line = clocked_report(end, &board.counts(), &board.registers());
             say(err, line.bytes(), status_of(end))
         }

@@ -15,7 +15,7 @@ fn status_of(alloc: Global, words: &[&str]) -> Result<u8, Fail> {
     files.add("P", b".main\nBIPUSH 72\nOUT\nHALT\n.end-main\n")?;
     files.add("M", b"Main1 goto Main1\n")?;
     let mut console = MemSource::new(Vec::new(alloc), Vec::new(alloc));
-    let mut out = MemSink::new(alloc, 1000, Vec::new(alloc))?;
+    let mut out = MemSink::new(alloc, 10_000, Vec::new(alloc))?;
     let mut err = MemSink::new(alloc, 1000, Vec::new(alloc))?;
     let status = mic_main(alloc, &list, &mut files, &mut console, &mut out, &mut err);
     Ok(status.0)
@@ -28,8 +28,11 @@ fn memory_is_ample(rt: HostRuntime) -> Result<(), Fail> {
     assert_eq!(rt; status_of(alloc, &["list", "P"])?, 0);
     assert_eq!(rt; status_of(alloc, &["verify", "P"])?, 0);
     assert_eq!(rt; status_of(alloc, &["run", "P"])?, 0);
+    assert_eq!(rt; status_of(alloc, &["run", "P", "--map", "large"])?, 0);
+    assert_eq!(rt; status_of(alloc, &["run", "P", "--bound=12"])?, 2);
     assert_eq!(rt; status_of(alloc, &["reference", "P"])?, 0);
     assert_eq!(rt; status_of(alloc, &["micro", "M", "S"])?, 0);
     assert_eq!(rt; status_of(alloc, &["print-micro", "M"])?, 0);
+    assert_eq!(rt; status_of(alloc, &["print-micro"])?, 0);
     Ok(())
 }

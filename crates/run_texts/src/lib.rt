@@ -3,7 +3,6 @@
 
 mod ends;
 mod report;
-mod state;
 
 pub use ends::{end_of, status_of};
 pub use report::{clocked_report, plain_report};

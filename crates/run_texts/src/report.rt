@@ -4,9 +4,8 @@ ghost use Rattle.std.specs.Prelude.{◌≡◌, ◌≤◌, ◌<◌, ◌+◌, ◌+
 ghost use Rattle.run_texts.specs.Report.{boundary_line, cycles_of, head, plain_head, report};
 
 use crate::ends::{end_of, name_of};
-use crate::state::state_line;
 use mic_base::Line;
-use mic_clock::{Boundary, Counts, End, Registers};
+use mic_clock::{Boundary, Counts, End, Registers, print_state};
 use mic_work::{line_of, number, word};
 use plain_machine::PlainReport;
 
@@ -58,7 +57,7 @@ pub fn clocked_report(end: End, counts: &Counts, registers: &Registers) -> Line
 {
     let cycles = cycles_of(end, counts.cycles, counts.boundary);
     let mut line = head(end, cycles, counts.instructions, counts.boundary);
-    state_line(&mut line, registers);
+    print_state(registers, &mut line);
     line.text("\n");
     line
 }

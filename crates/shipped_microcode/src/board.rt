@@ -11,7 +11,7 @@ ghost use Rattle.mic1_datapath.specs.Mic1.{mic1_meaning};
 ghost use Rattle.mic1_datapath.specs.View.{micro_of};
 ghost use Rattle.ijvm_simulation.specs.Headline.{reset_run};
 
-use ijvm_simulation::loaded_board;
+use ijvm_simulation::{first_sp, loaded_bus};
 use ijvm_verifier::VerifiedImage;
 use mic_clock::Board;
 use mic1_datapath::Mic1;
@@ -36,5 +36,6 @@ pub fn board1(
     ensures counts { IfOk result (λ board. board.counts ≡ start_counts) }
     ensures end { IfOk result (λ board. board.end ≡ None) }
 {
-    loaded_board(alloc, Mic1::new(), store, entry, image)
+    let bus = loaded_bus(alloc, image)?;
+    Ok(Board::new(Mic1::new(), store, entry, first_sp(image), bus))
 }

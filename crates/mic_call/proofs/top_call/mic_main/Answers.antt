@@ -1,4 +1,6 @@
 use Rattle.std.proofs.Common.{Some, ap, refl, ◌∙◌}
+use Rattle.std.specs.Prelude.{option_map}
+use Rattle.machine_words.specs.declared.machine.Machine.TheVariants.{Mic1}
 use Rattle.mic_words.specs.Words.{asked, Assemble, ListOf, Micro, PrintMicro, Reference, Run, Verify}
 use Rattle.mic_call.proofs.Asking.{asked_ends}
 use Rattle.mic_call.proofs.top_call.mic_main.Goals as goal
@@ -27,3 +29,17 @@ pub returns-in-Ok-Micro : goal.returns-in-Ok-Micro
 returns-in-Ok-Micro g c =
     asked_ends _ (Some (Micro c.in-Ok-Micro.mal.now c.in-Ok-Micro.store.now c.in-Ok-Micro.machine)) _ _ _ (c.in-Ok-Micro.ensures.asks ∙ ap (λ request. Some (asked request)) c.in-Ok-Micro.field-0-is)
     (record { console = refl; ends = c.micro.ensures })
+
+pub returns-in-Ok-Run-default-Mic1-default-default : goal.returns-in-Ok-Run-default-Mic1-default-default
+returns-in-Ok-Run-default-Mic1-default-default g c =
+    let r = c.in-Ok-Run-default-Mic1-default-default in
+    asked_ends _ (Some (Run r.file.now Mic1 r.bound r.map)) _ _ _
+    (r.ensures.asks ∙ (ap (λ request. Some (asked request)) r.field-0-is ∙ ap (λ machine. Some (Run r.file.now machine r.bound r.map)) r.field-0-1-is))
+    c.run_file.ensures
+
+pub returns-in-Ok-PrintMicro-Some-default : goal.returns-in-Ok-PrintMicro-Some-default
+returns-in-Ok-PrintMicro-Some-default g c =
+    let p = c.in-Ok-PrintMicro-Some-default in
+    asked_ends _ (Some (PrintMicro (Some p.file.now) p.machine)) _ _ _
+    (p.ensures.asks ∙ (ap (λ request. Some (asked request)) p.field-0-is ∙ ap (λ file. Some (PrintMicro (option_map (λ f. f.now) file) p.machine)) p.field-0-0-is))
+    (record { console = refl; ends = c.print_micro.ensures })

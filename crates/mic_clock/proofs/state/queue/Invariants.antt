@@ -1,7 +1,7 @@
 use Rattle.std.proofs.Common.{◌≡◌, ◌+◌, ◌*◌, ◌++◌, length, take, ℕ}
 use Rattle.std.specs.List.{flat_map}
 use Rattle.mic_base.specs.Digits.{hex_text}
-use Rattle.run_texts.proofs.state.queue.Given as goal
+use Rattle.mic_clock.proofs.state.queue.Given as goal
 
 -- the digits of the bytes so far
 abbrev pub invariant-loop-byte : goal.invariant-loop-byte
