@@ -42,7 +42,9 @@ def main():
         plain = f"{made}/mic1"
         subprocess.run(["cc", "-O2", "-o", plain, str(HERE / "mic1.c")], check=True)
         store = f"{made}/store"
-        addresses = told(mic, "micro", str(TOP / "examples/mic1.mal"), store)
+        with open(f"{made}/mic1.mal", "w") as text:
+            text.write(told(mic, "print-micro"))
+        addresses = told(mic, "micro", f"{made}/mic1.mal", store)
         entry = re.search(r"^([0-9a-f]{3}) [0-9a-f]{9} Main1 ", addresses, re.M).group(1)
         for name, given in (("loop", b""), ("calls", b""), ("echo", INPUT)):
             image = f"{made}/{name}.ijvm"
@@ -53,13 +55,8 @@ def main():
             for _ in range(ROUNDS):
                 for who, words in runs.items():
                     status, out, err, seconds = timed(words, given)
-                    if who == "mic" and status == 77:
-                        continue
                     seen[who] = (out, err)
                     best[who] = min(seconds, best.get(who, seconds))
-            if "mic" not in best:
-                print(f"{name}: mic run does not take this program yet; plain C {best['plain C']:.3f} s")
-                continue
             same = "same output and report" if seen["mic"] == seen["plain C"] else "OUTPUT OR REPORT DIFFERS"
             print(f"{name}: mic {best['mic']:.3f} s, plain C {best['plain C']:.3f} s, {best['plain C'] / best['mic']:.2f} of its speed; {same}")
 
