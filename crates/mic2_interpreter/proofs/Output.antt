@@ -39,12 +39,15 @@ step_grows word m w = by_stall (is_stalled s m)
   where
     s : Placed
     s = statement_of machines.Mic2 word
+
     stall_grows : (r : Option Refusal) → OnDone (λ (v : World). Grows w.given v.given) (outcome r (stalled w.words m) w)
     stall_grows (Some why) = tt
     stall_grows None = stays w.given
+
     clock_grows : (r : Option Refusal) → OnDone (λ (v : World). Grows w.given v.given) (outcome r (clock (length w.words) (statement_of machines.Mic2 word) m w) (world_after (length w.words) (statement_of machines.Mic2 word) m w))
     clock_grows (Some why) = tt
     clock_grows None = access_grows (length w.words) (statement_of machines.Mic2 word).part.mem (ports_given (settled (statement_of machines.Mic2 word) m)) w
+
     by_stall : (b : Bool) → OnDone (λ (v : World). Grows w.given v.given) (step_if b (length w.words) (statement_of machines.Mic2 word) m w)
     by_stall true = stall_grows (edge_refusal (length w.words) 0 m.unit)
     by_stall false = clock_grows (refusal (length w.words) (statement_of machines.Mic2 word) m)
