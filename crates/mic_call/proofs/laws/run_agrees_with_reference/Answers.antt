@@ -7,12 +7,12 @@ use Rattle.shipped_program.specs.Shipped.{HasShipped}
 use Rattle.mic_call.proofs.Agreeing.{agree}
 use Rattle.mic_call.proofs.laws.run_agrees_with_reference.Goals as goal
 
-pub mic1 : goal.mic1
-mic1 c =
+pub returns-clause-mic1 : goal.returns-clause-mic1
+returns-clause-mic1 c =
     λ program bound input old ran told status status' tells.
     agree micro_of1 mic1_meaning IsReady1 (HasShipped Mic1) 0x002 program bound input old ran told status status' c.runs_end_once.ensures.one tells
 
-pub mic2 : goal.mic2
-mic2 c =
+pub returns-clause-mic2 : goal.returns-clause-mic2
+returns-clause-mic2 c =
     λ program bound input old ran told status status' tells.
     agree micro_of2 mic2_meaning IsReady2 (HasShipped Mic2) 0x002 program bound input old ran told status status' c.runs_end_once.ensures.one tells
