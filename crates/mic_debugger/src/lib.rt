@@ -1,0 +1,9 @@
+//! A debugging session over a board of any machine: a student steps by cycle and by instruction, stops at
+//! breakpoints and at changes of a word, and looks at registers and memory.
+#![tactic(auto)]
+
+mod reading;
+pub mod table;
+
+pub use reading::{Command, CommandError, read_command};
+pub use table::{Argument, Verb};
