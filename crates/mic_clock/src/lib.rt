@@ -10,6 +10,7 @@ mod cycle;
 pub mod end;
 pub mod laws;
 pub mod registers;
+mod state;
 pub mod word;
 
 pub use board::Board;
@@ -19,4 +20,5 @@ pub use counts::{Boundary, Counts};
 pub use end::{End, Tick};
 pub use laws::{one_end, runs_compose, turn_law, turns_add};
 pub use registers::{Registers, Start, Tail};
+pub use state::print_state;
 pub use word::MicroWord;
