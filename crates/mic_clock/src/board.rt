@@ -318,6 +318,14 @@ impl<M: Clocked> Board<M> {
         self.machine.registers()
     }
 
+    /// The address of the word that the next cycle sets up.
+    pub fn mpc(&self) -> u16
+        ensures value { result ≡ (M.meaning.registers (M.state self.now.machine)).mpc }
+        ensures small { result < 512 }
+    {
+        self.machine.mpc()
+    }
+
     /// The word at MPC, which the next cycle sets up.
     pub fn microinstruction(&self) -> M::Word
         ensures { M.Word.number result ≡ word_at M.meaning self.now.store.words (M.state self.now.machine) }
