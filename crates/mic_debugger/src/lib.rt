@@ -2,8 +2,15 @@
 //! breakpoints and at changes of a word, and looks at registers and memory.
 #![tactic(auto)]
 
+mod clocking;
+mod fault;
+mod listing;
+mod pieces;
 mod reading;
 pub mod table;
+mod until;
 
+pub use fault::SessionFault;
+pub use listing::Listing;
 pub use reading::{Command, CommandError, read_command};
 pub use table::{Argument, Verb};

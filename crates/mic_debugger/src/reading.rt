@@ -114,6 +114,7 @@ fn with_argument(verb: Verb, word: &[u8], words: u32) -> Result<Option<Command>,
 }
 
 /// Reads a line: none where it has no word.
+#[tactic(auto, unfolding(crate::specs::Commands::command_of))]
 pub fn read_command(line: &[u8], words: u32) -> Result<Option<Command>, CommandError>
     requires { 0 < words }
     ensures { result ≡ command_of words line.now }
