@@ -1,8 +1,8 @@
 -- One text after another to a sink.
-use Rattle.std.proofs.Common.{◌≡◌, ℕ, ◌+◌, ◌≤◌, min, List, ◌++◌, length, take, ap, sym, ◌∙◌, append_assoc, arith, Result, Ok, Err, Option, Some, None}
+use Rattle.std.proofs.Common.{◌≡◌, ℕ, ◌+◌, ◌≤◌, min, refl, List, [], ◌++◌, length, take, ap, sym, ◌∙◌, append_assoc, arith, Result, Ok, Err, Option, Some, None}
 use Rattle.std.specs.Option.{option_map}
 use Rattle.std.proofs.Math.Seq.{take-append-add, take-length}
-use Rattle.std.proofs.lemmas.List.{take_min, take-append-le}
+use Rattle.std.proofs.lemmas.List.{append-nil, take_min, take-append-le}
 use Rattle.mic_base.specs.Streams.{Puts}
 
 -- what is put behind a text that was put
@@ -34,3 +34,8 @@ pub puts_passed : {E : Type 0} (old mid new : Option (List ℕ)) (p : List ℕ) 
 puts_passed old mid new p (Ok done) e same = same ∙ e
 puts_passed old mid new p (Err x) e same =
     (length p, same ∙ e ∙ ap (λ (front : List ℕ). option_map (λ (held : List ℕ). held ++ front) old) (sym (take-length p)))
+
+-- no text
+pub puts_nothing : (old : Option (List ℕ)) → old ≡ option_map (λ held. held ++ []) old
+puts_nothing None = refl
+puts_nothing (Some held) = ap Some (sym (append-nil held))

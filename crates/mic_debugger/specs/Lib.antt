@@ -4,3 +4,6 @@ pub mod Book
 pub mod Lines
 pub mod Clocking
 pub mod Session
+pub mod Plans
+pub mod InTime
+pub mod Obeys

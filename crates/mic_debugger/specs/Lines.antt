@@ -1,5 +1,5 @@
 -- The lines of a session, as bytes. Words have 8 hexadecimal digits in lower case, addresses of the control store 3.
-use Rattle.std.specs.Prelude.{ℕ, suc, zero, ◌+◌, ◌-◌, min, max, Bool, true, false, List, [], ◌∷◌, ◌++◌, Option, Some, None, codes, length, slice_index, if◌then◌else◌}
+use Rattle.std.specs.Prelude.{ℕ, suc, zero, ◌+◌, ◌-◌, min, max, Bool, true, false, List, [], ◌∷◌, ◌++◌, Option, Some, None, codes, slice_get, unwrap_or, if◌then◌else◌}
 use Rattle.std.specs.Fmt.{decimal}
 use Rattle.mic_base.specs.Digits.{hex_text}
 use Rattle.mic_clock.specs.declared.counts.Boundary.{Boundary}
@@ -49,14 +49,18 @@ next_line book mpc = codes " mpc " ++ hex_text 3 mpc ++ codes " " ++ book.label 
 abbrev pub where_line : Book → Counts → ℕ → List ℕ
 where_line book c mpc = place_line book c ++ next_line book mpc
 
--- so many memory words from an address on, each with its address
-abbrev pub word_lines : List ℕ → ℕ → ℕ → List ℕ
-word_lines memory at zero = []
-word_lines memory at (suc n) = hex_text 8 at ++ codes " " ++ hex_text 8 (slice_index memory at) ++ codes "\n" ++ word_lines memory (at + 1) n
+-- a memory word and its address
+abbrev pub word_line : List ℕ → ℕ → List ℕ
+word_line memory at = hex_text 8 at ++ codes " " ++ hex_text 8 (unwrap_or (slice_get memory at) 0) ++ codes "\n"
 
--- the memory words from LV up to SP, at most the 64 highest of them
-unfoldable pub stack_text : List ℕ → ℕ → ℕ → List ℕ
-stack_text memory lv sp =
-    let over = min (sp + 1) (length memory) in
+-- so many memory words from an address on
+abbrev pub word_lines : List ℕ → ℕ → ℕ → List ℕ
+word_lines memory first zero = []
+word_lines memory first (suc n) = word_lines memory first n ++ word_line memory (first + n)
+
+-- the words from LV up to SP of a memory that has so many, at most the 64 highest of them
+unfoldable pub stack_text : List ℕ → ℕ → ℕ → ℕ → List ℕ
+stack_text memory count lv sp =
+    let over = min (sp + 1) count in
     let first = max lv (over - 64) in
     word_lines memory first (over - first)

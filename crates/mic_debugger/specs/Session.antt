@@ -1,9 +1,9 @@
 -- Where a session leads a board, and what it prints.
-use Rattle.std.specs.Prelude.{◌≡◌, ℕ, ◌+◌, List, [], ◌++◌, Option, Some, None, IfSome}
+use Rattle.std.specs.Prelude.{◌≡◌, ℕ, ◌+◌, ◌<◌, List, [], ◌++◌, Option, Some, None, IfSome}
 use Rattle.std.specs.Option.{option_map}
 use Rattle.console_port.specs.Console.{Untaken}
 use Rattle.mic_clock.specs.Meaning.{Meaning}
-use Rattle.mic_clock.specs.Run.{MicroRun, word_at}
+use Rattle.mic_clock.specs.Run.{MicroRun, word_at, turns}
 use Rattle.mic_clock.specs.View.{BoardView}
 use Rattle.mic_clock.specs.Board.{ShowsRun, IsLedTo, IsCutByRead}
 use Rattle.mic_clock.specs.declared.end.End.TheVariants as ends
@@ -37,3 +37,11 @@ module _ {M State : Type 0} (state : M → State) (m : Meaning State) (book : Bo
     pub untaken : (after m book words breaks bound u n r).world.untaken ≡ rest
     pub done : IsDone m book words breaks bound u times n r
     pub lines : text ≡ printed m book words breaks bound u n r
+
+  -- A failing source stopped it: the run is cut k turns behind the n that were made, and the end line is printed.
+  pub record IsStopped (left held : Option (List ℕ)) (board : BoardView M) (rest text : List ℕ) (n k : ℕ) (r : MicroRun State) : Type 0 where
+    pub cut : IsCutByRead state m words (Some bound) left held board (turns m words (Some bound) k (after m book words breaks bound u n r))
+    pub untaken : (turns m words (Some bound) k (after m book words breaks bound u n r)).world.untaken ≡ rest
+    pub going : IsGoing m book words breaks bound u times n r
+    pub waiting : passed m book words breaks bound u n r < times
+    pub lines : text ≡ printed m book words breaks bound u n r ++ end_line ends.ReadFault

@@ -7,9 +7,10 @@ ghost use Rattle.mic_base.specs.Streams.{Holds, Puts};
 ghost use Rattle.mic_clock.specs.Run.{number_of, word_at};
 ghost use Rattle.mic_clock.specs.Board.{IsTurned, RunIsCutByRead, RunIsCutByWrite, IsCounted, EndsUncounted, HasRoom, HasEndCause, NoFault, IsLedTo};
 ghost use Rattle.mic_debugger.specs.Book.{Book, IsBook};
+ghost use Rattle.mic_debugger.specs.InTime.{InTime};
 ghost use Rattle.mic_debugger.specs.Lines.{end_line};
 ghost use Rattle.mic_debugger.specs.Clocking.{cause_line, comes, counted, first_piece, has_break, has_changed, is_at_boundary, second_piece, turn_text};
-ghost use Rattle.mic_debugger.specs.Session.{Prints, text_between};
+ghost use Rattle.mic_debugger.specs.Session.{IsClocked, IsStopped, Prints, text_between};
 
 use crate::fault::SessionFault;
 use crate::listing::Listing;
@@ -20,6 +21,7 @@ use mic_base::{Line, Sink, SinkFailed, Source};
 use mic_clock::{Board, Clocked, Counts, End};
 
 /// A clocking command: what it waits for, and what the session has set.
+#[derive(Drop)]
 pub(crate) struct Clocking<'a> {
     pub until: Until,
     pub bound: u64,
@@ -72,7 +74,8 @@ impl Clocking<'_> {
             Until::Cycle => true,
             Until::Boundary => is_at_boundary(counts),
             Until::Cause(watched) => {
-                is_at_boundary(counts) && (has_break(self.breaks, counts) || has_changed(watched, bus))
+                is_at_boundary(counts)
+                    && (has_break(self.breaks, counts) || has_changed(watched, bus))
             }
         }
     }
@@ -175,4 +178,50 @@ impl Clocking<'_> {
             Err(_) => Err(SessionFault::WriteFault),
         }
     }
+
+    /// Turns until so many were waited for, or the board has ended.
+    pub fn clock<M: Clocked, S: Source, K: Sink, E: Sink>(
+        &self,
+        times: u32,
+        board: &mut Board<M>,
+        input: &mut S,
+        out: &mut K,
+        err: &mut E,
+    ) -> Result<(), SessionFault>
+        requires live { board.old.end ≡ None }
+        requires bound { self.now.bound ≤ 2 ^ 62 }
+        requires in_time { InTime (2 ^ 62) board.old.counts (M.meaning.is_boundary (M.state board.old.machine)) board.old.end }
+        ensures done { OnOk result (NoFault None board.new.end → (book : Book) → IsBook self.now.listing.now.program self.now.listing.now.placement self.now.listing.now.image book →
+            (text : List ℕ) × Prints (E.held err.old) text (E.held err.new) ×
+            IsLedTo M.state (S.left input.old) (K.held out.old) board.old (S.left input.new) board.new
+            (λ r rest. (n : ℕ) × IsClocked M.state M.meaning book board.old.store.words self.now.breaks.now self.now.bound self.now.until times
+            (S.left input.new) (K.held out.new) board.new rest text n r)) }
+        ensures read { OnOk result (board.new.end ≡ Some End.ReadFault → (book : Book) → IsBook self.now.listing.now.program self.now.listing.now.placement self.now.listing.now.image book →
+            (text : List ℕ) × Prints (E.held err.old) text (E.held err.new) ×
+            IsLedTo M.state (S.left input.old) (K.held out.old) board.old (S.left input.new) board.new
+            (λ r rest. (n : ℕ) × (k : ℕ) × IsStopped M.state M.meaning book board.old.store.words self.now.breaks.now self.now.bound self.now.until times
+            (S.left input.new) (K.held out.new) board.new rest text n k r)) }
+        ensures fault { OnOk result (board.new.end ≢ Some End.WriteFault) }
+        ensures store { board.new.store ≡ board.old.store }
+        ensures in_time { InTime (2 ^ 62) board.new.counts (M.meaning.is_boundary (M.state board.new.machine)) board.new.end }
+        ensures keeps_out { (front : List ℕ) → Holds front (K.held out.old) → Holds front (K.held out.new) }
+        ensures keeps_err { (front : List ℕ) → Holds front (E.held err.old) → Holds front (E.held err.new) }
+        ensures quiet { OnOk result ((K.faults out.new ≡ K.faults out.old) × (E.faults err.new ≡ E.faults err.old)) }
+        ensures rose { OnErr result (Rose (K.faults out.old) (K.faults out.new) ⊎ Rose (E.faults err.old) (E.faults err.new)) }
+    {
+        let mut left = times;
+        'turns: while left > 0 && board.ended().is_none() {
+            let came = self.turn(board, input, out, err)?;
+            left = less(left, came);
+        }
+        Ok(())
+    }
+}
+
+/// What is left to wait for.
+fn less(left: u32, came: bool) -> u32
+    requires { 0 < left }
+    ensures { number_of came + result ≡ left }
+{
+    if came { left - 1 } else { left }
 }

@@ -34,7 +34,7 @@ impl Model for Listing {
 
     ghost Value = { ListingView };
 
-    ghost view = { λ l. record { program = l.program; placement = l.placement; image = l.image.image } };
+    ghost view = { λ l. record { program = l.program; placement = l.placement; image = l.image.image; memory = l.image.map.stack_end } };
 
     ghost invariant = { λ l. Places (demands_of l.program) l.placement };
 }
@@ -57,12 +57,21 @@ impl Listing {
         ensures program { result.program ≡ program }
         ensures placement { result.placement ≡ placement }
         ensures image { result.image ≡ image.image }
+        ensures memory { result.memory ≡ image.map.stack_end }
     {
         Listing {
             program,
             placement,
             image,
         }
+    }
+
+    /// The number of memory words.
+    pub fn memory_words(&self) -> u32
+        ensures value { result ≡ self.now.memory }
+        ensures some { 0 < result }
+    {
+        self.image.map().stack_end
     }
 
     /// Appends the label of the statement at an address of the store.

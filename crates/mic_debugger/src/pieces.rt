@@ -1,10 +1,11 @@
 //! Lines of a session that are put to a sink.
 
-ghost use Rattle.std.specs.Prelude.{◌≡◌, ◌++◌, ◌<◌, ◌≤◌, ◌+◌, ℕ, List, [], Option, length};
+ghost use Rattle.std.specs.Prelude.{◌≡◌, ◌++◌, ◌<◌, ◌≤◌, ◌+◌, ◌^◌, ℕ, List, [], Option, length};
 ghost use Rattle.mic_base.specs.Causes.{HasCause};
 ghost use Rattle.mic_base.specs.Streams.{Holds, Puts};
-ghost use Rattle.mic_debugger.specs.Lines.{end_line, name_of, registers_line};
+ghost use Rattle.mic_debugger.specs.Lines.{end_line, name_of, registers_line, word_line, word_lines};
 
+use console_port::Bus;
 use mic_base::{Line, Sink, SinkFailed};
 use mic_clock::{End, Registers, print_state};
 use mic_work::word;
@@ -28,11 +29,7 @@ fn put_after<E: Sink>(
 }
 
 /// Puts one piece behind another.
-pub(crate) fn put_two<E: Sink>(
-    err: &mut E,
-    first: &[u8],
-    second: &[u8],
-) -> Result<(), SinkFailed>
+pub(crate) fn put_two<E: Sink>(err: &mut E, first: &[u8], second: &[u8]) -> Result<(), SinkFailed>
     ensures puts { Puts (E.held err.old) (first.now ++ second.now) result (E.held err.new) }
     ensures keeps { (front : List ℕ) → Holds front (E.held err.old) → Holds front (E.held err.new) }
     ensures passed { E.passed err.new ≡ E.passed err.old }
@@ -83,4 +80,35 @@ pub(crate) fn registers_line(registers: &Registers) -> Line
     print_state(registers, &mut line);
     line.text("\n");
     line
+}
+
+/// A memory word and its address.
+fn word_line(bus: &Bus, at: u32) -> Line
+    ensures { result ≡ word_line bus.now.words at }
+{
+    let mut line = Line::new();
+    word(&mut line, "", at);
+    word(&mut line, " ", bus.peek(at).unwrap_or(0));
+    line.text("\n");
+    line
+}
+
+/// Puts so many memory words from an address on.
+pub(crate) fn put_words<E: Sink>(
+    bus: &Bus,
+    first: u32,
+    count: u32,
+    err: &mut E,
+) -> Result<(), SinkFailed>
+    requires { first + count < 2 ^ 32 }
+    ensures puts { Puts (E.held err.old) (word_lines bus.now.words first count) result (E.held err.new) }
+    ensures keeps { (front : List ℕ) → Holds front (E.held err.old) → Holds front (E.held err.new) }
+    ensures passed { E.passed err.new ≡ E.passed err.old }
+    ensures cause { HasCause (E.faults err.old) (E.faults err.new) result }
+{
+    let mut said = Ok(());
+    for n in 0..count {
+        said = put_after(said, err, word_line(bus, first + n).bytes());
+    }
+    said
 }
