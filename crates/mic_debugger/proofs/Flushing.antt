@@ -1,5 +1,6 @@
 -- A flush behind a line.
 use Rattle.std.proofs.Common.{◌≡◌, ℕ, List, [], Bool, Option, refl, sym, ◌∙◌, ap, subst}
+use Rattle.std.specs.Prelude.{Result, Ok, Err, OnOk}
 use Rattle.console_port.specs.Console.{Untaken}
 use Rattle.mic_clock.specs.declared.end.End.{End}
 use Rattle.mic_clock.specs.Meaning.{Meaning}
@@ -102,3 +103,8 @@ stopped_said state m book left held old text plans.Quit other said = said
 pub said_here : {M State : Type 0} (state : M → State) (m : Meaning State) (book : Book) (left held : Option (List ℕ)) (old : SessionView M) (text : List ℕ) (plan : Plan) →
     text ≡ shown_text state m book old plan → IsSaid state m book left held old left held old.board text plan
 said_here state m book left held old text plan is = ((λ rest fits. (rest, fits, λ r s e. (s, e))), is)
+
+-- what an Ok says holds after a premise too
+pub on_ok_after : {T E : Type 0} {P : Type 0} (X : Type 0) (r : Result T E) → OnOk r P → OnOk r (X → P)
+on_ok_after X (Ok v) h = λ x. h
+on_ok_after X (Err e) h = tt

@@ -210,12 +210,22 @@ impl Clocking<'_> {
         ensures rose { OnErr result (Rose (K.faults out.old) (K.faults out.new) ⊎ Rose (E.faults err.old) (E.faults err.new)) }
     {
         let mut left = times;
-        'turns: while left > 0 && board.ended().is_none() {
+        'turns: while waits(left, board) {
             let came = self.turn(board, input, out, err)?;
-            left = less(left, came);
+            let rest = less(left, came);
+            left = rest;
         }
         Ok(())
     }
+}
+
+/// Whether more is waited for.
+fn waits<M: Clocked>(left: u32, board: &Board<M>) -> bool
+    ensures some { result ≡ true → 0 < left }
+    ensures live { result ≡ true → board.now.end ≡ None }
+    ensures over { result ≡ false → IsSome board.now.end ⊎ (left ≡ 0) }
+{
+    left > 0 && board.ended().is_none()
 }
 
 /// What is left to wait for.

@@ -90,6 +90,14 @@ impl<M: Clocked> Session<M> {
         &self.board
     }
 
+    /// The number of memory words.
+    fn memory_words(&self) -> u32
+        ensures value { result ≡ self.now.listing.memory }
+        ensures some { 0 < result }
+    {
+        self.listing.memory_words()
+    }
+
     /// The watched word, and its value now.
     fn watched_now(&self) -> Option<Watched>
         ensures { result ≡ watched_now self.now.watched self.now.board.bus.words }
@@ -338,7 +346,7 @@ impl<M: Clocked> Session<M> {
         ensures quiet { OnOk result ((K.faults out.new ≡ K.faults out.old) × (E.faults err.new ≡ E.faults err.old)) }
         ensures rose { OnErr result (Rose (K.faults out.old) (K.faults out.new) ⊎ Rose (E.faults err.old) (E.faults err.new)) }
     {
-        let read = read_command(line, self.listing.memory_words());
+        let read = read_command(line, self.memory_words());
         let plan = self.plan(read);
         self.carry_out(plan, input, out, err)?;
         self.flush(out, err)?;

@@ -1,4 +1,4 @@
-use Rattle.std.proofs.Common.{◌≡◌, ◌≤◌, ◌++◌, ◌∙◌, ◌^◌, ℕ, List, [], Option, None, Some, Ok, refl, sym, ap, subst, rules, arith}
+use Rattle.std.proofs.Common.{◌≡◌, ◌⊎◌, ◌+◌, ◌<◌, ◌≤◌, ◌++◌, ◌∙◌, ◌^◌, ℕ, List, [], Option, None, Some, Ok, IsSome, refl, sym, ap, subst, rules, arith}
 use Rattle.micro_word.specs.ControlStore.{ControlStore}
 use Rattle.mic_clock.specs.declared.end.End.{End}
 use Rattle.mic_clock.specs.declared.end.End.TheVariants as ends
@@ -63,7 +63,7 @@ turns-preserved g c =
             before.0 ++ text,
             puts_then {E = ℕ} said0 said said' before.0 text (Ok tt) before.1 (c.in_ok-came.ensures.text book is_book),
             underway_more state m book first.store.words self.breaks.now self.bound self.until c.args.times left0 held0 first left held old left' held' new
-                before.0 c.turns.left program live some before.2 c.less.result (ap (λ (n : ℕ). n + c.less.result) (sym c.in_ok-came.ensures.came) ∙ c.less.ensures)
+                before.0 c.turns.left program live some before.2 c.less-rest.result (ap (λ (n : ℕ). n + c.less-rest.result) (sym c.in_ok-came.ensures.came) ∙ c.less-rest.ensures)
                 (c.turn.ensures.turn (subst (λ (e : Option End). NoFault e new.end) (sym live) q)),
           );
       read = λ p book is_book.
@@ -83,3 +83,19 @@ turns-preserved g c =
       in_time = InTime-step m (2 ^ 62) self.bound old.counts new.counts (m.is_boundary (state old.machine)) (m.drives (word_at m old.store.words (state old.machine)) (state old.machine)).stalled (state new.machine) old.end new.end live c.requires.bound inv.in_time
           c.turn.ensures.still c.turn.ensures.room (λ q. (c.turn.ensures.clocked q).1) c.turn.ensures.below;
     }
+
+pub returns-clause-done : goal.returns-clause-done
+returns-clause-done g c =
+    let state = g.M.Clocked.state in
+    let m = g.M.Clocked.meaning in
+    let self = c.args.self.now in
+    let first = c.args.board.now in
+    let board = c.turns.board in
+    let over : IsSome board.end ⊎ (c.turns.left ≡ 0) = search rules in
+    λ q book is_book.
+    let at = c.turns.invariant.run q book is_book in (
+      at.0,
+      at.1,
+      clocked_of state m book first.store.words self.breaks.now self.bound self.until c.args.times (g.S.Source.left c.args.input.now) (g.K.Sink.held c.args.out.now) first
+          (g.S.Source.left c.turns.input) (g.K.Sink.held c.turns.out) board at.0 c.turns.left over at.2,
+    )

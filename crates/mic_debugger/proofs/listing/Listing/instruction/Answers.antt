@@ -1,4 +1,4 @@
-use Rattle.std.proofs.Common.{◌≡◌, ℕ, List, ◌++◌, codes, Some, refl, ◌∙◌, ap, subst, append_assoc}
+use Rattle.std.proofs.Common.{◌≡◌, ℕ, List, ◌++◌, codes, Some, refl, ◌∙◌, ap, subst, append_assoc, rules}
 use Rattle.mic_base.specs.Digits.{hex_text}
 use Rattle.ijvm_instr.specs.Instructions.{instr_at}
 use Rattle.ijvm_instr.specs.Text.{instr_text}
@@ -16,6 +16,7 @@ returns-in-Some c = λ book is_book.
     let start = subst (λ (v : ListingView). IsKind v.image at Start) c.self.view_is here.0 in
     let is = subst (λ (v : ListingView). instr_at v.image.text at ≡ Some c.in-Some.instr) c.self.view_is here.1 in
     let named = is_book.reached at c.in-Some.instr start is in
+    let same : c.from.result ≡ at = search rules in
     let printed : c.print_instr.new.line ≡ ((line ++ hex_text 8 at) ++ codes " ") ++ instr =
-        c.print_instr.ensures ∙ ap (λ (x : List ℕ). x ++ instr) (c.text.ensures.text ∙ ap (λ (x : List ℕ). x ++ codes " ") c.hex.ensures.text) in
+    c.print_instr.ensures ∙ ap (λ (x : List ℕ). x ++ instr) (c.text.ensures.text ∙ ap (λ (x : List ℕ). x ++ codes " ") (c.hex.ensures.text ∙ ap (λ (v : ℕ). line ++ hex_text 8 v) same)) in
     rw named (printed ∙ simp append_assoc)
