@@ -104,7 +104,12 @@ pub said_here : {M State : Type 0} (state : M → State) (m : Meaning State) (bo
     text ≡ shown_text state m book old plan → IsSaid state m book left held old left held old.board text plan
 said_here state m book left held old text plan is = ((λ rest fits. (rest, fits, λ r s e. (s, e))), is)
 
--- what an Ok says holds after a premise too
-pub on_ok_after : {T E : Type 0} {P : Type 0} (X : Type 0) (r : Result T E) → OnOk r P → OnOk r (X → P)
-on_ok_after X (Ok v) h = λ x. h
-on_ok_after X (Err e) h = tt
+-- what an Ok says behind a premise holds behind one from which that follows
+pub on_ok_given : {T E : Type 0} (P A B : Type 0) (r : Result T E) → (B → A) → OnOk r (A → P) → OnOk r (B → P)
+on_ok_given P A B (Ok v) f h = λ x. h (f x)
+on_ok_given P A B (Err e) f h = tt
+
+-- what an Ok says holds behind a premise too
+pub on_ok_after : {T E : Type 0} (P X : Type 0) (r : Result T E) → OnOk r P → OnOk r (X → P)
+on_ok_after P X (Ok v) h = λ x. h
+on_ok_after P X (Err e) h = tt
