@@ -6,7 +6,6 @@ use Rattle.mic_debugger.specs.declared.table.Verb.TheVariants as verbs
 use Rattle.mic_debugger.specs.declared.reading.Command.{Command}
 use Rattle.mic_debugger.specs.declared.reading.CommandError.{CommandError}
 use Rattle.mic_debugger.specs.declared.reading.CommandError.TheVariants.{BadCommand, BadNumber}
-use Rattle.mic_debugger.specs.declared.plan.Plan.{Plan}
 use Rattle.mic_debugger.specs.declared.plan.Plan.TheVariants as plans
 use Rattle.mic_debugger.specs.declared.reply.Reply.TheVariants as replies
 use Rattle.mic_debugger.specs.declared.until.Until.{Until}

@@ -1,7 +1,7 @@
 -- At the start of a reached instruction nothing else stands.
-use Rattle.std.proofs.Common.{◌≡◌, ◌≢◌, ℕ, ◌<◌, Option, refl, sym, ap, subst, arith}
+use Rattle.std.proofs.Common.{◌≡◌, ◌≢◌, ℕ, ◌<◌, refl, ap, arith}
 use Rattle.ijvm_image.specs.Image.{ImageView}
-use Rattle.ijvm_paths.specs.Facts.{Accepts, Piece, Code, Header, Covers}
+use Rattle.ijvm_paths.specs.Facts.{Accepts, Code, Header}
 use Rattle.ijvm_paths.specs.Kinds.{IsKind, first}
 use Rattle.ijvm_paths.specs.declared.kind.Kind.{Kind}
 use Rattle.ijvm_paths.specs.declared.kind.Kind.TheVariants as kinds

@@ -1,5 +1,5 @@
 -- What names the words of a control store and the instructions of a text in the lines of a session.
-use Rattle.std.specs.Prelude.{◌≡◌, ◌≢◌, ℕ, ◌<◌, List, [], Option, Some, None, length, slice_index, codes, unwrap_or, option_map}
+use Rattle.std.specs.Prelude.{◌≡◌, ◌≢◌, ℕ, ◌<◌, List, Some, length, slice_index, codes, unwrap_or, option_map}
 use Rattle.ijvm_image.specs.Image.{ImageView}
 use Rattle.ijvm_instr.specs.Instructions.{instr_at}
 use Rattle.ijvm_instr.specs.Text.{instr_text}

@@ -1,5 +1,5 @@
 -- The lines of a session, as bytes. Words have 8 hexadecimal digits in lower case, addresses of the control store 3.
-use Rattle.std.specs.Prelude.{ℕ, suc, zero, ◌+◌, ◌-◌, min, max, Bool, true, false, List, [], ◌∷◌, ◌++◌, Option, Some, None, codes, slice_get, unwrap_or, if◌then◌else◌}
+use Rattle.std.specs.Prelude.{ℕ, suc, zero, ◌+◌, ◌-◌, min, max, Bool, List, [], ◌++◌, Option, Some, None, codes, slice_get, unwrap_or, if◌then◌else◌}
 use Rattle.std.specs.Fmt.{decimal}
 use Rattle.mic_base.specs.Digits.{hex_text}
 use Rattle.mic_clock.specs.declared.counts.Boundary.{Boundary}

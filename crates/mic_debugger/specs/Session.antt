@@ -1,11 +1,10 @@
 -- Where a session leads a board, and what it prints.
-use Rattle.std.specs.Prelude.{◌≡◌, ℕ, ◌+◌, ◌<◌, List, [], ◌++◌, Option, Some, None, IfSome}
+use Rattle.std.specs.Prelude.{◌≡◌, ℕ, ◌+◌, ◌<◌, List, ◌++◌, Option, Some}
 use Rattle.std.specs.Option.{option_map}
-use Rattle.console_port.specs.Console.{Untaken}
 use Rattle.mic_clock.specs.Meaning.{Meaning}
 use Rattle.mic_clock.specs.Run.{MicroRun, word_at, turns}
 use Rattle.mic_clock.specs.View.{BoardView}
-use Rattle.mic_clock.specs.Board.{ShowsRun, IsLedTo, IsCutByRead}
+use Rattle.mic_clock.specs.Board.{ShowsRun, IsCutByRead}
 use Rattle.mic_clock.specs.declared.end.End.TheVariants as ends
 use Rattle.mic_debugger.specs.declared.until.Until.{Until}
 use Rattle.mic_debugger.specs.Book.{Book}

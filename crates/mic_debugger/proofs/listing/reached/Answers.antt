@@ -1,4 +1,3 @@
-use Rattle.std.proofs.Common.{◌≡◌}
 use Rattle.mic_debugger.proofs.Starting.{start_alone}
 use Rattle.mic_debugger.proofs.listing.reached.Goals as goal
 

@@ -1,7 +1,6 @@
-use Rattle.std.proofs.Common.{◌≡◌, ◌⊎◌, ◌+◌, ◌<◌, ◌≤◌, ◌++◌, ◌∙◌, ◌^◌, ℕ, List, [], Option, None, Some, Ok, IsSome, refl, sym, ap, subst, rules, arith}
+use Rattle.std.proofs.Common.{◌≡◌, ◌⊎◌, ◌+◌, ◌<◌, ◌++◌, ◌∙◌, ◌^◌, ℕ, [], Option, None, Ok, IsSome, refl, sym, ap, subst, rules}
 use Rattle.micro_word.specs.ControlStore.{ControlStore}
 use Rattle.mic_clock.specs.declared.end.End.{End}
-use Rattle.mic_clock.specs.declared.end.End.TheVariants as ends
 use Rattle.mic_clock.specs.Run.{word_at}
 use Rattle.mic_clock.specs.Board.{NoFault}
 use Rattle.mic_debugger.specs.Session.{text_between}

@@ -1,4 +1,4 @@
-use Rattle.std.proofs.Common.{◌≡◌, length, arith}
+use Rattle.std.proofs.Common.{arith}
 use Rattle.mic_debugger.proofs.Placing.{placed_count}
 use Rattle.mic_debugger.proofs.listing.Listing.text.Goals as goal
 

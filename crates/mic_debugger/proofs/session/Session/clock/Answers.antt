@@ -1,4 +1,3 @@
-use Rattle.std.proofs.Common.{◌≡◌, sym}
 use Rattle.mic_debugger.proofs.session.Session.clock.Goals as goal
 
 pub returns-clause-done : goal.returns-clause-done
