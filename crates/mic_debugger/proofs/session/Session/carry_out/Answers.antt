@@ -10,7 +10,7 @@ returns-in-Clock-clause-obeys g c =
     let end' = c.clock.new.self.board.end in
     let live : end ≡ None = c.requires c.in-Clock.until c.in-Clock.times c.in-Clock.is in
     rw c.in-Clock.is
-        (on_ok_given _ (NoFault None end') (NoFault end end') c.clock.result (subst (λ (e : Option End). NoFault e end') live) c.clock.ensures.done)
+    (on_ok_given _ (NoFault None end') (NoFault end end') c.clock.result (subst (λ (e : Option End). NoFault e end') live) c.clock.ensures.done)
 
 pub returns-in-Clock-clause-read : goal.returns-in-Clock-clause-read
 returns-in-Clock-clause-read g c = rw c.in-Clock.is (on_ok_after _ (c.args.self.now.board.end ≡ None) c.clock.result c.clock.ensures.read)
