@@ -1,4 +1,5 @@
-// Preloaded into a program, makes one call of one kind fail: REFUSE_KIND and REFUSE_AT say which, and the number of such calls goes to the file REFUSE_COUNT.
+// Preloaded into a program, makes one call of one kind fail. REFUSE_KIND and REFUSE_AT say which one, from 1; how many such calls there
+// were goes to the file REFUSE_COUNT.
 #define _GNU_SOURCE
 #include <dlfcn.h>
 #include <errno.h>
