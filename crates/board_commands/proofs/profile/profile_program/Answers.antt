@@ -31,7 +31,7 @@ returns-in-Ok-run_watched g c =
     let cause = rw said.quiet at c.put_profile-said.ensures.cause in
     Whole c.args.micro.loaded c.in-Ok-reset_board.board last watched.cycles end rows
     (record { loaded = c.args.micro.is_loaded; store = c.in-Ok-reset_board.ensures.store; reset = c.in-Ok-reset_board.ensures.reset })
-    watched.run c.in-Ok-run_watched.ensures.end c.in-Ok-run_watched.ensures.cause c.in-Ok.ensures
+    watched.run c.in-Ok-run_watched.ensures.end c.in-Ok-run_watched.ensures.cause c.in-Ok-run_watched.ensures.flushed c.in-Ok.ensures
     (c.report_behind.ensures old (profile_text (profile_of rows watched.cycles) end last.counts) put cause)
 
 pub returns : goal.returns
