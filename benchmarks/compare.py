@@ -79,7 +79,9 @@ def main():
         plain = f"{made}/mic1"
         subprocess.run(["cc", "-O2", "-o", plain, str(HERE / "mic1.c")], check=True)
         store = f"{made}/store"
-        addresses = told(mic, "micro", str(TOP / "examples/mic1.mal"), store)
+        with open(f"{made}/mic1.mal", "w") as text:
+            text.write(told(mic, "print-micro"))
+        addresses = told(mic, "micro", f"{made}/mic1.mal", store)
         entry = re.search(r"^([0-9a-f]{3}) [0-9a-f]{9} Main1 ", addresses, re.M).group(1)
         for name, given, bound in (("loop", b"", BOUND), ("calls", b"", BOUND), ("echo", INPUT, ECHO_BOUND)):
             image = f"{made}/{name}.ijvm"

@@ -98,7 +98,7 @@ pub fn damaged(alloc: Global, place: usize, value: u8) -> Result<Found, AllocErr
             Found::Differs
         });
     }
-    for machine in ["mic1"] {
+    for machine in ["mic1", "mic2"] {
         let ran = call(
             alloc,
             &["run", "F", "--bound", "1000", "--machine", machine],

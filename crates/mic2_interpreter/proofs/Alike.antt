@@ -1,12 +1,10 @@
 -- Runs of the definition with the cycles of two machines end alike, and so do the machines.
-use Rattle.std.proofs.Common.{◌≡◌, ◌≢◌, ℕ, zero, suc, ◌+◌, ◌++◌, Bool, true, false, Option, Some, None, List, refl, sym, ◌∙◌, ap, subst}
+use Rattle.std.proofs.Common.{◌≡◌, ◌≢◌, ℕ, zero, suc, ◌+◌, ◌++◌, Bool, true, false, Option, Some, None, List, refl, sym, ◌∙◌, ap}
 use Rattle.std.specs.Prelude.{nat_le, IfSome}
-use Rattle.machine_words.specs.declared.machine.Machine.{Machine}
 use Rattle.mic_clock.specs.declared.counts.Counts.{Counts}
 use Rattle.mic_clock.specs.declared.end.End.TheVariants as clocked
 use Rattle.mic_clock.specs.Meaning.{Meaning}
 use Rattle.mic_clock.specs.View.{BoardView}
-use Rattle.ijvm_image.specs.Image.{ImageView}
 use Rattle.ijvm_run.specs.declared.run.RunEnd.{RunEnd}
 use Rattle.ijvm_run.specs.declared.run.RunEnd.TheVariants as defined
 use Rattle.ijvm_run.specs.Frames.{State}

@@ -1,10 +1,9 @@
 -- From the reset of a Mic-2 to its first boundary.
-use Rattle.std.proofs.Common.{◌≡◌, ℕ, zero, suc, ◌+◌, ◌-◌, ◌<◌, Option, Some, None, List, [], ◌∷◌, length, replicate, refl, arith, sym, ◌∙◌, ap}
+use Rattle.std.proofs.Common.{◌≡◌, ℕ, zero, suc, ◌<◌, Option, Some, List, [], ◌∷◌, length, replicate, refl, arith, sym, ◌∙◌, ap}
 use Rattle.std.specs.Prelude.{slice_get, slice_index}
 use Rattle.std.proofs.lemmas.List.{length-replicate, append-nil}
-use Rattle.machine_words.specs.Arithmetic.{plus, wrap}
-use Rattle.console_port.specs.World.{World, byte_in}
-use Rattle.mic_clock.specs.Run.{MicroRun, start_run}
+use Rattle.machine_words.specs.Arithmetic.{plus}
+use Rattle.console_port.specs.World.{byte_in}
 use Rattle.mic2_fetch_unit.specs.FetchUnit.{at_start}
 use Rattle.mic2_datapath.specs.Micro.{Micro}
 use Rattle.mic2_datapath.specs.Mic2.{mic2_meaning}

@@ -1,12 +1,11 @@
 -- Mic-2 between two boundaries: what it knows at the one, and when a symbolic run comes to the next.
-use Rattle.std.proofs.Common.{◌≡◌, ℕ, zero, suc, ◌+◌, ◌*◌, ◌<◌, ◌≤◌, ◌++◌, Some, None, true, false, List, [], ◌∷◌, length, arith, ◌∙◌, ap, ap₂, sym, subst, inl, inr, refl, add-zero}
+use Rattle.std.proofs.Common.{◌≡◌, ℕ, zero, suc, ◌+◌, ◌*◌, ◌<◌, ◌≤◌, ◌++◌, Some, None, true, false, List, [], ◌∷◌, length, arith, ◌∙◌, ap, ap₂, sym, subst, inl, inr}
 use Rattle.std.specs.Prelude.{nat_lt, nat_le, ◌==◌}
 use Rattle.std.proofs.lemmas.Bool.Decides.{nat_tests}
 use Rattle.console_port.specs.World.{World, StackLimit, byte_in}
-use Rattle.machine_words.specs.Arithmetic.{wrap, plus, before, signed_pair}
+use Rattle.machine_words.specs.Arithmetic.{plus, signed_pair}
 use Rattle.ijvm_run.specs.Frames.{State}
 use Rattle.datapath.specs.Memory.{memory_refusal}
-use Rattle.mic2_fetch_unit.specs.FetchUnit.{Prefetch}
 use Rattle.mic2_fetch_unit.specs.Place.{StandsAt}
 use Rattle.mic2_datapath.specs.Micro.{Micro}
 use Rattle.mic2_datapath.specs.Microstep.{demand}
@@ -24,7 +23,7 @@ use Rattle.mic2_interpreter.proofs.Queue.{Held, AtLeast, IsHeld, Bounds, is_enou
 use Rattle.mic2_interpreter.proofs.Places.{unit_there, bounds_there, stands_there, many_there}
 use Rattle.mic2_interpreter.proofs.Guided.{Short, standing, moment_of, settled_by, text_result, clocked, IsSmooth, Arrives, pass-clocked, outcome_is, step-refused}
 use Rattle.mic2_interpreter.proofs.Accesses.{IsMap, wrap_small, before_is}
-use Rattle.ijvm_simulation.specs.Stands.{Origin, Holds, IsMemory}
+use Rattle.ijvm_simulation.specs.Stands.{Origin, Holds}
 use Rattle.ijvm_simulation.specs.Passes.{Moment, is_inside, pass}
 use Rattle.ijvm_simulation.specs.Law.{Shows, HasWord, Overruns}
 

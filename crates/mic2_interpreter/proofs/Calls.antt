@@ -1,20 +1,20 @@
 -- Calls and returns.
 use Rattle.std.proofs.Common.{◌≡◌, ℕ, zero, suc, ◌+◌, ◌-◌, ◌*◌, ◌<◌, ◌≤◌, Bool, true, false, Some, None, Option, List, [], ◌∷◌, ◌++◌, length, take, drop, replicate, ◌==◌, ◌%◌, refl, arith, sym, ◌∙◌, ap, ap₂, subst, inl, inr, add-zero, length-set, length-append, get_or-set_same}
-use Rattle.std.specs.Prelude.{slice_index, slice_set, slice_get, bit_or, nat_lt, if◌then◌else◌}
+use Rattle.std.specs.Prelude.{slice_index, slice_set, slice_get, nat_lt, if◌then◌else◌}
 use Rattle.std.proofs.lemmas.Bool.Decides.{nat_tests}
 use Rattle.std.proofs.lemmas.Bool.{cases_lt, cases_Bool}
 use Rattle.std.proofs.lemmas.List.{length-replicate}
 use Rattle.std.proofs.lemmas.Option.{get_or_from_slice_get}
 use Rattle.machine_words.specs.declared.machine.Machine.TheVariants.{Mic2}
-use Rattle.machine_words.specs.Arithmetic.{wrap, plus, minus, next}
-use Rattle.console_port.specs.World.{World, Refusal, StackLimit, read_value, after_read, byte_in, write_refusal}
+use Rattle.machine_words.specs.Arithmetic.{plus, minus, next}
+use Rattle.console_port.specs.World.{World, StackLimit, read_value, after_read, byte_in, write_refusal}
 use Rattle.ijvm_instr.specs.declared.instr.Instr.{Instr}
 use Rattle.ijvm_instr.specs.declared.instr.Instr.TheVariants.{Ireturn, Invokevirtual}
 use Rattle.ijvm_image.specs.declared.method.Method.{Method}
 use Rattle.ijvm_image.specs.Image.{params, others, method_at}
-use Rattle.ijvm_run.specs.Frames.{Frame, State, frames_of, base, operands_at, kept_words}
+use Rattle.ijvm_run.specs.Frames.{Frame, State, base, operands_at, kept_words}
 use Rattle.ijvm_run.specs.Cost.{cost}
-use Rattle.ijvm_run.specs.Step.{onto, called, in_method}
+use Rattle.ijvm_run.specs.Step.{onto, called}
 use Rattle.ijvm_paths.specs.Accepted.{VerifiedView}
 use Rattle.mic2_datapath.specs.Micro.{Micro}
 use Rattle.mic2_datapath.specs.Mic2.{mic2_meaning}

@@ -1,9 +1,9 @@
 -- IN and OUT.
-use Rattle.std.proofs.Common.{◌≡◌, ℕ, ◌+◌, ◌%◌, ◌<◌, ◌≤◌, Some, None, Option, List, [], ◌∷◌, ◌++◌, length, drop, refl, arith, ◌∙◌, ap, ap₂, sym, append_assoc, add-zero}
+use Rattle.std.proofs.Common.{◌≡◌, ℕ, ◌+◌, ◌%◌, ◌<◌, ◌≤◌, Some, List, [], ◌∷◌, ◌++◌, length, drop, refl, arith, ◌∙◌, ap, ap₂, sym, append_assoc, add-zero}
 use Rattle.std.specs.Prelude.{slice_set}
 use Rattle.machine_words.specs.declared.machine.Machine.TheVariants.{Mic2}
 use Rattle.machine_words.specs.Arithmetic.{next, before}
-use Rattle.console_port.specs.World.{World, Refusal, StackLimit, next_byte, read_value, byte_in, write_refusal}
+use Rattle.console_port.specs.World.{World, StackLimit, next_byte, read_value, byte_in, write_refusal}
 use Rattle.ijvm_instr.specs.declared.instr.Instr.{Instr}
 use Rattle.ijvm_instr.specs.declared.instr.Instr.TheVariants.{In, Out}
 use Rattle.ijvm_run.specs.Frames.{State, frames_of, base}

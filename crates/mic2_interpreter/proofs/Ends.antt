@@ -1,5 +1,5 @@
 -- HALT and ERR.
-use Rattle.std.proofs.Common.{◌≡◌, ℕ, List, refl, ◌∙◌, inl}
+use Rattle.std.proofs.Common.{ℕ, List, refl, ◌∙◌, inl}
 use Rattle.machine_words.specs.declared.machine.Machine.TheVariants.{Mic2}
 use Rattle.ijvm_instr.specs.declared.instr.Instr.TheVariants.{Err, Halt}
 use Rattle.ijvm_run.specs.Frames.{State}

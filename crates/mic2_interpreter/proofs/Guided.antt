@@ -1,8 +1,8 @@
 -- Symbolic runs of Mic-2 over the shipped microprogram: a run along a plan of stalls and guessed next addresses, and what makes it the machine's.
-use Rattle.std.proofs.Common.{ap, ap₂, ◌∙◌, ◌≡◌, ℕ, zero, suc, ◌+◌, ◌*◌, ◌<◌, ◌≤◌, Option, Some, None, Bool, true, false, List, [], ◌∷◌, length, arith, refl, sym, subst, add-zero, length-set}
+use Rattle.std.proofs.Common.{ap, ap₂, ◌∙◌, ◌≡◌, ℕ, zero, suc, ◌+◌, ◌*◌, ◌<◌, ◌≤◌, Option, Some, None, Bool, true, false, List, [], ◌∷◌, length, arith, refl, sym, subst, add-zero}
 use Rattle.std.specs.Prelude.{nat_lt, slice_index, if◌then◌else◌, ◌||◌}
 use Rattle.std.proofs.lemmas.Bool.Decides.{nat_tests}
-use Rattle.machine_words.specs.Arithmetic.{wrap, plus, signed_byte, signed_pair}
+use Rattle.machine_words.specs.Arithmetic.{signed_byte, signed_pair}
 use Rattle.console_port.specs.World.{World, Refusal, byte_in}
 use Rattle.micro_word.specs.Canonical.{is_byte, is_pair}
 use Rattle.micro_word.specs.Operation.{alu, shifted}
@@ -19,9 +19,9 @@ use Rattle.datapath.specs.declared.ports.Ports.{Ports}
 use Rattle.datapath.specs.Registers.{NineRegisters, on_bus, loaded, ports_given}
 use Rattle.datapath.specs.Memory.{written, sampled, word_under_way, memory_refusal, first_refusal, outcome}
 use Rattle.datapath.specs.Next.{target}
-use Rattle.mic2_fetch_unit.specs.FetchUnit.{Prefetch, edge, jump, edge_refusal}
+use Rattle.mic2_fetch_unit.specs.FetchUnit.{Prefetch, edge, edge_refusal}
 use Rattle.mic2_datapath.specs.Micro.{Micro}
-use Rattle.mic2_datapath.specs.Microstep.{operand_bytes, dispatch_bytes, demand, is_stalled, stalled, registers_in, byte_at, fetched, source, result_of, advanced, settled, jumps, unit_after, unit_refusal, is_to_instruction, moved, clock, world_after, refusal, step_if, microstep}
+use Rattle.mic2_datapath.specs.Microstep.{operand_bytes, dispatch_bytes, demand, is_stalled, stalled, registers_in, byte_at, fetched, source, result_of, advanced, jumps, unit_after, unit_refusal, is_to_instruction, moved, clock, world_after, step_if, microstep}
 use Rattle.mic_clock.specs.Run.{number_of}
 use Rattle.mic2_datapath.specs.Mic2.{mic2_meaning, step_of_word, driven, driven_by, stalled_drive}
 use Rattle.ijvm_simulation.specs.Stands.{IsMemory}
@@ -29,7 +29,7 @@ use Rattle.ijvm_simulation.specs.Passes.{Moment, is_inside, outcome_at, stalls_a
 use Rattle.mic2_interpreter.proofs.Accesses.{wrap_small}
 use Rattle.mic2_interpreter.proofs.Keeps.{memory_set}
 use Rattle.mic2_interpreter.proofs.Shipped.{shipped, HasStatements}
-use Rattle.mic2_interpreter.proofs.Units.{unit_at, bytes_from, have_after, byte_there, length-bytes, Fits, edge_stands, edge_allowed, jump_stands, jump_allowed}
+use Rattle.mic2_interpreter.proofs.Units.{unit_at, have_after, byte_there, length-bytes, Fits, edge_stands, edge_allowed, jump_stands, jump_allowed}
 use Rattle.mic2_interpreter.proofs.Queue.{Held, Jumped, IsHeld, is_enough, held_after, held_fits, held_enough, held_edge, Beat, Goes, Waits, WaitsLate, WaitsOn, IsWait, held_waited, wait_short, wait_held}
 
 -- the next address: a goto's own, and else the first guess

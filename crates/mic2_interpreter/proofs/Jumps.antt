@@ -1,17 +1,17 @@
 -- Jumps and branches.
-use Rattle.std.proofs.Common.{◌≡◌, ◌⊎◌, ℕ, suc, ◌+◌, ◌-◌, ◌*◌, ◌^◌, ◌<◌, ◌≤◌, Bool, true, false, ◌==◌, Some, None, List, [], ◌∷◌, length, refl, arith, sym, ◌∙◌, ap, ap₂, subst, All, inl, inr, add-zero}
-use Rattle.std.specs.Prelude.{bit_or, nat_lt, nat_le, if◌then◌else◌, pos, negsuc, ℤ}
+use Rattle.std.proofs.Common.{◌≡◌, ℕ, ◌+◌, ◌-◌, ◌*◌, ◌<◌, ◌≤◌, Bool, true, false, ◌==◌, List, [], ◌∷◌, length, refl, arith, sym, ◌∙◌, ap, ap₂, subst, All, inr, add-zero}
+use Rattle.std.specs.Prelude.{if◌then◌else◌, ℤ}
 use Rattle.std.specs.Int.{w16, cast_signed}
 use Rattle.std.proofs.lemmas.Bool.Decides.{nat_tests}
 use Rattle.std.proofs.lemmas.List.Elements.{All-get_or}
 use Rattle.machine_words.specs.declared.machine.Machine.TheVariants.{Mic2}
-use Rattle.machine_words.specs.Arithmetic.{wrap, plus, minus, next, before, signed_byte, signed_pair, is_negative}
-use Rattle.console_port.specs.World.{World, read_value, untaken_after, byte_in, fetch_refusal}
+use Rattle.machine_words.specs.Arithmetic.{wrap, plus, minus, before, signed_pair, is_negative}
+use Rattle.console_port.specs.World.{World, read_value, untaken_after, byte_in}
 use Rattle.ijvm_instr.specs.declared.instr.Instr.{Instr}
 use Rattle.ijvm_instr.specs.declared.instr.Instr.TheVariants.{Ifeq, Iflt, IfIcmpeq, Goto}
 use Rattle.ijvm_instr.specs.Instructions.{word_of, target}
 use Rattle.ijvm_run.specs.Frames.{State, IsWord, HasWords, frames_of, base}
-use Rattle.ijvm_run.specs.Cost.{cost, cycles_of, is_taken, tests, are_equal}
+use Rattle.ijvm_run.specs.Cost.{cost, tests, are_equal}
 use Rattle.ijvm_run.specs.Step.{moved, way}
 use Rattle.ijvm_paths.specs.Accepted.{VerifiedView}
 use Rattle.mic2_datapath.specs.Micro.{Micro}

@@ -1,21 +1,21 @@
 -- Instructions that name a local or a constant.
-use Rattle.std.proofs.Common.{◌≡◌, ℕ, suc, ◌+◌, ◌-◌, ◌*◌, ◌<◌, ◌≤◌, Some, None, Option, List, [], ◌∷◌, ◌++◌, length, true, refl, arith, sym, ◌∙◌, ap, ap₂, length-set, inl, inr, add-zero}
-use Rattle.std.specs.Prelude.{slice_index, slice_set, slice_get, bit_or, ℤ}
+use Rattle.std.proofs.Common.{◌≡◌, ℕ, ◌+◌, ◌-◌, ◌*◌, ◌<◌, ◌≤◌, Some, List, [], ◌∷◌, ◌++◌, length, true, refl, arith, sym, ◌∙◌, ap, ap₂, length-set, inl, add-zero}
+use Rattle.std.specs.Prelude.{slice_index, slice_set, slice_get, ℤ}
 use Rattle.std.specs.Int.{w8, w16, cast_signed}
 use Rattle.std.proofs.lemmas.Option.{get_or_from_slice_get}
 use Rattle.machine_words.specs.declared.machine.Machine.TheVariants.{Mic2}
-use Rattle.machine_words.specs.Arithmetic.{wrap, plus, next, before, signed_byte, signed_pair}
-use Rattle.console_port.specs.World.{World, Refusal, StackLimit, read_value, byte_in, write_refusal, fetch_refusal}
+use Rattle.machine_words.specs.Arithmetic.{plus, next, before, signed_byte, signed_pair}
+use Rattle.console_port.specs.World.{World, StackLimit, read_value, byte_in, write_refusal}
 use Rattle.ijvm_instr.specs.declared.instr.Instr.{Instr}
 use Rattle.ijvm_instr.specs.declared.instr.Instr.TheVariants.{LdcW, Iload, Istore, Iinc, WideIload, WideIstore, WideIinc}
 use Rattle.ijvm_instr.specs.Instructions.{word_of}
 use Rattle.ijvm_run.specs.Frames.{Frame, State, frames_of, base, operands_at}
 use Rattle.ijvm_run.specs.Cost.{cost}
-use Rattle.ijvm_run.specs.Step.{moved, with_local, is_own}
+use Rattle.ijvm_run.specs.Step.{with_local, is_own}
 use Rattle.ijvm_paths.specs.Accepted.{VerifiedView}
 use Rattle.mic2_datapath.specs.Micro.{Micro}
 use Rattle.mic2_datapath.specs.Mic2.{mic2_meaning}
-use Rattle.ijvm_simulation.specs.Stands.{Origin, FramesStand, IsMemory, IsTop}
+use Rattle.ijvm_simulation.specs.Stands.{Origin, FramesStand, IsMemory}
 use Rattle.ijvm_simulation.specs.Passes.{Moment}
 use Rattle.ijvm_simulation.specs.Outcomes.{Went, Overran, push}
 use Rattle.ijvm_simulation.specs.Verified.{Loads, Fine, IsNext}

@@ -1,12 +1,10 @@
 -- Instructions on the operands alone.
-use Rattle.std.proofs.Common.{◌≡◌, ◌≢◌, ℕ, suc, ◌+◌, ◌-◌, ◌<◌, ◌≤◌, Some, None, List, [], ◌∷◌, ◌++◌, length, refl, arith, sym, ◌∙◌, ap, ap₂, add_comm, length-set, inl, inr, add-zero}
-use Rattle.std.specs.Prelude.{slice_index, slice_set, nat_lt, if◌then◌else◌, pos, negsuc, Bool, true, false, bit_and, bit_or, Option}
-use Rattle.std.specs.Int.{w8, cast_signed}
-use Rattle.std.proofs.lemmas.Bool.Decides.{nat_tests}
+use Rattle.std.proofs.Common.{◌≡◌, ◌≢◌, ℕ, suc, ◌+◌, ◌<◌, ◌≤◌, Some, List, [], ◌∷◌, ◌++◌, length, refl, arith, sym, ◌∙◌, ap, ap₂, length-set, inl, inr, add-zero}
+use Rattle.std.specs.Prelude.{slice_set, bit_and, bit_or}
 use Rattle.std.proofs.lemmas.List.{set_comm}
 use Rattle.machine_words.specs.declared.machine.Machine.TheVariants.{Mic2}
-use Rattle.machine_words.specs.Arithmetic.{wrap, plus, minus, next, before, signed_byte}
-use Rattle.console_port.specs.World.{World, Refusal, StackLimit, read_value, byte_in, write_refusal}
+use Rattle.machine_words.specs.Arithmetic.{plus, minus, next, before, signed_byte}
+use Rattle.console_port.specs.World.{World, StackLimit, read_value, byte_in, write_refusal}
 use Rattle.ijvm_instr.specs.declared.instr.Instr.{Instr}
 use Rattle.ijvm_instr.specs.declared.instr.Instr.TheVariants.{Nop, Bipush, Pop, Dup, Swap, Iadd, Isub, Iand, Ior}
 use Rattle.ijvm_instr.specs.Instructions.{word_of}

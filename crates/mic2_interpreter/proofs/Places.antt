@@ -1,10 +1,8 @@
 -- A fetch unit stands at a place exactly where it is the folded one there.
-use Rattle.std.proofs.Common.{◌≡◌, ℕ, zero, suc, ◌+◌, ◌*◌, ◌/◌, ◌%◌, ◌<◌, ◌≤◌, Option, Some, None, List, [], ◌∷◌, length, Bool, true, false, refl, arith, ◌∙◌, ap, ap₂, sym, inl, inr}
+use Rattle.std.proofs.Common.{◌≡◌, ℕ, zero, suc, ◌+◌, ◌*◌, ◌/◌, ◌%◌, ◌<◌, ◌≤◌, Option, Some, None, List, [], ◌∷◌, length, Bool, true, false, refl, arith, ◌∙◌, ap, ap₂, sym}
 use Rattle.std.specs.Prelude.{slice_index, nat_le, if◌then◌else◌, is_some, IfSome}
-use Rattle.std.proofs.lemmas.Bool.{cases_Bool}
-use Rattle.std.proofs.lemmas.Bool.Decides.{nat_tests}
 use Rattle.console_port.specs.World.{byte_in}
-use Rattle.mic2_fetch_unit.specs.FetchUnit.{Prefetch, IsUnit}
+use Rattle.mic2_fetch_unit.specs.FetchUnit.{Prefetch}
 use Rattle.mic2_fetch_unit.specs.Place.{StandsAt}
 use Rattle.mic2_interpreter.proofs.Units.{unit_at, bytes_from, length-bytes, byte_there}
 use Rattle.mic2_interpreter.proofs.Queue.{Bounds}

@@ -1,13 +1,12 @@
 -- The fetch unit that stands at a place of memory is one folded value, which two equations move: its edge and its jump.
-use Rattle.std.proofs.Common.{subst, ◌≡◌, ℕ, zero, suc, ◌+◌, ◌-◌, ◌*◌, ◌/◌, ◌%◌, ◌^◌, ◌<◌, ◌≤◌, inl, inr, Option, Some, None, List, [], ◌∷◌, ◌++◌, length, drop, Bool, true, false, refl, arith, ◌∙◌, ap, ap₂, sym, add-zero}
+use Rattle.std.proofs.Common.{◌≡◌, ℕ, zero, suc, ◌+◌, ◌-◌, ◌*◌, ◌/◌, ◌%◌, ◌<◌, ◌≤◌, inl, inr, Some, None, List, [], ◌∷◌, ◌++◌, length, drop, Bool, true, false, refl, arith, ◌∙◌, ap, ap₂, sym, add-zero}
 use Rattle.std.specs.Prelude.{slice_index, nat_lt, nat_le, if◌then◌else◌}
 use Rattle.std.specs.Option.{option_map}
 use Rattle.std.proofs.lemmas.Bool.{cases_Bool}
 use Rattle.std.proofs.lemmas.Bool.Decides.{nat_tests}
 use Rattle.machine_words.specs.Arithmetic.{next}
-use Rattle.console_port.specs.World.{byte_in, byte_of, Refusal, word_refusal}
-use Rattle.mic2_fetch_unit.specs.FetchUnit.{Prefetch, IsUnit, bytes_of_word, without, appended, filled, sampled_by, sample_refusal, edge, jump, edge_refusal, jump_refusal}
-use Rattle.mic2_fetch_unit.specs.Place.{StandsAt}
+use Rattle.console_port.specs.World.{byte_in, byte_of, word_refusal}
+use Rattle.mic2_fetch_unit.specs.FetchUnit.{Prefetch, bytes_of_word, without, appended, filled, sampled_by, sample_refusal, edge, jump, edge_refusal, jump_refusal}
 use Rattle.ijvm_simulation.specs.Stands.{IsMemory}
 use Rattle.mic2_interpreter.proofs.Accesses.{next_is}
 

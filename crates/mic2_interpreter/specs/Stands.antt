@@ -1,5 +1,4 @@
 -- When a Mic-2 at a boundary stands for a state of the plain machine.
-use Rattle.std.specs.Prelude.{ℕ, List}
 use Rattle.console_port.specs.World.{World}
 use Rattle.ijvm_run.specs.Frames.{State}
 use Rattle.mic2_datapath.specs.Micro.{Micro}

@@ -30,7 +30,7 @@ use Rattle.run_texts.specs.Report.{clocked_head, cycles_of, head, last_boundary,
 use Rattle.program_commands.specs.Reference.{IsReported, IsRun, Reported}
 use Rattle.program_commands.specs.Reference as reference
 use Rattle.mic_call.specs.Outside.{Streams}
-use Rattle.mic_call.specs.RunEnds.{ClockedEnd, CutByRead, CutByWrite, NoRoom, Ran}
+use Rattle.mic_call.specs.RunEnds.{ClockedEnd, CutByRead, CutByWrite, NoRoom, Ran, report_on}
 use Rattle.mic_call.specs.Agree.{Agrees, IsQuiet}
 
 -- At a stack limit the definition's cycles are those of the last boundary.
@@ -106,12 +106,16 @@ told_input left input taken e told = subst (λ (l : Option (List ℕ)). Untaken 
 held_is : (held : Option (List ℕ)) (one given : List ℕ) → held ≡ Some one → IfSome held (λ h. h ≡ given) → one ≡ given
 held_is held one given e is = subst (λ (h : Option (List ℕ)). IfSome h (λ x. x ≡ given)) e is
 
+-- a run has one end
+abbrev pub OneEnd : Type 0
+OneEnd = (p : Program) (n : ℕ) (from : Point) (f g : Finish) → EndsBy p n from f → EndsBy p n from g → f ≡ g
+
 module _ {M S : Type 0} (state : M → S) (m : Meaning S) (IsReady : ℕ → List ℕ → ℕ → S → Type 0) (IsShipped : List ℕ → Type 0) (entry : ℕ) where
   module _ (program : VerifiedView) (bound : ℕ) (input : List ℕ) (old ran told : Streams) (status status' : ℕ) where
     -- both ran to their ends
-    both : ((p : Program) (n : ℕ) (from : Point) (f g : Finish) → EndsBy p n from f → EndsBy p n from g → f ≡ g) → old.console.left ≡ Some input →
+    both : OneEnd → old.console.left ≡ Some input →
         (board : BoardView M) (run : HasRun state m IsReady IsShipped entry program bound old.console.left old.out.held ran.console.left ran.out.held board) →
-        Says old.err ran.err (clocked_head (end_of run.begins.finish.end) board.counts ++ state_line (m.registers (state board.machine)) ++ codes "\n") (status_of (end_of run.begins.finish.end)) status →
+        Says old.err ran.err (report_on state m (end_of run.begins.finish.end) board) (status_of (end_of run.begins.finish.end)) status →
         (r : PlainReport) → HasPlainRun (reference.program_of program m.machine) program.main_locals bound old.console.left old.out.held told.console.left told.out.held r →
         Says old.err told.err (plain_head r) (status_of (texts.end_of r.end)) status' →
         IsQuiet old ran status → IsQuiet old told status' → Agrees old ran told status status'
@@ -144,9 +148,9 @@ module _ {M S : Type 0} (state : M → S) (m : Meaning S) (IsReady : ℕ → Lis
           reference_says = reference_said.1;
         }
 
-    by_reference : ((p : Program) (n : ℕ) (from : Point) (f g : Finish) → EndsBy p n from f → EndsBy p n from g → f ≡ g) → old.console.left ≡ Some input →
+    by_reference : OneEnd → old.console.left ≡ Some input →
         (board : BoardView M) (run : HasRun state m IsReady IsShipped entry program bound old.console.left old.out.held ran.console.left ran.out.held board) →
-        Says old.err ran.err (clocked_head (end_of run.begins.finish.end) board.counts ++ state_line (m.registers (state board.machine)) ++ codes "\n") (status_of (end_of run.begins.finish.end)) status →
+        Says old.err ran.err (report_on state m (end_of run.begins.finish.end) board) (status_of (end_of run.begins.finish.end)) status →
         IsRun program m.machine bound old.console told.console old.out told.out old.err told.err status' →
         IsQuiet old ran status → IsQuiet old told status' → Agrees old ran told status status'
     by_reference one tells board run says (Reported r (reference.Ran plainly console out) says') quiet quiet' =
@@ -156,7 +160,7 @@ module _ {M S : Type 0} (state : M → S) (m : Meaning S) (IsReady : ℕ → Lis
     by_reference one tells board run says (reference.Short short console out says') quiet quiet' =
         absurd (quiet'.memory (said old.err told.err _ _ status' quiet'.err says').0)
 
-    pub agree : ((p : Program) (n : ℕ) (from : Point) (f g : Finish) → EndsBy p n from f → EndsBy p n from g → f ≡ g) → old.console.left ≡ Some input →
+    pub agree : OneEnd → old.console.left ≡ Some input →
         ClockedEnd state m IsReady IsShipped entry program bound old ran status →
         IsRun program m.machine bound old.console told.console old.out told.out old.err told.err status' →
         IsQuiet old ran status → IsQuiet old told status' → Agrees old ran told status status'

@@ -1,10 +1,13 @@
 -- How a call of `mic` ends, by what its words ask for.
 use Rattle.std.specs.Prelude.{◌≡◌, ℕ, List, Option, Some, None}
 use Rattle.mic_words.specs.Words.{Asked, Assemble, ListOf, Verify, Run, RunOwn, Trace, Profile, Reference, Micro, PrintMicro}
+use Rattle.machine_words.specs.declared.machine.Machine.{Machine}
 use Rattle.machine_words.specs.declared.machine.Machine.TheVariants.{Mic1, Mic2}
 use Rattle.mal_parser.specs.Canonical.{canonical_text}
-use Rattle.mic1_datapath.specs.Mic1.{mic1_meaning, IsReady}
-use Rattle.mic1_datapath.specs.View.{micro_of}
+use Rattle.mic1_datapath.specs.Mic1.{mic1_meaning, IsReady as IsReady1}
+use Rattle.mic1_datapath.specs.View.{micro_of as micro_of1}
+use Rattle.mic2_datapath.specs.Mic2.{mic2_meaning, IsReady as IsReady2}
+use Rattle.mic2_datapath.specs.View.{micro_of as micro_of2}
 use Rattle.shipped_program.specs.Listing.{program_of}
 use Rattle.shipped_program.specs.Shipped.{HasShipped}
 use Rattle.console_port.specs.declared.map.MemoryMap.{MemoryMap}
@@ -45,32 +48,36 @@ pub record OnlyPrints (text : List ℕ) (old new : Outside) (status : ℕ) : Typ
   pub err : new.streams.err ≡ old.streams.err
   pub says : Says old.streams.out new.streams.out text exits.done status
 
--- Mic-1 with the microprogram that ships for it, and Main1 at 0x002
+-- a machine with the microprogram that ships for it, and Main1 at 0x002
 abbrev pub RunsMic1 : List ℕ → ℕ → MemoryMap → Outside → Outside → ℕ → Type 0
-RunsMic1 = RunEnds micro_of mic1_meaning IsReady (HasShipped Mic1) 0x002
+RunsMic1 = RunEnds micro_of1 mic1_meaning IsReady1 (HasShipped Mic1) 0x002
 
--- Mic-1 with a person's own microprogram, or without one with the one that ships. `Runs` says how the run of a program by it went.
+abbrev pub RunsMic2 : List ℕ → ℕ → MemoryMap → Outside → Outside → ℕ → Type 0
+RunsMic2 = RunEnds micro_of2 mic2_meaning IsReady2 (HasShipped Mic2) 0x002
+
+-- A machine with a person's own microprogram, or without one with the one that ships. `Runs` says how the run of a program by it went.
 abbrev pub Clocks : (Program → VerifiedView → ℕ → SourceState → SourceState → SinkState → SinkState → SinkState → SinkState → ℕ → Type 0) →
-    List ℕ → ℕ → MemoryMap → Option (List ℕ) → Outside → Outside → ℕ → Type 0
-Clocks Runs file bound map own old new status =
+    Machine → List ℕ → ℕ → MemoryMap → Option (List ℕ) → Outside → Outside → ℕ → Type 0
+Clocks Runs machine file bound map own old new status =
     EndsOver (λ micro program. Runs micro program bound old.streams.console new.streams.console old.streams.out new.streams.out old.streams.err new.streams.err status)
-    Mic1 file own map old.streams.console new.streams.console (desk_of old) (desk_of new) status
+    machine file own map old.streams.console new.streams.console (desk_of old) (desk_of new) status
 
--- Where the words ask for nothing, the usage text says how `mic` is called. Clocking Mic-2 is not built, and is answered so too.
+-- Where the words ask for nothing, the usage text says how `mic` is called.
 abbrev pub EndsAs : Option Asked → Outside → Outside → ℕ → Type 0
 EndsAs None old new status = OnlySays usage exits.usage old new status
 EndsAs (Some (Assemble source image)) old new status = EndsAside (Assembled image) source old new status
 EndsAs (Some (ListOf file map)) old new status = EndsAside (Shown map Lists) file old new status
 EndsAs (Some (Verify file map)) old new status = EndsAside (Shown map Summarizes) file old new status
 EndsAs (Some (Run file Mic1 bound map)) old new status = RunsMic1 file bound map old new status
-EndsAs (Some (Run file Mic2 bound map)) old new status = OnlySays usage exits.usage old new status
-EndsAs (Some (RunOwn file Mic1 bound map micro)) old new status = Clocks (IsOwnRun micro_of mic1_meaning) file bound map (Some micro) old new status
-EndsAs (Some (RunOwn file Mic2 bound map micro)) old new status = OnlySays usage exits.usage old new status
+EndsAs (Some (Run file Mic2 bound map)) old new status = RunsMic2 file bound map old new status
+EndsAs (Some (RunOwn file Mic1 bound map micro)) old new status = Clocks (IsOwnRun micro_of1 mic1_meaning) Mic1 file bound map (Some micro) old new status
+EndsAs (Some (RunOwn file Mic2 bound map micro)) old new status = Clocks (IsOwnRun micro_of2 mic2_meaning) Mic2 file bound map (Some micro) old new status
 EndsAs (Some (Trace file Mic1 bound map micro buses)) old new status =
-    Clocks (λ listing program bound. IsTraced micro_of mic1_meaning listing program bound buses) file bound map micro old new status
-EndsAs (Some (Trace file Mic2 bound map micro buses)) old new status = OnlySays usage exits.usage old new status
-EndsAs (Some (Profile file Mic1 bound map micro)) old new status = Clocks (IsProfiled micro_of mic1_meaning) file bound map micro old new status
-EndsAs (Some (Profile file Mic2 bound map micro)) old new status = OnlySays usage exits.usage old new status
+    Clocks (λ listing program bound. IsTraced micro_of1 mic1_meaning listing program bound buses) Mic1 file bound map micro old new status
+EndsAs (Some (Trace file Mic2 bound map micro buses)) old new status =
+    Clocks (λ listing program bound. IsTraced micro_of2 mic2_meaning listing program bound buses) Mic2 file bound map micro old new status
+EndsAs (Some (Profile file Mic1 bound map micro)) old new status = Clocks (IsProfiled micro_of1 mic1_meaning) Mic1 file bound map micro old new status
+EndsAs (Some (Profile file Mic2 bound map micro)) old new status = Clocks (IsProfiled micro_of2 mic2_meaning) Mic2 file bound map micro old new status
 EndsAs (Some (Reference file machine bound map)) old new status =
     EndsReference file machine bound map old.streams.console new.streams.console (desk_of old) (desk_of new) status
 EndsAs (Some (Micro mal store machine)) old new status = EndsAside (MicroAnswers machine store) mal old new status

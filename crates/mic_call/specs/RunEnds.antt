@@ -29,7 +29,8 @@ module _ {M S : Type 0} (state : M → S) (m : Meaning S) (IsReady : ℕ → Lis
   pub data ClockedEnd (program : VerifiedView) (bound : ℕ) (old new : Streams) (status : ℕ) : Type 0 where
     -- memory was wanting before the first cycle
     NoRoom : IsUntouched old new → Says old.err new.err out_of_memory exits.memory status → ClockedEnd program bound old new status
-    -- the clocked run is the definition's, boundary by boundary, and has ended as that does, which the status tells; `out` has got the definition's output
+    -- the clocked run is the definition's, boundary by boundary, and has ended as that does, which the status tells;
+    -- `out` has got the definition's output
     Ran : (board : BoardView M) →
         (run : HasRun state m IsReady IsShipped entry program bound old.console.left old.out.held new.console.left new.out.held board) →
         new.console.faults ≡ old.console.faults → new.out.faults ≡ old.out.faults →
@@ -49,9 +50,11 @@ module _ {M S : Type 0} (state : M → S) (m : Meaning S) (IsReady : ℕ → Lis
   -- How `run` ends, once it has read these bytes of the file: they are refused, or they are a program.
   pub data BytesEnd (file bytes : List ℕ) (bound : ℕ) (map : MemoryMap) (old new : Streams) (status : ℕ) : Type 0 where
     Refused : SaysWhyRefused map file bytes old.err new.err status → IsUntouched old new → BytesEnd file bytes bound map old new status
-    Accepted : (program : VerifiedView) → IsProgram map bytes program → ClockedEnd program bound old new status → BytesEnd file bytes bound map old new status
+    Accepted : (program : VerifiedView) → IsProgram map bytes program → ClockedEnd program bound old new status →
+        BytesEnd file bytes bound map old new status
 
   pub data RunEnds (file : List ℕ) (bound : ℕ) (map : MemoryMap) (old new : Outside) (status : ℕ) : Type 0 where
-    Unread : IsUnread file old.files new.files old.streams.err new.streams.err status → IsUntouched old.streams new.streams → RunEnds file bound map old new status
+    Unread : IsUnread file old.files new.files old.streams.err new.streams.err status → IsUntouched old.streams new.streams →
+        RunEnds file bound map old new status
     Read : (bytes : List ℕ) → IsRead file bytes old.files → new.files ≡ old.files → BytesEnd file bytes bound map old.streams new.streams status →
         RunEnds file bound map old new status

@@ -1,9 +1,11 @@
 //! What holds between two commands.
 
 ghost use Rattle.std.specs.Prelude.{◌≡◌, ℕ, List, Some};
-ghost use Rattle.machine_words.specs.declared.machine.Machine.TheVariants.{Mic1};
-ghost use Rattle.mic1_datapath.specs.Mic1.{mic1_meaning, IsReady};
-ghost use Rattle.mic1_datapath.specs.View.{micro_of};
+ghost use Rattle.machine_words.specs.declared.machine.Machine.TheVariants.{Mic1, Mic2};
+ghost use Rattle.mic1_datapath.specs.Mic1.{mic1_meaning, IsReady as IsReady1};
+ghost use Rattle.mic1_datapath.specs.View.{micro_of as micro_of1};
+ghost use Rattle.mic2_datapath.specs.Mic2.{mic2_meaning, IsReady as IsReady2};
+ghost use Rattle.mic2_datapath.specs.View.{micro_of as micro_of2};
 ghost use Rattle.shipped_program.specs.Shipped.{HasShipped};
 ghost use Rattle.ijvm_paths.specs.Accepted.{VerifiedView};
 ghost use Rattle.program_commands.specs.Reference.{IsRun};
@@ -15,9 +17,13 @@ use ijvm_run::runs_end_once;
 
 /// `run` and `reference` of one accepted program, on the same machine, with the same bound and input, agree where no fault comes and memory is not wanting.
 pub fn run_agrees_with_reference()
-    ensures { (program : VerifiedView) (bound : ℕ) (input : List ℕ) (old ran told : Streams) (status status' : ℕ) → old.console.left ≡ Some input →
-        ClockedEnd micro_of mic1_meaning IsReady (HasShipped Mic1) 0x002 program bound old ran status →
+    ensures mic1 { (program : VerifiedView) (bound : ℕ) (input : List ℕ) (old ran told : Streams) (status status' : ℕ) → old.console.left ≡ Some input →
+        ClockedEnd micro_of1 mic1_meaning IsReady1 (HasShipped Mic1) 0x002 program bound old ran status →
         IsRun program Mic1 bound old.console told.console old.out told.out old.err told.err status' →
+        IsQuiet old ran status → IsQuiet old told status' → Agrees old ran told status status' }
+    ensures mic2 { (program : VerifiedView) (bound : ℕ) (input : List ℕ) (old ran told : Streams) (status status' : ℕ) → old.console.left ≡ Some input →
+        ClockedEnd micro_of2 mic2_meaning IsReady2 (HasShipped Mic2) 0x002 program bound old ran status →
+        IsRun program Mic2 bound old.console told.console old.out told.out old.err told.err status' →
         IsQuiet old ran status → IsQuiet old told status' → Agrees old ran told status status' }
 {
     runs_end_once();

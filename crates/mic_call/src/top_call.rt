@@ -14,9 +14,10 @@ use mic_base::{Files, Sink, Source};
 use mic_words::{Request, WordsError, read_words};
 use mic_work::{Status, no_memory};
 use mic1_datapath::Mic1;
+use mic2_datapath::Mic2;
 use micro_commands::{micro, print_micro, print_shipped};
 use program_commands::{assemble_file, list_file, reference_file, verify_file};
-use shipped_microcode::Mic1Interpreter;
+use shipped_microcode::{Mic1Interpreter, Mic2Interpreter};
 use std::alloc::Global;
 
 /// Does what the words after the program's name ask for.
@@ -55,10 +56,14 @@ pub fn mic_main<F: Files, S: Source, K: Sink, E: Sink>(
         ),
         Ok(
             Request::Run {
+                file,
                 machine: Machine::Mic2,
-                ..
+                bound,
+                map,
             },
-        ) => misused(err),
+        ) => run_file::<Mic2Interpreter, F, S, K, E>(
+            alloc, file, bound, map, files, console, out, err,
+        ),
         Ok(
             Request::RunOwn {
                 file,
@@ -123,18 +128,66 @@ pub fn mic_main<F: Files, S: Source, K: Sink, E: Sink>(
         ),
         Ok(
             Request::RunOwn {
+                file,
                 machine: Machine::Mic2,
-                ..
-            }
-            | Request::Trace {
-                machine: Machine::Mic2,
-                ..
-            }
-            | Request::Profile {
-                machine: Machine::Mic2,
-                ..
+                bound,
+                map,
+                micro,
             },
-        ) => misused(err),
+        ) => run_own_file(
+            alloc,
+            Mic2::new(),
+            file,
+            Some(micro),
+            bound,
+            map,
+            files,
+            console,
+            out,
+            err,
+        ),
+        Ok(
+            Request::Trace {
+                file,
+                machine: Machine::Mic2,
+                bound,
+                map,
+                micro,
+                buses,
+            },
+        ) => trace_file(
+            alloc,
+            Mic2::new(),
+            file,
+            micro,
+            bound,
+            map,
+            buses,
+            files,
+            console,
+            out,
+            err,
+        ),
+        Ok(
+            Request::Profile {
+                file,
+                machine: Machine::Mic2,
+                bound,
+                map,
+                micro,
+            },
+        ) => profile_file(
+            alloc,
+            Mic2::new(),
+            file,
+            micro,
+            bound,
+            map,
+            files,
+            console,
+            out,
+            err,
+        ),
         Ok(
             Request::Reference {
                 file,

@@ -1,4 +1,4 @@
-use Rattle.std.proofs.Common.{◌≡◌, ◌||◌, if◌then◌else◌, ◌∙◌}
+use Rattle.std.proofs.Common.{◌∙◌}
 use Rattle.machine_words.specs.declared.machine.Machine.TheVariants as machines
 use Rattle.micro_word.specs.Coding.{row, statement_of}
 use Rattle.mic2_datapath.proofs.Demands.{bytes_by}

@@ -1,4 +1,4 @@
-use Rattle.std.proofs.Common.{◌≡◌, ℕ, ◌+◌, IsTrue, ap, subst, ◌∙◌}
+use Rattle.std.proofs.Common.{◌+◌, IsTrue, ap, subst, ◌∙◌}
 use Rattle.machine_words.specs.declared.machine.Machine.{Machine}
 use Rattle.machine_words.specs.declared.machine.Machine.TheVariants as machines
 use Rattle.micro_word.specs.Canonical.{is_canonical}

@@ -1,13 +1,13 @@
-use Rattle.std.proofs.Common.{◌≡◌, ℕ, length, slice_index, sym, ap, ◌∙◌}
+use Rattle.std.proofs.Common.{◌≡◌, ℕ, length, ap, ◌∙◌}
 use Rattle.machine_words.specs.declared.machine.Machine.TheVariants as machines
 use Rattle.micro_word.specs.Coding.{statement_of}
 use Rattle.micro_word.specs.Lines.{names}
 use Rattle.micro_word.specs.Operation.{shifted}
 use Rattle.micro_word.specs.declared.layout.Fields.{Fields}
 use Rattle.datapath.specs.Places.{registers_at}
-use Rattle.datapath.specs.Registers.{NineRegisters, loaded}
+use Rattle.datapath.specs.Registers.{loaded}
 use Rattle.datapath.specs.Next.{target}
-use Rattle.mic2_datapath.specs.Microstep.{advanced, byte_at, demand, jumps, operand_bytes, registers_in, result_of, settled, unit_after, unit_refusal}
+use Rattle.mic2_datapath.specs.Microstep.{advanced, byte_at, registers_in, result_of, settled, unit_after, unit_refusal}
 use Rattle.mic2_datapath.specs.Latches.{micro_in}
 use Rattle.mic2_datapath.proofs.latches.Latches.advance.Goals as goal
 

@@ -1,4 +1,4 @@
-use Rattle.std.proofs.Common.{◌≡◌, ℕ, ◌<◌, slice_index, ap, ◌∙◌, arith}
+use Rattle.std.proofs.Common.{slice_index, ap, ◌∙◌, arith}
 use Rattle.machine_words.specs.Arithmetic.{signed_byte}
 use Rattle.mic2_datapath.proofs.latches.Latches.show_front.Goals as goal
 

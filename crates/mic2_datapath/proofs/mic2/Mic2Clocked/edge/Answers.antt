@@ -1,4 +1,4 @@
-use Rattle.std.proofs.Common.{◌≡◌, ◌==◌, length, List, ℕ, true, Err, refl, sym, ◌∙◌, ap, subst}
+use Rattle.std.proofs.Common.{◌≡◌, length, List, ℕ, true, Err, refl, sym, ◌∙◌, ap, subst}
 use Rattle.console_port.specs.Bus.{refused_by, ChangesOnly}
 use Rattle.console_port.specs.Console.{IsFault}
 use Rattle.micro_word.specs.Coding.{statement_of, mem_of}

@@ -1,0 +1,100 @@
+use Rattle.std.proofs.Common.{◌≡◌, ◌⊎◌, ◌+◌, ◌<◌, ◌++◌, ◌∙◌, ◌^◌, ℕ, [], Option, None, Ok, IsSome, refl, sym, ap, subst, rules}
+use Rattle.micro_word.specs.ControlStore.{ControlStore}
+use Rattle.mic_clock.specs.declared.end.End.{End}
+use Rattle.mic_clock.specs.Run.{word_at}
+use Rattle.mic_clock.specs.Board.{NoFault}
+use Rattle.mic_debugger.specs.Session.{text_between}
+use Rattle.mic_debugger.proofs.Putting.{puts_nothing, puts_then}
+use Rattle.mic_debugger.proofs.Timing.{InTime-step}
+use Rattle.mic_debugger.proofs.Underway.{underway_start, underway_more, underway_stopped, clocked_of}
+use Rattle.mic_debugger.proofs.clocking.Clocking.clock.Goals as goal
+
+pub turns-init : goal.turns-init
+turns-init g c =
+    let state = g.M.Clocked.state in
+    let m = g.M.Clocked.meaning in
+    let board = c.args.board.now in
+    let live : board.end ≡ None = c.requires.live in
+    record {
+      run = λ q book is_book. (
+        [],
+        puts_nothing (g.E.Sink.held c.args.err.now),
+        underway_start state m book board.store.words c.args.self.now.breaks.now c.args.self.now.bound c.args.self.now.until c.args.times
+            (g.S.Source.left c.args.input.now) (g.K.Sink.held c.args.out.now) board,
+      );
+      read = λ p. absurd (cc);
+      fault = λ e. cc;
+      store = refl;
+      keeps_out = λ front h. h;
+      keeps_err = λ front h. h;
+      quiet_out = refl;
+      quiet_err = refl;
+      in_time = c.requires.in_time;
+    }
+
+pub turns-preserved : goal.turns-preserved
+turns-preserved g c =
+    let state = g.M.Clocked.state in
+    let m = g.M.Clocked.meaning in
+    let self = c.args.self.now in
+    let first = c.args.board.now in
+    let old = c.turns.board in
+    let new = c.turn.new.board in
+    let left0 = g.S.Source.left c.args.input.now in
+    let held0 = g.K.Sink.held c.args.out.now in
+    let left = g.S.Source.left c.turns.input in
+    let held = g.K.Sink.held c.turns.out in
+    let left' = g.S.Source.left c.turn.new.input in
+    let held' = g.K.Sink.held c.turn.new.out in
+    let said0 = g.E.Sink.held c.args.err.now in
+    let said = g.E.Sink.held c.turns.err in
+    let said' = g.E.Sink.held c.turn.new.err in
+    let inv = c.turns.invariant in
+    let live : old.end ≡ None = search rules in
+    let some : 0 < c.turns.left = search rules in
+    let program : old.store.words ≡ first.store.words = ap (λ (s : ControlStore). s.words) inv.store in
+    let quiet = c.in_ok-came.ensures.quiet in
+    let going : NoFault None old.end = subst (λ (e : Option End). NoFault None e) (sym live) tt in
+    record {
+      run = λ q book is_book.
+          let before = inv.run going book is_book in
+          let text = text_between state m book self.breaks.now self.until old new in (
+            before.0 ++ text,
+            puts_then {E = ℕ} said0 said said' before.0 text (Ok tt) before.1 (c.in_ok-came.ensures.text book is_book),
+            underway_more state m book first.store.words self.breaks.now self.bound self.until c.args.times left0 held0 first left held old left' held' new
+                before.0 c.turns.left program live some before.2 c.less-rest.result (ap (λ (n : ℕ). n + c.less-rest.result) (sym c.in_ok-came.ensures.came) ∙ c.less-rest.ensures)
+                (c.turn.ensures.turn (subst (λ (e : Option End). NoFault e new.end) (sym live) q)),
+          );
+      read = λ p book is_book.
+          let before = inv.run going book is_book in
+          let text = text_between state m book self.breaks.now self.until old new in (
+            before.0 ++ text,
+            puts_then {E = ℕ} said0 said said' before.0 text (Ok tt) before.1 (c.in_ok-came.ensures.text book is_book),
+            underway_stopped state m book first.store.words self.breaks.now self.bound self.until c.args.times left0 held0 first left held old left' held' new
+                before.0 c.turns.left program live some before.2 p (c.turn.ensures.read live p),
+          );
+      fault = c.in_ok-came.ensures.fault;
+      store = c.turn.ensures.store ∙ inv.store;
+      keeps_out = λ front h. c.turn.ensures.keeps_out front (inv.keeps_out front h);
+      keeps_err = λ front h. c.turn.ensures.keeps_err front (inv.keeps_err front h);
+      quiet_out = quiet.0 ∙ inv.quiet_out;
+      quiet_err = quiet.1 ∙ inv.quiet_err;
+      in_time = InTime-step m (2 ^ 62) self.bound old.counts new.counts (m.is_boundary (state old.machine)) (m.drives (word_at m old.store.words (state old.machine)) (state old.machine)).stalled (state new.machine) old.end new.end live c.requires.bound inv.in_time
+          c.turn.ensures.still c.turn.ensures.room (λ q. (c.turn.ensures.clocked q).1) c.turn.ensures.below;
+    }
+
+pub returns-clause-done : goal.returns-clause-done
+returns-clause-done g c =
+    let state = g.M.Clocked.state in
+    let m = g.M.Clocked.meaning in
+    let self = c.args.self.now in
+    let first = c.args.board.now in
+    let board = c.turns.board in
+    let over : IsSome board.end ⊎ (c.turns.left ≡ 0) = search rules in
+    λ q book is_book.
+    let at = c.turns.invariant.run q book is_book in (
+      at.0,
+      at.1,
+      clocked_of state m book first.store.words self.breaks.now self.bound self.until c.args.times (g.S.Source.left c.args.input.now) (g.K.Sink.held c.args.out.now) first
+          (g.S.Source.left c.turns.input) (g.K.Sink.held c.turns.out) board at.0 c.turns.left over at.2,
+    )

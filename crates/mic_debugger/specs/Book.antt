@@ -1,0 +1,34 @@
+-- What names the words of a control store and the instructions of a text in the lines of a session.
+use Rattle.std.specs.Prelude.{◌≡◌, ◌≢◌, ℕ, ◌<◌, List, Some, length, slice_index, codes, unwrap_or, option_map}
+use Rattle.ijvm_image.specs.Image.{ImageView}
+use Rattle.ijvm_instr.specs.Instructions.{instr_at}
+use Rattle.ijvm_instr.specs.Text.{instr_text}
+use Rattle.ijvm_instr.specs.declared.instr.Instr.{Instr}
+use Rattle.ijvm_paths.specs.Kinds.{IsKind}
+use Rattle.ijvm_paths.specs.declared.kind.Kind.TheVariants.{Start}
+use Rattle.mal_parser.specs.Canonical.{parts_text, fallback_of}
+use Rattle.mal_parser.specs.Program.{Program, label_at}
+
+-- the label and the text of the statement at each address of the store, and the instruction at each byte address of the text
+pub record Book : Type 0 where
+  pub label : ℕ → List ℕ
+  pub text : ℕ → List ℕ
+  pub instruction : ℕ → List ℕ
+
+-- the label of a statement, a dash where it has none
+abbrev pub label_text : Program → ℕ → List ℕ
+label_text program s = unwrap_or (label_at program.statements s) (codes "-")
+
+-- the text of an unused word
+abbrev pub unused_text : Program → List ℕ
+unused_text program = unwrap_or (option_map (fallback_of program) program.fallback) (codes "goto 0x0fe")
+
+-- the book of a placed program and of an image
+pub record IsBook (program : Program) (placement : List ℕ) (image : ImageView) (book : Book) : Type 0 where
+  pub labels : (s : ℕ) → s < length placement → book.label (slice_index placement s) ≡ label_text program s
+  pub texts : (s : ℕ) → s < length placement → book.text (slice_index placement s) ≡ parts_text program s
+  pub unused_label : (a : ℕ) → ((s : ℕ) → s < length placement → slice_index placement s ≢ a) → book.label a ≡ codes ".default"
+  pub unused_text : (a : ℕ) → ((s : ℕ) → s < length placement → slice_index placement s ≢ a) → book.text a ≡ unused_text program
+  -- a reached instruction begins there, or none does
+  pub reached : (at : ℕ) (i : Instr) → IsKind image at Start → instr_at image.text at ≡ Some i → book.instruction at ≡ instr_text i at
+  pub unreached : (at : ℕ) → (IsKind image at Start → ⊥) → book.instruction at ≡ codes "?"

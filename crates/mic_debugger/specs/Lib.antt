@@ -1,0 +1,9 @@
+pub mod Commands
+pub mod View
+pub mod Book
+pub mod Lines
+pub mod Clocking
+pub mod Session
+pub mod Plans
+pub mod InTime
+pub mod Obeys

@@ -1,0 +1,66 @@
+-- The lines of a session, as bytes. Words have 8 hexadecimal digits in lower case, addresses of the control store 3.
+use Rattle.std.specs.Prelude.{ℕ, suc, zero, ◌+◌, ◌-◌, min, max, Bool, List, [], ◌++◌, Option, Some, None, codes, slice_get, unwrap_or, if◌then◌else◌}
+use Rattle.std.specs.Fmt.{decimal}
+use Rattle.mic_base.specs.Digits.{hex_text}
+use Rattle.mic_clock.specs.declared.counts.Boundary.{Boundary}
+use Rattle.mic_clock.specs.declared.counts.Counts.{Counts}
+use Rattle.mic_clock.specs.declared.end.End.{End}
+use Rattle.mic_clock.specs.declared.end.End.TheVariants as ends
+use Rattle.mic_clock.specs.declared.registers.Registers.{Registers}
+use Rattle.mic_clock.specs.State.{state_line}
+use Rattle.mic_debugger.specs.Book.{Book}
+
+-- the name of an end
+abbrev pub name_of : End → List ℕ
+name_of ends.Halt = codes "halt"
+name_of ends.Err = codes "error"
+name_of ends.Bound = codes "bound"
+name_of ends.StackLimit = codes "stack-limit"
+name_of ends.ReadFault = codes "read-fault"
+name_of ends.WriteFault = codes "write-fault"
+name_of (ends.OutOfMap at) = codes "out-of-map at " ++ hex_text 8 at
+name_of ends.Adrift = codes "adrift"
+
+unfoldable pub end_line : End → List ℕ
+end_line e = codes "end " ++ name_of e ++ codes "\n"
+
+-- a clocked cycle: its number, the address of its word, the label, and the text of the statement where it was no stall
+unfoldable pub cycle_line : Book → ℕ → ℕ → Bool → List ℕ
+cycle_line book cycles mpc stalled =
+    decimal cycles ++ codes " " ++ hex_text 3 mpc ++ codes " " ++ book.label mpc ++ codes " " ++ (if stalled then codes "stall" else book.text mpc) ++ codes "\n"
+
+-- the registers behind a cycle
+unfoldable pub registers_line : Registers → List ℕ
+registers_line r = codes "  " ++ state_line r ++ codes "\n"
+
+-- the last boundary's address and instruction
+abbrev pub place_text : Book → Option Boundary → List ℕ
+place_text book None = codes "- -"
+place_text book (Some b) = hex_text 8 b.at ++ codes " " ++ book.instruction b.at
+
+-- where a run stands: the cycles and the last boundary
+unfoldable pub place_line : Book → Counts → List ℕ
+place_line book c = codes "cycle " ++ decimal c.cycles ++ codes " at " ++ place_text book c.boundary
+
+-- and the word that comes next
+unfoldable pub next_line : Book → ℕ → List ℕ
+next_line book mpc = codes " mpc " ++ hex_text 3 mpc ++ codes " " ++ book.label mpc ++ codes " " ++ book.text mpc ++ codes "\n"
+
+abbrev pub where_line : Book → Counts → ℕ → List ℕ
+where_line book c mpc = place_line book c ++ next_line book mpc
+
+-- a memory word and its address
+abbrev pub word_line : List ℕ → ℕ → List ℕ
+word_line memory at = hex_text 8 at ++ codes " " ++ hex_text 8 (unwrap_or (slice_get memory at) 0) ++ codes "\n"
+
+-- so many memory words from an address on
+abbrev pub word_lines : List ℕ → ℕ → ℕ → List ℕ
+word_lines memory first zero = []
+word_lines memory first (suc n) = word_lines memory first n ++ word_line memory (first + n)
+
+-- the words from LV up to SP of a memory that has so many, at most the 64 highest of them
+unfoldable pub stack_text : List ℕ → ℕ → ℕ → ℕ → List ℕ
+stack_text memory count lv sp =
+    let over = min (sp + 1) count in
+    let first = max lv (over - 64) in
+    word_lines memory first (over - first)

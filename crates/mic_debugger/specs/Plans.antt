@@ -1,0 +1,97 @@
+-- What a line of a session comes to, and what it leaves of breakpoints and the watched word.
+use Rattle.std.specs.Prelude.{ℕ, ◌==◌, ◌&&◌, Bool, not, List, [], ◌∷◌, ◌++◌, length, filter, nat_lt, slice_get, if◌then◌else◌, Option, Some, None, option_map, is_some, Result, Ok, Err, codes}
+use Rattle.std.specs.List.{list_any}
+use Rattle.mic_clock.specs.declared.end.End.{End}
+use Rattle.mic_debugger.specs.declared.table.Verb.{Verb}
+use Rattle.mic_debugger.specs.declared.table.Verb.TheVariants as verbs
+use Rattle.mic_debugger.specs.declared.reading.Command.{Command}
+use Rattle.mic_debugger.specs.declared.reading.CommandError.{CommandError}
+use Rattle.mic_debugger.specs.declared.reading.CommandError.TheVariants.{BadCommand, BadNumber}
+use Rattle.mic_debugger.specs.declared.plan.Plan.{Plan}
+use Rattle.mic_debugger.specs.declared.plan.Plan.TheVariants as plans
+use Rattle.mic_debugger.specs.declared.reply.Reply.{Reply}
+use Rattle.mic_debugger.specs.declared.reply.Reply.TheVariants as replies
+use Rattle.mic_debugger.specs.declared.until.Until.{Until}
+use Rattle.mic_debugger.specs.declared.until.Until.TheVariants as until
+use Rattle.mic_debugger.specs.declared.until.Watched.{Watched}
+
+-- ---- breakpoints: at most 64 addresses
+
+-- the address would be the 65th
+abbrev pub is_full_for : List ℕ → ℕ → Bool
+is_full_for breaks at = length breaks == 64 && not (list_any (λ a. a == at) breaks)
+
+abbrev pub with_break : List ℕ → ℕ → List ℕ
+with_break breaks at = if not (list_any (λ a. a == at) breaks) && nat_lt (length breaks) 64 then breaks ++ at ∷ [] else breaks
+
+abbrev pub without_break : List ℕ → ℕ → List ℕ
+without_break breaks at = filter (λ a. not (a == at)) breaks
+
+-- ---- what a session has of its own: the breakpoints, and the watched word
+
+-- the watched word, and its value now
+abbrev pub watched_now : Option ℕ → List ℕ → Option Watched
+watched_now None memory = None
+watched_now (Some at) memory = option_map (λ value. record { at = at; value = value }) (slice_get memory at)
+
+abbrev pub breaks_by : List ℕ → Verb → ℕ → List ℕ
+breaks_by breaks verbs.Break at = with_break breaks at
+breaks_by breaks verbs.Clear at = without_break breaks at
+breaks_by breaks _ at = breaks
+
+abbrev pub watched_by : Option ℕ → Verb → ℕ → Option ℕ
+watched_by watched verbs.Watch at = Some at
+watched_by watched _ at = watched
+
+abbrev pub breaks_after : List ℕ → Result (Option Command) CommandError → List ℕ
+breaks_after breaks (Ok (Some c)) = breaks_by breaks c.verb c.number
+breaks_after breaks (Ok None) = breaks
+breaks_after breaks (Err e) = breaks
+
+abbrev pub watched_after : Option ℕ → Result (Option Command) CommandError → Option ℕ
+watched_after watched (Ok (Some c)) = watched_by watched c.verb c.number
+watched_after watched (Ok None) = watched
+watched_after watched (Err e) = watched
+
+-- ---- what a line comes to
+
+module _ (end : Option End) (breaks : List ℕ) (watched : Option ℕ) (memory : List ℕ) where
+  -- an ended board is clocked no more
+  abbrev pub clocking : Until → ℕ → Plan
+  clocking u times = if is_some end then plans.Refuse replies.Ended else plans.Clock u times
+
+  abbrev pub plan_by : Verb → ℕ → Plan
+  plan_by verbs.Micro n = clocking until.Cycle n
+  plan_by verbs.Step n = clocking until.Boundary n
+  plan_by verbs.Go n = clocking (until.Cause (watched_now watched memory)) 1
+  plan_by verbs.Break n = if is_full_for breaks n then plans.Refuse replies.TooManyBreaks else plans.Nothing
+  plan_by verbs.Clear n = plans.Nothing
+  plan_by verbs.Watch n = plans.Nothing
+  plan_by verbs.Regs n = plans.Registers
+  plan_by verbs.Stack n = plans.Stack
+  plan_by verbs.Where n = plans.Where
+  plan_by verbs.Quit n = plans.Quit
+
+  abbrev pub plan_of : Result (Option Command) CommandError → Plan
+  plan_of (Ok None) = plans.Nothing
+  plan_of (Ok (Some c)) = plan_by c.verb c.number
+  plan_of (Err BadCommand) = plans.Refuse replies.BadCommand
+  plan_of (Err BadNumber) = plans.Refuse replies.BadNumber
+
+abbrev pub reply_of : Plan → Reply
+reply_of (plans.Refuse reply) = reply
+reply_of plans.Quit = replies.Quit
+reply_of (plans.Clock u times) = replies.Done
+reply_of plans.Registers = replies.Done
+reply_of plans.Stack = replies.Done
+reply_of plans.Where = replies.Done
+reply_of plans.Nothing = replies.Done
+
+-- what a refusal prints
+abbrev pub refusal_text : Reply → List ℕ
+refusal_text replies.Done = []
+refusal_text replies.Quit = []
+refusal_text replies.BadCommand = codes "? bad command\n"
+refusal_text replies.BadNumber = codes "? bad number\n"
+refusal_text replies.TooManyBreaks = codes "? too many breaks\n"
+refusal_text replies.Ended = codes "? ended\n"

@@ -1,0 +1,46 @@
+-- Where a session leads a board, and what it prints.
+use Rattle.std.specs.Prelude.{◌≡◌, ℕ, ◌+◌, ◌<◌, List, ◌++◌, Option, Some}
+use Rattle.std.specs.Option.{option_map}
+use Rattle.mic_clock.specs.Meaning.{Meaning}
+use Rattle.mic_clock.specs.Run.{MicroRun, word_at, turns}
+use Rattle.mic_clock.specs.View.{BoardView}
+use Rattle.mic_clock.specs.Board.{ShowsRun, IsCutByRead}
+use Rattle.mic_clock.specs.declared.end.End.TheVariants as ends
+use Rattle.mic_debugger.specs.declared.until.Until.{Until}
+use Rattle.mic_debugger.specs.Book.{Book}
+use Rattle.mic_debugger.specs.Lines.{end_line}
+use Rattle.mic_debugger.specs.Clocking.{turn_text, after, printed, passed, IsGoing, IsDone}
+
+-- a sink that tells what it holds has taken this text
+abbrev pub Prints : Option (List ℕ) → List ℕ → Option (List ℕ) → Type 0
+Prints held text held' = held' ≡ option_map (λ h. h ++ text) held
+
+-- what is printed of a turn from one board to the next
+abbrev pub text_between : {M State : Type 0} → (M → State) → Meaning State → Book → List ℕ → Until → BoardView M → BoardView M → List ℕ
+text_between state m book breaks u board board' =
+    turn_text book breaks u (m.registers (state board.machine)).mpc (m.drives (word_at m board.store.words (state board.machine)) (state board.machine)).stalled
+    board'.counts (m.registers (state board'.machine)) board'.bus.words board'.end
+
+module _ {M State : Type 0} (state : M → State) (m : Meaning State) (book : Book) (words breaks : List ℕ) (bound : ℕ) (u : Until) (times : ℕ) where
+  -- A clocking command under way: so many turns of the run r were made, which led to this board; `left_over` more are waited for.
+  pub record IsUnderway (left held : Option (List ℕ)) (board : BoardView M) (rest text : List ℕ) (left_over n : ℕ) (r : MicroRun State) : Type 0 where
+    pub here : ShowsRun state left held board (after m book words breaks bound u n r)
+    pub untaken : (after m book words breaks bound u n r).world.untaken ≡ rest
+    pub going : IsGoing m book words breaks bound u times n r
+    pub count : passed m book words breaks bound u n r + left_over ≡ times
+    pub lines : text ≡ printed m book words breaks bound u n r
+
+  -- It is done, and led to this board, with this text.
+  pub record IsClocked (left held : Option (List ℕ)) (board : BoardView M) (rest text : List ℕ) (n : ℕ) (r : MicroRun State) : Type 0 where
+    pub here : ShowsRun state left held board (after m book words breaks bound u n r)
+    pub untaken : (after m book words breaks bound u n r).world.untaken ≡ rest
+    pub done : IsDone m book words breaks bound u times n r
+    pub lines : text ≡ printed m book words breaks bound u n r
+
+  -- A failing source stopped it: the run is cut k turns behind the n that were made, and the end line is printed.
+  pub record IsStopped (left held : Option (List ℕ)) (board : BoardView M) (rest text : List ℕ) (n k : ℕ) (r : MicroRun State) : Type 0 where
+    pub cut : IsCutByRead state m words (Some bound) left held board (turns m words (Some bound) k (after m book words breaks bound u n r))
+    pub untaken : (turns m words (Some bound) k (after m book words breaks bound u n r)).world.untaken ≡ rest
+    pub going : IsGoing m book words breaks bound u times n r
+    pub waiting : passed m book words breaks bound u n r < times
+    pub lines : text ≡ printed m book words breaks bound u n r ++ end_line ends.ReadFault

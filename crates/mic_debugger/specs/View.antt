@@ -1,0 +1,19 @@
+-- What clauses see of a listing and of a session.
+use Rattle.std.specs.Prelude.{ℕ, List, Option}
+use Rattle.ijvm_image.specs.Image.{ImageView}
+use Rattle.mal_parser.specs.Program.{Program}
+use Rattle.mic_clock.specs.View.{BoardView}
+
+pub record ListingView : Type 0 where
+  pub program : Program
+  pub placement : List ℕ
+  pub image : ImageView
+  -- the number of memory words
+  pub memory : ℕ
+
+pub record SessionView (M : Type 0) : Type 0 where
+  pub board : BoardView M
+  pub listing : ListingView
+  pub bound : ℕ
+  pub breaks : List ℕ
+  pub watched : Option ℕ

@@ -1,0 +1,237 @@
+//! The clocking commands, turn by turn.
+
+ghost use Rattle.std.specs.Prelude.{◌≡◌, ◌≢◌, ◌⊎◌, ◌++◌, ◌<◌, ◌≤◌, ◌+◌, ◌^◌, ◌==◌, ◌-◌, ℕ, List, [], Option, Some, None, length, OnOk, OnErr, IfOk, IsSome, false, true};
+ghost use Rattle.std.specs.List.{list_any};
+ghost use Rattle.mic_base.specs.Causes.{HasCause, Rose};
+ghost use Rattle.mic_base.specs.Streams.{Holds, Puts};
+ghost use Rattle.mic_clock.specs.Run.{number_of, word_at};
+ghost use Rattle.mic_clock.specs.Board.{IsTurned, RunIsCutByRead, RunIsCutByWrite, IsCounted, EndsUncounted, HasRoom, HasEndCause, NoFault, IsLedTo};
+ghost use Rattle.mic_debugger.specs.Book.{Book, IsBook};
+ghost use Rattle.mic_debugger.specs.InTime.{InTime};
+ghost use Rattle.mic_debugger.specs.Lines.{end_line};
+ghost use Rattle.mic_debugger.specs.Clocking.{cause_line, comes, counted, first_piece, has_break, has_changed, is_at_boundary, second_piece, turn_text};
+ghost use Rattle.mic_debugger.specs.Session.{IsClocked, IsStopped, Prints, text_between};
+
+use crate::fault::SessionFault;
+use crate::listing::Listing;
+use crate::pieces::{end_line, put_two, registers_line};
+use crate::until::{Until, Watched};
+use console_port::Bus;
+use mic_base::{Line, Sink, SinkFailed, Source};
+use mic_clock::{Board, Clocked, Counts, End};
+
+/// A clocking command: what it waits for, and what the session has set.
+#[derive(Drop)]
+pub(crate) struct Clocking<'a> {
+    pub until: Until,
+    pub bound: u64,
+    pub breaks: &'a [u32],
+    pub listing: &'a Listing,
+}
+
+fn is_at_boundary(counts: &Counts) -> bool
+    ensures { result ≡ is_at_boundary counts.now }
+{
+    match counts.boundary {
+        Some(boundary) => counts.cycles.saturating_sub(boundary.cycles) == 0,
+        None => false,
+    }
+}
+
+fn stands_at(breaks: &[u32], place: u32) -> bool
+    ensures { result ≡ list_any (λ a. a == place) breaks.now }
+{
+    breaks.iter().any(|at| *at == place)
+}
+
+fn has_break(breaks: &[u32], counts: &Counts) -> bool
+    ensures { result ≡ has_break breaks.now counts.now }
+{
+    match counts.boundary {
+        Some(boundary) => stands_at(breaks, boundary.at),
+        None => false,
+    }
+}
+
+fn has_changed(watched: Option<Watched>, bus: &Bus) -> bool
+    ensures { result ≡ has_changed watched bus.now.words }
+{
+    match watched {
+        Some(watched) => match bus.peek(watched.at) {
+            Some(now) => now != watched.value,
+            None => false,
+        },
+        None => false,
+    }
+}
+
+impl Clocking<'_> {
+    /// Whether a turn that led here is one that is waited for.
+    fn comes(&self, counts: &Counts, bus: &Bus) -> bool
+        ensures { result ≡ comes self.now.breaks.now self.now.until counts.now bus.now.words }
+    {
+        match self.until {
+            Until::Cycle => true,
+            Until::Boundary => is_at_boundary(counts),
+            Until::Cause(watched) => {
+                is_at_boundary(counts)
+                    && (has_break(self.breaks, counts) || has_changed(watched, bus))
+            }
+        }
+    }
+
+    /// The first piece of what is printed of a turn that is waited for.
+    fn first_piece(&self, mpc: u16, stalled: bool, counts: &Counts) -> Line
+        requires { mpc < 512 }
+        ensures { (book : Book) → IsBook self.now.listing.now.program self.now.listing.now.placement self.now.listing.now.image book →
+            result ≡ first_piece book self.now.breaks.now self.now.until mpc stalled counts.now }
+    {
+        let mut line = Line::new();
+        match self.until {
+            Until::Cycle => return self.listing.cycle_line(counts.cycles, mpc, stalled),
+            Until::Boundary => {}
+            Until::Cause(_) => {
+                if has_break(self.breaks, counts) {
+                    line.text("break\n");
+                } else {
+                    line.text("watch\n");
+                }
+            }
+        }
+        self.listing.place_line(counts, &mut line);
+        line
+    }
+
+    /// The second piece.
+    fn second_piece<M: Clocked>(&self, board: &Board<M>) -> Line
+        ensures { (book : Book) → IsBook self.now.listing.now.program self.now.listing.now.placement self.now.listing.now.image book →
+            result ≡ second_piece book self.now.breaks.now self.now.until (M.meaning.registers (M.state board.now.machine)) }
+    {
+        let mpc = board.mpc();
+        match self.until {
+            Until::Cycle => registers_line(&board.registers()),
+            _ => self.listing.next_line(mpc),
+        }
+    }
+
+    /// Puts what is printed of a turn that began at the word at `mpc` and led here.
+    fn print<M: Clocked, E: Sink>(
+        &self,
+        mpc: u16,
+        board: &Board<M>,
+        err: &mut E,
+    ) -> Result<(), SinkFailed>
+        requires { mpc < 512 }
+        ensures puts { (book : Book) → IsBook self.now.listing.now.program self.now.listing.now.placement self.now.listing.now.image book →
+            Puts (E.held err.old) (turn_text book self.now.breaks.now self.now.until mpc board.now.buses.drive.stalled board.now.counts
+            (M.meaning.registers (M.state board.now.machine)) board.now.bus.words board.now.end) result (E.held err.new) }
+        ensures keeps { (front : List ℕ) → Holds front (E.held err.old) → Holds front (E.held err.new) }
+        ensures passed { E.passed err.new ≡ E.passed err.old }
+        ensures cause { HasCause (E.faults err.old) (E.faults err.new) result }
+    {
+        let counts = board.counts();
+        if let Some(end) = board.ended() {
+            return err.put(end_line(end).bytes());
+        }
+        if !self.comes(&counts, board.bus()) {
+            return Ok(());
+        }
+        let first = self.first_piece(mpc, board.last_drive().stalled, &counts);
+        let second = self.second_piece(board);
+        put_two(err, first.bytes(), second.bytes())
+    }
+
+    /// One turn of the board, and what is printed of it. It tells whether the turn is one that is waited for.
+    fn turn<M: Clocked, S: Source, K: Sink, E: Sink>(
+        &self,
+        board: &mut Board<M>,
+        input: &mut S,
+        out: &mut K,
+        err: &mut E,
+    ) -> Result<bool, SessionFault>
+        requires live { board.old.end ≡ None }
+        requires cycles { board.old.counts.cycles ≤ 2 ^ 62 + 4096 }
+        ensures turn { IsTurned M.state M.meaning (S.left input.old) (K.held out.old) board.old (S.left input.new) (K.held out.new) board.new (Some self.now.bound) }
+        ensures read { RunIsCutByRead M.state M.meaning (S.left input.old) (K.held out.old) board.old (S.left input.new) (K.held out.new) board.new (Some self.now.bound) }
+        ensures text { OnOk result ((book : Book) → IsBook self.now.listing.now.program self.now.listing.now.placement self.now.listing.now.image book →
+            Prints (E.held err.old) (text_between M.state M.meaning book self.now.breaks.now self.now.until board.old board.new) (E.held err.new)) }
+        ensures came { IfOk result (λ came. number_of came ≡ counted self.now.breaks.now self.now.until board.new.counts board.new.bus.words board.new.end) }
+        ensures fault { OnOk result (board.new.end ≢ Some End.WriteFault) }
+        ensures store { board.new.store ≡ board.old.store }
+        ensures below { board.new.end ≡ None → M.meaning.is_boundary (M.state board.old.machine) ≡ true → board.old.counts.cycles < self.now.bound }
+        ensures clocked { IsCounted M.state M.meaning board.old board.new }
+        ensures room { HasRoom board.old board.new }
+        ensures still { EndsUncounted board.old board.new }
+        ensures keeps_out { (front : List ℕ) → Holds front (K.held out.old) → Holds front (K.held out.new) }
+        ensures keeps_err { (front : List ℕ) → Holds front (E.held err.old) → Holds front (E.held err.new) }
+        ensures quiet { OnOk result ((K.faults out.new ≡ K.faults out.old) × (E.faults err.new ≡ E.faults err.old)) }
+        ensures rose { OnErr result (Rose (K.faults out.old) (K.faults out.new) ⊎ Rose (E.faults err.old) (E.faults err.new)) }
+    {
+        let mpc = board.mpc();
+        board.turn(self.bound, input, out);
+        if board.ended() == Some(End::WriteFault) {
+            return Err(SessionFault::WriteFault);
+        }
+        let came = board.ended().is_none() && self.comes(&board.counts(), board.bus());
+        match self.print(mpc, board, err) {
+            Ok(()) => Ok(came),
+            Err(_) => Err(SessionFault::WriteFault),
+        }
+    }
+
+    /// Turns until so many were waited for, or the board has ended.
+    pub fn clock<M: Clocked, S: Source, K: Sink, E: Sink>(
+        &self,
+        times: u32,
+        board: &mut Board<M>,
+        input: &mut S,
+        out: &mut K,
+        err: &mut E,
+    ) -> Result<(), SessionFault>
+        requires live { board.old.end ≡ None }
+        requires bound { self.now.bound ≤ 2 ^ 62 }
+        requires in_time { InTime (2 ^ 62) board.old.counts (M.meaning.is_boundary (M.state board.old.machine)) board.old.end }
+        ensures done { OnOk result (NoFault None board.new.end → (book : Book) → IsBook self.now.listing.now.program self.now.listing.now.placement self.now.listing.now.image book →
+            (text : List ℕ) × Prints (E.held err.old) text (E.held err.new) ×
+            IsLedTo M.state (S.left input.old) (K.held out.old) board.old (S.left input.new) board.new
+            (λ r rest. (n : ℕ) × IsClocked M.state M.meaning book board.old.store.words self.now.breaks.now self.now.bound self.now.until times
+            (S.left input.new) (K.held out.new) board.new rest text n r)) }
+        ensures read { OnOk result (board.new.end ≡ Some End.ReadFault → (book : Book) → IsBook self.now.listing.now.program self.now.listing.now.placement self.now.listing.now.image book →
+            (text : List ℕ) × Prints (E.held err.old) text (E.held err.new) ×
+            IsLedTo M.state (S.left input.old) (K.held out.old) board.old (S.left input.new) board.new
+            (λ r rest. (n : ℕ) × (k : ℕ) × IsStopped M.state M.meaning book board.old.store.words self.now.breaks.now self.now.bound self.now.until times
+            (S.left input.new) (K.held out.new) board.new rest text n k r)) }
+        ensures fault { OnOk result (board.new.end ≢ Some End.WriteFault) }
+        ensures store { board.new.store ≡ board.old.store }
+        ensures in_time { InTime (2 ^ 62) board.new.counts (M.meaning.is_boundary (M.state board.new.machine)) board.new.end }
+        ensures keeps_out { (front : List ℕ) → Holds front (K.held out.old) → Holds front (K.held out.new) }
+        ensures keeps_err { (front : List ℕ) → Holds front (E.held err.old) → Holds front (E.held err.new) }
+        ensures quiet { OnOk result ((K.faults out.new ≡ K.faults out.old) × (E.faults err.new ≡ E.faults err.old)) }
+        ensures rose { OnErr result (Rose (K.faults out.old) (K.faults out.new) ⊎ Rose (E.faults err.old) (E.faults err.new)) }
+    {
+        let mut left = times;
+        'turns: while waits(left, board) {
+            let came = self.turn(board, input, out, err)?;
+            let rest = less(left, came);
+            left = rest;
+        }
+        Ok(())
+    }
+}
+
+/// Whether more is waited for.
+fn waits<M: Clocked>(left: u32, board: &Board<M>) -> bool
+    ensures some { result ≡ true → 0 < left }
+    ensures live { result ≡ true → board.now.end ≡ None }
+    ensures over { result ≡ false → IsSome board.now.end ⊎ (left ≡ 0) }
+{
+    left > 0 && board.ended().is_none()
+}
+
+/// What is left to wait for.
+fn less(left: u32, came: bool) -> u32
+    requires { 0 < left }
+    ensures { number_of came + result ≡ left }
+{
+    if came { left - 1 } else { left }
+}

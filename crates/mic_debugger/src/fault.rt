@@ -1,0 +1,10 @@
+//! Why a command of a session was broken off.
+
+use thiserror::Error;
+
+/// A sink failed: the console bytes or the answers did not get out.
+#[derive(Clone, Copy, Debug, PartialEq, Eq, Error)]
+pub enum SessionFault {
+    #[error("write fault")]
+    WriteFault,
+}

@@ -1,0 +1,25 @@
+//! A debugging session over a board of any machine: a student steps by cycle and by instruction, stops at
+//! breakpoints and at changes of a word, and looks at registers and memory.
+#![tactic(auto)]
+
+mod breakpoints;
+mod clocking;
+mod fault;
+mod listing;
+mod pieces;
+mod plan;
+mod reading;
+mod reply;
+mod session;
+pub mod table;
+mod until;
+
+pub use fault::SessionFault;
+pub use listing::Listing;
+pub use reading::{Command, CommandError, read_command};
+pub use reply::Reply;
+pub use session::Session;
+pub use table::{Argument, Verb};
+
+#[cfg(test)]
+mod tests;

@@ -1,0 +1,201 @@
+//! What names the words of the control store and the instructions of the program.
+
+ghost use Rattle.std.specs.Prelude.{◌≡◌, ◌<◌, ◌≤◌, ◌+◌, ◌++◌, length, Some, None, codes, if◌then◌else◌};
+ghost use Rattle.store_placement.specs.Placement.{Places};
+ghost use Rattle.store_placement.specs.Program.{demands_of};
+ghost use Rattle.ijvm_image.specs.Image.{ImageView};
+ghost use Rattle.ijvm_instr.specs.Instructions.{instr_at};
+ghost use Rattle.ijvm_paths.specs.Kinds.{IsKind};
+ghost use Rattle.mic_base.specs.Digits.{hex_text};
+ghost use Rattle.mic_debugger.specs.Book.{Book, IsBook, label_text, unused_text};
+ghost use Rattle.mic_debugger.specs.Lines.{cycle_line, end_line, name_of, place_line, place_text, next_line};
+
+use ijvm_instr::{Instr, decode_at, print_instr};
+use ijvm_verifier::{Kind, VerifiedImage};
+use mal_parser::{MalProgram, print_fallback, print_statement};
+use mic_base::Line;
+use mic_clock::{Boundary, Counts};
+use mic_work::number;
+use std::marker::Model;
+use store_placement::{Placement, statement_at};
+
+/// A placed microprogram, and the program that it runs.
+#[derive(Drop)]
+pub struct Listing {
+    program: MalProgram,
+    placement: Placement,
+    image: VerifiedImage,
+}
+
+impl Model for Listing {
+    ghost use Rattle.mic_debugger.specs.View.{ListingView};
+    ghost use Rattle.store_placement.specs.Placement.{Places};
+    ghost use Rattle.store_placement.specs.Program.{demands_of};
+
+    ghost Value = { ListingView };
+
+    ghost view = { λ l. record { program = l.program; placement = l.placement; image = l.image.image; memory = l.image.map.stack_end } };
+
+    ghost invariant = { λ l. Places (demands_of l.program) l.placement };
+}
+
+/// The instruction that begins at a byte address, where a reached one does.
+fn reached(program: &VerifiedImage, at: u32) -> Option<Instr>
+    ensures some { (i : Instr) → result ≡ Some i → IsKind program.now.image at Kind.Start × (instr_at program.now.image.text at ≡ Some i) }
+    ensures none { result ≡ None → IsKind program.now.image at Kind.Start → ⊥ }
+{
+    let image = program.image();
+    match program.kind_at(at) {
+        Kind::Start => decode_at(image.text(), at),
+        _ => None,
+    }
+}
+
+impl Listing {
+    pub fn new(program: MalProgram, placement: Placement, image: VerifiedImage) -> Listing
+        requires { Places (demands_of program) placement }
+        ensures program { result.program ≡ program }
+        ensures placement { result.placement ≡ placement }
+        ensures image { result.image ≡ image.image }
+        ensures memory { result.memory ≡ image.map.stack_end }
+    {
+        Listing {
+            program,
+            placement,
+            image,
+        }
+    }
+
+    /// The number of memory words.
+    pub fn memory_words(&self) -> u32
+        ensures value { result ≡ self.now.memory }
+        ensures some { 0 < result }
+    {
+        self.image.map().stack_end
+    }
+
+    /// Appends the label of the statement at an address of the store.
+    fn label(&self, mpc: u16, line: &mut Line)
+        requires { length line.old + 64 ≤ 512 }
+        ensures text { (book : Book) → IsBook self.now.program self.now.placement self.now.image book → line.new ≡ line.old ++ book.label mpc }
+        ensures len { length line.new ≤ length line.old + 64 }
+    {
+        match statement_at(&self.program, &self.placement, mpc) {
+            Some(s) => match self.program.statement(s).label {
+                Some(label) => line.text(label.text()),
+                None => line.text("-"),
+            },
+            None => line.text(".default"),
+        }
+    }
+
+    /// Appends the text of the statement at an address of the store.
+    fn text(&self, mpc: u16, line: &mut Line)
+        requires { length line.old + 256 ≤ 512 }
+        ensures text { (book : Book) → IsBook self.now.program self.now.placement self.now.image book → line.new ≡ line.old ++ book.text mpc }
+        ensures len { length line.new ≤ length line.old + 256 }
+    {
+        match statement_at(&self.program, &self.placement, mpc) {
+            Some(s) => print_statement(&self.program, s, line),
+            None => self.unused_text(line),
+        }
+    }
+
+    /// Appends the text of an unused word.
+    fn unused_text(&self, line: &mut Line)
+        requires { length line.old + 256 ≤ 512 }
+        ensures text { line.new ≡ line.old ++ unused_text self.now.program }
+        ensures len { length line.new ≤ length line.old + 256 }
+    {
+        if self.program.fallback().is_some() {
+            print_fallback(&self.program, line);
+        } else {
+            line.text("goto 0x0fe");
+        }
+    }
+
+    /// Appends the text of a cycle's statement, `stall` where it was one.
+    fn cycle_text(&self, mpc: u16, stalled: bool, line: &mut Line)
+        requires { length line.old + 256 ≤ 512 }
+        ensures text { (book : Book) → IsBook self.now.program self.now.placement self.now.image book →
+            line.new ≡ line.old ++ (if stalled then codes "stall" else book.text mpc) }
+        ensures len { length line.new ≤ length line.old + 256 }
+    {
+        if stalled {
+            line.text("stall");
+        } else {
+            self.text(mpc, line);
+        }
+    }
+
+    /// The line of a clocked cycle.
+    #[tactic(auto, unfolding(crate::specs::Lines::cycle_line))]
+    pub fn cycle_line(&self, cycles: u64, mpc: u16, stalled: bool) -> Line
+        requires { mpc < 512 }
+        ensures { (book : Book) → IsBook self.now.program self.now.placement self.now.image book → result ≡ cycle_line book cycles mpc stalled }
+    {
+        let mut line = Line::new();
+        number(&mut line, "", cycles);
+        line.text(" ");
+        line.hex(u64::from(mpc), 3);
+        line.text(" ");
+        self.label(mpc, &mut line);
+        line.text(" ");
+        self.cycle_text(mpc, stalled, &mut line);
+        line.text("\n");
+        line
+    }
+
+    /// Appends the last boundary's address and instruction.
+    fn place(&self, boundary: Option<Boundary>, line: &mut Line)
+        requires { length line.old ≤ 256 }
+        ensures { (book : Book) → IsBook self.now.program self.now.placement self.now.image book → line.new ≡ line.old ++ place_text book boundary }
+    {
+        match boundary {
+            None => line.text("- -"),
+            Some(boundary) => self.instruction(boundary.at, line),
+        }
+    }
+
+    /// Appends a byte address and the instruction there.
+    fn instruction(&self, at: u32, line: &mut Line)
+        requires { length line.old ≤ 256 }
+        ensures { (book : Book) → IsBook self.now.program self.now.placement self.now.image book →
+            line.new ≡ line.old ++ (hex_text 8 at ++ codes " " ++ book.instruction at) }
+    {
+        line.hex(u64::from(at), 8);
+        line.text(" ");
+        match reached(&self.image, at) {
+            Some(instr) => print_instr(instr, at, line),
+            None => line.text("?"),
+        }
+    }
+
+    /// Appends where a run stands.
+    #[tactic(auto, unfolding(crate::specs::Lines::place_line))]
+    pub fn place_line(&self, counts: &Counts, line: &mut Line)
+        requires { length line.old ≤ 64 }
+        ensures { (book : Book) → IsBook self.now.program self.now.placement self.now.image book → line.new ≡ line.old ++ place_line book counts.now }
+    {
+        number(line, "cycle ", counts.cycles);
+        line.text(" at ");
+        self.place(counts.boundary, line);
+    }
+
+    /// The word that comes next.
+    #[tactic(auto, unfolding(crate::specs::Lines::next_line))]
+    pub fn next_line(&self, mpc: u16) -> Line
+        requires { mpc < 512 }
+        ensures { (book : Book) → IsBook self.now.program self.now.placement self.now.image book → result ≡ next_line book mpc }
+    {
+        let mut line = Line::new();
+        line.text(" mpc ");
+        line.hex(u64::from(mpc), 3);
+        line.text(" ");
+        self.label(mpc, &mut line);
+        line.text(" ");
+        self.text(mpc, &mut line);
+        line.text("\n");
+        line
+    }
+}

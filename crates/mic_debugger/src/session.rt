@@ -1,0 +1,377 @@
+//! A session: a board, what names its words and instructions, and what the student has set.
+
+ghost use Rattle.std.specs.Prelude.{◌≡◌, ◌≢◌, ◌⊎◌, ◌≤◌, ◌<◌, ◌+◌, ◌^◌, ◌++◌, ℕ, List, [], Option, Some, None, OnOk, OnErr, IfOk, length, min, codes};
+ghost use Rattle.mic_base.specs.Causes.{HasCause, Rose};
+ghost use Rattle.mic_base.specs.Streams.{Holds, IsFlushed, Puts};
+ghost use Rattle.store_placement.specs.Placement.{Places};
+ghost use Rattle.store_placement.specs.Program.{demands_of, IsFilled};
+ghost use Rattle.mic_clock.specs.Board.{AreCounts, NoFault, ShowsAs};
+ghost use Rattle.mic_clock.specs.State.{state_line};
+ghost use Rattle.mic_debugger.specs.Book.{Book, IsBook};
+ghost use Rattle.mic_debugger.specs.Commands.{command_of};
+ghost use Rattle.mic_debugger.specs.Lines.{stack_text, where_line};
+ghost use Rattle.mic_debugger.specs.Obeys.{Obeys, IsStoppedIn, plan_in, shown_text};
+ghost use Rattle.mic_debugger.specs.Session.{Prints};
+ghost use Rattle.mic_debugger.specs.Plans.{breaks_after, clocking, plan_by, plan_of, refusal_text, reply_of, watched_after, watched_now};
+
+use crate::breakpoints::Breakpoints;
+use crate::clocking::Clocking;
+use crate::fault::SessionFault;
+use crate::listing::Listing;
+use crate::pieces::{put_two, put_words};
+use crate::plan::Plan;
+use crate::reading::{Command, CommandError, read_command};
+use crate::reply::Reply;
+use crate::table::Verb;
+use crate::until::{Until, Watched};
+use ijvm_verifier::VerifiedImage;
+use mal_parser::MalProgram;
+use mic_base::{Line, Sink, SinkFailed, Source};
+use mic_clock::{Board, Clocked, End, print_state};
+use std::marker::Model;
+use store_placement::Placement;
+
+/// A debugging session over a board.
+#[derive(Drop)]
+pub struct Session<M: Clocked> {
+    board: Board<M>,
+    listing: Listing,
+    bound: u64,
+    breaks: Breakpoints,
+    watched: Option<u32>,
+}
+
+impl<M: Clocked> Model for Session<M> {
+    ghost use Rattle.std.specs.Prelude.{◌≤◌, ◌^◌};
+    ghost use Rattle.mic_debugger.specs.View.{SessionView};
+    ghost use Rattle.mic_debugger.specs.InTime.{InTime};
+
+    ghost Value = { SessionView M };
+
+    ghost view = { λ s. record { board = s.board; listing = s.listing; bound = s.bound; breaks = s.breaks; watched = s.watched } };
+
+    ghost invariant = { λ s. (s.bound ≤ 2 ^ 62) × InTime (2 ^ 62) s.board.counts (M.meaning.is_boundary (M.state s.board.machine)) s.board.end };
+}
+
+impl<M: Clocked> Session<M> {
+    /// A session over a board whose store is the program's at this placement.
+    pub fn new(
+        board: Board<M>,
+        program: MalProgram,
+        placement: Placement,
+        image: VerifiedImage,
+        bound: u64,
+    ) -> Session<M>
+        requires placement { Places (demands_of program) placement }
+        requires store { IsFilled program placement board.store.words }
+        requires bound { bound ≤ 2 ^ 62 }
+        requires cycles { board.counts.cycles ≤ 2 ^ 62 }
+        requires counts { AreCounts board.counts board.end }
+        ensures board { result.board ≡ board }
+        ensures program { result.listing.program ≡ program }
+        ensures placement { result.listing.placement ≡ placement }
+        ensures image { result.listing.image ≡ image.image }
+        ensures bound { result.bound ≡ bound }
+        ensures breaks { result.breaks ≡ [] }
+        ensures watched { result.watched ≡ None }
+    {
+        Session {
+            board,
+            listing: Listing::new(program, placement, image),
+            bound,
+            breaks: Breakpoints::new(),
+            watched: None,
+        }
+    }
+
+    pub fn board(&self) -> &Board<M>
+        ensures { result.now ≡ self.now.board }
+    {
+        &self.board
+    }
+
+    /// The number of memory words.
+    fn memory_words(&self) -> u32
+        ensures value { result ≡ self.now.listing.memory }
+        ensures some { 0 < result }
+    {
+        self.listing.memory_words()
+    }
+
+    /// The watched word, and its value now.
+    fn watched_now(&self) -> Option<Watched>
+        ensures { result ≡ watched_now self.now.watched self.now.board.bus.words }
+    {
+        let at = self.watched?;
+        let value = self.board.bus().peek(at)?;
+        Some(Watched { at, value })
+    }
+
+    /// An ended board is clocked no more.
+    fn clocking(&self, until: Until, times: u32) -> Plan
+        ensures { result ≡ clocking self.now.board.end self.now.breaks self.now.watched self.now.board.bus.words until times }
+    {
+        if self.board.ended().is_some() {
+            Plan::Refuse(Reply::Ended)
+        } else {
+            Plan::Clock { until, times }
+        }
+    }
+
+    fn plan_by(&self, verb: Verb, number: u32) -> Plan
+        ensures { result ≡ plan_by self.now.board.end self.now.breaks self.now.watched self.now.board.bus.words verb number }
+    {
+        match verb {
+            Verb::Micro => self.clocking(Until::Cycle, number),
+            Verb::Step => self.clocking(Until::Boundary, number),
+            Verb::Go => self.clocking(Until::Cause(self.watched_now()), 1),
+            Verb::Break => {
+                if self.breaks.is_full_for(number) {
+                    Plan::Refuse(Reply::TooManyBreaks)
+                } else {
+                    Plan::Nothing
+                }
+            }
+            Verb::Clear => Plan::Nothing,
+            Verb::Watch => Plan::Nothing,
+            Verb::Regs => Plan::Registers,
+            Verb::Stack => Plan::Stack,
+            Verb::Where => Plan::Where,
+            Verb::Quit => Plan::Quit,
+        }
+    }
+
+    /// What a line that was read comes to.
+    fn plan(&self, read: Result<Option<Command>, CommandError>) -> Plan
+        ensures { result ≡ plan_of self.now.board.end self.now.breaks self.now.watched self.now.board.bus.words read }
+    {
+        match read {
+            Ok(None) => Plan::Nothing,
+            Ok(Some(command)) => self.plan_by(command.verb, command.number),
+            Err(CommandError::BadCommand) => Plan::Refuse(Reply::BadCommand),
+            Err(CommandError::BadNumber) => Plan::Refuse(Reply::BadNumber),
+        }
+    }
+
+    /// Notes a breakpoint or a watched word.
+    fn note(&mut self, read: Result<Option<Command>, CommandError>)
+        ensures breaks { self.new.breaks ≡ breaks_after self.old.breaks read }
+        ensures watched { self.new.watched ≡ watched_after self.old.watched read }
+        ensures same { self.new ≡ record self.old { breaks = self.new.breaks; watched = self.new.watched } }
+    {
+        if let Ok(Some(command)) = read {
+            match command.verb {
+                Verb::Break => self.breaks.set(command.number),
+                Verb::Clear => self.breaks.clear(command.number),
+                Verb::Watch => self.watched = Some(command.number),
+                _ => {}
+            }
+        }
+    }
+
+    /// Puts the registers.
+    fn put_registers<E: Sink>(&self, err: &mut E) -> Result<(), SinkFailed>
+        ensures puts { Puts (E.held err.old) (state_line (M.meaning.registers (M.state self.now.board.machine)) ++ codes "\n") result (E.held err.new) }
+        ensures keeps { (front : List ℕ) → Holds front (E.held err.old) → Holds front (E.held err.new) }
+        ensures cause { HasCause (E.faults err.old) (E.faults err.new) result }
+    {
+        let mpc = self.board.mpc();
+        let registers = self.board.registers();
+        prove!(mpc == registers.mpc);
+        let mut line = Line::new();
+        print_state(&registers, &mut line);
+        line.text("\n");
+        err.put(line.bytes())
+    }
+
+    /// Puts where the run stands.
+    fn put_where<E: Sink>(&self, err: &mut E) -> Result<(), SinkFailed>
+        ensures puts { (book : Book) → IsBook self.now.listing.program self.now.listing.placement self.now.listing.image book →
+            Puts (E.held err.old) (where_line book self.now.board.counts (M.meaning.registers (M.state self.now.board.machine)).mpc) result (E.held err.new) }
+        ensures keeps { (front : List ℕ) → Holds front (E.held err.old) → Holds front (E.held err.new) }
+        ensures cause { HasCause (E.faults err.old) (E.faults err.new) result }
+    {
+        let mut line = Line::new();
+        self.listing.place_line(&self.board.counts(), &mut line);
+        let next = self.listing.next_line(self.board.mpc());
+        put_two(err, line.bytes(), next.bytes())
+    }
+
+    /// Puts the memory words from LV up to SP, at most the 64 highest of them.
+    #[tactic(auto, unfolding(crate::specs::Lines::stack_text))]
+    fn put_stack<E: Sink>(&self, err: &mut E) -> Result<(), SinkFailed>
+        ensures puts { Puts (E.held err.old) (stack_text self.now.board.bus.words self.now.listing.memory (M.meaning.registers (M.state self.now.board.machine)).lv
+            (M.meaning.registers (M.state self.now.board.machine)).sp) result (E.held err.new) }
+        ensures keeps { (front : List ℕ) → Holds front (E.held err.old) → Holds front (E.held err.new) }
+        ensures cause { HasCause (E.faults err.old) (E.faults err.new) result }
+    {
+        let registers = self.board.registers();
+        let over = over_stack(registers.sp, self.listing.memory_words());
+        let first = registers.lv.max(over.saturating_sub(64));
+        put_words(self.board.bus(), first, over.saturating_sub(first), err)
+    }
+
+    /// Puts what is shown by a plan that clocks nothing.
+    #[tactic(auto, using(crate::proofs::Putting::puts_nothing))]
+    fn show<E: Sink>(&self, plan: Plan, err: &mut E) -> Result<(), SinkFailed>
+        ensures puts { (book : Book) → IsBook self.now.listing.program self.now.listing.placement self.now.listing.image book →
+            Puts (E.held err.old) (shown_text M.state M.meaning book self.now plan) result (E.held err.new) }
+        ensures keeps { (front : List ℕ) → Holds front (E.held err.old) → Holds front (E.held err.new) }
+        ensures cause { HasCause (E.faults err.old) (E.faults err.new) result }
+    {
+        match plan {
+            Plan::Clock { .. } => Ok(()),
+            Plan::Refuse(reply) => err.put(refusal_text(reply).as_bytes()),
+            Plan::Registers => self.put_registers(err),
+            Plan::Stack => self.put_stack(err),
+            Plan::Where => self.put_where(err),
+            Plan::Nothing => Ok(()),
+            Plan::Quit => Ok(()),
+        }
+    }
+
+    /// Clocks the board.
+    fn clock<S: Source, K: Sink, E: Sink>(
+        &mut self,
+        until: Until,
+        times: u32,
+        input: &mut S,
+        out: &mut K,
+        err: &mut E,
+    ) -> Result<(), SessionFault>
+        requires { self.old.board.end ≡ None }
+        ensures done { OnOk result (NoFault None self.new.board.end → (book : Book) → IsBook self.old.listing.program self.old.listing.placement self.old.listing.image book →
+            (text : List ℕ) × Prints (E.held err.old) text (E.held err.new) ×
+            Obeys M.state M.meaning book (S.left input.old) (K.held out.old) self.old (S.left input.new) (K.held out.new) self.new.board text (Plan.Clock until times)) }
+        ensures read { OnOk result (self.new.board.end ≡ Some End.ReadFault → (book : Book) → IsBook self.old.listing.program self.old.listing.placement self.old.listing.image book →
+            (text : List ℕ) × Prints (E.held err.old) text (E.held err.new) ×
+            IsStoppedIn M.state M.meaning book (S.left input.old) (K.held out.old) self.old (S.left input.new) (K.held out.new) self.new.board text (Plan.Clock until times)) }
+        ensures fault { OnOk result (self.new.board.end ≢ Some End.WriteFault) }
+        ensures same { self.new ≡ record self.old { board = self.new.board } }
+        ensures store { self.new.board.store ≡ self.old.board.store }
+        ensures keeps_out { (front : List ℕ) → Holds front (K.held out.old) → Holds front (K.held out.new) }
+        ensures keeps_err { (front : List ℕ) → Holds front (E.held err.old) → Holds front (E.held err.new) }
+        ensures quiet { OnOk result ((K.faults out.new ≡ K.faults out.old) × (E.faults err.new ≡ E.faults err.old)) }
+        ensures rose { OnErr result (Rose (K.faults out.old) (K.faults out.new) ⊎ Rose (E.faults err.old) (E.faults err.new)) }
+    {
+        let clocking = Clocking {
+            until,
+            bound: self.bound,
+            breaks: self.breaks.as_slice(),
+            listing: &self.listing,
+        };
+        clocking.clock(times, &mut self.board, input, out, err)
+    }
+
+    /// Carries out a plan.
+    fn carry_out<S: Source, K: Sink, E: Sink>(
+        &mut self,
+        plan: Plan,
+        input: &mut S,
+        out: &mut K,
+        err: &mut E,
+    ) -> Result<(), SessionFault>
+        requires { (u : Until) (times : ℕ) → plan ≡ Plan.Clock u times → self.old.board.end ≡ None }
+        ensures obeys { OnOk result (NoFault self.old.board.end self.new.board.end → (book : Book) →
+            IsBook self.old.listing.program self.old.listing.placement self.old.listing.image book →
+            (text : List ℕ) × Prints (E.held err.old) text (E.held err.new) ×
+            Obeys M.state M.meaning book (S.left input.old) (K.held out.old) self.old (S.left input.new) (K.held out.new) self.new.board text plan) }
+        ensures read { OnOk result (self.old.board.end ≡ None → self.new.board.end ≡ Some End.ReadFault → (book : Book) →
+            IsBook self.old.listing.program self.old.listing.placement self.old.listing.image book →
+            (text : List ℕ) × Prints (E.held err.old) text (E.held err.new) ×
+            IsStoppedIn M.state M.meaning book (S.left input.old) (K.held out.old) self.old (S.left input.new) (K.held out.new) self.new.board text plan) }
+        ensures same { self.new ≡ record self.old { board = self.new.board } }
+        ensures store { self.new.board.store ≡ self.old.board.store }
+        ensures keeps_out { (front : List ℕ) → Holds front (K.held out.old) → Holds front (K.held out.new) }
+        ensures keeps_err { (front : List ℕ) → Holds front (E.held err.old) → Holds front (E.held err.new) }
+        ensures quiet { OnOk result ((K.faults out.new ≡ K.faults out.old) × (E.faults err.new ≡ E.faults err.old)) }
+        ensures rose { OnErr result (Rose (K.faults out.old) (K.faults out.new) ⊎ Rose (E.faults err.old) (E.faults err.new)) }
+    {
+        if let Plan::Clock { until, times } = plan {
+            return self.clock(until, times, input, out, err);
+        }
+        match self.show(plan, err) {
+            Ok(()) => Ok(()),
+            Err(_) => Err(SessionFault::WriteFault),
+        }
+    }
+
+    /// Puts what the console keeps, and passes the answers on.
+    fn flush<K: Sink, E: Sink>(&mut self, out: &mut K, err: &mut E) -> Result<(), SessionFault>
+        ensures shows { OnOk result (ShowsAs M.state (K.held out.old) self.old.board (K.held out.new) self.new.board (λ r. r)) }
+        ensures kept { self.new.board.bus.console.kept ≡ [] }
+        ensures same { self.new ≡ record self.old { board = record self.old.board { bus = self.new.board.bus } } }
+        ensures input { self.new.board.bus.console.ended ≡ self.old.board.bus.console.ended }
+        ensures held { E.held err.new ≡ E.held err.old }
+        ensures passed { OnOk result (IsFlushed (E.held err.new) (E.passed err.new)) }
+        ensures keeps_out { (front : List ℕ) → Holds front (K.held out.old) → Holds front (K.held out.new) }
+        ensures quiet { OnOk result ((K.faults out.new ≡ K.faults out.old) × (E.faults err.new ≡ E.faults err.old)) }
+        ensures rose { OnErr result (Rose (K.faults out.old) (K.faults out.new) ⊎ Rose (E.faults err.old) (E.faults err.new)) }
+    {
+        match self.board.flush(out) {
+            Ok(()) => match err.flush() {
+                Ok(()) => Ok(()),
+                Err(_) => Err(SessionFault::WriteFault),
+            },
+            Err(_) => Err(SessionFault::WriteFault),
+        }
+    }
+
+    /// Does what a line says, and puts the answer to `err`.
+    pub fn command<S: Source, K: Sink, E: Sink>(
+        &mut self,
+        line: &[u8],
+        input: &mut S,
+        out: &mut K,
+        err: &mut E,
+    ) -> Result<Reply, SessionFault>
+        ensures reply { IfOk result (λ reply. reply ≡ reply_of (plan_in self.old line.now)) }
+        ensures obeys { OnOk result (NoFault self.old.board.end self.new.board.end → (book : Book) →
+            IsBook self.old.listing.program self.old.listing.placement self.old.listing.image book →
+            (text : List ℕ) × Prints (E.held err.old) text (E.held err.new) ×
+            Obeys M.state M.meaning book (S.left input.old) (K.held out.old) self.old (S.left input.new) (K.held out.new) self.new.board text (plan_in self.old line.now)) }
+        ensures read { OnOk result (self.old.board.end ≡ None → self.new.board.end ≡ Some End.ReadFault → (book : Book) →
+            IsBook self.old.listing.program self.old.listing.placement self.old.listing.image book →
+            (text : List ℕ) × Prints (E.held err.old) text (E.held err.new) ×
+            IsStoppedIn M.state M.meaning book (S.left input.old) (K.held out.old) self.old (S.left input.new) (K.held out.new) self.new.board text (plan_in self.old line.now)) }
+        ensures kept { OnOk result (self.new.board.bus.console.kept ≡ []) }
+        ensures passed { OnOk result (IsFlushed (E.held err.new) (E.passed err.new)) }
+        ensures breaks { OnOk result (self.new.breaks ≡ breaks_after self.old.breaks (command_of self.old.listing.memory line.now)) }
+        ensures watched { OnOk result (self.new.watched ≡ watched_after self.old.watched (command_of self.old.listing.memory line.now)) }
+        ensures err { OnErr result ((self.new.breaks ≡ self.old.breaks) × (self.new.watched ≡ self.old.watched)) }
+        ensures same { (self.new.listing ≡ self.old.listing) × (self.new.bound ≡ self.old.bound) }
+        ensures store { self.new.board.store ≡ self.old.board.store }
+        ensures keeps_out { (front : List ℕ) → Holds front (K.held out.old) → Holds front (K.held out.new) }
+        ensures keeps_err { (front : List ℕ) → Holds front (E.held err.old) → Holds front (E.held err.new) }
+        ensures quiet { OnOk result ((K.faults out.new ≡ K.faults out.old) × (E.faults err.new ≡ E.faults err.old)) }
+        ensures rose { OnErr result (Rose (K.faults out.old) (K.faults out.new) ⊎ Rose (E.faults err.old) (E.faults err.new)) }
+    {
+        let read = read_command(line, self.memory_words());
+        let plan = self.plan(read);
+        self.carry_out(plan, input, out, err)?;
+        self.flush(out, err)?;
+        self.note(read);
+        Ok(plan.reply())
+    }
+}
+
+/// One more than the highest place from SP down where a memory of so many words has one.
+fn over_stack(sp: u32, words: u32) -> u32
+    ensures { result ≡ min (sp + 1) words }
+{
+    if sp < words { sp + 1 } else { words }
+}
+
+/// What a refusal prints.
+fn refusal_text(reply: Reply) -> &'static str
+    ensures { result.now ≡ refusal_text reply }
+{
+    match reply {
+        Reply::Done => "",
+        Reply::Quit => "",
+        Reply::BadCommand => "? bad command\n",
+        Reply::BadNumber => "? bad number\n",
+        Reply::TooManyBreaks => "? too many breaks\n",
+        Reply::Ended => "? ended\n",
+    }
+}
