@@ -69,9 +69,20 @@ fn three_lines(report: &[u8]) -> &[u8] {
     report
 }
 
+/// How a run ends that no fault and no want of memory cut: by HALT, by ERR, at its bound, at the end of the stack.
+fn is_whole(ran: &Printed) -> bool {
+    ran.status <= 3
+}
+
+/// A refusal prints its message alone.
+fn is_refusal(answer: &Printed) -> bool {
+    answer.status == 65 && answer.out.is_empty() && answer.err.starts_with(b"mic: F: ")
+}
+
 /// The same output, the same status, and the same first three lines of the report.
 fn agree(one: &Printed, other: &Printed) -> bool {
-    one.status == other.status
+    is_whole(one)
+        && one.status == other.status
         && one.out == other.out
         && three_lines(&one.err) == three_lines(&other.err)
 }
@@ -79,8 +90,13 @@ fn agree(one: &Printed, other: &Printed) -> bool {
 /// What comes of the program with this value at this place of its text.
 pub fn damaged(alloc: Global, place: usize, value: u8) -> Result<Found, AllocError> {
     let image = image_with(alloc, place, value)?;
-    if call(alloc, &["verify", "F"], &image)?.status != 0 {
-        return Ok(Found::Refused);
+    let verified = call(alloc, &["verify", "F"], &image)?;
+    if verified.status != 0 {
+        return Ok(if is_refusal(&verified) {
+            Found::Refused
+        } else {
+            Found::Differs
+        });
     }
     for machine in ["mic1", "mic2"] {
         let ran = call(

@@ -17,7 +17,9 @@ fn main(rt: HostRuntime) -> io::Result<ExitCode> {
         for value in 0..=u8::MAX {
             let found = damaged(rt.alloc(), place, value)?;
             if found.is_different() {
-                eprintln!(rt; "byte {place} as {value}: run and reference differ")?;
+                eprintln!(rt;
+                    "byte {place} as {value}: verify does not answer, or run and reference differ"
+                )?;
             }
             tally.count(found);
         }
