@@ -1,5 +1,5 @@
 -- A text that is laid out in pieces is accepted: every path stands at one of their instructions, with the operands that it has there.
-use Rattle.std.proofs.Common.{◌≡◌, ◌≢◌, ℕ, ℤ, zero, suc, ◌+◌, ◌-◌, ◌*◌, ◌%◌, ◌<◌, ◌≤◌, ◌⊎◌, inl, inr, List, [], ◌∷◌, length, Option, Some, None, refl, sym, ap, ◌∙◌, subst, arith}
+use Rattle.std.proofs.Common.{◌≡◌, ◌≢◌, ℕ, ℤ, zero, suc, ◌+◌, ◌-◌, ◌*◌, ◌%◌, ◌<◌, ◌≤◌, ◌⊎◌, inl, inr, Bool, if◌then◌else◌, List, [], ◌∷◌, length, Option, Some, None, refl, sym, ap, ◌∙◌, subst, arith}
 use Rattle.std.specs.Prelude.{slice_get}
 use Rattle.std.specs.Option.{option_map}
 use Rattle.std.specs.Int.{w8, w16, cast_signed}
@@ -303,7 +303,8 @@ callee_is : (l : Layout) → callee l.image 1 ≡ Some (record { entry = entry l
 callee_is l =
     let pool : slice_get l.image.pool 1 ≡ Some (entry l) = ap (λ (p : List ℕ). slice_get p 1) l.pool in
     let inside : entry l + 4 < length l.image.text = omega (arith, l.long) in
-    ap (method_at l.image.text) pool ∙ ap (λ b. if b then Some _ else None) (lt-ltb (entry l + 4) (length l.image.text) inside)
+    let method : MethodView = record { entry = entry l; params = params l.image.text (entry l); others = others l.image.text (entry l) } in
+    ap (method_at l.image.text) pool ∙ ap (λ (t : Bool). if t then Some method else None) (lt-ltb (entry l + 4) (length l.image.text) inside)
 
 need_is : (l : Layout) (z : ℤ) (s : Stop) (need : ℕ) → need_of l.image (row_at z s).needs (row_at z s).flow ≡ Some need → need ≡ need_at s
 need_is l z Call3 need e =
@@ -495,7 +496,7 @@ right l a p (errors.BadHeader e) w =
     let two : params l.image.text e ≡ 2 = ap (params l.image.text) is ∙ l.params_are in
     omega arith
 right l a p (errors.LinkSlot at) w =
-    let one : 0 ≡ 1 = named_in_method l a p w.1 w.3 0 w.2 w.4 w.5 in
+    let one : ◌≡◌ {A = ℕ} 0 1 = named_in_method l a p w.1 w.3 0 w.2 w.4 w.5 in
     omega arith
 right l a p (errors.BadLocal at k) w =
     let one : k ≡ 1 = named_in_method l a p w.1 w.3 k w.2 w.4 w.5 in

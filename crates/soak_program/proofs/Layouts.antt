@@ -5,13 +5,15 @@ use Rattle.std.specs.Int.{w8, cast_signed, cast_unsigned}
 use Rattle.std.proofs.lemmas.Bool.{cases_lt, lt-ltb, le-ltb, le-leb}
 use Rattle.std.proofs.lemmas.Grind.{flat_map-append}
 use Rattle.std.proofs.lemmas.List.{append-nil, get_or-append-add}
+use Rattle.console_port.specs.Map.{IsMap}
 use Rattle.ijvm_instr.specs.declared.instr.Instr.{Instr}
 use Rattle.ijvm_instr.specs.declared.instr.Instr.TheVariants.{Iload, Halt}
 use Rattle.ijvm_instr.specs.Instructions.{row_of, size_of, of_bytes, begun_at, whole, instr_at, spelling}
 use Rattle.ijvm_image.specs.Image.{params, others}
+use Rattle.ijvm_paths.specs.Facts.{Accepts}
 use Rattle.soak_program.specs.Generated.{block, block_at, blocks, main_code, main_text, method_text, generated}
 use Rattle.soak_program.proofs.Stops.{Chunk, Add, Increment, Subtract, Call, Skip, Last, Method, Stop, bytes_with, chunk_size, chunk_of, place_of, instr_of, begun_there, ends_inside}
-use Rattle.soak_program.proofs.Laid.{IsBlock, Layout}
+use Rattle.soak_program.proofs.Laid.{IsBlock, Layout, accepted}
 
 -- the text before a block
 abbrev front_of : ℕ → ℕ → List ℕ
@@ -278,7 +280,7 @@ code_there seed n i s h c = elim (cases_lt i n) [
     ]
 ]
 
-pub layout : (seed n : ℕ) → n ≤ 9000 → Layout
+layout : (seed n : ℕ) → n ≤ 9000 → Layout
 layout seed n h =
     let entry : start_at seed n (n + 1) ≡ length (main_text seed n) = start_out seed n (n + 1) (omega arith) in
     record {
@@ -298,3 +300,8 @@ layout seed n h =
       others_are = ap (others (text_of seed n)) entry ∙ method_others (main_text seed n);
       pool = ap (λ (x : ℕ). 0 ∷ x ∷ []) (sym entry);
     }
+
+-- so it is accepted
+pub generated_accepted : (seed n z : ℕ) → n ≤ 9000 → IsMap z → Accepts (generated seed n) z
+unfolding generated layout
+generated_accepted seed n z h map = accepted (layout seed n h) z map

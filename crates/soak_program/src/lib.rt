@@ -1,6 +1,9 @@
-//! The programs that a seed and a size generate: long runs of any length, each of which is accepted.
+//! The programs that a seed and a size generate: main works on one sum, block by block, and each of them is accepted.
 #![tactic(auto)]
 
-pub mod generate;
+mod code;
+pub mod image;
+pub mod laws;
 
-pub use generate::generated_images_are_accepted;
+pub use image::soak_image;
+pub use laws::{generated_images_are_accepted, generated_texts_are_short};
