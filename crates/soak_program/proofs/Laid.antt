@@ -238,9 +238,9 @@ block_place : (l : Layout) (i : ℕ) → i < l.size + 2 → IsBlock (l.kind i) �
 block_place l i h b = elim (cases_lt i l.size) [
   | inl lt ↦ lt
   | inr ge ↦ elim (cases_lt l.size i) [
-      | inl above ↦ let e : i ≡ l.size + 1 = omega arith in absurd (subst IsBlock (ap l.kind e ∙ l.method) b)
-      | inr le ↦ let e : i ≡ l.size = omega arith in absurd (subst IsBlock (ap l.kind e ∙ l.last) b)
-    ]
+    | inl above ↦ let e : i ≡ l.size + 1 = omega arith in absurd (subst IsBlock (ap l.kind e ∙ l.method) b)
+    | inr le ↦ let e : i ≡ l.size = omega arith in absurd (subst IsBlock (ap l.kind e ∙ l.last) b)
+  ]
 ]
 
 main_place : (l : Layout) (i : ℕ) → i < l.size + 2 → IsMain (l.kind i) → i < l.size + 1
@@ -531,11 +531,11 @@ site : (l : Layout) (i j o u : ℕ) → i < l.size + 2 → j < l.size + 2 → o 
 site l i j o u hi hj ho hu e = elim (cases_lt i j) [
   | inl lt ↦ let h : l.start i + chunk_size (l.kind i) ≤ l.start j = below l i j lt hj in absurd (omega arith)
   | inr ge ↦ elim (cases_lt j i) [
-      | inl gt ↦ let h : l.start j + chunk_size (l.kind j) ≤ l.start i = below l j i gt hi in absurd (omega arith)
-      | inr le ↦ let same : i ≡ j = omega arith in
-          let start : l.start i ≡ l.start j = ap l.start same in
-          (same, omega arith)
-    ]
+    | inl gt ↦ let h : l.start j + chunk_size (l.kind j) ≤ l.start i = below l j i gt hi in absurd (omega arith)
+    | inr le ↦ let same : i ≡ j = omega arith in
+        let start : l.start i ≡ l.start j = ap l.start same in
+        (same, omega arith)
+  ]
 ]
 
 owned_first : (s : Stop) → owner (chunk_of s) (place_of s) ≡ Some s

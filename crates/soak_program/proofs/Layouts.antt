@@ -67,7 +67,7 @@ front_step : (seed i : ℕ) → length (front_of seed (suc i)) ≡ length (front
 front_step seed i =
     let joined : front_of seed (suc i) ≡ front_of seed i ++ flat_map spelling (block_at seed i) = flat_map-append spelling (blocks seed i) (block_at seed i) in
     let size : length (flat_map spelling (block_at seed i)) ≡ chunk_size (chunk_there seed i) =
-        ap (λ (xs : List ℕ). length xs) (block_here seed i) ∙ size_is (byte_there seed i) (chunk_there seed i) in
+    ap (λ (xs : List ℕ). length xs) (block_here seed i) ∙ size_is (byte_there seed i) (chunk_there seed i) in
     ap (λ (xs : List ℕ). length xs) joined ∙ (length-append (front_of seed i) (flat_map spelling (block_at seed i)) ∙ ap (λ (x : ℕ). length (front_of seed i) + x) size)
 
 main_is : (seed n : ℕ) → main_text seed n ≡ front_of seed n ++ bytes_with 0 Last
@@ -143,16 +143,16 @@ cut_block seed n i h =
     let w = split seed n i h in
     let rest : List Instr = w.0 ++ main_end in
     let code : main_code seed n ≡ blocks seed i ++ (block_at seed i ++ rest) =
-        ap (λ (xs : List Instr). xs ++ main_end) w.1
-        ∙ (append_assoc (blocks seed i ++ block_at seed i) w.0 main_end ∙ append_assoc (blocks seed i) (block_at seed i) rest) in
+    ap (λ (xs : List Instr). xs ++ main_end) w.1
+    ∙ (append_assoc (blocks seed i ++ block_at seed i) w.0 main_end ∙ append_assoc (blocks seed i) (block_at seed i) rest) in
     let main : main_text seed n ≡ front_of seed i ++ (flat_map spelling (block_at seed i) ++ flat_map spelling rest) =
-        ap (flat_map spelling) code
-        ∙ (flat_map-append spelling (blocks seed i) (block_at seed i ++ rest)
-        ∙ ap (λ (xs : List ℕ). front_of seed i ++ xs) (flat_map-append spelling (block_at seed i) rest)) in
+    ap (flat_map spelling) code
+    ∙ (flat_map-append spelling (blocks seed i) (block_at seed i ++ rest)
+    ∙ ap (λ (xs : List ℕ). front_of seed i ++ xs) (flat_map-append spelling (block_at seed i) rest)) in
     let whole_text : text_of seed n ≡ front_of seed i ++ (flat_map spelling (block_at seed i) ++ (flat_map spelling rest ++ method_text)) =
-        ap (λ (xs : List ℕ). xs ++ method_text) main
-        ∙ (append_assoc (front_of seed i) (flat_map spelling (block_at seed i) ++ flat_map spelling rest) method_text
-        ∙ ap (λ (xs : List ℕ). front_of seed i ++ xs) (append_assoc (flat_map spelling (block_at seed i)) (flat_map spelling rest) method_text)) in
+    ap (λ (xs : List ℕ). xs ++ method_text) main
+    ∙ (append_assoc (front_of seed i) (flat_map spelling (block_at seed i) ++ flat_map spelling rest) method_text
+    ∙ ap (λ (xs : List ℕ). front_of seed i ++ xs) (append_assoc (flat_map spelling (block_at seed i)) (flat_map spelling rest) method_text)) in
     record {
       front = front_of seed i;
       back = flat_map spelling rest ++ method_text;
@@ -191,11 +191,11 @@ cut_code text at b s cut =
     let bytes : List ℕ = bytes_with b (chunk_of s) in
     let i : Instr = instr_of (cast_signed w8 b) s in
     let begun : begun_at text (at + place_of s) ≡ Some i =
-        ap (λ (t : List ℕ). begun_at t (at + place_of s)) cut.is
-        ∙ (ap (λ (x : ℕ). begun_at (cut.front ++ (bytes ++ cut.back)) (x + place_of s)) (sym cut.long)
-        ∙ (begun_moved cut.front (bytes ++ cut.back) (place_of s) ∙ begun_there s b cut.back)) in
+    ap (λ (t : List ℕ). begun_at t (at + place_of s)) cut.is
+    ∙ (ap (λ (x : ℕ). begun_at (cut.front ++ (bytes ++ cut.back)) (x + place_of s)) (sym cut.long)
+    ∙ (begun_moved cut.front (bytes ++ cut.back) (place_of s) ∙ begun_there s b cut.back)) in
     let long : length text ≡ length cut.front + (length bytes + length cut.back) =
-        ap (λ (xs : List ℕ). length xs) cut.is ∙ (length-append cut.front (bytes ++ cut.back) ∙ ap (λ (x : ℕ). length cut.front + x) (length-append bytes cut.back)) in
+    ap (λ (xs : List ℕ). length xs) cut.is ∙ (length-append cut.front (bytes ++ cut.back) ∙ ap (λ (x : ℕ). length cut.front + x) (length-append bytes cut.back)) in
     let fits : at + place_of s + size_of (row_of i) ≤ length text = omega (arith, cut.long, size_is b (chunk_of s), ends_inside (cast_signed w8 b) s) in
     ap (whole (length text) (at + place_of s)) begun
     ∙ ap (λ (t : Bool). if t then Some i else None) (le-leb (at + place_of s + size_of (row_of i)) (length text) fits)
@@ -270,14 +270,14 @@ code_there seed n i s h c = elim (cases_lt i n) [
   | inl lt ↦ code_in (text_of seed n) (start_at seed n i) (byte_there seed i) (chunk_there seed i) s (c ∙ kind_in seed n i lt)
       (subst (λ (x : ℕ). Cut (text_of seed n) x (bytes_with (byte_there seed i) (chunk_there seed i))) (sym (start_in seed n i (omega arith))) (cut_block seed n i lt))
   | inr ge ↦ elim (cases_lt n i) [
-      | inl gt ↦ code_in (text_of seed n) (start_at seed n i) 0 Method s (c ∙ kind_out seed n i gt)
-          (subst (λ (x : ℕ). Cut (text_of seed n) x (bytes_with 0 Method)) (sym (start_out seed n i gt)) (cut_method seed n))
-      | inr le ↦
-          let number : i ≡ n = omega arith in
-          let start : start_at seed n i ≡ length (front_of seed n) = start_in seed n i le ∙ ap (λ (k : ℕ). length (front_of seed k)) number in
-          code_in (text_of seed n) (start_at seed n i) 0 Last s (c ∙ kind_last seed n i number)
-          (subst (λ (x : ℕ). Cut (text_of seed n) x (bytes_with 0 Last)) (sym start) (cut_last seed n))
-    ]
+    | inl gt ↦ code_in (text_of seed n) (start_at seed n i) 0 Method s (c ∙ kind_out seed n i gt)
+        (subst (λ (x : ℕ). Cut (text_of seed n) x (bytes_with 0 Method)) (sym (start_out seed n i gt)) (cut_method seed n))
+    | inr le ↦
+        let number : i ≡ n = omega arith in
+        let start : start_at seed n i ≡ length (front_of seed n) = start_in seed n i le ∙ ap (λ (k : ℕ). length (front_of seed k)) number in
+        code_in (text_of seed n) (start_at seed n i) 0 Last s (c ∙ kind_last seed n i number)
+        (subst (λ (x : ℕ). Cut (text_of seed n) x (bytes_with 0 Last)) (sym start) (cut_last seed n))
+  ]
 ]
 
 layout : (seed n : ℕ) → n ≤ 9000 → Layout

@@ -1,3 +1,4 @@
-pub mod Stops
-pub mod Laid
+mod Examples
 pub mod Layouts
+pub mod Laid
+pub mod Stops

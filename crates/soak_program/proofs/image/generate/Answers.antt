@@ -30,7 +30,8 @@ returns c =
     let main : List ℕ = main_text c.args.seed c.args.size in
     let pushed : c.push_main.new.text.items ≡ main = c.in_ok-push_main.ensures ∙ ap (λ (xs : List ℕ). xs ++ main) c.new-text.ensures.items in
     let text : c.new.result.text ≡ main ++ method_text =
-        c.new.ensures.text ∙ (c.in_ok-push_method.ensures ∙ ap (λ (xs : List ℕ). xs ++ method_text) pushed) in
-    let entry : c.len-entry.result ≡ length main = c.len-entry.ensures ∙ ap (λ (xs : List ℕ). length xs) pushed in
+    c.new.ensures.text ∙ (c.in_ok-push_method.ensures ∙ ap (λ (xs : List ℕ). xs ++ method_text) pushed) in
+    let same : length c.push_main.new.text.items ≡ length main = ap (λ (xs : List ℕ). length xs) pushed in
+    let entry : c.len-entry.result ≡ length main = omega (arith, c.len-entry.ensures) in
     let pool : c.new.result.pool ≡ 0 ∷ length main ∷ [] = c.new.ensures.pool ∙ (c.in_ok-pool.ensures.items ∙ ap (λ (x : ℕ). 0 ∷ x ∷ []) entry) in
     λ i. record { text = text i; pool = pool i }
