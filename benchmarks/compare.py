@@ -5,16 +5,21 @@
 """
 import os
 import re
+import shutil
 import subprocess
 import sys
 import tempfile
+import time
 from pathlib import Path
 
 HERE = Path(__file__).resolve().parent
 TOP = HERE.parent
 ROUNDS = 10
-# The bound of `mic run` where none is given.
 BOUND = 10_000_000
+# An echo of a megabyte comes to its end before this bound.
+ECHO_BOUND = 100_000_000
+# Instructions a cycle are those between these two bounds, so that the start does not count.
+COUNTED = (1_000_000, 2_000_000)
 # An echo reads this many bytes, none of which is 0.
 INPUT = bytes(1 + n % 255 for n in range(1 << 20))
 
@@ -23,17 +28,49 @@ def told(*words):
     return subprocess.run(words, check=True, stdout=subprocess.PIPE, text=True).stdout
 
 
-def timed(words, given):
-    """The status, what was written to both streams, and the seconds of user time."""
+def ran(words, given):
+    """The status, what was written to both streams, seconds of user time, seconds in all, and the most memory in kilobytes."""
     with tempfile.TemporaryFile() as out, tempfile.TemporaryFile() as err, tempfile.TemporaryFile() as source:
         source.write(given)
         source.seek(0)
-        before = os.times().children_user
-        status = subprocess.run(words, stdin=source, stdout=out, stderr=err).returncode
-        seconds = os.times().children_user - before
+        began = time.perf_counter()
+        child = subprocess.Popen(words, stdin=source, stdout=out, stderr=err)
+        _, status, used = os.wait4(child.pid, 0)
+        taken = time.perf_counter() - began
+        child.returncode = os.waitstatus_to_exitcode(status)
         out.seek(0)
         err.seek(0)
-        return status, out.read(), err.read(), seconds
+        return child.returncode, out.read(), err.read(), used.ru_utime, taken, used.ru_maxrss
+
+
+def instructions(words, given):
+    _, _, err, *_ = ran(["valgrind", "--tool=callgrind", "--callgrind-out-file=/dev/null", *words], given)
+    return int(re.search(rb"Collected : (\d+)", err).group(1))
+
+
+def per_cycle(run, given):
+    """Instructions a cycle of `run`, which gives the words for a bound."""
+    few, many = (instructions(run(bound), given) for bound in COUNTED)
+    return (many - few) / (COUNTED[1] - COUNTED[0])
+
+
+def compare(name, given, runs, bound):
+    best, seen = {}, {}
+    for _ in range(ROUNDS):
+        for who, run in runs.items():
+            _, out, err, seconds, *_ = ran(run(bound), given)
+            seen[who] = (out, err)
+            best[who] = min(seconds, best.get(who, seconds))
+    same = "same output and report" if seen["mic"] == seen["plain C"] else "OUTPUT OR REPORT DIFFERS"
+    print(f"{name}: mic {best['mic']:.3f} s, plain C {best['plain C']:.3f} s, {best['plain C'] / best['mic']:.2f} of its speed; {same}")
+    if shutil.which("valgrind"):
+        print("    instructions a cycle: " + ", ".join(f"{who} {per_cycle(run, given):.1f}" for who, run in runs.items()))
+
+
+def start(mic):
+    image = str(TOP / "examples/letter_b.ijvm")
+    taken, most = zip(*(ran([mic, "run", image, "--bound", "10"], b"")[4:] for _ in range(ROUNDS)))
+    print(f"start: ten cycles in {1000 * min(taken):.1f} ms, {max(most) / 1024:.1f} MB")
 
 
 def main():
@@ -44,24 +81,20 @@ def main():
         store = f"{made}/store"
         addresses = told(mic, "micro", str(TOP / "examples/mic1.mal"), store)
         entry = re.search(r"^([0-9a-f]{3}) [0-9a-f]{9} Main1 ", addresses, re.M).group(1)
-        for name, given in (("loop", b""), ("calls", b""), ("echo", INPUT)):
+        for name, given, bound in (("loop", b"", BOUND), ("calls", b"", BOUND), ("echo", INPUT, ECHO_BOUND)):
             image = f"{made}/{name}.ijvm"
             told(mic, "assemble", str(HERE / f"programs/{name}.jas"), image)
             local = re.search(r"main (\d+)", told(mic, "verify", image)).group(1)
-            runs = {"mic": [mic, "run", image], "plain C": [plain, store, entry, local, image, str(BOUND)]}
-            best, seen = {}, {}
-            for _ in range(ROUNDS):
-                for who, words in runs.items():
-                    status, out, err, seconds = timed(words, given)
-                    if who == "mic" and status == 77:
-                        continue
-                    seen[who] = (out, err)
-                    best[who] = min(seconds, best.get(who, seconds))
-            if "mic" not in best:
-                print(f"{name}: mic run does not take this program yet; plain C {best['plain C']:.3f} s")
-                continue
-            same = "same output and report" if seen["mic"] == seen["plain C"] else "OUTPUT OR REPORT DIFFERS"
-            print(f"{name}: mic {best['mic']:.3f} s, plain C {best['plain C']:.3f} s, {best['plain C'] / best['mic']:.2f} of its speed; {same}")
+            compare(
+                name,
+                given,
+                {
+                    "mic": lambda bound: [mic, "run", image, "--bound", str(bound)],
+                    "plain C": lambda bound: [plain, store, entry, local, image, str(bound)],
+                },
+                bound,
+            )
+        start(mic)
 
 
 if __name__ == "__main__":

@@ -146,38 +146,38 @@ impl Clocked for Mic1 {
         }
     }
 
+    #[inline(always)]
     fn edge<S: Source, K: Sink>(
         &mut self,
         bus: &mut Bus,
         source: &mut S,
         sink: &mut K,
     ) -> Result<(), BusFault> {
+        // Loaded before an access, behind which they would be loaded again.
+        let (word, value, c) = (self.word, self.value, self.c);
         self.stage = Stage::Setup;
         // Most words access nothing, and most others memory alone.
-        if is_quiet(self.word) {
+        if is_quiet(word) {
             let sampled = Sampled {
                 word: None,
                 byte: None,
             };
-            self.latches
-                .advance(self.word, &self.lines, self.value, self.c, sampled);
+            self.latches.advance(word, &self.lines, value, c, sampled);
             return Ok(());
         }
-        let mem = Mem::of_bits(bits::mem(Machine::Mic1, self.word));
-        let fetch = bits::fetch(Machine::Mic1, self.word);
+        let mem = Mem::of_bits(bits::mem(Machine::Mic1, word));
+        let fetch = bits::fetch(Machine::Mic1, word);
         let ports = self
             .latches
-            .ports(bits::destinations(Machine::Mic1, self.word), self.c);
+            .ports(bits::destinations(Machine::Mic1, word), c);
         if is_in_memory(mem, fetch, ports.mar, ports.pc, bus) {
             let sampled = access_memory(mem, fetch, &ports, bus);
-            self.latches
-                .advance(self.word, &self.lines, self.value, self.c, sampled);
+            self.latches.advance(word, &self.lines, value, c, sampled);
             return Ok(());
         }
         match access(mem, fetch, &ports, bus, source, sink) {
             Ok(sampled) => {
-                self.latches
-                    .advance(self.word, &self.lines, self.value, self.c, sampled);
+                self.latches.advance(word, &self.lines, value, c, sampled);
                 Ok(())
             }
             Err(fault) => Err(fault),

@@ -58,6 +58,7 @@ impl Random {
 
     fn below(&mut self, bound: u32) -> u32
         requires { 0 < bound }
+        ensures { result < bound }
     {
         self.word() % bound
     }

@@ -1,51 +1,58 @@
-//! Words that are placed by hand, clocked on a board over a text of one byte.
+//! Main1 at every address, clocked on a board over a text of one byte.
+
+ghost use Rattle.std.specs.Prelude.{◌≡◌, IfOk};
+ghost use Rattle.mic_clock.specs.Run.{start_counts};
 
 use crate::Mic2;
 use console_port::{Bus, MemoryMap};
 use mic_base::{PlainSink, PlainSource};
 use mic_clock::{Board, Boundary, Counts, End, Registers, Tail, Tick};
 use micro_word::{Machine, Part, Placed, PlacedNext, Store};
+use std::alloc::Global;
 use std::test::Fail;
 
-/// What is seen of the registers that these words change.
-fn seen(r: &Registers) -> (u32, u16, usize, u32) {
-    match &r.tail {
-        Tail::Queue { bytes, imar } => (r.pc, r.mpc, bytes.len(), *imar),
-        Tail::Mbr(_) => (r.pc, r.mpc, 0, 0),
-    }
+const MAIN1: Placed = Placed {
+    part: Part::IDLE,
+    next: PlacedNext::Dispatch { high: false },
+};
+
+fn board(alloc: Global) -> Result<Board<Mic2>, Fail>
+    ensures { IfOk result (λ b. b.counts ≡ start_counts) }
+{
+    let mut bus = Bus::new(alloc, MemoryMap::STANDARD)?;
+    bus.write_word(0, 0xFF00_0000, &mut PlainSink::new())?;
+    let store = Store::filled(Machine::Mic2, &MAIN1);
+    Ok(Board::new(Mic2::new(), store, 2, 0x7FFF, bus))
 }
 
-fn front(r: &Registers) -> u8 {
+/// PC, MPC, the queue's first byte, the number of bytes, and IMAR.
+fn seen(r: &Registers) -> (u32, u16, u8, usize, u32) {
     match &r.tail {
-        Tail::Queue { bytes, .. } => match bytes.as_slice() {
-            [first, ..] => *first,
-            [] => 0,
+        Tail::Queue { bytes, imar } => match bytes.as_slice() {
+            [first, ..] => (r.pc, r.mpc, *first, bytes.len(), *imar),
+            [] => (r.pc, r.mpc, 0, 0, *imar),
         },
-        Tail::Mbr(byte) => *byte,
+        Tail::Mbr(byte) => (r.pc, r.mpc, *byte, 0, 0),
     }
 }
 
 #[test]
 fn main1_waits_for_the_first_opcode(rt: HostRuntime) -> Result<(), Fail> {
-    let main1 = Placed {
-        part: Part::IDLE,
-        next: PlacedNext::Dispatch { high: false },
-    };
-    assert!(rt; main1.valid(Machine::Mic2));
-    let mut bus = Bus::new(rt.alloc(), MemoryMap::STANDARD)?;
-    bus.load(&[0xFF], &[]);
-    let store = Store::filled(Machine::Mic2, &main1);
-    let mut board = Board::new(Mic2::new(), store, 2, 0x7FFF, bus);
+    let mut board = board(rt.alloc())?;
     let mut source = PlainSource::new(Vec::new(rt.alloc()));
-    let mut sink = PlainSink::new();
+    let tick = board.cycle(&mut source, &mut PlainSink::new());
+    assert_eq!(rt; tick, Tick::Stalled);
+    assert_eq!(rt; seen(&board.registers()), (0, 2, 0xFF, 4, 1));
+    Ok(())
+}
 
-    assert_eq!(rt; board.cycle(&mut source, &mut sink), Tick::Stalled);
-    assert_eq!(rt; seen(&board.registers()), (0, 2, 4, 1));
-    assert_eq!(rt; front(&board.registers()), 0xFF);
-    assert_eq!(rt; board.cycle(&mut source, &mut sink), Tick::Clocked);
-    assert_eq!(rt; seen(&board.registers()), (1, 0x0FF, 3, 1));
-    assert_eq!(rt; front(&board.registers()), 0);
-    assert_eq!(rt; board.run(100, &mut source, &mut sink), End::Halt);
+#[test]
+fn then_it_dispatches(rt: HostRuntime) -> Result<(), Fail> {
+    let mut board = board(rt.alloc())?;
+    let mut source = PlainSource::new(Vec::new(rt.alloc()));
+    let end = board.run(100, &mut source, &mut PlainSink::new());
+    assert_eq!(rt; end, End::Halt);
+    assert_eq!(rt; seen(&board.registers()), (1, 0x0FF, 0, 3, 1));
     let counts = Counts {
         cycles: 2,
         instructions: 1,

@@ -1,6 +1,6 @@
 -- How a call of `mic` ends, by what its words ask for.
 use Rattle.std.specs.Prelude.{◌≡◌, ℕ, List, Option, Some, None}
-use Rattle.mic_words.specs.Words.{Asked, Assemble, ListOf, Verify, Run, Reference, Micro, PrintMicro}
+use Rattle.mic_words.specs.Words.{Asked, Assemble, ListOf, Verify, Run, RunOwn, Trace, Profile, Reference, Micro, PrintMicro}
 use Rattle.machine_words.specs.declared.machine.Machine.TheVariants.{Mic1, Mic2}
 use Rattle.mal_parser.specs.Canonical.{canonical_text}
 use Rattle.mic1_datapath.specs.Mic1.{mic1_meaning, IsReady}
@@ -10,7 +10,13 @@ use Rattle.shipped_program.specs.Shipped.{HasShipped}
 use Rattle.console_port.specs.declared.map.MemoryMap.{MemoryMap}
 use Rattle.mic_work.specs.Status as exits
 use Rattle.mic_work.specs.Messages.{out_of_memory}
-use Rattle.mic_work.specs.Outside.{Says}
+use Rattle.ijvm_paths.specs.Accepted.{VerifiedView}
+use Rattle.mal_parser.specs.Program.{Program}
+use Rattle.board_commands.specs.OwnRun.{IsOwnRun}
+use Rattle.board_commands.specs.Over.{EndsOver}
+use Rattle.board_commands.specs.Profiled.{IsProfiled}
+use Rattle.board_commands.specs.Traced.{IsTraced}
+use Rattle.mic_work.specs.Outside.{Says, SinkState, SourceState}
 use Rattle.mic_work.specs.Work.{Answered, Ends as WorkEnds}
 use Rattle.micro_commands.specs.Answers.{MicroAnswers, PrintMicroAnswers}
 use Rattle.program_texts.specs.Listing.{Lists}
@@ -43,7 +49,14 @@ pub record OnlyPrints (text : List ℕ) (old new : Outside) (status : ℕ) : Typ
 abbrev pub RunsMic1 : List ℕ → ℕ → MemoryMap → Outside → Outside → ℕ → Type 0
 RunsMic1 = RunEnds micro_of mic1_meaning IsReady (HasShipped Mic1) 0x002
 
--- Where the words ask for nothing, the usage text says how `mic` is called. `run` on Mic-2 is not built, and is answered so too.
+-- Mic-1 with a person's own microprogram, or without one with the one that ships. `Runs` says how the run of a program by it went.
+abbrev pub Clocks : (Program → VerifiedView → ℕ → SourceState → SourceState → SinkState → SinkState → SinkState → SinkState → ℕ → Type 0) →
+    List ℕ → ℕ → MemoryMap → Option (List ℕ) → Outside → Outside → ℕ → Type 0
+Clocks Runs file bound map own old new status =
+    EndsOver (λ micro program. Runs micro program bound old.streams.console new.streams.console old.streams.out new.streams.out old.streams.err new.streams.err status)
+    Mic1 file own map old.streams.console new.streams.console (desk_of old) (desk_of new) status
+
+-- Where the words ask for nothing, the usage text says how `mic` is called. Clocking Mic-2 is not built, and is answered so too.
 abbrev pub EndsAs : Option Asked → Outside → Outside → ℕ → Type 0
 EndsAs None old new status = OnlySays usage exits.usage old new status
 EndsAs (Some (Assemble source image)) old new status = EndsAside (Assembled image) source old new status
@@ -51,6 +64,13 @@ EndsAs (Some (ListOf file map)) old new status = EndsAside (Shown map Lists) fil
 EndsAs (Some (Verify file map)) old new status = EndsAside (Shown map Summarizes) file old new status
 EndsAs (Some (Run file Mic1 bound map)) old new status = RunsMic1 file bound map old new status
 EndsAs (Some (Run file Mic2 bound map)) old new status = OnlySays usage exits.usage old new status
+EndsAs (Some (RunOwn file Mic1 bound map micro)) old new status = Clocks (IsOwnRun micro_of mic1_meaning) file bound map (Some micro) old new status
+EndsAs (Some (RunOwn file Mic2 bound map micro)) old new status = OnlySays usage exits.usage old new status
+EndsAs (Some (Trace file Mic1 bound map micro buses)) old new status =
+    Clocks (λ listing program bound. IsTraced micro_of mic1_meaning listing program bound buses) file bound map micro old new status
+EndsAs (Some (Trace file Mic2 bound map micro buses)) old new status = OnlySays usage exits.usage old new status
+EndsAs (Some (Profile file Mic1 bound map micro)) old new status = Clocks (IsProfiled micro_of mic1_meaning) file bound map micro old new status
+EndsAs (Some (Profile file Mic2 bound map micro)) old new status = OnlySays usage exits.usage old new status
 EndsAs (Some (Reference file machine bound map)) old new status =
     EndsReference file machine bound map old.streams.console new.streams.console (desk_of old) (desk_of new) status
 EndsAs (Some (Micro mal store machine)) old new status = EndsAside (MicroAnswers machine store) mal old new status

@@ -30,6 +30,12 @@ fn memory_is_ample(rt: HostRuntime) -> Result<(), Fail> {
     assert_eq!(rt; status_of(alloc, &["run", "P"])?, 0);
     assert_eq!(rt; status_of(alloc, &["run", "P", "--map", "large"])?, 0);
     assert_eq!(rt; status_of(alloc, &["run", "P", "--bound=12"])?, 2);
+    assert_eq!(rt;
+        status_of(alloc, &["run", "P", "--micro", "M", "--bound", "9"])?,
+        2
+    );
+    assert_eq!(rt; status_of(alloc, &["trace", "P", "--bound", "3"])?, 2);
+    assert_eq!(rt; status_of(alloc, &["profile", "P"])?, 0);
     assert_eq!(rt; status_of(alloc, &["reference", "P"])?, 0);
     assert_eq!(rt; status_of(alloc, &["micro", "M", "S"])?, 0);
     assert_eq!(rt; status_of(alloc, &["print-micro", "M"])?, 0);

@@ -8,10 +8,12 @@ ghost use Rattle.mic_call.specs.Ends.{Ends};
 
 use crate::run::run_file;
 use crate::usage::misused;
+use board_commands::{profile_file, run_own_file, trace_file};
 use machine_words::Machine;
 use mic_base::{Files, Sink, Source};
 use mic_words::{Request, WordsError, read_words};
 use mic_work::{Status, no_memory};
+use mic1_datapath::Mic1;
 use micro_commands::{micro, print_micro, print_shipped};
 use program_commands::{assemble_file, list_file, reference_file, verify_file};
 use shipped_microcode::Mic1Interpreter;
@@ -53,6 +55,82 @@ pub fn mic_main<F: Files, S: Source, K: Sink, E: Sink>(
         ),
         Ok(
             Request::Run {
+                machine: Machine::Mic2,
+                ..
+            },
+        ) => misused(err),
+        Ok(
+            Request::RunOwn {
+                file,
+                machine: Machine::Mic1,
+                bound,
+                map,
+                micro,
+            },
+        ) => run_own_file(
+            alloc,
+            Mic1::new(),
+            file,
+            Some(micro),
+            bound,
+            map,
+            files,
+            console,
+            out,
+            err,
+        ),
+        Ok(
+            Request::Trace {
+                file,
+                machine: Machine::Mic1,
+                bound,
+                map,
+                micro,
+                buses,
+            },
+        ) => trace_file(
+            alloc,
+            Mic1::new(),
+            file,
+            micro,
+            bound,
+            map,
+            buses,
+            files,
+            console,
+            out,
+            err,
+        ),
+        Ok(
+            Request::Profile {
+                file,
+                machine: Machine::Mic1,
+                bound,
+                map,
+                micro,
+            },
+        ) => profile_file(
+            alloc,
+            Mic1::new(),
+            file,
+            micro,
+            bound,
+            map,
+            files,
+            console,
+            out,
+            err,
+        ),
+        Ok(
+            Request::RunOwn {
+                machine: Machine::Mic2,
+                ..
+            }
+            | Request::Trace {
+                machine: Machine::Mic2,
+                ..
+            }
+            | Request::Profile {
                 machine: Machine::Mic2,
                 ..
             },

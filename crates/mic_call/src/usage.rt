@@ -10,7 +10,9 @@ use mic_work::{Status, say};
 const USAGE: &[u8] = b"usage: mic assemble SOURCE IMAGE
        mic list FILE [--map W]
        mic verify FILE [--map W]
-       mic run FILE [--machine V] [--bound N] [--map W]
+       mic run FILE [--machine V] [--bound N] [--micro MAL] [--map W]
+       mic trace FILE [--machine V] [--bound N] [--micro MAL] [--buses] [--map W]
+       mic profile FILE [--machine V] [--bound N] [--micro MAL] [--map W]
        mic reference FILE [--machine V] [--bound N] [--map W]
        mic micro MAL STORE [--machine V]
        mic print-micro [FILE] [--machine V]

@@ -84,6 +84,7 @@ impl<M: Clocked> Board<M> {
     }
 
     /// One turn of the run, but for the test of the bound: an end that comes before a cycle, or a cycle.
+    #[inline(always)]
     #[tactic(auto, using(crate::proofs::Rules::ends_as_ruled, crate::proofs::Rules::ended_as_ruled, crate::proofs::Rules::counted_as_ruled))]
     pub fn cycle<S: Source, K: Sink>(&mut self, source: &mut S, sink: &mut K) -> Tick
         requires { self.old.counts.cycles ≤ 2 ^ 62 + 4096 }

@@ -15,6 +15,7 @@ use mic_base::{Sink, Source};
 use micro_word::Store;
 
 /// The four calls of a cycle, which are one microstep.
+#[inline(always)]
 pub fn clock_once<M: Clocked, S: Source, K: Sink>(
     machine: &mut M,
     store: &Store,

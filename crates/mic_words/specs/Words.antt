@@ -1,5 +1,5 @@
 -- What the words of a command line ask for: a command's name, and then what the entries behind it say, by the table.
-use Rattle.std.specs.Prelude.{◌≡◌, ◌≤◌, ℕ, ℤ, pos, Bool, nat_le, if◌then◌else◌, List, [], ◌∷◌, Option, Some, None, Result, Ok, Err, codes, is_some, option_and_then, option_map}
+use Rattle.std.specs.Prelude.{◌≡◌, ◌≤◌, ℕ, ℤ, pos, Bool, false, nat_le, if◌then◌else◌, List, [], ◌∷◌, Option, Some, None, Result, Ok, Err, codes, is_some, option_and_then, option_map, unwrap_or}
 use Rattle.std.specs.Str.{bytes_eq}
 use Rattle.mic_base.specs.Number.{number_of}
 use Rattle.mic_base.specs.declared.number.NumberError.{NumberError}
@@ -23,6 +23,11 @@ pub data Asked : Type 0 where
   ListOf : (file : Text) (map : MemoryMap) → Asked
   Verify : (file : Text) (map : MemoryMap) → Asked
   Run : (file : Text) (machine : Machine) (bound : ℕ) (map : MemoryMap) → Asked
+  -- with a person's own microprogram
+  RunOwn : (file : Text) (machine : Machine) (bound : ℕ) (map : MemoryMap) (micro : Text) → Asked
+  -- without a file of its own the microprogram that ships is clocked
+  Trace : (file : Text) (machine : Machine) (bound : ℕ) (map : MemoryMap) (micro : Option Text) (buses : Bool) → Asked
+  Profile : (file : Text) (machine : Machine) (bound : ℕ) (map : MemoryMap) (micro : Option Text) → Asked
   Reference : (file : Text) (machine : Machine) (bound : ℕ) (map : MemoryMap) → Asked
   Micro : (mal store : Text) (machine : Machine) → Asked
   -- without a file the microprogram that ships is asked for
@@ -33,6 +38,9 @@ asked (requests.Assemble source image) = Assemble source.now image.now
 asked (requests.List file map) = ListOf file.now map
 asked (requests.Verify file map) = Verify file.now map
 asked (requests.Run file machine bound map) = Run file.now machine bound map
+asked (requests.RunOwn file machine bound map micro) = RunOwn file.now machine bound map micro.now
+asked (requests.Trace file machine bound map micro buses) = Trace file.now machine bound map (option_map (λ micro. micro.now) micro) buses
+asked (requests.Profile file machine bound map micro) = Profile file.now machine bound map (option_map (λ micro. micro.now) micro)
 asked (requests.Reference file machine bound map) = Reference file.now machine bound map
 asked (requests.Micro mal store machine) = Micro mal.now store.now machine
 asked (requests.PrintMicro file machine) = PrintMicro (option_map (λ file. file.now) file) machine
@@ -46,6 +54,9 @@ abbrev pub HasLimits : Request → Type 0
 HasLimits (requests.List file map) = HasMap map
 HasLimits (requests.Verify file map) = HasMap map
 HasLimits (requests.Run file machine bound map) = (bound ≤ MOST_CYCLES) × HasMap map
+HasLimits (requests.RunOwn file machine bound map micro) = (bound ≤ MOST_CYCLES) × HasMap map
+HasLimits (requests.Trace file machine bound map micro buses) = (bound ≤ MOST_CYCLES) × HasMap map
+HasLimits (requests.Profile file machine bound map micro) = (bound ≤ MOST_CYCLES) × HasMap map
 HasLimits (requests.Reference file machine bound map) = (bound ≤ MOST_CYCLES) × HasMap map
 HasLimits request = Unit {0}
 
@@ -77,6 +88,15 @@ bound_from given = bound_in (text_in (codes "bound") given)
 abbrev pub map_of : List Entry → Option MemoryMap
 map_of given = map_in (text_in (codes "map") given)
 
+-- A flag reads as `true` where it is given, and as `false` where it is not.
+
+abbrev pub is_true : Option Text → Bool
+is_true None = false
+is_true (Some word) = bytes_eq word (codes "true")
+
+abbrev pub is_set : Text → List Entry → Bool
+is_set flag given = is_true (Some (unwrap_or (text_in flag given) (codes "false")))
+
 -- What the entries of a command ask for.
 
 abbrev pub assemble_of : List Entry → Option Asked
@@ -91,6 +111,21 @@ verify_of given = option_and_then (λ file. option_map (λ map. Verify file map)
 abbrev pub run_of : List Entry → Option Asked
 run_of given = option_and_then (λ file. option_and_then (λ machine. option_and_then (λ bound.
     option_map (λ map. Run file machine bound map)
+    (map_of given)) (bound_from given)) (machine_of given)) (text_in (codes "FILE") given)
+
+abbrev pub run_own_of : List Entry → Option Asked
+run_own_of given = option_and_then (λ file. option_and_then (λ machine. option_and_then (λ bound. option_and_then (λ map.
+    option_map (λ micro. RunOwn file machine bound map micro)
+    (text_in (codes "micro") given)) (map_of given)) (bound_from given)) (machine_of given)) (text_in (codes "FILE") given)
+
+abbrev pub trace_of : List Entry → Option Asked
+trace_of given = option_and_then (λ file. option_and_then (λ machine. option_and_then (λ bound.
+    option_map (λ map. Trace file machine bound map (text_in (codes "micro") given) (is_set (codes "buses") given))
+    (map_of given)) (bound_from given)) (machine_of given)) (text_in (codes "FILE") given)
+
+abbrev pub profile_of : List Entry → Option Asked
+profile_of given = option_and_then (λ file. option_and_then (λ machine. option_and_then (λ bound.
+    option_map (λ map. Profile file machine bound map (text_in (codes "micro") given))
     (map_of given)) (bound_from given)) (machine_of given)) (text_in (codes "FILE") given)
 
 abbrev pub reference_of : List Entry → Option Asked
@@ -108,14 +143,14 @@ print_micro_of given = option_map (λ machine. PrintMicro (text_in (codes "FILE"
 abbrev pub is_given : Text → List Entry → Bool
 is_given option given = is_some (text_in option given)
 
--- What a command with these entries asks for. What is not built yet asks for nothing: such a line, or an option of `run`, goes when its work is there.
+-- What a command with these entries asks for. What is not built yet asks for nothing: such a line goes when its work is there.
 abbrev pub asked_of : CommandName → List Entry → Option Asked
 asked_of name.Assemble given = assemble_of given
 asked_of name.List given = list_of given
 asked_of name.Verify given = verify_of given
-asked_of name.Run given = if is_given (codes "micro") given then None else run_of given
-asked_of name.Trace given = None
-asked_of name.Profile given = None
+asked_of name.Run given = if is_given (codes "micro") given then run_own_of given else run_of given
+asked_of name.Trace given = trace_of given
+asked_of name.Profile given = profile_of given
 asked_of name.Debug given = None
 asked_of name.Reference given = reference_of given
 asked_of name.Micro given = micro_of given

@@ -2,7 +2,7 @@
 
 ghost use Rattle.std.specs.Prelude.{◌≡◌, ◌≤◌, IfSome};
 ghost use Rattle.std.specs.Option.{option_map};
-ghost use Rattle.mic_words.specs.Words.{HasMap, bound_in, machine_in, map_in};
+ghost use Rattle.mic_words.specs.Words.{HasMap, bound_in, is_true, machine_in, map_in};
 
 use console_port::MemoryMap;
 use machine_words::Machine;
@@ -49,5 +49,15 @@ pub(crate) fn map_in(value: Option<&str>) -> Option<MemoryMap>
         Some("standard") => Some(MemoryMap::STANDARD),
         Some("large") => Some(MemoryMap::LARGE),
         Some(_) => None,
+    }
+}
+
+/// Whether a flag is given.
+pub(crate) fn is_true(value: Option<&str>) -> bool
+    ensures { result ≡ is_true (option_map (λ value. value.now) value.entry) }
+{
+    match value {
+        Some("true") => true,
+        _ => false,
     }
 }

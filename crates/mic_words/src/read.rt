@@ -5,10 +5,10 @@ ghost use Rattle.std.specs.Option.{option_map};
 ghost use Rattle.mic_words.specs.Reading.{Entry};
 ghost use Rattle.mic_words.specs.Table.{form_for};
 ghost use Rattle.mic_words.specs.Taking.{Holds};
-ghost use Rattle.mic_words.specs.Words.{AnswersAs, HasLimits, asked, asked_of, assemble_of, list_of, micro_of, print_micro_of, reference_of, request_of, run_of, verify_of};
+ghost use Rattle.mic_words.specs.Words.{AnswersAs, HasLimits, asked, asked_of, assemble_of, list_of, micro_of, print_micro_of, profile_of, reference_of, request_of, run_of, run_own_of, trace_of, verify_of};
 
 use crate::error::WordsError;
-use crate::options::{bound_in, machine_in, map_in};
+use crate::options::{bound_in, is_true, machine_in, map_in};
 use crate::request::Request;
 use crate::table::{CommandName, named};
 use crate::taking::take_command;
@@ -58,6 +58,62 @@ fn run<'a>(matches: &ArgMatches<'a>) -> Option<Request<'a>>
     })
 }
 
+fn run_own<'a>(matches: &ArgMatches<'a>) -> Option<Request<'a>>
+    ensures limits { IfSome result HasLimits }
+    ensures asks { (g : List Entry) → Holds (form_for CommandName.Run) g matches.now → option_map asked result ≡ run_own_of g }
+{
+    let file = matches.get_str("FILE")?;
+    let machine = machine_in(matches.get_str("machine"))?;
+    let bound = bound_in(matches.get_str("bound"))?;
+    let map = map_in(matches.get_str("map"))?;
+    let micro = matches.get_str("micro")?;
+    Some(Request::RunOwn {
+        file,
+        machine,
+        bound,
+        map,
+        micro,
+    })
+}
+
+fn trace<'a>(matches: &ArgMatches<'a>) -> Option<Request<'a>>
+    ensures limits { IfSome result HasLimits }
+    ensures asks { (g : List Entry) → Holds (form_for CommandName.Trace) g matches.now → option_map asked result ≡ trace_of g }
+{
+    let file = matches.get_str("FILE")?;
+    let machine = machine_in(matches.get_str("machine"))?;
+    let bound = bound_in(matches.get_str("bound"))?;
+    let map = map_in(matches.get_str("map"))?;
+    let micro = matches.get_str("micro");
+    let buses = is_true(matches.get_str("buses"));
+    Some(Request::Trace {
+        file,
+        machine,
+        bound,
+        map,
+        micro,
+        buses,
+    })
+}
+
+fn profile<'a>(matches: &ArgMatches<'a>) -> Option<Request<'a>>
+    ensures limits { IfSome result HasLimits }
+    ensures asks { (g : List Entry) → Holds (form_for CommandName.Profile) g matches.now → option_map asked result ≡ profile_of g }
+{
+    let file = matches.get_str("FILE")?;
+    let machine = machine_in(matches.get_str("machine"))?;
+    let bound = bound_in(matches.get_str("bound"))?;
+    let map = map_in(matches.get_str("map"))?;
+    let micro = matches.get_str("micro");
+    Some(Request::Profile {
+        file,
+        machine,
+        bound,
+        map,
+        micro,
+    })
+}
+
 fn reference<'a>(matches: &ArgMatches<'a>) -> Option<Request<'a>>
     ensures limits { IfSome result HasLimits }
     ensures asks { (g : List Entry) → Holds (form_for CommandName.Reference) g matches.now → option_map asked result ≡ reference_of g }
@@ -97,7 +153,7 @@ fn print_micro<'a>(matches: &ArgMatches<'a>) -> Option<Request<'a>>
     Some(Request::PrintMicro { file, machine })
 }
 
-/// What a command asks for; nothing where its work is not built yet, or that of a word behind it.
+/// What a command asks for; nothing where its work is not built yet.
 fn request_in<'a>(command: CommandName, matches: &ArgMatches<'a>) -> Option<Request<'a>>
     ensures limits { IfSome result HasLimits }
     ensures asks { (g : List Entry) → Holds (form_for command) g matches.now → option_map asked result ≡ asked_of command g }
@@ -106,10 +162,10 @@ fn request_in<'a>(command: CommandName, matches: &ArgMatches<'a>) -> Option<Requ
         CommandName::Assemble => assemble(matches),
         CommandName::List => list(matches),
         CommandName::Verify => verify(matches),
-        CommandName::Run if matches.get_str("micro").is_some() => None,
+        CommandName::Run if matches.get_str("micro").is_some() => run_own(matches),
         CommandName::Run => run(matches),
-        CommandName::Trace => None,
-        CommandName::Profile => None,
+        CommandName::Trace => trace(matches),
+        CommandName::Profile => profile(matches),
         CommandName::Debug => None,
         CommandName::Reference => reference(matches),
         CommandName::Micro => micro(matches),

@@ -24,6 +24,30 @@ pub enum Request<'a> {
         bound: u64,
         map: MemoryMap,
     },
+    /// A run with a person's own microprogram.
+    RunOwn {
+        file: &'a str,
+        machine: Machine,
+        bound: u64,
+        map: MemoryMap,
+        micro: &'a str,
+    },
+    /// Without a file of its own the microprogram that ships is clocked.
+    Trace {
+        file: &'a str,
+        machine: Machine,
+        bound: u64,
+        map: MemoryMap,
+        micro: Option<&'a str>,
+        buses: bool,
+    },
+    Profile {
+        file: &'a str,
+        machine: Machine,
+        bound: u64,
+        map: MemoryMap,
+        micro: Option<&'a str>,
+    },
     Reference {
         file: &'a str,
         machine: Machine,

@@ -318,21 +318,21 @@ run hello.jas --bound=1000000001|
 run F --machine mic3|
 run F --map=small|";
 
-/// Commands and options whose work comes later.
+/// Traces, profiles and own microprograms, and commands whose work comes later.
 const LATER: &str = "\
-run F --micro M|
-run F --micro=-|
-run F --micro M --machine mic2|
-run --bound 1 --micro M F|
+run F --micro M|run F mic1 10000000 standard M
+run F --micro=-|run F mic1 10000000 standard -
+run F --micro M --machine mic2|run F mic2 10000000 standard M
+run --bound 1 --micro M F|run F mic1 1 standard M
 trace|
-trace F|
-trace F --buses|
-trace --buses F|
+trace F|trace F mic1 10000000 standard - false
+trace F --buses|trace F mic1 10000000 standard - true
+trace --buses F|trace F mic1 10000000 standard - true
 trace F --buses=x|
-trace F --machine mic1 --bound 1 --micro M --map large --buses|
+trace F --machine mic1 --bound 1 --micro M --map large --buses|trace F mic1 1 large M true
 profile|
-profile F|
-profile F --machine mic1 --bound 1 --micro M --map large|
+profile F|profile F mic1 10000000 standard -
+profile F --machine mic1 --bound 1 --micro M --map large|profile F mic1 1 large M
 debug|
 debug F|
 debug F --machine mic1 --bound 1 --micro M --input I --map large|
@@ -390,6 +390,42 @@ fn shown(alloc: Global, request: Request<'_>) -> Result<String, AllocError> {
             let machine = machine_name(machine);
             let map = map_name(map);
             format!(in alloc; "run {file} {machine} {bound} {map}")
+        }
+        Request::RunOwn {
+            file,
+            machine,
+            bound,
+            map,
+            micro,
+        } => {
+            let machine = machine_name(machine);
+            let map = map_name(map);
+            format!(in alloc; "run {file} {machine} {bound} {map} {micro}")
+        }
+        Request::Trace {
+            file,
+            machine,
+            bound,
+            map,
+            micro,
+            buses,
+        } => {
+            let machine = machine_name(machine);
+            let map = map_name(map);
+            let micro = micro.unwrap_or("-");
+            format!(in alloc; "trace {file} {machine} {bound} {map} {micro} {buses}")
+        }
+        Request::Profile {
+            file,
+            machine,
+            bound,
+            map,
+            micro,
+        } => {
+            let machine = machine_name(machine);
+            let map = map_name(map);
+            let micro = micro.unwrap_or("-");
+            format!(in alloc; "profile {file} {machine} {bound} {map} {micro}")
         }
         Request::Reference {
             file,

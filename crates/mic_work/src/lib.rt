@@ -11,6 +11,6 @@ mod work;
 pub use answer::Answer;
 pub use parts::{addressed, line_of, number, numbered, of_line, signed, word};
 pub use reading::{no_memory, read_named};
-pub use said::{say, say_of};
+pub use said::{put_after, say, say_of};
 pub use status::Status;
 pub use work::carry_out;

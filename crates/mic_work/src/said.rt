@@ -10,7 +10,7 @@ use crate::status::Status;
 use mic_base::{Sink, SinkFailed};
 
 /// Puts a piece behind what was put, unless that failed.
-fn put_after<E: Sink>(
+pub fn put_after<E: Sink>(
     said: Result<(), SinkFailed>,
     err: &mut E,
     piece: &[u8],

@@ -45,7 +45,7 @@ fn of_line(number_of_line: u32, text: &str) -> Line
 }
 
 /// Why a text is no program, unless memory was wanting.
-pub(crate) fn mal_reason(error: MalError) -> Result<Line, AllocError>
+pub fn mal_reason(error: MalError) -> Result<Line, AllocError>
     ensures { result_ok result ≡ mal_reason error }
 {
     match error {
@@ -83,7 +83,7 @@ fn of_two_lines(first: u32, second: u32) -> Line
 }
 
 /// Why a program has no placement.
-pub(crate) fn place_reason(program: &MalProgram, error: PlaceError) -> Line
+pub fn place_reason(program: &MalProgram, error: PlaceError) -> Line
     requires { NamesStatements (length program.now.statements) error }
     ensures { result ≡ place_reason program.now.statements error }
 {

@@ -1,7 +1,7 @@
 use Rattle.std.proofs.Common.{Some, ap, refl, ◌∙◌}
 use Rattle.std.specs.Prelude.{option_map}
 use Rattle.machine_words.specs.declared.machine.Machine.TheVariants.{Mic1}
-use Rattle.mic_words.specs.Words.{asked, Assemble, ListOf, Micro, PrintMicro, Reference, Run, Verify}
+use Rattle.mic_words.specs.Words.{asked, Assemble, ListOf, Micro, PrintMicro, Profile, Reference, Run, RunOwn, Trace, Verify}
 use Rattle.mic_call.proofs.Asking.{asked_ends}
 use Rattle.mic_call.proofs.top_call.mic_main.Goals as goal
 
@@ -43,3 +43,24 @@ returns-in-Ok-PrintMicro-Some-default g c =
     asked_ends _ (Some (PrintMicro (Some p.file.now) p.machine)) _ _ _
     (p.ensures.asks ∙ (ap (λ request. Some (asked request)) p.field-0-is ∙ ap (λ file. Some (PrintMicro (option_map (λ f. f.now) file) p.machine)) p.field-0-0-is))
     (record { console = refl; ends = c.print_micro.ensures })
+
+pub returns-in-Ok-RunOwn-default-Mic1-default-default-default : goal.returns-in-Ok-RunOwn-default-Mic1-default-default-default
+returns-in-Ok-RunOwn-default-Mic1-default-default-default g c =
+    let r = c.in-Ok-RunOwn-default-Mic1-default-default-default in
+    asked_ends _ (Some (RunOwn r.file.now Mic1 r.bound r.map r.micro.now)) _ _ _
+    (r.ensures.asks ∙ (ap (λ request. Some (asked request)) r.field-0-is ∙ ap (λ machine. Some (RunOwn r.file.now machine r.bound r.map r.micro.now)) r.field-0-1-is))
+    c.run_own_file.ensures
+
+pub returns-in-Ok-Trace-default-Mic1-default-default-default-default : goal.returns-in-Ok-Trace-default-Mic1-default-default-default-default
+returns-in-Ok-Trace-default-Mic1-default-default-default-default g c =
+    let r = c.in-Ok-Trace-default-Mic1-default-default-default-default in
+    asked_ends _ (Some (Trace r.file.now Mic1 r.bound r.map (option_map (λ micro. micro.now) r.micro) r.buses)) _ _ _
+    (r.ensures.asks ∙ (ap (λ request. Some (asked request)) r.field-0-is ∙ ap (λ machine. Some (Trace r.file.now machine r.bound r.map (option_map (λ micro. micro.now) r.micro) r.buses)) r.field-0-1-is))
+    c.trace_file.ensures
+
+pub returns-in-Ok-Profile-default-Mic1-default-default-default : goal.returns-in-Ok-Profile-default-Mic1-default-default-default
+returns-in-Ok-Profile-default-Mic1-default-default-default g c =
+    let r = c.in-Ok-Profile-default-Mic1-default-default-default in
+    asked_ends _ (Some (Profile r.file.now Mic1 r.bound r.map (option_map (λ micro. micro.now) r.micro))) _ _ _
+    (r.ensures.asks ∙ (ap (λ request. Some (asked request)) r.field-0-is ∙ ap (λ machine. Some (Profile r.file.now machine r.bound r.map (option_map (λ micro. micro.now) r.micro))) r.field-0-1-is))
+    c.profile_file.ensures

@@ -1,0 +1,36 @@
+-- How the profile of an accepted program ends: what its run's boundaries count, and the report; or less, where a fault stopped it.
+use Rattle.std.specs.Prelude.{◌≡◌, ◌≢◌, ℕ, List, ◌++◌, Option, Some, None, length}
+use Rattle.mic_base.specs.Causes.{Rose}
+use Rattle.mic_clock.specs.declared.end.End.{End}
+use Rattle.mic_clock.specs.declared.end.End.TheVariants as ends
+use Rattle.mic_clock.specs.Meaning.{Meaning}
+use Rattle.mic_clock.specs.View.{BoardView}
+use Rattle.mic_clock.specs.Board.{HasEndCause}
+use Rattle.ijvm_paths.specs.Accepted.{VerifiedView}
+use Rattle.mal_parser.specs.Program.{Program}
+use Rattle.shipped_program.specs.declared.loaded.Loaded.{Loaded}
+use Rattle.watched_run.specs.declared.cycle.Cycle.{Cycle}
+use Rattle.watched_run.specs.Watched.{ShowsCycles}
+use Rattle.run_profile.specs.Rows.{AreRows}
+use Rattle.run_profile.specs.Profile.{profile_of, profile_text}
+use Rattle.mic_work.specs.Status as exits
+use Rattle.mic_work.specs.Messages.{out_of_memory}
+use Rattle.mic_work.specs.Outside.{Says, SinkState, SourceState}
+use Rattle.run_texts.specs.Ends.{status_of}
+use Rattle.board_commands.specs.Traced.{IsFirst, report_on}
+
+module _ {M State : Type 0} (state : M → State) (m : Meaning State) where
+  -- the run of this microprogram over an accepted program, profiled
+  pub data IsProfiled (micro : Program) (program : VerifiedView) (bound : ℕ)
+      (console console' : SourceState) (out out' err err' : SinkState) (status : ℕ) : Type 0 where
+    -- memory was wanting before the first cycle
+    NoRoom : console' ≡ console → out' ≡ out → Says err err' out_of_memory exits.memory status → IsProfiled micro program bound console console' out out' err err' status
+    -- the run came to its end, or the console or `out` failed and cut it: `err` has got its profile and its report
+    Whole : (l : Loaded) (first last : BoardView M) (cycles : List Cycle) (end : End) (rows : List ℕ) →
+        IsFirst state m micro l program first → ShowsCycles state m bound console.left out.held first console'.left out'.held last cycles (Some end) →
+        (end ≢ ends.WriteFault → last.end ≡ Some end) → HasEndCause console.faults console'.faults out.faults out'.faults None (Some end) →
+        AreRows program.image (length program.image.text) rows →
+        Says err err' (profile_text (profile_of rows cycles) end last.counts ++ report_on state m end last) (status_of end) status →
+        IsProfiled micro program bound console console' out out' err err' status
+    -- `err` failed before anything was put
+    Stopped : Rose err.faults err'.faults → status ≡ exits.sink → IsProfiled micro program bound console console' out out' err err' status

@@ -1,0 +1,88 @@
+-- From the reset of a Mic-2 to its first boundary.
+use Rattle.std.proofs.Common.{◌≡◌, ℕ, zero, suc, ◌+◌, ◌-◌, ◌<◌, Option, Some, None, List, [], ◌∷◌, length, replicate, refl, arith, sym, ◌∙◌, ap}
+use Rattle.std.specs.Prelude.{slice_get, slice_index}
+use Rattle.std.proofs.lemmas.List.{length-replicate, append-nil}
+use Rattle.machine_words.specs.Arithmetic.{plus, wrap}
+use Rattle.console_port.specs.World.{World, byte_in}
+use Rattle.mic_clock.specs.Run.{MicroRun, start_run}
+use Rattle.mic2_fetch_unit.specs.FetchUnit.{at_start}
+use Rattle.mic2_datapath.specs.Micro.{Micro}
+use Rattle.mic2_datapath.specs.Mic2.{mic2_meaning}
+use Rattle.ijvm_run.specs.Frames.{start_of}
+use Rattle.mic2_interpreter.specs.Stands.{Stands}
+use Rattle.mic2_interpreter.specs.Stalls.{BootsWithStall}
+use Rattle.mic2_interpreter.proofs.Shipped.{HasStatements}
+use Rattle.mic2_interpreter.proofs.Accesses.{IsMap}
+use Rattle.mic2_interpreter.proofs.Units.{unit_at}
+use Rattle.mic2_interpreter.proofs.Queue.{Jumped, Goes, Waits}
+use Rattle.mic2_interpreter.proofs.Guided.{Short, moment_of, clocked, Arrives, IsSmooth, pass-clocked}
+use Rattle.mic2_interpreter.proofs.Boundaries.{Comes, at_boundary, stands_at, map_of, Place, place_at, place_on}
+use Rattle.ijvm_simulation.specs.Stands.{Origin, IsMemory}
+use Rattle.ijvm_simulation.specs.Passes.{Moment, pass}
+use Rattle.ijvm_simulation.specs.Law.{Boots, reset_moment}
+use Rattle.ijvm_simulation.specs.Verified.{Loads}
+use Rattle.ijvm_paths.specs.Accepted.{VerifiedView}
+
+zero_locals : (n k v : ℕ) → slice_get (replicate n (Some 0)) k ≡ Some (Some v) → (k < n) × (0 ≡ v)
+zero_locals zero k v e = absurd (cc)
+zero_locals (suc n) zero v e = (omega arith, cc)
+zero_locals (suc n) (suc k) v e = let h = zero_locals n k v e in (omega (arith, h.0), h.1)
+
+unit_starts : (words : List ℕ) → at_start (slice_index words 0) ≡ unit_at words 0 0
+unfolding unit_at
+unit_starts words = refl
+
+module _ (program : List ℕ) (has : HasStatements program) (o : Origin) (v : VerifiedView) (loads : Loads v o) (input : List ℕ) where
+  abbrev start : Moment Micro
+  start = reset_moment mic2_meaning 0x002 v.main_locals o input
+
+  -- the reset as a symbolic state
+  abbrev reset : Short
+  reset = record { state = start.state; queue = Jumped; world = start.world; stalls = 0 }
+
+  starts : start ≡ moment_of o.words reset 0
+  starts = λ i. record { state = record start.state { unit = unit_starts o.words i }; world = start.world; stalls = 0 }
+
+  -- one stall, for the first word of the text
+  pub boot : Comes program o 1 1 start (start_of v.main_locals input)
+  boot =
+      let map : IsMap (length o.words) = map_of v o loads in
+      let p0 : Place o.words 0 0 = place_at o.words 0 0 refl (omega arith) in
+      let p1 : Place o.words (plus 0 1) 1 = place_on o.words 0 0 1 1 p0 (omega arith) (omega arith) in
+      let memory : IsMemory o.words o.words = record { kept = λ a l. refl; long = refl } in
+      let len : length (replicate {A = Option ℕ} v.main_locals (Some 0)) ≡ v.main_locals = length-replicate {A = Option ℕ} v.main_locals (Some 0) in
+      let smooth : IsSmooth o.words (Waits ∷ Goes ∷ []) (byte_in o.words 0 ∷ []) reset = assumption in
+      let t : Short = clocked o.words (Waits ∷ Goes ∷ []) (byte_in o.words 0 ∷ []) reset in
+      let a : Arrives o.words (pass mic2_meaning program 1 (moment_of o.words reset 0)) t = pass-clocked program has o.words map.low Waits (Goes ∷ []) (byte_in o.words 0 ∷ []) reset 0 memory refl smooth in
+      record {
+        to = moment_of o.words t a.have;
+        passes = ap (pass mic2_meaning program 1) starts ∙ a.is;
+        stands = stands_at o (start_of v.main_locals input) t a.have
+            (at_boundary o _ _ _
+            (record {
+              sp_is = omega arith;
+              lv_is = refl;
+              cpp_is = refl;
+              tos_is = tt;
+              frames = (record { locals = λ k x e. let z = zero_locals v.main_locals k x e in loads.zeros k z.0 ∙ z.1; operands = tt; linked = tt }, tt);
+              memory = memory;
+              fits = omega (arith, loads.accepted.main_fits, loads.long);
+              untaken = refl;
+              given = sym (append-nil o.given);
+            })
+            p1.is (omega arith) refl refl refl refl refl)
+            a.held;
+        stalls = refl;
+      }
+
+  pub boots : BootsWithStall program o v input
+  boots =
+      let c : Comes program o 1 1 start (start_of v.main_locals input) = boot in
+      record {
+        moves = record { n = 1; spent_is = refl; short = omega arith; begins = record { no_halt = refl; no_err = refl }; there = c.to; passes = c.passes; stands = c.stands };
+        stalled = c.stalls;
+      }
+
+  -- a reset is no boundary
+  pub boots_off : Boots mic2_meaning program (Stands o) o.given start (start_of v.main_locals input)
+  boots_off = record { off = refl; moves = boots.moves }

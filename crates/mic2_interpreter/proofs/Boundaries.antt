@@ -1,0 +1,248 @@
+-- Mic-2 between two boundaries: what it knows at the one, and when a symbolic run comes to the next.
+use Rattle.std.proofs.Common.{◌≡◌, ℕ, zero, suc, ◌+◌, ◌*◌, ◌<◌, ◌≤◌, ◌++◌, Some, None, true, false, List, [], ◌∷◌, length, arith, ◌∙◌, ap, ap₂, sym, subst, inl, inr, refl, add-zero}
+use Rattle.std.specs.Prelude.{nat_lt, nat_le, ◌==◌}
+use Rattle.std.proofs.lemmas.Bool.Decides.{nat_tests}
+use Rattle.console_port.specs.World.{World, StackLimit, byte_in}
+use Rattle.machine_words.specs.Arithmetic.{wrap, plus, before, signed_pair}
+use Rattle.ijvm_run.specs.Frames.{State}
+use Rattle.datapath.specs.Memory.{memory_refusal}
+use Rattle.mic2_fetch_unit.specs.FetchUnit.{Prefetch}
+use Rattle.mic2_fetch_unit.specs.Place.{StandsAt}
+use Rattle.mic2_datapath.specs.Micro.{Micro}
+use Rattle.mic2_datapath.specs.Microstep.{demand}
+use Rattle.mic2_datapath.specs.Mic2.{mic2_meaning}
+use Rattle.machine_words.specs.declared.machine.Machine.TheVariants.{Mic2}
+use Rattle.ijvm_instr.specs.declared.instr.Instr.{Instr}
+use Rattle.ijvm_run.specs.Cost.{cost}
+use Rattle.ijvm_paths.specs.Accepted.{VerifiedView}
+use Rattle.ijvm_simulation.specs.Verified.{Loads}
+use Rattle.mic2_interpreter.specs.Stands.{Stands}
+use Rattle.mic2_interpreter.specs.Stalls.{MovesWithStalls}
+use Rattle.mic2_interpreter.proofs.Shipped.{shipped, HasStatements}
+use Rattle.mic2_interpreter.proofs.Units.{unit_at}
+use Rattle.mic2_interpreter.proofs.Queue.{Held, AtLeast, IsHeld, Bounds, is_enough, Beat, Goes}
+use Rattle.mic2_interpreter.proofs.Places.{unit_there, bounds_there, stands_there, many_there}
+use Rattle.mic2_interpreter.proofs.Guided.{Short, standing, moment_of, settled_by, text_result, clocked, IsSmooth, Arrives, pass-clocked, outcome_is, step-refused}
+use Rattle.mic2_interpreter.proofs.Accesses.{IsMap, wrap_small, before_is}
+use Rattle.ijvm_simulation.specs.Stands.{Origin, Holds, IsMemory}
+use Rattle.ijvm_simulation.specs.Passes.{Moment, is_inside, pass}
+use Rattle.ijvm_simulation.specs.Law.{Shows, HasWord, Overruns}
+
+-- so many steps, none of which stalls
+abbrev pub steps : ℕ → List Beat
+steps zero = []
+steps (suc n) = Goes ∷ steps n
+
+-- the symbolic state at the first word of this opcode, with nothing under way
+abbrev pub at_opcode : ℕ → Micro → World → ℕ → Short
+at_opcode code m w stalls = record { state = record m { mpc = code; word = None; begins = true }; queue = AtLeast 2; world = w; stalls = stalls }
+
+module _ (o : Origin) (s : State) (m : Micro) (w : World) (stalls : ℕ) (h : Stands o s m w) where
+  -- the bytes in the queue
+  abbrev many : ℕ
+  many = length m.unit.bytes
+
+  unit_is : m.unit ≡ unit_at o.words m.pc many
+  unit_is = unit_there o.words (s.at + 1) m.unit h.ready.unit ∙ ap (λ (p : ℕ). unit_at o.words p many) (sym h.ready.pc)
+
+  pub starts : (code : ℕ) → byte_in o.words s.at ≡ code → record { state = m; world = w; stalls = stalls } ≡ moment_of o.words (at_opcode code m w stalls) many
+  starts code e =
+      λ i. record { state = record m { mpc = (h.ready.mpc ∙ e) i; word = h.ready.word i; unit = unit_is i; begins = h.ready.begins i }; world = w; stalls = stalls }
+
+  pub starts_held : Bounds 2 m.pc many
+  starts_held = subst (λ (p : ℕ). Bounds 2 p many) (sym h.ready.pc) (bounds_there o.words (s.at + 1) m.unit h.ready.unit h.ready.two)
+
+-- n + 1 microsteps, of which so many stall, come to the next boundary, which stands for this state
+pub record Comes (program : List ℕ) (o : Origin) (n waits : ℕ) (p : Moment Micro) (s : State) : Type 0 where
+  pub to : Moment Micro
+  pub passes : pass mic2_meaning program n p ≡ Some to
+  pub stands : Stands o s to.state to.world
+  pub stalls : to.stalls ≡ p.stalls + waits
+
+-- a symbolic state at a boundary that stands for this state
+pub record IsThere (o : Origin) (s : State) (t : Short) : Type 0 where
+  pub holds : Holds o s t.state.sp t.state.lv t.state.cpp t.state.tos t.world
+  pub pc : t.state.pc ≡ s.at + 1
+  pub near : s.at < 0x1FE00
+  pub mpc : t.state.mpc ≡ byte_in o.words s.at
+  pub word : t.state.word ≡ None
+  pub begins : t.state.begins ≡ true
+  pub least : ℕ
+  pub queue : t.queue ≡ AtLeast least
+  pub two : nat_le 2 least ≡ true
+
+pub stands_at : (o : Origin) (s : State) (t : Short) (have : ℕ) → IsThere o s t → IsHeld t.queue t.state.pc have → Stands o s (standing o.words t.state have) t.world
+stands_at o s t have there held =
+    let b : Bounds there.least t.state.pc have = subst (λ (q : Held). IsHeld q t.state.pc have) there.queue held in
+    let test : nat_le 2 there.least ≡ true = there.two in
+    let l : 2 ≤ there.least = grind (arith, nat_tests) in
+    let two : Bounds 2 t.state.pc have = record { least = omega (arith, b.least); few = b.few; aligned = b.aligned } in
+    let long : length (unit_at o.words t.state.pc have).bytes ≡ have = many_there o.words t.state.pc have in
+    record {
+      holds = there.holds;
+      ready = record {
+        pc = there.pc;
+        low = omega (arith, there.near, there.pc);
+        mpc = there.mpc;
+        unit = subst (λ (p : ℕ). StandsAt o.words p (unit_at o.words t.state.pc have)) there.pc (stands_there o.words t.state.pc have two);
+        two = omega (arith, two.least);
+        begins = there.begins;
+        word = there.word;
+      };
+    }
+
+pub comes : (program : List ℕ) (has : HasStatements program) (o : Origin) (map : IsMap (length o.words)) (b : Beat) (bs : List Beat) (gs : List ℕ) (m : Micro) (w : World) (k code waits : ℕ) (s s' : State) →
+    Stands o s m w → byte_in o.words s.at ≡ code → IsSmooth o.words (b ∷ bs) gs (at_opcode code m w k) → IsThere o s' (clocked o.words (b ∷ bs) gs (at_opcode code m w k)) →
+    (clocked o.words (b ∷ bs) gs (at_opcode code m w k)).stalls ≡ k + waits →
+    Comes program o (length bs) waits (record { state = m; world = w; stalls = k }) s'
+comes program has o map b bs gs m w k code waits s s' h is smooth there stalls =
+    let a : Arrives o.words (pass mic2_meaning program (length bs) (moment_of o.words (at_opcode code m w k) (length m.unit.bytes))) (clocked o.words (b ∷ bs) gs (at_opcode code m w k)) =
+    pass-clocked program has o.words map.low b bs gs (at_opcode code m w k) (length m.unit.bytes) h.holds.memory (starts_held o s m w k h) smooth in
+    record {
+      to = moment_of o.words (clocked o.words (b ∷ bs) gs (at_opcode code m w k)) a.have;
+      passes = ap (pass mic2_meaning program (length bs)) (starts o s m w k h code is) ∙ a.is;
+      stands = stands_at o s' (clocked o.words (b ∷ bs) gs (at_opcode code m w k)) a.have there a.held;
+      stalls = stalls;
+    }
+
+-- a place of the text: a number of the machine is this address, and the bytes there
+pub record Place (words : List ℕ) (x a : ℕ) : Type 0 where
+  pub is : x ≡ a
+  pub near : x < 0x1FF00
+  pub byte : byte_in words x ≡ byte_in words a
+  pub second : byte_in words (x + 1) ≡ byte_in words (a + 1)
+
+pub place_at : (words : List ℕ) (x a : ℕ) → x ≡ a → a < 0x1FF00 → Place words x a
+place_at words x a e l =
+    let on : x + 1 ≡ a + 1 = omega arith in
+    record { is = e; near = omega arith; byte = ap (byte_in words) e; second = ap (byte_in words) on }
+
+-- so many bytes behind
+pub place_on : (words : List ℕ) (x a d b : ℕ) → Place words x a → a + d ≡ b → b < 0x1FF00 → Place words (plus x d) b
+place_on words x a d b p e l = place_at words (plus x d) b (wrap_small (x + d) (omega (arith, p.is)) ∙ omega (arith, p.is)) l
+
+-- PC, and what it becomes as bytes are taken
+pub record Counts (o : Origin) (s : State) (m : Micro) : Type 0 where
+  pub p0 : Place o.words m.pc (s.at + 1)
+  pub p1 : Place o.words (plus m.pc 1) (s.at + 2)
+  pub p2 : Place o.words (plus m.pc 2) (s.at + 3)
+  pub p11 : Place o.words (plus (plus m.pc 1) 1) (s.at + 3)
+  pub p111 : Place o.words (plus (plus (plus m.pc 1) 1) 1) (s.at + 4)
+  pub p21 : Place o.words (plus (plus m.pc 2) 1) (s.at + 4)
+  pub p12 : Place o.words (plus (plus m.pc 1) 2) (s.at + 4)
+  pub p121 : Place o.words (plus (plus (plus m.pc 1) 2) 1) (s.at + 5)
+  pub p122 : Place o.words (plus (plus (plus m.pc 1) 2) 2) (s.at + 6)
+  pub p1221 : Place o.words (plus (plus (plus (plus m.pc 1) 2) 2) 1) (s.at + 7)
+
+pub counts : (o : Origin) (s : State) (m : Micro) (w : World) → Stands o s m w → s.at < 0x10000 → Counts o s m
+counts o s m w h inside =
+    let p0 : Place o.words m.pc (s.at + 1) = place_at o.words m.pc (s.at + 1) h.ready.pc (omega arith) in
+    let p1 : Place o.words (plus m.pc 1) (s.at + 2) = place_on o.words m.pc (s.at + 1) 1 (s.at + 2) p0 (omega arith) (omega arith) in
+    let p2 : Place o.words (plus m.pc 2) (s.at + 3) = place_on o.words m.pc (s.at + 1) 2 (s.at + 3) p0 (omega arith) (omega arith) in
+    let p11 : Place o.words (plus (plus m.pc 1) 1) (s.at + 3) = place_on o.words (plus m.pc 1) (s.at + 2) 1 (s.at + 3) p1 (omega arith) (omega arith) in
+    let p12 : Place o.words (plus (plus m.pc 1) 2) (s.at + 4) = place_on o.words (plus m.pc 1) (s.at + 2) 2 (s.at + 4) p1 (omega arith) (omega arith) in
+    let p122 : Place o.words (plus (plus (plus m.pc 1) 2) 2) (s.at + 6) = place_on o.words (plus (plus m.pc 1) 2) (s.at + 4) 2 (s.at + 6) p12 (omega arith) (omega arith) in
+    record {
+      p0 = p0;
+      p1 = p1;
+      p2 = p2;
+      p11 = p11;
+      p111 = place_on o.words (plus (plus m.pc 1) 1) (s.at + 3) 1 (s.at + 4) p11 (omega arith) (omega arith);
+      p21 = place_on o.words (plus m.pc 2) (s.at + 3) 1 (s.at + 4) p2 (omega arith) (omega arith);
+      p12 = p12;
+      p121 = place_on o.words (plus (plus m.pc 1) 2) (s.at + 4) 1 (s.at + 5) p12 (omega arith) (omega arith);
+      p122 = p122;
+      p1221 = place_on o.words (plus (plus (plus m.pc 1) 2) 2) (s.at + 6) 1 (s.at + 7) p122 (omega arith) (omega arith);
+    }
+
+-- a symbolic state at a boundary, by what the machine has beside what it holds
+pub at_boundary : (o : Origin) (s : State) (t : Short) (least : ℕ) → Holds o s t.state.sp t.state.lv t.state.cpp t.state.tos t.world →
+    t.state.pc ≡ s.at + 1 → s.at < 0x1FE00 → t.state.mpc ≡ byte_in o.words s.at → t.state.word ≡ None → t.state.begins ≡ true → t.queue ≡ AtLeast least → nat_le 2 least ≡ true → IsThere o s t
+at_boundary o s t least holds pc near mpc word begins queue two =
+    record { holds = holds; pc = pc; near = near; mpc = mpc; word = word; begins = begins; least = least; queue = queue; two = two }
+
+-- what a Mic-2 shows at a boundary
+pub shows : (program : List ℕ) (o : Origin) (s : State) (m : Micro) (w : World) → Stands o s m w → Shows mic2_meaning program (Stands o) o.given s m w
+shows program o s m w h =
+    record {
+      boundary = h.ready.begins;
+      address = before_is m.pc s.at h.ready.pc h.ready.low;
+      sp = omega (arith, h.holds.sp_is);
+      lv = h.holds.lv_is;
+      untaken = h.holds.untaken;
+      given = h.holds.given;
+    }
+
+-- a verified image's memory ends where a map has it
+pub map_of : (v : VerifiedView) (o : Origin) → Loads v o → IsMap (length o.words)
+map_of v o loads = elim loads.accepted.map_is [
+  | inl e ↦ let long : length o.words ≡ v.map.stack_end = loads.long in record { low = omega (arith, e); high = omega (arith, e); near = omega (arith, e) }
+  | inr e ↦ let long : length o.words ≡ v.map.stack_end = loads.long in record { low = omega (arith, e); high = omega (arith, e); near = omega (arith, e) }
+]
+
+-- no instruction but HALT and ERR begins at an end
+pub begins : (o : Origin) (s : State) (m : Micro) (w : World) (code : ℕ) → Stands o s m w → byte_in o.words s.at ≡ code → (code == 255) ≡ false → (code == 254) ≡ false → HasWord mic2_meaning m
+begins o s m w code h is no_halt no_err =
+    let e : m.mpc ≡ code = h.ready.mpc ∙ is in
+    record { no_halt = ap (λ (k : ℕ). k == 255) e ∙ no_halt; no_err = ap (λ (k : ℕ). k == 254) e ∙ no_err }
+
+module _ (program : List ℕ) (o : Origin) (v : VerifiedView) where
+  -- a pass to the next boundary, where it takes the instruction's cycles
+  pub moves : (s to a : State) (q : Moment Micro) (i : Instr) (n waits code : ℕ) → Stands o s q.state q.world → byte_in o.words s.at ≡ code → (code == 255) ≡ false → (code == 254) ≡ false →
+      cost v.image Mic2 i s ≡ n + 1 → n < 1024 → a ≡ to → Comes program o n waits q a → MovesWithStalls program o q (cost v.image Mic2 i s) waits to
+  moves s to a q i n waits code h is no_halt no_err spent short same c =
+      record {
+        moves = record {
+          n = n;
+          spent_is = spent;
+          short = short;
+          begins = begins o s q.state q.world code h is no_halt no_err;
+          there = c.to;
+          passes = c.passes;
+          stands = subst (λ (t : State). Stands o t c.to.state c.to.world) same c.stands;
+        };
+        stalled = c.stalls;
+      }
+
+-- the next step of a symbolic state does not stall, and its access is refused
+abbrev pub IsFull : Origin → Short → ℕ → Type 0
+IsFull o t x =
+    let s = shipped t.state.mpc in
+    (is_enough (demand s) t.queue ≡ true)
+    × (memory_refusal (length o.words) s.part.mem (settled_by s (text_result o.words s.part t.state) t.state).mar ≡ Some (StackLimit x))
+
+-- some steps of a symbolic run, and then a write that is refused
+pub overruns : (program : List ℕ) (has : HasStatements program) (o : Origin) (map : IsMap (length o.words)) (s left : State) (q : Moment Micro) (b : Beat) (bs : List Beat) (gs : List ℕ) (code x : ℕ) →
+    Stands o s q.state q.world → byte_in o.words s.at ≡ code → (code == 255) ≡ false → (code == 254) ≡ false → length bs < 1023 →
+    IsSmooth o.words (b ∷ bs) gs (at_opcode code q.state q.world q.stalls) →
+    is_inside mic2_meaning (clocked o.words (b ∷ bs) gs (at_opcode code q.state q.world q.stalls)).state ≡ true →
+    nat_lt (clocked o.words (b ∷ bs) gs (at_opcode code q.state q.world q.stalls)).state.mpc 512 ≡ true →
+    IsFull o (clocked o.words (b ∷ bs) gs (at_opcode code q.state q.world q.stalls)) x →
+    (clocked o.words (b ∷ bs) gs (at_opcode code q.state q.world q.stalls)).world.untaken ≡ left.untaken →
+    (clocked o.words (b ∷ bs) gs (at_opcode code q.state q.world q.stalls)).world.given ≡ o.given ++ left.given →
+    Overruns mic2_meaning program (Stands o) o.given q left
+overruns program has o map s left q b bs gs code x h is no_halt no_err short smooth inside low full untaken given =
+    let t : Short = clocked o.words (b ∷ bs) gs (at_opcode code q.state q.world q.stalls) in
+    let a : Arrives o.words (pass mic2_meaning program (length bs) (moment_of o.words (at_opcode code q.state q.world q.stalls) (length q.state.unit.bytes))) t =
+    pass-clocked program has o.words map.low b bs gs (at_opcode code q.state q.world q.stalls) (length q.state.unit.bytes) h.holds.memory (starts_held o s q.state q.world q.stalls h) smooth in
+    record {
+      n = length bs;
+      short = short;
+      begins = begins o s q.state q.world code h is no_halt no_err;
+      there = moment_of o.words t a.have;
+      passes = ap (pass mic2_meaning program (length bs)) (starts o s q.state q.world q.stalls h code is) ∙ a.is;
+      inside = inside;
+      at = x;
+      refused = outcome_is program has o.words map.low (moment_of o.words t a.have) (grind (arith, nat_tests))
+          ∙ step-refused o.words (shipped t.state.mpc) t a.have (StackLimit x) a.memory a.held full.0 full.1;
+      untaken = untaken;
+      given = given;
+    }
+
+-- the number that the two bytes at a place make
+pub pair_at : (words : List ℕ) (x a b : ℕ) → Place words x a → a + 1 ≡ b → 256 * byte_in words x + byte_in words (x + 1) ≡ 256 * byte_in words a + byte_in words b
+pair_at words x a b p e = ap₂ (λ (i : ℕ) (j : ℕ). 256 * i + j) p.byte (p.second ∙ ap (byte_in words) e)
+
+-- and the signed one
+pub signed_pair_at : (words : List ℕ) (x a b : ℕ) → Place words x a → a + 1 ≡ b → signed_pair (byte_in words x) (byte_in words (x + 1)) ≡ signed_pair (byte_in words a) (byte_in words b)
+signed_pair_at words x a b p e = ap₂ signed_pair p.byte (p.second ∙ ap (byte_in words) e)

@@ -1,0 +1,524 @@
+-- Calls and returns.
+use Rattle.std.proofs.Common.{◌≡◌, ℕ, zero, suc, ◌+◌, ◌-◌, ◌*◌, ◌<◌, ◌≤◌, Bool, true, false, Some, None, Option, List, [], ◌∷◌, ◌++◌, length, take, drop, replicate, ◌==◌, ◌%◌, refl, arith, sym, ◌∙◌, ap, ap₂, subst, inl, inr, add-zero, length-set, length-append, get_or-set_same}
+use Rattle.std.specs.Prelude.{slice_index, slice_set, slice_get, bit_or, nat_lt, if◌then◌else◌}
+use Rattle.std.proofs.lemmas.Bool.Decides.{nat_tests}
+use Rattle.std.proofs.lemmas.Bool.{cases_lt, cases_Bool}
+use Rattle.std.proofs.lemmas.List.{length-replicate}
+use Rattle.std.proofs.lemmas.Option.{get_or_from_slice_get}
+use Rattle.machine_words.specs.declared.machine.Machine.TheVariants.{Mic2}
+use Rattle.machine_words.specs.Arithmetic.{wrap, plus, minus, next}
+use Rattle.console_port.specs.World.{World, Refusal, StackLimit, read_value, after_read, byte_in, write_refusal}
+use Rattle.ijvm_instr.specs.declared.instr.Instr.{Instr}
+use Rattle.ijvm_instr.specs.declared.instr.Instr.TheVariants.{Ireturn, Invokevirtual}
+use Rattle.ijvm_image.specs.declared.method.Method.{Method}
+use Rattle.ijvm_image.specs.Image.{params, others, method_at}
+use Rattle.ijvm_run.specs.Frames.{Frame, State, frames_of, base, operands_at, kept_words}
+use Rattle.ijvm_run.specs.Cost.{cost}
+use Rattle.ijvm_run.specs.Step.{onto, called, in_method}
+use Rattle.ijvm_paths.specs.Accepted.{VerifiedView}
+use Rattle.mic2_datapath.specs.Micro.{Micro}
+use Rattle.mic2_datapath.specs.Mic2.{mic2_meaning}
+use Rattle.ijvm_simulation.specs.Stands.{Origin, OperandsAt, IsLinked, FramesStand, IsMemory, caller_lv}
+use Rattle.ijvm_simulation.specs.Passes.{Moment}
+use Rattle.ijvm_simulation.specs.Outcomes.{Went, Overran}
+use Rattle.ijvm_simulation.specs.Verified.{Loads, Fine, IsNext}
+use Rattle.ijvm_simulation.specs.Law.{Overruns}
+use Rattle.mic2_interpreter.specs.Stands.{Stands}
+use Rattle.mic2_interpreter.specs.Stalls.{MovesWithStalls, TakesWithStalls, stalls_of}
+use Rattle.mic2_interpreter.specs.Groups.{IsCall}
+use Rattle.mic2_interpreter.proofs.Shipped.{HasStatements}
+use Rattle.mic2_interpreter.proofs.Accesses.{IsMap, Access, access, next_is, write_limit, plus_is, minus_is, byte_bound, given_ok}
+use Rattle.mic2_interpreter.proofs.Keeps.{get_below, set_same, read_other, frames_below, pushed, memory_set, frames_at, memory_at}
+use Rattle.mic2_interpreter.proofs.Facts.{with_operands, place, base_above, Top, top}
+use Rattle.mic2_interpreter.proofs.Queue.{Beat, Goes, Waits, WaitsLate, WaitsOn}
+use Rattle.mic2_interpreter.proofs.Boundaries.{Comes, comes, steps, Counts, counts, Place, place_at, place_on, pair_at, at_boundary, map_of, moves, overruns}
+
+-- what a method's frame says of the words below its operands
+link_of : (words : List ℕ) (lv many caller r : ℕ) (back : Option ℕ) → back ≡ Some r → IsLinked words lv many caller back → IsLinked words lv many caller (Some r)
+link_of words lv many caller r back e h = subst (λ (b : Option ℕ). IsLinked words lv many caller b) e h
+
+-- words that locals name
+abbrev LocalsAt : List ℕ → ℕ → List (Option ℕ) → Type 0
+LocalsAt words a xs = (k v : ℕ) → slice_get xs k ≡ Some (Some v) → slice_index words (a + k) ≡ v
+
+none_at : (words : List ℕ) (a more : ℕ) → LocalsAt words a (replicate more None)
+none_at words a zero k v e = absurd (cc)
+none_at words a (suc more) zero v e = absurd (cc)
+none_at words a (suc more) (suc k) v e = absurd (none_there more k v e)
+  where
+    none_there : (i j u : ℕ) → slice_get (replicate i None) j ≡ Some (Some u) → ⊥
+    none_there zero j u e = cc
+    none_there (suc i) zero u e = cc
+    none_there (suc i) (suc j) u e = none_there i j u e
+
+some_some : {x y : Option ℕ} → Some x ≡ Some y → x ≡ y
+some_some e = cc
+
+cons_at : (words : List ℕ) (a : ℕ) (x : Option ℕ) (xs : List (Option ℕ)) → ((v : ℕ) → x ≡ Some v → slice_index words a ≡ v) → LocalsAt words (a + 1) xs → LocalsAt words a (x ∷ xs)
+cons_at words a x xs first h zero v e = rw add-zero (first v (some_some e))
+cons_at words a x xs first h (suc k) v e = let same : a + suc k ≡ a + 1 + k = omega arith in ap (slice_index words) same ∙ h k v e
+
+some_same : (x y : ℕ) → Some x ≡ Some y → x ≡ y
+some_same x y e = cc
+
+-- the arguments on the stack are the parameters in their places
+onto_at : (words : List ℕ) (b : ℕ) (ps tail : List ℕ) (xs : List (Option ℕ)) → OperandsAt words b (ps ++ tail) → LocalsAt words (b + length (ps ++ tail)) xs →
+    LocalsAt words (b + length tail) (onto ps xs)
+onto_at words b [] tail xs o h = h
+onto_at words b (p ∷ ps) tail xs o h = onto_at words b ps tail (Some p ∷ xs) o.1
+    (cons_at words (b + length (ps ++ tail)) (Some p) xs (λ v e. o.0 ∙ some_same p v e)
+    (λ k v e. let same : b + length (ps ++ tail) + 1 + k ≡ b + length (p ∷ (ps ++ tail)) + k = omega arith in ap (slice_index words) same ∙ h k v e))
+
+length-onto : (ps : List ℕ) (xs : List (Option ℕ)) → length (onto ps xs) ≡ length ps + length xs
+length-onto [] xs = omega arith
+length-onto (p ∷ ps) xs = let e : length (onto ps (Some p ∷ xs)) ≡ length ps + length (Some p ∷ xs) = length-onto ps (Some p ∷ xs) in omega arith
+
+none_some : (v : ℕ) → ◌≡◌ {A = Option ℕ} None (Some v) → ⊥
+none_some v e = cc
+
+-- the operands below the last ones
+dropped : (words : List ℕ) (b : ℕ) (ps tail : List ℕ) → OperandsAt words b (ps ++ tail) → OperandsAt words b tail
+dropped words b [] tail h = h
+dropped words b (p ∷ ps) tail h = dropped words b ps tail h.1
+
+locals_below : (words : List ℕ) (lv a v : ℕ) (xs : List (Option ℕ)) → lv + length xs ≤ a → LocalsAt words lv xs → LocalsAt (slice_set words a v) lv xs
+locals_below words lv a v xs le h k u e = let l : k < length xs = get_below xs k (Some u) e in read_other words a (lv + k) v (inl (omega arith)) ∙ h k u e
+
+locals_at_link : (words : List ℕ) (lv v : ℕ) (xs : List (Option ℕ)) → LocalsAt words lv (None ∷ xs) → LocalsAt (slice_set words lv v) lv (None ∷ xs)
+locals_at_link words lv v xs h zero u e = absurd (none_some u (some_some e))
+locals_at_link words lv v xs h (suc k) u e = read_other words lv (lv + suc k) v (inr (omega arith)) ∙ h (suc k) u e
+
+-- the three words that a call writes
+abbrev linked_words : List ℕ → ℕ → ℕ → ℕ → ℕ → List ℕ
+linked_words words lv many r caller = slice_set (slice_set (slice_set words lv (lv + many)) (lv + many) r) (lv + many + 1) caller
+
+entered : (words : List ℕ) (ps : List ℕ) (o : ℕ) (rest : List ℕ) (more r : ℕ) (f : Frame) (fs : List Frame) →
+    base (record f { operands = rest } ∷ fs) + length ps + 1 + more + 1 < length words → f.operands ≡ ps ++ o ∷ rest → FramesStand words (f ∷ fs) →
+    FramesStand (linked_words words (base (record f { operands = rest } ∷ fs)) (length ps + 1 + more) r (base fs))
+    (called ps more r ∷ record f { operands = rest } ∷ fs)
+entered words ps o rest more r f fs room ops h =
+    let g : Frame = record f { operands = rest } in
+    let lv : ℕ = base (g ∷ fs) in
+    let many : ℕ = length ps + 1 + more in
+    let locals : List (Option ℕ) = None ∷ onto ps (replicate more None) in
+    let m1 : List ℕ = slice_set words lv (lv + many) in
+    let m2 : List ℕ = slice_set m1 (lv + many) r in
+    let m3 : List ℕ = slice_set m2 (lv + many + 1) (base fs) in
+    let len1 : length m1 ≡ length words = length-set words lv (lv + many) in
+    let len2 : length m2 ≡ length m1 = length-set m1 (lv + many) r in
+    let all : OperandsAt words (operands_at (base fs) f) (ps ++ o ∷ rest) = subst (λ (k : List ℕ). OperandsAt words (operands_at (base fs) f) k) ops h.0.operands in
+    let lower : OperandsAt words (operands_at (base fs) f) rest = (dropped words (operands_at (base fs) f) ps (o ∷ rest) all).1 in
+    let params_at : LocalsAt words (operands_at (base fs) f + length (o ∷ rest)) (onto ps (replicate more None)) =
+    onto_at words (operands_at (base fs) f) ps (o ∷ rest) (replicate more None) all (none_at words _ more) in
+    let own : LocalsAt words lv locals =
+    cons_at words lv None (onto ps (replicate more None)) (λ v e. absurd (none_some v e))
+    (λ k v e. let same : lv + 1 + k ≡ operands_at (base fs) f + length (o ∷ rest) + k = omega arith in ap (slice_index words) same ∙ params_at k v e) in
+    let len : length locals ≡ many = omega (arith, length-onto ps (replicate more None), length-replicate {A = Option ℕ} more None) in
+    let own1 : LocalsAt m1 lv locals = locals_at_link words lv (lv + many) (onto ps (replicate more None)) own in
+    let own2 : LocalsAt m2 lv locals = locals_below m1 lv (lv + many) r locals (omega arith) own1 in
+    let own3 : LocalsAt m3 lv locals = locals_below m2 lv (lv + many + 1) (base fs) locals (omega arith) own2 in
+    let below : FramesStand words (g ∷ fs) = (record { locals = h.0.locals; operands = lower; linked = h.0.linked }, h.1) in
+    let below1 : FramesStand m1 (g ∷ fs) = frames_below words lv (lv + many) (g ∷ fs) (omega arith) below in
+    let below2 : FramesStand m2 (g ∷ fs) = frames_below m1 (lv + many) r (g ∷ fs) (omega arith) below1 in
+    let below3 : FramesStand m3 (g ∷ fs) = frames_below m2 (lv + many + 1) (base fs) (g ∷ fs) (omega arith) below2 in
+    let link : IsLinked m3 lv many (base fs) (Some r) = (
+      read_other m2 (lv + many + 1) lv (base fs) (inl (omega arith)) ∙ (read_other m1 (lv + many) lv r (inl (omega arith)) ∙ get_or-set_same words lv (lv + many) 0 (omega arith)),
+      read_other m2 (lv + many + 1) (lv + many) (base fs) (inl (omega arith)) ∙ get_or-set_same m1 (lv + many) r 0 (omega arith),
+      get_or-set_same m2 (lv + many + 1) (base fs) 0 (omega arith),
+    ) in
+    (record { locals = own3; operands = tt; linked = subst (λ (k : ℕ). IsLinked m3 lv k (base fs) (Some r)) (sym len) link }, below3)
+
+-- the operands of a call: the arguments, the last one first, the object reference, and those below
+record Arguments (n : ℕ) (xs : List ℕ) : Type 0 where
+  pub o : ℕ
+  pub are : xs ≡ take n xs ++ o ∷ drop (n + 1) xs
+  pub long : length (take n xs) ≡ n
+
+arguments : (n : ℕ) (xs : List ℕ) → n < length xs → Arguments n xs
+arguments n [] l = absurd (omega arith)
+arguments zero (x ∷ xs) l = record { o = x; are = refl; long = refl }
+arguments (suc n) (x ∷ xs) l =
+    let a : Arguments n xs = arguments n xs (omega arith) in
+    let same : suc n + 1 ≡ suc (n + 1) = omega arith in
+    record {
+      o = a.o;
+      are = ap (λ (ys : List ℕ). x ∷ ys) a.are ∙ ap (λ (j : ℕ). take (suc n) (x ∷ xs) ++ a.o ∷ drop j (x ∷ xs)) (sym same);
+      long = ap (λ (j : ℕ). suc j) a.long;
+    }
+
+-- The terms of the words of INVOKEVIRTUAL.
+module _ (o : Origin) (m : Micro) (w : World) where
+  -- the address of the constant
+  abbrev pub from : ℕ
+  from = plus m.cpp (256 * byte_in o.words m.pc + byte_in o.words (m.pc + 1))
+
+  -- the method's entry
+  abbrev pub entry : ℕ
+  entry = read_value (length o.words) w.words w.untaken from
+
+  -- its two counts
+  abbrev pub count : ℕ
+  count = 256 * byte_in o.words entry + byte_in o.words (entry + 1)
+
+  abbrev pub own : ℕ
+  own = 256 * byte_in o.words (plus entry 2) + byte_in o.words (plus entry 2 + 1)
+
+  -- the address of the new link word, and what it holds
+  abbrev pub link_at : ℕ
+  link_at = next (minus m.sp count)
+
+  abbrev pub link : ℕ
+  link = next (m.sp + own)
+
+-- what a call with n arguments finds of a method at e with so many other locals, where the frame below keeps these operands
+record Entering (o : Origin) (s : State) (m : Micro) (w : World) (k e n more : ℕ) (rest : List ℕ) : Type 0 where
+  pub constant : Access (length o.words) w (from o m w) (0x4000 + k)
+  pub e0 : Place o.words (entry o m w) e
+  pub e2 : Place o.words (plus (entry o m w) 2) (e + 2)
+  pub e4 : Place o.words (plus (plus (entry o m w) 2) 2) (e + 4)
+  pub e5 : Place o.words (plus (plus (plus (entry o m w) 2) 2) 1) (e + 5)
+  pub count_is : count o m w ≡ n + 1
+  pub own_is : own o m w ≡ more
+  pub few : more < 65536
+  pub link_access : Access (length o.words) w (link_at o m w) (place s rest)
+  pub link_is : link o m w ≡ place s rest + (n + 1 + more)
+
+-- The steps of a call up to the word that stalls, and its stalls: one, or two where the entry is the last byte of a word.
+abbrev plan : Bool → List Beat → List Beat
+plan false bs = Goes ∷ Goes ∷ Waits ∷ bs
+plan true bs = Goes ∷ Goes ∷ WaitsLate ∷ WaitsOn ∷ bs
+
+abbrev stalls_of_call : Bool → ℕ
+stalls_of_call late = if late then 2 else 1
+
+module _ (program : List ℕ) (has : HasStatements program) (o : Origin) (map : IsMap (length o.words)) (s : State) (m : Micro) (w : World) (k : ℕ) (h : Stands o s m w) (inside : s.at < 0x10000) where
+  ireturn : (y r : ℕ) (rest : List ℕ) (f : Frame) (fs : List Frame) → byte_in o.words s.at ≡ 0xAC → s.running.operands ≡ y ∷ rest → s.running.back ≡ Some r → s.callers ≡ f ∷ fs → r < 0x10000 →
+      Comes program o 7 0 (record { state = m; world = w; stalls = k }) (record s { running = record f { operands = y ∷ f.operands }; callers = fs; at = r })
+  ireturn y r rest f fs code ops back callers to =
+      let c : Counts o s m = counts o s m w h inside in
+      let t : Top o map s m.sp m.lv m.cpp m.tos w h.holds y rest = top o map s m.sp m.lv m.cpp m.tos w h.holds y rest ops in
+      let lv : ℕ = base (f ∷ fs) in
+      let many : ℕ = length s.running.locals in
+      let bottom : 0x8000 ≤ base fs = base_above fs in
+      let high : length o.words < 0x80000000 = map.high in
+      let same : base s.callers ≡ lv = ap base callers in
+      let two_words : kept_words s.running.back ≡ 2 = ap kept_words back in
+      let fits : lv + many + 2 + length s.running.operands ≤ length o.words = omega (arith, h.holds.fits) in
+      let link : IsLinked w.words (base s.callers) many (caller_lv s.callers) (Some r) =
+      link_of w.words (base s.callers) many (caller_lv s.callers) r s.running.back back h.holds.frames.0.linked in
+      let a : Access (length o.words) w m.lv lv = access (length o.words) w m.lv lv (h.holds.lv_is ∙ same) (omega arith) in
+      let at : slice_index w.words lv ≡ lv + many = rw (← same) link.0 in
+      let w1 : World = after_read (length o.words) w m.lv in
+      let x : ℕ = read_value (length o.words) w.words w.untaken m.lv in
+      let b : Access (length o.words) w1 x (lv + many) = access (length o.words) w1 x (lv + many) (a.value ∙ at) (omega arith) in
+      let w2 : World = after_read (length o.words) w1 x in
+      let d : Access (length o.words) w2 (next x) (lv + many + 1) =
+      access (length o.words) w2 (next x) (lv + many + 1) (next_is x (lv + many + 1) (omega (arith, b.is)) (omega arith)) (omega arith) in
+      let pc : read_value (length o.words) w.words w1.untaken x ≡ r = b.value ∙ (rw same at link.1) in
+      let lv_back : read_value (length o.words) w.words w2.untaken (next x) ≡ base fs = d.value ∙ ((rw same at link.2) ∙ ap caller_lv callers) in
+      let there : Place o.words (read_value (length o.words) w.words w1.untaken x) r = place_at o.words (read_value (length o.words) w.words w1.untaken x) r pc (omega (arith, to)) in
+      let behind : Place o.words (plus (read_value (length o.words) w.words w1.untaken x) 1) (r + 1) =
+      place_on o.words (read_value (length o.words) w.words w1.untaken x) r 1 (r + 1) there refl (omega (arith, to)) in
+      let high_lv : 0x8000 ≤ m.lv = omega (arith, a.is) in
+      let memory : slice_set w.words m.lv m.tos ≡ slice_set w.words lv y = ap₂ (slice_set w.words) a.is t.tos_is in
+      let below : FramesStand w.words (f ∷ fs) = subst (λ (k : List Frame). FramesStand w.words k) callers h.holds.frames.1 in
+      let room : lv < length w.words = omega (arith, h.holds.memory.long) in
+      let g : Frame = record f { operands = y ∷ f.operands } in
+      comes program has o map Goes (steps 7) (byte_in o.words r ∷ []) m w k 0xAC 0 s _ h code (assumption)
+      (at_boundary o _ _ _
+      (record {
+        sp_is = omega (arith, a.is);
+        lv_is = lv_back;
+        cpp_is = h.holds.cpp_is;
+        tos_is = t.tos_is;
+        frames = frames_at g fs (sym memory) (pushed w.words lv y f fs refl room below);
+        memory = memory_at (sym memory) (memory_set o.words w.words lv y (omega arith) h.holds.memory);
+        fits = omega arith;
+        untaken = d.untaken ∙ (b.untaken ∙ (a.untaken ∙ h.holds.untaken));
+        given = a.given _ ∙ h.holds.given;
+      })
+      behind.is (omega (arith, to)) refl refl refl refl refl)
+      (sym (add-zero k))
+
+  -- what INVOKEVIRTUAL finds
+  entering : (i e n more : ℕ) (rest : List ℕ) → i ≡ 256 * byte_in o.words (s.at + 1) + byte_in o.words (s.at + 2) → i < 0x4000 → slice_index o.words (0x4000 + i) ≡ e → e + 4 < 0x10000 →
+      n + 1 ≡ 256 * byte_in o.words e + byte_in o.words (e + 1) → more ≡ 256 * byte_in o.words (e + 2) + byte_in o.words (e + 3) →
+      length s.running.operands ≡ n + suc (length rest) → Entering o s m w i e n more rest
+  entering i e n more rest index small is_e text counted owned depth =
+      let c : Counts o s m = counts o s m w h inside in
+      let bottom : 0x8000 ≤ base s.callers = base_above s.callers in
+      let high : length o.words < 0x80000000 = map.high in
+      let a : Access (length o.words) w (from o m w) (0x4000 + i) =
+      access (length o.words) w (from o m w) (0x4000 + i)
+      (plus_is h.holds.cpp_is (pair_at o.words m.pc (s.at + 1) (s.at + 2) c.p0 (omega arith) ∙ sym index) refl (omega (arith, small))) (omega (arith, map.low)) in
+      let x : ℕ = entry o m w in
+      let is : x ≡ e = a.value ∙ (h.holds.memory.kept (0x4000 + i) (omega arith) ∙ is_e) in
+      let e0 : Place o.words x e = place_at o.words x e is (omega arith) in
+      let e2 : Place o.words (plus x 2) (e + 2) = place_on o.words x e 2 (e + 2) e0 refl (omega arith) in
+      let e4 : Place o.words (plus (plus x 2) 2) (e + 4) = place_on o.words (plus x 2) (e + 2) 2 (e + 4) e2 (omega arith) (omega arith) in
+      let count_is : count o m w ≡ n + 1 = pair_at o.words x e (e + 1) e0 refl ∙ sym counted in
+      let own_is : own o m w ≡ more = pair_at o.words (plus x 2) (e + 2) (e + 3) e2 (omega arith) ∙ sym owned in
+      let b2 : byte_in o.words (e + 2) < 256 = byte_bound o.words (e + 2) in
+      let b3 : byte_in o.words (e + 3) < 256 = byte_bound o.words (e + 3) in
+      let few : more < 65536 = omega arith in
+      let lv : ℕ = place s rest in
+      let sp : m.sp ≡ lv + n = omega (arith, h.holds.sp_is) in
+      let low : lv < length o.words = omega (arith, h.holds.fits) in
+      let start : minus m.sp (count o m w) ≡ lv - 1 = minus_is refl count_is (omega arith) (omega (arith, h.holds.sp_is, h.holds.fits)) in
+      record {
+        constant = a;
+        e0 = e0;
+        e2 = e2;
+        e4 = e4;
+        e5 = place_on o.words (plus (plus x 2) 2) (e + 4) 1 (e + 5) e4 (omega arith) (omega arith);
+        count_is = count_is;
+        own_is = own_is;
+        few = few;
+        link_access = access (length o.words) w (link_at o m w) lv (next_is _ lv (omega arith) (omega arith)) low;
+        link_is = next_is (m.sp + own o m w) (lv + (n + 1 + more)) (omega arith) (omega (arith, h.holds.sp_is, h.holds.fits));
+      }
+
+  invoke : (i e more : ℕ) (ps : List ℕ) (x : ℕ) (rest : List ℕ) (late : Bool) → (e % 4 == 3) ≡ late → byte_in o.words s.at ≡ 0xB6 → Entering o s m w i e (length ps) more rest → e + 4 < 0x10000 →
+      s.running.operands ≡ ps ++ x ∷ rest → place s rest + length ps + 1 + more + 1 < length o.words →
+      Comes program o (length (plan late (steps 8))) (stalls_of_call late) (record { state = m; world = w; stalls = k })
+      (record s { running = called ps more (s.at + 3); callers = with_operands s rest ∷ s.callers; at = e + 4 })
+  invoke i e more ps x rest false remainder code en text ops space =
+      let c : Counts o s m = counts o s m w h inside in
+      let bottom : 0x8000 ≤ base s.callers = base_above s.callers in
+      let high : length o.words < 0x80000000 = map.high in
+      let lv : ℕ = place s rest in
+      let many : ℕ = length ps + 1 + more in
+      let a : Access (length o.words) w (from o m w) (0x4000 + i) = en.constant in
+      let b : Access (length o.words) w (link_at o m w) lv = en.link_access in
+      let y : ℕ = link o m w in
+      let d : Access (length o.words) w y (lv + many) = access (length o.words) w y (lv + many) en.link_is (omega arith) in
+      let f : Access (length o.words) w (next y) (lv + many + 1) =
+      access (length o.words) w (next y) (lv + many + 1) (next_is y (lv + many + 1) (omega (arith, d.is)) (omega arith)) (omega arith) in
+      let m1 : List ℕ = slice_set w.words lv (lv + many) in
+      let m2 : List ℕ = slice_set m1 (lv + many) (s.at + 3) in
+      let ms : List ℕ = linked_words w.words lv many (s.at + 3) (base s.callers) in
+      let same1 : slice_set w.words (link_at o m w) y ≡ m1 = ap₂ (slice_set w.words) b.is d.is in
+      let same2 : slice_set (slice_set w.words (link_at o m w) y) y (plus m.pc 2) ≡ m2 = set_same same1 d.is c.p2.is in
+      let same : slice_set (slice_set (slice_set w.words (link_at o m w) y) y (plus m.pc 2)) (next y) m.lv ≡ ms = set_same same2 f.is h.holds.lv_is in
+      let new1 : IsMemory o.words m1 = memory_set o.words w.words lv (lv + many) (omega arith) h.holds.memory in
+      let new2 : IsMemory o.words m2 = memory_set o.words m1 (lv + many) (s.at + 3) (omega arith) new1 in
+      let new : IsMemory o.words ms = memory_set o.words m2 (lv + many + 1) (base s.callers) (omega arith) new2 in
+      let g : Frame = called ps more (s.at + 3) in
+      let len : length g.locals ≡ many = omega (arith, length-onto ps (replicate more None), length-replicate {A = Option ℕ} more None) in
+      let frames : FramesStand ms (g ∷ with_operands s rest ∷ s.callers) = entered w.words ps x rest more (s.at + 3) s.running s.callers (omega (arith, h.holds.memory.long)) ops h.holds.frames in
+      let high1 : 0x8000 ≤ link_at o m w = omega (arith, b.is) in
+      let high2 : 0x8000 ≤ y = omega (arith, d.is) in
+      let high3 : 0x8000 ≤ next y = omega (arith, f.is) in
+      let lateness : (entry o m w % 4 == 3) ≡ false = ap (λ (j : ℕ). j % 4 == 3) en.e0.is ∙ remainder in
+      comes program has o map Goes (plan false (steps 8)) (byte_in o.words (e + 4) ∷ []) m w k 0xB6 1 s _ h code (assumption)
+      (at_boundary o _ _ _
+      (record {
+        sp_is = omega (arith, f.is);
+        lv_is = b.is;
+        cpp_is = h.holds.cpp_is;
+        tos_is = tt;
+        frames = frames_at g (with_operands s rest ∷ s.callers) (sym same) frames;
+        memory = memory_at (sym same) new;
+        fits = omega arith;
+        untaken = a.untaken ∙ h.holds.untaken;
+        given = given_ok (length o.words) _ _ f.is f.below ∙ (given_ok (length o.words) _ _ d.is d.below ∙ (b.given y ∙ h.holds.given));
+      })
+      (omega (arith, en.e5.is)) (omega arith) refl refl refl refl refl)
+      refl
+  invoke i e more ps x rest true remainder code en text ops space =
+      let c : Counts o s m = counts o s m w h inside in
+      let bottom : 0x8000 ≤ base s.callers = base_above s.callers in
+      let high : length o.words < 0x80000000 = map.high in
+      let lv : ℕ = place s rest in
+      let many : ℕ = length ps + 1 + more in
+      let a : Access (length o.words) w (from o m w) (0x4000 + i) = en.constant in
+      let b : Access (length o.words) w (link_at o m w) lv = en.link_access in
+      let y : ℕ = link o m w in
+      let d : Access (length o.words) w y (lv + many) = access (length o.words) w y (lv + many) en.link_is (omega arith) in
+      let f : Access (length o.words) w (next y) (lv + many + 1) =
+      access (length o.words) w (next y) (lv + many + 1) (next_is y (lv + many + 1) (omega (arith, d.is)) (omega arith)) (omega arith) in
+      let m1 : List ℕ = slice_set w.words lv (lv + many) in
+      let m2 : List ℕ = slice_set m1 (lv + many) (s.at + 3) in
+      let ms : List ℕ = linked_words w.words lv many (s.at + 3) (base s.callers) in
+      let same1 : slice_set w.words (link_at o m w) y ≡ m1 = ap₂ (slice_set w.words) b.is d.is in
+      let same2 : slice_set (slice_set w.words (link_at o m w) y) y (plus m.pc 2) ≡ m2 = set_same same1 d.is c.p2.is in
+      let same : slice_set (slice_set (slice_set w.words (link_at o m w) y) y (plus m.pc 2)) (next y) m.lv ≡ ms = set_same same2 f.is h.holds.lv_is in
+      let new1 : IsMemory o.words m1 = memory_set o.words w.words lv (lv + many) (omega arith) h.holds.memory in
+      let new2 : IsMemory o.words m2 = memory_set o.words m1 (lv + many) (s.at + 3) (omega arith) new1 in
+      let new : IsMemory o.words ms = memory_set o.words m2 (lv + many + 1) (base s.callers) (omega arith) new2 in
+      let g : Frame = called ps more (s.at + 3) in
+      let len : length g.locals ≡ many = omega (arith, length-onto ps (replicate more None), length-replicate {A = Option ℕ} more None) in
+      let frames : FramesStand ms (g ∷ with_operands s rest ∷ s.callers) = entered w.words ps x rest more (s.at + 3) s.running s.callers (omega (arith, h.holds.memory.long)) ops h.holds.frames in
+      let high1 : 0x8000 ≤ link_at o m w = omega (arith, b.is) in
+      let high2 : 0x8000 ≤ y = omega (arith, d.is) in
+      let high3 : 0x8000 ≤ next y = omega (arith, f.is) in
+      let lateness : (entry o m w % 4 == 3) ≡ true = ap (λ (j : ℕ). j % 4 == 3) en.e0.is ∙ remainder in
+      comes program has o map Goes (plan true (steps 8)) (byte_in o.words (e + 4) ∷ []) m w k 0xB6 2 s _ h code (assumption)
+      (at_boundary o _ _ _
+      (record {
+        sp_is = omega (arith, f.is);
+        lv_is = b.is;
+        cpp_is = h.holds.cpp_is;
+        tos_is = tt;
+        frames = frames_at g (with_operands s rest ∷ s.callers) (sym same) frames;
+        memory = memory_at (sym same) new;
+        fits = omega arith;
+        untaken = a.untaken ∙ h.holds.untaken;
+        given = given_ok (length o.words) _ _ f.is f.below ∙ (given_ok (length o.words) _ _ d.is d.below ∙ (b.given y ∙ h.holds.given));
+      })
+      (omega (arith, en.e5.is)) (omega arith) refl refl refl refl refl)
+      (omega arith)
+
+module _ (program : List ℕ) (has : HasStatements program) (o : Origin) (v : VerifiedView) (loads : Loads v o) where
+  abbrev map : IsMap (length o.words)
+  map = map_of v o loads
+
+  inside : (s : State) (i : Instr) → IsNext v o s i → s.at < 0x10000
+  inside s i n = omega (arith, n.begins, loads.image.limits.text_fits)
+
+  -- a method that a constant names, in the memory
+  record Found (k : ℕ) (m : Method) : Type 0 where
+    pub small : k < 0x4000
+    pub there : slice_index o.words (0x4000 + k) ≡ m.entry
+    pub named : slice_index v.image.pool k ≡ m.entry
+    pub whole : m.entry + 4 < 0x10000
+    pub params_are : m.params ≡ 256 * byte_in o.words m.entry + byte_in o.words (m.entry + 1)
+    pub others_are : m.others ≡ 256 * byte_in o.words (m.entry + 2) + byte_in o.words (m.entry + 3)
+
+  two_bytes_are : (p q : ℕ) → p < length v.image.text → q < length v.image.text →
+      256 * slice_index v.image.text p + slice_index v.image.text q ≡ 256 * byte_in o.words p + byte_in o.words q
+  two_bytes_are p q lp lq = sym (ap₂ (λ (a b : ℕ). 256 * a + b) (loads.bytes p lp) (loads.bytes q lq))
+
+  same_method : {m m' : Method} → Some m ≡ Some m' → m ≡ m'
+  same_method e = cc
+
+  found_at : (k e : ℕ) (m : Method) → slice_get v.image.pool k ≡ Some e → method_at v.image.text (Some e) ≡ Some m → Found k m
+  unfolding params others
+  found_at k e m named is = by_test (nat_lt (e + 4) (length v.image.text)) refl is
+    where
+      by_test : (t : Bool) → nat_lt (e + 4) (length v.image.text) ≡ t →
+          (if t then Some (record { entry = e; params = params v.image.text e; others = others v.image.text e }) else None) ≡ Some m → Found k m
+      by_test false t is = absurd (cc)
+      by_test true t is =
+          let l : e + 4 < length v.image.text = grind (arith, nat_tests) in
+          let below : k < length v.image.pool = get_below v.image.pool k e named in
+          subst (Found k) (same_method is)
+          (record {
+            small = omega (arith, loads.image.limits.pool_fits);
+            there = loads.pool k below ∙ get_or_from_slice_get v.image.pool k e 0 named;
+            named = get_or_from_slice_get v.image.pool k e 0 named;
+            whole = omega (arith, loads.image.limits.text_fits);
+            params_are = two_bytes_are e (e + 1) (omega arith) (omega arith);
+            others_are = two_bytes_are (e + 2) (e + 3) (omega arith) (omega arith);
+          })
+
+  found : (k : ℕ) (m : Method) → method_at v.image.text (slice_get v.image.pool k) ≡ Some m → Found k m
+  found k m is = by_constant (slice_get v.image.pool k) refl is
+    where
+      by_constant : (x : Option ℕ) → slice_get v.image.pool k ≡ x → method_at v.image.text x ≡ Some m → Found k m
+      by_constant None named is = absurd (cc)
+      by_constant (Some e) named is = found_at k e m named is
+
+  entering_at : (s : State) (q : Moment Micro) (k : ℕ) (m : Method) (n : ℕ) → Stands o s q.state q.world → IsNext v o s (Invokevirtual k) → Found k m → m.params ≡ suc n → (a : Arguments n s.running.operands) →
+      Entering o s q.state q.world k m.entry n m.others (drop (n + 1) s.running.operands)
+  entering_at s q k m n h next f params a =
+      let depth : length s.running.operands ≡ n + suc (length (drop (n + 1) s.running.operands)) =
+      ap length a.are ∙ (length-append (take n s.running.operands) (a.o ∷ drop (n + 1) s.running.operands) ∙ ap (λ (j : ℕ). j + suc (length (drop (n + 1) s.running.operands))) a.long) in
+      entering program has o map s q.state q.world q.stalls h (inside s (Invokevirtual k) next) k m.entry n m.others (drop (n + 1) s.running.operands)
+      next.reads.1 f.small f.there f.whole (omega (arith, f.params_are)) f.others_are depth
+
+  -- the cycles of a call by its entry
+  invoked : (s to : State) (q : Moment Micro) (k e : ℕ) (late : Bool) (a : State) → Stands o s q.state q.world → byte_in o.words s.at ≡ 0xB6 → slice_index v.image.pool k ≡ e → (e % 4 == 3) ≡ late → a ≡ to →
+      Comes program o (length (plan late (steps 8))) (stalls_of_call late) q a → MovesWithStalls program o q (cost v.image Mic2 (Invokevirtual k) s) (stalls_of v.image (Invokevirtual k)) to
+  invoked s to q k e false a h code named late same c =
+      let early : (slice_index v.image.pool k % 4 == 3) ≡ false = ap (λ (j : ℕ). j % 4 == 3) named ∙ late in
+      subst (λ (n : ℕ). MovesWithStalls program o q (cost v.image Mic2 (Invokevirtual k) s) n to) (sym (ap (λ (b : Bool). stalls_of_call b) early))
+      (moves program o v s to a q (Invokevirtual k) 11 1 0xB6 h code refl refl (ap (λ (b : Bool). if b then 13 else 12) early) (omega arith) same c)
+  invoked s to q k e true a h code named late same c =
+      let later : (slice_index v.image.pool k % 4 == 3) ≡ true = ap (λ (j : ℕ). j % 4 == 3) named ∙ late in
+      subst (λ (n : ℕ). MovesWithStalls program o q (cost v.image Mic2 (Invokevirtual k) s) n to) (sym (ap (λ (b : Bool). stalls_of_call b) later))
+      (moves program o v s to a q (Invokevirtual k) 12 2 0xB6 h code refl refl (ap (λ (b : Bool). if b then 13 else 12) later) (omega arith) same c)
+
+  goes : (s to : State) (q : Moment Micro) (i : Instr) → IsCall i → Fine v s → IsNext v o s i → Stands o s q.state q.world → Went v.image v.map.stack_end s to i →
+      MovesWithStalls program o q (cost v.image Mic2 i s) (stalls_of v.image i) to
+  goes s to q Ireturn is fine n h went =
+      let r = n.finds.returns refl in
+      let same : r.0 ≡ went.back = some_same r.0 went.back (sym r.3 ∙ went.back_is) in
+      moves program o v s to _ q Ireturn 7 0 0xAC h n.reads refl refl refl (omega arith) went.with_top.leads
+      (ireturn program has o map s q.state q.world q.stalls h (inside s Ireturn n) went.with_top.top went.back went.with_top.rest went.caller went.above n.reads went.with_top.are went.back_is went.callers_are
+      (omega (arith, same, r.5, loads.image.limits.text_fits)))
+  goes s to q (Invokevirtual k) is fine n h went =
+      let f : Found k went.method = found k went.method went.found in
+      let a : Arguments went.others s.running.operands = arguments went.others s.running.operands went.enough in
+      let ps : List ℕ = take went.others s.running.operands in
+      let rest : List ℕ = drop (went.others + 1) s.running.operands in
+      let en : Entering o s q.state q.world k went.method.entry went.others went.method.others rest = entering_at s q k went.method went.others h n f went.params a in
+      let en' : Entering o s q.state q.world k went.method.entry (length ps) went.method.others rest =
+      subst (λ (j : ℕ). Entering o s q.state q.world k went.method.entry j went.method.others rest) (sym a.long) en in
+      let many : length (onto ps (replicate went.method.others None)) ≡ length ps + went.method.others =
+      length-onto ps (replicate went.method.others None) ∙ ap (λ (j : ℕ). length ps + j) (length-replicate {A = Option ℕ} went.method.others None) in
+      invoked s to q k went.method.entry (went.method.entry % 4 == 3) _ h n.reads.0 f.named refl went.leads.goes
+      (invoke program has o map s q.state q.world q.stalls h (inside s (Invokevirtual k) n) k went.method.entry went.method.others ps a.o rest (went.method.entry % 4 == 3) refl n.reads.0 en' f.whole a.are
+      (omega (arith, went.leads.fits, loads.long)))
+  goes s to q i is fine n h went = absurd is
+
+  -- the second or the third word of the link meets the stack's end
+  limits : (s left : State) (q : Moment Micro) (i : Instr) → IsCall i → Fine v s → IsNext v o s i → Stands o s q.state q.world → Overran v.image v.map.stack_end s left i →
+      Overruns mic2_meaning program (Stands o) o.given q left
+  limits s left q Ireturn is fine n h over = absurd over
+  limits s left q (Invokevirtual k) is fine n h over =
+      let f : Found k over.method = found k over.method over.found in
+      let args : Arguments over.others s.running.operands = arguments over.others s.running.operands over.enough in
+      let ps : List ℕ = take over.others s.running.operands in
+      let rest : List ℕ = drop (over.others + 1) s.running.operands in
+      let en : Entering o s q.state q.world k over.method.entry over.others over.method.others rest = entering_at s q k over.method over.others h n f over.params args in
+      let c : Counts o s q.state = counts o s q.state q.world h (inside s (Invokevirtual k) n) in
+      let bottom : 0x8000 ≤ base s.callers = base_above s.callers in
+      let near : length o.words ≤ 0x20000 = map.near in
+      let many : length (onto ps (replicate over.method.others None)) ≡ length ps + over.method.others =
+      length-onto ps (replicate over.method.others None) ∙ ap (λ (j : ℕ). length ps + j) (length-replicate {A = Option ℕ} over.method.others None) in
+      let depth : length s.running.operands ≡ over.others + suc (length rest) =
+      ap length args.are ∙ (length-append ps (args.o ∷ rest) ∙ ap (λ (j : ℕ). j + suc (length rest)) args.long) in
+      let lv : ℕ = place s rest in
+      let behind : ℕ = lv + (over.others + 1 + over.method.others) in
+      let beyond : length o.words < behind + 2 = omega (arith, over.leads.over, loads.long, args.long) in
+      let a : Access (length o.words) q.world (from o q.state q.world) (0x4000 + k) = en.constant in
+      let b : Access (length o.words) q.world (link_at o q.state q.world) lv = en.link_access in
+      let y : ℕ = link o q.state q.world in
+      let small : behind < 0x60000 = omega (arith, en.few, h.holds.fits) in
+      let untaken : q.world.untaken ≡ left.untaken = h.holds.untaken ∙ ap (λ (t : State). t.untaken) over.leads.leaves in
+      let given : q.world.given ≡ o.given ++ left.given = h.holds.given ∙ ap (λ (t : State). o.given ++ t.given) over.leads.leaves in
+      let high1 : 0x8000 ≤ link_at o q.state q.world = omega (arith, b.is) in
+      let high2 : 0x8000 ≤ y = omega (arith, en.link_is) in
+      let late : (entry o q.state q.world % 4 == 3) ≡ (over.method.entry % 4 == 3) = ap (λ (j : ℕ). j % 4 == 3) en.e0.is in
+      elim (cases_lt behind (length o.words)) [
+        | inr full ↦
+            let fault : write_refusal (length o.words) y ≡ Some (StackLimit y) = write_limit (length o.words) y (omega (arith, en.link_is)) (omega (arith, en.link_is)) in
+            let long : length (slice_set q.world.words (link_at o q.state q.world) y) ≡ length o.words = length-set q.world.words (link_at o q.state q.world) y ∙ h.holds.memory.long in
+            elim (cases_Bool (over.method.entry % 4 == 3)) [
+              | inl is_late ↦
+                  let lateness : (entry o q.state q.world % 4 == 3) ≡ true = late ∙ is_late in
+                  overruns program has o map s left q Goes (plan true (steps 4)) [] 0xB6 y h n.reads.0 refl refl (omega arith) (assumption) refl refl (refl, fault) (a.untaken ∙ untaken) (b.given y ∙ given)
+              | inr is_early ↦
+                  let lateness : (entry o q.state q.world % 4 == 3) ≡ false = late ∙ is_early in
+                  overruns program has o map s left q Goes (plan false (steps 4)) [] 0xB6 y h n.reads.0 refl refl (omega arith) (assumption) refl refl (refl, fault) (a.untaken ∙ untaken) (b.given y ∙ given)
+            ]
+        | inl room ↦
+            let d : Access (length o.words) q.world y behind = access (length o.words) q.world y behind en.link_is room in
+            let last : next y ≡ behind + 1 = next_is y (behind + 1) (omega (arith, en.link_is)) (omega arith) in
+            let fault : write_refusal (length o.words) (next y) ≡ Some (StackLimit (next y)) = write_limit (length o.words) (next y) (omega arith) (omega arith) in
+            elim (cases_Bool (over.method.entry % 4 == 3)) [
+              | inl is_late ↦
+                  let lateness : (entry o q.state q.world % 4 == 3) ≡ true = late ∙ is_late in
+                  overruns program has o map s left q Goes (plan true (steps 6)) [] 0xB6 (next y) h n.reads.0 refl refl (omega arith) (assumption) refl refl (refl, fault)
+                  (a.untaken ∙ untaken) (given_ok (length o.words) _ _ d.is d.below ∙ (b.given y ∙ given))
+              | inr is_early ↦
+                  let lateness : (entry o q.state q.world % 4 == 3) ≡ false = late ∙ is_early in
+                  overruns program has o map s left q Goes (plan false (steps 6)) [] 0xB6 (next y) h n.reads.0 refl refl (omega arith) (assumption) refl refl (refl, fault)
+                  (a.untaken ∙ untaken) (given_ok (length o.words) _ _ d.is d.below ∙ (b.given y ∙ given))
+            ]
+      ]
+  limits s left q i is fine n h over = absurd is
+
+  pub calls : TakesWithStalls program o v IsCall
+  calls = record { goes = goes; limits = limits }

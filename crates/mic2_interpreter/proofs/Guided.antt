@@ -1,0 +1,437 @@
+-- Symbolic runs of Mic-2 over the shipped microprogram: a run along a plan of stalls and guessed next addresses, and what makes it the machine's.
+use Rattle.std.proofs.Common.{ap, ap₂, ◌∙◌, ◌≡◌, ℕ, zero, suc, ◌+◌, ◌*◌, ◌<◌, ◌≤◌, Option, Some, None, Bool, true, false, List, [], ◌∷◌, length, arith, refl, sym, subst, add-zero, length-set}
+use Rattle.std.specs.Prelude.{nat_lt, slice_index, if◌then◌else◌, ◌||◌}
+use Rattle.std.proofs.lemmas.Bool.Decides.{nat_tests}
+use Rattle.machine_words.specs.Arithmetic.{wrap, plus, signed_byte, signed_pair}
+use Rattle.console_port.specs.World.{World, Refusal, byte_in}
+use Rattle.micro_word.specs.Canonical.{is_byte, is_pair}
+use Rattle.micro_word.specs.Operation.{alu, shifted}
+use Rattle.micro_word.specs.declared.statement.BusSource.{BusSource}
+use Rattle.micro_word.specs.declared.statement.BusSource.TheVariants as sources
+use Rattle.micro_word.specs.declared.statement.Mem.{Mem}
+use Rattle.micro_word.specs.declared.statement.Mem.TheVariants.{None as Idle, Read, Write}
+use Rattle.micro_word.specs.declared.statement.Part.{Part}
+use Rattle.micro_word.specs.declared.statement.Placed.{Placed}
+use Rattle.micro_word.specs.declared.statement.PlacedNext.{PlacedNext}
+use Rattle.micro_word.specs.declared.statement.PlacedNext.TheVariants.{Goto, Dispatch, Branch}
+use Rattle.mic_clock.specs.Meaning.{Outcome, Done, Refused}
+use Rattle.datapath.specs.declared.ports.Ports.{Ports}
+use Rattle.datapath.specs.Registers.{NineRegisters, on_bus, loaded, ports_given}
+use Rattle.datapath.specs.Memory.{written, sampled, word_under_way, memory_refusal, first_refusal, outcome}
+use Rattle.datapath.specs.Next.{target}
+use Rattle.mic2_fetch_unit.specs.FetchUnit.{Prefetch, edge, jump, edge_refusal}
+use Rattle.mic2_datapath.specs.Micro.{Micro}
+use Rattle.mic2_datapath.specs.Microstep.{operand_bytes, dispatch_bytes, demand, is_stalled, stalled, registers_in, byte_at, fetched, source, result_of, advanced, settled, jumps, unit_after, unit_refusal, is_to_instruction, moved, clock, world_after, refusal, step_if, microstep}
+use Rattle.mic_clock.specs.Run.{number_of}
+use Rattle.mic2_datapath.specs.Mic2.{mic2_meaning, step_of_word, driven, driven_by, stalled_drive}
+use Rattle.ijvm_simulation.specs.Stands.{IsMemory}
+use Rattle.ijvm_simulation.specs.Passes.{Moment, is_inside, outcome_at, stalls_at, last, onward, pass}
+use Rattle.mic2_interpreter.proofs.Accesses.{wrap_small}
+use Rattle.mic2_interpreter.proofs.Keeps.{memory_set}
+use Rattle.mic2_interpreter.proofs.Shipped.{shipped, HasStatements}
+use Rattle.mic2_interpreter.proofs.Units.{unit_at, bytes_from, have_after, byte_there, length-bytes, Fits, edge_stands, edge_allowed, jump_stands, jump_allowed}
+use Rattle.mic2_interpreter.proofs.Queue.{Held, Jumped, IsHeld, is_enough, held_after, held_fits, held_enough, held_edge, Beat, Goes, Waits, WaitsLate, WaitsOn, IsWait, held_waited, wait_short, wait_held}
+
+-- the next address: a goto's own, and else the first guess
+abbrev pub next_of : PlacedNext → List ℕ → ℕ
+next_of (Goto to) gs = to
+next_of (Dispatch high) [] = 0
+next_of (Dispatch high) (g ∷ gs) = g
+next_of (Branch test low) [] = 0
+next_of (Branch test low) (g ∷ gs) = g
+
+-- the guesses that are left
+abbrev pub left_of : PlacedNext → List ℕ → List ℕ
+left_of (Goto to) gs = gs
+left_of (Dispatch high) [] = []
+left_of (Dispatch high) (g ∷ gs) = gs
+left_of (Branch test low) [] = []
+left_of (Branch test low) (g ∷ gs) = gs
+
+-- A symbolic state: what the machine has but for its unit, and what is known of the queue there.
+pub record Short : Type 0 where
+  pub state : Micro
+  pub queue : Held
+  pub world : World
+  pub stalls : ℕ
+
+-- the bytes from PC on
+abbrev pub text_from : List ℕ → ℕ → ℕ → ℕ
+text_from origin pc zero = byte_in origin pc
+text_from origin pc (suc k) = byte_in origin (pc + suc k)
+
+-- the machine whose unit stands at PC
+abbrev pub standing : List ℕ → Micro → ℕ → Micro
+standing origin m have = record m { unit = unit_at origin m.pc have }
+
+abbrev pub moment_of : List ℕ → Short → ℕ → Moment Micro
+moment_of origin t have = record { state = standing origin t.state have; world = t.world; stalls = t.stalls }
+
+front_is : (origin : List ℕ) (pc have k : ℕ) → k < have → slice_index (unit_at origin pc have).bytes k ≡ text_from origin pc k
+unfolding unit_at
+front_is origin pc have zero h = let e : pc + 0 ≡ pc = omega arith in byte_there origin pc have 0 h ∙ ap (byte_in origin) e
+front_is origin pc have (suc k) h = byte_there origin pc have (suc k) h
+
+many_is : (origin : List ℕ) (pc have : ℕ) → length (unit_at origin pc have).bytes ≡ have
+unfolding unit_at
+many_is origin pc have = length-bytes origin pc have
+
+-- what a side of the ALU is given, where the queue's bytes are these
+abbrev pub source_of : (ℕ → ℕ) → Option BusSource → Micro → ℕ
+source_of bytes side m = on_bus (registers_in m) (fetched bytes) side
+
+-- the bytes that it names
+abbrev wants : Option BusSource → ℕ
+wants side = if is_pair side then 2 else if is_byte side then 1 else 0
+
+source_same : (f g : ℕ → ℕ) (side : Option BusSource) (m : Micro) → ((k : ℕ) → k < wants side → f k ≡ g k) → source_of f side m ≡ source_of g side m
+source_same f g None m h = refl
+source_same f g (Some sources.Mdr) m h = refl
+source_same f g (Some sources.Pc) m h = refl
+source_same f g (Some sources.Sp) m h = refl
+source_same f g (Some sources.Lv) m h = refl
+source_same f g (Some sources.Cpp) m h = refl
+source_same f g (Some sources.Tos) m h = refl
+source_same f g (Some sources.Opc) m h = refl
+source_same f g (Some sources.H) m h = refl
+source_same f g (Some sources.Mbr) m h = refl
+source_same f g (Some sources.Mbru) m h = refl
+source_same f g (Some sources.Mbr1) m h = ap signed_byte (h 0 (omega arith))
+source_same f g (Some sources.Mbr1u) m h = h 0 (omega arith)
+source_same f g (Some sources.Mbr2) m h = ap₂ signed_pair (h 0 (omega arith)) (h 1 (omega arith))
+source_same f g (Some sources.Mbr2u) m h = ap₂ (λ (i : ℕ) (j : ℕ). 256 * i + j) (h 0 (omega arith)) (h 1 (omega arith))
+
+-- both sides are within what the statement demands
+wants_within : (pa pb ba bb : Bool) → ((if pa then 2 else if ba then 1 else 0) ≤ (if pa || pb then 2 else if ba || bb then 1 else 0)) × ((if pb then 2 else if bb then 1 else 0) ≤ (if pa || pb then 2 else if ba || bb then 1 else 0))
+wants_within true true ba bb = (omega arith, omega arith)
+wants_within true false ba true = (omega arith, omega arith)
+wants_within true false ba false = (omega arith, omega arith)
+wants_within false true true bb = (omega arith, omega arith)
+wants_within false true false bb = (omega arith, omega arith)
+wants_within false false true true = (omega arith, omega arith)
+wants_within false false true false = (omega arith, omega arith)
+wants_within false false false true = (omega arith, omega arith)
+wants_within false false false false = (omega arith, omega arith)
+
+-- the result where the unit stands at PC
+abbrev pub text_result : List ℕ → Part → Micro → ℕ
+text_result origin part m = alu part.op (source_of (text_from origin m.pc) part.a m) (source_of (text_from origin m.pc) part.b m)
+
+result_same : (origin : List ℕ) (part : Part) (m : Micro) (have : ℕ) → operand_bytes part ≤ have → result_of part (standing origin m have) ≡ text_result origin part m
+result_same origin part m have h =
+    let both = wants_within (is_pair part.a) (is_pair part.b) (is_byte part.a) (is_byte part.b) in
+    let la : wants part.a ≤ operand_bytes part = both.0 in
+    let lb : wants part.b ≤ operand_bytes part = both.1 in
+    ap₂ (alu part.op)
+    (source_same (byte_at (unit_at origin m.pc have)) (text_from origin m.pc) part.a m (λ k l. front_is origin m.pc have k (omega arith)))
+    (source_same (byte_at (unit_at origin m.pc have)) (text_from origin m.pc) part.b m (λ k l. front_is origin m.pc have k (omega arith)))
+
+target_same : (n : PlacedNext) (x b c : ℕ) → (0 < dispatch_bytes n → b ≡ c) → target n x b ≡ target n x c
+target_same (Goto to) x b c h = refl
+target_same (Dispatch high) x b c h = ap (λ (k : ℕ). if high then k + 256 else k) (h (omega arith))
+target_same (Branch test low) x b c h = refl
+
+-- the registers behind the loads, where x is the result
+abbrev pub settled_by : Placed → ℕ → Micro → NineRegisters
+settled_by s x m = loaded s.part.dests (shifted s.part.shift x) m.word (record (registers_in m) { pc = advanced (demand s) m.pc })
+
+-- the step with the result x, to this address, with this unit behind it
+abbrev pub clock_by : ℕ → Placed → ℕ → ℕ → Prefetch → Micro → World → Micro
+clock_by top s x to unit m w =
+    let r = settled_by s x m in
+    moved r to (word_under_way top s.part.mem (ports_given r) (written top s.part.mem (ports_given r) w)) unit (is_to_instruction s.next)
+
+abbrev pub world_by : ℕ → Placed → ℕ → Micro → World → World
+world_by top s x m w = let p = ports_given (settled_by s x m) in sampled top s.part.mem p (written top s.part.mem p w)
+
+abbrev refusal_by : ℕ → Placed → ℕ → Micro → Option Refusal
+refusal_by top s x m =
+    let r = settled_by s x m in first_refusal (memory_refusal top s.part.mem r.mar) (unit_refusal (jumps s.part) top r.pc (demand s) m.unit)
+
+-- what is known of the queue behind a step
+abbrev pub queue_after : Bool → ℕ → Held → Held
+queue_after true t q = Jumped
+queue_after false t q = held_after t q
+
+abbrev have_behind : Bool → ℕ → ℕ → ℕ → ℕ
+have_behind true pc t have = 0
+have_behind false pc t have = have_after pc have t
+
+-- a write is no write below the stack
+abbrev pub IsAbove : Mem → ℕ → Type 0
+IsAbove Write at = 0x8000 ≤ at
+IsAbove Read at = Unit {0}
+IsAbove Idle at = Unit {0}
+
+-- `origin` has the memory's words when the run began.
+module _ (origin : List ℕ) where
+  -- the end of the memory
+  abbrev pub top : ℕ
+  top = length origin
+
+  abbrev pub guided : Placed → List ℕ → Short → Short
+  guided s gs t =
+      let x = text_result origin s.part t.state in
+      record {
+        state = clock_by top s x (next_of s.next gs) t.state.unit t.state t.world;
+        queue = queue_after (jumps s.part) (demand s) t.queue;
+        world = world_by top s x t.state t.world;
+        stalls = t.stalls;
+      }
+
+  -- the bytes are there, no access of a step is refused, it leaves the memory below the stack, and the guess is right
+  abbrev pub IsClear : Placed → List ℕ → Short → Type 0
+  IsClear s gs t =
+      let x = text_result origin s.part t.state in
+      let r = settled_by s x t.state in
+      (is_enough (demand s) t.queue ≡ true)
+      × (memory_refusal top s.part.mem r.mar ≡ None)
+      × (target s.next x (text_from origin t.state.pc (operand_bytes s.part)) ≡ next_of s.next gs)
+      × IsAbove s.part.mem r.mar
+      × (t.state.pc < 0x1FF00)
+      × (r.pc < 0x1FF00)
+      × (nat_lt t.state.mpc 512 ≡ true)
+
+  abbrev pub waited : Beat → Short → Short
+  waited b t = record { state = record t.state { begins = false }; queue = held_waited b; world = t.world; stalls = t.stalls + 1 }
+
+  abbrev pub IsStall : Beat → Placed → Short → Type 0
+  IsStall b s t = IsWait b t.queue t.state.pc (demand s) × (t.state.pc < 0x1FF00) × (nat_lt t.state.mpc 512 ≡ true)
+
+  abbrev pub step_of : Beat → Placed → List ℕ → Short → Short
+  step_of Goes s gs t = guided s gs t
+  step_of Waits s gs t = waited Waits t
+  step_of WaitsLate s gs t = waited WaitsLate t
+  step_of WaitsOn s gs t = waited WaitsOn t
+
+  abbrev pub IsRight : Beat → Placed → List ℕ → Short → Type 0
+  IsRight Goes s gs t = IsClear s gs t
+  IsRight Waits s gs t = IsStall Waits s t
+  IsRight WaitsLate s gs t = IsStall WaitsLate s t
+  IsRight WaitsOn s gs t = IsStall WaitsOn s t
+
+  abbrev pub guesses_of : Beat → Placed → List ℕ → List ℕ
+  guesses_of Goes s gs = left_of s.next gs
+  guesses_of Waits s gs = gs
+  guesses_of WaitsLate s gs = gs
+  guesses_of WaitsOn s gs = gs
+
+  -- the moment behind the steps of a plan along the guesses
+  abbrev pub clocked : List Beat → List ℕ → Short → Short
+  clocked [] gs t = t
+  clocked (b ∷ bs) gs t = let s = shipped t.state.mpc in clocked bs (guesses_of b s gs) (step_of b s gs t)
+
+  -- no step of the plan is refused, none but the last comes to a boundary or an end, and the plan and the guesses are right
+  abbrev pub IsSmooth : List Beat → List ℕ → Short → Type 0
+  IsSmooth [] gs t = ⊥
+  IsSmooth (b ∷ []) gs t = IsRight b (shipped t.state.mpc) gs t
+  IsSmooth (b ∷ c ∷ bs) gs t =
+      let s = shipped t.state.mpc in
+      IsRight b s gs t × (is_inside mic2_meaning (step_of b s gs t).state ≡ true) × IsSmooth (c ∷ bs) (guesses_of b s gs) (step_of b s gs t)
+
+  advanced_is : (d pc : ℕ) → pc + d < 4294967296 → advanced d pc ≡ pc + d
+  advanced_is zero pc h = omega arith
+  advanced_is (suc d) pc h = wrap_small (pc + suc d) h
+
+  -- PC behind a step that does not load it
+  pc_on : (s : Placed) (x : ℕ) (m : Micro) → jumps s.part ≡ false → m.pc + demand s < 4294967296 → (settled_by s x m).pc ≡ m.pc + demand s
+  pc_on s x m e l = ap (λ (b : Bool). if b then shifted s.part.shift x else advanced (demand s) m.pc) e ∙ advanced_is (demand s) m.pc l
+
+  unit_is : (s : Placed) (m : Micro) (have x : ℕ) (words : List ℕ) (b : Bool) → jumps s.part ≡ b → demand s ≤ have → have ≤ 6 → IsMemory origin words →
+      m.pc < 0x1FF00 → (settled_by s x m).pc < 0x1FF00 →
+      unit_after b words (settled_by s x m).pc (demand s) (unit_at origin m.pc have) ≡ unit_at origin (settled_by s x m).pc (have_behind b m.pc (demand s) have)
+  unit_is s m have x words true e h few ms l l2 = jump_stands origin words (settled_by s x m).pc ms l2
+  unit_is s m have x words false e h few ms l l2 =
+      let pc : (settled_by s x m).pc ≡ m.pc + demand s = pc_on s x m e (omega arith) in
+      edge_stands origin words m.pc have (demand s) h few ms l ∙ ap (λ (k : ℕ). unit_at origin k (have_after m.pc have (demand s))) (sym pc)
+
+  unit_allowed : (s : Placed) (m : Micro) (have x : ℕ) (b : Bool) → 0x8000 ≤ top → demand s ≤ have → have ≤ 6 → m.pc < 0x1FF00 → (settled_by s x m).pc < 0x1FF00 →
+      unit_refusal b top (settled_by s x m).pc (demand s) (unit_at origin m.pc have) ≡ None
+  unit_allowed s m have x true map h few l l2 = jump_allowed top (settled_by s x m).pc map l2
+  unit_allowed s m have x false map h few l l2 = edge_allowed top origin m.pc have (demand s) map h few l
+
+  not_stalled : (s : Placed) (m : Micro) (have : ℕ) → demand s ≤ have → is_stalled s (standing origin m have) ≡ false
+  not_stalled s m have h = let e : length (unit_at origin m.pc have).bytes ≡ have = many_is origin m.pc have in rw e (grind (arith, nat_tests))
+
+  is_short : (s : Placed) (m : Micro) (have : ℕ) → have < demand s → is_stalled s (standing origin m have) ≡ true
+  is_short s m have h = let e : length (unit_at origin m.pc have).bytes ≡ have = many_is origin m.pc have in rw e (grind (arith, nat_tests))
+
+  -- the machine behind a step that does not stall
+  abbrev there_of : Placed → List ℕ → Short → ℕ → Moment Micro
+  there_of s gs t have = moment_of origin (guided s gs t) (have_behind (jumps s.part) t.state.pc (demand s) have)
+
+  written-memory : (mem : Mem) (p : Ports) (w : World) → IsAbove mem p.mar → IsMemory origin w.words → IsMemory origin (written top mem p w).words
+  written-memory Write p w above h = memory_set origin w.words p.mar p.mdr above h
+  written-memory Read p w above h = h
+  written-memory Idle p w above h = h
+
+  sampled-memory : (mem : Mem) (p : Ports) (w : World) → IsMemory origin w.words → IsMemory origin (sampled top mem p w).words
+  sampled-memory Write p w h = h
+  sampled-memory Read p w h = h
+  sampled-memory Idle p w h = h
+
+  step-clear : (s : Placed) (gs : List ℕ) (t : Short) (have : ℕ) → 0x8000 ≤ top → IsMemory origin t.world.words → IsHeld t.queue t.state.pc have → IsClear s gs t →
+      microstep s (standing origin t.state have) t.world ≡ Done (there_of s gs t have).state (there_of s gs t have).world
+  step-clear s gs t have map ms held c =
+      let m : Micro = t.state in
+      let w : World = t.world in
+      let x : ℕ = text_result origin s.part m in
+      let f : Fits m.pc have = held_fits t.queue m.pc have held in
+      let les : demand s ≤ have = held_enough (demand s) t.queue m.pc have c.0 held in
+      let same : result_of s.part (standing origin m have) ≡ x = result_same origin s.part m have (omega arith) in
+      let unit : unit_refusal (jumps s.part) top (settled_by s x m).pc (demand s) (unit_at origin m.pc have) ≡ None = unit_allowed s m have x (jumps s.part) map les f.few c.4 c.5 in
+      let none : refusal_by top s x (standing origin m have) ≡ None = ap₂ first_refusal c.1 unit in
+      let byte : (0 < dispatch_bytes s.next → byte_at (unit_at origin m.pc have) (operand_bytes s.part) ≡ text_from origin m.pc (operand_bytes s.part)) =
+      λ l. front_is origin m.pc have (operand_bytes s.part) (omega arith) in
+      let next : target s.next x (byte_at (unit_at origin m.pc have) (operand_bytes s.part)) ≡ next_of s.next gs = target_same s.next x _ _ byte ∙ c.2 in
+      let after : unit_after (jumps s.part) (written top s.part.mem (ports_given (settled_by s x m)) w).words (settled_by s x m).pc (demand s) (unit_at origin m.pc have)
+      ≡ unit_at origin (settled_by s x m).pc (have_behind (jumps s.part) m.pc (demand s) have) =
+      unit_is s m have x (written top s.part.mem (ports_given (settled_by s x m)) w).words (jumps s.part) refl les f.few
+      (written-memory s.part.mem (ports_given (settled_by s x m)) w c.3 ms) c.4 c.5 in
+      let stepped : (top' x' : ℕ) → Outcome Micro =
+      λ top' x'. outcome (refusal_by top' s x' (standing origin m have))
+      (clock_by top' s x' (target s.next x' (byte_at (unit_at origin m.pc have) (operand_bytes s.part)))
+      (unit_after (jumps s.part) (written top' s.part.mem (ports_given (settled_by s x' m)) w).words (settled_by s x' m).pc (demand s) (unit_at origin m.pc have)) m w)
+      (world_by top' s x' m w) in
+      ap (λ (b : Bool). step_if b (length w.words) s (standing origin m have) w) (not_stalled s m have les)
+      ∙ (ap₂ stepped ms.long same
+      ∙ (λ i. outcome (none i) (clock_by top s x (next i) (after i) m w) (world_by top s x m w)))
+
+  step-waits : (s : Placed) (b : Beat) (t : Short) (have : ℕ) → 0x8000 ≤ top → IsMemory origin t.world.words → IsHeld t.queue t.state.pc have → IsStall b s t →
+      microstep s (standing origin t.state have) t.world ≡ Done (moment_of origin (waited b t) (have_after t.state.pc have 0)).state t.world
+  step-waits s b t have map ms held c =
+      let m : Micro = t.state in
+      let f : Fits m.pc have = held_fits t.queue m.pc have held in
+      let short : have < demand s = wait_short b t.queue m.pc (demand s) have c.0 held in
+      let none : edge_refusal top 0 (unit_at origin m.pc have) ≡ None = edge_allowed top origin m.pc have 0 map (omega arith) f.few c.1 in
+      let same : m.pc + 0 ≡ m.pc = omega arith in
+      let unit : edge t.world.words 0 (unit_at origin m.pc have) ≡ unit_at origin m.pc (have_after m.pc have 0) =
+      edge_stands origin t.world.words m.pc have 0 (omega arith) f.few ms c.1 ∙ ap (λ (p : ℕ). unit_at origin p (have_after m.pc have 0)) same in
+      ap (λ (k : Bool). step_if k (length t.world.words) s (standing origin m have) t.world) (is_short s m have short)
+      ∙ (ap (λ (n : ℕ). outcome (edge_refusal n 0 (unit_at origin m.pc have)) (stalled t.world.words (standing origin m have)) t.world) ms.long
+      ∙ (λ i. outcome (none i) (record m { unit = unit i; begins = false }) t.world))
+
+  held-guided : (s : Placed) (gs : List ℕ) (t : Short) (have : ℕ) → IsHeld t.queue t.state.pc have → IsClear s gs t →
+      IsHeld (guided s gs t).queue (guided s gs t).state.pc (have_behind (jumps s.part) t.state.pc (demand s) have)
+  held-guided s gs t have held c = by_jump (jumps s.part) refl
+    where
+      by_jump : (b : Bool) → jumps s.part ≡ b →
+          IsHeld (queue_after b (demand s) t.queue) (settled_by s (text_result origin s.part t.state) t.state).pc (have_behind b t.state.pc (demand s) have)
+      by_jump true e = refl
+      by_jump false e =
+          let f : Fits t.state.pc have = held_fits t.queue t.state.pc have held in
+          let les : demand s ≤ have = held_enough (demand s) t.queue t.state.pc have c.0 held in
+          let pc : (settled_by s (text_result origin s.part t.state) t.state).pc ≡ t.state.pc + demand s = pc_on s (text_result origin s.part t.state) t.state e (omega (arith, f.few, c.4)) in
+          subst (λ (p : ℕ). IsHeld (held_after (demand s) t.queue) p (have_after t.state.pc have (demand s))) (sym pc)
+          (held_edge (demand s) t.queue t.state.pc have c.0 held)
+
+  step-memory : (b : Beat) (s : Placed) (gs : List ℕ) (t : Short) → IsRight b s gs t → IsMemory origin t.world.words → IsMemory origin (step_of b s gs t).world.words
+  step-memory Goes s gs t c ms =
+      let p = ports_given (settled_by s (text_result origin s.part t.state) t.state) in
+      sampled-memory s.part.mem p (written top s.part.mem p t.world) (written-memory s.part.mem p t.world c.3 ms)
+  step-memory Waits s gs t c ms = ms
+  step-memory WaitsLate s gs t c ms = ms
+  step-memory WaitsOn s gs t c ms = ms
+
+  -- the refusal of a step that does not stall, where its memory access is refused
+  pub step-refused : (s : Placed) (t : Short) (have : ℕ) (why : Refusal) → IsMemory origin t.world.words → IsHeld t.queue t.state.pc have → is_enough (demand s) t.queue ≡ true →
+      memory_refusal top s.part.mem (settled_by s (text_result origin s.part t.state) t.state).mar ≡ Some why →
+      microstep s (standing origin t.state have) t.world ≡ Refused why
+  step-refused s t have why ms held enough h =
+      let m : Micro = t.state in
+      let w : World = t.world in
+      let x : ℕ = text_result origin s.part m in
+      let les : demand s ≤ have = held_enough (demand s) t.queue m.pc have enough held in
+      let same : result_of s.part (standing origin m have) ≡ x = result_same origin s.part m have (omega arith) in
+      let refused : (top' x' : ℕ) → Outcome Micro =
+      λ top' x'. outcome (refusal_by top' s x' (standing origin m have)) (clock top' s (standing origin m have) w) (world_after top' s (standing origin m have) w) in
+      ap (λ (b : Bool). step_if b (length w.words) s (standing origin m have) w) (not_stalled s m have les)
+      ∙ (ap₂ refused ms.long same
+      ∙ ap (λ (r : Option Refusal). outcome (first_refusal r (unit_refusal (jumps s.part) top (settled_by s x m).pc (demand s) (unit_at origin m.pc have)))
+      (clock top s (standing origin m have) w) (world_after top s (standing origin m have) w)) h)
+
+-- a run arrives where the symbolic one does, with so many bytes in the queue
+pub record Arrives (origin : List ℕ) (run : Option (Moment Micro)) (t : Short) : Type 0 where
+  pub have : ℕ
+  pub is : run ≡ Some (moment_of origin t have)
+  pub held : IsHeld t.queue t.state.pc have
+  pub memory : IsMemory origin t.world.words
+
+-- a step leads from a moment to where the symbolic one leads
+record Steps (program origin : List ℕ) (p : Moment Micro) (t : Short) : Type 0 where
+  pub have : ℕ
+  pub done : outcome_at mic2_meaning program p ≡ Done (standing origin t.state have) t.world
+  pub stalls : stalls_at mic2_meaning program p ≡ t.stalls
+  pub held : IsHeld t.queue t.state.pc have
+
+onward-inside : (program : List ℕ) (more : Moment Micro → Option (Moment Micro)) (p : Moment Micro) → is_inside mic2_meaning p.state ≡ true →
+    onward mic2_meaning program more p.stalls (Done p.state p.world) ≡ more p
+onward-inside program more p h = simp (h, onward)
+
+-- `program` has the words of a control store that holds the shipped microprogram.
+module _ (program : List ℕ) (has : HasStatements program) (origin : List ℕ) (map : 0x8000 ≤ length origin) where
+  -- the outcome of the word at MPC is that of the shipped statement
+  pub outcome_is : (p : Moment Micro) → p.state.mpc < 512 → outcome_at mic2_meaning program p ≡ microstep (shipped p.state.mpc) p.state p.world
+  unfolding step_of_word
+  outcome_is p l = ap (λ (s : Placed). microstep s p.state p.world) (has p.state.mpc l)
+
+  stalls_are : (p : Moment Micro) (b : Bool) → p.state.mpc < 512 → is_stalled (shipped p.state.mpc) p.state ≡ b → stalls_at mic2_meaning program p ≡ p.stalls + number_of b
+  unfolding driven
+  stalls_are p b l e =
+      ap (λ (s : Placed). p.stalls + number_of (driven_by s p.state).stalled) (has p.state.mpc l)
+      ∙ (ap (λ (k : Bool). p.stalls + number_of (if k then stalled_drive else record { a = source (shipped p.state.mpc).part.a p.state; b = source (shipped p.state.mpc).part.b p.state; stalled = false }).stalled) e
+      ∙ by_stall b)
+    where
+      by_stall : (k : Bool) → p.stalls + number_of (if k then stalled_drive else record { a = source (shipped p.state.mpc).part.a p.state; b = source (shipped p.state.mpc).part.b p.state; stalled = false }).stalled ≡ p.stalls + number_of k
+      by_stall true = refl
+      by_stall false = refl
+
+  waits : (b : Beat) (t : Short) (have : ℕ) → IsMemory origin t.world.words → IsHeld t.queue t.state.pc have → IsStall origin b (shipped t.state.mpc) t →
+      Steps program origin (moment_of origin t have) (waited origin b t)
+  waits b t have ms held c =
+      let s : Placed = shipped t.state.mpc in
+      let clear : nat_lt t.state.mpc 512 ≡ true = c.2 in
+      let l : t.state.mpc < 512 = grind (arith, nat_tests) in
+      let short : have < demand s = wait_short b t.queue t.state.pc (demand s) have c.0 held in
+      record {
+        have = have_after t.state.pc have 0;
+        done = outcome_is (moment_of origin t have) l ∙ step-waits origin s b t have map ms held c;
+        stalls = stalls_are (moment_of origin t have) true l (is_short origin s t.state have short);
+        held = wait_held b t.queue t.state.pc (demand s) have c.0 held;
+      }
+
+  steps : (b : Beat) (gs : List ℕ) (t : Short) (have : ℕ) → IsMemory origin t.world.words → IsHeld t.queue t.state.pc have → IsRight origin b (shipped t.state.mpc) gs t →
+      Steps program origin (moment_of origin t have) (step_of origin b (shipped t.state.mpc) gs t)
+  steps Goes gs t have ms held c =
+      let s : Placed = shipped t.state.mpc in
+      let clear : nat_lt t.state.mpc 512 ≡ true = c.6 in
+      let l : t.state.mpc < 512 = grind (arith, nat_tests) in
+      let les : demand s ≤ have = held_enough (demand s) t.queue t.state.pc have c.0 held in
+      record {
+        have = have_behind (jumps s.part) t.state.pc (demand s) have;
+        done = outcome_is (moment_of origin t have) l ∙ step-clear origin s gs t have map ms held c;
+        stalls = stalls_are (moment_of origin t have) false l (not_stalled origin s t.state have les) ∙ add-zero t.stalls;
+        held = held-guided origin s gs t have held c;
+      }
+  steps Waits gs t have ms held c = waits Waits t have ms held c
+  steps WaitsLate gs t have ms held c = waits WaitsLate t have ms held c
+  steps WaitsOn gs t have ms held c = waits WaitsOn t have ms held c
+
+  pub pass-clocked : (b : Beat) (bs : List Beat) (gs : List ℕ) (t : Short) (have : ℕ) → IsMemory origin t.world.words → IsHeld t.queue t.state.pc have → IsSmooth origin (b ∷ bs) gs t →
+      Arrives origin (pass mic2_meaning program (length bs) (moment_of origin t have)) (clocked origin (b ∷ bs) gs t)
+  pass-clocked b [] gs t have ms held h =
+      let a : Steps program origin (moment_of origin t have) (step_of origin b (shipped t.state.mpc) gs t) = steps b gs t have ms held h in
+      record { have = a.have; is = ap₂ (last mic2_meaning program) a.stalls a.done; held = a.held; memory = step-memory origin b (shipped t.state.mpc) gs t h ms }
+  pass-clocked b (c ∷ cs) gs t have ms held h =
+      let s : Placed = shipped t.state.mpc in
+      let u : Short = step_of origin b s gs t in
+      let a : Steps program origin (moment_of origin t have) u = steps b gs t have ms held h.0 in
+      let r : Arrives origin (pass mic2_meaning program (length cs) (moment_of origin u a.have)) (clocked origin (c ∷ cs) (guesses_of origin b s gs) u) =
+      pass-clocked c cs (guesses_of origin b s gs) u a.have (step-memory origin b s gs t h.0 ms) a.held h.2 in
+      record {
+        have = r.have;
+        is = ap₂ (onward mic2_meaning program (pass mic2_meaning program (length cs))) a.stalls a.done
+            ∙ (onward-inside program (pass mic2_meaning program (length cs)) (moment_of origin u a.have) h.1 ∙ r.is);
+        held = r.held;
+        memory = r.memory;
+      }

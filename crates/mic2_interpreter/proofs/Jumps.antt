@@ -1,0 +1,251 @@
+-- Jumps and branches.
+use Rattle.std.proofs.Common.{◌≡◌, ◌⊎◌, ℕ, suc, ◌+◌, ◌-◌, ◌*◌, ◌^◌, ◌<◌, ◌≤◌, Bool, true, false, ◌==◌, Some, None, List, [], ◌∷◌, length, refl, arith, sym, ◌∙◌, ap, ap₂, subst, All, inl, inr, add-zero}
+use Rattle.std.specs.Prelude.{bit_or, nat_lt, nat_le, if◌then◌else◌, pos, negsuc, ℤ}
+use Rattle.std.specs.Int.{w16, cast_signed}
+use Rattle.std.proofs.lemmas.Bool.Decides.{nat_tests}
+use Rattle.std.proofs.lemmas.List.Elements.{All-get_or}
+use Rattle.machine_words.specs.declared.machine.Machine.TheVariants.{Mic2}
+use Rattle.machine_words.specs.Arithmetic.{wrap, plus, minus, next, before, signed_byte, signed_pair, is_negative}
+use Rattle.console_port.specs.World.{World, read_value, untaken_after, byte_in, fetch_refusal}
+use Rattle.ijvm_instr.specs.declared.instr.Instr.{Instr}
+use Rattle.ijvm_instr.specs.declared.instr.Instr.TheVariants.{Ifeq, Iflt, IfIcmpeq, Goto}
+use Rattle.ijvm_instr.specs.Instructions.{word_of, target}
+use Rattle.ijvm_run.specs.Frames.{State, IsWord, HasWords, frames_of, base}
+use Rattle.ijvm_run.specs.Cost.{cost, cycles_of, is_taken, tests, are_equal}
+use Rattle.ijvm_run.specs.Step.{moved, way}
+use Rattle.ijvm_paths.specs.Accepted.{VerifiedView}
+use Rattle.mic2_datapath.specs.Micro.{Micro}
+use Rattle.mic2_datapath.specs.Mic2.{mic2_meaning}
+use Rattle.ijvm_simulation.specs.Stands.{Origin}
+use Rattle.ijvm_simulation.specs.Passes.{Moment}
+use Rattle.ijvm_simulation.specs.Outcomes.{Went, Overran}
+use Rattle.ijvm_simulation.specs.Verified.{Loads, Fine, IsNext}
+use Rattle.ijvm_simulation.specs.Law.{Overruns}
+use Rattle.mic2_interpreter.specs.Stands.{Stands}
+use Rattle.mic2_interpreter.specs.Stalls.{MovesWithStalls, TakesWithStalls, stalls_of}
+use Rattle.mic2_interpreter.specs.Groups.{IsJump}
+use Rattle.mic2_interpreter.proofs.Shipped.{HasStatements}
+use Rattle.mic2_interpreter.proofs.Accesses.{IsMap, Access, before_is, byte_bound, plus_comm}
+use Rattle.mic2_interpreter.proofs.Numbers.{half_word}
+use Rattle.mic2_interpreter.proofs.Facts.{place, base_above, Top, top, Two, two, two_down, two_next, drops, IsTop_at}
+use Rattle.mic2_interpreter.proofs.Queue.{Goes}
+use Rattle.mic2_interpreter.proofs.Boundaries.{Comes, comes, steps, Counts, counts, Place, place_at, place_on, signed_pair_at, at_boundary, map_of, moves}
+
+-- where the words of goto come to
+abbrev pub goes_to : List ℕ → Micro → ℕ
+goes_to words m = plus (before m.pc) (signed_pair (byte_in words m.pc) (byte_in words (m.pc + 1)))
+
+-- the target of the jump of these two bytes
+abbrev pub jump : List ℕ → ℕ → ℕ
+jump words at = plus (signed_pair (byte_in words (at + 1)) (byte_in words (at + 2))) at
+
+-- the place there, and the one behind it
+pub record Jump (o : Origin) (s : State) (m : Micro) : Type 0 where
+  pub there : Place o.words (goes_to o.words m) (jump o.words s.at)
+  pub behind : Place o.words (plus (goes_to o.words m) 1) (jump o.words s.at + 1)
+
+-- where a branch goes on: at T or at F
+abbrev pub branch : Bool → ℕ
+branch b = if b then 257 else 1
+
+difference_zero : (y x : ℕ) → IsWord y → IsWord x → (minus y x == 0) ≡ (x == y)
+unfolding wrap
+difference_zero y x ly lx = grind (arith, nat_tests)
+
+module _ (program : List ℕ) (has : HasStatements program) (o : Origin) (map : IsMap (length o.words)) (s : State) (m : Micro) (w : World) (k : ℕ) (h : Stands o s m w) (inside : s.at < 0x10000) where
+  jumps : jump o.words s.at < 0x10000 → Jump o s m
+  jumps to =
+      let c : Counts o s m = counts o s m w h inside in
+      let from : before m.pc ≡ s.at = before_is m.pc s.at h.ready.pc h.ready.low in
+      let is : goes_to o.words m ≡ jump o.words s.at =
+      ap₂ plus from (signed_pair_at o.words m.pc (s.at + 1) (s.at + 2) c.p0 (omega arith)) ∙ plus_comm s.at (signed_pair (byte_in o.words (s.at + 1)) (byte_in o.words (s.at + 2))) in
+      let there : Place o.words (goes_to o.words m) (jump o.words s.at) = place_at o.words (goes_to o.words m) (jump o.words s.at) is (omega arith) in
+      record { there = there; behind = place_on o.words (goes_to o.words m) (jump o.words s.at) 1 (jump o.words s.at + 1) there refl (omega arith) }
+
+  go : byte_in o.words s.at ≡ 0xA7 → jump o.words s.at < 0x10000 → Comes program o 3 0 (record { state = m; world = w; stalls = k }) (moved s s.running.operands (jump o.words s.at))
+  go code to =
+      let c : Counts o s m = counts o s m w h inside in
+      let j : Jump o s m = jumps to in
+      comes program has o map Goes (steps 3) (byte_in o.words (jump o.words s.at) ∷ []) m w k 0xA7 0 s _ h code (assumption)
+      (at_boundary o _ _ _
+      (drops o map s m.sp m.lv m.cpp m.tos w h.holds s.running.operands (jump o.words s.at) _ _ _ _ _ s.given h.holds.frames h.holds.fits
+      refl refl h.holds.sp_is h.holds.tos_is refl h.holds.untaken h.holds.given)
+      j.behind.is (omega arith) refl refl refl refl refl)
+      (sym (add-zero k))
+
+  ifeq_taken : (y : ℕ) (rest : List ℕ) → byte_in o.words s.at ≡ 0x99 → s.running.operands ≡ y ∷ rest → (y == 0) ≡ true → jump o.words s.at < 0x10000 →
+      Comes program o 7 0 (record { state = m; world = w; stalls = k }) (moved s rest (jump o.words s.at))
+  ifeq_taken y rest code ops flag to =
+      let c : Counts o s m = counts o s m w h inside in
+      let t : Top o map s m.sp m.lv m.cpp m.tos w h.holds y rest = top o map s m.sp m.lv m.cpp m.tos w h.holds y rest ops in
+      let j : Jump o s m = jumps to in
+      let to_t : branch (m.tos == 0) ≡ 257 = ap branch (ap (λ (k : ℕ). k == 0) t.tos_is ∙ flag) in
+      comes program has o map Goes (steps 7) (257 ∷ byte_in o.words (jump o.words s.at) ∷ []) m w k 0x99 0 s _ h code (assumption)
+      (at_boundary o _ _ _
+      (drops o map s m.sp m.lv m.cpp m.tos w h.holds rest (jump o.words s.at) _ _ _ _ _ s.given t.frames (omega (arith, t.below))
+      refl refl (omega (arith, t.down.is, t.above)) t.next_top refl (t.down.untaken ∙ h.holds.untaken) h.holds.given)
+      j.behind.is (omega arith) refl refl refl refl refl)
+      (sym (add-zero k))
+
+  ifeq_not : (y : ℕ) (rest : List ℕ) → byte_in o.words s.at ≡ 0x99 → s.running.operands ≡ y ∷ rest → (y == 0) ≡ false →
+      Comes program o 5 0 (record { state = m; world = w; stalls = k }) (moved s rest (s.at + 3))
+  ifeq_not y rest code ops flag =
+      let c : Counts o s m = counts o s m w h inside in
+      let t : Top o map s m.sp m.lv m.cpp m.tos w h.holds y rest = top o map s m.sp m.lv m.cpp m.tos w h.holds y rest ops in
+      let to_f : branch (m.tos == 0) ≡ 1 = ap branch (ap (λ (k : ℕ). k == 0) t.tos_is ∙ flag) in
+      comes program has o map Goes (steps 5) (1 ∷ byte_in o.words (s.at + 3) ∷ []) m w k 0x99 0 s _ h code (assumption)
+      (at_boundary o _ _ _
+      (drops o map s m.sp m.lv m.cpp m.tos w h.holds rest (s.at + 3) _ _ _ _ _ s.given t.frames (omega (arith, t.below))
+      refl refl (omega (arith, t.down.is, t.above)) t.next_top refl (t.down.untaken ∙ h.holds.untaken) h.holds.given)
+      (omega (arith, c.p21.is)) (omega arith) refl refl refl refl refl)
+      (sym (add-zero k))
+
+  iflt_taken : (y : ℕ) (rest : List ℕ) → byte_in o.words s.at ≡ 0x9B → s.running.operands ≡ y ∷ rest → is_negative y ≡ true → jump o.words s.at < 0x10000 →
+      Comes program o 7 0 (record { state = m; world = w; stalls = k }) (moved s rest (jump o.words s.at))
+  iflt_taken y rest code ops flag to =
+      let c : Counts o s m = counts o s m w h inside in
+      let t : Top o map s m.sp m.lv m.cpp m.tos w h.holds y rest = top o map s m.sp m.lv m.cpp m.tos w h.holds y rest ops in
+      let j : Jump o s m = jumps to in
+      let to_t : branch (is_negative m.tos) ≡ 257 = ap branch (ap is_negative t.tos_is ∙ flag) in
+      comes program has o map Goes (steps 7) (257 ∷ byte_in o.words (jump o.words s.at) ∷ []) m w k 0x9B 0 s _ h code (assumption)
+      (at_boundary o _ _ _
+      (drops o map s m.sp m.lv m.cpp m.tos w h.holds rest (jump o.words s.at) _ _ _ _ _ s.given t.frames (omega (arith, t.below))
+      refl refl (omega (arith, t.down.is, t.above)) t.next_top refl (t.down.untaken ∙ h.holds.untaken) h.holds.given)
+      j.behind.is (omega arith) refl refl refl refl refl)
+      (sym (add-zero k))
+
+  iflt_not : (y : ℕ) (rest : List ℕ) → byte_in o.words s.at ≡ 0x9B → s.running.operands ≡ y ∷ rest → is_negative y ≡ false →
+      Comes program o 5 0 (record { state = m; world = w; stalls = k }) (moved s rest (s.at + 3))
+  iflt_not y rest code ops flag =
+      let c : Counts o s m = counts o s m w h inside in
+      let t : Top o map s m.sp m.lv m.cpp m.tos w h.holds y rest = top o map s m.sp m.lv m.cpp m.tos w h.holds y rest ops in
+      let to_f : branch (is_negative m.tos) ≡ 1 = ap branch (ap is_negative t.tos_is ∙ flag) in
+      comes program has o map Goes (steps 5) (1 ∷ byte_in o.words (s.at + 3) ∷ []) m w k 0x9B 0 s _ h code (assumption)
+      (at_boundary o _ _ _
+      (drops o map s m.sp m.lv m.cpp m.tos w h.holds rest (s.at + 3) _ _ _ _ _ s.given t.frames (omega (arith, t.below))
+      refl refl (omega (arith, t.down.is, t.above)) t.next_top refl (t.down.untaken ∙ h.holds.untaken) h.holds.given)
+      (omega (arith, c.p21.is)) (omega arith) refl refl refl refl refl)
+      (sym (add-zero k))
+
+  icmpeq_taken : (y x : ℕ) (rest : List ℕ) → byte_in o.words s.at ≡ 0x9F → s.running.operands ≡ y ∷ x ∷ rest → IsWord y → IsWord x → (x == y) ≡ true → jump o.words s.at < 0x10000 →
+      Comes program o 9 0 (record { state = m; world = w; stalls = k }) (moved s rest (jump o.words s.at))
+  icmpeq_taken y x rest code ops ly lx flag to =
+      let c : Counts o s m = counts o s m w h inside in
+      let t : Two o map s m.sp m.lv m.cpp m.tos w h.holds y x rest = two o map s m.sp m.lv m.cpp m.tos w h.holds y x rest ops in
+      let d : Access (length o.words) w (before (before m.sp)) (place s rest - 1) = two_down o map s m.sp m.lv m.cpp m.tos w h.holds y x rest t in
+      let bottom : 0x8000 ≤ base s.callers = base_above s.callers in
+      let j : Jump o s m = jumps to in
+      let goes : branch (minus m.tos (read_value (length o.words) w.words w.untaken (before m.sp)) == 0) ≡ 257 =
+      ap branch (ap₂ (λ (i : ℕ) (k : ℕ). minus i k == 0) t.tos_is t.second ∙ (difference_zero y x ly lx ∙ flag)) in
+      comes program has o map Goes (steps 9) (257 ∷ byte_in o.words (jump o.words s.at) ∷ []) m w k 0x9F 0 s _ h code (assumption)
+      (at_boundary o _ _ _
+      (drops o map s m.sp m.lv m.cpp m.tos w h.holds rest (jump o.words s.at) _ _ _ _ _ s.given t.frames (omega (arith, t.at.below))
+      refl refl (omega (arith, d.is))
+      (IsTop_at rest (ap (λ (u : List ℕ). read_value (length o.words) w.words u (before (before m.sp))) t.at.untaken) (two_next o map s m.sp m.lv m.cpp m.tos w h.holds y x rest t))
+      refl (ap (λ (u : List ℕ). untaken_after (length o.words) u (before (before m.sp))) t.at.untaken ∙ (d.untaken ∙ h.holds.untaken)) h.holds.given)
+      j.behind.is (omega arith) refl refl refl refl refl)
+      (sym (add-zero k))
+
+  icmpeq_not : (y x : ℕ) (rest : List ℕ) → byte_in o.words s.at ≡ 0x9F → s.running.operands ≡ y ∷ x ∷ rest → IsWord y → IsWord x → (x == y) ≡ false →
+      Comes program o 7 0 (record { state = m; world = w; stalls = k }) (moved s rest (s.at + 3))
+  icmpeq_not y x rest code ops ly lx flag =
+      let c : Counts o s m = counts o s m w h inside in
+      let t : Two o map s m.sp m.lv m.cpp m.tos w h.holds y x rest = two o map s m.sp m.lv m.cpp m.tos w h.holds y x rest ops in
+      let d : Access (length o.words) w (before (before m.sp)) (place s rest - 1) = two_down o map s m.sp m.lv m.cpp m.tos w h.holds y x rest t in
+      let bottom : 0x8000 ≤ base s.callers = base_above s.callers in
+      let goes : branch (minus m.tos (read_value (length o.words) w.words w.untaken (before m.sp)) == 0) ≡ 1 =
+      ap branch (ap₂ (λ (i : ℕ) (k : ℕ). minus i k == 0) t.tos_is t.second ∙ (difference_zero y x ly lx ∙ flag)) in
+      comes program has o map Goes (steps 7) (1 ∷ byte_in o.words (s.at + 3) ∷ []) m w k 0x9F 0 s _ h code (assumption)
+      (at_boundary o _ _ _
+      (drops o map s m.sp m.lv m.cpp m.tos w h.holds rest (s.at + 3) _ _ _ _ _ s.given t.frames (omega (arith, t.at.below))
+      refl refl (omega (arith, d.is))
+      (IsTop_at rest (ap (λ (u : List ℕ). read_value (length o.words) w.words u (before (before m.sp))) t.at.untaken) (two_next o map s m.sp m.lv m.cpp m.tos w h.holds y x rest t))
+      refl (ap (λ (u : List ℕ). untaken_after (length o.words) u (before (before m.sp))) t.at.untaken ∙ (d.untaken ∙ h.holds.untaken)) h.holds.given)
+      (omega (arith, c.p21.is)) (omega arith) refl refl refl refl refl)
+      (sym (add-zero k))
+
+module _ (program : List ℕ) (has : HasStatements program) (o : Origin) (v : VerifiedView) (loads : Loads v o) where
+  abbrev map : IsMap (length o.words)
+  map = map_of v o loads
+
+  inside : (s : State) (i : Instr) → IsNext v o s i → s.at < 0x10000
+  inside s i n = omega (arith, n.begins, loads.image.limits.text_fits)
+
+  -- the target of a jump
+  target_is : (s : State) (z : ℤ) → z ≡ cast_signed w16 (256 * byte_in o.words (s.at + 1) + byte_in o.words (s.at + 2)) → jump o.words s.at ≡ target s.at z
+  target_is s z e =
+      plus_comm (signed_pair (byte_in o.words (s.at + 1)) (byte_in o.words (s.at + 2))) s.at
+      ∙ ap (plus s.at) (sym (half_word (byte_in o.words (s.at + 1)) (byte_in o.words (s.at + 2)) (byte_bound o.words (s.at + 1)) (byte_bound o.words (s.at + 2))) ∙ ap word_of (sym e))
+
+  target_inside : (s : State) (z : ℤ) → jump o.words s.at ≡ target s.at z → target s.at z < length v.image.text → jump o.words s.at < 0x10000
+  target_inside s z e l = omega (arith, loads.image.limits.text_fits)
+
+  first_frame : (s : State) → Fine v s → HasWords s.running
+  first_frame s fine = All-get_or HasWords (frames_of s) 0 s.running (omega arith) fine.words.frames
+
+  -- a branch by a test of the top
+  branched : (s to : State) (q : Moment Micro) (i : Instr) (z : ℤ) (t : Bool) (rest : List ℕ) (code : ℕ) → Stands o s q.state q.world → byte_in o.words s.at ≡ code → (code == 255) ≡ false → (code == 254) ≡ false → jump o.words s.at ≡ target s.at z →
+      moved s rest (way s.at z t) ≡ to → (t ≡ true → cost v.image Mic2 i s ≡ 8) → (t ≡ false → cost v.image Mic2 i s ≡ 6) →
+      (t ≡ true → Comes program o 7 0 q (moved s rest (jump o.words s.at))) → (t ≡ false → Comes program o 5 0 q (moved s rest (s.at + 3))) →
+      MovesWithStalls program o q (cost v.image Mic2 i s) 0 to
+  branched s to q i z true rest code h is no_halt no_err e same jumps_in falls_in taken not =
+      moves program o v s to _ q i 7 0 code h is no_halt no_err (jumps_in refl) (omega arith) (ap (moved s rest) e ∙ same) (taken refl)
+  branched s to q i z false rest code h is no_halt no_err e same jumps_in falls_in taken not =
+      moves program o v s to _ q i 5 0 code h is no_halt no_err (falls_in refl) (omega arith) same (not refl)
+
+  -- IF_ICMPEQ takes two cycles more
+  compared : (s to : State) (q : Moment Micro) (i : Instr) (z : ℤ) (t : Bool) (rest : List ℕ) (code : ℕ) → Stands o s q.state q.world → byte_in o.words s.at ≡ code → (code == 255) ≡ false → (code == 254) ≡ false → jump o.words s.at ≡ target s.at z →
+      moved s rest (way s.at z t) ≡ to → (t ≡ true → cost v.image Mic2 i s ≡ 10) → (t ≡ false → cost v.image Mic2 i s ≡ 8) →
+      (t ≡ true → Comes program o 9 0 q (moved s rest (jump o.words s.at))) → (t ≡ false → Comes program o 7 0 q (moved s rest (s.at + 3))) →
+      MovesWithStalls program o q (cost v.image Mic2 i s) 0 to
+  compared s to q i z true rest code h is no_halt no_err e same jumps_in falls_in taken not =
+      moves program o v s to _ q i 9 0 code h is no_halt no_err (jumps_in refl) (omega arith) (ap (moved s rest) e ∙ same) (taken refl)
+  compared s to q i z false rest code h is no_halt no_err e same jumps_in falls_in taken not =
+      moves program o v s to _ q i 7 0 code h is no_halt no_err (falls_in refl) (omega arith) same (not refl)
+
+  goes : (s to : State) (q : Moment Micro) (i : Instr) → IsJump i → Fine v s → IsNext v o s i → Stands o s q.state q.world → Went v.image v.map.stack_end s to i →
+      MovesWithStalls program o q (cost v.image Mic2 i s) (stalls_of v.image i) to
+  goes s to q (Goto z) is fine n h went =
+      let e : jump o.words s.at ≡ target s.at z = target_is s z n.reads.1 in
+      let there : jump o.words s.at < 0x10000 = target_inside s z e (n.finds.inside (target s.at z) (inr (z, refl, refl))) in
+      moves program o v s to _ q (Goto z) 3 0 0xA7 h n.reads.0 refl refl refl (omega arith) (ap (moved s s.running.operands) e ∙ went)
+      (go program has o map s q.state q.world q.stalls h (inside s (Goto z) n) n.reads.0 there)
+  goes s to q (Ifeq z) is fine n h went =
+      let e : jump o.words s.at ≡ target s.at z = target_is s z n.reads.1 in
+      let there : jump o.words s.at < 0x10000 = target_inside s z e (n.finds.inside (target s.at z) (inr (z, refl, refl))) in
+      let taken_is : tests (λ (y : ℕ). y == 0) s.running.operands ≡ (went.top == 0) = ap (tests (λ (y : ℕ). y == 0)) went.are in
+      branched s to q (Ifeq z) z (went.top == 0) went.rest 0x99 h n.reads.0 refl refl e went.leads
+      (λ t. ap (λ (b : Bool). if b then 8 else 6) (taken_is ∙ t)) (λ t. ap (λ (b : Bool). if b then 8 else 6) (taken_is ∙ t))
+      (λ t. ifeq_taken program has o map s q.state q.world q.stalls h (inside s (Ifeq z) n) went.top went.rest n.reads.0 went.are t there)
+      (λ t. ifeq_not program has o map s q.state q.world q.stalls h (inside s (Ifeq z) n) went.top went.rest n.reads.0 went.are t)
+  goes s to q (Iflt z) is fine n h went =
+      let e : jump o.words s.at ≡ target s.at z = target_is s z n.reads.1 in
+      let there : jump o.words s.at < 0x10000 = target_inside s z e (n.finds.inside (target s.at z) (inr (z, refl, refl))) in
+      let taken_is : tests is_negative s.running.operands ≡ is_negative went.top = ap (tests is_negative) went.are in
+      branched s to q (Iflt z) z (is_negative went.top) went.rest 0x9B h n.reads.0 refl refl e went.leads
+      (λ t. ap (λ (b : Bool). if b then 8 else 6) (taken_is ∙ t)) (λ t. ap (λ (b : Bool). if b then 8 else 6) (taken_is ∙ t))
+      (λ t. iflt_taken program has o map s q.state q.world q.stalls h (inside s (Iflt z) n) went.top went.rest n.reads.0 went.are t there)
+      (λ t. iflt_not program has o map s q.state q.world q.stalls h (inside s (Iflt z) n) went.top went.rest n.reads.0 went.are t)
+  goes s to q (IfIcmpeq z) is fine n h went =
+      let e : jump o.words s.at ≡ target s.at z = target_is s z n.reads.1 in
+      let there : jump o.words s.at < 0x10000 = target_inside s z e (n.finds.inside (target s.at z) (inr (z, refl, refl))) in
+      let taken_is : are_equal s.running.operands ≡ (went.second == went.top) = ap are_equal went.are in
+      let words : All IsWord (went.top ∷ went.second ∷ went.rest) = subst (All IsWord) went.are (first_frame s fine).operands in
+      let ly : IsWord went.top = All-get_or IsWord (went.top ∷ went.second ∷ went.rest) 0 went.top (omega arith) words in
+      let lx : IsWord went.second = All-get_or IsWord (went.top ∷ went.second ∷ went.rest) 1 went.second (omega arith) words in
+      compared s to q (IfIcmpeq z) z (went.second == went.top) went.rest 0x9F h n.reads.0 refl refl e went.leads
+      (λ t. ap (λ (b : Bool). if b then 10 else 8) (taken_is ∙ t)) (λ t. ap (λ (b : Bool). if b then 10 else 8) (taken_is ∙ t))
+      (λ t. icmpeq_taken program has o map s q.state q.world q.stalls h (inside s (IfIcmpeq z) n) went.top went.second went.rest n.reads.0 went.are ly lx t there)
+      (λ t. icmpeq_not program has o map s q.state q.world q.stalls h (inside s (IfIcmpeq z) n) went.top went.second went.rest n.reads.0 went.are ly lx t)
+  goes s to q i is fine n h went = absurd is
+
+  limits : (s left : State) (q : Moment Micro) (i : Instr) → IsJump i → Fine v s → IsNext v o s i → Stands o s q.state q.world → Overran v.image v.map.stack_end s left i →
+      Overruns mic2_meaning program (Stands o) o.given q left
+  limits s left q (Goto z) is fine n h over = absurd over
+  limits s left q (Ifeq z) is fine n h over = absurd over
+  limits s left q (Iflt z) is fine n h over = absurd over
+  limits s left q (IfIcmpeq z) is fine n h over = absurd over
+  limits s left q i is fine n h over = absurd is
+
+  pub jumping : TakesWithStalls program o v IsJump
+  jumping = record { goes = goes; limits = limits }

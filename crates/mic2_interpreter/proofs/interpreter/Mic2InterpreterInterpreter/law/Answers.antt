@@ -1,0 +1,19 @@
+use Rattle.mic2_interpreter.proofs.Shipped.{has_statements}
+use Rattle.mic2_interpreter.proofs.Groups.{without_stalls}
+use Rattle.mic2_interpreter.proofs.Boundaries.{shows}
+use Rattle.mic2_interpreter.proofs.Boot.{boots_off}
+use Rattle.mic2_interpreter.proofs.Output.{step_grows}
+use Rattle.mic2_interpreter.proofs.interpreter.Mic2InterpreterInterpreter.law.Goals as goal
+
+pub returns-clause-law : goal.returns-clause-law
+returns-clause-law c = λ store o v has loads. record {
+  shows = shows store o;
+  takes = without_stalls store o v (c.stalls_law.ensures.takes store o v has loads);
+  ends = c.ends_law.ensures store o v has loads;
+}
+
+pub returns-clause-boots : goal.returns-clause-boots
+returns-clause-boots c = λ store o v input has loads. boots_off store (has_statements store has) o v loads input
+
+pub returns-clause-grows : goal.returns-clause-grows
+returns-clause-grows c = λ word s w. step_grows word s w

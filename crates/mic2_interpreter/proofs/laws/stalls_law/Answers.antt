@@ -1,0 +1,12 @@
+use Rattle.mic2_interpreter.proofs.Shipped.{has_statements}
+use Rattle.mic2_interpreter.proofs.Boot.{boots}
+use Rattle.mic2_interpreter.proofs.Groups.{takes}
+use Rattle.mic2_interpreter.proofs.laws.stalls_law.Goals as goal
+
+pub returns-clause-boots : goal.returns-clause-boots
+returns-clause-boots c = λ store o v input has loads. boots store (has_statements store has) o v loads input
+
+pub returns-clause-takes : goal.returns-clause-takes
+returns-clause-takes c = λ store o v has loads.
+    takes store o v (c.operands_law.ensures store o v has loads) (c.locals_law.ensures store o v has loads) (c.jumps_law.ensures store o v has loads)
+    (c.calls_law.ensures store o v has loads) (c.consoles_law.ensures store o v has loads)

@@ -1,0 +1,4 @@
+pub mod Stands
+pub mod Groups
+pub mod Stalls
+pub mod Agreement

@@ -1,0 +1,86 @@
+//! Mic-2 as an interpreter of IJVM.
+
+ghost use Rattle.std.specs.Prelude.{◌≡◌, ◌≤◌, ◌^◌, Some, None, IfOk, OnErr, IsSome};
+ghost use Rattle.machine_words.specs.declared.machine.Machine.TheVariants as machines;
+ghost use Rattle.mic_clock.specs.Board.{NoFault, HasEndCause};
+ghost use Rattle.mic2_datapath.specs.Mic2.{mic2_meaning, IsReady};
+ghost use Rattle.mic2_datapath.specs.View.{micro_of};
+ghost use Rattle.shipped_program.specs.Shipped.{HasShipped};
+ghost use Rattle.ijvm_simulation.specs.Headline.{HasRun, IsCutByRead, IsCutByWrite};
+
+use crate::laws::{ends_law, stalls_law};
+use ijvm_simulation::{Interpreter, run_image};
+use ijvm_verifier::VerifiedImage;
+use mic_base::{Sink, Source};
+use mic_clock::{Board, End};
+use mic2_datapath::Mic2;
+use micro_word::{Machine, Store};
+use shipped_program::{
+    load_micro, loaded_programs_are_shipped, shipped_program, shipped_programs_are_listed,
+};
+use std::alloc::{AllocError, Global};
+
+/// The address of Main1, where a run begins.
+const MAIN1: u16 = 0x002;
+
+/// Mic-2 with the microprogram that ships for it.
+pub struct Mic2Interpreter;
+
+impl Interpreter for Mic2Interpreter {
+    ghost use Rattle.machine_words.specs.declared.machine.Machine.TheVariants as machines;
+    ghost use Rattle.shipped_program.specs.Shipped.{HasShipped};
+
+    type Machine = Mic2;
+
+    ghost IsShipped = { HasShipped machines.Mic2 };
+
+    ghost entry = { 0x002 };
+
+    fn entry() -> u16 {
+        MAIN1
+    }
+
+    fn machine() -> Mic2 {
+        Mic2::new()
+    }
+
+    fn store(alloc: Global) -> Result<Store, AllocError> {
+        let program = shipped_program(alloc, Machine::Mic2)?;
+        shipped_programs_are_listed();
+        loaded_programs_are_shipped();
+        match load_micro(&program) {
+            Ok(loaded) => Ok(loaded.store),
+            Err(_) => unreachable!(),
+        }
+    }
+
+    fn law() {
+        stalls_law();
+        ends_law();
+    }
+}
+
+/// Runs a verified image on a Mic-2, from its reset to its end. Want of memory is told before the first cycle.
+pub fn run_image2<S: Source, K: Sink>(
+    alloc: Global,
+    image: &VerifiedImage,
+    bound: u64,
+    source: &mut S,
+    sink: &mut K,
+) -> Result<Board<Mic2>, AllocError>
+    requires { bound ≤ 2 ^ 62 }
+    ensures ended { IfOk result (λ board. IsSome board.end) }
+    ensures run { IfOk result (λ board. NoFault None board.end →
+        HasRun micro_of mic2_meaning IsReady (HasShipped machines.Mic2) 0x002 image.now bound
+        (S.left source.old) (K.held sink.old) (S.left source.new) (K.held sink.new) board) }
+    ensures read { IfOk result (λ board. board.end ≡ Some End.ReadFault →
+        IsCutByRead micro_of mic2_meaning IsReady (HasShipped machines.Mic2) 0x002 image.now bound
+        (S.left source.old) (K.held sink.old) (S.left source.new) (K.held sink.new) board) }
+    ensures write { IfOk result (λ board. board.end ≡ Some End.WriteFault →
+        IsCutByWrite micro_of mic2_meaning IsReady (HasShipped machines.Mic2) 0x002 image.now bound
+        (S.left source.old) (K.held sink.old) (S.left source.new) (K.held sink.new) board) }
+    ensures cause { IfOk result (λ board. HasEndCause (S.faults source.old) (S.faults source.new) (K.faults sink.old) (K.faults sink.new) None board.end) }
+    ensures none { OnErr result ((source.new ≡ source.old) × (sink.new ≡ sink.old)) }
+{
+    run_image::<Mic2Interpreter, S, K>(alloc, image, bound, source, sink)
+}

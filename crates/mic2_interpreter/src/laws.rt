@@ -1,0 +1,79 @@
+//! What each instruction takes of Mic-2, with its stalls.
+
+ghost use Rattle.std.specs.Prelude.{◌≡◌, ℕ, List, Some};
+ghost use Rattle.machine_words.specs.declared.machine.Machine.TheVariants.{Mic2};
+ghost use Rattle.mic2_datapath.specs.Mic2.{mic2_meaning};
+ghost use Rattle.ijvm_paths.specs.Accepted.{VerifiedView};
+ghost use Rattle.shipped_program.specs.Shipped.{HasShipped};
+ghost use Rattle.ijvm_simulation.specs.Stands.{Origin};
+ghost use Rattle.mic_clock.specs.Run.{turns};
+ghost use Rattle.ijvm_run.specs.Run.{Point, first_point};
+ghost use Rattle.ijvm_simulation.specs.Verified.{Loads, program};
+ghost use Rattle.ijvm_simulation.specs.Headline.{reset_run};
+ghost use Rattle.ijvm_simulation.specs.Law.{Ends};
+ghost use Rattle.mic2_interpreter.specs.Stands.{Stands};
+ghost use Rattle.mic2_interpreter.specs.Stalls.{TakesWithStalls, BootsWithStall, HasStalled};
+ghost use Rattle.mic2_interpreter.specs.Groups.{IsOfOperands, IsOfLocals, IsOfConsole, IsJump, IsCall};
+
+use ijvm_paths::accepted_images_keep_sound;
+use ijvm_run::runs_keep_words;
+
+/// The instructions on the operands alone.
+pub(crate) fn operands_law()
+    ensures { (store : List ℕ) (o : Origin) (v : VerifiedView) → HasShipped Mic2 store → Loads v o →
+        TakesWithStalls store o v IsOfOperands }
+{}
+
+/// IN and OUT.
+pub(crate) fn consoles_law()
+    ensures { (store : List ℕ) (o : Origin) (v : VerifiedView) → HasShipped Mic2 store → Loads v o →
+        TakesWithStalls store o v IsOfConsole }
+{}
+
+/// The jumps and branches.
+pub(crate) fn jumps_law()
+    ensures { (store : List ℕ) (o : Origin) (v : VerifiedView) → HasShipped Mic2 store → Loads v o →
+        TakesWithStalls store o v IsJump }
+{}
+
+/// The instructions that name a local or a constant.
+pub(crate) fn locals_law()
+    ensures { (store : List ℕ) (o : Origin) (v : VerifiedView) → HasShipped Mic2 store → Loads v o →
+        TakesWithStalls store o v IsOfLocals }
+{}
+
+/// Calls and returns.
+pub(crate) fn calls_law()
+    ensures { (store : List ℕ) (o : Origin) (v : VerifiedView) → HasShipped Mic2 store → Loads v o →
+        TakesWithStalls store o v IsCall }
+{}
+
+/// HALT and ERR.
+pub(crate) fn ends_law()
+    ensures { (store : List ℕ) (o : Origin) (v : VerifiedView) → HasShipped Mic2 store → Loads v o →
+        Ends mic2_meaning store (Stands o) o.given v o }
+{}
+
+/// How a run boots, and what every instruction takes. Behind the boot, whose one stall waits for the first word of the text, only a call stalls: once, or twice where its method's entry is the last byte of a word.
+pub fn stalls_law()
+    ensures boots { (store : List ℕ) (o : Origin) (v : VerifiedView) (input : List ℕ) → HasShipped Mic2 store → Loads v o → BootsWithStall store o v input }
+    ensures takes { (store : List ℕ) (o : Origin) (v : VerifiedView) → HasShipped Mic2 store → Loads v o → TakesWithStalls store o v (λ i. Unit {0}) }
+{
+    operands_law();
+    locals_law();
+    jumps_law();
+    calls_law();
+    consoles_law();
+}
+
+/// So at each boundary of a run the clock has counted the stall of the boot and those of the calls, and no other.
+pub fn runs_stall_at_calls()
+    ensures { (store : List ℕ) (o : Origin) (v : VerifiedView) (input : List ℕ) (bound : ℕ) → HasShipped Mic2 store → Loads v o →
+        (at : Point) (stalls : ℕ) → HasStalled (program Mic2 v) bound (first_point v.main_locals input) at stalls →
+        (turns mic2_meaning store (Some bound) at.cycles (reset_run mic2_meaning 0x002 v.main_locals (record { words = o.words; untaken = input; given = o.given }))).counts.stalls ≡ stalls }
+{
+    stalls_law();
+    ends_law();
+    accepted_images_keep_sound();
+    runs_keep_words();
+}

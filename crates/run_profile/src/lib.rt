@@ -1,0 +1,10 @@
+//! The profile of a run: how often each instruction was completed, and in how many cycles.
+#![tactic(auto)]
+
+pub mod profiler;
+pub mod rows;
+pub mod text;
+
+pub use profiler::{Profiler, Tally};
+pub use rows::{rows_law, rows_of};
+pub use text::put_profile;

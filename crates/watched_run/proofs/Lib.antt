@@ -1,0 +1,5 @@
+pub mod Turns
+pub mod Shown
+pub mod Saying
+pub mod InTime
+pub mod Causes
