@@ -27,13 +27,7 @@ fn boundary_line(line: &mut Line, boundary: Option<Boundary>)
 }
 
 /// Appends the three lines that begin each report.
-fn head(
-    line: &mut Line,
-    end: End,
-    cycles: u64,
-    instructions: u64,
-    boundary: Option<Boundary>,
-)
+fn head(line: &mut Line, end: End, cycles: u64, instructions: u64, boundary: Option<Boundary>)
     requires { length line.old + 166 ≤ 512 }
     ensures text { line.new ≡ line.old ++ head end cycles instructions boundary }
     ensures len { length line.new ≤ length line.old + 166 }

@@ -44,8 +44,8 @@ module _ {M S : Type 0} (state : M → S) (m : Meaning S) (IsReady : ℕ → Lis
       let r : HasRun state m IsReady IsShipped entry program soak_bound (Some []) None left None board = run (unfailed board.end cause) in
       let agrees : end ≡ end_of r.begins.finish.end = some_is end (end_of r.begins.finish.end) (sym ended ∙ (sym r.end ∙ r.agrees.end)) in
       let by_end : Says out out' (summary (length program.image.text) (end_of r.begins.finish.end) board.counts (m.registers (state board.machine)).tos)
-          (status_of (end_of r.begins.finish.end)) status =
-          subst (λ (x : End). Says out out' (summary (length program.image.text) x board.counts (m.registers (state board.machine)).tos) (status_of x) status) agrees says in
+      (status_of (end_of r.begins.finish.end)) status =
+      subst (λ (x : End). Says out out' (summary (length program.image.text) x board.counts (m.registers (state board.machine)).tos) (status_of x) status) agrees says in
       Ran program is left board r same
       (subst (λ (x : ImageView). Says out out' (summary (length x.text) (end_of r.begins.finish.end) board.counts (m.registers (state board.machine)).tos)
       (status_of (end_of r.begins.finish.end)) status) is.image_is by_end)
