@@ -35,13 +35,15 @@ unfailed (Some ends.Adrift) c = tt
 
 module _ {M S : Type 0} (state : M → S) (m : Meaning S) (IsReady : ℕ → List ℕ → ℕ → S → Type 0) (IsShipped : List ℕ → Type 0) (entry : ℕ) where
   -- the summary by the end of the definition's run, and by the size of the generated text
-  pub ends_by : (seed size : ℕ) (program : VerifiedView) (left : Option (List ℕ)) (board : BoardView M) (end : End) (out out' err err' : SinkState) (status : ℕ) →
-      IsGenerated seed size program → (NoFault None board.end → HasRun state m IsReady IsShipped entry program soak_bound (Some []) None left None board) →
+  pub ends_by : (seed size : ℕ) (program : VerifiedView) (begun left : Option (List ℕ)) (board : BoardView M) (end : End) (out out' err err' : SinkState) (status : ℕ) →
+      IsGenerated seed size program → begun ≡ Some [] →
+      (NoFault None board.end → HasRun state m IsReady IsShipped entry program soak_bound begun None left None board) →
       HasEndCause 0 0 0 0 None board.end → board.end ≡ Some end → err' ≡ err →
       Says out out' (summary (length program.image.text) end board.counts (m.registers (state board.machine)).tos) (status_of end) status →
       SoakEnds state m IsReady IsShipped entry seed size out out' err err' status
-  ends_by seed size program left board end out out' err err' status is run cause ended same says =
-      let r : HasRun state m IsReady IsShipped entry program soak_bound (Some []) None left None board = run (unfailed board.end cause) in
+  ends_by seed size program begun left board end out out' err err' status is none run cause ended same says =
+      let r : HasRun state m IsReady IsShipped entry program soak_bound (Some []) None left None board =
+          subst (λ (x : Option (List ℕ)). HasRun state m IsReady IsShipped entry program soak_bound x None left None board) none (run (unfailed board.end cause)) in
       let agrees : end ≡ end_of r.begins.finish.end = some_is end (end_of r.begins.finish.end) (sym ended ∙ (sym r.end ∙ r.agrees.end)) in
       let by_end : Says out out' (summary (length program.image.text) (end_of r.begins.finish.end) board.counts (m.registers (state board.machine)).tos)
       (status_of (end_of r.begins.finish.end)) status =
