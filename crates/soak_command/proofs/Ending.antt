@@ -43,7 +43,7 @@ module _ {M S : Type 0} (state : M → S) (m : Meaning S) (IsReady : ℕ → Lis
       SoakEnds state m IsReady IsShipped entry seed size out out' err err' status
   ends_by seed size program begun left board end out out' err err' status is none run cause ended same says =
       let r : HasRun state m IsReady IsShipped entry program soak_bound (Some []) None left None board =
-          subst (λ (x : Option (List ℕ)). HasRun state m IsReady IsShipped entry program soak_bound x None left None board) none (run (unfailed board.end cause)) in
+      subst (λ (x : Option (List ℕ)). HasRun state m IsReady IsShipped entry program soak_bound x None left None board) none (run (unfailed board.end cause)) in
       let agrees : end ≡ end_of r.begins.finish.end = some_is end (end_of r.begins.finish.end) (sym ended ∙ (sym r.end ∙ r.agrees.end)) in
       let by_end : Says out out' (summary (length program.image.text) (end_of r.begins.finish.end) board.counts (m.registers (state board.machine)).tos)
       (status_of (end_of r.begins.finish.end)) status =
