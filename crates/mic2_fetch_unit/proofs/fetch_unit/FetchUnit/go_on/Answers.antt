@@ -1,6 +1,5 @@
-use Rattle.std.proofs.Common.{◌≡◌, ℕ, ◌+◌, ◌++◌, List, Option, Some, None, drop, length, slice_index, sym, ap, ◌∙◌}
+use Rattle.std.proofs.Common.{◌≡◌, ℕ, ◌++◌, Some, None, drop, length, slice_index, sym, ap, ◌∙◌}
 use Rattle.std.specs.Option.{option_map}
-use Rattle.std.proofs.lemmas.List.{drop-drop}
 use Rattle.machine_words.specs.Arithmetic.{wrap, next}
 use Rattle.mic2_fetch_unit.specs.FetchUnit.{Prefetch, bytes_of_word, edge_refusal, sample_refusal}
 use Rattle.mic2_fetch_unit.proofs.Units.{edge_none, edge_some}
@@ -14,8 +13,7 @@ pub returns-in-None : goal.returns-in-None
 returns-in-None c =
     let u : Prefetch = c.args.self.now in
     let is : u.pending ≡ None = ap (λ (v : Prefetch). v.pending) (sym c.self.view_is) ∙ c.in-None.is in
-    let bytes : drop (c.self.inside.left + c.args.taken) c.self.inside.bytes.items ≡ drop c.args.taken u.bytes =
-    sym (drop-drop c.args.taken c.self.inside.left c.self.inside.bytes.items) ∙ ap (λ (v : Prefetch). drop c.args.taken v.bytes) c.self.view_is in
+    let bytes : c.leave.new.self ≡ drop c.args.taken u.bytes = c.leave.ensures ∙ ap (λ (v : Prefetch). drop c.args.taken v.bytes) c.self.view_is in
     let pending = c.sampled-pending.ensures ∙ ap (option_map (λ (at : ℕ). slice_index c.args.bus.now.words at)) c.will_fetch-at.ensures in
     (λ i. record { bytes = bytes i; imar = (c.self.view_is i).imar; skip = (c.self.view_is i).skip; pending = pending i })
     ∙ sym (edge_none c.args.bus.now.words c.args.taken u is)
@@ -25,9 +23,8 @@ unfolding wrap
 returns-in-Some c =
     let u : Prefetch = c.args.self.now in
     let is : u.pending ≡ Some c.in-Some.word = ap (λ (v : Prefetch). v.pending) (sym c.self.view_is) ∙ c.in-Some.is in
-    let front : drop (c.self.inside.left + c.args.taken) c.self.inside.bytes.items ≡ drop c.args.taken u.bytes =
-    sym (drop-drop c.args.taken c.self.inside.left c.self.inside.bytes.items) ∙ ap (λ (v : Prefetch). drop c.args.taken v.bytes) c.self.view_is in
-    let bytes = c.filled-self-inside.ensures ∙ (λ i. front i ++ drop (c.self.view_is i).skip (bytes_of_word c.in-Some.word)) in
+    let front : c.leave-in-Some.new.self ≡ drop c.args.taken u.bytes = c.leave-in-Some.ensures ∙ ap (λ (v : Prefetch). drop c.args.taken v.bytes) c.self.view_is in
+    let bytes = c.enter.ensures ∙ (λ i. front i ++ drop (c.self.view_is i).skip (bytes_of_word c.in-Some.word)) in
     let pending = c.sampled-pending.ensures ∙ ap (option_map (λ (at : ℕ). slice_index c.args.bus.now.words at)) c.will_fetch-at.ensures in
     (λ i. record { bytes = bytes i; imar = next (c.self.view_is i).imar; skip = 0; pending = pending i })
     ∙ sym (edge_some c.args.bus.now.words c.args.taken c.in-Some.word u is)
