@@ -53,7 +53,8 @@ impl Queue {
         requires { count + taken ≡ length self.old }
         ensures { self.new ≡ drop taken self.old }
     {
-        self.bits >>= 8 * taken;
+        let stay = self.bits >> (8 * taken);
+        self.bits = stay;
         self.count = count;
     }
 

@@ -3,11 +3,11 @@ use Rattle.std.proofs.lemmas.Nat.{shr_below}
 use Rattle.mic2_fetch_unit.proofs.Packed.{length-bytes_in, drop-bytes_in}
 use Rattle.mic2_fetch_unit.proofs.queue.Queue.leave.Goals as goal
 
-pub overflow_mul-self : goal.overflow_mul-self
-overflow_mul-self c = omega (arith, ap length c.self.view_is, length-bytes_in c.self.inside.count c.self.inside.bits, c.self.invariant.0)
+pub overflow_mul-stay : goal.overflow_mul-stay
+overflow_mul-stay c = omega (arith, ap length c.self.view_is, length-bytes_in c.self.inside.count c.self.inside.bits, c.self.invariant.0)
 
-pub overflow_shr-self : goal.overflow_shr-self
-overflow_shr-self c = omega (arith, ap length c.self.view_is, length-bytes_in c.self.inside.count c.self.inside.bits, c.self.invariant.0)
+pub overflow_shr-stay : goal.overflow_shr-stay
+overflow_shr-stay c = omega (arith, ap length c.self.view_is, length-bytes_in c.self.inside.count c.self.inside.bits, c.self.invariant.0)
 
 pub invariant_of-self : goal.invariant_of-self
 invariant_of-self c =
