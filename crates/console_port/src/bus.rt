@@ -12,6 +12,7 @@ use crate::console::{Console, MOST_KEPT};
 use crate::fault::BusFault;
 use crate::loading::write_image;
 use crate::map::{CONSOLE, FRAME, MOST_POOL, MOST_TEXT, MemoryMap, STACK_SIDE};
+use crate::pages::Pages;
 use mic_base::{Sink, Source};
 use std::alloc::{AllocError, Global};
 use std::marker::Model;
@@ -19,7 +20,7 @@ use std::marker::Model;
 /// Memory words and a console. Each access says by the memory map what it reaches.
 #[derive(Drop)]
 pub struct Bus {
-    words: Vec<u32>,
+    memory: Pages,
     console: Console,
 }
 
@@ -28,7 +29,7 @@ impl Model for Bus {
 
     ghost Value = { BusView };
 
-    ghost view = { λ b. record { words = b.words.items; console = b.console } };
+    ghost view = { λ b. record { words = b.memory; console = b.console } };
 }
 
 impl Bus {
@@ -39,7 +40,7 @@ impl Bus {
         ensures ended { IfOk result (λ bus. bus.console.ended ≡ false) }
     {
         Ok(Bus {
-            words: vec![in alloc; 0; map.stack_end as usize]?,
+            memory: Pages::new(alloc, map.stack_end)?,
             console: Console::new(),
         })
     }
@@ -52,14 +53,14 @@ impl Bus {
         ensures words { IsLoaded text.now pool.now self.old.words self.new.words }
         ensures console { self.new.console ≡ self.old.console }
     {
-        write_image(&mut self.words, text, pool);
+        write_image(&mut self.memory, text, pool);
     }
 
     /// Whether a memory word is there.
     pub fn has(&self, at: u32) -> bool
         ensures { IsTrue result ↔ (at < length self.now.words) }
     {
-        (at as usize) < self.words.len()
+        self.memory.has(at)
     }
 
     #[tactic(auto, unfolding(crate::specs::World::read_refusal))]
@@ -105,7 +106,7 @@ impl Bus {
     pub fn peek(&self, at: u32) -> Option<u32>
         ensures { result ≡ slice_get self.now.words at }
     {
-        self.words.get(at as usize).copied()
+        self.memory.get(at)
     }
 
     #[tactic(auto, unfolding(crate::specs::World::read_refusal, crate::specs::World::read_value, crate::specs::World::untaken_after))]
@@ -129,7 +130,7 @@ impl Bus {
             (result ≡ Ok (slice_index self.old.words at)) × (self.new ≡ self.old) × (source.new ≡ source.old) × (sink.new ≡ sink.old) }
     {
         if self.has(at) {
-            return Ok(self.words[at as usize]);
+            return Ok(self.memory.word(at));
         }
         if at != CONSOLE {
             return Err(BusFault::OutOfMap(at));
@@ -159,7 +160,7 @@ impl Bus {
         ensures cause { HasFaultCause 0 0 (K.faults sink.old) (K.faults sink.new) result }
     {
         if self.has(at) {
-            self.words[at as usize] = value;
+            self.memory.set(at, value);
             return Ok(());
         }
         if at != CONSOLE {
@@ -204,7 +205,7 @@ impl Bus {
         requires { at < length self.now.words }
         ensures { result ≡ slice_index self.now.words at }
     {
-        self.words[at as usize]
+        self.memory.word(at)
     }
 
     /// Stores a memory word.
@@ -213,7 +214,7 @@ impl Bus {
         ensures words { self.new.words ≡ slice_set self.old.words at value }
         ensures console { self.new.console ≡ self.old.console }
     {
-        self.words[at as usize] = value;
+        self.memory.set(at, value);
     }
 
     /// The byte at a byte address of the memory.

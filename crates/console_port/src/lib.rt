@@ -6,6 +6,7 @@ pub mod console;
 pub mod fault;
 mod loading;
 pub mod map;
+mod pages;
 
 pub use bus::Bus;
 pub use console::{Console, MOST_KEPT};

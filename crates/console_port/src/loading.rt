@@ -4,6 +4,7 @@ ghost use Rattle.std.specs.Prelude.{◌≡◌, ◌⊎◌, ◌+◌, ◌*◌, ◌/
 ghost use Rattle.console_port.specs.Loading.{text_word, IsLoaded};
 
 use crate::map::{FRAME, MOST_POOL, MOST_TEXT, POOL};
+use crate::pages::Pages;
 
 fn byte_or_zero(text: &[u8], at: usize) -> u32
     ensures value { result ≡ slice_index text.now at }
@@ -23,37 +24,38 @@ fn text_word(text: &[u8], at: usize) -> u32
 }
 
 /// Writes the text from word 0 on.
-fn write_text(words: &mut [u32], text: &[u8])
+fn write_text(memory: &mut Pages, text: &[u8])
     requires limit { length text.now ≤ MOST_TEXT }
-    requires fits { POOL ≤ length words.old }
-    ensures size { length words.new ≡ length words.old }
-    ensures text { (at : ℕ) → 4 * at < length text.now → slice_index words.new at ≡ text_word text.now at }
-    ensures others { (at : ℕ) → length text.now ≤ 4 * at → slice_index words.new at ≡ slice_index words.old at }
+    requires fits { POOL ≤ length memory.old }
+    ensures size { length memory.new ≡ length memory.old }
+    ensures text { (at : ℕ) → 4 * at < length text.now → slice_index memory.new at ≡ text_word text.now at }
+    ensures others { (at : ℕ) → length text.now ≤ 4 * at → slice_index memory.new at ≡ slice_index memory.old at }
 {
     for at in 0..text.len().div_ceil(4) {
-        words[at] = text_word(text, at);
+        memory.set(at as u32, text_word(text, at));
     }
 }
 
 /// Writes the pool from its place on.
-fn write_pool(words: &mut [u32], pool: &[u32])
-    requires { POOL + length pool.now ≤ length words.old }
-    ensures size { length words.new ≡ length words.old }
-    ensures pool { (k : ℕ) → k < length pool.now → slice_index words.new (POOL + k) ≡ slice_index pool.now k }
-    ensures others { (at : ℕ) → (at < POOL) ⊎ (POOL + length pool.now ≤ at) → slice_index words.new at ≡ slice_index words.old at }
+fn write_pool(memory: &mut Pages, pool: &[u32])
+    requires limit { length pool.now ≤ MOST_POOL }
+    requires fits { POOL + length pool.now ≤ length memory.old }
+    ensures size { length memory.new ≡ length memory.old }
+    ensures pool { (k : ℕ) → k < length pool.now → slice_index memory.new (POOL + k) ≡ slice_index pool.now k }
+    ensures others { (at : ℕ) → (at < POOL) ⊎ (POOL + length pool.now ≤ at) → slice_index memory.new at ≡ slice_index memory.old at }
 {
     for k in 0..pool.len() {
-        words[POOL as usize + k] = pool[k];
+        memory.set(POOL + k as u32, pool[k]);
     }
 }
 
 /// Writes an image.
-pub fn write_image(words: &mut [u32], text: &[u8], pool: &[u32])
+pub fn write_image(memory: &mut Pages, text: &[u8], pool: &[u32])
     requires text { length text.now ≤ MOST_TEXT }
     requires pool { length pool.now ≤ MOST_POOL }
-    requires memory { FRAME ≤ length words.old }
-    ensures { IsLoaded text.now pool.now words.old words.new }
+    requires memory { FRAME ≤ length memory.old }
+    ensures { IsLoaded text.now pool.now memory.old memory.new }
 {
-    write_text(words, text);
-    write_pool(words, pool);
+    write_text(memory, text);
+    write_pool(memory, pool);
 }

@@ -180,3 +180,53 @@ fn the_source_is_asked_no_more_after_its_end(rt: HostRuntime) -> Result<(), Fail
     }
     Ok(())
 }
+
+/// Writes the first word of each page, the last page first.
+#[test]
+fn every_page_has_words_of_its_own(rt: HostRuntime) -> Result<(), Fail> {
+    let mut sink = PlainSink::new();
+    for map in [MemoryMap::STANDARD, MemoryMap::LARGE] {
+        let mut bus = Bus::new(rt.alloc(), map)?;
+        let pages = map.stack_end / 1024;
+        for page in (0..pages).rev() {
+            assert_eq!(rt; bus.peek(1024 * page), Some(0), "page {page} before");
+            assert_eq!(rt; bus.write_word(1024 * page, page + 7, &mut sink), Ok(()));
+        }
+        for page in 0..pages {
+            assert_eq!(rt; bus.peek(1024 * page), Some(page + 7), "page {page}");
+            assert_eq!(rt;
+                bus.peek(1024 * page + 1),
+                Some(0),
+                "page {page}, next word"
+            );
+            assert_eq!(rt;
+                bus.peek(1024 * page + 1023),
+                Some(0),
+                "page {page}, last word"
+            );
+        }
+    }
+    Ok(())
+}
+
+/// The last page of a memory may have fewer words than the others.
+#[test]
+fn a_memory_ends_within_a_page(rt: HostRuntime) -> Result<(), Fail> {
+    let end = FRAME + 5;
+    let mut bus = Bus::new(rt.alloc(), MemoryMap { stack_end: end })?;
+    let mut sink = PlainSink::new();
+    assert_eq!(rt; bus.write_word(end - 1, 3, &mut sink), Ok(()));
+    assert_eq!(rt;
+        bus.write_word(end, 4, &mut sink),
+        Err(BusFault::StackLimit(end))
+    );
+    for (at, want) in [
+        (FRAME - 1, Some(0)),
+        (FRAME, Some(0)),
+        (end - 1, Some(3)),
+        (end, None),
+    ] {
+        assert_eq!(rt; bus.peek(at), want, "word {at}");
+    }
+    Ok(())
+}

@@ -1,9 +1,11 @@
 //! The gates of the ALU.
 ghost use Rattle.std.specs.Prelude.{◌≡◌, ◌/◌, ◌%◌, ◌==◌, if◌then◌else◌};
 ghost use Rattle.machine_words.specs.Arithmetic.{is_negative};
-ghost use Rattle.mic1_alu.specs.Gates.{enabled, combined, gates, controls_of};
+ghost use Rattle.mic1_alu.specs.Gates.{enabled, gates, controls_of};
 
 use crate::controls::Controls;
+use crate::slices::{EACH, gated};
+use crate::wires::Wires;
 
 /// What leaves the ALU, before the shifter.
 #[derive(Clone, Copy, Debug, PartialEq, Eq)]
@@ -15,22 +17,11 @@ pub struct AluOut {
     pub z: bool,
 }
 
-fn enable(on: bool, x: u32) -> u32
-    ensures { result ≡ enabled on x }
+/// A control line, as it reaches each slice.
+fn spread(on: bool) -> u32
+    ensures { result ≡ enabled on 0xFFFFFFFF }
 {
-    if on { x } else { 0 }
-}
-
-#[tactic(auto, unfolding(machine_words::specs::Arithmetic::wrap))]
-fn combine(f0: bool, f1: bool, inc: bool, x: u32, y: u32) -> u32
-    ensures { result ≡ combined f0 f1 inc x y }
-{
-    match (f0, f1) {
-        (false, false) => x & y,
-        (false, true) => x | y,
-        (true, false) => !y,
-        (true, true) => x.wrapping_add(y).wrapping_add(enable(inc, 1)),
-    }
+    if on { EACH } else { 0 }
 }
 
 /// What the gates give for H or the A bus, `a`, and the B bus, `b`.
@@ -39,9 +30,14 @@ pub fn alu(controls: Controls, a: u32, b: u32) -> AluOut
     ensures n { result.n ≡ is_negative result.value }
     ensures z { result.z ≡ (result.value == 0) }
 {
-    let x = enable(controls.ena, a) ^ enable(controls.inva, 0xFFFF_FFFF);
-    let y = enable(controls.enb, b);
-    let value = combine(controls.f0, controls.f1, controls.inc, x, y);
+    let wires = Wires {
+        f0: controls.f0,
+        f1: controls.f1,
+        ena: spread(controls.ena),
+        enb: spread(controls.enb),
+        inva: spread(controls.inva),
+    };
+    let value = gated(wires, controls.inc, a, b);
     AluOut {
         value,
         n: value >= 0x8000_0000,
@@ -56,11 +52,12 @@ pub fn alu_by_lines(bits: u8, ena: u32, inva: u32, a: u32, b: u32) -> u32
     requires b { enabled (bits / 4 % 2 == 1) b ≡ b }
     ensures { result ≡ gates (controls_of bits) a b }
 {
-    combine(
-        bits / 32 % 2 == 1,
-        bits / 16 % 2 == 1,
-        bits % 2 == 1,
-        (a & ena) ^ inva,
-        b,
-    )
+    let wires = Wires {
+        f0: bits / 32 % 2 == 1,
+        f1: bits / 16 % 2 == 1,
+        ena,
+        enb: EACH,
+        inva,
+    };
+    gated(wires, bits % 2 == 1, a, b)
 }

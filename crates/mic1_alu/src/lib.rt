@@ -4,9 +4,11 @@
 mod controls;
 mod gates;
 mod shifter;
+mod slices;
 mod table;
 #[cfg(test)]
 mod tests;
+mod wires;
 
 pub use controls::Controls;
 pub use gates::{AluOut, alu, alu_by_lines};

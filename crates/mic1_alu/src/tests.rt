@@ -1,6 +1,9 @@
 //! The table of operations and the shifts on edge values.
 
-use crate::{Controls, alu, shift};
+ghost use Rattle.std.specs.Prelude.{◌≡◌, ◌%◌, ◌==◌};
+ghost use Rattle.mic1_alu.specs.Gates.{enabled};
+
+use crate::{Controls, alu, alu_by_lines, shift};
 use micro_word::Shift;
 
 /// All bits set, or -1.
@@ -50,6 +53,55 @@ fn gates_give_the_rows(rt: HostRuntime) {
             assert_eq!(rt; out.value, *value, "{name} of {a} and {b}");
             assert_eq!(rt; out.n, *value >= MIN, "N of {name} of {a} and {b}");
             assert_eq!(rt; out.z, *value == 0, "Z of {name} of {a} and {b}");
+        }
+    }
+}
+
+const CORNERS: [u32; 10] = [
+    0,
+    1,
+    MAX,
+    MIN,
+    ONES,
+    ONES - 1,
+    0x5555_5555,
+    0xAAAA_AAAA,
+    0x0000_FFFF,
+    0x1234_5678,
+];
+
+/// A word where a line is on, and 0 where it is off.
+fn under(line: u8, word: u32) -> u32
+    ensures { result ≡ enabled (line % 2 == 1) word }
+{
+    if line % 2 == 1 { word } else { 0 }
+}
+
+/// The ALU with an addition of words in place of the slices.
+fn by_addition(bits: u8, a: u32, b: u32) -> u32 {
+    let x = under(bits / 8, a) ^ under(bits / 2, ONES);
+    let y = under(bits / 4, b);
+    match bits / 16 % 4 {
+        0 => x & y,
+        1 => x | y,
+        2 => !y,
+        _ => x.wrapping_add(y).wrapping_add(under(bits, 1)),
+    }
+}
+
+#[test]
+fn slices_add_as_words_do(rt: HostRuntime) {
+    for bits in 0..64 {
+        for a in &CORNERS {
+            for b in &CORNERS {
+                let want = by_addition(bits, *a, *b);
+                let out = alu(Controls::from_bits(bits), *a, *b);
+                assert_eq!(rt; out.value, want, "{bits} of {a} and {b}");
+                let ena = under(bits / 8, ONES);
+                let inva = under(bits / 2, ONES);
+                let by_lines = alu_by_lines(bits, ena, inva, *a, under(bits / 4, *b));
+                assert_eq!(rt; by_lines, want, "{bits} of {a} and {b} by lines");
+            }
         }
     }
 }

@@ -10,7 +10,7 @@ returns c =
       size = c.write_pool.ensures.size ∙ c.write_text.ensures.size;
       text_bytes = λ byte h.
           let below : byte / 4 < 0x4000 = omega arith in
-          byte_in-text c.args.text.now small c.write_pool.new.words byte (c.write_pool.ensures.others (byte / 4) (inl below) ∙ c.write_text.ensures.text (byte / 4) h);
+          byte_in-text c.args.text.now small c.write_pool.new.memory byte (c.write_pool.ensures.others (byte / 4) (inl below) ∙ c.write_text.ensures.text (byte / 4) h);
       pool_words = c.write_pool.ensures.pool;
       others = λ at h side. c.write_pool.ensures.others at side ∙ c.write_text.ensures.others at h;
     }
