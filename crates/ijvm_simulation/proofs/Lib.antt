@@ -9,3 +9,8 @@ pub mod Cases
 pub mod Next
 pub mod Carried
 pub mod Boards
+pub mod Accesses
+pub mod Keeps
+pub mod Facts
+pub mod Called
+pub mod Numbers

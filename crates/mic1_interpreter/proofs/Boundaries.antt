@@ -16,7 +16,7 @@ use Rattle.ijvm_simulation.specs.Verified.{Loads}
 use Rattle.mic1_interpreter.proofs.Shipped.{shipped, HasStatements}
 use Rattle.mic1_interpreter.specs.Stands.{Stands}
 use Rattle.mic1_interpreter.proofs.Guided.{clocked, IsSmooth, pass-clocked, outcome_is, step-refused}
-use Rattle.mic1_interpreter.proofs.Accesses.{IsMap, next_is, fetch_ok, byte_kept}
+use Rattle.ijvm_simulation.proofs.Accesses.{IsMap, next_is, fetch_ok, byte_kept}
 use Rattle.ijvm_simulation.specs.Stands.{Origin, Holds}
 use Rattle.ijvm_simulation.specs.Passes.{Moment, is_inside, pass}
 use Rattle.ijvm_simulation.specs.Law.{Shows, HasWord, Moves, Overruns}

@@ -19,10 +19,10 @@ use Rattle.ijvm_simulation.specs.Outcomes.{Went, Overran, push}
 use Rattle.ijvm_simulation.specs.Verified.{Loads, Fine, IsNext}
 use Rattle.ijvm_simulation.specs.Law.{Moves, Overruns, Takes}
 use Rattle.mic1_interpreter.specs.Stands.{Stands}
-use Rattle.mic1_interpreter.specs.Groups.{IsOfConsole}
+use Rattle.ijvm_simulation.specs.Groups.{IsOfConsole}
 use Rattle.mic1_interpreter.proofs.Shipped.{HasStatements}
-use Rattle.mic1_interpreter.proofs.Accesses.{IsMap, Access, next_is, write_limit, Port, console, port}
-use Rattle.mic1_interpreter.proofs.Facts.{room, Top, top, pushes, drops, IsTop_at}
+use Rattle.ijvm_simulation.proofs.Accesses.{IsMap, Access, next_is, write_limit, Port, console, port}
+use Rattle.ijvm_simulation.proofs.Facts.{room, Top, top, pushes, drops, IsTop_at}
 use Rattle.mic1_interpreter.proofs.Boundaries.{Comes, comes, Counts, counts, at_boundary, map_of, moves, overruns}
 
 module _ (program : List ℕ) (has : HasStatements program) (o : Origin) (map : IsMap (length o.words)) (s : State) (m : Micro) (w : World) (k : ℕ) (h : Stands o s m w) (inside : s.at < 0x10000) where

@@ -16,7 +16,7 @@ use Rattle.ijvm_simulation.specs.Law.{Stops, Ends}
 use Rattle.mic1_interpreter.specs.Stands.{Stands}
 use Rattle.mic1_interpreter.proofs.Shipped.{HasStatements}
 use Rattle.mic1_interpreter.proofs.Guided.{clocked, pass-clocked}
-use Rattle.mic1_interpreter.proofs.Accesses.{IsMap}
+use Rattle.ijvm_simulation.proofs.Accesses.{IsMap}
 use Rattle.mic1_interpreter.proofs.Boundaries.{Counts, counts, at_main, starts, begins, map_of}
 
 module _ (program : List ℕ) (has : HasStatements program) (o : Origin) (v : VerifiedView) (loads : Loads v o) where

@@ -15,7 +15,7 @@ use Rattle.ijvm_simulation.specs.Outcomes.{Went, Overran}
 use Rattle.ijvm_simulation.specs.Verified.{Fine, IsNext}
 use Rattle.ijvm_simulation.specs.Law.{Moves, Overruns, Takes}
 use Rattle.mic1_interpreter.specs.Stands.{Stands}
-use Rattle.mic1_interpreter.specs.Groups.{IsOfOperands, IsOfLocals, IsJump, IsCall, IsOfConsole}
+use Rattle.ijvm_simulation.specs.Groups.{IsOfOperands, IsOfLocals, IsJump, IsCall, IsOfConsole}
 
 module _ (program : List ℕ) (o : Origin) (v : VerifiedView) where
   abbrev Of : (Instr → Type 0) → Type 0

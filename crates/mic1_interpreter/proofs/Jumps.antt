@@ -22,11 +22,11 @@ use Rattle.ijvm_simulation.specs.Outcomes.{Went, Overran}
 use Rattle.ijvm_simulation.specs.Verified.{Loads, Fine, IsNext}
 use Rattle.ijvm_simulation.specs.Law.{Moves, Overruns, Takes}
 use Rattle.mic1_interpreter.specs.Stands.{Stands}
-use Rattle.mic1_interpreter.specs.Groups.{IsJump}
+use Rattle.ijvm_simulation.specs.Groups.{IsJump}
 use Rattle.mic1_interpreter.proofs.Shipped.{HasStatements}
-use Rattle.mic1_interpreter.proofs.Accesses.{IsMap, Access, before_is, fetch_ok, byte_bound, byte_kept, plus_comm, signed_pair_is}
-use Rattle.mic1_interpreter.proofs.Numbers.{half_word}
-use Rattle.mic1_interpreter.proofs.Facts.{place, base_above, Top, top, Two, two, two_down, two_next, drops, IsTop_at}
+use Rattle.ijvm_simulation.proofs.Accesses.{IsMap, Access, before_is, fetch_ok, byte_bound, byte_kept, plus_comm, signed_pair_is}
+use Rattle.ijvm_simulation.proofs.Numbers.{half_word}
+use Rattle.ijvm_simulation.proofs.Facts.{place, base_above, Top, top, Two, two, two_down, two_next, drops, IsTop_at}
 use Rattle.mic1_interpreter.proofs.Boundaries.{Comes, comes, Counts, counts, at_boundary, map_of, moves}
 
 -- where the words of goto come to

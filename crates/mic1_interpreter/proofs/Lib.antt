@@ -1,15 +1,11 @@
 pub mod Shipped
 pub mod Guided
-pub mod Accesses
-pub mod Keeps
-pub mod Facts
 pub mod Boundaries
 pub mod Boot
 pub mod Output
 pub mod Operands
 pub mod Consoles
 pub mod Jumps
-pub mod Numbers
 pub mod Locals
 pub mod Calls
 pub mod Ends

@@ -22,12 +22,12 @@ use Rattle.ijvm_simulation.specs.Outcomes.{Went, Overran, push}
 use Rattle.ijvm_simulation.specs.Verified.{Loads, Fine, IsNext}
 use Rattle.ijvm_simulation.specs.Law.{Moves, Overruns, Takes}
 use Rattle.mic1_interpreter.specs.Stands.{Stands}
-use Rattle.mic1_interpreter.specs.Groups.{IsOfLocals}
+use Rattle.ijvm_simulation.specs.Groups.{IsOfLocals}
 use Rattle.mic1_interpreter.proofs.Shipped.{HasStatements}
-use Rattle.mic1_interpreter.proofs.Accesses.{IsMap, Access, access, next_is, write_limit, plus_is, plus_comm, pair_is, signed_pair_is, byte_bound, byte_kept}
-use Rattle.mic1_interpreter.proofs.Numbers.{byte_word, half_word}
-use Rattle.mic1_interpreter.proofs.Keeps.{get_below, stored, memory_set, frames_at, memory_at}
-use Rattle.mic1_interpreter.proofs.Facts.{with_operands, place, base_above, room, Top, top, local_at, pushes, next_top_is}
+use Rattle.ijvm_simulation.proofs.Accesses.{IsMap, Access, access, next_is, write_limit, plus_is, plus_comm, pair_is, signed_pair_is, byte_bound, byte_kept}
+use Rattle.ijvm_simulation.proofs.Numbers.{byte_word, half_word}
+use Rattle.ijvm_simulation.proofs.Keeps.{get_below, stored, memory_set, frames_at, memory_at}
+use Rattle.ijvm_simulation.proofs.Facts.{with_operands, place, base_above, room, Top, top, local_at, pushes, next_top_is}
 use Rattle.mic1_interpreter.proofs.Boundaries.{Comes, comes, Counts, counts, at_boundary, map_of, moves, overruns}
 
 module _ (program : List ℕ) (has : HasStatements program) (o : Origin) (map : IsMap (length o.words)) (s : State) (m : Micro) (w : World) (k : ℕ) (h : Stands o s m w) (inside : s.at < 0x10000) where

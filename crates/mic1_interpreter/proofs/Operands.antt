@@ -24,12 +24,12 @@ use Rattle.ijvm_simulation.specs.Outcomes.{Went, Overran, push}
 use Rattle.ijvm_simulation.specs.Verified.{Loads, Fine, IsNext}
 use Rattle.ijvm_simulation.specs.Law.{Moves, Overruns, Takes}
 use Rattle.mic1_interpreter.specs.Stands.{Stands}
-use Rattle.mic1_interpreter.specs.Groups.{IsOfOperands}
+use Rattle.ijvm_simulation.specs.Groups.{IsOfOperands}
 use Rattle.mic1_interpreter.proofs.Shipped.{HasStatements}
-use Rattle.mic1_interpreter.proofs.Accesses.{IsMap, Access, access, next_is, write_limit, given_ok, plus_comm, byte_bound}
-use Rattle.mic1_interpreter.proofs.Numbers.{byte_word}
-use Rattle.mic1_interpreter.proofs.Keeps.{pushed, set_same, memory_set, frames_at, memory_at}
-use Rattle.mic1_interpreter.proofs.Facts.{with_operands, place, base_above, room, Top, top, Two, two, pushes, drops}
+use Rattle.ijvm_simulation.proofs.Accesses.{IsMap, Access, access, next_is, write_limit, given_ok, plus_comm, byte_bound}
+use Rattle.ijvm_simulation.proofs.Numbers.{byte_word}
+use Rattle.ijvm_simulation.proofs.Keeps.{pushed, set_same, memory_set, frames_at, memory_at}
+use Rattle.ijvm_simulation.proofs.Facts.{with_operands, place, base_above, room, Top, top, Two, two, pushes, drops}
 use Rattle.mic1_interpreter.proofs.Boundaries.{Comes, comes, Counts, counts, at_boundary, map_of, moves, overruns}
 
 module _ (program : List ℕ) (has : HasStatements program) (o : Origin) (map : IsMap (length o.words)) (s : State) (m : Micro) (w : World) (k : ℕ) (h : Stands o s m w) (inside : s.at < 0x10000) where

@@ -9,7 +9,7 @@ ghost use Rattle.ijvm_simulation.specs.Stands.{Origin};
 ghost use Rattle.ijvm_simulation.specs.Verified.{Loads};
 ghost use Rattle.ijvm_simulation.specs.Law.{Takes, Ends};
 ghost use Rattle.mic1_interpreter.specs.Stands.{Stands};
-ghost use Rattle.mic1_interpreter.specs.Groups.{IsOfOperands, IsOfLocals, IsOfConsole, IsJump, IsCall};
+ghost use Rattle.ijvm_simulation.specs.Groups.{IsOfOperands, IsOfLocals, IsOfConsole, IsJump, IsCall};
 
 /// The instructions on the operands alone.
 pub(crate) fn operands_law()

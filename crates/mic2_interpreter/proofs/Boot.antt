@@ -11,7 +11,7 @@ use Rattle.ijvm_run.specs.Frames.{start_of}
 use Rattle.mic2_interpreter.specs.Stands.{Stands}
 use Rattle.mic2_interpreter.specs.Stalls.{BootsWithStall}
 use Rattle.mic2_interpreter.proofs.Shipped.{HasStatements}
-use Rattle.mic2_interpreter.proofs.Accesses.{IsMap}
+use Rattle.ijvm_simulation.proofs.Accesses.{IsMap}
 use Rattle.mic2_interpreter.proofs.Units.{unit_at}
 use Rattle.mic2_interpreter.proofs.Queue.{Jumped, Goes, Waits}
 use Rattle.mic2_interpreter.proofs.Guided.{Short, moment_of, clocked, Arrives, IsSmooth, pass-clocked}

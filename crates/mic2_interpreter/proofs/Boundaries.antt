@@ -22,7 +22,7 @@ use Rattle.mic2_interpreter.proofs.Units.{unit_at}
 use Rattle.mic2_interpreter.proofs.Queue.{Held, AtLeast, IsHeld, Bounds, is_enough, Beat, Goes}
 use Rattle.mic2_interpreter.proofs.Places.{unit_there, bounds_there, stands_there, many_there}
 use Rattle.mic2_interpreter.proofs.Guided.{Short, standing, moment_of, settled_by, text_result, clocked, IsSmooth, Arrives, pass-clocked, outcome_is, step-refused}
-use Rattle.mic2_interpreter.proofs.Accesses.{IsMap, wrap_small, before_is}
+use Rattle.ijvm_simulation.proofs.Accesses.{IsMap, wrap_small, before_is}
 use Rattle.ijvm_simulation.specs.Stands.{Origin, Holds}
 use Rattle.ijvm_simulation.specs.Passes.{Moment, is_inside, pass}
 use Rattle.ijvm_simulation.specs.Law.{Shows, HasWord, Overruns}

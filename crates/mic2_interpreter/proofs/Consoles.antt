@@ -19,10 +19,10 @@ use Rattle.ijvm_simulation.specs.Verified.{Loads, Fine, IsNext}
 use Rattle.ijvm_simulation.specs.Law.{Overruns}
 use Rattle.mic2_interpreter.specs.Stands.{Stands}
 use Rattle.mic2_interpreter.specs.Stalls.{MovesWithStalls, TakesWithStalls, stalls_of}
-use Rattle.mic2_interpreter.specs.Groups.{IsOfConsole}
+use Rattle.ijvm_simulation.specs.Groups.{IsOfConsole}
 use Rattle.mic2_interpreter.proofs.Shipped.{HasStatements}
-use Rattle.mic2_interpreter.proofs.Accesses.{IsMap, Access, next_is, write_limit, Port, console, port, console_above}
-use Rattle.mic2_interpreter.proofs.Facts.{base_above, room, Top, top, pushes, drops, IsTop_at}
+use Rattle.ijvm_simulation.proofs.Accesses.{IsMap, Access, next_is, write_limit, Port, console, port, console_above}
+use Rattle.ijvm_simulation.proofs.Facts.{base_above, room, Top, top, pushes, drops, IsTop_at}
 use Rattle.mic2_interpreter.proofs.Queue.{Goes}
 use Rattle.mic2_interpreter.proofs.Boundaries.{Comes, comes, steps, Counts, counts, at_boundary, map_of, moves, overruns}
 

@@ -15,7 +15,7 @@ use Rattle.ijvm_simulation.specs.Verified.{Fine, IsNext}
 use Rattle.ijvm_simulation.specs.Law.{Overruns, Takes}
 use Rattle.mic2_interpreter.specs.Stands.{Stands}
 use Rattle.mic2_interpreter.specs.Stalls.{MovesWithStalls, TakesWithStalls, stalls_of}
-use Rattle.mic2_interpreter.specs.Groups.{IsOfOperands, IsOfLocals, IsJump, IsCall, IsOfConsole}
+use Rattle.ijvm_simulation.specs.Groups.{IsOfOperands, IsOfLocals, IsJump, IsCall, IsOfConsole}
 
 module _ (program : List ℕ) (o : Origin) (v : VerifiedView) where
   abbrev Of : (Instr → Type 0) → Type 0

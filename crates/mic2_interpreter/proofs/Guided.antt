@@ -26,8 +26,8 @@ use Rattle.mic_clock.specs.Run.{number_of}
 use Rattle.mic2_datapath.specs.Mic2.{mic2_meaning, step_of_word, driven, driven_by, stalled_drive}
 use Rattle.ijvm_simulation.specs.Stands.{IsMemory}
 use Rattle.ijvm_simulation.specs.Passes.{Moment, is_inside, outcome_at, stalls_at, last, onward, pass}
-use Rattle.mic2_interpreter.proofs.Accesses.{wrap_small}
-use Rattle.mic2_interpreter.proofs.Keeps.{memory_set}
+use Rattle.ijvm_simulation.proofs.Accesses.{wrap_small}
+use Rattle.ijvm_simulation.proofs.Keeps.{memory_set}
 use Rattle.mic2_interpreter.proofs.Shipped.{shipped, HasStatements}
 use Rattle.mic2_interpreter.proofs.Units.{unit_at, have_after, byte_there, length-bytes, Fits, edge_stands, edge_allowed, jump_stands, jump_allowed}
 use Rattle.mic2_interpreter.proofs.Queue.{Held, Jumped, IsHeld, is_enough, held_after, held_fits, held_enough, held_edge, Beat, Goes, Waits, WaitsLate, WaitsOn, IsWait, held_waited, wait_short, wait_held}

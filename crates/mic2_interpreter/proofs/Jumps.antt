@@ -23,11 +23,11 @@ use Rattle.ijvm_simulation.specs.Verified.{Loads, Fine, IsNext}
 use Rattle.ijvm_simulation.specs.Law.{Overruns}
 use Rattle.mic2_interpreter.specs.Stands.{Stands}
 use Rattle.mic2_interpreter.specs.Stalls.{MovesWithStalls, TakesWithStalls, stalls_of}
-use Rattle.mic2_interpreter.specs.Groups.{IsJump}
+use Rattle.ijvm_simulation.specs.Groups.{IsJump}
 use Rattle.mic2_interpreter.proofs.Shipped.{HasStatements}
-use Rattle.mic2_interpreter.proofs.Accesses.{IsMap, Access, before_is, byte_bound, plus_comm}
-use Rattle.mic2_interpreter.proofs.Numbers.{half_word}
-use Rattle.mic2_interpreter.proofs.Facts.{place, base_above, Top, top, Two, two, two_down, two_next, drops, IsTop_at}
+use Rattle.ijvm_simulation.proofs.Accesses.{IsMap, Access, before_is, byte_bound, plus_comm}
+use Rattle.ijvm_simulation.proofs.Numbers.{half_word}
+use Rattle.ijvm_simulation.proofs.Facts.{place, base_above, Top, top, Two, two, two_down, two_next, drops, IsTop_at}
 use Rattle.mic2_interpreter.proofs.Queue.{Goes}
 use Rattle.mic2_interpreter.proofs.Boundaries.{Comes, comes, steps, Counts, counts, Place, place_at, place_on, signed_pair_at, at_boundary, map_of, moves}
 

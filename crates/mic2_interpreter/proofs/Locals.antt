@@ -22,12 +22,12 @@ use Rattle.ijvm_simulation.specs.Verified.{Loads, Fine, IsNext}
 use Rattle.ijvm_simulation.specs.Law.{Overruns}
 use Rattle.mic2_interpreter.specs.Stands.{Stands}
 use Rattle.mic2_interpreter.specs.Stalls.{MovesWithStalls, TakesWithStalls, stalls_of}
-use Rattle.mic2_interpreter.specs.Groups.{IsOfLocals}
+use Rattle.ijvm_simulation.specs.Groups.{IsOfLocals}
 use Rattle.mic2_interpreter.proofs.Shipped.{HasStatements}
-use Rattle.mic2_interpreter.proofs.Accesses.{IsMap, Access, access, next_is, write_limit, plus_is, byte_bound}
-use Rattle.mic2_interpreter.proofs.Numbers.{byte_word, half_word}
-use Rattle.mic2_interpreter.proofs.Keeps.{get_below, stored, memory_set, frames_at, memory_at}
-use Rattle.mic2_interpreter.proofs.Facts.{with_operands, place, base_above, room, Top, top, local_at, pushes, next_top_is}
+use Rattle.ijvm_simulation.proofs.Accesses.{IsMap, Access, access, next_is, write_limit, plus_is, byte_bound}
+use Rattle.ijvm_simulation.proofs.Numbers.{byte_word, half_word}
+use Rattle.ijvm_simulation.proofs.Keeps.{get_below, stored, memory_set, frames_at, memory_at}
+use Rattle.ijvm_simulation.proofs.Facts.{with_operands, place, base_above, room, Top, top, local_at, pushes, next_top_is}
 use Rattle.mic2_interpreter.proofs.Queue.{Goes}
 use Rattle.mic2_interpreter.proofs.Boundaries.{Comes, comes, steps, Counts, counts, pair_at, signed_pair_at, at_boundary, map_of, moves, overruns}
 

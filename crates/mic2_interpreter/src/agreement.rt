@@ -8,7 +8,8 @@ ghost use Rattle.mic2_interpreter.specs.Agreement.{EndAlike, MeetNoBound};
 
 use ijvm_simulation::Interpreter;
 
-/// Runs of one verified image over one told input, on two machines that interpret IJVM, end alike with the same output, where neither meets its bound.
+/// Runs of one verified image over one told input, on two machines that interpret IJVM, end alike
+/// with the same output, where neither meets its bound.
 pub fn interpreters_agree<I: Interpreter, J: Interpreter>()
     ensures { (v : VerifiedView) (bound bound' : ℕ) (input : List ℕ) (before left held left' held' : Option (List ℕ)) (board : BoardView I.Machine) (board' : BoardView J.Machine) →
         HasRun I.Machine.state I.Machine.meaning I.Machine.IsReady I.IsShipped I.entry v bound (Some input) before left held board →

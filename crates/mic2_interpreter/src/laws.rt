@@ -13,7 +13,7 @@ ghost use Rattle.ijvm_simulation.specs.Headline.{reset_run};
 ghost use Rattle.ijvm_simulation.specs.Law.{Ends};
 ghost use Rattle.mic2_interpreter.specs.Stands.{Stands};
 ghost use Rattle.mic2_interpreter.specs.Stalls.{TakesWithStalls, BootsWithStall, HasStalled};
-ghost use Rattle.mic2_interpreter.specs.Groups.{IsOfOperands, IsOfLocals, IsOfConsole, IsJump, IsCall};
+ghost use Rattle.ijvm_simulation.specs.Groups.{IsOfOperands, IsOfLocals, IsOfConsole, IsJump, IsCall};
 
 use ijvm_paths::accepted_images_keep_sound;
 use ijvm_run::runs_keep_words;
@@ -54,7 +54,8 @@ pub(crate) fn ends_law()
         Ends mic2_meaning store (Stands o) o.given v o }
 {}
 
-/// How a run boots, and what every instruction takes. Behind the boot, whose one stall waits for the first word of the text, only a call stalls: once, or twice where its method's entry is the last byte of a word.
+/// How a run boots, and what every instruction takes. Behind the boot, whose one stall waits for the first word of the text,
+/// only a call stalls: once, or twice where its method's entry is the last byte of a word.
 pub fn stalls_law()
     ensures boots { (store : List ℕ) (o : Origin) (v : VerifiedView) (input : List ℕ) → HasShipped Mic2 store → Loads v o → BootsWithStall store o v input }
     ensures takes { (store : List ℕ) (o : Origin) (v : VerifiedView) → HasShipped Mic2 store → Loads v o → TakesWithStalls store o v (λ i. Unit {0}) }

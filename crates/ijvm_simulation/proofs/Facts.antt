@@ -6,8 +6,8 @@ use Rattle.console_port.specs.World.{World, read_value}
 use Rattle.ijvm_run.specs.Frames.{Frame, State, frames_of, operands_at, base}
 use Rattle.ijvm_run.specs.Step.{moved}
 use Rattle.ijvm_simulation.specs.Stands.{Origin, Holds, FramesStand, OperandsAt, IsTop}
-use Rattle.mic1_interpreter.proofs.Accesses.{IsMap, Access, access, next_is, before_is}
-use Rattle.mic1_interpreter.proofs.Keeps.{pushed, memory_set, frames_at, memory_at}
+use Rattle.ijvm_simulation.proofs.Accesses.{IsMap, Access, access, next_is, before_is}
+use Rattle.ijvm_simulation.proofs.Keeps.{pushed, memory_set, frames_at, memory_at}
 
 -- the running frame with other operands
 abbrev pub with_operands : State → List ℕ → Frame
