@@ -46,7 +46,7 @@ word_refusal stack_end at = if nat_lt at stack_end then None else Some (OutOfMap
 unfoldable pub fetch_refusal : ℕ → ℕ → Option Refusal
 fetch_refusal stack_end byte = if nat_lt (byte / 4) stack_end then None else Some (OutOfMap (byte / 4))
 
--- the next input byte, which is the low 8 bits of what comes next, or 0 where none is left
+-- the next input byte, or 0 where none is left: the low 8 bits of what comes next, so that a run keeps words whatever numbers the list has
 abbrev pub next_byte : List ℕ → ℕ
 next_byte [] = 0
 next_byte (byte ∷ bytes) = byte % 256
