@@ -16,7 +16,7 @@ fn status_of(alloc: Global, words: &[&str]) -> Result<u8, Fail> {
     files.add("M", b"Main1 goto Main1\n")?;
     let mut console = MemSource::new(Vec::new(alloc), Vec::new(alloc));
     let mut out = MemSink::new(alloc, 10_000, Vec::new(alloc))?;
-    let mut err = MemSink::new(alloc, 1000, Vec::new(alloc))?;
+    let mut err = MemSink::new(alloc, 10_000, Vec::new(alloc))?;
     let status = mic_main(alloc, &list, &mut files, &mut console, &mut out, &mut err);
     Ok(status.0)
 }
