@@ -1,5 +1,5 @@
 -- One bit of what the gates give.
-use Rattle.std.proofs.Common.{◌≡◌, ℕ, ◌+◌, ◌-◌, ◌/◌, ◌%◌, ◌^◌, ◌<◌, Bool, true, false, min, max, sym, ap, ◌∙◌, arith, w32}
+use Rattle.std.proofs.Common.{◌≡◌, ◌&&◌, ℕ, ◌+◌, ◌-◌, ◌/◌, ◌%◌, ◌^◌, ◌<◌, Bool, true, false, min, max, refl, sym, ap, ◌∙◌, arith, w32}
 use Rattle.std.specs.Int.{bit_at}
 use Rattle.std.specs.Int.Bits.{bit_and, bit_or, bit_xor}
 use Rattle.std.proofs.lemmas.Nat.{and_le_l}
@@ -27,6 +27,16 @@ gate_is w a b carry i f0 f1 e f =
 pub carry_is : (w : Wires) (a b carry i : ℕ) (f0 f1 : Bool) → w.f0 ≡ f0 → w.f1 ≡ f1 → slice_carry w a b carry i ≡ hands_on f0 f1 (left_at w a i) (right_at w b i) carry
 carry_is w a b carry i f0 f1 e f =
     ap (λ c. hands_on c w.f1 (left_at w a i) (right_at w b i) carry) e ∙ ap (λ c. hands_on f0 c (left_at w a i) (right_at w b i) carry) f
+
+no_carry : (f0 f1 : Bool) (x y k k' : ℕ) → (f0 && f1) ≡ false → gate f0 f1 x y k ≡ gate f0 f1 x y k'
+no_carry true true x y k k' e = let no : true ≡ false = e in absurd (cc)
+no_carry true false x y k k' e = refl
+no_carry false true x y k k' e = refl
+no_carry false false x y k k' e = refl
+
+-- but for the adder, a carry that comes changes nothing
+pub any_carry : (w : Wires) (a b k k' i : ℕ) → (w.f0 && w.f1) ≡ false → slice_bit w a b k i ≡ slice_bit w a b k' i
+any_carry w a b k k' i e = no_carry w.f0 w.f1 (left_at w a i) (right_at w b i) k k' e
 
 pub and_bit : (w : Wires) (a b carry i : ℕ) → w.f0 ≡ false → w.f1 ≡ false → bit_at (bit_and (left_word w a) (right_word w b)) i ≡ slice_bit w a b carry i
 and_bit w a b carry i e f =

@@ -1,6 +1,6 @@
 //! The 32 slices of the ALU, side by side in the bits of a word.
 
-ghost use Rattle.std.specs.Prelude.{◌≡◌, ◌<◌, ℕ, bit_and, bit_xor, if◌then◌else◌};
+ghost use Rattle.std.specs.Prelude.{◌≡◌, ◌<◌, ◌*◌, ◌&&◌, ℕ, bit_and, bit_xor, if◌then◌else◌};
 ghost use Rattle.std.specs.Int.{bit_at};
 ghost use Rattle.mic1_alu.specs.Gates.{combined};
 ghost use Rattle.mic1_alu.specs.Slices.{slice_bit, slice_carry, carry_to};
@@ -45,22 +45,40 @@ fn slices(wires: Wires, a: u32, b: u32, carries: u32) -> Given
     }
 }
 
-/// What each slice hands on, where `made` has those that hand on a carry by themselves and `passed` those that hand on one that comes.
-/// Each round reaches twice as many slices, and most words need few.
-fn settle(mut made: u32, mut passed: u32) -> u32
-    ensures { (carry : ℕ → ℕ) → AreHandedOn 1 made passed carry → (i : ℕ) → i < 32 → bit_at result i ≡ carry i }
+/// What a stretch of slices up to each one hands on: a carry that is made within it, and one that comes to it where it passes all of it.
+#[derive(Clone, Copy)]
+struct Handed {
+    made: u32,
+    passed: u32,
+}
+
+/// The same of stretches twice as long.
+fn twice(handed: Handed, reach: u32) -> Handed
+    requires { reach < 32 }
+    ensures { (carry : ℕ → ℕ) → AreHandedOn reach handed.made handed.passed carry → AreHandedOn (reach * 2) result.made result.passed carry }
 {
-    let mut reach: u32 = 1;
-    while reach < 32 {
-        let more = passed & (made << reach);
-        if more == 0 {
-            return made;
-        }
-        made |= more;
-        passed &= passed << reach;
-        reach *= 2;
+    let more = handed.passed & (handed.made << reach);
+    Handed {
+        made: handed.made | more,
+        passed: handed.passed & (handed.passed << reach),
     }
-    made
+}
+
+/// What each slice hands on in the end.
+fn settle(one: Handed) -> u32
+    ensures { (carry : ℕ → ℕ) → AreHandedOn 1 one.made one.passed carry → (i : ℕ) → i < 32 → bit_at result i ≡ carry i }
+{
+    let more = one.passed & (one.made << 1);
+    // Most words hand none on that comes.
+    if more == 0 {
+        return one.made;
+    }
+    let two = twice(one, 1);
+    let four = twice(two, 2);
+    let eight = twice(four, 4);
+    let sixteen = twice(eight, 8);
+    let all = twice(sixteen, 16);
+    all.made
 }
 
 /// INC, as the carry that comes to the first slice.
@@ -77,12 +95,29 @@ fn carries(wires: Wires, inc: bool, a: u32, b: u32) -> u32
     let first = first(inc);
     let made = slices(wires, a, b, 0).carries;
     let passed = slices(wires, a, b, EACH).carries;
-    (settle(made | (passed & first), passed) << 1) | first
+    let handed = Handed {
+        made: made | (passed & first),
+        passed,
+    };
+    (settle(handed) << 1) | first
+}
+
+/// Whether F0 and F1 open the adder's gate.
+fn is_adder(wires: Wires) -> bool
+    ensures { result ≡ (wires.f0 && wires.f1) }
+{
+    wires.f0 && wires.f1
 }
 
 /// The word that the slices give together.
 pub fn gated(wires: Wires, inc: bool, a: u32, b: u32) -> u32
     ensures { result ≡ combined wires.f0 wires.f1 inc (bit_xor (bit_and a wires.ena) wires.inva) (bit_and b wires.enb) }
 {
-    slices(wires, a, b, carries(wires, inc, a, b)).bits
+    // The adder alone takes carries.
+    if is_adder(wires) {
+        let sum = slices(wires, a, b, carries(wires, inc, a, b));
+        return sum.bits;
+    }
+    let chosen = slices(wires, a, b, 0);
+    chosen.bits
 }

@@ -1,22 +1,12 @@
 use Rattle.std.proofs.Common.{arith}
-use Rattle.mic1_alu.proofs.Rounds.{twice, settled, all_reached, more_made, fewer_passed, none_passed}
+use Rattle.mic1_alu.proofs.Rounds.{settled, all_reached, none_passed}
 use Rattle.mic1_alu.proofs.slices.settle.Goals as goal
-
-pub loop-reach-preserved : goal.loop-reach-preserved
-loop-reach-preserved c =
-    record {
-      some = omega arith;
-      handed = λ carry start. twice c.loop-reach.reach c.loop-reach.made c.loop-reach.passed _ _ carry
-          (more_made c.loop-reach.made c.loop-reach.passed c.loop-reach.reach)
-          (fewer_passed c.loop-reach.passed c.loop-reach.reach)
-          (c.loop-reach.invariant.handed carry start);
-    }
 
 pub returns-then-more-eq0 : goal.returns-then-more-eq0
 returns-then-more-eq0 c = λ carry start i h.
-    settled c.loop-reach.reach c.loop-reach.made c.loop-reach.passed carry c.loop-reach.invariant.some (c.loop-reach.invariant.handed carry start)
-    (none_passed c.loop-reach.made c.loop-reach.passed c.loop-reach.reach c.if-more-eq0.true) 32 i h h
+    settled 1 c.args.one.made c.args.one.passed carry (omega arith) start (none_passed c.args.one.made c.args.one.passed 1 c.if-more-eq0.true) 32 i h h
 
 pub returns : goal.returns
 returns c = λ carry start i h.
-    all_reached c.loop-reach.reach c.loop-reach.made c.loop-reach.passed carry c.loop-reach-test.false (c.loop-reach.invariant.handed carry start) i h
+    all_reached 32 c.twice-all.result.made c.twice-all.result.passed carry (omega arith)
+    (c.twice-all.ensures carry (c.twice-sixteen.ensures carry (c.twice-eight.ensures carry (c.twice-four.ensures carry (c.twice-two.ensures carry start))))) i h
