@@ -139,6 +139,7 @@ fn access_tested<S: Source, K: Sink>(
 }
 
 /// Does what a cycle does on the bus. Most cycles do nothing, and most others reach memory alone.
+#[inline(always)]
 pub fn access<S: Source, K: Sink>(
     mem: Mem,
     fetch: bool,

@@ -70,6 +70,7 @@ fn transfer_memory(mem: Mem, ports: &Ports, bus: &mut Bus) -> Option<u32>
 }
 
 /// Does them.
+#[inline(always)]
 #[tactic(auto, unfolding(console_port::specs::World::fetch_refusal))]
 pub fn access_memory(mem: Mem, fetch: bool, ports: &Ports, bus: &mut Bus) -> Sampled
     requires { AreInMemory (length bus.old.words) mem fetch ports.now.mar ports.now.pc }
