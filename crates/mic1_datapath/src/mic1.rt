@@ -127,6 +127,7 @@ impl Clocked for Mic1 {
         }
     }
 
+    #[inline(always)]
     fn compute(&mut self) -> Computed {
         word_law(Machine::Mic1);
         statement_law(Machine::Mic1);
