@@ -1,10 +1,10 @@
 -- Without an access all stays.
-use Rattle.std.proofs.Common.{◌≡◌, ℕ, Bool, true, false, None, List, Option, is_some, refl}
+use Rattle.std.proofs.Common.{◌≡◌, ℕ, Bool, false, None, refl}
 use Rattle.console_port.specs.World.{World}
 use Rattle.micro_word.specs.declared.statement.Mem.{Mem}
 use Rattle.micro_word.specs.declared.statement.Mem.TheVariants as mems
 use Rattle.datapath.specs.Memory.{access_refusal}
-use Rattle.datapath.specs.Access.{IsAccess, is_read}
+use Rattle.datapath.specs.Access.{IsAccess}
 use Rattle.datapath.specs.declared.ports.Ports.{Ports}
 
 pub quiet_clear : (n : ℕ) (mem : Mem) (fetch : Bool) (p : Ports) → mem ≡ mems.None → fetch ≡ false → access_refusal n mem fetch p ≡ None

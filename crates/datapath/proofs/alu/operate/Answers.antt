@@ -1,4 +1,4 @@
-use Rattle.std.proofs.Common.{◌≡◌, ℕ, sym, ap, ◌∙◌, arith}
+use Rattle.std.proofs.Common.{ℕ, sym, ap, ◌∙◌, arith}
 use Rattle.mic1_alu.specs.Gates.{gates, controls_of}
 use Rattle.datapath.proofs.alu.operate.Goals as goal
 

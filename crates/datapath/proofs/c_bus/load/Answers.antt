@@ -1,4 +1,4 @@
-use Rattle.std.proofs.Common.{◌∙◌, arith, rules}
+use Rattle.std.proofs.Common.{◌∙◌, rules}
 use Rattle.datapath.proofs.Slots.{all_loaded, behind_stay}
 use Rattle.datapath.proofs.c_bus.load.Goals as goal
 

@@ -1,4 +1,4 @@
-use Rattle.std.proofs.Common.{ℕ, ◌≢◌, ◌<◌, ap, ◌∙◌, arith}
+use Rattle.std.proofs.Common.{ℕ, ap, ◌∙◌, arith}
 use Rattle.datapath.specs.Registers.{arrived}
 use Rattle.datapath.proofs.c_bus.settle.Goals as goal
 

@@ -1,4 +1,4 @@
-use Rattle.std.proofs.Common.{◌≡◌, refl, sym, ap, rules}
+use Rattle.std.proofs.Common.{refl}
 use Rattle.datapath.proofs.Quiet.{quiet_clear, quiet_access}
 use Rattle.datapath.proofs.memory.no_access.Goals as goal
 
