@@ -29,7 +29,7 @@ def told(*words):
 
 
 def ran(words, given):
-    """The status, what was written to both streams, seconds of user time, seconds in all, and the most memory in kilobytes."""
+    """The status, what was written to both streams, seconds of user time, and seconds in all."""
     with tempfile.TemporaryFile() as out, tempfile.TemporaryFile() as err, tempfile.TemporaryFile() as source:
         source.write(given)
         source.seek(0)
@@ -40,7 +40,7 @@ def ran(words, given):
         child.returncode = os.waitstatus_to_exitcode(status)
         out.seek(0)
         err.seek(0)
-        return child.returncode, out.read(), err.read(), used.ru_utime, taken, used.ru_maxrss
+        return child.returncode, out.read(), err.read(), used.ru_utime, taken
 
 
 def instructions(words, given):
@@ -58,7 +58,7 @@ def compare(name, given, runs, bound):
     best, seen = {}, {}
     for _ in range(ROUNDS):
         for who, run in runs.items():
-            _, out, err, seconds, *_ = ran(run(bound), given)
+            _, out, err, seconds, _ = ran(run(bound), given)
             seen[who] = (out, err)
             best[who] = min(seconds, best.get(who, seconds))
     same = "same output and report" if seen["mic"] == seen["plain C"] else "OUTPUT OR REPORT DIFFERS"
@@ -67,17 +67,24 @@ def compare(name, given, runs, bound):
         print("    instructions a cycle: " + ", ".join(f"{who} {per_cycle(run, given):.1f}" for who, run in runs.items()))
 
 
-def start(mic):
+def start(mic, memory):
     image = str(TOP / "examples/letter_b.ijvm")
-    taken, most = zip(*(ran([mic, "run", image, "--bound", "10"], b"")[4:] for _ in range(ROUNDS)))
-    print(f"start: ten cycles in {1000 * min(taken):.1f} ms, {max(most) / 1024:.1f} MB")
+    words = [mic, "run", image, "--bound", "10"]
+    taken = min(ran(words, b"")[4] for _ in range(ROUNDS))
+    most = int(ran([memory, *words], b"")[2].split()[-1])
+    print(f"start: ten cycles in {1000 * taken:.1f} ms, {most / 1024:.1f} MB")
+
+
+def built(name, made):
+    program = f"{made}/{name}"
+    subprocess.run(["cc", "-O2", "-o", program, str(HERE / f"{name}.c")], check=True)
+    return program
 
 
 def main():
     mic = sys.argv[1] if len(sys.argv) > 1 else str(TOP / "crates/mic_tool/out/mic_tool")
     with tempfile.TemporaryDirectory() as made:
-        plain = f"{made}/mic1"
-        subprocess.run(["cc", "-O2", "-o", plain, str(HERE / "mic1.c")], check=True)
+        plain = built("mic1", made)
         store = f"{made}/store"
         with open(f"{made}/mic1.mal", "w") as text:
             text.write(told(mic, "print-micro"))
@@ -96,7 +103,7 @@ def main():
                 },
                 bound,
             )
-        start(mic)
+        start(mic, built("memory", made))
 
 
 if __name__ == "__main__":

@@ -4,14 +4,17 @@
  *
  * It clocks a control store as `mic` does, word by word, with the same tests: where MPC ends the run, 1,024 cycles
  * without a boundary, the bound at each boundary, and each address before anything is changed. It decodes each word
- * when it clocks it. ENTRY is the address of Main1 in hexadecimal, LOCALS the number of main's locals.
+ * when it clocks it. Its console does what that of `mic` does: written bytes are kept until there are 4,096, or the
+ * program asks for input, or the run ends, and then go out by one call; each byte is read by a call of its own, so that
+ * no byte is taken that the program does not ask for; and after the end of input nothing is asked again. ENTRY is the address of Main1 in hexadecimal, LOCALS the number of main's locals.
  */
 #include <stdint.h>
 #include <stdio.h>
 #include <stdlib.h>
 #include <string.h>
+#include <unistd.h>
 
-enum { STACK_END = 0x10000, POOL = 0x4000, FRAME = 0x8000 };
+enum { STACK_END = 0x10000, POOL = 0x4000, FRAME = 0x8000, MOST_KEPT = 4096 };
 static const uint32_t CONSOLE = 0xFFFFFFFD;
 
 static uint64_t store[512];
@@ -31,6 +34,34 @@ static const char *end;
 static void fail(const char *what) {
     fprintf(stderr, "mic1: %s\n", what);
     exit(2);
+}
+
+static unsigned char kept[MOST_KEPT];
+static size_t kept_count;
+static int input_ended;
+
+static void flush_kept(void) {
+    for (size_t done = 0; done < kept_count;) {
+        ssize_t count = write(1, kept + done, kept_count - done);
+        if (count <= 0) fail("cannot write");
+        done += (size_t)count;
+    }
+    kept_count = 0;
+}
+
+static void give(uint8_t it) {
+    if (kept_count == MOST_KEPT) flush_kept();
+    kept[kept_count++] = it;
+}
+
+static uint32_t take(void) {
+    unsigned char it = 0;
+    if (input_ended) return 0;
+    flush_kept();
+    ssize_t count = read(0, &it, 1);
+    if (count < 0) fail("cannot read");
+    input_ended = count == 0;
+    return it;
 }
 
 static uint32_t b_bus(unsigned code) {
@@ -95,17 +126,10 @@ static int cycle(void) {
     word_comes = mem == 1;
     byte_comes = fetch;
     if (mem == 2) {
-        if (mar == CONSOLE) putchar_unlocked(mdr & 255);
+        if (mar == CONSOLE) give(mdr & 255);
         else memory[mar] = mdr;
     }
-    if (mem == 1) {
-        if (mar == CONSOLE) {
-            int got = getchar_unlocked();
-            word = got == EOF ? 0 : (uint32_t)got;
-        } else {
-            word = memory[mar];
-        }
-    }
+    if (mem == 1) word = mar == CONSOLE ? take() : memory[mar];
     if (fetch) byte = memory[pc / 4] >> (8 * (3 - pc % 4)) & 255;
     unsigned next = w >> 27 & 511;
     if (jam & 4) next |= mbr;
@@ -186,7 +210,7 @@ int main(int count, char **words) {
             }
         }
     }
-    fflush(stdout);
+    flush_kept();
     fprintf(stderr, "end %s\ncycles %llu instructions %llu\n", end, (unsigned long long)cycles, (unsigned long long)instructions);
     if (reached) fprintf(stderr, "boundary %llu at %08x sp %08x lv %08x\n", (unsigned long long)last, at, last_sp, last_lv);
     fprintf(stderr, "MAR %08x MDR %08x PC %08x MBR %02x SP %08x LV %08x CPP %08x TOS %08x OPC %08x H %08x MPC %03x\n", mar, mdr, pc, mbr, sp, lv, cpp, tos, opc, h, mpc);

@@ -69,7 +69,7 @@ fn settle(one: Handed) -> u32
     ensures { (carry : ℕ → ℕ) → AreHandedOn 1 one.made one.passed carry → (i : ℕ) → i < 32 → bit_at result i ≡ carry i }
 {
     let more = one.passed & (one.made << 1);
-    // Most words hand none on that comes.
+    // In most sums no slice hands on a carry that comes to it.
     if more == 0 {
         return one.made;
     }
