@@ -1,5 +1,5 @@
 -- What Mic-1 means as a clocked machine: the microstep of the statement that a word spells.
-use Rattle.std.specs.Prelude.{◌≡◌, ℕ, Bool, true, false, ◌&&◌, ◌==◌, List, None, length}
+use Rattle.std.specs.Prelude.{◌≡◌, ℕ, true, false, ◌&&◌, ◌==◌, List, None, length}
 use Rattle.console_port.specs.World.{World, byte_in}
 use Rattle.micro_word.specs.declared.statement.Placed.{Placed}
 use Rattle.machine_words.specs.declared.machine.Machine.TheVariants as machines

@@ -1,4 +1,4 @@
-use Rattle.std.proofs.Common.{ℕ, Option, ap, ◌∙◌}
+use Rattle.std.proofs.Common.{◌∙◌}
 use Rattle.datapath.specs.Registers.{arrived}
 use Rattle.mic1_datapath.proofs.latches.Latches.ports.Goals as goal
 

@@ -1,11 +1,11 @@
-use Rattle.std.proofs.Common.{◌≡◌, ℕ, ◌/◌, ◌%◌, ◌==◌, sym, ap, subst, ◌∙◌}
-use Rattle.micro_word.specs.Coding.{row, statement_of, shift_of}
+use Rattle.std.proofs.Common.{◌≡◌, ℕ, ◌/◌, ◌%◌, ◌==◌, sym, ap, ◌∙◌}
+use Rattle.micro_word.specs.Coding.{statement_of, shift_of}
 use Rattle.machine_words.specs.Arithmetic.{is_negative}
 use Rattle.micro_word.specs.Operation.{alu, shifted}
 use Rattle.micro_word.specs.declared.layout.Fields.{Fields}
 use Rattle.machine_words.specs.declared.machine.Machine.TheVariants as machines
 use Rattle.mic1_alu.specs.Gates.{enabled}
-use Rattle.mic1_datapath.specs.Microstep.{source, result_of}
+use Rattle.mic1_datapath.specs.Microstep.{result_of}
 use Rattle.mic1_datapath.specs.Mic1.{computed}
 use Rattle.mic1_datapath.specs.Latches.{micro_in}
 use Rattle.mic1_datapath.proofs.Sources.{enabled_source}

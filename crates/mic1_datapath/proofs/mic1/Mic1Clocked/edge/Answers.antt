@@ -1,4 +1,4 @@
-use Rattle.std.proofs.Common.{◌≡◌, ◌==◌, length, List, ℕ, false, None, Err, refl, sym, ◌∙◌, ap, subst}
+use Rattle.std.proofs.Common.{◌≡◌, length, List, ℕ, false, None, Err, refl, sym, ◌∙◌, ap, subst}
 use Rattle.console_port.specs.Bus.{refused_by, ChangesOnly}
 use Rattle.console_port.specs.Console.{IsFault}
 use Rattle.console_port.specs.declared.fault.BusFault.TheVariants as faults
