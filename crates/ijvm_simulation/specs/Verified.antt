@@ -1,5 +1,5 @@
 -- A verified image that a machine runs: its memory when the run begins, and the states that its run comes to.
-use Rattle.std.specs.Prelude.{◌≡◌, ℕ, ◌+◌, ◌<◌, List, [], length, slice_index}
+use Rattle.std.specs.Prelude.{◌≡◌, ℕ, ◌+◌, ◌<◌, [], length, slice_index}
 use Rattle.machine_words.specs.declared.machine.Machine.{Machine}
 use Rattle.console_port.specs.World.{byte_in}
 use Rattle.ijvm_instr.specs.declared.instr.Instr.{Instr}

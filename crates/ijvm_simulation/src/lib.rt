@@ -1,8 +1,10 @@
 //! That a clocked machine interprets IJVM: what a machine promises of each instruction, and what follows of its whole run.
 #![tactic(auto)]
 
+mod agreement;
 pub mod interpreter;
 pub mod run;
 
+pub use agreement::interpreters_agree;
 pub use interpreter::Interpreter;
 pub use run::{first_sp, loaded_bus, reset_board, run_image};

@@ -1,8 +1,9 @@
 //! The run of a verified image on a machine, from its reset to its end.
 
-ghost use Rattle.std.specs.Prelude.{◌≡◌, ◌<◌, ◌≤◌, ◌+◌, ◌-◌, ◌^◌, ℕ, List, [], length, Option, Some, None, replicate, IfOk, OnErr, IsSome, false};
+ghost use Rattle.std.specs.Prelude.{◌≡◌, ◌≢◌, ◌<◌, ◌≤◌, ◌+◌, ◌-◌, ◌^◌, ℕ, List, [], length, Option, Some, None, replicate, IfOk, OnErr, IsSome, false};
 ghost use Rattle.console_port.specs.World.{World};
 ghost use Rattle.console_port.specs.Bus.{Shows};
+ghost use Rattle.console_port.specs.Console.{StaysFlushed};
 ghost use Rattle.console_port.specs.Loading.{IsLoaded};
 ghost use Rattle.mic_clock.specs.Board.{ShowsRun, NoFault, HasEndCause};
 ghost use Rattle.mic_clock.specs.Run.{start_counts};
@@ -81,6 +82,7 @@ pub fn run_image<I: Interpreter, S: Source, K: Sink>(
     ensures write { IfOk result (λ board. board.end ≡ Some End.WriteFault →
         IsCutByWrite I.Machine.state I.Machine.meaning I.Machine.IsReady I.IsShipped I.entry image.now bound
         (S.left source.old) (K.held sink.old) (S.left source.new) (K.held sink.new) board) }
+    ensures flushed { IfOk result (λ board. board.end ≢ Some End.WriteFault → StaysFlushed (K.held sink.old) (K.passed sink.old) (K.held sink.new) (K.passed sink.new)) }
     ensures cause { IfOk result (λ board. HasEndCause (S.faults source.old) (S.faults source.new) (K.faults sink.old) (K.faults sink.new) None board.end) }
     ensures none { OnErr result ((source.new ≡ source.old) × (sink.new ≡ sink.old)) }
 {

@@ -1,7 +1,8 @@
 //! The plain machine, which computes the definition's run step by step.
 
-ghost use Rattle.std.specs.Prelude.{◌≡◌, ◌+◌, ◌≤◌, [], ◌∷◌, ℕ, List, IsSome, IfOk, OnOk, IfErr, OnErr};
+ghost use Rattle.std.specs.Prelude.{◌≡◌, ◌≢◌, ◌+◌, ◌≤◌, [], ◌∷◌, ℕ, List, Err, IsSome, IfOk, OnOk, IfErr, OnErr};
 ghost use Rattle.mic_base.specs.Streams.{Holds};
+ghost use Rattle.console_port.specs.Console.{StaysFlushed};
 ghost use Rattle.ijvm_instr.specs.Instructions.{instr_at};
 ghost use Rattle.ijvm_run.specs.Cost.{next_cost};
 ghost use Rattle.ijvm_run.specs.Frames.{base, top_of};
@@ -76,6 +77,7 @@ pub fn turn<S: Source, K: Sink>(
     ensures frames { OnErr result (machine.new ≡ machine.old) }
     ensures err { IfErr result (IsCutOff (S.left source.old) (K.held sink.old) console.old (S.left source.new) (K.held sink.new) console.new) }
     ensures keeps { (front : List ℕ) → Holds front (K.held sink.old) → Holds front (K.held sink.new) }
+    ensures flushed { result ≢ Err StepError.WriteFault → StaysFlushed (K.held sink.old) (K.passed sink.old) (K.held sink.new) (K.passed sink.new) }
     ensures met { IfErr result (λ e. IsMetBy e (instr_at machine.old.image.text machine.old.at) console.old) }
     ensures kept { IfOk result (λ end. IsSome end → HasKept (S.left source.old) (instr_at machine.old.image.text machine.old.at) console.old console.new) }
     ensures tells { IsTold (S.left source.old) console.old.ended → IsTold (S.left source.new) console.new.ended }
@@ -147,6 +149,7 @@ impl Frames {
         ensures frames { OnErr result (self.new ≡ self.old) }
         ensures err { IfErr result (IsCutOff (S.left source.old) (K.held sink.old) console.old (S.left source.new) (K.held sink.new) console.new) }
         ensures keeps { (front : List ℕ) → Holds front (K.held sink.old) → Holds front (K.held sink.new) }
+        ensures flushed { result ≢ Err StepError.WriteFault → StaysFlushed (K.held sink.old) (K.passed sink.old) (K.held sink.new) (K.passed sink.new) }
         ensures met { IfErr result (λ e. IsMetBy e (instr_at self.old.image.text self.old.at) console.old) }
         ensures kept { OnOk result (HasKept (S.left source.old) (instr_at self.old.image.text self.old.at) console.old console.new) }
         ensures tells { IsTold (S.left source.old) console.old.ended → IsTold (S.left source.new) console.new.ended }

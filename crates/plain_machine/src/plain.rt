@@ -2,6 +2,7 @@
 
 ghost use Rattle.std.specs.Prelude.{◌≡◌, ◌≢◌, ◌≤◌, ◌<◌, ◌+◌, ◌^◌, [], ℕ, List, Some, Ok, IfNone, IfOk, OnErr};
 ghost use Rattle.mic_base.specs.Streams.{Holds};
+ghost use Rattle.console_port.specs.Console.{StaysFlushed};
 ghost use Rattle.plain_machine.specs.Machine.{KeepsProgram};
 ghost use Rattle.ijvm_run.specs.Safe.{IsSafe};
 ghost use Rattle.plain_machine.specs.Kept.{IsTold};
@@ -83,6 +84,7 @@ fn pass<S: Source, K: Sink>(
     ensures under { IfNone result (counts.old.cycles < bound) }
     ensures emptied { IsEmptied result console.new }
     ensures keeps { (front : List ℕ) → Holds front (K.held sink.old) → Holds front (K.held sink.new) }
+    ensures flushed { result ≢ Some (Ok PlainEnd.WriteFault) → StaysFlushed (K.held sink.old) (K.passed sink.old) (K.held sink.new) (K.passed sink.new) }
     ensures cause { HasRunCause (S.faults source.old) (S.faults source.new) (K.faults sink.old) (K.faults sink.new) result }
 {
     if counts.cycles >= bound {
@@ -130,6 +132,7 @@ fn drive<S: Source, K: Sink>(
     ensures program { KeepsProgram frames.old frames.new }
     ensures emptied { IsEmptied (Some result) console.new }
     ensures keeps { (front : List ℕ) → Holds front (K.held sink.old) → Holds front (K.held sink.new) }
+    ensures flushed { result ≢ Ok PlainEnd.WriteFault → StaysFlushed (K.held sink.old) (K.passed sink.old) (K.held sink.new) (K.passed sink.new) }
     ensures cause { HasRunCause (S.faults source.old) (S.faults source.new) (K.faults sink.old) (K.faults sink.new) (Some result) }
 {
     'run: loop {
@@ -160,6 +163,7 @@ pub fn run_plain<S: Source, K: Sink>(
         (S.left source.old) (K.held sink.old) (S.left source.new) (K.held sink.new)) }
     ensures write { IfOk result (FailsToWrite (program image.now map machine) main_locals bound
         (S.left source.old) (K.held sink.old) (S.left source.new) (K.held sink.new)) }
+    ensures flushed { IfOk result (λ r. r.end ≢ PlainEnd.WriteFault) → StaysFlushed (K.held sink.old) (K.passed sink.old) (K.held sink.new) (K.passed sink.new) }
     ensures cause { IfOk result (λ r. HasRunCause (S.faults source.old) (S.faults source.new) (K.faults sink.old) (K.faults sink.new) (Some (Ok r.end))) }
     ensures short { OnErr result (IsShort (program image.now map machine) main_locals bound
         (S.left source.old) (K.held sink.old) (S.left source.new) (K.held sink.new)) }

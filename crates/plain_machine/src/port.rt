@@ -1,8 +1,8 @@
 //! IN and OUT, which need the console.
 
-ghost use Rattle.std.specs.Prelude.{◌≡◌, ◌≢◌, ◌+◌, ◌<◌, ◌≤◌, ◌^◌, length, ◌∷◌, [], ℕ, List, drop, IfOk, OnOk, IfErr, OnErr, Option};
+ghost use Rattle.std.specs.Prelude.{◌≡◌, ◌≢◌, ◌+◌, ◌<◌, ◌≤◌, ◌^◌, length, ◌∷◌, [], ℕ, List, drop, IfOk, OnOk, IfErr, OnErr, Option, Err};
 ghost use Rattle.mic_base.specs.Streams.{Holds};
-ghost use Rattle.console_port.specs.Console.{Untaken, Given, IsFault};
+ghost use Rattle.console_port.specs.Console.{Untaken, Given, IsFault, StaysFlushed};
 ghost use Rattle.console_port.specs.World.{next_byte};
 ghost use Rattle.ijvm_run.specs.Step.{read_in, given_out};
 ghost use Rattle.plain_machine.specs.Machine.{KeepsProgram, state_of, outcome_of};
@@ -43,6 +43,7 @@ fn take_byte<S: Source, K: Sink>(
     ensures tells { IsTold (S.left source.old) console.old.ended → IsTold (S.left source.new) console.new.ended }
     ensures asked { IfErr result (λ e. HasAsked e console.old) }
     ensures keeps { (front : List ℕ) → Holds front (K.held sink.old) → Holds front (K.held sink.new) }
+    ensures flushed { result ≢ Err StepError.WriteFault → StaysFlushed (K.held sink.old) (K.passed sink.old) (K.held sink.new) (K.passed sink.new) }
     ensures cause { HasStepCause (S.faults source.old) (S.faults source.new) (K.faults sink.old) (K.faults sink.new) result }
 {
     match console.take(source, sink) {
@@ -59,6 +60,7 @@ fn give_byte<K: Sink>(console: &mut Console, byte: u8, sink: &mut K) -> Result<(
     ensures kept { OnOk result (WritesOut console.old console.new) }
     ensures full { OnErr result (4096 ≤ length console.old.kept) }
     ensures keeps { (front : List ℕ) → Holds front (K.held sink.old) → Holds front (K.held sink.new) }
+    ensures flushed { result ≢ Err StepError.WriteFault → StaysFlushed (K.held sink.old) (K.passed sink.old) (K.held sink.new) (K.passed sink.new) }
     ensures cause { HasStepCause 0 0 (K.faults sink.old) (K.faults sink.new) result }
 {
     match console.give(byte, sink) {
@@ -80,6 +82,7 @@ pub fn read_in<S: Source, K: Sink>(
     ensures frames { OnErr result (machine.new ≡ machine.old) }
     ensures err { IfErr result (IsCutOff (S.left source.old) (K.held sink.old) console.old (S.left source.new) (K.held sink.new) console.new) }
     ensures keeps { (front : List ℕ) → Holds front (K.held sink.old) → Holds front (K.held sink.new) }
+    ensures flushed { result ≢ Err StepError.WriteFault → StaysFlushed (K.held sink.old) (K.passed sink.old) (K.held sink.new) (K.passed sink.new) }
     ensures cause { HasStepCause (S.faults source.old) (S.faults source.new) (K.faults sink.old) (K.faults sink.new) result }
     ensures program { KeepsProgram machine.old machine.new }
     ensures kept { OnOk result (HasRead (S.left source.old) console.old console.new) }
@@ -117,6 +120,7 @@ pub fn write_out<K: Sink>(
     ensures frames { OnErr result (machine.new ≡ machine.old) }
     ensures err { (left : Option (List ℕ)) → IfErr result (IsCutOff left (K.held sink.old) console.old left (K.held sink.new) console.new) }
     ensures keeps { (front : List ℕ) → Holds front (K.held sink.old) → Holds front (K.held sink.new) }
+    ensures flushed { result ≢ Err StepError.WriteFault → StaysFlushed (K.held sink.old) (K.passed sink.old) (K.held sink.new) (K.passed sink.new) }
     ensures cause { HasStepCause 0 0 (K.faults sink.old) (K.faults sink.new) result }
     ensures program { KeepsProgram machine.old machine.new }
     ensures kept { IfOk result (λ e. e ≢ Effect.Stuck → WritesOut console.old console.new) }

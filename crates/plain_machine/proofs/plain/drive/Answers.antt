@@ -14,6 +14,7 @@ run-init g c = (
   },
   refl,
   refl,
+  λ flushed. flushed,
 )
 
 pub returns-in-Some-clause-led : goal.returns-in-Some-clause-led
@@ -41,4 +42,5 @@ run-preserved g c = (
   },
   c.in-None.ensures.cause.source_same (λ e. cc) ∙ c.run.invariant.1,
   c.in-None.ensures.cause.sink_same (λ e. cc) ∙ c.run.invariant.2,
+  λ flushed. c.in-None.ensures.flushed (λ e. cc) (c.run.invariant.3 flushed),
 )

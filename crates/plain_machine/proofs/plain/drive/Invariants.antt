@@ -1,4 +1,5 @@
 use Rattle.std.proofs.Common.{◌≡◌, ◌-◌}
+use Rattle.console_port.specs.Console.{StaysFlushed}
 use Rattle.plain_machine.proofs.Running.{IsRunning}
 use Rattle.plain_machine.proofs.plain.drive.Given as goal
 
@@ -8,6 +9,7 @@ invariant-run g l =
     l.bound l.machine l.initial.counts l.counts l.initial.frames l.frames
     × (g.S.Source.faults l.source ≡ g.S.Source.faults l.initial.source)
     × (g.K.Sink.faults l.sink ≡ g.K.Sink.faults l.initial.sink)
+    × StaysFlushed (g.K.Sink.held l.initial.sink) (g.K.Sink.passed l.initial.sink) (g.K.Sink.held l.sink) (g.K.Sink.passed l.sink)
 
 abbrev pub decreases-run : goal.decreases-run
 decreases-run g l = l.bound - l.counts.cycles

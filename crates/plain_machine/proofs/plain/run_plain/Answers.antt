@@ -28,6 +28,15 @@ returns-in_err-driven-clause-short g c =
     c.new-console.ensures.kept c.new-console.ensures.ended refl refl c.in_ok-frames.ensures c.drive.ensures.tells c.in_err-driven.ensures.led)
     (c.drive.ensures.keeps (told_of (g.K.Sink.held c.args.sink.now)) (holds_told (g.K.Sink.held c.args.sink.now))))
 
+pub returns-clause-flushed : goal.returns-clause-flushed
+returns-clause-flushed g c = λ none flushed.
+    elim c.match-flush.branch [
+      | in-Ok w ↦
+          w.in-Ok.ensures.flushed (λ empty. c.in_ok-driven.ensures.flushed
+          (λ (failed : Ok c.in_ok-driven.driven ≡ Ok ends.WriteFault). none (w.end-is ∙ (let is : c.in_ok-driven.driven ≡ ends.WriteFault = cc in is))) flushed)
+      | in-Err w ↦ absurd (none w.end-is)
+    ]
+
 pub returns-clause-run : goal.returns-clause-run
 returns-clause-run g c = λ not_read not_write.
     let end : PlainEnd = c.in_ok-driven.driven in

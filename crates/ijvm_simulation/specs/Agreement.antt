@@ -1,0 +1,14 @@
+-- That two machines agree: run over one image and one input, they end alike with the same output, where neither meets its bound.
+use Rattle.std.specs.Prelude.{◌≡◌, ◌≢◌, ℕ, List, Option, Some, IfSome}
+use Rattle.mic_clock.specs.View.{BoardView}
+use Rattle.mic_clock.specs.declared.end.End.TheVariants as clocked
+
+-- two boards have ended alike, and their sinks hold the same
+pub record EndAlike {M N : Type 0} (held held' : Option (List ℕ)) (board : BoardView M) (board' : BoardView N) : Type 0 where
+  pub end : board.end ≡ board'.end
+  pub instructions : board.counts.instructions ≡ board'.counts.instructions
+  pub output : IfSome held (λ h. IfSome held' (λ h'. h ≡ h'))
+
+-- neither has met its bound
+abbrev pub MeetNoBound : {M N : Type 0} → BoardView M → BoardView N → Type 0
+MeetNoBound board board' = (board.end ≢ Some clocked.Bound) × (board'.end ≢ Some clocked.Bound)
