@@ -1,7 +1,8 @@
 #!/usr/bin/env python3
 """Times `mic run` against a plain C Mic-1: the same control store, images and input, run in turn, best of ten, user time.
 
-    compare.py [MIC]        MIC is a proved build of mic (crates/mic_tool/out/mic_tool, from `rt run` there)
+    compare.py [MIC]             MIC is a proved build of mic (crates/mic_tool/out/mic_tool, from `rt run` there)
+    compare.py --mic2 [MIC]      times its Mic-2 against its Mic-1 instead
 """
 import os
 import re
@@ -18,6 +19,8 @@ ROUNDS = 10
 BOUND = 10_000_000
 # An echo of a megabyte comes to its end before this bound.
 ECHO_BOUND = 100_000_000
+# Both machines of `mic` are clocked for so many cycles.
+MACHINES_BOUND = 200_000_000
 # Instructions a cycle are those between these two bounds, so that the start does not count.
 COUNTED = (1_000_000, 2_000_000)
 # An echo reads this many bytes, none of which is 0.
@@ -67,6 +70,29 @@ def compare(name, given, runs, bound):
         print("    instructions a cycle: " + ", ".join(f"{who} {per_cycle(run, given):.1f}" for who, run in runs.items()))
 
 
+def machines(name, mic, image):
+    """Compares the cycles a second of both machines over one image."""
+    runs = {machine: lambda bound, machine=machine: [mic, "run", image, "--machine", machine, "--bound", str(bound)] for machine in ("mic1", "mic2")}
+    best = {}
+    for _ in range(ROUNDS):
+        for machine, run in runs.items():
+            _, _, report, seconds, *_ = ran(run(MACHINES_BOUND), b"")
+            cycles = int(re.search(rb"^cycles (\d+)", report, re.M).group(1))
+            best[machine] = max(cycles / seconds, best.get(machine, 0))
+    rates = ", ".join(f"{machine} {rate / 1e6:.1f} million cycles a second" for machine, rate in best.items())
+    print(f"{name}: {rates}; {best['mic2'] / best['mic1']:.2f} of Mic-1's")
+    if shutil.which("valgrind"):
+        print("    instructions a cycle: " + ", ".join(f"{machine} {per_cycle(run, b''):.1f}" for machine, run in runs.items()))
+
+
+def compare_machines(mic):
+    with tempfile.TemporaryDirectory() as made:
+        for name in ("loop", "calls"):
+            image = f"{made}/{name}.ijvm"
+            told(mic, "assemble", str(HERE / f"programs/{name}.jas"), image)
+            machines(name, mic, image)
+
+
 def start(mic, memory):
     image = str(TOP / "examples/letter_b.ijvm")
     words = [mic, "run", image, "--bound", "10"]
@@ -82,7 +108,11 @@ def built(name, made):
 
 
 def main():
-    mic = sys.argv[1] if len(sys.argv) > 1 else str(TOP / "crates/mic_tool/out/mic_tool")
+    words = [word for word in sys.argv[1:] if word != "--mic2"]
+    mic = words[0] if words else str(TOP / "crates/mic_tool/out/mic_tool")
+    if "--mic2" in sys.argv[1:]:
+        compare_machines(mic)
+        return
     with tempfile.TemporaryDirectory() as made:
         plain = built("mic1", made)
         store = f"{made}/store"

@@ -1,5 +1,5 @@
 -- The bytes that a statement demands, by what stands in its word.
-use Rattle.std.proofs.Common.{◌≡◌, ℕ, zero, suc, ◌+◌, ◌≤◌, ◌<◌, ◌^◌, ◌%◌, ◌==◌, ◌||◌, ◌&&◌, Bool, true, false, IsTrue, Option, Some, None, if◌then◌else◌, refl, arith}
+use Rattle.std.proofs.Common.{◌≡◌, ℕ, zero, suc, ◌+◌, ◌≤◌, ◌<◌, ◌^◌, ◌%◌, ◌==◌, ◌||◌, ◌&&◌, ◌≢◌, Bool, true, false, IsTrue, Option, Some, None, get_or, if◌then◌else◌, refl, arith}
 use Rattle.std.specs.Prelude.{nat_lt}
 use Rattle.std.proofs.lemmas.Bool.Decides.{nat_tests}
 use Rattle.machine_words.specs.Arithmetic.{wrap}
@@ -12,45 +12,34 @@ use Rattle.micro_word.specs.declared.statement.BusSource.TheVariants as sources
 use Rattle.micro_word.specs.declared.statement.PlacedNext.{PlacedNext}
 use Rattle.micro_word.specs.declared.statement.PlacedNext.TheVariants as nexts
 use Rattle.micro_word.specs.declared.statement.Test.TheVariants as tests
+use Rattle.datapath.specs.Next.{target}
+use Rattle.mic2_datapath.specs.declared.control.TheConstants.{BYTES}
 use Rattle.mic2_datapath.specs.Microstep.{advanced, dispatch_bytes, is_to_instruction}
 
 pub not_here : (used : Bool) → IsTrue (used && false) → ⊥
 not_here true h = absurd (cc)
 not_here false h = absurd (cc)
 
-pub byte_place : (s : Option BusSource) (used : Bool) → IsTrue (fits_side used (may_be_b Mic2) s) → (place_on_bus s == 9 || place_on_bus s == 10) ≡ is_byte s
-byte_place None used h = refl
-byte_place (Some sources.Mdr) used h = refl
-byte_place (Some sources.Pc) used h = refl
-byte_place (Some sources.Mbr) used h = absurd (not_here used h)
-byte_place (Some sources.Mbru) used h = absurd (not_here used h)
-byte_place (Some sources.Sp) used h = refl
-byte_place (Some sources.Lv) used h = refl
-byte_place (Some sources.Cpp) used h = refl
-byte_place (Some sources.Tos) used h = refl
-byte_place (Some sources.Opc) used h = refl
-byte_place (Some sources.Mbr1) used h = refl
-byte_place (Some sources.Mbr1u) used h = refl
-byte_place (Some sources.Mbr2) used h = refl
-byte_place (Some sources.Mbr2u) used h = refl
-byte_place (Some sources.H) used h = refl
+-- the bytes of an operand, by what drives its bus
+abbrev pub bytes_named : Option BusSource → ℕ
+bytes_named s = if is_pair s then 2 else if is_byte s then 1 else 0
 
-pub pair_place : (s : Option BusSource) → (place_on_bus s == 11 || place_on_bus s == 12) ≡ is_pair s
-pair_place None = refl
-pair_place (Some sources.Mdr) = refl
-pair_place (Some sources.Pc) = refl
-pair_place (Some sources.Mbr) = refl
-pair_place (Some sources.Mbru) = refl
-pair_place (Some sources.Sp) = refl
-pair_place (Some sources.Lv) = refl
-pair_place (Some sources.Cpp) = refl
-pair_place (Some sources.Tos) = refl
-pair_place (Some sources.Opc) = refl
-pair_place (Some sources.Mbr1) = refl
-pair_place (Some sources.Mbr1u) = refl
-pair_place (Some sources.Mbr2) = refl
-pair_place (Some sources.Mbr2u) = refl
-pair_place (Some sources.H) = refl
+pub place_bytes : (s : Option BusSource) (used : Bool) → IsTrue (fits_side used (may_be_b Mic2) s) → get_or BYTES (place_on_bus s) 0 ≡ bytes_named s
+place_bytes None used h = refl
+place_bytes (Some sources.Mdr) used h = refl
+place_bytes (Some sources.Pc) used h = refl
+place_bytes (Some sources.Mbr) used h = absurd (not_here used h)
+place_bytes (Some sources.Mbru) used h = absurd (not_here used h)
+place_bytes (Some sources.Sp) used h = refl
+place_bytes (Some sources.Lv) used h = refl
+place_bytes (Some sources.Cpp) used h = refl
+place_bytes (Some sources.Tos) used h = refl
+place_bytes (Some sources.Opc) used h = refl
+place_bytes (Some sources.Mbr1) used h = refl
+place_bytes (Some sources.Mbr1u) used h = refl
+place_bytes (Some sources.Mbr2) used h = refl
+place_bytes (Some sources.Mbr2u) used h = refl
+place_bytes (Some sources.H) used h = refl
 
 pub dispatch_bits : (n : PlacedNext) → (if jam_bits n == 4 then 1 else 0) ≡ dispatch_bytes n
 dispatch_bits (nexts.Goto to) = refl
@@ -101,3 +90,30 @@ pub pair_b : (pa pb ba bb : Bool) → pb ≡ true → 2 ≤ bytes_by pa pb ba bb
 pair_b true pb ba bb is = omega arith
 pair_b false true ba bb is = omega arith
 pair_b false false ba bb is = absurd (cc)
+
+-- the greater number of bytes is that of both operands
+pub greater_is : (pa pb ba bb : Bool) →
+    (if nat_lt (if pa then 2 else if ba then 1 else 0) (if pb then 2 else if bb then 1 else 0)
+    then (if pb then 2 else if bb then 1 else 0) else (if pa then 2 else if ba then 1 else 0)) ≡ bytes_by pa pb ba bb
+greater_is true true ba bb = refl
+greater_is true false ba true = refl
+greater_is true false ba false = refl
+greater_is false true true bb = refl
+greater_is false true false bb = refl
+greater_is false false true true = refl
+greater_is false false true false = refl
+greater_is false false false true = refl
+greater_is false false false false = refl
+
+pub few_bytes : (pa pb ba bb : Bool) → bytes_by pa pb ba bb < 3
+few_bytes true pb ba bb = omega arith
+few_bytes false true ba bb = omega arith
+few_bytes false false true bb = omega arith
+few_bytes false false false true = omega arith
+few_bytes false false false false = omega arith
+
+-- a byte that is put in place of the dispatched one, where nothing is dispatched
+pub not_dispatched : (n : PlacedNext) (value x y : ℕ) → jam_bits n ≢ 4 → target n value x ≡ target n value y
+not_dispatched (nexts.Goto to) value x y h = refl
+not_dispatched (nexts.Dispatch high) value x y h = absurd (h refl)
+not_dispatched (nexts.Branch test low) value x y h = refl

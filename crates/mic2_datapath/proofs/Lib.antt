@@ -1,3 +1,4 @@
+pub mod Inside
 pub mod Demands
 pub mod Sources
 pub mod Steps

@@ -19,7 +19,7 @@ use Rattle.datapath.specs.Next.{target}
 use Rattle.datapath.specs.Registers.{loaded, ports_given}
 use Rattle.datapath.specs.declared.ports.Ports.{Ports}
 use Rattle.mic2_fetch_unit.specs.FetchUnit.{edge_refusal, sample_refusal}
-use Rattle.mic2_datapath.specs.Microstep.{advanced, byte_at, clock, demand, is_stalled, is_to_instruction, jumps, microstep, moved, operand_bytes, refusal, registers_in, result_of, settled, stalled, step_if, unit_after, unit_refusal, world_after}
+use Rattle.mic2_datapath.specs.Microstep.{advanced, byte_at, clock, demand, is_stalled, is_to_instruction, jumps, microstep, moved, operand_bytes, refusal, registers_in, result_of, settled, stalled, step_if, unit_after, unit_refusal, unit_samples, world_after}
 use Rattle.mic2_datapath.specs.Latches.{HasComputed}
 use Rattle.mic2_datapath.specs.Mic2.{mic2_meaning, step_of_word}
 use Rattle.mic2_datapath.specs.Micro.{Micro}
@@ -36,6 +36,7 @@ pub record IsAsked (s : Placed) (m : Micro) (p : Asked) : Type 0 where
   pub given : p.ports ≡ ports_given (settled s m)
   pub memory : p.mem ≡ s.part.mem
   pub samples : (n : ℕ) → sample_refusal n p.at ≡ unit_refusal (jumps s.part) n p.ports.pc (demand s) m.unit
+  pub its : p.at ≡ unit_samples (jumps s.part) p.ports.pc (demand s) m.unit
 
 -- what is asked is asked for the statement of the word that was set up
 pub is_asked : (word : ℕ) (m : Micro) (stalled : Bool) (value c dests taken : ℕ) (jump : Bool) (ports : Ports) (mem : Mem) (at : Option ℕ) →
@@ -43,9 +44,9 @@ pub is_asked : (word : ℕ) (m : Micro) (stalled : Bool) (value c dests taken : 
     HasComputed s m stalled value c → stalled ≡ false → dests ≡ (fields_of machines.Mic2 word).c → taken ≡ demand s → jump ≡ names dests 2 →
     ports ≡ ports_given (loaded dests c m.word (record (registers_in m) { pc = advanced taken m.pc })) →
     mem ≡ mem_of (fields_of machines.Mic2 word).mem →
-    ((n : ℕ) → sample_refusal n at ≡ unit_refusal jump n ports.pc taken m.unit) → IsAsked s m (record { ports = ports; mem = mem; at = at })
+    ((n : ℕ) → sample_refusal n at ≡ unit_refusal jump n ports.pc taken m.unit) → at ≡ unit_samples jump ports.pc taken m.unit → IsAsked s m (record { ports = ports; mem = mem; at = at })
 unfolding statement_of
-is_asked word m stalled value c dests taken jump ports mem at computed goes dests_are taken_is jump_is ports_are mem_is samples =
+is_asked word m stalled value c dests taken jump ports mem at computed goes dests_are taken_is jump_is ports_are mem_is samples its =
     let s = statement_of machines.Mic2 word in
     let v : c ≡ shifted s.part.shift (result_of s.part m) = computed.shifter goes ∙ ap (λ (x : ℕ). shifted s.part.shift x) (computed.alu goes) in
     let jump : jump ≡ jumps s.part = jump_is ∙ ap (λ (d : ℕ). names d 2) dests_are in
@@ -54,6 +55,7 @@ is_asked word m stalled value c dests taken jump ports mem at computed goes dest
       given = ports_are ∙ (λ i. ports_given (loaded (dests_are i) (v i) m.word (record (registers_in m) { pc = advanced (taken_is i) m.pc })));
       memory = mem_is;
       samples = λ n. samples n ∙ (λ i. unit_refusal (jump i) n ports.pc (taken_is i) m.unit);
+      its = its ∙ (λ i. unit_samples (jump i) ports.pc (taken_is i) m.unit);
     }
 
 abbrev pub refusal_on : ℕ → Asked → Option Refusal

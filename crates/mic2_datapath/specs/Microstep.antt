@@ -1,5 +1,5 @@
 -- The microstep of Mic-2 (chapter 4; the order of events at the clock edge is this profile's). A statement assigns whole words, or waits for the bytes that it names.
-use Rattle.std.specs.Prelude.{ℕ, zero, suc, ◌+◌, ◌*◌, ◌||◌, Bool, true, false, not, nat_lt, if◌then◌else◌, List, length, slice_index, Option}
+use Rattle.std.specs.Prelude.{ℕ, zero, suc, ◌+◌, ◌*◌, ◌/◌, ◌||◌, Bool, true, false, not, nat_lt, if◌then◌else◌, List, length, slice_index, Option, Some}
 use Rattle.machine_words.specs.Arithmetic.{plus, signed_byte, signed_pair}
 use Rattle.micro_word.specs.Canonical.{is_byte, is_pair}
 use Rattle.micro_word.specs.Destinations.{loads}
@@ -16,7 +16,7 @@ use Rattle.mic_clock.specs.Meaning.{Outcome}
 use Rattle.datapath.specs.Registers.{NineRegisters, on_bus, loaded, ports_given}
 use Rattle.datapath.specs.Memory.{written, sampled, word_under_way, memory_refusal, first_refusal, outcome}
 use Rattle.datapath.specs.Next.{target}
-use Rattle.mic2_fetch_unit.specs.FetchUnit.{Prefetch, edge, jump, edge_refusal, jump_refusal}
+use Rattle.mic2_fetch_unit.specs.FetchUnit.{Prefetch, edge, jump, sampled_at, edge_refusal, jump_refusal}
 use Rattle.mic2_datapath.specs.Micro.{Micro}
 
 -- A statement demands one byte of the queue where it names MBR1 or MBR1U, two where it names MBR2 or MBR2U, and for a dispatch one more behind them.
@@ -124,6 +124,12 @@ abbrev pub world_after : ℕ → Placed → Micro → World → World
 world_after stack_end s m w =
     let p = ports_given (settled s m) in
     sampled stack_end s.part.mem p (written stack_end s.part.mem p w)
+
+-- the word address that the unit samples, if it samples one
+
+abbrev pub unit_samples : Bool → ℕ → ℕ → Prefetch → Option ℕ
+unit_samples true pc taken u = Some (pc / 4)
+unit_samples false pc taken u = sampled_at taken u
 
 -- Why a step is refused, if it is: a write, a read and the unit's fetch are looked at in this order.
 

@@ -1,6 +1,6 @@
 //! The word that is clocked, and the bytes of the queue that it demands.
 
-ghost use Rattle.std.specs.Prelude.{◌≡◌, ◌<◌, ◌==◌, ◌||◌, Bool, Option, IsTrue, if◌then◌else◌, slice_index};
+ghost use Rattle.std.specs.Prelude.{◌≡◌, ◌<◌, ◌==◌, Bool, Option, IsTrue, if◌then◌else◌, nat_lt, slice_index};
 ghost use Rattle.machine_words.specs.declared.machine.Machine.TheVariants.{Mic2};
 ghost use Rattle.micro_word.specs.declared.statement.BusSource.{BusSource};
 ghost use Rattle.micro_word.specs.declared.statement.PlacedNext.{PlacedNext};
@@ -12,14 +12,8 @@ ghost use Rattle.mic2_datapath.specs.Microstep.{demand as demand_of, dispatch_by
 
 use micro_word::{Lines, Machine, Store, bits, fields2, statement_law, word_law};
 
-/// The places of MBR1 and MBR1U, and of MBR2 and MBR2U.
-const BYTE: u8 = 9;
-
-const UNSIGNED_BYTE: u8 = 10;
-
-const PAIR: u8 = 11;
-
-const UNSIGNED_PAIR: u8 = 12;
+/// By place: MBR1 and MBR1U are at 9 and 10, MBR2 and MBR2U at 11 and 12.
+const BYTES: [u8; 16] = [0, 0, 0, 0, 0, 0, 0, 0, 0, 1, 1, 2, 2, 0, 0, 0];
 
 /// JMPC.
 pub const JMPC: u8 = 4;
@@ -42,32 +36,19 @@ pub struct Control {
     ghost demands: { demand ≡ demand_of (statement_of Mic2 word) },
 }
 
-/// Whether one byte drives a bus.
-fn is_byte_there(place: u8) -> bool
-    ensures { (s : Option BusSource) (used : Bool) → IsTrue (fits_side used (may_be_b Mic2) s) → place ≡ place_on_bus s → result ≡ is_byte s }
+/// How many bytes of the queue drive a bus, where it is driven from this place.
+fn bytes_at(place: u8) -> u8
+    requires { place < 16 }
+    ensures { (s : Option BusSource) (used : Bool) → IsTrue (fits_side used (may_be_b Mic2) s) → place ≡ place_on_bus s →
+        result ≡ (if is_pair s then 2 else if is_byte s then 1 else 0) }
 {
-    place == BYTE || place == UNSIGNED_BYTE
+    BYTES[place as usize]
 }
 
-/// Whether two bytes drive a bus.
-fn is_pair_there(place: u8) -> bool
-    ensures { (s : Option BusSource) (used : Bool) → IsTrue (fits_side used (may_be_b Mic2) s) → place ≡ place_on_bus s → result ≡ is_pair s }
+fn greater(a: u8, b: u8) -> u8
+    ensures { result ≡ (if nat_lt a b then b else a) }
 {
-    place == PAIR || place == UNSIGNED_PAIR
-}
-
-/// The bytes of two operands, by what each names.
-fn bytes_of(pair_a: bool, pair_b: bool, byte_a: bool, byte_b: bool) -> u8
-    ensures value { result ≡ (if pair_a || pair_b then 2 else if byte_a || byte_b then 1 else 0) }
-    ensures few { result < 3 }
-{
-    if pair_a || pair_b {
-        2
-    } else if byte_a || byte_b {
-        1
-    } else {
-        0
-    }
+    if a < b { b } else { a }
 }
 
 fn operands_of(word: u64, lines: &Lines) -> u8
@@ -78,11 +59,9 @@ fn operands_of(word: u64, lines: &Lines) -> u8
 {
     word_law(Machine::Mic2);
     statement_law(Machine::Mic2);
-    let pair_a = is_pair_there(lines.a);
-    let pair_b = is_pair_there(lines.b);
-    let byte_a = is_byte_there(lines.a);
-    let byte_b = is_byte_there(lines.b);
-    bytes_of(pair_a, pair_b, byte_a, byte_b)
+    let a = bytes_at(lines.a);
+    let b = bytes_at(lines.b);
+    greater(a, b)
 }
 
 fn dispatched(jam: u8) -> u8

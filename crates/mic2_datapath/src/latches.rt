@@ -13,7 +13,7 @@ ghost use Rattle.datapath.specs.Places.{registers_at};
 ghost use Rattle.datapath.specs.Registers.{loaded, ports_given};
 ghost use Rattle.mic2_fetch_unit.specs.FetchUnit.{edge_refusal, sample_refusal};
 ghost use Rattle.mic2_datapath.specs.Mic2.{initial as initial_of};
-ghost use Rattle.mic2_datapath.specs.Microstep.{advanced, byte_at, demand, fetched, is_to_instruction, jumps, moved, operand_bytes, result_of, settled, stalled, unit_after, unit_refusal};
+ghost use Rattle.mic2_datapath.specs.Microstep.{advanced, byte_at, demand, fetched, is_to_instruction, jumps, moved, operand_bytes, result_of, settled, stalled, unit_after, unit_refusal, unit_samples};
 ghost use Rattle.mic2_datapath.specs.Latches.{AreLatches, HasFront, micro_in};
 
 use crate::control::{Control, JMPC};
@@ -99,16 +99,18 @@ fn load(destinations: u16, control: &Control, c: u32, arriving: Option<u32>, pla
     settle(destinations, &control.lines, c, arriving, places);
 }
 
-/// The fetch unit at a clock edge: it jumps to PC, or so many bytes are taken.
-fn go(jumps: bool, pc: u32, taken: u8, bus: &Bus, unit: &mut FetchUnit)
+/// The fetch unit at a clock edge, where it samples this word address: it jumps to PC, or so many bytes are taken.
+#[inline(always)]
+fn go(jumps: bool, pc: u32, taken: u8, at: Option<u32>, bus: &Bus, unit: &mut FetchUnit)
     requires there { taken ≤ length unit.old.bytes }
-    requires allowed { unit_refusal jumps (length bus.now.words) pc taken unit.old ≡ None }
+    requires at { at ≡ unit_samples jumps pc taken unit.old }
+    requires allowed { sample_refusal (length bus.now.words) at ≡ None }
     ensures { unit.new ≡ unit_after jumps bus.now.words pc taken unit.old }
 {
     if jumps {
         unit.go_to(pc, bus);
     } else {
-        unit.go_on(taken, bus);
+        unit.go_on_from(taken, at, bus);
     }
 }
 
@@ -138,6 +140,7 @@ impl Latches {
     }
 
     /// Puts the front of the queue on its places, as far as operands name it.
+    #[inline(always)]
     pub fn show_front(&mut self, operands: u8)
         requires latches { AreLatches self.old }
         requires there { operands ≤ length self.old.unit.bytes }
@@ -174,7 +177,8 @@ impl Latches {
     #[tactic(auto, unfolding(mic2_fetch_unit::specs::FetchUnit::edge_refusal))]
     pub fn will_fetch(&self, jumps: bool, pc: u32, taken: u8) -> Option<u32>
         requires { taken ≤ length self.now.unit.bytes }
-        ensures { (stack_end : ℕ) → sample_refusal stack_end result ≡ unit_refusal jumps stack_end pc taken self.now.unit }
+        ensures value { result ≡ unit_samples jumps pc taken self.now.unit }
+        ensures refusal { (stack_end : ℕ) → sample_refusal stack_end result ≡ unit_refusal jumps stack_end pc taken self.now.unit }
     {
         if jumps {
             Some(pc / 4)
@@ -208,14 +212,36 @@ impl Latches {
         }
     }
 
-    /// The edge of a cycle that does not stall, behind its accesses: this word is under way.
-    pub fn advance(&mut self, control: &Control, value: u32, c: u32, word: Option<u32>, bus: &Bus)
+    /// The byte that a dispatch takes, behind the operands. A word with other bits goes on without it.
+    fn dispatched(&self, jam: u8, operands: u8) -> u8
+        ensures { (n : PlacedNext) (value : ℕ) → jam ≡ jam_bits n → target n value result ≡ target n value (byte_at self.now.unit operands) }
+    {
+        let dispatches = jam == JMPC;
+        if dispatches {
+            self.byte_at(operands)
+        } else {
+            0
+        }
+    }
+
+    /// The edge of a cycle that does not stall, behind its accesses: this word is under way, and the fetch unit samples this word address.
+    #[inline(always)]
+    pub fn advance(
+        &mut self,
+        control: &Control,
+        value: u32,
+        c: u32,
+        word: Option<u32>,
+        at: Option<u32>,
+        bus: &Bus,
+    )
         requires latches { AreLatches self.old }
         requires there { control.now.demand ≤ length self.old.unit.bytes }
         requires value { value ≡ result_of (statement_of Mic2 control.now.word).part (micro_in self.old) }
         requires c { c ≡ shifted (statement_of Mic2 control.now.word).part.shift value }
-        requires allowed { let s = statement_of Mic2 control.now.word in
-            unit_refusal (jumps s.part) (length bus.now.words) (settled s (micro_in self.old)).pc (demand s) self.old.unit ≡ None }
+        requires at { let s = statement_of Mic2 control.now.word in
+            at ≡ unit_samples (jumps s.part) (settled s (micro_in self.old)).pc (demand s) self.old.unit }
+        requires allowed { sample_refusal (length bus.now.words) at ≡ None }
         ensures latches { AreLatches self.new }
         ensures micro { let s = statement_of Mic2 control.now.word in let m = micro_in self.old in
             micro_in self.new ≡ moved (settled s m) (target s.next value (byte_at m.unit (operand_bytes s.part))) word
@@ -225,12 +251,13 @@ impl Latches {
         statement_law(Machine::Mic2);
         let destinations = bits::destinations(Machine::Mic2, control.word);
         let jam = bits::jam(Machine::Mic2, control.word);
-        let dispatched = self.byte_at(control.operands);
+        let dispatched = self.dispatched(jam, control.operands);
         load(destinations, control, c, self.word, &mut self.places);
         go(
             is_named(destinations, PC),
             self.places[PC as usize],
             control.demand,
+            at,
             bus,
             &mut self.unit,
         );

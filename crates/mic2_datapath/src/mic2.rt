@@ -93,11 +93,13 @@ impl Clocked for Mic2 {
         self.latches = Latches::initial(start);
     }
 
+    #[inline(always)]
     fn setup(&mut self, store: &Store) {
         self.stage = Stage::Drive;
         self.control = Control::of(store, self.latches.mpc);
     }
 
+    #[inline(always)]
     fn drive(&mut self) -> Drive {
         word_law(Machine::Mic2);
         statement_law(Machine::Mic2);
@@ -124,6 +126,7 @@ impl Clocked for Mic2 {
         }
     }
 
+    #[inline(always)]
     fn compute(&mut self) -> Computed {
         word_law(Machine::Mic2);
         statement_law(Machine::Mic2);
@@ -156,6 +159,7 @@ impl Clocked for Mic2 {
         }
     }
 
+    #[inline(always)]
     fn edge<S: Source, K: Sink>(
         &mut self,
         bus: &mut Bus,
@@ -170,25 +174,24 @@ impl Clocked for Mic2 {
                 Err(fault) => Err(fault),
             };
         }
-        let word = self.control.word;
+        // Loaded before an access, behind which they would be loaded again.
+        let (word, value, c) = (self.control.word, self.value, self.c);
         let mem = Mem::of_bits(bits::mem(Machine::Mic2, word));
         let destinations = bits::destinations(Machine::Mic2, word);
-        let ports = self
-            .latches
-            .ports(destinations, self.c, self.control.demand);
+        let ports = self.latches.ports(destinations, c, self.control.demand);
         let at = self
             .latches
             .will_fetch(is_named(destinations, PC), ports.pc, self.control.demand);
         match access(mem, at, &ports, bus, source, sink) {
             Ok(word) => {
-                self.latches
-                    .advance(&self.control, self.value, self.c, word, bus);
+                self.latches.advance(&self.control, value, c, word, at, bus);
                 Ok(())
             }
             Err(fault) => Err(fault),
         }
     }
 
+    #[inline(always)]
     fn registers(&self) -> Registers {
         let places = self.latches.places;
         Registers {

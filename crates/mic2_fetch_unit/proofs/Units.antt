@@ -1,5 +1,5 @@
 -- Where a unit stands behind an edge, and behind a jump.
-use Rattle.std.proofs.Common.{◌≡◌, ℕ, zero, suc, ◌+◌, ◌-◌, ◌*◌, ◌/◌, ◌%◌, ◌^◌, ◌<◌, ◌≤◌, Bool, true, false, List, ◌++◌, length, drop, slice_index, Option, Some, None, is_some, inl, inr, refl, sym, ap, subst, ◌∙◌, arith}
+use Rattle.std.proofs.Common.{◌≡◌, ℕ, zero, suc, ◌+◌, ◌-◌, ◌*◌, ◌/◌, ◌%◌, ◌^◌, ◌<◌, ◌≤◌, Bool, true, false, List, [], ◌∷◌, ◌++◌, length, drop, slice_index, Option, Some, None, is_some, inl, inr, refl, sym, ap, subst, ◌∙◌, arith}
 use Rattle.std.specs.Prelude.{nat_le, if◌then◌else◌, IfSome}
 use Rattle.std.specs.Option.{option_map}
 use Rattle.std.proofs.lemmas.Bool.{cases_lt}
@@ -77,6 +77,28 @@ pub edge_some : (words : List ℕ) (t word : ℕ) (u : Prefetch) → u.pending �
     edge words t u ≡ unit (drop t u.bytes ++ drop u.skip (bytes_of_word word)) (next u.imar) 0 (sample words t u)
 unfolding edge
 edge_some words t word u is = ap (λ (o : Option ℕ). record (appended (drop t u.bytes) u.imar u.skip o) { pending = sample words t u }) is
+
+-- An edge that leaves more than two bytes finds nothing pending, and samples nothing.
+
+is_none : (o : Option ℕ) → is_some o ≡ false → o ≡ None
+is_none None h = refl
+is_none (Some word) h = absurd (cc)
+
+not_short : (n : ℕ) → 2 < n → nat_le n 2 ≡ false
+not_short n h = grind (arith, nat_tests)
+
+pub full_pending : (u : Prefetch) → IsUnit u → 2 < length u.bytes → u.pending ≡ None
+full_pending u h more = is_none u.pending (h.asks ∙ not_short (length u.bytes) more)
+
+pub full_samples : (t : ℕ) (u : Prefetch) → IsUnit u → t + 2 < length u.bytes → sampled_at t u ≡ None
+full_samples t u h more =
+    sym (will_none t (length u.bytes - t) u (full_pending u h (omega (arith, more))) refl)
+    ∙ ap (λ (b : Bool). if b then Some u.imar else None) (not_short (length u.bytes - t) (omega (arith, more)))
+
+pub edge_full : (words : List ℕ) (t : ℕ) (u : Prefetch) → IsUnit u → t + 2 < length u.bytes → edge words t u ≡ unit (drop t u.bytes) u.imar u.skip None
+edge_full words t u h more =
+    edge_none words t u (full_pending u h (omega (arith, more)))
+    ∙ ap (λ (o : Option ℕ). unit (drop t u.bytes) u.imar u.skip (option_map (λ (at : ℕ). slice_index words at) o)) (full_samples t u h more)
 
 -- it leaves a unit
 

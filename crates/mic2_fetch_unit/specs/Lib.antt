@@ -1,2 +1,3 @@
 pub mod FetchUnit
 pub mod Place
+pub mod Packed

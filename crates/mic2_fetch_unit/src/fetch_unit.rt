@@ -2,9 +2,10 @@
 
 ghost use Rattle.std.specs.Prelude.{◌≡◌, ◌+◌, ◌*◌, ◌≤◌, ◌<◌, Some, None, OnOk, OnErr, IfErr, if◌then◌else◌, length, nat_le, slice_index};
 ghost use Rattle.console_port.specs.Bus.{refused_by};
-ghost use Rattle.mic2_fetch_unit.specs.FetchUnit.{at_start, sampled_at, edge as edge_of, jump as jump_of, edge_refusal, jump_refusal};
+ghost use Rattle.mic2_fetch_unit.specs.FetchUnit.{at_start, sampled_at, edge as edge_of, jump as jump_of, edge_refusal, jump_refusal, sample_refusal};
 
-use crate::queue::{Queue, behind, filled};
+use crate::next::behind;
+use crate::queue::Queue;
 use crate::sampling::{check_jump, check_sample, sampled};
 use arrayvec::ArrayVec;
 use console_port::{Bus, BusFault};
@@ -13,31 +14,27 @@ use std::marker::Model;
 /// A queue of at most six instruction bytes, and the word that was sampled for it.
 #[derive(Drop)]
 pub struct FetchUnit {
-    bytes: Queue,
-    /// How many bytes at the front of `bytes` have left the queue.
-    left: u8,
+    queue: Queue,
     imar: u32,
     skip: u8,
     pending: Option<u32>,
 }
 
 impl Model for FetchUnit {
-    ghost use Rattle.std.specs.Prelude.{◌≤◌, drop, length};
     ghost use Rattle.mic2_fetch_unit.specs.FetchUnit.{Prefetch, IsUnit};
 
     ghost Value = { Prefetch };
 
-    ghost view = { λ u. record { bytes = drop u.left u.bytes.items; imar = u.imar; skip = u.skip; pending = u.pending } };
+    ghost view = { λ u. record { bytes = u.queue; imar = u.imar; skip = u.skip; pending = u.pending } };
 
-    ghost invariant = { λ u. (u.left ≤ length u.bytes.items) × (length u.bytes.items ≤ 6)
-        × IsUnit (record { bytes = drop u.left u.bytes.items; imar = u.imar; skip = u.skip; pending = u.pending }) };
+    ghost invariant = { λ u. IsUnit (record { bytes = u.queue; imar = u.imar; skip = u.skip; pending = u.pending }) };
 }
 
-/// The address where few bytes are there, and else none.
-fn at_if_short(have: u8, imar: u32) -> Option<u32>
-    ensures { result ≡ (if nat_le have 2 then Some imar else None) }
+/// The address where a word is sampled, and else none.
+fn at_if(samples: bool, imar: u32) -> Option<u32>
+    ensures { result ≡ (if samples then Some imar else None) }
 {
-    if have <= 2 { Some(imar) } else { None }
+    if samples { Some(imar) } else { None }
 }
 
 impl FetchUnit {
@@ -46,8 +43,7 @@ impl FetchUnit {
         ensures { result ≡ at_start first }
     {
         FetchUnit {
-            bytes: Queue::new(),
-            left: 0,
+            queue: Queue::new(),
             imar: 0,
             skip: 0,
             pending: Some(first),
@@ -59,7 +55,7 @@ impl FetchUnit {
         ensures value { result ≡ length self.now.bytes }
         ensures few { result ≤ 6 }
     {
-        self.bytes.len() as u8 - self.left
+        self.queue.count()
     }
 
     /// The byte at a place of the queue.
@@ -67,7 +63,7 @@ impl FetchUnit {
         requires { place < length self.now.bytes }
         ensures { result ≡ slice_index self.now.bytes place }
     {
-        self.bytes[(self.left + place) as usize]
+        self.queue.at(place)
     }
 
     /// The first byte.
@@ -88,10 +84,11 @@ impl FetchUnit {
     }
 
     /// The bytes of the queue.
+    #[inline(always)]
     pub fn bytes(&self) -> ArrayVec<u8, 6>
         ensures { result.items ≡ self.now.bytes }
     {
-        behind(&self.bytes, self.left)
+        self.queue.bytes()
     }
 
     /// The word address of the pending word, or of the next one where none is pending.
@@ -102,14 +99,22 @@ impl FetchUnit {
     }
 
     /// The word address that an edge samples which takes so many bytes; none where it samples none.
+    #[inline(always)]
     pub fn will_fetch(&self, taken: u8) -> Option<u32>
         requires { taken ≤ length self.now.bytes }
         ensures { result ≡ sampled_at taken self.now }
     {
-        let rest = self.have() - taken;
+        let skip = self.skip;
+        let have = self.have();
+        // Most edges leave more than two bytes, and nothing is pending before them.
+        let full = have - taken > 2;
+        if full {
+            return None;
+        }
+        let next = behind(have, skip, taken);
         match self.pending {
-            Some(_) => at_if_short(rest + 4 - self.skip, self.imar.wrapping_add(1)),
-            None => at_if_short(rest, self.imar),
+            Some(_) => at_if(next.samples, self.imar.wrapping_add(1)),
+            None => at_if(next.samples, self.imar),
         }
     }
 
@@ -130,15 +135,34 @@ impl FetchUnit {
         ensures { self.new ≡ edge_of bus.now.words taken self.old }
     {
         let at = self.will_fetch(taken);
+        self.go_on_from(taken, at, bus);
+    }
+
+    /// The same, where the address that is sampled is known.
+    #[inline(always)]
+    pub fn go_on_from(&mut self, taken: u8, at: Option<u32>, bus: &Bus)
+        requires within { taken ≤ length self.old.bytes }
+        requires at { at ≡ sampled_at taken self.old }
+        requires allowed { sample_refusal (length bus.now.words) at ≡ None }
+        ensures { self.new ≡ edge_of bus.now.words taken self.old }
+    {
+        let have = self.have();
+        let stay = have - taken;
+        let full = stay > 2;
+        if full {
+            self.queue.leave(taken, stay);
+            return;
+        }
         let pending = sampled(at, bus);
+        let next = behind(have, self.skip, taken);
         match self.pending {
             None => {
-                self.left += taken;
+                self.queue.leave(taken, next.count);
                 self.pending = pending;
             }
             Some(word) => {
-                self.bytes = filled(&self.bytes, self.left + taken, word, self.skip);
-                self.left = 0;
+                self.queue.leave(taken, stay);
+                self.queue.enter(word, self.skip, next.count);
                 self.imar = self.imar.wrapping_add(1);
                 self.skip = 0;
                 self.pending = pending;
@@ -152,13 +176,10 @@ impl FetchUnit {
         requires { jump_refusal (length bus.now.words) pc ≡ None }
         ensures { self.new ≡ jump_of bus.now.words pc }
     {
-        *self = FetchUnit {
-            bytes: ArrayVec::new(),
-            left: 0,
-            imar: pc / 4,
-            skip: (pc % 4) as u8,
-            pending: Some(bus.word(pc / 4)),
-        };
+        self.queue = Queue::new();
+        self.imar = pc / 4;
+        self.skip = (pc % 4) as u8;
+        self.pending = Some(bus.word(pc / 4));
     }
 
     /// The edge that takes so many bytes. An Err is `OutOfMap`.

@@ -3,6 +3,7 @@
 
 mod fetch_unit;
 mod laws;
+mod next;
 mod queue;
 mod sampling;
 #[cfg(test)]

@@ -1,4 +1,4 @@
-use Rattle.std.proofs.Common.{◌≡◌, ℕ, length, ap, ◌∙◌}
+use Rattle.std.proofs.Common.{◌≡◌, ℕ, ap, sym, ◌∙◌}
 use Rattle.machine_words.specs.declared.machine.Machine.TheVariants as machines
 use Rattle.micro_word.specs.Coding.{statement_of}
 use Rattle.micro_word.specs.Lines.{names}
@@ -7,13 +7,13 @@ use Rattle.micro_word.specs.declared.layout.Fields.{Fields}
 use Rattle.datapath.specs.Places.{registers_at}
 use Rattle.datapath.specs.Registers.{loaded}
 use Rattle.datapath.specs.Next.{target}
-use Rattle.mic2_datapath.specs.Microstep.{advanced, byte_at, registers_in, result_of, settled, unit_after, unit_refusal}
+use Rattle.mic2_datapath.specs.Microstep.{advanced, byte_at, registers_in, result_of, settled, unit_after, unit_samples}
 use Rattle.mic2_datapath.specs.Latches.{micro_in}
 use Rattle.mic2_datapath.proofs.latches.Latches.advance.Goals as goal
 
-pub go-requires-clause-allowed : goal.go-requires-clause-allowed
+pub go-requires-clause-at : goal.go-requires-clause-at
 unfolding statement_of
-go-requires-clause-allowed c =
+go-requires-clause-at c =
     let control = c.args.control.now in
     let s = statement_of machines.Mic2 control.word in
     let m = micro_in c.args.self.now in
@@ -22,7 +22,7 @@ go-requires-clause-allowed c =
     c.load.ensures.registers
     ∙ (λ i. loaded (c.destinations-destinations.ensures.value i) (v i) m.word (record (registers_in m) { pc = advanced (control.demands i) m.pc })) in
     let jump = c.is_named.ensures ∙ ap (λ (d : ℕ). names d 2) c.destinations-destinations.ensures.value in
-    (λ i. unit_refusal (jump i) (length c.args.bus.now.words) (became i).pc (control.demands i) m.unit) ∙ c.requires.allowed
+    c.requires.at ∙ sym (λ i. unit_samples (jump i) (became i).pc (control.demands i) m.unit)
 
 pub returns-clause-micro : goal.returns-clause-micro
 unfolding statement_of
@@ -40,7 +40,7 @@ returns-clause-micro c =
     let unit = c.go.ensures ∙ (λ i. unit_after (jump i) c.args.bus.now.words (became i).pc (control.demands i) m.unit) in
     let addr = control.decoded.addr ∙ ap (λ (f : Fields). f.addr) spelled.fields in
     let jam = c.jam-jam.ensures.value ∙ ap (λ (f : Fields). f.jam) spelled.fields in
-    let dispatched = c.byte_at-dispatched.ensures ∙ ap (byte_at m.unit) control.names in
+    let dispatched = c.dispatched-dispatched.ensures s.next c.args.value jam ∙ ap (λ (place : ℕ). target s.next c.args.value (byte_at m.unit place)) control.names in
     λ i. record {
       mar = (became i).mar;
       mdr = (became i).mdr;
@@ -51,7 +51,7 @@ returns-clause-micro c =
       tos = (became i).tos;
       opc = (became i).opc;
       h = (became i).h;
-      mpc = (c.next_address-self.ensures.next s.next valid.next addr jam ∙ ap (λ (x : ℕ). target s.next c.args.value x) dispatched) i;
+      mpc = (c.next_address-self.ensures.next s.next valid.next addr jam ∙ dispatched) i;
       word = c.args.word;
       unit = unit i;
       begins = c.is_first-self.ensures s.next jam addr i;

@@ -7,7 +7,7 @@ use Rattle.datapath.specs.declared.ports.Ports.{Ports}
 use Rattle.datapath.specs.Memory.{memory_refusal}
 use Rattle.mic2_fetch_unit.specs.FetchUnit.{edge_refusal, sample_refusal}
 use Rattle.mic2_datapath.specs.Micro.{Micro}
-use Rattle.mic2_datapath.specs.Microstep.{demand, is_stalled, jumps, settled, unit_refusal}
+use Rattle.mic2_datapath.specs.Microstep.{demand, is_stalled, jumps, settled, unit_samples}
 use Rattle.mic2_datapath.specs.Mic2.{step_of_word}
 use Rattle.mic2_datapath.specs.Latches.{micro_in}
 use Rattle.mic2_datapath.proofs.Steps.{Asked, AtConsole, IsAsked, is_asked, is_done, moved_on, not_refused, reads_console, refusal_on, refused_no_fault, second_clear, stall_done, stall_refusal, step_refusal, uses_console}
@@ -65,8 +65,8 @@ returns-in-Err-clause-err g c =
       uses = λ e w shows. absurd (never (subst IsFault (sym e) tt));
     }
 
-pub advance-requires-clause-allowed : goal.advance-requires-clause-allowed
-advance-requires-clause-allowed g c =
+pub advance-requires-clause-at : goal.advance-requires-clause-at
+advance-requires-clause-at g c =
     let old = c.args.self.now in
     let s = statement_of machines.Mic2 old.control.word in
     let m = micro_in old.latches in
@@ -74,12 +74,14 @@ advance-requires-clause-allowed g c =
     let is : IsAsked s m asked =
     is_asked old.control.word m old.stalled old.value old.c c.destinations-destinations.result old.control.demand c.is_named.result c.ports-ports.result c.of_bits-mem.result
     c.will_fetch-at.result (old.computed c.requires) c.if-self.false c.destinations-destinations.ensures.value old.control.demands c.is_named.ensures c.ports-ports.ensures
-    (c.of_bits-mem.ensures ∙ ap mem_of c.mem.ensures) c.will_fetch-at.ensures in
+    (c.of_bits-mem.ensures ∙ ap mem_of c.mem.ensures) c.will_fetch-at.ensures.refusal c.will_fetch-at.ensures.value in
+    is.its ∙ ap (λ (p : Ports). unit_samples (jumps s.part) p.pc (demand s) m.unit) is.given
+
+pub advance-requires-clause-allowed : goal.advance-requires-clause-allowed
+advance-requires-clause-allowed g c =
     let n = length c.args.bus.now.words in
-    let clear = second_clear (memory_refusal n asked.mem asked.ports.mar) (sample_refusal n asked.at) c.in-Ok-access.ensures.allowed in
-    ap (λ (k : ℕ). unit_refusal (jumps s.part) k (settled s m).pc (demand s) m.unit) c.in-Ok-access.ensures.size
-    ∙ ap (λ (p : Ports). unit_refusal (jumps s.part) n p.pc (demand s) m.unit) (sym is.given)
-    ∙ sym (is.samples n) ∙ clear
+    ap (λ (k : ℕ). sample_refusal k c.will_fetch-at.result) c.in-Ok-access.ensures.size
+    ∙ second_clear (memory_refusal n c.of_bits-mem.result c.ports-ports.result.mar) (sample_refusal n c.will_fetch-at.result) c.in-Ok-access.ensures.allowed
 
 pub returns-in-Ok-access-clause-ok : goal.returns-in-Ok-access-clause-ok
 unfolding step_of_word
@@ -91,7 +93,7 @@ returns-in-Ok-access-clause-ok g c =
     let is : IsAsked s m asked =
     is_asked old.control.word m old.stalled old.value old.c c.destinations-destinations.result old.control.demand c.is_named.result c.ports-ports.result c.of_bits-mem.result
     c.will_fetch-at.result (old.computed c.requires) c.if-self.false c.destinations-destinations.ensures.value old.control.demands c.is_named.ensures c.ports-ports.ensures
-    (c.of_bits-mem.ensures ∙ ap mem_of c.mem.ensures) c.will_fetch-at.ensures in
+    (c.of_bits-mem.ensures ∙ ap mem_of c.mem.ensures) c.will_fetch-at.ensures.refusal c.will_fetch-at.ensures.value in
     λ rest fits.
     let led = c.in-Ok-access.ensures.ok rest fits in (
       led.0,
@@ -115,7 +117,7 @@ returns-in-Ok-access-clause-others g c =
     let is : IsAsked s m asked =
     is_asked old.control.word m old.stalled old.value old.c c.destinations-destinations.result old.control.demand c.is_named.result c.ports-ports.result c.of_bits-mem.result
     c.will_fetch-at.result (old.computed c.requires) c.if-self.false c.destinations-destinations.ensures.value old.control.demands c.is_named.ensures c.ports-ports.ensures
-    (c.of_bits-mem.ensures ∙ ap mem_of c.mem.ensures) c.will_fetch-at.ensures in
+    (c.of_bits-mem.ensures ∙ ap mem_of c.mem.ensures) c.will_fetch-at.ensures.refusal c.will_fetch-at.ensures.value in
     let mar = ap (λ (p : Ports). p.mar) is.given ∙ sym (ap (λ (n : Micro). n.mar) c.advance.ensures.micro) in
     subst (λ (at : ℕ). ChangesOnly at c.args.bus.now.words c.access.new.bus.words) mar c.in-Ok-access.ensures.others
 
@@ -129,7 +131,7 @@ returns-in-Ok-access-clause-refusal g c =
     let is : IsAsked s m asked =
     is_asked old.control.word m old.stalled old.value old.c c.destinations-destinations.result old.control.demand c.is_named.result c.ports-ports.result c.of_bits-mem.result
     c.will_fetch-at.result (old.computed c.requires) c.if-self.false c.destinations-destinations.ensures.value old.control.demands c.is_named.ensures c.ports-ports.ensures
-    (c.of_bits-mem.ensures ∙ ap mem_of c.mem.ensures) c.will_fetch-at.ensures in
+    (c.of_bits-mem.ensures ∙ ap mem_of c.mem.ensures) c.will_fetch-at.ensures.refusal c.will_fetch-at.ensures.value in
     λ w e shows refused.
     let why = step_refusal s m asked is _ w (ap (λ (ws : List ℕ). length ws) shows.words) in
     let clear = ap refused_by c.in-Ok-access.ensures.allowed in
@@ -146,7 +148,7 @@ returns-in-Err-access-clause-refusal g c =
     let is : IsAsked s m asked =
     is_asked old.control.word m old.stalled old.value old.c c.destinations-destinations.result old.control.demand c.is_named.result c.ports-ports.result c.of_bits-mem.result
     c.will_fetch-at.result (old.computed c.requires) c.if-self.false c.destinations-destinations.ensures.value old.control.demands c.is_named.ensures c.ports-ports.ensures
-    (c.of_bits-mem.ensures ∙ ap mem_of c.mem.ensures) c.will_fetch-at.ensures in
+    (c.of_bits-mem.ensures ∙ ap mem_of c.mem.ensures) c.will_fetch-at.ensures.refusal c.will_fetch-at.ensures.value in
     λ w e shows refused.
     let why = step_refusal s m asked is _ w (ap (λ (ws : List ℕ). length ws) shows.words) in
     let answer = c.in-Err-access.ensures.refusal e (sym why ∙ refused) in
@@ -162,7 +164,7 @@ returns-in-Err-access-clause-err g c =
     let is : IsAsked s m asked =
     is_asked old.control.word m old.stalled old.value old.c c.destinations-destinations.result old.control.demand c.is_named.result c.ports-ports.result c.of_bits-mem.result
     c.will_fetch-at.result (old.computed c.requires) c.if-self.false c.destinations-destinations.ensures.value old.control.demands c.is_named.ensures c.ports-ports.ensures
-    (c.of_bits-mem.ensures ∙ ap mem_of c.mem.ensures) c.will_fetch-at.ensures in
+    (c.of_bits-mem.ensures ∙ ap mem_of c.mem.ensures) c.will_fetch-at.ensures.refusal c.will_fetch-at.ensures.value in
     let law : AtConsole = record { takes = c.console_law.ensures.takes; gives = c.console_law.ensures.gives } in
     let clear = λ (fault : IsFault c.in-Err-access.fault). not_refused (refusal_on (length c.args.bus.now.words) asked) (Err c.in-Err-access.fault) c.in-Err-access.fault refl fault c.in-Err-access.ensures.refusal in
     record {
