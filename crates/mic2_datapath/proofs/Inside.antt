@@ -1,5 +1,5 @@
 -- A write or a read that reaches memory alone.
-use Rattle.std.proofs.Common.{◌≡◌, ℕ, false, List, length, Option, Some, None, refl, sym, ap, ◌∙◌}
+use Rattle.std.proofs.Common.{◌≡◌, ℕ, false, List, length, Option, Some, None, refl, ap, ◌∙◌}
 use Rattle.std.proofs.lemmas.List.{length-set}
 use Rattle.console_port.specs.World.{World, Refusal}
 use Rattle.micro_word.specs.declared.statement.Mem.{Mem}

@@ -1,6 +1,5 @@
-use Rattle.std.proofs.Common.{ℕ, [], length, refl}
+use Rattle.std.proofs.Common.{[], refl}
 use Rattle.console_port.specs.World.{World}
-use Rattle.datapath.specs.Memory.{memory_refusal, byte_refusal}
 use Rattle.mic2_datapath.proofs.Inside.{first_clear, is_transfer, size_is}
 use Rattle.mic2_datapath.proofs.access.transfer_inside.Goals as goal
 

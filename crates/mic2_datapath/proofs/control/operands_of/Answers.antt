@@ -1,9 +1,8 @@
-use Rattle.std.proofs.Common.{◌≡◌, ◌<◌, ℕ, subst, sym, ◌∙◌, if◌then◌else◌}
+use Rattle.std.proofs.Common.{◌<◌, ℕ, subst, sym, ◌∙◌, if◌then◌else◌}
 use Rattle.std.specs.Prelude.{nat_lt}
 use Rattle.machine_words.specs.declared.machine.Machine.TheVariants as machines
 use Rattle.micro_word.specs.Canonical.{is_byte, is_pair}
 use Rattle.micro_word.specs.Coding.{row, statement_of}
-use Rattle.mic2_datapath.specs.Microstep.{operand_bytes}
 use Rattle.mic2_datapath.proofs.Demands.{few_bytes, greater_is}
 use Rattle.mic2_datapath.proofs.control.operands_of.Goals as goal
 

@@ -1,4 +1,4 @@
-use Rattle.std.proofs.Common.{ℕ, Bool, false, get_or, ap, sym, ◌∙◌}
+use Rattle.std.proofs.Common.{ℕ, false, get_or, ap, sym, ◌∙◌}
 use Rattle.std.specs.Prelude.{nat_le}
 use Rattle.mic2_fetch_unit.specs.declared.next.TheConstants.{COUNTS, SAMPLES}
 use Rattle.mic2_fetch_unit.proofs.Table.{right_count, right_sample}

@@ -7,7 +7,7 @@ use Rattle.datapath.specs.declared.ports.Ports.{Ports}
 use Rattle.datapath.specs.Memory.{memory_refusal}
 use Rattle.mic2_fetch_unit.specs.FetchUnit.{edge_refusal, sample_refusal}
 use Rattle.mic2_datapath.specs.Micro.{Micro}
-use Rattle.mic2_datapath.specs.Microstep.{demand, is_stalled, jumps, settled, unit_samples}
+use Rattle.mic2_datapath.specs.Microstep.{demand, is_stalled, jumps, unit_samples}
 use Rattle.mic2_datapath.specs.Mic2.{step_of_word}
 use Rattle.mic2_datapath.specs.Latches.{micro_in}
 use Rattle.mic2_datapath.proofs.Steps.{Asked, AtConsole, IsAsked, is_asked, is_done, moved_on, not_refused, reads_console, refusal_on, refused_no_fault, second_clear, stall_done, stall_refusal, step_refusal, uses_console}
