@@ -18,5 +18,4 @@ pub mod Calls
 pub mod Output
 pub mod Groups
 pub mod Store
-pub mod Alike
 pub mod Waits

@@ -1,4 +1,3 @@
 pub mod Stands
 pub mod Groups
 pub mod Stalls
-pub mod Agreement

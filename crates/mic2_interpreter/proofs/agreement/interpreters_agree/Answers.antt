@@ -1,6 +1,0 @@
-use Rattle.mic2_interpreter.proofs.Alike.{agree}
-use Rattle.mic2_interpreter.proofs.agreement.interpreters_agree.Goals as goal
-
-pub returns : goal.returns
-returns g c = agree g.I.Machine.Clocked.state g.I.Machine.Clocked.meaning g.I.Machine.Clocked.IsReady g.I.Interpreter.IsShipped g.I.Interpreter.entry
-    g.J.Machine.Clocked.state g.J.Machine.Clocked.meaning g.J.Machine.Clocked.IsReady g.J.Interpreter.IsShipped g.J.Interpreter.entry
