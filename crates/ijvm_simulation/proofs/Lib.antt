@@ -10,3 +10,4 @@ pub mod Next
 pub mod Carried
 pub mod Boards
 pub mod Alike
+pub mod Ending

@@ -7,3 +7,4 @@ pub mod Verified
 pub mod Law
 pub mod Headline
 pub mod Agreement
+pub mod Starts
