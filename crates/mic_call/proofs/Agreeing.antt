@@ -95,7 +95,7 @@ clocked_is c f limit cycles instructions boundary =
 
 -- What is said where the sink does not fail.
 
-said : (old new : SinkState) (text : List ℕ) (code status : ℕ) → (Rose old.faults new.faults → ⊥) → Says old new text code status → (status ≡ code) × Got old.held text new.held
+pub said : (old new : SinkState) (text : List ℕ) (code status : ℕ) → (Rose old.faults new.faults → ⊥) → Says old new text code status → (status ≡ code) × Got old.held text new.held
 said old new text code status none (Said is got flushed same) = (is, got)
 said old new text code status none (Unsaid is got rose) = absurd (none rose)
 
@@ -153,11 +153,11 @@ module _ {M S : Type 0} (state : M → S) (m : Meaning S) (IsReady : ℕ → Lis
         Says old.err ran.err (report_on state m (end_of run.begins.finish.end) board) (status_of (end_of run.begins.finish.end)) status →
         IsRun program m.machine bound old.console told.console old.out told.out old.err told.err status' →
         IsQuiet old ran status → IsQuiet old told status' → Agrees old ran told status status'
-    by_reference one tells board run says (Reported r (reference.Ran plainly console out) says') quiet quiet' =
+    by_reference one tells board run says (Reported r (reference.Ran plainly console out flushed) says') quiet quiet' =
         both one tells board run says r plainly says' quiet quiet'
-    by_reference one tells board run says (Reported r (reference.CutByRead e cut rose out) says') quiet quiet' = absurd (quiet'.console rose)
+    by_reference one tells board run says (Reported r (reference.CutByRead e cut rose out flushed) says') quiet quiet' = absurd (quiet'.console rose)
     by_reference one tells board run says (Reported r (reference.CutByWrite e cut console rose) says') quiet quiet' = absurd (quiet'.out rose)
-    by_reference one tells board run says (reference.Short short console out says') quiet quiet' =
+    by_reference one tells board run says (reference.Short short console out flushed says') quiet quiet' =
         absurd (quiet'.memory (said old.err told.err _ _ status' quiet'.err says').0)
 
     pub agree : OneEnd → old.console.left ≡ Some input →
@@ -165,6 +165,6 @@ module _ {M S : Type 0} (state : M → S) (m : Meaning S) (IsReady : ℕ → Lis
         IsRun program m.machine bound old.console told.console old.out told.out old.err told.err status' →
         IsQuiet old ran status → IsQuiet old told status' → Agrees old ran told status status'
     agree one tells (NoRoom same says) reference quiet quiet' = absurd (quiet.memory (said old.err ran.err _ _ status quiet.err says).0)
-    agree one tells (Ran board run console out says) reference quiet quiet' = by_reference one tells board run says reference quiet quiet'
-    agree one tells (CutByRead board cut rose out says) reference quiet quiet' = absurd (quiet.console rose)
+    agree one tells (Ran board run console out flushed says) reference quiet quiet' = by_reference one tells board run says reference quiet quiet'
+    agree one tells (CutByRead board cut rose out flushed says) reference quiet quiet' = absurd (quiet.console rose)
     agree one tells (CutByWrite board cut console rose says) reference quiet quiet' = absurd (quiet.out rose)

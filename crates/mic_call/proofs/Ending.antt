@@ -1,5 +1,6 @@
 -- How a run ends, by the end of its board.
-use Rattle.std.proofs.Common.{◌≡◌, ◌∙◌, ℕ, List, Some, None, refl, sym, ap, subst}
+use Rattle.std.proofs.Common.{◌≡◌, ◌≢◌, ◌∙◌, ℕ, List, Some, None, refl, sym, ap, subst}
+use Rattle.console_port.specs.Console.{StaysFlushed}
 use Rattle.mic_clock.specs.declared.end.End.{End}
 use Rattle.mic_clock.specs.declared.end.End.TheVariants as ends
 use Rattle.mic_clock.specs.Meaning.{Meaning}
@@ -26,6 +27,7 @@ module _ {M S : Type 0} (state : M → S) (m : Meaning S) (IsReady : ℕ → Lis
           IsCutByRead state m IsReady IsShipped entry program bound old.console.left old.out.held new.console.left new.out.held board
       pub write : board.end ≡ Some ends.WriteFault →
           IsCutByWrite state m IsReady IsShipped entry program bound old.console.left old.out.held new.console.left new.out.held board
+      pub flushed : board.end ≢ Some ends.WriteFault → StaysFlushed old.out.held old.out.passed new.out.held new.out.passed
       pub cause : HasEndCause old.console.faults new.console.faults old.out.faults new.out.faults None board.end
 
     -- the end of the definition's run is the board's
@@ -39,14 +41,15 @@ module _ {M S : Type 0} (state : M → S) (m : Meaning S) (IsReady : ℕ → Lis
     whole end status r e none unread unwritten says =
         let run : HasRun state m IsReady IsShipped entry program bound old.console.left old.out.held new.console.left new.out.held board =
         r.run (subst (NoFault None) (sym e) none) in
-        Ran board run (r.cause.source_same (λ _ q. unread (sym e ∙ q))) (r.cause.sink_same (λ _ q. unwritten (sym e ∙ q)))
+        Ran board run (r.cause.source_same (λ _ q. unread (sym e ∙ q))) (r.cause.sink_same (λ _ q. unwritten (sym e ∙ q))) (r.flushed (λ q. unwritten (sym e ∙ q)))
         (subst (λ (x : End). Says old.err new.err (report_on state m x board) (status_of x) status) (agrees run end e) says)
 
     pub ends_by : (end : End) (status : ℕ) → IsRun → board.end ≡ Some end →
         Says old.err new.err (report_on state m end board) (status_of end) status →
         ClockedEnd state m IsReady IsShipped entry program bound old new status
     ends_by ends.ReadFault status r e says =
-        CutByRead board (r.read e) (r.cause.read refl e) (r.cause.sink_same (λ _ q. let c : Some ends.ReadFault ≡ Some ends.WriteFault = sym e ∙ q in cc)) says
+        let unwritten : board.end ≢ Some ends.WriteFault = λ q. let c : Some ends.ReadFault ≡ Some ends.WriteFault = sym e ∙ q in cc in
+        CutByRead board (r.read e) (r.cause.read refl e) (r.cause.sink_same (λ _. unwritten)) (r.flushed unwritten) says
     ends_by ends.WriteFault status r e says =
         CutByWrite board (r.write e) (r.cause.source_same (λ _ q. let c : Some ends.WriteFault ≡ Some ends.ReadFault = sym e ∙ q in cc)) (r.cause.write refl e) says
     ends_by ends.Halt status r e says = whole ends.Halt status r e tt (λ q. cc) (λ q. cc) says

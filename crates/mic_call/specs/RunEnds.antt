@@ -1,6 +1,7 @@
 -- How `run` ends, as the outside sees it: the program's run, clocked on a machine, and its report; or a refusal.
 use Rattle.std.specs.Prelude.{◌≡◌, ℕ, List, Some}
 use Rattle.mic_base.specs.Causes.{Rose}
+use Rattle.console_port.specs.Console.{StaysFlushed}
 use Rattle.console_port.specs.declared.map.MemoryMap.{MemoryMap}
 use Rattle.mic_clock.specs.declared.end.End.{End}
 use Rattle.mic_clock.specs.declared.end.End.TheVariants as ends
@@ -30,16 +31,18 @@ module _ {M S : Type 0} (state : M → S) (m : Meaning S) (IsReady : ℕ → Lis
     -- memory was wanting before the first cycle
     NoRoom : IsUntouched old new → Says old.err new.err out_of_memory exits.memory status → ClockedEnd program bound old new status
     -- the clocked run is the definition's, boundary by boundary, and has ended as that does, which the status tells;
-    -- `out` has got the definition's output
+    -- `out` has got the definition's output, and has passed on all
     Ran : (board : BoardView M) →
         (run : HasRun state m IsReady IsShipped entry program bound old.console.left old.out.held new.console.left new.out.held board) →
         new.console.faults ≡ old.console.faults → new.out.faults ≡ old.out.faults →
+        StaysFlushed old.out.held old.out.passed new.out.held new.out.passed →
         Says old.err new.err (report_on state m (end_of run.begins.finish.end) board) (status_of (end_of run.begins.finish.end)) status →
         ClockedEnd program bound old new status
-    -- the console failed, which cut the run; `out` has got all the output before it
+    -- the console failed, which cut the run; `out` has got all the output before it, and has passed on all
     CutByRead : (board : BoardView M) →
         IsCutByRead state m IsReady IsShipped entry program bound old.console.left old.out.held new.console.left new.out.held board →
         Rose old.console.faults new.console.faults → new.out.faults ≡ old.out.faults →
+        StaysFlushed old.out.held old.out.passed new.out.held new.out.passed →
         Says old.err new.err (report_on state m ends.ReadFault board) (status_of ends.ReadFault) status → ClockedEnd program bound old new status
     -- `out` failed, which cut the run; `out` has got a front of the output
     CutByWrite : (board : BoardView M) →

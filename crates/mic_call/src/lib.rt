@@ -9,6 +9,6 @@ mod tests;
 mod top_call;
 mod usage;
 
-pub use laws::run_agrees_with_reference;
+pub use laws::{run_agrees_on_both_machines, run_agrees_with_reference};
 pub use top_call::mic_main;
 pub use usage::misused;

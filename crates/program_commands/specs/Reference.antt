@@ -2,6 +2,7 @@
 use Rattle.std.specs.Prelude.{◌≡◌, ℕ, List}
 use Rattle.mic_base.specs.Causes.{Rose}
 use Rattle.machine_words.specs.declared.machine.Machine.{Machine}
+use Rattle.console_port.specs.Console.{StaysFlushed}
 use Rattle.console_port.specs.declared.map.MemoryMap.{MemoryMap}
 use Rattle.plain_machine.specs.declared.plain.PlainEnd.TheVariants as ends
 use Rattle.plain_machine.specs.declared.plain.PlainReport.{PlainReport}
@@ -23,12 +24,12 @@ program_of program machine = record { image = program.image; stack_end = program
 
 -- What a report says of a run between a console and `out`.
 pub data IsReported (program : VerifiedView) (machine : Machine) (bound : ℕ) (console console' : SourceState) (out out' : SinkState) (r : PlainReport) : Type 0 where
-  -- the definition's run to its end; `out` has got its output
+  -- the definition's run to its end; `out` has got its output, and has passed on all
   Ran : HasRun (program_of program machine) program.main_locals bound console.left out.held console'.left out'.held r →
-      console'.faults ≡ console.faults → out'.faults ≡ out.faults → IsReported program machine bound console console' out out' r
-  -- the console failed, which cut the run at an IN; `out` has got all the output before it
+      console'.faults ≡ console.faults → out'.faults ≡ out.faults → StaysFlushed out.held out.passed out'.held out'.passed → IsReported program machine bound console console' out out' r
+  -- the console failed, which cut the run at an IN; `out` has got all the output before it, and has passed on all
   CutByRead : r.end ≡ ends.ReadFault → IsCutByRead (program_of program machine) program.main_locals bound console.left out.held console'.left out'.held r →
-      Rose console.faults console'.faults → out'.faults ≡ out.faults → IsReported program machine bound console console' out out' r
+      Rose console.faults console'.faults → out'.faults ≡ out.faults → StaysFlushed out.held out.passed out'.held out'.passed → IsReported program machine bound console console' out out' r
   -- `out` failed, which cut the run at an IN or an OUT, or at its end; `out` has got a front of the output
   CutByWrite : r.end ≡ ends.WriteFault → IsCutByWrite (program_of program machine) program.main_locals bound console.left out.held console'.left out'.held r →
       console'.faults ≡ console.faults → Rose out.faults out'.faults → IsReported program machine bound console console' out out' r
@@ -37,9 +38,9 @@ pub data IsReported (program : VerifiedView) (machine : Machine) (bound : ℕ) (
 pub data IsRun (program : VerifiedView) (machine : Machine) (bound : ℕ) (console console' : SourceState) (out out' err err' : SinkState) (status : ℕ) : Type 0 where
   Reported : (r : PlainReport) → IsReported program machine bound console console' out out' r → Says err err' (plain_head r) (status_of (end_of r.end)) status →
       IsRun program machine bound console console' out out' err err' status
-  -- memory was wanting at a boundary; `out` has got a front of the output
+  -- memory was wanting at a boundary; `out` has got a front of the output, and has passed on all that it got
   Short : IsShort (program_of program machine) program.main_locals bound console.left out.held console'.left out'.held →
-      console'.faults ≡ console.faults → out'.faults ≡ out.faults → Says err err' out_of_memory exits.memory status →
+      console'.faults ≡ console.faults → out'.faults ≡ out.faults → StaysFlushed out.held out.passed out'.held out'.passed → Says err err' out_of_memory exits.memory status →
       IsRun program machine bound console console' out out' err err' status
 
 pub data EndsReference (file : List ℕ) (machine : Machine) (bound : ℕ) (map : MemoryMap) (console console' : SourceState) (old new : Desk) (status : ℕ) : Type 0 where

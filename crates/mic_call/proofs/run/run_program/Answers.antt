@@ -21,6 +21,7 @@ returns-in-Ok g c =
       run = c.in-Ok.ensures.run;
       read = c.in-Ok.ensures.read;
       write = c.in-Ok.ensures.write;
+      flushed = c.in-Ok.ensures.flushed;
       cause = c.in-Ok.ensures.cause;
     })
     ended (rw (printed, c.status_of.ensures) at c.say.ensures)

@@ -9,6 +9,7 @@ returns-in-Ok g c =
       run = rw (c.main_locals-locals.ensures.is, c.image-image.ensures.is, c.map-map.ensures.is) at c.in-Ok.ensures.run;
       read = rw (c.main_locals-locals.ensures.is, c.image-image.ensures.is, c.map-map.ensures.is) at c.in-Ok.ensures.read;
       write = rw (c.main_locals-locals.ensures.is, c.image-image.ensures.is, c.map-map.ensures.is) at c.in-Ok.ensures.write;
+      flushed = c.in-Ok.ensures.flushed;
       cause = c.in-Ok.ensures.cause;
     }))
     (rw (c.bytes.ensures.value, c.plain_report.ensures, c.status_of.ensures, c.end_of.ensures) at c.say.ensures)
