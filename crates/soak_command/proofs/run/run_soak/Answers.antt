@@ -12,8 +12,8 @@ pub returns-in-Ok : goal.returns-in-Ok
 returns-in-Ok g c = λ seed size is.
     let end : End = c.unwrap-end.result in
     let ended : c.in-Ok.board.end ≡ Some end = sym c.ended.ensures ∙ c.unwrap-end.ensures in
-    let long : c.len-size_of_text.result ≡ length c.args.program.now.image.text =
-    c.len-size_of_text.ensures ∙ ap (λ (xs : List ℕ). length xs) (c.text.ensures.is ∙ ap (λ image. image.text) c.image.ensures.is) in
+    let long : length c.text-size_of_text.result.now ≡ length c.args.program.now.image.text =
+    ap (λ (xs : List ℕ). length xs) (c.text-size_of_text.ensures.is ∙ ap (λ image. image.text) c.image.ensures.is) in
     let printed : c.bytes.result.now ≡ summary (length c.args.program.now.image.text) end c.in-Ok.board.counts (g.I.Machine.Clocked.meaning.registers (g.I.Machine.Clocked.state c.in-Ok.board.machine)).tos =
     c.bytes.ensures.value ∙ c.summary-line.ensures
     ∙ (ap (λ (x : ℕ). summary x end c.counts.result c.registers.result.tos) long
@@ -24,5 +24,5 @@ returns-in-Ok g c = λ seed size is.
     (ap (λ (xs : List ℕ). Some xs) (c.new-source.ensures ∙ c.new.ensures.items))
     c.in-Ok.ensures.run c.in-Ok.ensures.cause ended refl (rw (printed, c.status_of.ensures) at c.say.ensures)
 
-pub returns-in-Err : goal.returns-in-Err
-returns-in-Err g c = λ seed size is. NoRoom refl c.no_memory.ensures
+pub returns : goal.returns
+returns g c = λ seed size is. NoRoom refl c.no_memory.ensures
