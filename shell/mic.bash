@@ -2,7 +2,7 @@
 _mic() {
     local word=${COMP_WORDS[COMP_CWORD]} before=${COMP_WORDS[COMP_CWORD-1]} command=${COMP_WORDS[1]}
     if [ "$COMP_CWORD" -eq 1 ]; then
-        COMPREPLY=($(compgen -W "assemble list verify run trace profile reference micro print-micro" -- "$word"))
+        COMPREPLY=($(compgen -W "assemble list verify run trace profile reference micro print-micro soak" -- "$word"))
         return
     fi
     case $before in
@@ -16,11 +16,11 @@ _mic() {
     run | profile) options="--machine --bound --micro --map" ;;
     trace) options="--machine --bound --micro --buses --map" ;;
     reference) options="--machine --bound --map" ;;
-    micro | print-micro) options="--machine" ;;
+    micro | print-micro | soak) options="--machine" ;;
     esac
     case $word in
     -*) COMPREPLY=($(compgen -W "$options" -- "$word")) ;;
-    *) COMPREPLY=($(compgen -f -- "$word")) ;;
+    *) [ "$command" = soak ] || COMPREPLY=($(compgen -f -- "$word")) ;;
     esac
 }
 complete -o filenames -F _mic mic

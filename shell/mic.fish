@@ -1,5 +1,5 @@
 # Completion of mic for fish: put this file into ~/.config/fish/completions.
-set -l commands assemble list verify run trace profile reference micro print-micro
+set -l commands assemble list verify run trace profile reference micro print-micro soak
 complete -c mic -f -n "not __fish_seen_subcommand_from $commands" -a assemble -d 'write the linked image of a source'
 complete -c mic -f -n "not __fish_seen_subcommand_from $commands" -a list -d 'print pool and text of an accepted program'
 complete -c mic -f -n "not __fish_seen_subcommand_from $commands" -a verify -d 'say whether a program is accepted'
@@ -9,7 +9,9 @@ complete -c mic -f -n "not __fish_seen_subcommand_from $commands" -a profile -d 
 complete -c mic -f -n "not __fish_seen_subcommand_from $commands" -a reference -d 'run it by the definition of IJVM'
 complete -c mic -f -n "not __fish_seen_subcommand_from $commands" -a micro -d 'place a microprogram, and write its control store'
 complete -c mic -f -n "not __fish_seen_subcommand_from $commands" -a print-micro -d 'print a microprogram, or list a control store'
-complete -c mic -n '__fish_seen_subcommand_from run trace profile reference micro print-micro' -l machine -x -a 'mic1 mic2' -d 'the machine'
+complete -c mic -f -n "not __fish_seen_subcommand_from $commands" -a soak -d 'generate a program, run it, and print a summary'
+complete -c mic -f -n '__fish_seen_subcommand_from soak'
+complete -c mic -n '__fish_seen_subcommand_from run trace profile reference micro print-micro soak' -l machine -x -a 'mic1 mic2' -d 'the machine'
 complete -c mic -n '__fish_seen_subcommand_from run trace profile reference' -l bound -x -d 'the bound on cycles'
 complete -c mic -n '__fish_seen_subcommand_from list verify run trace profile reference' -l map -x -a 'standard large' -d 'the memory map'
 complete -c mic -n '__fish_seen_subcommand_from run trace profile' -l micro -r -d 'a microprogram of your own'

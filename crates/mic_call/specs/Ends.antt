@@ -1,6 +1,6 @@
 -- How a call of `mic` ends, by what its words ask for.
 use Rattle.std.specs.Prelude.{◌≡◌, ℕ, List, Option, Some, None}
-use Rattle.mic_words.specs.Words.{Asked, Assemble, ListOf, Verify, Run, RunOwn, Trace, Profile, Reference, Micro, PrintMicro}
+use Rattle.mic_words.specs.Words.{Asked, Assemble, ListOf, Verify, Run, RunOwn, Trace, Profile, Reference, Micro, PrintMicro, Soak}
 use Rattle.machine_words.specs.declared.machine.Machine.{Machine}
 use Rattle.machine_words.specs.declared.machine.Machine.TheVariants.{Mic1, Mic2}
 use Rattle.mal_parser.specs.Canonical.{canonical_text}
@@ -26,6 +26,7 @@ use Rattle.program_texts.specs.Listing.{Lists}
 use Rattle.program_texts.specs.Summary.{Summarizes}
 use Rattle.program_commands.specs.Answers.{Assembled, Shown}
 use Rattle.program_commands.specs.Reference.{EndsReference}
+use Rattle.soak_command.specs.SoakEnds.{SoakEnds}
 use Rattle.mic_call.specs.Outside.{desk_of, IsUntouched, Outside}
 use Rattle.mic_call.specs.Usage.{usage}
 use Rattle.mic_call.specs.RunEnds.{RunEnds}
@@ -47,6 +48,12 @@ pub record OnlyPrints (text : List ℕ) (old new : Outside) (status : ℕ) : Typ
   pub console : new.streams.console ≡ old.streams.console
   pub err : new.streams.err ≡ old.streams.err
   pub says : Says old.streams.out new.streams.out text exits.done status
+
+-- a generated program is clocked, and its summary is printed; no file and nothing of the console is read
+pub record Soaks (Clocked : SinkState → SinkState → SinkState → SinkState → ℕ → Type 0) (old new : Outside) (status : ℕ) : Type 0 where
+  pub files : new.files ≡ old.files
+  pub console : new.streams.console ≡ old.streams.console
+  pub ends : Clocked old.streams.out new.streams.out old.streams.err new.streams.err status
 
 -- a machine with the microprogram that ships for it, and Main1 at 0x002
 abbrev pub RunsMic1 : List ℕ → ℕ → MemoryMap → Outside → Outside → ℕ → Type 0
@@ -83,6 +90,8 @@ EndsAs (Some (Reference file machine bound map)) old new status =
 EndsAs (Some (Micro mal store machine)) old new status = EndsAside (MicroAnswers machine store) mal old new status
 EndsAs (Some (PrintMicro (Some file) machine)) old new status = EndsAside (PrintMicroAnswers machine) file old new status
 EndsAs (Some (PrintMicro None machine)) old new status = OnlyPrints (canonical_text (program_of machine)) old new status
+EndsAs (Some (Soak seed size Mic1)) old new status = Soaks (SoakEnds micro_of1 mic1_meaning IsReady1 (HasShipped Mic1) 0x002 seed size) old new status
+EndsAs (Some (Soak seed size Mic2)) old new status = Soaks (SoakEnds micro_of2 mic2_meaning IsReady2 (HasShipped Mic2) 0x002 seed size) old new status
 
 -- memory is wanting before anything is done, or the call ends as its words ask
 pub data Ends (asks : Option Asked) (old new : Outside) (status : ℕ) : Type 0 where

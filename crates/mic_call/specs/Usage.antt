@@ -13,3 +13,4 @@ usage =
     ++ codes "       mic reference FILE [--machine V] [--bound N] [--map W]\n"
     ++ codes "       mic micro MAL STORE [--machine V]\n"
     ++ codes "       mic print-micro [FILE] [--machine V]\n"
+    ++ codes "       mic soak SEED SIZE [--machine V]\n"

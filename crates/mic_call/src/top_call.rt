@@ -18,6 +18,7 @@ use mic2_datapath::Mic2;
 use micro_commands::{micro, print_micro, print_shipped};
 use program_commands::{assemble_file, list_file, reference_file, verify_file};
 use shipped_microcode::{Mic1Interpreter, Mic2Interpreter};
+use soak_command::soak;
 use std::alloc::Global;
 
 /// Does what the words after the program's name ask for.
@@ -215,5 +216,19 @@ pub fn mic_main<F: Files, S: Source, K: Sink, E: Sink>(
                 machine,
             },
         ) => print_shipped(machine, out),
+        Ok(
+            Request::Soak {
+                seed,
+                size,
+                machine: Machine::Mic1,
+            },
+        ) => soak::<Mic1Interpreter, K, E>(alloc, seed, size, out, err),
+        Ok(
+            Request::Soak {
+                seed,
+                size,
+                machine: Machine::Mic2,
+            },
+        ) => soak::<Mic2Interpreter, K, E>(alloc, seed, size, out, err),
     }
 }

@@ -16,6 +16,7 @@ const USAGE: &[u8] = b"usage: mic assemble SOURCE IMAGE
        mic reference FILE [--machine V] [--bound N] [--map W]
        mic micro MAL STORE [--machine V]
        mic print-micro [FILE] [--machine V]
+       mic soak SEED SIZE [--machine V]
 ";
 
 /// Says how `mic` is called.

@@ -1,5 +1,5 @@
 -- What the words of a command line ask for: a command's name, and then what the entries behind it say, by the table.
-use Rattle.std.specs.Prelude.{◌≡◌, ◌≤◌, ℕ, ℤ, pos, Bool, false, nat_le, if◌then◌else◌, List, [], ◌∷◌, Option, Some, None, Result, Ok, Err, codes, is_some, option_and_then, option_map, unwrap_or}
+use Rattle.std.specs.Prelude.{◌≡◌, ◌≤◌, ℕ, ℤ, pos, Bool, false, ◌&&◌, nat_le, if◌then◌else◌, List, [], ◌∷◌, Option, Some, None, Result, Ok, Err, codes, is_some, option_and_then, option_map, unwrap_or}
 use Rattle.std.specs.Str.{bytes_eq}
 use Rattle.mic_base.specs.Number.{number_of}
 use Rattle.mic_base.specs.declared.number.NumberError.{NumberError}
@@ -10,7 +10,7 @@ use Rattle.console_port.specs.declared.map.TheConstants.MemoryMap.{LARGE, STANDA
 use Rattle.console_port.specs.Map.{IsMap}
 use Rattle.mic_words.specs.Reading.{Entry, Text, reads, text_in}
 use Rattle.mic_words.specs.Table.{form_for, name_for}
-use Rattle.mic_words.specs.declared.options.TheConstants.{DEFAULT_BOUND, MOST_CYCLES}
+use Rattle.mic_words.specs.declared.options.TheConstants.{DEFAULT_BOUND, MOST_BLOCKS, MOST_CYCLES, MOST_SEED}
 use Rattle.mic_words.specs.declared.error.WordsError.{WordsError}
 use Rattle.mic_words.specs.declared.error.WordsError.TheVariants as error
 use Rattle.mic_words.specs.declared.table.CommandName.{CommandName}
@@ -32,6 +32,8 @@ pub data Asked : Type 0 where
   Micro : (mal store : Text) (machine : Machine) → Asked
   -- without a file the microprogram that ships is asked for
   PrintMicro : (file : Option Text) (machine : Machine) → Asked
+  -- a generated program of so many blocks
+  Soak : (seed size : ℕ) (machine : Machine) → Asked
 
 abbrev pub asked : Request → Asked
 asked (requests.Assemble source image) = Assemble source.now image.now
@@ -44,12 +46,13 @@ asked (requests.Profile file machine bound map micro) = Profile file.now machine
 asked (requests.Reference file machine bound map) = Reference file.now machine bound map
 asked (requests.Micro mal store machine) = Micro mal.now store.now machine
 asked (requests.PrintMicro file machine) = PrintMicro (option_map (λ file. file.now) file) machine
+asked (requests.Soak seed size machine) = Soak seed size machine
 
 -- one of the two maps
 abbrev pub HasMap : MemoryMap → Type 0
 HasMap map = IsMap map.stack_end
 
--- the map of a request is one of the two, and its bound at most the greatest
+-- the map of a request is one of the two, and its bound or its size at most the greatest
 abbrev pub HasLimits : Request → Type 0
 HasLimits (requests.List file map) = HasMap map
 HasLimits (requests.Verify file map) = HasMap map
@@ -58,6 +61,7 @@ HasLimits (requests.RunOwn file machine bound map micro) = (bound ≤ MOST_CYCLE
 HasLimits (requests.Trace file machine bound map micro buses) = (bound ≤ MOST_CYCLES) × HasMap map
 HasLimits (requests.Profile file machine bound map micro) = (bound ≤ MOST_CYCLES) × HasMap map
 HasLimits (requests.Reference file machine bound map) = (bound ≤ MOST_CYCLES) × HasMap map
+HasLimits (requests.Soak seed size machine) = size ≤ MOST_BLOCKS
 HasLimits request = Unit {0}
 
 -- The value of an option, where it is given, and what holds where it is not.
@@ -70,14 +74,14 @@ abbrev pub map_in : Option Text → Option MemoryMap
 map_in None = Some STANDARD
 map_in (Some word) = if bytes_eq word (codes "standard") then Some STANDARD else (if bytes_eq word (codes "large") then Some LARGE else None)
 
--- a bound is a number from 0 to the greatest
-abbrev pub bound_of : Result ℤ NumberError → Option ℕ
-bound_of (Ok (pos n)) = if nat_le n MOST_CYCLES then Some n else None
-bound_of _ = None
+-- a number from the least to the greatest
+abbrev pub number_within : ℕ → ℕ → Result ℤ NumberError → Option ℕ
+number_within least greatest (Ok (pos n)) = if nat_le least n && nat_le n greatest then Some n else None
+number_within least greatest _ = None
 
 abbrev pub bound_in : Option Text → Option ℕ
 bound_in None = Some DEFAULT_BOUND
-bound_in (Some word) = bound_of (number_of word)
+bound_in (Some word) = number_within 0 MOST_CYCLES (number_of word)
 
 abbrev pub machine_of : List Entry → Option Machine
 machine_of given = machine_in (text_in (codes "machine") given)
@@ -87,6 +91,14 @@ bound_from given = bound_in (text_in (codes "bound") given)
 
 abbrev pub map_of : List Entry → Option MemoryMap
 map_of given = map_in (text_in (codes "map") given)
+
+-- The numbers among the plain words.
+
+abbrev pub seed_in : Text → Option ℕ
+seed_in word = number_within 0 MOST_SEED (number_of word)
+
+abbrev pub size_in : Text → Option ℕ
+size_in word = number_within 1 MOST_BLOCKS (number_of word)
 
 -- A flag reads as `true` where it is given, and as `false` where it is not.
 
@@ -140,6 +152,10 @@ micro_of given = option_and_then (λ mal. option_and_then (λ store. option_map 
 abbrev pub print_micro_of : List Entry → Option Asked
 print_micro_of given = option_map (λ machine. PrintMicro (text_in (codes "FILE") given) machine) (machine_of given)
 
+abbrev pub soak_of : List Entry → Option Asked
+soak_of given = option_and_then (λ seed. option_and_then (λ size. option_map (λ machine. Soak seed size machine)
+    (machine_of given)) (option_and_then size_in (text_in (codes "SIZE") given))) (option_and_then seed_in (text_in (codes "SEED") given))
+
 abbrev pub is_given : Text → List Entry → Bool
 is_given option given = is_some (text_in option given)
 
@@ -155,7 +171,7 @@ asked_of name.Debug given = None
 asked_of name.Reference given = reference_of given
 asked_of name.Micro given = micro_of given
 asked_of name.PrintMicro given = print_micro_of given
-asked_of name.Soak given = None
+asked_of name.Soak given = soak_of given
 
 abbrev pub asked_by : Option CommandName → List Text → Option Asked
 asked_by None words = None

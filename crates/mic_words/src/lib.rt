@@ -11,6 +11,6 @@ mod taking;
 mod tests;
 
 pub use error::WordsError;
-pub use options::{DEFAULT_BOUND, MOST_CYCLES};
+pub use options::{DEFAULT_BOUND, MOST_BLOCKS, MOST_CYCLES, MOST_SEED};
 pub use read::read_words;
 pub use request::Request;

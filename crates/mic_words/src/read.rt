@@ -5,10 +5,10 @@ ghost use Rattle.std.specs.Option.{option_map};
 ghost use Rattle.mic_words.specs.Reading.{Entry};
 ghost use Rattle.mic_words.specs.Table.{form_for};
 ghost use Rattle.mic_words.specs.Taking.{Holds};
-ghost use Rattle.mic_words.specs.Words.{AnswersAs, HasLimits, asked, asked_of, assemble_of, list_of, micro_of, print_micro_of, profile_of, reference_of, request_of, run_of, run_own_of, trace_of, verify_of};
+ghost use Rattle.mic_words.specs.Words.{AnswersAs, HasLimits, asked, asked_of, assemble_of, list_of, micro_of, print_micro_of, profile_of, reference_of, request_of, run_of, run_own_of, soak_of, trace_of, verify_of};
 
 use crate::error::WordsError;
-use crate::options::{bound_in, is_true, machine_in, map_in};
+use crate::options::{bound_in, is_true, machine_in, map_in, seed_in, size_in};
 use crate::request::Request;
 use crate::table::{CommandName, named};
 use crate::taking::take_command;
@@ -153,6 +153,20 @@ fn print_micro<'a>(matches: &ArgMatches<'a>) -> Option<Request<'a>>
     Some(Request::PrintMicro { file, machine })
 }
 
+fn soak<'a>(matches: &ArgMatches<'a>) -> Option<Request<'a>>
+    ensures limits { IfSome result HasLimits }
+    ensures asks { (g : List Entry) → Holds (form_for CommandName.Soak) g matches.now → option_map asked result ≡ soak_of g }
+{
+    let seed = seed_in(matches.get_str("SEED")?)?;
+    let size = size_in(matches.get_str("SIZE")?)?;
+    let machine = machine_in(matches.get_str("machine"))?;
+    Some(Request::Soak {
+        seed,
+        size,
+        machine,
+    })
+}
+
 /// What a command asks for; nothing where its work is not built yet.
 fn request_in<'a>(command: CommandName, matches: &ArgMatches<'a>) -> Option<Request<'a>>
     ensures limits { IfSome result HasLimits }
@@ -170,7 +184,7 @@ fn request_in<'a>(command: CommandName, matches: &ArgMatches<'a>) -> Option<Requ
         CommandName::Reference => reference(matches),
         CommandName::Micro => micro(matches),
         CommandName::PrintMicro => print_micro(matches),
-        CommandName::Soak => None,
+        CommandName::Soak => soak(matches),
     }
 }
 

@@ -64,4 +64,10 @@ pub enum Request<'a> {
         file: Option<&'a str>,
         machine: Machine,
     },
+    /// A generated program of so many blocks.
+    Soak {
+        seed: u32,
+        size: u16,
+        machine: Machine,
+    },
 }

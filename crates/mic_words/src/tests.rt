@@ -318,7 +318,7 @@ run hello.jas --bound=1000000001|
 run F --machine mic3|
 run F --map=small|";
 
-/// Traces, profiles and own microprograms, and commands whose work comes later.
+/// Traces, profiles, own microprograms and generated programs, and commands whose work comes later.
 const LATER: &str = "\
 run F --micro M|run F mic1 10000000 standard M
 run F --micro=-|run F mic1 10000000 standard -
@@ -338,8 +338,23 @@ debug F|
 debug F --machine mic1 --bound 1 --micro M --input I --map large|
 soak|
 soak 1|
-soak 1 1|
-soak 0 9000 --machine mic2|";
+soak 1 1|soak 1 1 mic1
+soak 0 9000 --machine mic2|soak 0 9000 mic2
+soak --machine=mic2 7 4000|soak 7 4000 mic2
+soak 4294967295 0x2328|soak 4294967295 9000 mic1
+soak 4294967296 1|
+soak -0 1|
+soak -- -0 1|soak 0 1 mic1
+soak -- -1 1|
+soak 'A' 5|soak 65 5 mic1
+soak 1 0|
+soak 1 9001|
+soak 1 65537|
+soak 1 x|
+soak 1 1 1|
+soak 1 1 --machine mic3|
+soak 1 1 --bound 1|
+soak 1 1 --map large|";
 
 /// The words that spaces divide.
 fn words_of(alloc: Global, line: &str) -> Result<Vec<String>, AllocError> {
@@ -451,6 +466,14 @@ fn shown(alloc: Global, request: Request<'_>) -> Result<String, AllocError> {
                 Some(file) => format!(in alloc; "print-micro {file} {machine}"),
                 None => format!(in alloc; "print-micro {machine}"),
             }
+        }
+        Request::Soak {
+            seed,
+            size,
+            machine,
+        } => {
+            let machine = machine_name(machine);
+            format!(in alloc; "soak {seed} {size} {machine}")
         }
     }
 }

@@ -1,12 +1,12 @@
 //! The report of a run: its end, its counts, the last boundary, and of a clocked run the registers.
 
 ghost use Rattle.std.specs.Prelude.{◌≡◌, ◌≤◌, ◌<◌, ◌+◌, ◌++◌, length};
-ghost use Rattle.run_texts.specs.Report.{boundary_line, cycles_of, head, plain_head, report};
+ghost use Rattle.run_texts.specs.Report.{boundary_line, clocked_head, cycles_of, head, plain_head, report};
 
 use crate::ends::{end_of, name_of};
 use mic_base::Line;
 use mic_clock::{Boundary, Counts, End, Registers, print_state};
-use mic_work::{line_of, number, word};
+use mic_work::{number, word};
 use plain_machine::PlainReport;
 
 fn boundary_line(line: &mut Line, boundary: Option<Boundary>)
@@ -26,18 +26,18 @@ fn boundary_line(line: &mut Line, boundary: Option<Boundary>)
     }
 }
 
-/// The three lines that begin each report.
-fn head(end: End, cycles: u64, instructions: u64, boundary: Option<Boundary>) -> Line
-    ensures text { result ≡ head end cycles instructions boundary }
-    ensures len { length result ≤ 166 }
+/// Appends the three lines that begin each report.
+fn head(line: &mut Line, end: End, cycles: u64, instructions: u64, boundary: Option<Boundary>)
+    requires { length line.old + 166 ≤ 512 }
+    ensures text { line.new ≡ line.old ++ head end cycles instructions boundary }
+    ensures len { length line.new ≤ length line.old + 166 }
 {
-    let mut line = line_of("end ");
-    name_of(&mut line, end);
-    number(&mut line, "\ncycles ", cycles);
-    number(&mut line, " instructions ", instructions);
+    line.text("end ");
+    name_of(line, end);
+    number(line, "\ncycles ", cycles);
+    number(line, " instructions ", instructions);
     line.text("\n");
-    boundary_line(&mut line, boundary);
-    line
+    boundary_line(line, boundary);
 }
 
 /// At a stack limit the last boundary's cycles, if there was one.
@@ -50,13 +50,23 @@ fn cycles_of(end: End, cycles: u64, boundary: Option<Boundary>) -> u64
     }
 }
 
+/// Appends the first three lines of a clocked run's report.
+pub fn clocked_head(line: &mut Line, end: End, counts: &Counts)
+    requires { length line.old + 166 ≤ 512 }
+    ensures text { line.new ≡ line.old ++ clocked_head end counts.now }
+    ensures len { length line.new ≤ length line.old + 166 }
+{
+    let cycles = cycles_of(end, counts.cycles, counts.boundary);
+    head(line, end, cycles, counts.instructions, counts.boundary);
+}
+
 /// The four lines of a clocked run's report.
 pub fn clocked_report(end: End, counts: &Counts, registers: &Registers) -> Line
     requires { registers.now.mpc < 512 }
     ensures { result ≡ report end counts.now registers.now }
 {
-    let cycles = cycles_of(end, counts.cycles, counts.boundary);
-    let mut line = head(end, cycles, counts.instructions, counts.boundary);
+    let mut line = Line::new();
+    clocked_head(&mut line, end, counts);
     print_state(registers, &mut line);
     line.text("\n");
     line
@@ -72,10 +82,13 @@ pub fn plain_report(run: &PlainReport) -> Line
         sp: run.sp,
         lv: run.lv,
     };
+    let mut line = Line::new();
     head(
+        &mut line,
         end_of(run.end),
         run.cycles,
         run.instructions,
         Some(boundary),
-    )
+    );
+    line
 }

@@ -1,7 +1,7 @@
 use Rattle.std.proofs.Common.{Some, ap, refl, ◌∙◌}
 use Rattle.std.specs.Prelude.{option_map}
 use Rattle.machine_words.specs.declared.machine.Machine.TheVariants.{Mic1, Mic2}
-use Rattle.mic_words.specs.Words.{asked, Assemble, ListOf, Micro, PrintMicro, Profile, Reference, Run, RunOwn, Trace, Verify}
+use Rattle.mic_words.specs.Words.{asked, Assemble, ListOf, Micro, PrintMicro, Profile, Reference, Run, RunOwn, Soak, Trace, Verify}
 use Rattle.mic_call.proofs.Asking.{asked_ends}
 use Rattle.mic_call.proofs.top_call.mic_main.Goals as goal
 
@@ -92,3 +92,17 @@ returns-in-Ok-Profile-default-Mic2-default-default-default g c =
     asked_ends _ (Some (Profile r.file.now Mic2 r.bound r.map (option_map (λ micro. micro.now) r.micro))) _ _ _
     (r.ensures.asks ∙ (ap (λ request. Some (asked request)) r.field-0-is ∙ ap (λ machine. Some (Profile r.file.now machine r.bound r.map (option_map (λ micro. micro.now) r.micro))) r.field-0-1-is))
     c.profile_file-in-Ok-Profile-default-Mic2-default-default-default.ensures
+
+pub returns-in-Ok-Soak-default-default-Mic1 : goal.returns-in-Ok-Soak-default-default-Mic1
+returns-in-Ok-Soak-default-default-Mic1 g c =
+    let r = c.in-Ok-Soak-default-default-Mic1 in
+    asked_ends _ (Some (Soak r.seed r.size Mic1)) _ _ _
+    (r.ensures.asks ∙ (ap (λ request. Some (asked request)) r.field-0-is ∙ ap (λ machine. Some (Soak r.seed r.size machine)) r.field-0-2-is))
+    (record { files = refl; console = refl; ends = c.soak.ensures })
+
+pub returns-in-Ok-Soak-default-default-Mic2 : goal.returns-in-Ok-Soak-default-default-Mic2
+returns-in-Ok-Soak-default-default-Mic2 g c =
+    let r = c.in-Ok-Soak-default-default-Mic2 in
+    asked_ends _ (Some (Soak r.seed r.size Mic2)) _ _ _
+    (r.ensures.asks ∙ (ap (λ request. Some (asked request)) r.field-0-is ∙ ap (λ machine. Some (Soak r.seed r.size machine)) r.field-0-2-is))
+    (record { files = refl; console = refl; ends = c.soak-in-Ok-Soak-default-default-Mic2.ensures })

@@ -1,0 +1,4 @@
+mod Examples
+pub mod Layouts
+pub mod Laid
+pub mod Stops
