@@ -178,6 +178,7 @@ impl<M: Clocked> Board<M> {
     }
 
     // The test of the bound, and whether the board goes on.
+    #[inline(always)]
     fn goes_on(&mut self, bound: u64) -> bool
         ensures stays { result ≡ true → (self.new ≡ self.old) × (self.old.end ≡ None) }
         ensures below { result ≡ true → M.meaning.is_boundary (M.state self.old.machine) ≡ true → self.old.counts.cycles < bound }
@@ -221,6 +222,7 @@ impl<M: Clocked> Board<M> {
     }
 
     /// The test of the bound alone, with the flush where it ends the board.
+    #[inline(always)]
     pub fn stop_at<K: Sink>(&mut self, bound: u64, sink: &mut K) -> Option<End>
         ensures run { NoFault self.old.end self.new.end → ShowsAs M.state (K.held sink.old) self.old (K.held sink.new) self.new (bounded M.meaning (Some bound)) }
         ensures write { (left : Option (List ℕ)) → BoundIsCutByWrite M.state M.meaning left (K.held sink.old) self.old left (K.held sink.new) self.new bound }
@@ -250,6 +252,7 @@ impl<M: Clocked> Board<M> {
     }
 
     /// One turn of a run: the test of the bound, and where it does not end the board, a cycle.
+    #[inline(always)]
     pub fn turn<S: Source, K: Sink>(
         &mut self,
         bound: u64,

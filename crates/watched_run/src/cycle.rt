@@ -40,6 +40,7 @@ pub fn cycle_of<M: Clocked>(board: &Board<M>, mpc: u16) -> Cycle
 }
 
 /// Whether the last cycle of a board reached a boundary.
+#[inline(always)]
 pub(crate) fn reached_boundary<M: Clocked>(board: &Board<M>) -> bool
     ensures { result ≡ is_some (boundary_in board.now.counts) }
 {

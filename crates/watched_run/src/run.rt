@@ -16,6 +16,7 @@ use mic_base::{Sink, SinkFailed, Source};
 use mic_clock::{Board, Clocked, End};
 
 /// Shows a watcher the last cycle of a board that has not ended.
+#[inline(always)]
 fn show<M: Clocked, W: Watcher, E: Sink>(
     board: &Board<M>,
     mpc: u16,
