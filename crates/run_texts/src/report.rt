@@ -1,7 +1,7 @@
 //! The report of a run: its end, its counts, the last boundary, and of a clocked run the registers.
 
 ghost use Rattle.std.specs.Prelude.{◌≡◌, ◌≤◌, ◌<◌, ◌+◌, ◌++◌, length};
-ghost use Rattle.run_texts.specs.Report.{boundary_line, cycles_of, head, plain_head, report};
+ghost use Rattle.run_texts.specs.Report.{boundary_line, counted, cycles_of, head, left_report, plain_head, quit_report, report};
 
 use crate::ends::{end_of, name_of};
 use mic_base::Line;
@@ -26,6 +26,18 @@ fn boundary_line(line: &mut Line, boundary: Option<Boundary>)
     }
 }
 
+/// Appends the counts and the last boundary, behind the name of the end.
+fn add_counts(line: &mut Line, cycles: u64, instructions: u64, boundary: Option<Boundary>)
+    requires { length line.old + 130 ≤ 512 }
+    ensures text { line.new ≡ line.old ++ counted cycles instructions boundary }
+    ensures len { length line.new ≤ length line.old + 130 }
+{
+    number(line, "\ncycles ", cycles);
+    number(line, " instructions ", instructions);
+    line.text("\n");
+    boundary_line(line, boundary);
+}
+
 /// The three lines that begin each report.
 fn head(end: End, cycles: u64, instructions: u64, boundary: Option<Boundary>) -> Line
     ensures text { result ≡ head end cycles instructions boundary }
@@ -33,10 +45,7 @@ fn head(end: End, cycles: u64, instructions: u64, boundary: Option<Boundary>) ->
 {
     let mut line = line_of("end ");
     name_of(&mut line, end);
-    number(&mut line, "\ncycles ", cycles);
-    number(&mut line, " instructions ", instructions);
-    line.text("\n");
-    boundary_line(&mut line, boundary);
+    add_counts(&mut line, cycles, instructions, boundary);
     line
 }
 
@@ -57,6 +66,29 @@ pub fn clocked_report(end: End, counts: &Counts, registers: &Registers) -> Line
 {
     let cycles = cycles_of(end, counts.cycles, counts.boundary);
     let mut line = head(end, cycles, counts.instructions, counts.boundary);
+    print_state(registers, &mut line);
+    line.text("\n");
+    line
+}
+
+/// The four lines of a clocked run's report, where it has ended, or where a debugger left it.
+pub fn left_report(end: Option<End>, counts: &Counts, registers: &Registers) -> Line
+    requires { registers.now.mpc < 512 }
+    ensures { result ≡ left_report end counts.now registers.now }
+{
+    match end {
+        Some(end) => clocked_report(end, counts, registers),
+        None => quit_report(counts, registers),
+    }
+}
+
+/// The report of a run that a debugger left before its end.
+fn quit_report(counts: &Counts, registers: &Registers) -> Line
+    requires { registers.now.mpc < 512 }
+    ensures { result ≡ quit_report counts.now registers.now }
+{
+    let mut line = line_of("end quit");
+    add_counts(&mut line, counts.cycles, counts.instructions, counts.boundary);
     print_state(registers, &mut line);
     line.text("\n");
     line
