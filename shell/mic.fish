@@ -1,16 +1,18 @@
 # Completion of mic for fish: put this file into ~/.config/fish/completions.
-set -l commands assemble list verify run trace profile reference micro print-micro
+set -l commands assemble list verify run trace profile debug reference micro print-micro
 complete -c mic -f -n "not __fish_seen_subcommand_from $commands" -a assemble -d 'write the linked image of a source'
 complete -c mic -f -n "not __fish_seen_subcommand_from $commands" -a list -d 'print pool and text of an accepted program'
 complete -c mic -f -n "not __fish_seen_subcommand_from $commands" -a verify -d 'say whether a program is accepted'
 complete -c mic -f -n "not __fish_seen_subcommand_from $commands" -a run -d 'run a program on the clocked machine'
 complete -c mic -f -n "not __fish_seen_subcommand_from $commands" -a trace -d 'run it, and print every cycle'
 complete -c mic -f -n "not __fish_seen_subcommand_from $commands" -a profile -d 'run it, and count by instruction'
+complete -c mic -f -n "not __fish_seen_subcommand_from $commands" -a debug -d 'run it as the lines of a session say'
 complete -c mic -f -n "not __fish_seen_subcommand_from $commands" -a reference -d 'run it by the definition of IJVM'
 complete -c mic -f -n "not __fish_seen_subcommand_from $commands" -a micro -d 'place a microprogram, and write its control store'
 complete -c mic -f -n "not __fish_seen_subcommand_from $commands" -a print-micro -d 'print a microprogram, or list a control store'
-complete -c mic -n '__fish_seen_subcommand_from run trace profile reference micro print-micro' -l machine -x -a 'mic1 mic2' -d 'the machine'
-complete -c mic -n '__fish_seen_subcommand_from run trace profile reference' -l bound -x -d 'the bound on cycles'
-complete -c mic -n '__fish_seen_subcommand_from list verify run trace profile reference' -l map -x -a 'standard large' -d 'the memory map'
-complete -c mic -n '__fish_seen_subcommand_from run trace profile' -l micro -r -d 'a microprogram of your own'
+complete -c mic -n '__fish_seen_subcommand_from run trace profile debug reference micro print-micro' -l machine -x -a 'mic1 mic2' -d 'the machine'
+complete -c mic -n '__fish_seen_subcommand_from run trace profile debug reference' -l bound -x -d 'the bound on cycles'
+complete -c mic -n '__fish_seen_subcommand_from list verify run trace profile debug reference' -l map -x -a 'standard large' -d 'the memory map'
+complete -c mic -n '__fish_seen_subcommand_from run trace profile debug' -l micro -r -d 'a microprogram of your own'
 complete -c mic -n '__fish_seen_subcommand_from trace' -l buses -d 'print the buses of each cycle'
+complete -c mic -n '__fish_seen_subcommand_from debug' -l input -r -d 'the input of the program'

@@ -12,9 +12,8 @@ use Rattle.mic_work.specs.Messages.{out_of_memory}
 use Rattle.mic_work.specs.Outside.{Says, SinkState, SourceState}
 use Rattle.run_texts.specs.Report.{left_report}
 use Rattle.board_commands.specs.Traced.{IsFirst}
-use Rattle.debug_command.specs.Stand.{lines_of}
+use Rattle.debug_command.specs.Stand.{lines_of, most_lines}
 use Rattle.debug_command.specs.Goes.{Gone, IsCutIn, Place, place}
-use Rattle.debug_command.specs.declared.lines.TheConstants.{MOST_LINES}
 
 -- what a session has before its first line
 pub record IsBegun {M : Type 0} (micro : Program) (l : Loaded) (program : VerifiedView) (bound : ℕ) (v : SessionView M) : Type 0 where
@@ -43,19 +42,19 @@ module _ {M State : Type 0} (state : M → State) (m : Meaning State) where
     -- the lines of the console were done, and then it was reported where the session stands
     Left : (l : Loaded) (first : SessionView M) (lines : List (List ℕ)) (last : Place M) →
         IsStart micro l program bound first → Gone state m lines (place first console input out err) last →
-        IfSome console.left (λ bytes. lines ≡ lines_of program.map.stack_end MOST_LINES bytes) →
+        IfSome console.left (λ bytes. lines ≡ lines_of program.map.stack_end most_lines bytes) →
         console' ≡ last.console → console'.faults ≡ console.faults → out' ≡ last.out → Says last.err err' (report_in last.session) exits.done status →
         IsDebugged micro program bound input console console' out out' err err' status
     -- the console failed: so it was reported behind the whole lines before that
     Cut : (l : Loaded) (first : SessionView M) (lines : List (List ℕ)) (last : Place M) →
         IsStart micro l program bound first → Gone state m lines (place first console input out err) last →
-        IfSome console.left (λ bytes. IsCutIn program.map.stack_end MOST_LINES bytes lines console'.left) →
+        IfSome console.left (λ bytes. IsCutIn program.map.stack_end most_lines bytes lines console'.left) →
         console' ≡ last.console → Rose console.faults console'.faults → out' ≡ last.out → Says last.err err' (report_in last.session) exits.console status →
         IsDebugged micro program bound input console console' out out' err err' status
     -- `out` or `err` failed: both hold all that they held behind the whole lines before that, and then maybe more
     Stopped : (l : Loaded) (first : SessionView M) (lines : List (List ℕ)) (mid : Place M) →
         IsStart micro l program bound first → Gone state m lines (place first console input out err) mid →
-        IfSome console.left (λ bytes. (behind : List (List ℕ)) × (lines_of program.map.stack_end MOST_LINES bytes ≡ lines ++ behind)) →
+        IfSome console.left (λ bytes. (behind : List (List ℕ)) × (lines_of program.map.stack_end most_lines bytes ≡ lines ++ behind)) →
         ((front : List ℕ) → Holds front mid.out.held → Holds front out'.held) → ((front : List ℕ) → Holds front mid.err.held → Holds front err'.held) →
         console'.faults ≡ console.faults → (Rose out.faults out'.faults ⊎ Rose err.faults err'.faults) → status ≡ exits.sink →
         IsDebugged micro program bound input console console' out out' err err' status

@@ -47,6 +47,10 @@ lines_of memory (suc n) (b ∷ bytes) =
     line_in 256 (b ∷ bytes)
     ∷ (if is_quit memory (line_in 256 (b ∷ bytes)) then [] else lines_of memory n (behind_line 256 (b ∷ bytes)))
 
+-- the most lines of a session
+abbrev pub most_lines : ℕ
+most_lines = 65536
+
 -- ---- how they lead a session on, over the words of a control store, a memory of so many words, and a bound
 
 module _ {State : Type 0} (m : Meaning State) (book : Book) (words : List ℕ) (memory bound : ℕ) where

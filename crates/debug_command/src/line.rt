@@ -32,8 +32,12 @@ pub(crate) fn read_line<S: Source>(
     line.clear();
     'bytes: while line.len() < LINE_BYTES {
         match console.get() {
-            Ok(Some(b'\n')) => return Ok(Read::Line),
-            Ok(Some(byte)) => line.push(byte),
+            Ok(Some(byte)) => {
+                if byte == b'\n' {
+                    return Ok(Read::Line);
+                }
+                line.push(byte);
+            }
             Ok(None) => return Ok(cut(line.is_empty())),
             Err(failed) => return Err(failed),
         }

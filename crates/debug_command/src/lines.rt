@@ -4,7 +4,7 @@ ghost use Rattle.std.specs.Prelude.{◌≡◌, ◌⊎◌, ◌∷◌, ℕ, suc, L
 ghost use Rattle.mic_base.specs.Causes.{HasCause, Rose};
 ghost use Rattle.mic_base.specs.Plain.{plain_left};
 ghost use Rattle.mic_base.specs.Streams.{Holds};
-ghost use Rattle.debug_command.specs.Stand.{is_quit};
+ghost use Rattle.debug_command.specs.Stand.{is_quit, most_lines};
 ghost use Rattle.debug_command.specs.Goes.{Goes, LeadsOver, is_quit_reply, place, step_behind};
 ghost use Rattle.mic_work.specs.Outside.{sink_of, source_of};
 
@@ -97,7 +97,7 @@ pub(crate) fn do_lines<M: Clocked, S: Source, K: Sink, E: Sink>(
     err: &mut E,
 ) -> Step
     requires { session.old.board.bus.console.kept ≡ [] }
-    ensures { Goes M.state M.meaning MOST_LINES 0
+    ensures { Goes M.state M.meaning most_lines 0
         (place session.old (source_of S.left S.faults console.old) (plain_left input.old) (sink_of K.held K.passed K.faults out.old) (sink_of E.held E.passed E.faults err.old))
         (place session.new (source_of S.left S.faults console.new) (plain_left input.new) (sink_of K.held K.passed K.faults out.new) (sink_of E.held E.passed E.faults err.new)) result }
 {
