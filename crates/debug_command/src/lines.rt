@@ -68,11 +68,10 @@ fn do_line<M: Clocked, S: Source, K: Sink, E: Sink>(
     out: &mut K,
     err: &mut E,
 ) -> Step
-    requires kept { session.old.board.bus.console.kept ≡ [] }
-    ensures goes { (n : ℕ) → Goes M.state M.meaning (suc n) n
+    requires { session.old.board.bus.console.kept ≡ [] }
+    ensures { (n : ℕ) → Goes M.state M.meaning (suc n) n
         (place session.old (source_of S.left S.faults console.old) (plain_left input.old) (sink_of K.held K.passed K.faults out.old) (sink_of E.held E.passed E.faults err.old))
         (place session.new (source_of S.left S.faults console.new) (plain_left input.new) (sink_of K.held K.passed K.faults out.new) (sink_of E.held E.passed E.faults err.new)) result }
-    ensures kept { result ≡ Step.On → session.new.board.bus.console.kept ≡ [] }
 {
     let mut line = ArrayVec::new();
     let read = match read_line(console, &mut line) {
