@@ -49,7 +49,7 @@ then_told : (left mid : Option (List ℕ)) (P : List ℕ → List ℕ → Type 0
 then_told None mid P Q R p q f = tt
 then_told (Some bytes) mid P Q R p q f = f bytes p.0 p.2 (subst (λ (l : Option (List ℕ)). IfSome l Q) p.1 q)
 
-told_as : (left : Option (List ℕ)) (P Q : List ℕ → Type 0) → IfSome left P → ((bytes : List ℕ) → P bytes → Q bytes) → IfSome left Q
+pub told_as : (left : Option (List ℕ)) (P Q : List ℕ → Type 0) → IfSome left P → ((bytes : List ℕ) → P bytes → Q bytes) → IfSome left Q
 told_as None P Q p f = tt
 told_as (Some bytes) P Q p f = f bytes p
 
@@ -219,23 +219,23 @@ module _ {M State : Type 0} (state : M → State) (m : Meaning State) where
       all (Some bytes) = (lines_of old.session.listing.memory (suc n) bytes, refl)
 
   -- a line is done
-  pub goes_one : {E : Type 0} (n : ℕ) (old new : Place M) (line : List ℕ) (read : Read) (quits : Bool) → quits ≡ is_quit old.session.listing.memory line → read ≢ reads.Nothing →
+  pub goes_one : (E : Type 0) (n : ℕ) (old new : Place M) (line : List ℕ) (read : Read) (quits : Bool) → quits ≡ is_quit old.session.listing.memory line → read ≢ reads.Nothing →
       Gone state m (line ∷ []) old new → new.console.faults ≡ old.console.faults →
       IfSome old.console.left (λ told. ReadsOf {E = E} told line (Ok read) new.console.left) → Goes state m (suc n) n old new (step_behind read quits)
-  goes_one n old new line reads.Line true is other gone quiet told =
+  goes_one E n old new line reads.Line true is other gone quiet told =
       Over (line ∷ []) gone quiet (told_as old.console.left _ _ told (λ bytes first. quits_at n bytes first))
     where
       quits_at : (k : ℕ) (bytes : List ℕ) → IsFirst bytes line new.console.left → line ∷ [] ≡ lines_of old.session.listing.memory (suc k) bytes
       quits_at k bytes first =
           sym (lines_first old.session.listing.memory k bytes line first.some first.line_is
           ∙ ap (λ (q : Bool). line ∷ (if q then [] else lines_of old.session.listing.memory k (behind_line 256 bytes))) (sym is))
-  goes_one n old new line reads.Last true is other gone quiet told =
+  goes_one E n old new line reads.Last true is other gone quiet told =
       Over (line ∷ []) gone quiet
       (told_as old.console.left _ _ told
       (λ bytes first.
           sym (lines_first old.session.listing.memory n bytes line first.0.some first.0.line_is
           ∙ ap (λ (q : Bool). line ∷ (if q then [] else lines_of old.session.listing.memory n (behind_line 256 bytes))) (sym is))))
-  goes_one n old new line reads.Line false is other gone quiet told =
+  goes_one E n old new line reads.Line false is other gone quiet told =
       On (line ∷ []) gone quiet
       (told_as old.console.left _ _ told
       (λ bytes first. (
@@ -244,7 +244,7 @@ module _ {M State : Type 0} (state : M → State) (m : Meaning State) where
         lines_first old.session.listing.memory n bytes line first.some first.line_is
         ∙ ap (λ (q : Bool). line ∷ (if q then [] else lines_of old.session.listing.memory n (behind_line 256 bytes))) (sym is),
       )))
-  goes_one n old new line reads.Last false is other gone quiet told =
+  goes_one E n old new line reads.Last false is other gone quiet told =
       Over (line ∷ []) gone quiet
       (told_as old.console.left _ _ told
       (λ bytes first.
@@ -252,7 +252,7 @@ module _ {M State : Type 0} (state : M → State) (m : Meaning State) where
           ∙ ap (λ (q : Bool). line ∷ (if q then [] else lines_of old.session.listing.memory n (behind_line 256 bytes))) (sym is)
           ∙ ap (λ (r : List ℕ). line ∷ lines_of old.session.listing.memory n r) first.1
           ∙ ap (λ (x : List (List ℕ)). line ∷ x) (no_lines old.session.listing.memory n))))
-  goes_one n old new line reads.Nothing quits is other gone quiet told = absurd (other refl)
+  goes_one E n old new line reads.Nothing quits is other gone quiet told = absurd (other refl)
 
   -- ---- many lines
 

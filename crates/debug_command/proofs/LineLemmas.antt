@@ -2,6 +2,7 @@
 use Rattle.std.proofs.Common.{◌≡◌, ◌<◌, ◌≤◌, ◌+◌, ◌-◌, ◌==◌, ◌++◌, ◌∷◌, ◌∙◌, ℕ, zero, suc, Bool, true, false, List, [], length, Option, Some, None, refl, sym, ap, subst, append_assoc, arith}
 use Rattle.std.specs.Prelude.{if◌then◌else◌, IfSome, Result, Ok}
 use Rattle.std.specs.Option.{option_map}
+use Rattle.std.proofs.lemmas.Bool.Decides.{nat_tests}
 use Rattle.std.proofs.lemmas.List.{append-nil, length-append}
 use Rattle.debug_command.specs.declared.line.Read.TheVariants as reads
 use Rattle.debug_command.specs.Told.{IsCut, IsFirst, Reads, behind_line, line_in}
@@ -136,14 +137,18 @@ read_full (Some told) left line full r = subst (λ (l : Option (List ℕ)). IsFi
 nothing_left : (left : Option (List ℕ)) (rest : List ℕ) → left ≡ Some rest → IfSome left (λ l. l ≡ []) → rest ≡ []
 nothing_left left rest e none = subst (λ (l : Option (List ℕ)). IfSome l (λ x. x ≡ [])) e none
 
+filled : (b : ℕ) (line : List ℕ) → (length (b ∷ line) == 0) ≡ false
+filled b line = grind (arith, nat_tests)
+
 -- the end was met
-pub read_at_end : {E : Type 0} (old left left' : Option (List ℕ)) (line : List ℕ) → left' ≡ left → IfSome left (λ l. l ≡ []) → Reading old line left →
+pub read_at_end : (E : Type 0) (old left left' : Option (List ℕ)) (line : List ℕ) → left' ≡ left → IfSome left (λ l. l ≡ []) → Reading old line left →
     Reads {E = E} old line (Ok (if length line == 0 then reads.Nothing else reads.Last)) left'
-read_at_end None left left' line same none r = tt
-read_at_end (Some told) left left' [] same none r = none_told told [] refl (subst (λ (x : List ℕ). IsUnderway told [] x) (nothing_left left r.0 r.1 none) r.2)
-read_at_end (Some told) left left' (b ∷ line) same none r =
+read_at_end E None left left' line same none r = tt
+read_at_end E (Some told) left left' [] same none r = none_told told [] refl (subst (λ (x : List ℕ). IsUnderway told [] x) (nothing_left left r.0 r.1 none) r.2)
+read_at_end E (Some told) left left' (b ∷ line) same none r =
     let empty : r.0 ≡ [] = nothing_left left r.0 r.1 none in
     let last = first_last told (b ∷ line) (omega arith) (subst (λ (x : List ℕ). IsUnderway told (b ∷ line) x) empty r.2) in
+    rw (filled b line)
     (subst (λ (l : Option (List ℕ)). IsFirst told (b ∷ line) l) (sym (same ∙ r.1 ∙ ap Some empty)) last.0, last.1)
 
 pub read_cut : (old left left' : Option (List ℕ)) (line : List ℕ) → length line < 256 → left' ≡ left → Reading old line left → IfSome old (λ told. IsCut told line left')

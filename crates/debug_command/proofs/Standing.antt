@@ -51,7 +51,7 @@ no_fault None (Some ends.Adrift) read write = tt
 no_fault (Some e) new read write = tt
 
 -- what a source that tells may have untaken is one list
-untaken_of : List ℕ → Bool → List ℕ
+abbrev untaken_of : List ℕ → Bool → List ℕ
 untaken_of left true = []
 untaken_of left false = left
 

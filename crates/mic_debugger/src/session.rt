@@ -71,6 +71,7 @@ impl<M: Clocked> Session<M> {
         ensures program { result.listing.program ≡ program }
         ensures placement { result.listing.placement ≡ placement }
         ensures image { result.listing.image ≡ image.image }
+        ensures memory { result.listing.memory ≡ image.map.stack_end }
         ensures bound { result.bound ≡ bound }
         ensures breaks { result.breaks ≡ [] }
         ensures watched { result.watched ≡ None }
