@@ -1,0 +1,4 @@
+pub mod LineLemmas
+pub mod Standing
+pub mod Going
+pub mod Ending
