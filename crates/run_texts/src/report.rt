@@ -6,7 +6,7 @@ ghost use Rattle.run_texts.specs.Report.{boundary_line, clocked_head, counted, c
 use crate::ends::{end_of, name_of};
 use mic_base::Line;
 use mic_clock::{Boundary, Counts, End, Registers, print_state};
-use mic_work::{number, word};
+use mic_work::{line_of, number, word};
 use plain_machine::PlainReport;
 
 fn boundary_line(line: &mut Line, boundary: Option<Boundary>)
@@ -97,9 +97,13 @@ fn quit_report(counts: &Counts, registers: &Registers) -> Line
     requires { registers.now.mpc < 512 }
     ensures { result ≡ quit_report counts.now registers.now }
 {
-    let mut line = Line::new();
-    line.text("end quit");
-    add_counts(&mut line, counts.cycles, counts.instructions, counts.boundary);
+    let mut line = line_of("end quit");
+    add_counts(
+        &mut line,
+        counts.cycles,
+        counts.instructions,
+        counts.boundary,
+    );
     print_state(registers, &mut line);
     line.text("\n");
     line
