@@ -55,8 +55,7 @@ module _ {M N S T : Type 0} (state : M → S) (m : Meaning S) (IsReady : ℕ →
         let alike : boards.EndAlike one.out.held other.out.held board board' =
         agree program bound bound' input old.out.held one.console.left one.out.held other.console.left other.out.held board board'
         (subst (λ (left : Option (List ℕ)). HasRun state m IsReady IsShipped entry program bound left old.out.held one.console.left one.out.held board) tells run)
-        (subst (λ (left : Option (List ℕ)). HasRun state' m' IsReady' IsShipped' entry' program bound' left old.out.held other.console.left other.out.held board') tells run')
-        (
+        (subst (λ (left : Option (List ℕ)). HasRun state' m' IsReady' IsShipped' entry' program bound' left old.out.held other.console.left other.out.held board') tells run') (
           λ met. none (one_said.0 ∙ ap status_of (some_is end clocked.Bound (sym ended ∙ met))),
           λ met. none' (other_said.0 ∙ ap status_of (some_is end' clocked.Bound (sym ended' ∙ met))),
         ) in

@@ -112,7 +112,10 @@ fn the_printed_microprogram_runs_as_the_shipped_one(rt: HostRuntime) -> Result<(
             let trace = answer(alloc, &words, program, micro, input)?;
             assert_eq!(rt; trace.status, run.status, "of {machine}");
             assert_eq!(rt; trace.out, run.out, "of {machine}");
-            assert!(rt; trace.err.as_slice().ends_with(run.err.as_slice()), "of {machine}");
+            assert!(rt;
+                trace.err.as_slice().ends_with(run.err.as_slice()),
+                "of {machine}"
+            );
         }
     }
     Ok(())
