@@ -233,8 +233,8 @@ module _ {M State : Type 0} (state : M → State) (m : Meaning State) where
       Over (line ∷ []) gone quiet
       (told_as old.console.left _ _ told
       (λ bytes first.
-          sym (lines_first old.session.listing.memory n bytes line first.0.some first.0.line_is
-          ∙ ap (λ (q : Bool). line ∷ (if q then [] else lines_of old.session.listing.memory n (behind_line 256 bytes))) (sym is))))
+      sym (lines_first old.session.listing.memory n bytes line first.0.some first.0.line_is
+      ∙ ap (λ (q : Bool). line ∷ (if q then [] else lines_of old.session.listing.memory n (behind_line 256 bytes))) (sym is))))
   goes_one E n old new line reads.Line false is other gone quiet told =
       On (line ∷ []) gone quiet
       (told_as old.console.left _ _ told
@@ -242,16 +242,16 @@ module _ {M State : Type 0} (state : M → State) (m : Meaning State) where
         behind_line 256 bytes,
         first.rest,
         lines_first old.session.listing.memory n bytes line first.some first.line_is
-        ∙ ap (λ (q : Bool). line ∷ (if q then [] else lines_of old.session.listing.memory n (behind_line 256 bytes))) (sym is),
+            ∙ ap (λ (q : Bool). line ∷ (if q then [] else lines_of old.session.listing.memory n (behind_line 256 bytes))) (sym is),
       )))
   goes_one E n old new line reads.Last false is other gone quiet told =
       Over (line ∷ []) gone quiet
       (told_as old.console.left _ _ told
       (λ bytes first.
-          sym (lines_first old.session.listing.memory n bytes line first.0.some first.0.line_is
-          ∙ ap (λ (q : Bool). line ∷ (if q then [] else lines_of old.session.listing.memory n (behind_line 256 bytes))) (sym is)
-          ∙ ap (λ (r : List ℕ). line ∷ lines_of old.session.listing.memory n r) first.1
-          ∙ ap (λ (x : List (List ℕ)). line ∷ x) (no_lines old.session.listing.memory n))))
+      sym (lines_first old.session.listing.memory n bytes line first.0.some first.0.line_is
+      ∙ ap (λ (q : Bool). line ∷ (if q then [] else lines_of old.session.listing.memory n (behind_line 256 bytes))) (sym is)
+      ∙ ap (λ (r : List ℕ). line ∷ lines_of old.session.listing.memory n r) first.1
+      ∙ ap (λ (x : List (List ℕ)). line ∷ x) (no_lines old.session.listing.memory n))))
   goes_one E n old new line reads.Nothing quits is other gone quiet told = absurd (other refl)
 
   -- ---- many lines

@@ -78,5 +78,7 @@ pub fn debug_file<M: Clocked + Drop, F: Files, S: Source, K: Sink, E: Sink>(
         Ok(input) => input,
         Err(status) => return status,
     };
-    debug_program(alloc, machine, micro, program, bound, input, console, out, err)
+    debug_program(
+        alloc, machine, micro, program, bound, input, console, out, err,
+    )
 }

@@ -88,7 +88,12 @@ fn quit_report(counts: &Counts, registers: &Registers) -> Line
     ensures { result ≡ quit_report counts.now registers.now }
 {
     let mut line = line_of("end quit");
-    add_counts(&mut line, counts.cycles, counts.instructions, counts.boundary);
+    add_counts(
+        &mut line,
+        counts.cycles,
+        counts.instructions,
+        counts.boundary,
+    );
     print_state(registers, &mut line);
     line.text("\n");
     line

@@ -24,11 +24,11 @@ returns-in-SinkFailed g c =
     let err : SinkState = sink_of g.E.Sink.held g.E.Sink.passed g.E.Sink.faults c.args.err.now in
     let last : Place g.row.M.Denot =
     place c.do_lines.new.session (source_of g.S.Source.left g.S.Source.faults c.do_lines.new.console) (plain_left c.do_lines.new.input)
-        (sink_of g.K.Sink.held g.K.Sink.passed g.K.Sink.faults c.do_lines.new.out) (sink_of g.E.Sink.held g.E.Sink.passed g.E.Sink.faults c.do_lines.new.err) in
+    (sink_of g.K.Sink.held g.K.Sink.passed g.K.Sink.faults c.do_lines.new.out) (sink_of g.E.Sink.held g.E.Sink.passed g.E.Sink.faults c.do_lines.new.err) in
     let start : IsStart state m micro.program micro.loaded c.args.program c.args.bound first =
     is_start state m micro.program micro.loaded c.args.program c.args.bound c.in-Ok.board first
-        (record { loaded = micro.is_loaded; store = c.in-Ok.ensures.store; reset = c.in-Ok.ensures.reset }) made.board
-        (record { program_is = made.program; placement = made.placement; image = made.image; memory = made.memory; bound_is = made.bound; breaks = made.breaks; watched = made.watched }) in
+    (record { loaded = micro.is_loaded; store = c.in-Ok.ensures.store; reset = c.in-Ok.ensures.reset }) made.board
+    (record { program_is = made.program; placement = made.placement; image = made.image; memory = made.memory; bound_is = made.bound; breaks = made.breaks; watched = made.watched }) in
     let goes : Goes state m most_lines 0 (place first console c.args.input.items out err) last c.do_lines.result =
     subst (λ (l : List ℕ). Goes state m most_lines 0 (place first console l out err) last c.do_lines.result) c.new-input.ensures c.do_lines.ensures in
     stopped_by state m micro.program micro.loaded c.args.program c.args.bound c.args.input.items first start console out err last c.do_lines.result goes 71 c.in-SinkFailed.is refl
@@ -47,11 +47,11 @@ returns-in-ConsoleFailed g c =
     let err' : SinkState = sink_of g.E.Sink.held g.E.Sink.passed g.E.Sink.faults c.report.new.err in
     let last : Place g.row.M.Denot =
     place c.do_lines.new.session (source_of g.S.Source.left g.S.Source.faults c.do_lines.new.console) (plain_left c.do_lines.new.input)
-        (sink_of g.K.Sink.held g.K.Sink.passed g.K.Sink.faults c.do_lines.new.out) before in
+    (sink_of g.K.Sink.held g.K.Sink.passed g.K.Sink.faults c.do_lines.new.out) before in
     let start : IsStart state m micro.program micro.loaded c.args.program c.args.bound first =
     is_start state m micro.program micro.loaded c.args.program c.args.bound c.in-Ok.board first
-        (record { loaded = micro.is_loaded; store = c.in-Ok.ensures.store; reset = c.in-Ok.ensures.reset }) made.board
-        (record { program_is = made.program; placement = made.placement; image = made.image; memory = made.memory; bound_is = made.bound; breaks = made.breaks; watched = made.watched }) in
+    (record { loaded = micro.is_loaded; store = c.in-Ok.ensures.store; reset = c.in-Ok.ensures.reset }) made.board
+    (record { program_is = made.program; placement = made.placement; image = made.image; memory = made.memory; bound_is = made.bound; breaks = made.breaks; watched = made.watched }) in
     let goes : Goes state m most_lines 0 (place first console c.args.input.items out err) last c.do_lines.result =
     subst (λ (l : List ℕ). Goes state m most_lines 0 (place first console l out err) last c.do_lines.result) c.new-input.ensures c.do_lines.ensures in
     cut_by state m micro.program micro.loaded c.args.program c.args.bound c.args.input.items first start console out err last c.do_lines.result goes err' c.report.result.0 c.in-ConsoleFailed.is
@@ -71,11 +71,11 @@ returns g c =
     let err' : SinkState = sink_of g.E.Sink.held g.E.Sink.passed g.E.Sink.faults c.report-in_default.new.err in
     let last : Place g.row.M.Denot =
     place c.do_lines.new.session (source_of g.S.Source.left g.S.Source.faults c.do_lines.new.console) (plain_left c.do_lines.new.input)
-        (sink_of g.K.Sink.held g.K.Sink.passed g.K.Sink.faults c.do_lines.new.out) before in
+    (sink_of g.K.Sink.held g.K.Sink.passed g.K.Sink.faults c.do_lines.new.out) before in
     let start : IsStart state m micro.program micro.loaded c.args.program c.args.bound first =
     is_start state m micro.program micro.loaded c.args.program c.args.bound c.in-Ok.board first
-        (record { loaded = micro.is_loaded; store = c.in-Ok.ensures.store; reset = c.in-Ok.ensures.reset }) made.board
-        (record { program_is = made.program; placement = made.placement; image = made.image; memory = made.memory; bound_is = made.bound; breaks = made.breaks; watched = made.watched }) in
+    (record { loaded = micro.is_loaded; store = c.in-Ok.ensures.store; reset = c.in-Ok.ensures.reset }) made.board
+    (record { program_is = made.program; placement = made.placement; image = made.image; memory = made.memory; bound_is = made.bound; breaks = made.breaks; watched = made.watched }) in
     let goes : Goes state m most_lines 0 (place first console c.args.input.items out err) last c.do_lines.result =
     subst (λ (l : List ℕ). Goes state m most_lines 0 (place first console l out err) last c.do_lines.result) c.new-input.ensures c.do_lines.ensures in
     let console_well : c.do_lines.result ≢ steps.ConsoleFailed = c.in_default.not-ConsoleFailed in

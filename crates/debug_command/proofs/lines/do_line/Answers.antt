@@ -35,10 +35,10 @@ returns-in-Ok-answer_line g c =
     let m = g.M.Clocked.meaning in
     let old : Place g.row.M.Denot =
     place c.args.session.now (source_of g.S.Source.left g.S.Source.faults c.args.console.now) (plain_left c.args.input.now)
-        (sink_of g.K.Sink.held g.K.Sink.passed g.K.Sink.faults c.args.out.now) (sink_of g.E.Sink.held g.E.Sink.passed g.E.Sink.faults c.args.err.now) in
+    (sink_of g.K.Sink.held g.K.Sink.passed g.K.Sink.faults c.args.out.now) (sink_of g.E.Sink.held g.E.Sink.passed g.E.Sink.faults c.args.err.now) in
     let new : Place g.row.M.Denot =
     place c.answer_line.new.session (source_of g.S.Source.left g.S.Source.faults c.read_line.new.console) (plain_left c.answer_line.new.input)
-        (sink_of g.K.Sink.held g.K.Sink.passed g.K.Sink.faults c.answer_line.new.out) (sink_of g.E.Sink.held g.E.Sink.passed g.E.Sink.faults c.answer_line.new.err) in
+    (sink_of g.K.Sink.held g.K.Sink.passed g.K.Sink.faults c.answer_line.new.out) (sink_of g.E.Sink.held g.E.Sink.passed g.E.Sink.faults c.answer_line.new.err) in
     let other : c.in-Ok.read ≢ reads.Nothing = search rules in
     let done = c.in-Ok-answer_line.ensures in
     λ n. rw c.step_behind.ensures
@@ -60,9 +60,9 @@ returns-in-Err-answer_line g c =
     let m = g.M.Clocked.meaning in
     let old : Place g.row.M.Denot =
     place c.args.session.now (source_of g.S.Source.left g.S.Source.faults c.args.console.now) (plain_left c.args.input.now)
-        (sink_of g.K.Sink.held g.K.Sink.passed g.K.Sink.faults c.args.out.now) (sink_of g.E.Sink.held g.E.Sink.passed g.E.Sink.faults c.args.err.now) in
+    (sink_of g.K.Sink.held g.K.Sink.passed g.K.Sink.faults c.args.out.now) (sink_of g.E.Sink.held g.E.Sink.passed g.E.Sink.faults c.args.err.now) in
     let new : Place g.row.M.Denot =
     place c.answer_line.new.session (source_of g.S.Source.left g.S.Source.faults c.read_line.new.console) (plain_left c.answer_line.new.input)
-        (sink_of g.K.Sink.held g.K.Sink.passed g.K.Sink.faults c.answer_line.new.out) (sink_of g.E.Sink.held g.E.Sink.passed g.E.Sink.faults c.answer_line.new.err) in
+    (sink_of g.K.Sink.held g.K.Sink.passed g.K.Sink.faults c.answer_line.new.out) (sink_of g.E.Sink.held g.E.Sink.passed g.E.Sink.faults c.answer_line.new.err) in
     λ n. goes_wrong state m n old old new (gone_none state m old old refl refl refl refl c.requires) c.in-Ok.ensures.cause.quiet
     c.answer_line.ensures.keeps_out c.answer_line.ensures.keeps_err c.in-Err-answer_line.ensures.rose
