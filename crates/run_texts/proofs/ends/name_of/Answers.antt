@@ -1,4 +1,4 @@
-use Rattle.std.proofs.Common.{ℕ, List, codes, ◌∙◌, append_assoc}
+use Rattle.std.proofs.Common.{codes, ◌∙◌, append_assoc}
 use Rattle.mic_base.specs.Digits.{hex_text}
 use Rattle.run_texts.proofs.ends.name_of.Goals as goal
 

@@ -1,4 +1,4 @@
-use Rattle.std.proofs.Common.{◌∙◌, append_assoc}
+use Rattle.std.proofs.Common.{append_assoc}
 use Rattle.run_texts.proofs.report.add_counts.Goals as goal
 
 pub returns-clause-text : goal.returns-clause-text
