@@ -15,6 +15,7 @@ use Rattle.ijvm_image.specs.Image.{IsImage}
 use Rattle.ijvm_paths.specs.Accepted.{VerifiedView, IsAccepted}
 use Rattle.ijvm_simulation.specs.Simulates.{IsEnd}
 use Rattle.ijvm_simulation.specs.Law.{Grows}
+use Rattle.ijvm_simulation.specs.Starts.{Starts}
 use Rattle.ijvm_simulation.specs.Headline.{told_of, reset_run, Begins, HasRun, IsCutByRead, IsCutByWrite}
 use Rattle.ijvm_simulation.proofs.Next.{Known}
 use Rattle.ijvm_simulation.proofs.Carried.{Promises, simulated}
@@ -30,7 +31,7 @@ rest_fits left true = refl
 rest_fits None false = tt
 rest_fits (Some l) false = refl
 
-given_told : (held : Option (List ℕ)) → Given held [] (told_of held)
+pub given_told : (held : Option (List ℕ)) → Given held [] (told_of held)
 given_told None = tt
 given_told (Some h) = sym (append-nil h)
 
@@ -47,13 +48,6 @@ all_put (Some h) kept given given' e same g = sym (append-nil h) ∙ (ap (λ (k 
 front_put : (held : Option (List ℕ)) (before given : List ℕ) → Holds before held → IfSome held (λ h. (more : List ℕ) × (given ≡ h ++ more)) → IfSome held (λ h. Grows before h × Grows h given)
 front_put None before given kept front = tt
 front_put (Some h) before given kept front = (record { more = kept.0; are = kept.1 }, record { more = front.0; are = front.1 })
-
--- a board at its reset over an image
-pub record Starts {M S : Type 0} (state : M → S) (m : Meaning S) (entry : ℕ) (v : VerifiedView) (board : BoardView M) : Type 0 where
-  pub start : (left held : Option (List ℕ)) (w : World) → Shows left held board.bus w → ShowsRun state left held board (reset_run m entry v.main_locals w)
-  pub loaded : IsLoaded v.image.text v.image.pool (replicate v.map.stack_end 0) board.bus.words
-  pub kept : board.bus.console.kept ≡ []
-  pub input : board.bus.console.ended ≡ false
 
 module _ {M S : Type 0} (state : M → S) (m : Meaning S) (IsReady : ℕ → List ℕ → ℕ → S → Type 0) (IsShipped : List ℕ → Type 0) (entry : ℕ) (promises : Promises m IsReady IsShipped entry)
     (v : VerifiedView) (image : IsImage v.image) (accepted : IsAccepted v) (known : Known v) (bound : ℕ) (left held left' held' : Option (List ℕ)) (board0 board : BoardView M) (s : Starts state m entry v board0) (has : IsShipped board.store.words) where

@@ -9,3 +9,4 @@ pub mod Cases
 pub mod Next
 pub mod Carried
 pub mod Boards
+pub mod Ending

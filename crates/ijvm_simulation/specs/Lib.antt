@@ -6,3 +6,4 @@ pub mod Outcomes
 pub mod Verified
 pub mod Law
 pub mod Headline
+pub mod Starts

@@ -2,9 +2,10 @@ use Rattle.std.proofs.Common.{ℕ, Some, sym, ◌∙◌, ap, subst}
 use Rattle.micro_word.specs.ControlStore.{ControlStore}
 use Rattle.mic_clock.specs.Board.{IsLedTo, Leads, ShowsRun, IsCutByRead as IsReadCut, IsCutByWrite as IsCut}
 use Rattle.ijvm_image.specs.Image.{ImageView, IsImage}
+use Rattle.ijvm_simulation.specs.Starts.{Starts}
 use Rattle.ijvm_simulation.proofs.Next.{Known}
 use Rattle.ijvm_simulation.proofs.Carried.{Promises}
-use Rattle.ijvm_simulation.proofs.Boards.{Starts, image_by_parts, has_run, is_cut_by_read, is_cut_by_write}
+use Rattle.ijvm_simulation.proofs.Boards.{image_by_parts, has_run, is_cut_by_read, is_cut_by_write}
 use Rattle.ijvm_simulation.proofs.run.run_image.Goals as goal
 
 pub returns-clause-run : goal.returns-clause-run

@@ -1,0 +1,16 @@
+//! What holds of every run of an interpreter, whoever clocks it.
+
+ghost use Rattle.ijvm_simulation.specs.Starts.{EndsAsDefined};
+
+use crate::interpreter::Interpreter;
+use ijvm_paths::accepted_images_keep_sound;
+use ijvm_run::runs_keep_words;
+
+/// A run over the store that ships, from its reset over a verified image, ends as the definition's run where no fault cuts it. So it is never adrift, and never out of the memory map.
+pub fn shipped_runs_end_as_defined<I: Interpreter>()
+    ensures { EndsAsDefined I.Machine.state I.Machine.meaning I.IsShipped I.entry }
+{
+    accepted_images_keep_sound();
+    runs_keep_words();
+    I::law();
+}
