@@ -1,3 +1,4 @@
 pub mod Ending
 pub mod Asking
 pub mod Agreeing
+pub mod Answering
