@@ -41,7 +41,7 @@ use Rattle.program_commands.specs.Reference as reference
 use Rattle.board_commands.specs.Own.{HasNoOwn, IsChosen, NoneChosen}
 use Rattle.board_commands.specs.Own as own
 use Rattle.board_commands.specs.Over.{EndsOver}
-use Rattle.board_commands.specs.Over as over
+use Rattle.board_commands.specs.Over as clocking
 use Rattle.board_commands.specs.OwnRun.{IsOwnRun}
 use Rattle.board_commands.specs.OwnRun as own_run
 use Rattle.board_commands.specs.Profiled.{IsProfiled}
@@ -202,11 +202,11 @@ module _ (asks : Option Asked) (old new : Outside) (status : ℕ) where
       ((one : List ℕ) → name ≡ Some one → Reads asks one) →
       ((micro : Program) (program : VerifiedView) → IsAccepted program → IsChosen machine name old.files micro → Ran micro program → Answer) →
       EndsOver Ran machine file name map old.streams.console new.streams.console (desk_of old) (desk_of new) status → Answer
-  over Ran machine file name map reads owns ran (over.Unread h console out) = unread file reads h (record { console = console; out = out })
-  over Ran machine file name map reads owns ran (over.Refused bytes read files h console out) = why map file bytes h files (record { console = console; out = out })
-  over Ran machine file name map reads owns ran (over.NoMicroprogram bytes program read is h console out) =
+  over Ran machine file name map reads owns ran (clocking.Unread h console out) = unread file reads h (record { console = console; out = out })
+  over Ran machine file name map reads owns ran (clocking.Refused bytes read files h console out) = why map file bytes h files (record { console = console; out = out })
+  over Ran machine file name map reads owns ran (clocking.NoMicroprogram bytes program read is h console out) =
       none_chosen machine name owns h (record { console = console; out = out })
-  over Ran machine file name map reads owns ran (over.Clocked bytes program micro read is chosen files h) = ran micro program is.accepted chosen h
+  over Ran machine file name map reads owns ran (clocking.Clocked bytes program micro read is chosen files h) = ran micro program is.accepted chosen h
 
   module _ {M S : Type 0} (state : M → S) (m : Meaning S) (runs : Runs asks) (micro : Program) (program : VerifiedView) (bound : ℕ) where
     pub ran_own : RunsOwn asks →

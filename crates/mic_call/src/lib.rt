@@ -10,7 +10,6 @@ mod tests;
 mod top_call;
 mod usage;
 
-pub use answers::each_answer_has_its_cause;
+pub use answers::{each_answer_has_its_cause, mic_main};
 pub use laws::run_agrees_with_reference;
-pub use top_call::mic_main;
 pub use usage::misused;
