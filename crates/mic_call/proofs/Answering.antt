@@ -1,5 +1,5 @@
 -- Each end of a call is one of its answers.
-use Rattle.std.proofs.Common.{◌≡◌, ◌≢◌, ◌∙◌, ◌≤◌, ◌×◌, ℕ, Bool, List, Option, Some, None, refl, sym, ap, subst, arith, inl, inr}
+use Rattle.std.proofs.Common.{◌≡◌, ◌≢◌, ◌∙◌, ◌≤◌, ◌+◌, ◌-◌, ℕ, List, Option, Some, None, refl, sym, ap, subst, arith, inl, inr}
 use Rattle.machine_words.specs.declared.machine.Machine.{Machine}
 use Rattle.machine_words.specs.declared.machine.Machine.TheVariants.{Mic1, Mic2}
 use Rattle.console_port.specs.declared.map.MemoryMap.{MemoryMap}
@@ -100,7 +100,7 @@ module _ {M S : Type 0} (state : M → S) (m : Meaning S) (machine : Machine) (l
       let has : HasShipped machine first.store.words = subst (λ store. HasShipped machine store.words) (sym start.store) (listed.words machine l loaded) in
       let so = law program bound left held left' held' first last accepted start.reset.image has
       (record {
-        start = λ left held w shown. subst (λ (entry : ℕ). ShowsRun state left held first (start_run m entry _ w)) (listed.entry machine l loaded) (start.reset.shows left held w shown);
+        start = λ left held w shown. subst (λ (entry : ℕ). ShowsRun state left held first (start_run m entry (0x8000 + program.main_locals - 1) w)) (listed.entry machine l loaded) (start.reset.shows left held w shown);
         loaded = start.reset.loaded;
         kept = start.reset.kept;
         input = start.reset.ended;
