@@ -271,64 +271,64 @@ module _ (shipped : ShippedEnd) (old new : Outside) (status : ℕ) where
   traced_by : (machine : Machine) (file : List ℕ) (bound : ℕ) (map : MemoryMap) (micro : Option (List ℕ)) (buses : Bool) →
       EndsAs (Some (Trace file machine bound map micro buses)) old new status → IsAnswer (Some (Trace file machine bound map micro buses)) old new status
   traced_by Mic1 file bound map None buses h =
-      over _ old new status _ Mic1 file None map (inl refl) (λ one is. inr is)
-      (λ micro program accepted chosen ran. ran_traced _ old new status micro_of1 mic1_meaning tt micro program bound
+      over (Some (Trace file Mic1 bound map None buses)) old new status _ Mic1 file None map (inl refl) (λ one is. inr is)
+      (λ micro program accepted chosen ran. ran_traced (Some (Trace file Mic1 bound map None buses)) old new status micro_of1 mic1_meaning tt micro program bound
         (λ l first last cycles end start shows ended stray.
           absurd (shipped_stays micro_of1 mic1_meaning Mic1 shipped.listed shipped.mic1 micro program bound _ _ _ _ l first last cycles end chosen accepted start shows ended stray))
         buses ran) h
   traced_by Mic2 file bound map None buses h =
-      over _ old new status _ Mic2 file None map (inl refl) (λ one is. inr is)
-      (λ micro program accepted chosen ran. ran_traced _ old new status micro_of2 mic2_meaning tt micro program bound
+      over (Some (Trace file Mic2 bound map None buses)) old new status _ Mic2 file None map (inl refl) (λ one is. inr is)
+      (λ micro program accepted chosen ran. ran_traced (Some (Trace file Mic2 bound map None buses)) old new status micro_of2 mic2_meaning tt micro program bound
         (λ l first last cycles end start shows ended stray.
           absurd (shipped_stays micro_of2 mic2_meaning Mic2 shipped.listed shipped.mic2 micro program bound _ _ _ _ l first last cycles end chosen accepted start shows ended stray))
         buses ran) h
   traced_by Mic1 file bound map (Some name) buses h =
-      over _ old new status _ Mic1 file (Some name) map (inl refl) (λ one is. inr is)
-      (λ micro program accepted chosen ran. ran_traced _ old new status micro_of1 mic1_meaning tt micro program bound (λ l first last cycles end start shows ended stray. tt) buses ran) h
+      over (Some (Trace file Mic1 bound map (Some name) buses)) old new status _ Mic1 file (Some name) map (inl refl) (λ one is. inr is)
+      (λ micro program accepted chosen ran. ran_traced (Some (Trace file Mic1 bound map (Some name) buses)) old new status micro_of1 mic1_meaning tt micro program bound (λ l first last cycles end start shows ended stray. tt) buses ran) h
   traced_by Mic2 file bound map (Some name) buses h =
-      over _ old new status _ Mic2 file (Some name) map (inl refl) (λ one is. inr is)
-      (λ micro program accepted chosen ran. ran_traced _ old new status micro_of2 mic2_meaning tt micro program bound (λ l first last cycles end start shows ended stray. tt) buses ran) h
+      over (Some (Trace file Mic2 bound map (Some name) buses)) old new status _ Mic2 file (Some name) map (inl refl) (λ one is. inr is)
+      (λ micro program accepted chosen ran. ran_traced (Some (Trace file Mic2 bound map (Some name) buses)) old new status micro_of2 mic2_meaning tt micro program bound (λ l first last cycles end start shows ended stray. tt) buses ran) h
 
   profiled_by : (machine : Machine) (file : List ℕ) (bound : ℕ) (map : MemoryMap) (micro : Option (List ℕ)) →
       EndsAs (Some (Profile file machine bound map micro)) old new status → IsAnswer (Some (Profile file machine bound map micro)) old new status
   profiled_by Mic1 file bound map None h =
-      over _ old new status _ Mic1 file None map (inl refl) (λ one is. inr is)
-      (λ micro program accepted chosen ran. ran_profiled _ old new status micro_of1 mic1_meaning tt micro program bound
+      over (Some (Profile file Mic1 bound map None)) old new status _ Mic1 file None map (inl refl) (λ one is. inr is)
+      (λ micro program accepted chosen ran. ran_profiled (Some (Profile file Mic1 bound map None)) old new status micro_of1 mic1_meaning tt micro program bound
         (λ l first last cycles end start shows ended stray.
           absurd (shipped_stays micro_of1 mic1_meaning Mic1 shipped.listed shipped.mic1 micro program bound _ _ _ _ l first last cycles end chosen accepted start shows ended stray))
         ran) h
   profiled_by Mic2 file bound map None h =
-      over _ old new status _ Mic2 file None map (inl refl) (λ one is. inr is)
-      (λ micro program accepted chosen ran. ran_profiled _ old new status micro_of2 mic2_meaning tt micro program bound
+      over (Some (Profile file Mic2 bound map None)) old new status _ Mic2 file None map (inl refl) (λ one is. inr is)
+      (λ micro program accepted chosen ran. ran_profiled (Some (Profile file Mic2 bound map None)) old new status micro_of2 mic2_meaning tt micro program bound
         (λ l first last cycles end start shows ended stray.
           absurd (shipped_stays micro_of2 mic2_meaning Mic2 shipped.listed shipped.mic2 micro program bound _ _ _ _ l first last cycles end chosen accepted start shows ended stray))
         ran) h
   profiled_by Mic1 file bound map (Some name) h =
-      over _ old new status _ Mic1 file (Some name) map (inl refl) (λ one is. inr is)
-      (λ micro program accepted chosen ran. ran_profiled _ old new status micro_of1 mic1_meaning tt micro program bound (λ l first last cycles end start shows ended stray. tt) ran) h
+      over (Some (Profile file Mic1 bound map (Some name))) old new status _ Mic1 file (Some name) map (inl refl) (λ one is. inr is)
+      (λ micro program accepted chosen ran. ran_profiled (Some (Profile file Mic1 bound map (Some name))) old new status micro_of1 mic1_meaning tt micro program bound (λ l first last cycles end start shows ended stray. tt) ran) h
   profiled_by Mic2 file bound map (Some name) h =
-      over _ old new status _ Mic2 file (Some name) map (inl refl) (λ one is. inr is)
-      (λ micro program accepted chosen ran. ran_profiled _ old new status micro_of2 mic2_meaning tt micro program bound (λ l first last cycles end start shows ended stray. tt) ran) h
+      over (Some (Profile file Mic2 bound map (Some name))) old new status _ Mic2 file (Some name) map (inl refl) (λ one is. inr is)
+      (λ micro program accepted chosen ran. ran_profiled (Some (Profile file Mic2 bound map (Some name))) old new status micro_of2 mic2_meaning tt micro program bound (λ l first last cycles end start shows ended stray. tt) ran) h
 
   by_words : (asks : Option Asked) → EndsAs asks old new status → IsAnswer asks old new status
   by_words None h = on_err None old new status _ _ h.says (Misused refl (record { files = h.files; untouched = h.untouched }))
-  by_words (Some (Assemble source image)) h = aside _ old new status _ source refl h
-  by_words (Some (ListOf file map)) h = aside _ old new status _ file refl h
-  by_words (Some (Verify file map)) h = aside _ old new status _ file refl h
-  by_words (Some (Run file Mic1 bound map)) h = run _ old new status micro_of1 mic1_meaning IsReady1 (HasShipped Mic1) 0x002 tt file bound map refl h
-  by_words (Some (Run file Mic2 bound map)) h = run _ old new status micro_of2 mic2_meaning IsReady2 (HasShipped Mic2) 0x002 tt file bound map refl h
+  by_words (Some (Assemble source image)) h = aside (Some (Assemble source image)) old new status _ source refl h
+  by_words (Some (ListOf file map)) h = aside (Some (ListOf file map)) old new status _ file refl h
+  by_words (Some (Verify file map)) h = aside (Some (Verify file map)) old new status _ file refl h
+  by_words (Some (Run file Mic1 bound map)) h = run (Some (Run file Mic1 bound map)) old new status micro_of1 mic1_meaning IsReady1 (HasShipped Mic1) 0x002 tt file bound map refl h
+  by_words (Some (Run file Mic2 bound map)) h = run (Some (Run file Mic2 bound map)) old new status micro_of2 mic2_meaning IsReady2 (HasShipped Mic2) 0x002 tt file bound map refl h
   by_words (Some (RunOwn file Mic1 bound map micro)) h =
-      over _ old new status _ Mic1 file (Some micro) map (inl refl) (λ one is. inr (some_is micro one is))
-      (λ listing program accepted chosen ran. ran_own _ old new status micro_of1 mic1_meaning tt listing program bound tt ran) h
+      over (Some (RunOwn file Mic1 bound map micro)) old new status _ Mic1 file (Some micro) map (inl refl) (λ one is. inr (some_is micro one is))
+      (λ listing program accepted chosen ran. ran_own (Some (RunOwn file Mic1 bound map micro)) old new status micro_of1 mic1_meaning tt listing program bound tt ran) h
   by_words (Some (RunOwn file Mic2 bound map micro)) h =
-      over _ old new status _ Mic2 file (Some micro) map (inl refl) (λ one is. inr (some_is micro one is))
-      (λ listing program accepted chosen ran. ran_own _ old new status micro_of2 mic2_meaning tt listing program bound tt ran) h
+      over (Some (RunOwn file Mic2 bound map micro)) old new status _ Mic2 file (Some micro) map (inl refl) (λ one is. inr (some_is micro one is))
+      (λ listing program accepted chosen ran. ran_own (Some (RunOwn file Mic2 bound map micro)) old new status micro_of2 mic2_meaning tt listing program bound tt ran) h
   by_words (Some (Trace file machine bound map micro buses)) h = traced_by machine file bound map micro buses h
   by_words (Some (Profile file machine bound map micro)) h = profiled_by machine file bound map micro h
-  by_words (Some (Reference file machine bound map)) h = referred _ old new status file machine bound map refl tt tt h
-  by_words (Some (Micro mal store machine)) h = aside _ old new status _ mal refl h
-  by_words (Some (PrintMicro (Some file) machine)) h = aside _ old new status _ file refl h
-  by_words (Some (PrintMicro None machine)) h = on_out _ old new status _ _ h.says Done
+  by_words (Some (Reference file machine bound map)) h = referred (Some (Reference file machine bound map)) old new status file machine bound map refl tt tt h
+  by_words (Some (Micro mal store machine)) h = aside (Some (Micro mal store machine)) old new status _ mal refl h
+  by_words (Some (PrintMicro (Some file) machine)) h = aside (Some (PrintMicro (Some file) machine)) old new status _ file refl h
+  by_words (Some (PrintMicro None machine)) h = on_out (Some (PrintMicro None machine)) old new status _ _ h.says Done
 
   pub answered : (asks : Option Asked) → Ends asks old new status → IsAnswer asks old new status
   answered asks (calls.NoRoom h) = on_err asks old new status _ _ h.says (NoMemory h.untouched)
