@@ -1,11 +1,13 @@
 -- Why there is no microprogram, and where one begins.
-use Rattle.std.proofs.Common.{◌≡◌, ◌<◌, ◌≤◌, ◌∙◌, ℕ, List, [], ◌∷◌, ◌++◌, length, get_or, Some, false, refl, ap, subst, arith, inl, inr}
+use Rattle.std.proofs.Common.{◌≡◌, ◌<◌, ◌≤◌, ◌∙◌, ℕ, List, [], ◌∷◌, ◌++◌, length, take, get_or, Some, false, refl, ap, subst, arith, inl, inr}
 use Rattle.machine_words.specs.declared.machine.Machine.{Machine}
 use Rattle.machine_words.specs.declared.machine.Machine.TheVariants.{Mic1, Mic2}
 use Rattle.watched_run.specs.declared.cycle.Cycle.{Cycle}
 use Rattle.watched_run.specs.Watched.{SaysOf}
 use Rattle.run_profile.specs.Profile.{Profile, Silent, counted}
+use Rattle.mic_work.specs.Outside.{Got, GotFront}
 use Rattle.shipped_program.specs.Listing.{program1, program2, program_of}
+use Rattle.std.proofs.Math.Seq.{take-nil}
 use Rattle.std.proofs.lemmas.Bool.{cases_lt}
 use Rattle.std.proofs.lemmas.List.{append-nil, get_or_past, length-map}
 use Rattle.std.specs.Prelude.{Option, None, option_map, slice_index}
@@ -82,3 +84,8 @@ silent_says p (c ∷ cs) text h = h.4 ∙ (λ i. h.2 i ++ silent_says (counted p
 pub nothing_put : (old new : Option (List ℕ)) (text : List ℕ) → text ≡ [] → new ≡ option_map (λ held. held ++ text) old → new ≡ old
 nothing_put None new text none put = put
 nothing_put (Some held) new text none put = put ∙ ap (λ (t : List ℕ). Some (held ++ t)) none ∙ ap Some (append-nil held)
+
+-- nor is one that failed where there was nothing to get
+pub nothing_put_of : (old new : Option (List ℕ)) (text : List ℕ) → text ≡ [] → GotFront old text new → Got old [] new
+nothing_put_of old new text none h =
+    h.1 ∙ ap (λ (t : List ℕ). option_map (λ (held : List ℕ). held ++ t) old) (ap (take h.0) none ∙ take-nil h.0)

@@ -1,6 +1,7 @@
 -- How the profile of an accepted program ends: what its run's boundaries count, and the report; or less, where a fault stopped it.
-use Rattle.std.specs.Prelude.{◌≡◌, ◌≢◌, ℕ, List, ◌++◌, Option, Some, None, length}
+use Rattle.std.specs.Prelude.{◌≡◌, ◌≢◌, ℕ, List, [], ◌++◌, Option, Some, None, length}
 use Rattle.mic_base.specs.Causes.{Rose}
+use Rattle.console_port.specs.Console.{StaysFlushed}
 use Rattle.mic_clock.specs.declared.end.End.{End}
 use Rattle.mic_clock.specs.declared.end.End.TheVariants as ends
 use Rattle.mic_clock.specs.Meaning.{Meaning}
@@ -15,7 +16,7 @@ use Rattle.run_profile.specs.Rows.{AreRows}
 use Rattle.run_profile.specs.Profile.{profile_of, profile_text}
 use Rattle.mic_work.specs.Status as exits
 use Rattle.mic_work.specs.Messages.{out_of_memory}
-use Rattle.mic_work.specs.Outside.{Says, SinkState, SourceState}
+use Rattle.mic_work.specs.Outside.{Got, Says, SinkState, SourceState}
 use Rattle.run_texts.specs.Ends.{status_of}
 use Rattle.board_commands.specs.Traced.{IsFirst, report_on}
 
@@ -29,8 +30,13 @@ module _ {M State : Type 0} (state : M → State) (m : Meaning State) where
     Whole : (l : Loaded) (first last : BoardView M) (cycles : List Cycle) (end : End) (rows : List ℕ) →
         IsFirst state m micro l program first → ShowsCycles state m bound console.left out.held first console'.left out'.held last cycles (Some end) →
         (end ≢ ends.WriteFault → last.end ≡ Some end) → HasEndCause console.faults console'.faults out.faults out'.faults None (Some end) →
+        (end ≢ ends.WriteFault → StaysFlushed out.held out.passed out'.held out'.passed) →
         AreRows program.image (length program.image.text) rows →
         Says err err' (profile_text (profile_of rows cycles) end last.counts ++ report_on state m end last) (status_of end) status →
         IsProfiled micro program bound console console' out out' err err' status
-    -- `err` failed before anything was put
-    Stopped : Rose err.faults err'.faults → status ≡ exits.sink → IsProfiled micro program bound console console' out out' err err' status
+    -- `err` failed before the profile was put, and the run was stopped there: `err` has got nothing
+    Stopped : (l : Loaded) (first last : BoardView M) (cycles : List Cycle) →
+        IsFirst state m micro l program first → ShowsCycles state m bound console.left out.held first console'.left out'.held last cycles None →
+        HasEndCause console.faults console'.faults out.faults out'.faults None None →
+        Got err.held [] err'.held → Rose err.faults err'.faults → status ≡ exits.sink →
+        IsProfiled micro program bound console console' out out' err err' status

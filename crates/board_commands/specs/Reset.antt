@@ -8,12 +8,14 @@ use Rattle.mic_clock.specs.Meaning.{Meaning}
 use Rattle.mic_clock.specs.View.{BoardView}
 use Rattle.mic_clock.specs.Run.{start_run, start_counts}
 use Rattle.mic_clock.specs.Board.{ShowsRun}
+use Rattle.ijvm_image.specs.Image.{IsImage}
 use Rattle.ijvm_paths.specs.Accepted.{VerifiedView}
 
 -- SP is the place before the first operand of main, and nothing was given, taken or counted yet.
 pub record IsAtReset {M State : Type 0} (state : M → State) (m : Meaning State) (entry : ℕ) (program : VerifiedView) (board : BoardView M) : Type 0 where
   pub shows : (left held : Option (List ℕ)) (w : World) → Shows left held board.bus w →
       ShowsRun state left held board (start_run m entry (FRAME + program.main_locals - 1) w)
+  pub image : IsImage program.image
   pub loaded : IsLoaded program.image.text program.image.pool (replicate program.map.stack_end 0) board.bus.words
   pub kept : board.bus.console.kept ≡ []
   pub ended : board.bus.console.ended ≡ false

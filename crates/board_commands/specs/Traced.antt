@@ -1,6 +1,7 @@
 -- How the trace of an accepted program ends: the lines of each cycle of its run, and the report; or less, where a fault stopped it.
 use Rattle.std.specs.Prelude.{◌≡◌, ◌≢◌, ℕ, List, ◌++◌, Bool, Option, Some, None}
 use Rattle.mic_base.specs.Causes.{Rose}
+use Rattle.console_port.specs.Console.{StaysFlushed}
 use Rattle.mic_clock.specs.declared.end.End.{End}
 use Rattle.mic_clock.specs.declared.end.End.TheVariants as ends
 use Rattle.mic_clock.specs.Meaning.{Meaning}
@@ -48,6 +49,7 @@ module _ {M State : Type 0} (state : M → State) (m : Meaning State) where
     Whole : (l : Loaded) (first last : BoardView M) (cycles : List Cycle) (end : End) (lines : List ℕ) →
         IsFirst micro l program first → ShowsCycles state m bound console.left out.held first console'.left out'.held last cycles (Some end) →
         (end ≢ ends.WriteFault → last.end ≡ Some end) → HasEndCause console.faults console'.faults out.faults out'.faults None (Some end) →
+        (end ≢ ends.WriteFault → StaysFlushed out.held out.passed out'.held out'.passed) →
         AreLines (traced_of micro l program buses) cycles lines → Says err err' (lines ++ report_on end last) (status_of end) status →
         IsTraced micro program bound buses console console' out out' err err' status
     -- `err` failed, and the run was stopped there: it has a front of the lines of these cycles

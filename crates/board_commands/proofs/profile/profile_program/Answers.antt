@@ -7,8 +7,8 @@ use Rattle.mic_clock.specs.declared.counts.Counts.{Counts}
 use Rattle.mic_work.specs.Outside.{SinkState, sink_of}
 use Rattle.run_profile.specs.Profile.{Profile, profile_of, profile_text, start_profile, Silent, counted}
 use Rattle.watched_run.specs.Watched.{kept_of}
-use Rattle.board_commands.specs.Profiled.{Whole}
-use Rattle.board_commands.proofs.Micros.{nothing_put, silent_says}
+use Rattle.board_commands.specs.Profiled.{Stopped, Whole}
+use Rattle.board_commands.proofs.Micros.{nothing_put, nothing_put_of, silent_says}
 use Rattle.board_commands.proofs.profile.profile_program.Goals as goal
 
 pub returns-in-Ok-run_watched : goal.returns-in-Ok-run_watched
@@ -31,5 +31,13 @@ returns-in-Ok-run_watched g c =
     let cause = rw said.quiet at c.put_profile-said.ensures.cause in
     Whole c.args.micro.loaded c.in-Ok-reset_board.board last watched.cycles end rows
     (record { loaded = c.args.micro.is_loaded; store = c.in-Ok-reset_board.ensures.store; reset = c.in-Ok-reset_board.ensures.reset })
-    watched.run c.in-Ok-run_watched.ensures.end c.in-Ok-run_watched.ensures.cause c.in-Ok.ensures
+    watched.run c.in-Ok-run_watched.ensures.end c.in-Ok-run_watched.ensures.cause c.in-Ok-run_watched.ensures.flushed c.in-Ok.ensures
     (c.report_behind.ensures old (profile_text (profile_of rows watched.cycles) end last.counts) put cause)
+
+pub returns : goal.returns
+returns g c =
+    let watched = c.in-Err-run_watched.ensures.watched in
+    let held = nothing_put_of (g.E.Sink.held c.args.err.now) (g.E.Sink.held c.run_watched.new.err) watched.saw.text (silent_says _ watched.cycles watched.saw.text watched.saw.says) watched.saw.said in
+    Stopped c.args.micro.loaded c.in-Ok-reset_board.board c.run_watched.new.board watched.cycles
+    (record { loaded = c.args.micro.is_loaded; store = c.in-Ok-reset_board.ensures.store; reset = c.in-Ok-reset_board.ensures.reset })
+    watched.run c.in-Err-run_watched.ensures.cause held c.in-Err-run_watched.ensures.said.failed refl

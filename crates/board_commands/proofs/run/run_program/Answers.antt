@@ -1,4 +1,5 @@
-use Rattle.std.proofs.Common.{◌≡◌, ◌∙◌, ap, subst, ℕ, List, Option, None, Some}
+use Rattle.std.proofs.Common.{◌≡◌, ◌∙◌, ap, sym, subst, ℕ, List, Option, None, Some}
+use Rattle.std.specs.Prelude.{unwrap_or}
 use Rattle.mic_clock.specs.declared.counts.Counts.{Counts}
 use Rattle.mic_clock.specs.declared.end.End.{End}
 use Rattle.mic_clock.specs.declared.registers.Registers.{Registers}
@@ -19,4 +20,5 @@ returns g c =
     (record { loaded = c.args.micro.is_loaded; store = c.in-Ok.ensures.store; reset = c.in-Ok.ensures.reset })
     c.run-end.ensures.end c.run-end.ensures.run c.run-end.ensures.read c.run-end.ensures.write
     (rw (c.in-Ok.ensures.reset.end, c.run-end.ensures.end) at c.run-end.ensures.cause)
+    (λ other. c.run-end.ensures.flushed (λ is. other (ap (λ (e : Option End). unwrap_or e end) (sym c.run-end.ensures.end ∙ is))))
     (rw (printed, c.status_of.ensures) at c.say.ensures)

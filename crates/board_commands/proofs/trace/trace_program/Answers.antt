@@ -10,7 +10,7 @@ returns-in-Ok-run_watched g c =
     let said = c.in-Ok-run_watched.ensures.said in
     Whole c.args.micro.loaded c.in-Ok.board c.run_watched.new.board watched.cycles c.in-Ok-run_watched.end watched.saw.text
     (record { loaded = c.args.micro.is_loaded; store = c.in-Ok.ensures.store; reset = c.in-Ok.ensures.reset })
-    watched.run c.in-Ok-run_watched.ensures.end c.in-Ok-run_watched.ensures.cause watched.saw.says
+    watched.run c.in-Ok-run_watched.ensures.end c.in-Ok-run_watched.ensures.cause c.in-Ok-run_watched.ensures.flushed watched.saw.says
     (c.report_behind.ensures old watched.saw.text watched.saw.said (record { later = said.later; failed = tt; quiet = said.quiet }))
 
 pub returns : goal.returns
