@@ -2,7 +2,7 @@
 _mic() {
     local word=${COMP_WORDS[COMP_CWORD]} before=${COMP_WORDS[COMP_CWORD-1]} command=${COMP_WORDS[1]}
     if [ "$COMP_CWORD" -eq 1 ]; then
-        COMPREPLY=($(compgen -W "assemble list verify run trace profile reference micro print-micro soak" -- "$word"))
+        COMPREPLY=($(compgen -W "assemble list verify run trace profile debug reference micro print-micro soak" -- "$word"))
         return
     fi
     case $before in
@@ -15,6 +15,7 @@ _mic() {
     list | verify) options="--map" ;;
     run | profile) options="--machine --bound --micro --map" ;;
     trace) options="--machine --bound --micro --buses --map" ;;
+    debug) options="--machine --bound --micro --input --map" ;;
     reference) options="--machine --bound --map" ;;
     micro | print-micro | soak) options="--machine" ;;
     esac

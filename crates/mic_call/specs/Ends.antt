@@ -1,6 +1,6 @@
 -- How a call of `mic` ends, by what its words ask for.
 use Rattle.std.specs.Prelude.{◌≡◌, ℕ, List, Option, Some, None}
-use Rattle.mic_words.specs.Words.{Asked, Assemble, ListOf, Verify, Run, RunOwn, Trace, Profile, Reference, Micro, PrintMicro, Soak}
+use Rattle.mic_words.specs.Words.{Asked, Assemble, ListOf, Verify, Run, RunOwn, Trace, Profile, Debug, Reference, Micro, PrintMicro, Soak}
 use Rattle.machine_words.specs.declared.machine.Machine.{Machine}
 use Rattle.machine_words.specs.declared.machine.Machine.TheVariants.{Mic1, Mic2}
 use Rattle.mal_parser.specs.Canonical.{canonical_text}
@@ -19,6 +19,8 @@ use Rattle.board_commands.specs.OwnRun.{IsOwnRun}
 use Rattle.board_commands.specs.Over.{EndsOver}
 use Rattle.board_commands.specs.Profiled.{IsProfiled}
 use Rattle.board_commands.specs.Traced.{IsTraced}
+use Rattle.debug_command.specs.Debugged.{IsDebugged}
+use Rattle.debug_command.specs.Over.{DebugsOver}
 use Rattle.mic_work.specs.Outside.{Says, SinkState, SourceState}
 use Rattle.mic_work.specs.Work.{Answered, Ends as WorkEnds}
 use Rattle.micro_commands.specs.Answers.{MicroAnswers, PrintMicroAnswers}
@@ -69,6 +71,14 @@ Clocks Runs machine file bound map own old new status =
     EndsOver (λ micro program. Runs micro program bound old.streams.console new.streams.console old.streams.out new.streams.out old.streams.err new.streams.err status)
     machine file own map old.streams.console new.streams.console (desk_of old) (desk_of new) status
 
+-- The same with the program's input, which the console does not give. `Runs` says how the session over it went.
+abbrev pub Debugs : (Program → VerifiedView → ℕ → List ℕ → SourceState → SourceState → SinkState → SinkState → SinkState → SinkState → ℕ → Type 0) →
+    Machine → List ℕ → ℕ → MemoryMap → Option (List ℕ) → Option (List ℕ) → Outside → Outside → ℕ → Type 0
+Debugs Runs machine file bound map own input old new status =
+    DebugsOver
+    (λ micro program taken. Runs micro program bound taken old.streams.console new.streams.console old.streams.out new.streams.out old.streams.err new.streams.err status)
+    machine file own input map old.streams.console new.streams.console (desk_of old) (desk_of new) status
+
 -- Where the words ask for nothing, the usage text says how `mic` is called.
 abbrev pub EndsAs : Option Asked → Outside → Outside → ℕ → Type 0
 EndsAs None old new status = OnlySays usage exits.usage old new status
@@ -85,6 +95,8 @@ EndsAs (Some (Trace file Mic2 bound map micro buses)) old new status =
     Clocks (λ listing program bound. IsTraced micro_of2 mic2_meaning listing program bound buses) Mic2 file bound map micro old new status
 EndsAs (Some (Profile file Mic1 bound map micro)) old new status = Clocks (IsProfiled micro_of1 mic1_meaning) Mic1 file bound map micro old new status
 EndsAs (Some (Profile file Mic2 bound map micro)) old new status = Clocks (IsProfiled micro_of2 mic2_meaning) Mic2 file bound map micro old new status
+EndsAs (Some (Debug file Mic1 bound map micro input)) old new status = Debugs (IsDebugged micro_of1 mic1_meaning) Mic1 file bound map micro input old new status
+EndsAs (Some (Debug file Mic2 bound map micro input)) old new status = Debugs (IsDebugged micro_of2 mic2_meaning) Mic2 file bound map micro input old new status
 EndsAs (Some (Reference file machine bound map)) old new status =
     EndsReference file machine bound map old.streams.console new.streams.console (desk_of old) (desk_of new) status
 EndsAs (Some (Micro mal store machine)) old new status = EndsAside (MicroAnswers machine store) mal old new status

@@ -10,6 +10,7 @@ usage =
     ++ codes "       mic run FILE [--machine V] [--bound N] [--micro MAL] [--map W]\n"
     ++ codes "       mic trace FILE [--machine V] [--bound N] [--micro MAL] [--buses] [--map W]\n"
     ++ codes "       mic profile FILE [--machine V] [--bound N] [--micro MAL] [--map W]\n"
+    ++ codes "       mic debug FILE [--machine V] [--bound N] [--micro MAL] [--input INPUT] [--map W]\n"
     ++ codes "       mic reference FILE [--machine V] [--bound N] [--map W]\n"
     ++ codes "       mic micro MAL STORE [--machine V]\n"
     ++ codes "       mic print-micro [FILE] [--machine V]\n"

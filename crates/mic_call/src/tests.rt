@@ -36,6 +36,8 @@ fn memory_is_ample(rt: HostRuntime) -> Result<(), Fail> {
     );
     assert_eq!(rt; status_of(alloc, &["trace", "P", "--bound", "3"])?, 2);
     assert_eq!(rt; status_of(alloc, &["profile", "P"])?, 0);
+    assert_eq!(rt; status_of(alloc, &["debug", "P"])?, 0);
+    assert_eq!(rt; status_of(alloc, &["debug", "P", "--input", "M"])?, 0);
     assert_eq!(rt; status_of(alloc, &["reference", "P"])?, 0);
     assert_eq!(rt; status_of(alloc, &["micro", "M", "S"])?, 0);
     assert_eq!(rt; status_of(alloc, &["print-micro", "M"])?, 0);

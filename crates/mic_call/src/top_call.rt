@@ -9,6 +9,7 @@ ghost use Rattle.mic_call.specs.Ends.{Ends};
 use crate::run::run_file;
 use crate::usage::misused;
 use board_commands::{profile_file, run_own_file, trace_file};
+use debug_command::debug_file;
 use machine_words::Machine;
 use mic_base::{Files, Sink, Source};
 use mic_words::{Request, WordsError, read_words};
@@ -182,6 +183,50 @@ pub(crate) fn answer_words<F: Files, S: Source, K: Sink, E: Sink>(
             Mic2::new(),
             file,
             micro,
+            bound,
+            map,
+            files,
+            console,
+            out,
+            err,
+        ),
+        Ok(
+            Request::Debug {
+                file,
+                machine: Machine::Mic1,
+                bound,
+                map,
+                micro,
+                input,
+            },
+        ) => debug_file(
+            alloc,
+            Mic1::new(),
+            file,
+            micro,
+            input,
+            bound,
+            map,
+            files,
+            console,
+            out,
+            err,
+        ),
+        Ok(
+            Request::Debug {
+                file,
+                machine: Machine::Mic2,
+                bound,
+                map,
+                micro,
+                input,
+            },
+        ) => debug_file(
+            alloc,
+            Mic2::new(),
+            file,
+            micro,
+            input,
             bound,
             map,
             files,

@@ -13,6 +13,7 @@ const USAGE: &[u8] = b"usage: mic assemble SOURCE IMAGE
        mic run FILE [--machine V] [--bound N] [--micro MAL] [--map W]
        mic trace FILE [--machine V] [--bound N] [--micro MAL] [--buses] [--map W]
        mic profile FILE [--machine V] [--bound N] [--micro MAL] [--map W]
+       mic debug FILE [--machine V] [--bound N] [--micro MAL] [--input INPUT] [--map W]
        mic reference FILE [--machine V] [--bound N] [--map W]
        mic micro MAL STORE [--machine V]
        mic print-micro [FILE] [--machine V]

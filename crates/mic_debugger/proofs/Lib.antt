@@ -5,3 +5,4 @@ pub mod Timing
 pub mod Underway
 pub mod Flushing
 pub mod Planning
+pub mod InputCauses

@@ -1,6 +1,8 @@
 -- Where a session leads a board, and what it prints.
-use Rattle.std.specs.Prelude.{◌≡◌, ℕ, ◌+◌, ◌<◌, List, ◌++◌, Option, Some}
+use Rattle.std.specs.Prelude.{◌≡◌, ◌≢◌, ℕ, ◌+◌, ◌<◌, List, ◌++◌, Option, Some}
 use Rattle.std.specs.Option.{option_map}
+use Rattle.mic_base.specs.Causes.{Rose}
+use Rattle.mic_clock.specs.declared.end.End.{End}
 use Rattle.mic_clock.specs.Meaning.{Meaning}
 use Rattle.mic_clock.specs.Run.{MicroRun, word_at, turns}
 use Rattle.mic_clock.specs.View.{BoardView}
@@ -10,6 +12,11 @@ use Rattle.mic_debugger.specs.declared.until.Until.{Until}
 use Rattle.mic_debugger.specs.Book.{Book}
 use Rattle.mic_debugger.specs.Lines.{end_line}
 use Rattle.mic_debugger.specs.Clocking.{turn_text, after, printed, passed, IsGoing, IsDone}
+
+-- a failing source ends a board, and only that raises its count
+pub record HasReadCause (before now : ℕ) (end : Option End) : Type 0 where
+  pub rose : end ≡ Some ends.ReadFault → Rose before now
+  pub same : end ≢ Some ends.ReadFault → now ≡ before
 
 -- a sink that tells what it holds has taken this text
 abbrev pub Prints : Option (List ℕ) → List ℕ → Option (List ℕ) → Type 0

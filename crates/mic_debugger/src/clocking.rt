@@ -10,7 +10,7 @@ ghost use Rattle.mic_debugger.specs.Book.{Book, IsBook};
 ghost use Rattle.mic_debugger.specs.InTime.{InTime};
 ghost use Rattle.mic_debugger.specs.Lines.{end_line};
 ghost use Rattle.mic_debugger.specs.Clocking.{cause_line, comes, counted, first_piece, has_break, has_changed, is_at_boundary, second_piece, turn_text};
-ghost use Rattle.mic_debugger.specs.Session.{IsClocked, IsStopped, Prints, text_between};
+ghost use Rattle.mic_debugger.specs.Session.{HasReadCause, IsClocked, IsStopped, Prints, text_between};
 
 use crate::fault::SessionFault;
 use crate::listing::Listing;
@@ -157,6 +157,7 @@ impl Clocking<'_> {
             Prints (E.held err.old) (text_between M.state M.meaning book self.now.breaks.now self.now.until board.old board.new) (E.held err.new)) }
         ensures came { IfOk result (λ came. number_of came ≡ counted self.now.breaks.now self.now.until board.new.counts board.new.bus.words board.new.end) }
         ensures fault { OnOk result (board.new.end ≢ Some End.WriteFault) }
+        ensures input { HasReadCause (S.faults input.old) (S.faults input.new) board.new.end }
         ensures store { board.new.store ≡ board.old.store }
         ensures below { board.new.end ≡ None → M.meaning.is_boundary (M.state board.old.machine) ≡ true → board.old.counts.cycles < self.now.bound }
         ensures clocked { IsCounted M.state M.meaning board.old board.new }
@@ -202,6 +203,7 @@ impl Clocking<'_> {
             (λ r rest. (n : ℕ) × (k : ℕ) × IsStopped M.state M.meaning book board.old.store.words self.now.breaks.now self.now.bound self.now.until times
             (S.left input.new) (K.held out.new) board.new rest text n k r)) }
         ensures fault { OnOk result (board.new.end ≢ Some End.WriteFault) }
+        ensures input { HasReadCause (S.faults input.old) (S.faults input.new) board.new.end }
         ensures store { board.new.store ≡ board.old.store }
         ensures in_time { InTime (2 ^ 62) board.new.counts (M.meaning.is_boundary (M.state board.new.machine)) board.new.end }
         ensures keeps_out { (front : List ℕ) → Holds front (K.held out.old) → Holds front (K.held out.new) }

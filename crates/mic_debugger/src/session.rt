@@ -11,7 +11,7 @@ ghost use Rattle.mic_debugger.specs.Book.{Book, IsBook};
 ghost use Rattle.mic_debugger.specs.Commands.{command_of};
 ghost use Rattle.mic_debugger.specs.Lines.{stack_text, where_line};
 ghost use Rattle.mic_debugger.specs.Obeys.{Obeys, IsStoppedIn, plan_in, shown_text};
-ghost use Rattle.mic_debugger.specs.Session.{Prints};
+ghost use Rattle.mic_debugger.specs.Session.{HasReadCause, Prints};
 ghost use Rattle.mic_debugger.specs.Plans.{breaks_after, clocking, plan_by, plan_of, refusal_text, reply_of, watched_after, watched_now};
 
 use crate::breakpoints::Breakpoints;
@@ -247,6 +247,7 @@ impl<M: Clocked> Session<M> {
             (text : List ℕ) × Prints (E.held err.old) text (E.held err.new) ×
             IsStoppedIn M.state M.meaning book (S.left input.old) (K.held out.old) self.old (S.left input.new) (K.held out.new) self.new.board text (Plan.Clock until times)) }
         ensures fault { OnOk result (self.new.board.end ≢ Some End.WriteFault) }
+        ensures input { HasReadCause (S.faults input.old) (S.faults input.new) self.new.board.end }
         ensures same { self.new ≡ record self.old { board = self.new.board } }
         ensures store { self.new.board.store ≡ self.old.board.store }
         ensures keeps_out { (front : List ℕ) → Holds front (K.held out.old) → Holds front (K.held out.new) }
@@ -280,6 +281,8 @@ impl<M: Clocked> Session<M> {
             IsBook self.old.listing.program self.old.listing.placement self.old.listing.image book →
             (text : List ℕ) × Prints (E.held err.old) text (E.held err.new) ×
             IsStoppedIn M.state M.meaning book (S.left input.old) (K.held out.old) self.old (S.left input.new) (K.held out.new) self.new.board text plan) }
+        ensures fault { OnOk result (self.old.board.end ≡ None → self.new.board.end ≢ Some End.WriteFault) }
+        ensures input { self.old.board.end ≡ None → HasReadCause (S.faults input.old) (S.faults input.new) self.new.board.end }
         ensures same { self.new ≡ record self.old { board = self.new.board } }
         ensures store { self.new.board.store ≡ self.old.board.store }
         ensures keeps_out { (front : List ℕ) → Holds front (K.held out.old) → Holds front (K.held out.new) }
@@ -334,6 +337,8 @@ impl<M: Clocked> Session<M> {
             IsBook self.old.listing.program self.old.listing.placement self.old.listing.image book →
             (text : List ℕ) × Prints (E.held err.old) text (E.held err.new) ×
             IsStoppedIn M.state M.meaning book (S.left input.old) (K.held out.old) self.old (S.left input.new) (K.held out.new) self.new.board text (plan_in self.old line.now)) }
+        ensures fault { OnOk result (self.old.board.end ≡ None → self.new.board.end ≢ Some End.WriteFault) }
+        ensures input { self.old.board.end ≡ None → HasReadCause (S.faults input.old) (S.faults input.new) self.new.board.end }
         ensures kept { OnOk result (self.new.board.bus.console.kept ≡ []) }
         ensures passed { OnOk result (IsFlushed (E.held err.new) (E.passed err.new)) }
         ensures breaks { OnOk result (self.new.breaks ≡ breaks_after self.old.breaks (command_of self.old.listing.memory line.now)) }

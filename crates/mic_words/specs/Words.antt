@@ -28,6 +28,8 @@ pub data Asked : Type 0 where
   -- without a file of its own the microprogram that ships is clocked
   Trace : (file : Text) (machine : Machine) (bound : ℕ) (map : MemoryMap) (micro : Option Text) (buses : Bool) → Asked
   Profile : (file : Text) (machine : Machine) (bound : ℕ) (map : MemoryMap) (micro : Option Text) → Asked
+  -- the lines come from the console, the program's input from a file, or there is none
+  Debug : (file : Text) (machine : Machine) (bound : ℕ) (map : MemoryMap) (micro input : Option Text) → Asked
   Reference : (file : Text) (machine : Machine) (bound : ℕ) (map : MemoryMap) → Asked
   Micro : (mal store : Text) (machine : Machine) → Asked
   -- without a file the microprogram that ships is asked for
@@ -43,6 +45,8 @@ asked (requests.Run file machine bound map) = Run file.now machine bound map
 asked (requests.RunOwn file machine bound map micro) = RunOwn file.now machine bound map micro.now
 asked (requests.Trace file machine bound map micro buses) = Trace file.now machine bound map (option_map (λ micro. micro.now) micro) buses
 asked (requests.Profile file machine bound map micro) = Profile file.now machine bound map (option_map (λ micro. micro.now) micro)
+asked (requests.Debug file machine bound map micro input) =
+    Debug file.now machine bound map (option_map (λ micro. micro.now) micro) (option_map (λ input. input.now) input)
 asked (requests.Reference file machine bound map) = Reference file.now machine bound map
 asked (requests.Micro mal store machine) = Micro mal.now store.now machine
 asked (requests.PrintMicro file machine) = PrintMicro (option_map (λ file. file.now) file) machine
@@ -60,6 +64,7 @@ HasLimits (requests.Run file machine bound map) = (bound ≤ MOST_CYCLES) × Has
 HasLimits (requests.RunOwn file machine bound map micro) = (bound ≤ MOST_CYCLES) × HasMap map
 HasLimits (requests.Trace file machine bound map micro buses) = (bound ≤ MOST_CYCLES) × HasMap map
 HasLimits (requests.Profile file machine bound map micro) = (bound ≤ MOST_CYCLES) × HasMap map
+HasLimits (requests.Debug file machine bound map micro input) = (bound ≤ MOST_CYCLES) × HasMap map
 HasLimits (requests.Reference file machine bound map) = (bound ≤ MOST_CYCLES) × HasMap map
 HasLimits (requests.Soak seed size machine) = size ≤ MOST_BLOCKS
 HasLimits request = Unit {0}
@@ -140,6 +145,11 @@ profile_of given = option_and_then (λ file. option_and_then (λ machine. option
     option_map (λ map. Profile file machine bound map (text_in (codes "micro") given))
     (map_of given)) (bound_from given)) (machine_of given)) (text_in (codes "FILE") given)
 
+abbrev pub debug_of : List Entry → Option Asked
+debug_of given = option_and_then (λ file. option_and_then (λ machine. option_and_then (λ bound.
+    option_map (λ map. Debug file machine bound map (text_in (codes "micro") given) (text_in (codes "input") given))
+    (map_of given)) (bound_from given)) (machine_of given)) (text_in (codes "FILE") given)
+
 abbrev pub reference_of : List Entry → Option Asked
 reference_of given = option_and_then (λ file. option_and_then (λ machine. option_and_then (λ bound.
     option_map (λ map. Reference file machine bound map)
@@ -167,7 +177,7 @@ asked_of name.Verify given = verify_of given
 asked_of name.Run given = if is_given (codes "micro") given then run_own_of given else run_of given
 asked_of name.Trace given = trace_of given
 asked_of name.Profile given = profile_of given
-asked_of name.Debug given = None
+asked_of name.Debug given = debug_of given
 asked_of name.Reference given = reference_of given
 asked_of name.Micro given = micro_of given
 asked_of name.PrintMicro given = print_micro_of given

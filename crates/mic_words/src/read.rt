@@ -5,7 +5,7 @@ ghost use Rattle.std.specs.Option.{option_map};
 ghost use Rattle.mic_words.specs.Reading.{Entry};
 ghost use Rattle.mic_words.specs.Table.{form_for};
 ghost use Rattle.mic_words.specs.Taking.{Holds};
-ghost use Rattle.mic_words.specs.Words.{AnswersAs, HasLimits, asked, asked_of, assemble_of, list_of, micro_of, print_micro_of, profile_of, reference_of, request_of, run_of, run_own_of, soak_of, trace_of, verify_of};
+ghost use Rattle.mic_words.specs.Words.{AnswersAs, HasLimits, asked, asked_of, assemble_of, debug_of, list_of, micro_of, print_micro_of, profile_of, reference_of, request_of, run_of, run_own_of, soak_of, trace_of, verify_of};
 
 use crate::error::WordsError;
 use crate::options::{bound_in, is_true, machine_in, map_in, seed_in, size_in};
@@ -114,6 +114,26 @@ fn profile<'a>(matches: &ArgMatches<'a>) -> Option<Request<'a>>
     })
 }
 
+fn debug<'a>(matches: &ArgMatches<'a>) -> Option<Request<'a>>
+    ensures limits { IfSome result HasLimits }
+    ensures asks { (g : List Entry) → Holds (form_for CommandName.Debug) g matches.now → option_map asked result ≡ debug_of g }
+{
+    let file = matches.get_str("FILE")?;
+    let machine = machine_in(matches.get_str("machine"))?;
+    let bound = bound_in(matches.get_str("bound"))?;
+    let map = map_in(matches.get_str("map"))?;
+    let micro = matches.get_str("micro");
+    let input = matches.get_str("input");
+    Some(Request::Debug {
+        file,
+        machine,
+        bound,
+        map,
+        micro,
+        input,
+    })
+}
+
 fn reference<'a>(matches: &ArgMatches<'a>) -> Option<Request<'a>>
     ensures limits { IfSome result HasLimits }
     ensures asks { (g : List Entry) → Holds (form_for CommandName.Reference) g matches.now → option_map asked result ≡ reference_of g }
@@ -180,7 +200,7 @@ fn request_in<'a>(command: CommandName, matches: &ArgMatches<'a>) -> Option<Requ
         CommandName::Run => run(matches),
         CommandName::Trace => trace(matches),
         CommandName::Profile => profile(matches),
-        CommandName::Debug => None,
+        CommandName::Debug => debug(matches),
         CommandName::Reference => reference(matches),
         CommandName::Micro => micro(matches),
         CommandName::PrintMicro => print_micro(matches),

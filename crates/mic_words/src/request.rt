@@ -48,6 +48,15 @@ pub enum Request<'a> {
         map: MemoryMap,
         micro: Option<&'a str>,
     },
+    /// The lines of the session come from the console, the program's input from a file, or there is none.
+    Debug {
+        file: &'a str,
+        machine: Machine,
+        bound: u64,
+        map: MemoryMap,
+        micro: Option<&'a str>,
+        input: Option<&'a str>,
+    },
     Reference {
         file: &'a str,
         machine: Machine,

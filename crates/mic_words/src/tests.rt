@@ -334,8 +334,14 @@ profile|
 profile F|profile F mic1 10000000 standard -
 profile F --machine mic1 --bound 1 --micro M --map large|profile F mic1 1 large M
 debug|
-debug F|
-debug F --machine mic1 --bound 1 --micro M --input I --map large|
+debug F|debug F mic1 10000000 standard - -
+debug F --input I|debug F mic1 10000000 standard - I
+debug F --input=|
+debug F --input I --input I|
+debug F --buses|
+debug F I|
+debug F --input=- --micro=M --machine mic2|debug F mic2 10000000 standard M -
+debug F --machine mic1 --bound 1 --micro M --input I --map large|debug F mic1 1 large M I
 soak|
 soak 1|
 soak 1 1|soak 1 1 mic1
@@ -441,6 +447,20 @@ fn shown(alloc: Global, request: Request<'_>) -> Result<String, AllocError> {
             let map = map_name(map);
             let micro = micro.unwrap_or("-");
             format!(in alloc; "profile {file} {machine} {bound} {map} {micro}")
+        }
+        Request::Debug {
+            file,
+            machine,
+            bound,
+            map,
+            micro,
+            input,
+        } => {
+            let machine = machine_name(machine);
+            let map = map_name(map);
+            let micro = micro.unwrap_or("-");
+            let input = input.unwrap_or("-");
+            format!(in alloc; "debug {file} {machine} {bound} {map} {micro} {input}")
         }
         Request::Reference {
             file,

@@ -16,12 +16,15 @@ boundary_line None = codes "boundary none\n"
 boundary_line (Some b) =
     codes "boundary " ++ decimal b.cycles ++ codes " at " ++ hex_text 8 b.at ++ codes " sp " ++ hex_text 8 b.sp ++ codes " lv " ++ hex_text 8 b.lv ++ codes "\n"
 
+-- what stands behind the name of the end: the counts, and the last boundary
+abbrev pub counted : ℕ → ℕ → Option Boundary → List ℕ
+counted cycles instructions boundary =
+    codes "\ncycles " ++ decimal cycles ++ codes " instructions " ++ decimal instructions ++ codes "\n"
+    ++ boundary_line boundary
+
 -- the three lines that begin each report
 abbrev pub head : End → ℕ → ℕ → Option Boundary → List ℕ
-head end cycles instructions boundary =
-    codes "end " ++ name_of end
-    ++ codes "\ncycles " ++ decimal cycles ++ codes " instructions " ++ decimal instructions ++ codes "\n"
-    ++ boundary_line boundary
+head end cycles instructions boundary = codes "end " ++ name_of end ++ counted cycles instructions boundary
 
 -- at a stack limit the cycles of the last boundary, if there was one
 abbrev pub cycles_of : End → ℕ → Option Boundary → ℕ
@@ -41,3 +44,12 @@ plain_head r = head (end_of r.end) r.cycles r.instructions (Some (last_boundary 
 
 abbrev pub report : End → Counts → Registers → List ℕ
 report end c r = clocked_head end c ++ state_line r ++ codes "\n"
+
+-- the report of a clocked run that a debugger left before its end
+abbrev pub quit_report : Counts → Registers → List ℕ
+quit_report c r = codes "end quit" ++ counted c.cycles c.instructions c.boundary ++ state_line r ++ codes "\n"
+
+-- the report of a clocked run that has ended, or that a debugger left
+abbrev pub left_report : Option End → Counts → Registers → List ℕ
+left_report (Some end) c r = report end c r
+left_report None c r = quit_report c r

@@ -5,4 +5,4 @@ mod ends;
 mod report;
 
 pub use ends::{end_of, status_of};
-pub use report::{clocked_head, clocked_report, plain_report};
+pub use report::{clocked_head, clocked_report, left_report, plain_report};

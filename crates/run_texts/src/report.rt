@@ -1,7 +1,7 @@
 //! The report of a run: its end, its counts, the last boundary, and of a clocked run the registers.
 
 ghost use Rattle.std.specs.Prelude.{◌≡◌, ◌≤◌, ◌<◌, ◌+◌, ◌++◌, length};
-ghost use Rattle.run_texts.specs.Report.{boundary_line, clocked_head, cycles_of, head, plain_head, report};
+ghost use Rattle.run_texts.specs.Report.{boundary_line, clocked_head, counted, cycles_of, head, left_report, plain_head, quit_report, report};
 
 use crate::ends::{end_of, name_of};
 use mic_base::Line;
@@ -26,6 +26,18 @@ fn boundary_line(line: &mut Line, boundary: Option<Boundary>)
     }
 }
 
+/// Appends the counts and the last boundary, behind the name of the end.
+fn add_counts(line: &mut Line, cycles: u64, instructions: u64, boundary: Option<Boundary>)
+    requires { length line.old + 130 ≤ 512 }
+    ensures text { line.new ≡ line.old ++ counted cycles instructions boundary }
+    ensures len { length line.new ≤ length line.old + 130 }
+{
+    number(line, "\ncycles ", cycles);
+    number(line, " instructions ", instructions);
+    line.text("\n");
+    boundary_line(line, boundary);
+}
+
 /// Appends the three lines that begin each report.
 fn head(line: &mut Line, end: End, cycles: u64, instructions: u64, boundary: Option<Boundary>)
     requires { length line.old + 166 ≤ 512 }
@@ -34,10 +46,7 @@ fn head(line: &mut Line, end: End, cycles: u64, instructions: u64, boundary: Opt
 {
     line.text("end ");
     name_of(line, end);
-    number(line, "\ncycles ", cycles);
-    number(line, " instructions ", instructions);
-    line.text("\n");
-    boundary_line(line, boundary);
+    add_counts(line, cycles, instructions, boundary);
 }
 
 /// At a stack limit the last boundary's cycles, if there was one.
@@ -67,6 +76,30 @@ pub fn clocked_report(end: End, counts: &Counts, registers: &Registers) -> Line
 {
     let mut line = Line::new();
     clocked_head(&mut line, end, counts);
+    print_state(registers, &mut line);
+    line.text("\n");
+    line
+}
+
+/// The four lines of a clocked run's report, where it has ended, or where a debugger left it.
+pub fn left_report(end: Option<End>, counts: &Counts, registers: &Registers) -> Line
+    requires { registers.now.mpc < 512 }
+    ensures { result ≡ left_report end counts.now registers.now }
+{
+    match end {
+        Some(end) => clocked_report(end, counts, registers),
+        None => quit_report(counts, registers),
+    }
+}
+
+/// The report of a run that a debugger left before its end.
+fn quit_report(counts: &Counts, registers: &Registers) -> Line
+    requires { registers.now.mpc < 512 }
+    ensures { result ≡ quit_report counts.now registers.now }
+{
+    let mut line = Line::new();
+    line.text("end quit");
+    add_counts(&mut line, counts.cycles, counts.instructions, counts.boundary);
     print_state(registers, &mut line);
     line.text("\n");
     line

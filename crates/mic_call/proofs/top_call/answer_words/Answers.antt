@@ -1,7 +1,7 @@
 use Rattle.std.proofs.Common.{Some, ap, refl, ◌∙◌}
 use Rattle.std.specs.Prelude.{option_map}
 use Rattle.machine_words.specs.declared.machine.Machine.TheVariants.{Mic1, Mic2}
-use Rattle.mic_words.specs.Words.{asked, Assemble, ListOf, Micro, PrintMicro, Profile, Reference, Run, RunOwn, Soak, Trace, Verify}
+use Rattle.mic_words.specs.Words.{asked, Assemble, Debug, ListOf, Micro, PrintMicro, Profile, Reference, Run, RunOwn, Soak, Trace, Verify}
 use Rattle.mic_call.proofs.Asking.{asked_ends}
 use Rattle.mic_call.proofs.top_call.answer_words.Goals as goal
 
@@ -106,3 +106,19 @@ returns-in-Ok-Soak-default-default-Mic2 g c =
     asked_ends _ (Some (Soak r.seed r.size Mic2)) _ _ _
     (r.ensures.asks ∙ (ap (λ request. Some (asked request)) r.field-0-is ∙ ap (λ machine. Some (Soak r.seed r.size machine)) r.field-0-2-is))
     (record { files = refl; console = refl; ends = c.soak-in-Ok-Soak-default-default-Mic2.ensures })
+
+pub returns-in-Ok-Debug-default-Mic1-default-default-default-default : goal.returns-in-Ok-Debug-default-Mic1-default-default-default-default
+returns-in-Ok-Debug-default-Mic1-default-default-default-default g c =
+    let r = c.in-Ok-Debug-default-Mic1-default-default-default-default in
+    asked_ends _ (Some (Debug r.file.now Mic1 r.bound r.map (option_map (λ micro. micro.now) r.micro) (option_map (λ input. input.now) r.input))) _ _ _
+    (r.ensures.asks ∙ (ap (λ request. Some (asked request)) r.field-0-is
+    ∙ ap (λ machine. Some (Debug r.file.now machine r.bound r.map (option_map (λ micro. micro.now) r.micro) (option_map (λ input. input.now) r.input))) r.field-0-1-is))
+    c.debug_file.ensures
+
+pub returns-in-Ok-Debug-default-Mic2-default-default-default-default : goal.returns-in-Ok-Debug-default-Mic2-default-default-default-default
+returns-in-Ok-Debug-default-Mic2-default-default-default-default g c =
+    let r = c.in-Ok-Debug-default-Mic2-default-default-default-default in
+    asked_ends _ (Some (Debug r.file.now Mic2 r.bound r.map (option_map (λ micro. micro.now) r.micro) (option_map (λ input. input.now) r.input))) _ _ _
+    (r.ensures.asks ∙ (ap (λ request. Some (asked request)) r.field-0-is
+    ∙ ap (λ machine. Some (Debug r.file.now machine r.bound r.map (option_map (λ micro. micro.now) r.micro) (option_map (λ input. input.now) r.input))) r.field-0-1-is))
+    c.debug_file-in-Ok-Debug-default-Mic2-default-default-default-default.ensures

@@ -7,6 +7,7 @@ use Rattle.mic_debugger.specs.Session.{text_between}
 use Rattle.mic_debugger.proofs.Putting.{puts_nothing, puts_then}
 use Rattle.mic_debugger.proofs.Timing.{InTime-step}
 use Rattle.mic_debugger.proofs.Underway.{underway_start, underway_more, underway_stopped, clocked_of}
+use Rattle.mic_debugger.proofs.InputCauses.{cause_start, cause_more}
 use Rattle.mic_debugger.proofs.clocking.Clocking.clock.Goals as goal
 
 pub turns-init : goal.turns-init
@@ -24,6 +25,7 @@ turns-init g c =
       );
       read = λ p. absurd (cc);
       fault = λ e. cc;
+      input = cause_start (g.S.Source.faults c.args.input.now) board.end live;
       store = refl;
       keeps_out = λ front h. h;
       keeps_err = λ front h. h;
@@ -74,6 +76,7 @@ turns-preserved g c =
                 before.0 c.turns.left program live some before.2 p (c.turn.ensures.read live p),
           );
       fault = c.in_ok-came.ensures.fault;
+      input = cause_more (g.S.Source.faults c.args.input.now) (g.S.Source.faults c.turns.input) (g.S.Source.faults c.turn.new.input) old.end new.end live inv.input c.turn.ensures.input;
       store = c.turn.ensures.store ∙ inv.store;
       keeps_out = λ front h. c.turn.ensures.keeps_out front (inv.keeps_out front h);
       keeps_err = λ front h. c.turn.ensures.keeps_err front (inv.keeps_err front h);

@@ -3,7 +3,7 @@ use Rattle.mic_clock.specs.declared.end.End.TheVariants as ends
 use Rattle.mic_base.specs.Streams.{Holds}
 use Rattle.mic_clock.specs.Board.{IsLedTo, NoFault}
 use Rattle.mic_debugger.specs.Book.{Book, IsBook}
-use Rattle.mic_debugger.specs.Session.{Prints, IsUnderway, IsStopped}
+use Rattle.mic_debugger.specs.Session.{HasReadCause, Prints, IsUnderway, IsStopped}
 use Rattle.mic_debugger.specs.InTime.{InTime}
 use Rattle.mic_debugger.proofs.clocking.Clocking.clock.Given as goal
 
@@ -25,6 +25,7 @@ invariant-turns g l =
           (text : List ℕ) × Prints (g.E.Sink.held l.fn.err) text (g.E.Sink.held l.err) ×
           IsLedTo state left0 held0 l.fn.board left l.board (λ r rest. (n : ℕ) × (k : ℕ) × IsStopped state m book words l.self.breaks.now l.self.bound l.self.until l.times left held l.board rest text n k r);
       fault : l.board.end ≢ Some ends.WriteFault;
+      input : HasReadCause (g.S.Source.faults l.fn.input) (g.S.Source.faults l.input) l.board.end;
       store : l.board.store ≡ l.fn.board.store;
       keeps_out : (front : List ℕ) → Holds front held0 → Holds front held;
       keeps_err : (front : List ℕ) → Holds front (g.E.Sink.held l.fn.err) → Holds front (g.E.Sink.held l.err);

@@ -1,0 +1,5 @@
+pub mod Told
+pub mod Stand
+pub mod Goes
+pub mod Debugged
+pub mod Over

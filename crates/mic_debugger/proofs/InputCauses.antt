@@ -1,0 +1,21 @@
+-- Why the count of the input rose.
+use Rattle.std.proofs.Common.{◌≡◌, ℕ, Option, Some, None, refl, subst, ◌∙◌}
+use Rattle.mic_base.specs.Causes.{Rose}
+use Rattle.mic_clock.specs.declared.end.End.{End}
+use Rattle.mic_clock.specs.declared.end.End.TheVariants as ends
+use Rattle.mic_clock.specs.Board.{HasEndCause}
+use Rattle.mic_debugger.specs.Session.{HasReadCause}
+
+-- nothing was read yet
+pub cause_start : (n : ℕ) (end : Option End) → end ≡ None → HasReadCause n n end
+cause_start n end live = record { rose = λ p. absurd (cc); same = λ q. refl }
+
+-- a turn more
+pub cause_more : (a b c : ℕ) (end end' : Option End) → end ≡ None → HasReadCause a b end → HasReadCause b c end' → HasReadCause a c end'
+cause_more a b c end end' live before now =
+    let still : b ≡ a = before.same (λ p. cc) in
+    record { rose = λ p. subst (λ (n : ℕ). Rose n c) still (now.rose p); same = λ q. now.same q ∙ still }
+
+-- a turn of a board
+pub cause_of_turn : (a b k l : ℕ) (end end' : Option End) → end ≡ None → HasEndCause a b k l end end' → HasReadCause a b end'
+cause_of_turn a b k l end end' live cause = record { rose = cause.read live; same = λ q. cause.source_same (λ _. q) }
