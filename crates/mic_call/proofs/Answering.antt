@@ -27,8 +27,8 @@ use Rattle.shipped_program.specs.Listing.{program_of}
 use Rattle.shipped_program.specs.Shipped.{HasShipped}
 use Rattle.watched_run.specs.declared.cycle.Cycle.{Cycle}
 use Rattle.watched_run.specs.Watched.{ShowsCycles}
-use Rattle.mic_words.specs.Words.{Asked, Assemble, ListOf, Verify, Run, RunOwn, Trace, Profile, Reference, Micro, PrintMicro, Soak}
-use Rattle.mic_work.specs.Outside.{Said, Says, Unsaid}
+use Rattle.mic_words.specs.Words.{Asked, Assemble, ListOf, Verify, Run, RunOwn, Trace, Profile, Debug, Reference, Micro, PrintMicro, Soak}
+use Rattle.mic_work.specs.Outside.{Said, Says, SinkState, Unsaid}
 use Rattle.mic_work.specs.Work.{Answered, IsCarriedOut, IsUnread}
 use Rattle.mic_work.specs.Work as work
 use Rattle.run_texts.specs.Ends.{status_of}
@@ -48,6 +48,10 @@ use Rattle.board_commands.specs.Profiled.{IsProfiled}
 use Rattle.board_commands.specs.Profiled as profiled
 use Rattle.board_commands.specs.Traced.{IsFirst, IsTraced}
 use Rattle.board_commands.specs.Traced as traced
+use Rattle.debug_command.specs.Debugged.{IsDebugged}
+use Rattle.debug_command.specs.Debugged as debugging
+use Rattle.debug_command.specs.Over.{DebugsOver}
+use Rattle.debug_command.specs.Over as debugs
 use Rattle.soak_command.specs.SoakEnds.{SoakEnds}
 use Rattle.soak_command.specs.SoakEnds as soaking
 use Rattle.mic_call.specs.Outside.{desk_of, IsUntouched, Outside}
@@ -122,6 +126,11 @@ module _ (asks : Option Asked) (old new : Outside) (status : ℕ) where
   on_err : (text : List ℕ) (code : ℕ) → Says old.streams.err new.streams.err text code status → (status ≡ code → Answer) → Answer
   on_err text code (Said is got flushed same) answer = answer is
   on_err text code (Unsaid is front rose) answer = SinkFailed (inr rose) is
+
+  -- behind what it holds already
+  behind_err : (err : SinkState) (text : List ℕ) (code : ℕ) → err.faults ≡ old.streams.err.faults → Says err new.streams.err text code status → (status ≡ code → Answer) → Answer
+  behind_err err text code quiet (Said is got flushed same) answer = answer is
+  behind_err err text code quiet (Unsaid is front rose) answer = SinkFailed (inr (subst (λ faults. Rose faults new.streams.err.faults) quiet rose)) is
 
   on_out : (text : List ℕ) (code : ℕ) → Says old.streams.out new.streams.out text code status → (status ≡ code → Answer) → Answer
   on_out text code (Said is got flushed same) answer = answer is
@@ -245,6 +254,27 @@ module _ (asks : Option Asked) (old new : Outside) (status : ℕ) where
         on_err _ _ says (run_end end runs (stays l first last cycles end start shows ended) cause)
     ran_profiled stays (profiled.Stopped l first last cycles start shows cause got rose is) = SinkFailed (inr rose) is
 
+  -- `debug`
+  pub debugs_over : (Debugged : Program → VerifiedView → List ℕ → Type 0) (machine : Machine) (file : List ℕ) (name input : Option (List ℕ)) (map : MemoryMap) → Reads asks file →
+      ((one : List ℕ) → name ≡ Some one → Reads asks one) → ((one : List ℕ) → input ≡ Some one → Reads asks one) →
+      ((micro : Program) (program : VerifiedView) (taken : List ℕ) → Debugged micro program taken → Answer) →
+      DebugsOver Debugged machine file name input map old.streams.console new.streams.console (desk_of old) (desk_of new) status → Answer
+  debugs_over Debugged machine file name input map reads owns inputs debugged (debugs.Unread h console out) = unread file reads h (record { console = console; out = out })
+  debugs_over Debugged machine file name input map reads owns inputs debugged (debugs.Refused bytes read files h console out) =
+      why map file bytes h files (record { console = console; out = out })
+  debugs_over Debugged machine file name input map reads owns inputs debugged (debugs.NoMicroprogram bytes program read is h console out) =
+      none_chosen machine name owns h (record { console = console; out = out })
+  debugs_over Debugged machine file name input map reads owns inputs debugged (debugs.NoInput bytes one program micro read is chosen named h console out) =
+      unread one (inputs one named) h (record { console = console; out = out })
+  debugs_over Debugged machine file name input map reads owns inputs debugged (debugs.Debugged bytes taken program micro read is chosen had files h) = debugged micro program taken h
+
+  pub debugged : {M S : Type 0} (state : M → S) (m : Meaning S) (micro : Program) (program : VerifiedView) (bound : ℕ) (input : List ℕ) →
+      IsDebugged state m micro program bound input old.streams.console new.streams.console old.streams.out new.streams.out old.streams.err new.streams.err status → Answer
+  debugged state m micro program bound input (debugging.NoRoom console out says) = on_err _ _ says (NoMemory (record { console = console; out = out }))
+  debugged state m micro program bound input (debugging.Left l first lines last start gone all console quiet out says) = behind_err last.err _ _ gone.err says Done
+  debugged state m micro program bound input (debugging.Cut l first lines last start gone cut console rose out says) = behind_err last.err _ _ gone.err says (ConsoleFailed rose)
+  debugged state m micro program bound input (debugging.Stopped l first lines mid start gone front out err quiet rose is) = SinkFailed rose is
+
   -- `reference`
   reported : (program : VerifiedView) (machine : Machine) (bound : ℕ) (r : PlainReport) → Runs asks →
       IsReported program machine bound old.streams.console new.streams.console old.streams.out new.streams.out r → status ≡ status_of (texts.end_of r.end) → Answer
@@ -335,6 +365,12 @@ module _ (shipped : ShippedEnd) (old new : Outside) (status : ℕ) where
       (λ listing program accepted chosen ran. ran_own (Some (RunOwn file Mic2 bound map micro)) old new status micro_of2 mic2_meaning tt listing program bound tt ran) h
   by_words (Some (Trace file machine bound map micro buses)) h = traced_by machine file bound map micro buses h
   by_words (Some (Profile file machine bound map micro)) h = profiled_by machine file bound map micro h
+  by_words (Some (Debug file Mic1 bound map micro input)) h =
+      debugs_over (Some (Debug file Mic1 bound map micro input)) old new status _ Mic1 file micro input map (inl refl) (λ one is. inr (inl is)) (λ one is. inr (inr is))
+      (λ listing program taken went. debugged (Some (Debug file Mic1 bound map micro input)) old new status micro_of1 mic1_meaning listing program bound taken went) h
+  by_words (Some (Debug file Mic2 bound map micro input)) h =
+      debugs_over (Some (Debug file Mic2 bound map micro input)) old new status _ Mic2 file micro input map (inl refl) (λ one is. inr (inl is)) (λ one is. inr (inr is))
+      (λ listing program taken went. debugged (Some (Debug file Mic2 bound map micro input)) old new status micro_of2 mic2_meaning listing program bound taken went) h
   by_words (Some (Reference file machine bound map)) h = referred (Some (Reference file machine bound map)) old new status file machine bound map refl tt tt h
   by_words (Some (Micro mal store machine)) h = aside (Some (Micro mal store machine)) old new status _ mal refl h
   by_words (Some (PrintMicro (Some file) machine)) h = aside (Some (PrintMicro (Some file) machine)) old new status _ file refl h

@@ -2,7 +2,7 @@
 use Rattle.std.specs.Prelude.{◌≡◌, ◌<◌, ◌≤◌, ◌⊎◌, ℕ, List, length, Option, Some, None}
 use Rattle.mic_base.specs.Causes.{Rose}
 use Rattle.mic_base.specs.Files.{Tells, most_bytes}
-use Rattle.mic_words.specs.Words.{Asked, Assemble, ListOf, Verify, Run, RunOwn, Trace, Profile, Reference, Micro, PrintMicro, Soak}
+use Rattle.mic_words.specs.Words.{Asked, Assemble, ListOf, Verify, Run, RunOwn, Trace, Profile, Debug, Reference, Micro, PrintMicro, Soak}
 use Rattle.mic_work.specs.Status as exits
 use Rattle.mic_call.specs.Outside.{IsUntouched, Outside}
 
@@ -16,6 +16,7 @@ Reads (Some (Run file machine bound map)) name = name ≡ file
 Reads (Some (RunOwn file machine bound map micro)) name = (name ≡ file) ⊎ (name ≡ micro)
 Reads (Some (Trace file machine bound map micro buses)) name = (name ≡ file) ⊎ (micro ≡ Some name)
 Reads (Some (Profile file machine bound map micro)) name = (name ≡ file) ⊎ (micro ≡ Some name)
+Reads (Some (Debug file machine bound map micro input)) name = (name ≡ file) ⊎ ((micro ≡ Some name) ⊎ (input ≡ Some name))
 Reads (Some (Reference file machine bound map)) name = name ≡ file
 Reads (Some (Micro mal store machine)) name = name ≡ mal
 Reads (Some (PrintMicro file machine)) name = file ≡ Some name
