@@ -3,3 +3,4 @@ pub mod Usage
 pub mod RunEnds
 pub mod Ends
 pub mod Agree
+pub mod Answers

@@ -2,6 +2,7 @@
 //! It assembles, verifies, lists and runs programs of IJVM, and places and prints microprograms.
 #![tactic(auto)]
 
+mod answers;
 mod laws;
 mod run;
 #[cfg(test)]
@@ -9,6 +10,6 @@ mod tests;
 mod top_call;
 mod usage;
 
+pub use answers::{each_answer_has_its_cause, mic_main};
 pub use laws::{run_agrees_on_both_machines, run_agrees_with_reference};
-pub use top_call::mic_main;
 pub use usage::misused;

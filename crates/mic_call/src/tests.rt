@@ -1,6 +1,6 @@
 //! Each command once, with ample memory, and runs that must agree. What each command answers is shown by the cases.
 
-use crate::top_call::mic_main;
+use crate::mic_main;
 use mic_base::{MemFiles, MemSink, MemSource};
 use std::alloc::Global;
 use std::test::Fail;

@@ -1,4 +1,4 @@
-//! The top call: the words, the files and the streams of one call of the program.
+//! What each command is asked by its words.
 
 ghost use Rattle.std.specs.Prelude.{map, string_bytes};
 ghost use Rattle.mic_words.specs.Words.{request_of};
@@ -23,7 +23,7 @@ use soak_command::soak;
 use std::alloc::Global;
 
 /// Does what the words after the program's name ask for.
-pub fn mic_main<F: Files, S: Source, K: Sink, E: Sink>(
+pub(crate) fn answer_words<F: Files, S: Source, K: Sink, E: Sink>(
     alloc: Global,
     words: &[String],
     files: &mut F,

@@ -3,7 +3,7 @@ use Rattle.std.specs.Prelude.{option_map}
 use Rattle.machine_words.specs.declared.machine.Machine.TheVariants.{Mic1, Mic2}
 use Rattle.mic_words.specs.Words.{asked, Assemble, Debug, ListOf, Micro, PrintMicro, Profile, Reference, Run, RunOwn, Soak, Trace, Verify}
 use Rattle.mic_call.proofs.Asking.{asked_ends}
-use Rattle.mic_call.proofs.top_call.mic_main.Goals as goal
+use Rattle.mic_call.proofs.top_call.answer_words.Goals as goal
 
 pub returns-in-Ok-Assemble : goal.returns-in-Ok-Assemble
 returns-in-Ok-Assemble g c =
