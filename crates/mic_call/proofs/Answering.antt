@@ -112,8 +112,8 @@ module _ {M S : Type 0} (state : M → S) (m : Meaning S) (machine : Machine) (l
         input = start.reset.ended;
       })
       (λ rest untaken.
-        let led = shows.run (not_fault end stray) rest untaken in
-        (led.0, led.1, λ r shown same. let here = led.2 r shown same in (here.0, here.2)))
+      let led = shows.run (not_fault end stray) rest untaken in
+      (led.0, led.1, λ r shown same. let here = led.2 r shown same in (here.0, here.2)))
       end (ended (not_write_fault end stray)) in
       not_stray so.finish.end (subst IsStray so.is stray)
 
@@ -313,15 +313,15 @@ module _ (shipped : ShippedEnd) (old new : Outside) (status : ℕ) where
   traced_by Mic1 file bound map None buses h =
       over (Some (Trace file Mic1 bound map None buses)) old new status _ Mic1 file None map (inl refl) (λ one is. inr is)
       (λ micro program accepted chosen ran. ran_traced (Some (Trace file Mic1 bound map None buses)) old new status micro_of1 mic1_meaning tt micro program bound
-        (λ l first last cycles end start shows ended stray.
-          absurd (shipped_stays micro_of1 mic1_meaning Mic1 shipped.listed shipped.mic1 micro program bound _ _ _ _ l first last cycles end chosen accepted start shows ended stray))
-        buses ran) h
+      (λ l first last cycles end start shows ended stray.
+      absurd (shipped_stays micro_of1 mic1_meaning Mic1 shipped.listed shipped.mic1 micro program bound _ _ _ _ l first last cycles end chosen accepted start shows ended stray))
+      buses ran) h
   traced_by Mic2 file bound map None buses h =
       over (Some (Trace file Mic2 bound map None buses)) old new status _ Mic2 file None map (inl refl) (λ one is. inr is)
       (λ micro program accepted chosen ran. ran_traced (Some (Trace file Mic2 bound map None buses)) old new status micro_of2 mic2_meaning tt micro program bound
-        (λ l first last cycles end start shows ended stray.
-          absurd (shipped_stays micro_of2 mic2_meaning Mic2 shipped.listed shipped.mic2 micro program bound _ _ _ _ l first last cycles end chosen accepted start shows ended stray))
-        buses ran) h
+      (λ l first last cycles end start shows ended stray.
+      absurd (shipped_stays micro_of2 mic2_meaning Mic2 shipped.listed shipped.mic2 micro program bound _ _ _ _ l first last cycles end chosen accepted start shows ended stray))
+      buses ran) h
   traced_by Mic1 file bound map (Some name) buses h =
       over (Some (Trace file Mic1 bound map (Some name) buses)) old new status _ Mic1 file (Some name) map (inl refl) (λ one is. inr is)
       (λ micro program accepted chosen ran. ran_traced (Some (Trace file Mic1 bound map (Some name) buses)) old new status micro_of1 mic1_meaning tt micro program bound (λ l first last cycles end start shows ended stray. tt) buses ran) h
@@ -334,15 +334,15 @@ module _ (shipped : ShippedEnd) (old new : Outside) (status : ℕ) where
   profiled_by Mic1 file bound map None h =
       over (Some (Profile file Mic1 bound map None)) old new status _ Mic1 file None map (inl refl) (λ one is. inr is)
       (λ micro program accepted chosen ran. ran_profiled (Some (Profile file Mic1 bound map None)) old new status micro_of1 mic1_meaning tt micro program bound
-        (λ l first last cycles end start shows ended stray.
-          absurd (shipped_stays micro_of1 mic1_meaning Mic1 shipped.listed shipped.mic1 micro program bound _ _ _ _ l first last cycles end chosen accepted start shows ended stray))
-        ran) h
+      (λ l first last cycles end start shows ended stray.
+      absurd (shipped_stays micro_of1 mic1_meaning Mic1 shipped.listed shipped.mic1 micro program bound _ _ _ _ l first last cycles end chosen accepted start shows ended stray))
+      ran) h
   profiled_by Mic2 file bound map None h =
       over (Some (Profile file Mic2 bound map None)) old new status _ Mic2 file None map (inl refl) (λ one is. inr is)
       (λ micro program accepted chosen ran. ran_profiled (Some (Profile file Mic2 bound map None)) old new status micro_of2 mic2_meaning tt micro program bound
-        (λ l first last cycles end start shows ended stray.
-          absurd (shipped_stays micro_of2 mic2_meaning Mic2 shipped.listed shipped.mic2 micro program bound _ _ _ _ l first last cycles end chosen accepted start shows ended stray))
-        ran) h
+      (λ l first last cycles end start shows ended stray.
+      absurd (shipped_stays micro_of2 mic2_meaning Mic2 shipped.listed shipped.mic2 micro program bound _ _ _ _ l first last cycles end chosen accepted start shows ended stray))
+      ran) h
   profiled_by Mic1 file bound map (Some name) h =
       over (Some (Profile file Mic1 bound map (Some name))) old new status _ Mic1 file (Some name) map (inl refl) (λ one is. inr is)
       (λ micro program accepted chosen ran. ran_profiled (Some (Profile file Mic1 bound map (Some name))) old new status micro_of1 mic1_meaning tt micro program bound (λ l first last cycles end start shows ended stray. tt) ran) h
