@@ -27,6 +27,7 @@ use Rattle.shipped_program.specs.Listing.{program_of}
 use Rattle.shipped_program.specs.Shipped.{HasShipped}
 use Rattle.watched_run.specs.declared.cycle.Cycle.{Cycle}
 use Rattle.watched_run.specs.Watched.{ShowsCycles}
+use Rattle.mic_base.specs.Causes.{Rose}
 use Rattle.mic_words.specs.Words.{Asked, Assemble, ListOf, Verify, Run, RunOwn, Trace, Profile, Debug, Reference, Micro, PrintMicro, Soak}
 use Rattle.mic_work.specs.Outside.{Said, Says, SinkState, Unsaid}
 use Rattle.mic_work.specs.Work.{Answered, IsCarriedOut, IsUnread}
