@@ -55,7 +55,7 @@ struct Answer {
 }
 
 /// The answer to these words, over a program `P`, a microprogram `M` and this input.
-fn answer(
+fn answer_to(
     alloc: Global,
     words: &[&str],
     program: &[u8],
@@ -98,18 +98,18 @@ const PROGRAMS: [(&[u8], &[u8]); 4] = [
 fn the_printed_microprogram_runs_as_the_shipped_one(rt: HostRuntime) -> Result<(), Fail> {
     let alloc = rt.alloc();
     for machine in ["mic1", "mic2"] {
-        let printed = answer(alloc, &["print-micro", "--machine", machine], b"", b"", b"")?;
+        let printed = answer_to(alloc, &["print-micro", "--machine", machine], b"", b"", b"")?;
         for (program, input) in PROGRAMS {
             let micro = printed.out.as_slice();
             let words = ["run", "P", "--machine", machine];
-            let run = answer(alloc, &words, program, micro, input)?;
+            let run = answer_to(alloc, &words, program, micro, input)?;
             let words = ["run", "P", "--machine", machine, "--micro", "M"];
-            let own = answer(alloc, &words, program, micro, input)?;
+            let own = answer_to(alloc, &words, program, micro, input)?;
             assert_eq!(rt; own.status, run.status, "of {machine}");
             assert_eq!(rt; own.out, run.out, "of {machine}");
             assert_eq!(rt; own.err, run.err, "of {machine}");
             let words = ["trace", "P", "--machine", machine];
-            let trace = answer(alloc, &words, program, micro, input)?;
+            let trace = answer_to(alloc, &words, program, micro, input)?;
             assert_eq!(rt; trace.status, run.status, "of {machine}");
             assert_eq!(rt; trace.out, run.out, "of {machine}");
             assert!(rt;
