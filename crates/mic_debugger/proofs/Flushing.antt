@@ -15,7 +15,7 @@ use Rattle.mic_debugger.specs.Obeys.{IsSaid, Obeys, IsStoppedIn, shown_text}
 
 module _ {M State : Type 0} (state : M → State) where
   -- what is known of each run that is led to a board holds where another is shown alike
-  led_on : (left0 held0 : Option (List ℕ)) (board0 : BoardView M) (left : Option (List ℕ)) (board board' : BoardView M) (P Q : MicroRun State → List ℕ → Type 0) →
+  pub led_on : (left0 held0 : Option (List ℕ)) (board0 : BoardView M) (left : Option (List ℕ)) (board board' : BoardView M) (P Q : MicroRun State → List ℕ → Type 0) →
       board'.bus.console.ended ≡ board.bus.console.ended → ((r : MicroRun State) (rest : List ℕ) → P r rest → Q r rest) →
       IsLedTo state left0 held0 board0 left board P → IsLedTo state left0 held0 board0 left board' Q
   led_on left0 held0 board0 left board board' P Q same f led rest fits =

@@ -6,3 +6,5 @@ pub mod Underway
 pub mod Flushing
 pub mod Planning
 pub mod InputCauses
+pub mod Uncounted
+pub mod Breaking

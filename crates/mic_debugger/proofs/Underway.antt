@@ -13,11 +13,11 @@ use Rattle.mic_debugger.specs.Session.{text_between, IsUnderway, IsClocked, IsSt
 
 module _ {M State : Type 0} (state : M → State) (m : Meaning State) (book : Book) (words breaks : List ℕ) (bound : ℕ) (u : Until) (times : ℕ) where
   -- one turn more
-  after-suc : (n : ℕ) (r : MicroRun State) → after m book words breaks bound u (suc n) r ≡ turn m words (bounded m (Some bound) (after m book words breaks bound u n r))
+  pub after-suc : (n : ℕ) (r : MicroRun State) → after m book words breaks bound u (suc n) r ≡ turn m words (bounded m (Some bound) (after m book words breaks bound u n r))
   after-suc zero r = refl
   after-suc (suc n) r = after-suc n (turn m words (bounded m (Some bound) r))
 
-  going_more : (n : ℕ) (r : MicroRun State) → IsGoing m book words breaks bound u times n r →
+  pub going_more : (n : ℕ) (r : MicroRun State) → IsGoing m book words breaks bound u times n r →
       (after m book words breaks bound u n r).end ≡ None → passed m book words breaks bound u n r < times → IsGoing m book words breaks bound u times (suc n) r
   going_more n r going live less =
       record {

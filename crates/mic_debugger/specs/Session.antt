@@ -1,5 +1,5 @@
 -- Where a session leads a board, and what it prints.
-use Rattle.std.specs.Prelude.{◌≡◌, ◌≢◌, ℕ, ◌+◌, ◌<◌, List, ◌++◌, Option, Some}
+use Rattle.std.specs.Prelude.{◌≡◌, ◌≢◌, ℕ, ◌+◌, ◌<◌, List, ◌++◌, Option, Some, IfSome}
 use Rattle.std.specs.Option.{option_map}
 use Rattle.mic_base.specs.Causes.{Rose}
 use Rattle.mic_clock.specs.declared.end.End.{End}
@@ -8,6 +8,7 @@ use Rattle.mic_clock.specs.Run.{MicroRun, word_at, turns}
 use Rattle.mic_clock.specs.View.{BoardView}
 use Rattle.mic_clock.specs.Board.{ShowsRun, IsCutByRead}
 use Rattle.mic_clock.specs.declared.end.End.TheVariants as ends
+use Rattle.mic_work.specs.Outside.{GotFront}
 use Rattle.mic_debugger.specs.declared.until.Until.{Until}
 use Rattle.mic_debugger.specs.Book.{Book}
 use Rattle.mic_debugger.specs.Lines.{end_line}
@@ -21,6 +22,10 @@ pub record HasReadCause (before now : ℕ) (end : Option End) : Type 0 where
 -- a sink that tells what it holds has taken this text
 abbrev pub Prints : Option (List ℕ) → List ℕ → Option (List ℕ) → Type 0
 Prints held text held' = held' ≡ option_map (λ h. h ++ text) held
+
+-- what a sink that tells it holds is a front of these bytes
+abbrev pub IsFrontOf : Option (List ℕ) → List ℕ → Type 0
+IsFrontOf held bytes = IfSome held (λ h. (more : List ℕ) × (bytes ≡ h ++ more))
 
 -- what is printed of a turn from one board to the next
 abbrev pub text_between : {M State : Type 0} → (M → State) → Meaning State → Book → List ℕ → Until → BoardView M → BoardView M → List ℕ
@@ -51,3 +56,9 @@ module _ {M State : Type 0} (state : M → State) (m : Meaning State) (book : Bo
     pub going : IsGoing m book words breaks bound u times n r
     pub waiting : passed m book words breaks bound u n r < times
     pub lines : text ≡ printed m book words breaks bound u n r ++ end_line ends.ReadFault
+
+  -- A failing sink broke it off at a moment of its way: `out` holds a front of what was given by then, and `err` got a front of what is printed by then.
+  pub record IsBroken (held said said' : Option (List ℕ)) (n : ℕ) (r : MicroRun State) : Type 0 where
+    pub going : IsGoing m book words breaks bound u times n r
+    pub out : IsFrontOf held (after m book words breaks bound u n r).world.given
+    pub err : GotFront said (printed m book words breaks bound u n r) said'

@@ -10,7 +10,8 @@ ghost use Rattle.mic_debugger.specs.Book.{Book, IsBook};
 ghost use Rattle.mic_debugger.specs.InTime.{InTime};
 ghost use Rattle.mic_debugger.specs.Lines.{end_line};
 ghost use Rattle.mic_debugger.specs.Clocking.{cause_line, comes, counted, first_piece, has_break, has_changed, is_at_boundary, second_piece, turn_text};
-ghost use Rattle.mic_debugger.specs.Session.{HasReadCause, IsClocked, IsStopped, Prints, text_between};
+ghost use Rattle.mic_debugger.specs.Session.{HasReadCause, IsBroken, IsClocked, IsStopped, Prints, text_between};
+ghost use Rattle.mic_work.specs.Outside.{GotFront};
 
 use crate::fault::SessionFault;
 use crate::listing::Listing;
@@ -153,8 +154,13 @@ impl Clocking<'_> {
         requires cycles { board.old.counts.cycles ≤ 2 ^ 62 + 4096 }
         ensures turn { IsTurned M.state M.meaning (S.left input.old) (K.held out.old) board.old (S.left input.new) (K.held out.new) board.new (Some self.now.bound) }
         ensures read { RunIsCutByRead M.state M.meaning (S.left input.old) (K.held out.old) board.old (S.left input.new) (K.held out.new) board.new (Some self.now.bound) }
+        ensures write { RunIsCutByWrite M.state M.meaning (S.left input.old) (K.held out.old) board.old (S.left input.new) (K.held out.new) board.new (Some self.now.bound) }
         ensures text { OnOk result ((book : Book) → IsBook self.now.listing.now.program self.now.listing.now.placement self.now.listing.now.image book →
             Prints (E.held err.old) (text_between M.state M.meaning book self.now.breaks.now self.now.until board.old board.new) (E.held err.new)) }
+        ensures front { OnErr result (board.new.end ≢ Some End.WriteFault → (book : Book) →
+            IsBook self.now.listing.now.program self.now.listing.now.placement self.now.listing.now.image book →
+            GotFront (E.held err.old) (text_between M.state M.meaning book self.now.breaks.now self.now.until board.old board.new) (E.held err.new)) }
+        ensures silent { board.new.end ≡ Some End.WriteFault → E.held err.new ≡ E.held err.old }
         ensures came { IfOk result (λ came. number_of came ≡ counted self.now.breaks.now self.now.until board.new.counts board.new.bus.words board.new.end) }
         ensures fault { OnOk result (board.new.end ≢ Some End.WriteFault) }
         ensures input { HasReadCause (S.faults input.old) (S.faults input.new) board.new.end }
@@ -202,6 +208,10 @@ impl Clocking<'_> {
             IsLedTo M.state (S.left input.old) (K.held out.old) board.old (S.left input.new) board.new
             (λ r rest. (n : ℕ) × (k : ℕ) × IsStopped M.state M.meaning book board.old.store.words self.now.breaks.now self.now.bound self.now.until times
             (S.left input.new) (K.held out.new) board.new rest text n k r)) }
+        ensures broken { OnErr result (board.new.end ≢ Some End.ReadFault → (book : Book) → IsBook self.now.listing.now.program self.now.listing.now.placement self.now.listing.now.image book →
+            IsLedTo M.state (S.left input.old) (K.held out.old) board.old (S.left input.new) board.new
+            (λ r rest. (n : ℕ) × IsBroken M.state M.meaning book board.old.store.words self.now.breaks.now self.now.bound self.now.until times
+            (K.held out.new) (E.held err.old) (E.held err.new) n r)) }
         ensures fault { OnOk result (board.new.end ≢ Some End.WriteFault) }
         ensures input { HasReadCause (S.faults input.old) (S.faults input.new) board.new.end }
         ensures store { board.new.store ≡ board.old.store }

@@ -5,13 +5,14 @@ ghost use Rattle.mic_base.specs.Causes.{HasCause, Rose};
 ghost use Rattle.mic_base.specs.Streams.{Holds, IsFlushed, Puts};
 ghost use Rattle.store_placement.specs.Placement.{Places};
 ghost use Rattle.store_placement.specs.Program.{demands_of, IsFilled};
-ghost use Rattle.mic_clock.specs.Board.{AreCounts, NoFault, ShowsAs};
+ghost use Rattle.mic_clock.specs.Board.{AreCounts, NoFault, ShowsAs, ShowsRun};
+ghost use Rattle.mic_clock.specs.Run.{MicroRun};
 ghost use Rattle.mic_clock.specs.State.{state_line};
 ghost use Rattle.mic_debugger.specs.Book.{Book, IsBook};
 ghost use Rattle.mic_debugger.specs.Commands.{command_of};
 ghost use Rattle.mic_debugger.specs.Lines.{stack_text, where_line};
-ghost use Rattle.mic_debugger.specs.Obeys.{Obeys, IsStoppedIn, plan_in, shown_text};
-ghost use Rattle.mic_debugger.specs.Session.{HasReadCause, Prints};
+ghost use Rattle.mic_debugger.specs.Obeys.{Obeys, IsBrokenIn, IsStoppedIn, plan_in, shown_text};
+ghost use Rattle.mic_debugger.specs.Session.{HasReadCause, IsFrontOf, Prints};
 ghost use Rattle.mic_debugger.specs.Plans.{breaks_after, clocking, plan_by, plan_of, refusal_text, reply_of, watched_after, watched_now};
 
 use crate::breakpoints::Breakpoints;
@@ -247,6 +248,9 @@ impl<M: Clocked> Session<M> {
         ensures read { OnOk result (self.new.board.end ≡ Some End.ReadFault → (book : Book) → IsBook self.old.listing.program self.old.listing.placement self.old.listing.image book →
             (text : List ℕ) × Prints (E.held err.old) text (E.held err.new) ×
             IsStoppedIn M.state M.meaning book (S.left input.old) (K.held out.old) self.old (S.left input.new) (K.held out.new) self.new.board text (Plan.Clock until times)) }
+        ensures broken { OnErr result (self.new.board.end ≢ Some End.ReadFault → (book : Book) → IsBook self.old.listing.program self.old.listing.placement self.old.listing.image book →
+            IsBrokenIn M.state M.meaning book (S.left input.old) (K.held out.old) (E.held err.old) self.old
+            (S.left input.new) (K.held out.new) (E.held err.new) self.new.board (Plan.Clock until times)) }
         ensures fault { OnOk result (self.new.board.end ≢ Some End.WriteFault) }
         ensures input { HasReadCause (S.faults input.old) (S.faults input.new) self.new.board.end }
         ensures same { self.new ≡ record self.old { board = self.new.board } }
@@ -282,6 +286,10 @@ impl<M: Clocked> Session<M> {
             IsBook self.old.listing.program self.old.listing.placement self.old.listing.image book →
             (text : List ℕ) × Prints (E.held err.old) text (E.held err.new) ×
             IsStoppedIn M.state M.meaning book (S.left input.old) (K.held out.old) self.old (S.left input.new) (K.held out.new) self.new.board text plan) }
+        ensures broken { OnErr result ((self.old.board.end ≡ None → self.new.board.end ≢ Some End.ReadFault) → (book : Book) →
+            IsBook self.old.listing.program self.old.listing.placement self.old.listing.image book →
+            IsBrokenIn M.state M.meaning book (S.left input.old) (K.held out.old) (E.held err.old) self.old
+            (S.left input.new) (K.held out.new) (E.held err.new) self.new.board plan) }
         ensures fault { OnOk result (self.old.board.end ≡ None → self.new.board.end ≢ Some End.WriteFault) }
         ensures input { self.old.board.end ≡ None → HasReadCause (S.faults input.old) (S.faults input.new) self.new.board.end }
         ensures same { self.new ≡ record self.old { board = self.new.board } }
@@ -303,6 +311,8 @@ impl<M: Clocked> Session<M> {
     /// Puts what the console keeps, and passes the answers on.
     fn flush<K: Sink, E: Sink>(&mut self, out: &mut K, err: &mut E) -> Result<(), SessionFault>
         ensures shows { OnOk result (ShowsAs M.state (K.held out.old) self.old.board (K.held out.new) self.new.board (λ r. r)) }
+        ensures front { OnErr result ((left : Option (List ℕ)) (r : MicroRun M.State) → ShowsRun M.state left (K.held out.old) self.old.board r →
+            IsFrontOf (K.held out.new) r.world.given) }
         ensures kept { self.new.board.bus.console.kept ≡ [] }
         ensures same { self.new ≡ record self.old { board = record self.old.board { bus = self.new.board.bus } } }
         ensures input { self.new.board.bus.console.ended ≡ self.old.board.bus.console.ended }
@@ -338,6 +348,10 @@ impl<M: Clocked> Session<M> {
             IsBook self.old.listing.program self.old.listing.placement self.old.listing.image book →
             (text : List ℕ) × Prints (E.held err.old) text (E.held err.new) ×
             IsStoppedIn M.state M.meaning book (S.left input.old) (K.held out.old) self.old (S.left input.new) (K.held out.new) self.new.board text (plan_in self.old line.now)) }
+        ensures broken { OnErr result ((self.old.board.end ≡ None → self.new.board.end ≢ Some End.ReadFault) → (book : Book) →
+            IsBook self.old.listing.program self.old.listing.placement self.old.listing.image book →
+            IsBrokenIn M.state M.meaning book (S.left input.old) (K.held out.old) (E.held err.old) self.old
+            (S.left input.new) (K.held out.new) (E.held err.new) self.new.board (plan_in self.old line.now)) }
         ensures fault { OnOk result (self.old.board.end ≡ None → self.new.board.end ≢ Some End.WriteFault) }
         ensures input { self.old.board.end ≡ None → HasReadCause (S.faults input.old) (S.faults input.new) self.new.board.end }
         ensures kept { OnOk result (self.new.board.bus.console.kept ≡ []) }

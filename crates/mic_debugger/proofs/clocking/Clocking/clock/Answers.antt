@@ -6,6 +6,7 @@ use Rattle.mic_clock.specs.Board.{NoFault}
 use Rattle.mic_debugger.specs.Session.{text_between}
 use Rattle.mic_debugger.proofs.Putting.{puts_nothing, puts_then}
 use Rattle.mic_debugger.proofs.Timing.{InTime-step}
+use Rattle.mic_debugger.proofs.Breaking.{broken_more, on_err_of}
 use Rattle.mic_debugger.proofs.Underway.{underway_start, underway_more, underway_stopped, clocked_of}
 use Rattle.mic_debugger.proofs.InputCauses.{cause_start, cause_more}
 use Rattle.mic_debugger.proofs.clocking.Clocking.clock.Goals as goal
@@ -101,3 +102,24 @@ returns-clause-done g c =
       clocked_of state m book first.store.words self.breaks.now self.bound self.until c.args.times (g.S.Source.left c.args.input.now) (g.K.Sink.held c.args.out.now) first
           (g.S.Source.left c.turns.input) (g.K.Sink.held c.turns.out) board at.0 c.turns.left over at.2,
     )
+
+pub returns-in_err-came-clause-broken : goal.returns-in_err-came-clause-broken
+returns-in_err-came-clause-broken g c =
+    let state = g.M.Clocked.state in
+    let m = g.M.Clocked.meaning in
+    let self = c.args.self.now in
+    let first = c.args.board.now in
+    let old = c.turns.board in
+    let new = c.turn.new.board in
+    let inv = c.turns.invariant in
+    let live : old.end ≡ None = search rules in
+    let some : 0 < c.turns.left = search rules in
+    let program : old.store.words ≡ first.store.words = ap (λ (s : ControlStore). s.words) inv.store in
+    let going : NoFault None old.end = subst (λ (e : Option End). NoFault None e) (sym live) tt in
+    on_err_of _ c.from_residual.result
+    (λ unread book is_book.
+    let before = inv.run going book is_book in
+    broken_more state m book first.store.words self.breaks.now self.bound self.until c.args.times (g.S.Source.left c.args.input.now) (g.K.Sink.held c.args.out.now) first
+    (g.S.Source.left c.turns.input) (g.K.Sink.held c.turns.out) old (g.S.Source.left c.turn.new.input) (g.K.Sink.held c.turn.new.out) new
+    before.0 c.turns.left program live some before.2 (g.E.Sink.held c.args.err.now) (g.E.Sink.held c.turns.err) (g.E.Sink.held c.turn.new.err) before.1
+    c.turn.ensures.still unread c.turn.ensures.turn c.turn.ensures.write (λ well. c.in_err-came.ensures.front well book is_book) c.turn.ensures.silent)

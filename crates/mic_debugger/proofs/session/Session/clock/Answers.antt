@@ -5,3 +5,6 @@ returns-clause-done g c = rw (← c.self.view_is) (rw c.as_slice.ensures at c.cl
 
 pub returns-clause-read : goal.returns-clause-read
 returns-clause-read g c = rw (← c.self.view_is) (rw c.as_slice.ensures at c.clock.ensures.read)
+
+pub returns-clause-broken : goal.returns-clause-broken
+returns-clause-broken g c = rw (← c.self.view_is) (rw c.as_slice.ensures at c.clock.ensures.broken)

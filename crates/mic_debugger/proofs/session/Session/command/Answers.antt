@@ -8,7 +8,8 @@ use Rattle.mic_debugger.specs.declared.plan.Plan.{Plan}
 use Rattle.mic_debugger.specs.Commands.{command_of}
 use Rattle.mic_debugger.specs.Plans.{plan_of}
 use Rattle.mic_debugger.specs.View.{SessionView}
-use Rattle.mic_debugger.specs.Obeys.{Obeys, IsStoppedIn, plan_in}
+use Rattle.mic_debugger.specs.Obeys.{Obeys, IsBrokenIn, IsStoppedIn, plan_in}
+use Rattle.mic_debugger.proofs.Breaking.{no_fault, obeys_broken, on_err_of}
 use Rattle.mic_debugger.proofs.Flushing.{obeys_flushed, stopped_flushed}
 use Rattle.mic_debugger.proofs.session.Session.command.Goals as goal
 
@@ -65,3 +66,48 @@ returns-clause-read g c =
       subst (λ (b : BoardView g.row.M.Denot). IsStoppedIn state m book left0 held0 v left held' b at.0 (plan_in v line)) (sym board_is)
           (subst (λ (p : Plan). IsStoppedIn state m book left0 held0 v left held' c.flush.new.self.board at.0 p) plan_is led),
     )
+
+pub returns-in_err-carry_out-clause-broken : goal.returns-in_err-carry_out-clause-broken
+returns-in_err-carry_out-clause-broken g c =
+    let state = g.M.Clocked.state in
+    let m = g.M.Clocked.meaning in
+    let v = c.args.self.now in
+    let line = c.args.line.now in
+    let left0 = g.S.Source.left c.args.input.now in
+    let held0 = g.K.Sink.held c.args.out.now in
+    let said0 = g.E.Sink.held c.args.err.now in
+    let left = g.S.Source.left c.carry_out.new.input in
+    let held = g.K.Sink.held c.carry_out.new.out in
+    let said = g.E.Sink.held c.carry_out.new.err in
+    let read_is : c.read_command-read.result ≡ command_of v.listing.memory line = c.read_command-read.ensures ∙ ap (λ (n : ℕ). command_of n line) c.memory_words.ensures.value in
+    let plan_is : c.plan-plan.result ≡ plan_in v line =
+    c.plan-plan.ensures ∙ ap (λ (x : Result (Option Command) CommandError). plan_of v.board.end v.breaks v.watched v.board.bus.words x) read_is in
+    on_err_of _ c.from_residual.result
+    (λ unread book is_book.
+    subst (λ (p : Plan). IsBrokenIn state m book left0 held0 said0 v left held said c.carry_out.new.self.board p) plan_is (c.in_err-carry_out.ensures.broken unread book is_book))
+
+pub returns-in_err-flush-clause-broken : goal.returns-in_err-flush-clause-broken
+returns-in_err-flush-clause-broken g c =
+    let state = g.M.Clocked.state in
+    let m = g.M.Clocked.meaning in
+    let v = c.args.self.now in
+    let line = c.args.line.now in
+    let left0 = g.S.Source.left c.args.input.now in
+    let held0 = g.K.Sink.held c.args.out.now in
+    let said0 = g.E.Sink.held c.args.err.now in
+    let left = g.S.Source.left c.carry_out.new.input in
+    let held = g.K.Sink.held c.carry_out.new.out in
+    let held' = g.K.Sink.held c.flush.new.out in
+    let said' = g.E.Sink.held c.flush.new.err in
+    let read_is : c.read_command-read.result ≡ command_of v.listing.memory line = c.read_command-read.ensures ∙ ap (λ (n : ℕ). command_of n line) c.memory_words.ensures.value in
+    let plan_is : c.plan-plan.result ≡ plan_in v line =
+    c.plan-plan.ensures ∙ ap (λ (x : Result (Option Command) CommandError). plan_of v.board.end v.breaks v.watched v.board.bus.words x) read_is in
+    let flushed = c.in_err-flush.ensures in
+    let end_is : c.flush.new.self.board.end ≡ c.carry_out.new.self.board.end = ap (λ (s : SessionView g.row.M.Denot). s.board.end) flushed.same in
+    on_err_of _ c.from_residual-in_err-flush.result
+    (λ unread book is_book.
+    let well = no_fault v.board.end c.carry_out.new.self.board.end (λ none read. unread none (end_is ∙ read)) c.in_ok-carry_out.ensures.fault in
+    let at = c.in_ok-carry_out.ensures.obeys well book is_book in
+    subst (λ (p : Plan). IsBrokenIn state m book left0 held0 said0 v left held' said' c.flush.new.self.board p) plan_is
+    (obeys_broken state m book left0 held0 said0 v left held held' said' c.carry_out.new.self.board c.flush.new.self.board at.0 (flushed.held ∙ at.1) flushed.input
+    (λ r here. flushed.front left r here) c.plan-plan.result at.2))

@@ -1,0 +1,214 @@
+-- Where a failing sink breaks a line off.
+use Rattle.std.proofs.Common.{◌≡◌, ◌≢◌, ◌⊎◌, inl, inr, zero, suc, ℕ, ◌+◌, ◌-◌, ◌<◌, ◌≤◌, List, ◌++◌, take, drop, append_assoc, Bool, true, false, Option, Some, None, IsSome, refl, sym, ◌∙◌, ap, subst, arith, Result, Ok, Err}
+use Rattle.std.specs.Prelude.{OnOk, OnErr, IfErr}
+use Rattle.std.proofs.Math.ListN.{take-append-drop}
+use Rattle.console_port.specs.Console.{Given, IsLost}
+use Rattle.console_port.specs.Bus.{Stands}
+use Rattle.console_port.specs.declared.fault.BusFault.{BusFault}
+use Rattle.console_port.specs.declared.fault.BusFault.TheVariants as faults
+use Rattle.mic_clock.specs.declared.counts.Counts.{Counts}
+use Rattle.mic_clock.specs.declared.end.End.{End}
+use Rattle.mic_clock.specs.declared.end.End.TheVariants as ends
+use Rattle.mic_clock.specs.Meaning.{Meaning}
+use Rattle.mic_clock.specs.Run.{MicroRun, number_of, turns}
+use Rattle.mic_clock.specs.View.{BoardView}
+use Rattle.mic_clock.specs.Board.{ShowsRun, ShowsAs, IsLedTo, IsTurned, RunIsCutByWrite, NoFault, EndsUncounted}
+use Rattle.mic_work.specs.Outside.{GotFront}
+use Rattle.mic_debugger.specs.declared.plan.Plan.{Plan}
+use Rattle.mic_debugger.specs.declared.plan.Plan.TheVariants as plans
+use Rattle.mic_debugger.specs.declared.until.Until.{Until}
+use Rattle.mic_debugger.specs.Book.{Book}
+use Rattle.mic_debugger.specs.Clocking.{after, comes, counted, passed, printed, turn_lines}
+use Rattle.mic_debugger.specs.Obeys.{IsBrokenIn, IsSaid, IsSaidInPart, Obeys}
+use Rattle.mic_debugger.specs.Session.{IsBroken, IsFrontOf, IsUnderway, Prints, text_between}
+use Rattle.mic_debugger.specs.View.{SessionView}
+use Rattle.mic_debugger.proofs.Flushing.{led_on}
+use Rattle.mic_debugger.proofs.Putting.{puts_first, puts_passed, puts_then}
+use Rattle.mic_debugger.proofs.Uncounted.{uncounted}
+use Rattle.mic_debugger.proofs.Underway.{after-suc, going_more, underway_more}
+
+-- ---- ends
+
+-- a board that came to no fault
+pub no_fault : (old new : Option End) → (old ≡ None → new ≢ Some ends.ReadFault) → (old ≡ None → new ≢ Some ends.WriteFault) → NoFault old new
+no_fault None None read write = tt
+no_fault None (Some ends.Halt) read write = tt
+no_fault None (Some ends.Err) read write = tt
+no_fault None (Some ends.Bound) read write = tt
+no_fault None (Some ends.StackLimit) read write = tt
+no_fault None (Some ends.ReadFault) read write = absurd (read refl refl)
+no_fault None (Some ends.WriteFault) read write = absurd (write refl refl)
+no_fault None (Some (ends.OutOfMap at)) read write = tt
+no_fault None (Some ends.Adrift) read write = tt
+no_fault (Some e) new read write = tt
+
+write_or_not : (e : Option End) → (e ≡ Some ends.WriteFault) ⊎ (e ≢ Some ends.WriteFault)
+write_or_not None = inr (λ p. cc)
+write_or_not (Some ends.Halt) = inr (λ p. cc)
+write_or_not (Some ends.Err) = inr (λ p. cc)
+write_or_not (Some ends.Bound) = inr (λ p. cc)
+write_or_not (Some ends.StackLimit) = inr (λ p. cc)
+write_or_not (Some ends.ReadFault) = inr (λ p. cc)
+write_or_not (Some ends.WriteFault) = inl refl
+write_or_not (Some (ends.OutOfMap at)) = inr (λ p. cc)
+write_or_not (Some ends.Adrift) = inr (λ p. cc)
+
+one_at_most : (breaks : List ℕ) (u : Until) (c : Counts) (memory : List ℕ) (e : Option End) → counted breaks u c memory e ≤ 1
+one_at_most breaks u c memory (Some e) = omega arith
+one_at_most breaks u c memory None = by (comes breaks u c memory)
+  where
+    by : (b : Bool) → number_of b ≤ 1
+    by true = omega arith
+    by false = omega arith
+
+-- ---- fronts
+
+-- what a sink holds that shows a run is a front of what was given
+pub front_given : (held : Option (List ℕ)) (kept given : List ℕ) → Given held kept given → IsFrontOf held given
+front_given None kept given told = tt
+front_given (Some h) kept given told = (kept, told)
+
+front_shown : (left held : Option (List ℕ)) {M State : Type 0} (state : M → State) (board : BoardView M) (r : MicroRun State) → ShowsRun state left held board r → IsFrontOf held r.world.given
+front_shown left held state board r shows = front_given held board.bus.console.kept r.world.given shows.world.given
+
+front_lost : (held held' : Option (List ℕ)) (kept kept' given : List ℕ) → IsLost held kept held' kept' → Given held kept given → IsFrontOf held' given
+front_lost None held' kept kept' given lost told = subst (λ (o : Option (List ℕ)). IsFrontOf o given) (sym lost.prefix.1) tt
+front_lost (Some h) held' kept kept' given lost told =
+    subst (λ (o : Option (List ℕ)). IsFrontOf o given) (sym lost.prefix.1)
+    (drop lost.prefix.0 kept, told ∙ ap (λ (k : List ℕ). h ++ k) (sym (take-append-drop lost.prefix.0 kept)) ∙ sym (append_assoc h (take lost.prefix.0 kept) (drop lost.prefix.0 kept)))
+
+-- a text that was put whole was put in part
+pub in_part : (said said' : Option (List ℕ)) (text : List ℕ) → Prints said text said' → GotFront said text said'
+in_part said said' text prints = puts_passed {E = ℕ} said said' said' text (Err 0) prints refl
+
+module _ {M State : Type 0} (state : M → State) (m : Meaning State) (book : Book) (words breaks : List ℕ) (bound : ℕ) (u : Until) (times : ℕ) where
+  module _ (left0 held0 : Option (List ℕ)) (board0 : BoardView M) (left held : Option (List ℕ)) (board : BoardView M) (left' held' : Option (List ℕ)) (board' : BoardView M)
+      (text : List ℕ) (w : ℕ) (program : board.store.words ≡ words) (live : board.end ≡ None) (some : 0 < w)
+      (led : IsLedTo state left0 held0 board0 left board (λ r rest. (n : ℕ) × IsUnderway state m book words breaks bound u times left held board rest text w n r))
+      (said0 said said' : Option (List ℕ)) (prints : Prints said0 text said) where
+    -- behind the turn, where a text is put
+    broken_behind : NoFault board.end board'.end → IsTurned state m left held board left' held' board' (Some bound) → GotFront said (text_between state m book breaks u board board') said' →
+        IsLedTo state left0 held0 board0 left' board' (λ r rest. (n : ℕ) × IsBroken state m book words breaks bound u times held' said0 said' n r)
+    broken_behind well turned front rest fits =
+        let c : ℕ = counted breaks u board'.counts board'.bus.words board'.end in
+        let most : c ≤ 1 = one_at_most breaks u board'.counts board'.bus.words board'.end in
+        let count : c + (w - c) ≡ w = omega arith in
+        let far = underway_more state m book words breaks bound u times left0 held0 board0 left held board left' held' board' text w program live some led (w - c) count (turned well) rest fits in (
+          far.0,
+          far.1,
+          λ r s e.
+              let at = far.2 r s e in (
+                at.0,
+                record {
+                  going = at.1.going;
+                  out = front_shown left' held' state board' _ at.1.here;
+                  err = subst (λ (t : List ℕ). GotFront said0 t said') at.1.lines (puts_then {E = ℕ} said0 said said' text (text_between state m book breaks u board board') (Err 0) prints front);
+                },
+              ),
+        )
+
+    -- in the turn, behind k turns that count no cycle
+    broken_at : (r : MicroRun State) (rest : List ℕ) (n k : ℕ) → IsUnderway state m book words breaks bound u times left held board rest text w n r → said' ≡ said →
+        IsFrontOf held' (turns m words (Some bound) k (after m book words breaks bound u n r)).world.given →
+        (turns m words (Some bound) k (after m book words breaks bound u n r)).counts.cycles ≡ (after m book words breaks bound u n r).counts.cycles →
+        (j : ℕ) × IsBroken state m book words breaks bound u times held' said0 said' j r
+    broken_at r rest n zero at silent front same = (
+      n,
+      record {
+        going = at.going;
+        out = front;
+        err = subst (λ (t : List ℕ). GotFront said0 t said') at.lines (puts_passed {E = ℕ} said0 said said' text (Err 0) prints silent);
+      },
+    )
+    broken_at r rest n (suc k) at silent front same =
+        let before = after m book words breaks bound u n r in
+        let so_far : passed m book words breaks bound u n r + w ≡ times = at.count in
+        let is : turns m words (Some bound) (suc k) before ≡ after m book words breaks bound u (suc n) r =
+        uncounted m words bound k before same ∙ sym (after-suc state m book words breaks bound u times n r) in (
+          suc n,
+          record {
+            going = going_more state m book words breaks bound u times n r at.going (at.here.its_end ∙ live) (omega arith);
+            out = subst (λ (x : MicroRun State). IsFrontOf held' x.world.given) is front;
+            err = puts_first {E = ℕ} said0 said' (printed m book words breaks bound u n r) (turn_lines m book words breaks bound u before (after m book words breaks bound u (suc n) r)) 0
+                (subst (λ (t : List ℕ). GotFront said0 t said') at.lines (puts_passed {E = ℕ} said0 said said' text (Err 0) prints silent));
+          },
+        )
+
+    broken_in : EndsUncounted board board' → board'.end ≡ Some ends.WriteFault → RunIsCutByWrite state m left held board left' held' board' (Some bound) → said' ≡ said →
+        IsLedTo state left0 held0 board0 left' board' (λ r rest. (n : ℕ) × IsBroken state m book words breaks bound u times held' said0 said' n r)
+    broken_in still ended write silent rest fits =
+        let one = write live ended rest fits in
+        let far = led one.0 one.1 in (
+          far.0,
+          far.1,
+          λ r s e.
+              let at = far.2 r s e in
+              let before = after m book words breaks bound u at.0 r in
+              let cut = one.2 before at.1.here at.1.untaken in
+              let here : turns m board.store.words (Some bound) cut.0 before ≡ turns m words (Some bound) cut.0 before =
+              ap (λ (ws : List ℕ). turns m ws (Some bound) cut.0 before) program in
+              let cycles : board'.counts.cycles ≡ before.counts.cycles =
+              (still (subst IsSome (sym ended) refl)).0 ∙ ap (λ (c : Counts). c.cycles) (sym at.1.here.counts) in
+              broken_at r one.0 at.0 cut.0 at.1 silent (subst (λ (x : MicroRun State). IsFrontOf held' x.world.given) here cut.1.here.front)
+              (ap (λ (x : MicroRun State). x.counts.cycles) (sym here) ∙ ap (λ (c : Counts). c.cycles) cut.1.here.counts ∙ cycles),
+        )
+
+    -- in a turn more
+    pub broken_more : EndsUncounted board board' → board'.end ≢ Some ends.ReadFault →
+        IsTurned state m left held board left' held' board' (Some bound) → RunIsCutByWrite state m left held board left' held' board' (Some bound) →
+        (board'.end ≢ Some ends.WriteFault → GotFront said (text_between state m book breaks u board board') said') → (board'.end ≡ Some ends.WriteFault → said' ≡ said) →
+        IsLedTo state left0 held0 board0 left' board' (λ r rest. (n : ℕ) × IsBroken state m book words breaks bound u times held' said0 said' n r)
+    broken_more still unread turned write front silent =
+        elim (write_or_not board'.end) [
+          | inl ended ↦ broken_in still ended write (silent ended)
+          | inr well ↦ broken_behind (no_fault board.end board'.end (λ _. unread) (λ _. well)) turned (front well)
+        ]
+
+-- ---- plans
+
+-- a plan that was carried out, and then the flush failed
+module _ {M State : Type 0} (state : M → State) (m : Meaning State) (book : Book) (left held said : Option (List ℕ)) (old : SessionView M) (left' held' held'' said' : Option (List ℕ)) (board' board'' : BoardView M)
+    (text : List ℕ) (prints : Prints said text said') (same : board''.bus.console.ended ≡ board'.bus.console.ended)
+    (front : (r : MicroRun State) → ShowsRun state left' held' board' r → IsFrontOf held'' r.world.given) where
+  said_broken : (plan : Plan) → IsSaid state m book left held old left' held' board' text plan → IsSaidInPart state m book left held said old left' held'' said' board'' plan
+  said_broken plan is = (
+    led_on state left held old.board left' board' board'' (λ r rest. ShowsRun state left' held' board' r × (r.world.untaken ≡ rest)) (λ r rest. IsFrontOf held'' r.world.given) same
+        (λ r rest at. front r at.0) is.0,
+    subst (λ (t : List ℕ). GotFront said t said') is.1 (in_part said said' text prints),
+  )
+
+  pub obeys_broken : (plan : Plan) → Obeys state m book left held old left' held' board' text plan → IsBrokenIn state m book left held said old left' held'' said' board'' plan
+  obeys_broken (plans.Clock u times) led =
+      led_on state left held old.board left' board' board'' _ _ same
+      (λ r rest at. (
+        at.0,
+        record {
+          going = at.1.done.going;
+          out = front _ at.1.here;
+          err = subst (λ (t : List ℕ). GotFront said t said') at.1.lines (in_part said said' text prints);
+        },
+      )) led
+  obeys_broken (plans.Refuse reply) is = said_broken (plans.Refuse reply) is
+  obeys_broken plans.Registers is = said_broken plans.Registers is
+  obeys_broken plans.Stack is = said_broken plans.Stack is
+  obeys_broken plans.Where is = said_broken plans.Where is
+  obeys_broken plans.Nothing is = said_broken plans.Nothing is
+  obeys_broken plans.Quit is = said_broken plans.Quit is
+
+-- what an Err says behind a premise holds behind one from which that follows
+pub on_err_given : {T E : Type 0} (P A B : Type 0) (r : Result T E) → (B → A) → OnErr r (A → P) → OnErr r (B → P)
+on_err_given P A B (Ok v) f h = tt
+on_err_given P A B (Err e) f h = λ x. h (f x)
+
+-- a flush leaves a front of what was given
+pub front_flushed : {M State : Type 0} (state : M → State) (held held' : Option (List ℕ)) (board board' : BoardView M) (result : Result Unit BusFault) →
+    OnOk result (ShowsAs state held board held' board' (λ r. r)) → ((left : Option (List ℕ)) → IfErr result (Stands left held board.bus left held' board'.bus)) →
+    IfErr result (λ e. e ≡ faults.WriteFault) → (left : Option (List ℕ)) (r : MicroRun State) → ShowsRun state left held board r → IsFrontOf held' r.world.given
+front_flushed state held held' board board' (Ok done) shows err is left r here = front_shown left held' state board' r (shows left r here)
+front_flushed state held held' board board' (Err e) shows err is left r here =
+    front_lost held held' board.bus.console.kept board'.bus.console.kept r.world.given ((err left).lost is) here.world.given
+
+-- what holds anyway holds behind an Err
+pub on_err_of : {T E : Type 0} (P : Type 0) (r : Result T E) → P → OnErr r P
+on_err_of P (Ok v) p = tt
+on_err_of P (Err e) p = p
