@@ -1,5 +1,5 @@
 -- How a session that is over ends its command.
-use Rattle.std.proofs.Common.{◌≡◌, ◌≢◌, ◌∙◌, ◌++◌, ℕ, List, refl, sym, subst}
+use Rattle.std.proofs.Common.{◌≡◌, ◌≢◌, ◌∙◌, ◌∷◌, ◌++◌, ℕ, List, refl, sym, subst}
 use Rattle.std.proofs.lemmas.List.{append-nil}
 use Rattle.mic_clock.specs.Meaning.{Meaning}
 use Rattle.mic_clock.specs.View.{BoardView}
@@ -39,7 +39,7 @@ module _ {M State : Type 0} (state : M → State) (m : Meaning State) where
             Left l first lines last start gone
             (told_as console.left _ _ told (λ bytes t. subst (λ (k : ℕ). lines ≡ lines_of k most_lines bytes) start.begun.memory t)) refl quiet refl says
         by _ p q (ConsoleFailed lines gone rose told) = absurd (p refl)
-        by _ p q (SinkFailed lines mid gone quiet told keeps_out keeps_err rose) = absurd (q refl)
+        by _ p q (SinkFailed lines line mid gone quiet told broken keeps_out keeps_err rose) = absurd (q refl)
 
     -- the console failed
     pub cut_by : (err' : SinkState) (status : ℕ) → step ≡ steps.ConsoleFailed → Says last.err err' (report_in state m last.session) exits.console status →
@@ -53,7 +53,7 @@ module _ {M State : Type 0} (state : M → State) (m : Meaning State) where
         by _ p (ConsoleFailed lines gone rose told) =
             Cut l first lines last start gone
             (told_as console.left _ _ told (λ bytes t. subst (λ (k : ℕ). IsCutIn k most_lines bytes lines last.console.left) start.begun.memory t)) refl rose refl says
-        by _ p (SinkFailed lines mid gone quiet told keeps_out keeps_err rose) = absurd (cc)
+        by _ p (SinkFailed lines line mid gone quiet told broken keeps_out keeps_err rose) = absurd (cc)
 
     -- a sink failed
     pub stopped_by : (status : ℕ) → step ≡ steps.SinkFailed → status ≡ exits.sink → IsDebugged state m micro program bound input console last.console out last.out err last.err status
@@ -64,7 +64,7 @@ module _ {M State : Type 0} (state : M → State) (m : Meaning State) where
         by _ p (On lines gone quiet told) = absurd (cc)
         by _ p (Over lines gone quiet told) = absurd (cc)
         by _ p (ConsoleFailed lines gone rose told) = absurd (cc)
-        by _ p (SinkFailed lines mid gone quiet told keeps_out keeps_err rose) =
-            Stopped l first lines mid start gone
-            (told_as console.left _ _ told (λ bytes t. subst (λ (k : ℕ). (behind : List (List ℕ)) × (lines_of k most_lines bytes ≡ lines ++ behind)) start.begun.memory t))
-            keeps_out keeps_err quiet rose code
+        by _ p (SinkFailed lines line mid gone quiet told broken keeps_out keeps_err rose) =
+            Stopped l first lines line mid start gone
+            (told_as console.left _ _ told (λ bytes t. subst (λ (k : ℕ). (behind : List (List ℕ)) × (lines_of k most_lines bytes ≡ lines ++ line ∷ behind)) start.begun.memory t))
+            broken keeps_out keeps_err quiet rose code

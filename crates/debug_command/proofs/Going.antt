@@ -10,14 +10,14 @@ use Rattle.mic_clock.specs.Meaning.{Meaning}
 use Rattle.mic_debugger.specs.Book.{Book, IsBook}
 use Rattle.mic_debugger.specs.Session.{Prints}
 use Rattle.mic_debugger.specs.View.{ListingView, SessionView}
-use Rattle.mic_work.specs.Outside.{SinkState, SourceState}
+use Rattle.mic_work.specs.Outside.{SinkState}
 use Rattle.debug_command.specs.declared.line.Read.{Read}
 use Rattle.debug_command.specs.declared.line.Read.TheVariants as reads
 use Rattle.debug_command.specs.declared.lines.Step.{Step}
 use Rattle.debug_command.specs.declared.lines.Step.TheVariants as steps
 use Rattle.debug_command.specs.Told.{IsCut, IsFirst, ReadsOf, behind_line, line_in}
 use Rattle.debug_command.specs.Stand.{DoesAll, Stand, StandsAt, is_quit, lines_of}
-use Rattle.debug_command.specs.Goes.{ConsoleFailed, Goes, Gone, IsCutIn, LeadsOver, On, Over, Place, SinkFailed, place, step_behind}
+use Rattle.debug_command.specs.Goes.{BreaksOff, ConsoleFailed, Goes, Gone, On, Over, Place, SinkFailed, step_behind}
 
 -- ---- what is printed
 
@@ -165,16 +165,16 @@ module _ {M State : Type 0} (state : M → State) (m : Meaning State) where
         whole = e ∙ ap (λ (x : List (List ℕ)). lines ++ x) (subst (λ (k : ℕ). lines_of k (suc n) rest ≡ more ++ lines_of k q.before (q.cut ++ q.rest)) same q.whole)
             ∙ sym (append_assoc lines more (lines_of memory q.before (q.cut ++ q.rest)));
       }))
-  go_on most n old mid new step lines gone quiet told (SinkFailed more at gone' quiet' told' out err rose) =
+  go_on most n old mid new step lines gone quiet told (SinkFailed more line at gone' quiet' told' broken out err rose) =
       let memory = old.session.listing.memory in
       let same : mid.session.listing.memory ≡ memory = ap (λ (l : ListingView). l.memory) gone.listing in
-      SinkFailed (lines ++ more) at (gone_more lines more old mid at gone gone') (quiet' ∙ quiet)
+      SinkFailed (lines ++ more) line at (gone_more lines more old mid at gone gone') (quiet' ∙ quiet)
       (then_told old.console.left mid.console.left (λ bytes rest. lines_of memory most bytes ≡ lines ++ lines_of memory (suc n) rest) _ _ told told'
       (λ bytes rest e q. (
         q.0,
-        e ∙ ap (λ (x : List (List ℕ)). lines ++ x) (subst (λ (k : ℕ). lines_of k (suc n) rest ≡ more ++ q.0) same q.1) ∙ sym (append_assoc lines more q.0),
+        e ∙ ap (λ (x : List (List ℕ)). lines ++ x) (subst (λ (k : ℕ). lines_of k (suc n) rest ≡ more ++ line ∷ q.0) same q.1) ∙ sym (append_assoc lines more (line ∷ q.0)),
       )))
-      out err (subst (λ (k : ℕ). Rose k new.out.faults ⊎ Rose old.err.faults new.err.faults) gone.out (subst (λ (k : ℕ). Rose mid.out.faults new.out.faults ⊎ Rose k new.err.faults) gone.err rose))
+      broken out err (subst (λ (k : ℕ). Rose k new.out.faults ⊎ Rose old.err.faults new.err.faults) gone.out (subst (λ (k : ℕ). Rose mid.out.faults new.out.faults ⊎ Rose k new.err.faults) gone.err rose))
 
   -- a line more
   pub goes_more : (most n : ℕ) (old mid new : Place M) (before step : Step) → before ≡ steps.On → Goes state m most (suc n) old mid before →
@@ -182,7 +182,7 @@ module _ {M State : Type 0} (state : M → State) (m : Meaning State) where
   goes_more most n old mid new before step e (On lines gone quiet told) next = go_on most n old mid new step lines gone quiet told next
   goes_more most n old mid new before step e (Over lines gone quiet told) next = absurd (cc)
   goes_more most n old mid new before step e (ConsoleFailed lines gone rose told) next = absurd (cc)
-  goes_more most n old mid new before step e (SinkFailed lines at gone quiet told out err rose) next = absurd (cc)
+  goes_more most n old mid new before step e (SinkFailed lines line at gone quiet told broken out err rose) next = absurd (cc)
 
   -- ---- one line
 
@@ -209,14 +209,23 @@ module _ {M State : Type 0} (state : M → State) (m : Meaning State) where
       }))
 
   -- a sink fails
-  pub goes_wrong : (n : ℕ) (old mid new : Place M) → Gone state m [] old mid → new.console.faults ≡ old.console.faults →
+  pub goes_wrong : (E : Type 0) (n : ℕ) (old mid new : Place M) (line : List ℕ) (read : Read) → read ≢ reads.Nothing → Gone state m [] old mid → new.console.faults ≡ old.console.faults →
+      IfSome old.console.left (λ told. ReadsOf {E = E} told line (Ok read) new.console.left) →
+      BreaksOff state m line (Some mid.input) mid.out.held mid.err.held mid.session new.out.held new.err.held →
       ((front : List ℕ) → Holds front mid.out.held → Holds front new.out.held) → ((front : List ℕ) → Holds front mid.err.held → Holds front new.err.held) →
       (Rose old.out.faults new.out.faults ⊎ Rose old.err.faults new.err.faults) → Goes state m (suc n) n old new steps.SinkFailed
-  goes_wrong n old mid new gone quiet out err rose = SinkFailed [] mid gone quiet (all old.console.left) out err rose
+  goes_wrong E n old mid new line read other gone quiet told broken out err rose =
+      SinkFailed [] line mid gone quiet (told_as old.console.left _ _ told (λ bytes q. (_, by read other bytes q))) broken out err rose
     where
-      all : (left : Option (List ℕ)) → IfSome left (λ bytes. (behind : List (List ℕ)) × (lines_of old.session.listing.memory (suc n) bytes ≡ [] ++ behind))
-      all None = tt
-      all (Some bytes) = (lines_of old.session.listing.memory (suc n) bytes, refl)
+      first_is : (bytes : List ℕ) → IsFirst bytes line new.console.left →
+          lines_of old.session.listing.memory (suc n) bytes ≡ line ∷ (if is_quit old.session.listing.memory line then [] else lines_of old.session.listing.memory n (behind_line 256 bytes))
+      first_is bytes first = lines_first old.session.listing.memory n bytes line first.some first.line_is
+
+      by : (one : Read) → one ≢ reads.Nothing → (bytes : List ℕ) → ReadsOf {E = E} bytes line (Ok one) new.console.left →
+          lines_of old.session.listing.memory (suc n) bytes ≡ line ∷ (if is_quit old.session.listing.memory line then [] else lines_of old.session.listing.memory n (behind_line 256 bytes))
+      by reads.Line well bytes first = first_is bytes first
+      by reads.Last well bytes first = first_is bytes first.0
+      by reads.Nothing well bytes none = absurd (well refl)
 
   -- a line is done
   pub goes_one : (E : Type 0) (n : ℕ) (old new : Place M) (line : List ℕ) (read : Read) (quits : Bool) → quits ≡ is_quit old.session.listing.memory line → read ≢ reads.Nothing →
@@ -261,11 +270,11 @@ module _ {M State : Type 0} (state : M → State) (m : Meaning State) where
   kept_on most n old new step e (On lines gone quiet told) = gone.kept
   kept_on most n old new step e (Over lines gone quiet told) = absurd (cc)
   kept_on most n old new step e (ConsoleFailed lines gone rose told) = absurd (cc)
-  kept_on most n old new step e (SinkFailed lines at gone quiet told out err rose) = absurd (cc)
+  kept_on most n old new step e (SinkFailed lines line at gone quiet told broken out err rose) = absurd (cc)
 
   -- where it does not, it does not matter how many lines might have followed
   pub goes_over : (most n k : ℕ) (old new : Place M) (step : Step) → (step ≢ steps.On) → Goes state m most n old new step → Goes state m most k old new step
   goes_over most n k old new step other (On lines gone quiet told) = absurd (other refl)
   goes_over most n k old new step other (Over lines gone quiet told) = Over lines gone quiet told
   goes_over most n k old new step other (ConsoleFailed lines gone rose told) = ConsoleFailed lines gone rose told
-  goes_over most n k old new step other (SinkFailed lines at gone quiet told out err rose) = SinkFailed lines at gone quiet told out err rose
+  goes_over most n k old new step other (SinkFailed lines line at gone quiet told broken out err rose) = SinkFailed lines line at gone quiet told broken out err rose

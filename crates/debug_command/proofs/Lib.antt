@@ -2,3 +2,4 @@ pub mod LineLemmas
 pub mod Standing
 pub mod Going
 pub mod Ending
+pub mod Breaking

@@ -1,7 +1,6 @@
 -- What the debugger's library says of a line, as the definition has it.
-use Rattle.std.proofs.Common.{◌≡◌, ◌≢◌, ◌∙◌, ℕ, Bool, true, false, List, [], ◌∷◌, ◌++◌, Option, Some, None, Result, Ok, Err, refl, sym, ap, subst, arith}
+use Rattle.std.proofs.Common.{◌≡◌, ◌≢◌, ◌∙◌, ℕ, Bool, true, false, List, [], ◌∷◌, Option, Some, None, Result, Ok, Err, refl, sym, ap, subst, arith}
 use Rattle.std.specs.Prelude.{OnOk, IfOk, if◌then◌else◌}
-use Rattle.std.specs.Option.{option_map}
 use Rattle.std.proofs.lemmas.List.{append-nil}
 use Rattle.mic_base.specs.Causes.{Rose}
 use Rattle.console_port.specs.Console.{Untaken}
@@ -25,16 +24,15 @@ use Rattle.mic_debugger.specs.declared.reading.CommandError.{CommandError}
 use Rattle.mic_debugger.specs.Book.{Book, IsBook}
 use Rattle.mic_debugger.specs.Clocking.{IsDone, after, printed}
 use Rattle.mic_debugger.specs.Commands.{command_of}
-use Rattle.mic_debugger.specs.Lines.{stack_text, where_line}
 use Rattle.mic_debugger.specs.Obeys.{IsSaid, Obeys, plan_in, shown_text}
 use Rattle.mic_debugger.specs.Plans.{breaks_after, clocking, is_full_for, plan_by, plan_of, reply_of, watched_after, watched_now}
 use Rattle.mic_debugger.specs.Session.{HasReadCause, Prints}
 use Rattle.mic_debugger.specs.View.{SessionView}
-use Rattle.debug_command.specs.Stand.{Carries, Does, DoesAll, Shows, Stand, StandsAt, is_quit, is_quit_in, is_quit_verb, plan_at, shown_at}
+use Rattle.debug_command.specs.Stand.{Carries, DoesAll, Shows, Stand, StandsAt, is_quit, is_quit_in, is_quit_verb, plan_at, shown_at}
 use Rattle.debug_command.specs.Goes.{LeadsOver, is_quit_reply}
 
 -- a count that stays did not rise
-no_rise : Rose 0 0 → ⊥
+pub no_rise : Rose 0 0 → ⊥
 no_rise rose = absurd (omega (arith, rose))
 
 -- a board that came to no fault
@@ -66,13 +64,13 @@ one left false a b x y = x ∙ sym y
 module _ {M State : Type 0} (state : M → State) (m : Meaning State) (book : Book) (left left' : List ℕ) (held held' : Option (List ℕ)) (v : SessionView M) (board' : BoardView M) (text : List ℕ)
     (s : Stand State) (here : StandsAt state (Some left) held v s) where
   -- a run that is shown is led on
-  leads_on : (P : MicroRun State → List ℕ → Type 0) → IsLedTo state (Some left) held v.board (Some left') board' P → (rest : List ℕ) × P s.run rest
+  pub leads_on : (P : MicroRun State → List ℕ → Type 0) → IsLedTo state (Some left) held v.board (Some left') board' P → (rest : List ℕ) × P s.run rest
   leads_on P led =
       let rest = untaken_of left' board'.bus.console.ended in
       let far = led rest (told left' board'.bus.console.ended) in
       (rest, far.2 s.run here.run (one left v.board.bus.console.ended s.run.world.untaken far.0 here.run.world.untaken far.1))
 
-  shown_same : (plan : Plan) → shown_text state m book v plan ≡ shown_at m book v.board.store.words v.listing.memory v.bound s plan
+  pub shown_same : (plan : Plan) → shown_text state m book v plan ≡ shown_at m book v.board.store.words v.listing.memory v.bound s plan
   shown_same (plans.Clock u times) = refl
   shown_same (plans.Refuse reply) = refl
   shown_same plans.Registers = rw here.run.its_state refl
@@ -110,7 +108,7 @@ module _ {M State : Type 0} (state : M → State) (m : Meaning State) (book : Bo
   carried plans.Nothing said = showed plans.Nothing said
   carried plans.Quit said = showed plans.Quit said
 
-  same_plan : (line : List ℕ) → plan_in v line ≡ plan_at m book v.board.store.words v.listing.memory v.bound s line
+  pub same_plan : (line : List ℕ) → plan_in v line ≡ plan_at m book v.board.store.words v.listing.memory v.bound s line
   same_plan line =
       λ i. plan_of (sym here.run.its_end i) (sym here.breaks i) (sym here.watched i) (sym here.run.world.words i) (command_of v.listing.memory line)
 

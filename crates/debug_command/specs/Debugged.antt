@@ -1,5 +1,5 @@
 -- How debugging an accepted program ends: what the lines of the console print, and the report; or less, where a fault stopped it.
-use Rattle.std.specs.Prelude.{◌≡◌, ◌⊎◌, ℕ, List, [], ◌++◌, Option, Some, None, IfSome}
+use Rattle.std.specs.Prelude.{◌≡◌, ◌⊎◌, ℕ, List, [], ◌∷◌, ◌++◌, Some, None, IfSome}
 use Rattle.mic_base.specs.Causes.{Rose}
 use Rattle.mic_base.specs.Streams.{Holds}
 use Rattle.mic_clock.specs.Meaning.{Meaning}
@@ -13,7 +13,7 @@ use Rattle.mic_work.specs.Outside.{Says, SinkState, SourceState}
 use Rattle.run_texts.specs.Report.{left_report}
 use Rattle.board_commands.specs.Traced.{IsFirst}
 use Rattle.debug_command.specs.Stand.{lines_of, most_lines}
-use Rattle.debug_command.specs.Goes.{Gone, IsCutIn, Place, place}
+use Rattle.debug_command.specs.Goes.{BreaksOff, Gone, IsCutIn, Place, place}
 
 -- what a session has before its first line
 pub record IsBegun {M : Type 0} (micro : Program) (l : Loaded) (program : VerifiedView) (bound : ℕ) (v : SessionView M) : Type 0 where
@@ -51,10 +51,11 @@ module _ {M State : Type 0} (state : M → State) (m : Meaning State) where
         IfSome console.left (λ bytes. IsCutIn program.map.stack_end most_lines bytes lines console'.left) →
         console' ≡ last.console → Rose console.faults console'.faults → out' ≡ last.out → Says last.err err' (report_in last.session) exits.console status →
         IsDebugged micro program bound input console console' out out' err err' status
-    -- `out` or `err` failed: both hold all that they held behind the whole lines before that, and then maybe more
-    Stopped : (l : Loaded) (first : SessionView M) (lines : List (List ℕ)) (mid : Place M) →
+    -- `out` or `err` failed in the line behind these: both hold all that they held before it, and then fronts of what that line gives and prints
+    Stopped : (l : Loaded) (first : SessionView M) (lines : List (List ℕ)) (line : List ℕ) (mid : Place M) →
         IsStart micro l program bound first → Gone state m lines (place first console input out err) mid →
-        IfSome console.left (λ bytes. (behind : List (List ℕ)) × (lines_of program.map.stack_end most_lines bytes ≡ lines ++ behind)) →
+        IfSome console.left (λ bytes. (behind : List (List ℕ)) × (lines_of program.map.stack_end most_lines bytes ≡ lines ++ line ∷ behind)) →
+        BreaksOff state m line (Some mid.input) mid.out.held mid.err.held mid.session out'.held err'.held →
         ((front : List ℕ) → Holds front mid.out.held → Holds front out'.held) → ((front : List ℕ) → Holds front mid.err.held → Holds front err'.held) →
         console'.faults ≡ console.faults → (Rose out.faults out'.faults ⊎ Rose err.faults err'.faults) → status ≡ exits.sink →
         IsDebugged micro program bound input console console' out out' err err' status

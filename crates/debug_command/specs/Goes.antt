@@ -1,5 +1,5 @@
 -- How a session goes on line by line, between the console, the input and the two sinks.
-use Rattle.std.specs.Prelude.{◌≡◌, ◌⊎◌, ◌<◌, ◌-◌, ℕ, Bool, true, false, List, [], ◌++◌, length, Option, Some, None, IfSome}
+use Rattle.std.specs.Prelude.{◌≡◌, ◌⊎◌, ◌<◌, ◌-◌, ℕ, Bool, true, false, List, [], ◌∷◌, ◌++◌, length, Option, Some, IfSome}
 use Rattle.mic_base.specs.Causes.{Rose}
 use Rattle.mic_base.specs.Streams.{Holds}
 use Rattle.mic_clock.specs.Meaning.{Meaning}
@@ -14,7 +14,7 @@ use Rattle.debug_command.specs.declared.line.Read.TheVariants as reads
 use Rattle.debug_command.specs.declared.lines.Step.{Step}
 use Rattle.debug_command.specs.declared.lines.Step.TheVariants as steps
 use Rattle.debug_command.specs.Told.{line_in}
-use Rattle.debug_command.specs.Stand.{DoesAll, Stand, StandsAt, lines_of}
+use Rattle.debug_command.specs.Stand.{DoesAll, IsBrokenOff, Stand, StandsAt, lines_of}
 
 -- a session, and what it stands between
 pub record Place (M : Type 0) : Type 0 where
@@ -61,6 +61,12 @@ module _ {M State : Type 0} (state : M → State) (m : Meaning State) where
       ((s : Stand State) → StandsAt state left held v s →
       (s' : Stand State) × DoesAll m book v.board.store.words v.listing.memory v.bound lines s text s' × StandsAt state left' held' v' s')
 
+  -- a failing sink breaks a line off: so it does for each run that the session shows
+  abbrev pub BreaksOff : List ℕ → Option (List ℕ) → Option (List ℕ) → Option (List ℕ) → SessionView M → Option (List ℕ) → Option (List ℕ) → Type 0
+  BreaksOff line left held said v held' said' =
+      (book : Book) → IsBook v.listing.program v.listing.placement v.listing.image book →
+      (s : Stand State) → StandsAt state left held v s → IsBrokenOff m book v.board.store.words v.listing.memory v.bound line s held' said said'
+
   -- these lines were done whole: no sink failed, and nothing waits for `out`
   pub record Gone (lines : List (List ℕ)) (old new : Place M) : Type 0 where
     pub led : LeadsOver lines (Some old.input) old.out.held old.err.held old.session (Some new.input) new.out.held new.err.held new.session
@@ -81,7 +87,8 @@ module _ {M State : Type 0} (state : M → State) (m : Meaning State) where
     ConsoleFailed : (lines : List (List ℕ)) → Gone lines old new → Rose old.console.faults new.console.faults →
         IfSome old.console.left (λ bytes. IsCutIn old.session.listing.memory most bytes lines new.console.left) → Goes most more old new steps.ConsoleFailed
     -- in the line behind these
-    SinkFailed : (lines : List (List ℕ)) (mid : Place M) → Gone lines old mid → new.console.faults ≡ old.console.faults →
-        IfSome old.console.left (λ bytes. (behind : List (List ℕ)) × (lines_of old.session.listing.memory most bytes ≡ lines ++ behind)) →
+    SinkFailed : (lines : List (List ℕ)) (line : List ℕ) (mid : Place M) → Gone lines old mid → new.console.faults ≡ old.console.faults →
+        IfSome old.console.left (λ bytes. (behind : List (List ℕ)) × (lines_of old.session.listing.memory most bytes ≡ lines ++ line ∷ behind)) →
+        BreaksOff line (Some mid.input) mid.out.held mid.err.held mid.session new.out.held new.err.held →
         ((front : List ℕ) → Holds front mid.out.held → Holds front new.out.held) → ((front : List ℕ) → Holds front mid.err.held → Holds front new.err.held) →
         (Rose old.out.faults new.out.faults ⊎ Rose old.err.faults new.err.faults) → Goes most more old new steps.SinkFailed

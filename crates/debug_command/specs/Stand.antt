@@ -1,6 +1,7 @@
 -- Where a session stands, and how its lines lead it on: the definition of debugging.
 use Rattle.std.specs.Prelude.{◌≡◌, ℕ, zero, suc, Bool, true, false, if◌then◌else◌, List, [], ◌∷◌, ◌++◌, Option, Some, None, Result, Ok, Err, codes}
-use Rattle.mic_clock.specs.Meaning.{Meaning}
+use Rattle.console_port.specs.World.{World}
+use Rattle.mic_clock.specs.Meaning.{Meaning, Done}
 use Rattle.mic_clock.specs.Run.{MicroRun}
 use Rattle.mic_clock.specs.State.{state_line}
 use Rattle.mic_clock.specs.Board.{ShowsRun}
@@ -11,11 +12,13 @@ use Rattle.mic_debugger.specs.declared.reading.CommandError.{CommandError}
 use Rattle.mic_debugger.specs.declared.table.Verb.{Verb}
 use Rattle.mic_debugger.specs.declared.table.Verb.TheVariants as verbs
 use Rattle.mic_debugger.specs.Book.{Book}
-use Rattle.mic_debugger.specs.Clocking.{IsDone, after, printed}
+use Rattle.mic_debugger.specs.Clocking.{IsDone, IsGoing, after, printed}
 use Rattle.mic_debugger.specs.Commands.{command_of}
 use Rattle.mic_debugger.specs.Lines.{stack_text, where_line}
 use Rattle.mic_debugger.specs.Plans.{breaks_after, plan_of, refusal_text, watched_after}
+use Rattle.mic_debugger.specs.Session.{IsFrontOf}
 use Rattle.mic_debugger.specs.View.{SessionView}
+use Rattle.mic_work.specs.Outside.{GotFront}
 use Rattle.debug_command.specs.Told.{behind_line, line_in}
 
 -- a clocked run, the breakpoints and the watched word
@@ -50,6 +53,10 @@ lines_of memory (suc n) (b ∷ bytes) =
 -- the most lines of a session
 abbrev pub most_lines : ℕ
 most_lines = 65536
+
+-- a machine that only adds to what it has given
+abbrev pub OnlyGives : {State : Type 0} → Meaning State → Type 0
+OnlyGives {State} m = (word : ℕ) (s s' : State) (w w' : World) → m.step word s w ≡ Done s' w' → (more : List ℕ) × (w'.given ≡ w.given ++ more)
 
 -- ---- how they lead a session on, over the words of a control store, a memory of so many words, and a bound
 
@@ -87,6 +94,27 @@ module _ {State : Type 0} (m : Meaning State) (book : Book) (words : List ℕ) (
     pub carries : Carries (plan_at s line) s text s'.run
     pub breaks : s'.breaks ≡ breaks_after s.breaks (command_of memory line)
     pub watched : s'.watched ≡ watched_after s.watched (command_of memory line)
+
+  -- a plan has come to this run and has printed this text, at a moment of its way
+  abbrev pub Begins : Plan → Stand State → List ℕ → MicroRun State → Type 0
+  Begins (plans.Clock u times) s text run =
+      (n : ℕ) × IsGoing m book words s.breaks bound u times n s.run × (run ≡ after m book words s.breaks bound u n s.run) × (text ≡ printed m book words s.breaks bound u n s.run)
+  Begins (plans.Refuse reply) s text run = Shows s (plans.Refuse reply) text run
+  Begins plans.Registers s text run = Shows s plans.Registers text run
+  Begins plans.Stack s text run = Shows s plans.Stack text run
+  Begins plans.Where s text run = Shows s plans.Where text run
+  Begins plans.Nothing s text run = Shows s plans.Nothing text run
+  Begins plans.Quit s text run = Shows s plans.Quit text run
+
+  -- A failing sink broke a line off at a moment: `out` holds a front of what was given by then, and `err` got a front of what was printed. So they are fronts too of what the line gives and prints where it is done whole.
+  pub record IsBrokenOff (line : List ℕ) (s : Stand State) (held said said' : Option (List ℕ)) : Type 0 where
+    pub run : MicroRun State
+    pub text : List ℕ
+    pub begun : Begins (plan_at s line) s text run
+    pub out : IsFrontOf held run.world.given
+    pub err : GotFront said text said'
+    pub whole_out : OnlyGives m → (whole : List ℕ) (s' : Stand State) → Does line s whole s' → IsFrontOf held s'.run.world.given
+    pub whole_err : (whole : List ℕ) (s' : Stand State) → Does line s whole s' → GotFront said whole said'
 
   -- lines one after the other
   abbrev pub DoesAll : List (List ℕ) → Stand State → List ℕ → Stand State → Type 0

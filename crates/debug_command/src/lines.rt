@@ -5,7 +5,7 @@ ghost use Rattle.mic_base.specs.Causes.{HasCause, Rose};
 ghost use Rattle.mic_base.specs.Plain.{plain_left};
 ghost use Rattle.mic_base.specs.Streams.{Holds};
 ghost use Rattle.debug_command.specs.Stand.{is_quit, most_lines};
-ghost use Rattle.debug_command.specs.Goes.{Goes, LeadsOver, is_quit_reply, place, step_behind};
+ghost use Rattle.debug_command.specs.Goes.{BreaksOff, Goes, LeadsOver, is_quit_reply, place, step_behind};
 ghost use Rattle.mic_work.specs.Outside.{sink_of, source_of};
 
 use crate::line::{Read, read_line};
@@ -50,6 +50,8 @@ fn answer_line<M: Clocked, K: Sink, E: Sink>(
     ensures quits { IfOk result (λ reply. is_quit_reply reply ≡ is_quit session.old.listing.memory line.now) }
     ensures led { OnOk result (LeadsOver M.state M.meaning (line.now ∷ []) (Some (plain_left input.old)) (K.held out.old) (E.held err.old) session.old
         (Some (plain_left input.new)) (K.held out.new) (E.held err.new) session.new) }
+    ensures broken { OnErr result (BreaksOff M.state M.meaning line.now (Some (plain_left input.old)) (K.held out.old) (E.held err.old) session.old
+        (K.held out.new) (E.held err.new)) }
     ensures kept { OnOk result (session.new.board.bus.console.kept ≡ []) }
     ensures same { (session.new.listing ≡ session.old.listing) × (session.new.bound ≡ session.old.bound) × (session.new.board.store ≡ session.old.board.store) }
     ensures keeps_out { (front : List ℕ) → Holds front (K.held out.old) → Holds front (K.held out.new) }

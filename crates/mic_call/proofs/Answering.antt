@@ -274,7 +274,7 @@ module _ (asks : Option Asked) (old new : Outside) (status : ℕ) where
   debugged state m micro program bound input (debugging.NoRoom console out says) = on_err _ _ says (NoMemory (record { console = console; out = out }))
   debugged state m micro program bound input (debugging.Left l first lines last start gone all console quiet out says) = behind_err last.err _ _ gone.err says Done
   debugged state m micro program bound input (debugging.Cut l first lines last start gone cut console rose out says) = behind_err last.err _ _ gone.err says (ConsoleFailed rose)
-  debugged state m micro program bound input (debugging.Stopped l first lines mid start gone front out err quiet rose is) = SinkFailed rose is
+  debugged state m micro program bound input (debugging.Stopped l first lines line mid start gone front broken out err quiet rose is) = SinkFailed rose is
 
   -- `reference`
   reported : (program : VerifiedView) (machine : Machine) (bound : ℕ) (r : PlainReport) → Runs asks →

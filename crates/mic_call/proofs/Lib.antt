@@ -3,3 +3,4 @@ pub mod Asking
 pub mod Agreeing
 pub mod Machines
 pub mod Answering
+pub mod Giving

@@ -9,6 +9,7 @@ ghost use Rattle.mic2_datapath.specs.View.{micro_of as micro_of2};
 ghost use Rattle.shipped_program.specs.Shipped.{HasShipped};
 ghost use Rattle.ijvm_paths.specs.Accepted.{VerifiedView};
 ghost use Rattle.program_commands.specs.Reference.{IsRun};
+ghost use Rattle.debug_command.specs.Stand.{OnlyGives};
 ghost use Rattle.mic_work.specs.Status as exits;
 ghost use Rattle.mic_call.specs.Outside.{Streams};
 ghost use Rattle.mic_call.specs.RunEnds.{ClockedEnd};
@@ -41,3 +42,9 @@ pub fn run_agrees_on_both_machines()
 {
     interpreters_agree::<Mic1Interpreter, Mic2Interpreter>();
 }
+
+/// No step of Mic-1 or of Mic-2 takes back what was given. So where a sink fails in a session, standard output holds a front of what its line gives, done whole.
+pub fn machines_only_give()
+    ensures mic1 { OnlyGives mic1_meaning }
+    ensures mic2 { OnlyGives mic2_meaning }
+{}

@@ -1,4 +1,4 @@
-use Rattle.std.proofs.Common.{◌≡◌, ◌≢◌, ℕ, List, refl, subst}
+use Rattle.std.proofs.Common.{◌≢◌, ℕ, List, refl, subst}
 use Rattle.mic_base.specs.Plain.{plain_left}
 use Rattle.mic_clock.specs.View.{BoardView}
 use Rattle.mic_debugger.specs.View.{SessionView}

@@ -1,10 +1,8 @@
-use Rattle.std.proofs.Common.{◌≡◌, ◌<◌, ◌≤◌, Ok, Result, subst, sym, ap, ◌∙◌, refl, length, ℕ, arith, rules}
-use Rattle.std.specs.Prelude.{◌==◌, if◌then◌else◌}
-use Rattle.mic_base.specs.Streams.{Takes}
+use Rattle.std.proofs.Common.{Ok, subst, sym, ◌∙◌, rules}
 use Rattle.mic_base.specs.declared.source.SourceFailed.{SourceFailed}
 use Rattle.debug_command.specs.declared.line.Read.{Read}
 use Rattle.debug_command.specs.Told.{Reads}
-use Rattle.debug_command.proofs.LineLemmas.{read_at_end, read_cut, read_ended, read_full, reading_more, reading_start}
+use Rattle.debug_command.proofs.LineLemmas.{read_at_end, read_ended, read_full, reading_more}
 use Rattle.debug_command.proofs.line.read_line.Goals as goal
 
 pub returns-then-byte-eq10-clause-reads : goal.returns-then-byte-eq10-clause-reads

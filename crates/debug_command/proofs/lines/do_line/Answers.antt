@@ -1,9 +1,8 @@
-use Rattle.std.proofs.Common.{◌≡◌, ◌≢◌, [], Ok, refl, rules}
+use Rattle.std.proofs.Common.{◌≡◌, ◌≢◌, refl, rules}
 use Rattle.mic_base.specs.Plain.{plain_left}
 use Rattle.mic_base.specs.declared.source.SourceFailed.{SourceFailed}
 use Rattle.mic_work.specs.Outside.{sink_of, source_of}
 use Rattle.debug_command.specs.declared.line.Read.TheVariants as reads
-use Rattle.debug_command.specs.Told.{Reads}
 use Rattle.debug_command.specs.Goes.{Place, is_quit_reply, place}
 use Rattle.debug_command.proofs.Going.{goes_cut, goes_nowhere, goes_one, goes_wrong, gone_none}
 use Rattle.debug_command.proofs.lines.do_line.Goals as goal
@@ -64,5 +63,7 @@ returns-in-Err-answer_line g c =
     let new : Place g.row.M.Denot =
     place c.answer_line.new.session (source_of g.S.Source.left g.S.Source.faults c.read_line.new.console) (plain_left c.answer_line.new.input)
     (sink_of g.K.Sink.held g.K.Sink.passed g.K.Sink.faults c.answer_line.new.out) (sink_of g.E.Sink.held g.E.Sink.passed g.E.Sink.faults c.answer_line.new.err) in
-    λ n. goes_wrong state m n old old new (gone_none state m old old refl refl refl refl c.requires) c.in-Ok.ensures.cause.quiet
+    let other : c.in-Ok.read ≢ reads.Nothing = search rules in
+    λ n. goes_wrong state m SourceFailed n old old new c.read_line.new.line.items c.in-Ok.read other (gone_none state m old old refl refl refl refl c.requires)
+    c.in-Ok.ensures.cause.quiet c.in-Ok.ensures.reads (rw c.as_slice.ensures.value at c.in-Err-answer_line.ensures.broken)
     c.answer_line.ensures.keeps_out c.answer_line.ensures.keeps_err c.in-Err-answer_line.ensures.rose
