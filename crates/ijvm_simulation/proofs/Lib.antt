@@ -11,3 +11,4 @@ pub mod Carried
 pub mod Boards
 pub mod Alike
 pub mod Ending
+pub mod Stalls

@@ -8,3 +8,4 @@ pub mod Law
 pub mod Headline
 pub mod Agreement
 pub mod Starts
+pub mod Stalls

@@ -18,4 +18,3 @@ pub mod Calls
 pub mod Output
 pub mod Groups
 pub mod Store
-pub mod Waits

@@ -15,8 +15,8 @@ ghost use Rattle.mic2_interpreter.specs.Stands.{Stands};
 ghost use Rattle.mic2_interpreter.specs.Stalls.{TakesWithStalls, BootsWithStall, HasStalled};
 ghost use Rattle.mic2_interpreter.specs.Groups.{IsOfOperands, IsOfLocals, IsOfConsole, IsJump, IsCall};
 
-use ijvm_paths::accepted_images_keep_sound;
-use ijvm_run::runs_keep_words;
+use crate::interpreter::Mic2Interpreter;
+use ijvm_simulation::stalls_add_up;
 
 /// The instructions on the operands alone.
 pub(crate) fn operands_law()
@@ -73,7 +73,5 @@ pub fn runs_stall_at_calls()
         (turns mic2_meaning store (Some bound) at.cycles (reset_run mic2_meaning 0x002 v.main_locals (record { words = o.words; untaken = input; given = o.given }))).counts.stalls ≡ stalls }
 {
     stalls_law();
-    ends_law();
-    accepted_images_keep_sound();
-    runs_keep_words();
+    stalls_add_up::<Mic2Interpreter>();
 }
