@@ -4,6 +4,7 @@ pub mod Instruction
 pub mod Whole
 pub mod Worlds
 pub mod Boots
+pub mod Numbers
 pub mod Decoded
 pub mod Cases
 pub mod Next

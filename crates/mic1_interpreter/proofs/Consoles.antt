@@ -1,5 +1,5 @@
 -- IN and OUT.
-use Rattle.std.proofs.Common.{◌≡◌, ℕ, ◌+◌, ◌%◌, ◌<◌, ◌≤◌, Some, None, Option, List, [], ◌∷◌, ◌++◌, length, drop, refl, arith, ◌∙◌, ap, ap₂, append_assoc}
+use Rattle.std.proofs.Common.{◌≡◌, ℕ, ◌+◌, ◌%◌, ◌<◌, Some, None, Option, List, [], ◌∷◌, ◌++◌, length, drop, refl, arith, ◌∙◌, ap, ap₂, append_assoc}
 use Rattle.std.specs.Prelude.{slice_set}
 use Rattle.machine_words.specs.declared.machine.Machine.TheVariants.{Mic1}
 use Rattle.machine_words.specs.Arithmetic.{next, before}

@@ -1,6 +1,7 @@
 -- What a write leaves of the frames in memory.
 use Rattle.std.proofs.Common.{true, refl, subst, ◌≡◌, ◌≢◌, ℕ, zero, suc, ◌+◌, ◌<◌, ◌≤◌, ◌⊎◌, inl, inr, Option, Some, None, List, [], ◌∷◌, length, arith, sym, ap, ◌∙◌, get_or-set_same, get_or-set_other, length-set}
 use Rattle.std.specs.Prelude.{slice_index, slice_set, slice_get}
+use Rattle.std.proofs.lemmas.Option.{slice_get_within}
 use Rattle.ijvm_run.specs.Step.{is_own}
 use Rattle.ijvm_run.specs.Frames.{Frame, operands_at, end_of, base, kept_words}
 use Rattle.ijvm_simulation.specs.Stands.{OperandsAt, IsLinked, FrameStands, FramesStand, IsMemory, caller_lv}
@@ -24,15 +25,10 @@ linked_below words lv many caller a v (Some r) le h = (
   read_other words a (lv + many + 1) v (inl (omega arith)) ∙ h.2,
 )
 
-pub get_below : {A : Type 0} (xs : List A) (k : ℕ) (x : A) → slice_get xs k ≡ Some x → k < length xs
-get_below [] k x h = absurd (cc)
-get_below (y ∷ ys) zero x h = omega arith
-get_below (y ∷ ys) (suc k) x h = let lt : k < length ys = get_below ys k x h in omega arith
-
 -- a write behind a frame
 pub frame_below : (words : List ℕ) (lv caller a v : ℕ) (f : Frame) → end_of lv f ≤ a → FrameStands words lv caller f → FrameStands (slice_set words a v) lv caller f
 frame_below words lv caller a v f le h = record {
-  locals = λ k u e. let lt : k < length f.locals = get_below f.locals k (Some u) e in
+  locals = λ k u e. let lt : k < length f.locals = slice_get_within f.locals k (Some u) e in
       read_other words a (lv + k) v (inl (omega arith)) ∙ h.locals k u e;
   operands = operands_apart words (operands_at lv f) a v f.operands (inr le) h.operands;
   linked = linked_below words lv (length f.locals) caller a v f.back (omega arith) h.linked;

@@ -1,12 +1,10 @@
 -- Instructions on the operands alone.
-use Rattle.std.proofs.Common.{◌≡◌, ◌≢◌, ℕ, suc, ◌+◌, ◌-◌, ◌<◌, ◌≤◌, Some, None, List, [], ◌∷◌, ◌++◌, length, refl, arith, sym, ◌∙◌, ap, ap₂, add_comm, length-set, inl, inr}
-use Rattle.std.specs.Prelude.{slice_index, slice_set, nat_lt, if◌then◌else◌, pos, negsuc, Bool, true, false, bit_and, bit_or, Option}
-use Rattle.std.specs.Int.{w8, cast_signed}
-use Rattle.std.proofs.lemmas.Bool.Decides.{nat_tests}
+use Rattle.std.proofs.Common.{◌≡◌, ◌≢◌, ℕ, suc, ◌+◌, ◌<◌, ◌≤◌, Some, None, List, [], ◌∷◌, ◌++◌, length, refl, arith, sym, ◌∙◌, ap, ap₂, length-set, inl, inr}
+use Rattle.std.specs.Prelude.{slice_set, bit_and, bit_or, Option}
 use Rattle.std.proofs.lemmas.Nat.{and_comm, or_comm}
 use Rattle.std.proofs.lemmas.List.{set_comm}
 use Rattle.machine_words.specs.declared.machine.Machine.TheVariants.{Mic1}
-use Rattle.machine_words.specs.Arithmetic.{wrap, plus, minus, next, before, signed_byte}
+use Rattle.machine_words.specs.Arithmetic.{plus, minus, next, before, signed_byte}
 use Rattle.console_port.specs.World.{World, Refusal, StackLimit, read_value, byte_in, write_refusal}
 use Rattle.ijvm_instr.specs.declared.instr.Instr.{Instr}
 use Rattle.ijvm_instr.specs.declared.instr.Instr.TheVariants.{Nop, Bipush, Pop, Dup, Swap, Iadd, Isub, Iand, Ior}
@@ -26,8 +24,7 @@ use Rattle.ijvm_simulation.specs.Law.{Moves, Overruns, Takes}
 use Rattle.mic1_interpreter.specs.Stands.{Stands}
 use Rattle.mic1_interpreter.specs.Groups.{IsOfOperands}
 use Rattle.mic1_interpreter.proofs.Shipped.{HasStatements}
-use Rattle.mic1_interpreter.proofs.Accesses.{IsMap, Access, access, next_is, write_limit, given_ok, plus_comm, byte_bound}
-use Rattle.mic1_interpreter.proofs.Numbers.{byte_word}
+use Rattle.mic1_interpreter.proofs.Accesses.{IsMap, Access, access, next_is, write_limit, given_ok, plus_comm}
 use Rattle.mic1_interpreter.proofs.Keeps.{pushed, set_same, memory_set, frames_at, memory_at}
 use Rattle.mic1_interpreter.proofs.Facts.{with_operands, place, base_above, room, Top, top, Two, two, pushes, drops}
 use Rattle.mic1_interpreter.proofs.Boundaries.{Comes, comes, Counts, counts, at_boundary, map_of, moves, overruns}
@@ -201,7 +198,7 @@ module _ (program : List ℕ) (has : HasStatements program) (o : Origin) (v : Ve
       Moves mic1_meaning program (Stands o) o.given q (cost v.image Mic1 i s) to
   goes s to q Nop is fine n h went = moves program o v s to _ q Nop 1 h refl (omega arith) went (nop program has o map s q.state q.world q.stalls h (inside s Nop n) n.reads)
   goes s to q (Bipush b) is fine n h went =
-      let word : signed_byte (byte_in o.words (s.at + 1)) ≡ word_of b = sym (byte_word (byte_in o.words (s.at + 1)) (byte_bound o.words (s.at + 1))) ∙ ap word_of (sym n.reads.1) in
+      let word : signed_byte (byte_in o.words (s.at + 1)) ≡ word_of b = sym n.reads.1 in
       moves program o v s to _ q (Bipush b) 3 h refl (omega arith) (ap (λ (x : ℕ). push s x (s.at + 2)) word ∙ went.goes)
       (bipush program has o map s q.state q.world q.stalls h (inside s (Bipush b) n) n.reads.0 (omega (arith, went.fits, loads.long)))
   goes s to q Pop is fine n h went =

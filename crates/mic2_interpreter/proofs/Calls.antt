@@ -4,7 +4,7 @@ use Rattle.std.specs.Prelude.{slice_index, slice_set, slice_get, nat_lt, if◌th
 use Rattle.std.proofs.lemmas.Bool.Decides.{nat_tests}
 use Rattle.std.proofs.lemmas.Bool.{cases_lt, cases_Bool}
 use Rattle.std.proofs.lemmas.List.{length-replicate}
-use Rattle.std.proofs.lemmas.Option.{get_or_from_slice_get}
+use Rattle.std.proofs.lemmas.Option.{get_or_from_slice_get, slice_get_within}
 use Rattle.machine_words.specs.declared.machine.Machine.TheVariants.{Mic2}
 use Rattle.machine_words.specs.Arithmetic.{plus, minus, next}
 use Rattle.console_port.specs.World.{World, StackLimit, read_value, after_read, byte_in, write_refusal}
@@ -28,7 +28,7 @@ use Rattle.mic2_interpreter.specs.Stalls.{MovesWithStalls, TakesWithStalls, stal
 use Rattle.mic2_interpreter.specs.Groups.{IsCall}
 use Rattle.mic2_interpreter.proofs.Shipped.{HasStatements}
 use Rattle.mic2_interpreter.proofs.Accesses.{IsMap, Access, access, next_is, write_limit, plus_is, minus_is, byte_bound, given_ok}
-use Rattle.mic2_interpreter.proofs.Keeps.{get_below, set_same, read_other, frames_below, pushed, memory_set, frames_at, memory_at}
+use Rattle.mic2_interpreter.proofs.Keeps.{set_same, read_other, frames_below, pushed, memory_set, frames_at, memory_at}
 use Rattle.mic2_interpreter.proofs.Facts.{with_operands, place, base_above, Top, top}
 use Rattle.mic2_interpreter.proofs.Queue.{Beat, Goes, Waits, WaitsLate, WaitsOn}
 use Rattle.mic2_interpreter.proofs.Boundaries.{Comes, comes, steps, Counts, counts, Place, place_at, place_on, pair_at, at_boundary, map_of, moves, overruns}
@@ -82,7 +82,7 @@ dropped words b [] tail h = h
 dropped words b (p ∷ ps) tail h = dropped words b ps tail h.1
 
 locals_below : (words : List ℕ) (lv a v : ℕ) (xs : List (Option ℕ)) → lv + length xs ≤ a → LocalsAt words lv xs → LocalsAt (slice_set words a v) lv xs
-locals_below words lv a v xs le h k u e = let l : k < length xs = get_below xs k (Some u) e in read_other words a (lv + k) v (inl (omega arith)) ∙ h k u e
+locals_below words lv a v xs le h k u e = let l : k < length xs = slice_get_within xs k (Some u) e in read_other words a (lv + k) v (inl (omega arith)) ∙ h k u e
 
 locals_at_link : (words : List ℕ) (lv v : ℕ) (xs : List (Option ℕ)) → LocalsAt words lv (None ∷ xs) → LocalsAt (slice_set words lv v) lv (None ∷ xs)
 locals_at_link words lv v xs h zero u e = absurd (none_some u (some_some e))
@@ -401,7 +401,7 @@ module _ (program : List ℕ) (has : HasStatements program) (o : Origin) (v : Ve
       by_test false t is = absurd (cc)
       by_test true t is =
           let l : e + 4 < length v.image.text = grind (arith, nat_tests) in
-          let below : k < length v.image.pool = get_below v.image.pool k e named in
+          let below : k < length v.image.pool = slice_get_within v.image.pool k e named in
           subst (Found k) (same_method is)
           (record {
             small = omega (arith, loads.image.limits.pool_fits);

@@ -23,8 +23,7 @@ use Rattle.mic2_interpreter.specs.Stands.{Stands}
 use Rattle.mic2_interpreter.specs.Stalls.{MovesWithStalls, TakesWithStalls, stalls_of}
 use Rattle.mic2_interpreter.specs.Groups.{IsOfOperands}
 use Rattle.mic2_interpreter.proofs.Shipped.{HasStatements}
-use Rattle.mic2_interpreter.proofs.Accesses.{IsMap, Access, access, next_is, write_limit, given_ok, byte_bound}
-use Rattle.mic2_interpreter.proofs.Numbers.{byte_word}
+use Rattle.mic2_interpreter.proofs.Accesses.{IsMap, Access, access, next_is, write_limit, given_ok}
 use Rattle.mic2_interpreter.proofs.Keeps.{pushed, set_same, memory_set, frames_at, memory_at}
 use Rattle.mic2_interpreter.proofs.Facts.{with_operands, place, base_above, room, Top, top, Two, two, pushes, drops}
 use Rattle.mic2_interpreter.proofs.Queue.{Goes}
@@ -205,7 +204,7 @@ module _ (program : List ℕ) (has : HasStatements program) (o : Origin) (v : Ve
       MovesWithStalls program o q (cost v.image Mic2 i s) (stalls_of v.image i) to
   goes s to q Nop is fine n h went = moves program o v s to _ q Nop 0 0 0x00 h n.reads refl refl refl (omega arith) went (nop program has o map s q.state q.world q.stalls h (inside s Nop n) n.reads)
   goes s to q (Bipush b) is fine n h went =
-      let word : signed_byte (byte_in o.words (s.at + 1)) ≡ word_of b = sym (byte_word (byte_in o.words (s.at + 1)) (byte_bound o.words (s.at + 1))) ∙ ap word_of (sym n.reads.1) in
+      let word : signed_byte (byte_in o.words (s.at + 1)) ≡ word_of b = sym n.reads.1 in
       moves program o v s to _ q (Bipush b) 1 0 0x10 h n.reads.0 refl refl refl (omega arith) (ap (λ (x : ℕ). push s x (s.at + 2)) word ∙ went.goes)
       (bipush program has o map s q.state q.world q.stalls h (inside s (Bipush b) n) n.reads.0 (omega (arith, went.fits, loads.long)))
   goes s to q Pop is fine n h went =
