@@ -13,3 +13,4 @@ pub mod Boards
 pub mod Alike
 pub mod Ending
 pub mod Stalls
+pub mod Writes

@@ -1,4 +1,5 @@
 pub mod Stands
+pub mod Writes
 pub mod Passes
 pub mod Simulates
 pub mod Bytes

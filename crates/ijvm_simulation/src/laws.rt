@@ -2,6 +2,7 @@
 
 ghost use Rattle.ijvm_simulation.specs.Starts.{EndsAsDefined};
 ghost use Rattle.ijvm_simulation.specs.Stalls.{StallsAddUp};
+ghost use Rattle.ijvm_simulation.specs.Writes.{KeepFrames};
 
 use crate::interpreter::Interpreter;
 use ijvm_paths::accepted_images_keep_sound;
@@ -24,3 +25,8 @@ pub fn stalls_add_up<I: Interpreter>()
     runs_keep_words();
     I::law();
 }
+
+/// Behind the writes of a push, a store to a local and a call the frames stand in memory as the definition has them.
+pub fn writes_keep_frames()
+    ensures { KeepFrames }
+{}

@@ -15,6 +15,7 @@ use Rattle.mic1_datapath.specs.Micro.{Micro}
 use Rattle.datapath.specs.Memory.{first_refusal}
 use Rattle.mic1_datapath.specs.Mic1.{mic1_meaning}
 use Rattle.ijvm_simulation.specs.Stands.{Origin, FramesStand, IsMemory}
+use Rattle.ijvm_simulation.specs.Writes.{KeepFrames}
 use Rattle.ijvm_simulation.specs.Passes.{Moment}
 use Rattle.ijvm_simulation.specs.Outcomes.{Went, Overran, push}
 use Rattle.ijvm_simulation.specs.Verified.{Loads, Fine, IsNext}
@@ -23,11 +24,11 @@ use Rattle.mic1_interpreter.specs.Stands.{Stands}
 use Rattle.mic1_interpreter.specs.Groups.{IsOfLocals}
 use Rattle.mic1_interpreter.proofs.Shipped.{HasStatements}
 use Rattle.mic1_interpreter.proofs.Accesses.{IsMap, Access, access, next_is, write_limit, plus_is, plus_comm, pair_is, signed_pair_is, byte_kept}
-use Rattle.mic1_interpreter.proofs.Keeps.{stored, memory_set, frames_at, memory_at}
+use Rattle.mic1_interpreter.proofs.Keeps.{memory_set, frames_at, memory_at}
 use Rattle.mic1_interpreter.proofs.Facts.{with_operands, place, base_above, room, Top, top, local_at, pushes, next_top_is}
 use Rattle.mic1_interpreter.proofs.Boundaries.{Comes, comes, Counts, counts, at_boundary, map_of, moves, overruns}
 
-module _ (program : List ℕ) (has : HasStatements program) (o : Origin) (map : IsMap (length o.words)) (s : State) (m : Micro) (w : World) (k : ℕ) (h : Stands o s m w) (inside : s.at < 0x10000) where
+module _ (program : List ℕ) (has : HasStatements program) (o : Origin) (map : IsMap (length o.words)) (keep : KeepFrames) (s : State) (m : Micro) (w : World) (k : ℕ) (h : Stands o s m w) (inside : s.at < 0x10000) where
   iload : (i v : ℕ) → byte_in o.words s.at ≡ 0x15 → i ≡ byte_in o.words (s.at + 1) → slice_get s.running.locals i ≡ Some (Some v) → base (frames_of s) < length o.words →
       Comes program o 5 (record { state = m; world = w; stalls = k }) (push s v (s.at + 2))
   iload i v code index local space =
@@ -44,7 +45,7 @@ module _ (program : List ℕ) (has : HasStatements program) (o : Origin) (map : 
       let same : slice_set w.words (next m.sp) (read_value (length o.words) w.words w.untaken from) ≡ slice_set w.words (base (frames_of s)) v = ap₂ (slice_set w.words) r.is is in
       comes program has o (0x15 ∷ []) 5 m w k s _ h (assumption)
       (at_boundary o _ _ _
-      (pushes o map s m.sp m.lv m.cpp m.tos w h.holds s.running.operands _ (s.at + 2) _ _ _ _ _ s.untaken h.holds.frames space
+      (pushes o map s m.sp m.lv m.cpp m.tos w h.holds keep s.running.operands _ (s.at + 2) _ _ _ _ _ s.untaken h.holds.frames space
       refl refl r.is is same (a.untaken ∙ h.holds.untaken) (r.given _))
       c.pc2 (ap (λ (ws : List ℕ). byte_in ws (next (next m.pc))) same ∙ byte_kept _ o.words new.kept c.pc2 (omega arith)) refl refl refl refl refl)
       refl
@@ -66,7 +67,7 @@ module _ (program : List ℕ) (has : HasStatements program) (o : Origin) (map : 
       let same : slice_set w.words (next m.sp) (read_value (length o.words) w.words w.untaken from) ≡ slice_set w.words (base (frames_of s)) v = ap₂ (slice_set w.words) r.is is in
       comes program has o (0xC4 ∷ 0x115 ∷ []) 8 m w k s _ h (assumption)
       (at_boundary o _ _ _
-      (pushes o map s m.sp m.lv m.cpp m.tos w h.holds s.running.operands _ (s.at + 4) _ _ _ _ _ s.untaken h.holds.frames space
+      (pushes o map s m.sp m.lv m.cpp m.tos w h.holds keep s.running.operands _ (s.at + 4) _ _ _ _ _ s.untaken h.holds.frames space
       refl refl r.is is same (a.untaken ∙ h.holds.untaken) (r.given _))
       c.pc4 (ap (λ (ws : List ℕ). byte_in ws (next (next (next (next m.pc))))) same ∙ byte_kept _ o.words new.kept c.pc4 (omega arith)) refl refl refl refl refl)
       refl
@@ -86,7 +87,7 @@ module _ (program : List ℕ) (has : HasStatements program) (o : Origin) (map : 
       let same : slice_set w.words (next m.sp) (read_value (length o.words) w.words w.untaken from) ≡ slice_set w.words (base (frames_of s)) v = ap₂ (slice_set w.words) r.is is in
       comes program has o (0x13 ∷ []) 7 m w k s _ h (assumption)
       (at_boundary o _ _ _
-      (pushes o map s m.sp m.lv m.cpp m.tos w h.holds s.running.operands _ (s.at + 3) _ _ _ _ _ s.untaken h.holds.frames space
+      (pushes o map s m.sp m.lv m.cpp m.tos w h.holds keep s.running.operands _ (s.at + 3) _ _ _ _ _ s.untaken h.holds.frames space
       refl refl r.is is same (a.untaken ∙ h.holds.untaken) (r.given _))
       c.pc3 (ap (λ (ws : List ℕ). byte_in ws (next (next (next m.pc)))) same ∙ byte_kept _ o.words new.kept c.pc3 (omega arith)) refl refl refl refl refl)
       refl
@@ -104,7 +105,7 @@ module _ (program : List ℕ) (has : HasStatements program) (o : Origin) (map : 
       let same : slice_set w.words to m.tos ≡ ms = ap₂ (slice_set w.words) a.is t.tos_is in
       let bottom : 0x8000 ≤ base s.callers = base_above s.callers in
       let inside_words : base s.callers + i < length w.words = omega (arith, h.holds.memory.long, a.below) in
-      let frames : FramesStand ms (f ∷ s.callers) = stored w.words i y (with_operands s rest) s.callers l own inside_words t.frames in
+      let frames : FramesStand ms (f ∷ s.callers) = keep.stored w.words i y (with_operands s rest) s.callers l own inside_words t.frames in
       let new : IsMemory o.words ms = memory_set o.words w.words (base s.callers + i) y (omega arith) h.holds.memory in
       let len : length f.locals ≡ length s.running.locals = length-set s.running.locals i (Some y) in
       let down : Access (length o.words) (record w { words = ms }) (before m.sp) (place s rest - 1) = access (length o.words) (record w { words = ms }) (before m.sp) (place s rest - 1) t.down.is t.down.below in
@@ -140,7 +141,7 @@ module _ (program : List ℕ) (has : HasStatements program) (o : Origin) (map : 
       let same : slice_set w.words to m.tos ≡ ms = ap₂ (slice_set w.words) a.is t.tos_is in
       let bottom : 0x8000 ≤ base s.callers = base_above s.callers in
       let inside_words : base s.callers + i < length w.words = omega (arith, h.holds.memory.long, a.below) in
-      let frames : FramesStand ms (f ∷ s.callers) = stored w.words i y (with_operands s rest) s.callers l own inside_words t.frames in
+      let frames : FramesStand ms (f ∷ s.callers) = keep.stored w.words i y (with_operands s rest) s.callers l own inside_words t.frames in
       let new : IsMemory o.words ms = memory_set o.words w.words (base s.callers + i) y (omega arith) h.holds.memory in
       let len : length f.locals ≡ length s.running.locals = length-set s.running.locals i (Some y) in
       let down : Access (length o.words) (record w { words = ms }) (before m.sp) (place s rest - 1) = access (length o.words) (record w { words = ms }) (before m.sp) (place s rest - 1) t.down.is t.down.below in
@@ -177,7 +178,7 @@ module _ (program : List ℕ) (has : HasStatements program) (o : Origin) (map : 
       let same : slice_set w.words at (plus (read_value (length o.words) w.words w.untaken at) (signed_byte (byte_in w.words (next (next m.pc))))) ≡ ms = ap₂ (slice_set w.words) a.is is in
       let bottom : 0x8000 ≤ base s.callers = base_above s.callers in
       let inside_words : base s.callers + i < length w.words = omega (arith, h.holds.memory.long, a.below) in
-      let frames : FramesStand ms (f ∷ s.callers) = stored w.words i y s.running s.callers l own inside_words h.holds.frames in
+      let frames : FramesStand ms (f ∷ s.callers) = keep.stored w.words i y s.running s.callers l own inside_words h.holds.frames in
       let new : IsMemory o.words ms = memory_set o.words w.words (base s.callers + i) y (omega arith) h.holds.memory in
       let len : length f.locals ≡ length s.running.locals = length-set s.running.locals i (Some y) in
       comes program has o (0x84 ∷ []) 6 m w k s _ h (assumption)
@@ -212,7 +213,7 @@ module _ (program : List ℕ) (has : HasStatements program) (o : Origin) (map : 
       let same : slice_set w.words at (plus (bit_or (wrap (256 * signed_byte (byte_in w.words (next (next (next (next m.pc))))))) (byte_in w.words (next (next (next (next (next m.pc))))))) (read_value (length o.words) w.words w.untaken at)) ≡ ms = ap₂ (slice_set w.words) a.is is in
       let bottom : 0x8000 ≤ base s.callers = base_above s.callers in
       let inside_words : base s.callers + i < length w.words = omega (arith, h.holds.memory.long, a.below) in
-      let frames : FramesStand ms (f ∷ s.callers) = stored w.words i y s.running s.callers l own inside_words h.holds.frames in
+      let frames : FramesStand ms (f ∷ s.callers) = keep.stored w.words i y s.running s.callers l own inside_words h.holds.frames in
       let new : IsMemory o.words ms = memory_set o.words w.words (base s.callers + i) y (omega arith) h.holds.memory in
       let len : length f.locals ≡ length s.running.locals = length-set s.running.locals i (Some y) in
       comes program has o (0xC4 ∷ 0x184 ∷ []) 11 m w k s _ h (assumption)
@@ -231,7 +232,7 @@ module _ (program : List ℕ) (has : HasStatements program) (o : Origin) (map : 
       c.pc6 c.byte6 refl refl refl refl refl)
       refl
 
-module _ (program : List ℕ) (has : HasStatements program) (o : Origin) (v : VerifiedView) (loads : Loads v o) where
+module _ (program : List ℕ) (has : HasStatements program) (o : Origin) (v : VerifiedView) (loads : Loads v o) (keep : KeepFrames) where
   abbrev map : IsMap (length o.words)
   map = map_of v o loads
 
@@ -253,27 +254,27 @@ module _ (program : List ℕ) (has : HasStatements program) (o : Origin) (v : Ve
   goes s to q (LdcW k) is fine n h went =
       let c : Constant k went.value = constant k went.value went.found in
       moves program o v s to _ q (LdcW k) 7 h refl (omega arith) went.leads.goes
-      (ldc_w program has o map s q.state q.world q.stalls h (inside s (LdcW k) n) k went.value n.reads.0 n.reads.1 c.small c.there (omega (arith, went.leads.fits, loads.long)))
+      (ldc_w program has o map keep s q.state q.world q.stalls h (inside s (LdcW k) n) k went.value n.reads.0 n.reads.1 c.small c.there (omega (arith, went.leads.fits, loads.long)))
   goes s to q (Iload k) is fine n h went =
       moves program o v s to _ q (Iload k) 5 h refl (omega arith) went.leads.goes
-      (iload program has o map s q.state q.world q.stalls h (inside s (Iload k) n) k went.value n.reads.0 n.reads.1 went.set (omega (arith, went.leads.fits, loads.long)))
+      (iload program has o map keep s q.state q.world q.stalls h (inside s (Iload k) n) k went.value n.reads.0 n.reads.1 went.set (omega (arith, went.leads.fits, loads.long)))
   goes s to q (Istore k) is fine n h went =
       moves program o v s to _ q (Istore k) 6 h refl (omega arith) went.leads.goes
-      (istore program has o map s q.state q.world q.stalls h (inside s (Istore k) n) k went.top went.rest n.reads.0 n.reads.1 went.are went.leads.inside went.leads.own)
+      (istore program has o map keep s q.state q.world q.stalls h (inside s (Istore k) n) k went.top went.rest n.reads.0 n.reads.1 went.are went.leads.inside went.leads.own)
   goes s to q (Iinc k b) is fine n h went =
       moves program o v s to _ q (Iinc k b) 6 h refl (omega arith)
       (ap (λ (x : ℕ). with_local s k (plus went.value x) s.running.operands (s.at + 3)) (sym n.reads.2) ∙ went.leads)
-      (iinc program has o map s q.state q.world q.stalls h (inside s (Iinc k b) n) k went.value n.reads.0 n.reads.1 went.set (n.finds.named k (inl refl)).1)
+      (iinc program has o map keep s q.state q.world q.stalls h (inside s (Iinc k b) n) k went.value n.reads.0 n.reads.1 went.set (n.finds.named k (inl refl)).1)
   goes s to q (WideIload k) is fine n h went =
       moves program o v s to _ q (WideIload k) 8 h refl (omega arith) went.leads.goes
-      (wide_iload program has o map s q.state q.world q.stalls h (inside s (WideIload k) n) k went.value n.reads.0 n.reads.1 n.reads.2 went.set (omega (arith, went.leads.fits, loads.long)))
+      (wide_iload program has o map keep s q.state q.world q.stalls h (inside s (WideIload k) n) k went.value n.reads.0 n.reads.1 n.reads.2 went.set (omega (arith, went.leads.fits, loads.long)))
   goes s to q (WideIstore k) is fine n h went =
       moves program o v s to _ q (WideIstore k) 9 h refl (omega arith) went.leads.goes
-      (wide_istore program has o map s q.state q.world q.stalls h (inside s (WideIstore k) n) k went.top went.rest n.reads.0 n.reads.1 n.reads.2 went.are went.leads.inside went.leads.own)
+      (wide_istore program has o map keep s q.state q.world q.stalls h (inside s (WideIstore k) n) k went.top went.rest n.reads.0 n.reads.1 n.reads.2 went.are went.leads.inside went.leads.own)
   goes s to q (WideIinc k z) is fine n h went =
       moves program o v s to _ q (WideIinc k z) 11 h refl (omega arith)
       (ap (λ (x : ℕ). with_local s k (plus went.value x) s.running.operands (s.at + 6)) (sym n.reads.3) ∙ went.leads)
-      (wide_iinc program has o map s q.state q.world q.stalls h (inside s (WideIinc k z) n) k went.value n.reads.0 n.reads.1 n.reads.2 went.set (n.finds.named k (inl refl)).1)
+      (wide_iinc program has o map keep s q.state q.world q.stalls h (inside s (WideIinc k z) n) k went.value n.reads.0 n.reads.1 n.reads.2 went.set (n.finds.named k (inl refl)).1)
   goes s to q i is fine n h went = absurd is
 
   limits : (s left : State) (q : Moment Micro) (i : Instr) → IsOfLocals i → Fine v s → IsNext v o s i → Stands o s q.state q.world → Overran v.image v.map.stack_end s left i →

@@ -16,19 +16,23 @@ ghost use Rattle.mic2_interpreter.specs.Stalls.{TakesWithStalls, BootsWithStall,
 ghost use Rattle.mic2_interpreter.specs.Groups.{IsOfOperands, IsOfLocals, IsOfConsole, IsJump, IsCall};
 
 use crate::interpreter::Mic2Interpreter;
-use ijvm_simulation::stalls_add_up;
+use ijvm_simulation::{stalls_add_up, writes_keep_frames};
 
 /// The instructions on the operands alone.
 pub(crate) fn operands_law()
     ensures { (store : List ℕ) (o : Origin) (v : VerifiedView) → HasShipped Mic2 store → Loads v o →
         TakesWithStalls store o v IsOfOperands }
-{}
+{
+    writes_keep_frames();
+}
 
 /// IN and OUT.
 pub(crate) fn consoles_law()
     ensures { (store : List ℕ) (o : Origin) (v : VerifiedView) → HasShipped Mic2 store → Loads v o →
         TakesWithStalls store o v IsOfConsole }
-{}
+{
+    writes_keep_frames();
+}
 
 /// The jumps and branches.
 pub(crate) fn jumps_law()
@@ -40,13 +44,17 @@ pub(crate) fn jumps_law()
 pub(crate) fn locals_law()
     ensures { (store : List ℕ) (o : Origin) (v : VerifiedView) → HasShipped Mic2 store → Loads v o →
         TakesWithStalls store o v IsOfLocals }
-{}
+{
+    writes_keep_frames();
+}
 
 /// Calls and returns.
 pub(crate) fn calls_law()
     ensures { (store : List ℕ) (o : Origin) (v : VerifiedView) → HasShipped Mic2 store → Loads v o →
         TakesWithStalls store o v IsCall }
-{}
+{
+    writes_keep_frames();
+}
 
 /// HALT and ERR.
 pub(crate) fn ends_law()
