@@ -1,11 +1,9 @@
 -- What a board that was run over a verified image from its reset says of the run.
-use Rattle.std.proofs.Common.{◌≡◌, ℕ, List, [], ◌++◌, replicate, Option, Some, None, IfSome, Bool, true, false, refl, sym, ◌∙◌, ap, subst}
+use Rattle.std.proofs.Common.{◌≡◌, ℕ, List, [], ◌++◌, Option, Some, None, IfSome, Bool, true, false, refl, sym, ◌∙◌, ap, subst}
 use Rattle.std.proofs.lemmas.List.{append-nil}
 use Rattle.mic_base.specs.Streams.{Holds}
 use Rattle.console_port.specs.World.{World}
-use Rattle.console_port.specs.Bus.{Shows}
 use Rattle.console_port.specs.Console.{Untaken, Given}
-use Rattle.console_port.specs.Loading.{IsLoaded}
 use Rattle.mic_clock.specs.Meaning.{Meaning}
 use Rattle.mic_clock.specs.View.{BoardView}
 use Rattle.mic_clock.specs.declared.end.End.{End}

@@ -1,11 +1,15 @@
 -- What the bytes are of an instruction that is read at an address.
-use Rattle.std.proofs.Common.{◌≡◌, ℕ, ◌+◌, ◌*◌, ◌≤◌, Bool, true, false, if◌then◌else◌, ◌==◌, Option, Some, None, List, length, refl, arith, subst, inl, inr}
-use Rattle.std.specs.Prelude.{slice_index, nat_le}
+use Rattle.std.proofs.Common.{◌≡◌, ℕ, ◌+◌, ◌*◌, ◌<◌, ◌≤◌, Bool, true, false, if◌then◌else◌, ◌==◌, Option, Some, None, List, length, refl, arith, subst, inl, inr}
+use Rattle.std.specs.Prelude.{slice_index, nat_le, All}
 use Rattle.std.specs.Int.{w8, w16, cast_signed}
+use Rattle.std.proofs.lemmas.Bool.{cases_lt}
 use Rattle.std.proofs.lemmas.Bool.Decides.{nat_tests}
+use Rattle.std.proofs.lemmas.List.{get_or_past}
+use Rattle.std.proofs.lemmas.List.Elements.{All-get_or}
 use Rattle.ijvm_instr.specs.declared.instr.Instr.{Instr}
 use Rattle.ijvm_instr.specs.declared.instr.Instr.TheVariants.{Nop, Bipush, LdcW, Iload, Istore, Pop, Dup, Swap, Iadd, Isub, Iand, Iinc, Ifeq, Iflt, IfIcmpeq, Goto, Ireturn, Ior, Invokevirtual, WideIload, WideIstore, WideIinc, In, Out, Err, Halt}
 use Rattle.ijvm_simulation.specs.Bytes.{Reads}
+use Rattle.ijvm_simulation.proofs.Numbers.{byte_word, half_word}
 use Rattle.ijvm_instr.specs.Instructions.{row_of, size_of, begun_at, of_bytes, whole, instr_at}
 
 -- one row of the decoder, then those behind it
@@ -20,12 +24,12 @@ row P x y j rest i here there e = row_by P x y (Some j) rest i (x == y) refl (λ
     some_same : {u v : Instr} → Some u ≡ Some v → u ≡ v
     some_same q = cc
 
-pub reads : (a b c d e f : ℕ) (i : Instr) → of_bytes a b c d e f ≡ Some i → Reads a b c d e f i
+pub reads : (a b c d e f : ℕ) (i : Instr) → b < 256 → c < 256 → e < 256 → f < 256 → of_bytes a b c d e f ≡ Some i → Reads a b c d e f i
 unfolding of_bytes
-reads a b c d e f i =
+reads a b c d e f i lb lc le lf =
     let P : Instr → Type 0 = Reads a b c d e f in
     row P a 0x00 Nop _ i (λ is. is)
-    (row P a 0x10 (Bipush (cast_signed w8 b)) _ i (λ is. (is, refl))
+    (row P a 0x10 (Bipush (cast_signed w8 b)) _ i (λ is. (is, byte_word b lb))
     (row P a 0x13 (LdcW (256 * b + c)) _ i (λ is. (is, refl))
     (row P a 0x15 (Iload b) _ i (λ is. (is, refl))
     (row P a 0x36 (Istore b) _ i (λ is. (is, refl))
@@ -36,34 +40,41 @@ reads a b c d e f i =
     (row P a 0x64 Isub _ i (λ is. is)
     (row P a 0x7E Iand _ i (λ is. is)
     (row P a 0x80 Ior _ i (λ is. inr is)
-    (row P a 0x84 (Iinc b (cast_signed w8 c)) _ i (λ is. (is, refl, refl))
-    (row P a 0x99 (Ifeq (cast_signed w16 (256 * b + c))) _ i (λ is. (is, refl))
-    (row P a 0x9B (Iflt (cast_signed w16 (256 * b + c))) _ i (λ is. (is, refl))
-    (row P a 0x9F (IfIcmpeq (cast_signed w16 (256 * b + c))) _ i (λ is. (is, refl))
-    (row P a 0xA7 (Goto (cast_signed w16 (256 * b + c))) _ i (λ is. (is, refl))
+    (row P a 0x84 (Iinc b (cast_signed w8 c)) _ i (λ is. (is, refl, byte_word c lc))
+    (row P a 0x99 (Ifeq (cast_signed w16 (256 * b + c))) _ i (λ is. (is, half_word b c lb lc))
+    (row P a 0x9B (Iflt (cast_signed w16 (256 * b + c))) _ i (λ is. (is, half_word b c lb lc))
+    (row P a 0x9F (IfIcmpeq (cast_signed w16 (256 * b + c))) _ i (λ is. (is, half_word b c lb lc))
+    (row P a 0xA7 (Goto (cast_signed w16 (256 * b + c))) _ i (λ is. (is, half_word b c lb lc))
     (row P a 0xAC Ireturn _ i (λ is. is)
     (row P a 0xB0 Ior _ i (λ is. inl is)
     (row P a 0xB6 (Invokevirtual (256 * b + c)) _ i (λ is. (is, refl))
     (row_by P a 0xC4 _ _ i (a == 0xC4) refl
     (λ wide. row P b 0x15 (WideIload (256 * c + d)) _ i (λ is. (wide, is, refl)) (row P b 0x36 (WideIstore (256 * c + d)) _ i (λ is. (wide, is, refl))
-    (row P b 0x84 (WideIinc (256 * c + d) (cast_signed w16 (256 * e + f))) _ i (λ is. (wide, is, refl, refl)) (λ none. absurd (cc)))))
+    (row P b 0x84 (WideIinc (256 * c + d) (cast_signed w16 (256 * e + f))) _ i (λ is. (wide, is, refl, half_word e f le lf)) (λ none. absurd (cc)))))
     (row P a 0xFC In _ i (λ is. is)
     (row P a 0xFD Out _ i (λ is. is)
     (row P a 0xFE Err _ i (λ is. is)
     (row P a 0xFF Halt _ i (λ is. is) (λ none. absurd (cc))))))))))))))))))))))))))
+
+-- a byte of a text, or the 0 behind it
+small : (text : List ℕ) → All (λ b. b < 256) text → (k : ℕ) → slice_index text k < 256
+small text bytes k = elim (cases_lt k (length text)) [
+  | inl within ↦ All-get_or (λ b. b < 256) text k 0 within bytes
+  | inr past ↦ let none : slice_index text k ≡ 0 = get_or_past text k 0 past in omega arith
+]
 
 -- the instruction at an address, by the text's bytes from there on
 pub record Decoded (text : List ℕ) (at : ℕ) (i : Instr) : Type 0 where
   pub reads : Reads (slice_index text at) (slice_index text (at + 1)) (slice_index text (at + 2)) (slice_index text (at + 3)) (slice_index text (at + 4)) (slice_index text (at + 5)) i
   pub fits : at + size_of (row_of i) ≤ length text
 
-pub decoded : (text : List ℕ) (at : ℕ) (i : Instr) → instr_at text at ≡ Some i → Decoded text at i
+pub decoded : (text : List ℕ) → All (λ b. b < 256) text → (at : ℕ) (i : Instr) → instr_at text at ≡ Some i → Decoded text at i
 unfolding instr_at
-decoded text at i e = by_whole (begun_at text at) refl e
+decoded text bytes at i e = by_whole (begun_at text at) refl e
   where
     by_test : (j : Instr) → begun_at text at ≡ Some j →
         (t : Bool) → nat_le (at + size_of (row_of j)) (length text) ≡ t → (if t then Some j else None) ≡ Some i → Decoded text at i
-    by_test j is true t found = subst (λ (k : Instr). Decoded text at k) (some_same found) (record { reads = reads _ _ _ _ _ _ j is; fits = grind (arith, nat_tests) })
+    by_test j is true t found = subst (λ (k : Instr). Decoded text at k) (some_same found) (record { reads = reads _ _ _ _ _ _ j (small text bytes (at + 1)) (small text bytes (at + 2)) (small text bytes (at + 4)) (small text bytes (at + 5)) is; fits = grind (arith, nat_tests) })
       where
         some_same : {u v : Instr} → Some u ≡ Some v → u ≡ v
         some_same q = cc

@@ -1,14 +1,12 @@
 -- A run from a reset with the store that ships ends as the definition's run.
-use Rattle.std.proofs.Common.{◌≡◌, ℕ, List, [], Option, Some, Bool, false, refl, sym, ◌∙◌, ap, subst}
+use Rattle.std.proofs.Common.{◌≡◌, ℕ, List, Some, Bool, refl, sym, ◌∙◌, ap, subst}
 use Rattle.console_port.specs.World.{World}
 use Rattle.console_port.specs.Console.{Untaken, Given}
-use Rattle.mic_clock.specs.declared.end.End.{End}
 use Rattle.mic_clock.specs.Meaning.{Meaning}
-use Rattle.mic_clock.specs.Run.{MicroRun, turns}
+use Rattle.mic_clock.specs.Run.{MicroRun}
 use Rattle.ijvm_simulation.specs.Simulates.{end_of}
 use Rattle.ijvm_simulation.specs.Headline.{told_of, reset_run}
 use Rattle.ijvm_simulation.specs.Starts.{EndsAsDefined}
-use Rattle.ijvm_simulation.specs.Verified.{program}
 use Rattle.ijvm_paths.specs.Accepted.{VerifiedView, IsAccepted}
 use Rattle.ijvm_image.specs.Image.{IsImage}
 use Rattle.ijvm_simulation.proofs.Next.{Known}

@@ -4,6 +4,7 @@ pub mod Instruction
 pub mod Whole
 pub mod Worlds
 pub mod Boots
+pub mod Numbers
 pub mod Decoded
 pub mod Cases
 pub mod Next
@@ -11,3 +12,5 @@ pub mod Carried
 pub mod Boards
 pub mod Alike
 pub mod Ending
+pub mod Stalls
+pub mod Writes

@@ -1,6 +1,6 @@
 -- What comes next in a run of a verified image, and how the law of a machine's instructions becomes the law of its boundaries.
 use Rattle.std.proofs.Common.{◌≡◌, ℕ, ◌+◌, ◌*◌, ◌<◌, Bool, true, false, Some, List, [], ◌∷◌, ◌++◌, length, refl, arith, sym, ◌∙◌, ap, ap₂, subst, inl, inr}
-use Rattle.std.specs.Int.{w8, w16, cast_signed}
+use Rattle.machine_words.specs.Arithmetic.{signed_byte, signed_pair}
 use Rattle.machine_words.specs.declared.machine.Machine.{Machine}
 use Rattle.console_port.specs.World.{World, byte_in}
 use Rattle.mic_clock.specs.Meaning.{Meaning}
@@ -30,7 +30,7 @@ module _ (a b c d e f a' b' c' d' e' f' : ℕ) where
   reads_along : (i : Instr) → (0 < size_of (row_of i) → a' ≡ a) → (1 < size_of (row_of i) → b' ≡ b) → (2 < size_of (row_of i) → c' ≡ c) →
       (3 < size_of (row_of i) → d' ≡ d) → (4 < size_of (row_of i) → e' ≡ e) → (5 < size_of (row_of i) → f' ≡ f) → Reads a b c d e f i → Reads a' b' c' d' e' f' i
   reads_along Nop p q r s t u h = p (omega arith) ∙ h
-  reads_along (Bipush z) p q r s t u h = (p (omega arith) ∙ h.0, h.1 ∙ ap (cast_signed w8) (sym (q (omega arith))))
+  reads_along (Bipush z) p q r s t u h = (p (omega arith) ∙ h.0, h.1 ∙ ap signed_byte (sym (q (omega arith))))
   reads_along (LdcW k) p q r s t u h = (p (omega arith) ∙ h.0, h.1 ∙ two (q (omega arith)) (r (omega arith)))
   reads_along (Iload k) p q r s t u h = (p (omega arith) ∙ h.0, h.1 ∙ sym (q (omega arith)))
   reads_along (Istore k) p q r s t u h = (p (omega arith) ∙ h.0, h.1 ∙ sym (q (omega arith)))
@@ -40,18 +40,18 @@ module _ (a b c d e f a' b' c' d' e' f' : ℕ) where
   reads_along Iadd p q r s t u h = p (omega arith) ∙ h
   reads_along Isub p q r s t u h = p (omega arith) ∙ h
   reads_along Iand p q r s t u h = p (omega arith) ∙ h
-  reads_along (Iinc k z) p q r s t u h = (p (omega arith) ∙ h.0, h.1 ∙ sym (q (omega arith)), h.2 ∙ ap (cast_signed w8) (sym (r (omega arith))))
-  reads_along (Ifeq z) p q r s t u h = (p (omega arith) ∙ h.0, h.1 ∙ ap (cast_signed w16) (two (q (omega arith)) (r (omega arith))))
-  reads_along (Iflt z) p q r s t u h = (p (omega arith) ∙ h.0, h.1 ∙ ap (cast_signed w16) (two (q (omega arith)) (r (omega arith))))
-  reads_along (IfIcmpeq z) p q r s t u h = (p (omega arith) ∙ h.0, h.1 ∙ ap (cast_signed w16) (two (q (omega arith)) (r (omega arith))))
-  reads_along (Goto z) p q r s t u h = (p (omega arith) ∙ h.0, h.1 ∙ ap (cast_signed w16) (two (q (omega arith)) (r (omega arith))))
+  reads_along (Iinc k z) p q r s t u h = (p (omega arith) ∙ h.0, h.1 ∙ sym (q (omega arith)), h.2 ∙ ap signed_byte (sym (r (omega arith))))
+  reads_along (Ifeq z) p q r s t u h = (p (omega arith) ∙ h.0, h.1 ∙ ap₂ signed_pair (sym (q (omega arith))) (sym (r (omega arith))))
+  reads_along (Iflt z) p q r s t u h = (p (omega arith) ∙ h.0, h.1 ∙ ap₂ signed_pair (sym (q (omega arith))) (sym (r (omega arith))))
+  reads_along (IfIcmpeq z) p q r s t u h = (p (omega arith) ∙ h.0, h.1 ∙ ap₂ signed_pair (sym (q (omega arith))) (sym (r (omega arith))))
+  reads_along (Goto z) p q r s t u h = (p (omega arith) ∙ h.0, h.1 ∙ ap₂ signed_pair (sym (q (omega arith))) (sym (r (omega arith))))
   reads_along Ireturn p q r s t u h = p (omega arith) ∙ h
   reads_along Ior p q r s t u h = elim h [ inl x ↦ inl (p (omega arith) ∙ x) | inr x ↦ inr (p (omega arith) ∙ x) ]
   reads_along (Invokevirtual k) p q r s t u h = (p (omega arith) ∙ h.0, h.1 ∙ two (q (omega arith)) (r (omega arith)))
   reads_along (WideIload k) p q r s t u h = (p (omega arith) ∙ h.0, q (omega arith) ∙ h.1, h.2 ∙ two (r (omega arith)) (s (omega arith)))
   reads_along (WideIstore k) p q r s t u h = (p (omega arith) ∙ h.0, q (omega arith) ∙ h.1, h.2 ∙ two (r (omega arith)) (s (omega arith)))
   reads_along (WideIinc k z) p q r s t u h =
-      (p (omega arith) ∙ h.0, q (omega arith) ∙ h.1, h.2 ∙ two (r (omega arith)) (s (omega arith)), h.3 ∙ ap (cast_signed w16) (two (t (omega arith)) (u (omega arith))))
+      (p (omega arith) ∙ h.0, q (omega arith) ∙ h.1, h.2 ∙ two (r (omega arith)) (s (omega arith)), h.3 ∙ ap₂ signed_pair (sym (t (omega arith))) (sym (u (omega arith))))
   reads_along In p q r s t u h = p (omega arith) ∙ h
   reads_along Out p q r s t u h = p (omega arith) ∙ h
   reads_along Err p q r s t u h = p (omega arith) ∙ h
@@ -87,7 +87,7 @@ module _ (v : VerifiedView) (o : Origin) (loads : Loads v o) (known : Known v) w
       (λ l. loads.bytes (s.at + 3) (omega (arith, finds.whole, l)))
       (λ l. loads.bytes (s.at + 4) (omega (arith, finds.whole, l)))
       (λ l. loads.bytes (s.at + 5) (omega (arith, finds.whole, l)))
-      (decoded v.image.text s.at i finds.code).reads
+      (decoded v.image.text loads.image.bytes s.at i finds.code).reads
 
   -- an instruction has an opcode
   some_byte : (wide : Bool) (opcode : ℕ) (operands : List ℕ) → 0 < length (prefix wide ++ opcode ∷ operands)

@@ -1,4 +1,5 @@
 pub mod Stands
+pub mod Writes
 pub mod Passes
 pub mod Simulates
 pub mod Bytes
@@ -8,3 +9,4 @@ pub mod Law
 pub mod Headline
 pub mod Agreement
 pub mod Starts
+pub mod Stalls

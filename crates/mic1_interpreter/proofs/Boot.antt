@@ -10,7 +10,7 @@ use Rattle.mic1_datapath.specs.Mic1.{mic1_meaning}
 use Rattle.ijvm_run.specs.Frames.{start_of}
 use Rattle.mic1_interpreter.proofs.Shipped.{HasStatements}
 use Rattle.mic1_interpreter.specs.Stands.{Stands}
-use Rattle.mic1_interpreter.proofs.Accesses.{IsMap, fetch_ok}
+use Rattle.mic1_interpreter.proofs.Accesses.{fetch_ok}
 use Rattle.mic1_interpreter.proofs.Guided.{clocked, pass-clocked}
 use Rattle.mic1_interpreter.proofs.Boundaries.{Comes, at_boundary, map_of}
 use Rattle.ijvm_simulation.specs.Stands.{Origin}

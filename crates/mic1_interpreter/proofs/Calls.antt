@@ -1,10 +1,10 @@
 -- Calls and returns.
-use Rattle.std.proofs.Common.{◌≡◌, ℕ, zero, suc, ◌+◌, ◌-◌, ◌*◌, ◌<◌, ◌≤◌, Bool, true, false, Some, None, Option, List, [], ◌∷◌, ◌++◌, length, take, drop, replicate, refl, arith, sym, ◌∙◌, ap, ap₂, subst, inl, inr, add-zero, length-set, length-append, get_or-set_same}
+use Rattle.std.proofs.Common.{◌≡◌, ℕ, zero, suc, ◌+◌, ◌-◌, ◌*◌, ◌<◌, ◌≤◌, Bool, true, false, Some, None, Option, List, [], ◌∷◌, ◌++◌, length, take, drop, replicate, refl, arith, sym, ◌∙◌, ap, ap₂, subst, inl, inr, length-set, length-append}
 use Rattle.std.specs.Prelude.{slice_index, slice_set, slice_get, bit_or, nat_lt, if◌then◌else◌}
 use Rattle.std.proofs.lemmas.Bool.Decides.{nat_tests}
 use Rattle.std.proofs.lemmas.Bool.{cases_lt}
 use Rattle.std.proofs.lemmas.List.{length-replicate}
-use Rattle.std.proofs.lemmas.Option.{get_or_from_slice_get}
+use Rattle.std.proofs.lemmas.Option.{get_or_from_slice_get, slice_get_within}
 use Rattle.machine_words.specs.declared.machine.Machine.TheVariants.{Mic1}
 use Rattle.machine_words.specs.Arithmetic.{wrap, plus, minus, next}
 use Rattle.console_port.specs.World.{World, Refusal, StackLimit, read_value, after_read, byte_in, write_refusal, fetch_refusal}
@@ -12,14 +12,15 @@ use Rattle.ijvm_instr.specs.declared.instr.Instr.{Instr}
 use Rattle.ijvm_instr.specs.declared.instr.Instr.TheVariants.{Ireturn, Invokevirtual}
 use Rattle.ijvm_image.specs.declared.method.Method.{Method}
 use Rattle.ijvm_image.specs.Image.{params, others, method_at}
-use Rattle.ijvm_run.specs.Frames.{Frame, State, frames_of, base, operands_at, kept_words}
+use Rattle.ijvm_run.specs.Frames.{Frame, State, base, kept_words}
 use Rattle.ijvm_run.specs.Cost.{cost}
-use Rattle.ijvm_run.specs.Step.{onto, called, in_method}
+use Rattle.ijvm_run.specs.Step.{onto, called}
 use Rattle.ijvm_paths.specs.Accepted.{VerifiedView}
 use Rattle.mic1_datapath.specs.Micro.{Micro}
 use Rattle.datapath.specs.Memory.{first_refusal}
 use Rattle.mic1_datapath.specs.Mic1.{mic1_meaning}
-use Rattle.ijvm_simulation.specs.Stands.{Origin, OperandsAt, IsLinked, FramesStand, IsMemory, caller_lv}
+use Rattle.ijvm_simulation.specs.Stands.{Origin, IsLinked, FramesStand, IsMemory, caller_lv}
+use Rattle.ijvm_simulation.specs.Writes.{linked_words, KeepFrames}
 use Rattle.ijvm_simulation.specs.Passes.{Moment}
 use Rattle.ijvm_simulation.specs.Outcomes.{Went, Overran}
 use Rattle.ijvm_simulation.specs.Verified.{Loads, Fine, IsNext}
@@ -28,7 +29,7 @@ use Rattle.mic1_interpreter.specs.Stands.{Stands}
 use Rattle.mic1_interpreter.specs.Groups.{IsCall}
 use Rattle.mic1_interpreter.proofs.Shipped.{HasStatements}
 use Rattle.mic1_interpreter.proofs.Accesses.{IsMap, Access, access, next_is, write_limit, plus_is, minus_is, pair_is, byte_bound, byte_kept, fetch_ok, given_ok}
-use Rattle.mic1_interpreter.proofs.Keeps.{get_below, set_same, read_other, frames_below, pushed, memory_set, frames_at, memory_at}
+use Rattle.mic1_interpreter.proofs.Keeps.{set_same, memory_set, frames_at, memory_at}
 use Rattle.mic1_interpreter.proofs.Facts.{with_operands, place, base_above, Top, top}
 use Rattle.mic1_interpreter.proofs.Boundaries.{Comes, comes, Counts, counts, at_boundary, map_of, moves, overruns}
 
@@ -36,96 +37,12 @@ use Rattle.mic1_interpreter.proofs.Boundaries.{Comes, comes, Counts, counts, at_
 link_of : (words : List ℕ) (lv many caller r : ℕ) (back : Option ℕ) → back ≡ Some r → IsLinked words lv many caller back → IsLinked words lv many caller (Some r)
 link_of words lv many caller r back e h = subst (λ (b : Option ℕ). IsLinked words lv many caller b) e h
 
--- words that locals name
-abbrev LocalsAt : List ℕ → ℕ → List (Option ℕ) → Type 0
-LocalsAt words a xs = (k v : ℕ) → slice_get xs k ≡ Some (Some v) → slice_index words (a + k) ≡ v
-
-none_at : (words : List ℕ) (a more : ℕ) → LocalsAt words a (replicate more None)
-none_at words a zero k v e = absurd (cc)
-none_at words a (suc more) zero v e = absurd (cc)
-none_at words a (suc more) (suc k) v e = absurd (none_there more k v e)
-  where
-    none_there : (i j u : ℕ) → slice_get (replicate i None) j ≡ Some (Some u) → ⊥
-    none_there zero j u e = cc
-    none_there (suc i) zero u e = cc
-    none_there (suc i) (suc j) u e = none_there i j u e
-
-some_some : {x y : Option ℕ} → Some x ≡ Some y → x ≡ y
-some_some e = cc
-
-cons_at : (words : List ℕ) (a : ℕ) (x : Option ℕ) (xs : List (Option ℕ)) → ((v : ℕ) → x ≡ Some v → slice_index words a ≡ v) → LocalsAt words (a + 1) xs → LocalsAt words a (x ∷ xs)
-cons_at words a x xs first h zero v e = rw add-zero (first v (some_some e))
-cons_at words a x xs first h (suc k) v e = let same : a + suc k ≡ a + 1 + k = omega arith in ap (slice_index words) same ∙ h k v e
-
 some_same : (x y : ℕ) → Some x ≡ Some y → x ≡ y
 some_same x y e = cc
-
--- the arguments on the stack are the parameters in their places
-onto_at : (words : List ℕ) (b : ℕ) (ps tail : List ℕ) (xs : List (Option ℕ)) → OperandsAt words b (ps ++ tail) → LocalsAt words (b + length (ps ++ tail)) xs →
-    LocalsAt words (b + length tail) (onto ps xs)
-onto_at words b [] tail xs o h = h
-onto_at words b (p ∷ ps) tail xs o h = onto_at words b ps tail (Some p ∷ xs) o.1
-    (cons_at words (b + length (ps ++ tail)) (Some p) xs (λ v e. o.0 ∙ some_same p v e)
-    (λ k v e. let same : b + length (ps ++ tail) + 1 + k ≡ b + length (p ∷ (ps ++ tail)) + k = omega arith in ap (slice_index words) same ∙ h k v e))
 
 length-onto : (ps : List ℕ) (xs : List (Option ℕ)) → length (onto ps xs) ≡ length ps + length xs
 length-onto [] xs = omega arith
 length-onto (p ∷ ps) xs = let e : length (onto ps (Some p ∷ xs)) ≡ length ps + length (Some p ∷ xs) = length-onto ps (Some p ∷ xs) in omega arith
-
-none_some : (v : ℕ) → ◌≡◌ {A = Option ℕ} None (Some v) → ⊥
-none_some v e = cc
-
--- the operands below the last ones
-dropped : (words : List ℕ) (b : ℕ) (ps tail : List ℕ) → OperandsAt words b (ps ++ tail) → OperandsAt words b tail
-dropped words b [] tail h = h
-dropped words b (p ∷ ps) tail h = dropped words b ps tail h.1
-
-locals_below : (words : List ℕ) (lv a v : ℕ) (xs : List (Option ℕ)) → lv + length xs ≤ a → LocalsAt words lv xs → LocalsAt (slice_set words a v) lv xs
-locals_below words lv a v xs le h k u e = let l : k < length xs = get_below xs k (Some u) e in read_other words a (lv + k) v (inl (omega arith)) ∙ h k u e
-
-locals_at_link : (words : List ℕ) (lv v : ℕ) (xs : List (Option ℕ)) → LocalsAt words lv (None ∷ xs) → LocalsAt (slice_set words lv v) lv (None ∷ xs)
-locals_at_link words lv v xs h zero u e = absurd (none_some u (some_some e))
-locals_at_link words lv v xs h (suc k) u e = read_other words lv (lv + suc k) v (inr (omega arith)) ∙ h (suc k) u e
-
--- the three words that a call writes
-abbrev linked_words : List ℕ → ℕ → ℕ → ℕ → ℕ → List ℕ
-linked_words words lv many r caller = slice_set (slice_set (slice_set words lv (lv + many)) (lv + many) r) (lv + many + 1) caller
-
-entered : (words : List ℕ) (ps : List ℕ) (o : ℕ) (rest : List ℕ) (more r : ℕ) (f : Frame) (fs : List Frame) →
-    base (record f { operands = rest } ∷ fs) + length ps + 1 + more + 1 < length words → f.operands ≡ ps ++ o ∷ rest → FramesStand words (f ∷ fs) →
-    FramesStand (linked_words words (base (record f { operands = rest } ∷ fs)) (length ps + 1 + more) r (base fs))
-    (called ps more r ∷ record f { operands = rest } ∷ fs)
-entered words ps o rest more r f fs room ops h =
-    let g : Frame = record f { operands = rest } in
-    let lv : ℕ = base (g ∷ fs) in
-    let many : ℕ = length ps + 1 + more in
-    let locals : List (Option ℕ) = None ∷ onto ps (replicate more None) in
-    let m1 : List ℕ = slice_set words lv (lv + many) in
-    let m2 : List ℕ = slice_set m1 (lv + many) r in
-    let m3 : List ℕ = slice_set m2 (lv + many + 1) (base fs) in
-    let len1 : length m1 ≡ length words = length-set words lv (lv + many) in
-    let len2 : length m2 ≡ length m1 = length-set m1 (lv + many) r in
-    let all : OperandsAt words (operands_at (base fs) f) (ps ++ o ∷ rest) = subst (λ (k : List ℕ). OperandsAt words (operands_at (base fs) f) k) ops h.0.operands in
-    let lower : OperandsAt words (operands_at (base fs) f) rest = (dropped words (operands_at (base fs) f) ps (o ∷ rest) all).1 in
-    let params_at : LocalsAt words (operands_at (base fs) f + length (o ∷ rest)) (onto ps (replicate more None)) =
-    onto_at words (operands_at (base fs) f) ps (o ∷ rest) (replicate more None) all (none_at words _ more) in
-    let own : LocalsAt words lv locals =
-    cons_at words lv None (onto ps (replicate more None)) (λ v e. absurd (none_some v e))
-    (λ k v e. let same : lv + 1 + k ≡ operands_at (base fs) f + length (o ∷ rest) + k = omega arith in ap (slice_index words) same ∙ params_at k v e) in
-    let len : length locals ≡ many = omega (arith, length-onto ps (replicate more None), length-replicate {A = Option ℕ} more None) in
-    let own1 : LocalsAt m1 lv locals = locals_at_link words lv (lv + many) (onto ps (replicate more None)) own in
-    let own2 : LocalsAt m2 lv locals = locals_below m1 lv (lv + many) r locals (omega arith) own1 in
-    let own3 : LocalsAt m3 lv locals = locals_below m2 lv (lv + many + 1) (base fs) locals (omega arith) own2 in
-    let below : FramesStand words (g ∷ fs) = (record { locals = h.0.locals; operands = lower; linked = h.0.linked }, h.1) in
-    let below1 : FramesStand m1 (g ∷ fs) = frames_below words lv (lv + many) (g ∷ fs) (omega arith) below in
-    let below2 : FramesStand m2 (g ∷ fs) = frames_below m1 (lv + many) r (g ∷ fs) (omega arith) below1 in
-    let below3 : FramesStand m3 (g ∷ fs) = frames_below m2 (lv + many + 1) (base fs) (g ∷ fs) (omega arith) below2 in
-    let link : IsLinked m3 lv many (base fs) (Some r) = (
-      read_other m2 (lv + many + 1) lv (base fs) (inl (omega arith)) ∙ (read_other m1 (lv + many) lv r (inl (omega arith)) ∙ get_or-set_same words lv (lv + many) 0 (omega arith)),
-      read_other m2 (lv + many + 1) (lv + many) (base fs) (inl (omega arith)) ∙ get_or-set_same m1 (lv + many) r 0 (omega arith),
-      get_or-set_same m2 (lv + many + 1) (base fs) 0 (omega arith),
-    ) in
-    (record { locals = own3; operands = tt; linked = subst (λ (k : ℕ). IsLinked m3 lv k (base fs) (Some r)) (sym len) link }, below3)
 
 -- the operands of a call: the arguments, the last one first, the object reference, and those below
 record Arguments (n : ℕ) (xs : List ℕ) : Type 0 where
@@ -185,7 +102,7 @@ record Entering (o : Origin) (s : State) (m : Micro) (w : World) (k e n more : �
   pub link_access : Access (length o.words) w (link_at (length o.words) m w) (place s rest)
   pub link_is : link (length o.words) m w ≡ place s rest + (n + 1 + more)
 
-module _ (program : List ℕ) (has : HasStatements program) (o : Origin) (map : IsMap (length o.words)) (s : State) (m : Micro) (w : World) (k : ℕ) (h : Stands o s m w) (inside : s.at < 0x10000) where
+module _ (program : List ℕ) (has : HasStatements program) (o : Origin) (map : IsMap (length o.words)) (keep : KeepFrames) (s : State) (m : Micro) (w : World) (k : ℕ) (h : Stands o s m w) (inside : s.at < 0x10000) where
   ireturn : (y r : ℕ) (rest : List ℕ) (f : Frame) (fs : List Frame) → byte_in o.words s.at ≡ 0xAC → s.running.operands ≡ y ∷ rest → s.running.back ≡ Some r → s.callers ≡ f ∷ fs → r < 0x10000 →
       Comes program o 8 (record { state = m; world = w; stalls = k }) (record s { running = record f { operands = y ∷ f.operands }; callers = fs; at = r })
   ireturn y r rest f fs code ops back callers to =
@@ -223,7 +140,7 @@ module _ (program : List ℕ) (has : HasStatements program) (o : Origin) (map : 
         lv_is = lv_back;
         cpp_is = h.holds.cpp_is;
         tos_is = t.tos_is;
-        frames = frames_at g fs (sym memory) (pushed w.words lv y f fs refl room below);
+        frames = frames_at g fs (sym memory) (keep.pushed w.words lv y f fs refl room below);
         memory = memory_at (sym memory) (memory_set o.words w.words lv y (omega arith) h.holds.memory);
         fits = omega arith;
         untaken = d.untaken ∙ (b.untaken ∙ (a.untaken ∙ h.holds.untaken));
@@ -305,7 +222,7 @@ module _ (program : List ℕ) (has : HasStatements program) (o : Origin) (map : 
       let new : IsMemory o.words ms = memory_set o.words m2 (lv + many + 1) (base s.callers) (omega arith) new2 in
       let g : Frame = called ps more (s.at + 3) in
       let len : length g.locals ≡ many = omega (arith, length-onto ps (replicate more None), length-replicate {A = Option ℕ} more None) in
-      let frames : FramesStand ms (g ∷ with_operands s rest ∷ s.callers) = entered w.words ps x rest more (s.at + 3) s.running s.callers (omega (arith, h.holds.memory.long)) ops h.holds.frames in
+      let frames : FramesStand ms (g ∷ with_operands s rest ∷ s.callers) = keep.entered w.words ps x rest more (s.at + 3) s.running s.callers (omega (arith, h.holds.memory.long)) ops h.holds.frames in
       comes program has o (0xB6 ∷ []) 22 m w k s _ h (assumption)
       (at_boundary o _ _ _
       (record {
@@ -322,7 +239,7 @@ module _ (program : List ℕ) (has : HasStatements program) (o : Origin) (map : 
       en.e4 (ap (λ (ws : List ℕ). byte_in ws (next (next (next (next (entry (length o.words) m w)))))) same ∙ byte_kept ms o.words new.kept en.e4 (omega arith)) refl refl refl refl refl)
       refl
 
-module _ (program : List ℕ) (has : HasStatements program) (o : Origin) (v : VerifiedView) (loads : Loads v o) where
+module _ (program : List ℕ) (has : HasStatements program) (o : Origin) (v : VerifiedView) (loads : Loads v o) (keep : KeepFrames) where
   abbrev map : IsMap (length o.words)
   map = map_of v o loads
 
@@ -353,7 +270,7 @@ module _ (program : List ℕ) (has : HasStatements program) (o : Origin) (v : Ve
       by_test false t is = absurd (cc)
       by_test true t is =
           let l : e + 4 < length v.image.text = grind (arith, nat_tests) in
-          let below : k < length v.image.pool = get_below v.image.pool k e named in
+          let below : k < length v.image.pool = slice_get_within v.image.pool k e named in
           subst (Found k) (same_method is)
           (record {
             small = omega (arith, loads.image.limits.pool_fits);
@@ -375,7 +292,7 @@ module _ (program : List ℕ) (has : HasStatements program) (o : Origin) (v : Ve
   entering_at s q k m n h next f params a =
       let depth : length s.running.operands ≡ n + suc (length (drop (n + 1) s.running.operands)) =
       ap length a.are ∙ (length-append (take n s.running.operands) (a.o ∷ drop (n + 1) s.running.operands) ∙ ap (λ (j : ℕ). j + suc (length (drop (n + 1) s.running.operands))) a.long) in
-      entering program has o map s q.state q.world q.stalls h (inside s (Invokevirtual k) next) k m.entry n m.others (drop (n + 1) s.running.operands)
+      entering program has o map keep s q.state q.world q.stalls h (inside s (Invokevirtual k) next) k m.entry n m.others (drop (n + 1) s.running.operands)
       next.reads.1 f.small f.there f.whole (omega (arith, f.params_are)) f.others_are depth
 
   goes : (s to : State) (q : Moment Micro) (i : Instr) → IsCall i → Fine v s → IsNext v o s i → Stands o s q.state q.world → Went v.image v.map.stack_end s to i →
@@ -384,7 +301,7 @@ module _ (program : List ℕ) (has : HasStatements program) (o : Origin) (v : Ve
       let r = n.finds.returns refl in
       let same : r.0 ≡ went.back = some_same r.0 went.back (sym r.3 ∙ went.back_is) in
       moves program o v s to _ q Ireturn 8 h refl (omega arith) went.with_top.leads
-      (ireturn program has o map s q.state q.world q.stalls h (inside s Ireturn n) went.with_top.top went.back went.with_top.rest went.caller went.above n.reads went.with_top.are went.back_is went.callers_are
+      (ireturn program has o map keep s q.state q.world q.stalls h (inside s Ireturn n) went.with_top.top went.back went.with_top.rest went.caller went.above n.reads went.with_top.are went.back_is went.callers_are
       (omega (arith, same, r.5, loads.image.limits.text_fits)))
   goes s to q (Invokevirtual k) is fine n h went =
       let f : Found k went.method = found k went.method went.found in
@@ -397,7 +314,7 @@ module _ (program : List ℕ) (has : HasStatements program) (o : Origin) (v : Ve
       let many : length (onto ps (replicate went.method.others None)) ≡ length ps + went.method.others =
       length-onto ps (replicate went.method.others None) ∙ ap (λ (j : ℕ). length ps + j) (length-replicate {A = Option ℕ} went.method.others None) in
       moves program o v s to _ q (Invokevirtual k) 22 h refl (omega arith) went.leads.goes
-      (invoke program has o map s q.state q.world q.stalls h (inside s (Invokevirtual k) n) k went.method.entry went.method.others ps a.o rest n.reads.0 en' f.whole a.are
+      (invoke program has o map keep s q.state q.world q.stalls h (inside s (Invokevirtual k) n) k went.method.entry went.method.others ps a.o rest n.reads.0 en' f.whole a.are
       (omega (arith, went.leads.fits, loads.long)))
   goes s to q i is fine n h went = absurd is
 

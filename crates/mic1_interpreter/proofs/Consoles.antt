@@ -1,5 +1,5 @@
 -- IN and OUT.
-use Rattle.std.proofs.Common.{◌≡◌, ℕ, ◌+◌, ◌%◌, ◌<◌, ◌≤◌, Some, None, Option, List, [], ◌∷◌, ◌++◌, length, drop, refl, arith, ◌∙◌, ap, ap₂, append_assoc}
+use Rattle.std.proofs.Common.{◌≡◌, ℕ, ◌+◌, ◌%◌, ◌<◌, Some, None, Option, List, [], ◌∷◌, ◌++◌, length, drop, refl, arith, ◌∙◌, ap, ap₂, append_assoc}
 use Rattle.std.specs.Prelude.{slice_set}
 use Rattle.machine_words.specs.declared.machine.Machine.TheVariants.{Mic1}
 use Rattle.machine_words.specs.Arithmetic.{next, before}
@@ -14,6 +14,7 @@ use Rattle.mic1_datapath.specs.Micro.{Micro}
 use Rattle.datapath.specs.Memory.{first_refusal}
 use Rattle.mic1_datapath.specs.Mic1.{mic1_meaning}
 use Rattle.ijvm_simulation.specs.Stands.{Origin}
+use Rattle.ijvm_simulation.specs.Writes.{KeepFrames}
 use Rattle.ijvm_simulation.specs.Passes.{Moment}
 use Rattle.ijvm_simulation.specs.Outcomes.{Went, Overran, push}
 use Rattle.ijvm_simulation.specs.Verified.{Loads, Fine, IsNext}
@@ -25,7 +26,7 @@ use Rattle.mic1_interpreter.proofs.Accesses.{IsMap, Access, next_is, write_limit
 use Rattle.mic1_interpreter.proofs.Facts.{room, Top, top, pushes, drops, IsTop_at}
 use Rattle.mic1_interpreter.proofs.Boundaries.{Comes, comes, Counts, counts, at_boundary, map_of, moves, overruns}
 
-module _ (program : List ℕ) (has : HasStatements program) (o : Origin) (map : IsMap (length o.words)) (s : State) (m : Micro) (w : World) (k : ℕ) (h : Stands o s m w) (inside : s.at < 0x10000) where
+module _ (program : List ℕ) (has : HasStatements program) (o : Origin) (map : IsMap (length o.words)) (keep : KeepFrames) (s : State) (m : Micro) (w : World) (k : ℕ) (h : Stands o s m w) (inside : s.at < 0x10000) where
   out : (y : ℕ) (rest : List ℕ) → byte_in o.words s.at ≡ 0xFD → s.running.operands ≡ y ∷ rest →
       Comes program o 7 (record { state = m; world = w; stalls = k }) (record (moved s rest (s.at + 1)) { given = s.given ++ y % 256 ∷ [] })
   out y rest code ops =
@@ -54,12 +55,12 @@ module _ (program : List ℕ) (has : HasStatements program) (o : Origin) (map : 
       let v : read_value (length o.words) w.words w.untaken console ≡ next_byte s.untaken = p.value ∙ ap next_byte h.holds.untaken in
       comes program has o (0xFC ∷ []) 5 m w k s _ h (assumption)
       (at_boundary o _ _ _
-      (pushes o map s m.sp m.lv m.cpp m.tos w h.holds s.running.operands _ (s.at + 1) _ _ _ _ _ (drop 1 s.untaken) h.holds.frames space
+      (pushes o map s m.sp m.lv m.cpp m.tos w h.holds keep s.running.operands _ (s.at + 1) _ _ _ _ _ (drop 1 s.untaken) h.holds.frames space
       refl refl r.is v (ap₂ (slice_set w.words) r.is v) (p.untaken ∙ ap (drop 1) h.holds.untaken) (r.given _))
       c.pc1 c.byte1 refl refl refl refl refl)
       refl
 
-module _ (program : List ℕ) (has : HasStatements program) (o : Origin) (v : VerifiedView) (loads : Loads v o) where
+module _ (program : List ℕ) (has : HasStatements program) (o : Origin) (v : VerifiedView) (loads : Loads v o) (keep : KeepFrames) where
   abbrev map : IsMap (length o.words)
   map = map_of v o loads
 
@@ -69,9 +70,9 @@ module _ (program : List ℕ) (has : HasStatements program) (o : Origin) (v : Ve
   goes : (s to : State) (q : Moment Micro) (i : Instr) → IsOfConsole i → Fine v s → IsNext v o s i → Stands o s q.state q.world → Went v.image v.map.stack_end s to i →
       Moves mic1_meaning program (Stands o) o.given q (cost v.image Mic1 i s) to
   goes s to q In is fine n h went =
-      moves program o v s to _ q In 5 h refl (omega arith) went.goes (inp program has o map s q.state q.world q.stalls h (inside s In n) n.reads (omega (arith, went.fits, loads.long)))
+      moves program o v s to _ q In 5 h refl (omega arith) went.goes (inp program has o map keep s q.state q.world q.stalls h (inside s In n) n.reads (omega (arith, went.fits, loads.long)))
   goes s to q Out is fine n h went =
-      moves program o v s to _ q Out 7 h refl (omega arith) went.leads (out program has o map s q.state q.world q.stalls h (inside s Out n) went.top went.rest n.reads went.are)
+      moves program o v s to _ q Out 7 h refl (omega arith) went.leads (out program has o map keep s q.state q.world q.stalls h (inside s Out n) went.top went.rest n.reads went.are)
   goes s to q i is fine n h went = absurd is
 
   limits : (s left : State) (q : Moment Micro) (i : Instr) → IsOfConsole i → Fine v s → IsNext v o s i → Stands o s q.state q.world → Overran v.image v.map.stack_end s left i →

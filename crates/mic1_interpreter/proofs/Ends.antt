@@ -1,7 +1,6 @@
 -- HALT and ERR.
-use Rattle.std.proofs.Common.{◌≡◌, ℕ, ◌+◌, ◌<◌, Some, None, List, [], ◌∷◌, length, refl, arith, ◌∙◌, ap, inr}
+use Rattle.std.proofs.Common.{◌≡◌, ℕ, ◌<◌, List, [], ◌∷◌, length, refl, arith, ◌∙◌, ap, inr}
 use Rattle.machine_words.specs.declared.machine.Machine.TheVariants.{Mic1}
-use Rattle.console_port.specs.World.{byte_in}
 use Rattle.ijvm_instr.specs.declared.instr.Instr.{Instr}
 use Rattle.ijvm_instr.specs.declared.instr.Instr.TheVariants.{Err, Halt}
 use Rattle.ijvm_run.specs.Frames.{State}

@@ -6,8 +6,9 @@ use Rattle.console_port.specs.World.{World, read_value}
 use Rattle.ijvm_run.specs.Frames.{Frame, State, frames_of, operands_at, base}
 use Rattle.ijvm_run.specs.Step.{moved}
 use Rattle.ijvm_simulation.specs.Stands.{Origin, Holds, FramesStand, OperandsAt, IsTop}
+use Rattle.ijvm_simulation.specs.Writes.{KeepFrames}
 use Rattle.mic1_interpreter.proofs.Accesses.{IsMap, Access, access, next_is, before_is}
-use Rattle.mic1_interpreter.proofs.Keeps.{pushed, memory_set, frames_at, memory_at}
+use Rattle.mic1_interpreter.proofs.Keeps.{memory_set, frames_at, memory_at}
 
 -- the running frame with other operands
 abbrev pub with_operands : State → List ℕ → Frame
@@ -87,12 +88,12 @@ module _ (o : Origin) (map : IsMap (length o.words)) (s : State) (sp lv cpp tos 
       }
 
   -- after a push of v over the operands xs
-  pub pushes : (xs : List ℕ) (v to : ℕ) (sp' lv' cpp' tos' : ℕ) (w' : World) (left : List ℕ) →
+  pub pushes : KeepFrames → (xs : List ℕ) (v to : ℕ) (sp' lv' cpp' tos' : ℕ) (w' : World) (left : List ℕ) →
       FramesStand w.words (with_operands s xs ∷ s.callers) → place s xs < length o.words →
       lv' ≡ lv → cpp' ≡ cpp → sp' ≡ place s xs → tos' ≡ v →
       w'.words ≡ slice_set w.words (place s xs) v → w'.untaken ≡ left → w'.given ≡ w.given →
       Holds o (record (moved s (v ∷ xs) to) { untaken = left }) sp' lv' cpp' tos' w'
-  pushes xs v to sp' lv' cpp' tos' w' left frames below lvs cpps sps toss words untaken given =
+  pushes keep xs v to sp' lv' cpp' tos' w' left frames below lvs cpps sps toss words untaken given =
       let a : ℕ = place s xs in
       let bottom : 0x8000 ≤ base s.callers = base_above s.callers in
       let lt : a < length w.words = omega (arith, h.memory.long) in
@@ -101,7 +102,7 @@ module _ (o : Origin) (map : IsMap (length o.words)) (s : State) (sp lv cpp tos 
         lv_is = lvs ∙ h.lv_is;
         cpp_is = cpps ∙ h.cpp_is;
         tos_is = toss;
-        frames = frames_at (with_operands s (v ∷ xs)) s.callers (sym words) (pushed w.words a v (with_operands s xs) s.callers refl lt frames);
+        frames = frames_at (with_operands s (v ∷ xs)) s.callers (sym words) (keep.pushed w.words a v (with_operands s xs) s.callers refl lt frames);
         memory = memory_at (sym words) (memory_set o.words w.words a v (omega arith) h.memory);
         fits = omega arith;
         untaken = untaken;

@@ -1,7 +1,6 @@
 -- Jumps and branches.
-use Rattle.std.proofs.Common.{◌≡◌, ◌⊎◌, ℕ, suc, ◌+◌, ◌-◌, ◌*◌, ◌^◌, ◌<◌, ◌≤◌, Bool, true, false, ◌==◌, Some, None, List, [], ◌∷◌, length, refl, arith, sym, ◌∙◌, ap, ap₂, subst, All, inl, inr}
-use Rattle.std.specs.Prelude.{bit_or, nat_lt, nat_le, if◌then◌else◌, pos, negsuc, ℤ}
-use Rattle.std.specs.Int.{w16, cast_signed}
+use Rattle.std.proofs.Common.{◌≡◌, ℕ, ◌+◌, ◌-◌, ◌*◌, ◌<◌, ◌≤◌, Bool, true, false, ◌==◌, None, List, [], ◌∷◌, length, refl, arith, sym, ◌∙◌, ap, ap₂, subst, All, inr}
+use Rattle.std.specs.Prelude.{bit_or, if◌then◌else◌, ℤ}
 use Rattle.std.proofs.lemmas.Bool.Decides.{nat_tests}
 use Rattle.std.proofs.lemmas.List.Elements.{All-get_or}
 use Rattle.machine_words.specs.declared.machine.Machine.TheVariants.{Mic1}
@@ -11,7 +10,7 @@ use Rattle.ijvm_instr.specs.declared.instr.Instr.{Instr}
 use Rattle.ijvm_instr.specs.declared.instr.Instr.TheVariants.{Ifeq, Iflt, IfIcmpeq, Goto}
 use Rattle.ijvm_instr.specs.Instructions.{word_of, target}
 use Rattle.ijvm_run.specs.Frames.{State, IsWord, HasWords, frames_of, base}
-use Rattle.ijvm_run.specs.Cost.{cost, cycles_of, is_taken, tests, are_equal}
+use Rattle.ijvm_run.specs.Cost.{cost, tests, are_equal}
 use Rattle.ijvm_run.specs.Step.{moved, way}
 use Rattle.ijvm_paths.specs.Accepted.{VerifiedView}
 use Rattle.mic1_datapath.specs.Micro.{Micro}
@@ -24,8 +23,7 @@ use Rattle.ijvm_simulation.specs.Law.{Moves, Overruns, Takes}
 use Rattle.mic1_interpreter.specs.Stands.{Stands}
 use Rattle.mic1_interpreter.specs.Groups.{IsJump}
 use Rattle.mic1_interpreter.proofs.Shipped.{HasStatements}
-use Rattle.mic1_interpreter.proofs.Accesses.{IsMap, Access, before_is, fetch_ok, byte_bound, byte_kept, plus_comm, signed_pair_is}
-use Rattle.mic1_interpreter.proofs.Numbers.{half_word}
+use Rattle.mic1_interpreter.proofs.Accesses.{IsMap, Access, before_is, fetch_ok, byte_kept, plus_comm, signed_pair_is}
 use Rattle.mic1_interpreter.proofs.Facts.{place, base_above, Top, top, Two, two, two_down, two_next, drops, IsTop_at}
 use Rattle.mic1_interpreter.proofs.Boundaries.{Comes, comes, Counts, counts, at_boundary, map_of, moves}
 
@@ -179,10 +177,10 @@ module _ (program : List ℕ) (has : HasStatements program) (o : Origin) (v : Ve
   inside s i n = omega (arith, n.begins, loads.image.limits.text_fits)
 
   -- the target of a jump
-  target_is : (s : State) (z : ℤ) → z ≡ cast_signed w16 (256 * byte_in o.words (s.at + 1) + byte_in o.words (s.at + 2)) → jump o.words s.at ≡ target s.at z
+  target_is : (s : State) (z : ℤ) → word_of z ≡ signed_pair (byte_in o.words (s.at + 1)) (byte_in o.words (s.at + 2)) → jump o.words s.at ≡ target s.at z
   target_is s z e =
       plus_comm (signed_pair (byte_in o.words (s.at + 1)) (byte_in o.words (s.at + 2))) s.at
-      ∙ ap (plus s.at) (sym (half_word (byte_in o.words (s.at + 1)) (byte_in o.words (s.at + 2)) (byte_bound o.words (s.at + 1)) (byte_bound o.words (s.at + 2))) ∙ ap word_of (sym e))
+      ∙ ap (plus s.at) (sym e)
 
   target_inside : (s : State) (z : ℤ) → jump o.words s.at ≡ target s.at z → target s.at z < length v.image.text → jump o.words s.at < 0x10000
   target_inside s z e l = omega (arith, loads.image.limits.text_fits)

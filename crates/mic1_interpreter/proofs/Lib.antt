@@ -9,7 +9,6 @@ pub mod Output
 pub mod Operands
 pub mod Consoles
 pub mod Jumps
-pub mod Numbers
 pub mod Locals
 pub mod Calls
 pub mod Ends

@@ -1,22 +1,21 @@
 -- Instructions that name a local or a constant.
-use Rattle.std.proofs.Common.{◌≡◌, ℕ, suc, ◌+◌, ◌-◌, ◌*◌, ◌<◌, ◌≤◌, Some, None, Option, List, [], ◌∷◌, ◌++◌, length, true, refl, arith, sym, ◌∙◌, ap, ap₂, length-set, inl, inr}
-use Rattle.std.specs.Prelude.{slice_index, slice_set, slice_get, bit_or, ℤ}
-use Rattle.std.specs.Int.{w8, w16, cast_signed}
-use Rattle.std.proofs.lemmas.Option.{get_or_from_slice_get}
+use Rattle.std.proofs.Common.{◌≡◌, ℕ, ◌+◌, ◌-◌, ◌*◌, ◌<◌, ◌≤◌, Some, Option, List, [], ◌∷◌, ◌++◌, length, true, refl, arith, sym, ◌∙◌, ap, ap₂, length-set, inl}
+use Rattle.std.specs.Prelude.{slice_index, slice_set, slice_get, bit_or}
+use Rattle.std.proofs.lemmas.Option.{get_or_from_slice_get, slice_get_within}
 use Rattle.machine_words.specs.declared.machine.Machine.TheVariants.{Mic1}
 use Rattle.machine_words.specs.Arithmetic.{wrap, plus, next, before, signed_byte, signed_pair}
 use Rattle.console_port.specs.World.{World, Refusal, StackLimit, read_value, byte_in, write_refusal, fetch_refusal}
 use Rattle.ijvm_instr.specs.declared.instr.Instr.{Instr}
 use Rattle.ijvm_instr.specs.declared.instr.Instr.TheVariants.{LdcW, Iload, Istore, Iinc, WideIload, WideIstore, WideIinc}
-use Rattle.ijvm_instr.specs.Instructions.{word_of}
 use Rattle.ijvm_run.specs.Frames.{Frame, State, frames_of, base, operands_at}
 use Rattle.ijvm_run.specs.Cost.{cost}
-use Rattle.ijvm_run.specs.Step.{moved, with_local, is_own}
+use Rattle.ijvm_run.specs.Step.{with_local, is_own}
 use Rattle.ijvm_paths.specs.Accepted.{VerifiedView}
 use Rattle.mic1_datapath.specs.Micro.{Micro}
 use Rattle.datapath.specs.Memory.{first_refusal}
 use Rattle.mic1_datapath.specs.Mic1.{mic1_meaning}
-use Rattle.ijvm_simulation.specs.Stands.{Origin, FramesStand, IsMemory, IsTop}
+use Rattle.ijvm_simulation.specs.Stands.{Origin, FramesStand, IsMemory}
+use Rattle.ijvm_simulation.specs.Writes.{KeepFrames}
 use Rattle.ijvm_simulation.specs.Passes.{Moment}
 use Rattle.ijvm_simulation.specs.Outcomes.{Went, Overran, push}
 use Rattle.ijvm_simulation.specs.Verified.{Loads, Fine, IsNext}
@@ -24,13 +23,12 @@ use Rattle.ijvm_simulation.specs.Law.{Moves, Overruns, Takes}
 use Rattle.mic1_interpreter.specs.Stands.{Stands}
 use Rattle.mic1_interpreter.specs.Groups.{IsOfLocals}
 use Rattle.mic1_interpreter.proofs.Shipped.{HasStatements}
-use Rattle.mic1_interpreter.proofs.Accesses.{IsMap, Access, access, next_is, write_limit, plus_is, plus_comm, pair_is, signed_pair_is, byte_bound, byte_kept}
-use Rattle.mic1_interpreter.proofs.Numbers.{byte_word, half_word}
-use Rattle.mic1_interpreter.proofs.Keeps.{get_below, stored, memory_set, frames_at, memory_at}
+use Rattle.mic1_interpreter.proofs.Accesses.{IsMap, Access, access, next_is, write_limit, plus_is, plus_comm, pair_is, signed_pair_is, byte_kept}
+use Rattle.mic1_interpreter.proofs.Keeps.{memory_set, frames_at, memory_at}
 use Rattle.mic1_interpreter.proofs.Facts.{with_operands, place, base_above, room, Top, top, local_at, pushes, next_top_is}
 use Rattle.mic1_interpreter.proofs.Boundaries.{Comes, comes, Counts, counts, at_boundary, map_of, moves, overruns}
 
-module _ (program : List ℕ) (has : HasStatements program) (o : Origin) (map : IsMap (length o.words)) (s : State) (m : Micro) (w : World) (k : ℕ) (h : Stands o s m w) (inside : s.at < 0x10000) where
+module _ (program : List ℕ) (has : HasStatements program) (o : Origin) (map : IsMap (length o.words)) (keep : KeepFrames) (s : State) (m : Micro) (w : World) (k : ℕ) (h : Stands o s m w) (inside : s.at < 0x10000) where
   iload : (i v : ℕ) → byte_in o.words s.at ≡ 0x15 → i ≡ byte_in o.words (s.at + 1) → slice_get s.running.locals i ≡ Some (Some v) → base (frames_of s) < length o.words →
       Comes program o 5 (record { state = m; world = w; stalls = k }) (push s v (s.at + 2))
   iload i v code index local space =
@@ -38,7 +36,7 @@ module _ (program : List ℕ) (has : HasStatements program) (o : Origin) (map : 
       let r : Access (length o.words) w (next m.sp) (base (frames_of s)) = room o map s m.sp m.lv m.cpp m.tos w h.holds space in
       let op : m.mbr ≡ 0x15 = h.ready.mbr ∙ code in
       let from : ℕ = plus m.lv (byte_in w.words (next m.pc)) in
-      let l : i < length s.running.locals = get_below s.running.locals i (Some v) local in
+      let l : i < length s.running.locals = slice_get_within s.running.locals i (Some v) local in
       let a : Access (length o.words) w from (base s.callers + i) =
       local_at o map s m.sp m.lv m.cpp m.tos w h.holds from i l (plus_is h.holds.lv_is (c.byte1 ∙ sym index) refl (omega (arith, h.holds.fits, map.high))) in
       let is : read_value (length o.words) w.words w.untaken from ≡ v = a.value ∙ h.holds.frames.0.locals i v local in
@@ -47,7 +45,7 @@ module _ (program : List ℕ) (has : HasStatements program) (o : Origin) (map : 
       let same : slice_set w.words (next m.sp) (read_value (length o.words) w.words w.untaken from) ≡ slice_set w.words (base (frames_of s)) v = ap₂ (slice_set w.words) r.is is in
       comes program has o (0x15 ∷ []) 5 m w k s _ h (assumption)
       (at_boundary o _ _ _
-      (pushes o map s m.sp m.lv m.cpp m.tos w h.holds s.running.operands _ (s.at + 2) _ _ _ _ _ s.untaken h.holds.frames space
+      (pushes o map s m.sp m.lv m.cpp m.tos w h.holds keep s.running.operands _ (s.at + 2) _ _ _ _ _ s.untaken h.holds.frames space
       refl refl r.is is same (a.untaken ∙ h.holds.untaken) (r.given _))
       c.pc2 (ap (λ (ws : List ℕ). byte_in ws (next (next m.pc))) same ∙ byte_kept _ o.words new.kept c.pc2 (omega arith)) refl refl refl refl refl)
       refl
@@ -60,7 +58,7 @@ module _ (program : List ℕ) (has : HasStatements program) (o : Origin) (map : 
       let op : m.mbr ≡ 0xC4 = h.ready.mbr ∙ code in
       let op2 : byte_in w.words (next m.pc) + 256 ≡ 0x115 = omega (arith, c.byte1 ∙ code2) in
       let from : ℕ = plus (bit_or (wrap (256 * byte_in w.words (next (next m.pc)))) (byte_in w.words (next (next (next m.pc))))) m.lv in
-      let l : i < length s.running.locals = get_below s.running.locals i (Some v) local in
+      let l : i < length s.running.locals = slice_get_within s.running.locals i (Some v) local in
       let a : Access (length o.words) w from (base s.callers + i) =
       local_at o map s m.sp m.lv m.cpp m.tos w h.holds from i l (plus_is (pair_is o.words (s.at + 2) (s.at + 3) c.byte2 c.byte3 index) h.holds.lv_is (omega arith) (omega (arith, h.holds.fits, map.high))) in
       let is : read_value (length o.words) w.words w.untaken from ≡ v = a.value ∙ h.holds.frames.0.locals i v local in
@@ -69,7 +67,7 @@ module _ (program : List ℕ) (has : HasStatements program) (o : Origin) (map : 
       let same : slice_set w.words (next m.sp) (read_value (length o.words) w.words w.untaken from) ≡ slice_set w.words (base (frames_of s)) v = ap₂ (slice_set w.words) r.is is in
       comes program has o (0xC4 ∷ 0x115 ∷ []) 8 m w k s _ h (assumption)
       (at_boundary o _ _ _
-      (pushes o map s m.sp m.lv m.cpp m.tos w h.holds s.running.operands _ (s.at + 4) _ _ _ _ _ s.untaken h.holds.frames space
+      (pushes o map s m.sp m.lv m.cpp m.tos w h.holds keep s.running.operands _ (s.at + 4) _ _ _ _ _ s.untaken h.holds.frames space
       refl refl r.is is same (a.untaken ∙ h.holds.untaken) (r.given _))
       c.pc4 (ap (λ (ws : List ℕ). byte_in ws (next (next (next (next m.pc))))) same ∙ byte_kept _ o.words new.kept c.pc4 (omega arith)) refl refl refl refl refl)
       refl
@@ -89,7 +87,7 @@ module _ (program : List ℕ) (has : HasStatements program) (o : Origin) (map : 
       let same : slice_set w.words (next m.sp) (read_value (length o.words) w.words w.untaken from) ≡ slice_set w.words (base (frames_of s)) v = ap₂ (slice_set w.words) r.is is in
       comes program has o (0x13 ∷ []) 7 m w k s _ h (assumption)
       (at_boundary o _ _ _
-      (pushes o map s m.sp m.lv m.cpp m.tos w h.holds s.running.operands _ (s.at + 3) _ _ _ _ _ s.untaken h.holds.frames space
+      (pushes o map s m.sp m.lv m.cpp m.tos w h.holds keep s.running.operands _ (s.at + 3) _ _ _ _ _ s.untaken h.holds.frames space
       refl refl r.is is same (a.untaken ∙ h.holds.untaken) (r.given _))
       c.pc3 (ap (λ (ws : List ℕ). byte_in ws (next (next (next m.pc)))) same ∙ byte_kept _ o.words new.kept c.pc3 (omega arith)) refl refl refl refl refl)
       refl
@@ -107,7 +105,7 @@ module _ (program : List ℕ) (has : HasStatements program) (o : Origin) (map : 
       let same : slice_set w.words to m.tos ≡ ms = ap₂ (slice_set w.words) a.is t.tos_is in
       let bottom : 0x8000 ≤ base s.callers = base_above s.callers in
       let inside_words : base s.callers + i < length w.words = omega (arith, h.holds.memory.long, a.below) in
-      let frames : FramesStand ms (f ∷ s.callers) = stored w.words i y (with_operands s rest) s.callers l own inside_words t.frames in
+      let frames : FramesStand ms (f ∷ s.callers) = keep.stored w.words i y (with_operands s rest) s.callers l own inside_words t.frames in
       let new : IsMemory o.words ms = memory_set o.words w.words (base s.callers + i) y (omega arith) h.holds.memory in
       let len : length f.locals ≡ length s.running.locals = length-set s.running.locals i (Some y) in
       let down : Access (length o.words) (record w { words = ms }) (before m.sp) (place s rest - 1) = access (length o.words) (record w { words = ms }) (before m.sp) (place s rest - 1) t.down.is t.down.below in
@@ -143,7 +141,7 @@ module _ (program : List ℕ) (has : HasStatements program) (o : Origin) (map : 
       let same : slice_set w.words to m.tos ≡ ms = ap₂ (slice_set w.words) a.is t.tos_is in
       let bottom : 0x8000 ≤ base s.callers = base_above s.callers in
       let inside_words : base s.callers + i < length w.words = omega (arith, h.holds.memory.long, a.below) in
-      let frames : FramesStand ms (f ∷ s.callers) = stored w.words i y (with_operands s rest) s.callers l own inside_words t.frames in
+      let frames : FramesStand ms (f ∷ s.callers) = keep.stored w.words i y (with_operands s rest) s.callers l own inside_words t.frames in
       let new : IsMemory o.words ms = memory_set o.words w.words (base s.callers + i) y (omega arith) h.holds.memory in
       let len : length f.locals ≡ length s.running.locals = length-set s.running.locals i (Some y) in
       let down : Access (length o.words) (record w { words = ms }) (before m.sp) (place s rest - 1) = access (length o.words) (record w { words = ms }) (before m.sp) (place s rest - 1) t.down.is t.down.below in
@@ -170,7 +168,7 @@ module _ (program : List ℕ) (has : HasStatements program) (o : Origin) (map : 
   iinc i v code index local own =
       let c : Counts o s m w = counts o map s m w h inside in
       let op : m.mbr ≡ 0x84 = h.ready.mbr ∙ code in
-      let l : i < length s.running.locals = get_below s.running.locals i (Some v) local in
+      let l : i < length s.running.locals = slice_get_within s.running.locals i (Some v) local in
       let at : ℕ = plus m.lv (byte_in w.words (next m.pc)) in
       let a : Access (length o.words) w at (base s.callers + i) = local_at o map s m.sp m.lv m.cpp m.tos w h.holds at i l (plus_is h.holds.lv_is (c.byte1 ∙ sym index) refl (omega (arith, h.holds.fits, map.high))) in
       let y : ℕ = plus v (signed_byte (byte_in o.words (s.at + 2))) in
@@ -180,7 +178,7 @@ module _ (program : List ℕ) (has : HasStatements program) (o : Origin) (map : 
       let same : slice_set w.words at (plus (read_value (length o.words) w.words w.untaken at) (signed_byte (byte_in w.words (next (next m.pc))))) ≡ ms = ap₂ (slice_set w.words) a.is is in
       let bottom : 0x8000 ≤ base s.callers = base_above s.callers in
       let inside_words : base s.callers + i < length w.words = omega (arith, h.holds.memory.long, a.below) in
-      let frames : FramesStand ms (f ∷ s.callers) = stored w.words i y s.running s.callers l own inside_words h.holds.frames in
+      let frames : FramesStand ms (f ∷ s.callers) = keep.stored w.words i y s.running s.callers l own inside_words h.holds.frames in
       let new : IsMemory o.words ms = memory_set o.words w.words (base s.callers + i) y (omega arith) h.holds.memory in
       let len : length f.locals ≡ length s.running.locals = length-set s.running.locals i (Some y) in
       comes program has o (0x84 ∷ []) 6 m w k s _ h (assumption)
@@ -205,7 +203,7 @@ module _ (program : List ℕ) (has : HasStatements program) (o : Origin) (map : 
       let c : Counts o s m w = counts o map s m w h inside in
       let op : m.mbr ≡ 0xC4 = h.ready.mbr ∙ code in
       let op2 : byte_in w.words (next m.pc) + 256 ≡ 0x184 = omega (arith, c.byte1 ∙ code2) in
-      let l : i < length s.running.locals = get_below s.running.locals i (Some v) local in
+      let l : i < length s.running.locals = slice_get_within s.running.locals i (Some v) local in
       let at : ℕ = plus (bit_or (wrap (256 * byte_in w.words (next (next m.pc)))) (byte_in w.words (next (next (next m.pc))))) m.lv in
       let a : Access (length o.words) w at (base s.callers + i) = local_at o map s m.sp m.lv m.cpp m.tos w h.holds at i l (plus_is (pair_is o.words (s.at + 2) (s.at + 3) c.byte2 c.byte3 index) h.holds.lv_is (omega arith) (omega (arith, h.holds.fits, map.high))) in
       let y : ℕ = plus v (signed_pair (byte_in o.words (s.at + 4)) (byte_in o.words (s.at + 5))) in
@@ -215,7 +213,7 @@ module _ (program : List ℕ) (has : HasStatements program) (o : Origin) (map : 
       let same : slice_set w.words at (plus (bit_or (wrap (256 * signed_byte (byte_in w.words (next (next (next (next m.pc))))))) (byte_in w.words (next (next (next (next (next m.pc))))))) (read_value (length o.words) w.words w.untaken at)) ≡ ms = ap₂ (slice_set w.words) a.is is in
       let bottom : 0x8000 ≤ base s.callers = base_above s.callers in
       let inside_words : base s.callers + i < length w.words = omega (arith, h.holds.memory.long, a.below) in
-      let frames : FramesStand ms (f ∷ s.callers) = stored w.words i y s.running s.callers l own inside_words h.holds.frames in
+      let frames : FramesStand ms (f ∷ s.callers) = keep.stored w.words i y s.running s.callers l own inside_words h.holds.frames in
       let new : IsMemory o.words ms = memory_set o.words w.words (base s.callers + i) y (omega arith) h.holds.memory in
       let len : length f.locals ≡ length s.running.locals = length-set s.running.locals i (Some y) in
       comes program has o (0xC4 ∷ 0x184 ∷ []) 11 m w k s _ h (assumption)
@@ -234,18 +232,12 @@ module _ (program : List ℕ) (has : HasStatements program) (o : Origin) (map : 
       c.pc6 c.byte6 refl refl refl refl refl)
       refl
 
-module _ (program : List ℕ) (has : HasStatements program) (o : Origin) (v : VerifiedView) (loads : Loads v o) where
+module _ (program : List ℕ) (has : HasStatements program) (o : Origin) (v : VerifiedView) (loads : Loads v o) (keep : KeepFrames) where
   abbrev map : IsMap (length o.words)
   map = map_of v o loads
 
   inside : (s : State) (i : Instr) → IsNext v o s i → s.at < 0x10000
   inside s i n = omega (arith, n.begins, loads.image.limits.text_fits)
-
-  byte_is : (p : ℕ) (z : ℤ) → z ≡ cast_signed w8 (byte_in o.words p) → signed_byte (byte_in o.words p) ≡ word_of z
-  byte_is p z e = sym (byte_word (byte_in o.words p) (byte_bound o.words p)) ∙ ap word_of (sym e)
-
-  half_is : (p q : ℕ) (z : ℤ) → z ≡ cast_signed w16 (256 * byte_in o.words p + byte_in o.words q) → signed_pair (byte_in o.words p) (byte_in o.words q) ≡ word_of z
-  half_is p q z e = sym (half_word (byte_in o.words p) (byte_in o.words q) (byte_bound o.words p) (byte_bound o.words q)) ∙ ap word_of (sym e)
 
   -- a constant in the memory
   pub record Constant (k x : ℕ) : Type 0 where
@@ -254,7 +246,7 @@ module _ (program : List ℕ) (has : HasStatements program) (o : Origin) (v : Ve
 
   constant : (k x : ℕ) → slice_get v.image.pool k ≡ Some x → Constant k x
   constant k x e =
-      let l : k < length v.image.pool = get_below v.image.pool k x e in
+      let l : k < length v.image.pool = slice_get_within v.image.pool k x e in
       record { small = omega (arith, loads.image.limits.pool_fits); there = loads.pool k l ∙ get_or_from_slice_get v.image.pool k x 0 e }
 
   goes : (s to : State) (q : Moment Micro) (i : Instr) → IsOfLocals i → Fine v s → IsNext v o s i → Stands o s q.state q.world → Went v.image v.map.stack_end s to i →
@@ -262,27 +254,27 @@ module _ (program : List ℕ) (has : HasStatements program) (o : Origin) (v : Ve
   goes s to q (LdcW k) is fine n h went =
       let c : Constant k went.value = constant k went.value went.found in
       moves program o v s to _ q (LdcW k) 7 h refl (omega arith) went.leads.goes
-      (ldc_w program has o map s q.state q.world q.stalls h (inside s (LdcW k) n) k went.value n.reads.0 n.reads.1 c.small c.there (omega (arith, went.leads.fits, loads.long)))
+      (ldc_w program has o map keep s q.state q.world q.stalls h (inside s (LdcW k) n) k went.value n.reads.0 n.reads.1 c.small c.there (omega (arith, went.leads.fits, loads.long)))
   goes s to q (Iload k) is fine n h went =
       moves program o v s to _ q (Iload k) 5 h refl (omega arith) went.leads.goes
-      (iload program has o map s q.state q.world q.stalls h (inside s (Iload k) n) k went.value n.reads.0 n.reads.1 went.set (omega (arith, went.leads.fits, loads.long)))
+      (iload program has o map keep s q.state q.world q.stalls h (inside s (Iload k) n) k went.value n.reads.0 n.reads.1 went.set (omega (arith, went.leads.fits, loads.long)))
   goes s to q (Istore k) is fine n h went =
       moves program o v s to _ q (Istore k) 6 h refl (omega arith) went.leads.goes
-      (istore program has o map s q.state q.world q.stalls h (inside s (Istore k) n) k went.top went.rest n.reads.0 n.reads.1 went.are went.leads.inside went.leads.own)
+      (istore program has o map keep s q.state q.world q.stalls h (inside s (Istore k) n) k went.top went.rest n.reads.0 n.reads.1 went.are went.leads.inside went.leads.own)
   goes s to q (Iinc k b) is fine n h went =
       moves program o v s to _ q (Iinc k b) 6 h refl (omega arith)
-      (ap (λ (x : ℕ). with_local s k (plus went.value x) s.running.operands (s.at + 3)) (byte_is (s.at + 2) b n.reads.2) ∙ went.leads)
-      (iinc program has o map s q.state q.world q.stalls h (inside s (Iinc k b) n) k went.value n.reads.0 n.reads.1 went.set (n.finds.named k (inl refl)).1)
+      (ap (λ (x : ℕ). with_local s k (plus went.value x) s.running.operands (s.at + 3)) (sym n.reads.2) ∙ went.leads)
+      (iinc program has o map keep s q.state q.world q.stalls h (inside s (Iinc k b) n) k went.value n.reads.0 n.reads.1 went.set (n.finds.named k (inl refl)).1)
   goes s to q (WideIload k) is fine n h went =
       moves program o v s to _ q (WideIload k) 8 h refl (omega arith) went.leads.goes
-      (wide_iload program has o map s q.state q.world q.stalls h (inside s (WideIload k) n) k went.value n.reads.0 n.reads.1 n.reads.2 went.set (omega (arith, went.leads.fits, loads.long)))
+      (wide_iload program has o map keep s q.state q.world q.stalls h (inside s (WideIload k) n) k went.value n.reads.0 n.reads.1 n.reads.2 went.set (omega (arith, went.leads.fits, loads.long)))
   goes s to q (WideIstore k) is fine n h went =
       moves program o v s to _ q (WideIstore k) 9 h refl (omega arith) went.leads.goes
-      (wide_istore program has o map s q.state q.world q.stalls h (inside s (WideIstore k) n) k went.top went.rest n.reads.0 n.reads.1 n.reads.2 went.are went.leads.inside went.leads.own)
+      (wide_istore program has o map keep s q.state q.world q.stalls h (inside s (WideIstore k) n) k went.top went.rest n.reads.0 n.reads.1 n.reads.2 went.are went.leads.inside went.leads.own)
   goes s to q (WideIinc k z) is fine n h went =
       moves program o v s to _ q (WideIinc k z) 11 h refl (omega arith)
-      (ap (λ (x : ℕ). with_local s k (plus went.value x) s.running.operands (s.at + 6)) (half_is (s.at + 4) (s.at + 5) z n.reads.3) ∙ went.leads)
-      (wide_iinc program has o map s q.state q.world q.stalls h (inside s (WideIinc k z) n) k went.value n.reads.0 n.reads.1 n.reads.2 went.set (n.finds.named k (inl refl)).1)
+      (ap (λ (x : ℕ). with_local s k (plus went.value x) s.running.operands (s.at + 6)) (sym n.reads.3) ∙ went.leads)
+      (wide_iinc program has o map keep s q.state q.world q.stalls h (inside s (WideIinc k z) n) k went.value n.reads.0 n.reads.1 n.reads.2 went.set (n.finds.named k (inl refl)).1)
   goes s to q i is fine n h went = absurd is
 
   limits : (s left : State) (q : Moment Micro) (i : Instr) → IsOfLocals i → Fine v s → IsNext v o s i → Stands o s q.state q.world → Overran v.image v.map.stack_end s left i →
@@ -306,7 +298,7 @@ module _ (program : List ℕ) (has : HasStatements program) (o : Origin) (v : Ve
       let op : q.state.mbr ≡ 0x15 = h.ready.mbr ∙ n.reads.0 in
       let high : length o.words < 0x80000000 = map.high in
       let from : ℕ = plus q.state.lv (byte_in q.world.words (next q.state.pc)) in
-      let l : k < length s.running.locals = get_below s.running.locals k (Some over.value) over.set in
+      let l : k < length s.running.locals = slice_get_within s.running.locals k (Some over.value) over.set in
       let a : Access (length o.words) q.world from (base s.callers + k) =
       local_at o map s q.state.sp q.state.lv q.state.cpp q.state.tos q.world h.holds from k l (plus_is h.holds.lv_is (c.byte1 ∙ sym n.reads.1) refl (omega (arith, h.holds.fits, map.high))) in
       let sp : next q.state.sp ≡ base (frames_of s) = next_is q.state.sp (base (frames_of s)) h.holds.sp_is (omega (arith, h.holds.fits)) in
@@ -321,7 +313,7 @@ module _ (program : List ℕ) (has : HasStatements program) (o : Origin) (v : Ve
       let op2 : byte_in q.world.words (next q.state.pc) + 256 ≡ 0x115 = omega (arith, c.byte1 ∙ n.reads.1) in
       let high : length o.words < 0x80000000 = map.high in
       let from : ℕ = plus (bit_or (wrap (256 * byte_in q.world.words (next (next q.state.pc)))) (byte_in q.world.words (next (next (next q.state.pc))))) q.state.lv in
-      let l : k < length s.running.locals = get_below s.running.locals k (Some over.value) over.set in
+      let l : k < length s.running.locals = slice_get_within s.running.locals k (Some over.value) over.set in
       let a : Access (length o.words) q.world from (base s.callers + k) =
       local_at o map s q.state.sp q.state.lv q.state.cpp q.state.tos q.world h.holds from k l (plus_is (pair_is o.words (s.at + 2) (s.at + 3) c.byte2 c.byte3 n.reads.2) h.holds.lv_is (omega arith) (omega (arith, h.holds.fits, map.high))) in
       let sp : next q.state.sp ≡ base (frames_of s) = next_is q.state.sp (base (frames_of s)) h.holds.sp_is (omega (arith, h.holds.fits)) in

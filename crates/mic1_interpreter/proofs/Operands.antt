@@ -1,12 +1,10 @@
 -- Instructions on the operands alone.
-use Rattle.std.proofs.Common.{◌≡◌, ◌≢◌, ℕ, suc, ◌+◌, ◌-◌, ◌<◌, ◌≤◌, Some, None, List, [], ◌∷◌, ◌++◌, length, refl, arith, sym, ◌∙◌, ap, ap₂, add_comm, length-set, inl, inr}
-use Rattle.std.specs.Prelude.{slice_index, slice_set, nat_lt, if◌then◌else◌, pos, negsuc, Bool, true, false, bit_and, bit_or, Option}
-use Rattle.std.specs.Int.{w8, cast_signed}
-use Rattle.std.proofs.lemmas.Bool.Decides.{nat_tests}
+use Rattle.std.proofs.Common.{◌≡◌, ◌≢◌, ℕ, suc, ◌+◌, ◌<◌, ◌≤◌, Some, None, List, [], ◌∷◌, ◌++◌, length, refl, arith, sym, ◌∙◌, ap, ap₂, length-set, inl, inr}
+use Rattle.std.specs.Prelude.{slice_set, bit_and, bit_or, Option}
 use Rattle.std.proofs.lemmas.Nat.{and_comm, or_comm}
 use Rattle.std.proofs.lemmas.List.{set_comm}
 use Rattle.machine_words.specs.declared.machine.Machine.TheVariants.{Mic1}
-use Rattle.machine_words.specs.Arithmetic.{wrap, plus, minus, next, before, signed_byte}
+use Rattle.machine_words.specs.Arithmetic.{plus, minus, next, before, signed_byte}
 use Rattle.console_port.specs.World.{World, Refusal, StackLimit, read_value, byte_in, write_refusal}
 use Rattle.ijvm_instr.specs.declared.instr.Instr.{Instr}
 use Rattle.ijvm_instr.specs.declared.instr.Instr.TheVariants.{Nop, Bipush, Pop, Dup, Swap, Iadd, Isub, Iand, Ior}
@@ -19,6 +17,7 @@ use Rattle.mic1_datapath.specs.Micro.{Micro}
 use Rattle.datapath.specs.Memory.{first_refusal}
 use Rattle.mic1_datapath.specs.Mic1.{mic1_meaning}
 use Rattle.ijvm_simulation.specs.Stands.{Origin, FramesStand, IsMemory}
+use Rattle.ijvm_simulation.specs.Writes.{KeepFrames}
 use Rattle.ijvm_simulation.specs.Passes.{Moment}
 use Rattle.ijvm_simulation.specs.Outcomes.{Went, Overran, push}
 use Rattle.ijvm_simulation.specs.Verified.{Loads, Fine, IsNext}
@@ -26,13 +25,12 @@ use Rattle.ijvm_simulation.specs.Law.{Moves, Overruns, Takes}
 use Rattle.mic1_interpreter.specs.Stands.{Stands}
 use Rattle.mic1_interpreter.specs.Groups.{IsOfOperands}
 use Rattle.mic1_interpreter.proofs.Shipped.{HasStatements}
-use Rattle.mic1_interpreter.proofs.Accesses.{IsMap, Access, access, next_is, write_limit, given_ok, plus_comm, byte_bound}
-use Rattle.mic1_interpreter.proofs.Numbers.{byte_word}
-use Rattle.mic1_interpreter.proofs.Keeps.{pushed, set_same, memory_set, frames_at, memory_at}
+use Rattle.mic1_interpreter.proofs.Accesses.{IsMap, Access, access, next_is, write_limit, given_ok, plus_comm}
+use Rattle.mic1_interpreter.proofs.Keeps.{set_same, memory_set, frames_at, memory_at}
 use Rattle.mic1_interpreter.proofs.Facts.{with_operands, place, base_above, room, Top, top, Two, two, pushes, drops}
 use Rattle.mic1_interpreter.proofs.Boundaries.{Comes, comes, Counts, counts, at_boundary, map_of, moves, overruns}
 
-module _ (program : List ℕ) (has : HasStatements program) (o : Origin) (map : IsMap (length o.words)) (s : State) (m : Micro) (w : World) (k : ℕ) (h : Stands o s m w) (inside : s.at < 0x10000) where
+module _ (program : List ℕ) (has : HasStatements program) (o : Origin) (map : IsMap (length o.words)) (keep : KeepFrames) (s : State) (m : Micro) (w : World) (k : ℕ) (h : Stands o s m w) (inside : s.at < 0x10000) where
   nop : byte_in o.words s.at ≡ 0x00 → Comes program o 1 (record { state = m; world = w; stalls = k }) (moved s s.running.operands (s.at + 1))
   nop code =
       let c : Counts o s m w = counts o map s m w h inside in
@@ -53,7 +51,7 @@ module _ (program : List ℕ) (has : HasStatements program) (o : Origin) (map : 
       let v : signed_byte (byte_in w.words (next m.pc)) ≡ signed_byte (byte_in o.words (s.at + 1)) = ap signed_byte c.byte1 in
       comes program has o (0x10 ∷ []) 3 m w k s _ h (assumption)
       (at_boundary o _ _ _
-      (pushes o map s m.sp m.lv m.cpp m.tos w h.holds s.running.operands _ (s.at + 2) _ _ _ _ _ s.untaken h.holds.frames space
+      (pushes o map s m.sp m.lv m.cpp m.tos w h.holds keep s.running.operands _ (s.at + 2) _ _ _ _ _ s.untaken h.holds.frames space
       refl refl r.is v (ap₂ (slice_set w.words) r.is v) h.holds.untaken (r.given _))
       c.pc2 c.byte2 refl refl refl refl refl)
       refl
@@ -80,7 +78,7 @@ module _ (program : List ℕ) (has : HasStatements program) (o : Origin) (map : 
       let op : m.mbr ≡ 0x59 = h.ready.mbr ∙ code in
       comes program has o (0x59 ∷ []) 2 m w k s _ h (assumption)
       (at_boundary o _ _ _
-      (pushes o map s m.sp m.lv m.cpp m.tos w h.holds s.running.operands _ (s.at + 1) _ _ _ _ _ s.untaken h.holds.frames space
+      (pushes o map s m.sp m.lv m.cpp m.tos w h.holds keep s.running.operands _ (s.at + 1) _ _ _ _ _ s.untaken h.holds.frames space
       refl refl r.is t.tos_is (ap₂ (slice_set w.words) r.is t.tos_is) h.holds.untaken (r.given _))
       c.pc1 c.byte1 refl refl refl refl refl)
       refl
@@ -101,8 +99,8 @@ module _ (program : List ℕ) (has : HasStatements program) (o : Origin) (map : 
       let same : slice_set (slice_set w.words m.sp (read_value (length o.words) w.words w.untaken (before m.sp))) (before m.sp) m.tos ≡ ms =
       set_same (set_same refl top_at.is t.second) t.at.is t.tos_is ∙ set_comm w.words (a + 1) a x y apart in
       let frames : FramesStand ms (with_operands s (x ∷ y ∷ rest) ∷ s.callers) =
-      pushed m1 (a + 1) x (with_operands s (y ∷ rest)) s.callers (omega arith) (omega (arith, length-set w.words a y, h.holds.memory.long, top_at.below))
-      (pushed w.words a y (with_operands s rest) s.callers refl (omega (arith, h.holds.memory.long, t.at.below)) t.frames) in
+      keep.pushed m1 (a + 1) x (with_operands s (y ∷ rest)) s.callers (omega arith) (omega (arith, length-set w.words a y, h.holds.memory.long, top_at.below))
+      (keep.pushed w.words a y (with_operands s rest) s.callers refl (omega (arith, h.holds.memory.long, t.at.below)) t.frames) in
       let new : IsMemory o.words ms = memory_set o.words m1 (a + 1) x (omega arith) (memory_set o.words w.words a y (omega arith) h.holds.memory) in
       comes program has o (0x5F ∷ []) 6 m w k s _ h (assumption)
       (at_boundary o _ _ _
@@ -129,7 +127,7 @@ module _ (program : List ℕ) (has : HasStatements program) (o : Origin) (map : 
       let v : plus m.tos (read_value (length o.words) w.words w.untaken (before m.sp)) ≡ plus x y = ap₂ plus t.tos_is t.second ∙ plus_comm y x in
       comes program has o (0x60 ∷ []) 3 m w k s _ h (assumption)
       (at_boundary o _ _ _
-      (pushes o map s m.sp m.lv m.cpp m.tos w h.holds rest _ (s.at + 1) _ _ _ _ _ s.untaken t.frames t.at.below
+      (pushes o map s m.sp m.lv m.cpp m.tos w h.holds keep rest _ (s.at + 1) _ _ _ _ _ s.untaken t.frames t.at.below
       refl refl t.at.is v (ap₂ (slice_set w.words) t.at.is v) (t.at.untaken ∙ h.holds.untaken) (t.at.given _))
       c.pc1 c.byte1 refl refl refl refl refl)
       refl
@@ -143,7 +141,7 @@ module _ (program : List ℕ) (has : HasStatements program) (o : Origin) (map : 
       let v : minus (read_value (length o.words) w.words w.untaken (before m.sp)) m.tos ≡ minus x y = ap₂ minus t.second t.tos_is in
       comes program has o (0x64 ∷ []) 3 m w k s _ h (assumption)
       (at_boundary o _ _ _
-      (pushes o map s m.sp m.lv m.cpp m.tos w h.holds rest _ (s.at + 1) _ _ _ _ _ s.untaken t.frames t.at.below
+      (pushes o map s m.sp m.lv m.cpp m.tos w h.holds keep rest _ (s.at + 1) _ _ _ _ _ s.untaken t.frames t.at.below
       refl refl t.at.is v (ap₂ (slice_set w.words) t.at.is v) (t.at.untaken ∙ h.holds.untaken) (t.at.given _))
       c.pc1 c.byte1 refl refl refl refl refl)
       refl
@@ -157,7 +155,7 @@ module _ (program : List ℕ) (has : HasStatements program) (o : Origin) (map : 
       let v : bit_and m.tos (read_value (length o.words) w.words w.untaken (before m.sp)) ≡ bit_and x y = ap₂ bit_and t.tos_is t.second ∙ and_comm y x in
       comes program has o (0x7E ∷ []) 3 m w k s _ h (assumption)
       (at_boundary o _ _ _
-      (pushes o map s m.sp m.lv m.cpp m.tos w h.holds rest _ (s.at + 1) _ _ _ _ _ s.untaken t.frames t.at.below
+      (pushes o map s m.sp m.lv m.cpp m.tos w h.holds keep rest _ (s.at + 1) _ _ _ _ _ s.untaken t.frames t.at.below
       refl refl t.at.is v (ap₂ (slice_set w.words) t.at.is v) (t.at.untaken ∙ h.holds.untaken) (t.at.given _))
       c.pc1 c.byte1 refl refl refl refl refl)
       refl
@@ -171,7 +169,7 @@ module _ (program : List ℕ) (has : HasStatements program) (o : Origin) (map : 
       let v : bit_or m.tos (read_value (length o.words) w.words w.untaken (before m.sp)) ≡ bit_or x y = ap₂ bit_or t.tos_is t.second ∙ or_comm y x in
       comes program has o (0xB0 ∷ []) 3 m w k s _ h (assumption)
       (at_boundary o _ _ _
-      (pushes o map s m.sp m.lv m.cpp m.tos w h.holds rest _ (s.at + 1) _ _ _ _ _ s.untaken t.frames t.at.below
+      (pushes o map s m.sp m.lv m.cpp m.tos w h.holds keep rest _ (s.at + 1) _ _ _ _ _ s.untaken t.frames t.at.below
       refl refl t.at.is v (ap₂ (slice_set w.words) t.at.is v) (t.at.untaken ∙ h.holds.untaken) (t.at.given _))
       c.pc1 c.byte1 refl refl refl refl refl)
       refl
@@ -185,12 +183,12 @@ module _ (program : List ℕ) (has : HasStatements program) (o : Origin) (map : 
       let v : bit_or m.tos (read_value (length o.words) w.words w.untaken (before m.sp)) ≡ bit_or x y = ap₂ bit_or t.tos_is t.second ∙ or_comm y x in
       comes program has o (0x80 ∷ []) 3 m w k s _ h (assumption)
       (at_boundary o _ _ _
-      (pushes o map s m.sp m.lv m.cpp m.tos w h.holds rest _ (s.at + 1) _ _ _ _ _ s.untaken t.frames t.at.below
+      (pushes o map s m.sp m.lv m.cpp m.tos w h.holds keep rest _ (s.at + 1) _ _ _ _ _ s.untaken t.frames t.at.below
       refl refl t.at.is v (ap₂ (slice_set w.words) t.at.is v) (t.at.untaken ∙ h.holds.untaken) (t.at.given _))
       c.pc1 c.byte1 refl refl refl refl refl)
       refl
 
-module _ (program : List ℕ) (has : HasStatements program) (o : Origin) (v : VerifiedView) (loads : Loads v o) where
+module _ (program : List ℕ) (has : HasStatements program) (o : Origin) (v : VerifiedView) (loads : Loads v o) (keep : KeepFrames) where
   abbrev map : IsMap (length o.words)
   map = map_of v o loads
 
@@ -199,29 +197,29 @@ module _ (program : List ℕ) (has : HasStatements program) (o : Origin) (v : Ve
 
   goes : (s to : State) (q : Moment Micro) (i : Instr) → IsOfOperands i → Fine v s → IsNext v o s i → Stands o s q.state q.world → Went v.image v.map.stack_end s to i →
       Moves mic1_meaning program (Stands o) o.given q (cost v.image Mic1 i s) to
-  goes s to q Nop is fine n h went = moves program o v s to _ q Nop 1 h refl (omega arith) went (nop program has o map s q.state q.world q.stalls h (inside s Nop n) n.reads)
+  goes s to q Nop is fine n h went = moves program o v s to _ q Nop 1 h refl (omega arith) went (nop program has o map keep s q.state q.world q.stalls h (inside s Nop n) n.reads)
   goes s to q (Bipush b) is fine n h went =
-      let word : signed_byte (byte_in o.words (s.at + 1)) ≡ word_of b = sym (byte_word (byte_in o.words (s.at + 1)) (byte_bound o.words (s.at + 1))) ∙ ap word_of (sym n.reads.1) in
+      let word : signed_byte (byte_in o.words (s.at + 1)) ≡ word_of b = sym n.reads.1 in
       moves program o v s to _ q (Bipush b) 3 h refl (omega arith) (ap (λ (x : ℕ). push s x (s.at + 2)) word ∙ went.goes)
-      (bipush program has o map s q.state q.world q.stalls h (inside s (Bipush b) n) n.reads.0 (omega (arith, went.fits, loads.long)))
+      (bipush program has o map keep s q.state q.world q.stalls h (inside s (Bipush b) n) n.reads.0 (omega (arith, went.fits, loads.long)))
   goes s to q Pop is fine n h went =
-      moves program o v s to _ q Pop 3 h refl (omega arith) went.leads (pop program has o map s q.state q.world q.stalls h (inside s Pop n) went.top went.rest n.reads went.are)
+      moves program o v s to _ q Pop 3 h refl (omega arith) went.leads (pop program has o map keep s q.state q.world q.stalls h (inside s Pop n) went.top went.rest n.reads went.are)
   goes s to q Dup is fine n h went =
       moves program o v s to _ q Dup 2 h refl (omega arith) went.leads.goes
-      (dup program has o map s q.state q.world q.stalls h (inside s Dup n) went.top went.rest n.reads went.are (omega (arith, went.leads.fits, loads.long)))
+      (dup program has o map keep s q.state q.world q.stalls h (inside s Dup n) went.top went.rest n.reads went.are (omega (arith, went.leads.fits, loads.long)))
   goes s to q Swap is fine n h went =
-      moves program o v s to _ q Swap 6 h refl (omega arith) went.leads (swap program has o map s q.state q.world q.stalls h (inside s Swap n) went.top went.second went.rest n.reads went.are)
+      moves program o v s to _ q Swap 6 h refl (omega arith) went.leads (swap program has o map keep s q.state q.world q.stalls h (inside s Swap n) went.top went.second went.rest n.reads went.are)
   goes s to q Iadd is fine n h went =
-      moves program o v s to _ q Iadd 3 h refl (omega arith) went.leads (iadd program has o map s q.state q.world q.stalls h (inside s Iadd n) went.top went.second went.rest n.reads went.are)
+      moves program o v s to _ q Iadd 3 h refl (omega arith) went.leads (iadd program has o map keep s q.state q.world q.stalls h (inside s Iadd n) went.top went.second went.rest n.reads went.are)
   goes s to q Isub is fine n h went =
-      moves program o v s to _ q Isub 3 h refl (omega arith) went.leads (isub program has o map s q.state q.world q.stalls h (inside s Isub n) went.top went.second went.rest n.reads went.are)
+      moves program o v s to _ q Isub 3 h refl (omega arith) went.leads (isub program has o map keep s q.state q.world q.stalls h (inside s Isub n) went.top went.second went.rest n.reads went.are)
   goes s to q Iand is fine n h went =
-      moves program o v s to _ q Iand 3 h refl (omega arith) went.leads (iand program has o map s q.state q.world q.stalls h (inside s Iand n) went.top went.second went.rest n.reads went.are)
+      moves program o v s to _ q Iand 3 h refl (omega arith) went.leads (iand program has o map keep s q.state q.world q.stalls h (inside s Iand n) went.top went.second went.rest n.reads went.are)
   goes s to q Ior is fine n h went = elim n.reads [
     | inl code ↦
-        moves program o v s to _ q Ior 3 h refl (omega arith) went.leads (ior program has o map s q.state q.world q.stalls h (inside s Ior n) went.top went.second went.rest code went.are)
+        moves program o v s to _ q Ior 3 h refl (omega arith) went.leads (ior program has o map keep s q.state q.world q.stalls h (inside s Ior n) went.top went.second went.rest code went.are)
     | inr code ↦
-        moves program o v s to _ q Ior 3 h refl (omega arith) went.leads (ior80 program has o map s q.state q.world q.stalls h (inside s Ior n) went.top went.second went.rest code went.are)
+        moves program o v s to _ q Ior 3 h refl (omega arith) went.leads (ior80 program has o map keep s q.state q.world q.stalls h (inside s Ior n) went.top went.second went.rest code went.are)
   ]
   goes s to q i is fine n h went = absurd is
 

@@ -11,17 +11,23 @@ ghost use Rattle.ijvm_simulation.specs.Law.{Takes, Ends};
 ghost use Rattle.mic1_interpreter.specs.Stands.{Stands};
 ghost use Rattle.mic1_interpreter.specs.Groups.{IsOfOperands, IsOfLocals, IsOfConsole, IsJump, IsCall};
 
+use ijvm_simulation::writes_keep_frames;
+
 /// The instructions on the operands alone.
 pub(crate) fn operands_law()
     ensures { (store : List ℕ) (o : Origin) (v : VerifiedView) → HasShipped Mic1 store → Loads v o →
         Takes mic1_meaning store (Stands o) o.given v o IsOfOperands }
-{}
+{
+    writes_keep_frames();
+}
 
 /// IN and OUT.
 pub(crate) fn consoles_law()
     ensures { (store : List ℕ) (o : Origin) (v : VerifiedView) → HasShipped Mic1 store → Loads v o →
         Takes mic1_meaning store (Stands o) o.given v o IsOfConsole }
-{}
+{
+    writes_keep_frames();
+}
 
 /// The jumps and branches.
 pub(crate) fn jumps_law()
@@ -33,13 +39,17 @@ pub(crate) fn jumps_law()
 pub(crate) fn locals_law()
     ensures { (store : List ℕ) (o : Origin) (v : VerifiedView) → HasShipped Mic1 store → Loads v o →
         Takes mic1_meaning store (Stands o) o.given v o IsOfLocals }
-{}
+{
+    writes_keep_frames();
+}
 
 /// Calls and returns.
 pub(crate) fn calls_law()
     ensures { (store : List ℕ) (o : Origin) (v : VerifiedView) → HasShipped Mic1 store → Loads v o →
         Takes mic1_meaning store (Stands o) o.given v o IsCall }
-{}
+{
+    writes_keep_frames();
+}
 
 /// HALT and ERR.
 pub(crate) fn ends_law()

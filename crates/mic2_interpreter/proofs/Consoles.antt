@@ -13,6 +13,7 @@ use Rattle.ijvm_paths.specs.Accepted.{VerifiedView}
 use Rattle.mic2_datapath.specs.Micro.{Micro}
 use Rattle.mic2_datapath.specs.Mic2.{mic2_meaning}
 use Rattle.ijvm_simulation.specs.Stands.{Origin}
+use Rattle.ijvm_simulation.specs.Writes.{KeepFrames}
 use Rattle.ijvm_simulation.specs.Passes.{Moment}
 use Rattle.ijvm_simulation.specs.Outcomes.{Went, Overran, push}
 use Rattle.ijvm_simulation.specs.Verified.{Loads, Fine, IsNext}
@@ -26,7 +27,7 @@ use Rattle.mic2_interpreter.proofs.Facts.{base_above, room, Top, top, pushes, dr
 use Rattle.mic2_interpreter.proofs.Queue.{Goes}
 use Rattle.mic2_interpreter.proofs.Boundaries.{Comes, comes, steps, Counts, counts, at_boundary, map_of, moves, overruns}
 
-module _ (program : List ℕ) (has : HasStatements program) (o : Origin) (map : IsMap (length o.words)) (s : State) (m : Micro) (w : World) (k : ℕ) (h : Stands o s m w) (inside : s.at < 0x10000) where
+module _ (program : List ℕ) (has : HasStatements program) (o : Origin) (map : IsMap (length o.words)) (keep : KeepFrames) (s : State) (m : Micro) (w : World) (k : ℕ) (h : Stands o s m w) (inside : s.at < 0x10000) where
   out : (y : ℕ) (rest : List ℕ) → byte_in o.words s.at ≡ 0xFD → s.running.operands ≡ y ∷ rest →
       Comes program o 6 0 (record { state = m; world = w; stalls = k }) (record (moved s rest (s.at + 1)) { given = s.given ++ y % 256 ∷ [] })
   out y rest code ops =
@@ -56,12 +57,12 @@ module _ (program : List ℕ) (has : HasStatements program) (o : Origin) (map : 
       let v : read_value (length o.words) w.words w.untaken console ≡ next_byte s.untaken = p.value ∙ ap next_byte h.holds.untaken in
       comes program has o map Goes (steps 4) (byte_in o.words (s.at + 1) ∷ []) m w k 0xFC 0 s _ h code (assumption)
       (at_boundary o _ _ _
-      (pushes o map s m.sp m.lv m.cpp m.tos w h.holds s.running.operands _ (s.at + 1) _ _ _ _ _ (drop 1 s.untaken) h.holds.frames space
+      (pushes o map s m.sp m.lv m.cpp m.tos w h.holds keep s.running.operands _ (s.at + 1) _ _ _ _ _ (drop 1 s.untaken) h.holds.frames space
       refl refl r.is v (ap₂ (slice_set w.words) r.is v) (p.untaken ∙ ap (drop 1) h.holds.untaken) (r.given _))
       (omega (arith, c.p1.is)) (omega arith) refl refl refl refl refl)
       (sym (add-zero k))
 
-module _ (program : List ℕ) (has : HasStatements program) (o : Origin) (v : VerifiedView) (loads : Loads v o) where
+module _ (program : List ℕ) (has : HasStatements program) (o : Origin) (v : VerifiedView) (loads : Loads v o) (keep : KeepFrames) where
   abbrev map : IsMap (length o.words)
   map = map_of v o loads
 
@@ -71,9 +72,9 @@ module _ (program : List ℕ) (has : HasStatements program) (o : Origin) (v : Ve
   goes : (s to : State) (q : Moment Micro) (i : Instr) → IsOfConsole i → Fine v s → IsNext v o s i → Stands o s q.state q.world → Went v.image v.map.stack_end s to i →
       MovesWithStalls program o q (cost v.image Mic2 i s) (stalls_of v.image i) to
   goes s to q In is fine n h went =
-      moves program o v s to _ q In 4 0 0xFC h n.reads refl refl refl (omega arith) went.goes (inp program has o map s q.state q.world q.stalls h (inside s In n) n.reads (omega (arith, went.fits, loads.long)))
+      moves program o v s to _ q In 4 0 0xFC h n.reads refl refl refl (omega arith) went.goes (inp program has o map keep s q.state q.world q.stalls h (inside s In n) n.reads (omega (arith, went.fits, loads.long)))
   goes s to q Out is fine n h went =
-      moves program o v s to _ q Out 6 0 0xFD h n.reads refl refl refl (omega arith) went.leads (out program has o map s q.state q.world q.stalls h (inside s Out n) went.top went.rest n.reads went.are)
+      moves program o v s to _ q Out 6 0 0xFD h n.reads refl refl refl (omega arith) went.leads (out program has o map keep s q.state q.world q.stalls h (inside s Out n) went.top went.rest n.reads went.are)
   goes s to q i is fine n h went = absurd is
 
   limits : (s left : State) (q : Moment Micro) (i : Instr) → IsOfConsole i → Fine v s → IsNext v o s i → Stands o s q.state q.world → Overran v.image v.map.stack_end s left i →

@@ -1,7 +1,6 @@
 -- Jumps and branches.
-use Rattle.std.proofs.Common.{◌≡◌, ℕ, ◌+◌, ◌-◌, ◌*◌, ◌<◌, ◌≤◌, Bool, true, false, ◌==◌, List, [], ◌∷◌, length, refl, arith, sym, ◌∙◌, ap, ap₂, subst, All, inr, add-zero}
+use Rattle.std.proofs.Common.{◌≡◌, ℕ, ◌+◌, ◌-◌, ◌<◌, ◌≤◌, Bool, true, false, ◌==◌, List, [], ◌∷◌, length, refl, arith, sym, ◌∙◌, ap, ap₂, subst, All, inr, add-zero}
 use Rattle.std.specs.Prelude.{if◌then◌else◌, ℤ}
-use Rattle.std.specs.Int.{w16, cast_signed}
 use Rattle.std.proofs.lemmas.Bool.Decides.{nat_tests}
 use Rattle.std.proofs.lemmas.List.Elements.{All-get_or}
 use Rattle.machine_words.specs.declared.machine.Machine.TheVariants.{Mic2}
@@ -25,8 +24,7 @@ use Rattle.mic2_interpreter.specs.Stands.{Stands}
 use Rattle.mic2_interpreter.specs.Stalls.{MovesWithStalls, TakesWithStalls, stalls_of}
 use Rattle.mic2_interpreter.specs.Groups.{IsJump}
 use Rattle.mic2_interpreter.proofs.Shipped.{HasStatements}
-use Rattle.mic2_interpreter.proofs.Accesses.{IsMap, Access, before_is, byte_bound, plus_comm}
-use Rattle.mic2_interpreter.proofs.Numbers.{half_word}
+use Rattle.mic2_interpreter.proofs.Accesses.{IsMap, Access, before_is, plus_comm}
 use Rattle.mic2_interpreter.proofs.Facts.{place, base_above, Top, top, Two, two, two_down, two_next, drops, IsTop_at}
 use Rattle.mic2_interpreter.proofs.Queue.{Goes}
 use Rattle.mic2_interpreter.proofs.Boundaries.{Comes, comes, steps, Counts, counts, Place, place_at, place_on, signed_pair_at, at_boundary, map_of, moves}
@@ -172,10 +170,10 @@ module _ (program : List ℕ) (has : HasStatements program) (o : Origin) (v : Ve
   inside s i n = omega (arith, n.begins, loads.image.limits.text_fits)
 
   -- the target of a jump
-  target_is : (s : State) (z : ℤ) → z ≡ cast_signed w16 (256 * byte_in o.words (s.at + 1) + byte_in o.words (s.at + 2)) → jump o.words s.at ≡ target s.at z
+  target_is : (s : State) (z : ℤ) → word_of z ≡ signed_pair (byte_in o.words (s.at + 1)) (byte_in o.words (s.at + 2)) → jump o.words s.at ≡ target s.at z
   target_is s z e =
       plus_comm (signed_pair (byte_in o.words (s.at + 1)) (byte_in o.words (s.at + 2))) s.at
-      ∙ ap (plus s.at) (sym (half_word (byte_in o.words (s.at + 1)) (byte_in o.words (s.at + 2)) (byte_bound o.words (s.at + 1)) (byte_bound o.words (s.at + 2))) ∙ ap word_of (sym e))
+      ∙ ap (plus s.at) (sym e)
 
   target_inside : (s : State) (z : ℤ) → jump o.words s.at ≡ target s.at z → target s.at z < length v.image.text → jump o.words s.at < 0x10000
   target_inside s z e l = omega (arith, loads.image.limits.text_fits)

@@ -2,7 +2,6 @@ pub mod Shipped
 pub mod Accesses
 pub mod Keeps
 pub mod Facts
-pub mod Numbers
 pub mod Units
 pub mod Queue
 pub mod Guided
@@ -18,4 +17,3 @@ pub mod Calls
 pub mod Output
 pub mod Groups
 pub mod Store
-pub mod Waits

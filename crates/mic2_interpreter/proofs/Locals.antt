@@ -1,14 +1,12 @@
 -- Instructions that name a local or a constant.
 use Rattle.std.proofs.Common.{◌≡◌, ℕ, ◌+◌, ◌-◌, ◌*◌, ◌<◌, ◌≤◌, Some, List, [], ◌∷◌, ◌++◌, length, true, refl, arith, sym, ◌∙◌, ap, ap₂, length-set, inl, add-zero}
-use Rattle.std.specs.Prelude.{slice_index, slice_set, slice_get, ℤ}
-use Rattle.std.specs.Int.{w8, w16, cast_signed}
-use Rattle.std.proofs.lemmas.Option.{get_or_from_slice_get}
+use Rattle.std.specs.Prelude.{slice_index, slice_set, slice_get}
+use Rattle.std.proofs.lemmas.Option.{get_or_from_slice_get, slice_get_within}
 use Rattle.machine_words.specs.declared.machine.Machine.TheVariants.{Mic2}
 use Rattle.machine_words.specs.Arithmetic.{plus, next, before, signed_byte, signed_pair}
 use Rattle.console_port.specs.World.{World, StackLimit, read_value, byte_in, write_refusal}
 use Rattle.ijvm_instr.specs.declared.instr.Instr.{Instr}
 use Rattle.ijvm_instr.specs.declared.instr.Instr.TheVariants.{LdcW, Iload, Istore, Iinc, WideIload, WideIstore, WideIinc}
-use Rattle.ijvm_instr.specs.Instructions.{word_of}
 use Rattle.ijvm_run.specs.Frames.{Frame, State, frames_of, base, operands_at}
 use Rattle.ijvm_run.specs.Cost.{cost}
 use Rattle.ijvm_run.specs.Step.{with_local, is_own}
@@ -16,6 +14,7 @@ use Rattle.ijvm_paths.specs.Accepted.{VerifiedView}
 use Rattle.mic2_datapath.specs.Micro.{Micro}
 use Rattle.mic2_datapath.specs.Mic2.{mic2_meaning}
 use Rattle.ijvm_simulation.specs.Stands.{Origin, FramesStand, IsMemory}
+use Rattle.ijvm_simulation.specs.Writes.{KeepFrames}
 use Rattle.ijvm_simulation.specs.Passes.{Moment}
 use Rattle.ijvm_simulation.specs.Outcomes.{Went, Overran, push}
 use Rattle.ijvm_simulation.specs.Verified.{Loads, Fine, IsNext}
@@ -24,14 +23,13 @@ use Rattle.mic2_interpreter.specs.Stands.{Stands}
 use Rattle.mic2_interpreter.specs.Stalls.{MovesWithStalls, TakesWithStalls, stalls_of}
 use Rattle.mic2_interpreter.specs.Groups.{IsOfLocals}
 use Rattle.mic2_interpreter.proofs.Shipped.{HasStatements}
-use Rattle.mic2_interpreter.proofs.Accesses.{IsMap, Access, access, next_is, write_limit, plus_is, byte_bound}
-use Rattle.mic2_interpreter.proofs.Numbers.{byte_word, half_word}
-use Rattle.mic2_interpreter.proofs.Keeps.{get_below, stored, memory_set, frames_at, memory_at}
+use Rattle.mic2_interpreter.proofs.Accesses.{IsMap, Access, access, next_is, write_limit, plus_is}
+use Rattle.mic2_interpreter.proofs.Keeps.{memory_set, frames_at, memory_at}
 use Rattle.mic2_interpreter.proofs.Facts.{with_operands, place, base_above, room, Top, top, local_at, pushes, next_top_is}
 use Rattle.mic2_interpreter.proofs.Queue.{Goes}
 use Rattle.mic2_interpreter.proofs.Boundaries.{Comes, comes, steps, Counts, counts, pair_at, signed_pair_at, at_boundary, map_of, moves, overruns}
 
-module _ (program : List ℕ) (has : HasStatements program) (o : Origin) (map : IsMap (length o.words)) (s : State) (m : Micro) (w : World) (k : ℕ) (h : Stands o s m w) (inside : s.at < 0x10000) where
+module _ (program : List ℕ) (has : HasStatements program) (o : Origin) (map : IsMap (length o.words)) (keep : KeepFrames) (s : State) (m : Micro) (w : World) (k : ℕ) (h : Stands o s m w) (inside : s.at < 0x10000) where
   iload : (i v : ℕ) → byte_in o.words s.at ≡ 0x15 → i ≡ byte_in o.words (s.at + 1) → slice_get s.running.locals i ≡ Some (Some v) → base (frames_of s) < length o.words →
       Comes program o 2 0 (record { state = m; world = w; stalls = k }) (push s v (s.at + 2))
   iload i v code index local space =
@@ -40,14 +38,14 @@ module _ (program : List ℕ) (has : HasStatements program) (o : Origin) (map : 
       let bottom : 0x8000 ≤ base s.callers = base_above s.callers in
       let high : 0x8000 ≤ next m.sp = omega (arith, r.is) in
       let from : ℕ = plus m.lv (byte_in o.words m.pc) in
-      let l : i < length s.running.locals = get_below s.running.locals i (Some v) local in
+      let l : i < length s.running.locals = slice_get_within s.running.locals i (Some v) local in
       let a : Access (length o.words) w from (base s.callers + i) =
       local_at o map s m.sp m.lv m.cpp m.tos w h.holds from i l (plus_is h.holds.lv_is (c.p0.byte ∙ sym index) refl (omega (arith, h.holds.fits, map.high))) in
       let is : read_value (length o.words) w.words w.untaken from ≡ v = a.value ∙ h.holds.frames.0.locals i v local in
       let same : slice_set w.words (next m.sp) (read_value (length o.words) w.words w.untaken from) ≡ slice_set w.words (base (frames_of s)) v = ap₂ (slice_set w.words) r.is is in
       comes program has o map Goes (steps 2) (byte_in o.words (s.at + 2) ∷ []) m w k 0x15 0 s _ h code (assumption)
       (at_boundary o _ _ _
-      (pushes o map s m.sp m.lv m.cpp m.tos w h.holds s.running.operands _ (s.at + 2) _ _ _ _ _ s.untaken h.holds.frames space
+      (pushes o map s m.sp m.lv m.cpp m.tos w h.holds keep s.running.operands _ (s.at + 2) _ _ _ _ _ s.untaken h.holds.frames space
       refl refl r.is is same (a.untaken ∙ h.holds.untaken) (r.given _))
       (omega (arith, c.p11.is)) (omega arith) refl refl refl refl refl)
       (sym (add-zero k))
@@ -61,14 +59,14 @@ module _ (program : List ℕ) (has : HasStatements program) (o : Origin) (map : 
       let high : 0x8000 ≤ next m.sp = omega (arith, r.is) in
       let op2 : byte_in o.words m.pc + 256 ≡ 0x115 = omega (arith, c.p0.byte ∙ code2) in
       let from : ℕ = plus m.lv (256 * byte_in o.words (plus m.pc 1) + byte_in o.words (plus m.pc 1 + 1)) in
-      let l : i < length s.running.locals = get_below s.running.locals i (Some v) local in
+      let l : i < length s.running.locals = slice_get_within s.running.locals i (Some v) local in
       let a : Access (length o.words) w from (base s.callers + i) =
       local_at o map s m.sp m.lv m.cpp m.tos w h.holds from i l (plus_is h.holds.lv_is (pair_at o.words (plus m.pc 1) (s.at + 2) (s.at + 3) c.p1 (omega arith) ∙ sym index) refl (omega (arith, h.holds.fits, map.high))) in
       let is : read_value (length o.words) w.words w.untaken from ≡ v = a.value ∙ h.holds.frames.0.locals i v local in
       let same : slice_set w.words (next m.sp) (read_value (length o.words) w.words w.untaken from) ≡ slice_set w.words (base (frames_of s)) v = ap₂ (slice_set w.words) r.is is in
       comes program has o map Goes (steps 3) (0x115 ∷ byte_in o.words (s.at + 4) ∷ []) m w k 0xC4 0 s _ h code (assumption)
       (at_boundary o _ _ _
-      (pushes o map s m.sp m.lv m.cpp m.tos w h.holds s.running.operands _ (s.at + 4) _ _ _ _ _ s.untaken h.holds.frames space
+      (pushes o map s m.sp m.lv m.cpp m.tos w h.holds keep s.running.operands _ (s.at + 4) _ _ _ _ _ s.untaken h.holds.frames space
       refl refl r.is is same (a.untaken ∙ h.holds.untaken) (r.given _))
       (omega (arith, c.p121.is)) (omega arith) refl refl refl refl refl)
       (sym (add-zero k))
@@ -87,7 +85,7 @@ module _ (program : List ℕ) (has : HasStatements program) (o : Origin) (map : 
       let same : slice_set w.words (next m.sp) (read_value (length o.words) w.words w.untaken from) ≡ slice_set w.words (base (frames_of s)) v = ap₂ (slice_set w.words) r.is is in
       comes program has o map Goes (steps 2) (byte_in o.words (s.at + 3) ∷ []) m w k 0x13 0 s _ h code (assumption)
       (at_boundary o _ _ _
-      (pushes o map s m.sp m.lv m.cpp m.tos w h.holds s.running.operands _ (s.at + 3) _ _ _ _ _ s.untaken h.holds.frames space
+      (pushes o map s m.sp m.lv m.cpp m.tos w h.holds keep s.running.operands _ (s.at + 3) _ _ _ _ _ s.untaken h.holds.frames space
       refl refl r.is is same (a.untaken ∙ h.holds.untaken) (r.given _))
       (omega (arith, c.p21.is)) (omega arith) refl refl refl refl refl)
       (sym (add-zero k))
@@ -105,7 +103,7 @@ module _ (program : List ℕ) (has : HasStatements program) (o : Origin) (map : 
       let bottom : 0x8000 ≤ base s.callers = base_above s.callers in
       let high : 0x8000 ≤ to = omega (arith, a.is) in
       let inside_words : base s.callers + i < length w.words = omega (arith, h.holds.memory.long, a.below) in
-      let frames : FramesStand ms (f ∷ s.callers) = stored w.words i y (with_operands s rest) s.callers l own inside_words t.frames in
+      let frames : FramesStand ms (f ∷ s.callers) = keep.stored w.words i y (with_operands s rest) s.callers l own inside_words t.frames in
       let new : IsMemory o.words ms = memory_set o.words w.words (base s.callers + i) y (omega arith) h.holds.memory in
       let len : length f.locals ≡ length s.running.locals = length-set s.running.locals i (Some y) in
       let down : Access (length o.words) (record w { words = ms }) (before m.sp) (place s rest - 1) = access (length o.words) (record w { words = ms }) (before m.sp) (place s rest - 1) t.down.is t.down.below in
@@ -141,7 +139,7 @@ module _ (program : List ℕ) (has : HasStatements program) (o : Origin) (map : 
       let bottom : 0x8000 ≤ base s.callers = base_above s.callers in
       let high : 0x8000 ≤ to = omega (arith, a.is) in
       let inside_words : base s.callers + i < length w.words = omega (arith, h.holds.memory.long, a.below) in
-      let frames : FramesStand ms (f ∷ s.callers) = stored w.words i y (with_operands s rest) s.callers l own inside_words t.frames in
+      let frames : FramesStand ms (f ∷ s.callers) = keep.stored w.words i y (with_operands s rest) s.callers l own inside_words t.frames in
       let new : IsMemory o.words ms = memory_set o.words w.words (base s.callers + i) y (omega arith) h.holds.memory in
       let len : length f.locals ≡ length s.running.locals = length-set s.running.locals i (Some y) in
       let down : Access (length o.words) (record w { words = ms }) (before m.sp) (place s rest - 1) = access (length o.words) (record w { words = ms }) (before m.sp) (place s rest - 1) t.down.is t.down.below in
@@ -167,7 +165,7 @@ module _ (program : List ℕ) (has : HasStatements program) (o : Origin) (map : 
       Comes program o 2 0 (record { state = m; world = w; stalls = k }) (with_local s i (plus v (signed_byte (byte_in o.words (s.at + 2)))) s.running.operands (s.at + 3))
   iinc i v code index local own =
       let c : Counts o s m = counts o s m w h inside in
-      let l : i < length s.running.locals = get_below s.running.locals i (Some v) local in
+      let l : i < length s.running.locals = slice_get_within s.running.locals i (Some v) local in
       let at : ℕ = plus m.lv (byte_in o.words m.pc) in
       let a : Access (length o.words) w at (base s.callers + i) = local_at o map s m.sp m.lv m.cpp m.tos w h.holds at i l (plus_is h.holds.lv_is (c.p0.byte ∙ sym index) refl (omega (arith, h.holds.fits, map.high))) in
       let y : ℕ = plus v (signed_byte (byte_in o.words (s.at + 2))) in
@@ -178,7 +176,7 @@ module _ (program : List ℕ) (has : HasStatements program) (o : Origin) (map : 
       let bottom : 0x8000 ≤ base s.callers = base_above s.callers in
       let high : 0x8000 ≤ at = omega (arith, a.is) in
       let inside_words : base s.callers + i < length w.words = omega (arith, h.holds.memory.long, a.below) in
-      let frames : FramesStand ms (f ∷ s.callers) = stored w.words i y s.running s.callers l own inside_words h.holds.frames in
+      let frames : FramesStand ms (f ∷ s.callers) = keep.stored w.words i y s.running s.callers l own inside_words h.holds.frames in
       let new : IsMemory o.words ms = memory_set o.words w.words (base s.callers + i) y (omega arith) h.holds.memory in
       let len : length f.locals ≡ length s.running.locals = length-set s.running.locals i (Some y) in
       comes program has o map Goes (steps 2) (byte_in o.words (s.at + 3) ∷ []) m w k 0x84 0 s _ h code (assumption)
@@ -202,7 +200,7 @@ module _ (program : List ℕ) (has : HasStatements program) (o : Origin) (map : 
   wide_iinc i v code code2 index local own =
       let c : Counts o s m = counts o s m w h inside in
       let op2 : byte_in o.words m.pc + 256 ≡ 0x184 = omega (arith, c.p0.byte ∙ code2) in
-      let l : i < length s.running.locals = get_below s.running.locals i (Some v) local in
+      let l : i < length s.running.locals = slice_get_within s.running.locals i (Some v) local in
       let at : ℕ = plus m.lv (256 * byte_in o.words (plus m.pc 1) + byte_in o.words (plus m.pc 1 + 1)) in
       let a : Access (length o.words) w at (base s.callers + i) = local_at o map s m.sp m.lv m.cpp m.tos w h.holds at i l (plus_is h.holds.lv_is (pair_at o.words (plus m.pc 1) (s.at + 2) (s.at + 3) c.p1 (omega arith) ∙ sym index) refl (omega (arith, h.holds.fits, map.high))) in
       let y : ℕ = plus v (signed_pair (byte_in o.words (s.at + 4)) (byte_in o.words (s.at + 5))) in
@@ -213,7 +211,7 @@ module _ (program : List ℕ) (has : HasStatements program) (o : Origin) (map : 
       let bottom : 0x8000 ≤ base s.callers = base_above s.callers in
       let high : 0x8000 ≤ at = omega (arith, a.is) in
       let inside_words : base s.callers + i < length w.words = omega (arith, h.holds.memory.long, a.below) in
-      let frames : FramesStand ms (f ∷ s.callers) = stored w.words i y s.running s.callers l own inside_words h.holds.frames in
+      let frames : FramesStand ms (f ∷ s.callers) = keep.stored w.words i y s.running s.callers l own inside_words h.holds.frames in
       let new : IsMemory o.words ms = memory_set o.words w.words (base s.callers + i) y (omega arith) h.holds.memory in
       let len : length f.locals ≡ length s.running.locals = length-set s.running.locals i (Some y) in
       comes program has o map Goes (steps 4) (0x184 ∷ byte_in o.words (s.at + 6) ∷ []) m w k 0xC4 0 s _ h code (assumption)
@@ -232,18 +230,12 @@ module _ (program : List ℕ) (has : HasStatements program) (o : Origin) (map : 
       (omega (arith, c.p1221.is)) (omega arith) refl refl refl refl refl)
       (sym (add-zero k))
 
-module _ (program : List ℕ) (has : HasStatements program) (o : Origin) (v : VerifiedView) (loads : Loads v o) where
+module _ (program : List ℕ) (has : HasStatements program) (o : Origin) (v : VerifiedView) (loads : Loads v o) (keep : KeepFrames) where
   abbrev map : IsMap (length o.words)
   map = map_of v o loads
 
   inside : (s : State) (i : Instr) → IsNext v o s i → s.at < 0x10000
   inside s i n = omega (arith, n.begins, loads.image.limits.text_fits)
-
-  byte_is : (p : ℕ) (z : ℤ) → z ≡ cast_signed w8 (byte_in o.words p) → signed_byte (byte_in o.words p) ≡ word_of z
-  byte_is p z e = sym (byte_word (byte_in o.words p) (byte_bound o.words p)) ∙ ap word_of (sym e)
-
-  half_is : (p q : ℕ) (z : ℤ) → z ≡ cast_signed w16 (256 * byte_in o.words p + byte_in o.words q) → signed_pair (byte_in o.words p) (byte_in o.words q) ≡ word_of z
-  half_is p q z e = sym (half_word (byte_in o.words p) (byte_in o.words q) (byte_bound o.words p) (byte_bound o.words q)) ∙ ap word_of (sym e)
 
   -- a constant in the memory
   pub record Constant (k x : ℕ) : Type 0 where
@@ -252,7 +244,7 @@ module _ (program : List ℕ) (has : HasStatements program) (o : Origin) (v : Ve
 
   constant : (k x : ℕ) → slice_get v.image.pool k ≡ Some x → Constant k x
   constant k x e =
-      let l : k < length v.image.pool = get_below v.image.pool k x e in
+      let l : k < length v.image.pool = slice_get_within v.image.pool k x e in
       record { small = omega (arith, loads.image.limits.pool_fits); there = loads.pool k l ∙ get_or_from_slice_get v.image.pool k x 0 e }
 
   goes : (s to : State) (q : Moment Micro) (i : Instr) → IsOfLocals i → Fine v s → IsNext v o s i → Stands o s q.state q.world → Went v.image v.map.stack_end s to i →
@@ -260,27 +252,27 @@ module _ (program : List ℕ) (has : HasStatements program) (o : Origin) (v : Ve
   goes s to q (LdcW k) is fine n h went =
       let c : Constant k went.value = constant k went.value went.found in
       moves program o v s to _ q (LdcW k) 2 0 0x13 h n.reads.0 refl refl refl (omega arith) went.leads.goes
-      (ldc_w program has o map s q.state q.world q.stalls h (inside s (LdcW k) n) k went.value n.reads.0 n.reads.1 c.small c.there (omega (arith, went.leads.fits, loads.long)))
+      (ldc_w program has o map keep s q.state q.world q.stalls h (inside s (LdcW k) n) k went.value n.reads.0 n.reads.1 c.small c.there (omega (arith, went.leads.fits, loads.long)))
   goes s to q (Iload k) is fine n h went =
       moves program o v s to _ q (Iload k) 2 0 0x15 h n.reads.0 refl refl refl (omega arith) went.leads.goes
-      (iload program has o map s q.state q.world q.stalls h (inside s (Iload k) n) k went.value n.reads.0 n.reads.1 went.set (omega (arith, went.leads.fits, loads.long)))
+      (iload program has o map keep s q.state q.world q.stalls h (inside s (Iload k) n) k went.value n.reads.0 n.reads.1 went.set (omega (arith, went.leads.fits, loads.long)))
   goes s to q (Istore k) is fine n h went =
       moves program o v s to _ q (Istore k) 4 0 0x36 h n.reads.0 refl refl refl (omega arith) went.leads.goes
-      (istore program has o map s q.state q.world q.stalls h (inside s (Istore k) n) k went.top went.rest n.reads.0 n.reads.1 went.are went.leads.inside went.leads.own)
+      (istore program has o map keep s q.state q.world q.stalls h (inside s (Istore k) n) k went.top went.rest n.reads.0 n.reads.1 went.are went.leads.inside went.leads.own)
   goes s to q (Iinc k b) is fine n h went =
       moves program o v s to _ q (Iinc k b) 2 0 0x84 h n.reads.0 refl refl refl (omega arith)
-      (ap (λ (x : ℕ). with_local s k (plus went.value x) s.running.operands (s.at + 3)) (byte_is (s.at + 2) b n.reads.2) ∙ went.leads)
-      (iinc program has o map s q.state q.world q.stalls h (inside s (Iinc k b) n) k went.value n.reads.0 n.reads.1 went.set (n.finds.named k (inl refl)).1)
+      (ap (λ (x : ℕ). with_local s k (plus went.value x) s.running.operands (s.at + 3)) (sym n.reads.2) ∙ went.leads)
+      (iinc program has o map keep s q.state q.world q.stalls h (inside s (Iinc k b) n) k went.value n.reads.0 n.reads.1 went.set (n.finds.named k (inl refl)).1)
   goes s to q (WideIload k) is fine n h went =
       moves program o v s to _ q (WideIload k) 3 0 0xC4 h n.reads.0 refl refl refl (omega arith) went.leads.goes
-      (wide_iload program has o map s q.state q.world q.stalls h (inside s (WideIload k) n) k went.value n.reads.0 n.reads.1 n.reads.2 went.set (omega (arith, went.leads.fits, loads.long)))
+      (wide_iload program has o map keep s q.state q.world q.stalls h (inside s (WideIload k) n) k went.value n.reads.0 n.reads.1 n.reads.2 went.set (omega (arith, went.leads.fits, loads.long)))
   goes s to q (WideIstore k) is fine n h went =
       moves program o v s to _ q (WideIstore k) 5 0 0xC4 h n.reads.0 refl refl refl (omega arith) went.leads.goes
-      (wide_istore program has o map s q.state q.world q.stalls h (inside s (WideIstore k) n) k went.top went.rest n.reads.0 n.reads.1 n.reads.2 went.are went.leads.inside went.leads.own)
+      (wide_istore program has o map keep s q.state q.world q.stalls h (inside s (WideIstore k) n) k went.top went.rest n.reads.0 n.reads.1 n.reads.2 went.are went.leads.inside went.leads.own)
   goes s to q (WideIinc k z) is fine n h went =
       moves program o v s to _ q (WideIinc k z) 4 0 0xC4 h n.reads.0 refl refl refl (omega arith)
-      (ap (λ (x : ℕ). with_local s k (plus went.value x) s.running.operands (s.at + 6)) (half_is (s.at + 4) (s.at + 5) z n.reads.3) ∙ went.leads)
-      (wide_iinc program has o map s q.state q.world q.stalls h (inside s (WideIinc k z) n) k went.value n.reads.0 n.reads.1 n.reads.2 went.set (n.finds.named k (inl refl)).1)
+      (ap (λ (x : ℕ). with_local s k (plus went.value x) s.running.operands (s.at + 6)) (sym n.reads.3) ∙ went.leads)
+      (wide_iinc program has o map keep s q.state q.world q.stalls h (inside s (WideIinc k z) n) k went.value n.reads.0 n.reads.1 n.reads.2 went.set (n.finds.named k (inl refl)).1)
   goes s to q i is fine n h went = absurd is
 
   limits : (s left : State) (q : Moment Micro) (i : Instr) → IsOfLocals i → Fine v s → IsNext v o s i → Stands o s q.state q.world → Overran v.image v.map.stack_end s left i →
@@ -301,7 +293,7 @@ module _ (program : List ℕ) (has : HasStatements program) (o : Origin) (v : Ve
       let c : Counts o s q.state = counts o s q.state q.world h (inside s (Iload k) n) in
       let high : length o.words < 0x80000000 = map.high in
       let from : ℕ = plus q.state.lv (byte_in o.words q.state.pc) in
-      let l : k < length s.running.locals = get_below s.running.locals k (Some over.value) over.set in
+      let l : k < length s.running.locals = slice_get_within s.running.locals k (Some over.value) over.set in
       let a : Access (length o.words) q.world from (base s.callers + k) =
       local_at o map s q.state.sp q.state.lv q.state.cpp q.state.tos q.world h.holds from k l (plus_is h.holds.lv_is (c.p0.byte ∙ sym n.reads.1) refl (omega (arith, h.holds.fits, map.high))) in
       let sp : next q.state.sp ≡ base (frames_of s) = next_is q.state.sp (base (frames_of s)) h.holds.sp_is (omega (arith, h.holds.fits)) in
@@ -314,7 +306,7 @@ module _ (program : List ℕ) (has : HasStatements program) (o : Origin) (v : Ve
       let op2 : byte_in o.words q.state.pc + 256 ≡ 0x115 = omega (arith, c.p0.byte ∙ n.reads.1) in
       let high : length o.words < 0x80000000 = map.high in
       let from : ℕ = plus q.state.lv (256 * byte_in o.words (plus q.state.pc 1) + byte_in o.words (plus q.state.pc 1 + 1)) in
-      let l : k < length s.running.locals = get_below s.running.locals k (Some over.value) over.set in
+      let l : k < length s.running.locals = slice_get_within s.running.locals k (Some over.value) over.set in
       let a : Access (length o.words) q.world from (base s.callers + k) =
       local_at o map s q.state.sp q.state.lv q.state.cpp q.state.tos q.world h.holds from k l (plus_is h.holds.lv_is (pair_at o.words (plus q.state.pc 1) (s.at + 2) (s.at + 3) c.p1 (omega arith) ∙ sym n.reads.2) refl (omega (arith, h.holds.fits, map.high))) in
       let sp : next q.state.sp ≡ base (frames_of s) = next_is q.state.sp (base (frames_of s)) h.holds.sp_is (omega (arith, h.holds.fits)) in

@@ -15,6 +15,7 @@ use Rattle.ijvm_paths.specs.Accepted.{VerifiedView}
 use Rattle.mic2_datapath.specs.Micro.{Micro}
 use Rattle.mic2_datapath.specs.Mic2.{mic2_meaning}
 use Rattle.ijvm_simulation.specs.Stands.{Origin, FramesStand, IsMemory}
+use Rattle.ijvm_simulation.specs.Writes.{KeepFrames}
 use Rattle.ijvm_simulation.specs.Passes.{Moment}
 use Rattle.ijvm_simulation.specs.Outcomes.{Went, Overran, push}
 use Rattle.ijvm_simulation.specs.Verified.{Loads, Fine, IsNext}
@@ -23,14 +24,13 @@ use Rattle.mic2_interpreter.specs.Stands.{Stands}
 use Rattle.mic2_interpreter.specs.Stalls.{MovesWithStalls, TakesWithStalls, stalls_of}
 use Rattle.mic2_interpreter.specs.Groups.{IsOfOperands}
 use Rattle.mic2_interpreter.proofs.Shipped.{HasStatements}
-use Rattle.mic2_interpreter.proofs.Accesses.{IsMap, Access, access, next_is, write_limit, given_ok, byte_bound}
-use Rattle.mic2_interpreter.proofs.Numbers.{byte_word}
-use Rattle.mic2_interpreter.proofs.Keeps.{pushed, set_same, memory_set, frames_at, memory_at}
+use Rattle.mic2_interpreter.proofs.Accesses.{IsMap, Access, access, next_is, write_limit, given_ok}
+use Rattle.mic2_interpreter.proofs.Keeps.{set_same, memory_set, frames_at, memory_at}
 use Rattle.mic2_interpreter.proofs.Facts.{with_operands, place, base_above, room, Top, top, Two, two, pushes, drops}
 use Rattle.mic2_interpreter.proofs.Queue.{Goes}
 use Rattle.mic2_interpreter.proofs.Boundaries.{Comes, comes, steps, Counts, counts, at_boundary, map_of, moves, overruns}
 
-module _ (program : List ℕ) (has : HasStatements program) (o : Origin) (map : IsMap (length o.words)) (s : State) (m : Micro) (w : World) (k : ℕ) (h : Stands o s m w) (inside : s.at < 0x10000) where
+module _ (program : List ℕ) (has : HasStatements program) (o : Origin) (map : IsMap (length o.words)) (keep : KeepFrames) (s : State) (m : Micro) (w : World) (k : ℕ) (h : Stands o s m w) (inside : s.at < 0x10000) where
   nop : byte_in o.words s.at ≡ 0x00 → Comes program o 0 0 (record { state = m; world = w; stalls = k }) (moved s s.running.operands (s.at + 1))
   nop code =
       let c : Counts o s m = counts o s m w h inside in
@@ -51,7 +51,7 @@ module _ (program : List ℕ) (has : HasStatements program) (o : Origin) (map : 
       let v : signed_byte (byte_in o.words m.pc) ≡ signed_byte (byte_in o.words (s.at + 1)) = ap signed_byte c.p0.byte in
       comes program has o map Goes (steps 1) (byte_in o.words (s.at + 2) ∷ []) m w k 0x10 0 s _ h code (assumption)
       (at_boundary o _ _ _
-      (pushes o map s m.sp m.lv m.cpp m.tos w h.holds s.running.operands _ (s.at + 2) _ _ _ _ _ s.untaken h.holds.frames space
+      (pushes o map s m.sp m.lv m.cpp m.tos w h.holds keep s.running.operands _ (s.at + 2) _ _ _ _ _ s.untaken h.holds.frames space
       refl refl r.is v (ap₂ (slice_set w.words) r.is v) h.holds.untaken (r.given _))
       (omega (arith, c.p11.is)) (omega arith) refl refl refl refl refl)
       (sym (add-zero k))
@@ -78,7 +78,7 @@ module _ (program : List ℕ) (has : HasStatements program) (o : Origin) (map : 
       let high : 0x8000 ≤ next m.sp = omega (arith, r.is) in
       comes program has o map Goes (steps 1) (byte_in o.words (s.at + 1) ∷ []) m w k 0x59 0 s _ h code (assumption)
       (at_boundary o _ _ _
-      (pushes o map s m.sp m.lv m.cpp m.tos w h.holds s.running.operands _ (s.at + 1) _ _ _ _ _ s.untaken h.holds.frames space
+      (pushes o map s m.sp m.lv m.cpp m.tos w h.holds keep s.running.operands _ (s.at + 1) _ _ _ _ _ s.untaken h.holds.frames space
       refl refl r.is t.tos_is (ap₂ (slice_set w.words) r.is t.tos_is) h.holds.untaken (r.given _))
       (omega (arith, c.p1.is)) (omega arith) refl refl refl refl refl)
       (sym (add-zero k))
@@ -100,8 +100,8 @@ module _ (program : List ℕ) (has : HasStatements program) (o : Origin) (map : 
       let same : slice_set (slice_set w.words m.sp (read_value (length o.words) w.words w.untaken (before m.sp))) (before m.sp) m.tos ≡ ms =
       set_same (set_same refl top_at.is t.second) t.at.is t.tos_is ∙ set_comm w.words (a + 1) a x y apart in
       let frames : FramesStand ms (with_operands s (x ∷ y ∷ rest) ∷ s.callers) =
-      pushed m1 (a + 1) x (with_operands s (y ∷ rest)) s.callers (omega arith) (omega (arith, length-set w.words a y, h.holds.memory.long, top_at.below))
-      (pushed w.words a y (with_operands s rest) s.callers refl (omega (arith, h.holds.memory.long, t.at.below)) t.frames) in
+      keep.pushed m1 (a + 1) x (with_operands s (y ∷ rest)) s.callers (omega arith) (omega (arith, length-set w.words a y, h.holds.memory.long, top_at.below))
+      (keep.pushed w.words a y (with_operands s rest) s.callers refl (omega (arith, h.holds.memory.long, t.at.below)) t.frames) in
       let new : IsMemory o.words ms = memory_set o.words m1 (a + 1) x (omega arith) (memory_set o.words w.words a y (omega arith) h.holds.memory) in
       comes program has o map Goes (steps 5) (byte_in o.words (s.at + 1) ∷ []) m w k 0x5F 0 s _ h code (assumption)
       (at_boundary o _ _ _
@@ -129,7 +129,7 @@ module _ (program : List ℕ) (has : HasStatements program) (o : Origin) (map : 
       let v : plus (read_value (length o.words) w.words w.untaken (before m.sp)) m.tos ≡ plus x y = ap₂ plus t.second t.tos_is in
       comes program has o map Goes (steps 2) (byte_in o.words (s.at + 1) ∷ []) m w k 0x60 0 s _ h code (assumption)
       (at_boundary o _ _ _
-      (pushes o map s m.sp m.lv m.cpp m.tos w h.holds rest _ (s.at + 1) _ _ _ _ _ s.untaken t.frames t.at.below
+      (pushes o map s m.sp m.lv m.cpp m.tos w h.holds keep rest _ (s.at + 1) _ _ _ _ _ s.untaken t.frames t.at.below
       refl refl t.at.is v (ap₂ (slice_set w.words) t.at.is v) (t.at.untaken ∙ h.holds.untaken) (t.at.given _))
       (omega (arith, c.p1.is)) (omega arith) refl refl refl refl refl)
       (sym (add-zero k))
@@ -144,7 +144,7 @@ module _ (program : List ℕ) (has : HasStatements program) (o : Origin) (map : 
       let v : minus (read_value (length o.words) w.words w.untaken (before m.sp)) m.tos ≡ minus x y = ap₂ minus t.second t.tos_is in
       comes program has o map Goes (steps 2) (byte_in o.words (s.at + 1) ∷ []) m w k 0x64 0 s _ h code (assumption)
       (at_boundary o _ _ _
-      (pushes o map s m.sp m.lv m.cpp m.tos w h.holds rest _ (s.at + 1) _ _ _ _ _ s.untaken t.frames t.at.below
+      (pushes o map s m.sp m.lv m.cpp m.tos w h.holds keep rest _ (s.at + 1) _ _ _ _ _ s.untaken t.frames t.at.below
       refl refl t.at.is v (ap₂ (slice_set w.words) t.at.is v) (t.at.untaken ∙ h.holds.untaken) (t.at.given _))
       (omega (arith, c.p1.is)) (omega arith) refl refl refl refl refl)
       (sym (add-zero k))
@@ -159,7 +159,7 @@ module _ (program : List ℕ) (has : HasStatements program) (o : Origin) (map : 
       let v : bit_and (read_value (length o.words) w.words w.untaken (before m.sp)) m.tos ≡ bit_and x y = ap₂ bit_and t.second t.tos_is in
       comes program has o map Goes (steps 2) (byte_in o.words (s.at + 1) ∷ []) m w k 0x7E 0 s _ h code (assumption)
       (at_boundary o _ _ _
-      (pushes o map s m.sp m.lv m.cpp m.tos w h.holds rest _ (s.at + 1) _ _ _ _ _ s.untaken t.frames t.at.below
+      (pushes o map s m.sp m.lv m.cpp m.tos w h.holds keep rest _ (s.at + 1) _ _ _ _ _ s.untaken t.frames t.at.below
       refl refl t.at.is v (ap₂ (slice_set w.words) t.at.is v) (t.at.untaken ∙ h.holds.untaken) (t.at.given _))
       (omega (arith, c.p1.is)) (omega arith) refl refl refl refl refl)
       (sym (add-zero k))
@@ -174,7 +174,7 @@ module _ (program : List ℕ) (has : HasStatements program) (o : Origin) (map : 
       let v : bit_or (read_value (length o.words) w.words w.untaken (before m.sp)) m.tos ≡ bit_or x y = ap₂ bit_or t.second t.tos_is in
       comes program has o map Goes (steps 2) (byte_in o.words (s.at + 1) ∷ []) m w k 0xB0 0 s _ h code (assumption)
       (at_boundary o _ _ _
-      (pushes o map s m.sp m.lv m.cpp m.tos w h.holds rest _ (s.at + 1) _ _ _ _ _ s.untaken t.frames t.at.below
+      (pushes o map s m.sp m.lv m.cpp m.tos w h.holds keep rest _ (s.at + 1) _ _ _ _ _ s.untaken t.frames t.at.below
       refl refl t.at.is v (ap₂ (slice_set w.words) t.at.is v) (t.at.untaken ∙ h.holds.untaken) (t.at.given _))
       (omega (arith, c.p1.is)) (omega arith) refl refl refl refl refl)
       (sym (add-zero k))
@@ -189,12 +189,12 @@ module _ (program : List ℕ) (has : HasStatements program) (o : Origin) (map : 
       let v : bit_or (read_value (length o.words) w.words w.untaken (before m.sp)) m.tos ≡ bit_or x y = ap₂ bit_or t.second t.tos_is in
       comes program has o map Goes (steps 2) (byte_in o.words (s.at + 1) ∷ []) m w k 0x80 0 s _ h code (assumption)
       (at_boundary o _ _ _
-      (pushes o map s m.sp m.lv m.cpp m.tos w h.holds rest _ (s.at + 1) _ _ _ _ _ s.untaken t.frames t.at.below
+      (pushes o map s m.sp m.lv m.cpp m.tos w h.holds keep rest _ (s.at + 1) _ _ _ _ _ s.untaken t.frames t.at.below
       refl refl t.at.is v (ap₂ (slice_set w.words) t.at.is v) (t.at.untaken ∙ h.holds.untaken) (t.at.given _))
       (omega (arith, c.p1.is)) (omega arith) refl refl refl refl refl)
       (sym (add-zero k))
 
-module _ (program : List ℕ) (has : HasStatements program) (o : Origin) (v : VerifiedView) (loads : Loads v o) where
+module _ (program : List ℕ) (has : HasStatements program) (o : Origin) (v : VerifiedView) (loads : Loads v o) (keep : KeepFrames) where
   abbrev map : IsMap (length o.words)
   map = map_of v o loads
 
@@ -203,29 +203,29 @@ module _ (program : List ℕ) (has : HasStatements program) (o : Origin) (v : Ve
 
   goes : (s to : State) (q : Moment Micro) (i : Instr) → IsOfOperands i → Fine v s → IsNext v o s i → Stands o s q.state q.world → Went v.image v.map.stack_end s to i →
       MovesWithStalls program o q (cost v.image Mic2 i s) (stalls_of v.image i) to
-  goes s to q Nop is fine n h went = moves program o v s to _ q Nop 0 0 0x00 h n.reads refl refl refl (omega arith) went (nop program has o map s q.state q.world q.stalls h (inside s Nop n) n.reads)
+  goes s to q Nop is fine n h went = moves program o v s to _ q Nop 0 0 0x00 h n.reads refl refl refl (omega arith) went (nop program has o map keep s q.state q.world q.stalls h (inside s Nop n) n.reads)
   goes s to q (Bipush b) is fine n h went =
-      let word : signed_byte (byte_in o.words (s.at + 1)) ≡ word_of b = sym (byte_word (byte_in o.words (s.at + 1)) (byte_bound o.words (s.at + 1))) ∙ ap word_of (sym n.reads.1) in
+      let word : signed_byte (byte_in o.words (s.at + 1)) ≡ word_of b = sym n.reads.1 in
       moves program o v s to _ q (Bipush b) 1 0 0x10 h n.reads.0 refl refl refl (omega arith) (ap (λ (x : ℕ). push s x (s.at + 2)) word ∙ went.goes)
-      (bipush program has o map s q.state q.world q.stalls h (inside s (Bipush b) n) n.reads.0 (omega (arith, went.fits, loads.long)))
+      (bipush program has o map keep s q.state q.world q.stalls h (inside s (Bipush b) n) n.reads.0 (omega (arith, went.fits, loads.long)))
   goes s to q Pop is fine n h went =
-      moves program o v s to _ q Pop 2 0 0x57 h n.reads refl refl refl (omega arith) went.leads (pop program has o map s q.state q.world q.stalls h (inside s Pop n) went.top went.rest n.reads went.are)
+      moves program o v s to _ q Pop 2 0 0x57 h n.reads refl refl refl (omega arith) went.leads (pop program has o map keep s q.state q.world q.stalls h (inside s Pop n) went.top went.rest n.reads went.are)
   goes s to q Dup is fine n h went =
       moves program o v s to _ q Dup 1 0 0x59 h n.reads refl refl refl (omega arith) went.leads.goes
-      (dup program has o map s q.state q.world q.stalls h (inside s Dup n) went.top went.rest n.reads went.are (omega (arith, went.leads.fits, loads.long)))
+      (dup program has o map keep s q.state q.world q.stalls h (inside s Dup n) went.top went.rest n.reads went.are (omega (arith, went.leads.fits, loads.long)))
   goes s to q Swap is fine n h went =
-      moves program o v s to _ q Swap 5 0 0x5F h n.reads refl refl refl (omega arith) went.leads (swap program has o map s q.state q.world q.stalls h (inside s Swap n) went.top went.second went.rest n.reads went.are)
+      moves program o v s to _ q Swap 5 0 0x5F h n.reads refl refl refl (omega arith) went.leads (swap program has o map keep s q.state q.world q.stalls h (inside s Swap n) went.top went.second went.rest n.reads went.are)
   goes s to q Iadd is fine n h went =
-      moves program o v s to _ q Iadd 2 0 0x60 h n.reads refl refl refl (omega arith) went.leads (iadd program has o map s q.state q.world q.stalls h (inside s Iadd n) went.top went.second went.rest n.reads went.are)
+      moves program o v s to _ q Iadd 2 0 0x60 h n.reads refl refl refl (omega arith) went.leads (iadd program has o map keep s q.state q.world q.stalls h (inside s Iadd n) went.top went.second went.rest n.reads went.are)
   goes s to q Isub is fine n h went =
-      moves program o v s to _ q Isub 2 0 0x64 h n.reads refl refl refl (omega arith) went.leads (isub program has o map s q.state q.world q.stalls h (inside s Isub n) went.top went.second went.rest n.reads went.are)
+      moves program o v s to _ q Isub 2 0 0x64 h n.reads refl refl refl (omega arith) went.leads (isub program has o map keep s q.state q.world q.stalls h (inside s Isub n) went.top went.second went.rest n.reads went.are)
   goes s to q Iand is fine n h went =
-      moves program o v s to _ q Iand 2 0 0x7E h n.reads refl refl refl (omega arith) went.leads (iand program has o map s q.state q.world q.stalls h (inside s Iand n) went.top went.second went.rest n.reads went.are)
+      moves program o v s to _ q Iand 2 0 0x7E h n.reads refl refl refl (omega arith) went.leads (iand program has o map keep s q.state q.world q.stalls h (inside s Iand n) went.top went.second went.rest n.reads went.are)
   goes s to q Ior is fine n h went = elim n.reads [
     | inl code ↦
-        moves program o v s to _ q Ior 2 0 0xB0 h code refl refl refl (omega arith) went.leads (ior program has o map s q.state q.world q.stalls h (inside s Ior n) went.top went.second went.rest code went.are)
+        moves program o v s to _ q Ior 2 0 0xB0 h code refl refl refl (omega arith) went.leads (ior program has o map keep s q.state q.world q.stalls h (inside s Ior n) went.top went.second went.rest code went.are)
     | inr code ↦
-        moves program o v s to _ q Ior 2 0 0x80 h code refl refl refl (omega arith) went.leads (ior80 program has o map s q.state q.world q.stalls h (inside s Ior n) went.top went.second went.rest code went.are)
+        moves program o v s to _ q Ior 2 0 0x80 h code refl refl refl (omega arith) went.leads (ior80 program has o map keep s q.state q.world q.stalls h (inside s Ior n) went.top went.second went.rest code went.are)
   ]
   goes s to q i is fine n h went = absurd is
 

@@ -15,20 +15,24 @@ ghost use Rattle.mic2_interpreter.specs.Stands.{Stands};
 ghost use Rattle.mic2_interpreter.specs.Stalls.{TakesWithStalls, BootsWithStall, HasStalled};
 ghost use Rattle.mic2_interpreter.specs.Groups.{IsOfOperands, IsOfLocals, IsOfConsole, IsJump, IsCall};
 
-use ijvm_paths::accepted_images_keep_sound;
-use ijvm_run::runs_keep_words;
+use crate::interpreter::Mic2Interpreter;
+use ijvm_simulation::{stalls_add_up, writes_keep_frames};
 
 /// The instructions on the operands alone.
 pub(crate) fn operands_law()
     ensures { (store : List ℕ) (o : Origin) (v : VerifiedView) → HasShipped Mic2 store → Loads v o →
         TakesWithStalls store o v IsOfOperands }
-{}
+{
+    writes_keep_frames();
+}
 
 /// IN and OUT.
 pub(crate) fn consoles_law()
     ensures { (store : List ℕ) (o : Origin) (v : VerifiedView) → HasShipped Mic2 store → Loads v o →
         TakesWithStalls store o v IsOfConsole }
-{}
+{
+    writes_keep_frames();
+}
 
 /// The jumps and branches.
 pub(crate) fn jumps_law()
@@ -40,13 +44,17 @@ pub(crate) fn jumps_law()
 pub(crate) fn locals_law()
     ensures { (store : List ℕ) (o : Origin) (v : VerifiedView) → HasShipped Mic2 store → Loads v o →
         TakesWithStalls store o v IsOfLocals }
-{}
+{
+    writes_keep_frames();
+}
 
 /// Calls and returns.
 pub(crate) fn calls_law()
     ensures { (store : List ℕ) (o : Origin) (v : VerifiedView) → HasShipped Mic2 store → Loads v o →
         TakesWithStalls store o v IsCall }
-{}
+{
+    writes_keep_frames();
+}
 
 /// HALT and ERR.
 pub(crate) fn ends_law()
@@ -73,7 +81,5 @@ pub fn runs_stall_at_calls()
         (turns mic2_meaning store (Some bound) at.cycles (reset_run mic2_meaning 0x002 v.main_locals (record { words = o.words; untaken = input; given = o.given }))).counts.stalls ≡ stalls }
 {
     stalls_law();
-    ends_law();
-    accepted_images_keep_sound();
-    runs_keep_words();
+    stalls_add_up::<Mic2Interpreter>();
 }

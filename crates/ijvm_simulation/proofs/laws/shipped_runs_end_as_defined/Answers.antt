@@ -1,6 +1,3 @@
-use Rattle.ijvm_image.specs.Image.{IsImage}
-use Rattle.ijvm_paths.specs.Accepted.{VerifiedView, IsAccepted}
-use Rattle.ijvm_simulation.proofs.Next.{Known}
 use Rattle.ijvm_simulation.proofs.Carried.{Promises}
 use Rattle.ijvm_simulation.proofs.Ending.{ends_as_defined}
 use Rattle.ijvm_simulation.proofs.laws.shipped_runs_end_as_defined.Goals as goal
