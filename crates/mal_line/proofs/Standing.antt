@@ -18,10 +18,10 @@ use Rattle.mal_line.specs.declared.tree.Jump.TheVariants as jumps
 use Rattle.mal_line.specs.declared.tree.Tree.{Tree}
 use Rattle.mal_line.specs.declared.content.Content.{Content}
 use Rattle.mal_line.specs.declared.content.Content.TheVariants as contents
-use Rattle.mal_line.specs.declared.content.NamedNext.{NamedNext}
 use Rattle.mal_line.specs.declared.content.Parts.{Parts}
 use Rattle.mal_line.specs.declared.line.Form.{Form}
 use Rattle.mal_line.specs.declared.line.Form.TheVariants as forms
+use Rattle.mal_line.specs.declared.next.Next.{Next}
 use Rattle.mal_line.specs.Expressions.{fits, part_with}
 use Rattle.mal_line.specs.Chains.{HasCoding, IsAssignment}
 use Rattle.mal_line.specs.Statements.{AreParts, AreTree, assign, assignments, counted, fetch_count, fetches, is_semicolon, jump, Kind, listed, memory, nothing, pieces}
@@ -135,7 +135,7 @@ part_is m ts t p a own h =
 parts_is : (m : Machine) (ts : List Token) (t : Tree) (p : Parts) → AreTree m ts t → names_foreign m ts ≡ false → parts_of t ≡ Some p → IsTrue (is_part m p.part)
 parts_is m ts t p a own h = go (part_of t) (next_of t.next) refl h
   where
-    go : (q : Option Part) (n : Option NamedNext) → part_of t ≡ q → parts_by q n ≡ Some p → IsTrue (is_part m p.part)
+    go : (q : Option Part) (n : Option (Next (List ℕ))) → part_of t ≡ q → parts_by q n ≡ Some p → IsTrue (is_part m p.part)
     go (Some q) (Some n) e h =
         let r : ◌≡◌ {A = Parts} (record { part = q; next = n }) p = cc in
         let s : q ≡ p.part = ap (λ (x : Parts). x.part) r in

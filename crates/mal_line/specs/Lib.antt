@@ -2,6 +2,7 @@ pub mod Expressions
 pub mod Table
 pub mod Chains
 pub mod Statements
+pub mod Targets
 pub mod Lines
 pub mod Lookup
 pub mod Reading

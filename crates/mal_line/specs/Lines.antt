@@ -1,5 +1,5 @@
 -- A line of the microassembly language: what its tokens spell on a machine, and why they are refused.
-use Rattle.std.specs.Prelude.{◌≡◌, ◌≢◌, IsTrue, Bool, true, false, List, [], ◌∷◌, ◌⊎◌, Option, Some, None, option_map}
+use Rattle.std.specs.Prelude.{◌≡◌, ◌≢◌, ℕ, IsTrue, Bool, true, false, List, [], ◌∷◌, ◌⊎◌, Option, Some, None, option_map}
 use Rattle.std.specs.List.{list_any}
 use Rattle.machine_words.specs.declared.machine.Machine.{Machine}
 use Rattle.machine_words.specs.declared.machine.Machine.TheVariants.{Mic1, Mic2}
@@ -15,8 +15,6 @@ use Rattle.mal_line.specs.declared.chain.Assignment.{Assignment}
 use Rattle.mal_line.specs.declared.tree.Jump.{Jump}
 use Rattle.mal_line.specs.declared.tree.Jump.TheVariants as jumps
 use Rattle.mal_line.specs.declared.tree.Tree.{Tree}
-use Rattle.mal_line.specs.declared.content.NamedNext.{NamedNext}
-use Rattle.mal_line.specs.declared.content.NamedNext.TheVariants as nexts
 use Rattle.mal_line.specs.declared.content.Parts.{Parts}
 use Rattle.mal_line.specs.declared.content.Content.{Content}
 use Rattle.mal_line.specs.declared.content.Content.TheVariants as contents
@@ -24,6 +22,8 @@ use Rattle.mal_line.specs.declared.line.Form.{Form}
 use Rattle.mal_line.specs.declared.line.Form.TheVariants as forms
 use Rattle.mal_line.specs.declared.line.LineFault.{LineFault}
 use Rattle.mal_line.specs.declared.line.LineFault.TheVariants as faults
+use Rattle.mal_line.specs.declared.next.Next.{Next}
+use Rattle.mal_line.specs.declared.next.Next.TheVariants as nexts
 use Rattle.mal_line.specs.Expressions.{part_with}
 use Rattle.mal_line.specs.Statements.{AreTree}
 
@@ -51,17 +51,17 @@ with_access tree p = record p { mem = tree.mem; fetch = tree.fetch }
 abbrev pub part_of : Tree → Option Part
 part_of tree = option_map (with_access tree) (part_by tree.assignment)
 
-abbrev pub target_of : Jump → Option NamedNext
+abbrev pub target_of : Jump → Option (Next (List ℕ))
 target_of (jumps.Goto label) = Some (nexts.Goto label)
 target_of (jumps.Dispatch None) = None
 target_of (jumps.Dispatch (Some high)) = Some (nexts.Dispatch high)
 target_of (jumps.Branch test high low) = Some (nexts.Branch test high low)
 
-abbrev pub next_of : Option Jump → Option NamedNext
+abbrev pub next_of : Option Jump → Option (Next (List ℕ))
 next_of None = Some nexts.Following
 next_of (Some j) = target_of j
 
-abbrev pub parts_by : Option Part → Option NamedNext → Option Parts
+abbrev pub parts_by : Option Part → Option (Next (List ℕ)) → Option Parts
 parts_by (Some part) (Some next) = Some (record { part = part; next = next })
 parts_by _ _ = None
 

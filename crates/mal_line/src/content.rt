@@ -3,24 +3,16 @@ ghost use Rattle.std.specs.Prelude.{◌≡◌};
 ghost use Rattle.mal_line.specs.Lines.{content_of, next_of, part_of, parts_of, target_of};
 
 use crate::line::Form;
+use crate::next::Next;
 use crate::tree::{Jump, Tree};
 use mic_base::Name;
-use micro_word::{Part, Test};
-
-/// Where a statement goes next, by the labels of its targets.
-#[derive(Clone, Copy)]
-pub enum NamedNext {
-    Following,
-    Goto(Name),
-    Dispatch { high: bool },
-    Branch { test: Test, yes: Name, no: Name },
-}
+use micro_word::Part;
 
 /// A statement without its label.
 #[derive(Clone, Copy)]
 pub struct Parts {
     pub part: Part,
-    pub next: NamedNext,
+    pub next: Next<Name>,
 }
 
 /// What a line says.
@@ -48,24 +40,24 @@ fn part_of(tree: Tree) -> Option<Part>
     })
 }
 
-fn target_of(jump: Jump) -> Option<NamedNext>
+fn target_of(jump: Jump) -> Option<Next<Name>>
     ensures { result ≡ target_of jump }
 {
     match jump {
-        Jump::Goto(label) => Some(NamedNext::Goto(label)),
+        Jump::Goto(label) => Some(Next::Goto(label)),
         Jump::Dispatch(offset) => match offset {
-            Some(high) => Some(NamedNext::Dispatch { high }),
+            Some(high) => Some(Next::Dispatch { high }),
             None => None,
         },
-        Jump::Branch(test, yes, no) => Some(NamedNext::Branch { test, yes, no }),
+        Jump::Branch(test, yes, no) => Some(Next::Branch { test, yes, no }),
     }
 }
 
-fn next_of(jump: Option<Jump>) -> Option<NamedNext>
+fn next_of(jump: Option<Jump>) -> Option<Next<Name>>
     ensures { result ≡ next_of jump }
 {
     match jump {
-        None => Some(NamedNext::Following),
+        None => Some(Next::Following),
         Some(jump) => target_of(jump),
     }
 }

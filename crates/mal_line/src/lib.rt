@@ -6,12 +6,14 @@ mod content;
 mod expression;
 mod laws;
 mod line;
+mod next;
 mod operation;
 mod piece;
 mod tally;
 mod tree;
 
 pub use chain::bit;
-pub use content::{Content, NamedNext, Parts};
+pub use content::{Content, Parts};
 pub use laws::{each_coding_is_a_row, named_registers_are_loaded, reads_what_is_spelled};
 pub use line::{LineFault, line_of};
+pub use next::Next;

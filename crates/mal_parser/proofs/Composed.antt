@@ -5,13 +5,13 @@ use Rattle.std.specs.List.{cons_option, filter_map, list_all}
 use Rattle.std.specs.Str.{bytes_eq}
 use Rattle.std.proofs.lemmas.Bool.Decides.{nat_tests}
 use Rattle.mal_line.specs.declared.content.Content.{Content}
+use Rattle.mal_line.specs.declared.next.Next.{Next}
+use Rattle.mal_line.specs.declared.next.Next.TheVariants as nexts
 use Rattle.mal_print.specs.Pieces.{printed}
 use Rattle.mal_print.specs.Canonical.{fix}
 use Rattle.mal_parser.specs.declared.source.Draft.{Draft}
 use Rattle.mal_parser.specs.declared.source.Fix.{Fix}
 use Rattle.mal_parser.specs.declared.statement.Statement.{Statement}
-use Rattle.mal_parser.specs.declared.statement.MalNext.{MalNext}
-use Rattle.mal_parser.specs.declared.statement.MalNext.TheVariants as nexts
 use Rattle.mal_parser.specs.Labels.{address_of, AreDistinct, has_label, is_among, is_label, is_labelled, labels_of}
 use Rattle.mal_parser.specs.Text.{AreAddresses, AreResolved, fallbacks, fallbacks_from, fixes, fixes_from, IsFine, IsFixedBy, IsProgramOf, Leads, SayAll, Spells, statements, statements_from}
 use Rattle.mal_parser.specs.Reading.{address_at, fixed_of}
@@ -279,7 +279,7 @@ module _ (ss : List Statement) (k : ℕ) where
       go None h = absurd (cc)
       go (Some name) h = refl
 
-  leads_there : (next : MalNext) → HasTargets ss next → Leads (on_lines k ss) (named_next ss next) next
+  leads_there : (next : Next ℕ) → HasTargets ss next → Leads (on_lines k ss) (named_next ss next) next
   leads_there nexts.Following h = tt
   leads_there (nexts.Goto to) h = name_here to h
   leads_there (nexts.Dispatch high) h = refl

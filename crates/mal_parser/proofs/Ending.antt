@@ -5,8 +5,8 @@ use Rattle.std.specs.List.{cons_option, list_any}
 use Rattle.machine_words.specs.declared.machine.Machine.{Machine}
 use Rattle.mal_line.specs.declared.content.Content.{Content}
 use Rattle.mal_line.specs.declared.content.Content.TheVariants as said
-use Rattle.mal_line.specs.declared.content.NamedNext.{NamedNext}
-use Rattle.mal_line.specs.declared.content.NamedNext.TheVariants as named
+use Rattle.mal_line.specs.declared.next.Next.{Next}
+use Rattle.mal_line.specs.declared.next.Next.TheVariants as nexts
 use Rattle.mal_parser.specs.declared.error.MalError.{MalError}
 use Rattle.mal_parser.specs.declared.error.MalError.TheVariants as errors
 use Rattle.mal_parser.specs.declared.source.Draft.{Draft}
@@ -197,15 +197,15 @@ module _ (test : Content → List Content → Bool) where
 
 -- ---- unknown labels
 
-unknown_named : (ds : List Draft) (next : NamedNext) → not (knows ds next) ≡ list_any (λ label. not (has_label ds label)) (targets_of next)
-unknown_named ds named.Following = refl
-unknown_named ds (named.Goto label) = go (has_label ds label)
+unknown_named : (ds : List Draft) (next : Next (List ℕ)) → not (knows ds next) ≡ list_any (λ label. not (has_label ds label)) (targets_of next)
+unknown_named ds nexts.Following = refl
+unknown_named ds (nexts.Goto label) = go (has_label ds label)
   where
     go : (b : Bool) → not b ≡ (not b || false)
     go true = refl
     go false = refl
-unknown_named ds (named.Dispatch high) = refl
-unknown_named ds (named.Branch test high low) = go (has_label ds high) (has_label ds low)
+unknown_named ds (nexts.Dispatch high) = refl
+unknown_named ds (nexts.Branch test high low) = go (has_label ds high) (has_label ds low)
   where
     go : (a b : Bool) → not (a && b) ≡ (not a || (not b || false))
     go true true = refl
@@ -214,7 +214,7 @@ unknown_named ds (named.Branch test high low) = go (has_label ds high) (has_labe
 
 same_unknown : (ds : List Draft) (c : Content) (behind : List Content) → is_unknown ds c ≡ names_unknown ds c behind
 same_unknown ds said.Nothing behind = refl
-same_unknown ds (said.Fix label number) behind = unknown_named ds (named.Goto label)
+same_unknown ds (said.Fix label number) behind = unknown_named ds (nexts.Goto label)
 same_unknown ds (said.Fallback parts) behind = unknown_named ds parts.next
 same_unknown ds (said.Statement label parts) behind = unknown_named ds parts.next
 

@@ -6,13 +6,11 @@ use Rattle.std.proofs.lemmas.Option.{slice_get_within}
 use Rattle.machine_words.specs.declared.machine.Machine.{Machine}
 use Rattle.micro_word.specs.declared.statement.Part.{Part}
 use Rattle.mal_line.specs.declared.content.Content.{Content}
-use Rattle.mal_line.specs.declared.content.NamedNext.{NamedNext}
-use Rattle.mal_line.specs.declared.content.NamedNext.TheVariants as named
+use Rattle.mal_line.specs.declared.next.Next.{Next}
+use Rattle.mal_line.specs.declared.next.Next.TheVariants as nexts
 use Rattle.mal_parser.specs.declared.source.Draft.{Draft}
 use Rattle.mal_parser.specs.declared.source.Fix.{Fix}
 use Rattle.mal_parser.specs.declared.statement.Statement.{Statement}
-use Rattle.mal_parser.specs.declared.statement.MalNext.{MalNext}
-use Rattle.mal_parser.specs.declared.statement.MalNext.TheVariants as nexts
 use Rattle.mal_parser.specs.Labels.{AreDistinct, has_label, is_labelled, labels_of}
 use Rattle.mal_parser.specs.Text.{AreResolved, fallbacks, falls, fixes, IsFine, IsProgramOf, IsResolved, Leads, statements}
 use Rattle.mal_parser.specs.Reading.{by_entry, by_falling, by_unknown, earlier, falling, first, first_falling, first_unknown, fixed_of, IsSound, knows, main1, next_of, number_of, program_of, program_with, resolved, sketch_of, target, unknown_draft, unknown_fix, unknown_in}
@@ -23,11 +21,11 @@ use Rattle.mal_parser.proofs.Adding.{label_among}
 
 -- ---- what is resolved is the meaning
 
-leads : (ds : List Draft) (fs : List Fix) (next : NamedNext) → knows ds next ≡ true → Leads (map (resolved ds fs) ds) next (next_of ds next)
-leads ds fs named.Following h = tt
-leads ds fs (named.Goto label) h = target_label ds fs label h
-leads ds fs (named.Dispatch high) h = refl
-leads ds fs (named.Branch test high low) h = go (has_label ds high) (has_label ds low) refl refl h
+leads : (ds : List Draft) (fs : List Fix) (next : Next (List ℕ)) → knows ds next ≡ true → Leads (map (resolved ds fs) ds) next (next_of ds next)
+leads ds fs nexts.Following h = tt
+leads ds fs (nexts.Goto label) h = target_label ds fs label h
+leads ds fs (nexts.Dispatch high) h = refl
+leads ds fs (nexts.Branch test high low) h = go (has_label ds high) (has_label ds low) refl refl h
   where
     go : (a b : Bool) → has_label ds high ≡ a → has_label ds low ≡ b → (a && b) ≡ true → (test ≡ test) × (label_at (map (resolved ds fs) ds) (target ds high) ≡ Some high) × (label_at (map (resolved ds fs) ds) (target ds low) ≡ Some low)
     go true true e f h = (refl, target_label ds fs high e, target_label ds fs low f)
@@ -129,47 +127,47 @@ module _ (ds : List Draft) (fs : List Fix) (ss : List Statement) (distinct : Are
   label_here : (i : ℕ) (label : List ℕ) → label_at ss i ≡ Some label → draft_label ds i ≡ Some label
   label_here i label h = same_labels ss fs ds ss i all ∙ h
 
-  knows_it : (next : NamedNext) (t : MalNext) → Leads ss next t → knows ds next ≡ true
-  knows_it named.Following t l = refl
-  knows_it (named.Goto label) (nexts.Goto to) l = has_at ds to label (label_here to label l)
-  knows_it (named.Goto label) nexts.Following l = absurd l
-  knows_it (named.Goto label) (nexts.Dispatch h) l = absurd l
-  knows_it (named.Goto label) (nexts.Branch t a b) l = absurd l
-  knows_it (named.Dispatch high) t l = refl
-  knows_it (named.Branch test high low) (nexts.Branch t a b) l =
+  knows_it : (next : Next (List ℕ)) (t : Next ℕ) → Leads ss next t → knows ds next ≡ true
+  knows_it nexts.Following t l = refl
+  knows_it (nexts.Goto label) (nexts.Goto to) l = has_at ds to label (label_here to label l)
+  knows_it (nexts.Goto label) nexts.Following l = absurd l
+  knows_it (nexts.Goto label) (nexts.Dispatch h) l = absurd l
+  knows_it (nexts.Goto label) (nexts.Branch t a b) l = absurd l
+  knows_it (nexts.Dispatch high) t l = refl
+  knows_it (nexts.Branch test high low) (nexts.Branch t a b) l =
       let h = has_at ds a high (label_here a high l.1) in
       let k = has_at ds b low (label_here b low l.2) in
       rw (h, k) refl
-  knows_it (named.Branch test high low) nexts.Following l = absurd l
-  knows_it (named.Branch test high low) (nexts.Goto to) l = absurd l
-  knows_it (named.Branch test high low) (nexts.Dispatch h) l = absurd l
+  knows_it (nexts.Branch test high low) nexts.Following l = absurd l
+  knows_it (nexts.Branch test high low) (nexts.Goto to) l = absurd l
+  knows_it (nexts.Branch test high low) (nexts.Dispatch h) l = absurd l
 
-  leads_there : (next : NamedNext) (t : MalNext) → Leads ss next t → t ≡ next_of ds next
-  leads_there named.Following nexts.Following l = refl
-  leads_there named.Following (nexts.Goto to) l = absurd l
-  leads_there named.Following (nexts.Dispatch h) l = absurd l
-  leads_there named.Following (nexts.Branch t a b) l = absurd l
-  leads_there (named.Goto label) (nexts.Goto to) l = ap (λ n. nexts.Goto n) (target_at ds to label distinct (label_here to label l))
-  leads_there (named.Goto label) nexts.Following l = absurd l
-  leads_there (named.Goto label) (nexts.Dispatch h) l = absurd l
-  leads_there (named.Goto label) (nexts.Branch t a b) l = absurd l
-  leads_there (named.Dispatch high) (nexts.Dispatch h) l = ap (λ b. nexts.Dispatch b) (sym l)
-  leads_there (named.Dispatch high) nexts.Following l = absurd l
-  leads_there (named.Dispatch high) (nexts.Goto to) l = absurd l
-  leads_there (named.Dispatch high) (nexts.Branch t a b) l = absurd l
-  leads_there (named.Branch test high low) (nexts.Branch t a b) l =
+  leads_there : (next : Next (List ℕ)) (t : Next ℕ) → Leads ss next t → t ≡ next_of ds next
+  leads_there nexts.Following nexts.Following l = refl
+  leads_there nexts.Following (nexts.Goto to) l = absurd l
+  leads_there nexts.Following (nexts.Dispatch h) l = absurd l
+  leads_there nexts.Following (nexts.Branch t a b) l = absurd l
+  leads_there (nexts.Goto label) (nexts.Goto to) l = ap (λ n. nexts.Goto n) (target_at ds to label distinct (label_here to label l))
+  leads_there (nexts.Goto label) nexts.Following l = absurd l
+  leads_there (nexts.Goto label) (nexts.Dispatch h) l = absurd l
+  leads_there (nexts.Goto label) (nexts.Branch t a b) l = absurd l
+  leads_there (nexts.Dispatch high) (nexts.Dispatch h) l = ap (λ b. nexts.Dispatch b) (sym l)
+  leads_there (nexts.Dispatch high) nexts.Following l = absurd l
+  leads_there (nexts.Dispatch high) (nexts.Goto to) l = absurd l
+  leads_there (nexts.Dispatch high) (nexts.Branch t a b) l = absurd l
+  leads_there (nexts.Branch test high low) (nexts.Branch t a b) l =
       let e = l.0 in
       let f = target_at ds a high distinct (label_here a high l.1) in
       let g = target_at ds b low distinct (label_here b low l.2) in
       ap (λ x. nexts.Branch x a b) (sym e) ∙ (ap (λ n. nexts.Branch test n b) f ∙ ap (λ n. nexts.Branch test (target ds high) n) g)
-  leads_there (named.Branch test high low) nexts.Following l = absurd l
-  leads_there (named.Branch test high low) (nexts.Goto to) l = absurd l
-  leads_there (named.Branch test high low) (nexts.Dispatch h) l = absurd l
+  leads_there (nexts.Branch test high low) nexts.Following l = absurd l
+  leads_there (nexts.Branch test high low) (nexts.Goto to) l = absurd l
+  leads_there (nexts.Branch test high low) (nexts.Dispatch h) l = absurd l
 
   statement_there : (d : Draft) (s : Statement) → IsResolved ss fs d s → s ≡ resolved ds fs d
   statement_there d s r = one s.label d.label s.line d.line s.part d.parts.part s.next (next_of ds d.parts.next) s.fixed (fixed_of fs d.label) r.label r.line r.part (leads_there d.parts.next s.next r.next) (fixed_there fs d.label s.fixed once r.fixed)
     where
-      one : (a a2 : Option (List ℕ)) (b b2 : ℕ) (c c2 : Part) (e e2 : MalNext) (f f2 : Option ℕ) → a ≡ a2 → b ≡ b2 → c ≡ c2 → e ≡ e2 → f ≡ f2
+      one : (a a2 : Option (List ℕ)) (b b2 : ℕ) (c c2 : Part) (e e2 : Next ℕ) (f f2 : Option ℕ) → a ≡ a2 → b ≡ b2 → c ≡ c2 → e ≡ e2 → f ≡ f2
           → ◌≡◌ {A = Statement} (record { label = a; line = b; part = c; next = e; fixed = f }) (record { label = a2; line = b2; part = c2; next = e2; fixed = f2 })
       one a a2 b b2 c c2 e e2 f f2 g h i j k = rw (g, h, i, j, k) refl
 
@@ -208,14 +206,14 @@ no_fix_unknown ds (f ∷ fs) h = go (has_label ds f.label) h (no_fix_unknown ds 
     go true h rec = rec h
     go false h rec = absurd (cc)
 
-falls_to : (ss : List Statement) (next : NamedNext) (t : MalNext) → Leads ss next t → falls next ≡ true → t ≡ nexts.Following
-falls_to ss named.Following nexts.Following l f = refl
-falls_to ss named.Following (nexts.Goto to) l f = absurd l
-falls_to ss named.Following (nexts.Dispatch h) l f = absurd l
-falls_to ss named.Following (nexts.Branch t a b) l f = absurd l
-falls_to ss (named.Goto label) t l f = absurd (cc)
-falls_to ss (named.Dispatch high) t l f = absurd (cc)
-falls_to ss (named.Branch test high low) t l f = absurd (cc)
+falls_to : (ss : List Statement) (next : Next (List ℕ)) (t : Next ℕ) → Leads ss next t → falls next ≡ true → t ≡ nexts.Following
+falls_to ss nexts.Following nexts.Following l f = refl
+falls_to ss nexts.Following (nexts.Goto to) l f = absurd l
+falls_to ss nexts.Following (nexts.Dispatch h) l f = absurd l
+falls_to ss nexts.Following (nexts.Branch t a b) l f = absurd l
+falls_to ss (nexts.Goto label) t l f = absurd (cc)
+falls_to ss (nexts.Dispatch high) t l f = absurd (cc)
+falls_to ss (nexts.Branch test high low) t l f = absurd (cc)
 
 module _ (m : Machine) (cs : List Content) (p : Program) (fine : IsFine cs) (is : IsProgramOf m cs p) where
   no_unknown : first_unknown (sketch_of m cs) ≡ None

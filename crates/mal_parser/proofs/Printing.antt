@@ -9,11 +9,11 @@ use Rattle.micro_word.specs.declared.statement.PlacedNext.TheVariants as placed
 use Rattle.machine_words.specs.declared.machine.Machine.{Machine}
 use Rattle.micro_word.specs.declared.statement.Placed.{Placed}
 use Rattle.micro_word.specs.Canonical.{is_next, is_part, is_valid}
+use Rattle.mal_line.specs.declared.next.Next.{Next}
+use Rattle.mal_line.specs.declared.next.Next.TheVariants as nexts
 use Rattle.mal_parser.proofs.Options.{and_parts}
 use Rattle.mal_print.specs.Canonical.{FitTargets}
 use Rattle.mal_parser.specs.declared.statement.Statement.{Statement}
-use Rattle.mal_parser.specs.declared.statement.MalNext.{MalNext}
-use Rattle.mal_parser.specs.declared.statement.MalNext.TheVariants as nexts
 use Rattle.mal_parser.specs.Program.{HasTargets, IsFallback, IsLabelled, IsStatement, Program}
 use Rattle.mal_parser.specs.Canonical.{by_addresses, by_labels, canonical_text, default_line, fallback_of, fallback_text, fix_line, line_of, parts_of, parts_text, statement_text, text_of}
 
@@ -24,7 +24,7 @@ labelled_within [] s h = absurd (cc)
 labelled_within (t ∷ ss) zero h = omega arith
 labelled_within (t ∷ ss) (suc s) h = let r = labelled_within ss s h in omega (arith, r)
 
-pub fit_labels : (ss : List Statement) (next : MalNext) → FitTargets (by_labels ss next)
+pub fit_labels : (ss : List Statement) (next : Next ℕ) → FitTargets (by_labels ss next)
 fit_labels ss nexts.Following = tt
 fit_labels ss (nexts.Goto to) = tt
 fit_labels ss (nexts.Dispatch high) = tt

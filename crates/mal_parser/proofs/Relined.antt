@@ -1,9 +1,9 @@
 -- A program with other line numbers is a program.
 use Rattle.std.proofs.Common.{◌≡◌, ℕ, zero, suc, ◌+◌, ◌<◌, ◌≤◌, List, [], ◌∷◌, Option, Some, None, length, refl, sym, ap, subst, ◌∙◌}
 use Rattle.std.specs.Prelude.{IfSome, IsSome, slice_get, option_map}
+use Rattle.mal_line.specs.declared.next.Next.{Next}
+use Rattle.mal_line.specs.declared.next.Next.TheVariants as nexts
 use Rattle.mal_parser.specs.declared.statement.Statement.{Statement}
-use Rattle.mal_parser.specs.declared.statement.MalNext.{MalNext}
-use Rattle.mal_parser.specs.declared.statement.MalNext.TheVariants as nexts
 use Rattle.mal_parser.specs.Program.{HasTargets, IsFallback, IsLabelled, IsProgram, IsStatement, label_at, Program}
 use Rattle.mal_parser.specs.Canonical.{on_line, on_lines}
 
@@ -26,7 +26,7 @@ module _ (k : ℕ) (ss : List Statement) where
   labelled_lined : (i : ℕ) → IsLabelled ss i → IsLabelled (on_lines k ss) i
   labelled_lined i h = subst IsSome (sym (label_lined k ss i)) h
 
-  targets_lined : (next : MalNext) → HasTargets ss next → HasTargets (on_lines k ss) next
+  targets_lined : (next : Next ℕ) → HasTargets ss next → HasTargets (on_lines k ss) next
   targets_lined nexts.Following h = tt
   targets_lined (nexts.Goto to) h = labelled_lined to h
   targets_lined (nexts.Dispatch high) h = tt

@@ -10,12 +10,11 @@ use Rattle.std.proofs.lemmas.Option.{slice_get-map, slice_get-get_or, slice_get_
 use Rattle.std.proofs.lemmas.Bool.Decides.{nat_tests}
 use Rattle.std.proofs.lemmas.Slice.Eq.{bytes_eq-Decides}
 use Rattle.machine_words.specs.declared.machine.Machine.{Machine}
-use Rattle.mal_line.specs.declared.content.NamedNext.{NamedNext}
-use Rattle.mal_line.specs.declared.content.NamedNext.TheVariants as named
+use Rattle.mal_line.specs.declared.next.Next.{Next}
+use Rattle.mal_line.specs.declared.next.Next.TheVariants as nexts
 use Rattle.mal_parser.specs.declared.source.Draft.{Draft}
 use Rattle.mal_parser.specs.declared.source.Fix.{Fix}
 use Rattle.mal_parser.specs.declared.statement.Statement.{Statement}
-use Rattle.mal_parser.specs.declared.statement.MalNext.TheVariants as nexts
 use Rattle.mal_parser.specs.Labels.{AreDistinct, has_label, is_among, is_label, is_labelled, labels_of}
 use Rattle.mal_parser.specs.Text.{falls}
 use Rattle.mal_parser.specs.Reading.{address_at, earlier, falling, first_falling, first_unknown, fixed_of, IsDraft, IsSound, knows, main1, next_of, number_of, program_with, resolved, Sketch, target, unknown_draft, unknown_fix, unknown_in}
@@ -147,11 +146,11 @@ and_parts : (a b : Bool) → (a && b) ≡ true → (a ≡ true) × (b ≡ true)
 and_parts true b h = (refl, h)
 and_parts false b h = absurd (cc)
 
-has_targets : (ds : List Draft) (fs : List Fix) (next : NamedNext) → knows ds next ≡ true → HasTargets (map (resolved ds fs) ds) (next_of ds next)
-has_targets ds fs named.Following h = tt
-has_targets ds fs (named.Goto label) h = is_target ds fs label h
-has_targets ds fs (named.Dispatch high) h = tt
-has_targets ds fs (named.Branch test high low) h = let p = and_parts (has_label ds high) (has_label ds low) h in (is_target ds fs high p.0, is_target ds fs low p.1)
+has_targets : (ds : List Draft) (fs : List Fix) (next : Next (List ℕ)) → knows ds next ≡ true → HasTargets (map (resolved ds fs) ds) (next_of ds next)
+has_targets ds fs nexts.Following h = tt
+has_targets ds fs (nexts.Goto label) h = is_target ds fs label h
+has_targets ds fs (nexts.Dispatch high) h = tt
+has_targets ds fs (nexts.Branch test high low) h = let p = and_parts (has_label ds high) (has_label ds low) h in (is_target ds fs high p.0, is_target ds fs low p.1)
 
 -- ---- what no refusal says
 
@@ -190,11 +189,11 @@ not_falling d h = go (falls d.parts.next) h
     go true h = absurd (cc)
     go false h = refl
 
-falls_of : (ds : List Draft) (next : NamedNext) → next_of ds next ≡ nexts.Following → falls next ≡ true
-falls_of ds named.Following h = refl
-falls_of ds (named.Goto label) h = absurd (cc)
-falls_of ds (named.Dispatch high) h = absurd (cc)
-falls_of ds (named.Branch test high low) h = absurd (cc)
+falls_of : (ds : List Draft) (next : Next (List ℕ)) → next_of ds next ≡ nexts.Following → falls next ≡ true
+falls_of ds nexts.Following h = refl
+falls_of ds (nexts.Goto label) h = absurd (cc)
+falls_of ds (nexts.Dispatch high) h = absurd (cc)
+falls_of ds (nexts.Branch test high low) h = absurd (cc)
 
 -- ---- the program
 

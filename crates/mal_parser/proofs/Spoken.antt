@@ -8,14 +8,13 @@ use Rattle.mal_tokens.specs.Words.{IsLabelText}
 use Rattle.mal_line.specs.declared.content.Content.{Content}
 use Rattle.mal_line.specs.declared.content.Content.TheVariants as said
 use Rattle.mal_line.specs.declared.content.Parts.{Parts}
-use Rattle.mal_line.specs.declared.content.NamedNext.{NamedNext}
-use Rattle.mal_line.specs.declared.content.NamedNext.TheVariants as named
+use Rattle.mal_line.specs.declared.next.Next.{Next}
+use Rattle.mal_line.specs.declared.next.Next.TheVariants as nexts
+use Rattle.mal_line.specs.Targets.{by_targets}
 use Rattle.mal_print.specs.Pieces.{printed}
 use Rattle.mal_print.specs.Canonical.{fallback, fix, HasLabels, labelled, statement}
 use Rattle.mal_print.specs.Lines.{IsLineOf}
 use Rattle.mal_parser.specs.declared.statement.Statement.{Statement}
-use Rattle.mal_parser.specs.declared.statement.MalNext.{MalNext}
-use Rattle.mal_parser.specs.declared.statement.MalNext.TheVariants as nexts
 use Rattle.mal_parser.specs.Program.{HasTargets, IsFallback, IsLabelled, IsProgram, label_at, Program}
 use Rattle.mal_parser.specs.Canonical.{by_labels, canonical_lines, default_line, fix_line, line_of}
 use Rattle.mal_parser.specs.Text.{SayAll}
@@ -26,11 +25,8 @@ use Rattle.mal_parser.proofs.Printed.{ArePlain, plain_append}
 abbrev pub name_of : List Statement → ℕ → List ℕ
 name_of ss to = unwrap_or (label_at ss to) []
 
-abbrev pub named_next : List Statement → MalNext → NamedNext
-named_next ss nexts.Following = named.Following
-named_next ss (nexts.Goto to) = named.Goto (name_of ss to)
-named_next ss (nexts.Dispatch high) = named.Dispatch high
-named_next ss (nexts.Branch test high low) = named.Branch test (name_of ss high) (name_of ss low)
+abbrev pub named_next : List Statement → Next ℕ → Next (List ℕ)
+named_next ss next = by_targets (name_of ss) next
 
 abbrev pub parts_for : List Statement → Statement → Parts
 parts_for all s = record { part = s.part; next = named_next all s.next }
@@ -53,7 +49,7 @@ content_of p = filter_map fix_content p.statements ++ (option_to_list (option_ma
 
 -- ---- one line
 
-same_next : (ss : List Statement) (next : MalNext) → labelled (named_next ss next) ≡ by_labels ss next
+same_next : (ss : List Statement) (next : Next ℕ) → labelled (named_next ss next) ≡ by_labels ss next
 same_next ss nexts.Following = refl
 same_next ss (nexts.Goto to) = refl
 same_next ss (nexts.Dispatch high) = refl
@@ -117,7 +113,7 @@ module _ (laws : LinesSpell) (p : Program) (h : IsProgram p) where
       go None e some = absurd (cc)
       go (Some label) e some = label_text to label e
 
-  next_texts : (next : MalNext) → HasTargets p.statements next → HasLabels (named_next p.statements next)
+  next_texts : (next : Next ℕ) → HasTargets p.statements next → HasLabels (named_next p.statements next)
   next_texts nexts.Following t = tt
   next_texts (nexts.Goto to) t = target_text to t
   next_texts (nexts.Dispatch high) t = tt

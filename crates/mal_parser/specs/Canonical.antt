@@ -5,15 +5,14 @@ use Rattle.machine_words.specs.declared.machine.Machine.{Machine}
 use Rattle.micro_word.specs.declared.statement.Placed.{Placed}
 use Rattle.micro_word.specs.declared.statement.PlacedNext.{PlacedNext}
 use Rattle.micro_word.specs.declared.statement.PlacedNext.TheVariants as placed
+use Rattle.mal_line.specs.declared.next.Next.{Next}
+use Rattle.mal_line.specs.declared.next.Next.TheVariants as nexts
+use Rattle.mal_line.specs.Targets.{by_targets}
 use Rattle.mal_print.specs.declared.target.Target.{Target}
 use Rattle.mal_print.specs.declared.target.Target.TheVariants as targets
-use Rattle.mal_print.specs.declared.target.PrintedNext.{PrintedNext}
-use Rattle.mal_print.specs.declared.target.PrintedNext.TheVariants as prints
 use Rattle.mal_print.specs.Pieces.{printed}
 use Rattle.mal_print.specs.Canonical.{fallback, fix, lone, pieces, statement}
 use Rattle.mal_parser.specs.declared.statement.Statement.{Statement}
-use Rattle.mal_parser.specs.declared.statement.MalNext.{MalNext}
-use Rattle.mal_parser.specs.declared.statement.MalNext.TheVariants as nexts
 use Rattle.mal_parser.specs.Program.{label_at, Program}
 
 -- ---- where a statement goes next
@@ -22,20 +21,17 @@ use Rattle.mal_parser.specs.Program.{label_at, Program}
 abbrev pub by_label : List Statement → ℕ → Target
 by_label ss to = targets.Label (unwrap_or (label_at ss to) [])
 
-abbrev pub by_labels : List Statement → MalNext → PrintedNext
-by_labels ss nexts.Following = prints.Following
-by_labels ss (nexts.Goto to) = prints.Goto (by_label ss to)
-by_labels ss (nexts.Dispatch high) = prints.Dispatch high
-by_labels ss (nexts.Branch test high low) = prints.Branch test (by_label ss high) (by_label ss low)
+abbrev pub by_labels : List Statement → Next ℕ → Next Target
+by_labels ss next = by_targets (by_label ss) next
 
-abbrev pub next_of : Program → Statement → PrintedNext
+abbrev pub next_of : Program → Statement → Next Target
 next_of p s = by_labels p.statements s.next
 
 -- by their addresses
-abbrev pub by_addresses : PlacedNext → PrintedNext
-by_addresses (placed.Goto to) = prints.Goto (targets.Address to)
-by_addresses (placed.Dispatch high) = prints.Dispatch high
-by_addresses (placed.Branch test low) = prints.Branch test (targets.Address (low + 256)) (targets.Address low)
+abbrev pub by_addresses : PlacedNext → Next Target
+by_addresses (placed.Goto to) = nexts.Goto (targets.Address to)
+by_addresses (placed.Dispatch high) = nexts.Dispatch high
+by_addresses (placed.Branch test low) = nexts.Branch test (targets.Address (low + 256)) (targets.Address low)
 
 -- ---- the texts of one statement
 

@@ -3,9 +3,10 @@ use Rattle.std.specs.Prelude.{◌≡◌, ℕ, ◌+◌, ◌<◌, ◌≤◌, List,
 use Rattle.machine_words.specs.declared.machine.Machine.{Machine}
 use Rattle.micro_word.specs.Canonical.{is_part}
 use Rattle.mal_tokens.specs.Words.{IsLabelText}
+use Rattle.mal_line.specs.declared.next.Next.{Next}
+use Rattle.mal_line.specs.declared.next.Next.TheVariants as nexts
+use Rattle.mal_line.specs.Targets.{EachTarget}
 use Rattle.mal_parser.specs.declared.statement.Statement.{Statement}
-use Rattle.mal_parser.specs.declared.statement.MalNext.{MalNext}
-use Rattle.mal_parser.specs.declared.statement.MalNext.TheVariants as nexts
 
 -- what contracts see of a program
 pub record Program : Type 0 where
@@ -22,11 +23,8 @@ abbrev pub IsLabelled : List Statement → ℕ → Type 0
 IsLabelled statements s = IsSome (label_at statements s)
 
 -- the targets that are named are labelled statements
-abbrev pub HasTargets : List Statement → MalNext → Type 0
-HasTargets statements nexts.Following = Unit {0}
-HasTargets statements (nexts.Goto to) = IsLabelled statements to
-HasTargets statements (nexts.Dispatch high) = Unit {0}
-HasTargets statements (nexts.Branch test high low) = IsLabelled statements high × IsLabelled statements low
+abbrev pub HasTargets : List Statement → Next ℕ → Type 0
+HasTargets statements next = EachTarget (IsLabelled statements) next
 
 -- the statement with this number may stand in the program
 pub record IsStatement (program : Program) (number : ℕ) (s : Statement) : Type 0 where

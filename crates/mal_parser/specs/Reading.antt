@@ -10,21 +10,20 @@ use Rattle.mal_tokens.specs.Tokens as tokens
 use Rattle.mal_tokens.specs.Words.{IsLabelText}
 use Rattle.mal_line.specs.declared.content.Content.{Content}
 use Rattle.mal_line.specs.declared.content.Content.TheVariants as contents
-use Rattle.mal_line.specs.declared.content.NamedNext.{NamedNext}
-use Rattle.mal_line.specs.declared.content.NamedNext.TheVariants as named
 use Rattle.mal_line.specs.declared.content.Parts.{Parts}
 use Rattle.mal_line.specs.declared.line.LineFault.{LineFault}
 use Rattle.mal_line.specs.declared.line.LineFault.TheVariants as faults
+use Rattle.mal_line.specs.declared.next.Next.{Next}
+use Rattle.mal_line.specs.declared.next.Next.TheVariants as nexts
 use Rattle.mal_line.specs.Lines as lines
 use Rattle.mal_line.specs.Lines.{HasPart}
 use Rattle.mal_line.specs.Reading.{line_of}
+use Rattle.mal_line.specs.Targets.{by_targets}
 use Rattle.mal_parser.specs.declared.error.MalError.{MalError}
 use Rattle.mal_parser.specs.declared.error.MalError.TheVariants as errors
 use Rattle.mal_parser.specs.declared.source.Draft.{Draft}
 use Rattle.mal_parser.specs.declared.source.Fix.{Fix}
 use Rattle.mal_parser.specs.declared.statement.Statement.{Statement}
-use Rattle.mal_parser.specs.declared.statement.MalNext.{MalNext}
-use Rattle.mal_parser.specs.declared.statement.MalNext.TheVariants as nexts
 use Rattle.mal_parser.specs.Labels.{address_of, AreDistinct, has_fix, has_label, has_name, is_labelled, labels_of}
 use Rattle.mal_parser.specs.Program.{Program}
 use Rattle.mal_parser.specs.Text.{fallbacks, falls, fixes, is_memory, statements}
@@ -120,11 +119,11 @@ pub record IsSound (s : Sketch) : Type 0 where
 
 -- ---- unknown labels
 
-abbrev pub knows : List Draft → NamedNext → Bool
-knows ds named.Following = true
-knows ds (named.Goto label) = has_label ds label
-knows ds (named.Dispatch high) = true
-knows ds (named.Branch test high low) = has_label ds high && has_label ds low
+abbrev pub knows : List Draft → Next (List ℕ) → Bool
+knows ds nexts.Following = true
+knows ds (nexts.Goto label) = has_label ds label
+knows ds (nexts.Dispatch high) = true
+knows ds (nexts.Branch test high low) = has_label ds high && has_label ds low
 
 abbrev pub unknown_draft : List Draft → List Draft → Option ℕ
 unknown_draft ds among = option_map (λ d. d.line) (find (λ d. not (knows ds d.parts.next)) among)
@@ -164,11 +163,8 @@ number_of ds label = position (is_labelled label) ds
 abbrev pub target : List Draft → List ℕ → ℕ
 target ds label = unwrap_or (number_of ds label) 0
 
-abbrev pub next_of : List Draft → NamedNext → MalNext
-next_of ds named.Following = nexts.Following
-next_of ds (named.Goto label) = nexts.Goto (target ds label)
-next_of ds (named.Dispatch high) = nexts.Dispatch high
-next_of ds (named.Branch test high low) = nexts.Branch test (target ds high) (target ds low)
+abbrev pub next_of : List Draft → Next (List ℕ) → Next ℕ
+next_of ds next = by_targets (target ds) next
 
 abbrev pub address_at : List Fix → List ℕ → Option ℕ
 address_at fs label = option_map (λ f. f.address) (find (λ f. bytes_eq f.label label) fs)

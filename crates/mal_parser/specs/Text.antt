@@ -7,18 +7,16 @@ use Rattle.mal_tokens.specs.declared.token.Token.{Token}
 use Rattle.mal_tokens.specs.Tokens as tokens
 use Rattle.mal_line.specs.declared.content.Content.{Content}
 use Rattle.mal_line.specs.declared.content.Content.TheVariants as said
-use Rattle.mal_line.specs.declared.content.NamedNext.{NamedNext}
-use Rattle.mal_line.specs.declared.content.NamedNext.TheVariants as named
 use Rattle.mal_line.specs.declared.line.LineFault.{LineFault}
 use Rattle.mal_line.specs.declared.line.LineFault.TheVariants as faults
+use Rattle.mal_line.specs.declared.next.Next.{Next}
+use Rattle.mal_line.specs.declared.next.Next.TheVariants as nexts
 use Rattle.mal_line.specs.Lines as lines
 use Rattle.mal_parser.specs.declared.error.MalError.{MalError}
 use Rattle.mal_parser.specs.declared.error.MalError.TheVariants as errors
 use Rattle.mal_parser.specs.declared.source.Draft.{Draft}
 use Rattle.mal_parser.specs.declared.source.Fix.{Fix}
 use Rattle.mal_parser.specs.declared.statement.Statement.{Statement}
-use Rattle.mal_parser.specs.declared.statement.MalNext.{MalNext}
-use Rattle.mal_parser.specs.declared.statement.MalNext.TheVariants as nexts
 use Rattle.mal_parser.specs.Labels.{address_of, AreDistinct, has_fix, has_label, has_name, labels_of}
 use Rattle.mal_parser.specs.Program.{IsProgram, label_at, Program}
 
@@ -80,11 +78,11 @@ pub record IsFine (cs : List Content) : Type 0 where
 -- ---- the program of what the lines say
 
 -- each name stands for the number of the statement with that label
-abbrev pub Leads : List Statement → NamedNext → MalNext → Type 0
-Leads ss named.Following nexts.Following = Unit {0}
-Leads ss (named.Goto label) (nexts.Goto to) = label_at ss to ≡ Some label
-Leads ss (named.Dispatch high) (nexts.Dispatch other) = high ≡ other
-Leads ss (named.Branch test high low) (nexts.Branch other to_high to_low) = (test ≡ other) × (label_at ss to_high ≡ Some high) × (label_at ss to_low ≡ Some low)
+abbrev pub Leads : List Statement → Next (List ℕ) → Next ℕ → Type 0
+Leads ss nexts.Following nexts.Following = Unit {0}
+Leads ss (nexts.Goto label) (nexts.Goto to) = label_at ss to ≡ Some label
+Leads ss (nexts.Dispatch high) (nexts.Dispatch other) = high ≡ other
+Leads ss (nexts.Branch test high low) (nexts.Branch other to_high to_low) = (test ≡ other) × (label_at ss to_high ≡ Some high) × (label_at ss to_low ≡ Some low)
 Leads ss _ _ = ⊥
 
 -- the address that a `.label` line gives a statement with this label, where one does
@@ -168,11 +166,11 @@ IsFirst P n = P n × ((other : ℕ) → P other → n ≤ other)
 abbrev pub Never : (ℕ → Type 0) → Type 0
 Never P = (n : ℕ) → P n → ⊥
 
-abbrev pub targets_of : NamedNext → List (List ℕ)
-targets_of named.Following = []
-targets_of (named.Goto label) = label ∷ []
-targets_of (named.Dispatch high) = []
-targets_of (named.Branch test high low) = high ∷ low ∷ []
+abbrev pub targets_of : Next (List ℕ) → List (List ℕ)
+targets_of nexts.Following = []
+targets_of (nexts.Goto label) = label ∷ []
+targets_of (nexts.Dispatch high) = []
+targets_of (nexts.Branch test high low) = high ∷ low ∷ []
 
 -- the labels that a line names, besides its own
 abbrev pub labels_named : Content → List (List ℕ)
@@ -189,8 +187,8 @@ abbrev pub NamesUnknown : List Content → ℕ → Type 0
 NamesUnknown cs = IsAt (names_unknown (statements cs)) 1 cs
 
 -- it has no goto
-abbrev pub falls : NamedNext → Bool
-falls named.Following = true
+abbrev pub falls : Next (List ℕ) → Bool
+falls nexts.Following = true
 falls _ = false
 
 abbrev pub is_statement : Content → Bool

@@ -8,9 +8,8 @@ ghost use Rattle.mal_parser.specs.Text.{Spells};
 use crate::laws::canonical_text_spells_its_program;
 use crate::program::MalProgram;
 use crate::statement::MalNext;
-use mal_print::{
-    PrintedNext, Target, print_default, print_fix, print_line, print_lone, print_parts,
-};
+use mal_line::Next;
+use mal_print::{Target, print_default, print_fix, print_line, print_lone, print_parts};
 use mic_base::Line;
 use micro_word::{Machine, Placed, PlacedNext};
 use std::alloc::{AllocError, Global};
@@ -22,15 +21,15 @@ fn by_label(program: &MalProgram, s: u16) -> Target
     Target::Label(program.statement(s).label.unwrap())
 }
 
-fn by_labels(program: &MalProgram, next: MalNext) -> PrintedNext
+fn by_labels(program: &MalProgram, next: MalNext) -> Next<Target>
     requires { HasTargets program.now.statements next }
     ensures { result ≡ by_labels program.now.statements next }
 {
     match next {
-        MalNext::Following => PrintedNext::Following,
-        MalNext::Goto(to) => PrintedNext::Goto(by_label(program, to)),
-        MalNext::Dispatch { high } => PrintedNext::Dispatch { high },
-        MalNext::Branch { test, yes, no } => PrintedNext::Branch {
+        Next::Following => Next::Following,
+        Next::Goto(to) => Next::Goto(by_label(program, to)),
+        Next::Dispatch { high } => Next::Dispatch { high },
+        Next::Branch { test, yes, no } => Next::Branch {
             test,
             yes: by_label(program, yes),
             no: by_label(program, no),
@@ -38,14 +37,14 @@ fn by_labels(program: &MalProgram, next: MalNext) -> PrintedNext
     }
 }
 
-fn by_addresses(next: PlacedNext) -> PrintedNext
+fn by_addresses(next: PlacedNext) -> Next<Target>
     requires { IsTrue (is_next next) }
     ensures { result ≡ by_addresses next }
 {
     match next {
-        PlacedNext::Goto(to) => PrintedNext::Goto(Target::Address(to)),
-        PlacedNext::Dispatch { high } => PrintedNext::Dispatch { high },
-        PlacedNext::Branch { test, no } => PrintedNext::Branch {
+        PlacedNext::Goto(to) => Next::Goto(Target::Address(to)),
+        PlacedNext::Dispatch { high } => Next::Dispatch { high },
+        PlacedNext::Branch { test, no } => Next::Branch {
             test,
             yes: Target::Address(no + 256),
             no: Target::Address(no),

@@ -9,17 +9,17 @@ use crate::error::MalError;
 use crate::program::MalProgram;
 use crate::source::{Draft, Fix, SourceReader, has_label, is_labelled};
 use crate::statement::{MalNext, Statement};
-use mal_line::NamedNext;
+use mal_line::Next;
 use mic_base::Name;
 use std::alloc::AllocError;
 
-fn knows(drafts: &[Draft], next: &NamedNext) -> bool
+fn knows(drafts: &[Draft], next: &Next<Name>) -> bool
     ensures { result ≡ knows drafts.now next.now }
 {
     match next {
-        NamedNext::Goto(label) => has_label(drafts, label),
-        NamedNext::Branch { yes, no, .. } => has_label(drafts, yes) && has_label(drafts, no),
-        NamedNext::Following | NamedNext::Dispatch { .. } => true,
+        Next::Goto(label) => has_label(drafts, label),
+        Next::Branch { yes, no, .. } => has_label(drafts, yes) && has_label(drafts, no),
+        Next::Following | Next::Dispatch { .. } => true,
     }
 }
 
@@ -67,10 +67,10 @@ fn earlier(a: Option<u32>, b: Option<u32>) -> Option<u32>
     }
 }
 
-fn falls(next: &NamedNext) -> bool
+fn falls(next: &Next<Name>) -> bool
     ensures { result ≡ falls next.now }
 {
-    matches!(next, NamedNext::Following)
+    matches!(next, Next::Following)
 }
 
 fn falling(draft: Option<Draft>) -> Option<u32>
@@ -107,15 +107,15 @@ fn target(drafts: &[Draft], label: &Name) -> u16
     number_of(drafts, label).unwrap_or(0) as u16
 }
 
-fn next_of(drafts: &[Draft], next: &NamedNext) -> MalNext
+fn next_of(drafts: &[Draft], next: &Next<Name>) -> MalNext
     requires { length drafts.now ≤ 512 }
     ensures { result ≡ next_of drafts.now next.now }
 {
     match next {
-        NamedNext::Following => MalNext::Following,
-        NamedNext::Goto(label) => MalNext::Goto(target(drafts, label)),
-        NamedNext::Dispatch { high } => MalNext::Dispatch { high: *high },
-        NamedNext::Branch { test, yes, no } => MalNext::Branch {
+        Next::Following => Next::Following,
+        Next::Goto(label) => Next::Goto(target(drafts, label)),
+        Next::Dispatch { high } => Next::Dispatch { high: *high },
+        Next::Branch { test, yes, no } => Next::Branch {
             test: *test,
             yes: target(drafts, yes),
             no: target(drafts, no),

@@ -1,16 +1,9 @@
+use mal_line::Next;
 use mic_base::Name;
-use micro_word::{Part, Test};
+use micro_word::Part;
 
 /// Where a statement goes next. Targets are numbers of statements, from 0.
-#[derive(Clone, Copy)]
-pub enum MalNext {
-    /// To the next statement of the program.
-    Following,
-    Goto(u16),
-    /// To the statement of the next byte; `high` is `OR 0x100`.
-    Dispatch { high: bool },
-    Branch { test: Test, yes: u16, no: u16 },
-}
+pub type MalNext = Next<u16>;
 
 /// A statement of a program.
 #[derive(Clone, Copy)]

@@ -20,10 +20,11 @@ use Rattle.mal_tokens.specs.Words.{IsLabelText}
 use Rattle.mal_tokens.specs.declared.word.Word.{Word}
 use Rattle.mal_tokens.specs.declared.word.Word.TheVariants as words
 use Rattle.mal_tokens.specs.declared.sign.Sign.TheVariants as signs
+use Rattle.mal_line.specs.declared.next.Next.{Next}
+use Rattle.mal_line.specs.declared.next.Next.TheVariants as nexts
+use Rattle.mal_line.specs.Targets.{EachTarget}
 use Rattle.mal_print.specs.declared.target.Target.{Target}
 use Rattle.mal_print.specs.declared.target.Target.TheVariants as targets
-use Rattle.mal_print.specs.declared.target.PrintedNext.{PrintedNext}
-use Rattle.mal_print.specs.declared.target.PrintedNext.TheVariants as nexts
 use Rattle.mal_print.specs.Pieces.{behind_space, number, Piece, sign, spaced, word}
 use Rattle.mal_print.specs.Canonical.{chain, chain_part, dest_pieces, dests_of, dispatch_part, else_part, expression, fallback, fetch_part, fix, goto_part, heads, if_part, is_absent, joined_behind, lone, memory_part, next_parts, parts, pieces, plus_one, shifted, side, statement, target, value}
 use Rattle.mal_print.proofs.Spelling.{apart, apart_any, apart_append, apart_spaced, apart_weak, AreLexemes, lexemes_append, lexemes_spaced}
@@ -110,7 +111,7 @@ fine_dests (w ∷ ws) ps h =
     let r = fine_dests ws ps h in
     record { apart = r.apart; lexemes = (refl, (refl, r.lexemes)) }
 
-fine_chain : (part : Part) (next : PrintedNext) → IsFine false (chain part next)
+fine_chain : (part : Part) (next : Next Target) → IsFine false (chain part next)
 fine_chain part next = fine_dests (heads (dests_of part.dests) next) (value part) (fine_value part)
 
 -- ---- where it goes next
@@ -120,11 +121,8 @@ abbrev pub IsLabel : Target → Type 0
 IsLabel (targets.Label label) = IsLabelText label
 IsLabel (targets.Address address) = ⊥
 
-abbrev pub AreLabels : PrintedNext → Type 0
-AreLabels nexts.Following = Unit {0}
-AreLabels (nexts.Goto to) = IsLabel to
-AreLabels (nexts.Dispatch high) = Unit {0}
-AreLabels (nexts.Branch test high low) = IsLabel high × IsLabel low
+abbrev pub AreLabels : Next Target → Type 0
+AreLabels next = EachTarget IsLabel next
 
 fine_target : (to : Target) → IsLabel to → IsFine true (target to ∷ [])
 fine_target (targets.Label label) h = record { apart = refl; lexemes = ((refl, h), tt) }
@@ -152,7 +150,7 @@ abbrev pub AreFine : List (List Piece) → Type 0
 AreFine [] = Unit {0}
 AreFine (p ∷ ps) = IsFine false p × AreFine ps
 
-fine_next : (m : Machine) (next : PrintedNext) → AreLabels next → AreFine (next_parts m next)
+fine_next : (m : Machine) (next : Next Target) → AreLabels next → AreFine (next_parts m next)
 fine_next m nexts.Following h = tt
 fine_next m (nexts.Goto to) h = (fine_goto to h, tt)
 fine_next m (nexts.Dispatch high) h = (fine_dispatch m high, tt)
@@ -167,14 +165,14 @@ fine_memory mems.None ps h = h
 fine_memory mems.Read ps h = (fine_word words.Rd [] fine_none, h)
 fine_memory mems.Write ps h = (fine_word words.Wr [] fine_none, h)
 
-fine_chained : (part : Part) (next : PrintedNext) (ps : List (List Piece)) → AreFine ps → AreFine (chain_part part next ++ ps)
+fine_chained : (part : Part) (next : Next Target) (ps : List (List Piece)) → AreFine ps → AreFine (chain_part part next ++ ps)
 fine_chained part next ps h = go (is_absent part)
   where
     go : (absent : Bool) → AreFine (cond absent [] (chain part next ∷ []) ++ ps)
     go true = h
     go false = (fine_chain part next, h)
 
-fine_parts : (m : Machine) (part : Part) (next : PrintedNext) → AreLabels next → AreFine (parts m part next)
+fine_parts : (m : Machine) (part : Part) (next : Next Target) → AreLabels next → AreFine (parts m part next)
 fine_parts m part next h =
     fine_chained part next (memory_part part.mem ++ (fetch_part part.fetch ++ next_parts m next))
     (fine_memory part.mem (fetch_part part.fetch ++ next_parts m next) (fine_fetch part.fetch (next_parts m next) (fine_next m next h)))
@@ -190,7 +188,7 @@ fine_joined [] h = fine_any false [] fine_none
 fine_joined (p ∷ ps) h = fine_append false p (joined_behind true ps) h.0 (fine_others ps h.1)
 
 -- the parts of a statement in canonical text
-pub fine_pieces : (m : Machine) (part : Part) (next : PrintedNext) → AreLabels next → IsFine false (pieces m part next)
+pub fine_pieces : (m : Machine) (part : Part) (next : Next Target) → AreLabels next → IsFine false (pieces m part next)
 fine_pieces m part next h = fine_joined (parts m part next) (fine_parts m part next h)
 
 fine_lone : (ps : List Piece) → IsFine false ps → IsFine false (lone ps)
@@ -198,13 +196,13 @@ fine_lone [] h = record { apart = refl; lexemes = (refl, tt) }
 fine_lone (p ∷ ps) h = h
 
 -- a statement in canonical text
-pub fine_statement : (m : Machine) (label : Option (List ℕ)) (part : Part) (next : PrintedNext) → IfSome label IsLabelText → AreLabels next → IsFine false (statement m label part next)
+pub fine_statement : (m : Machine) (label : Option (List ℕ)) (part : Part) (next : Next Target) → IfSome label IsLabelText → AreLabels next → IsFine false (statement m label part next)
 fine_statement m None part next l h = fine_lone (pieces m part next) (fine_pieces m part next h)
 fine_statement m (Some label) part next l h =
     let r = fine_spaced (pieces m part next) (fine_pieces m part next h) in
     record { apart = r.apart; lexemes = ((refl, l), r.lexemes) }
 
-pub fine_fallback : (m : Machine) (part : Part) (next : PrintedNext) → AreLabels next → IsFine false (fallback m part next)
+pub fine_fallback : (m : Machine) (part : Part) (next : Next Target) → AreLabels next → IsFine false (fallback m part next)
 fine_fallback m part next h =
     let r = fine_spaced (pieces m part next) (fine_pieces m part next h) in
     record { apart = r.apart; lexemes = (refl, r.lexemes) }

@@ -6,8 +6,9 @@ use Rattle.micro_word.specs.declared.statement.Mem.{Mem}
 use Rattle.micro_word.specs.declared.statement.Mem.TheVariants as mems
 use Rattle.micro_word.specs.declared.statement.Part.{Part}
 use Rattle.mal_tokens.specs.declared.word.Word.{Word}
-use Rattle.mal_print.specs.declared.target.PrintedNext.{PrintedNext}
-use Rattle.mal_print.specs.declared.target.PrintedNext.TheVariants as nexts
+use Rattle.mal_line.specs.declared.next.Next.{Next}
+use Rattle.mal_line.specs.declared.next.Next.TheVariants as nexts
+use Rattle.mal_print.specs.declared.target.Target.{Target}
 use Rattle.mal_print.specs.Pieces.{behind_space, Piece, printed}
 use Rattle.mal_print.specs.Canonical.{chain, dest_pieces, dests_of, fetch_part, has_parts, heads, is_absent, is_access, is_led, joined_behind, lone, memory_part, next_parts, pieces, value}
 
@@ -19,30 +20,30 @@ bare_append : (ps qs : List Piece) → Bare ps → Bare (ps ++ qs)
 bare_append [] qs h = absurd h
 bare_append (p ∷ ps) qs h = h
 
-bare_heads : (ws : List Word) (next : PrintedNext) (ps : List Piece) → Bare (dest_pieces (heads ws next) ++ ps)
+bare_heads : (ws : List Word) (next : Next Target) (ps : List Piece) → Bare (dest_pieces (heads ws next) ++ ps)
 bare_heads [] next ps = refl
 bare_heads (w ∷ ws) next ps = refl
 
 module _ (m : Machine) (c : List Piece) where
   -- the parts, where these pieces are the assignment
-  abbrev joined : Bool → Mem → Bool → PrintedNext → List Piece
+  abbrev joined : Bool → Mem → Bool → Next Target → List Piece
   joined absent mem fetch next = joined_behind false (cond absent [] (c ∷ []) ++ (memory_part mem ++ (fetch_part fetch ++ next_parts m next)))
 
-  bare_next : (next : PrintedNext) → is_led next ≡ true → Bare (joined true mems.None false next)
+  bare_next : (next : Next Target) → is_led next ≡ true → Bare (joined true mems.None false next)
   bare_next nexts.Following h = absurd (cc)
   bare_next (nexts.Goto to) h = refl
   bare_next (nexts.Dispatch true) h = refl
   bare_next (nexts.Dispatch false) h = refl
   bare_next (nexts.Branch test high low) h = refl
 
-  bare_joined : (absent : Bool) (mem : Mem) (fetch : Bool) (next : PrintedNext) → Bare c → (not absent || (is_access mem || (fetch || is_led next))) ≡ true → Bare (joined absent mem fetch next)
+  bare_joined : (absent : Bool) (mem : Mem) (fetch : Bool) (next : Next Target) → Bare c → (not absent || (is_access mem || (fetch || is_led next))) ≡ true → Bare (joined absent mem fetch next)
   bare_joined false mem fetch next b h = bare_append c (joined_behind true (memory_part mem ++ (fetch_part fetch ++ next_parts m next))) b
   bare_joined true mems.None true next b h = refl
   bare_joined true mems.None false next b h = bare_next next h
   bare_joined true mems.Read fetch next b h = refl
   bare_joined true mems.Write fetch next b h = refl
 
-  none_joined : (absent : Bool) (mem : Mem) (fetch : Bool) (next : PrintedNext) → (not absent || (is_access mem || (fetch || is_led next))) ≡ false → joined absent mem fetch next ≡ []
+  none_joined : (absent : Bool) (mem : Mem) (fetch : Bool) (next : Next Target) → (not absent || (is_access mem || (fetch || is_led next))) ≡ false → joined absent mem fetch next ≡ []
   none_joined false mem fetch next h = absurd (cc)
   none_joined true mems.None true next h = absurd (cc)
   none_joined true mems.None false nexts.Following h = refl
@@ -52,10 +53,10 @@ module _ (m : Machine) (c : List Piece) where
   none_joined true mems.Read fetch next h = absurd (cc)
   none_joined true mems.Write fetch next h = absurd (cc)
 
-bare_pieces : (m : Machine) (part : Part) (next : PrintedNext) → has_parts part next ≡ true → Bare (pieces m part next)
+bare_pieces : (m : Machine) (part : Part) (next : Next Target) → has_parts part next ≡ true → Bare (pieces m part next)
 bare_pieces m part next h = bare_joined m (chain part next) (is_absent part) part.mem part.fetch next (bare_heads (dests_of part.dests) next (value part)) h
 
-none_pieces : (m : Machine) (part : Part) (next : PrintedNext) → has_parts part next ≡ false → pieces m part next ≡ []
+none_pieces : (m : Machine) (part : Part) (next : Next Target) → has_parts part next ≡ false → pieces m part next ≡ []
 none_pieces m part next h = none_joined m (chain part next) (is_absent part) part.mem part.fetch next h
 
 bare_spaced : (ps : List Piece) → Bare ps → printed (behind_space ps) ≡ 32 ∷ printed ps
@@ -66,14 +67,14 @@ bare_lone : (ps : List Piece) → Bare ps → lone ps ≡ ps
 bare_lone [] b = absurd b
 bare_lone (p ∷ ps) b = refl
 
-pub lone_some : (m : Machine) (part : Part) (next : PrintedNext) → has_parts part next ≡ true → printed (lone (pieces m part next)) ≡ printed (pieces m part next)
+pub lone_some : (m : Machine) (part : Part) (next : Next Target) → has_parts part next ≡ true → printed (lone (pieces m part next)) ≡ printed (pieces m part next)
 lone_some m part next h = ap printed (bare_lone (pieces m part next) (bare_pieces m part next h))
 
-pub lone_none : (m : Machine) (part : Part) (next : PrintedNext) → has_parts part next ≡ false → printed (lone (pieces m part next)) ≡ 59 ∷ []
+pub lone_none : (m : Machine) (part : Part) (next : Next Target) → has_parts part next ≡ false → printed (lone (pieces m part next)) ≡ 59 ∷ []
 lone_none m part next h = ap (λ ps. printed (lone ps)) (none_pieces m part next h)
 
-pub spaced_some : (m : Machine) (part : Part) (next : PrintedNext) → has_parts part next ≡ true → printed (behind_space (pieces m part next)) ≡ 32 ∷ printed (pieces m part next)
+pub spaced_some : (m : Machine) (part : Part) (next : Next Target) → has_parts part next ≡ true → printed (behind_space (pieces m part next)) ≡ 32 ∷ printed (pieces m part next)
 spaced_some m part next h = bare_spaced (pieces m part next) (bare_pieces m part next h)
 
-pub spaced_none : (m : Machine) (part : Part) (next : PrintedNext) → has_parts part next ≡ false → printed (behind_space (pieces m part next)) ≡ []
+pub spaced_none : (m : Machine) (part : Part) (next : Next Target) → has_parts part next ≡ false → printed (behind_space (pieces m part next)) ≡ []
 spaced_none m part next h = ap (λ ps. printed (behind_space ps)) (none_pieces m part next h)

@@ -23,11 +23,12 @@ use Rattle.mal_tokens.specs.declared.token.Token.{Token}
 use Rattle.mal_tokens.specs.declared.token.Token.TheVariants as tokens
 use Rattle.mal_line.specs.declared.operation.Operation.{Operation}
 use Rattle.mal_line.specs.declared.chain.Assignment.{Assignment}
+use Rattle.mal_line.specs.declared.next.Next.{Next}
+use Rattle.mal_line.specs.declared.next.Next.TheVariants as nexts
 use Rattle.mal_line.specs.Expressions as table
 use Rattle.mal_line.specs.Expressions.{fits, source_word, spelling, tail_with}
 use Rattle.mal_line.specs.Chains.{dest_bits, dest_tokens, is_dest, is_expr, is_expr_word, is_filled, IsAssignment, tail_tokens}
-use Rattle.mal_print.specs.declared.target.PrintedNext.{PrintedNext}
-use Rattle.mal_print.specs.declared.target.PrintedNext.TheVariants as nexts
+use Rattle.mal_print.specs.declared.target.Target.{Target}
 use Rattle.mal_print.specs.Pieces.{behind_space, number, Piece, sign, spaced, tokens_of, word}
 use Rattle.mal_print.specs.Canonical.{all_dests, chain, dest_pieces, dests_of, expression, has_dest, heads, is_absent, is_nothing, is_unshifted, is_zero, plus_one, shifted, side, tested, value}
 use Rattle.mal_print.proofs.Halves.{and_parts}
@@ -76,29 +77,29 @@ filtered q p (w ∷ ws) h = let t = and_parts (q w) (list_all q ws) h in go (p w
     go true e h = ap (λ b. b && list_all q (filter p ws)) e ∙ h
     go false e h = h
 
-tested_dest : (next : PrintedNext) → is_dest (tested next) ≡ true
+tested_dest : (next : Next Target) → is_dest (tested next) ≡ true
 tested_dest nexts.Following = refl
 tested_dest (nexts.Goto to) = refl
 tested_dest (nexts.Dispatch high) = refl
 tested_dest (nexts.Branch tests.N high low) = refl
 tested_dest (nexts.Branch tests.Z high low) = refl
 
-tested_bit : (next : PrintedNext) → dest_bits 0 (tested next ∷ []) ≡ 0
+tested_bit : (next : Next Target) → dest_bits 0 (tested next ∷ []) ≡ 0
 tested_bit nexts.Following = refl
 tested_bit (nexts.Goto to) = refl
 tested_bit (nexts.Dispatch high) = refl
 tested_bit (nexts.Branch tests.N high low) = refl
 tested_bit (nexts.Branch tests.Z high low) = refl
 
-heads_dests : (ws : List Word) (next : PrintedNext) → list_all is_dest ws ≡ true → list_all is_dest (heads ws next) ≡ true
+heads_dests : (ws : List Word) (next : Next Target) → list_all is_dest ws ≡ true → list_all is_dest (heads ws next) ≡ true
 heads_dests [] next h = ap (λ b. b && true) (tested_dest next)
 heads_dests (w ∷ ws) next h = h
 
-heads_filled : (ws : List Word) (next : PrintedNext) → is_filled (heads ws next) ≡ true
+heads_filled : (ws : List Word) (next : Next Target) → is_filled (heads ws next) ≡ true
 heads_filled [] next = refl
 heads_filled (w ∷ ws) next = refl
 
-heads_bits : (ws : List Word) (next : PrintedNext) → dest_bits 0 (heads ws next) ≡ dest_bits 0 ws
+heads_bits : (ws : List Word) (next : Next Target) → dest_bits 0 (heads ws next) ≡ dest_bits 0 ws
 heads_bits [] next = tested_bit next
 heads_bits (w ∷ ws) next = refl
 
@@ -259,10 +260,10 @@ value_tokens part =
 abbrev pub assignment_of : Part → Assignment
 assignment_of part = record { dests = part.dests; operation = Some (operation_of part) }
 
-pub chain_tokens : (part : Part) (next : PrintedNext) → tokens_of (chain part next) ≡ dest_tokens (heads (dests_of part.dests) next) ++ (spelling part.op (table.side part.a) (table.side part.b) ++ tail_tokens (tail_with part.shift))
+pub chain_tokens : (part : Part) (next : Next Target) → tokens_of (chain part next) ≡ dest_tokens (heads (dests_of part.dests) next) ++ (spelling part.op (table.side part.a) (table.side part.b) ++ tail_tokens (tail_with part.shift))
 chain_tokens part next = dests_tokens (heads (dests_of part.dests) next) (value part) ∙ ap (λ ts. dest_tokens (heads (dests_of part.dests) next) ++ ts) (value_tokens part)
 
-pub chain_is : (m : Machine) (part : Part) (next : PrintedNext) → Fits m part → IsAssignment m (tokens_of (chain part next)) (assignment_of part)
+pub chain_is : (m : Machine) (part : Part) (next : Next Target) → Fits m part → IsAssignment m (tokens_of (chain part next)) (assignment_of part)
 chain_is m part next h = record {
   dests = heads (dests_of part.dests) next;
   body = spelling part.op (table.side part.a) (table.side part.b);

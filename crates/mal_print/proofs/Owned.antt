@@ -1,5 +1,5 @@
 -- The canonical text of a statement names no word of the other machine.
-use Rattle.std.proofs.Common.{◌≡◌, Bool, true, false, List, [], ◌∷◌, ◌++◌, Option, Some, None, refl, ap, ◌∙◌, cond}
+use Rattle.std.proofs.Common.{◌≡◌, ℕ, Bool, true, false, List, [], ◌∷◌, ◌++◌, Option, Some, None, refl, ap, ◌∙◌, cond}
 use Rattle.std.specs.Prelude.{◌||◌, not}
 use Rattle.std.specs.List.{list_all}
 use Rattle.machine_words.specs.declared.machine.Machine.{Machine}
@@ -21,14 +21,13 @@ use Rattle.mal_tokens.specs.declared.word.Word.TheVariants as words
 use Rattle.mal_tokens.specs.declared.sign.Sign.TheVariants as signs
 use Rattle.mal_tokens.specs.declared.token.Token.{Token}
 use Rattle.mal_tokens.specs.declared.token.Token.TheVariants as tokens
-use Rattle.mal_line.specs.declared.content.NamedNext.{NamedNext}
-use Rattle.mal_line.specs.declared.content.NamedNext.TheVariants as named
+use Rattle.mal_line.specs.declared.next.Next.{Next}
+use Rattle.mal_line.specs.declared.next.Next.TheVariants as nexts
 use Rattle.mal_line.specs.Expressions as table
 use Rattle.mal_line.specs.Expressions.{source_word, spelling, tail_with}
 use Rattle.mal_line.specs.Chains.{dest_tokens, tail_tokens}
 use Rattle.mal_line.specs.Lines.{is_foreign, is_foreign_word, names_foreign}
-use Rattle.mal_print.specs.declared.target.PrintedNext.{PrintedNext}
-use Rattle.mal_print.specs.declared.target.PrintedNext.TheVariants as nexts
+use Rattle.mal_print.specs.declared.target.Target.{Target}
 use Rattle.mal_print.specs.Pieces.{behind_space, Piece, tokens_of}
 use Rattle.mal_print.specs.Canonical.{all_dests, chain, chain_part, dests_of, fetch_part, has_dest, heads, is_absent, joined_behind, labelled, lone, memory_part, next_parts, parts, pieces, tested}
 use Rattle.mal_print.proofs.Chained.{chain_tokens, filtered, Fits, tokens_append, tokens_spaced}
@@ -58,7 +57,7 @@ own_dests : (m : Machine) → list_all (is_own m) all_dests ≡ true
 own_dests Mic1 = refl
 own_dests Mic2 = refl
 
-own_tested : (m : Machine) (next : PrintedNext) → is_foreign_word m (tested next) ≡ false
+own_tested : (m : Machine) (next : Next Target) → is_foreign_word m (tested next) ≡ false
 own_tested Mic1 nexts.Following = refl
 own_tested Mic1 (nexts.Goto to) = refl
 own_tested Mic1 (nexts.Dispatch high) = refl
@@ -74,7 +73,7 @@ not_foreign : (b : Bool) → not b ≡ true → b ≡ false
 not_foreign true h = absurd (cc)
 not_foreign false h = refl
 
-own_heads : (m : Machine) (ws : List Word) (next : PrintedNext) → list_all (is_own m) ws ≡ true → are_own m (dest_tokens (heads ws next))
+own_heads : (m : Machine) (ws : List Word) (next : Next Target) → list_all (is_own m) ws ≡ true → are_own m (dest_tokens (heads ws next))
 own_heads m [] next h = own_more m (tokens.Word (tested next)) (tokens.Sign signs.Equals ∷ []) (own_tested m next) refl
 own_heads m (w ∷ ws) next h = all (w ∷ ws) h
   where
@@ -137,7 +136,7 @@ own_tail m shifts.None = refl
 own_tail m shifts.Left8 = refl
 own_tail m shifts.Right1 = refl
 
-own_chain : (m : Machine) (part : Part) (next : PrintedNext) → Fits m part → are_own m (tokens_of (chain part next))
+own_chain : (m : Machine) (part : Part) (next : Next Target) → Fits m part → are_own m (tokens_of (chain part next))
 own_chain m part next h =
     let a = own_side m (row part.op).uses_a (may_be_a m) part.a (own_source_a m) h.a in
     let b = own_side m (row part.op).uses_b (may_be_b m) part.b (own_source_b m) h.b in
@@ -153,18 +152,18 @@ abbrev pub AreOwn : Machine → List (List Piece) → Type 0
 AreOwn m [] = Unit {0}
 AreOwn m (p ∷ ps) = are_own m (tokens_of p) × AreOwn m ps
 
-own_next : (m : Machine) (next : NamedNext) → AreOwn m (next_parts m (labelled next))
-own_next m named.Following = tt
-own_next Mic1 (named.Goto label) = (refl, tt)
-own_next Mic2 (named.Goto label) = (refl, tt)
-own_next Mic1 (named.Dispatch false) = (refl, tt)
-own_next Mic1 (named.Dispatch true) = (refl, tt)
-own_next Mic2 (named.Dispatch false) = (refl, tt)
-own_next Mic2 (named.Dispatch true) = (refl, tt)
-own_next Mic1 (named.Branch tests.N high low) = (refl, (refl, tt))
-own_next Mic1 (named.Branch tests.Z high low) = (refl, (refl, tt))
-own_next Mic2 (named.Branch tests.N high low) = (refl, (refl, tt))
-own_next Mic2 (named.Branch tests.Z high low) = (refl, (refl, tt))
+own_next : (m : Machine) (next : Next (List ℕ)) → AreOwn m (next_parts m (labelled next))
+own_next m nexts.Following = tt
+own_next Mic1 (nexts.Goto label) = (refl, tt)
+own_next Mic2 (nexts.Goto label) = (refl, tt)
+own_next Mic1 (nexts.Dispatch false) = (refl, tt)
+own_next Mic1 (nexts.Dispatch true) = (refl, tt)
+own_next Mic2 (nexts.Dispatch false) = (refl, tt)
+own_next Mic2 (nexts.Dispatch true) = (refl, tt)
+own_next Mic1 (nexts.Branch tests.N high low) = (refl, (refl, tt))
+own_next Mic1 (nexts.Branch tests.Z high low) = (refl, (refl, tt))
+own_next Mic2 (nexts.Branch tests.N high low) = (refl, (refl, tt))
+own_next Mic2 (nexts.Branch tests.Z high low) = (refl, (refl, tt))
 
 own_fetch : (m : Machine) (fetch : Bool) (ps : List (List Piece)) → may_fetch m fetch ≡ true → AreOwn m ps → AreOwn m (fetch_part fetch ++ ps)
 own_fetch m false ps e h = h
@@ -178,14 +177,14 @@ own_memory Mic1 mems.Write ps h = (refl, h)
 own_memory Mic2 mems.Read ps h = (refl, h)
 own_memory Mic2 mems.Write ps h = (refl, h)
 
-own_chained : (m : Machine) (part : Part) (next : PrintedNext) (ps : List (List Piece)) → Fits m part → AreOwn m ps → AreOwn m (chain_part part next ++ ps)
+own_chained : (m : Machine) (part : Part) (next : Next Target) (ps : List (List Piece)) → Fits m part → AreOwn m ps → AreOwn m (chain_part part next ++ ps)
 own_chained m part next ps f h = go (is_absent part)
   where
     go : (absent : Bool) → AreOwn m (cond absent [] (chain part next ∷ []) ++ ps)
     go true = h
     go false = (own_chain m part next f, h)
 
-own_parts : (m : Machine) (part : Part) (next : NamedNext) → Fits m part → AreOwn m (parts m part (labelled next))
+own_parts : (m : Machine) (part : Part) (next : Next (List ℕ)) → Fits m part → AreOwn m (parts m part (labelled next))
 own_parts m part next f =
     own_chained m part (labelled next) (memory_part part.mem ++ (fetch_part part.fetch ++ next_parts m (labelled next))) f
     (own_memory m part.mem (fetch_part part.fetch ++ next_parts m (labelled next)) (own_fetch m part.fetch (next_parts m (labelled next)) f.fetch (own_next m next)))
@@ -200,7 +199,7 @@ own_joined : (m : Machine) (ps : List (List Piece)) → AreOwn m ps → are_own 
 own_joined m [] h = refl
 own_joined m (p ∷ ps) h = ap (names_foreign m) (tokens_append p (joined_behind true ps)) ∙ own_append m (tokens_of p) (tokens_of (joined_behind true ps)) h.0 (own_others m ps h.1)
 
-pub own_pieces : (m : Machine) (part : Part) (next : NamedNext) → Fits m part → are_own m (tokens_of (pieces m part (labelled next)))
+pub own_pieces : (m : Machine) (part : Part) (next : Next (List ℕ)) → Fits m part → are_own m (tokens_of (pieces m part (labelled next)))
 own_pieces m part next f = own_joined m (parts m part (labelled next)) (own_parts m part next f)
 
 pub own_lone : (m : Machine) (ps : List Piece) → are_own m (tokens_of ps) → are_own m (tokens_of (lone ps))

@@ -1,5 +1,5 @@
 -- The canonical parts of a statement, divided by semicolons, are its parts.
-use Rattle.std.proofs.Common.{◌≡◌, suc, Bool, true, false, List, [], ◌∷◌, ◌++◌, Option, Some, None, refl, sym, ap, subst, ◌∙◌, cond}
+use Rattle.std.proofs.Common.{◌≡◌, ℕ, suc, Bool, true, false, List, [], ◌∷◌, ◌++◌, Option, Some, None, refl, sym, ap, subst, ◌∙◌, cond}
 use Rattle.std.specs.Prelude.{◌&&◌, not, map}
 use Rattle.std.specs.List.{list_all, onto_first}
 use Rattle.machine_words.specs.declared.machine.Machine.{Machine}
@@ -18,15 +18,15 @@ use Rattle.mal_line.specs.declared.chain.Assignment.{Assignment}
 use Rattle.mal_line.specs.declared.tree.Jump.{Jump}
 use Rattle.mal_line.specs.declared.tree.Jump.TheVariants as jumps
 use Rattle.mal_line.specs.declared.tree.Tree.{Tree}
-use Rattle.mal_line.specs.declared.content.NamedNext.{NamedNext}
-use Rattle.mal_line.specs.declared.content.NamedNext.TheVariants as named
+use Rattle.mal_line.specs.declared.next.Next.{Next}
+use Rattle.mal_line.specs.declared.next.Next.TheVariants as nexts
 use Rattle.mal_line.specs.Expressions as table
 use Rattle.mal_line.specs.Expressions.{spelling, tail_with}
 use Rattle.mal_line.specs.Chains.{dest_tokens, is_expr, tail_tokens}
 use Rattle.mal_line.specs.Statements as statements
 use Rattle.mal_line.specs.Statements.{AreParts, AreTree, assign, assignments, counted, fetch_count, fetches, IsJumpLast, is_semicolon, jump, jumps_of, Kind, listed, listed_mem, memories, memory, nothing}
+use Rattle.mal_print.specs.declared.target.Target.{Target}
 use Rattle.mal_print.specs.Pieces.{behind_space, Piece, tokens_of}
-use Rattle.mal_print.specs.declared.target.PrintedNext.{PrintedNext}
 use Rattle.mal_print.specs.Canonical.{chain, chain_part, dest_pieces, dests_of, fetch_part, heads, is_absent, joined_behind, labelled, lone, memory_part, next_parts, parts, pieces, value}
 use Rattle.mal_print.proofs.Apart.{all_append}
 use Rattle.mal_print.proofs.Chained.{assignment_of, chain_is, chain_tokens, Fits, spelling_expr, tokens_append, tokens_spaced}
@@ -57,7 +57,7 @@ whole_tail shifts.None = refl
 whole_tail shifts.Left8 = refl
 whole_tail shifts.Right1 = refl
 
-whole_chain : (part : Part) (next : PrintedNext) → is_whole (tokens_of (chain part next)) ≡ true
+whole_chain : (part : Part) (next : Next Target) → is_whole (tokens_of (chain part next)) ≡ true
 whole_chain part next =
     ap is_whole (chain_tokens part next)
     ∙ whole_dests (heads (dests_of part.dests) next) (spelling part.op (table.side part.a) (table.side part.b) ++ tail_tokens (tail_with part.shift))
@@ -68,12 +68,12 @@ abbrev pub AreWhole : List (List Piece) → Type 0
 AreWhole [] = Unit {0}
 AreWhole (p ∷ ps) = (is_whole (tokens_of p) ≡ true) × ((p ≡ [] → ⊥) × AreWhole ps)
 
-whole_next : (m : Machine) (next : NamedNext) → AreWhole (next_parts m (labelled next))
-whole_next m named.Following = tt
-whole_next m (named.Goto label) = (refl, ((λ e. absurd (cc)), tt))
-whole_next m (named.Dispatch false) = (refl, ((λ e. absurd (cc)), tt))
-whole_next m (named.Dispatch true) = (refl, ((λ e. absurd (cc)), tt))
-whole_next m (named.Branch test high low) = (refl, ((λ e. absurd (cc)), (refl, ((λ e. absurd (cc)), tt))))
+whole_next : (m : Machine) (next : Next (List ℕ)) → AreWhole (next_parts m (labelled next))
+whole_next m nexts.Following = tt
+whole_next m (nexts.Goto label) = (refl, ((λ e. absurd (cc)), tt))
+whole_next m (nexts.Dispatch false) = (refl, ((λ e. absurd (cc)), tt))
+whole_next m (nexts.Dispatch true) = (refl, ((λ e. absurd (cc)), tt))
+whole_next m (nexts.Branch test high low) = (refl, ((λ e. absurd (cc)), (refl, ((λ e. absurd (cc)), tt))))
 
 whole_fetch : (fetch : Bool) (ps : List (List Piece)) → AreWhole ps → AreWhole (fetch_part fetch ++ ps)
 whole_fetch false ps h = h
@@ -84,18 +84,18 @@ whole_memory mems.None ps h = h
 whole_memory mems.Read ps h = (refl, ((λ e. absurd (cc)), h))
 whole_memory mems.Write ps h = (refl, ((λ e. absurd (cc)), h))
 
-chain_some : (ws : List Word) (next : PrintedNext) (ps : List Piece) → dest_pieces (heads ws next) ++ ps ≡ [] → ⊥
+chain_some : (ws : List Word) (next : Next Target) (ps : List Piece) → dest_pieces (heads ws next) ++ ps ≡ [] → ⊥
 chain_some [] next ps e = absurd (cc)
 chain_some (w ∷ ws) next ps e = absurd (cc)
 
-whole_chained : (part : Part) (next : PrintedNext) (ps : List (List Piece)) → AreWhole ps → AreWhole (chain_part part next ++ ps)
+whole_chained : (part : Part) (next : Next Target) (ps : List (List Piece)) → AreWhole ps → AreWhole (chain_part part next ++ ps)
 whole_chained part next ps h = go (is_absent part)
   where
     go : (absent : Bool) → AreWhole (cond absent [] (chain part next ∷ []) ++ ps)
     go true = h
     go false = (whole_chain part next, (chain_some (dests_of part.dests) next (value part), h))
 
-whole_parts : (m : Machine) (part : Part) (next : NamedNext) → AreWhole (parts m part (labelled next))
+whole_parts : (m : Machine) (part : Part) (next : Next (List ℕ)) → AreWhole (parts m part (labelled next))
 whole_parts m part next =
     whole_chained part (labelled next) (memory_part part.mem ++ (fetch_part part.fetch ++ next_parts m (labelled next)))
     (whole_memory part.mem (fetch_part part.fetch ++ next_parts m (labelled next)) (whole_fetch part.fetch (next_parts m (labelled next)) (whole_next m next)))
@@ -120,11 +120,11 @@ split_parts p ps h = ap statements.pieces (tokens_append p (joined_behind true p
 
 -- ---- the parts by their kinds
 
-abbrev pub jump_of : NamedNext → Option Jump
-jump_of named.Following = None
-jump_of (named.Goto label) = Some (jumps.Goto label)
-jump_of (named.Dispatch high) = Some (jumps.Dispatch (Some high))
-jump_of (named.Branch test high low) = Some (jumps.Branch test high low)
+abbrev pub jump_of : Next (List ℕ) → Option Jump
+jump_of nexts.Following = None
+jump_of (nexts.Goto label) = Some (jumps.Goto label)
+jump_of (nexts.Dispatch high) = Some (jumps.Dispatch (Some high))
+jump_of (nexts.Branch test high low) = Some (jumps.Branch test high low)
 
 -- the tokens between semicolons are these parts
 record Tallied (m : Machine) (xs : List (List Token)) (tree : Tree) : Type 0 where
@@ -136,14 +136,14 @@ record Tallied (m : Machine) (xs : List (List Token)) (tree : Tree) : Type 0 whe
   next : jumps_of kinds ≡ listed tree.next
   last : IsJumpLast kinds
 
-tallied_next : (m : Machine) (next : NamedNext) → Tallied m (map tokens_of (next_parts m (labelled next))) (record { assignment = None; mem = mems.None; fetch = false; next = jump_of next })
-tallied_next m named.Following = record { kinds = []; are = refl; assignment = refl; memory = refl; fetch = refl; next = refl; last = tt }
-tallied_next m (named.Goto label) = record { kinds = jump (jumps.Goto label) ∷ []; are = (refl, refl); assignment = refl; memory = refl; fetch = refl; next = refl; last = tt }
-tallied_next Mic1 (named.Dispatch false) = record { kinds = jump (jumps.Dispatch (Some false)) ∷ []; are = ((words.Mbr, refl, refl), refl); assignment = refl; memory = refl; fetch = refl; next = refl; last = tt }
-tallied_next Mic1 (named.Dispatch true) = record { kinds = jump (jumps.Dispatch (Some true)) ∷ []; are = ((words.Mbr, refl, refl), refl); assignment = refl; memory = refl; fetch = refl; next = refl; last = tt }
-tallied_next Mic2 (named.Dispatch false) = record { kinds = jump (jumps.Dispatch (Some false)) ∷ []; are = ((words.Mbr1, refl, refl), refl); assignment = refl; memory = refl; fetch = refl; next = refl; last = tt }
-tallied_next Mic2 (named.Dispatch true) = record { kinds = jump (jumps.Dispatch (Some true)) ∷ []; are = ((words.Mbr1, refl, refl), refl); assignment = refl; memory = refl; fetch = refl; next = refl; last = tt }
-tallied_next m (named.Branch test high low) = record { kinds = jump (jumps.Branch test high low) ∷ []; are = (refl, refl, refl); assignment = refl; memory = refl; fetch = refl; next = refl; last = tt }
+tallied_next : (m : Machine) (next : Next (List ℕ)) → Tallied m (map tokens_of (next_parts m (labelled next))) (record { assignment = None; mem = mems.None; fetch = false; next = jump_of next })
+tallied_next m nexts.Following = record { kinds = []; are = refl; assignment = refl; memory = refl; fetch = refl; next = refl; last = tt }
+tallied_next m (nexts.Goto label) = record { kinds = jump (jumps.Goto label) ∷ []; are = (refl, refl); assignment = refl; memory = refl; fetch = refl; next = refl; last = tt }
+tallied_next Mic1 (nexts.Dispatch false) = record { kinds = jump (jumps.Dispatch (Some false)) ∷ []; are = ((words.Mbr, refl, refl), refl); assignment = refl; memory = refl; fetch = refl; next = refl; last = tt }
+tallied_next Mic1 (nexts.Dispatch true) = record { kinds = jump (jumps.Dispatch (Some true)) ∷ []; are = ((words.Mbr, refl, refl), refl); assignment = refl; memory = refl; fetch = refl; next = refl; last = tt }
+tallied_next Mic2 (nexts.Dispatch false) = record { kinds = jump (jumps.Dispatch (Some false)) ∷ []; are = ((words.Mbr1, refl, refl), refl); assignment = refl; memory = refl; fetch = refl; next = refl; last = tt }
+tallied_next Mic2 (nexts.Dispatch true) = record { kinds = jump (jumps.Dispatch (Some true)) ∷ []; are = ((words.Mbr1, refl, refl), refl); assignment = refl; memory = refl; fetch = refl; next = refl; last = tt }
+tallied_next m (nexts.Branch test high low) = record { kinds = jump (jumps.Branch test high low) ∷ []; are = (refl, refl, refl); assignment = refl; memory = refl; fetch = refl; next = refl; last = tt }
 
 tallied_fetch : (m : Machine) (f : Bool) (ps : List (List Piece)) (next : Option Jump) → Tallied m (map tokens_of ps) (record { assignment = None; mem = mems.None; fetch = false; next = next })
     → Tallied m (map tokens_of (fetch_part f ++ ps)) (record { assignment = None; mem = mems.None; fetch = f; next = next })
@@ -161,15 +161,15 @@ abbrev pub assigned_by : Bool → Part → Option Assignment
 assigned_by true part = None
 assigned_by false part = Some (assignment_of part)
 
-tallied_chain : (m : Machine) (part : Part) (to : PrintedNext) (absent : Bool) (ps : List (List Piece)) (next : Option Jump) → Fits m part → Tallied m (map tokens_of ps) (record { assignment = None; mem = part.mem; fetch = part.fetch; next = next })
+tallied_chain : (m : Machine) (part : Part) (to : Next Target) (absent : Bool) (ps : List (List Piece)) (next : Option Jump) → Fits m part → Tallied m (map tokens_of ps) (record { assignment = None; mem = part.mem; fetch = part.fetch; next = next })
     → Tallied m (map tokens_of (cond absent [] (chain part to ∷ []) ++ ps)) (record { assignment = assigned_by absent part; mem = part.mem; fetch = part.fetch; next = next })
 tallied_chain m part to true ps next h t = t
 tallied_chain m part to false ps next h t = record { kinds = assign (assignment_of part) ∷ t.kinds; are = (chain_is m part to h, t.are); assignment = ap (λ xs. assignment_of part ∷ xs) t.assignment; memory = t.memory; fetch = t.fetch; next = t.next; last = t.last }
 
-abbrev pub tree_for : Part → NamedNext → Tree
+abbrev pub tree_for : Part → Next (List ℕ) → Tree
 tree_for part next = record { assignment = assigned_by (is_absent part) part; mem = part.mem; fetch = part.fetch; next = jump_of next }
 
-tallied_parts : (m : Machine) (part : Part) (next : NamedNext) → Fits m part → Tallied m (map tokens_of (parts m part (labelled next))) (tree_for part next)
+tallied_parts : (m : Machine) (part : Part) (next : Next (List ℕ)) → Fits m part → Tallied m (map tokens_of (parts m part (labelled next))) (tree_for part next)
 tallied_parts m part next h =
     let to = labelled next in
     tallied_chain m part to (is_absent part) (memory_part part.mem ++ (fetch_part part.fetch ++ next_parts m to)) (jump_of next) h
@@ -193,7 +193,7 @@ tree_empty m tree t =
 tree_some : (m : Machine) (tree : Tree) (p : List Piece) (ps : List (List Piece)) → AreWhole (p ∷ ps) → Tallied m (map tokens_of (p ∷ ps)) tree → AreTree m (tokens_of (joined_behind false (p ∷ ps))) tree
 tree_some m tree p ps w t = record { parts = t.kinds; are = subst (λ xs. AreParts m xs t.kinds) (sym (split_parts p ps w)) t.are; assignment = t.assignment; memory = t.memory; fetch = t.fetch; next = t.next; last = t.last }
 
-pub tree_is : (m : Machine) (part : Part) (next : NamedNext) → Fits m part → AreTree m (tokens_of (pieces m part (labelled next))) (tree_for part next)
+pub tree_is : (m : Machine) (part : Part) (next : Next (List ℕ)) → Fits m part → AreTree m (tokens_of (pieces m part (labelled next))) (tree_for part next)
 tree_is m part next h = go (parts m part (labelled next)) (whole_parts m part next) (tallied_parts m part next h)
   where
     go : (ps : List (List Piece)) → AreWhole ps → Tallied m (map tokens_of ps) (tree_for part next) → AreTree m (tokens_of (joined_behind false ps)) (tree_for part next)
@@ -201,7 +201,7 @@ tree_is m part next h = go (parts m part (labelled next)) (whole_parts m part ne
     go (p ∷ ps) w t = tree_some m (tree_for part next) p ps w t
 
 -- `;` stands where there is nothing
-pub lone_is : (m : Machine) (part : Part) (next : NamedNext) → Fits m part → AreTree m (tokens_of (lone (pieces m part (labelled next)))) (tree_for part next)
+pub lone_is : (m : Machine) (part : Part) (next : Next (List ℕ)) → Fits m part → AreTree m (tokens_of (lone (pieces m part (labelled next)))) (tree_for part next)
 lone_is m part next h = go (parts m part (labelled next)) (whole_parts m part next) (tallied_parts m part next h)
   where
     some : (p : List Piece) (rest : List Piece) (tree : Tree) → (p ≡ [] → ⊥) → AreTree m (tokens_of (p ++ rest)) tree → AreTree m (tokens_of (lone (p ++ rest))) tree

@@ -9,9 +9,9 @@ use Rattle.mic_base.specs.Name.{is_name}
 use Rattle.mal_tokens.specs.declared.word.Word.{Word}
 use Rattle.mal_tokens.specs.declared.word.Word.TheVariants as words
 use Rattle.mal_tokens.specs.Words.{word_text}
+use Rattle.mal_line.specs.declared.next.Next.{Next}
 use Rattle.mal_print.specs.declared.target.Target.{Target}
 use Rattle.mal_print.specs.Pieces.{Piece, printed, word}
-use Rattle.mal_print.specs.declared.target.PrintedNext.{PrintedNext}
 use Rattle.mal_print.specs.Canonical.{are_before, chain, chain_part, dest_pieces, dests_of, dispatch_part, divided, else_part, expression, fetch_part, goto_part, heads, if_part, is_absent, joined_behind, memory_part, next_parts, pieces, shifted, side, value}
 use Rattle.mal_print.proofs.Halves.{name_parts}
 
@@ -73,7 +73,7 @@ branch_prints true test high low = ap (λ ts. 59 ∷ 32 ∷ ts) (printed_append 
 branch_prints false test high low = printed_append (if_part test high) (divided true (else_part low))
 
 -- the assignment
-pub chain_prints : (part : Part) (next : PrintedNext) → is_absent part ≡ false
+pub chain_prints : (part : Part) (next : Next Target) → is_absent part ≡ false
     → printed (joined_behind false (chain_part part next)) ≡ printed (dest_pieces (heads (dests_of part.dests) next)) ++ (printed (expression part.op (side part.a) (side part.b)) ++ printed (shifted part.shift))
 chain_prints part next h =
     ap (λ b. printed (joined_behind false (cond b [] (chain part next ∷ [])))) h
@@ -82,7 +82,7 @@ chain_prints part next h =
     ∙ (printed_append (dest_pieces (heads (dests_of part.dests) next)) (value part)
     ∙ ap (λ rest. printed (dest_pieces (heads (dests_of part.dests) next)) ++ rest) (printed_append (expression part.op (side part.a) (side part.b)) (shifted part.shift)))))
 
-pub no_chain_prints : (part : Part) (next : PrintedNext) → is_absent part ≡ true → printed (joined_behind false (chain_part part next)) ≡ []
+pub no_chain_prints : (part : Part) (next : Next Target) → is_absent part ≡ true → printed (joined_behind false (chain_part part next)) ≡ []
 no_chain_prints part next h = ap (λ b. printed (joined_behind false (cond b [] (chain part next ∷ [])))) h
 
 -- ---- all parts
@@ -99,7 +99,7 @@ behind_print others (x ∷ xs) ys =
     still [] = refl
     still (x ∷ xs) = refl
 
-pub parts_print : (m : Machine) (part : Part) (next : PrintedNext)
+pub parts_print : (m : Machine) (part : Part) (next : Next Target)
     → printed (pieces m part next) ≡ printed (joined_behind false (chain_part part next))
     ++ (printed (joined_behind (are_before false (chain_part part next)) (memory_part part.mem))
     ++ (printed (joined_behind (are_before (are_before false (chain_part part next)) (memory_part part.mem)) (fetch_part part.fetch))
@@ -116,7 +116,7 @@ parts_print m part next =
 pub three_texts : (z a b c x y w : List ℕ) → x ≡ z ++ a → y ≡ x ++ b → w ≡ y ++ c → w ≡ z ++ (a ++ (b ++ c))
 three_texts z a b c x y w e f g = rw (g, f, e) (simp append_assoc)
 
-pub parts_texts : (m : Machine) (part : Part) (next : PrintedNext) (z x y w v : List ℕ) (assigned accessed fetched : Bool)
+pub parts_texts : (m : Machine) (part : Part) (next : Next Target) (z x y w v : List ℕ) (assigned accessed fetched : Bool)
     → x ≡ z ++ printed (joined_behind false (chain_part part next)) → assigned ≡ are_before false (chain_part part next)
     → y ≡ x ++ printed (joined_behind assigned (memory_part part.mem)) → accessed ≡ are_before assigned (memory_part part.mem)
     → w ≡ y ++ printed (joined_behind accessed (fetch_part part.fetch)) → fetched ≡ are_before accessed (fetch_part part.fetch)

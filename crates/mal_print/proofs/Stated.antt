@@ -8,11 +8,11 @@ use Rattle.micro_word.specs.Canonical.{is_part}
 use Rattle.mal_tokens.specs.declared.sign.Sign.TheVariants as signs
 use Rattle.mal_tokens.specs.declared.token.Token.{Token}
 use Rattle.mal_tokens.specs.declared.token.Token.TheVariants as tokens
-use Rattle.mal_line.specs.declared.content.NamedNext.{NamedNext}
-use Rattle.mal_line.specs.declared.content.NamedNext.TheVariants as named
 use Rattle.mal_line.specs.declared.content.Parts.{Parts}
 use Rattle.mal_line.specs.declared.content.Content.TheVariants as contents
 use Rattle.mal_line.specs.declared.line.Form.TheVariants as forms
+use Rattle.mal_line.specs.declared.next.Next.{Next}
+use Rattle.mal_line.specs.declared.next.Next.TheVariants as nexts
 use Rattle.mal_line.specs.Lines.{names_foreign, next_of, part_by, part_of, parts_by, parts_of, Spells, with_access}
 use Rattle.mal_print.specs.Pieces.{printed, tokens_of}
 use Rattle.mal_print.specs.Canonical.{fallback, fix, HasLabels, is_absent, labelled, pieces, statement}
@@ -27,18 +27,18 @@ use Rattle.mal_print.specs.Lines.{IsLineOf}
 
 -- ---- what the parts say
 
-part_again : (m : Machine) (part : Part) (next : NamedNext) → Fits m part → part_of (tree_for part next) ≡ Some part
+part_again : (m : Machine) (part : Part) (next : Next (List ℕ)) → Fits m part → part_of (tree_for part next) ≡ Some part
 part_again m part next h = go (is_absent part) refl
   where
     go : (absent : Bool) → is_absent part ≡ absent → option_map (with_access (tree_for part next)) (part_by (assigned_by absent part)) ≡ Some part
     go true e = ap Some (absent_bare m part h e)
     go false e = refl
 
-next_again : (next : NamedNext) → next_of (jump_of next) ≡ Some next
-next_again named.Following = refl
-next_again (named.Goto label) = refl
-next_again (named.Dispatch high) = refl
-next_again (named.Branch test high low) = refl
+next_again : (next : Next (List ℕ)) → next_of (jump_of next) ≡ Some next
+next_again nexts.Following = refl
+next_again (nexts.Goto label) = refl
+next_again (nexts.Dispatch high) = refl
+next_again (nexts.Branch test high low) = refl
 
 parts_again : (m : Machine) (p : Parts) → Fits m p.part → parts_of (tree_for p.part p.next) ≡ Some p
 parts_again m p h = ap (λ o. parts_by o (next_of (jump_of p.next))) (part_again m p.part p.next h) ∙ ap (parts_by (Some p.part)) (next_again p.next)
@@ -88,11 +88,11 @@ fix_means m label address = record { form = forms.Fix label (pos address); has =
 
 -- ---- which texts the lines have
 
-labels_of : (next : NamedNext) → HasLabels next → AreLabels (labelled next)
-labels_of named.Following h = tt
-labels_of (named.Goto label) h = h
-labels_of (named.Dispatch high) h = tt
-labels_of (named.Branch test high low) h = h
+labels_of : (next : Next (List ℕ)) → HasLabels next → AreLabels (labelled next)
+labels_of nexts.Following h = tt
+labels_of (nexts.Goto label) h = h
+labels_of (nexts.Dispatch high) h = tt
+labels_of (nexts.Branch test high low) h = h
 
 pub statement_said : (m : Machine) (label : Option (List ℕ)) (p : Parts) → is_part m p.part ≡ true → IfSome label IsLabelText → HasLabels p.next → IsLineOf m (printed (statement m label p.part (labelled p.next))) (contents.Statement label p)
 statement_said m label p h l n =

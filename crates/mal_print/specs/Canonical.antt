@@ -18,15 +18,14 @@ use Rattle.mal_tokens.specs.Words.{IsLabelText}
 use Rattle.mal_tokens.specs.declared.word.Word.{Word}
 use Rattle.mal_tokens.specs.declared.word.Word.TheVariants as words
 use Rattle.mal_tokens.specs.declared.sign.Sign.TheVariants as signs
-use Rattle.mal_line.specs.declared.content.NamedNext.{NamedNext}
-use Rattle.mal_line.specs.declared.content.NamedNext.TheVariants as named
+use Rattle.mal_line.specs.declared.next.Next.{Next}
+use Rattle.mal_line.specs.declared.next.Next.TheVariants as nexts
 use Rattle.mal_line.specs.Expressions.{source_word}
 use Rattle.mal_line.specs.Chains.{bit}
 use Rattle.mal_line.specs.Statements.{test_word}
+use Rattle.mal_line.specs.Targets.{by_targets, EachTarget}
 use Rattle.mal_print.specs.declared.target.Target.{Target}
 use Rattle.mal_print.specs.declared.target.Target.TheVariants as targets
-use Rattle.mal_print.specs.declared.target.PrintedNext.{PrintedNext}
-use Rattle.mal_print.specs.declared.target.PrintedNext.TheVariants as nexts
 use Rattle.mal_print.specs.Pieces.{behind_space, name, number, Piece, sign, spaced, word}
 
 -- ---- the assignment
@@ -92,18 +91,18 @@ abbrev pub is_idle : Part → Bool
 is_idle part = is_zero part.op && is_unshifted part.shift
 
 -- what a value is assigned to that no register takes: N where the statement tests N, and Z otherwise
-abbrev pub tested : PrintedNext → Word
+abbrev pub tested : Next Target → Word
 tested (nexts.Branch tests.N high low) = words.N
 tested _ = words.Z
 
-abbrev pub heads : List Word → PrintedNext → List Word
+abbrev pub heads : List Word → Next Target → List Word
 heads [] next = tested next ∷ []
 heads (w ∷ ws) next = w ∷ ws
 
 abbrev pub value : Part → List Piece
 value part = expression part.op (side part.a) (side part.b) ++ shifted part.shift
 
-abbrev pub chain : Part → PrintedNext → List Piece
+abbrev pub chain : Part → Next Target → List Piece
 chain part next = dest_pieces (heads (dests_of part.dests) next) ++ value part
 
 abbrev pub is_nothing : List Word → Bool
@@ -114,7 +113,7 @@ is_nothing (w ∷ ws) = false
 abbrev pub is_absent : Part → Bool
 is_absent part = is_nothing (dests_of part.dests) && is_idle part
 
-abbrev pub chain_part : Part → PrintedNext → List (List Piece)
+abbrev pub chain_part : Part → Next Target → List (List Piece)
 chain_part part next = if is_absent part then [] else chain part next ∷ []
 
 -- ---- the other parts
@@ -157,7 +156,7 @@ if_part test to = word words.If ∷ spaced (sign signs.Open) ∷ word (test_word
 abbrev pub else_part : Target → List Piece
 else_part to = word words.Else ∷ spaced (word words.Goto) ∷ target to ∷ []
 
-abbrev pub next_parts : Machine → PrintedNext → List (List Piece)
+abbrev pub next_parts : Machine → Next Target → List (List Piece)
 next_parts machine nexts.Following = []
 next_parts machine (nexts.Goto to) = goto_part to ∷ []
 next_parts machine (nexts.Dispatch high) = dispatch_part machine high ∷ []
@@ -174,21 +173,18 @@ abbrev pub joined_behind : Bool → List (List Piece) → List Piece
 joined_behind others [] = []
 joined_behind others (p ∷ ps) = divided others p ++ joined_behind true ps
 
-abbrev pub parts : Machine → Part → PrintedNext → List (List Piece)
+abbrev pub parts : Machine → Part → Next Target → List (List Piece)
 parts machine part next = chain_part part next ++ (memory_part part.mem ++ (fetch_part part.fetch ++ next_parts machine next))
 
 -- the assignment, rd or wr, fetch, and where it goes next
-abbrev pub pieces : Machine → Part → PrintedNext → List Piece
+abbrev pub pieces : Machine → Part → Next Target → List Piece
 pieces machine part next = joined_behind false (parts machine part next)
 
 -- ---- lines
 
 -- by its labels
-abbrev pub labelled : NamedNext → PrintedNext
-labelled named.Following = nexts.Following
-labelled (named.Goto label) = nexts.Goto (targets.Label label)
-labelled (named.Dispatch high) = nexts.Dispatch high
-labelled (named.Branch test high low) = nexts.Branch test (targets.Label high) (targets.Label low)
+abbrev pub labelled : Next (List ℕ) → Next Target
+labelled next = by_targets (λ label. targets.Label label) next
 
 -- `;` where there is nothing
 abbrev pub lone : List Piece → List Piece
@@ -196,12 +192,12 @@ lone [] = sign signs.Semicolon ∷ []
 lone (p ∷ ps) = p ∷ ps
 
 -- a statement: its label and its parts
-abbrev pub statement : Machine → Option (List ℕ) → Part → PrintedNext → List Piece
+abbrev pub statement : Machine → Option (List ℕ) → Part → Next Target → List Piece
 statement machine None part next = lone (pieces machine part next)
 statement machine (Some label) part next = name label ∷ behind_space (pieces machine part next)
 
 -- what unused words hold
-abbrev pub fallback : Machine → Part → PrintedNext → List Piece
+abbrev pub fallback : Machine → Part → Next Target → List Piece
 fallback machine part next = sign signs.Default ∷ behind_space (pieces machine part next)
 
 -- a label and its address
@@ -214,23 +210,20 @@ fix label address = sign signs.Label ∷ spaced (name label) ∷ spaced (number 
 abbrev pub is_plain : ℕ → Bool
 is_plain b = not (b == 10) && (not (b == 13) && not (b == 47))
 
-abbrev pub HasLabels : NamedNext → Type 0
-HasLabels named.Following = Unit {0}
-HasLabels (named.Goto label) = IsLabelText label
-HasLabels (named.Dispatch high) = Unit {0}
-HasLabels (named.Branch test high low) = IsLabelText high × IsLabelText low
+abbrev pub HasLabels : Next (List ℕ) → Type 0
+HasLabels next = EachTarget IsLabelText next
 
 abbrev pub is_access : Mem → Bool
 is_access mems.None = false
 is_access _ = true
 
 -- it says where it goes
-abbrev pub is_led : PrintedNext → Bool
+abbrev pub is_led : Next Target → Bool
 is_led nexts.Following = false
 is_led _ = true
 
 -- some part is there
-abbrev pub has_parts : Part → PrintedNext → Bool
+abbrev pub has_parts : Part → Next Target → Bool
 has_parts part next = not (is_absent part) || (is_access part.mem || (part.fetch || is_led next))
 
 -- with the parts that were there before
@@ -244,8 +237,5 @@ abbrev pub FitsTarget : Target → Type 0
 FitsTarget (targets.Label label) = Unit {0}
 FitsTarget (targets.Address address) = address < 512
 
-abbrev pub FitTargets : PrintedNext → Type 0
-FitTargets nexts.Following = Unit {0}
-FitTargets (nexts.Goto to) = FitsTarget to
-FitTargets (nexts.Dispatch high) = Unit {0}
-FitTargets (nexts.Branch test high low) = FitsTarget high × FitsTarget low
+abbrev pub FitTargets : Next Target → Type 0
+FitTargets next = EachTarget FitsTarget next

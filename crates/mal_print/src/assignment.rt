@@ -5,8 +5,8 @@ ghost use Rattle.mal_tokens.specs.Words.{sign_text};
 ghost use Rattle.mal_print.specs.Pieces.{behind_space, printed, sign, spaced, word};
 ghost use Rattle.mal_print.specs.Canonical.{all_dests, are_before, chain_part, dest_pieces, dests_among, dests_of, expression, has_dest, heads, is_absent, is_idle, is_nothing, joined_behind, shifted, side, tested};
 
-use crate::target::PrintedNext;
-use mal_line::bit;
+use crate::target::Target;
+use mal_line::{Next, bit};
 use mal_tokens::{Sign, Word};
 use mic_base::Line;
 use micro_word::{AluOp, BusSource, Part, Shift, Test};
@@ -204,17 +204,17 @@ pub(crate) fn is_absent(part: &Part) -> bool
 }
 
 /// What a value is assigned to that no register takes.
-fn tested(next: &PrintedNext) -> Word
+fn tested(next: &Next<Target>) -> Word
     ensures { result ≡ tested next.now }
 {
     match next {
-        PrintedNext::Branch { test: Test::N, .. } => Word::N,
+        Next::Branch { test: Test::N, .. } => Word::N,
         _ => Word::Z,
     }
 }
 
 /// Appends the destinations, each with its `=`.
-fn print_heads(dests: u16, next: &PrintedNext, line: &mut Line)
+fn print_heads(dests: u16, next: &Next<Target>, line: &mut Line)
     requires { length line.old + 54 ≤ 512 }
     ensures text { line.new ≡ line.old ++ printed (dest_pieces (heads (dests_of dests) next.now)) }
     ensures len { length line.new ≤ length line.old + 54 }
@@ -228,7 +228,7 @@ fn print_heads(dests: u16, next: &PrintedNext, line: &mut Line)
 
 /// Appends the assignment, and tells whether there is one.
 #[tactic(auto, using(crate::proofs::Prints::no_chain_prints))]
-pub(crate) fn print_chain(part: &Part, next: &PrintedNext, line: &mut Line) -> bool
+pub(crate) fn print_chain(part: &Part, next: &Next<Target>, line: &mut Line) -> bool
     requires { length line.old + 75 ≤ 512 }
     ensures text { line.new ≡ line.old ++ printed (joined_behind false (chain_part part.now next.now)) }
     ensures len { length line.new ≤ length line.old + 75 }

@@ -10,4 +10,4 @@ mod target;
 pub use laws::lines_spell_what_is_printed;
 pub use line::{print_default, print_fix, print_line, print_lone};
 pub use parts::print_parts;
-pub use target::{PrintedNext, Target};
+pub use target::Target;

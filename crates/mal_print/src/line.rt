@@ -4,22 +4,23 @@ ghost use Rattle.mal_print.specs.Canonical.{fallback, FitTargets, fix, has_parts
 
 use crate::assignment::is_absent;
 use crate::parts::print_parts;
-use crate::target::PrintedNext;
+use crate::target::Target;
+use mal_line::Next;
 use mic_base::{Line, Name};
 use micro_word::{Machine, Mem, Part};
 
-fn has_parts(part: &Part, next: &PrintedNext) -> bool
+fn has_parts(part: &Part, next: &Next<Target>) -> bool
     ensures { result ≡ has_parts part.now next.now }
 {
     !is_absent(part)
         || !matches!(part.mem, Mem::None)
         || part.fetch
-        || !matches!(next, PrintedNext::Following)
+        || !matches!(next, Next::Following)
 }
 
 /// Appends the parts of a statement, `;` where it has none.
 #[tactic(auto, using(crate::proofs::Bare::lone_some, crate::proofs::Bare::lone_none))]
-pub fn print_lone(machine: Machine, part: &Part, next: &PrintedNext, line: &mut Line)
+pub fn print_lone(machine: Machine, part: &Part, next: &Next<Target>, line: &mut Line)
     requires room { length line.old + 256 ≤ 512 }
     requires fit { FitTargets next.now }
     ensures text { line.new ≡ line.old ++ printed (lone (pieces machine part.now next.now)) }
@@ -34,7 +35,7 @@ pub fn print_lone(machine: Machine, part: &Part, next: &PrintedNext, line: &mut 
 
 /// Appends the parts behind a space, and nothing where there are none.
 #[tactic(auto, using(crate::proofs::Bare::spaced_some, crate::proofs::Bare::spaced_none))]
-fn print_behind_space(machine: Machine, part: &Part, next: &PrintedNext, line: &mut Line)
+fn print_behind_space(machine: Machine, part: &Part, next: &Next<Target>, line: &mut Line)
     requires room { length line.old + 257 ≤ 512 }
     requires fit { FitTargets next.now }
     ensures text { line.new ≡ line.old ++ printed (behind_space (pieces machine part.now next.now)) }
@@ -51,7 +52,7 @@ pub fn print_line(
     machine: Machine,
     label: Option<Name>,
     part: &Part,
-    next: &PrintedNext,
+    next: &Next<Target>,
     line: &mut Line,
 )
     requires room { length line.old + 321 ≤ 512 }
@@ -69,7 +70,7 @@ pub fn print_line(
 }
 
 /// Appends the line of the statement that unused words hold.
-pub fn print_default(machine: Machine, part: &Part, next: &PrintedNext, line: &mut Line)
+pub fn print_default(machine: Machine, part: &Part, next: &Next<Target>, line: &mut Line)
     requires room { length line.old + 265 ≤ 512 }
     requires fit { FitTargets next.now }
     ensures text { line.new ≡ line.old ++ printed (fallback machine part.now next.now) }

@@ -3,7 +3,8 @@ ghost use Rattle.mal_print.specs.Pieces.{printed};
 ghost use Rattle.mal_print.specs.Canonical.{are_before, byte_word, dispatch_part, else_part, fetch_part, FitsTarget, FitTargets, goto_part, if_part, joined_behind, memory_part, next_parts, parts, pieces, target};
 
 use crate::assignment::print_chain;
-use crate::target::{PrintedNext, Target};
+use crate::target::Target;
+use mal_line::Next;
 use mal_tokens::Word;
 use mic_base::Line;
 use micro_word::{Machine, Mem, Part, Test};
@@ -139,23 +140,23 @@ fn print_fetch(fetch: bool, others: bool, line: &mut Line) -> bool
 }
 
 #[tactic(auto, using(crate::proofs::Prints::goto_prints, crate::proofs::Prints::dispatch_prints, crate::proofs::Prints::branch_prints))]
-fn print_next(machine: Machine, next: &PrintedNext, others: bool, line: &mut Line)
+fn print_next(machine: Machine, next: &Next<Target>, others: bool, line: &mut Line)
     requires room { length line.old + 154 ≤ 512 }
     requires fit { FitTargets next.now }
     ensures text { line.new ≡ line.old ++ printed (joined_behind others (next_parts machine next.now)) }
     ensures len { length line.new ≤ length line.old + 154 }
 {
     match next {
-        PrintedNext::Following => {}
-        PrintedNext::Goto(to) => {
+        Next::Following => {}
+        Next::Goto(to) => {
             divide(others, line);
             print_goto(to, line);
         }
-        PrintedNext::Dispatch { high } => {
+        Next::Dispatch { high } => {
             divide(others, line);
             print_dispatch(machine, *high, line);
         }
-        PrintedNext::Branch { test, yes, no } => {
+        Next::Branch { test, yes, no } => {
             divide(others, line);
             print_branch(*test, yes, no, line);
         }
@@ -163,7 +164,7 @@ fn print_next(machine: Machine, next: &PrintedNext, others: bool, line: &mut Lin
 }
 
 /// Appends the parts of a statement in canonical text: its assignment, rd or wr, fetch, and where it goes next.
-pub fn print_parts(machine: Machine, part: &Part, next: &PrintedNext, line: &mut Line)
+pub fn print_parts(machine: Machine, part: &Part, next: &Next<Target>, line: &mut Line)
     requires room { length line.old + 240 ≤ 512 }
     requires fit { FitTargets next.now }
     ensures text { line.new ≡ line.old ++ printed (pieces machine part.now next.now) }

@@ -9,9 +9,9 @@ use Rattle.machine_words.specs.declared.machine.Machine.{Machine}
 use Rattle.micro_word.specs.Canonical.{is_part}
 use Rattle.mic_base.specs.Name.{is_name}
 use Rattle.mal_tokens.specs.Words.{is_reserved, IsLabelText}
+use Rattle.mal_line.specs.declared.next.Next.{Next}
+use Rattle.mal_line.specs.declared.next.Next.TheVariants as nexts
 use Rattle.mal_parser.specs.declared.statement.Statement.{Statement}
-use Rattle.mal_parser.specs.declared.statement.MalNext.{MalNext}
-use Rattle.mal_parser.specs.declared.statement.MalNext.TheVariants as nexts
 use Rattle.mal_parser.specs.Program.{Program, label_at, HasTargets, IsStatement, IsProgram}
 use Rattle.machine_words.specs.declared.machine.Machine.TheVariants.{Mic1, Mic2}
 use Rattle.shipped_program.specs.Listing.{program_of, program1, rows1, program2, rows2}
@@ -22,13 +22,13 @@ both false b h = absurd (cc)
 
 -- ---- each statement may stand where it stands
 
-leads : Program → MalNext → Bool
+leads : Program → Next ℕ → Bool
 leads p nexts.Following = true
 leads p (nexts.Goto to) = is_some (label_at p.statements to)
 leads p (nexts.Dispatch high) = true
 leads p (nexts.Branch test high low) = is_some (label_at p.statements high) && is_some (label_at p.statements low)
 
-follows : ℕ → ℕ → MalNext → Bool
+follows : ℕ → ℕ → Next ℕ → Bool
 follows count number nexts.Following = nat_lt (number + 1) count
 follows count number (nexts.Goto to) = true
 follows count number (nexts.Dispatch high) = true
@@ -50,14 +50,14 @@ all_stand : Program → ℕ → List Statement → Bool
 all_stand p number [] = true
 all_stand p number (s ∷ ss) = stands p number s && all_stand p (number + 1) ss
 
-leads_is : (p : Program) (next : MalNext) → leads p next ≡ true → HasTargets p.statements next
+leads_is : (p : Program) (next : Next ℕ) → leads p next ≡ true → HasTargets p.statements next
 unfolding leads
 leads_is p nexts.Following h = tt
 leads_is p (nexts.Goto to) h = h
 leads_is p (nexts.Dispatch high) h = tt
 leads_is p (nexts.Branch test high low) h = both _ _ h
 
-follows_is : (count number : ℕ) (next : MalNext) → follows count number next ≡ true → next ≡ nexts.Following → number + 1 < count
+follows_is : (count number : ℕ) (next : Next ℕ) → follows count number next ≡ true → next ≡ nexts.Following → number + 1 < count
 unfolding follows
 follows_is count number nexts.Following h e = ltb-true (number + 1) count h
 follows_is count number (nexts.Goto to) h e = absurd (cc)

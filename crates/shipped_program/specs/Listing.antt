@@ -12,9 +12,9 @@ use Rattle.micro_word.specs.declared.statement.Mem.{Mem}
 use Rattle.micro_word.specs.declared.statement.Mem.TheVariants as mems
 use Rattle.micro_word.specs.declared.statement.Test.TheVariants as tests
 use Rattle.micro_word.specs.declared.statement.Part.{Part}
+use Rattle.mal_line.specs.declared.next.Next.{Next}
+use Rattle.mal_line.specs.declared.next.Next.TheVariants as nexts
 use Rattle.mal_parser.specs.declared.statement.Statement.{Statement}
-use Rattle.mal_parser.specs.declared.statement.MalNext.{MalNext}
-use Rattle.mal_parser.specs.declared.statement.MalNext.TheVariants as nexts
 use Rattle.mal_parser.specs.Program.{Program}
 use Rattle.shipped_program.specs.declared.mic1.TheConstants.{MIC1}
 use Rattle.shipped_program.specs.declared.mic2.TheConstants.{MIC2}
@@ -28,7 +28,7 @@ pub record Row : Type 0 where
   pub statement : Statement
 
 -- address, label, the address that it is fixed at, destinations, operation, sources, shift, memory, whether it fetches, where it goes
-abbrev pub row : ℕ → List ℕ → Option ℕ → ℕ → AluOp → Option BusSource → Option BusSource → Shift → Mem → Bool → MalNext → Row
+abbrev pub row : ℕ → List ℕ → Option ℕ → ℕ → AluOp → Option BusSource → Option BusSource → Shift → Mem → Bool → Next ℕ → Row
 row address label fixed dests op a b shift mem fetch next =
     record {
       address = address;

@@ -8,9 +8,9 @@ use Rattle.std.proofs.lemmas.List.{length-map, length-set, length-replicate, get
 use Rattle.std.proofs.lemmas.Option.{slice_get_within, get_or_from_slice_get}
 use Rattle.micro_word.specs.Coding.{word_of}
 use Rattle.micro_word.specs.Canonical.{is_valid, is_part, is_next}
+use Rattle.mal_line.specs.declared.next.Next.{Next}
+use Rattle.mal_line.specs.declared.next.Next.TheVariants as nexts
 use Rattle.mal_parser.specs.declared.statement.Statement.{Statement}
-use Rattle.mal_parser.specs.declared.statement.MalNext.{MalNext}
-use Rattle.mal_parser.specs.declared.statement.MalNext.TheVariants as nexts
 use Rattle.mal_parser.specs.Program.{Program, IsProgram, HasTargets}
 use Rattle.store_placement.specs.declared.pair.Pair.{Pair}
 use Rattle.store_placement.specs.Placement.{Places}
@@ -22,7 +22,7 @@ pub placed_count : (p : Program) (addresses : List ℕ) → Places (demands_of p
 unfolding demands_of
 placed_count p addresses places = places.count ∙ length-map p.statements (λ s. s.fixed)
 
-leads : (p : Program) (number : ℕ) (next : MalNext) → HasTargets p.statements next → (next ≡ nexts.Following → number + 1 < length p.statements) → LeadsInside (length p.statements) number next
+leads : (p : Program) (number : ℕ) (next : Next ℕ) → HasTargets p.statements next → (next ≡ nexts.Following → number + 1 < length p.statements) → LeadsInside (length p.statements) number next
 leads p number nexts.Following has goes = goes refl
 leads p number (nexts.Goto to) has goes = labelled_below p.statements to has
 leads p number (nexts.Dispatch high) has goes = tt
@@ -61,7 +61,7 @@ among_from_get {X} xs s x here =
     subst P (get_or_from_slice_get xs s x x here) (among_at xs s x (slice_get_within xs s x here))
 
 -- a next that leads to placed statements has a code
-next_fits : (addresses : List ℕ) (number : ℕ) (next : MalNext) → ((k : ℕ) → k < length addresses → slice_index addresses k < 512) → LeadsInside (length addresses) number next
+next_fits : (addresses : List ℕ) (number : ℕ) (next : Next ℕ) → ((k : ℕ) → k < length addresses → slice_index addresses k < 512) → LeadsInside (length addresses) number next
     → ((pair : Pair) → pair_of next ≡ Some pair → pair.yes < length addresses × (slice_index addresses pair.yes ≡ slice_index addresses pair.no + 256)) → is_next (placed_next (slice_index addresses) number next) ≡ true
 next_fits addresses number nexts.Following in_store inside pairs = lt-ltb (slice_index addresses (number + 1)) 512 (in_store (number + 1) inside)
 next_fits addresses number (nexts.Goto to) in_store inside pairs = lt-ltb (slice_index addresses to) 512 (in_store to inside)
@@ -79,7 +79,7 @@ yes_of : Option Pair → ℕ
 yes_of None = 0
 yes_of (Some pair) = pair.yes
 
-pair_inside : (p : Program) (addresses : List ℕ) → IsProgram p → Places (demands_of p) addresses → (next : MalNext) → HasTargets p.statements next
+pair_inside : (p : Program) (addresses : List ℕ) → IsProgram p → Places (demands_of p) addresses → (next : Next ℕ) → HasTargets p.statements next
     → ((pair : Pair) → pair_of next ≡ Some pair → Among pair (filter_map statement_pair p.statements ++ option_to_list (option_and_then statement_pair p.fallback)))
     → (pair : Pair) → pair_of next ≡ Some pair → pair.yes < length addresses × (slice_index addresses pair.yes ≡ slice_index addresses pair.no + 256)
 unfolding yes_of

@@ -6,9 +6,9 @@ use Rattle.std.specs.Option.{ForSome, option_to_list, IsSome}
 use Rattle.std.proofs.lemmas.List.{take_more, map_push}
 use Rattle.std.proofs.lemmas.List.Elements.{filter_map-append}
 use Rattle.std.proofs.lemmas.Option.{slice_get_within, get_or_from_slice_get}
+use Rattle.mal_line.specs.declared.next.Next.{Next}
+use Rattle.mal_line.specs.declared.next.Next.TheVariants as nexts
 use Rattle.mal_parser.specs.declared.statement.Statement.{Statement}
-use Rattle.mal_parser.specs.declared.statement.MalNext.{MalNext}
-use Rattle.mal_parser.specs.declared.statement.MalNext.TheVariants as nexts
 use Rattle.mal_parser.specs.Program.{Program, IsProgram, IsFallback, IsLabelled, HasTargets}
 use Rattle.store_placement.specs.declared.pair.Pair.{Pair}
 use Rattle.store_placement.specs.Demands.{IsOfStatements}
@@ -42,7 +42,7 @@ labelled_below statements n is =
       | Some t ↦ λ e h. slice_get_within statements n t e
     ] refl is
 
-targets_below : (statements : List Statement) (next : MalNext) → HasTargets statements next → ForSome (pair_of next) (IsOfStatements (length statements))
+targets_below : (statements : List Statement) (next : Next ℕ) → HasTargets statements next → ForSome (pair_of next) (IsOfStatements (length statements))
 targets_below statements nexts.Following has p is = cc
 targets_below statements (nexts.Goto to) has p is = cc
 targets_below statements (nexts.Dispatch high) has p is = cc

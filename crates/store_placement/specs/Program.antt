@@ -8,15 +8,15 @@ use Rattle.micro_word.specs.declared.statement.PlacedNext.{PlacedNext}
 use Rattle.micro_word.specs.declared.statement.PlacedNext.TheVariants as placed
 use Rattle.micro_word.specs.Coding.{idle, word_of}
 use Rattle.micro_word.specs.Canonical.{is_valid}
+use Rattle.mal_line.specs.declared.next.Next.{Next}
+use Rattle.mal_line.specs.declared.next.Next.TheVariants as nexts
 use Rattle.mal_parser.specs.declared.statement.Statement.{Statement}
-use Rattle.mal_parser.specs.declared.statement.MalNext.{MalNext}
-use Rattle.mal_parser.specs.declared.statement.MalNext.TheVariants as nexts
 use Rattle.mal_parser.specs.Program.{Program}
 use Rattle.store_placement.specs.declared.pair.Pair.{Pair}
 use Rattle.store_placement.specs.Demands.{Demands}
 
 -- the targets of a conditional
-abbrev pub pair_of : MalNext → Option Pair
+abbrev pub pair_of : Next ℕ → Option Pair
 pair_of (nexts.Branch test high low) = Some (record { yes = high; no = low })
 pair_of nexts.Following = None
 pair_of (nexts.Goto to) = None
@@ -34,14 +34,14 @@ demands_of program =
     }
 
 -- where the statement with this number goes next
-abbrev pub placed_next : (ℕ → ℕ) → ℕ → MalNext → PlacedNext
+abbrev pub placed_next : (ℕ → ℕ) → ℕ → Next ℕ → PlacedNext
 placed_next address number nexts.Following = placed.Goto (address (number + 1))
 placed_next address number (nexts.Goto to) = placed.Goto (address to)
 placed_next address number (nexts.Dispatch high) = placed.Dispatch high
 placed_next address number (nexts.Branch test high low) = placed.Branch test (address low)
 
 -- the statements that it needs the addresses of are there
-abbrev pub LeadsInside : ℕ → ℕ → MalNext → Type 0
+abbrev pub LeadsInside : ℕ → ℕ → Next ℕ → Type 0
 LeadsInside count number nexts.Following = number + 1 < count
 LeadsInside count number (nexts.Goto to) = to < count
 LeadsInside count number (nexts.Dispatch high) = Unit {0}
