@@ -144,8 +144,15 @@ impl Latches {
         let mar = port(c, MAR, value, &self.places);
         let there = port(c, MDR, value, &self.places);
         let mdr = arrived(self.arriving(), there);
-        let pc = port(c, PC, value, &self.places);
+        let pc = self.pc_port(c, value);
         Ports { mar, mdr, pc }
+    }
+
+    /// What the byte port is given.
+    pub fn pc_port(&self, c: u16, value: u32) -> u32
+        ensures { result ≡ (ports_of (assigned c value (micro_in self.now))).pc }
+    {
+        port(c, PC, value, &self.places)
     }
 
     /// Moves the registers and MPC on behind a clocked word, with what its accesses sampled under way.

@@ -7,5 +7,5 @@ returns c =
     λ i. record {
       mar = c.port-mar.ensures i;
       mdr = (c.arrived-mdr.ensures ∙ (λ j. arrived (c.arriving.ensures j) (c.port-there.ensures j))) i;
-      pc = c.port-pc.ensures i;
+      pc = c.pc_port-pc.ensures i;
     }
