@@ -15,7 +15,8 @@ ghost use Rattle.mic1_datapath.specs.Latches.{AreLatches, micro_in};
 use crate::latches::{IDLE, Latches};
 use console_port::{Bus, BusFault};
 use datapath::{
-    Sampled, Stage, access, access_memory, fetch_alone, is_in_memory, operate, shift_by,
+    Sampled, Stage, access, access_memory, fetch_alone, is_in_memory, operate, read_alone,
+    shift_by, write_alone,
 };
 use mic_base::{Sink, Source};
 use mic_clock::{Clocked, Computed, Drive, Registers, Start, Tail};
@@ -60,6 +61,20 @@ fn is_fetch_alone(word: u64) -> bool
     ensures { result ≡ true → (mem_of (fields_of Mic1Machine word).mem ≡ Mem.None) × (((fields_of Mic1Machine word).fetch == 1) ≡ true) }
 {
     bits::mem(Machine::Mic1, word) == 0 && bits::fetch(Machine::Mic1, word)
+}
+
+/// Whether a word reads and accesses nothing else.
+fn is_read_alone(word: u64) -> bool
+    ensures { result ≡ true → (mem_of (fields_of Mic1Machine word).mem ≡ Mem.Read) × (((fields_of Mic1Machine word).fetch == 1) ≡ false) }
+{
+    bits::mem(Machine::Mic1, word) == 1 && !bits::fetch(Machine::Mic1, word)
+}
+
+/// Whether a word writes and accesses nothing else.
+fn is_write_alone(word: u64) -> bool
+    ensures { result ≡ true → (mem_of (fields_of Mic1Machine word).mem ≡ Mem.Write) × (((fields_of Mic1Machine word).fetch == 1) ≡ false) }
+{
+    bits::mem(Machine::Mic1, word) == 2 && !bits::fetch(Machine::Mic1, word)
 }
 
 impl Mic1 {
@@ -166,13 +181,13 @@ impl Clocked for Mic1 {
         // Loaded before an access, behind which they would be loaded again.
         let (word, value, c) = (self.word, self.value, self.c);
         self.stage = Stage::Setup;
-        // Most words access nothing or fetch alone, and most others reach memory alone.
+        let nothing = Sampled {
+            word: None,
+            byte: None,
+        };
+        // Most words access nothing, and most others one thing, which is in memory.
         if is_quiet(word) {
-            let sampled = Sampled {
-                word: None,
-                byte: None,
-            };
-            self.latches.advance(word, &self.lines, value, c, sampled);
+            self.latches.advance(word, &self.lines, value, c, nothing);
             return Ok(());
         }
         let destinations = bits::destinations(Machine::Mic1, word);
@@ -181,6 +196,23 @@ impl Clocked for Mic1 {
             if bus.has(pc / 4) {
                 let sampled = fetch_alone(pc, bus);
                 self.latches.advance(word, &self.lines, value, c, sampled);
+                return Ok(());
+            }
+        }
+        if is_read_alone(word) {
+            let mar = self.latches.mar_port(destinations, c);
+            if bus.has(mar) {
+                let sampled = read_alone(mar, bus);
+                self.latches.advance(word, &self.lines, value, c, sampled);
+                return Ok(());
+            }
+        }
+        if is_write_alone(word) {
+            let mar = self.latches.mar_port(destinations, c);
+            if bus.has(mar) {
+                let mdr = self.latches.mdr_port(destinations, c);
+                write_alone(mar, mdr, bus);
+                self.latches.advance(word, &self.lines, value, c, nothing);
                 return Ok(());
             }
         }
