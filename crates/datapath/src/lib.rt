@@ -16,7 +16,7 @@ pub use alu::{operate, shift_by};
 pub use c_bus::{Places, arrived, port, settle};
 pub use jam::next_address;
 pub use laws::{console_law, side_law};
-pub use memory::{access_memory, is_in_memory};
+pub use memory::{access_memory, fetch_alone, is_in_memory, read_alone, write_alone};
 pub use ports::Ports;
 pub use signs::sign_extended;
 pub use stage::Stage;

@@ -47,6 +47,54 @@ pub fn no_access(mem: Mem, fetch: bool, ports: &Ports, bus: &Bus) -> Sampled
     }
 }
 
+/// What a fetch from memory samples where nothing else is accessed.
+#[inline(always)]
+#[tactic(auto, unfolding(console_port::specs::World::fetch_refusal))]
+pub fn fetch_alone(pc: u32, bus: &Bus) -> Sampled
+    requires { pc / 4 < length bus.now.words }
+    ensures clear { (p : Ports) → p.pc ≡ pc → access_refusal (length bus.now.words) Mem.None true p ≡ None }
+    ensures access { (p : Ports) → p.pc ≡ pc → (w : World) → w.words ≡ bus.now.words →
+        IsAccess (length bus.now.words) Mem.None true p w result.word result.byte w }
+    ensures word { result.word ≡ None }
+    ensures byte { is_some result.byte ≡ true }
+{
+    Sampled {
+        word: None,
+        byte: Some(bus.byte(pc)),
+    }
+}
+
+/// What a read of memory samples where nothing else is accessed.
+#[inline(always)]
+#[tactic(auto, unfolding(console_port::specs::World::read_refusal, console_port::specs::World::read_value, console_port::specs::World::untaken_after))]
+pub fn read_alone(mar: u32, bus: &Bus) -> Sampled
+    requires { mar < length bus.now.words }
+    ensures clear { (p : Ports) → p.mar ≡ mar → access_refusal (length bus.now.words) Mem.Read false p ≡ None }
+    ensures access { (p : Ports) → p.mar ≡ mar → (w : World) → w.words ≡ bus.now.words →
+        IsAccess (length bus.now.words) Mem.Read false p w result.word result.byte w }
+    ensures word { is_some result.word ≡ true }
+    ensures byte { result.byte ≡ None }
+{
+    Sampled {
+        word: Some(bus.word(mar)),
+        byte: None,
+    }
+}
+
+/// Stores MDR in memory where nothing else is accessed.
+#[inline(always)]
+#[tactic(auto, unfolding(console_port::specs::World::write_refusal, console_port::specs::World::given_after))]
+pub fn write_alone(mar: u32, mdr: u32, bus: &mut Bus)
+    requires { mar < length bus.old.words }
+    ensures clear { (p : Ports) → p.mar ≡ mar → access_refusal (length bus.old.words) Mem.Write false p ≡ None }
+    ensures access { (p : Ports) → p.mar ≡ mar → p.mdr ≡ mdr → (w : World) → w.words ≡ bus.old.words →
+        IsAccess (length bus.old.words) Mem.Write false p w None None (record w { words = bus.new.words }) }
+    ensures others { ChangesOnly mar bus.old.words bus.new.words }
+    ensures console { bus.new.console ≡ bus.old.console }
+{
+    bus.set_word(mar, mdr);
+}
+
 /// Stores MDR at MAR, or takes the word there.
 #[tactic(auto, unfolding(console_port::specs::World::read_refusal, console_port::specs::World::write_refusal, console_port::specs::World::read_value, console_port::specs::World::untaken_after, console_port::specs::World::given_after))]
 fn transfer_memory(mem: Mem, ports: &Ports, bus: &mut Bus) -> Option<u32>

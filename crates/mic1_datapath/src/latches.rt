@@ -141,11 +141,32 @@ impl Latches {
     pub fn ports(&self, c: u16, value: u32) -> Ports
         ensures { result ≡ ports_of (assigned c value (micro_in self.now)) }
     {
-        let mar = port(c, MAR, value, &self.places);
-        let there = port(c, MDR, value, &self.places);
-        let mdr = arrived(self.arriving(), there);
-        let pc = port(c, PC, value, &self.places);
+        let mar = self.mar_port(c, value);
+        let mdr = self.mdr_port(c, value);
+        let pc = self.pc_port(c, value);
         Ports { mar, mdr, pc }
+    }
+
+    /// The address that the word port is given.
+    pub fn mar_port(&self, c: u16, value: u32) -> u32
+        ensures { result ≡ (ports_of (assigned c value (micro_in self.now))).mar }
+    {
+        port(c, MAR, value, &self.places)
+    }
+
+    /// The word that the word port is given.
+    pub fn mdr_port(&self, c: u16, value: u32) -> u32
+        ensures { result ≡ (ports_of (assigned c value (micro_in self.now))).mdr }
+    {
+        let there = port(c, MDR, value, &self.places);
+        arrived(self.arriving(), there)
+    }
+
+    /// The address that the byte port is given.
+    pub fn pc_port(&self, c: u16, value: u32) -> u32
+        ensures { result ≡ (ports_of (assigned c value (micro_in self.now))).pc }
+    {
+        port(c, PC, value, &self.places)
     }
 
     /// Moves the registers and MPC on behind a clocked word, with what its accesses sampled under way.

@@ -14,7 +14,10 @@ ghost use Rattle.mic1_datapath.specs.Latches.{AreLatches, micro_in};
 
 use crate::latches::{IDLE, Latches};
 use console_port::{Bus, BusFault};
-use datapath::{Sampled, Stage, access, access_memory, is_in_memory, operate, shift_by};
+use datapath::{
+    Sampled, Stage, access, access_memory, fetch_alone, is_in_memory, operate, read_alone,
+    shift_by, write_alone,
+};
 use mic_base::{Sink, Source};
 use mic_clock::{Clocked, Computed, Drive, Registers, Start, Tail};
 use mic1_alu::AluOut;
@@ -51,6 +54,27 @@ fn is_quiet(word: u64) -> bool
     ensures { result ≡ true → (mem_of (fields_of Mic1Machine word).mem ≡ Mem.None) × (((fields_of Mic1Machine word).fetch == 1) ≡ false) }
 {
     bits::mem(Machine::Mic1, word) == 0 && !bits::fetch(Machine::Mic1, word)
+}
+
+/// Whether a word fetches a byte and accesses nothing else.
+fn is_fetch_alone(word: u64) -> bool
+    ensures { result ≡ true → (mem_of (fields_of Mic1Machine word).mem ≡ Mem.None) × (((fields_of Mic1Machine word).fetch == 1) ≡ true) }
+{
+    bits::mem(Machine::Mic1, word) == 0 && bits::fetch(Machine::Mic1, word)
+}
+
+/// Whether a word reads and accesses nothing else.
+fn is_read_alone(word: u64) -> bool
+    ensures { result ≡ true → (mem_of (fields_of Mic1Machine word).mem ≡ Mem.Read) × (((fields_of Mic1Machine word).fetch == 1) ≡ false) }
+{
+    bits::mem(Machine::Mic1, word) == 1 && !bits::fetch(Machine::Mic1, word)
+}
+
+/// Whether a word writes and accesses nothing else.
+fn is_write_alone(word: u64) -> bool
+    ensures { result ≡ true → (mem_of (fields_of Mic1Machine word).mem ≡ Mem.Write) × (((fields_of Mic1Machine word).fetch == 1) ≡ false) }
+{
+    bits::mem(Machine::Mic1, word) == 2 && !bits::fetch(Machine::Mic1, word)
 }
 
 impl Mic1 {
@@ -157,20 +181,44 @@ impl Clocked for Mic1 {
         // Loaded before an access, behind which they would be loaded again.
         let (word, value, c) = (self.word, self.value, self.c);
         self.stage = Stage::Setup;
-        // Most words access nothing, and most others memory alone.
+        let nothing = Sampled {
+            word: None,
+            byte: None,
+        };
+        // Most words access nothing, and most others one thing, which is in memory.
         if is_quiet(word) {
-            let sampled = Sampled {
-                word: None,
-                byte: None,
-            };
-            self.latches.advance(word, &self.lines, value, c, sampled);
+            self.latches.advance(word, &self.lines, value, c, nothing);
             return Ok(());
+        }
+        let destinations = bits::destinations(Machine::Mic1, word);
+        if is_fetch_alone(word) {
+            let pc = self.latches.pc_port(destinations, c);
+            if bus.has(pc / 4) {
+                let sampled = fetch_alone(pc, bus);
+                self.latches.advance(word, &self.lines, value, c, sampled);
+                return Ok(());
+            }
+        }
+        if is_read_alone(word) {
+            let mar = self.latches.mar_port(destinations, c);
+            if bus.has(mar) {
+                let sampled = read_alone(mar, bus);
+                self.latches.advance(word, &self.lines, value, c, sampled);
+                return Ok(());
+            }
+        }
+        if is_write_alone(word) {
+            let mar = self.latches.mar_port(destinations, c);
+            if bus.has(mar) {
+                let mdr = self.latches.mdr_port(destinations, c);
+                write_alone(mar, mdr, bus);
+                self.latches.advance(word, &self.lines, value, c, nothing);
+                return Ok(());
+            }
         }
         let mem = Mem::of_bits(bits::mem(Machine::Mic1, word));
         let fetch = bits::fetch(Machine::Mic1, word);
-        let ports = self
-            .latches
-            .ports(bits::destinations(Machine::Mic1, word), c);
+        let ports = self.latches.ports(destinations, c);
         if is_in_memory(mem, fetch, ports.mar, ports.pc, bus) {
             let sampled = access_memory(mem, fetch, &ports, bus);
             self.latches.advance(word, &self.lines, value, c, sampled);

@@ -118,12 +118,6 @@ impl<M: Clocked> Board<M> {
         }
         match clock_once(&mut self.machine, &self.store, &mut self.bus, source, sink) {
             Ok((drive, computed)) => {
-                count(
-                    &mut self.counts,
-                    &mut self.limit,
-                    drive.stalled,
-                    &self.machine,
-                );
                 self.drive.a = drive.a;
                 self.drive.b = drive.b;
                 self.drive.stalled = drive.stalled;
@@ -131,6 +125,13 @@ impl<M: Clocked> Board<M> {
                 self.computed.alu.n = computed.alu.n;
                 self.computed.alu.z = computed.alu.z;
                 self.computed.c = computed.c;
+                // Behind the stores, so that a run tests once whether it is at a boundary.
+                count(
+                    &mut self.counts,
+                    &mut self.limit,
+                    drive.stalled,
+                    &self.machine,
+                );
                 if drive.stalled {
                     Tick::Stalled
                 } else {
