@@ -8,9 +8,5 @@ ghost use Rattle.machine_words.specs.Arithmetic.{signed_byte};
 pub fn sign_extended(byte: u8) -> u32
     ensures { result ≡ signed_byte byte }
 {
-    if byte < 128 {
-        byte as u32
-    } else {
-        byte as u32 + 0xFFFF_FF00
-    }
+    (byte.wrapping_add(128) as u32).wrapping_sub(128)
 }

@@ -1,20 +1,21 @@
 -- The bytes that a statement demands, by what stands in its word.
-use Rattle.std.proofs.Common.{◌≡◌, ℕ, zero, suc, ◌+◌, ◌≤◌, ◌<◌, ◌^◌, ◌%◌, ◌==◌, ◌||◌, ◌&&◌, ◌≢◌, Bool, true, false, IsTrue, Option, Some, None, get_or, if◌then◌else◌, refl, arith}
+use Rattle.std.proofs.Common.{◌≡◌, ℕ, zero, suc, ◌+◌, ◌-◌, ◌/◌, ◌≤◌, ◌<◌, ◌^◌, ◌%◌, ◌==◌, ◌||◌, ◌&&◌, ◌≢◌, Bool, true, false, IsTrue, List, Option, Some, None, if◌then◌else◌, refl, ap, ◌∙◌, arith}
 use Rattle.std.specs.Prelude.{nat_lt}
 use Rattle.std.proofs.lemmas.Bool.Decides.{nat_tests}
 use Rattle.machine_words.specs.Arithmetic.{wrap}
 use Rattle.machine_words.specs.declared.machine.Machine.TheVariants.{Mic2}
-use Rattle.micro_word.specs.Canonical.{fits_side, is_byte, is_pair, may_be_b}
-use Rattle.micro_word.specs.Coding.{addr_bits, jam_bits}
-use Rattle.micro_word.specs.Lines.{place_on_bus}
+use Rattle.micro_word.specs.Canonical.{Valid, fits_side, is_byte, is_pair, may_be_b}
+use Rattle.micro_word.specs.Coding.{addr_bits, jam_bits, row}
+use Rattle.micro_word.specs.Lines.{bytes_shown, bytes_taken, place_on_bus}
 use Rattle.micro_word.specs.declared.statement.BusSource.{BusSource}
 use Rattle.micro_word.specs.declared.statement.BusSource.TheVariants as sources
 use Rattle.micro_word.specs.declared.statement.PlacedNext.{PlacedNext}
 use Rattle.micro_word.specs.declared.statement.PlacedNext.TheVariants as nexts
 use Rattle.micro_word.specs.declared.statement.Test.TheVariants as tests
 use Rattle.datapath.specs.Next.{target}
-use Rattle.mic2_datapath.specs.declared.control.TheConstants.{BYTES}
-use Rattle.mic2_datapath.specs.Microstep.{advanced, dispatch_bytes, is_to_instruction}
+use Rattle.micro_word.specs.declared.statement.Placed.{Placed}
+use Rattle.mic2_datapath.specs.Microstep.{advanced, demand, dispatch_bytes, is_to_instruction, unit_after, unit_samples}
+use Rattle.mic2_fetch_unit.specs.FetchUnit.{Prefetch, jump}
 
 pub not_here : (used : Bool) → IsTrue (used && false) → ⊥
 not_here true h = absurd (cc)
@@ -24,7 +25,7 @@ not_here false h = absurd (cc)
 abbrev pub bytes_named : Option BusSource → ℕ
 bytes_named s = if is_pair s then 2 else if is_byte s then 1 else 0
 
-pub place_bytes : (s : Option BusSource) (used : Bool) → IsTrue (fits_side used (may_be_b Mic2) s) → get_or BYTES (place_on_bus s) 0 ≡ bytes_named s
+pub place_bytes : (s : Option BusSource) (used : Bool) → IsTrue (fits_side used (may_be_b Mic2) s) → bytes_shown (place_on_bus s) ≡ bytes_named s
 place_bytes None used h = refl
 place_bytes (Some sources.Mdr) used h = refl
 place_bytes (Some sources.Pc) used h = refl
@@ -105,15 +106,47 @@ greater_is false false true false = refl
 greater_is false false false true = refl
 greater_is false false false false = refl
 
-pub few_bytes : (pa pb ba bb : Bool) → bytes_by pa pb ba bb < 3
-few_bytes true pb ba bb = omega arith
-few_bytes false true ba bb = omega arith
-few_bytes false false true bb = omega arith
-few_bytes false false false true = omega arith
-few_bytes false false false false = omega arith
+abbrev more : ℕ → ℕ → ℕ
+more a b = if nat_lt a b then b else a
+
+-- what the control lines of a word tell is the demand of its statement
+pub takes_are : (s : Placed) (a b jam : ℕ) → Valid Mic2 s → a ≡ place_on_bus s.part.a → b ≡ place_on_bus s.part.b → jam ≡ jam_bits s.next → bytes_taken a b jam ≡ demand s
+takes_are s a b jam valid a_is b_is jam_is =
+    (λ i. bytes_taken (a_is i) (b_is i) (jam_is i))
+    ∙ (λ i. more (place_bytes s.part.a (row s.part.op).uses_a valid.a i) (place_bytes s.part.b (row s.part.op).uses_b valid.b i) + dispatch_bits s.next i)
+    ∙ ap (λ (n : ℕ). n + dispatch_bytes s.next) (greater_is (is_pair s.part.a) (is_pair s.part.b) (is_byte s.part.a) (is_byte s.part.b))
+
+pub dispatch_takes : (n : PlacedNext) (operands : ℕ) → jam_bits n ≡ 4 → 1 ≤ operands + dispatch_bytes n
+dispatch_takes (nexts.Goto to) operands h = absurd (cc)
+dispatch_takes (nexts.Dispatch high) operands h = omega arith
+dispatch_takes (nexts.Branch tests.N low) operands h = absurd (cc)
+dispatch_takes (nexts.Branch tests.Z low) operands h = absurd (cc)
+
+-- the last of the bytes is the one behind the operand's, where one is dispatched
+pub dispatched_last : (n : PlacedNext) (value x takes operands : ℕ) (bytes : ℕ → ℕ) → jam_bits n ≡ 4 → takes ≡ operands + dispatch_bytes n → x ≡ bytes (takes - 1) →
+    target n value x ≡ target n value (bytes operands)
+dispatched_last (nexts.Goto to) value x takes operands bytes h takes_is is = absurd (cc)
+dispatched_last (nexts.Dispatch high) value x takes operands bytes h takes_is is =
+    let last : takes - 1 ≡ operands = omega (arith, takes_is) in
+    ap (λ (y : ℕ). target (nexts.Dispatch high) value y) (is ∙ ap bytes last)
+dispatched_last (nexts.Branch tests.N low) value x takes operands bytes h takes_is is = absurd (cc)
+dispatched_last (nexts.Branch tests.Z low) value x takes operands bytes h takes_is is = absurd (cc)
+
+pub within : (n operands more takes : ℕ) → n ≤ operands → takes ≡ operands + more → n ≤ takes
+within n operands more takes h is = omega arith
 
 -- a byte that is put in place of the dispatched one, where nothing is dispatched
 pub not_dispatched : (n : PlacedNext) (value x y : ℕ) → jam_bits n ≢ 4 → target n value x ≡ target n value y
 not_dispatched (nexts.Goto to) value x y h = refl
 not_dispatched (nexts.Dispatch high) value x y h = absurd (h refl)
 not_dispatched (nexts.Branch test low) value x y h = refl
+
+-- a jump goes where PC goes; an edge without one does not look at PC
+
+pub same_sample : (jumps : Bool) (pc pc' taken : ℕ) (u : Prefetch) → (jumps ≡ true → pc ≡ pc') → unit_samples jumps pc taken u ≡ unit_samples jumps pc' taken u
+same_sample true pc pc' taken u h = ap (λ (x : ℕ). Some (x / 4)) (h refl)
+same_sample false pc pc' taken u h = refl
+
+pub same_unit : (jumps : Bool) (words : List ℕ) (pc pc' taken : ℕ) (u : Prefetch) → (jumps ≡ true → pc ≡ pc') → unit_after jumps words pc taken u ≡ unit_after jumps words pc' taken u
+same_unit true words pc pc' taken u h = ap (λ (x : ℕ). jump words x) (h refl)
+same_unit false words pc pc' taken u h = refl

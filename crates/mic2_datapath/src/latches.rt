@@ -13,7 +13,7 @@ ghost use Rattle.datapath.specs.Places.{registers_at};
 ghost use Rattle.datapath.specs.Registers.{loaded, ports_given};
 ghost use Rattle.mic2_fetch_unit.specs.FetchUnit.{edge_refusal, sample_refusal};
 ghost use Rattle.mic2_datapath.specs.Mic2.{initial as initial_of};
-ghost use Rattle.mic2_datapath.specs.Microstep.{advanced, byte_at, demand, fetched, is_to_instruction, jumps, moved, operand_bytes, result_of, settled, stalled, unit_after, unit_refusal, unit_samples};
+ghost use Rattle.mic2_datapath.specs.Microstep.{advanced, byte_at, demand, dispatch_bytes, fetched, is_to_instruction, jumps, moved, operand_bytes, result_of, settled, stalled, unit_after, unit_refusal, unit_samples};
 ghost use Rattle.mic2_datapath.specs.Latches.{AreLatches, HasFront, micro_in};
 
 use crate::control::{Control, JMPC};
@@ -92,10 +92,10 @@ fn behind(pc: u32, taken: u8) -> u32
 fn load(destinations: u16, control: &Control, c: u32, arriving: Option<u32>, places: &mut Places)
     requires { AreSlots destinations control.now.lines.first control.now.lines.second control.now.lines.further }
     ensures registers { registers_at places.new ≡
-        loaded destinations c arriving (record (registers_at places.old) { pc = advanced control.now.demand (registers_at places.old).pc }) }
+        loaded destinations c arriving (record (registers_at places.old) { pc = advanced control.now.lines.takes (registers_at places.old).pc }) }
     ensures others { (k : ℕ) → 9 ≤ k → k < 15 → slice_index places.new k ≡ slice_index places.old k }
 {
-    places[PC as usize] = behind(places[PC as usize], control.demand);
+    places[PC as usize] = behind(places[PC as usize], control.lines.takes);
     settle(destinations, &control.lines, c, arriving, places);
 }
 
@@ -139,21 +139,21 @@ impl Latches {
         }
     }
 
-    /// Puts the front of the queue on its places, as far as operands name it.
+    /// Puts the front of the queue on its places, as far as a word takes it that takes so many bytes.
     #[inline(always)]
-    pub fn show_front(&mut self, operands: u8)
+    pub fn show_front(&mut self, takes: u8)
         requires latches { AreLatches self.old }
-        requires there { operands ≤ length self.old.unit.bytes }
-        requires few { operands < 3 }
+        requires there { takes ≤ length self.old.unit.bytes }
         ensures latches { AreLatches self.new }
         ensures micro { micro_in self.new ≡ micro_in self.old }
-        ensures front { HasFront operands self.new }
+        ensures front { HasFront takes self.new }
     {
-        if operands == 0 {
+        if takes == 0 {
             return;
         }
         show_byte(self.unit.one(), &mut self.places);
-        if operands == 2 {
+        let two = takes > 1;
+        if two {
             show_pair(self.unit.two(), &mut self.places);
         }
     }
@@ -201,24 +201,16 @@ impl Latches {
         Ok(())
     }
 
-    /// The byte at a place of the queue; 0 behind its end.
-    fn byte_at(&self, place: u8) -> u8
-        ensures { result ≡ slice_index self.now.unit.bytes place }
-    {
-        if place < self.unit.have() {
-            self.unit.byte_at(place)
-        } else {
-            0
-        }
-    }
-
-    /// The byte that a dispatch takes, behind the operands. A word with other bits goes on without it.
-    fn dispatched(&self, jam: u8, operands: u8) -> u8
-        ensures { (n : PlacedNext) (value : ℕ) → jam ≡ jam_bits n → target n value result ≡ target n value (byte_at self.now.unit operands) }
+    /// The byte that a dispatch takes, which is the last of those that its word takes. A word with other bits goes on without it.
+    fn dispatched(&self, jam: u8, takes: u8) -> u8
+        requires there { takes ≤ length self.now.unit.bytes }
+        requires some { jam ≡ JMPC → 1 ≤ takes }
+        ensures { (n : PlacedNext) (value operands : ℕ) → jam ≡ jam_bits n → takes ≡ operands + dispatch_bytes n →
+            target n value result ≡ target n value (byte_at self.now.unit operands) }
     {
         let dispatches = jam == JMPC;
         if dispatches {
-            self.byte_at(operands)
+            self.unit.byte_at(takes - 1)
         } else {
             0
         }
@@ -236,7 +228,7 @@ impl Latches {
         bus: &Bus,
     )
         requires latches { AreLatches self.old }
-        requires there { control.now.demand ≤ length self.old.unit.bytes }
+        requires there { control.now.lines.takes ≤ length self.old.unit.bytes }
         requires value { value ≡ result_of (statement_of Mic2 control.now.word).part (micro_in self.old) }
         requires c { c ≡ shifted (statement_of Mic2 control.now.word).part.shift value }
         requires at { let s = statement_of Mic2 control.now.word in
@@ -251,16 +243,16 @@ impl Latches {
         statement_law(Machine::Mic2);
         let destinations = bits::destinations(Machine::Mic2, control.word);
         let jam = bits::jam(Machine::Mic2, control.word);
-        let dispatched = self.dispatched(jam, control.operands);
-        load(destinations, control, c, self.word, &mut self.places);
+        let dispatched = self.dispatched(jam, control.lines.takes);
         go(
             is_named(destinations, PC),
-            self.places[PC as usize],
-            control.demand,
+            c,
+            control.lines.takes,
             at,
             bus,
             &mut self.unit,
         );
+        load(destinations, control, c, self.word, &mut self.places);
         self.mpc = next_address(control.lines.addr, jam, value, dispatched);
         self.word = word;
         self.begins = is_first(jam, control.lines.addr);

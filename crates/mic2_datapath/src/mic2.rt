@@ -103,7 +103,7 @@ impl Clocked for Mic2 {
     fn drive(&mut self) -> Drive {
         word_law(Machine::Mic2);
         statement_law(Machine::Mic2);
-        let stalled = self.latches.unit.have() < self.control.demand;
+        let stalled = self.latches.unit.have() < self.control.lines.takes;
         self.stalled = stalled;
         if stalled {
             self.stage = Stage::Compute;
@@ -113,7 +113,7 @@ impl Clocked for Mic2 {
                 stalled: true,
             };
         }
-        self.latches.show_front(self.control.operands);
+        self.latches.show_front(self.control.lines.takes);
         let a = self.latches.places[self.control.lines.a as usize];
         let b = self.latches.places[self.control.lines.b as usize];
         self.a = a;
@@ -178,10 +178,14 @@ impl Clocked for Mic2 {
         let (word, value, c) = (self.control.word, self.value, self.c);
         let mem = Mem::of_bits(bits::mem(Machine::Mic2, word));
         let destinations = bits::destinations(Machine::Mic2, word);
-        let ports = self.latches.ports(destinations, c, self.control.demand);
-        let at = self
+        let ports = self
             .latches
-            .will_fetch(is_named(destinations, PC), ports.pc, self.control.demand);
+            .ports(destinations, c, self.control.lines.takes);
+        let at = self.latches.will_fetch(
+            is_named(destinations, PC),
+            ports.pc,
+            self.control.lines.takes,
+        );
         match access(mem, at, &ports, bus, source, sink) {
             Ok(word) => {
                 self.latches.advance(&self.control, value, c, word, at, bus);

@@ -1,8 +1,8 @@
 -- The tables have the count and the sample of every state that can be.
-use Rattle.std.proofs.Common.{◌≡◌, ◌≢◌, ℕ, zero, suc, ◌<◌, ◌≤◌, Bool, true, false, ◌&&◌, eqb, get_or, ⊎_elim, refl, sym, ap, ◌∙◌, arith}
+use Rattle.std.proofs.Common.{◌≡◌, ◌≢◌, ℕ, zero, suc, ◌+◌, ◌*◌, ◌/◌, ◌<◌, ◌≤◌, Bool, true, false, ◌&&◌, eqb, get_or, ⊎_elim, refl, sym, ap, ◌∙◌, arith}
 use Rattle.std.specs.Prelude.{nat_le}
 use Rattle.std.proofs.lemmas.Bool.{and_parts, cases_eq, eqb-true}
-use Rattle.mic2_fetch_unit.specs.declared.next.TheConstants.{COUNTS, SAMPLES}
+use Rattle.mic2_fetch_unit.specs.declared.next.TheConstants.{COUNTS, SAMPLES, START}
 use Rattle.mic2_fetch_unit.specs.Packed.{count_behind, entry_of}
 
 -- a test of each number below n
@@ -69,3 +69,13 @@ pub right_sample : (count skip taken : ℕ) → count ≤ 6 → taken ≤ count 
     sample_at count skip taken ≡ nat_le (count_at count skip taken) 2
 unfolding is_right
 right_sample count skip taken few all small skips = same_is _ _ (and_parts _ _ (right count skip taken few all small skips)).1
+
+pub start_is : (count : ℕ) → count ≤ 6 → get_or START count 0 ≡ count * (count + 1) / 2
+start_is zero h = refl
+start_is (suc zero) h = refl
+start_is (suc (suc zero)) h = refl
+start_is (suc (suc (suc zero))) h = refl
+start_is (suc (suc (suc (suc zero)))) h = refl
+start_is (suc (suc (suc (suc (suc zero))))) h = refl
+start_is (suc (suc (suc (suc (suc (suc zero)))))) h = refl
+start_is (suc (suc (suc (suc (suc (suc (suc count))))))) h = absurd (omega arith)

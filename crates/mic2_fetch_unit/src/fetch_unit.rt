@@ -1,6 +1,6 @@
 //! The queue, its edge and its jump.
 
-ghost use Rattle.std.specs.Prelude.{◌≡◌, ◌+◌, ◌*◌, ◌≤◌, ◌<◌, Some, None, OnOk, OnErr, IfErr, if◌then◌else◌, length, nat_le, slice_index};
+ghost use Rattle.std.specs.Prelude.{◌≡◌, ◌+◌, ◌*◌, ◌≤◌, ◌<◌, ℕ, List, true, Some, None, OnOk, OnErr, IfErr, if◌then◌else◌, length, nat_le, slice_index};
 ghost use Rattle.console_port.specs.Bus.{refused_by};
 ghost use Rattle.mic2_fetch_unit.specs.FetchUnit.{at_start, sampled_at, edge as edge_of, jump as jump_of, edge_refusal, jump_refusal, sample_refusal};
 
@@ -98,6 +98,26 @@ impl FetchUnit {
         self.imar
     }
 
+    /// Whether more than two bytes stay behind an edge that takes so many.
+    #[inline(always)]
+    pub fn is_full(&self, taken: u8) -> bool
+        requires { taken ≤ length self.now.bytes }
+        ensures { result ≡ true → taken + 2 < length self.now.bytes }
+    {
+        self.have() - taken > 2
+    }
+
+    /// The edge that takes so many bytes and leaves more than two. It samples nothing.
+    #[inline(always)]
+    pub fn take(&mut self, taken: u8)
+        requires { taken + 2 < length self.old.bytes }
+        ensures edge { (words : List ℕ) → self.new ≡ edge_of words taken self.old }
+        ensures samples { sampled_at taken self.old ≡ None }
+    {
+        let stay = self.have() - taken;
+        self.queue.leave(taken, stay);
+    }
+
     /// The word address that an edge samples which takes so many bytes; none where it samples none.
     #[inline(always)]
     pub fn will_fetch(&self, taken: u8) -> Option<u32>
@@ -150,7 +170,7 @@ impl FetchUnit {
         let stay = have - taken;
         let full = stay > 2;
         if full {
-            self.queue.leave(taken, stay);
+            self.take(taken);
             return;
         }
         let pending = sampled(at, bus);

@@ -1,6 +1,6 @@
 //! What an edge does to the number of bytes, by tables with an entry for each state that can be.
 
-ghost use Rattle.std.specs.Prelude.{◌≡◌, ◌<◌, ◌≤◌, nat_le};
+ghost use Rattle.std.specs.Prelude.{◌≡◌, ◌<◌, ◌≤◌, ◌+◌, ◌*◌, ◌/◌, nat_le};
 ghost use Rattle.mic2_fetch_unit.specs.Packed.{count_behind, entry_of};
 
 /// How many bytes are there behind an edge, and whether the next word is sampled then.
@@ -80,6 +80,16 @@ const SAMPLES: [bool; 31] = [
     true, // 0 there, 3 skipped
 ];
 
+/// The first entry of each number of bytes, where none is skipped.
+const START: [u8; 7] = [0, 1, 3, 6, 10, 15, 21];
+
+fn start(count: u8) -> u8
+    requires { count ≤ 6 }
+    ensures { result ≡ count * (count + 1) / 2 }
+{
+    START[count as usize]
+}
+
 /// The entry of a state.
 fn entry(count: u8, skip: u8, taken: u8) -> u8
     requires count { count ≤ 6 }
@@ -88,7 +98,7 @@ fn entry(count: u8, skip: u8, taken: u8) -> u8
     ensures { result ≡ entry_of count skip taken }
 {
     if skip == 0 {
-        count * (count + 1) / 2 + taken
+        start(count) + taken
     } else {
         27 + skip
     }

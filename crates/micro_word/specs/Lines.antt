@@ -1,5 +1,5 @@
 -- The control lines of a word: what its fields keep on for a whole cycle, and the places of a datapath that they name.
-use Rattle.std.specs.Prelude.{◌≡◌, ◌≢◌, ℕ, ◌<◌, ◌≤◌, ◌/◌, ◌%◌, ◌^◌, ◌==◌, Bool, true, if◌then◌else◌, Option, Some, None}
+use Rattle.std.specs.Prelude.{◌≡◌, ◌≢◌, ℕ, ◌<◌, ◌≤◌, ◌+◌, ◌/◌, ◌%◌, ◌^◌, ◌==◌, ◌||◌, Bool, true, nat_lt, if◌then◌else◌, Option, Some, None}
 use Rattle.machine_words.specs.declared.machine.Machine.{Machine}
 use Rattle.micro_word.specs.declared.layout.Fields.{Fields}
 use Rattle.micro_word.specs.declared.lines.Lines.{Lines}
@@ -48,6 +48,17 @@ pub record AreSlots (c first second further : ℕ) : Type 0 where
   pub second_slot : IsSlot c second
   pub others : (place : ℕ) → place < 9 → names c place ≡ true → place ≢ first → place ≢ second → further ≤ place
 
+-- how many bytes of Mic-2's queue stand at a place
+abbrev pub bytes_shown : ℕ → ℕ
+bytes_shown place = if place == 9 || place == 10 then 1 else if place == 11 || place == 12 then 2 else 0
+
+-- how many bytes a word takes that names these places: the greater number that is shown there, and one more for a dispatch
+abbrev pub bytes_taken : ℕ → ℕ → ℕ → ℕ
+bytes_taken a b jam =
+    let shown_a = bytes_shown a in
+    let shown_b = bytes_shown b in
+    (if nat_lt shown_a shown_b then shown_b else shown_a) + (if jam == 4 then 1 else 0)
+
 -- the lines of a word with these fields
 pub record AreLines (machine : Machine) (f : Fields) (l : Lines) : Type 0 where
   pub ena : l.ena ≡ on_each_bit (f.gates / 8 % 2 == 1)
@@ -58,3 +69,4 @@ pub record AreLines (machine : Machine) (f : Fields) (l : Lines) : Type 0 where
   pub a_place : l.a < 16
   pub b_place : l.b < 16
   pub slots : AreSlots f.c l.first l.second l.further
+  pub takes : l.takes ≡ bytes_taken l.a l.b f.jam

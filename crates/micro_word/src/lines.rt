@@ -1,6 +1,6 @@
 //! The control lines of a word, decoded before it is clocked.
-ghost use Rattle.std.specs.Prelude.{◌≡◌, ◌<◌, ◌≤◌, ◌==◌, ℕ, true, false};
-ghost use Rattle.micro_word.specs.Lines.{AreLines, AreSlots, IsSlot, names, on_each_bit, place_of, place_on_bus};
+ghost use Rattle.std.specs.Prelude.{◌≡◌, ◌<◌, ◌≤◌, ◌==◌, ℕ, true, false, if◌then◌else◌, nat_lt};
+ghost use Rattle.micro_word.specs.Lines.{AreLines, AreSlots, IsSlot, bytes_shown, bytes_taken, names, on_each_bit, place_of, place_on_bus};
 
 use crate::bus::side_a;
 use crate::layout::Fields;
@@ -29,6 +29,8 @@ pub struct Lines {
     pub second: u8,
     /// The first place at which a third one stands, or 9.
     pub further: u8,
+    /// How many bytes of its queue Mic-2 takes for the word: those of its operands, and one more for a dispatch.
+    pub takes: u8,
 }
 
 impl BusSource {
@@ -114,6 +116,40 @@ fn slot(c: u16, place: u8) -> u8
     if place < 9 { place } else { NOWHERE }
 }
 
+/// How many bytes of the queue stand at a place.
+fn bytes_shown(place: u8) -> u8
+    ensures value { result ≡ bytes_shown place }
+    ensures few { result < 3 }
+{
+    if place == 9 || place == 10 {
+        1
+    } else if place == 11 || place == 12 {
+        2
+    } else {
+        0
+    }
+}
+
+fn greater(a: u8, b: u8) -> u8
+    ensures { result ≡ (if nat_lt a b then b else a) }
+{
+    if a < b { b } else { a }
+}
+
+fn dispatched(jam: u8) -> u8
+    ensures value { result ≡ (if jam == 4 then 1 else 0) }
+    ensures few { result < 2 }
+{
+    if jam == 4 { 1 } else { 0 }
+}
+
+/// How many bytes a word takes that names these places and has these bits.
+fn bytes_taken(a: u8, b: u8, jam: u8) -> u8
+    ensures { result ≡ bytes_taken a b jam }
+{
+    greater(bytes_shown(a), bytes_shown(b)) + dispatched(jam)
+}
+
 impl Lines {
     /// The lines of a word with these fields.
     pub fn of_fields(machine: Machine, f: &Fields) -> Lines
@@ -122,15 +158,18 @@ impl Lines {
         let first = first_named(f.c, 0);
         let second = next_named(f.c, first);
         let further = next_named(f.c, second);
+        let a = place_on_bus(side_a(machine, AluOp::of_gates(f.gates), f.a));
+        let b = place_on_bus(BusSource::of_code(machine, f.b));
         Lines {
             ena: on_each_bit(f.gates / 8 % 2 == 1),
             inva: on_each_bit(f.gates / 2 % 2 == 1),
             addr: f.addr,
-            a: place_on_bus(side_a(machine, AluOp::of_gates(f.gates), f.a)),
-            b: place_on_bus(BusSource::of_code(machine, f.b)),
+            a,
+            b,
             first: slot(f.c, first),
             second: slot(f.c, second),
             further,
+            takes: bytes_taken(a, b, f.jam),
         }
     }
 }

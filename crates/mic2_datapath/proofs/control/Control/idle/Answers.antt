@@ -1,4 +1,8 @@
-use Rattle.std.proofs.Common.{refl}
+use Rattle.std.proofs.Common.{refl, subst, ◌∙◌}
+use Rattle.machine_words.specs.declared.machine.Machine.TheVariants as machines
+use Rattle.micro_word.specs.Layout.{fields_of}
+use Rattle.micro_word.specs.Lines.{AreLines, bytes_taken}
+use Rattle.micro_word.specs.declared.layout.Fields.{Fields}
 use Rattle.micro_word.specs.Canonical.{is_canonical}
 use Rattle.micro_word.specs.Coding.{statement_of}
 use Rattle.mic2_datapath.proofs.control.Control.idle.Goals as goal
@@ -7,10 +11,9 @@ pub invariant_of-result-clause-canonical : goal.invariant_of-result-clause-canon
 unfolding is_canonical statement_of
 invariant_of-result-clause-canonical c = refl
 
-pub invariant_of-result-clause-names : goal.invariant_of-result-clause-names
-unfolding statement_of
-invariant_of-result-clause-names c = refl
-
 pub invariant_of-result-clause-demands : goal.invariant_of-result-clause-demands
 unfolding statement_of
-invariant_of-result-clause-demands c = refl
+invariant_of-result-clause-demands c =
+    let f = fields_of machines.Mic2 0x8000CC in
+    let lines = subst (λ (g : Fields). AreLines machines.Mic2 g c.of_fields-lines.result) c.fields2.ensures c.of_fields-lines.ensures in
+    lines.takes ∙ (λ i. bytes_taken (lines.a i) (lines.b i) f.jam)

@@ -1,16 +1,22 @@
-use Rattle.std.proofs.Common.{◌+◌, IsTrue, ap, subst, ◌∙◌}
+use Rattle.std.proofs.Common.{ℕ, IsTrue, slice_index, ap, sym, subst, ◌∙◌}
 use Rattle.machine_words.specs.declared.machine.Machine.{Machine}
 use Rattle.machine_words.specs.declared.machine.Machine.TheVariants as machines
 use Rattle.micro_word.specs.Canonical.{is_canonical}
 use Rattle.micro_word.specs.Coding.{statement_of}
+use Rattle.micro_word.specs.Layout.{fields_of}
+use Rattle.micro_word.specs.Lines.{AreLines}
 use Rattle.micro_word.specs.declared.layout.Fields.{Fields}
+use Rattle.mic2_datapath.proofs.Demands.{takes_are}
 use Rattle.mic2_datapath.proofs.control.Control.of.Goals as goal
 
 pub invariant_of-result-clause-demands : goal.invariant_of-result-clause-demands
 unfolding statement_of
 invariant_of-result-clause-demands c =
-    let s = statement_of machines.Mic2 c.word-word.result in
-    let canonical = subst (λ (machine : Machine). IsTrue (is_canonical machine c.word-word.result)) c.requires.machine c.word-word.ensures.canonical in
-    let spelled = c.word_law.ensures.spells c.word-word.result canonical in
-    let jam = c.jam.ensures.value ∙ ap (λ (f : Fields). f.jam) spelled.fields in
-    λ i. c.operands_of-operands.ensures.value i + c.dispatched.ensures.value s.next jam i
+    let word = c.word-word.result in
+    let s = statement_of machines.Mic2 word in
+    let canonical = subst (λ (machine : Machine). IsTrue (is_canonical machine word)) c.requires.machine c.word-word.ensures.canonical in
+    let spelled = c.word_law.ensures.spells word canonical in
+    let valid = c.statement_law.ensures.conditions s spelled.valid in
+    let there = subst (λ (machine : Machine). AreLines machine (fields_of machine (slice_index c.args.store.now.words c.args.address)) c.lines-lines.result) c.requires.machine c.lines-lines.ensures in
+    let lines = subst (λ (w : ℕ). AreLines machines.Mic2 (fields_of machines.Mic2 w) c.lines-lines.result) (sym c.word-word.ensures.value) there in
+    lines.takes ∙ takes_are s _ _ _ valid lines.a lines.b (ap (λ (f : Fields). f.jam) spelled.fields)

@@ -1,4 +1,4 @@
-use Rattle.std.proofs.Common.{◌≡◌, ℕ, ap, sym, ◌∙◌}
+use Rattle.std.proofs.Common.{◌≡◌, ℕ, Bool, true, ap, sym, subst, ◌∙◌, ◌≤◌, if◌then◌else◌}
 use Rattle.machine_words.specs.declared.machine.Machine.TheVariants as machines
 use Rattle.micro_word.specs.Coding.{statement_of}
 use Rattle.micro_word.specs.Lines.{names}
@@ -6,10 +6,19 @@ use Rattle.micro_word.specs.Operation.{shifted}
 use Rattle.micro_word.specs.declared.layout.Fields.{Fields}
 use Rattle.datapath.specs.Places.{registers_at}
 use Rattle.datapath.specs.Registers.{loaded}
-use Rattle.datapath.specs.Next.{target}
-use Rattle.mic2_datapath.specs.Microstep.{advanced, byte_at, registers_in, result_of, settled, unit_after, unit_samples}
+use Rattle.mic2_datapath.specs.Microstep.{advanced, demand, jumps, operand_bytes, registers_in, result_of, settled, unit_after, unit_samples}
 use Rattle.mic2_datapath.specs.Latches.{micro_in}
+use Rattle.mic2_datapath.proofs.Demands.{dispatch_takes, same_sample, same_unit}
 use Rattle.mic2_datapath.proofs.latches.Latches.advance.Goals as goal
+
+pub dispatched-dispatched-requires-clause-some : goal.dispatched-dispatched-requires-clause-some
+unfolding statement_of
+dispatched-dispatched-requires-clause-some c =
+    let control = c.args.control.now in
+    let s = statement_of machines.Mic2 control.word in
+    let spelled = c.word_law.ensures.spells control.word control.canonical in
+    let jam = c.jam-jam.ensures.value ∙ ap (λ (f : Fields). f.jam) spelled.fields in
+    λ is. subst (λ (n : ℕ). 1 ≤ n) (sym control.demands) (dispatch_takes s.next (operand_bytes s.part) (sym jam ∙ is))
 
 pub go-requires-clause-at : goal.go-requires-clause-at
 unfolding statement_of
@@ -18,11 +27,11 @@ go-requires-clause-at c =
     let s = statement_of machines.Mic2 control.word in
     let m = micro_in c.args.self.now in
     let v : c.args.c ≡ shifted s.part.shift (result_of s.part m) = c.requires.c ∙ ap (λ (x : ℕ). shifted s.part.shift x) c.requires.value in
-    let became : registers_at c.load.new.places ≡ settled s m =
-    c.load.ensures.registers
-    ∙ (λ i. loaded (c.destinations-destinations.ensures.value i) (v i) m.word (record (registers_in m) { pc = advanced (control.demands i) m.pc })) in
-    let jump = c.is_named.ensures ∙ ap (λ (d : ℕ). names d 2) c.destinations-destinations.ensures.value in
-    c.requires.at ∙ sym (λ i. unit_samples (jump i) (became i).pc (control.demands i) m.unit)
+    let jump : c.is_named.result ≡ jumps s.part = c.is_named.ensures ∙ ap (λ (d : ℕ). names d 2) c.destinations-destinations.ensures.value in
+    let there = λ (is : jumps s.part ≡ true). v ∙ sym (ap (λ (b : Bool). if b then shifted s.part.shift (result_of s.part m) else advanced (demand s) m.pc) is) in
+    c.requires.at
+    ∙ sym (same_sample (jumps s.part) c.args.c (settled s m).pc (demand s) m.unit there)
+    ∙ sym (λ i. unit_samples (jump i) c.args.c (control.demands i) m.unit)
 
 pub returns-clause-micro : goal.returns-clause-micro
 unfolding statement_of
@@ -36,11 +45,15 @@ returns-clause-micro c =
     let became : registers_at c.load.new.places ≡ settled s m =
     c.load.ensures.registers
     ∙ (λ i. loaded (c.destinations-destinations.ensures.value i) (v i) m.word (record (registers_in m) { pc = advanced (control.demands i) m.pc })) in
-    let jump = c.is_named.ensures ∙ ap (λ (d : ℕ). names d 2) c.destinations-destinations.ensures.value in
-    let unit = c.go.ensures ∙ (λ i. unit_after (jump i) c.args.bus.now.words (became i).pc (control.demands i) m.unit) in
+    let jump : c.is_named.result ≡ jumps s.part = c.is_named.ensures ∙ ap (λ (d : ℕ). names d 2) c.destinations-destinations.ensures.value in
+    let there = λ (is : jumps s.part ≡ true). v ∙ sym (ap (λ (b : Bool). if b then shifted s.part.shift (result_of s.part m) else advanced (demand s) m.pc) is) in
+    let unit =
+    c.go.ensures
+    ∙ (λ i. unit_after (jump i) c.args.bus.now.words c.args.c (control.demands i) m.unit)
+    ∙ same_unit (jumps s.part) c.args.bus.now.words c.args.c (settled s m).pc (demand s) m.unit there in
     let addr = control.decoded.addr ∙ ap (λ (f : Fields). f.addr) spelled.fields in
     let jam = c.jam-jam.ensures.value ∙ ap (λ (f : Fields). f.jam) spelled.fields in
-    let dispatched = c.dispatched-dispatched.ensures s.next c.args.value jam ∙ ap (λ (place : ℕ). target s.next c.args.value (byte_at m.unit place)) control.names in
+    let dispatched = c.dispatched-dispatched.ensures s.next c.args.value (operand_bytes s.part) jam control.demands in
     λ i. record {
       mar = (became i).mar;
       mdr = (became i).mdr;

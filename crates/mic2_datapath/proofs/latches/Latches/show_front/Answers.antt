@@ -2,8 +2,8 @@ use Rattle.std.proofs.Common.{slice_index, ap, ◌∙◌, arith}
 use Rattle.machine_words.specs.Arithmetic.{signed_byte}
 use Rattle.mic2_datapath.proofs.latches.Latches.show_front.Goals as goal
 
-pub returns-then-operands-eq2-clause-front : goal.returns-then-operands-eq2-clause-front
-returns-then-operands-eq2-clause-front c =
+pub returns-then-two-clause-front : goal.returns-then-two-clause-front
+returns-then-two-clause-front c =
     let bytes = c.args.self.now.unit.bytes in
     let kept = c.show_pair.ensures.others in
     record {

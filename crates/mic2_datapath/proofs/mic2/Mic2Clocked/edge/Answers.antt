@@ -72,7 +72,7 @@ advance-requires-clause-at g c =
     let m = micro_in old.latches in
     let asked : Asked = record { ports = c.ports-ports.result; mem = c.of_bits-mem.result; at = c.will_fetch-at.result } in
     let is : IsAsked s m asked =
-    is_asked old.control.word m old.stalled old.value old.c c.destinations-destinations.result old.control.demand c.is_named.result c.ports-ports.result c.of_bits-mem.result
+    is_asked old.control.word m old.stalled old.value old.c c.destinations-destinations.result old.control.lines.takes c.is_named.result c.ports-ports.result c.of_bits-mem.result
     c.will_fetch-at.result (old.computed c.requires) c.if-self.false c.destinations-destinations.ensures.value old.control.demands c.is_named.ensures c.ports-ports.ensures
     (c.of_bits-mem.ensures ∙ ap mem_of c.mem.ensures) c.will_fetch-at.ensures.refusal c.will_fetch-at.ensures.value in
     is.its ∙ ap (λ (p : Ports). unit_samples (jumps s.part) p.pc (demand s) m.unit) is.given
@@ -91,7 +91,7 @@ returns-in-Ok-access-clause-ok g c =
     let m = micro_in old.latches in
     let asked : Asked = record { ports = c.ports-ports.result; mem = c.of_bits-mem.result; at = c.will_fetch-at.result } in
     let is : IsAsked s m asked =
-    is_asked old.control.word m old.stalled old.value old.c c.destinations-destinations.result old.control.demand c.is_named.result c.ports-ports.result c.of_bits-mem.result
+    is_asked old.control.word m old.stalled old.value old.c c.destinations-destinations.result old.control.lines.takes c.is_named.result c.ports-ports.result c.of_bits-mem.result
     c.will_fetch-at.result (old.computed c.requires) c.if-self.false c.destinations-destinations.ensures.value old.control.demands c.is_named.ensures c.ports-ports.ensures
     (c.of_bits-mem.ensures ∙ ap mem_of c.mem.ensures) c.will_fetch-at.ensures.refusal c.will_fetch-at.ensures.value in
     λ rest fits.
@@ -115,7 +115,7 @@ returns-in-Ok-access-clause-others g c =
     let m = micro_in old.latches in
     let asked : Asked = record { ports = c.ports-ports.result; mem = c.of_bits-mem.result; at = c.will_fetch-at.result } in
     let is : IsAsked s m asked =
-    is_asked old.control.word m old.stalled old.value old.c c.destinations-destinations.result old.control.demand c.is_named.result c.ports-ports.result c.of_bits-mem.result
+    is_asked old.control.word m old.stalled old.value old.c c.destinations-destinations.result old.control.lines.takes c.is_named.result c.ports-ports.result c.of_bits-mem.result
     c.will_fetch-at.result (old.computed c.requires) c.if-self.false c.destinations-destinations.ensures.value old.control.demands c.is_named.ensures c.ports-ports.ensures
     (c.of_bits-mem.ensures ∙ ap mem_of c.mem.ensures) c.will_fetch-at.ensures.refusal c.will_fetch-at.ensures.value in
     let mar = ap (λ (p : Ports). p.mar) is.given ∙ sym (ap (λ (n : Micro). n.mar) c.advance.ensures.micro) in
@@ -129,7 +129,7 @@ returns-in-Ok-access-clause-refusal g c =
     let m = micro_in old.latches in
     let asked : Asked = record { ports = c.ports-ports.result; mem = c.of_bits-mem.result; at = c.will_fetch-at.result } in
     let is : IsAsked s m asked =
-    is_asked old.control.word m old.stalled old.value old.c c.destinations-destinations.result old.control.demand c.is_named.result c.ports-ports.result c.of_bits-mem.result
+    is_asked old.control.word m old.stalled old.value old.c c.destinations-destinations.result old.control.lines.takes c.is_named.result c.ports-ports.result c.of_bits-mem.result
     c.will_fetch-at.result (old.computed c.requires) c.if-self.false c.destinations-destinations.ensures.value old.control.demands c.is_named.ensures c.ports-ports.ensures
     (c.of_bits-mem.ensures ∙ ap mem_of c.mem.ensures) c.will_fetch-at.ensures.refusal c.will_fetch-at.ensures.value in
     λ w e shows refused.
@@ -146,7 +146,7 @@ returns-in-Err-access-clause-refusal g c =
     let m = micro_in old.latches in
     let asked : Asked = record { ports = c.ports-ports.result; mem = c.of_bits-mem.result; at = c.will_fetch-at.result } in
     let is : IsAsked s m asked =
-    is_asked old.control.word m old.stalled old.value old.c c.destinations-destinations.result old.control.demand c.is_named.result c.ports-ports.result c.of_bits-mem.result
+    is_asked old.control.word m old.stalled old.value old.c c.destinations-destinations.result old.control.lines.takes c.is_named.result c.ports-ports.result c.of_bits-mem.result
     c.will_fetch-at.result (old.computed c.requires) c.if-self.false c.destinations-destinations.ensures.value old.control.demands c.is_named.ensures c.ports-ports.ensures
     (c.of_bits-mem.ensures ∙ ap mem_of c.mem.ensures) c.will_fetch-at.ensures.refusal c.will_fetch-at.ensures.value in
     λ w e shows refused.
@@ -162,7 +162,7 @@ returns-in-Err-access-clause-err g c =
     let m = micro_in old.latches in
     let asked : Asked = record { ports = c.ports-ports.result; mem = c.of_bits-mem.result; at = c.will_fetch-at.result } in
     let is : IsAsked s m asked =
-    is_asked old.control.word m old.stalled old.value old.c c.destinations-destinations.result old.control.demand c.is_named.result c.ports-ports.result c.of_bits-mem.result
+    is_asked old.control.word m old.stalled old.value old.c c.destinations-destinations.result old.control.lines.takes c.is_named.result c.ports-ports.result c.of_bits-mem.result
     c.will_fetch-at.result (old.computed c.requires) c.if-self.false c.destinations-destinations.ensures.value old.control.demands c.is_named.ensures c.ports-ports.ensures
     (c.of_bits-mem.ensures ∙ ap mem_of c.mem.ensures) c.will_fetch-at.ensures.refusal c.will_fetch-at.ensures.value in
     let law : AtConsole = record { takes = c.console_law.ensures.takes; gives = c.console_law.ensures.gives } in

@@ -1,25 +1,18 @@
-use Rattle.std.proofs.Common.{◌≡◌, ℕ, ◌+◌, ◌<◌, ◌++◌, Some, None, drop, length, slice_index, sym, ap, subst, ◌∙◌, arith}
+use Rattle.std.proofs.Common.{◌≡◌, ℕ, ◌++◌, Some, None, drop, slice_index, sym, ap, ◌∙◌}
 use Rattle.std.specs.Option.{option_map}
 use Rattle.machine_words.specs.Arithmetic.{wrap, next}
-use Rattle.mic2_fetch_unit.specs.FetchUnit.{IsUnit, Prefetch, bytes_of_word}
-use Rattle.mic2_fetch_unit.proofs.Units.{edge_full, edge_none, edge_some, full_pending}
+use Rattle.mic2_fetch_unit.specs.FetchUnit.{Prefetch, bytes_of_word}
+use Rattle.mic2_fetch_unit.proofs.Units.{edge_none, edge_some}
 use Rattle.mic2_fetch_unit.proofs.fetch_unit.FetchUnit.go_on_from.Goals as goal
 
 pub returns-then-full : goal.returns-then-full
-returns-then-full c =
-    let u : Prefetch = c.args.self.now in
-    let is_unit : IsUnit u = subst IsUnit c.self.view_is c.self.invariant in
-    let more : c.args.taken + 2 < length u.bytes = omega (arith, c.if-full.true, c.have-have.ensures.value) in
-    let bytes : c.leave.new.self ≡ drop c.args.taken u.bytes = c.leave.ensures ∙ ap (λ (v : Prefetch). drop c.args.taken v.bytes) c.self.view_is in
-    let none : c.self.inside.pending ≡ None = ap (λ (v : Prefetch). v.pending) c.self.view_is ∙ full_pending u is_unit (omega (arith, more)) in
-    (λ i. record { bytes = bytes i; imar = (c.self.view_is i).imar; skip = (c.self.view_is i).skip; pending = none i })
-    ∙ sym (edge_full c.args.bus.now.words c.args.taken u is_unit more)
+returns-then-full c = c.take.ensures.edge c.args.bus.now.words
 
 pub returns-in-None : goal.returns-in-None
 returns-in-None c =
     let u : Prefetch = c.args.self.now in
     let is : u.pending ≡ None = ap (λ (v : Prefetch). v.pending) (sym c.self.view_is) ∙ c.in-None.is in
-    let bytes : c.leave-in-None.new.self ≡ drop c.args.taken u.bytes = c.leave-in-None.ensures ∙ ap (λ (v : Prefetch). drop c.args.taken v.bytes) c.self.view_is in
+    let bytes : c.leave.new.self ≡ drop c.args.taken u.bytes = c.leave.ensures ∙ ap (λ (v : Prefetch). drop c.args.taken v.bytes) c.self.view_is in
     let pending = c.sampled-pending.ensures ∙ ap (option_map (λ (at : ℕ). slice_index c.args.bus.now.words at)) c.requires.at in
     (λ i. record { bytes = bytes i; imar = (c.self.view_is i).imar; skip = (c.self.view_is i).skip; pending = pending i })
     ∙ sym (edge_none c.args.bus.now.words c.args.taken u is)
