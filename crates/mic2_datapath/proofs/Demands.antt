@@ -132,6 +132,9 @@ dispatched_last (nexts.Dispatch high) value x takes operands bytes h takes_is is
 dispatched_last (nexts.Branch tests.N low) value x takes operands bytes h takes_is is = absurd (cc)
 dispatched_last (nexts.Branch tests.Z low) value x takes operands bytes h takes_is is = absurd (cc)
 
+pub are_there : (have demand takes : ℕ) → nat_lt have demand ≡ false → takes ≡ demand → takes ≤ have
+are_there have demand takes h is = let few : demand ≤ have = grind (arith, nat_tests) in omega (arith, few, is)
+
 pub within : (n operands more takes : ℕ) → n ≤ operands → takes ≡ operands + more → n ≤ takes
 within n operands more takes h is = omega arith
 

@@ -1,5 +1,5 @@
 -- What is asked of the bus for a statement, with its accesses, is its microstep or its refusal.
-use Rattle.std.proofs.Common.{◌≡◌, ℕ, ◌%◌, ◌≤◌, ◌==◌, ◌&&◌, Bool, true, false, IsTrue, List, [], ◌∷◌, ◌++◌, drop, Option, Some, None, Result, Err, length, inl, inr, refl, sym, ap, subst, ◌∙◌}
+use Rattle.std.proofs.Common.{◌≡◌, ℕ, ◌%◌, ◌≤◌, ◌==◌, ◌&&◌, Bool, true, false, if◌then◌else◌, IsTrue, List, [], ◌∷◌, ◌++◌, drop, Option, Some, None, Result, Err, length, inl, inr, refl, sym, ap, subst, ◌∙◌}
 use Rattle.console_port.specs.World.{World, Refusal, StackLimit, OutOfMap, fault_of, console_at}
 use Rattle.console_port.specs.Bus.{refused_by}
 use Rattle.console_port.specs.Console.{IsFault}
@@ -18,7 +18,8 @@ use Rattle.datapath.specs.Memory.{first_refusal, memory_refusal, word_under_way,
 use Rattle.datapath.specs.Next.{target}
 use Rattle.datapath.specs.Registers.{loaded, ports_given}
 use Rattle.datapath.specs.declared.ports.Ports.{Ports}
-use Rattle.mic2_fetch_unit.specs.FetchUnit.{edge_refusal, sample_refusal}
+use Rattle.mic2_fetch_unit.specs.FetchUnit.{Prefetch, edge_refusal, sample_refusal}
+use Rattle.mic2_datapath.proofs.Demands.{same_sample, same_unit}
 use Rattle.mic2_datapath.specs.Microstep.{advanced, byte_at, clock, demand, is_stalled, is_to_instruction, jumps, microstep, moved, operand_bytes, refusal, registers_in, result_of, settled, stalled, step_if, unit_after, unit_refusal, unit_samples, world_after}
 use Rattle.mic2_datapath.specs.Latches.{HasComputed}
 use Rattle.mic2_datapath.specs.Mic2.{mic2_meaning, step_of_word}
@@ -56,6 +57,39 @@ is_asked word m stalled value c dests taken jump ports mem at computed goes dest
       memory = mem_is;
       samples = λ n. samples n ∙ (λ i. unit_refusal (jump i) n ports.pc (taken_is i) m.unit);
       its = its ∙ (λ i. unit_samples (jump i) ports.pc (taken_is i) m.unit);
+    }
+
+-- what the fetch unit samples, by the bits of the word and what is on the C bus
+pub sampled_there : (s : Placed) (m : Micro) (c taken : ℕ) (named : Bool) → named ≡ jumps s.part → taken ≡ demand s → c ≡ shifted s.part.shift (result_of s.part m) →
+    unit_samples named c taken m.unit ≡ unit_samples (jumps s.part) (settled s m).pc (demand s) m.unit
+sampled_there s m c taken named named_is taken_is c_is =
+    let there = λ (is : jumps s.part ≡ true). c_is ∙ sym (ap (λ (b : Bool). if b then shifted s.part.shift (result_of s.part m) else advanced (demand s) m.pc) is) in
+    (λ i. unit_samples (named_is i) c (taken_is i) m.unit) ∙ same_sample (jumps s.part) c (settled s m).pc (demand s) m.unit there
+
+-- and where it stands then
+pub unit_there : (s : Placed) (m : Micro) (words : List ℕ) (c taken : ℕ) (named : Bool) → named ≡ jumps s.part → taken ≡ demand s → c ≡ shifted s.part.shift (result_of s.part m) →
+    unit_after named words c taken m.unit ≡ unit_after (jumps s.part) words (settled s m).pc (demand s) m.unit
+unit_there s m words c taken named named_is taken_is c_is =
+    let there = λ (is : jumps s.part ≡ true). c_is ∙ sym (ap (λ (b : Bool). if b then shifted s.part.shift (result_of s.part m) else advanced (demand s) m.pc) is) in
+    (λ i. unit_after (named_is i) words c (taken_is i) m.unit) ∙ same_unit (jumps s.part) words c (settled s m).pc (demand s) m.unit there
+
+refused_there : (j : Bool) (n pc taken : ℕ) (u : Prefetch) → sample_refusal n (unit_samples j pc taken u) ≡ unit_refusal j n pc taken u
+unfolding edge_refusal
+refused_there true n pc taken u = refl
+refused_there false n pc taken u = refl
+
+-- what a cycle asks that accesses nothing
+abbrev pub asked_alone : Placed → Micro → Asked
+asked_alone s m = record { ports = ports_given (settled s m); mem = mems.None; at = unit_samples (jumps s.part) (settled s m).pc (demand s) m.unit }
+
+pub is_alone : (s : Placed) (m : Micro) → is_stalled s m ≡ false → mems.None ≡ s.part.mem → IsAsked s m (asked_alone s m)
+is_alone s m goes none =
+    record {
+      goes = goes;
+      given = refl;
+      memory = none;
+      samples = λ n. refused_there (jumps s.part) n (settled s m).pc (demand s) m.unit;
+      its = refl;
     }
 
 abbrev pub refusal_on : ℕ → Asked → Option Refusal

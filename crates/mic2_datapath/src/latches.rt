@@ -20,7 +20,7 @@ use crate::control::{Control, JMPC};
 use console_port::{Bus, BusFault};
 use datapath::{Places, Ports, arrived, next_address, port, settle, sign_extended};
 use mic_clock::Start;
-use mic2_fetch_unit::FetchUnit;
+use mic2_fetch_unit::{FetchUnit, check_sample};
 use micro_word::{Machine, bits, is_named, statement_law, word_law};
 
 /// The places of the registers that the memory's ports are given, and of the front of the queue in its four forms.
@@ -256,5 +256,69 @@ impl Latches {
         self.mpc = next_address(control.lines.addr, jam, value, dispatched);
         self.word = word;
         self.begins = is_first(jam, control.lines.addr);
+    }
+    /// The same in a cycle without an access, where the word address is tested here. An Err leaves all.
+    #[inline(always)]
+    fn advance_sampling(
+        &mut self,
+        control: &Control,
+        value: u32,
+        c: u32,
+        at: Option<u32>,
+        bus: &Bus,
+    ) -> Result<(), BusFault>
+        requires latches { AreLatches self.old }
+        requires there { control.now.lines.takes ≤ length self.old.unit.bytes }
+        requires value { value ≡ result_of (statement_of Mic2 control.now.word).part (micro_in self.old) }
+        requires c { c ≡ shifted (statement_of Mic2 control.now.word).part.shift value }
+        requires at { let s = statement_of Mic2 control.now.word in
+            at ≡ unit_samples (jumps s.part) (settled s (micro_in self.old)).pc (demand s) self.old.unit }
+        ensures latches { AreLatches self.new }
+        ensures ok { OnOk result (let s = statement_of Mic2 control.now.word in let m = micro_in self.old in
+            micro_in self.new ≡ moved (settled s m) (target s.next value (byte_at m.unit (operand_bytes s.part))) None
+            (unit_after (jumps s.part) bus.now.words (settled s m).pc (demand s) m.unit) (is_to_instruction s.next)) }
+        ensures allowed { OnOk result (sample_refusal (length bus.now.words) at ≡ None) }
+        ensures err { IfErr result (λ e. refused_by (sample_refusal (length bus.now.words) at) ≡ Some e) }
+        ensures state { OnErr result (micro_in self.new ≡ micro_in self.old) }
+    {
+        check_sample(at, bus)?;
+        self.advance(control, value, c, None, at, bus);
+        Ok(())
+    }
+
+    /// The edge of a cycle that does not stall and accesses nothing. An Err leaves all.
+    #[inline(always)]
+    pub fn advance_alone(
+        &mut self,
+        control: &Control,
+        value: u32,
+        c: u32,
+        bus: &Bus,
+    ) -> Result<(), BusFault>
+        requires latches { AreLatches self.old }
+        requires there { control.now.lines.takes ≤ length self.old.unit.bytes }
+        requires value { value ≡ result_of (statement_of Mic2 control.now.word).part (micro_in self.old) }
+        requires c { c ≡ shifted (statement_of Mic2 control.now.word).part.shift value }
+        ensures latches { AreLatches self.new }
+        ensures ok { OnOk result (let s = statement_of Mic2 control.now.word in let m = micro_in self.old in
+            micro_in self.new ≡ moved (settled s m) (target s.next value (byte_at m.unit (operand_bytes s.part))) None
+            (unit_after (jumps s.part) bus.now.words (settled s m).pc (demand s) m.unit) (is_to_instruction s.next)) }
+        ensures allowed { OnOk result (let s = statement_of Mic2 control.now.word in let m = micro_in self.old in
+            sample_refusal (length bus.now.words) (unit_samples (jumps s.part) (settled s m).pc (demand s) m.unit) ≡ None) }
+        ensures err { IfErr result (λ e. let s = statement_of Mic2 control.now.word in let m = micro_in self.old in
+            refused_by (sample_refusal (length bus.now.words) (unit_samples (jumps s.part) (settled s m).pc (demand s) m.unit)) ≡ Some e) }
+        ensures state { OnErr result (micro_in self.new ≡ micro_in self.old) }
+    {
+        let jumps = is_named(bits::destinations(Machine::Mic2, control.word), PC);
+        if jumps {
+            return self.advance_sampling(control, value, c, Some(c / 4), bus);
+        }
+        let full = self.unit.is_full(control.lines.takes);
+        if full {
+            self.advance(control, value, c, None, None, bus);
+            return Ok(());
+        }
+        let at = self.unit.will_fetch(control.lines.takes);
+        self.advance_sampling(control, value, c, at, bus)
     }
 }

@@ -1,8 +1,9 @@
 //! The machine: its four calls, which are the book's subcycles.
 
-ghost use Rattle.std.specs.Prelude.{◌≡◌, refl};
+ghost use Rattle.std.specs.Prelude.{◌≡◌, true, refl};
 ghost use Rattle.machine_words.specs.declared.machine.Machine.TheVariants.{Mic2 as Mic2Machine};
-ghost use Rattle.micro_word.specs.Coding.{statement_of};
+ghost use Rattle.micro_word.specs.Coding.{mem_of, statement_of};
+ghost use Rattle.micro_word.specs.Layout.{fields_of};
 ghost use Rattle.mic_clock.specs.Meaning.{Driven, AtEdge};
 ghost use Rattle.datapath.specs.Stage.{phase_of};
 ghost use Rattle.mic2_datapath.specs.Latches.{AreLatches, HasDriven, HasComputed, micro_in};
@@ -36,6 +37,13 @@ pub struct Mic2 {
     ghost kept: { AreLatches latches },
     ghost drove: { phase_of stage ≡ Driven → HasDriven (statement_of Mic2Machine control.word) (micro_in latches) stalled a b },
     ghost computed: { phase_of stage ≡ AtEdge → HasComputed (statement_of Mic2Machine control.word) (micro_in latches) stalled value c },
+}
+
+/// Whether a word accesses nothing.
+fn is_quiet(word: u64) -> bool
+    ensures { result ≡ true → mem_of (fields_of Mic2Machine word).mem ≡ Mem.None }
+{
+    bits::mem(Machine::Mic2, word) == 0
 }
 
 impl Mic2 {
@@ -176,6 +184,13 @@ impl Clocked for Mic2 {
         }
         // Loaded before an access, behind which they would be loaded again.
         let (word, value, c) = (self.control.word, self.value, self.c);
+        // Most words access nothing.
+        if is_quiet(word) {
+            return match self.latches.advance_alone(&self.control, value, c, bus) {
+                Ok(()) => Ok(()),
+                Err(fault) => Err(fault),
+            };
+        }
         let mem = Mem::of_bits(bits::mem(Machine::Mic2, word));
         let destinations = bits::destinations(Machine::Mic2, word);
         let ports = self

@@ -98,21 +98,23 @@ impl FetchUnit {
         self.imar
     }
 
-    /// Whether more than two bytes stay behind an edge that takes so many.
+    /// Whether more than two bytes stay behind an edge that takes so many. It samples nothing then.
     #[inline(always)]
     pub fn is_full(&self, taken: u8) -> bool
         requires { taken ≤ length self.now.bytes }
-        ensures { result ≡ true → taken + 2 < length self.now.bytes }
+        ensures more { result ≡ true → taken + 2 < length self.now.bytes }
+        ensures samples { result ≡ true → sampled_at taken self.now ≡ None }
     {
-        self.have() - taken > 2
+        let have = self.queue.count();
+        let full = have - taken > 2;
+        full
     }
 
-    /// The edge that takes so many bytes and leaves more than two. It samples nothing.
+    /// The edge that takes so many bytes and leaves more than two.
     #[inline(always)]
     pub fn take(&mut self, taken: u8)
         requires { taken + 2 < length self.old.bytes }
-        ensures edge { (words : List ℕ) → self.new ≡ edge_of words taken self.old }
-        ensures samples { sampled_at taken self.old ≡ None }
+        ensures { (words : List ℕ) → self.new ≡ edge_of words taken self.old }
     {
         let stay = self.have() - taken;
         self.queue.leave(taken, stay);

@@ -1,4 +1,4 @@
-use Rattle.std.proofs.Common.{◌≡◌, ℕ, Bool, true, ap, sym, subst, ◌∙◌, ◌≤◌, if◌then◌else◌}
+use Rattle.std.proofs.Common.{◌≡◌, ℕ, ap, sym, subst, ◌∙◌, ◌≤◌}
 use Rattle.machine_words.specs.declared.machine.Machine.TheVariants as machines
 use Rattle.micro_word.specs.Coding.{statement_of}
 use Rattle.micro_word.specs.Lines.{names}
@@ -6,9 +6,10 @@ use Rattle.micro_word.specs.Operation.{shifted}
 use Rattle.micro_word.specs.declared.layout.Fields.{Fields}
 use Rattle.datapath.specs.Places.{registers_at}
 use Rattle.datapath.specs.Registers.{loaded}
-use Rattle.mic2_datapath.specs.Microstep.{advanced, demand, jumps, operand_bytes, registers_in, result_of, settled, unit_after, unit_samples}
+use Rattle.mic2_datapath.specs.Microstep.{advanced, jumps, operand_bytes, registers_in, result_of, settled}
 use Rattle.mic2_datapath.specs.Latches.{micro_in}
-use Rattle.mic2_datapath.proofs.Demands.{dispatch_takes, same_sample, same_unit}
+use Rattle.mic2_datapath.proofs.Demands.{dispatch_takes}
+use Rattle.mic2_datapath.proofs.Steps.{sampled_there, unit_there}
 use Rattle.mic2_datapath.proofs.latches.Latches.advance.Goals as goal
 
 pub dispatched-dispatched-requires-clause-some : goal.dispatched-dispatched-requires-clause-some
@@ -28,10 +29,7 @@ go-requires-clause-at c =
     let m = micro_in c.args.self.now in
     let v : c.args.c ≡ shifted s.part.shift (result_of s.part m) = c.requires.c ∙ ap (λ (x : ℕ). shifted s.part.shift x) c.requires.value in
     let jump : c.is_named.result ≡ jumps s.part = c.is_named.ensures ∙ ap (λ (d : ℕ). names d 2) c.destinations-destinations.ensures.value in
-    let there = λ (is : jumps s.part ≡ true). v ∙ sym (ap (λ (b : Bool). if b then shifted s.part.shift (result_of s.part m) else advanced (demand s) m.pc) is) in
-    c.requires.at
-    ∙ sym (same_sample (jumps s.part) c.args.c (settled s m).pc (demand s) m.unit there)
-    ∙ sym (λ i. unit_samples (jump i) c.args.c (control.demands i) m.unit)
+    c.requires.at ∙ sym (sampled_there s m c.args.c control.lines.takes c.is_named.result jump control.demands v)
 
 pub returns-clause-micro : goal.returns-clause-micro
 unfolding statement_of
@@ -46,11 +44,7 @@ returns-clause-micro c =
     c.load.ensures.registers
     ∙ (λ i. loaded (c.destinations-destinations.ensures.value i) (v i) m.word (record (registers_in m) { pc = advanced (control.demands i) m.pc })) in
     let jump : c.is_named.result ≡ jumps s.part = c.is_named.ensures ∙ ap (λ (d : ℕ). names d 2) c.destinations-destinations.ensures.value in
-    let there = λ (is : jumps s.part ≡ true). v ∙ sym (ap (λ (b : Bool). if b then shifted s.part.shift (result_of s.part m) else advanced (demand s) m.pc) is) in
-    let unit =
-    c.go.ensures
-    ∙ (λ i. unit_after (jump i) c.args.bus.now.words c.args.c (control.demands i) m.unit)
-    ∙ same_unit (jumps s.part) c.args.bus.now.words c.args.c (settled s m).pc (demand s) m.unit there in
+    let unit = c.go.ensures ∙ unit_there s m c.args.bus.now.words c.args.c control.lines.takes c.is_named.result jump control.demands v in
     let addr = control.decoded.addr ∙ ap (λ (f : Fields). f.addr) spelled.fields in
     let jam = c.jam-jam.ensures.value ∙ ap (λ (f : Fields). f.jam) spelled.fields in
     let dispatched = c.dispatched-dispatched.ensures s.next c.args.value (operand_bytes s.part) jam control.demands in

@@ -1,6 +1,8 @@
-use Rattle.std.proofs.Common.{◌≡◌, length, List, ℕ, true, Err, refl, sym, ◌∙◌, ap, subst}
+use Rattle.std.proofs.Common.{◌≡◌, length, List, ℕ, true, None, Err, refl, sym, ◌∙◌, ap, subst, arith}
 use Rattle.console_port.specs.Bus.{refused_by, ChangesOnly}
 use Rattle.console_port.specs.Console.{IsFault}
+use Rattle.console_port.specs.declared.fault.BusFault.TheVariants as faults
+use Rattle.mic2_datapath.proofs.Demands.{are_there}
 use Rattle.micro_word.specs.Coding.{statement_of, mem_of}
 use Rattle.machine_words.specs.declared.machine.Machine.TheVariants as machines
 use Rattle.datapath.specs.declared.ports.Ports.{Ports}
@@ -10,7 +12,7 @@ use Rattle.mic2_datapath.specs.Micro.{Micro}
 use Rattle.mic2_datapath.specs.Microstep.{demand, is_stalled, jumps, unit_samples}
 use Rattle.mic2_datapath.specs.Mic2.{step_of_word}
 use Rattle.mic2_datapath.specs.Latches.{micro_in}
-use Rattle.mic2_datapath.proofs.Steps.{Asked, AtConsole, IsAsked, is_asked, is_done, moved_on, not_refused, reads_console, refusal_on, refused_no_fault, second_clear, stall_done, stall_refusal, step_refusal, uses_console}
+use Rattle.mic2_datapath.proofs.Steps.{Asked, AtConsole, IsAsked, asked_alone, is_alone, is_asked, is_done, moved_on, not_refused, reads_console, refusal_on, refused_no_fault, second_clear, stall_done, stall_refusal, step_refusal, uses_console}
 use Rattle.mic2_datapath.proofs.mic2.Mic2Clocked.edge.Goals as goal
 
 pub returns-in-Ok-clause-ok : goal.returns-in-Ok-clause-ok
@@ -64,6 +66,106 @@ returns-in-Err-clause-err g c =
       reads = λ e w shows. absurd (never (subst IsFault (sym e) tt));
       uses = λ e w shows. absurd (never (subst IsFault (sym e) tt));
     }
+
+-- a cycle that accesses nothing
+
+pub returns-in-Ok-advance_alone-clause-ok : goal.returns-in-Ok-advance_alone-clause-ok
+unfolding step_of_word statement_of
+returns-in-Ok-advance_alone-clause-ok g c =
+    let old = c.args.self.now in
+    let s = statement_of machines.Mic2 old.control.word in
+    let m = micro_in old.latches in
+    let is : IsAsked s m (asked_alone s m) =
+    is_alone s m (sym (old.computed c.requires).waits ∙ c.if-self.false) (sym (c.is_quiet.ensures c.if-is_quiet.true)) in
+    λ rest fits. (
+      rest,
+      fits,
+      λ w shows same. (
+        w,
+        is_done s m (asked_alone s m) is w w _ (ap (λ (ws : List ℕ). length ws) shows.words) None _ c.in-Ok-advance_alone.ensures.allowed (record { its_word = refl; after = refl; words = refl }) shows.words _
+            (c.in-Ok-advance_alone.ensures.ok ∙ ap (λ (x : ℕ). moved_on s m x c.args.bus.now.words None) ((old.computed c.requires).alu c.if-self.false)),
+        shows,
+        same,
+      ),
+    )
+
+pub returns-in-Ok-advance_alone-clause-refusal : goal.returns-in-Ok-advance_alone-clause-refusal
+unfolding step_of_word statement_of
+returns-in-Ok-advance_alone-clause-refusal g c =
+    let old = c.args.self.now in
+    let s = statement_of machines.Mic2 old.control.word in
+    let m = micro_in old.latches in
+    let is : IsAsked s m (asked_alone s m) =
+    is_alone s m (sym (old.computed c.requires).waits ∙ c.if-self.false) (sym (c.is_quiet.ensures c.if-is_quiet.true)) in
+    λ w e shows refused.
+    let why = step_refusal s m (asked_alone s m) is _ w (ap (λ (ws : List ℕ). length ws) shows.words) in
+    let clear = ap refused_by c.in-Ok-advance_alone.ensures.allowed in
+    let none = sym refused ∙ why ∙ clear in
+    absurd (cc)
+
+pub returns-in-Err-advance_alone-clause-refusal : goal.returns-in-Err-advance_alone-clause-refusal
+unfolding step_of_word statement_of
+returns-in-Err-advance_alone-clause-refusal g c =
+    let old = c.args.self.now in
+    let s = statement_of machines.Mic2 old.control.word in
+    let m = micro_in old.latches in
+    let is : IsAsked s m (asked_alone s m) =
+    is_alone s m (sym (old.computed c.requires).waits ∙ c.if-self.false) (sym (c.is_quiet.ensures c.if-is_quiet.true)) in
+    λ w e shows refused.
+    let why = step_refusal s m (asked_alone s m) is _ w (ap (λ (ws : List ℕ). length ws) shows.words) in
+    let same = sym c.in-Err-advance_alone.ensures.err ∙ (sym why ∙ refused) in
+    cc
+
+pub returns-in-Err-advance_alone-clause-err : goal.returns-in-Err-advance_alone-clause-err
+unfolding step_of_word statement_of
+returns-in-Err-advance_alone-clause-err g c =
+    let old = c.args.self.now in
+    let s = statement_of machines.Mic2 old.control.word in
+    let m = micro_in old.latches in
+    let is : IsAsked s m (asked_alone s m) =
+    is_alone s m (sym (old.computed c.requires).waits ∙ c.if-self.false) (sym (c.is_quiet.ensures c.if-is_quiet.true)) in
+    let never = refused_no_fault (refusal_on (length c.args.bus.now.words) (asked_alone s m)) c.in-Err-advance_alone.fault c.in-Err-advance_alone.ensures.err in
+    record {
+      refused = λ no_fault w shows. step_refusal s m (asked_alone s m) is _ w (ap (λ (ws : List ℕ). length ws) shows.words) ∙ c.in-Err-advance_alone.ensures.err;
+      reads = λ e w shows. absurd (never (subst IsFault (sym e) tt));
+      uses = λ e w shows. absurd (never (subst IsFault (sym e) tt));
+    }
+
+pub returns-in-Err-advance_alone-clause-stands : goal.returns-in-Err-advance_alone-clause-stands
+returns-in-Err-advance_alone-clause-stands g c =
+    let never = refused_no_fault _ c.in-Err-advance_alone.fault c.in-Err-advance_alone.ensures.err in
+    record {
+      words = refl;
+      same = λ no_fault w shows. shows;
+      untaken = refl;
+      ended = refl;
+      emptied = λ fault. absurd (never fault);
+      lost = λ e. absurd (never (subst IsFault (sym e) tt));
+    }
+
+pub returns-in-Err-advance_alone-clause-cause : goal.returns-in-Err-advance_alone-clause-cause
+returns-in-Err-advance_alone-clause-cause g c =
+    let never = refused_no_fault _ c.in-Err-advance_alone.fault c.in-Err-advance_alone.ensures.err in
+    record {
+      source_later = omega arith;
+      sink_later = omega arith;
+      read = λ q. absurd (never (subst IsFault (sym (let f : c.in-Err-advance_alone.fault ≡ faults.ReadFault = cc in f)) tt));
+      write = λ q. absurd (never (subst IsFault (sym (let f : c.in-Err-advance_alone.fault ≡ faults.WriteFault = cc in f)) tt));
+      source_same = λ q. refl;
+      sink_same = λ q. refl;
+    }
+
+-- a write or a read
+
+pub will_fetch-at-requires : goal.will_fetch-at-requires
+will_fetch-at-requires g c =
+    let old = c.args.self.now in
+    are_there _ _ _ (sym (old.computed c.requires).waits ∙ c.if-self.false) old.control.demands
+
+pub advance-requires-clause-there : goal.advance-requires-clause-there
+advance-requires-clause-there g c =
+    let old = c.args.self.now in
+    are_there _ _ _ (sym (old.computed c.requires).waits ∙ c.if-self.false) old.control.demands
 
 pub advance-requires-clause-at : goal.advance-requires-clause-at
 advance-requires-clause-at g c =
@@ -177,4 +279,16 @@ returns-in-Err-access-clause-err g c =
       uses = λ e w shows.
           let fault : IsFault c.in-Err-access.fault = subst IsFault (sym e) tt in
           uses_console law old.control.word m asked is _ w (ap (λ (ws : List ℕ). length ws) shows.words) (clear fault) (c.in-Err-access.ensures.behind fault) (c.in-Err-access.ensures.uses (cc));
+    }
+
+pub returns-in-Err-access-clause-cause : goal.returns-in-Err-access-clause-cause
+returns-in-Err-access-clause-cause g c =
+    let h = c.in-Err-access.ensures.cause in
+    record {
+      source_later = h.source_later;
+      sink_later = h.sink_later;
+      read = λ q. h.read (let f : c.in-Err-access.fault ≡ faults.ReadFault = cc in cc);
+      write = λ q. h.write (let f : c.in-Err-access.fault ≡ faults.WriteFault = cc in cc);
+      source_same = λ q. h.source_same (λ e. let f : c.in-Err-access.fault ≡ faults.ReadFault = cc in q (cc));
+      sink_same = λ q. h.sink_same (λ e. let f : c.in-Err-access.fault ≡ faults.WriteFault = cc in q (cc));
     }

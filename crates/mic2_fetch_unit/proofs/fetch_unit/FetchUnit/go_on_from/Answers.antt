@@ -6,7 +6,7 @@ use Rattle.mic2_fetch_unit.proofs.Units.{edge_none, edge_some}
 use Rattle.mic2_fetch_unit.proofs.fetch_unit.FetchUnit.go_on_from.Goals as goal
 
 pub returns-then-full : goal.returns-then-full
-returns-then-full c = c.take.ensures.edge c.args.bus.now.words
+returns-then-full c = c.take.ensures c.args.bus.now.words
 
 pub returns-in-None : goal.returns-in-None
 returns-in-None c =

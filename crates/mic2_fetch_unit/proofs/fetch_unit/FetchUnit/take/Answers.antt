@@ -1,10 +1,10 @@
 use Rattle.std.proofs.Common.{◌≡◌, None, drop, sym, ap, subst, ◌∙◌, arith}
 use Rattle.mic2_fetch_unit.specs.FetchUnit.{IsUnit, Prefetch}
-use Rattle.mic2_fetch_unit.proofs.Units.{edge_full, full_pending, full_samples}
+use Rattle.mic2_fetch_unit.proofs.Units.{edge_full, full_pending}
 use Rattle.mic2_fetch_unit.proofs.fetch_unit.FetchUnit.take.Goals as goal
 
-pub returns-clause-edge : goal.returns-clause-edge
-returns-clause-edge c =
+pub returns : goal.returns
+returns c =
     let u : Prefetch = c.args.self.now in
     let is_unit : IsUnit u = subst IsUnit c.self.view_is c.self.invariant in
     let bytes : c.leave.new.self ≡ drop c.args.taken u.bytes = c.leave.ensures ∙ ap (λ (v : Prefetch). drop c.args.taken v.bytes) c.self.view_is in
@@ -12,6 +12,3 @@ returns-clause-edge c =
     λ words.
     (λ i. record { bytes = bytes i; imar = (c.self.view_is i).imar; skip = (c.self.view_is i).skip; pending = none i })
     ∙ sym (edge_full words c.args.taken u is_unit c.requires)
-
-pub returns-clause-samples : goal.returns-clause-samples
-returns-clause-samples c = full_samples c.args.taken c.args.self.now (subst IsUnit c.self.view_is c.self.invariant) c.requires
