@@ -3,8 +3,10 @@
 #![tactic(auto)]
 
 mod answers;
+mod job;
 mod laws;
 mod run;
+mod soak;
 #[cfg(test)]
 mod tests;
 mod top_call;

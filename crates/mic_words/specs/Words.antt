@@ -15,6 +15,9 @@ use Rattle.mic_words.specs.declared.error.WordsError.{WordsError}
 use Rattle.mic_words.specs.declared.error.WordsError.TheVariants as error
 use Rattle.mic_words.specs.declared.table.CommandName.{CommandName}
 use Rattle.mic_words.specs.declared.table.CommandName.TheVariants as name
+use Rattle.mic_words.specs.declared.request.Job.{Job}
+use Rattle.mic_words.specs.declared.request.Mode.{Mode}
+use Rattle.mic_words.specs.declared.request.Mode.TheVariants as modes
 use Rattle.mic_words.specs.declared.request.Request.{Request}
 use Rattle.mic_words.specs.declared.request.Request.TheVariants as requests
 
@@ -37,17 +40,20 @@ pub data Asked : Type 0 where
   -- a generated program of so many blocks
   Soak : (seed size : ℕ) (machine : Machine) → Asked
 
+abbrev pub asked_run : Job → Mode → Asked
+asked_run job modes.Shipped = Run job.file.now job.machine job.bound job.map
+asked_run job (modes.Own micro) = RunOwn job.file.now job.machine job.bound job.map micro.now
+asked_run job (modes.Trace micro buses) = Trace job.file.now job.machine job.bound job.map (option_map (λ micro. micro.now) micro) buses
+asked_run job (modes.Profile micro) = Profile job.file.now job.machine job.bound job.map (option_map (λ micro. micro.now) micro)
+asked_run job (modes.Debug micro input) =
+    Debug job.file.now job.machine job.bound job.map (option_map (λ micro. micro.now) micro) (option_map (λ input. input.now) input)
+asked_run job modes.Reference = Reference job.file.now job.machine job.bound job.map
+
 abbrev pub asked : Request → Asked
 asked (requests.Assemble source image) = Assemble source.now image.now
 asked (requests.List file map) = ListOf file.now map
 asked (requests.Verify file map) = Verify file.now map
-asked (requests.Run file machine bound map) = Run file.now machine bound map
-asked (requests.RunOwn file machine bound map micro) = RunOwn file.now machine bound map micro.now
-asked (requests.Trace file machine bound map micro buses) = Trace file.now machine bound map (option_map (λ micro. micro.now) micro) buses
-asked (requests.Profile file machine bound map micro) = Profile file.now machine bound map (option_map (λ micro. micro.now) micro)
-asked (requests.Debug file machine bound map micro input) =
-    Debug file.now machine bound map (option_map (λ micro. micro.now) micro) (option_map (λ input. input.now) input)
-asked (requests.Reference file machine bound map) = Reference file.now machine bound map
+asked (requests.Run job mode) = asked_run job mode
 asked (requests.Micro mal store machine) = Micro mal.now store.now machine
 asked (requests.PrintMicro file machine) = PrintMicro (option_map (λ file. file.now) file) machine
 asked (requests.Soak seed size machine) = Soak seed size machine
@@ -60,12 +66,7 @@ HasMap map = IsMap map.stack_end
 abbrev pub HasLimits : Request → Type 0
 HasLimits (requests.List file map) = HasMap map
 HasLimits (requests.Verify file map) = HasMap map
-HasLimits (requests.Run file machine bound map) = (bound ≤ MOST_CYCLES) × HasMap map
-HasLimits (requests.RunOwn file machine bound map micro) = (bound ≤ MOST_CYCLES) × HasMap map
-HasLimits (requests.Trace file machine bound map micro buses) = (bound ≤ MOST_CYCLES) × HasMap map
-HasLimits (requests.Profile file machine bound map micro) = (bound ≤ MOST_CYCLES) × HasMap map
-HasLimits (requests.Debug file machine bound map micro input) = (bound ≤ MOST_CYCLES) × HasMap map
-HasLimits (requests.Reference file machine bound map) = (bound ≤ MOST_CYCLES) × HasMap map
+HasLimits (requests.Run job mode) = (job.bound ≤ MOST_CYCLES) × HasMap job.map
 HasLimits (requests.Soak seed size machine) = size ≤ MOST_BLOCKS
 HasLimits request = Unit {0}
 

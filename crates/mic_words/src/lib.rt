@@ -13,4 +13,4 @@ mod tests;
 pub use error::WordsError;
 pub use options::{DEFAULT_BOUND, MOST_BLOCKS, MOST_CYCLES, MOST_SEED};
 pub use read::read_words;
-pub use request::Request;
+pub use request::{Job, Mode, Request};

@@ -9,7 +9,7 @@ ghost use Rattle.mic_words.specs.Words.{AnswersAs, HasLimits, asked, asked_of, a
 
 use crate::error::WordsError;
 use crate::options::{bound_in, is_true, machine_in, map_in, seed_in, size_in};
-use crate::request::Request;
+use crate::request::{Job, Mode, Request};
 use crate::table::{CommandName, named};
 use crate::taking::take_command;
 use clap::ArgMatches;
@@ -50,12 +50,14 @@ fn run<'a>(matches: &ArgMatches<'a>) -> Option<Request<'a>>
     let machine = machine_in(matches.get_str("machine"))?;
     let bound = bound_in(matches.get_str("bound"))?;
     let map = map_in(matches.get_str("map"))?;
-    Some(Request::Run {
+    let job = Job {
         file,
         machine,
         bound,
         map,
-    })
+    };
+    let mode = Mode::Shipped;
+    Some(Request::Run { job, mode })
 }
 
 fn run_own<'a>(matches: &ArgMatches<'a>) -> Option<Request<'a>>
@@ -67,13 +69,14 @@ fn run_own<'a>(matches: &ArgMatches<'a>) -> Option<Request<'a>>
     let bound = bound_in(matches.get_str("bound"))?;
     let map = map_in(matches.get_str("map"))?;
     let micro = matches.get_str("micro")?;
-    Some(Request::RunOwn {
+    let job = Job {
         file,
         machine,
         bound,
         map,
-        micro,
-    })
+    };
+    let mode = Mode::Own { micro };
+    Some(Request::Run { job, mode })
 }
 
 fn trace<'a>(matches: &ArgMatches<'a>) -> Option<Request<'a>>
@@ -86,14 +89,14 @@ fn trace<'a>(matches: &ArgMatches<'a>) -> Option<Request<'a>>
     let map = map_in(matches.get_str("map"))?;
     let micro = matches.get_str("micro");
     let buses = is_true(matches.get_str("buses"));
-    Some(Request::Trace {
+    let job = Job {
         file,
         machine,
         bound,
         map,
-        micro,
-        buses,
-    })
+    };
+    let mode = Mode::Trace { micro, buses };
+    Some(Request::Run { job, mode })
 }
 
 fn profile<'a>(matches: &ArgMatches<'a>) -> Option<Request<'a>>
@@ -105,13 +108,14 @@ fn profile<'a>(matches: &ArgMatches<'a>) -> Option<Request<'a>>
     let bound = bound_in(matches.get_str("bound"))?;
     let map = map_in(matches.get_str("map"))?;
     let micro = matches.get_str("micro");
-    Some(Request::Profile {
+    let job = Job {
         file,
         machine,
         bound,
         map,
-        micro,
-    })
+    };
+    let mode = Mode::Profile { micro };
+    Some(Request::Run { job, mode })
 }
 
 fn debug<'a>(matches: &ArgMatches<'a>) -> Option<Request<'a>>
@@ -124,14 +128,14 @@ fn debug<'a>(matches: &ArgMatches<'a>) -> Option<Request<'a>>
     let map = map_in(matches.get_str("map"))?;
     let micro = matches.get_str("micro");
     let input = matches.get_str("input");
-    Some(Request::Debug {
+    let job = Job {
         file,
         machine,
         bound,
         map,
-        micro,
-        input,
-    })
+    };
+    let mode = Mode::Debug { micro, input };
+    Some(Request::Run { job, mode })
 }
 
 fn reference<'a>(matches: &ArgMatches<'a>) -> Option<Request<'a>>
@@ -142,12 +146,14 @@ fn reference<'a>(matches: &ArgMatches<'a>) -> Option<Request<'a>>
     let machine = machine_in(matches.get_str("machine"))?;
     let bound = bound_in(matches.get_str("bound"))?;
     let map = map_in(matches.get_str("map"))?;
-    Some(Request::Reference {
+    let job = Job {
         file,
         machine,
         bound,
         map,
-    })
+    };
+    let mode = Mode::Reference;
+    Some(Request::Run { job, mode })
 }
 
 fn micro<'a>(matches: &ArgMatches<'a>) -> Option<Request<'a>>

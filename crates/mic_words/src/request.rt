@@ -3,6 +3,41 @@
 use console_port::MemoryMap;
 use machine_words::Machine;
 
+/// A program that is to be run: on which machine, to which bound, and with which map.
+#[derive(Clone, Copy, Debug, PartialEq, Eq)]
+pub struct Job<'a> {
+    pub file: &'a str,
+    pub machine: Machine,
+    pub bound: u64,
+    pub map: MemoryMap,
+}
+
+/// How a program is run.
+#[derive(Clone, Copy, Debug, PartialEq, Eq)]
+pub enum Mode<'a> {
+    /// By the microprogram that ships.
+    Shipped,
+    /// By a person's own microprogram.
+    Own {
+        micro: &'a str,
+    },
+    /// Without a file of its own the microprogram that ships is clocked.
+    Trace {
+        micro: Option<&'a str>,
+        buses: bool,
+    },
+    Profile {
+        micro: Option<&'a str>,
+    },
+    /// The lines of the session come from the console, the program's input from a file, or there is none.
+    Debug {
+        micro: Option<&'a str>,
+        input: Option<&'a str>,
+    },
+    /// By the definition.
+    Reference,
+}
+
 /// What a command line asks for.
 #[derive(Clone, Copy, Debug, PartialEq, Eq)]
 pub enum Request<'a> {
@@ -19,49 +54,8 @@ pub enum Request<'a> {
         map: MemoryMap,
     },
     Run {
-        file: &'a str,
-        machine: Machine,
-        bound: u64,
-        map: MemoryMap,
-    },
-    /// A run with a person's own microprogram.
-    RunOwn {
-        file: &'a str,
-        machine: Machine,
-        bound: u64,
-        map: MemoryMap,
-        micro: &'a str,
-    },
-    /// Without a file of its own the microprogram that ships is clocked.
-    Trace {
-        file: &'a str,
-        machine: Machine,
-        bound: u64,
-        map: MemoryMap,
-        micro: Option<&'a str>,
-        buses: bool,
-    },
-    Profile {
-        file: &'a str,
-        machine: Machine,
-        bound: u64,
-        map: MemoryMap,
-        micro: Option<&'a str>,
-    },
-    /// The lines of the session come from the console, the program's input from a file, or there is none.
-    Debug {
-        file: &'a str,
-        machine: Machine,
-        bound: u64,
-        map: MemoryMap,
-        micro: Option<&'a str>,
-        input: Option<&'a str>,
-    },
-    Reference {
-        file: &'a str,
-        machine: Machine,
-        bound: u64,
-        map: MemoryMap,
+        job: Job<'a>,
+        mode: Mode<'a>,
     },
     Micro {
         mal: &'a str,

@@ -1,6 +1,6 @@
 //! Lists of words, each with what it asks for.
 
-use crate::{Request, WordsError, read_words};
+use crate::{Job, Mode, Request, WordsError, read_words};
 use console_port::MemoryMap;
 use machine_words::Machine;
 use std::alloc::{AllocError, Global};
@@ -390,6 +390,32 @@ fn map_name(map: MemoryMap) -> &'static str {
     }
 }
 
+/// A run as a line of a table has it.
+fn shown_run(alloc: Global, job: Job<'_>, mode: Mode<'_>) -> Result<String, AllocError> {
+    let file = job.file;
+    let machine = machine_name(job.machine);
+    let bound = job.bound;
+    let map = map_name(job.map);
+    match mode {
+        Mode::Shipped => format!(in alloc; "run {file} {machine} {bound} {map}"),
+        Mode::Own { micro } => format!(in alloc; "run {file} {machine} {bound} {map} {micro}"),
+        Mode::Trace { micro, buses } => {
+            let micro = micro.unwrap_or("-");
+            format!(in alloc; "trace {file} {machine} {bound} {map} {micro} {buses}")
+        }
+        Mode::Profile { micro } => {
+            let micro = micro.unwrap_or("-");
+            format!(in alloc; "profile {file} {machine} {bound} {map} {micro}")
+        }
+        Mode::Debug { micro, input } => {
+            let micro = micro.unwrap_or("-");
+            let input = input.unwrap_or("-");
+            format!(in alloc; "debug {file} {machine} {bound} {map} {micro} {input}")
+        }
+        Mode::Reference => format!(in alloc; "reference {file} {machine} {bound} {map}"),
+    }
+}
+
 /// A request as a line of a table has it.
 fn shown(alloc: Global, request: Request<'_>) -> Result<String, AllocError> {
     match request {
@@ -402,76 +428,7 @@ fn shown(alloc: Global, request: Request<'_>) -> Result<String, AllocError> {
             let map = map_name(map);
             format!(in alloc; "verify {file} {map}")
         }
-        Request::Run {
-            file,
-            machine,
-            bound,
-            map,
-        } => {
-            let machine = machine_name(machine);
-            let map = map_name(map);
-            format!(in alloc; "run {file} {machine} {bound} {map}")
-        }
-        Request::RunOwn {
-            file,
-            machine,
-            bound,
-            map,
-            micro,
-        } => {
-            let machine = machine_name(machine);
-            let map = map_name(map);
-            format!(in alloc; "run {file} {machine} {bound} {map} {micro}")
-        }
-        Request::Trace {
-            file,
-            machine,
-            bound,
-            map,
-            micro,
-            buses,
-        } => {
-            let machine = machine_name(machine);
-            let map = map_name(map);
-            let micro = micro.unwrap_or("-");
-            format!(in alloc; "trace {file} {machine} {bound} {map} {micro} {buses}")
-        }
-        Request::Profile {
-            file,
-            machine,
-            bound,
-            map,
-            micro,
-        } => {
-            let machine = machine_name(machine);
-            let map = map_name(map);
-            let micro = micro.unwrap_or("-");
-            format!(in alloc; "profile {file} {machine} {bound} {map} {micro}")
-        }
-        Request::Debug {
-            file,
-            machine,
-            bound,
-            map,
-            micro,
-            input,
-        } => {
-            let machine = machine_name(machine);
-            let map = map_name(map);
-            let micro = micro.unwrap_or("-");
-            let input = input.unwrap_or("-");
-            format!(in alloc; "debug {file} {machine} {bound} {map} {micro} {input}")
-        }
-        Request::Reference {
-            file,
-            machine,
-            bound,
-            map,
-        } => {
-            let machine = machine_name(machine);
-            let map = map_name(map);
-            format!(in alloc; "reference {file} {machine} {bound} {map}")
-        }
+        Request::Run { job, mode } => shown_run(alloc, job, mode),
         Request::Micro {
             mal,
             store,
