@@ -37,10 +37,11 @@ pub fn end_before<M: Clocked>(machine: &M, counts: &Counts, limit: u64) -> Optio
     ensures room { IfNone result (counts.now.cycles < last_cycles counts.now.boundary + 1024) }
 {
     let mpc = machine.mpc();
-    if mpc == HALT {
-        return Some(End::Halt);
-    }
-    if mpc == ERR {
+    // They stand side by side, so that most cycles make one test for both.
+    if ERR <= mpc && mpc <= HALT {
+        if mpc == HALT {
+            return Some(End::Halt);
+        }
         return Some(End::Err);
     }
     if limit <= counts.cycles {
