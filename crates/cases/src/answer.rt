@@ -2,8 +2,8 @@
 
 use crate::case::{Answer, Case};
 use crate::noted::NotedFiles;
+use cli_call::mic_main;
 use mic_base::{MemSink, MemSource};
-use mic_call::mic_main;
 use std::alloc::{AllocError, Global};
 
 /// The most bytes that `out` and `err` take.

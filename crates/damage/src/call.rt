@@ -1,7 +1,7 @@
 //! A call of `mic` over an image in memory, without input.
 
+use cli_call::mic_main;
 use mic_base::{MemFiles, MemSink, MemSource};
-use mic_call::mic_main;
 use std::alloc::{AllocError, Global};
 
 /// The most bytes that `out` and `err` take.

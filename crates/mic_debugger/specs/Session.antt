@@ -8,7 +8,7 @@ use Rattle.mic_clock.specs.Run.{MicroRun, word_at, turns}
 use Rattle.mic_clock.specs.View.{BoardView}
 use Rattle.mic_clock.specs.Board.{ShowsRun, IsCutByRead}
 use Rattle.mic_clock.specs.declared.end.End.TheVariants as ends
-use Rattle.mic_work.specs.Outside.{GotFront}
+use Rattle.cli_outside.specs.Outside.{GotFront}
 use Rattle.mic_debugger.specs.declared.until.Until.{Until}
 use Rattle.mic_debugger.specs.Book.{Book}
 use Rattle.mic_debugger.specs.Lines.{end_line}

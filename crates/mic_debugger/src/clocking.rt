@@ -11,7 +11,7 @@ ghost use Rattle.mic_debugger.specs.InTime.{InTime};
 ghost use Rattle.mic_debugger.specs.Lines.{end_line};
 ghost use Rattle.mic_debugger.specs.Clocking.{cause_line, comes, counted, first_piece, has_break, has_changed, is_at_boundary, second_piece, turn_text};
 ghost use Rattle.mic_debugger.specs.Session.{HasReadCause, IsBroken, IsClocked, IsStopped, Prints, text_between};
-ghost use Rattle.mic_work.specs.Outside.{GotFront};
+ghost use Rattle.cli_outside.specs.Outside.{GotFront};
 
 use crate::fault::SessionFault;
 use crate::listing::Listing;

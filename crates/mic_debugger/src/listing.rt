@@ -10,12 +10,12 @@ ghost use Rattle.mic_base.specs.Digits.{hex_text};
 ghost use Rattle.mic_debugger.specs.Book.{Book, IsBook, label_text, unused_text};
 ghost use Rattle.mic_debugger.specs.Lines.{cycle_line, end_line, name_of, place_line, place_text, next_line};
 
+use cli_outside::number;
 use ijvm_instr::{Instr, decode_at, print_instr};
 use ijvm_verifier::{Kind, VerifiedImage};
 use mal_parser::{MalProgram, print_fallback, print_statement};
 use mic_base::Line;
 use mic_clock::{Boundary, Counts};
-use mic_work::number;
 use std::marker::Model;
 use store_placement::{Placement, statement_at};
 

@@ -5,10 +5,10 @@ ghost use Rattle.mic_base.specs.Causes.{HasCause};
 ghost use Rattle.mic_base.specs.Streams.{Holds, Puts};
 ghost use Rattle.mic_debugger.specs.Lines.{end_line, name_of, registers_line, word_line, word_lines};
 
+use cli_outside::word;
 use console_port::Bus;
 use mic_base::{Line, Sink, SinkFailed};
 use mic_clock::{End, Registers, print_state};
-use mic_work::word;
 
 /// Puts a piece behind what was put, unless that failed.
 fn put_after<E: Sink>(

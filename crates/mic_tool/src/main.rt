@@ -1,9 +1,9 @@
 //! The program `mic`: one call, with the words, the files and the streams that the system has.
 #![tactic(auto)]
 
+use cli_call::{mic_main, misused};
+use cli_outside::no_memory;
 use mic_base::{StdFiles, StdSink, StdSource};
-use mic_call::{mic_main, misused};
-use mic_work::no_memory;
 use std::process::ExitCode;
 use std::{env, io};
 

@@ -1,0 +1,91 @@
+-- Why there is no microprogram, and where one begins.
+use Rattle.std.proofs.Common.{◌≡◌, ◌<◌, ◌≤◌, ◌∙◌, ℕ, List, [], ◌∷◌, ◌++◌, length, take, get_or, Some, false, refl, ap, subst, arith, inl, inr}
+use Rattle.machine_words.specs.declared.machine.Machine.{Machine}
+use Rattle.machine_words.specs.declared.machine.Machine.TheVariants.{Mic1, Mic2}
+use Rattle.watched_run.specs.declared.cycle.Cycle.{Cycle}
+use Rattle.watched_run.specs.Watched.{SaysOf}
+use Rattle.cli_profile.specs.Profile.{Profile, Silent, counted}
+use Rattle.cli_outside.specs.Outside.{Got, GotFront}
+use Rattle.shipped_program.specs.Listing.{program1, program2, program_of}
+use Rattle.std.proofs.Math.Seq.{take-nil}
+use Rattle.std.proofs.lemmas.Bool.{cases_lt}
+use Rattle.std.proofs.lemmas.List.{append-nil, get_or_past, length-map}
+use Rattle.std.specs.Prelude.{Option, None, option_map, slice_index}
+use Rattle.mal_parser.specs.declared.error.MalError.{MalError}
+use Rattle.mal_parser.specs.declared.error.MalError.TheVariants as mal
+use Rattle.mal_parser.specs.declared.statement.Statement.{Statement}
+use Rattle.mal_parser.specs.Program.{Program}
+use Rattle.mal_parser.specs.Text.{is_memory}
+use Rattle.store_placement.specs.declared.refusal.PlaceError.{PlaceError}
+use Rattle.store_placement.specs.declared.refusal.PlaceError.TheVariants as place
+use Rattle.store_placement.specs.Demands.{Demands}
+use Rattle.store_placement.specs.Placement.{HasPlacement, Places}
+use Rattle.store_placement.specs.Chosen.{IsChosenList}
+use Rattle.store_placement.specs.Program.{demands_of}
+use Rattle.store_placement.specs.Refusals as placing
+use Rattle.shipped_program.specs.declared.loaded.Loaded.{Loaded}
+use Rattle.shipped_program.specs.Loaded.{IsLoaded}
+use Rattle.cli_micro.specs.Reasons.{mal_reason, NamesStatements}
+
+-- what has a reason is a refusal
+pub is_refusal : (e : MalError) (reason : List ℕ) → Some reason ≡ mal_reason e → is_memory e ≡ false
+is_refusal (mal.BadToken line) reason h = refl
+is_refusal (mal.BadStatement line) reason h = refl
+is_refusal (mal.WrongMachine line) reason h = refl
+is_refusal (mal.NoSuchOperation line) reason h = refl
+is_refusal (mal.DuplicateLabel line) reason h = refl
+is_refusal (mal.BadFix line) reason h = refl
+is_refusal (mal.TooMany line) reason h = refl
+is_refusal (mal.UnknownLabel line) reason h = refl
+is_refusal (mal.LastFalls line) reason h = refl
+is_refusal mal.NoEntry reason h = refl
+is_refusal mal.OutOfMemory reason h = cc
+
+-- each statement has its demand
+length_fixed : (program : Program) → length (demands_of program).fixed ≡ length program.statements
+unfolding demands_of
+length_fixed program = length-map program.statements (λ (s : Statement). s.fixed)
+
+refused_inside : (program : Program) (e : PlaceError) → placing.Refuses (demands_of program) e → NamesStatements (length (demands_of program).fixed) e
+refused_inside program (place.PairClash s) h = h.inside
+refused_inside program (place.FixedWrongHalf s) h = h.1.inside
+refused_inside program (place.FixedClash s t) h = (omega (arith, h.2.first.ordered, h.2.first.inside), h.2.first.inside)
+refused_inside program place.NoRoom h = tt
+
+-- the statements that a refusal names are those of the program
+pub names_inside : (program : Program) (e : PlaceError) → placing.Refuses (demands_of program) e → NamesStatements (length program.statements) e
+names_inside program e h = let P : ℕ → Type 0 = λ n. NamesStatements n e in subst P (length_fixed program) (refused_inside program e h)
+
+pub has_placement : (d : Demands) (addresses : List ℕ) → IsChosenList d addresses → HasPlacement d
+has_placement d addresses h = (slice_index addresses, h.places.places)
+
+-- a microprogram begins in its control store
+pub entry_inside : (p : Program) (l : Loaded) → IsLoaded p l → l.entry < 512
+entry_inside p l h = elim (cases_lt p.entry (length (demands_of p).fixed)) [
+  | inl inside ↦ (let low = h.chosen.places.places.in_store p.entry inside in omega (arith, low, h.entry))
+  | inr past ↦ (let none = get_or_past l.placement p.entry 0 (omega (arith, h.chosen.places.count, past)) in omega (arith, none, h.entry))
+]
+
+-- each shipped microprogram is its machine's
+pub shipped_machine : (machine : Machine) (p : Program) → p ≡ program_of machine → p.machine ≡ machine
+unfolding program1 program2
+shipped_machine machine p e = ap (λ (q : Program). q.machine) e ∙ of_machine machine
+  where
+    of_machine : (machine : Machine) → (program_of machine).machine ≡ machine
+    of_machine Mic1 = refl
+    of_machine Mic2 = refl
+
+-- nothing was said of any cycle
+pub silent_says : (p : Profile) (cs : List Cycle) (text : List ℕ) → SaysOf counted Silent p cs text → text ≡ []
+silent_says p [] text h = h
+silent_says p (c ∷ cs) text h = h.4 ∙ (λ i. h.2 i ++ silent_says (counted p c) cs h.1 h.3 i)
+
+-- a sink that got nothing is as it was
+pub nothing_put : (old new : Option (List ℕ)) (text : List ℕ) → text ≡ [] → new ≡ option_map (λ held. held ++ text) old → new ≡ old
+nothing_put None new text none put = put
+nothing_put (Some held) new text none put = put ∙ ap (λ (t : List ℕ). Some (held ++ t)) none ∙ ap Some (append-nil held)
+
+-- nor is one that failed where there was nothing to get
+pub nothing_put_of : (old new : Option (List ℕ)) (text : List ℕ) → text ≡ [] → GotFront old text new → Got old [] new
+nothing_put_of old new text none h =
+    h.1 ∙ ap (λ (t : List ℕ). option_map (λ (held : List ℕ). held ++ t) old) (ap (take h.0) none ∙ take-nil h.0)

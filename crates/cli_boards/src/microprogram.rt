@@ -1,0 +1,70 @@
+//! The microprogram that a board is clocked with: a person's own, from its text, or the one that ships.
+
+ghost use Rattle.std.specs.Prelude.{◌≡◌, ◌<◌, ◌^◌, length, IfOk, IfErr, IfSome};
+ghost use Rattle.mal_parser.specs.Text.{Spells};
+ghost use Rattle.shipped_program.specs.Loaded.{IsLoaded};
+ghost use Rattle.shipped_program.specs.Listing.{program_of};
+ghost use Rattle.cli_boards.specs.Own.{IsNoMicroprogram};
+
+use cli_micro::{mal_reason, place_reason};
+use mal_parser::{MalProgram, parse_mal};
+use mic_base::Line;
+use micro_word::Machine;
+use shipped_program::{Loaded, load_micro, shipped_program, shipped_programs_are_listed};
+use std::alloc::{AllocError, Global};
+
+/// A microprogram and its control store.
+#[derive(Drop)]
+pub struct Microprogram {
+    pub program: MalProgram,
+    pub loaded: Loaded,
+    ghost is_loaded: { IsLoaded program loaded },
+}
+
+/// Why a text is no microprogram.
+#[derive(Drop)]
+pub enum NoMicroprogram {
+    /// It is refused: what follows the file's name in the message.
+    Refused(Line),
+    OutOfMemory,
+}
+
+/// The microprogram that a text spells, at its chosen placement.
+pub fn placed_microprogram(
+    alloc: Global,
+    machine: Machine,
+    bytes: &[u8],
+) -> Result<Microprogram, NoMicroprogram>
+    requires { length bytes.now < 2 ^ 32 }
+    ensures ok { IfOk result (λ micro. Spells machine bytes.now micro.program) }
+    ensures machine { IfOk result (λ micro. micro.program.machine ≡ machine) }
+    ensures err { IfErr result (IsNoMicroprogram machine bytes.now) }
+{
+    let program = match parse_mal(alloc, machine, bytes) {
+        Ok(program) => program,
+        Err(error) => {
+            return match mal_reason(error) {
+                Ok(reason) => Err(NoMicroprogram::Refused(reason)),
+                Err(_) => Err(NoMicroprogram::OutOfMemory),
+            };
+        }
+    };
+    match load_micro(&program) {
+        Ok(loaded) => Ok(Microprogram { program, loaded }),
+        Err(error) => Err(NoMicroprogram::Refused(place_reason(&program, error))),
+    }
+}
+
+/// The microprogram that ships for a machine.
+#[tactic(auto, using(crate::proofs::Micros::shipped_machine))]
+pub fn shipped_microprogram(alloc: Global, machine: Machine) -> Result<Microprogram, AllocError>
+    ensures is { IfOk result (λ micro. micro.program ≡ program_of machine) }
+    ensures machine { IfOk result (λ micro. micro.program.machine ≡ machine) }
+{
+    let program = shipped_program(alloc, machine)?;
+    shipped_programs_are_listed();
+    match load_micro(&program) {
+        Ok(loaded) => Ok(Microprogram { program, loaded }),
+        Err(_) => unreachable!(),
+    }
+}

@@ -1,0 +1,170 @@
+-- `run` and `reference` of one program agree.
+use Rattle.std.proofs.Common.{◌≡◌, ◌≢◌, ◌∙◌, ℕ, zero, suc, Bool, true, false, List, ◌++◌, Some, None, Option, refl, sym, ap, subst, nat_le}
+use Rattle.std.specs.Prelude.{codes, unwrap_or, IfSome}
+use Rattle.mic_base.specs.Causes.{Rose}
+use Rattle.console_port.specs.Console.{Untaken}
+use Rattle.mic_clock.specs.declared.end.End.{End}
+use Rattle.mic_clock.specs.declared.end.End.TheVariants as clocked
+use Rattle.mic_clock.specs.declared.counts.Boundary.{Boundary}
+use Rattle.mic_clock.specs.declared.counts.Counts.{Counts}
+use Rattle.mic_clock.specs.declared.registers.Registers.{Registers}
+use Rattle.mic_clock.specs.Meaning.{Meaning}
+use Rattle.mic_clock.specs.View.{BoardView}
+use Rattle.ijvm_run.specs.declared.run.RunEnd.{RunEnd}
+use Rattle.ijvm_run.specs.declared.run.RunEnd.TheVariants as defined
+use Rattle.ijvm_run.specs.Step.{Outcome, Goes, Halts, Errs, Limits, Stuck, outcome}
+use Rattle.ijvm_run.specs.Run.{Program, Point, Finish, EndsBy, finish_from, after_test, after_outcome, first_point, point_after}
+use Rattle.plain_machine.specs.declared.plain.PlainReport.{PlainReport}
+use Rattle.plain_machine.specs.Plain.{Reports, HasRun as HasPlainRun}
+use Rattle.plain_machine.specs.Plain as plain
+use Rattle.ijvm_paths.specs.Accepted.{VerifiedView}
+use Rattle.ijvm_simulation.specs.Simulates.{boundary_of, end_of, IsEnd}
+use Rattle.ijvm_simulation.specs.Verified.{program as program_on}
+use Rattle.ijvm_simulation.specs.Headline.{HasRun}
+use Rattle.cli_outside.specs.Status as exits
+use Rattle.cli_outside.specs.Outside.{Got, Said, Says, SinkState, Unsaid}
+use Rattle.cli_run_texts.specs.Ends.{status_of}
+use Rattle.cli_run_texts.specs.Ends as texts
+use Rattle.mic_clock.specs.State.{state_line}
+use Rattle.cli_run_texts.specs.Report.{clocked_head, cycles_of, head, last_boundary, plain_head}
+use Rattle.cli_programs.specs.Reference.{IsReported, IsRun, Reported}
+use Rattle.cli_programs.specs.Reference as reference
+use Rattle.cli_call.specs.Outside.{Streams}
+use Rattle.cli_call.specs.RunEnds.{ClockedEnd, CutByRead, CutByWrite, NoRoom, Ran, report_on}
+use Rattle.cli_call.specs.Agree.{Agrees, IsQuiet}
+
+-- At a stack limit the definition's cycles are those of the last boundary.
+
+abbrev OfLimit : Finish → Type 0
+OfLimit f = f.end ≡ defined.StackLimit → f.cycles ≡ f.last.cycles
+
+some_is : {A : Type 0} → (x y : A) → Some x ≡ Some y → x ≡ y
+some_is x y e = cc
+
+by_outcome : (p : Program) (bound points : ℕ) (at : Point) (o : Outcome) (f : Finish) →
+    ((next : Point) → finish_from p bound points next ≡ Some f → OfLimit f) →
+    after_outcome (finish_from p bound points) p at o ≡ Some f → OfLimit f
+by_outcome p bound points at (Goes to) f more e = more (point_after p at to) e
+by_outcome p bound points at Halts f more e = subst OfLimit (some_is _ f e) (λ q. cc)
+by_outcome p bound points at Errs f more e = subst OfLimit (some_is _ f e) (λ q. cc)
+by_outcome p bound points at (Limits left) f more e = subst OfLimit (some_is _ f e) (λ q. refl)
+by_outcome p bound points at Stuck f more e = absurd (cc)
+
+by_test : (p : Program) (bound points : ℕ) (at : Point) (t : Bool) (f : Finish) →
+    ((next : Point) → finish_from p bound points next ≡ Some f → OfLimit f) →
+    after_test (finish_from p bound points) p at t ≡ Some f → OfLimit f
+by_test p bound points at true f more e = subst OfLimit (some_is _ f e) (λ q. cc)
+by_test p bound points at false f more e = by_outcome p bound points at (outcome p.image p.stack_end at.state) f more e
+
+of_limit : (p : Program) (bound points : ℕ) (at : Point) (f : Finish) → finish_from p bound points at ≡ Some f → OfLimit f
+of_limit p bound zero at f e = absurd (cc)
+of_limit p bound (suc points) at f e = by_test p bound points at (nat_le bound at.cycles) f (λ next. of_limit p bound points next f) e
+
+-- The heads of both reports are one.
+
+cycles_by : (end : RunEnd) (cycles counted : ℕ) (last : Boundary) → (end ≡ defined.StackLimit → cycles ≡ last.cycles) → (end ≢ defined.StackLimit → counted ≡ cycles) →
+    cycles_of (end_of end) counted (Some last) ≡ cycles
+cycles_by defined.Halt cycles counted last limit other = other (λ q. cc)
+cycles_by defined.Err cycles counted last limit other = other (λ q. cc)
+cycles_by defined.Bound cycles counted last limit other = other (λ q. cc)
+cycles_by defined.StackLimit cycles counted last limit other = sym (limit refl)
+
+ends_same : (end : RunEnd) → texts.end_of (plain.end_of end) ≡ end_of end
+ends_same defined.Halt = refl
+ends_same defined.Err = refl
+ends_same defined.Bound = refl
+ends_same defined.StackLimit = refl
+
+boundaries_same : (r : PlainReport) (cycles instructions : ℕ) (last : Point) → Reports r cycles instructions last → last_boundary r ≡ boundary_of last
+boundaries_same r cycles instructions last reports = rw (reports.boundary, reports.address, reports.sp, reports.lv) refl
+
+plain_is : (r : PlainReport) (f : Finish) → r.end ≡ plain.end_of f.end → Reports r f.cycles f.instructions f.last →
+    plain_head r ≡ head (end_of f.end) f.cycles f.instructions (Some (boundary_of f.last))
+plain_is r f end reports =
+    ap (λ (e : End). head e r.cycles r.instructions (Some (last_boundary r))) (ap texts.end_of end ∙ ends_same f.end)
+    ∙ (ap (λ (c : ℕ). head (end_of f.end) c r.instructions (Some (last_boundary r))) reports.cycles_are
+    ∙ (ap (λ (i : ℕ). head (end_of f.end) f.cycles i (Some (last_boundary r))) reports.instructions_are
+    ∙ ap (λ (b : Boundary). head (end_of f.end) f.cycles f.instructions (Some b)) (boundaries_same r f.cycles f.instructions f.last reports)))
+
+clocked_is : (c : Counts) (f : Finish) → OfLimit f → (f.end ≢ defined.StackLimit → c.cycles ≡ f.cycles) → c.instructions ≡ f.instructions →
+    c.boundary ≡ Some (boundary_of f.last) → clocked_head (end_of f.end) c ≡ head (end_of f.end) f.cycles f.instructions (Some (boundary_of f.last))
+clocked_is c f limit cycles instructions boundary =
+    ap (λ (b : Option Boundary). head (end_of f.end) (cycles_of (end_of f.end) c.cycles b) c.instructions b) boundary
+    ∙ (ap (λ (n : ℕ). head (end_of f.end) n c.instructions (Some (boundary_of f.last))) (cycles_by f.end f.cycles c.cycles (boundary_of f.last) limit cycles)
+    ∙ ap (λ (i : ℕ). head (end_of f.end) f.cycles i (Some (boundary_of f.last))) instructions)
+
+-- What is said where the sink does not fail.
+
+pub said : (old new : SinkState) (text : List ℕ) (code status : ℕ) → (Rose old.faults new.faults → ⊥) → Says old new text code status → (status ≡ code) × Got old.held text new.held
+said old new text code status none (Said is got flushed same) = (is, got)
+said old new text code status none (Unsaid is got rose) = absurd (none rose)
+
+-- what a source tells is what a run of it takes
+told_input : (left : Option (List ℕ)) (input taken : List ℕ) → left ≡ Some input → Untaken left false taken → taken ≡ input
+told_input left input taken e told = subst (λ (l : Option (List ℕ)). Untaken l false taken) e told
+
+held_is : (held : Option (List ℕ)) (one given : List ℕ) → held ≡ Some one → IfSome held (λ h. h ≡ given) → one ≡ given
+held_is held one given e is = subst (λ (h : Option (List ℕ)). IfSome h (λ x. x ≡ given)) e is
+
+-- a run has one end
+abbrev pub OneEnd : Type 0
+OneEnd = (p : Program) (n : ℕ) (from : Point) (f g : Finish) → EndsBy p n from f → EndsBy p n from g → f ≡ g
+
+module _ {M S : Type 0} (state : M → S) (m : Meaning S) (IsReady : ℕ → List ℕ → ℕ → S → Type 0) (IsShipped : List ℕ → Type 0) (entry : ℕ) where
+  module _ (program : VerifiedView) (bound : ℕ) (input : List ℕ) (old ran told : Streams) (status status' : ℕ) where
+    -- both ran to their ends
+    both : OneEnd → old.console.left ≡ Some input →
+        (board : BoardView M) (run : HasRun state m IsReady IsShipped entry program bound old.console.left old.out.held ran.console.left ran.out.held board) →
+        Says old.err ran.err (report_on state m (end_of run.begins.finish.end) board) (status_of (end_of run.begins.finish.end)) status →
+        (r : PlainReport) → HasPlainRun (reference.program_of program m.machine) program.main_locals bound old.console.left old.out.held told.console.left told.out.held r →
+        Says old.err told.err (plain_head r) (status_of (texts.end_of r.end)) status' →
+        IsQuiet old ran status → IsQuiet old told status' → Agrees old ran told status status'
+    both one tells board run says r plainly says' quiet quiet' =
+        let f : Finish = run.begins.finish in
+        let same : f ≡ plainly.run.finish =
+        one (program_on m.machine program) bound (first_point program.main_locals input) f plainly.run.finish
+        (subst (λ (i : List ℕ). EndsBy (program_on m.machine program) bound (first_point program.main_locals i) f)
+        (told_input old.console.left input run.begins.input tells run.begins.told) run.begins.finishes)
+        (subst (λ (i : List ℕ). EndsBy (program_on m.machine program) bound (first_point program.main_locals i) plainly.run.finish)
+        (told_input old.console.left input plainly.run.input tells plainly.run.told) plainly.run.ends) in
+        let r_end : r.end ≡ plain.end_of f.end = plainly.end ∙ ap (λ (g : Finish). plain.end_of g.end) (sym same) in
+        let reports : Reports r f.cycles f.instructions f.last = subst (λ (g : Finish). Reports r g.cycles g.instructions g.last) (sym same) plainly.report in
+        let given : IfSome told.out.held (λ h. h ≡ plain.told_of old.out.held ++ f.left.given) =
+        subst (λ (g : Finish). IfSome told.out.held (λ h. h ≡ plain.told_of old.out.held ++ g.left.given)) (sym same) plainly.given in
+        let limit : OfLimit f = of_limit (program_on m.machine program) bound run.begins.finishes.0 (first_point program.main_locals run.begins.input) f run.begins.finishes.1 in
+        let counts = run.at.counts in
+        let heads : clocked_head (end_of f.end) board.counts ≡ plain_head r =
+        clocked_is board.counts f limit (λ q. sym (ap (λ (c : Counts). c.cycles) counts) ∙ run.agrees.cycles q)
+        (sym (ap (λ (c : Counts). c.instructions) counts) ∙ run.agrees.instructions) (sym (ap (λ (c : Counts). c.boundary) counts) ∙ run.agrees.boundary)
+        ∙ sym (plain_is r f r_end reports) in
+        let run_said = said old.err ran.err _ _ status quiet.err says in
+        let reference_said = said old.err told.err _ _ status' quiet'.err says' in
+        record {
+          same_status = run_said.0 ∙ (ap status_of (sym (ap texts.end_of r_end ∙ ends_same f.end)) ∙ sym reference_said.0);
+          same_out = λ one other a b. held_is ran.out.held one _ a run.given ∙ sym (held_is told.out.held other _ b given);
+          report = r;
+          registers = m.registers (state board.machine);
+          run_says = subst (λ (h : List ℕ). Got old.err.held (h ++ state_line (m.registers (state board.machine)) ++ codes "\n") ran.err.held) heads run_said.1;
+          reference_says = reference_said.1;
+        }
+
+    by_reference : OneEnd → old.console.left ≡ Some input →
+        (board : BoardView M) (run : HasRun state m IsReady IsShipped entry program bound old.console.left old.out.held ran.console.left ran.out.held board) →
+        Says old.err ran.err (report_on state m (end_of run.begins.finish.end) board) (status_of (end_of run.begins.finish.end)) status →
+        IsRun program m.machine bound old.console told.console old.out told.out old.err told.err status' →
+        IsQuiet old ran status → IsQuiet old told status' → Agrees old ran told status status'
+    by_reference one tells board run says (Reported r (reference.Ran plainly console out flushed) says') quiet quiet' =
+        both one tells board run says r plainly says' quiet quiet'
+    by_reference one tells board run says (Reported r (reference.CutByRead e cut rose out flushed) says') quiet quiet' = absurd (quiet'.console rose)
+    by_reference one tells board run says (Reported r (reference.CutByWrite e cut console rose) says') quiet quiet' = absurd (quiet'.out rose)
+    by_reference one tells board run says (reference.Short short console out flushed says') quiet quiet' =
+        absurd (quiet'.memory (said old.err told.err _ _ status' quiet'.err says').0)
+
+    pub agree : OneEnd → old.console.left ≡ Some input →
+        ClockedEnd state m IsReady IsShipped entry program bound old ran status →
+        IsRun program m.machine bound old.console told.console old.out told.out old.err told.err status' →
+        IsQuiet old ran status → IsQuiet old told status' → Agrees old ran told status status'
+    agree one tells (NoRoom same says) reference quiet quiet' = absurd (quiet.memory (said old.err ran.err _ _ status quiet.err says).0)
+    agree one tells (Ran board run console out flushed says) reference quiet quiet' = by_reference one tells board run says reference quiet quiet'
+    agree one tells (CutByRead board cut rose out flushed says) reference quiet quiet' = absurd (quiet.console rose)
+    agree one tells (CutByWrite board cut console rose says) reference quiet quiet' = absurd (quiet.out rose)

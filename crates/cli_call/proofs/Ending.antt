@@ -1,0 +1,60 @@
+-- How a run ends, by the end of its board.
+use Rattle.std.proofs.Common.{◌≡◌, ◌≢◌, ◌∙◌, ℕ, List, Some, None, refl, sym, ap, subst}
+use Rattle.console_port.specs.Console.{StaysFlushed}
+use Rattle.mic_clock.specs.declared.end.End.{End}
+use Rattle.mic_clock.specs.declared.end.End.TheVariants as ends
+use Rattle.mic_clock.specs.Meaning.{Meaning}
+use Rattle.mic_clock.specs.Board.{NoFault, HasEndCause}
+use Rattle.mic_clock.specs.View.{BoardView}
+use Rattle.ijvm_paths.specs.Accepted.{VerifiedView}
+use Rattle.ijvm_simulation.specs.Simulates.{end_of}
+use Rattle.ijvm_simulation.specs.Headline.{HasRun, IsCutByRead, IsCutByWrite}
+use Rattle.cli_outside.specs.Outside.{Says}
+use Rattle.cli_call.specs.Outside.{Streams}
+use Rattle.cli_run_texts.specs.Ends.{status_of}
+use Rattle.cli_call.specs.RunEnds.{ClockedEnd, CutByRead, CutByWrite, Ran, report_on}
+
+some_is : {A : Type 0} → (x y : A) → Some x ≡ Some y → x ≡ y
+some_is x y e = cc
+
+module _ {M S : Type 0} (state : M → S) (m : Meaning S) (IsReady : ℕ → List ℕ → ℕ → S → Type 0) (IsShipped : List ℕ → Type 0) (entry : ℕ) where
+  module _ (program : VerifiedView) (bound : ℕ) (old new : Streams) (board : BoardView M) where
+    -- what is known of a board that was run between these streams
+    pub record IsRun : Type 0 where
+      pub run : NoFault None board.end →
+          HasRun state m IsReady IsShipped entry program bound old.console.left old.out.held new.console.left new.out.held board
+      pub read : board.end ≡ Some ends.ReadFault →
+          IsCutByRead state m IsReady IsShipped entry program bound old.console.left old.out.held new.console.left new.out.held board
+      pub write : board.end ≡ Some ends.WriteFault →
+          IsCutByWrite state m IsReady IsShipped entry program bound old.console.left old.out.held new.console.left new.out.held board
+      pub flushed : board.end ≢ Some ends.WriteFault → StaysFlushed old.out.held old.out.passed new.out.held new.out.passed
+      pub cause : HasEndCause old.console.faults new.console.faults old.out.faults new.out.faults None board.end
+
+    -- the end of the definition's run is the board's
+    agrees : (run : HasRun state m IsReady IsShipped entry program bound old.console.left old.out.held new.console.left new.out.held board) →
+        (end : End) → board.end ≡ Some end → end ≡ end_of run.begins.finish.end
+    agrees run end e = some_is end (end_of run.begins.finish.end) (sym e ∙ sym run.end ∙ run.agrees.end)
+
+    whole : (end : End) (status : ℕ) → IsRun → board.end ≡ Some end → NoFault None (Some end) → (Some end ≡ Some ends.ReadFault → ⊥) → (Some end ≡ Some ends.WriteFault → ⊥) →
+        Says old.err new.err (report_on state m end board) (status_of end) status →
+        ClockedEnd state m IsReady IsShipped entry program bound old new status
+    whole end status r e none unread unwritten says =
+        let run : HasRun state m IsReady IsShipped entry program bound old.console.left old.out.held new.console.left new.out.held board =
+        r.run (subst (NoFault None) (sym e) none) in
+        Ran board run (r.cause.source_same (λ _ q. unread (sym e ∙ q))) (r.cause.sink_same (λ _ q. unwritten (sym e ∙ q))) (r.flushed (λ q. unwritten (sym e ∙ q)))
+        (subst (λ (x : End). Says old.err new.err (report_on state m x board) (status_of x) status) (agrees run end e) says)
+
+    pub ends_by : (end : End) (status : ℕ) → IsRun → board.end ≡ Some end →
+        Says old.err new.err (report_on state m end board) (status_of end) status →
+        ClockedEnd state m IsReady IsShipped entry program bound old new status
+    ends_by ends.ReadFault status r e says =
+        let unwritten : board.end ≢ Some ends.WriteFault = λ q. let c : Some ends.ReadFault ≡ Some ends.WriteFault = sym e ∙ q in cc in
+        CutByRead board (r.read e) (r.cause.read refl e) (r.cause.sink_same (λ _. unwritten)) (r.flushed unwritten) says
+    ends_by ends.WriteFault status r e says =
+        CutByWrite board (r.write e) (r.cause.source_same (λ _ q. let c : Some ends.WriteFault ≡ Some ends.ReadFault = sym e ∙ q in cc)) (r.cause.write refl e) says
+    ends_by ends.Halt status r e says = whole ends.Halt status r e tt (λ q. cc) (λ q. cc) says
+    ends_by ends.Err status r e says = whole ends.Err status r e tt (λ q. cc) (λ q. cc) says
+    ends_by ends.Bound status r e says = whole ends.Bound status r e tt (λ q. cc) (λ q. cc) says
+    ends_by ends.StackLimit status r e says = whole ends.StackLimit status r e tt (λ q. cc) (λ q. cc) says
+    ends_by (ends.OutOfMap at) status r e says = whole (ends.OutOfMap at) status r e tt (λ q. cc) (λ q. cc) says
+    ends_by ends.Adrift status r e says = whole ends.Adrift status r e tt (λ q. cc) (λ q. cc) says

@@ -1,0 +1,51 @@
+//! The top call: the words, the files and the streams of one call of the program, and what each answer is caused by.
+
+ghost use Rattle.std.specs.Prelude.{ℕ, Option, map, string_bytes};
+ghost use Rattle.cli_words.specs.Words.{Asked, request_of};
+ghost use Rattle.cli_outside.specs.Outside.{files_of, sink_of, source_of};
+ghost use Rattle.cli_call.specs.Outside.{Outside, outside, streams};
+ghost use Rattle.cli_call.specs.Ends.{Ends};
+ghost use Rattle.cli_call.specs.Answers.{IsAnswer};
+
+use crate::top_call::answer_words;
+use cli_outside::Status;
+use ijvm_simulation::shipped_runs_end_as_defined;
+use mic_base::{Files, Sink, Source};
+use shipped_microcode::{Mic1Interpreter, Mic2Interpreter};
+use shipped_program::loaded_programs_are_shipped;
+use std::alloc::Global;
+
+/// Each status that a call ends with has its cause, and no other comes.
+pub fn each_answer_has_its_cause()
+    ensures { (asks : Option Asked) (old new : Outside) (status : ℕ) → Ends asks old new status → IsAnswer asks old new status }
+{
+    loaded_programs_are_shipped();
+    shipped_runs_end_as_defined::<Mic1Interpreter>();
+    shipped_runs_end_as_defined::<Mic2Interpreter>();
+}
+
+/// Does what the words after the program's name ask for.
+pub fn mic_main<F: Files, S: Source, K: Sink, E: Sink>(
+    alloc: Global,
+    words: &[String],
+    files: &mut F,
+    console: &mut S,
+    out: &mut K,
+    err: &mut E,
+) -> Status
+    ensures ends { Ends (request_of (map string_bytes words.now))
+        (outside (files_of F.contents F.faults files.old)
+        (streams (source_of S.left S.faults console.old) (sink_of K.held K.passed K.faults out.old) (sink_of E.held E.passed E.faults err.old)))
+        (outside (files_of F.contents F.faults files.new)
+        (streams (source_of S.left S.faults console.new) (sink_of K.held K.passed K.faults out.new) (sink_of E.held E.passed E.faults err.new)))
+        result.0 }
+    ensures answer { IsAnswer (request_of (map string_bytes words.now))
+        (outside (files_of F.contents F.faults files.old)
+        (streams (source_of S.left S.faults console.old) (sink_of K.held K.passed K.faults out.old) (sink_of E.held E.passed E.faults err.old)))
+        (outside (files_of F.contents F.faults files.new)
+        (streams (source_of S.left S.faults console.new) (sink_of K.held K.passed K.faults out.new) (sink_of E.held E.passed E.faults err.new)))
+        result.0 }
+{
+    each_answer_has_its_cause();
+    answer_words(alloc, words, files, console, out, err)
+}

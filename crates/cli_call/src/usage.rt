@@ -1,0 +1,28 @@
+//! How `mic` is called.
+
+ghost use Rattle.cli_call.specs.Usage.{usage};
+ghost use Rattle.cli_outside.specs.Status as exits;
+ghost use Rattle.cli_outside.specs.Outside.{Says, sink_of};
+
+use cli_outside::{Status, say};
+use mic_base::Sink;
+
+const USAGE: &[u8] = b"usage: mic assemble SOURCE IMAGE
+       mic list FILE [--map W]
+       mic verify FILE [--map W]
+       mic run FILE [--machine V] [--bound N] [--micro MAL] [--map W]
+       mic trace FILE [--machine V] [--bound N] [--micro MAL] [--buses] [--map W]
+       mic profile FILE [--machine V] [--bound N] [--micro MAL] [--map W]
+       mic debug FILE [--machine V] [--bound N] [--micro MAL] [--input INPUT] [--map W]
+       mic reference FILE [--machine V] [--bound N] [--map W]
+       mic micro MAL STORE [--machine V]
+       mic print-micro [FILE] [--machine V]
+       mic soak SEED SIZE [--machine V]
+";
+
+/// Says how `mic` is called.
+pub fn misused<E: Sink>(err: &mut E) -> Status
+    ensures { Says (sink_of E.held E.passed E.faults err.old) (sink_of E.held E.passed E.faults err.new) usage exits.usage result.0 }
+{
+    say(err, USAGE, Status::USAGE)
+}

@@ -1,0 +1,217 @@
+-- What a failing sink leaves of a line, as the definition has it.
+use Rattle.std.proofs.Common.{◌≡◌, ◌≢◌, inl, inr, ◌∙◌, ℕ, zero, suc, ◌≤◌, Bool, true, false, List, [], ◌++◌, length, take, min, if◌then◌else◌, Option, Some, None, IsSome, Result, Ok, Err, refl, sym, ap, subst, append_assoc, arith}
+use Rattle.std.specs.Prelude.{OnErr, nat_le}
+use Rattle.std.specs.Option.{option_map}
+use Rattle.std.proofs.lemmas.Bool.{cases_lt}
+use Rattle.std.proofs.lemmas.List.{append-nil, take_min, take-append-le}
+use Rattle.console_port.specs.World.{World}
+use Rattle.mic_clock.specs.declared.end.End.{End}
+use Rattle.mic_clock.specs.declared.end.End.TheVariants as ends
+use Rattle.mic_clock.specs.Meaning.{Meaning, Outcome, Done, Refused}
+use Rattle.mic_clock.specs.Run.{MicroRun, bounded, bounded_by, end_before, gone, stepped, turn, turn_by, word_at}
+use Rattle.mic_clock.specs.View.{BoardView}
+use Rattle.mic_debugger.specs.declared.plan.Plan.{Plan}
+use Rattle.mic_debugger.specs.declared.plan.Plan.TheVariants as plans
+use Rattle.mic_debugger.specs.declared.until.Until.{Until}
+use Rattle.mic_debugger.specs.Book.{Book, IsBook}
+use Rattle.mic_debugger.specs.Clocking.{IsDone, IsGoing, after, printed, turn_lines}
+use Rattle.mic_debugger.specs.Obeys.{IsBrokenIn, IsSaidInPart, plan_in}
+use Rattle.mic_debugger.specs.Session.{HasReadCause, IsFrontOf}
+use Rattle.mic_debugger.specs.View.{SessionView}
+use Rattle.cli_outside.specs.Outside.{GotFront}
+use Rattle.cli_debug.specs.Stand.{Begins, Carries, IsBrokenOff, OnlyGives, Shows, Stand, StandsAt, plan_at, shown_at}
+use Rattle.cli_debug.specs.Goes.{BreaksOff}
+use Rattle.cli_debug.proofs.Standing.{leads_on, no_rise, same_plan, shown_same}
+
+-- ---- fronts
+
+abbrev IsFront : List ℕ → List ℕ → Type 0
+IsFront a b = (more : List ℕ) × (b ≡ a ++ more)
+
+front_same : (a : List ℕ) → IsFront a a
+front_same a = ([], sym (append-nil a))
+
+front_then : (a b c : List ℕ) → IsFront a b → IsFront b c → IsFront a c
+front_then a b c p q = (p.0 ++ q.0, q.1 ∙ ap (λ (x : List ℕ). x ++ q.0) p.1 ∙ append_assoc a p.0 q.0)
+
+held_front : (held : Option (List ℕ)) (a b : List ℕ) → IsFrontOf held a → IsFront a b → IsFrontOf held b
+held_front None a b p q = tt
+held_front (Some h) a b p q = front_then h a b p q
+
+got_front : (said said' : Option (List ℕ)) (a b : List ℕ) → GotFront said a said' → IsFront a b → GotFront said b said'
+got_front said said' a b p q =
+    let k : ℕ = min p.0 (length a) in
+    let inside : min p.0 (length a) ≤ length a = omega arith in (
+      k,
+      p.1 ∙ ap (λ (x : List ℕ). option_map (λ (h : List ℕ). h ++ x) said) (sym (ap (take k) q.1 ∙ take-append-le k a q.0 inside ∙ take_min p.0 a)),
+    )
+
+-- ---- a machine that only gives
+
+module _ {State : Type 0} (m : Meaning State) (book : Book) (words breaks : List ℕ) (bound : ℕ) (u : Until) where
+  after-suc : (n : ℕ) (r : MicroRun State) → after m book words breaks bound u (suc n) r ≡ turn m words (bounded m (Some bound) (after m book words breaks bound u n r))
+  after-suc zero r = refl
+  after-suc (suc n) r = after-suc n (turn m words (bounded m (Some bound) r))
+
+  stopped_world : (b stop : Bool) (r q : MicroRun State) → q.world ≡ r.world → (if b then (if stop then q else r) else r).world ≡ r.world
+  stopped_world true true r q e = e
+  stopped_world true false r q e = refl
+  stopped_world false stop r q e = refl
+
+  bounded_world : (e : Option End) (r : MicroRun State) → (bounded_by m e bound r).world ≡ r.world
+  bounded_world (Some e) r = refl
+  bounded_world None r = stopped_world (m.is_boundary r.state) (nat_le bound r.counts.cycles) r _ refl
+
+  module _ (only : OnlyGives m) where
+    stepped_gives : (r : MicroRun State) (o : Outcome State) → m.step (word_at m words r.state) r.state r.world ≡ o → IsFront r.world.given (stepped m words r o).world.given
+    stepped_gives r (Done s w) is = only (word_at m words r.state) r.state s r.world w is
+    stepped_gives r (Refused why) is = front_same r.world.given
+
+    gone_gives : (e : Option End) (r : MicroRun State) → IsFront r.world.given (gone m words e r).world.given
+    gone_gives (Some e) r = front_same r.world.given
+    gone_gives None r = stepped_gives r (m.step (word_at m words r.state) r.state r.world) refl
+
+    turn_gives : (e : Option End) (r : MicroRun State) → IsFront r.world.given (turn_by m words e r).world.given
+    turn_gives (Some e) r = front_same r.world.given
+    turn_gives None r = gone_gives (end_before m r.state r.counts) r
+
+    one_gives : (r : MicroRun State) → IsFront r.world.given (turn m words (bounded m (Some bound) r)).world.given
+    one_gives r =
+        let x = bounded m (Some bound) r in
+        let given = turn_gives x.end x in
+        (given.0, given.1 ∙ ap (λ (w : World). w.given ++ given.0) (bounded_world r.end r))
+
+    more_given : (k n : ℕ) (r : MicroRun State) → k ≤ n → IsFront (after m book words breaks bound u k r).world.given (after m book words breaks bound u n r).world.given
+    more_given k zero r le = let e : zero ≡ k = omega arith in subst (λ (j : ℕ). IsFront (after m book words breaks bound u j r).world.given r.world.given) e (front_same r.world.given)
+    more_given k (suc n) r le =
+        elim (cases_lt k (suc n)) [
+          | inl below ↦
+              (let before = after m book words breaks bound u n r in
+              front_then (after m book words breaks bound u k r).world.given before.world.given (after m book words breaks bound u (suc n) r).world.given (more_given k n r (omega arith))
+              (subst (λ (x : MicroRun State). IsFront before.world.given x.world.given) (sym (after-suc n r)) (one_gives before)))
+          | inr above ↦
+              (let e : suc n ≡ k = omega arith in
+              subst (λ (j : ℕ). IsFront (after m book words breaks bound u j r).world.given (after m book words breaks bound u (suc n) r).world.given) e
+              (front_same (after m book words breaks bound u (suc n) r).world.given))
+        ]
+
+  more_printed : (k n : ℕ) (r : MicroRun State) → k ≤ n → IsFront (printed m book words breaks bound u k r) (printed m book words breaks bound u n r)
+  more_printed k zero r le = let e : zero ≡ k = omega arith in subst (λ (j : ℕ). IsFront (printed m book words breaks bound u j r) []) e (front_same [])
+  more_printed k (suc n) r le =
+      elim (cases_lt k (suc n)) [
+        | inl below ↦
+            (front_then (printed m book words breaks bound u k r) (printed m book words breaks bound u n r) (printed m book words breaks bound u (suc n) r) (more_printed k n r (omega arith))
+            (turn_lines m book words breaks bound u (after m book words breaks bound u n r) (after m book words breaks bound u (suc n) r), refl))
+        | inr above ↦
+            (let e : suc n ≡ k = omega arith in
+            subst (λ (j : ℕ). IsFront (printed m book words breaks bound u j r) (printed m book words breaks bound u (suc n) r)) e (front_same (printed m book words breaks bound u (suc n) r)))
+      ]
+
+  -- no moment of a command is behind its end
+  none_behind : (times k n : ℕ) (r : MicroRun State) → IsGoing m book words breaks bound u times k r → IsDone m book words breaks bound u times n r → k ≤ n
+  none_behind times k n r going done =
+      elim (cases_lt n k) [
+        | inl below ↦
+            (elim done.over [
+              | inl ended ↦ absurd (no_end (after m book words breaks bound u n r).end ended (going.running n below))
+              | inr all ↦ (let lt = going.waiting n below in absurd (omega (arith, lt, all)))
+            ])
+        | inr le ↦ le
+      ]
+    where
+      no_end : (e : Option End) → IsSome e → e ≡ None → ⊥
+      no_end None some is = absurd (cc)
+      no_end (Some e) some is = absurd (cc)
+
+-- ---- a line
+
+module _ {State : Type 0} (m : Meaning State) (book : Book) (words : List ℕ) (memory bound : ℕ) (s : Stand State) where
+  -- what a plan has given and printed at a moment is a front of what it gives and prints whole
+  printed_first : (plan : Plan) (text whole : List ℕ) (run last : MicroRun State) → Begins m book words memory bound plan s text run → Carries m book words memory bound plan s whole last → IsFront text whole
+  printed_first (plans.Clock u times) text whole run last b c =
+      subst (λ (x : List ℕ). IsFront x whole) (sym b.3) (subst (λ (x : List ℕ). IsFront (printed m book words s.breaks bound u b.0 s.run) x) (sym c.3)
+      (more_printed m book words s.breaks bound u b.0 c.0 s.run (none_behind m book words s.breaks bound u times b.0 c.0 s.run b.1 c.1)))
+  printed_first (plans.Refuse reply) text whole run last b c = subst (IsFront text) (b.1 ∙ sym c.1) (front_same text)
+  printed_first plans.Registers text whole run last b c = subst (IsFront text) (b.1 ∙ sym c.1) (front_same text)
+  printed_first plans.Stack text whole run last b c = subst (IsFront text) (b.1 ∙ sym c.1) (front_same text)
+  printed_first plans.Where text whole run last b c = subst (IsFront text) (b.1 ∙ sym c.1) (front_same text)
+  printed_first plans.Nothing text whole run last b c = subst (IsFront text) (b.1 ∙ sym c.1) (front_same text)
+  printed_first plans.Quit text whole run last b c = subst (IsFront text) (b.1 ∙ sym c.1) (front_same text)
+
+  stays : (run last : MicroRun State) → run ≡ s.run → last ≡ s.run → IsFront run.world.given last.world.given
+  stays run last b c = subst (λ (x : MicroRun State). IsFront run.world.given x.world.given) (b ∙ sym c) (front_same run.world.given)
+
+  given_first : OnlyGives m → (plan : Plan) (text whole : List ℕ) (run last : MicroRun State) → Begins m book words memory bound plan s text run → Carries m book words memory bound plan s whole last →
+      IsFront run.world.given last.world.given
+  given_first only (plans.Clock u times) text whole run last b c =
+      subst (λ (x : MicroRun State). IsFront x.world.given last.world.given) (sym b.2) (subst (λ (x : MicroRun State). IsFront (after m book words s.breaks bound u b.0 s.run).world.given x.world.given) (sym c.2)
+      (more_given m book words s.breaks bound u only b.0 c.0 s.run (none_behind m book words s.breaks bound u times b.0 c.0 s.run b.1 c.1)))
+  given_first only (plans.Refuse reply) text whole run last b c = stays run last b.0 c.0
+  given_first only plans.Registers text whole run last b c = stays run last b.0 c.0
+  given_first only plans.Stack text whole run last b c = stays run last b.0 c.0
+  given_first only plans.Where text whole run last b c = stays run last b.0 c.0
+  given_first only plans.Nothing text whole run last b c = stays run last b.0 c.0
+  given_first only plans.Quit text whole run last b c = stays run last b.0 c.0
+
+  broken_off : (line : List ℕ) (held said said' : Option (List ℕ)) (text : List ℕ) (run : MicroRun State) → Begins m book words memory bound (plan_at m book words memory bound s line) s text run →
+      IsFrontOf held run.world.given → GotFront said text said' → IsBrokenOff m book words memory bound line s held said said'
+  broken_off line held said said' text run begun out err =
+      record {
+        run = run;
+        text = text;
+        begun = begun;
+        out = out;
+        err = err;
+        whole_out = λ only whole s' does. held_front held run.world.given s'.run.world.given out (given_first only (plan_at m book words memory bound s line) text whole run s'.run begun does.carries);
+        whole_err = λ whole s' does. got_front said said' text whole err (printed_first (plan_at m book words memory bound s line) text whole run s'.run begun does.carries);
+      }
+
+-- ---- what a call of the library leaves
+
+module _ {M State : Type 0} (state : M → State) (m : Meaning State) (book : Book) (left left' : List ℕ) (held held' said said' : Option (List ℕ)) (v : SessionView M) (board' : BoardView M)
+    (s : Stand State) (here : StandsAt state (Some left) held v s) where
+  -- it leaves each stand so, where its plan is broken off so
+  abbrev Left : Plan → Type 0
+  Left plan =
+      (text : List ℕ) × (run : MicroRun State) × Begins m book v.board.store.words v.listing.memory v.bound plan s text run × IsFrontOf held' run.world.given × GotFront said text said'
+
+  abbrev Stayed : Plan → Type 0
+  Stayed plan =
+      (text : List ℕ) × (run : MicroRun State) × Shows m book v.board.store.words v.listing.memory v.bound s plan text run × IsFrontOf held' run.world.given × GotFront said text said'
+
+  stayed : (plan : Plan) → IsSaidInPart state m book (Some left) held said v (Some left') held' said' board' plan → Stayed plan
+  stayed plan part =
+      let at = leads_on state m book left left' held held' v board' [] s here (λ r rest. IsFrontOf held' r.world.given) part.0 in (
+        shown_at m book v.board.store.words v.listing.memory v.bound s plan,
+        s.run,
+        (refl, refl),
+        at.1,
+        subst (λ (t : List ℕ). GotFront said t said') (shown_same state m book left left' held held' v board' [] s here plan) part.1,
+      )
+
+  left_by : (plan : Plan) → IsBrokenIn state m book (Some left) held said v (Some left') held' said' board' plan → Left plan
+  left_by (plans.Clock u times) led =
+      let at = leads_on state m book left left' held held' v board' [] s here _ led in
+      let n = at.1.0 in
+      let broken = at.1.1 in
+      subst (λ (breaks : List ℕ). (text : List ℕ) × (run : MicroRun State)
+      × ((k : ℕ) × IsGoing m book v.board.store.words breaks v.bound u times k s.run × (run ≡ after m book v.board.store.words breaks v.bound u k s.run)
+      × (text ≡ printed m book v.board.store.words breaks v.bound u k s.run)) × IsFrontOf held' run.world.given × GotFront said text said') (sym here.breaks)
+      (printed m book v.board.store.words v.breaks v.bound u n s.run, after m book v.board.store.words v.breaks v.bound u n s.run, (n, broken.going, refl, refl), broken.out, broken.err)
+  left_by (plans.Refuse reply) part = stayed (plans.Refuse reply) part
+  left_by plans.Registers part = stayed plans.Registers part
+  left_by plans.Stack part = stayed plans.Stack part
+  left_by plans.Where part = stayed plans.Where part
+  left_by plans.Nothing part = stayed plans.Nothing part
+  left_by plans.Quit part = stayed plans.Quit part
+
+pub breaks_by : {M State T E : Type 0} (state : M → State) (m : Meaning State) (left left' : List ℕ) (held held' said said' : Option (List ℕ)) (v v' : SessionView M) (line : List ℕ) (r : Result T E) →
+    OnErr r ((v.board.end ≡ None → v'.board.end ≢ Some ends.ReadFault) → (book : Book) → IsBook v.listing.program v.listing.placement v.listing.image book →
+    IsBrokenIn state m book (Some left) held said v (Some left') held' said' v'.board (plan_in v line)) →
+    (v.board.end ≡ None → HasReadCause 0 0 v'.board.end) → OnErr r (BreaksOff state m line (Some left) held said v held' said')
+breaks_by state m left left' held held' said said' v v' line (Ok reply) broken input = tt
+breaks_by state m left left' held held' said said' v v' line (Err e) broken input =
+    λ book is_book s here.
+    let at = left_by state m book left left' held held' said said' v v'.board s here (plan_in v line) (broken (λ none read. no_rise ((input none).rose read)) book is_book) in
+    broken_off m book v.board.store.words v.listing.memory v.bound s line held' said said' at.0 at.1
+    (subst (λ (p : Plan). Begins m book v.board.store.words v.listing.memory v.bound p s at.0 at.1) (same_plan state m book left left' held held' v v'.board [] s here line) at.2) at.3 at.4

@@ -1,0 +1,280 @@
+-- Lines that are done one behind the other.
+use Rattle.std.proofs.Common.{◌≡◌, ◌≢◌, ◌⊎◌, ◌<◌, ◌-◌, ◌∙◌, ℕ, zero, suc, Bool, true, false, List, [], ◌∷◌, ◌++◌, length, Option, Some, None, refl, sym, ap, subst, append_assoc, arith}
+use Rattle.std.specs.Prelude.{if◌then◌else◌, IfSome, Ok}
+use Rattle.std.specs.Option.{option_map}
+use Rattle.std.proofs.lemmas.List.{append-nil}
+use Rattle.mic_base.specs.Causes.{Rose}
+use Rattle.mic_base.specs.Streams.{Holds}
+use Rattle.micro_word.specs.ControlStore.{ControlStore}
+use Rattle.mic_clock.specs.Meaning.{Meaning}
+use Rattle.mic_debugger.specs.Book.{Book, IsBook}
+use Rattle.mic_debugger.specs.Session.{Prints}
+use Rattle.mic_debugger.specs.View.{ListingView, SessionView}
+use Rattle.cli_outside.specs.Outside.{SinkState}
+use Rattle.cli_debug.specs.declared.line.Read.{Read}
+use Rattle.cli_debug.specs.declared.line.Read.TheVariants as reads
+use Rattle.cli_debug.specs.declared.lines.Step.{Step}
+use Rattle.cli_debug.specs.declared.lines.Step.TheVariants as steps
+use Rattle.cli_debug.specs.Told.{IsCut, IsFirst, ReadsOf, behind_line, line_in}
+use Rattle.cli_debug.specs.Stand.{DoesAll, Stand, StandsAt, is_quit, lines_of}
+use Rattle.cli_debug.specs.Goes.{BreaksOff, ConsoleFailed, Goes, Gone, On, Over, Place, SinkFailed, step_behind}
+
+-- ---- what is printed
+
+prints_none : (held : Option (List ℕ)) → Prints held [] held
+prints_none None = refl
+prints_none (Some h) = ap Some (sym (append-nil h))
+
+prints_more : (held held' held'' : Option (List ℕ)) (a b : List ℕ) → Prints held a held' → Prints held' b held'' → Prints held (a ++ b) held''
+prints_more None held' held'' a b p q = q ∙ ap (option_map (λ (h : List ℕ). h ++ b)) p
+prints_more (Some h) held' held'' a b p q = q ∙ ap (option_map (λ (x : List ℕ). x ++ b)) p ∙ ap Some (append_assoc h a b)
+
+-- ---- what the lines are
+
+-- the first of some bytes, and then the others, if it does not quit
+lines_first : (memory n : ℕ) (told line : List ℕ) → 0 < length told → line ≡ line_in 256 told →
+    lines_of memory (suc n) told ≡ line ∷ (if is_quit memory line then [] else lines_of memory n (behind_line 256 told))
+lines_first memory n [] line some e = absurd (omega (arith, some))
+lines_first memory n (b ∷ bytes) line some e =
+    λ i. sym e i ∷ (if is_quit memory (sym e i) then [] else lines_of memory n (behind_line 256 (b ∷ bytes)))
+
+no_lines : (memory n : ℕ) → lines_of memory n [] ≡ []
+no_lines memory zero = refl
+no_lines memory (suc n) = refl
+
+-- what is known of the bytes before and behind some lines
+then_told : (left mid : Option (List ℕ)) (P : List ℕ → List ℕ → Type 0) (Q R : List ℕ → Type 0) →
+    IfSome left (λ bytes. (rest : List ℕ) × (mid ≡ Some rest) × P bytes rest) → IfSome mid Q →
+    ((bytes rest : List ℕ) → P bytes rest → Q rest → R bytes) → IfSome left R
+then_told None mid P Q R p q f = tt
+then_told (Some bytes) mid P Q R p q f = f bytes p.0 p.2 (subst (λ (l : Option (List ℕ)). IfSome l Q) p.1 q)
+
+pub told_as : (left : Option (List ℕ)) (P Q : List ℕ → Type 0) → IfSome left P → ((bytes : List ℕ) → P bytes → Q bytes) → IfSome left Q
+told_as None P Q p f = tt
+told_as (Some bytes) P Q p f = f bytes p
+
+module _ {M State : Type 0} (state : M → State) (m : Meaning State) where
+  -- ---- how they lead a session on
+
+  does_more : (book : Book) (words : List ℕ) (memory bound : ℕ) (lines more : List (List ℕ)) (s t u : Stand State) (a b : List ℕ) →
+      DoesAll m book words memory bound lines s a t → DoesAll m book words memory bound more t b u → DoesAll m book words memory bound (lines ++ more) s (a ++ b) u
+  does_more book words memory bound [] more s t u a b first rest =
+      subst (λ (x : Stand State). DoesAll m book words memory bound more x (a ++ b) u) first.1
+      (subst (λ (w : List ℕ). DoesAll m book words memory bound more t (w ++ b) u) (sym first.0) rest)
+  does_more book words memory bound (line ∷ lines) more s t u a b first rest = (
+    first.0,
+    first.1 ++ b,
+    first.2,
+    first.3,
+    does_more book words memory bound lines more first.2 t u first.1 b first.4 rest,
+    ap (λ (x : List ℕ). x ++ b) first.5 ∙ append_assoc first.0 first.1 b,
+  )
+
+  -- before the first line
+  pub gone_none : (old new : Place M) → new.session ≡ old.session → new.input ≡ old.input → new.out ≡ old.out → new.err ≡ old.err →
+      old.session.board.bus.console.kept ≡ [] → Gone state m [] old new
+  gone_none old new session input out err kept =
+      record {
+        led = λ book is_book. (
+          [],
+          subst (λ (e : SinkState). Prints old.err.held [] e.held) (sym err) (prints_none old.err.held),
+          λ s here. (
+            s,
+            (refl, refl),
+            subst (λ (v : SessionView M). StandsAt state (Some new.input) new.out.held v s) (sym session)
+                (subst (λ (l : List ℕ). StandsAt state (Some l) new.out.held old.session s) (sym input)
+                (subst (λ (o : SinkState). StandsAt state (Some old.input) o.held old.session s) (sym out) here)),
+          ),
+        );
+        listing = ap (λ (v : SessionView M). v.listing) session;
+        bound = ap (λ (v : SessionView M). v.bound) session;
+        store = ap (λ (v : SessionView M). v.board.store) session;
+        kept = ap (λ (v : SessionView M). v.board.bus.console.kept) session ∙ kept;
+        out = ap (λ (o : SinkState). o.faults) out;
+        err = ap (λ (e : SinkState). e.faults) err;
+      }
+
+  gone_more : (lines more : List (List ℕ)) (old mid new : Place M) → Gone state m lines old mid → Gone state m more mid new → Gone state m (lines ++ more) old new
+  gone_more lines more old mid new first rest =
+      record {
+        led = λ book is_book.
+            let one = first.led book is_book in
+            let two = rest.led book (subst (λ (l : ListingView). IsBook l.program l.placement l.image book) (sym first.listing) is_book) in (
+              one.0 ++ two.0,
+              prints_more old.err.held mid.err.held new.err.held one.0 two.0 one.1 two.1,
+              λ s here.
+                  let near = one.2 s here in
+                  let far = two.2 near.0 near.2 in (
+                    far.0,
+                    does_more book old.session.board.store.words old.session.listing.memory old.session.bound lines more s near.0 far.0 one.0 two.0 near.1
+                        (subst (λ (w : ControlStore). DoesAll m book w.words old.session.listing.memory old.session.bound more near.0 two.0 far.0) first.store
+                        (subst (λ (l : ListingView). DoesAll m book mid.session.board.store.words l.memory old.session.bound more near.0 two.0 far.0) first.listing
+                        (subst (λ (b : ℕ). DoesAll m book mid.session.board.store.words mid.session.listing.memory b more near.0 two.0 far.0) first.bound far.1))),
+                    far.2,
+                  ),
+            );
+        listing = rest.listing ∙ first.listing;
+        bound = rest.bound ∙ first.bound;
+        store = rest.store ∙ first.store;
+        kept = rest.kept;
+        out = rest.out ∙ first.out;
+        err = rest.err ∙ first.err;
+      }
+
+  -- ---- how it goes on
+
+  pub goes_start : (most : ℕ) (p : Place M) → p.session.board.bus.console.kept ≡ [] → Goes state m most most p p steps.On
+  goes_start most p kept = On [] (gone_none p p refl refl refl refl kept) refl (here p.console.left)
+    where
+      here : (left : Option (List ℕ)) → IfSome left (λ bytes. (rest : List ℕ) × (left ≡ Some rest) × (lines_of p.session.listing.memory most bytes ≡ [] ++ lines_of p.session.listing.memory most rest))
+      here None = tt
+      here (Some bytes) = (bytes, refl, refl)
+
+  go_on : (most n : ℕ) (old mid new : Place M) (step : Step) (lines : List (List ℕ)) → Gone state m lines old mid → mid.console.faults ≡ old.console.faults →
+      IfSome old.console.left (λ bytes. (rest : List ℕ) × (mid.console.left ≡ Some rest)
+      × (lines_of old.session.listing.memory most bytes ≡ lines ++ lines_of old.session.listing.memory (suc n) rest)) →
+      Goes state m (suc n) n mid new step → Goes state m most n old new step
+  go_on most n old mid new step lines gone quiet told (On more gone' quiet' told') =
+      let memory = old.session.listing.memory in
+      let same : mid.session.listing.memory ≡ memory = ap (λ (l : ListingView). l.memory) gone.listing in
+      On (lines ++ more) (gone_more lines more old mid new gone gone') (quiet' ∙ quiet)
+      (then_told old.console.left mid.console.left (λ bytes rest. lines_of memory most bytes ≡ lines ++ lines_of memory (suc n) rest) _ _ told told'
+      (λ bytes rest e q. (
+        q.0,
+        q.1,
+        e ∙ ap (λ (x : List (List ℕ)). lines ++ x) (subst (λ (k : ℕ). lines_of k (suc n) rest ≡ more ++ lines_of k n q.0) same q.2) ∙ sym (append_assoc lines more (lines_of memory n q.0)),
+      )))
+  go_on most n old mid new step lines gone quiet told (Over more gone' quiet' told') =
+      let memory = old.session.listing.memory in
+      let same : mid.session.listing.memory ≡ memory = ap (λ (l : ListingView). l.memory) gone.listing in
+      Over (lines ++ more) (gone_more lines more old mid new gone gone') (quiet' ∙ quiet)
+      (then_told old.console.left mid.console.left (λ bytes rest. lines_of memory most bytes ≡ lines ++ lines_of memory (suc n) rest) _ _ told told'
+      (λ bytes rest e q. ap (λ (x : List (List ℕ)). lines ++ x) (subst (λ (k : ℕ). more ≡ lines_of k (suc n) rest) same q) ∙ sym e))
+  go_on most n old mid new step lines gone quiet told (ConsoleFailed more gone' rose told') =
+      let memory = old.session.listing.memory in
+      let same : mid.session.listing.memory ≡ memory = ap (λ (l : ListingView). l.memory) gone.listing in
+      ConsoleFailed (lines ++ more) (gone_more lines more old mid new gone gone') (subst (λ (k : ℕ). Rose k new.console.faults) quiet rose)
+      (then_told old.console.left mid.console.left (λ bytes rest. lines_of memory most bytes ≡ lines ++ lines_of memory (suc n) rest) _ _ told told'
+      (λ bytes rest e q. record {
+        before = q.before;
+        cut = q.cut;
+        rest = q.rest;
+        left_is = q.left_is;
+        short = q.short;
+        unended = q.unended;
+        whole = e ∙ ap (λ (x : List (List ℕ)). lines ++ x) (subst (λ (k : ℕ). lines_of k (suc n) rest ≡ more ++ lines_of k q.before (q.cut ++ q.rest)) same q.whole)
+            ∙ sym (append_assoc lines more (lines_of memory q.before (q.cut ++ q.rest)));
+      }))
+  go_on most n old mid new step lines gone quiet told (SinkFailed more line at gone' quiet' told' broken out err rose) =
+      let memory = old.session.listing.memory in
+      let same : mid.session.listing.memory ≡ memory = ap (λ (l : ListingView). l.memory) gone.listing in
+      SinkFailed (lines ++ more) line at (gone_more lines more old mid at gone gone') (quiet' ∙ quiet)
+      (then_told old.console.left mid.console.left (λ bytes rest. lines_of memory most bytes ≡ lines ++ lines_of memory (suc n) rest) _ _ told told'
+      (λ bytes rest e q. (
+        q.0,
+        e ∙ ap (λ (x : List (List ℕ)). lines ++ x) (subst (λ (k : ℕ). lines_of k (suc n) rest ≡ more ++ line ∷ q.0) same q.1) ∙ sym (append_assoc lines more (line ∷ q.0)),
+      )))
+      broken out err (subst (λ (k : ℕ). Rose k new.out.faults ⊎ Rose old.err.faults new.err.faults) gone.out (subst (λ (k : ℕ). Rose mid.out.faults new.out.faults ⊎ Rose k new.err.faults) gone.err rose))
+
+  -- a line more
+  pub goes_more : (most n : ℕ) (old mid new : Place M) (before step : Step) → before ≡ steps.On → Goes state m most (suc n) old mid before →
+      Goes state m (suc n) n mid new step → Goes state m most n old new step
+  goes_more most n old mid new before step e (On lines gone quiet told) next = go_on most n old mid new step lines gone quiet told next
+  goes_more most n old mid new before step e (Over lines gone quiet told) next = absurd (cc)
+  goes_more most n old mid new before step e (ConsoleFailed lines gone rose told) next = absurd (cc)
+  goes_more most n old mid new before step e (SinkFailed lines line at gone quiet told broken out err rose) next = absurd (cc)
+
+  -- ---- one line
+
+  -- the end is met at once
+  pub goes_nowhere : (n : ℕ) (old new : Place M) → Gone state m [] old new → new.console.faults ≡ old.console.faults →
+      IfSome old.console.left (λ told. told ≡ []) → Goes state m (suc n) n old new steps.Over
+  goes_nowhere n old new gone quiet told =
+      Over [] gone quiet (told_as old.console.left _ _ told (λ bytes e. ap (lines_of old.session.listing.memory (suc n)) (sym e)))
+
+  -- the console fails
+  pub goes_cut : (n : ℕ) (old new : Place M) (line : List ℕ) → Gone state m [] old new → Rose old.console.faults new.console.faults →
+      IfSome old.console.left (λ told. IsCut told line new.console.left) → Goes state m (suc n) n old new steps.ConsoleFailed
+  goes_cut n old new line gone rose told =
+      ConsoleFailed [] gone rose
+      (told_as old.console.left _ _ told
+      (λ bytes cut. record {
+        before = suc n;
+        cut = line;
+        rest = cut.rest;
+        left_is = cut.left_is;
+        short = cut.short;
+        unended = subst (λ (x : List ℕ). line_in 256 x ≡ line ++ line_in (256 - length line) cut.rest) cut.told_is cut.unended;
+        whole = ap (lines_of old.session.listing.memory (suc n)) cut.told_is;
+      }))
+
+  -- a sink fails
+  pub goes_wrong : (E : Type 0) (n : ℕ) (old mid new : Place M) (line : List ℕ) (read : Read) → read ≢ reads.Nothing → Gone state m [] old mid → new.console.faults ≡ old.console.faults →
+      IfSome old.console.left (λ told. ReadsOf {E = E} told line (Ok read) new.console.left) →
+      BreaksOff state m line (Some mid.input) mid.out.held mid.err.held mid.session new.out.held new.err.held →
+      ((front : List ℕ) → Holds front mid.out.held → Holds front new.out.held) → ((front : List ℕ) → Holds front mid.err.held → Holds front new.err.held) →
+      (Rose old.out.faults new.out.faults ⊎ Rose old.err.faults new.err.faults) → Goes state m (suc n) n old new steps.SinkFailed
+  goes_wrong E n old mid new line read other gone quiet told broken out err rose =
+      SinkFailed [] line mid gone quiet (told_as old.console.left _ _ told (λ bytes q. (_, by read other bytes q))) broken out err rose
+    where
+      first_is : (bytes : List ℕ) → IsFirst bytes line new.console.left →
+          lines_of old.session.listing.memory (suc n) bytes ≡ line ∷ (if is_quit old.session.listing.memory line then [] else lines_of old.session.listing.memory n (behind_line 256 bytes))
+      first_is bytes first = lines_first old.session.listing.memory n bytes line first.some first.line_is
+
+      by : (one : Read) → one ≢ reads.Nothing → (bytes : List ℕ) → ReadsOf {E = E} bytes line (Ok one) new.console.left →
+          lines_of old.session.listing.memory (suc n) bytes ≡ line ∷ (if is_quit old.session.listing.memory line then [] else lines_of old.session.listing.memory n (behind_line 256 bytes))
+      by reads.Line well bytes first = first_is bytes first
+      by reads.Last well bytes first = first_is bytes first.0
+      by reads.Nothing well bytes none = absurd (well refl)
+
+  -- a line is done
+  pub goes_one : (E : Type 0) (n : ℕ) (old new : Place M) (line : List ℕ) (read : Read) (quits : Bool) → quits ≡ is_quit old.session.listing.memory line → read ≢ reads.Nothing →
+      Gone state m (line ∷ []) old new → new.console.faults ≡ old.console.faults →
+      IfSome old.console.left (λ told. ReadsOf {E = E} told line (Ok read) new.console.left) → Goes state m (suc n) n old new (step_behind read quits)
+  goes_one E n old new line reads.Line true is other gone quiet told =
+      Over (line ∷ []) gone quiet (told_as old.console.left _ _ told (λ bytes first. quits_at n bytes first))
+    where
+      quits_at : (k : ℕ) (bytes : List ℕ) → IsFirst bytes line new.console.left → line ∷ [] ≡ lines_of old.session.listing.memory (suc k) bytes
+      quits_at k bytes first =
+          sym (lines_first old.session.listing.memory k bytes line first.some first.line_is
+          ∙ ap (λ (q : Bool). line ∷ (if q then [] else lines_of old.session.listing.memory k (behind_line 256 bytes))) (sym is))
+  goes_one E n old new line reads.Last true is other gone quiet told =
+      Over (line ∷ []) gone quiet
+      (told_as old.console.left _ _ told
+      (λ bytes first.
+      sym (lines_first old.session.listing.memory n bytes line first.0.some first.0.line_is
+      ∙ ap (λ (q : Bool). line ∷ (if q then [] else lines_of old.session.listing.memory n (behind_line 256 bytes))) (sym is))))
+  goes_one E n old new line reads.Line false is other gone quiet told =
+      On (line ∷ []) gone quiet
+      (told_as old.console.left _ _ told
+      (λ bytes first. (
+        behind_line 256 bytes,
+        first.rest,
+        lines_first old.session.listing.memory n bytes line first.some first.line_is
+            ∙ ap (λ (q : Bool). line ∷ (if q then [] else lines_of old.session.listing.memory n (behind_line 256 bytes))) (sym is),
+      )))
+  goes_one E n old new line reads.Last false is other gone quiet told =
+      Over (line ∷ []) gone quiet
+      (told_as old.console.left _ _ told
+      (λ bytes first.
+      sym (lines_first old.session.listing.memory n bytes line first.0.some first.0.line_is
+      ∙ ap (λ (q : Bool). line ∷ (if q then [] else lines_of old.session.listing.memory n (behind_line 256 bytes))) (sym is)
+      ∙ ap (λ (r : List ℕ). line ∷ lines_of old.session.listing.memory n r) first.1
+      ∙ ap (λ (x : List (List ℕ)). line ∷ x) (no_lines old.session.listing.memory n))))
+  goes_one E n old new line reads.Nothing quits is other gone quiet told = absurd (other refl)
+
+  -- ---- many lines
+
+  -- nothing waits for `out` where a session goes on
+  pub kept_on : (most n : ℕ) (old new : Place M) (step : Step) → step ≡ steps.On → Goes state m most n old new step → new.session.board.bus.console.kept ≡ []
+  kept_on most n old new step e (On lines gone quiet told) = gone.kept
+  kept_on most n old new step e (Over lines gone quiet told) = absurd (cc)
+  kept_on most n old new step e (ConsoleFailed lines gone rose told) = absurd (cc)
+  kept_on most n old new step e (SinkFailed lines line at gone quiet told broken out err rose) = absurd (cc)
+
+  -- where it does not, it does not matter how many lines might have followed
+  pub goes_over : (most n k : ℕ) (old new : Place M) (step : Step) → (step ≢ steps.On) → Goes state m most n old new step → Goes state m most k old new step
+  goes_over most n k old new step other (On lines gone quiet told) = absurd (other refl)
+  goes_over most n k old new step other (Over lines gone quiet told) = Over lines gone quiet told
+  goes_over most n k old new step other (ConsoleFailed lines gone rose told) = ConsoleFailed lines gone rose told
+  goes_over most n k old new step other (SinkFailed lines line at gone quiet told broken out err rose) = SinkFailed lines line at gone quiet told broken out err rose

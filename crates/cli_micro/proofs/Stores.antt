@@ -1,0 +1,13 @@
+-- A refusal of a store file that has a reason.
+use Rattle.std.proofs.Common.{◌≡◌, ◌⊎◌, ℕ, List, Some, inl, inr}
+use Rattle.store_placement.specs.declared.store_error.StoreError.{StoreError}
+use Rattle.store_placement.specs.declared.store_error.StoreError.TheVariants as store
+use Rattle.store_placement.specs.StoreFile.{RefusesFile}
+use Rattle.cli_micro.specs.Reasons.{store_reason}
+
+no_reason : (e : StoreError) (reason : List ℕ) → Some reason ≡ store_reason e → e ≡ store.OutOfMemory → ⊥
+no_reason e reason h memory = let none : Some reason ≡ store_reason store.OutOfMemory = rw memory at h in cc
+
+pub refused_file : (bytes : List ℕ) (e : StoreError) (reason : List ℕ) → Some reason ≡ store_reason e → (e ≡ store.OutOfMemory) ⊎ RefusesFile bytes e → RefusesFile bytes e
+refused_file bytes e reason h (inl memory) = absurd (no_reason e reason h memory)
+refused_file bytes e reason h (inr refused) = refused

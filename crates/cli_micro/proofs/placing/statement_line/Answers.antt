@@ -1,0 +1,6 @@
+use Rattle.std.proofs.Common.{arith}
+use Rattle.cli_micro.proofs.Answering.{length_fixed}
+use Rattle.cli_micro.proofs.placing.statement_line.Goals as goal
+
+pub address-requires : goal.address-requires
+address-requires c = omega (arith, c.requires.placement.count, length_fixed c.args.program.now)

@@ -1,0 +1,107 @@
+//! A microprogram is placed: its control store, and what is printed of it.
+
+ghost use Rattle.std.specs.Prelude.{◌≡◌, ◌≤◌, ◌<◌, ◌^◌, ◌++◌, length, map, slice_index, IfOk, OnOk};
+ghost use Rattle.mal_parser.specs.Canonical.{text_of};
+ghost use Rattle.store_placement.specs.First.{below};
+ghost use Rattle.store_placement.specs.Placement.{Places};
+ghost use Rattle.store_placement.specs.Program.{demands_of};
+ghost use Rattle.cli_outside.specs.Work.{answered};
+ghost use Rattle.cli_micro.specs.Answers.{MicroAnswers};
+ghost use Rattle.cli_micro.specs.Texts.{counts_line, placement_text, statement_line, statement_lines};
+
+use crate::lines::{add_line, store_law, word_text};
+use crate::reasons::{mal_reason, number, place_reason};
+use cli_outside::Answer;
+use mal_parser::{MalProgram, parse_mal, print_labelled};
+use mic_base::Line;
+use micro_word::{Machine, Store};
+use std::alloc::{AllocError, Global};
+use store_placement::{Constraints, Placement, constraints_of, fill, place, store_bytes};
+
+/// A statement's address, the word there, and its canonical line.
+fn statement_line(program: &MalProgram, placement: &Placement, store: &Store, s: u16) -> Line
+    requires inside { s < length program.now.statements }
+    requires placement { Places (demands_of program.now) placement.now }
+    ensures { result ≡ statement_line program.now placement.now store.now s }
+{
+    let mut line = Line::new();
+    word_text(&mut line, store, placement.address(s));
+    print_labelled(program, s, &mut line);
+    line
+}
+
+fn counts_line(program: &MalProgram, constraints: &Constraints) -> Line
+    requires { constraints.now ≡ demands_of program.now }
+    ensures { result ≡ counts_line program.now }
+{
+    let mut line = Line::new();
+    line.text("statements ");
+    number(&mut line, u32::from(program.len()));
+    line.text(" fixed ");
+    number(&mut line, u32::from(constraints.fixed_count()));
+    line.text(" pairs ");
+    number(&mut line, u32::from(constraints.pair_count()));
+    line
+}
+
+/// Adds the line of each statement, in order.
+fn add_statements(
+    text: &mut Vec<u8>,
+    program: &MalProgram,
+    placement: &Placement,
+    store: &Store,
+) -> Result<(), AllocError>
+    requires { Places (demands_of program.now) placement.now }
+    ensures { OnOk result (text.new.items ≡ text.old.items ++ text_of (statement_lines program.now placement.now store.now)) }
+{
+    for s in 0..program.len() {
+        add_line(text, &statement_line(program, placement, store, s))?;
+    }
+    Ok(())
+}
+
+/// The line of each statement, and the counts.
+fn placement_text(
+    alloc: Global,
+    program: &MalProgram,
+    constraints: &Constraints,
+    placement: &Placement,
+    store: &Store,
+) -> Result<Vec<u8>, AllocError>
+    requires demands { constraints.now ≡ demands_of program.now }
+    requires placement { Places (demands_of program.now) placement.now }
+    ensures { IfOk result (λ text. text.items ≡ placement_text program.now placement.now store.now) }
+{
+    let mut text = Vec::new(alloc);
+    add_statements(&mut text, program, placement, store)?;
+    add_line(&mut text, &counts_line(program, constraints))?;
+    Ok(text)
+}
+
+/// What `micro` comes to over a file of these bytes: the store file to be written and the text to be printed, or why the file is refused.
+pub fn placed_answer<'a>(
+    alloc: Global,
+    machine: Machine,
+    target: &'a str,
+    bytes: &[u8],
+) -> Result<Answer<'a>, AllocError>
+    requires { length bytes.now < 2 ^ 32 }
+    ensures { IfOk result (λ answer. MicroAnswers machine target.entry.now bytes.now (answered answer)) }
+{
+    let program = match parse_mal(alloc, machine, bytes) {
+        Ok(program) => program,
+        Err(error) => return Ok(Answer::Refuses(mal_reason(error)?)),
+    };
+    let constraints = constraints_of(&program);
+    let placement = match place(&constraints) {
+        Ok(placement) => placement,
+        Err(error) => return Ok(Answer::Refuses(place_reason(&program, error))),
+    };
+    let store = fill(&program, &placement);
+    store_law(&store);
+    Ok(Answer::Writes {
+        target,
+        bytes: store_bytes(alloc, &store)?,
+        text: placement_text(alloc, &program, &constraints, &placement, &store)?,
+    })
+}

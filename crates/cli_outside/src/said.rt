@@ -1,0 +1,59 @@
+//! Texts that are put to a sink.
+
+ghost use Rattle.std.specs.Prelude.{◌≡◌, ◌++◌, ℕ, List, Option, OnOk};
+ghost use Rattle.mic_base.specs.Causes.{HasCause};
+ghost use Rattle.mic_base.specs.Streams.{IsFlushed, Puts};
+ghost use Rattle.cli_outside.specs.Messages.{message};
+ghost use Rattle.cli_outside.specs.Outside.{Says, sink_of};
+
+use crate::status::Status;
+use mic_base::{Sink, SinkFailed};
+
+/// Puts a piece behind what was put, unless that failed.
+pub fn put_after<E: Sink>(
+    said: Result<(), SinkFailed>,
+    err: &mut E,
+    piece: &[u8],
+) -> Result<(), SinkFailed>
+    ensures puts { (old : Option (List ℕ)) (text : List ℕ) →
+        Puts old text said (E.held err.old) → Puts old (text ++ piece.now) result (E.held err.new) }
+    ensures cause { (before : ℕ) → HasCause before (E.faults err.old) said → HasCause before (E.faults err.new) result }
+{
+    match said {
+        Ok(()) => err.put(piece),
+        Err(failed) => Err(failed),
+    }
+}
+
+/// Passes on what was put, unless that failed.
+fn flush_after<E: Sink>(said: Result<(), SinkFailed>, err: &mut E) -> Result<(), SinkFailed>
+    ensures puts { (old : Option (List ℕ)) (text : List ℕ) → Puts old text said (E.held err.old) → Puts old text result (E.held err.new) }
+    ensures flushed { OnOk result (IsFlushed (E.held err.new) (E.passed err.new)) }
+    ensures cause { (before : ℕ) → HasCause before (E.faults err.old) said → HasCause before (E.faults err.new) result }
+{
+    match said {
+        Ok(()) => err.flush(),
+        Err(failed) => Err(failed),
+    }
+}
+
+/// Puts a text to a sink, passes it on, and answers the text's status, or a failed sink's where that failed.
+pub fn say<E: Sink>(err: &mut E, text: &[u8], status: Status) -> Status
+    ensures { Says (sink_of E.held E.passed E.faults err.old) (sink_of E.held E.passed E.faults err.new) text.now status.0 result.0 }
+{
+    let put = err.put(text);
+    let passed = flush_after(put, err);
+    status.once(passed)
+}
+
+/// Puts the line that says this of a file, and passes it on.
+pub fn say_of<E: Sink>(err: &mut E, file: &str, reason: &[u8], status: Status) -> Status
+    ensures { Says (sink_of E.held E.passed E.faults err.old) (sink_of E.held E.passed E.faults err.new) (message file.now reason.now) status.0 result.0 }
+{
+    let said = err.put(b"mic: ");
+    let said = put_after(said, err, file.as_bytes());
+    let said = put_after(said, err, reason);
+    let said = put_after(said, err, b"\n");
+    let said = flush_after(said, err);
+    status.once(said)
+}

@@ -1,0 +1,76 @@
+-- Why no accepted program is had.
+use Rattle.std.proofs.Common.{◌≡◌, ◌⊎◌, inl, inr, ℕ, List, Option, Some, None, refl, sym, ◌∙◌, ap, subst, true, false, Result, Ok, Err}
+use Rattle.std.specs.Prelude.{IfErr}
+use Rattle.console_port.specs.declared.map.MemoryMap.{MemoryMap}
+use Rattle.ijvm_image.specs.declared.image.ImageError.{ImageError}
+use Rattle.ijvm_image.specs.declared.image.ImageError.TheVariants as images
+use Rattle.ijvm_image.specs.Image.{ImageView}
+use Rattle.ijvm_image.specs.ImageFile.{IsRefused as IsRefusedFile}
+use Rattle.ijvm_paths.specs.declared.error.VerifyError.{VerifyError}
+use Rattle.ijvm_paths.specs.declared.error.VerifyError.TheVariants as facts
+use Rattle.ijvm_paths.specs.Facts.{Holds}
+use Rattle.cli_texts.specs.Refusals.{image_reason, link_reason, source_reason, verify_reason}
+use Rattle.cli_programs.specs.declared.program.Unaccepted.{Unaccepted}
+use Rattle.cli_programs.specs.Program.{IsNoSource, IsOf, IsRefused, IsUnaccepted, IsUnlinked, IsUnread, NoImage, NoProgram, NoSource, NotAccepted, NotLinked, begins_image, unaccepted_by}
+use Rattle.cli_programs.specs.declared.program.Unaccepted.TheVariants as reasons
+use Rattle.ijvm_program.specs.Program.{ProgramView}
+use Rattle.ijvm_asm.specs.declared.error.AsmError.{AsmError}
+use Rattle.ijvm_asm.specs.declared.error.AsmError.TheVariants as sources
+use Rattle.ijvm_asm.specs.Drafts.{is_memory}
+use Rattle.ijvm_asm.specs.Text.{Spells}
+use Rattle.ijvm_asm.specs.Text as assembler
+use Rattle.method_linker.specs.declared.error.LinkError.{LinkError}
+use Rattle.method_linker.specs.Linked as linker
+
+by_reason : (map : MemoryMap) (bytes : List ℕ) (reason : Option (List ℕ)) → ((text : List ℕ) → reason ≡ Some text → IsRefused map bytes text) → IsUnaccepted map bytes (unaccepted_by reason)
+by_reason map bytes None refuses = tt
+by_reason map bytes (Some text) refuses = refuses text refl
+
+pub no_image : (map : MemoryMap) (bytes : List ℕ) (e : ImageError) (u : Unaccepted) → begins_image bytes ≡ true → (e ≡ images.OutOfMemory) ⊎ IsRefusedFile bytes e →
+    u ≡ unaccepted_by (image_reason e) → IsUnaccepted map bytes u
+no_image map bytes e u begins (inl short) is =
+    subst (IsUnaccepted map bytes) (sym (is ∙ ap (λ (x : ImageError). unaccepted_by (image_reason x)) short)) tt
+no_image map bytes e u begins (inr read) is =
+    subst (IsUnaccepted map bytes) (sym is) (by_reason map bytes (image_reason e) (λ text said. NoImage e begins read said))
+
+pub not_accepted : (map : MemoryMap) (bytes : List ℕ) (image : ImageView) (e : VerifyError) (u : Unaccepted) → IsOf bytes image → (e ≡ facts.OutOfMemory) ⊎ Holds image map.stack_end e →
+    u ≡ unaccepted_by (verify_reason e) → IsUnaccepted map bytes u
+not_accepted map bytes image e u of (inl short) is =
+    subst (IsUnaccepted map bytes) (sym (is ∙ ap (λ (x : VerifyError). unaccepted_by (verify_reason x)) short)) tt
+not_accepted map bytes image e u of (inr holds) is =
+    subst (IsUnaccepted map bytes) (sym is) (by_reason map bytes (verify_reason e) (λ text said. NotAccepted image e of holds said))
+
+by_text : (text : List ℕ) (reason : Option (List ℕ)) → ((said : List ℕ) → reason ≡ Some said → IsNoSource text said) → IsUnlinked text (unaccepted_by reason)
+by_text text None refuses = tt
+by_text text (Some said) refuses = refuses said refl
+
+-- a refusal that is told is not want of memory
+is_told : (e : AsmError) (said : List ℕ) → source_reason e ≡ Some said → is_memory e ≡ false
+is_told (sources.BadToken line) said h = refl
+is_told (sources.BadLine line) said h = refl
+is_told (sources.BadNumber line) said h = refl
+is_told (sources.OutOfRange line) said h = refl
+is_told (sources.DuplicateName line) said h = refl
+is_told (sources.TooManyNames line) said h = refl
+is_told (sources.MissingEnd line) said h = refl
+is_told (sources.UnknownName line) said h = refl
+is_told sources.NoMain said h = refl
+is_told sources.OutOfMemory said h = cc
+
+pub no_source : (text : List ℕ) (e : AsmError) (u : Unaccepted) → (is_memory e ≡ false → assembler.IsRefused text e) → u ≡ unaccepted_by (source_reason e) → IsUnlinked text u
+no_source text e u refused is =
+    subst (IsUnlinked text) (sym is) (by_text text (source_reason e) (λ said h. NoSource e (refused (is_told e said h)) h))
+
+pub not_linked : (text : List ℕ) (source : ProgramView) (e : LinkError) (u : Unaccepted) → Spells text source → linker.IsRefused source e →
+    u ≡ unaccepted_by (link_reason e) → IsUnlinked text u
+not_linked text source e u spelled refused is =
+    subst (IsUnlinked text) (sym is) (by_text text (link_reason e) (λ said h. NotLinked source e spelled refused h))
+
+-- a source that has no image holds no accepted program
+pub no_program : (map : MemoryMap) (bytes : List ℕ) (u : Unaccepted) → begins_image bytes ≡ false → IsUnlinked bytes u → IsUnaccepted map bytes u
+no_program map bytes (reasons.Refused reason) begins h = NoProgram begins h
+no_program map bytes reasons.OutOfMemory begins h = tt
+
+pub no_program_in : {T : Type 0} (bytes : List ℕ) (r : Result T Unaccepted) → begins_image bytes ≡ false → IfErr r (IsUnlinked bytes) → IfErr r (IsUnread bytes)
+no_program_in bytes (Ok x) begins h = tt
+no_program_in bytes (Err u) begins h = λ map. no_program map bytes u begins h

@@ -1,0 +1,71 @@
+-- What a file holds, by its bytes: an image or a source of one, that is accepted or refused for a reason.
+use Rattle.std.specs.Prelude.{◌≡◌, ℕ, Bool, false, true, ◌==◌, List, [], ◌∷◌, Option, None, Some}
+use Rattle.console_port.specs.declared.map.MemoryMap.{MemoryMap}
+use Rattle.ijvm_image.specs.declared.image.ImageError.{ImageError}
+use Rattle.ijvm_image.specs.Image.{ImageView, IsWithinLimits}
+use Rattle.ijvm_image.specs.ImageFile.{IsFileOf, IsRefused as IsRefusedFile}
+use Rattle.ijvm_program.specs.Program.{ProgramView}
+use Rattle.ijvm_asm.specs.declared.error.AsmError.{AsmError}
+use Rattle.ijvm_asm.specs.Text.{Spells}
+use Rattle.ijvm_asm.specs.Text as assembler
+use Rattle.method_linker.specs.declared.error.LinkError.{LinkError}
+use Rattle.method_linker.specs.Linked.{IsLinked}
+use Rattle.method_linker.specs.Linked as linker
+use Rattle.ijvm_paths.specs.declared.error.VerifyError.{VerifyError}
+use Rattle.ijvm_paths.specs.Accepted.{IsAccepted, VerifiedView}
+use Rattle.ijvm_paths.specs.Facts.{Holds}
+use Rattle.cli_texts.specs.Refusals.{image_reason, link_reason, source_reason, verify_reason}
+use Rattle.cli_programs.specs.declared.program.Unaccepted.{Unaccepted}
+use Rattle.cli_programs.specs.declared.program.Unaccepted.TheVariants as reasons
+
+-- A file is an image file by its first byte. Every other file is a source.
+abbrev pub begins_image : List ℕ → Bool
+begins_image [] = false
+begins_image (first ∷ rest) = first == 0x1D
+
+-- the text is a source of this image
+pub record IsSource (text : List ℕ) (image : ImageView) : Type 0 where
+  pub source : ProgramView
+  pub spelled : Spells text source
+  pub linked : IsLinked source image
+
+-- the text is no source of an image, for this reason
+pub data IsNoSource (text reason : List ℕ) : Type 0 where
+  NoSource : (e : AsmError) → assembler.IsRefused text e → source_reason e ≡ Some reason → IsNoSource text reason
+  NotLinked : (source : ProgramView) (e : LinkError) → Spells text source → linker.IsRefused source e → link_reason e ≡ Some reason → IsNoSource text reason
+
+-- the file is this image's, or a source of it
+pub data IsOf (bytes : List ℕ) (image : ImageView) : Type 0 where
+  AsFile : begins_image bytes ≡ true → IsWithinLimits image.text image.pool → IsFileOf bytes image → IsOf bytes image
+  AsSource : begins_image bytes ≡ false → IsSource bytes image → IsOf bytes image
+
+-- the file is an image's that is accepted for this map
+pub record IsProgram (map : MemoryMap) (bytes : List ℕ) (program : VerifiedView) : Type 0 where
+  pub is : IsOf bytes program.image
+  pub map_is : program.map ≡ map
+  pub accepted : IsAccepted program
+
+-- the file is refused, for this reason
+pub data IsRefused (map : MemoryMap) (bytes reason : List ℕ) : Type 0 where
+  NoImage : (e : ImageError) → begins_image bytes ≡ true → IsRefusedFile bytes e → image_reason e ≡ Some reason → IsRefused map bytes reason
+  NoProgram : begins_image bytes ≡ false → IsNoSource bytes reason → IsRefused map bytes reason
+  NotAccepted : (image : ImageView) (e : VerifyError) → IsOf bytes image → Holds image map.stack_end e → verify_reason e ≡ Some reason → IsRefused map bytes reason
+
+-- for a reason, or for want of memory where there is none
+abbrev pub unaccepted_by : Option (List ℕ) → Unaccepted
+unaccepted_by None = reasons.OutOfMemory
+unaccepted_by (Some reason) = reasons.Refused reason
+
+-- what it means that no accepted program is had from these bytes
+abbrev pub IsUnaccepted : MemoryMap → List ℕ → Unaccepted → Type 0
+IsUnaccepted map bytes (reasons.Refused reason) = IsRefused map bytes reason
+IsUnaccepted map bytes reasons.OutOfMemory = Unit {0}
+
+-- what it means that no image is had from these bytes: no map has an accepted program then
+abbrev pub IsUnread : List ℕ → Unaccepted → Type 0
+IsUnread bytes unaccepted = (map : MemoryMap) → IsUnaccepted map bytes unaccepted
+
+-- what it means that no image is had from this source
+abbrev pub IsUnlinked : List ℕ → Unaccepted → Type 0
+IsUnlinked text (reasons.Refused reason) = IsNoSource text reason
+IsUnlinked text reasons.OutOfMemory = Unit {0}

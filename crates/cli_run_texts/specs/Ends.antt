@@ -1,0 +1,37 @@
+-- How a run ended: the name that its report gives, and the status.
+use Rattle.std.specs.Prelude.{ℕ, List, ◌++◌, codes}
+use Rattle.mic_base.specs.Digits.{hex_text}
+use Rattle.cli_outside.specs.Status as exits
+use Rattle.mic_clock.specs.declared.end.End.{End}
+use Rattle.mic_clock.specs.declared.end.End.TheVariants as ends
+use Rattle.plain_machine.specs.declared.plain.PlainEnd.{PlainEnd}
+use Rattle.plain_machine.specs.declared.plain.PlainEnd.TheVariants as plain
+
+abbrev pub name_of : End → List ℕ
+name_of ends.Halt = codes "halt"
+name_of ends.Err = codes "error"
+name_of ends.Bound = codes "bound"
+name_of ends.StackLimit = codes "stack-limit"
+name_of ends.ReadFault = codes "read-fault"
+name_of ends.WriteFault = codes "write-fault"
+name_of (ends.OutOfMap at) = codes "out-of-map at " ++ hex_text 8 at
+name_of ends.Adrift = codes "adrift"
+
+abbrev pub status_of : End → ℕ
+status_of ends.Halt = exits.done
+status_of ends.Err = exits.error
+status_of ends.Bound = exits.bound
+status_of ends.StackLimit = exits.stack_limit
+status_of ends.ReadFault = exits.console
+status_of ends.WriteFault = exits.sink
+status_of (ends.OutOfMap at) = exits.out_of_map
+status_of ends.Adrift = exits.adrift
+
+-- the clock's word for an end of the plain machine
+abbrev pub end_of : PlainEnd → End
+end_of plain.Halt = ends.Halt
+end_of plain.Err = ends.Err
+end_of plain.Bound = ends.Bound
+end_of plain.StackLimit = ends.StackLimit
+end_of plain.ReadFault = ends.ReadFault
+end_of plain.WriteFault = ends.WriteFault

@@ -1,0 +1,35 @@
+-- How `soak` ends: the generated program's run on a machine, with no input and its output thrown away, and its summary; or memory is wanting.
+use Rattle.std.specs.Prelude.{◌≡◌, ℕ, List, [], length, Option, Some, None}
+use Rattle.console_port.specs.declared.map.TheConstants.MemoryMap.{STANDARD}
+use Rattle.mic_clock.specs.Meaning.{Meaning}
+use Rattle.mic_clock.specs.View.{BoardView}
+use Rattle.ijvm_paths.specs.Accepted.{VerifiedView, IsAccepted}
+use Rattle.ijvm_simulation.specs.Simulates.{end_of}
+use Rattle.ijvm_simulation.specs.Headline.{HasRun}
+use Rattle.soak_program.specs.Generated.{generated}
+use Rattle.cli_outside.specs.Status as exits
+use Rattle.cli_outside.specs.Messages.{out_of_memory}
+use Rattle.cli_outside.specs.Outside.{SinkState, Says}
+use Rattle.cli_run_texts.specs.Ends.{status_of}
+use Rattle.cli_soak.specs.Summary.{summary}
+
+-- the cycles after which a run ends at the next boundary
+abbrev pub soak_bound : ℕ
+soak_bound = 10000000
+
+-- the accepted program of a seed and a size
+pub record IsGenerated (seed size : ℕ) (program : VerifiedView) : Type 0 where
+  pub image_is : program.image ≡ generated seed size
+  pub map_is : program.map ≡ STANDARD
+  pub accepted : IsAccepted program
+
+-- A machine: its meaning, when its next instruction is ready, its store that ships, and where that begins.
+module _ {M S : Type 0} (state : M → S) (m : Meaning S) (IsReady : ℕ → List ℕ → ℕ → S → Type 0) (IsShipped : List ℕ → Type 0) (entry : ℕ) where
+  pub data SoakEnds (seed size : ℕ) (out out' err err' : SinkState) (status : ℕ) : Type 0 where
+    NoRoom : out' ≡ out → Says err err' out_of_memory exits.memory status → SoakEnds seed size out out' err err' status
+    -- the clocked run is the definition's, boundary by boundary, and has ended as that does; `board` is the machine that was clocked
+    Ran : (program : VerifiedView) → IsGenerated seed size program → (left : Option (List ℕ)) (board : BoardView M) →
+        (run : HasRun state m IsReady IsShipped entry program soak_bound (Some []) None left None board) → err' ≡ err →
+        Says out out' (summary (length (generated seed size).text) (end_of run.begins.finish.end) board.counts (m.registers (state board.machine)).tos)
+        (status_of (end_of run.begins.finish.end)) status →
+        SoakEnds seed size out out' err err' status

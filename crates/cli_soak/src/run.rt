@@ -1,0 +1,65 @@
+//! The run of a generated program.
+
+ghost use Rattle.std.specs.Prelude.{◌≡◌, ◌≤◌, ℕ};
+ghost use Rattle.cli_outside.specs.Outside.{sink_of};
+ghost use Rattle.cli_soak.specs.SoakEnds.{IsGenerated, SoakEnds};
+
+use crate::summary::summary;
+use cli_outside::{Status, no_memory, say};
+use cli_run_texts::status_of;
+use ijvm_simulation::{Interpreter, run_image};
+use ijvm_verifier::VerifiedImage;
+use mic_base::{PlainSink, PlainSource, Sink};
+use soak_program::soak_image;
+use std::alloc::Global;
+
+/// The cycles after which a run ends at the next boundary.
+const BOUND: u64 = 10_000_000;
+
+/// Clocks the program of a seed and a size, 1 to 9,000, and prints the summary of its run.
+pub fn soak<I: Interpreter, K: Sink, E: Sink>(
+    alloc: Global,
+    seed: u32,
+    size: u16,
+    out: &mut K,
+    err: &mut E,
+) -> Status
+where
+    I::Machine: Drop,
+    requires { size ≤ 9000 }
+    ensures { SoakEnds I.Machine.state I.Machine.meaning I.Machine.IsReady I.IsShipped I.entry seed size
+        (sink_of K.held K.passed K.faults out.old) (sink_of K.held K.passed K.faults out.new)
+        (sink_of E.held E.passed E.faults err.old) (sink_of E.held E.passed E.faults err.new) result.0 }
+{
+    match soak_image(alloc, seed, size) {
+        Ok(program) => run_soak::<I, K, E>(alloc, &program, out, err),
+        Err(_) => no_memory(err),
+    }
+}
+
+/// Clocks the generated program, and prints the summary of its run.
+fn run_soak<I: Interpreter, K: Sink, E: Sink>(
+    alloc: Global,
+    program: &VerifiedImage,
+    out: &mut K,
+    err: &mut E,
+) -> Status
+where
+    I::Machine: Drop,
+    ensures { (seed size : ℕ) → IsGenerated seed size program.now →
+        SoakEnds I.Machine.state I.Machine.meaning I.Machine.IsReady I.IsShipped I.entry seed size
+        (sink_of K.held K.passed K.faults out.old) (sink_of K.held K.passed K.faults out.new)
+        (sink_of E.held E.passed E.faults err.old) (sink_of E.held E.passed E.faults err.new) result.0 }
+{
+    let mut source = PlainSource::new(Vec::new(alloc));
+    let mut sink = PlainSink::new();
+    match run_image::<I, PlainSource, PlainSink>(alloc, program, BOUND, &mut source, &mut sink) {
+        Ok(board) => {
+            let end = board.ended().unwrap();
+            let size_of_text = program.image().text().len();
+            let line = summary(size_of_text, end, &board.counts(), board.registers().tos);
+            say(out, line.bytes(), status_of(end))
+        }
+        Err(_) => no_memory(err),
+    }
+}

@@ -1,0 +1,200 @@
+-- What the words of a command line ask for: a command's name, and then what the entries behind it say, by the table.
+use Rattle.std.specs.Prelude.{◌≡◌, ◌≤◌, ℕ, ℤ, pos, Bool, false, ◌&&◌, nat_le, if◌then◌else◌, List, [], ◌∷◌, Option, Some, None, Result, Ok, Err, codes, is_some, option_and_then, option_map, unwrap_or}
+use Rattle.std.specs.Str.{bytes_eq}
+use Rattle.mic_base.specs.Number.{number_of}
+use Rattle.mic_base.specs.declared.number.NumberError.{NumberError}
+use Rattle.machine_words.specs.declared.machine.Machine.{Machine}
+use Rattle.machine_words.specs.declared.machine.Machine.TheVariants.{Mic1, Mic2}
+use Rattle.console_port.specs.declared.map.MemoryMap.{MemoryMap}
+use Rattle.console_port.specs.declared.map.TheConstants.MemoryMap.{LARGE, STANDARD}
+use Rattle.console_port.specs.Map.{IsMap}
+use Rattle.cli_words.specs.Reading.{Entry, Text, reads, text_in}
+use Rattle.cli_words.specs.Table.{form_for, name_for}
+use Rattle.cli_words.specs.declared.options.TheConstants.{DEFAULT_BOUND, MOST_BLOCKS, MOST_CYCLES, MOST_SEED}
+use Rattle.cli_words.specs.declared.error.WordsError.{WordsError}
+use Rattle.cli_words.specs.declared.error.WordsError.TheVariants as error
+use Rattle.cli_words.specs.declared.table.CommandName.{CommandName}
+use Rattle.cli_words.specs.declared.table.CommandName.TheVariants as name
+use Rattle.cli_words.specs.declared.request.Job.{Job}
+use Rattle.cli_words.specs.declared.request.Mode.{Mode}
+use Rattle.cli_words.specs.declared.request.Mode.TheVariants as modes
+use Rattle.cli_words.specs.declared.request.Request.{Request}
+use Rattle.cli_words.specs.declared.request.Request.TheVariants as requests
+
+pub data Asked : Type 0 where
+  Assemble : (source image : Text) → Asked
+  ListOf : (file : Text) (map : MemoryMap) → Asked
+  Verify : (file : Text) (map : MemoryMap) → Asked
+  Run : (file : Text) (machine : Machine) (bound : ℕ) (map : MemoryMap) → Asked
+  -- with a person's own microprogram
+  RunOwn : (file : Text) (machine : Machine) (bound : ℕ) (map : MemoryMap) (micro : Text) → Asked
+  -- without a file of its own the microprogram that ships is clocked
+  Trace : (file : Text) (machine : Machine) (bound : ℕ) (map : MemoryMap) (micro : Option Text) (buses : Bool) → Asked
+  Profile : (file : Text) (machine : Machine) (bound : ℕ) (map : MemoryMap) (micro : Option Text) → Asked
+  -- the lines come from the console, the program's input from a file, or there is none
+  Debug : (file : Text) (machine : Machine) (bound : ℕ) (map : MemoryMap) (micro input : Option Text) → Asked
+  Reference : (file : Text) (machine : Machine) (bound : ℕ) (map : MemoryMap) → Asked
+  Micro : (mal store : Text) (machine : Machine) → Asked
+  -- without a file the microprogram that ships is asked for
+  PrintMicro : (file : Option Text) (machine : Machine) → Asked
+  -- a generated program of so many blocks
+  Soak : (seed size : ℕ) (machine : Machine) → Asked
+
+abbrev pub asked_run : Job → Mode → Asked
+asked_run job modes.Shipped = Run job.file.now job.machine job.bound job.map
+asked_run job (modes.Own micro) = RunOwn job.file.now job.machine job.bound job.map micro.now
+asked_run job (modes.Trace micro buses) = Trace job.file.now job.machine job.bound job.map (option_map (λ micro. micro.now) micro) buses
+asked_run job (modes.Profile micro) = Profile job.file.now job.machine job.bound job.map (option_map (λ micro. micro.now) micro)
+asked_run job (modes.Debug micro input) =
+    Debug job.file.now job.machine job.bound job.map (option_map (λ micro. micro.now) micro) (option_map (λ input. input.now) input)
+asked_run job modes.Reference = Reference job.file.now job.machine job.bound job.map
+
+abbrev pub asked : Request → Asked
+asked (requests.Assemble source image) = Assemble source.now image.now
+asked (requests.List file map) = ListOf file.now map
+asked (requests.Verify file map) = Verify file.now map
+asked (requests.Run job mode) = asked_run job mode
+asked (requests.Micro mal store machine) = Micro mal.now store.now machine
+asked (requests.PrintMicro file machine) = PrintMicro (option_map (λ file. file.now) file) machine
+asked (requests.Soak seed size machine) = Soak seed size machine
+
+-- one of the two maps
+abbrev pub HasMap : MemoryMap → Type 0
+HasMap map = IsMap map.stack_end
+
+-- the map of a request is one of the two, and its bound or its size at most the greatest
+abbrev pub HasLimits : Request → Type 0
+HasLimits (requests.List file map) = HasMap map
+HasLimits (requests.Verify file map) = HasMap map
+HasLimits (requests.Run job mode) = (job.bound ≤ MOST_CYCLES) × HasMap job.map
+HasLimits (requests.Soak seed size machine) = size ≤ MOST_BLOCKS
+HasLimits request = Unit {0}
+
+-- The value of an option, where it is given, and what holds where it is not.
+
+abbrev pub machine_in : Option Text → Option Machine
+machine_in None = Some Mic1
+machine_in (Some word) = if bytes_eq word (codes "mic1") then Some Mic1 else (if bytes_eq word (codes "mic2") then Some Mic2 else None)
+
+abbrev pub map_in : Option Text → Option MemoryMap
+map_in None = Some STANDARD
+map_in (Some word) = if bytes_eq word (codes "standard") then Some STANDARD else (if bytes_eq word (codes "large") then Some LARGE else None)
+
+-- a number from the least to the greatest
+abbrev pub number_within : ℕ → ℕ → Result ℤ NumberError → Option ℕ
+number_within least greatest (Ok (pos n)) = if nat_le least n && nat_le n greatest then Some n else None
+number_within least greatest _ = None
+
+abbrev pub bound_in : Option Text → Option ℕ
+bound_in None = Some DEFAULT_BOUND
+bound_in (Some word) = number_within 0 MOST_CYCLES (number_of word)
+
+abbrev pub machine_of : List Entry → Option Machine
+machine_of given = machine_in (text_in (codes "machine") given)
+
+abbrev pub bound_from : List Entry → Option ℕ
+bound_from given = bound_in (text_in (codes "bound") given)
+
+abbrev pub map_of : List Entry → Option MemoryMap
+map_of given = map_in (text_in (codes "map") given)
+
+-- The numbers among the plain words.
+
+abbrev pub seed_in : Text → Option ℕ
+seed_in word = number_within 0 MOST_SEED (number_of word)
+
+abbrev pub size_in : Text → Option ℕ
+size_in word = number_within 1 MOST_BLOCKS (number_of word)
+
+-- A flag reads as `true` where it is given, and as `false` where it is not.
+
+abbrev pub is_true : Option Text → Bool
+is_true None = false
+is_true (Some word) = bytes_eq word (codes "true")
+
+abbrev pub is_set : Text → List Entry → Bool
+is_set flag given = is_true (Some (unwrap_or (text_in flag given) (codes "false")))
+
+-- What the entries of a command ask for.
+
+abbrev pub assemble_of : List Entry → Option Asked
+assemble_of given = option_and_then (λ source. option_map (λ image. Assemble source image) (text_in (codes "IMAGE") given)) (text_in (codes "SOURCE") given)
+
+abbrev pub list_of : List Entry → Option Asked
+list_of given = option_and_then (λ file. option_map (λ map. ListOf file map) (map_of given)) (text_in (codes "FILE") given)
+
+abbrev pub verify_of : List Entry → Option Asked
+verify_of given = option_and_then (λ file. option_map (λ map. Verify file map) (map_of given)) (text_in (codes "FILE") given)
+
+abbrev pub run_of : List Entry → Option Asked
+run_of given = option_and_then (λ file. option_and_then (λ machine. option_and_then (λ bound.
+    option_map (λ map. Run file machine bound map)
+    (map_of given)) (bound_from given)) (machine_of given)) (text_in (codes "FILE") given)
+
+abbrev pub run_own_of : List Entry → Option Asked
+run_own_of given = option_and_then (λ file. option_and_then (λ machine. option_and_then (λ bound. option_and_then (λ map.
+    option_map (λ micro. RunOwn file machine bound map micro)
+    (text_in (codes "micro") given)) (map_of given)) (bound_from given)) (machine_of given)) (text_in (codes "FILE") given)
+
+abbrev pub trace_of : List Entry → Option Asked
+trace_of given = option_and_then (λ file. option_and_then (λ machine. option_and_then (λ bound.
+    option_map (λ map. Trace file machine bound map (text_in (codes "micro") given) (is_set (codes "buses") given))
+    (map_of given)) (bound_from given)) (machine_of given)) (text_in (codes "FILE") given)
+
+abbrev pub profile_of : List Entry → Option Asked
+profile_of given = option_and_then (λ file. option_and_then (λ machine. option_and_then (λ bound.
+    option_map (λ map. Profile file machine bound map (text_in (codes "micro") given))
+    (map_of given)) (bound_from given)) (machine_of given)) (text_in (codes "FILE") given)
+
+abbrev pub debug_of : List Entry → Option Asked
+debug_of given = option_and_then (λ file. option_and_then (λ machine. option_and_then (λ bound.
+    option_map (λ map. Debug file machine bound map (text_in (codes "micro") given) (text_in (codes "input") given))
+    (map_of given)) (bound_from given)) (machine_of given)) (text_in (codes "FILE") given)
+
+abbrev pub reference_of : List Entry → Option Asked
+reference_of given = option_and_then (λ file. option_and_then (λ machine. option_and_then (λ bound.
+    option_map (λ map. Reference file machine bound map)
+    (map_of given)) (bound_from given)) (machine_of given)) (text_in (codes "FILE") given)
+
+abbrev pub micro_of : List Entry → Option Asked
+micro_of given = option_and_then (λ mal. option_and_then (λ store. option_map (λ machine. Micro mal store machine)
+    (machine_of given)) (text_in (codes "STORE") given)) (text_in (codes "MAL") given)
+
+abbrev pub print_micro_of : List Entry → Option Asked
+print_micro_of given = option_map (λ machine. PrintMicro (text_in (codes "FILE") given) machine) (machine_of given)
+
+abbrev pub soak_of : List Entry → Option Asked
+soak_of given = option_and_then (λ seed. option_and_then (λ size. option_map (λ machine. Soak seed size machine)
+    (machine_of given)) (option_and_then size_in (text_in (codes "SIZE") given))) (option_and_then seed_in (text_in (codes "SEED") given))
+
+abbrev pub is_given : Text → List Entry → Bool
+is_given option given = is_some (text_in option given)
+
+-- What a command with these entries asks for. What is not built yet asks for nothing: such a line goes when its work is there.
+abbrev pub asked_of : CommandName → List Entry → Option Asked
+asked_of name.Assemble given = assemble_of given
+asked_of name.List given = list_of given
+asked_of name.Verify given = verify_of given
+asked_of name.Run given = if is_given (codes "micro") given then run_own_of given else run_of given
+asked_of name.Trace given = trace_of given
+asked_of name.Profile given = profile_of given
+asked_of name.Debug given = debug_of given
+asked_of name.Reference given = reference_of given
+asked_of name.Micro given = micro_of given
+asked_of name.PrintMicro given = print_micro_of given
+asked_of name.Soak given = soak_of given
+
+abbrev pub asked_by : Option CommandName → List Text → Option Asked
+asked_by None words = None
+asked_by (Some command) words = option_and_then (asked_of command) (reads (form_for command) words)
+
+-- what a whole list of words asks for, or nothing where it is a usage fault
+abbrev pub request_of : List Text → Option Asked
+request_of [] = None
+request_of (command ∷ words) = asked_by (name_for command) words
+
+-- the words are answered with what they ask for, or as a usage fault where they ask for nothing
+abbrev pub AnswersAs : Option Asked → Result Request WordsError → Type 0
+AnswersAs asks (Ok request) = asks ≡ Some (asked request)
+AnswersAs asks (Err error.Usage) = asks ≡ None
+AnswersAs asks (Err error.OutOfMemory) = Unit {0}

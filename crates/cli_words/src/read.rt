@@ -1,0 +1,233 @@
+//! What the words of a command line ask for.
+
+ghost use Rattle.std.specs.Prelude.{◌≡◌, IfOk, IfSome, List, is_some, map, string_bytes};
+ghost use Rattle.std.specs.Option.{option_map};
+ghost use Rattle.cli_words.specs.Reading.{Entry};
+ghost use Rattle.cli_words.specs.Table.{form_for};
+ghost use Rattle.cli_words.specs.Taking.{Holds};
+ghost use Rattle.cli_words.specs.Words.{AnswersAs, HasLimits, asked, asked_of, assemble_of, debug_of, list_of, micro_of, print_micro_of, profile_of, reference_of, request_of, run_of, run_own_of, soak_of, trace_of, verify_of};
+
+use crate::error::WordsError;
+use crate::options::{bound_in, is_true, machine_in, map_in, seed_in, size_in};
+use crate::request::{Job, Mode, Request};
+use crate::table::{CommandName, named};
+use crate::taking::take_command;
+use clap::ArgMatches;
+use std::alloc::Global;
+
+fn assemble<'a>(matches: &ArgMatches<'a>) -> Option<Request<'a>>
+    ensures limits { IfSome result HasLimits }
+    ensures asks { (g : List Entry) → Holds (form_for CommandName.Assemble) g matches.now → option_map asked result ≡ assemble_of g }
+{
+    let source = matches.get_str("SOURCE")?;
+    let image = matches.get_str("IMAGE")?;
+    Some(Request::Assemble { source, image })
+}
+
+fn list<'a>(matches: &ArgMatches<'a>) -> Option<Request<'a>>
+    ensures limits { IfSome result HasLimits }
+    ensures asks { (g : List Entry) → Holds (form_for CommandName.List) g matches.now → option_map asked result ≡ list_of g }
+{
+    let file = matches.get_str("FILE")?;
+    let map = map_in(matches.get_str("map"))?;
+    Some(Request::List { file, map })
+}
+
+fn verify<'a>(matches: &ArgMatches<'a>) -> Option<Request<'a>>
+    ensures limits { IfSome result HasLimits }
+    ensures asks { (g : List Entry) → Holds (form_for CommandName.Verify) g matches.now → option_map asked result ≡ verify_of g }
+{
+    let file = matches.get_str("FILE")?;
+    let map = map_in(matches.get_str("map"))?;
+    Some(Request::Verify { file, map })
+}
+
+fn run<'a>(matches: &ArgMatches<'a>) -> Option<Request<'a>>
+    ensures limits { IfSome result HasLimits }
+    ensures asks { (g : List Entry) → Holds (form_for CommandName.Run) g matches.now → option_map asked result ≡ run_of g }
+{
+    let file = matches.get_str("FILE")?;
+    let machine = machine_in(matches.get_str("machine"))?;
+    let bound = bound_in(matches.get_str("bound"))?;
+    let map = map_in(matches.get_str("map"))?;
+    let job = Job {
+        file,
+        machine,
+        bound,
+        map,
+    };
+    let mode = Mode::Shipped;
+    Some(Request::Run { job, mode })
+}
+
+fn run_own<'a>(matches: &ArgMatches<'a>) -> Option<Request<'a>>
+    ensures limits { IfSome result HasLimits }
+    ensures asks { (g : List Entry) → Holds (form_for CommandName.Run) g matches.now → option_map asked result ≡ run_own_of g }
+{
+    let file = matches.get_str("FILE")?;
+    let machine = machine_in(matches.get_str("machine"))?;
+    let bound = bound_in(matches.get_str("bound"))?;
+    let map = map_in(matches.get_str("map"))?;
+    let micro = matches.get_str("micro")?;
+    let job = Job {
+        file,
+        machine,
+        bound,
+        map,
+    };
+    let mode = Mode::Own { micro };
+    Some(Request::Run { job, mode })
+}
+
+fn trace<'a>(matches: &ArgMatches<'a>) -> Option<Request<'a>>
+    ensures limits { IfSome result HasLimits }
+    ensures asks { (g : List Entry) → Holds (form_for CommandName.Trace) g matches.now → option_map asked result ≡ trace_of g }
+{
+    let file = matches.get_str("FILE")?;
+    let machine = machine_in(matches.get_str("machine"))?;
+    let bound = bound_in(matches.get_str("bound"))?;
+    let map = map_in(matches.get_str("map"))?;
+    let micro = matches.get_str("micro");
+    let buses = is_true(matches.get_str("buses"));
+    let job = Job {
+        file,
+        machine,
+        bound,
+        map,
+    };
+    let mode = Mode::Trace { micro, buses };
+    Some(Request::Run { job, mode })
+}
+
+fn profile<'a>(matches: &ArgMatches<'a>) -> Option<Request<'a>>
+    ensures limits { IfSome result HasLimits }
+    ensures asks { (g : List Entry) → Holds (form_for CommandName.Profile) g matches.now → option_map asked result ≡ profile_of g }
+{
+    let file = matches.get_str("FILE")?;
+    let machine = machine_in(matches.get_str("machine"))?;
+    let bound = bound_in(matches.get_str("bound"))?;
+    let map = map_in(matches.get_str("map"))?;
+    let micro = matches.get_str("micro");
+    let job = Job {
+        file,
+        machine,
+        bound,
+        map,
+    };
+    let mode = Mode::Profile { micro };
+    Some(Request::Run { job, mode })
+}
+
+fn debug<'a>(matches: &ArgMatches<'a>) -> Option<Request<'a>>
+    ensures limits { IfSome result HasLimits }
+    ensures asks { (g : List Entry) → Holds (form_for CommandName.Debug) g matches.now → option_map asked result ≡ debug_of g }
+{
+    let file = matches.get_str("FILE")?;
+    let machine = machine_in(matches.get_str("machine"))?;
+    let bound = bound_in(matches.get_str("bound"))?;
+    let map = map_in(matches.get_str("map"))?;
+    let micro = matches.get_str("micro");
+    let input = matches.get_str("input");
+    let job = Job {
+        file,
+        machine,
+        bound,
+        map,
+    };
+    let mode = Mode::Debug { micro, input };
+    Some(Request::Run { job, mode })
+}
+
+fn reference<'a>(matches: &ArgMatches<'a>) -> Option<Request<'a>>
+    ensures limits { IfSome result HasLimits }
+    ensures asks { (g : List Entry) → Holds (form_for CommandName.Reference) g matches.now → option_map asked result ≡ reference_of g }
+{
+    let file = matches.get_str("FILE")?;
+    let machine = machine_in(matches.get_str("machine"))?;
+    let bound = bound_in(matches.get_str("bound"))?;
+    let map = map_in(matches.get_str("map"))?;
+    let job = Job {
+        file,
+        machine,
+        bound,
+        map,
+    };
+    let mode = Mode::Reference;
+    Some(Request::Run { job, mode })
+}
+
+fn micro<'a>(matches: &ArgMatches<'a>) -> Option<Request<'a>>
+    ensures limits { IfSome result HasLimits }
+    ensures asks { (g : List Entry) → Holds (form_for CommandName.Micro) g matches.now → option_map asked result ≡ micro_of g }
+{
+    let mal = matches.get_str("MAL")?;
+    let store = matches.get_str("STORE")?;
+    let machine = machine_in(matches.get_str("machine"))?;
+    Some(Request::Micro {
+        mal,
+        store,
+        machine,
+    })
+}
+
+fn print_micro<'a>(matches: &ArgMatches<'a>) -> Option<Request<'a>>
+    ensures limits { IfSome result HasLimits }
+    ensures asks { (g : List Entry) → Holds (form_for CommandName.PrintMicro) g matches.now → option_map asked result ≡ print_micro_of g }
+{
+    let file = matches.get_str("FILE");
+    let machine = machine_in(matches.get_str("machine"))?;
+    Some(Request::PrintMicro { file, machine })
+}
+
+fn soak<'a>(matches: &ArgMatches<'a>) -> Option<Request<'a>>
+    ensures limits { IfSome result HasLimits }
+    ensures asks { (g : List Entry) → Holds (form_for CommandName.Soak) g matches.now → option_map asked result ≡ soak_of g }
+{
+    let seed = seed_in(matches.get_str("SEED")?)?;
+    let size = size_in(matches.get_str("SIZE")?)?;
+    let machine = machine_in(matches.get_str("machine"))?;
+    Some(Request::Soak {
+        seed,
+        size,
+        machine,
+    })
+}
+
+/// What a command asks for; nothing where its work is not built yet.
+fn request_in<'a>(command: CommandName, matches: &ArgMatches<'a>) -> Option<Request<'a>>
+    ensures limits { IfSome result HasLimits }
+    ensures asks { (g : List Entry) → Holds (form_for command) g matches.now → option_map asked result ≡ asked_of command g }
+{
+    match command {
+        CommandName::Assemble => assemble(matches),
+        CommandName::List => list(matches),
+        CommandName::Verify => verify(matches),
+        CommandName::Run if matches.get_str("micro").is_some() => run_own(matches),
+        CommandName::Run => run(matches),
+        CommandName::Trace => trace(matches),
+        CommandName::Profile => profile(matches),
+        CommandName::Debug => debug(matches),
+        CommandName::Reference => reference(matches),
+        CommandName::Micro => micro(matches),
+        CommandName::PrintMicro => print_micro(matches),
+        CommandName::Soak => soak(matches),
+    }
+}
+
+/// Reads the words after the program's name.
+pub fn read_words<'a>(alloc: Global, words: &'a [String]) -> Result<Request<'a>, WordsError>
+    ensures limits { IfOk result HasLimits }
+    ensures asks { AnswersAs (request_of (map string_bytes words.entry.now)) result }
+{
+    let [command, rest @ ..] = words else {
+        return Err(WordsError::Usage);
+    };
+    let Some(command) = named(command.as_str()) else {
+        return Err(WordsError::Usage);
+    };
+    let matches = take_command(alloc, command, rest)?;
+    match request_in(command, &matches) {
+        Some(request) => Ok(request),
+        None => Err(WordsError::Usage),
+    }
+}

@@ -1,8 +1,0 @@
-use Rattle.std.proofs.Common.{ℕ, ◌<◌, IsUtf8}
-use Rattle.std.specs.Prelude.{String, string_bytes}
-use Rattle.std.specs.declared.alloc.Global.{Global}
-use Rattle.std.specs.List.{slice_index_or}
-use Rattle.mic_words.proofs.taking.note_texts.Given as goal
-
-abbrev pub invariant-loop-word : goal.invariant-loop-word
-invariant-loop-word l = (k : ℕ) (d : String Global) → k < l.word-index → IsUtf8 (string_bytes (slice_index_or l.words k d))

@@ -1,9 +1,0 @@
-use Rattle.std.proofs.Common.{◌≡◌, drop}
-use Rattle.clap.specs.Words.{app_of}
-use Rattle.mic_words.specs.Taking.{rules_in, texts_of, with_rules}
-use Rattle.mic_words.proofs.taking.with_each.Given as goal
-
--- what is left to add to the command so far makes what all the names make of the first one
-abbrev pub invariant-loop-name : goal.invariant-loop-name
-invariant-loop-name l = with_rules (app_of l.command) (rules_in l.kind (texts_of (drop l.name-index l.names)))
-    ≡ with_rules (app_of l.fn.command) (rules_in l.kind (texts_of l.names))

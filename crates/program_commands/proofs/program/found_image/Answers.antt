@@ -1,7 +1,0 @@
-use Rattle.std.proofs.Common.{◌∙◌, sym}
-use Rattle.program_commands.proofs.Reasons.{no_program_in}
-use Rattle.program_commands.proofs.program.found_image.Goals as goal
-
-pub returns-else-begins_image-clause-err : goal.returns-else-begins_image-clause-err
-returns-else-begins_image-clause-err c =
-    no_program_in c.args.bytes.now c.assembled.result (sym c.begins_image.ensures ∙ c.if-begins_image.false) c.assembled.ensures.err
