@@ -14,37 +14,45 @@ pub fn read_index(alloc: Global, text: &str) -> Result<Vec<String>, AllocError> 
     Ok(names)
 }
 
-/// The cases that lie in the folders of these names, and are none of them.
+/// How deep folders of cases may lie.
+const DEEPEST: usize = 4;
+
+/// The cases that lie beside the index or below it, and are none of these names.
 pub fn not_named(rt: &HostRuntime, names: &[String]) -> io::Result<Vec<String>> {
     let mut missing = Vec::new(rt.alloc());
-    for folder in folders_of(rt.alloc(), names)? {
-        let Ok(entries) = fs::read_dir(rt, &folder) else {
-            continue;
-        };
-        for entry in entries {
-            let entry = entry?;
-            let path = entry.path();
-            let name = path.display();
-            let name = format!(in rt.alloc(); "{name}")?;
-            if name.ends_with(".case") && !has(names, &name) {
-                missing.push(name)?;
+    let mut folders = Vec::new(rt.alloc());
+    folders.push(String::from_str(rt.alloc(), ".")?)?;
+    for _ in 0..DEEPEST {
+        let mut below = Vec::new(rt.alloc());
+        for folder in &folders {
+            for name in entries_of(rt, folder)? {
+                if !name.ends_with(".case") {
+                    below.push(name)?;
+                } else if !has(names, &name) {
+                    missing.push(name)?;
+                }
             }
         }
+        folders = below;
     }
     Ok(missing)
 }
 
-/// The folders of these files, each once.
-fn folders_of(alloc: Global, names: &[String]) -> Result<Vec<String>, AllocError> {
-    let mut folders: Vec<String> = Vec::new(alloc);
-    for name in names {
-        if let Some((folder, _)) = name.split_once('/') {
-            if !has(&folders, folder) {
-                folders.push(String::from_str(alloc, folder)?)?;
-            }
-        }
+/// What lies in a folder; nothing lies in a file.
+fn entries_of(rt: &HostRuntime, folder: &str) -> io::Result<Vec<String>> {
+    let mut names = Vec::new(rt.alloc());
+    let Ok(entries) = fs::read_dir(rt, folder) else {
+        return Ok(names);
+    };
+    for entry in entries {
+        let entry = entry?;
+        let path = entry.path();
+        let path = path.display();
+        let path = format!(in rt.alloc(); "{path}")?;
+        let name = path.strip_prefix("./").unwrap_or(&path);
+        names.push(String::from_str(rt.alloc(), name)?)?;
     }
-    Ok(folders)
+    Ok(names)
 }
 
 fn has(names: &[String], name: &str) -> bool {
