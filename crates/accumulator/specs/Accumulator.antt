@@ -14,8 +14,8 @@ phase_of stages.Set = SetUp
 phase_of stages.Drove = Driven
 phase_of stages.Computed = AtEdge
 
-abbrev pub next_of : ℕ → ℕ
-next_of word = word / 2 ^ 27 % 512
+abbrev pub next_address : ℕ → ℕ
+next_address word = word / 2 ^ 27 % 512
 
 abbrev pub has_read : ℕ → Bool
 has_read word = word / 32 % 4 == 1
@@ -31,14 +31,14 @@ has_fetch word = word / 16 % 2 == 1
 abbrev pub stored : ℕ → ℕ → Cells → World → Outcome Cells
 stored size word s w =
     unless_refused (write_refusal size s.acc)
-    (Done (record { acc = (s.acc + 1) % 2 ^ 32; mar = s.acc; mpc = next_of word }) (after_write size w s.acc s.acc))
+    (Done (record { acc = (s.acc + 1) % 2 ^ 32; mar = s.acc; mpc = next_address word }) (after_write size w s.acc s.acc))
 
 -- a read takes a byte from the console into the register, and a write gives the register to the console
 abbrev pub step : ℕ → Cells → World → Outcome Cells
 step word s w =
-    if has_read word then Done (record { acc = read_value (length w.words) w.words w.untaken console_at; mar = console_at; mpc = next_of word }) (after_read (length w.words) w console_at) else
-    if has_write word then Done (record { acc = s.acc; mar = console_at; mpc = next_of word }) (after_write (length w.words) w console_at s.acc) else
-    if has_fetch word then Done (record { acc = s.acc; mar = s.mar; mpc = next_of word }) w else
+    if has_read word then Done (record { acc = read_value (length w.words) w.words w.untaken console_at; mar = console_at; mpc = next_address word }) (after_read (length w.words) w console_at) else
+    if has_write word then Done (record { acc = s.acc; mar = console_at; mpc = next_address word }) (after_write (length w.words) w console_at s.acc) else
+    if has_fetch word then Done (record { acc = s.acc; mar = s.mar; mpc = next_address word }) w else
     stored (length w.words) word s w
 
 abbrev pub meaning : Meaning Cells

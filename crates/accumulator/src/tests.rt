@@ -1,6 +1,6 @@
 ghost use Rattle.std.specs.Prelude.{◌≡◌, ◌<◌, length, false, [], IfOk, IsTrue};
 ghost use Rattle.machine_words.specs.declared.machine.Machine.TheVariants.{Mic1};
-ghost use Rattle.micro_word.specs.Canonical.{is_valid};
+ghost use Rattle.micro_word.specs.Words.{is_valid};
 
 use crate::*;
 use console_port::{Bus, MemoryMap};

@@ -3,10 +3,10 @@ use Rattle.std.proofs.Common.{◌≡◌, ◌<◌, ◌≤◌, ◌∙◌, ℕ, Lis
 use Rattle.machine_words.specs.declared.machine.Machine.{Machine}
 use Rattle.machine_words.specs.declared.machine.Machine.TheVariants.{Mic1, Mic2}
 use Rattle.watched_run.specs.declared.cycle.Cycle.{Cycle}
-use Rattle.watched_run.specs.Watched.{SaysOf}
+use Rattle.watched_run.specs.Watched.{PrintsOf}
 use Rattle.cli_profile.specs.Profile.{Profile, Silent, counted}
 use Rattle.cli_outside.specs.Outside.{Got, GotFront}
-use Rattle.shipped_program.specs.Listing.{program1, program2, program_of}
+use Rattle.shipped_program.specs.Listing.{program1, program2, listed_program}
 use Rattle.std.proofs.Math.Seq.{take-nil}
 use Rattle.std.proofs.lemmas.Bool.{cases_lt}
 use Rattle.std.proofs.lemmas.List.{append-nil, get_or_past, length-map}
@@ -67,16 +67,16 @@ entry_inside p l h = elim (cases_lt p.entry (length (demands_of p).fixed)) [
 ]
 
 -- each shipped microprogram is its machine's
-pub shipped_machine : (machine : Machine) (p : Program) → p ≡ program_of machine → p.machine ≡ machine
+pub shipped_machine : (machine : Machine) (p : Program) → p ≡ listed_program machine → p.machine ≡ machine
 unfolding program1 program2
 shipped_machine machine p e = ap (λ (q : Program). q.machine) e ∙ of_machine machine
   where
-    of_machine : (machine : Machine) → (program_of machine).machine ≡ machine
+    of_machine : (machine : Machine) → (listed_program machine).machine ≡ machine
     of_machine Mic1 = refl
     of_machine Mic2 = refl
 
 -- nothing was said of any cycle
-pub silent_says : (p : Profile) (cs : List Cycle) (text : List ℕ) → SaysOf counted Silent p cs text → text ≡ []
+pub silent_says : (p : Profile) (cs : List Cycle) (text : List ℕ) → PrintsOf counted Silent p cs text → text ≡ []
 silent_says p [] text h = h
 silent_says p (c ∷ cs) text h = h.4 ∙ (λ i. h.2 i ++ silent_says (counted p c) cs h.1 h.3 i)
 

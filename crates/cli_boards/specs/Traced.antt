@@ -12,7 +12,7 @@ use Rattle.mal_parser.specs.Program.{Program}
 use Rattle.shipped_program.specs.declared.loaded.Loaded.{Loaded}
 use Rattle.shipped_program.specs.Loaded.{IsLoaded}
 use Rattle.watched_run.specs.declared.cycle.Cycle.{Cycle}
-use Rattle.watched_run.specs.Watched.{SaysOf, ShowsCycles}
+use Rattle.watched_run.specs.Watched.{PrintsOf, ShowsCycles}
 use Rattle.cli_cycle_texts.specs.Lines.{AreLinesOf, Traced}
 use Rattle.cli_outside.specs.Status as exits
 use Rattle.cli_outside.specs.Messages.{out_of_memory}
@@ -23,7 +23,7 @@ use Rattle.cli_boards.specs.Reset.{IsAtReset}
 
 -- the lines of these cycles, one after the other
 abbrev pub AreLines : Traced → List Cycle → List ℕ → Type 0
-AreLines = SaysOf (λ t c. t) AreLinesOf
+AreLines = PrintsOf (λ t c. t) AreLinesOf
 
 -- what is traced of a microprogram at its addresses, over an accepted program
 abbrev pub traced_of : Program → Loaded → VerifiedView → Bool → Traced

@@ -1,9 +1,9 @@
 //! The microprogram that a board is clocked with: a person's own, from its text, or the one that ships.
 
 ghost use Rattle.std.specs.Prelude.{◌≡◌, ◌<◌, ◌^◌, length, IfOk, IfErr, IfSome};
-ghost use Rattle.mal_parser.specs.Text.{Spells};
+ghost use Rattle.mal_parser.specs.Text.{SpellsProgram};
 ghost use Rattle.shipped_program.specs.Loaded.{IsLoaded};
-ghost use Rattle.shipped_program.specs.Listing.{program_of};
+ghost use Rattle.shipped_program.specs.Listing.{listed_program};
 ghost use Rattle.cli_boards.specs.Own.{IsNoMicroprogram};
 
 use cli_micro::{mal_reason, place_reason};
@@ -36,7 +36,7 @@ pub fn placed_microprogram(
     bytes: &[u8],
 ) -> Result<Microprogram, NoMicroprogram>
     requires { length bytes.now < 2 ^ 32 }
-    ensures ok { IfOk result (λ micro. Spells machine bytes.now micro.program) }
+    ensures ok { IfOk result (λ micro. SpellsProgram machine bytes.now micro.program) }
     ensures machine { IfOk result (λ micro. micro.program.machine ≡ machine) }
     ensures err { IfErr result (IsNoMicroprogram machine bytes.now) }
 {
@@ -58,7 +58,7 @@ pub fn placed_microprogram(
 /// The microprogram that ships for a machine.
 #[tactic(auto, using(crate::proofs::Micros::shipped_machine))]
 pub fn shipped_microprogram(alloc: Global, machine: Machine) -> Result<Microprogram, AllocError>
-    ensures is { IfOk result (λ micro. micro.program ≡ program_of machine) }
+    ensures is { IfOk result (λ micro. micro.program ≡ listed_program machine) }
     ensures machine { IfOk result (λ micro. micro.program.machine ≡ machine) }
 {
     let program = shipped_program(alloc, machine)?;

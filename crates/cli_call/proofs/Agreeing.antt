@@ -18,7 +18,7 @@ use Rattle.plain_machine.specs.declared.plain.PlainReport.{PlainReport}
 use Rattle.plain_machine.specs.Plain.{Reports, HasRun as HasPlainRun}
 use Rattle.plain_machine.specs.Plain as plain
 use Rattle.ijvm_paths.specs.Accepted.{VerifiedView}
-use Rattle.ijvm_simulation.specs.Simulates.{boundary_of, end_of, IsEnd}
+use Rattle.ijvm_simulation.specs.Simulates.{boundary_of, board_end, IsEnd}
 use Rattle.ijvm_simulation.specs.Verified.{program as program_on}
 use Rattle.ijvm_simulation.specs.Headline.{HasRun}
 use Rattle.cli_outside.specs.Status as exits
@@ -63,13 +63,13 @@ of_limit p bound (suc points) at f e = by_test p bound points at (nat_le bound a
 -- The heads of both reports are one.
 
 cycles_by : (end : RunEnd) (cycles counted : ℕ) (last : Boundary) → (end ≡ defined.StackLimit → cycles ≡ last.cycles) → (end ≢ defined.StackLimit → counted ≡ cycles) →
-    cycles_of (end_of end) counted (Some last) ≡ cycles
+    cycles_of (board_end end) counted (Some last) ≡ cycles
 cycles_by defined.Halt cycles counted last limit other = other (λ q. cc)
 cycles_by defined.Err cycles counted last limit other = other (λ q. cc)
 cycles_by defined.Bound cycles counted last limit other = other (λ q. cc)
 cycles_by defined.StackLimit cycles counted last limit other = sym (limit refl)
 
-ends_same : (end : RunEnd) → texts.end_of (plain.end_of end) ≡ end_of end
+ends_same : (end : RunEnd) → texts.clocked_end (plain.reported_end end) ≡ board_end end
 ends_same defined.Halt = refl
 ends_same defined.Err = refl
 ends_same defined.Bound = refl
@@ -78,20 +78,20 @@ ends_same defined.StackLimit = refl
 boundaries_same : (r : PlainReport) (cycles instructions : ℕ) (last : Point) → Reports r cycles instructions last → last_boundary r ≡ boundary_of last
 boundaries_same r cycles instructions last reports = rw (reports.boundary, reports.address, reports.sp, reports.lv) refl
 
-plain_is : (r : PlainReport) (f : Finish) → r.end ≡ plain.end_of f.end → Reports r f.cycles f.instructions f.last →
-    plain_head r ≡ head (end_of f.end) f.cycles f.instructions (Some (boundary_of f.last))
+plain_is : (r : PlainReport) (f : Finish) → r.end ≡ plain.reported_end f.end → Reports r f.cycles f.instructions f.last →
+    plain_head r ≡ head (board_end f.end) f.cycles f.instructions (Some (boundary_of f.last))
 plain_is r f end reports =
-    ap (λ (e : End). head e r.cycles r.instructions (Some (last_boundary r))) (ap texts.end_of end ∙ ends_same f.end)
-    ∙ (ap (λ (c : ℕ). head (end_of f.end) c r.instructions (Some (last_boundary r))) reports.cycles_are
-    ∙ (ap (λ (i : ℕ). head (end_of f.end) f.cycles i (Some (last_boundary r))) reports.instructions_are
-    ∙ ap (λ (b : Boundary). head (end_of f.end) f.cycles f.instructions (Some b)) (boundaries_same r f.cycles f.instructions f.last reports)))
+    ap (λ (e : End). head e r.cycles r.instructions (Some (last_boundary r))) (ap texts.clocked_end end ∙ ends_same f.end)
+    ∙ (ap (λ (c : ℕ). head (board_end f.end) c r.instructions (Some (last_boundary r))) reports.cycles_are
+    ∙ (ap (λ (i : ℕ). head (board_end f.end) f.cycles i (Some (last_boundary r))) reports.instructions_are
+    ∙ ap (λ (b : Boundary). head (board_end f.end) f.cycles f.instructions (Some b)) (boundaries_same r f.cycles f.instructions f.last reports)))
 
 clocked_is : (c : Counts) (f : Finish) → OfLimit f → (f.end ≢ defined.StackLimit → c.cycles ≡ f.cycles) → c.instructions ≡ f.instructions →
-    c.boundary ≡ Some (boundary_of f.last) → clocked_head (end_of f.end) c ≡ head (end_of f.end) f.cycles f.instructions (Some (boundary_of f.last))
+    c.boundary ≡ Some (boundary_of f.last) → clocked_head (board_end f.end) c ≡ head (board_end f.end) f.cycles f.instructions (Some (boundary_of f.last))
 clocked_is c f limit cycles instructions boundary =
-    ap (λ (b : Option Boundary). head (end_of f.end) (cycles_of (end_of f.end) c.cycles b) c.instructions b) boundary
-    ∙ (ap (λ (n : ℕ). head (end_of f.end) n c.instructions (Some (boundary_of f.last))) (cycles_by f.end f.cycles c.cycles (boundary_of f.last) limit cycles)
-    ∙ ap (λ (i : ℕ). head (end_of f.end) f.cycles i (Some (boundary_of f.last))) instructions)
+    ap (λ (b : Option Boundary). head (board_end f.end) (cycles_of (board_end f.end) c.cycles b) c.instructions b) boundary
+    ∙ (ap (λ (n : ℕ). head (board_end f.end) n c.instructions (Some (boundary_of f.last))) (cycles_by f.end f.cycles c.cycles (boundary_of f.last) limit cycles)
+    ∙ ap (λ (i : ℕ). head (board_end f.end) f.cycles i (Some (boundary_of f.last))) instructions)
 
 -- What is said where the sink does not fail.
 
@@ -115,9 +115,9 @@ module _ {M S : Type 0} (state : M → S) (m : Meaning S) (IsReady : ℕ → Lis
     -- both ran to their ends
     both : OneEnd → old.console.left ≡ Some input →
         (board : BoardView M) (run : HasRun state m IsReady IsShipped entry program bound old.console.left old.out.held ran.console.left ran.out.held board) →
-        Says old.err ran.err (report_on state m (end_of run.begins.finish.end) board) (status_of (end_of run.begins.finish.end)) status →
-        (r : PlainReport) → HasPlainRun (reference.program_of program m.machine) program.main_locals bound old.console.left old.out.held told.console.left told.out.held r →
-        Says old.err told.err (plain_head r) (status_of (texts.end_of r.end)) status' →
+        Says old.err ran.err (report_on state m (board_end run.begins.finish.end) board) (status_of (board_end run.begins.finish.end)) status →
+        (r : PlainReport) → HasPlainRun (reference.verified_program program m.machine) program.main_locals bound old.console.left old.out.held told.console.left told.out.held r →
+        Says old.err told.err (plain_head r) (status_of (texts.clocked_end r.end)) status' →
         IsQuiet old ran status → IsQuiet old told status' → Agrees old ran told status status'
     both one tells board run says r plainly says' quiet quiet' =
         let f : Finish = run.begins.finish in
@@ -127,20 +127,20 @@ module _ {M S : Type 0} (state : M → S) (m : Meaning S) (IsReady : ℕ → Lis
         (told_input old.console.left input run.begins.input tells run.begins.told) run.begins.finishes)
         (subst (λ (i : List ℕ). EndsBy (program_on m.machine program) bound (first_point program.main_locals i) plainly.run.finish)
         (told_input old.console.left input plainly.run.input tells plainly.run.told) plainly.run.ends) in
-        let r_end : r.end ≡ plain.end_of f.end = plainly.end ∙ ap (λ (g : Finish). plain.end_of g.end) (sym same) in
+        let r_end : r.end ≡ plain.reported_end f.end = plainly.end ∙ ap (λ (g : Finish). plain.reported_end g.end) (sym same) in
         let reports : Reports r f.cycles f.instructions f.last = subst (λ (g : Finish). Reports r g.cycles g.instructions g.last) (sym same) plainly.report in
         let given : IfSome told.out.held (λ h. h ≡ plain.told_of old.out.held ++ f.left.given) =
         subst (λ (g : Finish). IfSome told.out.held (λ h. h ≡ plain.told_of old.out.held ++ g.left.given)) (sym same) plainly.given in
         let limit : OfLimit f = of_limit (program_on m.machine program) bound run.begins.finishes.0 (first_point program.main_locals run.begins.input) f run.begins.finishes.1 in
         let counts = run.at.counts in
-        let heads : clocked_head (end_of f.end) board.counts ≡ plain_head r =
+        let heads : clocked_head (board_end f.end) board.counts ≡ plain_head r =
         clocked_is board.counts f limit (λ q. sym (ap (λ (c : Counts). c.cycles) counts) ∙ run.agrees.cycles q)
         (sym (ap (λ (c : Counts). c.instructions) counts) ∙ run.agrees.instructions) (sym (ap (λ (c : Counts). c.boundary) counts) ∙ run.agrees.boundary)
         ∙ sym (plain_is r f r_end reports) in
         let run_said = said old.err ran.err _ _ status quiet.err says in
         let reference_said = said old.err told.err _ _ status' quiet'.err says' in
         record {
-          same_status = run_said.0 ∙ (ap status_of (sym (ap texts.end_of r_end ∙ ends_same f.end)) ∙ sym reference_said.0);
+          same_status = run_said.0 ∙ (ap status_of (sym (ap texts.clocked_end r_end ∙ ends_same f.end)) ∙ sym reference_said.0);
           same_out = λ one other a b. held_is ran.out.held one _ a run.given ∙ sym (held_is told.out.held other _ b given);
           report = r;
           registers = m.registers (state board.machine);
@@ -150,7 +150,7 @@ module _ {M S : Type 0} (state : M → S) (m : Meaning S) (IsReady : ℕ → Lis
 
     by_reference : OneEnd → old.console.left ≡ Some input →
         (board : BoardView M) (run : HasRun state m IsReady IsShipped entry program bound old.console.left old.out.held ran.console.left ran.out.held board) →
-        Says old.err ran.err (report_on state m (end_of run.begins.finish.end) board) (status_of (end_of run.begins.finish.end)) status →
+        Says old.err ran.err (report_on state m (board_end run.begins.finish.end) board) (status_of (board_end run.begins.finish.end)) status →
         IsRun program m.machine bound old.console told.console old.out told.out old.err told.err status' →
         IsQuiet old ran status → IsQuiet old told status' → Agrees old ran told status status'
     by_reference one tells board run says (Reported r (reference.Ran plainly console out flushed) says') quiet quiet' =

@@ -16,14 +16,14 @@ use Rattle.mic2_datapath.specs.View.{micro_of as micro_of2}
 use Rattle.ijvm_run.specs.declared.run.RunEnd.{RunEnd}
 use Rattle.ijvm_run.specs.declared.run.RunEnd.TheVariants as defined
 use Rattle.ijvm_paths.specs.Accepted.{VerifiedView, IsAccepted}
-use Rattle.ijvm_simulation.specs.Simulates.{end_of}
+use Rattle.ijvm_simulation.specs.Simulates.{board_end}
 use Rattle.ijvm_simulation.specs.Starts.{EndsAsDefined}
 use Rattle.mal_parser.specs.Program.{Program}
 use Rattle.plain_machine.specs.declared.plain.PlainReport.{PlainReport}
 use Rattle.plain_machine.specs.Plain as plain
 use Rattle.shipped_program.specs.declared.loaded.Loaded.{Loaded}
 use Rattle.shipped_program.specs.Loaded.{IsLoaded}
-use Rattle.shipped_program.specs.Listing.{program_of}
+use Rattle.shipped_program.specs.Listing.{listed_program}
 use Rattle.shipped_program.specs.Shipped.{HasShipped}
 use Rattle.watched_run.specs.declared.cycle.Cycle.{Cycle}
 use Rattle.watched_run.specs.Watched.{ShowsCycles}
@@ -72,7 +72,7 @@ IsStray ends.Adrift = Unit {0}
 IsStray end = ⊥
 
 -- the definition's run does not
-not_stray : (d : RunEnd) → IsStray (end_of d) → ⊥
+not_stray : (d : RunEnd) → IsStray (board_end d) → ⊥
 not_stray defined.Halt h = h
 not_stray defined.Err h = h
 not_stray defined.Bound h = h
@@ -94,16 +94,16 @@ not_write_fault end h e = let s : IsStray ends.WriteFault = subst IsStray e h in
 
 -- what is known of each shipped microprogram that is loaded
 pub record IsListed : Type 0 where
-  pub words : (machine : Machine) (l : Loaded) → IsLoaded (program_of machine) l → HasShipped machine l.store.words
-  pub entry : (machine : Machine) (l : Loaded) → IsLoaded (program_of machine) l → l.entry ≡ 0x002
+  pub words : (machine : Machine) (l : Loaded) → IsLoaded (listed_program machine) l → HasShipped machine l.store.words
+  pub entry : (machine : Machine) (l : Loaded) → IsLoaded (listed_program machine) l → l.entry ≡ 0x002
 
 -- where the microprogram that ships is clocked, no run ends so
 module _ {M S : Type 0} (state : M → S) (m : Meaning S) (machine : Machine) (listed : IsListed) (law : EndsAsDefined state m (HasShipped machine) 0x002) where
   pub shipped_stays : (micro : Program) (program : VerifiedView) (bound : ℕ) (left held left' held' : Option (List ℕ)) (l : Loaded) (first last : BoardView M) (cycles : List Cycle) (end : End) →
-      micro ≡ program_of machine → IsAccepted program → IsFirst state m micro l program first → ShowsCycles state m bound left held first left' held' last cycles (Some end) →
+      micro ≡ listed_program machine → IsAccepted program → IsFirst state m micro l program first → ShowsCycles state m bound left held first left' held' last cycles (Some end) →
       (end ≢ ends.WriteFault → last.end ≡ Some end) → IsStray end → ⊥
   shipped_stays micro program bound left held left' held' l first last cycles end ships accepted start shows ended stray =
-      let loaded : IsLoaded (program_of machine) l = subst (λ (p : Program). IsLoaded p l) ships start.loaded in
+      let loaded : IsLoaded (listed_program machine) l = subst (λ (p : Program). IsLoaded p l) ships start.loaded in
       let has : HasShipped machine first.store.words = subst (λ store. HasShipped machine store.words) (sym start.store) (listed.words machine l loaded) in
       let so = law program bound left held left' held' first last accepted start.reset.image has
       (record {
@@ -165,7 +165,7 @@ module _ (asks : Option Asked) (old new : Outside) (status : ℕ) where
   why map file bytes (commands.Short says) files still = on_err _ _ says (NoMemory still)
 
   -- the status of a run that came to an end of the definition's
-  defined_end : (end : RunEnd) → Runs asks → status ≡ status_of (end_of end) → Answer
+  defined_end : (end : RunEnd) → Runs asks → status ≡ status_of (board_end end) → Answer
   defined_end defined.Halt runs is = Done is
   defined_end defined.Err runs is = Ended runs (omega (arith, is)) (omega (arith, is))
   defined_end defined.Bound runs is = Ended runs (omega (arith, is)) (omega (arith, is))
@@ -278,17 +278,17 @@ module _ (asks : Option Asked) (old new : Outside) (status : ℕ) where
 
   -- `reference`
   reported : (program : VerifiedView) (machine : Machine) (bound : ℕ) (r : PlainReport) → Runs asks →
-      IsReported program machine bound old.streams.console new.streams.console old.streams.out new.streams.out r → status ≡ status_of (texts.end_of r.end) → Answer
+      IsReported program machine bound old.streams.console new.streams.console old.streams.out new.streams.out r → status ≡ status_of (texts.clocked_end r.end) → Answer
   reported program machine bound r runs (reference.Ran h console out flushed) is =
-      defined_end h.run.finish.end runs (is ∙ ap (λ e. status_of (texts.end_of e)) h.end ∙ same_status h.run.finish.end)
+      defined_end h.run.finish.end runs (is ∙ ap (λ e. status_of (texts.clocked_end e)) h.end ∙ same_status h.run.finish.end)
     where
-      same_status : (end : RunEnd) → status_of (texts.end_of (plain.end_of end)) ≡ status_of (end_of end)
+      same_status : (end : RunEnd) → status_of (texts.clocked_end (plain.reported_end end)) ≡ status_of (board_end end)
       same_status defined.Halt = refl
       same_status defined.Err = refl
       same_status defined.Bound = refl
       same_status defined.StackLimit = refl
-  reported program machine bound r runs (reference.CutByRead end cut rose same flushed) is = ConsoleFailed rose (is ∙ ap (λ e. status_of (texts.end_of e)) end)
-  reported program machine bound r runs (reference.CutByWrite end cut same rose) is = SinkFailed (inl rose) (is ∙ ap (λ e. status_of (texts.end_of e)) end)
+  reported program machine bound r runs (reference.CutByRead end cut rose same flushed) is = ConsoleFailed rose (is ∙ ap (λ e. status_of (texts.clocked_end e)) end)
+  reported program machine bound r runs (reference.CutByWrite end cut same rose) is = SinkFailed (inl rose) (is ∙ ap (λ e. status_of (texts.clocked_end e)) end)
 
   defined_run : (program : VerifiedView) (machine : Machine) (bound : ℕ) → Runs asks → IsReference asks →
       IsRun program machine bound old.streams.console new.streams.console old.streams.out new.streams.out old.streams.err new.streams.err status → Answer

@@ -7,7 +7,7 @@ use Rattle.mic_clock.specs.Meaning.{Meaning}
 use Rattle.mic_clock.specs.Board.{NoFault, HasEndCause}
 use Rattle.mic_clock.specs.View.{BoardView}
 use Rattle.ijvm_paths.specs.Accepted.{VerifiedView}
-use Rattle.ijvm_simulation.specs.Simulates.{end_of}
+use Rattle.ijvm_simulation.specs.Simulates.{board_end}
 use Rattle.ijvm_simulation.specs.Headline.{HasRun, IsCutByRead, IsCutByWrite}
 use Rattle.cli_outside.specs.Outside.{Says}
 use Rattle.cli_call.specs.Outside.{Streams}
@@ -32,8 +32,8 @@ module _ {M S : Type 0} (state : M → S) (m : Meaning S) (IsReady : ℕ → Lis
 
     -- the end of the definition's run is the board's
     agrees : (run : HasRun state m IsReady IsShipped entry program bound old.console.left old.out.held new.console.left new.out.held board) →
-        (end : End) → board.end ≡ Some end → end ≡ end_of run.begins.finish.end
-    agrees run end e = some_is end (end_of run.begins.finish.end) (sym e ∙ sym run.end ∙ run.agrees.end)
+        (end : End) → board.end ≡ Some end → end ≡ board_end run.begins.finish.end
+    agrees run end e = some_is end (board_end run.begins.finish.end) (sym e ∙ sym run.end ∙ run.agrees.end)
 
     whole : (end : End) (status : ℕ) → IsRun → board.end ≡ Some end → NoFault None (Some end) → (Some end ≡ Some ends.ReadFault → ⊥) → (Some end ≡ Some ends.WriteFault → ⊥) →
         Says old.err new.err (report_on state m end board) (status_of end) status →

@@ -6,7 +6,7 @@ use Rattle.mic_clock.specs.declared.end.End.TheVariants as clocked
 use Rattle.mic_clock.specs.Meaning.{Meaning}
 use Rattle.mic_clock.specs.View.{BoardView}
 use Rattle.ijvm_paths.specs.Accepted.{VerifiedView}
-use Rattle.ijvm_simulation.specs.Simulates.{end_of}
+use Rattle.ijvm_simulation.specs.Simulates.{board_end}
 use Rattle.ijvm_simulation.specs.Headline.{HasRun}
 use Rattle.ijvm_simulation.specs.Agreement.{MeetNoBound}
 use Rattle.ijvm_simulation.specs.Agreement as boards
@@ -41,15 +41,15 @@ module _ {M N S T : Type 0} (state : M → S) (m : Meaning S) (IsReady : ℕ →
     -- both ran to their ends
     both : BoardsAgree → old.console.left ≡ Some input →
         (board : BoardView M) (run : HasRun state m IsReady IsShipped entry program bound old.console.left old.out.held one.console.left one.out.held board) →
-        Says old.err one.err (report_on state m (end_of run.begins.finish.end) board) (status_of (end_of run.begins.finish.end)) status →
+        Says old.err one.err (report_on state m (board_end run.begins.finish.end) board) (status_of (board_end run.begins.finish.end)) status →
         (board' : BoardView N) (run' : HasRun state' m' IsReady' IsShipped' entry' program bound' old.console.left old.out.held other.console.left other.out.held board') →
-        Says old.err other.err (report_on state' m' (end_of run'.begins.finish.end) board') (status_of (end_of run'.begins.finish.end)) status' →
+        Says old.err other.err (report_on state' m' (board_end run'.begins.finish.end) board') (status_of (board_end run'.begins.finish.end)) status' →
         IsQuiet old one status → IsQuiet old other status' → status ≢ exits.bound → status' ≢ exits.bound → EndAlike old one other status status'
     both agree tells board run says board' run' says' quiet quiet' none none' =
         let one_said = said old.err one.err _ _ status quiet.err says in
         let other_said = said old.err other.err _ _ status' quiet'.err says' in
-        let end : End = end_of run.begins.finish.end in
-        let end' : End = end_of run'.begins.finish.end in
+        let end : End = board_end run.begins.finish.end in
+        let end' : End = board_end run'.begins.finish.end in
         let ended : board.end ≡ Some end = sym run.end ∙ run.agrees.end in
         let ended' : board'.end ≡ Some end' = sym run'.end ∙ run'.agrees.end in
         let alike : boards.EndAlike one.out.held other.out.held board board' =
@@ -75,7 +75,7 @@ module _ {M N S T : Type 0} (state : M → S) (m : Meaning S) (IsReady : ℕ →
 
     by_other : BoardsAgree → old.console.left ≡ Some input →
         (board : BoardView M) (run : HasRun state m IsReady IsShipped entry program bound old.console.left old.out.held one.console.left one.out.held board) →
-        Says old.err one.err (report_on state m (end_of run.begins.finish.end) board) (status_of (end_of run.begins.finish.end)) status →
+        Says old.err one.err (report_on state m (board_end run.begins.finish.end) board) (status_of (board_end run.begins.finish.end)) status →
         ClockedEnd state' m' IsReady' IsShipped' entry' program bound' old other status' →
         IsQuiet old one status → IsQuiet old other status' → status ≢ exits.bound → status' ≢ exits.bound → EndAlike old one other status status'
     by_other agree tells board run says (Ran board' run' console out flushed says') quiet quiet' = both agree tells board run says board' run' says' quiet quiet'

@@ -3,12 +3,12 @@ use Rattle.std.specs.Prelude.{◌≡◌, ℕ, List, Option, Some, None}
 use Rattle.cli_words.specs.Words.{Asked, Assemble, ListOf, Verify, Run, RunOwn, Trace, Profile, Debug, Reference, Micro, PrintMicro, Soak}
 use Rattle.machine_words.specs.declared.machine.Machine.{Machine}
 use Rattle.machine_words.specs.declared.machine.Machine.TheVariants.{Mic1, Mic2}
-use Rattle.mal_parser.specs.Canonical.{canonical_text}
+use Rattle.mal_parser.specs.ProgramText.{canonical_text}
 use Rattle.mic1_datapath.specs.Mic1.{mic1_meaning, IsReady as IsReady1}
 use Rattle.mic1_datapath.specs.View.{micro_of as micro_of1}
 use Rattle.mic2_datapath.specs.Mic2.{mic2_meaning, IsReady as IsReady2}
 use Rattle.mic2_datapath.specs.View.{micro_of as micro_of2}
-use Rattle.shipped_program.specs.Listing.{program_of}
+use Rattle.shipped_program.specs.Listing.{listed_program}
 use Rattle.shipped_program.specs.Shipped.{HasShipped}
 use Rattle.console_port.specs.declared.map.MemoryMap.{MemoryMap}
 use Rattle.cli_outside.specs.Status as exits
@@ -101,7 +101,7 @@ EndsAs (Some (Reference file machine bound map)) old new status =
     EndsReference file machine bound map old.streams.console new.streams.console (desk_of old) (desk_of new) status
 EndsAs (Some (Micro mal store machine)) old new status = EndsAside (MicroAnswers machine store) mal old new status
 EndsAs (Some (PrintMicro (Some file) machine)) old new status = EndsAside (PrintMicroAnswers machine) file old new status
-EndsAs (Some (PrintMicro None machine)) old new status = OnlyPrints (canonical_text (program_of machine)) old new status
+EndsAs (Some (PrintMicro None machine)) old new status = OnlyPrints (canonical_text (listed_program machine)) old new status
 EndsAs (Some (Soak seed size Mic1)) old new status = Soaks (SoakEnds micro_of1 mic1_meaning IsReady1 (HasShipped Mic1) 0x002 seed size) old new status
 EndsAs (Some (Soak seed size Mic2)) old new status = Soaks (SoakEnds micro_of2 mic2_meaning IsReady2 (HasShipped Mic2) 0x002 seed size) old new status
 

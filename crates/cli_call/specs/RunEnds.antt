@@ -8,7 +8,7 @@ use Rattle.mic_clock.specs.declared.end.End.TheVariants as ends
 use Rattle.mic_clock.specs.Meaning.{Meaning}
 use Rattle.mic_clock.specs.View.{BoardView}
 use Rattle.ijvm_paths.specs.Accepted.{VerifiedView}
-use Rattle.ijvm_simulation.specs.Simulates.{end_of}
+use Rattle.ijvm_simulation.specs.Simulates.{board_end}
 use Rattle.ijvm_simulation.specs.Headline.{HasRun, IsCutByRead, IsCutByWrite}
 use Rattle.cli_outside.specs.Status as exits
 use Rattle.cli_outside.specs.Messages.{out_of_memory}
@@ -36,7 +36,7 @@ module _ {M S : Type 0} (state : M → S) (m : Meaning S) (IsReady : ℕ → Lis
         (run : HasRun state m IsReady IsShipped entry program bound old.console.left old.out.held new.console.left new.out.held board) →
         new.console.faults ≡ old.console.faults → new.out.faults ≡ old.out.faults →
         StaysFlushed old.out.held old.out.passed new.out.held new.out.passed →
-        Says old.err new.err (report_on state m (end_of run.begins.finish.end) board) (status_of (end_of run.begins.finish.end)) status →
+        Says old.err new.err (report_on state m (board_end run.begins.finish.end) board) (status_of (board_end run.begins.finish.end)) status →
         ClockedEnd program bound old new status
     -- the console failed, which cut the run; `out` has got all the output before it, and has passed on all
     CutByRead : (board : BoardView M) →

@@ -9,7 +9,7 @@ use Rattle.ijvm_paths.specs.declared.kind.Kind.TheVariants as kinds
 use Rattle.ijvm_paths.specs.Kinds.{IsKind}
 use Rattle.mal_parser.specs.declared.statement.Statement.{Statement}
 use Rattle.mal_parser.specs.Program.{Program, label_at}
-use Rattle.mal_parser.specs.Canonical.{fallback_of, parts_text}
+use Rattle.mal_parser.specs.ProgramText.{fallback_of, parts_text}
 use Rattle.store_placement.specs.Program.{IsOnlyAt}
 
 -- a statement's label, or a dash

@@ -1,7 +1,7 @@
 //! A word of a placed microprogram by its label and its text, and an instruction of an image by its text.
 
 ghost use Rattle.std.specs.Prelude.{◌≡◌, ◌≤◌, ◌<◌, ◌+◌, ◌++◌, ℕ, List, codes, length};
-ghost use Rattle.mal_parser.specs.Canonical.{parts_text};
+ghost use Rattle.mal_parser.specs.ProgramText.{parts_text};
 ghost use Rattle.store_placement.specs.Placement.{Places};
 ghost use Rattle.store_placement.specs.Program.{demands_of};
 ghost use Rattle.cli_cycle_texts.specs.Naming.{IsInstruction, IsReached, IsWord, default_text, label_text, word_text};

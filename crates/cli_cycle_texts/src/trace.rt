@@ -57,7 +57,7 @@ impl<'a> Watcher for Tracer<'a> {
 
     ghost keeps = { λ t c. t };
 
-    ghost Says = { AreLinesOf };
+    ghost Prints = { AreLinesOf };
 
     fn see<E: Sink>(&mut self, cycle: &Cycle, err: &mut E) -> Result<(), SinkFailed> {
         let said = err.put(cycle_line(self.program, self.placement, cycle).bytes());

@@ -8,7 +8,7 @@ use Rattle.console_port.specs.World.{World}
 use Rattle.mic_clock.specs.declared.end.End.{End}
 use Rattle.mic_clock.specs.declared.end.End.TheVariants as ends
 use Rattle.mic_clock.specs.Meaning.{Meaning, Outcome, Done, Refused}
-use Rattle.mic_clock.specs.Run.{MicroRun, bounded, bounded_by, end_before, gone, stepped, turn, turn_by, word_at}
+use Rattle.mic_clock.specs.Run.{MicroRun, bounded, bounded_by, end_before, after_end_or_step, after_step, turn, turn_by, word_at}
 use Rattle.mic_clock.specs.View.{BoardView}
 use Rattle.mic_debugger.specs.declared.plan.Plan.{Plan}
 use Rattle.mic_debugger.specs.declared.plan.Plan.TheVariants as plans
@@ -63,11 +63,11 @@ module _ {State : Type 0} (m : Meaning State) (book : Book) (words breaks : List
   bounded_world None r = stopped_world (m.is_boundary r.state) (nat_le bound r.counts.cycles) r _ refl
 
   module _ (only : OnlyGives m) where
-    stepped_gives : (r : MicroRun State) (o : Outcome State) → m.step (word_at m words r.state) r.state r.world ≡ o → IsFront r.world.given (stepped m words r o).world.given
+    stepped_gives : (r : MicroRun State) (o : Outcome State) → m.step (word_at m words r.state) r.state r.world ≡ o → IsFront r.world.given (after_step m words r o).world.given
     stepped_gives r (Done s w) is = only (word_at m words r.state) r.state s r.world w is
     stepped_gives r (Refused why) is = front_same r.world.given
 
-    gone_gives : (e : Option End) (r : MicroRun State) → IsFront r.world.given (gone m words e r).world.given
+    gone_gives : (e : Option End) (r : MicroRun State) → IsFront r.world.given (after_end_or_step m words e r).world.given
     gone_gives (Some e) r = front_same r.world.given
     gone_gives None r = stepped_gives r (m.step (word_at m words r.state) r.state r.world) refl
 

@@ -137,8 +137,8 @@ read_full (Some told) left line full r = subst (λ (l : Option (List ℕ)). IsFi
 nothing_left : (left : Option (List ℕ)) (rest : List ℕ) → left ≡ Some rest → IfSome left (λ l. l ≡ []) → rest ≡ []
 nothing_left left rest e none = subst (λ (l : Option (List ℕ)). IfSome l (λ x. x ≡ [])) e none
 
-filled : (b : ℕ) (line : List ℕ) → (length (b ∷ line) == 0) ≡ false
-filled b line = grind (arith, nat_tests)
+not_empty : (b : ℕ) (line : List ℕ) → (length (b ∷ line) == 0) ≡ false
+not_empty b line = grind (arith, nat_tests)
 
 -- the end was met
 pub read_at_end : (E : Type 0) (old left left' : Option (List ℕ)) (line : List ℕ) → left' ≡ left → IfSome left (λ l. l ≡ []) → Reading old line left →
@@ -148,7 +148,7 @@ read_at_end E (Some told) left left' [] same none r = none_told told [] refl (su
 read_at_end E (Some told) left left' (b ∷ line) same none r =
     let empty : r.0 ≡ [] = nothing_left left r.0 r.1 none in
     let last = first_last told (b ∷ line) (omega arith) (subst (λ (x : List ℕ). IsUnderway told (b ∷ line) x) empty r.2) in
-    rw (filled b line)
+    rw (not_empty b line)
     (subst (λ (l : Option (List ℕ)). IsFirst told (b ∷ line) l) (sym (same ∙ r.1 ∙ ap Some empty)) last.0, last.1)
 
 pub read_cut : (old left left' : Option (List ℕ)) (line : List ℕ) → length line < 256 → left' ≡ left → Reading old line left → IfSome old (λ told. IsCut told line left')

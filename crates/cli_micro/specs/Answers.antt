@@ -5,8 +5,8 @@ use Rattle.micro_word.specs.ControlStore.{ControlStore, IsStore}
 use Rattle.cli_outside.specs.Work.{Answered, Prints, Writes, Refuses}
 use Rattle.mal_parser.specs.declared.error.MalError.{MalError}
 use Rattle.mal_parser.specs.Program.{Program}
-use Rattle.mal_parser.specs.Text.{IsRefused, Spells}
-use Rattle.mal_parser.specs.Canonical.{canonical_text}
+use Rattle.mal_parser.specs.Text.{IsRefused, SpellsProgram}
+use Rattle.mal_parser.specs.ProgramText.{canonical_text}
 use Rattle.store_placement.specs.declared.refusal.PlaceError.{PlaceError}
 use Rattle.store_placement.specs.declared.store_error.StoreError.{StoreError}
 use Rattle.store_placement.specs.Chosen.{IsChosenList}
@@ -27,9 +27,9 @@ pub record IsStoreOf (program : Program) (addresses : List ℕ) (s : ControlStor
 pub data MicroAnswers (machine : Machine) (target bytes : List ℕ) (answer : Answered) : Type 0 where
   NoProgram : (e : MalError) (reason : List ℕ) → IsRefused machine bytes e → mal_reason e ≡ Some reason → answer ≡ Refuses reason →
       MicroAnswers machine target bytes answer
-  NoPlacement : (program : Program) (e : PlaceError) → Spells machine bytes program → placing.Refuses (demands_of program) e →
+  NoPlacement : (program : Program) (e : PlaceError) → SpellsProgram machine bytes program → placing.Refuses (demands_of program) e →
       answer ≡ Refuses (place_reason program.statements e) → MicroAnswers machine target bytes answer
-  Placed : (program : Program) (addresses : List ℕ) (s : ControlStore) → Spells machine bytes program →
+  Placed : (program : Program) (addresses : List ℕ) (s : ControlStore) → SpellsProgram machine bytes program →
       IsChosenList (demands_of program) addresses → IsStoreOf program addresses s →
       answer ≡ Writes target (store_file s) (placement_text program addresses s) → MicroAnswers machine target bytes answer
 
@@ -41,7 +41,7 @@ pub data StoreFileAnswers (bytes : List ℕ) (answer : Answered) : Type 0 where
 
 -- the text of a microprogram is printed in canonical form, or refused
 pub data TextAnswers (machine : Machine) (bytes : List ℕ) (answer : Answered) : Type 0 where
-  Printed : (program : Program) → Spells machine bytes program → answer ≡ Prints (canonical_text program) → TextAnswers machine bytes answer
+  Printed : (program : Program) → SpellsProgram machine bytes program → answer ≡ Prints (canonical_text program) → TextAnswers machine bytes answer
   NoProgram : (e : MalError) (reason : List ℕ) → IsRefused machine bytes e → mal_reason e ≡ Some reason → answer ≡ Refuses reason →
       TextAnswers machine bytes answer
 

@@ -7,7 +7,7 @@ use Rattle.machine_words.specs.declared.machine.Machine.TheVariants.{Mic1, Mic2}
 use Rattle.micro_word.specs.Coding.{statement_of}
 use Rattle.micro_word.specs.ControlStore.{ControlStore}
 use Rattle.mal_parser.specs.Program.{Program}
-use Rattle.mal_parser.specs.Canonical.{placed_text, statement_text, text_of}
+use Rattle.mal_parser.specs.ProgramText.{placed_text, statement_text, text_of}
 use Rattle.store_placement.specs.Demands.{fixed_count, pair_count}
 use Rattle.store_placement.specs.First.{below}
 use Rattle.store_placement.specs.Program.{demands_of}

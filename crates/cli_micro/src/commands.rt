@@ -1,8 +1,8 @@
 //! The commands, from the file that they read to their status.
 
 ghost use Rattle.std.specs.Prelude.{◌≡◌};
-ghost use Rattle.mal_parser.specs.Canonical.{canonical_text};
-ghost use Rattle.shipped_program.specs.Listing.{program_of};
+ghost use Rattle.mal_parser.specs.ProgramText.{canonical_text};
+ghost use Rattle.shipped_program.specs.Listing.{listed_program};
 ghost use Rattle.cli_outside.specs.Status as exits;
 ghost use Rattle.cli_outside.specs.Outside.{Says, desk, files_of, sink_of};
 ghost use Rattle.cli_outside.specs.Work.{Ends};
@@ -67,7 +67,7 @@ pub fn print_micro<F: Files, K: Sink, E: Sink>(
 
 /// Prints the microprogram that ships for a machine, in canonical text.
 pub fn print_shipped<K: Sink>(machine: Machine, out: &mut K) -> Status
-    ensures { Says (sink_of K.held K.passed K.faults out.old) (sink_of K.held K.passed K.faults out.new) (canonical_text (program_of machine)) exits.done result.0 }
+    ensures { Says (sink_of K.held K.passed K.faults out.old) (sink_of K.held K.passed K.faults out.new) (canonical_text (listed_program machine)) exits.done result.0 }
 {
     shipped_texts_are_canonical();
     say(out, shipped_text(machine).as_bytes(), Status::DONE)

@@ -9,7 +9,7 @@ mod status;
 mod work;
 
 pub use answer::Answer;
-pub use parts::{addressed, line_of, number, numbered, of_line, signed, word};
+pub use parts::{addressed, number, numbered, of_line, signed, text_line, word};
 pub use reading::{no_memory, read_named};
 pub use said::{put_after, say, say_of};
 pub use status::Status;

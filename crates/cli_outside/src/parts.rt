@@ -40,7 +40,7 @@ pub fn word(line: &mut Line, before: &str, value: u32)
 }
 
 /// A text.
-pub fn line_of(text: &str) -> Line
+pub fn text_line(text: &str) -> Line
     requires { length text.now ≤ 512 }
     ensures text { result ≡ text.now }
     ensures len { length result ≡ length text.now }

@@ -7,7 +7,7 @@ use Rattle.mic_clock.specs.declared.end.End.{End}
 use Rattle.mic_clock.specs.Run.{completes}
 use Rattle.watched_run.specs.declared.cycle.Cycle.{Cycle}
 use Rattle.watched_run.specs.Watched.{kept_of}
-use Rattle.cli_profile.specs.declared.profiler.Tally.{Tally}
+use Rattle.cli_profile.specs.declared.profiler.RowCount.{RowCount}
 use Rattle.cli_profile.specs.Rows.{other, row_name}
 
 pub record Profile : Type 0 where
@@ -17,27 +17,27 @@ pub record Profile : Type 0 where
   pub boot : ℕ
   pub last : Option Boundary
   -- how often the instructions of each row were completed, and in how many cycles
-  pub tallies : List Tally
+  pub tallies : List RowCount
 
-abbrev pub no_tally : Tally
+abbrev pub no_tally : RowCount
 no_tally = record { count = 0; cycles = 0 }
 
 -- a sum, up to the end of its type, which no run comes to
 abbrev pub plus : ℕ → ℕ → ℕ
 plus a b = min (a + b) (2 ^ 64 - 1)
 
-abbrev pub more : ℕ → Tally → Tally
+abbrev pub more : ℕ → RowCount → RowCount
 more cycles t = record { count = plus t.count 1; cycles = plus t.cycles cycles }
 
 -- the row of an address; behind the text there is no instruction
 abbrev pub row_at : List ℕ → ℕ → ℕ
 row_at rows at = unwrap_or (slice_get rows at) other
 
-abbrev pub tally_at : List Tally → ℕ → Tally
+abbrev pub tally_at : List RowCount → ℕ → RowCount
 tally_at ts row = unwrap_or (slice_get ts row) no_tally
 
 -- the instruction at a boundary is completed, with these cycles clocked
-abbrev pub completed : List ℕ → List Tally → Option Boundary → ℕ → List Tally
+abbrev pub completed : List ℕ → List RowCount → Option Boundary → ℕ → List RowCount
 completed rows ts None cycles = ts
 completed rows ts (Some b) cycles = slice_set ts (row_at rows b.at) (more (cycles - b.cycles) (tally_at ts (row_at rows b.at)))
 
@@ -58,26 +58,26 @@ abbrev pub counted : Profile → Cycle → Profile
 counted p c = reached_at c.boundary p c.counts
 
 -- an end by HALT or ERR completes the last instruction
-abbrev pub tallies_at : Profile → End → ℕ → List Tally
+abbrev pub tallies_at : Profile → End → ℕ → List RowCount
 tallies_at p e cycles = if completes e then completed p.rows p.tallies p.last cycles else p.tallies
 
 -- `NAME COUNT CYCLES`, of a row whose instructions were completed
-abbrev pub row_line : ℕ → Tally → List ℕ
+abbrev pub row_line : ℕ → RowCount → List ℕ
 row_line row t =
     if t.count == 0 then [] else row_name row ++ codes " " ++ decimal t.count ++ codes " " ++ decimal t.cycles ++ codes "\n"
 
 -- the lines of the rows from this one on
-abbrev pub rows_text : ℕ → List Tally → List ℕ
+abbrev pub rows_text : ℕ → List RowCount → List ℕ
 rows_text row [] = []
 rows_text row (t ∷ ts) = row_line row t ++ rows_text (row + 1) ts
 
-abbrev pub line_of : List ℕ → ℕ → List ℕ
-line_of name value = name ++ codes " " ++ decimal value ++ codes "\n"
+abbrev pub count_line : List ℕ → ℕ → List ℕ
+count_line name value = name ++ codes " " ++ decimal value ++ codes "\n"
 
 -- what is printed of a run that ended so, with these counts
 abbrev pub profile_text : Profile → End → Counts → List ℕ
 profile_text p e c =
-    line_of (codes "boot") (boot_of p.last p.boot c.cycles) ++ rows_text 0 (tallies_at p e c.cycles) ++ line_of (codes "stalls") c.stalls
+    count_line (codes "boot") (boot_of p.last p.boot c.cycles) ++ rows_text 0 (tallies_at p e c.cycles) ++ count_line (codes "stalls") c.stalls
 
 -- before the first cycle
 abbrev pub start_profile : List ℕ → Profile

@@ -5,6 +5,6 @@ pub mod profiler;
 pub mod rows;
 pub mod text;
 
-pub use profiler::{Profiler, Tally};
+pub use profiler::{Profiler, RowCount};
 pub use rows::{rows_law, rows_of};
 pub use text::put_profile;

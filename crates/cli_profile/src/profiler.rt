@@ -12,21 +12,21 @@ use watched_run::{Cycle, Watcher};
 
 /// How often the instructions of a row were completed, and in how many cycles.
 #[derive(Clone, Copy, Debug, PartialEq, Eq)]
-pub struct Tally {
+pub struct RowCount {
     pub count: u64,
     pub cycles: u64,
 }
 
-impl Tally {
-    const NONE: Tally = Tally {
+impl RowCount {
+    const NONE: RowCount = RowCount {
         count: 0,
         cycles: 0,
     };
 
-    fn more(self, cycles: u64) -> Tally
+    fn more(self, cycles: u64) -> RowCount
         ensures { result ≡ more cycles self }
     {
-        Tally {
+        RowCount {
             count: self.count.saturating_add(1),
             cycles: self.cycles.saturating_add(cycles),
         }
@@ -39,7 +39,7 @@ pub struct Profiler<'a> {
     pub rows: &'a [u8],
     pub boot: u64,
     pub last: Option<Boundary>,
-    pub tallies: [Tally; ROWS],
+    pub tallies: [RowCount; ROWS],
 }
 
 /// The row of an address.
@@ -53,7 +53,7 @@ fn row_at(rows: &[u8], at: u32) -> u8
 }
 
 /// One more instruction of this row, in so many cycles.
-fn add(tallies: &mut [Tally], row: u8, cycles: u64)
+fn add(tallies: &mut [RowCount], row: u8, cycles: u64)
     ensures { tallies.new ≡ slice_set tallies.old row (more cycles (tally_at tallies.old row)) }
 {
     let row = usize::from(row);
@@ -63,7 +63,7 @@ fn add(tallies: &mut [Tally], row: u8, cycles: u64)
 }
 
 /// The instruction at the last boundary, if there was one, is completed.
-pub(crate) fn complete(rows: &[u8], tallies: &mut [Tally], last: Option<Boundary>, cycles: u64)
+pub(crate) fn complete(rows: &[u8], tallies: &mut [RowCount], last: Option<Boundary>, cycles: u64)
     ensures { tallies.new ≡ completed rows.now tallies.old last cycles }
 {
     if let Some(boundary) = last {
@@ -87,7 +87,7 @@ impl<'a> Profiler<'a> {
             rows,
             boot: 0,
             last: None,
-            tallies: [Tally::NONE; ROWS],
+            tallies: [RowCount::NONE; ROWS],
         }
     }
 
@@ -111,7 +111,7 @@ impl<'a> Watcher for Profiler<'a> {
 
     ghost keeps = { counted };
 
-    ghost Says = { Silent };
+    ghost Prints = { Silent };
 
     fn wants(&self, boundary: bool) -> bool {
         boundary

@@ -3,18 +3,18 @@
 ghost use Rattle.std.specs.Prelude.{◌≡◌, ◌≤◌, ◌+◌, ◌++◌, ℕ, List, Option, length};
 ghost use Rattle.mic_base.specs.Causes.{HasCause};
 ghost use Rattle.mic_base.specs.Streams.{Puts};
-ghost use Rattle.cli_profile.specs.Profile.{line_of, profile_text, row_line, rows_text, tallies_at};
+ghost use Rattle.cli_profile.specs.Profile.{count_line, profile_text, row_line, rows_text, tallies_at};
 
-use crate::profiler::{Profiler, Tally, complete};
+use crate::profiler::{Profiler, RowCount, complete};
 use crate::rows::row_name;
 use cli_outside::{number, put_after};
 use mic_base::{Line, Sink, SinkFailed};
 use mic_clock::{Counts, End};
 
 /// A name and a number.
-fn line_of(name: &str, value: u64) -> Line
+fn count_line(name: &str, value: u64) -> Line
     requires { length name.now ≤ 64 }
-    ensures { result ≡ line_of name.now value }
+    ensures { result ≡ count_line name.now value }
 {
     let mut line = Line::new();
     line.text(name);
@@ -24,7 +24,7 @@ fn line_of(name: &str, value: u64) -> Line
 }
 
 /// The line of a row, which is empty where none of its instructions was completed.
-fn row_line(row: usize, tally: &Tally) -> Line
+fn row_line(row: usize, tally: &RowCount) -> Line
     ensures { result ≡ row_line row tally.now }
 {
     let mut line = Line::new();
@@ -41,7 +41,7 @@ fn row_line(row: usize, tally: &Tally) -> Line
 fn put_rows<E: Sink>(
     before: Result<(), SinkFailed>,
     err: &mut E,
-    tallies: &[Tally],
+    tallies: &[RowCount],
 ) -> Result<(), SinkFailed>
     ensures puts { (old : Option (List ℕ)) (text : List ℕ) →
         Puts old text before (E.held err.old) → Puts old (text ++ rows_text 0 tallies.now) result (E.held err.new) }
@@ -55,7 +55,7 @@ fn put_rows<E: Sink>(
 }
 
 /// The tallies of a run that ended so.
-fn tallies_at(profiler: &Profiler<'_>, end: End, counts: &Counts) -> [Tally; 27]
+fn tallies_at(profiler: &Profiler<'_>, end: End, counts: &Counts) -> [RowCount; 27]
     ensures { result ≡ tallies_at (record { rows = profiler.now.rows.now; boot = profiler.now.boot; last = profiler.now.last; tallies = profiler.now.tallies }) end counts.now.cycles }
 {
     let mut tallies = profiler.tallies;
@@ -75,7 +75,7 @@ pub fn put_profile<E: Sink>(
     ensures puts { Puts (E.held err.old) (profile_text (record { rows = profiler.now.rows.now; boot = profiler.now.boot; last = profiler.now.last; tallies = profiler.now.tallies }) end counts.now) result (E.held err.new) }
     ensures cause { HasCause (E.faults err.old) (E.faults err.new) result }
 {
-    let said = err.put(line_of("boot", profiler.boot(counts)).bytes());
+    let said = err.put(count_line("boot", profiler.boot(counts)).bytes());
     let said = put_rows(said, err, &tallies_at(profiler, end, counts));
-    put_after(said, err, line_of("stalls", counts.stalls).bytes())
+    put_after(said, err, count_line("stalls", counts.stalls).bytes())
 }

@@ -8,7 +8,7 @@ use Rattle.ijvm_image.specs.Image.{ImageView}
 use Rattle.ijvm_image.specs.ImageFile.{IsRefused as IsRefusedFile}
 use Rattle.ijvm_paths.specs.declared.error.VerifyError.{VerifyError}
 use Rattle.ijvm_paths.specs.declared.error.VerifyError.TheVariants as facts
-use Rattle.ijvm_paths.specs.Facts.{Holds}
+use Rattle.ijvm_paths.specs.Facts.{IsTrueOf}
 use Rattle.cli_texts.specs.Refusals.{image_reason, link_reason, source_reason, verify_reason}
 use Rattle.cli_programs.specs.declared.program.Unaccepted.{Unaccepted}
 use Rattle.cli_programs.specs.Program.{IsNoSource, IsOf, IsRefused, IsUnaccepted, IsUnlinked, IsUnread, NoImage, NoProgram, NoSource, NotAccepted, NotLinked, begins_image, unaccepted_by}
@@ -17,7 +17,7 @@ use Rattle.ijvm_program.specs.Program.{ProgramView}
 use Rattle.ijvm_asm.specs.declared.error.AsmError.{AsmError}
 use Rattle.ijvm_asm.specs.declared.error.AsmError.TheVariants as sources
 use Rattle.ijvm_asm.specs.Drafts.{is_memory}
-use Rattle.ijvm_asm.specs.Text.{Spells}
+use Rattle.ijvm_asm.specs.Text.{SpellsProgram}
 use Rattle.ijvm_asm.specs.Text as assembler
 use Rattle.method_linker.specs.declared.error.LinkError.{LinkError}
 use Rattle.method_linker.specs.Linked as linker
@@ -33,7 +33,7 @@ no_image map bytes e u begins (inl short) is =
 no_image map bytes e u begins (inr read) is =
     subst (IsUnaccepted map bytes) (sym is) (by_reason map bytes (image_reason e) (λ text said. NoImage e begins read said))
 
-pub not_accepted : (map : MemoryMap) (bytes : List ℕ) (image : ImageView) (e : VerifyError) (u : Unaccepted) → IsOf bytes image → (e ≡ facts.OutOfMemory) ⊎ Holds image map.stack_end e →
+pub not_accepted : (map : MemoryMap) (bytes : List ℕ) (image : ImageView) (e : VerifyError) (u : Unaccepted) → IsOf bytes image → (e ≡ facts.OutOfMemory) ⊎ IsTrueOf image map.stack_end e →
     u ≡ unaccepted_by (verify_reason e) → IsUnaccepted map bytes u
 not_accepted map bytes image e u of (inl short) is =
     subst (IsUnaccepted map bytes) (sym (is ∙ ap (λ (x : VerifyError). unaccepted_by (verify_reason x)) short)) tt
@@ -61,7 +61,7 @@ pub no_source : (text : List ℕ) (e : AsmError) (u : Unaccepted) → (is_memory
 no_source text e u refused is =
     subst (IsUnlinked text) (sym is) (by_text text (source_reason e) (λ said h. NoSource e (refused (is_told e said h)) h))
 
-pub not_linked : (text : List ℕ) (source : ProgramView) (e : LinkError) (u : Unaccepted) → Spells text source → linker.IsRefused source e →
+pub not_linked : (text : List ℕ) (source : ProgramView) (e : LinkError) (u : Unaccepted) → SpellsProgram text source → linker.IsRefused source e →
     u ≡ unaccepted_by (link_reason e) → IsUnlinked text u
 not_linked text source e u spelled refused is =
     subst (IsUnlinked text) (sym is) (by_text text (link_reason e) (λ said h. NotLinked source e spelled refused h))

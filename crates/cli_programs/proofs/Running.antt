@@ -9,14 +9,14 @@ use Rattle.plain_machine.specs.Runs.{HasRunCause}
 use Rattle.plain_machine.specs.Plain.{HasRun, IsCutByRead, IsCutByWrite}
 use Rattle.ijvm_paths.specs.Accepted.{VerifiedView}
 use Rattle.cli_outside.specs.Outside.{SinkState, SourceState}
-use Rattle.cli_programs.specs.Reference.{CutByRead, CutByWrite, IsReported, Ran, program_of}
+use Rattle.cli_programs.specs.Reference.{CutByRead, CutByWrite, IsReported, Ran, verified_program}
 
 module _ (program : VerifiedView) (machine : Machine) (bound : ℕ) (console console' : SourceState) (out out' : SinkState) where
   -- what is known of a run
   pub record IsKnown (r : PlainReport) : Type 0 where
-    pub run : r.end ≢ ends.ReadFault → r.end ≢ ends.WriteFault → HasRun (program_of program machine) program.main_locals bound console.left out.held console'.left out'.held r
-    pub read : r.end ≡ ends.ReadFault → IsCutByRead (program_of program machine) program.main_locals bound console.left out.held console'.left out'.held r
-    pub write : r.end ≡ ends.WriteFault → IsCutByWrite (program_of program machine) program.main_locals bound console.left out.held console'.left out'.held r
+    pub run : r.end ≢ ends.ReadFault → r.end ≢ ends.WriteFault → HasRun (verified_program program machine) program.main_locals bound console.left out.held console'.left out'.held r
+    pub read : r.end ≡ ends.ReadFault → IsCutByRead (verified_program program machine) program.main_locals bound console.left out.held console'.left out'.held r
+    pub write : r.end ≡ ends.WriteFault → IsCutByWrite (verified_program program machine) program.main_locals bound console.left out.held console'.left out'.held r
     pub flushed : r.end ≢ ends.WriteFault → StaysFlushed out.held out.passed out'.held out'.passed
     pub cause : HasRunCause console.faults console'.faults out.faults out'.faults (Some (Ok r.end))
 

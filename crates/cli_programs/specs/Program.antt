@@ -6,14 +6,14 @@ use Rattle.ijvm_image.specs.Image.{ImageView, IsWithinLimits}
 use Rattle.ijvm_image.specs.ImageFile.{IsFileOf, IsRefused as IsRefusedFile}
 use Rattle.ijvm_program.specs.Program.{ProgramView}
 use Rattle.ijvm_asm.specs.declared.error.AsmError.{AsmError}
-use Rattle.ijvm_asm.specs.Text.{Spells}
+use Rattle.ijvm_asm.specs.Text.{SpellsProgram}
 use Rattle.ijvm_asm.specs.Text as assembler
 use Rattle.method_linker.specs.declared.error.LinkError.{LinkError}
 use Rattle.method_linker.specs.Linked.{IsLinked}
 use Rattle.method_linker.specs.Linked as linker
 use Rattle.ijvm_paths.specs.declared.error.VerifyError.{VerifyError}
 use Rattle.ijvm_paths.specs.Accepted.{IsAccepted, VerifiedView}
-use Rattle.ijvm_paths.specs.Facts.{Holds}
+use Rattle.ijvm_paths.specs.Facts.{IsTrueOf}
 use Rattle.cli_texts.specs.Refusals.{image_reason, link_reason, source_reason, verify_reason}
 use Rattle.cli_programs.specs.declared.program.Unaccepted.{Unaccepted}
 use Rattle.cli_programs.specs.declared.program.Unaccepted.TheVariants as reasons
@@ -26,13 +26,13 @@ begins_image (first ∷ rest) = first == 0x1D
 -- the text is a source of this image
 pub record IsSource (text : List ℕ) (image : ImageView) : Type 0 where
   pub source : ProgramView
-  pub spelled : Spells text source
+  pub spelled : SpellsProgram text source
   pub linked : IsLinked source image
 
 -- the text is no source of an image, for this reason
 pub data IsNoSource (text reason : List ℕ) : Type 0 where
   NoSource : (e : AsmError) → assembler.IsRefused text e → source_reason e ≡ Some reason → IsNoSource text reason
-  NotLinked : (source : ProgramView) (e : LinkError) → Spells text source → linker.IsRefused source e → link_reason e ≡ Some reason → IsNoSource text reason
+  NotLinked : (source : ProgramView) (e : LinkError) → SpellsProgram text source → linker.IsRefused source e → link_reason e ≡ Some reason → IsNoSource text reason
 
 -- the file is this image's, or a source of it
 pub data IsOf (bytes : List ℕ) (image : ImageView) : Type 0 where
@@ -49,7 +49,7 @@ pub record IsProgram (map : MemoryMap) (bytes : List ℕ) (program : VerifiedVie
 pub data IsRefused (map : MemoryMap) (bytes reason : List ℕ) : Type 0 where
   NoImage : (e : ImageError) → begins_image bytes ≡ true → IsRefusedFile bytes e → image_reason e ≡ Some reason → IsRefused map bytes reason
   NoProgram : begins_image bytes ≡ false → IsNoSource bytes reason → IsRefused map bytes reason
-  NotAccepted : (image : ImageView) (e : VerifyError) → IsOf bytes image → Holds image map.stack_end e → verify_reason e ≡ Some reason → IsRefused map bytes reason
+  NotAccepted : (image : ImageView) (e : VerifyError) → IsOf bytes image → IsTrueOf image map.stack_end e → verify_reason e ≡ Some reason → IsRefused map bytes reason
 
 -- for a reason, or for want of memory where there is none
 abbrev pub unaccepted_by : Option (List ℕ) → Unaccepted

@@ -8,7 +8,7 @@ ghost use Rattle.cli_programs.specs.Reference.{EndsReference, IsRun};
 use crate::program::accepted_program;
 use crate::refusal::refuse;
 use cli_outside::{Status, no_memory, read_named, say};
-use cli_run_texts::{end_of, plain_report, status_of};
+use cli_run_texts::{clocked_end, plain_report, status_of};
 use console_port::MemoryMap;
 use ijvm_verifier::VerifiedImage;
 use machine_words::Machine;
@@ -35,7 +35,11 @@ fn run_program<S: Source, K: Sink, E: Sink>(
     let image = program.image();
     let map = program.map();
     match run_plain(alloc, image, locals, map, machine, bound, console, out) {
-        Ok(run) => say(err, plain_report(&run).bytes(), status_of(end_of(run.end))),
+        Ok(run) => say(
+            err,
+            plain_report(&run).bytes(),
+            status_of(clocked_end(run.end)),
+        ),
         Err(_) => no_memory(err),
     }
 }

@@ -28,10 +28,10 @@ status_of (ends.OutOfMap at) = exits.out_of_map
 status_of ends.Adrift = exits.adrift
 
 -- the clock's word for an end of the plain machine
-abbrev pub end_of : PlainEnd → End
-end_of plain.Halt = ends.Halt
-end_of plain.Err = ends.Err
-end_of plain.Bound = ends.Bound
-end_of plain.StackLimit = ends.StackLimit
-end_of plain.ReadFault = ends.ReadFault
-end_of plain.WriteFault = ends.WriteFault
+abbrev pub clocked_end : PlainEnd → End
+clocked_end plain.Halt = ends.Halt
+clocked_end plain.Err = ends.Err
+clocked_end plain.Bound = ends.Bound
+clocked_end plain.StackLimit = ends.StackLimit
+clocked_end plain.ReadFault = ends.ReadFault
+clocked_end plain.WriteFault = ends.WriteFault

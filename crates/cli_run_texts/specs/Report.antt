@@ -9,7 +9,7 @@ use Rattle.mic_clock.specs.declared.counts.Counts.{Counts}
 use Rattle.mic_clock.specs.declared.registers.Registers.{Registers}
 use Rattle.mic_clock.specs.State.{state_line}
 use Rattle.plain_machine.specs.declared.plain.PlainReport.{PlainReport}
-use Rattle.cli_run_texts.specs.Ends.{end_of, name_of}
+use Rattle.cli_run_texts.specs.Ends.{clocked_end, name_of}
 
 abbrev pub boundary_line : Option Boundary → List ℕ
 boundary_line None = codes "boundary none\n"
@@ -40,7 +40,7 @@ abbrev pub last_boundary : PlainReport → Boundary
 last_boundary r = record { cycles = r.boundary; at = r.address; sp = r.sp; lv = r.lv }
 
 abbrev pub plain_head : PlainReport → List ℕ
-plain_head r = head (end_of r.end) r.cycles r.instructions (Some (last_boundary r))
+plain_head r = head (clocked_end r.end) r.cycles r.instructions (Some (last_boundary r))
 
 abbrev pub report : End → Counts → Registers → List ℕ
 report end c r = clocked_head end c ++ state_line r ++ codes "\n"

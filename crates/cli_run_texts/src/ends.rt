@@ -1,7 +1,7 @@
 //! How a run ended: the name that its report gives, and the status.
 
 ghost use Rattle.std.specs.Prelude.{◌≡◌, ◌≤◌, ◌+◌, ◌++◌, length};
-ghost use Rattle.cli_run_texts.specs.Ends.{end_of, name_of, status_of};
+ghost use Rattle.cli_run_texts.specs.Ends.{clocked_end, name_of, status_of};
 
 use cli_outside::{Status, word};
 use mic_base::Line;
@@ -43,8 +43,8 @@ pub fn status_of(end: End) -> Status
 }
 
 /// The clock's word for an end of the plain machine.
-pub fn end_of(end: PlainEnd) -> End
-    ensures { result ≡ end_of end }
+pub fn clocked_end(end: PlainEnd) -> End
+    ensures { result ≡ clocked_end end }
 {
     match end {
         PlainEnd::Halt => End::Halt,

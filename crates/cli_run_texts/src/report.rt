@@ -3,8 +3,8 @@
 ghost use Rattle.std.specs.Prelude.{◌≡◌, ◌≤◌, ◌<◌, ◌+◌, ◌++◌, length};
 ghost use Rattle.cli_run_texts.specs.Report.{boundary_line, clocked_head, counted, cycles_of, head, left_report, plain_head, quit_report, report};
 
-use crate::ends::{end_of, name_of};
-use cli_outside::{line_of, number, word};
+use crate::ends::{clocked_end, name_of};
+use cli_outside::{number, text_line, word};
 use mic_base::Line;
 use mic_clock::{Boundary, Counts, End, Registers, print_state};
 use plain_machine::PlainReport;
@@ -97,7 +97,7 @@ fn quit_report(counts: &Counts, registers: &Registers) -> Line
     requires { registers.now.mpc < 512 }
     ensures { result ≡ quit_report counts.now registers.now }
 {
-    let mut line = line_of("end quit");
+    let mut line = text_line("end quit");
     add_counts(
         &mut line,
         counts.cycles,
@@ -122,7 +122,7 @@ pub fn plain_report(run: &PlainReport) -> Line
     let mut line = Line::new();
     head(
         &mut line,
-        end_of(run.end),
+        clocked_end(run.end),
         run.cycles,
         run.instructions,
         Some(boundary),

@@ -8,7 +8,7 @@ use Rattle.mic_clock.specs.Board.{NoFault, HasEndCause}
 use Rattle.mic_clock.specs.View.{BoardView}
 use Rattle.ijvm_image.specs.Image.{ImageView}
 use Rattle.ijvm_paths.specs.Accepted.{VerifiedView}
-use Rattle.ijvm_simulation.specs.Simulates.{end_of}
+use Rattle.ijvm_simulation.specs.Simulates.{board_end}
 use Rattle.ijvm_simulation.specs.Headline.{HasRun}
 use Rattle.cli_outside.specs.Outside.{SinkState, Says}
 use Rattle.cli_run_texts.specs.Ends.{status_of}
@@ -44,10 +44,10 @@ module _ {M S : Type 0} (state : M → S) (m : Meaning S) (IsReady : ℕ → Lis
   ends_by seed size program begun left board end out out' err err' status is none run cause ended same says =
       let r : HasRun state m IsReady IsShipped entry program soak_bound (Some []) None left None board =
       subst (λ (x : Option (List ℕ)). HasRun state m IsReady IsShipped entry program soak_bound x None left None board) none (run (unfailed board.end cause)) in
-      let agrees : end ≡ end_of r.begins.finish.end = some_is end (end_of r.begins.finish.end) (sym ended ∙ (sym r.end ∙ r.agrees.end)) in
-      let by_end : Says out out' (summary (length program.image.text) (end_of r.begins.finish.end) board.counts (m.registers (state board.machine)).tos)
-      (status_of (end_of r.begins.finish.end)) status =
+      let agrees : end ≡ board_end r.begins.finish.end = some_is end (board_end r.begins.finish.end) (sym ended ∙ (sym r.end ∙ r.agrees.end)) in
+      let by_end : Says out out' (summary (length program.image.text) (board_end r.begins.finish.end) board.counts (m.registers (state board.machine)).tos)
+      (status_of (board_end r.begins.finish.end)) status =
       subst (λ (x : End). Says out out' (summary (length program.image.text) x board.counts (m.registers (state board.machine)).tos) (status_of x) status) agrees says in
       Ran program is left board r same
-      (subst (λ (x : ImageView). Says out out' (summary (length x.text) (end_of r.begins.finish.end) board.counts (m.registers (state board.machine)).tos)
-      (status_of (end_of r.begins.finish.end)) status) is.image_is by_end)
+      (subst (λ (x : ImageView). Says out out' (summary (length x.text) (board_end r.begins.finish.end) board.counts (m.registers (state board.machine)).tos)
+      (status_of (board_end r.begins.finish.end)) status) is.image_is by_end)

@@ -4,7 +4,7 @@ use Rattle.console_port.specs.declared.map.TheConstants.MemoryMap.{STANDARD}
 use Rattle.mic_clock.specs.Meaning.{Meaning}
 use Rattle.mic_clock.specs.View.{BoardView}
 use Rattle.ijvm_paths.specs.Accepted.{VerifiedView, IsAccepted}
-use Rattle.ijvm_simulation.specs.Simulates.{end_of}
+use Rattle.ijvm_simulation.specs.Simulates.{board_end}
 use Rattle.ijvm_simulation.specs.Headline.{HasRun}
 use Rattle.soak_program.specs.Generated.{generated}
 use Rattle.cli_outside.specs.Status as exits
@@ -30,6 +30,6 @@ module _ {M S : Type 0} (state : M → S) (m : Meaning S) (IsReady : ℕ → Lis
     -- the clocked run is the definition's, boundary by boundary, and has ended as that does; `board` is the machine that was clocked
     Ran : (program : VerifiedView) → IsGenerated seed size program → (left : Option (List ℕ)) (board : BoardView M) →
         (run : HasRun state m IsReady IsShipped entry program soak_bound (Some []) None left None board) → err' ≡ err →
-        Says out out' (summary (length (generated seed size).text) (end_of run.begins.finish.end) board.counts (m.registers (state board.machine)).tos)
-        (status_of (end_of run.begins.finish.end)) status →
+        Says out out' (summary (length (generated seed size).text) (board_end run.begins.finish.end) board.counts (m.registers (state board.machine)).tos)
+        (status_of (board_end run.begins.finish.end)) status →
         SoakEnds seed size out out' err err' status

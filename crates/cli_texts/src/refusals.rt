@@ -4,7 +4,7 @@ ghost use Rattle.std.specs.Prelude.{◌≡◌};
 ghost use Rattle.cli_texts.specs.Refusals.{image_reason, link_reason, source_reason, verify_reason};
 
 use crate::parts::at_byte;
-use cli_outside::{addressed, line_of, number, numbered, of_line, signed};
+use cli_outside::{addressed, number, numbered, of_line, signed, text_line};
 use ijvm_asm::AsmError;
 use ijvm_image::ImageError;
 use ijvm_verifier::VerifyError;
@@ -17,7 +17,7 @@ pub fn image_reason(error: ImageError) -> Option<Line>
 {
     match error {
         ImageError::Truncated(place) => Some(numbered(": truncated at ", place as u64)),
-        ImageError::BadMagic => Some(line_of(": bad magic")),
+        ImageError::BadMagic => Some(text_line(": bad magic")),
         ImageError::BadOrigin(value) => Some(addressed(": bad origin ", value)),
         ImageError::BadSize(value) => Some(numbered(": bad size ", u64::from(value))),
         ImageError::Trailing(place) => Some(numbered(": trailing bytes at ", place as u64)),
@@ -38,7 +38,7 @@ pub fn source_reason(error: AsmError) -> Option<Line>
         AsmError::TooManyNames(line) => Some(of_line(line, "too many names")),
         AsmError::MissingEnd(line) => Some(of_line(line, "section is not ended")),
         AsmError::UnknownName(line) => Some(of_line(line, "unknown name")),
-        AsmError::NoMain => Some(line_of(": no main")),
+        AsmError::NoMain => Some(text_line(": no main")),
         AsmError::OutOfMemory => None,
     }
 }

@@ -7,7 +7,7 @@ use Rattle.clap.proofs.WalkLemmas.{first_value-rows}
 use Rattle.clap.specs.Walk.{Row, first_of, has_row, rows_of}
 use Rattle.clap.specs.declared.parser.matches.ArgMatches.{ArgMatches}
 use Rattle.cli_words.specs.Reading.{Entry, Form, Text, has, is_distinct, is_in, names_of, text_in}
-use Rattle.cli_words.specs.Taking.{Holds}
+use Rattle.cli_words.specs.Taking.{HoldsGiven}
 use Rattle.cli_words.proofs.Rules.{own_text, same_text}
 use Rattle.cli_words.proofs.Adding.{has_rows, rows}
 use Rattle.cli_words.proofs.Ends.{default_row, flagged}
@@ -145,7 +145,7 @@ not_left n (y ∷ xs) ys k = step (bytes_eq y n) refl (not_left n xs ys)
     step true e rec = let bad : true ≡ false = rw e at k in cc
     step false e rec = rec (rw e at k)
 
-pub holds : (f : Form) (g : List Entry) (m : ArgMatches) → is_distinct (names_of f) ≡ true → rows_of (found_of m) ≡ flagged (rows g) f.flags → Holds f g m
+pub holds : (f : Form) (g : List Entry) (m : ArgMatches) → is_distinct (names_of f) ≡ true → rows_of (found_of m) ≡ flagged (rows g) f.flags → HoldsGiven f g m
 holds f g m distinct is_found = record {
   plain = λ n h. first n ∙ first_other n (rows g) f.flags (not_left n f.options f.flags (apart n f.plain (f.options ++ f.flags) distinct h)) ∙ first_rows n g;
   options = λ n h. first n ∙ first_other n (rows g) f.flags (apart n f.options f.flags (tail_distinct f.plain (f.options ++ f.flags) distinct) h) ∙ first_rows n g;

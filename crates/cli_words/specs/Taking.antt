@@ -48,13 +48,13 @@ abbrev pub app_for : Text → Form → App
 app_for name f = with_rules (with_rules (with_rules (bare name) (rules_in (kind.Plain f.is_whole) f.plain)) (rules_in kind.Valued f.options)) (rules_in kind.Flag f.flags)
 
 -- each name reads as the text that the words gave it, and a flag that they do not give as `false`
-pub record Holds (f : Form) (given : List Entry) (m : ArgMatches) : Type 0 where
+pub record HoldsGiven (f : Form) (given : List Entry) (m : ArgMatches) : Type 0 where
   pub plain : (name : Text) → is_in name f.plain ≡ true → first_value (found_of m) name ≡ text_in name given
   pub options : (name : Text) → is_in name f.options ≡ true → first_value (found_of m) name ≡ text_in name given
   pub flags : (name : Text) → is_in name f.flags ≡ true → first_value (found_of m) name ≡ Some (unwrap_or (text_in name given) (codes "false"))
 
 -- the words are taken with the values that their reading gives, or refused where it gives none
 abbrev pub TakesAs : Form → Option (List Entry) → Result ArgMatches WordsError → Type 0
-TakesAs f given (Ok m) = (g : List Entry) × (given ≡ Some g) × Holds f g m
+TakesAs f given (Ok m) = (g : List Entry) × (given ≡ Some g) × HoldsGiven f g m
 TakesAs f given (Err error.Usage) = given ≡ None
 TakesAs f given (Err error.OutOfMemory) = Unit {0}

@@ -4,7 +4,7 @@ ghost use Rattle.std.specs.Prelude.{◌≡◌, IfOk, IfSome, List, is_some, map,
 ghost use Rattle.std.specs.Option.{option_map};
 ghost use Rattle.cli_words.specs.Reading.{Entry};
 ghost use Rattle.cli_words.specs.Table.{form_for};
-ghost use Rattle.cli_words.specs.Taking.{Holds};
+ghost use Rattle.cli_words.specs.Taking.{HoldsGiven};
 ghost use Rattle.cli_words.specs.Words.{AnswersAs, HasLimits, asked, asked_of, assemble_of, debug_of, list_of, micro_of, print_micro_of, profile_of, reference_of, request_of, run_of, run_own_of, soak_of, trace_of, verify_of};
 
 use crate::error::WordsError;
@@ -17,7 +17,7 @@ use std::alloc::Global;
 
 fn assemble<'a>(matches: &ArgMatches<'a>) -> Option<Request<'a>>
     ensures limits { IfSome result HasLimits }
-    ensures asks { (g : List Entry) → Holds (form_for CommandName.Assemble) g matches.now → option_map asked result ≡ assemble_of g }
+    ensures asks { (g : List Entry) → HoldsGiven (form_for CommandName.Assemble) g matches.now → option_map asked result ≡ assemble_of g }
 {
     let source = matches.get_str("SOURCE")?;
     let image = matches.get_str("IMAGE")?;
@@ -26,7 +26,7 @@ fn assemble<'a>(matches: &ArgMatches<'a>) -> Option<Request<'a>>
 
 fn list<'a>(matches: &ArgMatches<'a>) -> Option<Request<'a>>
     ensures limits { IfSome result HasLimits }
-    ensures asks { (g : List Entry) → Holds (form_for CommandName.List) g matches.now → option_map asked result ≡ list_of g }
+    ensures asks { (g : List Entry) → HoldsGiven (form_for CommandName.List) g matches.now → option_map asked result ≡ list_of g }
 {
     let file = matches.get_str("FILE")?;
     let map = map_in(matches.get_str("map"))?;
@@ -35,7 +35,7 @@ fn list<'a>(matches: &ArgMatches<'a>) -> Option<Request<'a>>
 
 fn verify<'a>(matches: &ArgMatches<'a>) -> Option<Request<'a>>
     ensures limits { IfSome result HasLimits }
-    ensures asks { (g : List Entry) → Holds (form_for CommandName.Verify) g matches.now → option_map asked result ≡ verify_of g }
+    ensures asks { (g : List Entry) → HoldsGiven (form_for CommandName.Verify) g matches.now → option_map asked result ≡ verify_of g }
 {
     let file = matches.get_str("FILE")?;
     let map = map_in(matches.get_str("map"))?;
@@ -44,7 +44,7 @@ fn verify<'a>(matches: &ArgMatches<'a>) -> Option<Request<'a>>
 
 fn run<'a>(matches: &ArgMatches<'a>) -> Option<Request<'a>>
     ensures limits { IfSome result HasLimits }
-    ensures asks { (g : List Entry) → Holds (form_for CommandName.Run) g matches.now → option_map asked result ≡ run_of g }
+    ensures asks { (g : List Entry) → HoldsGiven (form_for CommandName.Run) g matches.now → option_map asked result ≡ run_of g }
 {
     let file = matches.get_str("FILE")?;
     let machine = machine_in(matches.get_str("machine"))?;
@@ -62,7 +62,7 @@ fn run<'a>(matches: &ArgMatches<'a>) -> Option<Request<'a>>
 
 fn run_own<'a>(matches: &ArgMatches<'a>) -> Option<Request<'a>>
     ensures limits { IfSome result HasLimits }
-    ensures asks { (g : List Entry) → Holds (form_for CommandName.Run) g matches.now → option_map asked result ≡ run_own_of g }
+    ensures asks { (g : List Entry) → HoldsGiven (form_for CommandName.Run) g matches.now → option_map asked result ≡ run_own_of g }
 {
     let file = matches.get_str("FILE")?;
     let machine = machine_in(matches.get_str("machine"))?;
@@ -81,7 +81,7 @@ fn run_own<'a>(matches: &ArgMatches<'a>) -> Option<Request<'a>>
 
 fn trace<'a>(matches: &ArgMatches<'a>) -> Option<Request<'a>>
     ensures limits { IfSome result HasLimits }
-    ensures asks { (g : List Entry) → Holds (form_for CommandName.Trace) g matches.now → option_map asked result ≡ trace_of g }
+    ensures asks { (g : List Entry) → HoldsGiven (form_for CommandName.Trace) g matches.now → option_map asked result ≡ trace_of g }
 {
     let file = matches.get_str("FILE")?;
     let machine = machine_in(matches.get_str("machine"))?;
@@ -101,7 +101,7 @@ fn trace<'a>(matches: &ArgMatches<'a>) -> Option<Request<'a>>
 
 fn profile<'a>(matches: &ArgMatches<'a>) -> Option<Request<'a>>
     ensures limits { IfSome result HasLimits }
-    ensures asks { (g : List Entry) → Holds (form_for CommandName.Profile) g matches.now → option_map asked result ≡ profile_of g }
+    ensures asks { (g : List Entry) → HoldsGiven (form_for CommandName.Profile) g matches.now → option_map asked result ≡ profile_of g }
 {
     let file = matches.get_str("FILE")?;
     let machine = machine_in(matches.get_str("machine"))?;
@@ -120,7 +120,7 @@ fn profile<'a>(matches: &ArgMatches<'a>) -> Option<Request<'a>>
 
 fn debug<'a>(matches: &ArgMatches<'a>) -> Option<Request<'a>>
     ensures limits { IfSome result HasLimits }
-    ensures asks { (g : List Entry) → Holds (form_for CommandName.Debug) g matches.now → option_map asked result ≡ debug_of g }
+    ensures asks { (g : List Entry) → HoldsGiven (form_for CommandName.Debug) g matches.now → option_map asked result ≡ debug_of g }
 {
     let file = matches.get_str("FILE")?;
     let machine = machine_in(matches.get_str("machine"))?;
@@ -140,7 +140,7 @@ fn debug<'a>(matches: &ArgMatches<'a>) -> Option<Request<'a>>
 
 fn reference<'a>(matches: &ArgMatches<'a>) -> Option<Request<'a>>
     ensures limits { IfSome result HasLimits }
-    ensures asks { (g : List Entry) → Holds (form_for CommandName.Reference) g matches.now → option_map asked result ≡ reference_of g }
+    ensures asks { (g : List Entry) → HoldsGiven (form_for CommandName.Reference) g matches.now → option_map asked result ≡ reference_of g }
 {
     let file = matches.get_str("FILE")?;
     let machine = machine_in(matches.get_str("machine"))?;
@@ -158,7 +158,7 @@ fn reference<'a>(matches: &ArgMatches<'a>) -> Option<Request<'a>>
 
 fn micro<'a>(matches: &ArgMatches<'a>) -> Option<Request<'a>>
     ensures limits { IfSome result HasLimits }
-    ensures asks { (g : List Entry) → Holds (form_for CommandName.Micro) g matches.now → option_map asked result ≡ micro_of g }
+    ensures asks { (g : List Entry) → HoldsGiven (form_for CommandName.Micro) g matches.now → option_map asked result ≡ micro_of g }
 {
     let mal = matches.get_str("MAL")?;
     let store = matches.get_str("STORE")?;
@@ -172,7 +172,7 @@ fn micro<'a>(matches: &ArgMatches<'a>) -> Option<Request<'a>>
 
 fn print_micro<'a>(matches: &ArgMatches<'a>) -> Option<Request<'a>>
     ensures limits { IfSome result HasLimits }
-    ensures asks { (g : List Entry) → Holds (form_for CommandName.PrintMicro) g matches.now → option_map asked result ≡ print_micro_of g }
+    ensures asks { (g : List Entry) → HoldsGiven (form_for CommandName.PrintMicro) g matches.now → option_map asked result ≡ print_micro_of g }
 {
     let file = matches.get_str("FILE");
     let machine = machine_in(matches.get_str("machine"))?;
@@ -181,7 +181,7 @@ fn print_micro<'a>(matches: &ArgMatches<'a>) -> Option<Request<'a>>
 
 fn soak<'a>(matches: &ArgMatches<'a>) -> Option<Request<'a>>
     ensures limits { IfSome result HasLimits }
-    ensures asks { (g : List Entry) → Holds (form_for CommandName.Soak) g matches.now → option_map asked result ≡ soak_of g }
+    ensures asks { (g : List Entry) → HoldsGiven (form_for CommandName.Soak) g matches.now → option_map asked result ≡ soak_of g }
 {
     let seed = seed_in(matches.get_str("SEED")?)?;
     let size = size_in(matches.get_str("SIZE")?)?;
@@ -196,7 +196,7 @@ fn soak<'a>(matches: &ArgMatches<'a>) -> Option<Request<'a>>
 /// What a command asks for; nothing where its work is not built yet.
 fn request_in<'a>(command: CommandName, matches: &ArgMatches<'a>) -> Option<Request<'a>>
     ensures limits { IfSome result HasLimits }
-    ensures asks { (g : List Entry) → Holds (form_for command) g matches.now → option_map asked result ≡ asked_of command g }
+    ensures asks { (g : List Entry) → HoldsGiven (form_for command) g matches.now → option_map asked result ≡ asked_of command g }
 {
     match command {
         CommandName::Assemble => assemble(matches),

@@ -1,7 +1,7 @@
 -- The control bits of a next address lead where its statement goes.
 use Rattle.std.proofs.Common.{◌≡◌, ℕ, true, false, ◌==◌, IsTrue, refl, arith}
 use Rattle.std.proofs.lemmas.Bool.Decides.{nat_tests}
-use Rattle.micro_word.specs.Canonical.{is_next}
+use Rattle.micro_word.specs.Words.{is_next}
 use Rattle.micro_word.specs.Coding.{addr_bits, jam_bits}
 use Rattle.machine_words.specs.Arithmetic.{is_negative}
 use Rattle.micro_word.specs.declared.statement.PlacedNext.{PlacedNext}

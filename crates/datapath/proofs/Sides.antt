@@ -1,6 +1,6 @@
 -- An operation that does not use side B finds 0 there.
 use Rattle.std.proofs.Common.{◌≡◌, ℕ, ◌/◌, ◌%◌, ◌==◌, Bool, true, false, IsTrue, Option, Some, None, refl, sym, ap, ◌∙◌}
-use Rattle.micro_word.specs.Canonical.{fits_side}
+use Rattle.micro_word.specs.Words.{fits_side}
 use Rattle.micro_word.specs.Coding.{row}
 use Rattle.micro_word.specs.declared.statement.AluOp.{AluOp}
 use Rattle.micro_word.specs.declared.statement.AluOp.TheVariants as ops

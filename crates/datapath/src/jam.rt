@@ -3,7 +3,7 @@
 ghost use Rattle.std.specs.Prelude.{◌≡◌, ◌<◌, ◌==◌, IsTrue};
 ghost use Rattle.machine_words.specs.Arithmetic.{is_negative};
 ghost use Rattle.micro_word.specs.declared.statement.PlacedNext.{PlacedNext};
-ghost use Rattle.micro_word.specs.Canonical.{is_next};
+ghost use Rattle.micro_word.specs.Words.{is_next};
 ghost use Rattle.micro_word.specs.Coding.{addr_bits, jam_bits};
 ghost use Rattle.datapath.specs.Next.{target};
 ghost use Rattle.datapath.specs.Jam.{low_bits, high_bit, jammed};

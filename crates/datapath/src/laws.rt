@@ -6,7 +6,7 @@ ghost use Rattle.mic1_alu.specs.Gates.{enabled};
 ghost use Rattle.micro_word.specs.declared.statement.AluOp.{AluOp};
 ghost use Rattle.micro_word.specs.declared.statement.BusSource.{BusSource};
 ghost use Rattle.micro_word.specs.declared.statement.Mem.{Mem};
-ghost use Rattle.micro_word.specs.Canonical.{fits_side};
+ghost use Rattle.micro_word.specs.Words.{fits_side};
 ghost use Rattle.micro_word.specs.Coding.{row};
 ghost use Rattle.datapath.specs.Access.{is_read};
 ghost use Rattle.datapath.specs.Memory.{sampled, written};

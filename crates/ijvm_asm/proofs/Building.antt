@@ -2,7 +2,7 @@
 use Rattle.std.proofs.Common.{◌≡◌, ℕ, suc, ◌+◌, List, [], ◌∷◌, ◌++◌, length, refl, sym, subst, arith}
 use Rattle.std.specs.Prelude.{Result, Ok}
 use Rattle.ijvm_asm.specs.declared.error.AsmError.{AsmError}
-use Rattle.ijvm_asm.specs.Said.{Heads, line_of, place_of, Said}
+use Rattle.ijvm_asm.specs.Said.{Heads, line_meant, place_of, Said}
 use Rattle.ijvm_asm.specs.Source.{Source}
 use Rattle.ijvm_asm.specs.Adding.{add_line}
 
@@ -11,7 +11,7 @@ parameters_of (Heads name ps) = ps
 parameters_of _ = []
 
 abbrev pub add : ℕ → Source → Said → Result Source AsmError
-add k s x = add_line k s (parameters_of x) (line_of x)
+add k s x = add_line k s (parameters_of x) (line_meant x)
 
 -- what lines from line `k` on say, each at its place, makes the one source of the other
 abbrev pub Build : ℕ → Source → List Said → Source → Type 0

@@ -25,7 +25,7 @@ use Rattle.ijvm_line.specs.declared.form.Form.{Form}
 use Rattle.ijvm_line.specs.declared.form.Form.TheVariants as forms
 use Rattle.ijvm_line.specs.Forms.{IsForm}
 use Rattle.ijvm_line.specs.Lines as lines
-use Rattle.ijvm_asm.specs.Said.{line_of, place_of, Said, SayAll, Says}
+use Rattle.ijvm_asm.specs.Said.{line_meant, place_of, Said, SayAll, SaysLine}
 use Rattle.ijvm_asm.proofs.Bytes.{bytes_of}
 use Rattle.ijvm_asm.proofs.Tokens.{behind_mnemonic, instr_size, kind_size, mnemonic_bytes, some_size, spelled_size, tokens_size}
 
@@ -52,7 +52,7 @@ cost_of (says.Code label (Some instruction)) = instruction_size instruction
 
 abbrev pub costs : List Said → ℕ
 costs [] = 0
-costs (x ∷ xs) = cost_of (line_of x) + costs xs
+costs (x ∷ xs) = cost_of (line_meant x) + costs xs
 
 -- ---- the bytes of an instruction
 
@@ -174,9 +174,9 @@ form_size p ts (forms.Code (Some l) (Some st)) m h e =
     let a = ap tokens_size b.1 in
     of_made (Costs (tokens_size ts + 1)) (λ i. says.Code (Some l) (Some i)) m (ranges.instruction_of st) e (λ i f. let s = statement_size st b.0 i b.2 f in omega (arith, a, s))
 
-says_cost : (line : List ℕ) (x : Said) → Says line x → cost_of (line_of x) ≤ length line + 1
+says_cost : (line : List ℕ) (x : Said) → SaysLine line x → cost_of (line_meant x) ≤ length line + 1
 says_cost line x w =
-    let a = form_size (place_of x) w.sequence w.means.form (line_of x) w.means.has w.means.says in
+    let a = form_size (place_of x) w.sequence w.means.form (line_meant x) w.means.has w.means.says in
     let b = spelled_size w.sequence line w.spelled in
     omega (arith, a, b)
 

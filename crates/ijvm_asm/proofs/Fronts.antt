@@ -23,13 +23,13 @@ use Rattle.ijvm_asm.proofs.Sectioning.{left_of}
 
 -- ---- what is open can be ended
 
-abbrev Ends : ℕ → Source → Type 0
-Ends k t = (ys : List Said) × (u : Source) × Build k t ys u × (u.place ≡ places.Outside)
+abbrev EndsAt : ℕ → Source → Type 0
+EndsAt k t = (ys : List Said) × (u : Source) × Build k t ys u × (u.place ≡ places.Outside)
 
-unit_ends : (k : ℕ) (t : Source) → t.place ≡ places.Code → t.unit.pending ≡ false → Ends k t
+unit_ends : (k : ℕ) (t : Source) → t.place ≡ places.Code → t.unit.pending ≡ false → EndsAt k t
 unit_ends k t e p = go t.unit.name refl
   where
-    go : (o : Option (List ℕ)) → t.unit.name ≡ o → Ends k t
+    go : (o : Option (List ℕ)) → t.unit.name ≡ o → EndsAt k t
     go None f = (
       Dotted marks.EndMain ∷ [],
       main_ended t,
@@ -49,19 +49,19 @@ nop = instructions.Plain instrs.Nop
 abbrev with_nop : ℕ → Source → Source
 with_nop k t = record t { unit = add_instruction k t.unit (Some nop); may_declare = false }
 
-code_ends : (k : ℕ) (t : Source) → t.place ≡ places.Code → Ends k t
+code_ends : (k : ℕ) (t : Source) → t.place ≡ places.Code → EndsAt k t
 code_ends k t e = go t.unit.pending refl
   where
-    go : (b : Bool) → t.unit.pending ≡ b → Ends k t
+    go : (b : Bool) → t.unit.pending ≡ b → EndsAt k t
     go false p = unit_ends k t e p
     go true p =
         let r = unit_ends (k + 1) (with_nop k t) e refl in
         (Codes None (Some nop) ∷ r.0, r.1, (with_nop k t, e, refl, r.2), r.3)
 
-ends : (k : ℕ) (t : Source) → Ends k t
+ends : (k : ℕ) (t : Source) → EndsAt k t
 ends k t = go t.place refl
   where
-    go : (p : Place) → t.place ≡ p → Ends k t
+    go : (p : Place) → t.place ≡ p → EndsAt k t
     go places.Outside e = ([], t, refl, e)
     go places.Constants e = (Dotted marks.EndConstants ∷ [], record t { place = places.Outside }, (record t { place = places.Outside }, e, refl, refl), refl)
     go places.Locals e =

@@ -3,7 +3,7 @@ use Rattle.std.proofs.Common.{◌≡◌, ℕ, suc, ◌+◌, List, [], ◌∷◌,
 use Rattle.std.specs.Prelude.{Err}
 use Rattle.ijvm_line.specs.Lines as lines
 use Rattle.ijvm_asm.specs.declared.error.AsmError.{AsmError}
-use Rattle.ijvm_asm.specs.Said.{line_of, place_of, Said, SayAll}
+use Rattle.ijvm_asm.specs.Said.{line_meant, place_of, Said, SayAll}
 use Rattle.ijvm_asm.specs.Source.{empty, Source}
 use Rattle.ijvm_asm.specs.Refusals.{IsRefusedBehind}
 use Rattle.ijvm_asm.proofs.Building.{Build}
@@ -41,8 +41,8 @@ module _ (front : List (List ℕ)) (before : List Said) (s : Source) (line : Lis
         ts,
         w,
         inr (
-          line_of m.said,
-          subst (λ p. lines.Spells p ts (line_of m.said)) (sym at) m.means,
+          line_meant m.said,
+          subst (λ p. lines.SpellsLine p ts (line_meant m.said)) (sym at) m.means,
           by_said k s (Err e) ts m.said m.lists (misfit_again before s b m.said e at m.misfit),
         ),
       )

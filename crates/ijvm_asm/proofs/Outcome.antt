@@ -11,8 +11,8 @@ use Rattle.ijvm_asm.specs.Source.{declarations_of, empty, Source}
 use Rattle.ijvm_asm.specs.Making.{Declarations}
 use Rattle.ijvm_asm.specs.Names.{IsLowest, IsProgramOf, NamesUnknown}
 use Rattle.ijvm_asm.specs.Refusals.{IsRefusedAtLine}
-use Rattle.ijvm_asm.specs.Text.{IsRefused, IsRefusedAtEnd, Spells}
-use Rattle.ijvm_asm.specs.ReadingNames.{program_of}
+use Rattle.ijvm_asm.specs.Text.{IsRefused, IsRefusedAtEnd, SpellsProgram}
+use Rattle.ijvm_asm.specs.ReadingNames.{whole_program}
 use Rattle.ijvm_asm.specs.Adding.{ReadsLines, step}
 use Rattle.ijvm_asm.proofs.Conditions.{refuses_fails}
 use Rattle.ijvm_asm.proofs.Sections.{all_made, all_said, of_sections, sections_of}
@@ -28,7 +28,7 @@ module _ (laws : ReadsLines) (text : List ℕ) (s : Source) (led : Leads step 1 
   made : Make 1 empty (contents text) s
   made = leads_make laws (contents text) 1 empty s led
 
-  program_spelled : (p : ProgramView) → program_of s ≡ Ok p → Spells text p
+  program_spelled : (p : ProgramView) → whole_program s ≡ Ok p → SpellsProgram text p
   program_spelled p h = let is = whole_is s p h in record { source = declarations_of s; sections = sections_of text s made is.0; program = is.1 }
 
   at_end : (e : AsmError) → IsLate s e → IsRefusedAtEnd text e
@@ -40,13 +40,13 @@ module _ (laws : ReadsLines) (text : List ℕ) (s : Source) (led : Leads step 1 
   at_end errors.NoMain (out, known, at) = record { source = declarations_of s; sections = sections_of text s made out; known = known; no_main = at }
   at_end _ w = absurd w
 
-  pub is_spelled : (r : Result ProgramView AsmError) → IfOk r (λ p. program_of s ≡ Ok p) → IfOk r (Spells text)
+  pub is_spelled : (r : Result ProgramView AsmError) → IfOk r (λ p. whole_program s ≡ Ok p) → IfOk r (SpellsProgram text)
   is_spelled (Ok p) h = program_spelled p h
   is_spelled (Err e) h = tt
 
-  pub is_refused : (r : Result ProgramView AsmError) → IfErr r (λ e. RefusesBy e (program_of s)) → IfErr r (λ e. is_memory e ≡ false → IsRefused text e)
+  pub is_refused : (r : Result ProgramView AsmError) → IfErr r (λ e. RefusesBy e (whole_program s)) → IfErr r (λ e. is_memory e ≡ false → IsRefused text e)
   is_refused (Ok p) h = tt
-  is_refused (Err e) h = λ free. inr (at_end e (refused_is s e (refuses_fails e (program_of s) h free)))
+  is_refused (Err e) h = λ free. inr (at_end e (refused_is s e (refuses_fails e (whole_program s) h free)))
 
 pub line_refused : ReadsLines → (text : List ℕ) (s : Source) (e : AsmError) → StopsAt step 1 empty (contents text) e s → IsRefused text e
 line_refused laws text s e r =
@@ -71,19 +71,19 @@ pub record LeadOneWay : Type 0 where
   pub first : (k : ℕ) (s : Source) (ls : List (List ℕ)) (e f : AsmError) → FirstRefused step k s ls e → FirstRefused step k s ls f → e ≡ f
 
 -- what the lines of a text come to
-Comes : List ℕ → Result ProgramView AsmError → Type 0
-Comes text r = ((s : Source) × Leads step 1 empty (contents text) s × (program_of s ≡ r)) ⊎ ((e : AsmError) × FirstRefused step 1 empty (contents text) e × (r ≡ Err e))
+IsOutcome : List ℕ → Result ProgramView AsmError → Type 0
+IsOutcome text r = ((s : Source) × Leads step 1 empty (contents text) s × (whole_program s ≡ r)) ⊎ ((e : AsmError) × FirstRefused step 1 empty (contents text) e × (r ≡ Err e))
 
-one_end : LeadOneWay → (text : List ℕ) (r q : Result ProgramView AsmError) → Comes text r → Comes text q → r ≡ q
-unfolding Comes
-one_end walks text r q (inl (s, led, h)) (inl (t, other, g)) = sym h ∙ (ap program_of (walks.one 1 empty s t (contents text) led other) ∙ g)
+one_end : LeadOneWay → (text : List ℕ) (r q : Result ProgramView AsmError) → IsOutcome text r → IsOutcome text q → r ≡ q
+unfolding IsOutcome
+one_end walks text r q (inl (s, led, h)) (inl (t, other, g)) = sym h ∙ (ap whole_program (walks.one 1 empty s t (contents text) led other) ∙ g)
 one_end walks text r q (inl (s, led, h)) (inr (f, stop, g)) = absurd (walks.apart 1 empty s (contents text) f led stop)
 one_end walks text r q (inr (e, stop, h)) (inl (t, other, g)) = absurd (walks.apart 1 empty t (contents text) e other stop)
 one_end walks text r q (inr (e, stop, h)) (inr (f, other, g)) = h ∙ (ap Err (walks.first 1 empty (contents text) e f stop other) ∙ sym g)
 
 module _ (laws : ReadsLines) (walks : LeadOneWay) (text : List ℕ) where
-  spelled_comes : (p : ProgramView) → Spells text p → Comes text (Ok p)
-  unfolding Comes
+  spelled_comes : (p : ProgramView) → SpellsProgram text p → IsOutcome text (Ok p)
+  unfolding IsOutcome
   spelled_comes p w =
       let of = of_sections text w.source w.sections in
       inl (of.0, make_leads laws (contents text) 1 empty of.0 of.1, whole_again of.0 p of.2 (subst (λ d. IsProgramOf d p) (sym of.3) w.program))
@@ -115,18 +115,18 @@ module _ (laws : ReadsLines) (walks : LeadOneWay) (text : List ℕ) where
       (of.0, of.1, (of.2, subst (λ d. (k : ℕ) → NamesUnknown d k → ⊥) (sym of.3) w.known, ap (λ (d : Declarations). d.main) of.3 ∙ w.no_main))
   from_end _ w = absurd w
 
-  refused_comes : (e : AsmError) → IsRefused text e → Comes text (Err e)
-  unfolding Comes
+  refused_comes : (e : AsmError) → IsRefused text e → IsOutcome text (Err e)
+  unfolding IsOutcome
   refused_comes e (inl r) = inr (e, from_line e r, refl)
   refused_comes e (inr r) =
       let of = from_end e r in
       inl (of.0, make_leads laws (contents text) 1 empty of.0 of.1, refused_again of.0 e of.2)
 
-  pub one_program : (p q : ProgramView) → Spells text p → Spells text q → p ≡ q
+  pub one_program : (p q : ProgramView) → SpellsProgram text p → SpellsProgram text q → p ≡ q
   one_program p q a b = let z = one_end walks text (Ok p) (Ok q) (spelled_comes p a) (spelled_comes q b) in cc
 
   pub one_refusal : (e f : AsmError) → IsRefused text e → IsRefused text f → e ≡ f
   one_refusal e f a b = let z = one_end walks text (Err e) (Err f) (refused_comes e a) (refused_comes f b) in cc
 
-  pub not_both : (p : ProgramView) (e : AsmError) → Spells text p → IsRefused text e → ⊥
+  pub not_both : (p : ProgramView) (e : AsmError) → SpellsProgram text p → IsRefused text e → ⊥
   not_both p e a b = let z = one_end walks text (Ok p) (Err e) (spelled_comes p a) (refused_comes e b) in cc

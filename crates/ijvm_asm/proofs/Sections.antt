@@ -16,7 +16,7 @@ use Rattle.ijvm_line.specs.Parameters.{parameters}
 use Rattle.ijvm_line.specs.Places.{mark_place}
 use Rattle.ijvm_line.specs.Ranges.{instruction_of, made, word}
 use Rattle.ijvm_asm.specs.declared.error.AsmError.{AsmError}
-use Rattle.ijvm_asm.specs.Said.{BlankAt, Codes, Declares, Defines, Dotted, Heads, line_of, Lists, place_of, Said, SayAll, Says}
+use Rattle.ijvm_asm.specs.Said.{BlankAt, Codes, Declares, Defines, Dotted, Heads, line_meant, Lists, place_of, Said, SayAll, SaysLine}
 use Rattle.ijvm_asm.specs.Sections.{lines_of, Section, section_lines}
 use Rattle.ijvm_asm.specs.Source.{declarations_of, empty, Source}
 use Rattle.ijvm_asm.specs.Making.{Declarations}
@@ -58,7 +58,7 @@ form_stands p ts (forms.Local n) h m e = same p (says.Local n) m e h.0
 form_stands p ts (forms.Code l None) h m e = same p (says.Code l None) m e h.0
 form_stands p ts (forms.Code l (Some st)) h m e = of_made p (λ i. says.Code l (Some i)) m (instruction_of st) e (λ i. h.0)
 
-stands : (p : Place) (ts : List Token) (m : Line) → lines.Spells p ts m → StandsAt p m
+stands : (p : Place) (ts : List Token) (m : Line) → lines.SpellsLine p ts m → StandsAt p m
 stands p ts m s = form_stands p ts s.form s.has m s.says
 
 -- ---- from lines to what they say
@@ -67,15 +67,15 @@ stands p ts m s = form_stands p ts s.form s.has m s.says
 pub record SaidOf (k : ℕ) (s : Source) (ts : List Token) (r : Result Source AsmError) : Type 0 where
   pub said : Said
   pub at : s.place ≡ place_of said
-  pub means : lines.Spells (place_of said) ts (line_of said)
+  pub means : lines.SpellsLine (place_of said) ts (line_meant said)
   pub lists : Lists ts said
   pub adds : add k s said ≡ r
 
 module _ (k : ℕ) (s : Source) (r : Result Source AsmError) (ts : List Token) where
-  said_as : (x : Said) → s.place ≡ place_of x → lines.Spells s.place ts (line_of x) → Lists ts x → add k s x ≡ r → SaidOf k s ts r
-  said_as x e m l h = record { said = x; at = e; means = subst (λ p. lines.Spells p ts (line_of x)) e m; lists = l; adds = h }
+  said_as : (x : Said) → s.place ≡ place_of x → lines.SpellsLine s.place ts (line_meant x) → Lists ts x → add k s x ≡ r → SaidOf k s ts r
+  said_as x e m l h = record { said = x; at = e; means = subst (λ p. lines.SpellsLine p ts (line_meant x)) e m; lists = l; adds = h }
 
-  said_line : (m : Line) → lines.Spells s.place ts m → StandsAt s.place m → add_line k s (parameters ts) m ≡ r → SaidOf k s ts r
+  said_line : (m : Line) → lines.SpellsLine s.place ts m → StandsAt s.place m → add_line k s (parameters ts) m ≡ r → SaidOf k s ts r
   said_line says.Nothing m e h = said_as (BlankAt s.place) refl m tt h
   said_line (says.Mark mark) m e h = said_as (Dotted mark) e m tt h
   said_line (says.Method n) m e h = said_as (Heads n (parameters ts)) e m refl h
@@ -83,7 +83,7 @@ module _ (k : ℕ) (s : Source) (r : Result Source AsmError) (ts : List Token) w
   said_line (says.Local n) m e h = said_as (Declares n) e m tt h
   said_line (says.Code l i) m e h = said_as (Codes l i) e m tt h
 
-pub said_of : (k : ℕ) (s : Source) (r : Result Source AsmError) (ts : List Token) (m : Line) → lines.Spells s.place ts m → add_line k s (parameters ts) m ≡ r → SaidOf k s ts r
+pub said_of : (k : ℕ) (s : Source) (r : Result Source AsmError) (ts : List Token) (m : Line) → lines.SpellsLine s.place ts m → add_line k s (parameters ts) m ≡ r → SaidOf k s ts r
 said_of k s r ts m w h = said_line k s r ts m w (stands s.place ts m w) h
 
 pub all_said : (ls : List (List ℕ)) (k : ℕ) (s t : Source) → Make k s ls t → (xs : List Said) × SayAll ls xs × Build k s xs t
@@ -95,7 +95,7 @@ all_said (l ∷ ls) k s t (u, a, more) =
 
 -- ---- and back
 
-pub by_said : (k : ℕ) (s : Source) (r : Result Source AsmError) (ts : List Token) (x : Said) → Lists ts x → add k s x ≡ r → add_line k s (parameters ts) (line_of x) ≡ r
+pub by_said : (k : ℕ) (s : Source) (r : Result Source AsmError) (ts : List Token) (x : Said) → Lists ts x → add k s x ≡ r → add_line k s (parameters ts) (line_meant x) ≡ r
 by_said k s r ts (BlankAt p) l h = h
 by_said k s r ts (Dotted m) l h = h
 by_said k s r ts (Heads n ps) l h = subst (λ qs. add_line k s qs (says.Method n) ≡ r) (sym l) h
@@ -103,12 +103,12 @@ by_said k s r ts (Defines n v) l h = h
 by_said k s r ts (Declares n) l h = h
 by_said k s r ts (Codes l i) e h = h
 
-adds : (k : ℕ) (s u : Source) (line : List ℕ) (x : Said) → Says line x → s.place ≡ place_of x → add k s x ≡ Ok u → Adds k s line u
+adds : (k : ℕ) (s u : Source) (line : List ℕ) (x : Said) → SaysLine line x → s.place ≡ place_of x → add k s x ≡ Ok u → Adds k s line u
 adds k s u line x w e h = record {
   sequence = w.sequence;
   spelled = w.spelled;
-  content = line_of x;
-  means = subst (λ p. lines.Spells p w.sequence (line_of x)) (sym e) w.means;
+  content = line_meant x;
+  means = subst (λ p. lines.SpellsLine p w.sequence (line_meant x)) (sym e) w.means;
   adds = by_said k s (Ok u) w.sequence x w.lists h;
 }
 

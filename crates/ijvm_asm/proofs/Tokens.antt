@@ -40,7 +40,7 @@ lexeme_size (tokens.Name (b ∷ name)) text h = let e = ap length h.0 in omega (
 lexeme_size (tokens.Number v) [] h = absurd h.0
 lexeme_size (tokens.Number v) (b ∷ text) h = omega arith
 
-pub spelled_size : (ts : List Token) (line : List ℕ) → spelling.Spells line ts → tokens_size ts ≤ length line
+pub spelled_size : (ts : List Token) (line : List ℕ) → spelling.SpellsTokens line ts → tokens_size ts ≤ length line
 spelled_size [] line w = omega arith
 spelled_size (t ∷ ts) line (gap, lexeme, rest, e, blank, is_lexeme, ends, more) =
     let a = lexeme_size t lexeme is_lexeme in

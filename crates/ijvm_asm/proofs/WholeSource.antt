@@ -12,7 +12,7 @@ use Rattle.ijvm_asm.specs.declared.error.AsmError.TheVariants as errors
 use Rattle.ijvm_asm.specs.Drafts.{DraftView, RefusesBy}
 use Rattle.ijvm_asm.specs.Source.{declarations_of, Source}
 use Rattle.ijvm_asm.specs.Names.{all_units, constants_of, IsLineOf, IsLowest, IsProgramOf, IsUnitOf, IsUnknownAt, IsUnknownIn, NamesUnknown, Pairwise}
-use Rattle.ijvm_asm.specs.ReadingNames.{by_main, by_missing, by_unknown, missing, missing_at, or_no_main, program_of, program_with, unit_of, units_from, unknown}
+use Rattle.ijvm_asm.specs.ReadingNames.{by_main, by_missing, by_unknown, missing, missing_at, or_no_main, whole_program, program_with, unit_of, units_from, unknown}
 use Rattle.ijvm_asm.proofs.Known.{main_known, units_known}
 use Rattle.ijvm_asm.proofs.Standing.{all_units_are, unit_again, unit_is, units_again}
 use Rattle.ijvm_asm.proofs.Unknowns.{all_known, is_unknown, none_unknown, unknown_is}
@@ -58,8 +58,8 @@ module _ (s : Source) where
     methods = all_units_are s.constants s.methods s.units vs f;
   })
 
-  pub whole_is : (p : ProgramView) → program_of s ≡ Ok p → (s.place ≡ places.Outside) × IsProgramOf (declarations_of s) p
-  unfolding program_of
+  pub whole_is : (p : ProgramView) → whole_program s ≡ Ok p → (s.place ≡ places.Outside) × IsProgramOf (declarations_of s) p
+  unfolding whole_program
   whole_is p h = at_place s.place refl h
     where
       parts : (u : DraftView) (v : Option UnitView) (vs : Option (List UnitView)) → s.main ≡ Some u → unit_of s.constants s.methods u ≡ v → units_from s.constants s.methods [] s.units ≡ vs
@@ -82,11 +82,11 @@ module _ (s : Source) where
       at_place places.Locals e h = absurd (cc)
       at_place places.Code e h = absurd (cc)
 
-  outside : s.place ≡ places.Outside → program_of s ≡ by_unknown s (unknown s)
-  unfolding program_of
+  outside : s.place ≡ places.Outside → whole_program s ≡ by_unknown s (unknown s)
+  unfolding whole_program
   outside e = ap (λ q. by_missing s (missing_at q s)) e
 
-  pub whole_again : (p : ProgramView) → s.place ≡ places.Outside → IsProgramOf (declarations_of s) p → program_of s ≡ Ok p
+  pub whole_again : (p : ProgramView) → s.place ≡ places.Outside → IsProgramOf (declarations_of s) p → whole_program s ≡ Ok p
   whole_again p e w =
       outside e ∙ (ap (by_unknown s) (none_unknown s (all_none s.constants s.methods s.main s.units p.main p.methods w.main w.methods)) ∙ with_main s.main w.main)
     where
@@ -105,8 +105,8 @@ module _ (s : Source) where
   IsLate errors.NoMain = (s.place ≡ places.Outside) × ((k : ℕ) → NamesUnknown (declarations_of s) k → ⊥) × (s.main ≡ None)
   IsLate _ = ⊥
 
-  pub refused_is : (e : AsmError) → program_of s ≡ Err e → IsLate e
-  unfolding program_of
+  pub refused_is : (e : AsmError) → whole_program s ≡ Err e → IsLate e
+  unfolding whole_program
   refused_is e h = at_place s.place refl h
     where
       parts : (v : Option UnitView) (vs : Option (List UnitView)) → IsSome v → IsSome vs → or_no_main (program_with (constants_of (declarations_of s)) v vs) ≡ Err e → IsLate e
@@ -128,19 +128,19 @@ module _ (s : Source) where
       at_place places.Locals f h = let q : errors.MissingEnd s.inner ≡ e = cc in subst IsLate q (ap (λ q. missing_at q s) f)
       at_place places.Code f h = let q : errors.MissingEnd s.section ≡ e = cc in subst IsLate q (ap (λ q. missing_at q s) f)
 
-  missed : (k : ℕ) → missing s ≡ Some k → program_of s ≡ Err (errors.MissingEnd k)
-  unfolding program_of
+  missed : (k : ℕ) → missing s ≡ Some k → whole_program s ≡ Err (errors.MissingEnd k)
+  unfolding whole_program
   missed k w = ap (by_missing s) w
 
-  pub refused_again : (e : AsmError) → IsLate e → program_of s ≡ Err e
+  pub refused_again : (e : AsmError) → IsLate e → whole_program s ≡ Err e
   refused_again (errors.MissingEnd k) w = missed k w
   refused_again (errors.UnknownName k) (out, w) = outside out ∙ ap (by_unknown s) (is_unknown s k w)
   refused_again errors.NoMain (out, known, at) = outside out ∙ (ap (by_unknown s) (none_unknown s known) ∙ ap (by_main s) at)
   refused_again _ w = absurd w
 
 -- where the source has a program, only memory may run out
-pub memory_only : (s : Source) (u : DraftView) → missing s ≡ None → unknown s ≡ None → s.main ≡ Some u → RefusesBy errors.OutOfMemory (program_of s)
-unfolding program_of
+pub memory_only : (s : Source) (u : DraftView) → missing s ≡ None → unknown s ≡ None → s.main ≡ Some u → RefusesBy errors.OutOfMemory (whole_program s)
+unfolding whole_program
 memory_only s u none known at =
     subst (RefusesBy errors.OutOfMemory) (sym (ap (by_missing s) none ∙ (ap (by_unknown s) known ∙ ap (by_main s) at)))
     (go (unit_of s.constants s.methods u) (units_from s.constants s.methods [] s.units) (main_known s u known at) (units_known s known))

@@ -16,7 +16,7 @@ use Rattle.ijvm_line.specs.declared.line.Line.TheVariants as lines
 use Rattle.ijvm_line.specs.declared.line.LineFault.{LineFault}
 use Rattle.ijvm_line.specs.declared.instruction.Instruction.{Instruction}
 use Rattle.ijvm_line.specs.Lines as spelled
-use Rattle.ijvm_line.specs.Reading.{line_of}
+use Rattle.ijvm_line.specs.Reading.{line_from}
 use Rattle.ijvm_line.specs.Parameters.{parameters}
 use Rattle.name_list.specs.Places.{place_of}
 use Rattle.ijvm_asm.specs.declared.error.AsmError.{AsmError}
@@ -126,7 +126,7 @@ add_said k s ps (Ok line) = add_line k s ps line
 add_said k s ps (Err fault) = Err (at_line k fault)
 
 abbrev pub add_tokens : ℕ → Source → List Token → Result Source AsmError
-add_tokens k s ts = add_said k s (parameters ts) (line_of s.place ts)
+add_tokens k s ts = add_said k s (parameters ts) (line_from s.place ts)
 
 abbrev pub add_read : ℕ → Source → Option (List Token) → Result Source AsmError
 add_read k s None = Err (errors.BadToken k)
@@ -141,6 +141,6 @@ IsRead s = (text : List ℕ) × (length text < 2 ^ 32) × Leads step 1 empty (co
 
 -- a line is read as what it spells, as the crates below say by their laws
 pub record ReadsLines : Type 0 where
-  pub tokens_read : (line : List ℕ) (ts : List Token) → (read line ≡ Some ts) ↔ tokens.Spells line ts
-  pub said : (place : Place) (ts : List Token) (line : Line) → (line_of place ts ≡ Ok line) ↔ spelled.Spells place ts line
-  pub refused : (place : Place) (ts : List Token) (fault : LineFault) → (line_of place ts ≡ Err fault) ↔ spelled.IsRefused place ts fault
+  pub tokens_read : (line : List ℕ) (ts : List Token) → (read line ≡ Some ts) ↔ tokens.SpellsTokens line ts
+  pub said : (place : Place) (ts : List Token) (line : Line) → (line_from place ts ≡ Ok line) ↔ spelled.SpellsLine place ts line
+  pub refused : (place : Place) (ts : List Token) (fault : LineFault) → (line_from place ts ≡ Err fault) ↔ spelled.IsRefused place ts fault

@@ -115,5 +115,5 @@ by_missing s (Some k) = Err (errors.MissingEnd k)
 by_missing s None = by_unknown s (unknown s)
 
 -- the program, or the first refusal of the whole source
-unfoldable pub program_of : Source → Result ProgramView AsmError
-program_of s = by_missing s (missing s)
+unfoldable pub whole_program : Source → Result ProgramView AsmError
+whole_program s = by_missing s (missing s)

@@ -11,7 +11,7 @@ use Rattle.ijvm_line.specs.Lines as lines
 use Rattle.name_list.specs.Places as names
 use Rattle.ijvm_asm.specs.declared.error.AsmError.{AsmError}
 use Rattle.ijvm_asm.specs.declared.error.AsmError.TheVariants as errors
-use Rattle.ijvm_asm.specs.Said.{BlankAt, Codes, Declares, Defines, Dotted, Heads, line_of, Lists, place_of, Said, SayAll}
+use Rattle.ijvm_asm.specs.Said.{BlankAt, Codes, Declares, Defines, Dotted, Heads, line_meant, Lists, place_of, Said, SayAll}
 use Rattle.ijvm_asm.specs.Sections.{lines_of, Section}
 use Rattle.ijvm_asm.specs.Units.{AreNew}
 use Rattle.ijvm_asm.specs.Making.{Declarations, nothing, SectionsDeclare}
@@ -108,14 +108,14 @@ pub record HasFault (k : ℕ) (before : List Said) (ts : List Token) (e : AsmErr
 pub record SaysMisfit (k : ℕ) (before : List Said) (ts : List Token) (e : AsmError) : Type 0 where
   pub said : Said
   pub stands : StandsAt before (place_of said)
-  pub means : lines.Spells (place_of said) ts (line_of said)
+  pub means : lines.SpellsLine (place_of said) ts (line_meant said)
   pub lists : Lists ts said
   pub misfit : IsMisfit k before said e
 
 -- line `k` spells no tokens, or its tokens are refused
 abbrev pub IsRefusedBehind : ℕ → List Said → List ℕ → AsmError → Type 0
-IsRefusedBehind k before line e = (((ts : List Token) → tokens.Spells line ts → ⊥) × (e ≡ errors.BadToken k))
-    ⊎ ((ts : List Token) × tokens.Spells line ts × (HasFault k before ts e ⊎ SaysMisfit k before ts e))
+IsRefusedBehind k before line e = (((ts : List Token) → tokens.SpellsTokens line ts → ⊥) × (e ≡ errors.BadToken k))
+    ⊎ ((ts : List Token) × tokens.SpellsTokens line ts × (HasFault k before ts e ⊎ SaysMisfit k before ts e))
 
 -- a line is refused behind the first lines of some sections
 pub record IsRefusedAtLine (text : List ℕ) (e : AsmError) : Type 0 where

@@ -35,13 +35,13 @@ place_of (Defines name value) = places.Constants
 place_of (Declares name) = places.Locals
 place_of (Codes label instruction) = places.Code
 
-abbrev pub line_of : Said → Line
-line_of (BlankAt place) = says.Nothing
-line_of (Dotted mark) = says.Mark mark
-line_of (Heads name ps) = says.Method name
-line_of (Defines name value) = says.Constant name value
-line_of (Declares name) = says.Local name
-line_of (Codes label instruction) = says.Code label instruction
+abbrev pub line_meant : Said → Line
+line_meant (BlankAt place) = says.Nothing
+line_meant (Dotted mark) = says.Mark mark
+line_meant (Heads name ps) = says.Method name
+line_meant (Defines name value) = says.Constant name value
+line_meant (Declares name) = says.Local name
+line_meant (Codes label instruction) = says.Code label instruction
 
 -- the tokens name the parameters, where they begin a method
 abbrev pub Lists : List Token → Said → Type 0
@@ -49,15 +49,15 @@ Lists ts (Heads name ps) = parameters ts ≡ ps
 Lists ts _ = ⊤
 
 -- a line says this, by its tokens at its place
-pub record Says (line : List ℕ) (said : Said) : Type 0 where
+pub record SaysLine (line : List ℕ) (said : Said) : Type 0 where
   pub sequence : List Token
-  pub spelled : tokens.Spells line sequence
-  pub means : lines.Spells (place_of said) sequence (line_of said)
+  pub spelled : tokens.SpellsTokens line sequence
+  pub means : lines.SpellsLine (place_of said) sequence (line_meant said)
   pub lists : Lists sequence said
 
 -- the lines say these, one each
 abbrev pub SayAll : List (List ℕ) → List Said → Type 0
 SayAll [] [] = ⊤
-SayAll (l ∷ ls) (x ∷ xs) = Says l x × SayAll ls xs
+SayAll (l ∷ ls) (x ∷ xs) = SaysLine l x × SayAll ls xs
 SayAll [] (x ∷ xs) = ⊥
 SayAll (l ∷ ls) [] = ⊥

@@ -19,7 +19,7 @@ pub record IsSource (text : List ℕ) (declares : Declarations) : Type 0 where
   pub made : SectionsDeclare 1 nothing sections declares
 
 -- the text's lines are those of sections, and their names stand for the program's positions
-pub record Spells (text : List ℕ) (p : ProgramView) : Type 0 where
+pub record SpellsProgram (text : List ℕ) (p : ProgramView) : Type 0 where
   pub source : Declarations
   pub sections : IsSource text source
   pub program : IsProgramOf source p

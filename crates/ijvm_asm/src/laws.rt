@@ -4,7 +4,7 @@ ghost use Rattle.std.specs.Prelude.{◌≡◌, ℕ, List};
 ghost use Rattle.ijvm_program.specs.Program.{ProgramView};
 ghost use Rattle.ijvm_asm.specs.declared.error.AsmError.{AsmError};
 ghost use Rattle.ijvm_asm.specs.Adding.{ReadsLines};
-ghost use Rattle.ijvm_asm.specs.Text.{IsRefused, Spells};
+ghost use Rattle.ijvm_asm.specs.Text.{IsRefused, SpellsProgram};
 
 use crate::source::SourceReader;
 use source_text::lines_lead_one_way;
@@ -19,9 +19,9 @@ pub(crate) fn reads_lines()
 
 /// A text spells at most one program, or else has at most one first refusal, and never both.
 pub fn a_text_says_one_thing()
-    ensures one_program { (text : List ℕ) (p q : ProgramView) → Spells text p → Spells text q → p ≡ q }
+    ensures one_program { (text : List ℕ) (p q : ProgramView) → SpellsProgram text p → SpellsProgram text q → p ≡ q }
     ensures one_refusal { (text : List ℕ) (e f : AsmError) → IsRefused text e → IsRefused text f → e ≡ f }
-    ensures not_both { (text : List ℕ) (p : ProgramView) (e : AsmError) → Spells text p → IsRefused text e → ⊥ }
+    ensures not_both { (text : List ℕ) (p : ProgramView) (e : AsmError) → SpellsProgram text p → IsRefused text e → ⊥ }
 {
     reads_lines();
     lines_lead_one_way::<SourceReader>();

@@ -2,12 +2,12 @@
 
 ghost use Rattle.std.specs.Prelude.{◌≡◌, ◌<◌, ◌^◌, length, IfOk, IfErr, false};
 ghost use Rattle.ijvm_asm.specs.Drafts.{is_memory};
-ghost use Rattle.ijvm_asm.specs.Text.{IsRefused, Spells};
+ghost use Rattle.ijvm_asm.specs.Text.{IsRefused, SpellsProgram};
 
 use crate::error::AsmError;
 use crate::laws::reads_lines;
 use crate::source::SourceReader;
-use crate::whole::program_of;
+use crate::whole::whole_program;
 use ijvm_program::Program;
 use source_text::read_lines;
 use std::alloc::Global;
@@ -16,13 +16,13 @@ use std::alloc::Global;
 /// line has one, that of all lines together.
 pub fn parse_source(alloc: Global, text: &[u8]) -> Result<Program, AsmError>
     requires { length text.now < 2 ^ 32 }
-    ensures ok { IfOk result (Spells text.now) }
+    ensures ok { IfOk result (SpellsProgram text.now) }
     ensures err { IfErr result (λ e. is_memory e ≡ false → IsRefused text.now e) }
 {
     reads_lines();
     let mut reader = SourceReader::new(alloc);
     match read_lines(&mut reader, text) {
-        Ok(()) => program_of(&reader),
+        Ok(()) => whole_program(&reader),
         Err(refusal) => Err(refusal),
     }
 }

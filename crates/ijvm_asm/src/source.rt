@@ -8,7 +8,7 @@ ghost use Rattle.ijvm_asm.specs.Refusals.{at_line};
 use crate::draft::{Draft, MOST};
 use crate::error::AsmError;
 use crate::laws::reads_lines;
-use ijvm_line::{Instruction, Line, LineFault, Mark, Place, line_of, parameters_of};
+use ijvm_line::{Instruction, Line, LineFault, Mark, Place, line_from, parameters_of};
 use ijvm_tokens::{Token, tokens_of};
 use mic_base::Name;
 use name_list::NameList;
@@ -80,7 +80,7 @@ fn at_line(fault: LineFault, line: u32) -> AsmError
 impl SourceReader {
     ghost use Rattle.ijvm_asm.specs.Adding.{add_code, add_constant, add_line, add_mark, add_method, add_tokens, begin_constants, begin_locals, begin_main, end_main, end_method, is_declared, on_local};
     ghost use Rattle.ijvm_asm.specs.Source.{empty};
-    ghost use Rattle.ijvm_line.specs.Reading.{line_of};
+    ghost use Rattle.ijvm_line.specs.Reading.{line_from};
     ghost use Rattle.ijvm_line.specs.Parameters.{parameters};
 
     pub(crate) fn new(alloc: Global) -> SourceReader
@@ -308,7 +308,7 @@ impl SourceReader {
         ensures err { IfErr result (λ e. FailsBy e (add_tokens number self.old tokens.now)) }
         ensures left { IfErr result (λ e. StaysBy e self.old self.new) }
     {
-        match line_of(self.place, tokens) {
+        match line_from(self.place, tokens) {
             Ok(line) => self.add(number, tokens, line),
             Err(fault) => Err(at_line(fault, number)),
         }

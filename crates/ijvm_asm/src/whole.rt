@@ -3,7 +3,7 @@
 ghost use Rattle.std.specs.Prelude.{◌≡◌, Ok, None, Some, IfOk, IfErr, IsSome};
 ghost use Rattle.ijvm_asm.specs.Drafts.{RefusesBy};
 ghost use Rattle.ijvm_asm.specs.Names.{constants_of};
-ghost use Rattle.ijvm_asm.specs.ReadingNames.{missing, program_of, unknown};
+ghost use Rattle.ijvm_asm.specs.ReadingNames.{missing, whole_program, unknown};
 ghost use Rattle.ijvm_asm.specs.Adding.{IsRead};
 ghost use Rattle.ijvm_asm.specs.Source.{declarations_of};
 
@@ -53,11 +53,11 @@ fn constants_of(reader: &SourceReader) -> Result<Vec<Constant>, AllocError>
 }
 
 /// The program that the lines make, or the first refusal of the whole source.
-#[tactic(auto, unfolding(crate::specs::ReadingNames::program_of), using(crate::proofs::Known::main_known, crate::proofs::Known::units_known, crate::proofs::WholeSource::memory_only))]
-pub(crate) fn program_of(reader: &SourceReader) -> Result<Program, AsmError>
+#[tactic(auto, unfolding(crate::specs::ReadingNames::whole_program), using(crate::proofs::Known::main_known, crate::proofs::Known::units_known, crate::proofs::WholeSource::memory_only))]
+pub(crate) fn whole_program(reader: &SourceReader) -> Result<Program, AsmError>
     requires { IsRead reader.now }
-    ensures ok { IfOk result (λ p. program_of reader.now ≡ Ok p) }
-    ensures err { IfErr result (λ e. RefusesBy e (program_of reader.now)) }
+    ensures ok { IfOk result (λ p. whole_program reader.now ≡ Ok p) }
+    ensures err { IfErr result (λ e. RefusesBy e (whole_program reader.now)) }
 {
     reads_lines();
     if let Some(line) = missing(reader) {

@@ -7,7 +7,7 @@ use Rattle.std.proofs.lemmas.Int.{of_z-to_z, to_z-of_z}
 use Rattle.std.proofs.Math.Facts.{sfits_to_z, Fits-of_lt}
 use Rattle.ijvm_instr.specs.declared.instr.Instr.{Instr}
 use Rattle.ijvm_instr.specs.declared.instr.Instr.TheVariants.{Nop, Bipush, LdcW, Iload, Istore, Pop, Dup, Swap, Iadd, Isub, Iand, Iinc, Ifeq, Iflt, IfIcmpeq, Goto, Ireturn, Ior, Invokevirtual, WideIload, WideIstore, WideIinc, In, Out, Err, Halt}
-use Rattle.ijvm_instr.specs.Instructions.{of_bytes, begun_at, instr_at, whole, spelling, size_of, row_of, Spells, StandAt, IsInstr}
+use Rattle.ijvm_instr.specs.Instructions.{of_bytes, begun_at, instr_at, whole, spelling, size_of, row_of, SpellsInstr, StandAt, IsInstr}
 
 chosen_by : (P : Instr → Type 0) (x y : ℕ) (j : Instr) (rest : Option Instr) (i : Instr) (t : Bool) → (x == y) ≡ t →
     (x ≡ y → P j) → (rest ≡ Some i → P i) → (if t then Some j else rest) ≡ Some i → P i
@@ -277,7 +277,7 @@ byte_below (x ∷ xs) (suc k) h = byte_below xs k (λ j d below. h (suc j) d (om
 
 read_at : (text : List ℕ) (at : ℕ) (i : Instr) → at + size_of (row_of i) ≤ length text →
     IsRead (slice_index text at) (slice_index text (at + 1)) (slice_index text (at + 2)) (slice_index text (at + 3)) (slice_index text (at + 4)) (slice_index text (at + 5)) i →
-    (bytes : List ℕ) × Spells bytes i × StandAt text at bytes × (length bytes ≡ size_of (row_of i))
+    (bytes : List ℕ) × SpellsInstr bytes i × StandAt text at bytes × (length bytes ≡ size_of (row_of i))
 read_at text at i fits read =
     elim read [
       | inl e ↦ (spelling i, inl refl, stand_from text at (spelling i) (sym (take-front text at (size_of (row_of i)) (size_most i)) ∙ e) fits, refl)
@@ -291,7 +291,7 @@ read_at text at i fits read =
 
 -- what is read at an address is spelled there
 pub instr_at-read : (text : List ℕ) (at : ℕ) (i : Instr) → All (λ (b : ℕ). b < 256) text → instr_at text at ≡ Some i →
-    (bytes : List ℕ) × Spells bytes i × StandAt text at bytes × (length bytes ≡ size_of (row_of i))
+    (bytes : List ℕ) × SpellsInstr bytes i × StandAt text at bytes × (length bytes ≡ size_of (row_of i))
 unfolding instr_at
 instr_at-read text at i small e =
     let found : (begun_at text at ≡ Some i)
@@ -315,7 +315,7 @@ whole_second text at stands =
     rw first (whole-fits (length text) at Ior fits)
 
 -- and what is spelled there is read
-pub instr_at-spelled : (text : List ℕ) (at : ℕ) (i : Instr) (bytes : List ℕ) → IsInstr i → Spells bytes i → StandAt text at bytes → instr_at text at ≡ Some i
+pub instr_at-spelled : (text : List ℕ) (at : ℕ) (i : Instr) (bytes : List ℕ) → IsInstr i → SpellsInstr bytes i → StandAt text at bytes → instr_at text at ≡ Some i
 instr_at-spelled text at i bytes real spells stands =
     elim spells [
       | inl e ↦ whole_spelled text at i real (subst (StandAt text at) e stands)
@@ -347,23 +347,23 @@ part_stands before (x ∷ xs) after =
     get_or-append_seam (y ∷ ys) x after = get_or-append_seam ys x after
 
 -- both spellings have the instruction's size
-pub length-spelled : (i : Instr) (bytes : List ℕ) → Spells bytes i → length bytes ≡ size_of (row_of i)
+pub length-spelled : (i : Instr) (bytes : List ℕ) → SpellsInstr bytes i → length bytes ≡ size_of (row_of i)
 length-spelled i bytes spells = elim spells [ inl e ↦ ap length e | inr e ↦ rw (e.0, e.1) refl ]
 
 -- what an instruction's bytes and anything behind them are read as
-pub front-decoded : (bytes : List ℕ) (i : Instr) (front rest : List ℕ) → IsInstr i → Spells front i → bytes ≡ front ++ rest → instr_at bytes 0 ≡ Some i
+pub front-decoded : (bytes : List ℕ) (i : Instr) (front rest : List ℕ) → IsInstr i → SpellsInstr front i → bytes ≡ front ++ rest → instr_at bytes 0 ≡ Some i
 front-decoded bytes i front rest real spells e =
     instr_at-spelled bytes 0 i front real spells (subst (λ (text : List ℕ). StandAt text 0 front) (sym e) (part_stands [] front rest))
 
 -- the front of what is read
 pub decoded-front : (bytes : List ℕ) (i : Instr) → All (λ (b : ℕ). b < 256) bytes → instr_at bytes 0 ≡ Some i →
-    Spells (take (size_of (row_of i)) bytes) i × (size_of (row_of i) ≤ length bytes)
+    SpellsInstr (take (size_of (row_of i)) bytes) i × (size_of (row_of i) ≤ length bytes)
 decoded-front bytes i small e =
-    let read : (front : List ℕ) × Spells front i × StandAt bytes 0 front × (length front ≡ size_of (row_of i)) = instr_at-read bytes 0 i small e in
+    let read : (front : List ℕ) × SpellsInstr front i × StandAt bytes 0 front × (length front ≡ size_of (row_of i)) = instr_at-read bytes 0 i small e in
     let part : take (length read.0) bytes ≡ read.0 = stand_take bytes 0 read.0 read.2 in
     let fits : 0 + length read.0 ≤ length bytes = stand_fits bytes 0 read.0 read.2 in
     let size : length read.0 ≡ size_of (row_of i) = read.3 in
-    (subst (λ (n : ℕ). Spells (take n bytes) i) size (subst (λ (xs : List ℕ). Spells xs i) (sym part) read.1), omega arith)
+    (subst (λ (n : ℕ). SpellsInstr (take n bytes) i) size (subst (λ (xs : List ℕ). SpellsInstr xs i) (sym part) read.1), omega arith)
 
 -- What is read has operands in the ranges of their types.
 

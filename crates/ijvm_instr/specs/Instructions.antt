@@ -156,8 +156,8 @@ abbrev pub size_of : Row → ℕ
 size_of r = length (bytes_of r)
 
 -- these bytes are read as this instruction: 80 is a second spelling of IOR
-abbrev pub Spells : List ℕ → Instr → Type 0
-Spells bytes i = (bytes ≡ spelling i) ⊎ ((i ≡ Ior) × (bytes ≡ 0x80 ∷ []))
+abbrev pub SpellsInstr : List ℕ → Instr → Type 0
+SpellsInstr bytes i = (bytes ≡ spelling i) ⊎ ((i ≡ Ior) × (bytes ≡ 0x80 ∷ []))
 
 -- these bytes stand at this address of a text
 abbrev pub StandAt : List ℕ → ℕ → List ℕ → Type 0

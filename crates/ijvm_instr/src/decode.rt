@@ -3,7 +3,7 @@
 ghost use Rattle.std.specs.Prelude.{◌≡◌, ◌+◌, ◌*◌, ◌≤◌, ◌<◌, ◌++◌, ℕ, List, length, take, slice_index, Some, IfSome};
 ghost use Rattle.std.specs.Option.{option_map};
 ghost use Rattle.ijvm_instr.specs.declared.instr.Instr.{Instr};
-ghost use Rattle.ijvm_instr.specs.Instructions.{of_bytes, instr_at, row_of, size_of, Spells, IsInstr};
+ghost use Rattle.ijvm_instr.specs.Instructions.{of_bytes, instr_at, row_of, size_of, SpellsInstr, IsInstr};
 
 use crate::instr::Instr;
 
@@ -86,10 +86,10 @@ pub fn decode_at(text: &[u8], at: u32) -> Option<Instr>
 /// The instruction at the front, and its length in bytes.
 pub fn decode_instr(bytes: &[u8]) -> Option<(Instr, u8)>
     ensures at_front { result ≡ option_map (λ i. (i, size_of (row_of i))) (instr_at bytes.now 0) }
-    ensures spelled { IfSome result (λ r. Spells (take r.1 bytes.now) r.0 × (r.1 ≤ length bytes.now)) }
+    ensures spelled { IfSome result (λ r. SpellsInstr (take r.1 bytes.now) r.0 × (r.1 ≤ length bytes.now)) }
 
     // So it is none exactly where no whole instruction stands in front.
-    ensures decodes { (i : Instr) (front rest : List ℕ) → IsInstr i → Spells front i → bytes.now ≡ front ++ rest → result ≡ Some (i, length front) }
+    ensures decodes { (i : Instr) (front rest : List ℕ) → IsInstr i → SpellsInstr front i → bytes.now ≡ front ++ rest → result ≡ Some (i, length front) }
 {
     let instr = decode_at(bytes, 0)?;
     Some((instr, instr.row().size() as u8))

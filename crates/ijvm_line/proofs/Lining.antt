@@ -8,18 +8,18 @@ use Rattle.ijvm_line.specs.declared.line.Line.{Line}
 use Rattle.ijvm_line.specs.declared.line.LineFault.{LineFault}
 use Rattle.ijvm_line.specs.declared.line.LineFault.TheVariants as faults
 use Rattle.ijvm_line.specs.Forms.{IsForm}
-use Rattle.ijvm_line.specs.Reading.{form_of, line_of, said_by}
-use Rattle.ijvm_line.specs.Lines.{IsRefused, line_by, Spells}
+use Rattle.ijvm_line.specs.Reading.{form_of, line_from, said_by}
+use Rattle.ijvm_line.specs.Lines.{IsRefused, line_by, SpellsLine}
 use Rattle.ijvm_line.proofs.Forming.{form_again, form_is}
 use Rattle.ijvm_line.proofs.Ranging.{no_bad_line}
 
 -- what the outcome says
 Says : Place → List Token → Result Line LineFault → Type 0
-Says p ts (Ok l) = Spells p ts l
+Says p ts (Ok l) = SpellsLine p ts l
 Says p ts (Err e) = IsRefused p ts e
 
-line_says : (p : Place) (ts : List Token) → Says p ts (line_of p ts)
-unfolding Says line_of
+line_says : (p : Place) (ts : List Token) → Says p ts (line_from p ts)
+unfolding Says line_from
 line_says p ts = by_form (form_of p ts) refl
   where
     by_line : (f : Form) (r : Result Line LineFault) → IsForm p ts f → line_by f ≡ r → Says p ts r
@@ -32,20 +32,20 @@ line_says p ts = by_form (form_of p ts) refl
     by_form None e = λ f is. absurd (let k = form_again p ts f is in cc)
     by_form (Some f) e = by_line f (line_by f) (form_is p ts f e) refl
 
-pub line_spells : (p : Place) (ts : List Token) (l : Line) → line_of p ts ≡ Ok l → Spells p ts l
+pub line_spells : (p : Place) (ts : List Token) (l : Line) → line_from p ts ≡ Ok l → SpellsLine p ts l
 unfolding Says
 line_spells p ts l h = subst (Says p ts) h (line_says p ts)
 
-pub line_refused : (p : Place) (ts : List Token) (e : LineFault) → line_of p ts ≡ Err e → IsRefused p ts e
+pub line_refused : (p : Place) (ts : List Token) (e : LineFault) → line_from p ts ≡ Err e → IsRefused p ts e
 unfolding Says
 line_refused p ts e h = subst (Says p ts) h (line_says p ts)
 
-pub spells_line : (p : Place) (ts : List Token) (l : Line) → Spells p ts l → line_of p ts ≡ Ok l
-unfolding line_of
+pub spells_line : (p : Place) (ts : List Token) (l : Line) → SpellsLine p ts l → line_from p ts ≡ Ok l
+unfolding line_from
 spells_line p ts l s = ap said_by (form_again p ts s.form s.has) ∙ s.says
 
-pub refused_line : (p : Place) (ts : List Token) (e : LineFault) → IsRefused p ts e → line_of p ts ≡ Err e
-unfolding line_of
+pub refused_line : (p : Place) (ts : List Token) (e : LineFault) → IsRefused p ts e → line_from p ts ≡ Err e
+unfolding line_from
 refused_line p ts faults.BadLine r = by_form (form_of p ts) refl
   where
     by_form : (o : Option Form) → form_of p ts ≡ o → said_by o ≡ Err faults.BadLine

@@ -29,7 +29,7 @@ line_by (forms.Local name) = Ok (lines.Local name)
 line_by (forms.Code label statement) = code_line label statement
 
 -- the tokens have a form that says this
-pub record Spells (place : Place) (ts : List Token) (line : Line) : Type 0 where
+pub record SpellsLine (place : Place) (ts : List Token) (line : Line) : Type 0 where
   pub form : Form
   pub has : IsForm place ts form
   pub says : line_by form ≡ Ok line

@@ -177,5 +177,5 @@ abbrev pub said_by : Option Form → Result Line LineFault
 said_by None = Err faults.BadLine
 said_by (Some form) = line_by form
 
-unfoldable pub line_of : Place → List Token → Result Line LineFault
-line_of place ts = said_by (form_of place ts)
+unfoldable pub line_from : Place → List Token → Result Line LineFault
+line_from place ts = said_by (form_of place ts)

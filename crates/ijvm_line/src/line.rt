@@ -2,7 +2,7 @@
 
 ghost use Rattle.std.specs.Prelude.{◌≡◌};
 ghost use Rattle.ijvm_line.specs.Lines.{code_line, constant_line, line_by};
-ghost use Rattle.ijvm_line.specs.Reading.{line_of};
+ghost use Rattle.ijvm_line.specs.Reading.{line_from};
 
 use crate::form::{Form, form_of};
 use crate::instruction::{Instruction, instruction_of, word};
@@ -68,9 +68,9 @@ fn line_by(form: Form) -> Result<Line, LineFault>
 }
 
 /// What the tokens of a line say at the place where it stands, or the first refusal.
-#[tactic(auto, unfolding(crate::specs::Reading::line_of))]
-pub fn line_of(place: Place, tokens: &[Token]) -> Result<Line, LineFault>
-    ensures { result ≡ line_of place tokens.now }
+#[tactic(auto, unfolding(crate::specs::Reading::line_from))]
+pub fn line_from(place: Place, tokens: &[Token]) -> Result<Line, LineFault>
+    ensures { result ≡ line_from place tokens.now }
 {
     match form_of(place, tokens) {
         Some(form) => line_by(form),

@@ -13,7 +13,7 @@ use Rattle.ijvm_image.specs.declared.method.Method.{Method}
 use Rattle.ijvm_image.specs.Image.{ImageView}
 use Rattle.ijvm_run.specs.Frames.{Frame, State, base, frames_of, start_of}
 use Rattle.ijvm_instr.specs.Instructions.{target, word_of}
-use Rattle.ijvm_run.specs.Step.{Outcome, Goes, Halts, Errs, Limits, Stuck, limited, moved, pushed, pushed_constant, loaded, is_own, with_local, stored, increased, popped, doubled, swapped, combined, way, branched, compared, returned, onto, in_method, entered, called_at, taken, given_out, step, stepped, outcome}
+use Rattle.ijvm_run.specs.Step.{Outcome, Goes, Halts, Errs, Limits, Stuck, limited, moved, pushed, pushed_constant, loaded, is_own, with_local, stored, increased, popped, doubled, swapped, combined, way, branched, compared, returned, onto, in_method, entered, called_at, taken, given_out, step, step_if_any, outcome}
 use Rattle.ijvm_run.specs.Run.{after, state_after}
 use Rattle.ijvm_run.specs.Safe.{SameFrames, ComesTo, Here, On as Onward}
 use Rattle.ijvm_paths.specs.declared.error.VerifyError.TheVariants.{LinkSlot, BadLocal, UnsetLocal}
@@ -435,7 +435,7 @@ steps_there image z count s accepts main sound =
 good_outcome : (image : ImageView) (z count : ℕ) (s : State) → Accepts image z → IsMainCount image count → IsSound image count s → IsGood image count (outcome image z s)
 good_outcome image z count s accepts main sound =
     let w = steps_there image z count s accepts main sound in
-    subst (λ (o : Option Instr). IsGood image count (stepped image z s o)) (sym w.1.code) (good image z count s w.0 w.1)
+    subst (λ (o : Option Instr). IsGood image count (step_if_any image z s o)) (sym w.1.code) (good image z count s w.0 w.1)
 
 sound_step : (image : ImageView) (z count : ℕ) → Accepts image z → IsMainCount image count → (s to : State) → IsSound image count s → outcome image z s ≡ Goes to → IsSound image count to
 sound_step image z count accepts main s to sound goes = subst (λ (o : Outcome). IsGood image count o) goes (good_outcome image z count s accepts main sound)

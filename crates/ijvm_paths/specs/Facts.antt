@@ -52,15 +52,15 @@ Covers image (Code u at) byte = (a : Arrival) × Reached image a × (a.unit ≡ 
 Covers image (Header e) byte = IsReachedMethod image e × (e ≤ byte) × (byte < e + 4)
 
 -- a refusal is true of an image, for a stack that ends here
-abbrev pub Holds : ImageView → ℕ → VerifyError → Type 0
-Holds image stack_end (Overlap byte) = (p q : Piece) × (p ≢ q) × Covers image p byte × Covers image q byte
-Holds image stack_end (DepthDiffers at d e) = (a b : Arrival) × Reached image a × Reached image b × (a.at ≡ at) × (b.at ≡ at) × (a.depth ≡ d) × (b.depth ≡ e) × (d < e)
-Holds image stack_end (MainFrame count) = IsMainCount image count × (stack_end < 0x8000 + count)
-Holds image stack_end e = (a : Arrival) × Reached image a × IsWrongAt image a e
+abbrev pub IsTrueOf : ImageView → ℕ → VerifyError → Type 0
+IsTrueOf image stack_end (Overlap byte) = (p q : Piece) × (p ≢ q) × Covers image p byte × Covers image q byte
+IsTrueOf image stack_end (DepthDiffers at d e) = (a b : Arrival) × Reached image a × Reached image b × (a.at ≡ at) × (b.at ≡ at) × (a.depth ≡ d) × (b.depth ≡ e) × (d < e)
+IsTrueOf image stack_end (MainFrame count) = IsMainCount image count × (stack_end < 0x8000 + count)
+IsTrueOf image stack_end e = (a : Arrival) × Reached image a × IsWrongAt image a e
 
 -- accepted: no refusal is true
 abbrev pub Accepts : ImageView → ℕ → Type 0
-Accepts image stack_end = (e : VerifyError) → Holds image stack_end e → ⊥
+Accepts image stack_end = (e : VerifyError) → IsTrueOf image stack_end e → ⊥
 
 -- the number of reached methods
 pub record IsMethodCount (image : ImageView) (count : ℕ) : Type 0 where

@@ -18,7 +18,7 @@ use Rattle.ijvm_reach.specs.declared.kept.Kept.{Kept}
 use Rattle.ijvm_paths.specs.declared.error.VerifyError.{VerifyError}
 use Rattle.ijvm_paths.specs.declared.error.VerifyError.TheVariants.{BadCode, FallsOff, BadTarget, Overlap, BadConstant, BadEntry, BadHeader, LinkSlot, BadLocal, UnsetLocal, TooFewArguments, Underflow, DepthDiffers, ReturnInMain, MainFrame, OutOfMemory}
 use Rattle.ijvm_paths.specs.Paths.{Arrival, arrival, HasRow, HasConstant, callee, need_by, need_of, GoesOn, left_unset, On, Into, Reached, Start, Then, HasNext, HasJump}
-use Rattle.ijvm_paths.specs.Facts.{Names, IsWrongAt, Holds, Code}
+use Rattle.ijvm_paths.specs.Facts.{Names, IsWrongAt, IsTrueOf, Code}
 use Rattle.ijvm_reach.specs.Search.{kept_at, kept_of, IsChecked, empties, IsKept, AllFollow, IsDone, IsSearch, Grows, IsRunning, IsClosed, IsDecided}
 
 pub get_set_same : {X : Type 0} (xs : List X) (i : ℕ) (v : X) → i < length xs → slice_get (slice_set xs i v) i ≡ Some v
@@ -273,7 +273,7 @@ one_kept image seen closed a b g h same =
     one j k o u e p q = cc
 
 -- and so no such fact holds
-pub decided : (image : ImageView) (z : ℕ) (seen : List (Option Kept)) → IsClosed image seen → (e : VerifyError) → IsDecided e → Holds image z e → ⊥
+pub decided : (image : ImageView) (z : ℕ) (seen : List (Option Kept)) → IsClosed image seen → (e : VerifyError) → IsDecided e → IsTrueOf image z e → ⊥
 decided image z seen closed e = by_fact e
   where
     carried : (a : Arrival) → Reached image a → (e : VerifyError) → IsWrongAt image a e → IsCarried e
@@ -281,7 +281,7 @@ decided image z seen closed e = by_fact e
         let d = closed.checked a.at (kept_of a.unit a.depth) (closed.all a h) in
         clear image (kept_of a.unit a.depth) a.at a.unset d.0 d.1 d.2 e w
 
-    by_fact : (e : VerifyError) → IsDecided e → Holds image z e → ⊥
+    by_fact : (e : VerifyError) → IsDecided e → IsTrueOf image z e → ⊥
     by_fact (BadCode p) i h = carried h.0 h.1 (BadCode p) h.2
     by_fact (FallsOff p) i h = carried h.0 h.1 (FallsOff p) h.2
     by_fact (BadTarget p) i h = carried h.0 h.1 (BadTarget p) h.2
@@ -303,7 +303,7 @@ decided image z seen closed e = by_fact e
 
 -- two units reach one instruction
 pub overlap : (image : ImageView) (z : ℕ) (old here : Kept) (at : ℕ) (i : Instr) → Reached image (kept_at old at) → Reached image (kept_at here at) → old.unit ≢ here.unit → instr_at image.text at ≡ Some i → 0 < size_of (row_of i) →
-    Holds image z (Overlap at)
+    IsTrueOf image z (Overlap at)
 overlap image z old here at i g h differ code above =
     let within : at < at + size_of (row_of i) = omega arith in (
       Code old.unit at,
@@ -353,7 +353,7 @@ pub taken_kept : (seen : List (Option Kept)) (todo rest : List ℕ) (at : ℕ) �
 taken_kept seen todo rest at waiting is = waiting at (subst (λ (xs : List ℕ). Contains xs at) (sym is) (Contains-push rest at))
 
 -- what is wrong at an arrival of a path is a fact of the image
-pub wrong_holds : (image : ImageView) (z : ℕ) (a : Arrival) (e : VerifyError) → Reached image a → IsWrongAt image a e → Holds image z e
+pub wrong_holds : (image : ImageView) (z : ℕ) (a : Arrival) (e : VerifyError) → Reached image a → IsWrongAt image a e → IsTrueOf image z e
 wrong_holds image z a (BadCode p) h w = (a, h, w)
 wrong_holds image z a (FallsOff p) h w = (a, h, w)
 wrong_holds image z a (BadTarget p) h w = (a, h, w)

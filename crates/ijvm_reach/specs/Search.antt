@@ -9,11 +9,11 @@ use Rattle.ijvm_paths.specs.declared.error.VerifyError.{VerifyError}
 use Rattle.ijvm_paths.specs.declared.error.VerifyError.TheVariants.{UnsetLocal, Overlap, MainFrame, OutOfMemory}
 use Rattle.ijvm_reach.specs.declared.kept.Kept.{Kept}
 use Rattle.ijvm_paths.specs.Paths.{Arrival, arrival, HasRow, IsWhole, HasConstant, HasNext, HasJump, need_of, Follows, Reached, IsReachedMethod}
-use Rattle.ijvm_paths.specs.Facts.{Names, Holds}
+use Rattle.ijvm_paths.specs.Facts.{Names, IsTrueOf}
 
 -- a refusal is true, whatever the stack's end, or memory has run out
 abbrev pub States : ImageView → VerifyError → Type 0
-States image e = (stack_end : ℕ) → (e ≡ OutOfMemory) ⊎ Holds image stack_end e
+States image e = (stack_end : ℕ) → (e ≡ OutOfMemory) ⊎ IsTrueOf image stack_end e
 
 -- the arrival of a kept address
 abbrev pub kept_at : Kept → ℕ → Arrival

@@ -4,7 +4,7 @@ ghost use Rattle.std.specs.Prelude.{◌≡◌, ◌≢◌, ◌+◌, ◌*◌, ◌<
 ghost use Rattle.ijvm_instr.specs.Instructions.{target};
 ghost use Rattle.ijvm_paths.specs.declared.error.VerifyError.{VerifyError};
 ghost use Rattle.ijvm_paths.specs.Paths.{arrival, Reached, HasJump};
-ghost use Rattle.ijvm_paths.specs.Facts.{Holds};
+ghost use Rattle.ijvm_paths.specs.Facts.{IsTrueOf};
 ghost use Rattle.ijvm_reach.specs.Search.{kept_at, kept_of, States, IsChecked, IsKept, IsTaken, IsDone, AllFollow, IsSearch, Grows, IsRunning, IsClosed, IsDecided, empties};
 
 use crate::checks::{Found, check_at};
@@ -217,7 +217,7 @@ fn begun(alloc: Global, image: &Image) -> Result<Search, VerifyError>
 /// All reached addresses, with their units and depths.
 pub fn search_all(alloc: Global, image: &Image) -> Result<Vec<Option<Kept>>, VerifyError>
     ensures ok { IfOk result (λ seen. IsClosed image.now seen.items) }
-    ensures decided { IfOk result (λ _. (z : ℕ) (e : VerifyError) → IsDecided e → Holds image.now z e → ⊥) }
+    ensures decided { IfOk result (λ _. (z : ℕ) (e : VerifyError) → IsDecided e → IsTrueOf image.now z e → ⊥) }
     ensures err { IfErr result (λ e. States image.now e) }
 {
     if text_len(image) == 0 {

@@ -14,7 +14,7 @@ use Rattle.ijvm_instr.specs.Instructions.{IsInstr, instr_at, word_of, target}
 use Rattle.ijvm_image.specs.declared.method.Method.{Method}
 use Rattle.ijvm_image.specs.Image.{ImageView, IsImage, method_at, params, others}
 use Rattle.ijvm_run.specs.Frames.{Frame, State, frames_of, base, start_of, IsWord, HasWords, AreWords}
-use Rattle.ijvm_run.specs.Step.{Outcome, Goes, Halts, Errs, Limits, Stuck, limited, moved, pushed, pushed_constant, loaded, is_own, with_local, stored, increased, popped, doubled, swapped, combined, way, branched, compared, returned, onto, called, in_method, entered, called_at, taken, read_in, given_out, step, stepped, outcome}
+use Rattle.ijvm_run.specs.Step.{Outcome, Goes, Halts, Errs, Limits, Stuck, limited, moved, pushed, pushed_constant, loaded, is_own, with_local, stored, increased, popped, doubled, swapped, combined, way, branched, compared, returned, onto, called, in_method, entered, called_at, taken, read_in, given_out, step, step_if_any, outcome}
 use Rattle.ijvm_run.specs.Run.{Program, Point, Passes, Start, More}
 
 head : {X : Type 0} (P : X → Type 0) (x : X) (xs : List X) → All P (x ∷ xs) → P x
@@ -246,7 +246,7 @@ step_words image n Halt s fits pool real at h = tt
 abbrev Reads : ImageView → Type 0
 Reads image = (at : ℕ) (i : Instr) → instr_at image.text at ≡ Some i → IsInstr i × (at < length image.text)
 
-stepped_words : (image : ImageView) (n : ℕ) (s : State) (o : Option Instr) → IsImage image → Reads image → instr_at image.text s.at ≡ o → AreWords s → Keeps (stepped image n s o)
+stepped_words : (image : ImageView) (n : ℕ) (s : State) (o : Option Instr) → IsImage image → Reads image → instr_at image.text s.at ≡ o → AreWords s → Keeps (step_if_any image n s o)
 stepped_words image n s None good reads is h = tt
 stepped_words image n s (Some i) good reads is h =
     let read : IsInstr i × (s.at < length image.text) = reads s.at i is in

@@ -48,13 +48,13 @@ abbrev pub operands_at : ℕ → Frame → ℕ
 operands_at lv f = lv + length f.locals + kept_words f.back
 
 -- the word address behind the last operand
-abbrev pub end_of : ℕ → Frame → ℕ
-end_of lv f = operands_at lv f + length f.operands
+abbrev pub frame_end : ℕ → Frame → ℕ
+frame_end lv f = operands_at lv f + length f.operands
 
 -- the word address behind these frames, where the next frame begins
 abbrev pub base : List Frame → ℕ
 base [] = 0x8000
-base (f ∷ fs) = end_of (base fs) f
+base (f ∷ fs) = frame_end (base fs) f
 
 -- where the running frame begins
 abbrev pub lv_of : State → ℕ

@@ -164,10 +164,10 @@ step image stack_end Out s = given_out s s.running.operands
 step image stack_end Err s = Errs
 step image stack_end Halt s = Halts
 
-abbrev pub stepped : ImageView → ℕ → State → Option Instr → Outcome
-stepped image stack_end s None = Stuck
-stepped image stack_end s (Some i) = step image stack_end i s
+abbrev pub step_if_any : ImageView → ℕ → State → Option Instr → Outcome
+step_if_any image stack_end s None = Stuck
+step_if_any image stack_end s (Some i) = step image stack_end i s
 
 -- what the instruction at this state's address does
 abbrev pub outcome : ImageView → ℕ → State → Outcome
-outcome image stack_end s = stepped image stack_end s (instr_at image.text s.at)
+outcome image stack_end s = step_if_any image stack_end s (instr_at image.text s.at)

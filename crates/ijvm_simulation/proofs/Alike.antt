@@ -11,7 +11,7 @@ use Rattle.ijvm_run.specs.Frames.{State}
 use Rattle.ijvm_run.specs.Step.{Outcome, Goes, Halts, Errs, Limits, Stuck, outcome}
 use Rattle.ijvm_run.specs.Run.{Program, Point, Finish, point_after, finish_from, after_test, after_outcome, completed, stopped, first_point}
 use Rattle.ijvm_paths.specs.Accepted.{VerifiedView}
-use Rattle.ijvm_simulation.specs.Simulates.{end_of}
+use Rattle.ijvm_simulation.specs.Simulates.{board_end}
 use Rattle.ijvm_simulation.specs.Verified.{program}
 use Rattle.ijvm_simulation.specs.Headline.{told_of, HasRun}
 use Rattle.ijvm_simulation.specs.Agreement.{EndAlike, MeetNoBound}
@@ -74,8 +74,8 @@ module _ (p q : Program) (image : q.image ≡ p.image) (stack_end : q.stack_end 
   alike (suc n) (suc k) at to f g same many ef eg nf ng =
       by_tests n k (alike n k) at to f g same many (nat_le b at.cycles) (nat_le c to.cycles) ef eg nf ng
 
-end_bound : (e : RunEnd) → e ≡ defined.Bound → end_of e ≡ clocked.Bound
-end_bound e is = ap end_of is
+end_bound : (e : RunEnd) → e ≡ defined.Bound → board_end e ≡ clocked.Bound
+end_bound e is = ap board_end is
 
 both_told : (held held' : Option (List ℕ)) (x y : List ℕ) → x ≡ y → IfSome held (λ h. h ≡ x) → IfSome held' (λ h. h ≡ y) → IfSome held (λ h. IfSome held' (λ h'. h ≡ h'))
 both_told None held' x y e a b = tt
@@ -93,14 +93,14 @@ module _ {M N S T : Type 0} (state : M → S) (m : Meaning S) (IsReady : ℕ →
       let g : Finish = r'.begins.finish in
       let told : r.begins.input ≡ input = r.begins.told in
       let told' : r'.begins.input ≡ input = r'.begins.told in
-      let nf : f.end ≢ defined.Bound = λ e. none.0 (sym r.end ∙ (r.agrees.end ∙ ap (λ (x : RunEnd). Some (end_of x)) e)) in
-      let ng : g.end ≢ defined.Bound = λ e. none.1 (sym r'.end ∙ (r'.agrees.end ∙ ap (λ (x : RunEnd). Some (end_of x)) e)) in
+      let nf : f.end ≢ defined.Bound = λ e. none.0 (sym r.end ∙ (r.agrees.end ∙ ap (λ (x : RunEnd). Some (board_end x)) e)) in
+      let ng : g.end ≢ defined.Bound = λ e. none.1 (sym r'.end ∙ (r'.agrees.end ∙ ap (λ (x : RunEnd). Some (board_end x)) e)) in
       let a : Alike f g =
       alike (program m.machine v) (program m'.machine v) refl refl bound bound' r.begins.finishes.0 r'.begins.finishes.0
       (first_point v.main_locals r.begins.input) (first_point v.main_locals r'.begins.input) f g
       (ap (λ (i : List ℕ). (first_point v.main_locals i).state) (told ∙ sym told')) refl r.begins.finishes.1 r'.begins.finishes.1 nf ng in
       record {
-        end = sym r.end ∙ (r.agrees.end ∙ (ap (λ (x : RunEnd). Some (end_of x)) a.end ∙ (sym r'.agrees.end ∙ r'.end)));
+        end = sym r.end ∙ (r.agrees.end ∙ (ap (λ (x : RunEnd). Some (board_end x)) a.end ∙ (sym r'.agrees.end ∙ r'.end)));
         instructions = ap (λ (x : Counts). x.instructions) (sym r.at.counts) ∙ (r.agrees.instructions ∙ (a.instructions ∙ (sym r'.agrees.instructions ∙ ap (λ (x : Counts). x.instructions) r'.at.counts)));
         output = both_told held held' (told_of before ++ f.left.given) (told_of before ++ g.left.given) (ap (λ (x : State). told_of before ++ x.given) a.left) r.given r'.given;
       }

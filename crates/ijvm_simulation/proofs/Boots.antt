@@ -23,7 +23,7 @@ module _ {S : Type 0} (m : Meaning S) (words : List ℕ) (IsAt : State → S →
   ready : IsReady m bound start
   ready =
       let off : m.is_boundary start.state ≡ false = b.off in
-      record { no_bound = grind (arith, nat_tests); no_halt = b.moves.begins.no_halt; no_err = b.moves.begins.no_err; going = refl }
+      record { no_bound = grind (arith, nat_tests); no_halt = b.moves.begins.no_halt; no_err = b.moves.begins.no_err; not_ended = refl }
 
   pub booted : IsBoundary IsAt (first_point main_locals input) (turns m words (Some bound) boot start)
   booted =
@@ -38,7 +38,7 @@ module _ {S : Type 0} (m : Meaning S) (words : List ℕ) (IsAt : State → S →
         cycles = sym v.spent_is;
         instructions = refl;
         boundary = λ i. Some (record { cycles = (sym v.spent_is) i; at = s.address i; sp = s.sp i; lv = s.lv i });
-        going = refl;
+        not_ended = refl;
       })
 
   pub quiet : (n : ℕ) → 0 < n → n < boot → m.is_boundary (turns m words (Some bound) n start).state ≡ false

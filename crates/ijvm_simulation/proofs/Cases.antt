@@ -11,11 +11,11 @@ use Rattle.ijvm_image.specs.declared.method.Method.{Method}
 use Rattle.ijvm_image.specs.Image.{ImageView, method_at}
 use Rattle.ijvm_run.specs.Frames.{Frame, State, frames_of, base}
 use Rattle.ijvm_run.specs.Step.{Outcome, Goes, Limits, Stuck, limited, moved, pushed_constant, loaded, is_own, with_local, stored, increased, popped, doubled, swapped, combined, way, branched, compared, returned, in_method, entered, called_at, taken, given_out, step}
-use Rattle.ijvm_simulation.specs.Outcomes.{Stores, push, Went, Overran, Says}
+use Rattle.ijvm_simulation.specs.Outcomes.{Stores, push, Went, Overran, IsOutcome}
 
 module _ (image : ImageView) (stack_end : ℕ) (s : State) where
   abbrev Says_of : Instr → Outcome → Type 0
-  Says_of i o = Says image stack_end s i o
+  Says_of i o = IsOutcome image stack_end s i o
 
   -- a push or a call: the stack has room, or has none
   room : (i : Instr) (left next : State) → (base (frames_of next) ≤ stack_end → Went image stack_end s next i) → (stack_end < base (frames_of next) → Overran image stack_end s left i) →
@@ -134,7 +134,7 @@ module _ (image : ImageView) (stack_end : ℕ) (s : State) where
   give [] e = tt
   give (y ∷ rest) e = record { top = y; rest = rest; are = e; leads = refl }
 
-  pub says : (i : Instr) → Says image stack_end s i (step image stack_end i s)
+  pub says : (i : Instr) → IsOutcome image stack_end s i (step image stack_end i s)
   says Nop = refl
   says (Bipush b) = room (Bipush b) s (push s (word_of b) (s.at + 2)) (λ l. record { fits = l; goes = refl }) (λ l. record { over = l; leaves = refl })
   says (LdcW k) = constant k (slice_get image.pool k) refl

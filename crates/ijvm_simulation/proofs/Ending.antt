@@ -4,7 +4,7 @@ use Rattle.console_port.specs.World.{World}
 use Rattle.console_port.specs.Console.{Untaken, Given}
 use Rattle.mic_clock.specs.Meaning.{Meaning}
 use Rattle.mic_clock.specs.Run.{MicroRun}
-use Rattle.ijvm_simulation.specs.Simulates.{end_of}
+use Rattle.ijvm_simulation.specs.Simulates.{board_end}
 use Rattle.ijvm_simulation.specs.Headline.{told_of, reset_run}
 use Rattle.ijvm_simulation.specs.Starts.{EndsAsDefined}
 use Rattle.ijvm_paths.specs.Accepted.{VerifiedView, IsAccepted}
@@ -35,5 +35,5 @@ ends_as_defined state m IsReady IsShipped entry promises knows =
       told = subst (λ (e : Bool). Untaken left e input) s.input l.1;
       finish = sim.finishes.0;
       finishes = sim.finishes.1;
-      is = some_is end (end_of sim.finishes.0.end) (sym come ∙ (ap (λ (r : MicroRun _). r.end) same ∙ stop.1.end));
+      is = some_is end (board_end sim.finishes.0.end) (sym come ∙ (ap (λ (r : MicroRun _). r.end) same ∙ stop.1.end));
     }

@@ -9,14 +9,14 @@ use Rattle.mic_clock.specs.declared.counts.Counts.{Counts}
 use Rattle.mic_clock.specs.declared.end.End.{End}
 use Rattle.mic_clock.specs.declared.end.End.TheVariants as clocked
 use Rattle.mic_clock.specs.Meaning.{Meaning, Refused}
-use Rattle.mic_clock.specs.Run.{MicroRun, turn, turn_by, turns, bounded, stepped, gone, end_before, completes, last_cycles, number_of}
+use Rattle.mic_clock.specs.Run.{MicroRun, turn, turn_by, turns, bounded, after_step, after_end_or_step, end_before, completes, last_cycles, number_of}
 use Rattle.ijvm_run.specs.declared.run.RunEnd.{RunEnd}
 use Rattle.ijvm_run.specs.declared.run.RunEnd.TheVariants as defined
 use Rattle.ijvm_run.specs.Frames.{State}
 use Rattle.ijvm_run.specs.Step.{Outcome, Goes, Halts, Errs, Limits, Stuck, outcome}
 use Rattle.ijvm_run.specs.Cost.{next_cost}
 use Rattle.ijvm_run.specs.Run.{Program, Point, Finish, point_after, finish_from, after_test, after_outcome, completed, stopped}
-use Rattle.ijvm_simulation.specs.Simulates.{point_at, below, going_on, end_of, IsBoundary, IsEnd}
+use Rattle.ijvm_simulation.specs.Simulates.{point_behind, below, going_on, board_end, IsBoundary, IsEnd}
 use Rattle.ijvm_simulation.specs.Passes.{Moment, pass}
 use Rattle.ijvm_simulation.specs.Law.{HasWord, Moves, Stops, StopsHere, StopsBehind, Overruns, Shows}
 use Rattle.ijvm_simulation.proofs.Passes.{not_boundary}
@@ -44,7 +44,7 @@ module _ {S : Type 0} (m : Meaning S) (words : List ℕ) (IsAt : State → S →
   ready : nat_le bound at.cycles ≡ false → HasWord m r.state → IsReady m bound r
   ready t begins =
       let e : nat_le bound r.counts.cycles ≡ false = ap (nat_le bound) h.cycles ∙ t in
-      record { no_bound = grind (arith, nat_tests); no_halt = begins.no_halt; no_err = begins.no_err; going = h.going }
+      record { no_bound = grind (arith, nat_tests); no_halt = begins.no_halt; no_err = begins.no_err; not_ended = h.not_ended }
 
   near : (n : ℕ) → n < 1024 → r.counts.cycles + n < last_cycles r.counts.boundary + 1024
   near n l =
@@ -89,7 +89,7 @@ module _ {S : Type 0} (m : Meaning S) (words : List ℕ) (IsAt : State → S →
               cycles = cycles;
               instructions = ap₂ (λ (i : ℕ) (b : Option Boundary). i + number_of (is_some b)) h.instructions h.boundary;
               boundary = λ i. Some (record { cycles = cycles i; at = shows.address i; sp = shows.sp i; lv = shows.lv i });
-              going = refl;
+              not_ended = refl;
             });
         inside = inside_pass v.n v.there t v.begins v.short v.passes;
       }
@@ -107,7 +107,7 @@ module _ {S : Type 0} (m : Meaning S) (words : List ℕ) (IsAt : State → S →
   -- by the bound
   pub bounds : nat_le bound at.cycles ≡ true → Ended (stopped at defined.Bound at.state)
   bounds t =
-      let e1 : r.end ≡ None = h.going in
+      let e1 : r.end ≡ None = h.not_ended in
       let e2 : m.is_boundary r.state ≡ true = shown.boundary in
       let e3 : nat_le bound r.counts.cycles ≡ true = ap (nat_le bound) h.cycles ∙ t in
       let e : bounded m (Some bound) r ≡ record r { end = Some clocked.Bound } = rw (e1, e2, e3) in
@@ -122,12 +122,12 @@ module _ {S : Type 0} (m : Meaning S) (words : List ℕ) (IsAt : State → S →
   -- by HALT or ERR
   stops_behind : (mpc : ℕ) (e : End) (f : Finish) (v : StopsBehind m words IsAt before (moment_of r) (next_cost p.image p.machine at.state) mpc) → nat_le bound at.cycles ≡ false →
       end_before m v.there.state (run_inside m r (r.counts.cycles + v.n + 1) v.there).counts ≡ Some e →
-      IsEnd before f (gone m words (Some e) (run_inside m r (r.counts.cycles + v.n + 1) v.there)) → Ended f
+      IsEnd before f (after_end_or_step m words (Some e) (run_inside m r (r.counts.cycles + v.n + 1) v.there)) → Ended f
   stops_behind mpc e f v t ending is =
       let q : MicroRun S = run_inside m r (r.counts.cycles + v.n + 1) v.there in
       let first : turns m words (Some bound) (suc v.n) r ≡ q =
       pass_turns_inside m words bound v.n r v.there (r.counts.cycles + v.n + 1) refl (ready t v.begins) (near v.n (omega (arith, v.short))) v.passes v.off in
-      let whole : turns m words (Some bound) (suc v.n + 1) r ≡ gone m words (Some e) q =
+      let whole : turns m words (Some bound) (suc v.n + 1) r ≡ after_end_or_step m words (Some e) q =
       turns-add m words bound (suc v.n) 1 r ∙ (ap (whole_turn m words bound) first ∙ ending_turn m words bound q e refl v.off ending) in
       record {
         k = suc v.n + 1;
@@ -142,8 +142,8 @@ module _ {S : Type 0} (m : Meaning S) (words : List ℕ) (IsAt : State → S →
       }
 
   -- what is counted where an instruction ends the run
-  completed_behind : (mpc : ℕ) (e : RunEnd) (v : StopsBehind m words IsAt before (moment_of r) (next_cost p.image p.machine at.state) mpc) → completes (end_of e) ≡ true →
-      IsEnd before (completed p at e) (gone m words (Some (end_of e)) (run_inside m r (r.counts.cycles + v.n + 1) v.there))
+  completed_behind : (mpc : ℕ) (e : RunEnd) (v : StopsBehind m words IsAt before (moment_of r) (next_cost p.image p.machine at.state) mpc) → completes (board_end e) ≡ true →
+      IsEnd before (completed p at e) (after_end_or_step m words (Some (board_end e)) (run_inside m r (r.counts.cycles + v.n + 1) v.there))
   completed_behind mpc e v t =
       record {
         end = refl;
@@ -156,14 +156,14 @@ module _ {S : Type 0} (m : Meaning S) (words : List ℕ) (IsAt : State → S →
 
   -- the clock ends the run here
   stops_here : (mpc : ℕ) (e : RunEnd) (v : StopsHere m words IsAt before (moment_of r) (next_cost p.image p.machine at.state) mpc) → nat_le bound at.cycles ≡ false →
-      end_before m r.state r.counts ≡ Some (end_of e) → completes (end_of e) ≡ true → Ended (completed p at e)
+      end_before m r.state r.counts ≡ Some (board_end e) → completes (board_end e) ≡ true → Ended (completed p at e)
   stops_here mpc e v t ending done =
-      let e1 : r.end ≡ None = h.going in
+      let e1 : r.end ≡ None = h.not_ended in
       let e2 : m.is_boundary r.state ≡ true = shown.boundary in
       let e3 : nat_le bound r.counts.cycles ≡ false = ap (nat_le bound) h.cycles ∙ t in
       let same : bounded m (Some bound) r ≡ r = rw (e1, e2, e3) in
-      let last : whole_turn m words bound r ≡ gone m words (Some (end_of e)) r =
-      ap (turn m words) same ∙ (ap (λ (x : Option End). turn_by m words x r) e1 ∙ ap (λ (x : Option End). gone m words x r) ending) in
+      let last : whole_turn m words bound r ≡ after_end_or_step m words (Some (board_end e)) r =
+      ap (turn m words) same ∙ (ap (λ (x : Option End). turn_by m words x r) e1 ∙ ap (λ (x : Option End). after_end_or_step m words x r) ending) in
       record {
         k = 1;
         some = omega arith;
@@ -180,10 +180,10 @@ module _ {S : Type 0} (m : Meaning S) (words : List ℕ) (IsAt : State → S →
       }
 
   stops : (mpc : ℕ) (e : RunEnd) (v : Stops m words IsAt before (moment_of r) (next_cost p.image p.machine at.state) mpc) → nat_le bound at.cycles ≡ false →
-      ((x : S) (c : Counts) → (m.registers x).mpc ≡ mpc → end_before m x c ≡ Some (end_of e)) → completes (end_of e) ≡ true → Ended (completed p at e)
+      ((x : S) (c : Counts) → (m.registers x).mpc ≡ mpc → end_before m x c ≡ Some (board_end e)) → completes (board_end e) ≡ true → Ended (completed p at e)
   stops mpc e (inl v) t ending done = stops_here mpc e v t (ending r.state r.counts v.mpc_is) done
   stops mpc e (inr v) t ending done =
-      stops_behind mpc (end_of e) (completed p at e) v t (ending v.there.state (run_inside m r (r.counts.cycles + v.n + 1) v.there).counts v.mpc_is) (completed_behind mpc e v done)
+      stops_behind mpc (board_end e) (completed p at e) v t (ending v.there.state (run_inside m r (r.counts.cycles + v.n + 1) v.there).counts v.mpc_is) (completed_behind mpc e v done)
 
   pub halts : nat_le bound at.cycles ≡ false → outcome p.image p.stack_end at.state ≡ Halts → Ended (completed p at defined.Halt)
   halts t o = stops 255 defined.Halt (law.halts at.state (moment_of r) fine h.stands o) t ends_by refl
@@ -209,9 +209,9 @@ module _ {S : Type 0} (m : Meaning S) (words : List ℕ) (IsAt : State → S →
       let first : turns m words (Some bound) (suc v.n) r ≡ q =
       pass_turns_inside m words bound v.n r v.there (r.counts.cycles + v.n + 1) refl (ready t v.begins) (near v.n (omega (arith, v.short))) v.passes off in
       let nearby : r.counts.cycles + v.n + 1 < last_cycles r.counts.boundary + 1024 = omega (arith, near (v.n + 1) (omega (arith, v.short))) in
-      let last : whole_turn m words bound q ≡ stepped m words q (Refused (StackLimit v.at)) =
+      let last : whole_turn m words bound q ≡ after_step m words q (Refused (StackLimit v.at)) =
       clocks m words bound q (Refused (StackLimit v.at)) (ready_inside m words bound r v.there (r.counts.cycles + v.n + 1) v.inside) nearby v.refused in
-      let whole : turns m words (Some bound) (suc v.n + 1) r ≡ stepped m words q (Refused (StackLimit v.at)) =
+      let whole : turns m words (Some bound) (suc v.n + 1) r ≡ after_step m words q (Refused (StackLimit v.at)) =
       turns-add m words bound (suc v.n) 1 r ∙ (ap (whole_turn m words bound) first ∙ last) in
       record {
         k = suc v.n + 1;
@@ -229,16 +229,16 @@ module _ {S : Type 0} (m : Meaning S) (words : List ℕ) (IsAt : State → S →
   -- how both runs go on from here, or end
   pub data Turnout : Type 0 where
     On : (to : State) → Fine to → ((n : ℕ) → finish_from p bound (suc n) at ≡ finish_from p bound n (point_after p at to)) →
-        ((i : ℕ) → point_at p bound (suc i) at ≡ point_at p bound i (point_after p at to)) → Moved to → Turnout
-    Over : (f : Finish) → ((n : ℕ) → finish_from p bound (suc n) at ≡ Some f) → ((i : ℕ) → point_at p bound (suc i) at ≡ None) → Ended f → Turnout
+        ((i : ℕ) → point_behind p bound (suc i) at ≡ point_behind p bound i (point_after p at to)) → Moved to → Turnout
+    Over : (f : Finish) → ((n : ℕ) → finish_from p bound (suc n) at ≡ Some f) → ((i : ℕ) → point_behind p bound (suc i) at ≡ None) → Ended f → Turnout
 
   finish_is : nat_le bound at.cycles ≡ false → (n : ℕ) → {out : Outcome} → outcome p.image p.stack_end at.state ≡ out →
       finish_from p bound (suc n) at ≡ after_outcome (finish_from p bound n) p at out
   finish_is t n o = ap (after_test (finish_from p bound n) p at) t ∙ ap (after_outcome (finish_from p bound n) p at) o
 
   point_is : nat_le bound at.cycles ≡ false → (i : ℕ) → {out : Outcome} → outcome p.image p.stack_end at.state ≡ out →
-      point_at p bound (suc i) at ≡ going_on (point_at p bound i) p at out
-  point_is t i o = ap (below (point_at p bound i) p at) t ∙ ap (going_on (point_at p bound i) p at) o
+      point_behind p bound (suc i) at ≡ going_on (point_behind p bound i) p at out
+  point_is t i o = ap (below (point_behind p bound i) p at) t ∙ ap (going_on (point_behind p bound i) p at) o
 
   by_outcome : nat_le bound at.cycles ≡ false → (out : Outcome) → outcome p.image p.stack_end at.state ≡ out → Turnout
   by_outcome t (Goes to) o =
@@ -250,7 +250,7 @@ module _ {S : Type 0} (m : Meaning S) (words : List ℕ) (IsAt : State → S →
 
   by_test : (b : Bool) → nat_le bound at.cycles ≡ b → Turnout
   by_test true t =
-      Over (stopped at defined.Bound at.state) (λ n. ap (after_test (finish_from p bound n) p at) t) (λ i. ap (below (point_at p bound i) p at) t) (bounds t)
+      Over (stopped at defined.Bound at.state) (λ n. ap (after_test (finish_from p bound n) p at) t) (λ i. ap (below (point_behind p bound i) p at) t) (bounds t)
   by_test false t = by_outcome t (outcome p.image p.stack_end at.state) refl
 
   pub turnout : Turnout

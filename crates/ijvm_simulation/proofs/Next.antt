@@ -8,14 +8,14 @@ use Rattle.ijvm_instr.specs.declared.instr.Instr.{Instr}
 use Rattle.ijvm_instr.specs.declared.instr.Instr.TheVariants.{Nop, Bipush, LdcW, Iload, Istore, Pop, Dup, Swap, Iadd, Isub, Iand, Iinc, Ifeq, Iflt, IfIcmpeq, Goto, Ireturn, Ior, Invokevirtual, WideIload, WideIstore, WideIinc, In, Out, Err, Halt}
 use Rattle.ijvm_instr.specs.Instructions.{row_of, size_of, prefix, operand_bytes, instr_at}
 use Rattle.ijvm_run.specs.Frames.{State, AreWords, start_of}
-use Rattle.ijvm_run.specs.Step.{Outcome, Goes, Halts, Errs, Limits, outcome, stepped}
+use Rattle.ijvm_run.specs.Step.{Outcome, Goes, Halts, Errs, Limits, outcome, step_if_any}
 use Rattle.ijvm_run.specs.Cost.{next_cost, cost_at, cost}
 use Rattle.ijvm_run.specs.Safe.{Here, On}
 use Rattle.ijvm_paths.specs.Sound.{Finds, KeepsSound}
 use Rattle.ijvm_paths.specs.Accepted.{VerifiedView}
 use Rattle.ijvm_simulation.specs.Stands.{Origin}
 use Rattle.ijvm_simulation.specs.Bytes.{Reads}
-use Rattle.ijvm_simulation.specs.Outcomes.{Says}
+use Rattle.ijvm_simulation.specs.Outcomes.{IsOutcome}
 use Rattle.ijvm_simulation.specs.Verified.{program, Loads, Fine, IsNext}
 use Rattle.ijvm_simulation.specs.Law.{Moves, Stops, Law}
 use Rattle.ijvm_simulation.proofs.Decoded.{decoded}
@@ -101,9 +101,9 @@ module _ (v : VerifiedView) (o : Origin) (loads : Loads v o) (known : Known v) w
       (f.0, record { begins = omega (arith, some, f.1.whole); finds = f.1; reads = reads s f.0 f.1 })
 
   -- what the outcome of the next instruction says
-  said : (s : State) (i : Instr) (out : Outcome) → instr_at v.image.text s.at ≡ Some i → outcome v.image v.map.stack_end s ≡ out → Says v.image v.map.stack_end s i out
+  said : (s : State) (i : Instr) (out : Outcome) → instr_at v.image.text s.at ≡ Some i → outcome v.image v.map.stack_end s ≡ out → IsOutcome v.image v.map.stack_end s i out
   said s i out code e =
-      subst (λ (x : Outcome). Says v.image v.map.stack_end s i x) (ap (stepped v.image v.map.stack_end s) (sym code) ∙ e) (says v.image v.map.stack_end s i)
+      subst (λ (x : Outcome). IsOutcome v.image v.map.stack_end s i x) (ap (step_if_any v.image v.map.stack_end s) (sym code) ∙ e) (says v.image v.map.stack_end s i)
 
   module _ {S : Type 0} (m : Meaning S) (store : List ℕ) (IsAt : State → S → World → Type 0) (law : Law m store IsAt o.given v o) where
     cost_is : (s : State) (i : Instr) → instr_at v.image.text s.at ≡ Some i → cost v.image m.machine i s ≡ next_cost v.image m.machine s

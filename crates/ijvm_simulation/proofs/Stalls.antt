@@ -9,12 +9,12 @@ use Rattle.ijvm_image.specs.Image.{ImageView}
 use Rattle.ijvm_instr.specs.declared.instr.Instr.{Instr}
 use Rattle.ijvm_instr.specs.Instructions.{instr_at}
 use Rattle.ijvm_run.specs.Frames.{State, start_of}
-use Rattle.ijvm_run.specs.Step.{Outcome, Goes, outcome, stepped}
+use Rattle.ijvm_run.specs.Step.{Outcome, Goes, outcome, step_if_any}
 use Rattle.ijvm_run.specs.Cost.{boot, cost, cost_at, next_cost}
 use Rattle.ijvm_run.specs.Run.{Program, Point, point_after, first_point}
 use Rattle.ijvm_paths.specs.Accepted.{VerifiedView}
 use Rattle.ijvm_simulation.specs.Stands.{Origin}
-use Rattle.ijvm_simulation.specs.Outcomes.{Went, Says}
+use Rattle.ijvm_simulation.specs.Outcomes.{Went, IsOutcome}
 use Rattle.ijvm_simulation.specs.Verified.{program, Loads, Fine, IsNext}
 use Rattle.ijvm_simulation.specs.Simulates.{IsBoundary}
 use Rattle.ijvm_simulation.specs.Law.{Law, Shows, Boots, reset_moment}
@@ -52,7 +52,7 @@ module _ {S : Type 0} (m : Meaning S) (store : List ℕ) (IsAt : State → S →
       let same : n.0 ≡ i = some_same (sym n.1.finds.code ∙ code) in
       let is : IsNext v o at.state i = subst (λ (j : Instr). IsNext v o at.state j) same n.1 in
       let went : Went v.image v.map.stack_end at.state to i =
-      subst (λ (x : Outcome). Says v.image v.map.stack_end at.state i x) (ap (stepped v.image v.map.stack_end at.state) (sym code) ∙ goes) (says v.image v.map.stack_end at.state i) in
+      subst (λ (x : Outcome). IsOutcome v.image v.map.stack_end at.state i x) (ap (step_if_any v.image v.map.stack_end at.state) (sym code) ∙ goes) (says v.image v.map.stack_end at.state i) in
       let w : MovesWithStalls m store IsAt o.given (moment_of r) (cost v.image m.machine i at.state) (stalls_of v.image i) to =
       takes.goes at.state to (moment_of r) i tt h.fine is h.boundary.stands went in
       let shows : Shows m store IsAt o.given to w.moves.there.state w.moves.there.world = law.shows to w.moves.there.state w.moves.there.world w.moves.stands in
@@ -60,7 +60,7 @@ module _ {S : Type 0} (m : Meaning S) (store : List ℕ) (IsAt : State → S →
       let later : nat_le bound r.counts.cycles ≡ false = ap (nat_le bound) h.boundary.cycles ∙ t in
       let last : last_cycles r.counts.boundary ≡ at.cycles = ap last_cycles h.boundary.boundary in
       let ready : IsReady m bound r =
-      record { no_bound = grind (arith, nat_tests); no_halt = w.moves.begins.no_halt; no_err = w.moves.begins.no_err; going = h.boundary.going } in
+      record { no_bound = grind (arith, nat_tests); no_halt = w.moves.begins.no_halt; no_err = w.moves.begins.no_err; not_ended = h.boundary.not_ended } in
       let c : ℕ = r.counts.cycles + w.moves.n + 1 in
       let e : turns m store (Some bound) (suc w.moves.n) r ≡ run_at m r c w.moves.there =
       pass_turns m store bound w.moves.n r w.moves.there c refl ready (omega (arith, h.boundary.cycles, w.moves.short)) w.moves.passes shows.boundary in
@@ -92,7 +92,7 @@ module _ {S : Type 0} (m : Meaning S) (store : List ℕ) (IsAt : State → S →
         let w = boots.moves in
         let shows : Shows m store IsAt o.given (start_of v.main_locals input) w.there.state w.there.world = law.shows (start_of v.main_locals input) w.there.state w.there.world w.stands in
         let outside : m.is_boundary start.state ≡ false = off.off in
-        let ready : IsReady m bound start = record { no_bound = grind (arith, nat_tests); no_halt = w.begins.no_halt; no_err = w.begins.no_err; going = refl } in
+        let ready : IsReady m bound start = record { no_bound = grind (arith, nat_tests); no_halt = w.begins.no_halt; no_err = w.begins.no_err; not_ended = refl } in
         let e : turns m store (Some bound) (suc w.n) start ≡ run_at m start (w.n + 1) w.there =
         pass_turns m store bound w.n start w.there (w.n + 1) (omega arith) ready (omega (arith, w.short)) w.passes shows.boundary in
         let many : boot ≡ suc w.n = w.spent_is ∙ omega arith in

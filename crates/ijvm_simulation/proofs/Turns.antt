@@ -4,7 +4,7 @@ use Rattle.std.specs.Prelude.{nat_le, ◌==◌, ◌&&◌, is_some}
 use Rattle.std.proofs.lemmas.Bool.Decides.{nat_tests}
 use Rattle.mic_clock.specs.declared.end.End.{End}
 use Rattle.mic_clock.specs.Meaning.{Meaning, Outcome, Done}
-use Rattle.mic_clock.specs.Run.{MicroRun, turn, turn_by, turns, bounded, bounded_by, end_before, gone, stepped, last_cycles, number_of}
+use Rattle.mic_clock.specs.Run.{MicroRun, turn, turn_by, turns, bounded, bounded_by, end_before, after_end_or_step, after_step, last_cycles, number_of}
 use Rattle.ijvm_simulation.specs.Passes.{Moment, is_inside, outcome_at, stalls_at, pass, last, onward}
 use Rattle.ijvm_simulation.proofs.Passes.{not_boundary, onward-inside, Inner, inner, Last, last_is}
 
@@ -42,7 +42,7 @@ module _ {State : Type 0} (m : Meaning State) where
     pub no_bound : (m.is_boundary r.state && nat_le bound r.counts.cycles) ≡ false
     pub no_halt : ((m.registers r.state).mpc == 255) ≡ false
     pub no_err : ((m.registers r.state).mpc == 254) ≡ false
-    pub going : r.end ≡ None
+    pub not_ended : r.end ≡ None
 
 module _ {State : Type 0} (m : Meaning State) (program : List ℕ) (bound : ℕ) where
   -- one turn, with the test of the bound before it
@@ -62,7 +62,7 @@ module _ {State : Type 0} (m : Meaning State) (program : List ℕ) (bound : ℕ)
   ended_stays (suc k) r e h = ap (turns m program (Some bound) k) (turn_ended r e h) ∙ ended_stays k r e h
 
   pub unbounded : (r : MicroRun State) → IsReady m bound r → bounded m (Some bound) r ≡ r
-  unbounded r h = ap (λ (e : Option End). bounded_by m e bound r) h.going ∙ by_test (m.is_boundary r.state) (nat_le bound r.counts.cycles) refl refl
+  unbounded r h = ap (λ (e : Option End). bounded_by m e bound r) h.not_ended ∙ by_test (m.is_boundary r.state) (nat_le bound r.counts.cycles) refl refl
     where
       by_test : (a b : Bool) → m.is_boundary r.state ≡ a → nat_le bound r.counts.cycles ≡ b → bounded_by m None bound r ≡ r
       by_test true true e f = absurd (let t : (m.is_boundary r.state && nat_le bound r.counts.cycles) ≡ false = h.no_bound in grind (arith, nat_tests))
@@ -70,30 +70,30 @@ module _ {State : Type 0} (m : Meaning State) (program : List ℕ) (bound : ℕ)
       by_test false b e f = rw e
 
   -- a turn that comes to no microstep
-  pub ending_turn : (r : MicroRun State) (e : End) → r.end ≡ None → m.is_boundary r.state ≡ false → end_before m r.state r.counts ≡ Some e → whole_turn r ≡ gone m program (Some e) r
-  ending_turn r e going off h =
-      let same : bounded m (Some bound) r ≡ r = ap (λ (x : Option End). bounded_by m x bound r) going ∙ rw off in
-      ap (turn m program) same ∙ (ap (λ (x : Option End). turn_by m program x r) going ∙ ap (λ (x : Option End). gone m program x r) h)
+  pub ending_turn : (r : MicroRun State) (e : End) → r.end ≡ None → m.is_boundary r.state ≡ false → end_before m r.state r.counts ≡ Some e → whole_turn r ≡ after_end_or_step m program (Some e) r
+  ending_turn r e not_ended off h =
+      let same : bounded m (Some bound) r ≡ r = ap (λ (x : Option End). bounded_by m x bound r) not_ended ∙ rw off in
+      ap (turn m program) same ∙ (ap (λ (x : Option End). turn_by m program x r) not_ended ∙ ap (λ (x : Option End). after_end_or_step m program x r) h)
 
   pub clocks : (r : MicroRun State) (o : Outcome State) → IsReady m bound r → r.counts.cycles < last_cycles r.counts.boundary + 1024 →
-      outcome_at m program (moment_of r) ≡ o → whole_turn r ≡ stepped m program r o
+      outcome_at m program (moment_of r) ≡ o → whole_turn r ≡ after_step m program r o
   clocks r o h nearby is =
       let h2 = h.no_halt in
       let h3 = h.no_err in
       let near1 : nat_le 1024 (r.counts.cycles - last_cycles r.counts.boundary) ≡ false = grind (arith, nat_tests) in
-      ap (turn m program) (unbounded r h) ∙ (ap (λ (e : Option End). turn_by m program e r) h.going ∙ rw (h2, h3, near1) (ap (stepped m program r) is))
+      ap (turn m program) (unbounded r h) ∙ (ap (λ (e : Option End). turn_by m program e r) h.not_ended ∙ rw (h2, h3, near1) (ap (after_step m program r) is))
 
   -- a clocked step that stays inside
   stepped_inside : (r : MicroRun State) (p : Moment State) (c : ℕ) → c ≡ r.counts.cycles + 1 → m.is_boundary p.state ≡ false → p.stalls ≡ stalls_at m program (moment_of r) →
-      stepped m program r (Done p.state p.world) ≡ run_inside m r c p
+      after_step m program r (Done p.state p.world) ≡ run_inside m r c p
   stepped_inside r p c is off stalls = rw (off, is, stalls)
 
   stepped_last : (r : MicroRun State) (p : Moment State) (c : ℕ) → c ≡ r.counts.cycles + 1 → m.is_boundary p.state ≡ true → p.stalls ≡ stalls_at m program (moment_of r) →
-      stepped m program r (Done p.state p.world) ≡ run_at m r c p
+      after_step m program r (Done p.state p.world) ≡ run_at m r c p
   stepped_last r p c is at stalls = rw (at, is, stalls)
 
   pub ready_inside : (r : MicroRun State) (p : Moment State) (c : ℕ) → is_inside m p.state ≡ true → IsReady m bound (run_inside m r c p)
-  ready_inside r p c h = record { no_bound = grind (arith, nat_tests); no_halt = grind (arith, nat_tests); no_err = grind (arith, nat_tests); going = refl }
+  ready_inside r p c h = record { no_bound = grind (arith, nat_tests); no_halt = grind (arith, nat_tests); no_err = grind (arith, nat_tests); not_ended = refl }
 
   -- the turn of a pass's first step
   first_turn : (n : ℕ) (r : MicroRun State) (q : Moment State) → IsReady m bound r → r.counts.cycles < last_cycles r.counts.boundary + 1024 →

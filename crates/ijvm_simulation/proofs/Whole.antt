@@ -10,7 +10,7 @@ use Rattle.mic_clock.specs.Run.{MicroRun, turns}
 use Rattle.ijvm_run.specs.declared.run.RunEnd.TheVariants as defined
 use Rattle.ijvm_run.specs.Frames.{State}
 use Rattle.ijvm_run.specs.Run.{Program, Point, Finish, point_after, finish_from, after_test, stopped}
-use Rattle.ijvm_simulation.specs.Simulates.{point_at, end_of, IsBoundary, IsEnd, Simulates}
+use Rattle.ijvm_simulation.specs.Simulates.{point_behind, board_end, IsBoundary, IsEnd, Simulates}
 use Rattle.ijvm_simulation.proofs.Turns.{turns-add, ended_stays}
 use Rattle.ijvm_simulation.proofs.Instruction.{Law, Keeps, Turnout, On, Over, turnout}
 
@@ -34,9 +34,9 @@ module _ {S : Type 0} (m : Meaning S) (words : List ℕ) (IsAt : State → S →
     pub is : IsBoundary IsAt t (after k r)
 
   abbrev Reaches : ℕ → Type 0
-  Reaches i = (at : Point) (r : MicroRun S) (t : Point) → IsBoundary IsAt at r → Fine at.state → point_at p bound i at ≡ Some t → Reached at r t
+  Reaches i = (at : Point) (r : MicroRun S) (t : Point) → IsBoundary IsAt at r → Fine at.state → point_behind p bound i at ≡ Some t → Reached at r t
 
-  reaches_by : (i : ℕ) → Reaches i → (at : Point) (r : MicroRun S) (t : Point) (h : IsBoundary IsAt at r) (fine : Fine at.state) → Here at r h fine → point_at p bound (suc i) at ≡ Some t → Reached at r t
+  reaches_by : (i : ℕ) → Reaches i → (at : Point) (r : MicroRun S) (t : Point) (h : IsBoundary IsAt at r) (fine : Fine at.state) → Here at r h fine → point_behind p bound (suc i) at ≡ Some t → Reached at r t
   reaches_by i later at r t h fine (On to ok finish points v) is =
       let l : Reached (point_after p at to) (after v.k r) t = later (point_after p at to) (after v.k r) t v.is ok (sym (points i) ∙ is) in
       record {
@@ -101,7 +101,7 @@ module _ {S : Type 0} (m : Meaning S) (words : List ℕ) (IsAt : State → S →
   pub record Known (at : Point) (n : ℕ) : Type 0 where
     pub i : ℕ
     pub t : Point
-    pub are : point_at p bound i at ≡ Some t
+    pub are : point_behind p bound i at ≡ Some t
     pub later : t.cycles ≡ at.cycles + n
 
   abbrev Knows : ℕ → Type 0
@@ -109,33 +109,33 @@ module _ {S : Type 0} (m : Meaning S) (words : List ℕ) (IsAt : State → S →
 
   knows_by : (d : ℕ) → Knows d → (n : ℕ) → n ≤ suc d → 0 < n → (at : Point) (r : MicroRun S) (h : IsBoundary IsAt at r) (fine : Fine at.state) → Here at r h fine →
       (after n r).end ≡ None → m.is_boundary (after n r).state ≡ true → Known at n
-  knows_by d later n le pos at r h fine (On to ok finish points v) going here =
+  knows_by d later n le pos at r h fine (On to ok finish points v) not_ended here =
       elim (cases_lt n v.k) [
         | inl low ↦ absurd (let off : m.is_boundary (after n r).state ≡ false = v.inside n pos low in cc)
         | inr high ↦
             let e : after n r ≡ after (n - v.k) (after v.k r) = onward v.k (n - v.k) n r (omega arith) in
             let l : Known (point_after p at to) (n - v.k) =
-            later (n - v.k) (omega (arith, v.some)) (point_after p at to) (after v.k r) v.is ok (ap (λ (x : MicroRun S). x.end) (sym e) ∙ going)
+            later (n - v.k) (omega (arith, v.some)) (point_after p at to) (after v.k r) v.is ok (ap (λ (x : MicroRun S). x.end) (sym e) ∙ not_ended)
             (ap (λ (x : MicroRun S). m.is_boundary x.state) (sym e) ∙ here) in
             record { i = suc l.i; t = l.t; are = points l.i ∙ l.are; later = omega (arith, l.later, v.spent) }
       ]
-  knows_by d later n le pos at r h fine (Over f finish points v) going here =
+  knows_by d later n le pos at r h fine (Over f finish points v) not_ended here =
       elim (cases_lt n v.k) [
         | inl low ↦ absurd (let off : m.is_boundary (after n r).state ≡ false = v.quiet n pos low in cc)
         | inr high ↦
             let e : after n r ≡ after v.k r =
-            onward v.k (n - v.k) n r (omega arith) ∙ ended_stays m words bound (n - v.k) (after v.k r) (end_of f.end) v.is.end in
-            absurd (none_is (sym going ∙ (ap (λ (x : MicroRun S). x.end) e ∙ v.is.end)))
+            onward v.k (n - v.k) n r (omega arith) ∙ ended_stays m words bound (n - v.k) (after v.k r) (board_end f.end) v.is.end in
+            absurd (none_is (sym not_ended ∙ (ap (λ (x : MicroRun S). x.end) e ∙ v.is.end)))
       ]
     where
       none_is : {x : End} → None ≡ Some x → ⊥
       none_is q = cc
 
   pub knows : (d : ℕ) → Knows d
-  knows d zero le at r h fine going here = record { i = 0; t = at; are = refl; later = omega arith }
-  knows zero (suc n) le at r h fine going here = absurd (omega arith)
-  knows (suc d) (suc n) le at r h fine going here =
-      knows_by d (knows d) (suc n) le (omega arith) at r h fine (turnout m words IsAt before p Fine law keep bound at r h fine) going here
+  knows d zero le at r h fine not_ended here = record { i = 0; t = at; are = refl; later = omega arith }
+  knows zero (suc n) le at r h fine not_ended here = absurd (omega arith)
+  knows (suc d) (suc n) le at r h fine not_ended here =
+      knows_by d (knows d) (suc n) le (omega arith) at r h fine (turnout m words IsAt before p Fine law keep bound at r h fine) not_ended here
 
   -- The run from its reset: it comes to a first boundary, and to none before.
   module _ (first : Point) (start : MicroRun S) (booted : IsBoundary IsAt first (after first.cycles start)) (fine : Fine first.state)
@@ -148,13 +148,13 @@ module _ {S : Type 0} (m : Meaning S) (words : List ℕ) (IsAt : State → S →
       reaches = λ i t is.
           let l : Reached first (after first.cycles start) t = reaches i first (after first.cycles start) t booted fine is in
           subst (λ (x : MicroRun S). IsBoundary IsAt t x) (from_start l.k t.cycles l.later) l.is;
-      only = λ n pos going here. elim (cases_lt n first.cycles) [
+      only = λ n pos not_ended here. elim (cases_lt n first.cycles) [
         | inl low ↦ absurd (let off : m.is_boundary (after n start).state ≡ false = quiet n pos low in cc)
         | inr high ↦
             let e : after (n - first.cycles) (after first.cycles start) ≡ after n start = from_start (n - first.cycles) n (omega arith) in
             let k : Known first (n - first.cycles) =
             knows (n - first.cycles) (n - first.cycles) (omega arith) first (after first.cycles start) booted fine
-            (ap (λ (x : MicroRun S). x.end) e ∙ going) (ap (λ (x : MicroRun S). m.is_boundary x.state) e ∙ here) in
+            (ap (λ (x : MicroRun S). x.end) e ∙ not_ended) (ap (λ (x : MicroRun S). m.is_boundary x.state) e ∙ here) in
             (k.i, k.t, k.are, omega (arith, k.later))
       ];
       finishes =

@@ -7,7 +7,7 @@ use Rattle.console_port.specs.World.{World}
 use Rattle.mic_clock.specs.declared.end.End.{End}
 use Rattle.mic_clock.specs.declared.end.End.TheVariants as ends
 use Rattle.mic_clock.specs.Meaning.{Meaning, Outcome, Done, Refused}
-use Rattle.mic_clock.specs.Run.{MicroRun, turn, turn_by, turns, bounded, bounded_by, gone, stepped, end_before, word_at}
+use Rattle.mic_clock.specs.Run.{MicroRun, turn, turn_by, turns, bounded, bounded_by, after_end_or_step, after_step, end_before, word_at}
 use Rattle.ijvm_simulation.specs.Law.{OnDone, Grows}
 use Rattle.ijvm_simulation.proofs.Turns.{whole_turn, turns-add, ended_stays}
 
@@ -27,11 +27,11 @@ module _ {S : Type 0} (m : Meaning S) (words : List ℕ) (bound : ℕ) where
   -- a relation of the worlds before and after
   module _ (P : World → World → Type 0) (same : (w : World) → P w w) (onward : (u v w : World) → P u v → P v w → P u w)
       (steps : (word : ℕ) (s : S) (w : World) → OnDone (P w) (m.step word s w)) where
-    stepped_keeps : (r : MicroRun S) (o : Outcome S) → OnDone (P r.world) o → P r.world (stepped m words r o).world
+    stepped_keeps : (r : MicroRun S) (o : Outcome S) → OnDone (P r.world) o → P r.world (after_step m words r o).world
     stepped_keeps r (Done s v) h = h
     stepped_keeps r (Refused why) h = same r.world
 
-    gone_keeps : (e : Option End) (r : MicroRun S) → P r.world (gone m words e r).world
+    gone_keeps : (e : Option End) (r : MicroRun S) → P r.world (after_end_or_step m words e r).world
     gone_keeps (Some e) r = same r.world
     gone_keeps None r = stepped_keeps r (m.step (word_at m words r.state) r.state r.world) (steps (word_at m words r.state) r.state r.world)
 

@@ -4,7 +4,7 @@ use Rattle.std.specs.Prelude.{slice_index, slice_set, slice_get}
 use Rattle.std.proofs.lemmas.List.{length-replicate}
 use Rattle.std.proofs.lemmas.Option.{slice_get_within}
 use Rattle.ijvm_run.specs.Step.{is_own, onto, called}
-use Rattle.ijvm_run.specs.Frames.{Frame, operands_at, end_of, base, kept_words}
+use Rattle.ijvm_run.specs.Frames.{Frame, operands_at, frame_end, base, kept_words}
 use Rattle.ijvm_simulation.specs.Stands.{OperandsAt, IsLinked, FrameStands, FramesStand, caller_lv}
 use Rattle.ijvm_simulation.specs.Writes.{linked_words, KeepFrames}
 
@@ -28,7 +28,7 @@ linked_below words lv many caller a v (Some r) le h = (
 )
 
 -- a write behind a frame
-frame_below : (words : List ℕ) (lv caller a v : ℕ) (f : Frame) → end_of lv f ≤ a → FrameStands words lv caller f → FrameStands (slice_set words a v) lv caller f
+frame_below : (words : List ℕ) (lv caller a v : ℕ) (f : Frame) → frame_end lv f ≤ a → FrameStands words lv caller f → FrameStands (slice_set words a v) lv caller f
 frame_below words lv caller a v f le h = record {
   locals = λ k u e. let lt : k < length f.locals = slice_get_within f.locals k (Some u) e in
       read_other words a (lv + k) v (inl (omega arith)) ∙ h.locals k u e;

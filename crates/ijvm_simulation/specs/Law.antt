@@ -83,7 +83,7 @@ module _ {S : Type 0} (m : Meaning S) (words : List ℕ) (IsAt : State → S →
         Overran v.image v.map.stack_end s left i → Overruns q left
 
   -- where HALT and ERR lead
-  pub record Ends (v : VerifiedView) (o : Origin) : Type 0 where
+  pub record HaltsAndErrs (v : VerifiedView) (o : Origin) : Type 0 where
     pub halts : (s : State) (q : Moment S) → Fine v s → IsNext v o s Halt → IsAt s q.state q.world → Stops q (cost v.image m.machine Halt s) 0x0FF
     pub errs : (s : State) (q : Moment S) → Fine v s → IsNext v o s Err → IsAt s q.state q.world → Stops q (cost v.image m.machine Err s) 0x0FE
 
@@ -91,7 +91,7 @@ module _ {S : Type 0} (m : Meaning S) (words : List ℕ) (IsAt : State → S →
   pub record Law (v : VerifiedView) (o : Origin) : Type 0 where
     pub shows : (s : State) (x : S) (w : World) → IsAt s x w → Shows s x w
     pub takes : Takes v o (λ i. Unit {0})
-    pub ends : Ends v o
+    pub ends : HaltsAndErrs v o
 
 -- the moment at a reset over these words, with this input left
 abbrev pub reset_moment : {S : Type 0} → Meaning S → ℕ → ℕ → Origin → List ℕ → Moment S

@@ -117,9 +117,9 @@ module _ (image : ImageView) (stack_end : ℕ) (s : State) where
   Overran left i = ⊥
 
   -- what an outcome of an instruction says, where it is not stuck
-  abbrev pub Says : Instr → Outcome → Type 0
-  Says i (Goes to) = Went to i
-  Says i (Limits left) = Overran left i
-  Says i Halts = i ≡ Halt
-  Says i Errs = i ≡ Err
-  Says i Stuck = Unit {0}
+  abbrev pub IsOutcome : Instr → Outcome → Type 0
+  IsOutcome i (Goes to) = Went to i
+  IsOutcome i (Limits left) = Overran left i
+  IsOutcome i Halts = i ≡ Halt
+  IsOutcome i Errs = i ≡ Err
+  IsOutcome i Stuck = Unit {0}

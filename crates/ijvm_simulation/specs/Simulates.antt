@@ -25,19 +25,19 @@ below more p at true = None
 below more p at false = going_on more p at (outcome p.image p.stack_end at.state)
 
 -- the boundary so many instructions behind this one in the definition's run, if it comes so far
-abbrev pub point_at : Program → ℕ → ℕ → Point → Option Point
-point_at p bound zero at = Some at
-point_at p bound (suc i) at = below (point_at p bound i) p at (nat_le bound at.cycles)
+abbrev pub point_behind : Program → ℕ → ℕ → Point → Option Point
+point_behind p bound zero at = Some at
+point_behind p bound (suc i) at = below (point_behind p bound i) p at (nat_le bound at.cycles)
 
 -- a boundary of the definition as the clock counts it
 abbrev pub boundary_of : Point → Boundary
 boundary_of at = record { cycles = at.cycles; at = at.state.at; sp = sp_of at.state; lv = lv_of at.state }
 
-abbrev pub end_of : RunEnd → End
-end_of defined.Halt = clocked.Halt
-end_of defined.Err = clocked.Err
-end_of defined.Bound = clocked.Bound
-end_of defined.StackLimit = clocked.StackLimit
+abbrev pub board_end : RunEnd → End
+board_end defined.Halt = clocked.Halt
+board_end defined.Err = clocked.Err
+board_end defined.Bound = clocked.Bound
+board_end defined.StackLimit = clocked.StackLimit
 
 -- `IsAt` says when a machine's state and a world stand for a state of the definition.
 module _ {S : Type 0} (IsAt : State → S → World → Type 0) where
@@ -47,11 +47,11 @@ module _ {S : Type 0} (IsAt : State → S → World → Type 0) where
     pub cycles : r.counts.cycles ≡ at.cycles
     pub instructions : r.counts.instructions ≡ at.instructions
     pub boundary : r.counts.boundary ≡ Some (boundary_of at)
-    pub going : r.end ≡ None
+    pub not_ended : r.end ≡ None
 
 -- A clocked run has ended as the definition's, where the bytes in `before` had been given before it began. A stack limit is met inside an instruction, whose cycles are not the definition's.
 pub record IsEnd {S : Type 0} (before : List ℕ) (f : Finish) (r : MicroRun S) : Type 0 where
-  pub end : r.end ≡ Some (end_of f.end)
+  pub end : r.end ≡ Some (board_end f.end)
   pub cycles : f.end ≢ defined.StackLimit → r.counts.cycles ≡ f.cycles
   pub instructions : r.counts.instructions ≡ f.instructions
   pub boundary : r.counts.boundary ≡ Some (boundary_of f.last)
@@ -61,10 +61,10 @@ pub record IsEnd {S : Type 0} (before : List ℕ) (f : Finish) (r : MicroRun S) 
 -- The clocked run over this control store from its reset is the definition's run of a program from its first boundary.
 pub record Simulates {S : Type 0} (m : Meaning S) (IsAt : State → S → World → Type 0) (words : List ℕ) (bound : ℕ) (p : Program) (first : Point) (before : List ℕ) (start : MicroRun S) : Type 0 where
   -- each boundary of the definition's run is one of the clocked run, after its cycles
-  pub reaches : (i : ℕ) (at : Point) → point_at p bound i first ≡ Some at → IsBoundary IsAt at (turns m words (Some bound) at.cycles start)
+  pub reaches : (i : ℕ) (at : Point) → point_behind p bound i first ≡ Some at → IsBoundary IsAt at (turns m words (Some bound) at.cycles start)
   -- the clocked run has no other boundary
   pub only : (n : ℕ) → 0 < n → (turns m words (Some bound) n start).end ≡ None → m.is_boundary (turns m words (Some bound) n start).state ≡ true →
-      (i : ℕ) × (at : Point) × (point_at p bound i first ≡ Some at) × (at.cycles ≡ n)
+      (i : ℕ) × (at : Point) × (point_behind p bound i first ≡ Some at) × (at.cycles ≡ n)
   -- the definition's run ends, and the clocked run as that does
   pub finishes : (f : Finish) × EndsBy p bound first f
   pub ends : (f : Finish) → EndsBy p bound first f → (n : ℕ) × IsEnd before f (turns m words (Some bound) n start)

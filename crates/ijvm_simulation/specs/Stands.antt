@@ -48,7 +48,7 @@ IsTop tos [] = Unit {0}
 IsTop tos (x ∷ xs) = tos ≡ x
 
 -- what both machines have at a boundary: these SP, LV, CPP and TOS, and the world
-pub record Holds (o : Origin) (s : State) (sp lv cpp tos : ℕ) (w : World) : Type 0 where
+pub record RegistersStand (o : Origin) (s : State) (sp lv cpp tos : ℕ) (w : World) : Type 0 where
   pub sp_is : sp + 1 ≡ base (frames_of s)
   pub lv_is : lv ≡ lv_of s
   pub cpp_is : cpp ≡ 0x4000
@@ -61,5 +61,5 @@ pub record Holds (o : Origin) (s : State) (sp lv cpp tos : ℕ) (w : World) : Ty
 
 -- A machine with a microprogram at this entry stands for a state of the plain machine: its frames lie in memory, and its instruction comes next.
 pub record IsAt {S : Type 0} (m : Meaning S) (IsReady : ℕ → List ℕ → ℕ → S → Type 0) (entry : ℕ) (o : Origin) (s : State) (x : S) (w : World) : Type 0 where
-  pub holds : Holds o s (m.registers x).sp (m.registers x).lv (m.registers x).cpp (m.registers x).tos w
+  pub holds : RegistersStand o s (m.registers x).sp (m.registers x).lv (m.registers x).cpp (m.registers x).tos w
   pub ready : IsReady entry o.words s.at x

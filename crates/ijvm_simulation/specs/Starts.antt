@@ -12,7 +12,7 @@ use Rattle.mic_clock.specs.Board.{IsLedTo, Leads, ShowsRun}
 use Rattle.ijvm_image.specs.Image.{IsImage}
 use Rattle.ijvm_run.specs.Run.{Finish, first_point, EndsBy}
 use Rattle.ijvm_paths.specs.Accepted.{VerifiedView, IsAccepted}
-use Rattle.ijvm_simulation.specs.Simulates.{end_of}
+use Rattle.ijvm_simulation.specs.Simulates.{board_end}
 use Rattle.ijvm_simulation.specs.Headline.{reset_run}
 use Rattle.ijvm_simulation.specs.Verified.{program}
 
@@ -29,7 +29,7 @@ pub record EndsSo (machine : Machine) (v : VerifiedView) (bound : ℕ) (left : O
   pub told : Untaken left false input
   pub finish : Finish
   pub finishes : EndsBy (program machine v) bound (first_point v.main_locals input) finish
-  pub is : end ≡ end_of finish.end
+  pub is : end ≡ board_end finish.end
 
 module _ {M S : Type 0} (state : M → S) (m : Meaning S) (IsShipped : List ℕ → Type 0) (entry : ℕ) where
   -- From its reset over a verified image, with the store that ships, a board is led by turns to another that has ended: it has ended as the definition's run.

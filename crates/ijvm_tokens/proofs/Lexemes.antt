@@ -16,7 +16,7 @@ use Rattle.ijvm_tokens.specs.declared.sign.Sign.TheVariants as signs
 use Rattle.ijvm_tokens.specs.declared.token.Token.{Token}
 use Rattle.ijvm_tokens.specs.declared.token.Token.TheVariants as tokens
 use Rattle.ijvm_tokens.specs.Signs.{all_signs, find_sign, sign_text}
-use Rattle.ijvm_tokens.specs.Tokens.{begins_number, Ends, ijvm, is_word_byte, IsLexeme, IsNumberText, MayEnd, number_value}
+use Rattle.ijvm_tokens.specs.Tokens.{begins_number, EndsLexeme, ijvm, is_word_byte, IsLexeme, IsNumberText, MayEnd, number_value}
 use Rattle.ijvm_tokens.specs.Reading.{extent, lexer, name_token, quote_len, sign_or, token_of}
 
 -- ---- the signs
@@ -155,7 +155,7 @@ far_run b text rest h all e =
     let r = run_all is_name_byte text rest all (e.run h) in
     rw h (omega (arith, r))
 
-far_name : (text rest : List ℕ) → IsNamed text → Ends text rest → extent (text ++ rest) ≡ length text
+far_name : (text rest : List ℕ) → IsNamed text → EndsLexeme text rest → extent (text ++ rest) ≡ length text
 far_name [] rest n e = absurd (let s = n.starts in cc)
 far_name (b ∷ text) rest n e =
     let all = and_parts (is_name_byte b) (list_all is_name_byte text) n.all in
@@ -164,8 +164,8 @@ far_name (b ∷ text) rest n e =
 far_word : (text rest : List ℕ) → list_all is_word_byte text ≡ true → MayEnd 46 (length (46 ∷ text)) rest → extent (46 ∷ (text ++ rest)) ≡ length (46 ∷ text)
 far_word text rest all e = let r = run_all is_word_byte text rest all (e.word refl) in omega (arith, r)
 
-far_sign : (s : Sign) (rest : List ℕ) → Ends (sign_text s) rest → extent (sign_text s ++ rest) ≡ length (sign_text s)
-far_sign s rest = elim s as (λ s. Ends (sign_text s) rest → extent (sign_text s ++ rest) ≡ length (sign_text s)) [
+far_sign : (s : Sign) (rest : List ℕ) → EndsLexeme (sign_text s) rest → extent (sign_text s ++ rest) ≡ length (sign_text s)
+far_sign s rest = elim s as (λ s. EndsLexeme (sign_text s) rest → extent (sign_text s ++ rest) ≡ length (sign_text s)) [
   | signs.Open ↦ λ _. refl
   | signs.Close ↦ λ _. refl
   | signs.Comma ↦ λ _. refl
@@ -189,14 +189,14 @@ far_quote (b ∷ []) rest h (inr e) = rw e refl
 far_quote (b ∷ c ∷ []) rest h e = refl
 far_quote (b ∷ c ∷ d ∷ more) rest h e = absurd (omega (arith, h))
 
-far_number : (text rest : List ℕ) → IsNumberText text → Ends text rest → extent (text ++ rest) ≡ length text
+far_number : (text rest : List ℕ) → IsNumberText text → EndsLexeme text rest → extent (text ++ rest) ≡ length text
 far_number [] rest is e = absurd is
 far_number (b ∷ text) rest (inl w) e =
     subst (λ z. extent (z ∷ (text ++ rest)) ≡ length (z ∷ text)) (sym w.0) (far_quote text rest w.1 (e.quote w.0))
 far_number (b ∷ text) rest (inr w) e = far_run b text rest (begins_run b w.0) w.1 e
 
-far : (t : Token) (text rest : List ℕ) → IsLexeme t text → Ends text rest → extent (text ++ rest) ≡ length text
-far (tokens.Sign s) text rest is e = rw is (far_sign s rest (subst (λ x. Ends x rest) is e))
+far : (t : Token) (text rest : List ℕ) → IsLexeme t text → EndsLexeme text rest → extent (text ++ rest) ≡ length text
+far (tokens.Sign s) text rest is e = rw is (far_sign s rest (subst (λ x. EndsLexeme x rest) is e))
 far (tokens.Name m) text rest is e = far_name text rest (subst IsNamed (sym is.0) (named m is.1)) e
 far (tokens.Number v) text rest is e = far_number text rest is.0 e
 
@@ -213,7 +213,7 @@ read_number (b ∷ rest) (inr w) = elim (or_parts (is_ascii_digit b) (b == 45) w
   | inr m ↦ let e = is_byte b 45 m in rw e refl
 ]
 
-read : (t : Token) (text rest : List ℕ) → IsLexeme t text → Ends text rest → token_of text ≡ Some t
+read : (t : Token) (text rest : List ℕ) → IsLexeme t text → EndsLexeme text rest → token_of text ≡ Some t
 read (tokens.Sign s) text rest is e = rw is (rw (sign_number s, sign_again s) refl)
 read (tokens.Name m) text rest is e = rw is.0 (read_name m is.1)
 read (tokens.Number v) text rest is e = let n = read_number text is.0 in let v = is.1 in rw (n, v) refl
@@ -230,30 +230,30 @@ back b n rest = let k : n + 1 ≡ suc n = omega arith in rw k refl
 no_run : (b k : ℕ) → b ≡ k → (is_name_byte k || k == 45) ≡ false → (is_name_byte b || b == 45) ≡ false
 no_run b k e h = subst (λ z. (is_name_byte z || z == 45) ≡ false) (sym e) h
 
-ends_run : (b : ℕ) (rest : List ℕ) → (is_name_byte b || b == 45) ≡ true → Ends (take (name_len rest + 1) (b ∷ rest)) (drop (name_len rest + 1) (b ∷ rest))
+ends_run : (b : ℕ) (rest : List ℕ) → (is_name_byte b || b == 45) ≡ true → EndsLexeme (take (name_len rest + 1) (b ∷ rest)) (drop (name_len rest + 1) (b ∷ rest))
 ends_run b rest h = rw (front b (name_len rest) rest, back b (name_len rest) rest) (record {
   run = λ _. run_stops is_name_byte rest;
   word = λ e. absurd (let n = no_run b 46 e refl in cc);
   quote = λ e. absurd (let n = no_run b 39 e refl in cc);
 })
 
-ends_word : (b : ℕ) (rest : List ℕ) → (is_name_byte b || b == 45) ≡ false → b ≡ 46 → Ends (take (prefix_len is_word_byte rest + 1) (b ∷ rest)) (drop (prefix_len is_word_byte rest + 1) (b ∷ rest))
+ends_word : (b : ℕ) (rest : List ℕ) → (is_name_byte b || b == 45) ≡ false → b ≡ 46 → EndsLexeme (take (prefix_len is_word_byte rest + 1) (b ∷ rest)) (drop (prefix_len is_word_byte rest + 1) (b ∷ rest))
 ends_word b rest h e = rw (front b (prefix_len is_word_byte rest) rest, back b (prefix_len is_word_byte rest) rest) (record {
   run = λ k. absurd (cc);
   word = λ _. run_stops is_word_byte rest;
   quote = λ f. absurd (omega (arith, e, f));
 })
 
-ends_quote : (b : ℕ) (rest : List ℕ) → (is_name_byte b || b == 45) ≡ false → b ≡ 39 → Ends (take (quote_len rest) (b ∷ rest)) (drop (quote_len rest) (b ∷ rest))
+ends_quote : (b : ℕ) (rest : List ℕ) → (is_name_byte b || b == 45) ≡ false → b ≡ 39 → EndsLexeme (take (quote_len rest) (b ∷ rest)) (drop (quote_len rest) (b ∷ rest))
 ends_quote b [] h e = record { run = λ k. absurd (cc); word = λ f. absurd (omega (arith, e, f)); quote = λ _. inr refl }
 ends_quote b (c ∷ []) h e = record { run = λ k. absurd (cc); word = λ f. absurd (omega (arith, e, f)); quote = λ _. inr refl }
 ends_quote b (c ∷ d ∷ rest) h e = record { run = λ k. absurd (cc); word = λ f. absurd (omega (arith, e, f)); quote = λ _. inl refl }
 
-ends_at : (b : ℕ) (rest : List ℕ) → Ends (take (extent (b ∷ rest)) (b ∷ rest)) (drop (extent (b ∷ rest)) (b ∷ rest))
+ends_at : (b : ℕ) (rest : List ℕ) → EndsLexeme (take (extent (b ∷ rest)) (b ∷ rest)) (drop (extent (b ∷ rest)) (b ∷ rest))
 ends_at b rest = go (is_name_byte b || b == 45) (b == 46) (b == 39) refl refl refl
   where
     go : (w dot quote : Bool) → (is_name_byte b || b == 45) ≡ w → (b == 46) ≡ dot → (b == 39) ≡ quote
-        → Ends (take (cond w (name_len rest + 1) (cond dot (prefix_len is_word_byte rest + 1) (cond quote (quote_len rest) 1))) (b ∷ rest)) (drop (cond w (name_len rest + 1) (cond dot (prefix_len is_word_byte rest + 1) (cond quote (quote_len rest) 1))) (b ∷ rest))
+        → EndsLexeme (take (cond w (name_len rest + 1) (cond dot (prefix_len is_word_byte rest + 1) (cond quote (quote_len rest) 1))) (b ∷ rest)) (drop (cond w (name_len rest + 1) (cond dot (prefix_len is_word_byte rest + 1) (cond quote (quote_len rest) 1))) (b ∷ rest))
     go true dot quote h d q = ends_run b rest h
     go false true quote h d q = ends_word b rest h (is_byte b 46 d)
     go false false true h d q = ends_quote b rest h (is_byte b 39 q)
@@ -323,8 +323,8 @@ no_name b rest h = rw h (go (nat_le 1 (length (b ∷ rest))) (nat_le (length (b 
     go true false = refl
     go false y = refl
 
-dark : (b : ℕ) (rest : List ℕ) (t : Token) → token_of (b ∷ rest) ≡ Some t → is_blank b ≡ false
-dark b rest t h = go (b == 32) (b == 9) refl refl
+not_blank : (b : ℕ) (rest : List ℕ) (t : Token) → token_of (b ∷ rest) ≡ Some t → is_blank b ≡ false
+not_blank b rest t h = go (b == 32) (b == 9) refl refl
   where
     space : (x : ℕ) → x ≡ 32 → token_of (x ∷ rest) ≡ None
     space x e = rw (e, no_name 32 rest refl) refl
@@ -344,6 +344,6 @@ agrees = record {
   spelled = λ b rest t h. is_lexeme (take (extent (b ∷ rest)) (b ∷ rest)) t (λ d. is_number b rest (begins_first b (extent (b ∷ rest)) rest d)) h;
   ends = λ b rest t h. ends_at b rest;
   some = some;
-  filled = refl;
-  dark = dark;
+  none_from_nothing = refl;
+  not_blank = not_blank;
 }

@@ -47,13 +47,13 @@ pub record MayEnd (first len : ℕ) (rest : List ℕ) : Type 0 where
   pub word : first ≡ 46 → begins_with is_word_byte rest ≡ false
   pub quote : first ≡ 39 → (len ≡ 3) ⊎ (rest ≡ [])
 
-abbrev pub Ends : List ℕ → List ℕ → Type 0
-Ends [] rest = Unit {0}
-Ends (b ∷ text) rest = MayEnd b (length (b ∷ text)) rest
+abbrev pub EndsLexeme : List ℕ → List ℕ → Type 0
+EndsLexeme [] rest = Unit {0}
+EndsLexeme (b ∷ text) rest = MayEnd b (length (b ∷ text)) rest
 
 abbrev pub ijvm : Lexicon Token
-ijvm = record { IsLexeme = IsLexeme; Ends = Ends }
+ijvm = record { IsLexeme = IsLexeme; EndsLexeme = EndsLexeme }
 
 -- the line is the tokens in order, with blanks before, between and behind them
-abbrev pub Spells : List ℕ → List Token → Type 0
-Spells = source.Spells ijvm
+abbrev pub SpellsTokens : List ℕ → List Token → Type 0
+SpellsTokens = source.Spells ijvm

@@ -3,7 +3,7 @@
 ghost use Rattle.std.specs.Prelude.{◌≡◌, ◌+◌, ◌<◌, ◌≤◌, ◌∷◌, ◌↔◌, Some, length, IfOk, IsErrOf, List, ℕ};
 ghost use Rattle.std.specs.List.{prefix_len};
 ghost use Rattle.ijvm_tokens.specs.declared.token.Token.{Token};
-ghost use Rattle.ijvm_tokens.specs.Tokens.{begins_number, is_word_byte, number_value, Spells};
+ghost use Rattle.ijvm_tokens.specs.Tokens.{begins_number, is_word_byte, number_value, SpellsTokens};
 ghost use Rattle.ijvm_tokens.specs.Reading.{name_token, quote_len, read};
 
 use crate::sign::Sign;
@@ -110,8 +110,8 @@ fn name_token(text: &[u8]) -> Option<Token>
 /// The tokens that a line without its comment spells; BadToken where it spells none.
 #[tactic(auto, using(crate::proofs::Lexemes::agrees))]
 pub fn tokens_of(alloc: Global, line: &[u8]) -> Result<Vec<Token>, TokenError>
-    ensures ok { IfOk result (λ tokens. Spells line.now tokens.items) }
-    ensures bad { IsErrOf result TokenError.BadToken → (tokens : List Token) → Spells line.now tokens → ⊥ }
+    ensures ok { IfOk result (λ tokens. SpellsTokens line.now tokens.items) }
+    ensures bad { IsErrOf result TokenError.BadToken → (tokens : List Token) → SpellsTokens line.now tokens → ⊥ }
 {
     source_text::tokens_of::<Ijvm>(alloc, line)
 }
@@ -119,7 +119,7 @@ pub fn tokens_of(alloc: Global, line: &[u8]) -> Result<Vec<Token>, TokenError>
 /// What is read from a line is what it spells: so it spells at most one list of tokens.
 #[tactic(auto, using(crate::proofs::Lexemes::agrees), unfolding(crate::specs::Reading::read))]
 pub fn reads_what_is_spelled()
-    ensures { (line : List ℕ) (tokens : List Token) → (read line ≡ Some tokens) ↔ Spells line tokens }
+    ensures { (line : List ℕ) (tokens : List Token) → (read line ≡ Some tokens) ↔ SpellsTokens line tokens }
 {
     source_text::reads_what_is_spelled::<Ijvm>();
 }

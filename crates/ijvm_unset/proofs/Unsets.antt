@@ -16,7 +16,7 @@ use Rattle.ijvm_unset.specs.declared.local_set.LocalSet.{LocalSet}
 use Rattle.ijvm_unset.specs.declared.trace.Mark.{Mark}
 use Rattle.ijvm_unset.specs.declared.unset.Wanted.{Wanted}
 use Rattle.ijvm_paths.specs.Paths.{Arrival, arrival, HasRow, GoesOn, left_unset, IsOwn, MayCarry, Reached, Start, Then, On, Into, IsReachedMethod}
-use Rattle.ijvm_paths.specs.Facts.{Holds}
+use Rattle.ijvm_paths.specs.Facts.{IsTrueOf}
 use Rattle.ijvm_reach.specs.Search.{kept_at, kept_of, IsClosed}
 use Rattle.ijvm_unset.specs.Graph.{LeadsTo, IsNodeOf, IsGraph, IsInside, Carries, Begin, Pass}
 use Rattle.ijvm_unset.specs.LocalSet.{IsIn}
@@ -181,7 +181,7 @@ are_set image seen graph w locals closed g owns none k group own at d r reached 
 
 -- with a way to a read, the local is read unset
 pub reads_holds : (image : ImageView) (z : ℕ) (seen : List (Option Kept)) (graph : List Node) (w : Wanted) (locals : LocalSet) (at k : ℕ) → IsClosed image seen → IsGraph image seen graph → IsReachedMethod image w.entry →
-    ((k : ℕ) → k / 64 ≡ w.group → IsIn w.group locals k ↔ IsOwn image.text w.entry k) → ReadsUnset graph w.group (w.entry + 4) locals at k → Holds image z (UnsetLocal at k)
+    ((k : ℕ) → k / 64 ≡ w.group → IsIn w.group locals k ↔ IsOwn image.text w.entry k) → ReadsUnset graph w.group (w.entry + 4) locals at k → IsTrueOf image z (UnsetLocal at k)
 reads_holds image z seen graph w locals at k closed g method owns h =
     let own : IsOwn image.text w.entry k = (owns k h.is_in.0).0 h.is_in in
     let start = entered_with image w.entry (Some k) own method.0 method.1 method.2 in
@@ -198,7 +198,7 @@ ready_later n many marks todo h = record { long = h.long; older = λ at m is. le
 
 -- once all that is wanted is set, nothing is read unset
 pub none_unset : (image : ImageView) (seen : List (Option Kept)) (graph : List Node) (wanted : List Wanted) → IsClosed image seen → IsGraph image seen graph → AreWanted image seen graph (length seen) wanted →
-    ((w : Wanted) → Contains wanted w → AreSet image w) → (z at k : ℕ) → Holds image z (UnsetLocal at k) → ⊥
+    ((w : Wanted) → Contains wanted w → AreSet image w) → (z at k : ℕ) → IsTrueOf image z (UnsetLocal at k) → ⊥
 none_unset image seen graph wanted closed g are set z at k (a, reached, w) =
     let u = carried_unit image k a reached w.3 in
     let kept : slice_get seen a.at ≡ Some (Some (kept_of a.unit a.depth)) = closed.all a reached in

@@ -7,7 +7,7 @@ ghost use Rattle.ijvm_unset.specs.declared.graph.Node.{Node};
 ghost use Rattle.ijvm_reach.specs.declared.kept.Kept.{Kept};
 ghost use Rattle.ijvm_unset.specs.declared.unset.Wanted.{Wanted};
 ghost use Rattle.ijvm_paths.specs.Paths.{IsOwn, IsReachedMethod};
-ghost use Rattle.ijvm_paths.specs.Facts.{Holds};
+ghost use Rattle.ijvm_paths.specs.Facts.{IsTrueOf};
 ghost use Rattle.ijvm_reach.specs.Search.{IsClosed, States};
 ghost use Rattle.ijvm_unset.specs.Graph.{IsGraph};
 ghost use Rattle.ijvm_unset.specs.Shortcut.{IsShortGraph};
@@ -132,7 +132,7 @@ pub fn check_locals(
     requires long { length image.now.text ≤ 65536 }
     requires closed { IsClosed image.now seen.now }
     requires graph { IsGraph image.now seen.now graph.now }
-    ensures ok { OnOk result ((z at k : ℕ) → Holds image.now z (VerifyError.UnsetLocal at k) → ⊥) }
+    ensures ok { OnOk result ((z at k : ℕ) → IsTrueOf image.now z (VerifyError.UnsetLocal at k) → ⊥) }
     ensures err { IfErr result (λ e. States image.now e) }
 {
     let wanted = wanted_of(alloc, image, seen, graph)?;

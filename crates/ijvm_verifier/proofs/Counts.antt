@@ -13,7 +13,7 @@ use Rattle.ijvm_paths.specs.declared.error.VerifyError.{VerifyError}
 use Rattle.ijvm_paths.specs.declared.error.VerifyError.TheVariants.{BadCode, FallsOff, BadTarget, Overlap, BadConstant, BadEntry, BadHeader, LinkSlot, BadLocal, UnsetLocal, TooFewArguments, Underflow, DepthDiffers, ReturnInMain, MainFrame, OutOfMemory}
 use Rattle.ijvm_paths.specs.Paths.{Arrival, HasRow, Reached}
 use Rattle.ijvm_paths.specs.declared.kind.Kind.{Kind}
-use Rattle.ijvm_paths.specs.Facts.{Names, IsMainCount, Holds, Accepts}
+use Rattle.ijvm_paths.specs.Facts.{Names, IsMainCount, IsTrueOf, Accepts}
 use Rattle.ijvm_reach.specs.Search.{kept_at, kept_of, IsClosed, IsDecided}
 use Rattle.ijvm_unset.specs.Graph.{IsNodeOf, IsGraph}
 use Rattle.ijvm_verifier.specs.Counted.{NodeNames, IsCounted}
@@ -76,7 +76,7 @@ one_count : (image : ImageView) (c d : ℕ) → IsMainCount image c → IsMainCo
 one_count image c d h g = elim h.least [ inl zero_is ↦ omega arith | inr w ↦ let below : w.0 < d = g.above w.0 w.1 in omega (arith, w.2) ]
 
 -- accepted, by the two searches, the sweep and the count
-pub accepted : (image : ImageView) (z count : ℕ) → ((e : VerifyError) → IsDecided e → Holds image z e → ⊥) → ((at k : ℕ) → Holds image z (UnsetLocal at k) → ⊥) → ((b : ℕ) → Holds image z (Overlap b) → ⊥) → IsMainCount image count →
+pub accepted : (image : ImageView) (z count : ℕ) → ((e : VerifyError) → IsDecided e → IsTrueOf image z e → ⊥) → ((at k : ℕ) → IsTrueOf image z (UnsetLocal at k) → ⊥) → ((b : ℕ) → IsTrueOf image z (Overlap b) → ⊥) → IsMainCount image count →
     0x8000 + count ≤ z → Accepts image z
 accepted image z count s u o m fits (BadCode p) h = s (BadCode p) tt h
 accepted image z count s u o m fits (FallsOff p) h = s (FallsOff p) tt h
@@ -108,6 +108,6 @@ verified image main_locals map methods kinds s keeps map_is fits =
     }
 
 -- no search refuses the size of main's frame
-pub no_frame : (image : ImageView) (e : VerifyError) (count : ℕ) → e ≡ MainFrame count → (e ≡ OutOfMemory) ⊎ Holds image (0x8000 + count) e → ⊥
+pub no_frame : (image : ImageView) (e : VerifyError) (count : ℕ) → e ≡ MainFrame count → (e ≡ OutOfMemory) ⊎ IsTrueOf image (0x8000 + count) e → ⊥
 no_frame image e count is (inl out) = cc (is, out)
-no_frame image e count is (inr holds) = let w : Holds image (0x8000 + count) (MainFrame count) = subst (λ (x : VerifyError). Holds image (0x8000 + count) x) is holds in omega (arith, w.1)
+no_frame image e count is (inr holds) = let w : IsTrueOf image (0x8000 + count) (MainFrame count) = subst (λ (x : VerifyError). IsTrueOf image (0x8000 + count) x) is holds in omega (arith, w.1)

@@ -11,7 +11,7 @@ use Rattle.ijvm_image.specs.Image.{ImageView}
 use Rattle.ijvm_reach.specs.declared.kept.Kept.{Kept}
 use Rattle.ijvm_paths.specs.declared.error.VerifyError.TheVariants.{Overlap}
 use Rattle.ijvm_paths.specs.Paths.{HasRow, IsReachedMethod}
-use Rattle.ijvm_paths.specs.Facts.{Piece, Code, Header, Covers, Holds, IsMethodCount}
+use Rattle.ijvm_paths.specs.Facts.{Piece, Code, Header, Covers, IsTrueOf, IsMethodCount}
 use Rattle.ijvm_paths.specs.declared.kind.Kind.{Kind}
 use Rattle.ijvm_paths.specs.Kinds.{first, IsKind}
 use Rattle.ijvm_reach.specs.Search.{kept_at, kept_of, IsClosed}
@@ -64,7 +64,7 @@ swept_add image n end at stop new s behind low is above only covers = record {
 }
 
 -- the byte where a piece begins is another's too
-pub swept_clash : (image : ImageView) (z n end at : ℕ) (new : Piece) → IsSwept image n end → at < end → n ≤ 2 * at + 1 → rank new ≡ n → Covers image new at → Holds image z (Overlap at)
+pub swept_clash : (image : ImageView) (z n end at : ℕ) (new : Piece) → IsSwept image n end → at < end → n ≤ 2 * at + 1 → rank new ≡ n → Covers image new at → IsTrueOf image z (Overlap at)
 swept_clash image z n end at new s inside low is covers =
     let w = s.last at low inside in
     (w.0, new, (λ e. absurd (omega (arith, w.1, ap rank e))), w.2, covers)
@@ -148,7 +148,7 @@ covers_inside image seen (Header e) b closed (method, low, high) =
     let lt : e + 4 < length image.text = method_inside image seen e closed method in (omega arith, omega arith)
 
 -- at the end no byte belongs to two
-pub none_overlap : (image : ImageView) (seen : List (Option Kept)) (end : ℕ) → IsClosed image seen → IsSwept image (2 * length image.text) end → (z b : ℕ) → Holds image z (Overlap b) → ⊥
+pub none_overlap : (image : ImageView) (seen : List (Option Kept)) (end : ℕ) → IsClosed image seen → IsSwept image (2 * length image.text) end → (z b : ℕ) → IsTrueOf image z (Overlap b) → ⊥
 none_overlap image seen end closed s z b (p, q, ne, cp, cq) = ne (s.apart p q b (met p (covers_inside image seen p b closed cp).0) (met q (covers_inside image seen q b closed cq).0) cp cq)
   where
     met : (o : Piece) → first o < length image.text → rank o < 2 * length image.text

@@ -4,14 +4,14 @@ use Rattle.ijvm_image.specs.Image.{ImageView}
 use Rattle.ijvm_paths.specs.declared.error.VerifyError.{VerifyError}
 use Rattle.ijvm_paths.specs.declared.error.VerifyError.TheVariants.{UnsetLocal, Overlap}
 use Rattle.ijvm_paths.specs.declared.kind.Kind.{Kind}
-use Rattle.ijvm_paths.specs.Facts.{Holds, IsMainCount, IsMethodCount}
+use Rattle.ijvm_paths.specs.Facts.{IsTrueOf, IsMainCount, IsMethodCount}
 use Rattle.ijvm_paths.specs.Kinds.{AreKinds}
 use Rattle.ijvm_reach.specs.Search.{IsDecided}
 
 pub record IsSurvey (image : ImageView) (main_locals methods : ℕ) (kinds : List Kind) : Type 0 where
-  pub decided : (stack_end : ℕ) (e : VerifyError) → IsDecided e → Holds image stack_end e → ⊥
-  pub set : (stack_end at k : ℕ) → Holds image stack_end (UnsetLocal at k) → ⊥
-  pub apart : (stack_end byte : ℕ) → Holds image stack_end (Overlap byte) → ⊥
+  pub decided : (stack_end : ℕ) (e : VerifyError) → IsDecided e → IsTrueOf image stack_end e → ⊥
+  pub set : (stack_end at k : ℕ) → IsTrueOf image stack_end (UnsetLocal at k) → ⊥
+  pub apart : (stack_end byte : ℕ) → IsTrueOf image stack_end (Overlap byte) → ⊥
   pub main : IsMainCount image main_locals
   pub main_few : main_locals ≤ 65536
   pub methods_are : IsMethodCount image methods

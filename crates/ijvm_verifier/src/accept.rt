@@ -2,7 +2,7 @@
 
 ghost use Rattle.std.specs.Prelude.{◌≡◌, ◌≢◌, ◌⊎◌, ◌≤◌, ℕ, IfOk, IfErr};
 ghost use Rattle.console_port.specs.Map.{IsMap};
-ghost use Rattle.ijvm_paths.specs.Facts.{Holds};
+ghost use Rattle.ijvm_paths.specs.Facts.{IsTrueOf};
 ghost use Rattle.ijvm_reach.specs.Search.{States};
 ghost use Rattle.ijvm_verifier.specs.Survey.{IsSurvey};
 ghost use Rattle.ijvm_paths.specs.Accepted.{IsAccepted};
@@ -53,7 +53,7 @@ pub fn verify(alloc: Global, image: Image, map: MemoryMap) -> Result<VerifiedIma
     ensures image { IfOk result (λ v. v.image ≡ image) }
     ensures map { IfOk result (λ v. v.map ≡ map) }
     ensures accepted { IfOk result IsAccepted }
-    ensures refused { IfErr result (λ e. (e ≡ VerifyError.OutOfMemory) ⊎ Holds image map.stack_end e) }
+    ensures refused { IfErr result (λ e. (e ≡ VerifyError.OutOfMemory) ⊎ IsTrueOf image map.stack_end e) }
     // The large map has room for all locals that main may name.
     ensures large { map ≡ MemoryMap.LARGE → IfErr result (λ e. (count : ℕ) → e ≢ VerifyError.MainFrame count) }
 {

@@ -5,7 +5,7 @@ ghost use Rattle.ijvm_paths.specs.declared.error.VerifyError.{VerifyError};
 ghost use Rattle.ijvm_reach.specs.declared.kept.Kept.{Kept};
 ghost use Rattle.ijvm_paths.specs.declared.kind.Kind.{Kind};
 ghost use Rattle.ijvm_paths.specs.Paths.{IsReachedMethod};
-ghost use Rattle.ijvm_paths.specs.Facts.{Holds, IsMethodCount};
+ghost use Rattle.ijvm_paths.specs.Facts.{IsTrueOf, IsMethodCount};
 ghost use Rattle.ijvm_paths.specs.Kinds.{IsKind, AreKinds};
 ghost use Rattle.ijvm_reach.specs.Search.{IsClosed, States};
 ghost use Rattle.ijvm_verifier.specs.Sweep.{IsSwept};
@@ -102,7 +102,7 @@ pub fn sweep_all(
     requires long { length image.now.text ≤ 65536 }
     requires closed { IsClosed image.now seen.now }
     ensures kinds { IfOk result (λ kinds. AreKinds image.now kinds.items) }
-    ensures apart { IfOk result (λ _. (z byte : ℕ) → Holds image.now z (VerifyError.Overlap byte) → ⊥) }
+    ensures apart { IfOk result (λ _. (z byte : ℕ) → IsTrueOf image.now z (VerifyError.Overlap byte) → ⊥) }
     ensures err { IfErr result (λ e. States image.now e) }
 {
     let mut kinds = Vec::new(alloc);

@@ -86,7 +86,7 @@ record IsLinked (machine : Machine) (had : Bool) (before : ℕ) (ts : List Token
   are : list_all is_dest dests ≡ true
   some : (had || is_filled dests) ≡ true
   expr : list_all is_expr body ≡ true
-  filled : (length body == 0) ≡ false
+  not_empty : (length body == 0) ≡ false
   spelled : ts ≡ dest_tokens dests ++ (body ++ tail_tokens tail)
   bits : a.dests ≡ dest_bits before dests
   coded : HasCoding machine body tail a.operation
@@ -119,7 +119,7 @@ assigned_is m dests ts a h =
             are = refl;
             some = refl;
             expr = prefix_passes is_expr ts;
-            filled = w.0;
+            not_empty = w.0;
             spelled = sym (take-append-drop (prefix_len is_expr ts) ts) ∙ ap (λ (r : List Token). take (prefix_len is_expr ts) ts ++ r) (tail_is (drop (prefix_len is_expr ts) ts) p.0 p.1);
             bits = refl;
             coded = has_coding m (take (prefix_len is_expr ts) ts) p.0;
@@ -129,11 +129,11 @@ assigned_is m dests ts a h =
 
 assigned_at : (m : Machine) (dests : ℕ) (body : List Token) (t : Tail) → list_all is_expr body ≡ true → (length body == 0) ≡ false
     → assigned m dests (body ++ tail_tokens t) ≡ Some (record { dests = dests; operation = coding_of m body t })
-assigned_at m dests body t all filled =
+assigned_at m dests body t all not_empty =
     let n = prefix_all is_expr body (tail_tokens t) all (tail_begins t) in
     let tk = take-append_seam body (tail_tokens t) in
     let dr = drop-append_seam body (tail_tokens t) in
-    rw (n, tk, dr, filled, tail_again t) refl
+    rw (n, tk, dr, not_empty, tail_again t) refl
 
 -- ---- the destinations
 
@@ -154,11 +154,11 @@ expr_no _ h = refl
 -- no destination stands in front of an expression
 rest_last : (m : Machine) (some : Bool) (dests : ℕ) (body : List Token) (t : Tail) → list_all is_expr body ≡ true → (length body == 0) ≡ false → chain_at m some dests (body ++ tail_tokens t) ≡ last m some dests (body ++ tail_tokens t)
 unfolding chain_at is_equals
-rest_last m some dests [] t all filled = absurd (cc)
-rest_last m some dests (x ∷ []) tails.Nothing all filled = refl
-rest_last m some dests (x ∷ []) (tails.Left v) all filled = let d = dest_no x (tokens.Sign signs.Left) refl in rw d refl
-rest_last m some dests (x ∷ []) (tails.Right v) all filled = let d = dest_no x (tokens.Sign signs.Right) refl in rw d refl
-rest_last m some dests (x ∷ y ∷ body) t all filled =
+rest_last m some dests [] t all not_empty = absurd (cc)
+rest_last m some dests (x ∷ []) tails.Nothing all not_empty = refl
+rest_last m some dests (x ∷ []) (tails.Left v) all not_empty = let d = dest_no x (tokens.Sign signs.Left) refl in rw d refl
+rest_last m some dests (x ∷ []) (tails.Right v) all not_empty = let d = dest_no x (tokens.Sign signs.Right) refl in rw d refl
+rest_last m some dests (x ∷ y ∷ body) t all not_empty =
     let p = and_parts (is_expr x) (is_expr y && list_all is_expr body) all in
     let q = and_parts (is_expr y) (list_all is_expr body) p.1 in
     let d = dest_no x y (expr_no y q.0) in
@@ -170,15 +170,15 @@ dest_again d h = rw h refl
 all_last : (m : Machine) (some : Bool) (dests : ℕ) (ds : List Word) (body : List Token) (t : Tail) → list_all is_dest ds ≡ true → list_all is_expr body ≡ true → (length body == 0) ≡ false
     → chain_at m some dests (dest_tokens ds ++ (body ++ tail_tokens t)) ≡ last m (some || is_filled ds) (dest_bits dests ds) (body ++ tail_tokens t)
 unfolding chain_at
-all_last m some dests [] body t are all filled = rest_last m some dests body t all filled ∙ go some
+all_last m some dests [] body t are all not_empty = rest_last m some dests body t all not_empty ∙ go some
   where
     go : (b : Bool) → last m b dests (body ++ tail_tokens t) ≡ last m (b || false) dests (body ++ tail_tokens t)
     go true = refl
     go false = refl
-all_last m some dests (d ∷ ds) body t are all filled =
+all_last m some dests (d ∷ ds) body t are all not_empty =
     let p = and_parts (is_dest d) (list_all is_dest ds) are in
     let e = dest_again d p.0 in
-    rw e (all_last m true (bit_or dests (bit d)) ds body t p.1 all filled ∙ go some)
+    rw e (all_last m true (bit_or dests (bit d)) ds body t p.1 all not_empty ∙ go some)
   where
     go : (b : Bool) → last m true (dest_bits (bit_or dests (bit d)) ds) (body ++ tail_tokens t) ≡ last m (b || true) (dest_bits (bit_or dests (bit d)) ds) (body ++ tail_tokens t)
     go true = refl
@@ -187,8 +187,8 @@ all_last m some dests (d ∷ ds) body t are all filled =
 -- what is spelled is read, behind such destinations
 linked_again : (m : Machine) (some : Bool) (dests : ℕ) (ts : List Token) (a : Assignment) → IsLinked m some dests ts a → chain_at m some dests ts ≡ Some a
 linked_again m some dests ts a l =
-    let e = all_last m some dests l.dests l.body l.tail l.are l.expr l.filled in
-    let x = assigned_at m (dest_bits dests l.dests) l.body l.tail l.expr l.filled in
+    let e = all_last m some dests l.dests l.body l.tail l.are l.expr l.not_empty in
+    let x = assigned_at m (dest_bits dests l.dests) l.body l.tail l.expr l.not_empty in
     let o = same_coding m l.body l.tail a.operation l.coded in
     let k : a ≡ record { dests = dest_bits dests l.dests; operation = coding_of m l.body l.tail } = ap (λ (b : ℕ). record a { dests = b }) l.bits ∙ ap (λ (c : Option Operation). record a { dests = dest_bits dests l.dests; operation = c }) o in
     ap (chain_at m some dests) l.spelled ∙ (e ∙ (ap (λ (b : Bool). last m b (dest_bits dests l.dests) (l.body ++ tail_tokens l.tail)) l.some ∙ (x ∙ ap Some (sym k))))
@@ -223,7 +223,7 @@ more_linked m some dests t u rest w a d l = record {
   are = let k = d.2 in rw k l.are;
   some = or_true some;
   expr = l.expr;
-  filled = l.filled;
+  not_empty = l.not_empty;
   spelled = ap (λ (x : Token). x ∷ u ∷ rest) d.0 ∙ (ap (λ (x : Token). tokens.Word w ∷ x ∷ rest) d.1 ∙ ap (λ (r : List Token). tokens.Word w ∷ tokens.Sign signs.Equals ∷ r) l.spelled);
   bits = l.bits;
   coded = l.coded;
@@ -243,10 +243,10 @@ chain_linked m some dests (t ∷ u ∷ rest) a h = go (dest_of t u) (dest_is t u
 
 -- what is spelled is read
 pub chain_again : (m : Machine) (ts : List Token) (a : Assignment) → IsAssignment m ts a → chain_at m false 0 ts ≡ Some a
-chain_again m ts a h = linked_again m false 0 ts a (record { dests = h.dests; body = h.body; tail = h.tail; are = h.are; some = h.some; expr = h.expr; filled = h.filled; spelled = h.spelled; bits = h.bits; coded = h.coded })
+chain_again m ts a h = linked_again m false 0 ts a (record { dests = h.dests; body = h.body; tail = h.tail; are = h.are; some = h.some; expr = h.expr; not_empty = h.not_empty; spelled = h.spelled; bits = h.bits; coded = h.coded })
 
 -- what is read is spelled
 pub chain_is : (m : Machine) (ts : List Token) (a : Assignment) → chain_at m false 0 ts ≡ Some a → IsAssignment m ts a
 chain_is m ts a h =
     let l : IsLinked m false 0 ts a = chain_linked m false 0 ts a h in
-    record { dests = l.dests; body = l.body; tail = l.tail; are = l.are; some = l.some; expr = l.expr; filled = l.filled; spelled = l.spelled; bits = l.bits; coded = l.coded }
+    record { dests = l.dests; body = l.body; tail = l.tail; are = l.are; some = l.some; expr = l.expr; not_empty = l.not_empty; spelled = l.spelled; bits = l.bits; coded = l.coded }

@@ -11,7 +11,7 @@ use Rattle.micro_word.specs.declared.statement.BusSource.TheVariants as bus
 use Rattle.micro_word.specs.declared.statement.Shift.{Shift}
 use Rattle.micro_word.specs.declared.statement.Shift.TheVariants as shifts
 use Rattle.micro_word.specs.Coding.{row}
-use Rattle.micro_word.specs.Canonical.{fits_side, has_operation, is_h, is_mixed, may_be_a, may_be_b, may_fetch}
+use Rattle.micro_word.specs.Words.{fits_side, has_operation, is_h, is_mixed, may_be_a, may_be_b, may_fetch}
 use Rattle.mal_tokens.specs.declared.word.Word.TheVariants as words
 use Rattle.mal_tokens.specs.declared.token.Token.{Token}
 use Rattle.mal_tokens.specs.declared.token.Token.TheVariants as tokens
@@ -19,7 +19,7 @@ use Rattle.mal_line.specs.declared.operation.Operation.{Operation}
 use Rattle.mal_line.specs.declared.chain.Tail.{Tail}
 use Rattle.mal_line.specs.declared.chain.Tail.TheVariants as tails
 use Rattle.mal_line.specs.Expressions.{fits, IsCoded, IsOneOf, minus, one_token, other_spellings, plus, side, source_word, spelling, spellings, tail_with}
-use Rattle.mal_line.specs.Lookup.{checked, coding_of, form_of, is_number, lone, paired, shift_of, source_of, with_shift, work}
+use Rattle.mal_line.specs.Lookup.{checked, coding_of, form_of, is_number, from_one_source, paired, shift_of, source_of, with_shift, work}
 use Rattle.mal_line.proofs.Table.{form_is, Commutes, sum, sum_inc, and_op, or_op}
 use Rattle.mal_line.proofs.Options.{bound, chosen, mapped}
 
@@ -44,8 +44,8 @@ source_again x = elim x as (λ x. source_of (source_word x) ≡ Some x) [
 ]
 
 -- H is on no B side of Mic-1
-dark : (x : BusSource) → may_be_b Mic1 x ≡ true → is_h x ≡ false
-dark x = elim x as (λ x. may_be_b Mic1 x ≡ true → is_h x ≡ false) [
+b_is_not_h : (x : BusSource) → may_be_b Mic1 x ≡ true → is_h x ≡ false
+b_is_not_h x = elim x as (λ x. may_be_b Mic1 x ≡ true → is_h x ≡ false) [
   | bus.Mdr ↦ λ h. refl
   | bus.Pc ↦ λ h. refl
   | bus.Mbr ↦ λ h. refl
@@ -65,19 +65,19 @@ dark x = elim x as (λ x. may_be_b Mic1 x ≡ true → is_h x ≡ false) [
 source : BusSource → Token
 source x = tokens.Word (source_word x)
 
-form_lone : (m : Machine) (x : BusSource) → form_of m (tokens.Word (source_word x) ∷ []) ≡ Some (lone m ops.A ops.B x)
+form_lone : (m : Machine) (x : BusSource) → form_of m (tokens.Word (source_word x) ∷ []) ≡ Some (from_one_source m ops.A ops.B x)
 form_lone m x = rw (source_again x) refl
 
-form_not : (m : Machine) (x : BusSource) → form_of m (tokens.Word words.Not ∷ tokens.Word (source_word x) ∷ []) ≡ Some (lone m ops.NotA ops.NotB x)
+form_not : (m : Machine) (x : BusSource) → form_of m (tokens.Word words.Not ∷ tokens.Word (source_word x) ∷ []) ≡ Some (from_one_source m ops.NotA ops.NotB x)
 form_not m x = rw (source_again x) refl
 
 form_neg : (m : Machine) (x : BusSource) → form_of m (minus ∷ tokens.Word (source_word x) ∷ []) ≡ Some (work ops.NegA (Some x) None)
 form_neg m x = rw (source_again x) refl
 
-form_inc : (m : Machine) (x : BusSource) → form_of m (tokens.Word (source_word x) ∷ plus ∷ one_token ∷ []) ≡ Some (lone m ops.IncA ops.IncB x)
+form_inc : (m : Machine) (x : BusSource) → form_of m (tokens.Word (source_word x) ∷ plus ∷ one_token ∷ []) ≡ Some (from_one_source m ops.IncA ops.IncB x)
 form_inc m x = rw (source_again x) refl
 
-form_more : (m : Machine) (x : BusSource) → form_of m (one_token ∷ plus ∷ tokens.Word (source_word x) ∷ []) ≡ Some (lone m ops.IncA ops.IncB x)
+form_more : (m : Machine) (x : BusSource) → form_of m (one_token ∷ plus ∷ tokens.Word (source_word x) ∷ []) ≡ Some (from_one_source m ops.IncA ops.IncB x)
 form_more m x = rw (source_again x) refl
 
 form_dec : (m : Machine) (x : BusSource) → form_of m (tokens.Word (source_word x) ∷ minus ∷ one_token ∷ []) ≡ Some (work ops.DecB None (Some x))
@@ -92,11 +92,11 @@ form_both m op x y sum_inc = rw (source_again x, source_again y) refl
 form_both m op x y and_op = rw (source_again x, source_again y) refl
 form_both m op x y or_op = rw (source_again x, source_again y) refl
 
-on_b_side : (m : Machine) (op_a op_b : AluOp) (x : BusSource) → may_be_b m x ≡ true → lone m op_a op_b x ≡ work op_b None (Some x)
-on_b_side Mic1 op_a op_b x h = rw (dark x h) refl
+on_b_side : (m : Machine) (op_a op_b : AluOp) (x : BusSource) → may_be_b m x ≡ true → from_one_source m op_a op_b x ≡ work op_b None (Some x)
+on_b_side Mic1 op_a op_b x h = rw (b_is_not_h x h) refl
 on_b_side Mic2 op_a op_b x h = refl
 
-on_a_side : (op_a op_b : AluOp) (x : BusSource) → is_h x ≡ true → lone Mic1 op_a op_b x ≡ work op_a (Some x) None
+on_a_side : (op_a op_b : AluOp) (x : BusSource) → is_h x ≡ true → from_one_source Mic1 op_a op_b x ≡ work op_a (Some x) None
 on_a_side op_a op_b x h = rw h refl
 
 in_order : (m : Machine) (op : AluOp) (x y : BusSource) → may_be_a m x ≡ true → paired m op x y ≡ work op (Some x) (Some y)
@@ -104,7 +104,7 @@ in_order Mic1 op x y h = rw h refl
 in_order Mic2 op x y h = refl
 
 out_of_order : (op : AluOp) (x y : BusSource) → may_be_b Mic1 y ≡ true → paired Mic1 op y x ≡ work op (Some x) (Some y)
-out_of_order op x y h = rw (dark y h) refl
+out_of_order op x y h = rw (b_is_not_h y h) refl
 
 -- the operation is looked up, where the machine has it and its sides fit
 Again : Machine → AluOp → Option BusSource → Option BusSource → Type 0

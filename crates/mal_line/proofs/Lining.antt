@@ -15,8 +15,8 @@ use Rattle.mal_line.specs.declared.line.LineFault.{LineFault}
 use Rattle.mal_line.specs.declared.line.LineFault.TheVariants as faults
 use Rattle.mal_line.specs.Statements.{is_semicolon, pieces}
 use Rattle.mal_line.specs.Reading.{add, adds, chain_at, dest_of, empty, head_of, piece_by, piece_of, tree_of}
-use Rattle.mal_line.specs.Lines.{content_of, IsForm, IsRefused, names_foreign, Spells}
-use Rattle.mal_line.specs.Reading.{behind_colon, fix_of, form_of, labelled, line_of, said, said_by}
+use Rattle.mal_line.specs.Lines.{content_of, IsForm, IsRefused, names_foreign, SpellsLine}
+use Rattle.mal_line.specs.Reading.{behind_colon, fix_of, form_of, labelled, line_from, said, said_by}
 use Rattle.mal_line.proofs.Options.{mapped}
 use Rattle.mal_line.proofs.Parting.{tree_again, tree_is}
 
@@ -107,11 +107,11 @@ form_again m ts (forms.Statement (Some l) tree) (rest, e, a) = label_again m ts 
 
 -- what the outcome says
 Says : Machine → List Token → Result Content LineFault → Type 0
-Says m ts (Ok c) = Spells m ts c
+Says m ts (Ok c) = SpellsLine m ts c
 Says m ts (Err e) = IsRefused m ts e
 
-line_says : (m : Machine) (ts : List Token) → Says m ts (line_of m ts)
-unfolding Says line_of
+line_says : (m : Machine) (ts : List Token) → Says m ts (line_from m ts)
+unfolding Says line_from
 line_says m ts = by_form (form_of m ts) refl
   where
     by_content : (f : Form) (c : Option Content) → IsForm m ts f → names_foreign m ts ≡ false → content_of f ≡ c → Says m ts (said c)
@@ -126,23 +126,23 @@ line_says m ts = by_form (form_of m ts) refl
     by_form None e = λ f is. absurd (let k = form_again m ts f is in cc)
     by_form (Some f) e = by_machine f (names_foreign m ts) (form_is m ts f e) refl
 
-pub line_spells : (m : Machine) (ts : List Token) (c : Content) → line_of m ts ≡ Ok c → Spells m ts c
+pub line_spells : (m : Machine) (ts : List Token) (c : Content) → line_from m ts ≡ Ok c → SpellsLine m ts c
 unfolding Says
 line_spells m ts c h = subst (Says m ts) h (line_says m ts)
 
-pub line_refused : (m : Machine) (ts : List Token) (e : LineFault) → line_of m ts ≡ Err e → IsRefused m ts e
+pub line_refused : (m : Machine) (ts : List Token) (e : LineFault) → line_from m ts ≡ Err e → IsRefused m ts e
 unfolding Says
 line_refused m ts e h = subst (Says m ts) h (line_says m ts)
 
-pub spells_line : (m : Machine) (ts : List Token) (c : Content) → Spells m ts c → line_of m ts ≡ Ok c
-unfolding line_of
+pub spells_line : (m : Machine) (ts : List Token) (c : Content) → SpellsLine m ts c → line_from m ts ≡ Ok c
+unfolding line_from
 spells_line m ts c s =
     let w = s.own in
     let e = s.says in
     ap (said_by m ts) (form_again m ts s.form s.has) ∙ rw (w, e) refl
 
-pub refused_line : (m : Machine) (ts : List Token) (e : LineFault) → IsRefused m ts e → line_of m ts ≡ Err e
-unfolding line_of
+pub refused_line : (m : Machine) (ts : List Token) (e : LineFault) → IsRefused m ts e → line_from m ts ≡ Err e
+unfolding line_from
 refused_line m ts faults.BadStatement r = by_form (form_of m ts) refl
   where
     by_form : (o : Option Form) → form_of m ts ≡ o → said_by m ts o ≡ Err faults.BadStatement

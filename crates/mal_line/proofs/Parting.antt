@@ -13,15 +13,15 @@ use Rattle.mal_line.specs.declared.piece.Piece.TheVariants as found
 use Rattle.mal_line.specs.declared.tree.Jump.{Jump}
 use Rattle.mal_line.specs.declared.tree.Jump.TheVariants as jumps
 use Rattle.mal_line.specs.declared.tree.Tree.{Tree}
-use Rattle.mal_line.specs.declared.tally.Half.{Half}
-use Rattle.mal_line.specs.declared.tally.Tally.{Tally}
+use Rattle.mal_line.specs.declared.gathering.PendingIf.{PendingIf}
+use Rattle.mal_line.specs.declared.gathering.Gathered.{Gathered}
 use Rattle.mal_line.specs.Statements.{AreNothing, AreParts, AreTree, assign, assignments, counted, fetch_count, fetches, IsElse, IsIf, IsJumpLast, IsMem, jump, jumps_of, Kind, listed, listed_mem, memories, memory, nothing, pieces}
-use Rattle.mal_line.specs.Reading.{add, add_behind, add_by, add_else, add_free, add_tokens, adds, empty, going, is_access, piece_of, tree_of}
+use Rattle.mal_line.specs.Reading.{add, add_behind, add_by, add_else, add_free, add_tokens, adds, empty, gathered_jump, is_access, piece_of, tree_of}
 use Rattle.mal_line.proofs.Options.{bound}
 use Rattle.mal_line.proofs.Piecing.{IsPiece, piece_again, piece_is}
 
 -- no `if` waits
-at : Tree → Tally
+at : Tree → Gathered
 at s = record { tree = s; waiting = None }
 
 LastAfter : Option Jump → List Kind → Type 0
@@ -36,7 +36,7 @@ record Becomes (s : Tree) (ps : List Kind) (t : Tree) : Type 0 where
   next : listed s.next ++ jumps_of ps ≡ listed t.next
   last : LastAfter s.next ps
 
-adds_one : (m : Machine) (s u : Tally) (p : Piece) (x : List Token) (xs : List (List Token)) → IsPiece m p x → add s p ≡ Some u → adds m s (x ∷ xs) ≡ adds m u xs
+adds_one : (m : Machine) (s u : Gathered) (p : Piece) (x : List Token) (xs : List (List Token)) → IsPiece m p x → add s p ≡ Some u → adds m s (x ∷ xs) ≡ adds m u xs
 unfolding adds
 adds_one m s u p x xs is h =
     let k : add_tokens m s x ≡ Some u = ap (option_and_then (add s)) (piece_again m x p is) ∙ h in
@@ -112,7 +112,7 @@ go_assign m a ps rec s t (x ∷ xs) are b = step s.next s.assignment refl refl b
     step None (Some d) e f l = absurd (two_no d a t.assignment (assignments ps) (subst (λ o. listed o ++ assignments (assign a ∷ ps) ≡ listed t.assignment) f b.assignment))
     step None None e f l =
         let u : Tree = record s { assignment = Some a } in
-        let k : add (at s) (found.Assign a) ≡ Some (at u) = ap (λ o. add_by s None o (found.Assign a)) e ∙ ap (λ (o : Option Assignment). cond {A = Option Tally} (is_some o) None (Some (at u))) f in
+        let k : add (at s) (found.Assign a) ≡ Some (at u) = ap (λ o. add_by s None o (found.Assign a)) e ∙ ap (λ (o : Option Assignment). cond {A = Option Gathered} (is_some o) None (Some (at u))) f in
         let h : (a ∷ []) ++ assignments ps ≡ listed t.assignment = subst (λ o. listed o ++ assignments (assign a ∷ ps) ≡ listed t.assignment) f b.assignment in
         adds_one m (at s) (at u) (found.Assign a) x xs are.0 k ∙ rec u t xs are.1 (record { assignment = h; memory = b.memory; fetch = b.fetch; next = b.next; last = rw e l })
 
@@ -136,7 +136,7 @@ go_memory m a ps rec s t (x ∷ xs) are b = step s.next (is_access s.mem) refl r
     step None true e f l = absurd (two_mem s.mem a t.mem (memories ps) f b.memory)
     step None false e f l =
         let u : Tree = record s { mem = a } in
-        let k : add (at s) (found.Mem a) ≡ Some (at u) = ap (λ o. add_by s None o (found.Mem a)) e ∙ ap (λ (i : Bool). cond {A = Option Tally} i None (Some (at u))) f in
+        let k : add (at s) (found.Mem a) ≡ Some (at u) = ap (λ o. add_by s None o (found.Mem a)) e ∙ ap (λ (i : Bool). cond {A = Option Gathered} i None (Some (at u))) f in
         let h : a ∷ memories ps ≡ listed_mem t.mem = subst (λ o. listed_mem o ++ (a ∷ memories ps) ≡ listed_mem t.mem) (no_access s.mem f) b.memory in
         let h2 : listed_mem a ++ memories ps ≡ listed_mem t.mem = ap (λ bs. bs ++ memories ps) (is_mem x a are.0) ∙ h in
         adds_one m (at s) (at u) (found.Mem a) x xs are.0 k ∙ rec u t xs are.1 (record { assignment = b.assignment; memory = h2; fetch = b.fetch; next = b.next; last = rw e l })
@@ -155,7 +155,7 @@ go_fetch m ps rec s t (x ∷ xs) are b = step s.next s.fetch refl refl b.last
     step None true e f l = absurd (two_fetch (fetch_count ps) t.fetch (subst (λ i. counted i + suc (fetch_count ps) ≡ counted t.fetch) f b.fetch))
     step None false e f l =
         let u : Tree = record s { fetch = true } in
-        let k : add (at s) found.Fetch ≡ Some (at u) = ap (λ o. add_by s None o found.Fetch) e ∙ ap (λ (i : Bool). cond {A = Option Tally} i None (Some (at u))) f in
+        let k : add (at s) found.Fetch ≡ Some (at u) = ap (λ o. add_by s None o found.Fetch) e ∙ ap (λ (i : Bool). cond {A = Option Gathered} i None (Some (at u))) f in
         let h : 0 + suc (fetch_count ps) ≡ counted t.fetch = subst (λ i. counted i + suc (fetch_count ps) ≡ counted t.fetch) f b.fetch in
         let h2 : 1 + fetch_count ps ≡ counted t.fetch = omega (arith, h) in
         adds_one m (at s) (at u) found.Fetch x xs are.0 k ∙ rec u t xs are.1 (record { assignment = b.assignment; memory = b.memory; fetch = h2; next = b.next; last = rw e l })
@@ -167,7 +167,7 @@ went s t j ps e l b =
     let h : (j ∷ []) ++ jumps_of ps ≡ listed t.next = subst (λ o. listed o ++ jumps_of (jump j ∷ ps) ≡ listed t.next) e b.next in
     record { assignment = b.assignment; memory = b.memory; fetch = b.fetch; next = h; last = l }
 
-go_one : (m : Machine) (j : Jump) (p : Piece) (ps : List Kind) → ((s : Tree) → add_free s p ≡ Some (going s j)) → Goal m ps → (s t : Tree) (x : List Token) (xs : List (List Token)) → IsPiece m p x → AreParts m xs ps → Becomes s (jump j ∷ ps) t → adds m (at s) (x ∷ xs) ≡ Some t
+go_one : (m : Machine) (j : Jump) (p : Piece) (ps : List Kind) → ((s : Tree) → add_free s p ≡ Some (gathered_jump s j)) → Goal m ps → (s t : Tree) (x : List Token) (xs : List (List Token)) → IsPiece m p x → AreParts m xs ps → Becomes s (jump j ∷ ps) t → adds m (at s) (x ∷ xs) ≡ Some t
 unfolding Goal at LastAfter
 go_one m j p ps adding rec s t x xs is are b = step s.next refl b.last
   where
@@ -191,7 +191,7 @@ go_jump m (jumps.Branch f y n) ps rec s t (x ∷ x2 ∷ xs) are b = step s.next 
     step : (o : Option Jump) → s.next ≡ o → LastAfter o (jump (jumps.Branch f y n) ∷ ps) → adds m (at s) (x ∷ x2 ∷ xs) ≡ Some t
     step (Some o) e l = absurd l
     step None e l =
-        let u : Tally = record { tree = s; waiting = Some (record { test = f; high = y }) } in
+        let u : Gathered = record { tree = s; waiting = Some (record { test = f; high = y }) } in
         let v : Tree = record s { next = Some (jumps.Branch f y n) } in
         let k : add (at s) (found.If f y) ≡ Some u = ap (λ o. add_by s None o (found.If f y)) e in
         adds_one m (at s) u (found.If f y) x (x2 ∷ xs) are.0 k ∙ (adds_one m u (at v) (found.Else n) x2 xs are.1 refl
@@ -223,7 +223,7 @@ Rest m xs = (s t : Tree) → adds m (at s) xs ≡ Some t → Found m s xs t
 
 -- behind an `if`
 Fork : Machine → List (List Token) → Type 0
-Fork m xs = (h : Half) (u t : Tree) → adds m (record { tree = u; waiting = Some h }) xs ≡ Some t
+Fork m xs = (h : PendingIf) (u t : Tree) → adds m (record { tree = u; waiting = Some h }) xs ≡ Some t
     → (n : List ℕ) × (x2 : List Token) × (xs2 : List (List Token)) × (xs ≡ x2 ∷ xs2) × IsElse x2 n × Found m (record u { next = Some (jumps.Branch h.test h.high n) }) xs2 t
 
 same_becomes : (s : Tree) → Becomes s [] s
@@ -255,7 +255,7 @@ unfolding Found
 forked m x x2 xs xs2 s t f y n split is_if is_else e r =
     (jump (jumps.Branch f y n) ∷ r.0, subst (λ zs. AreParts m (x ∷ zs) (jump (jumps.Branch f y n) ∷ r.0)) (sym split) (is_if, is_else, r.1), jumped s t (jumps.Branch f y n) r.0 e r.2)
 
-free_is : (m : Machine) (x : List Token) (xs : List (List Token)) (s t : Tree) (v : Tally) (p : Piece) → s.next ≡ None → IsPiece m p x → add_free s p ≡ Some v → adds m v xs ≡ Some t → Rest m xs → Fork m xs → Found m s (x ∷ xs) t
+free_is : (m : Machine) (x : List Token) (xs : List (List Token)) (s t : Tree) (v : Gathered) (p : Piece) → s.next ≡ None → IsPiece m p x → add_free s p ≡ Some v → adds m v xs ≡ Some t → Rest m xs → Fork m xs → Found m s (x ∷ xs) t
 unfolding Rest Fork Found at LastAfter
 free_is m x xs s t v found.Nothing e is h k rest pair =
     let same : at s ≡ v = cc in
@@ -328,13 +328,13 @@ free_is m x xs s t v (found.Dispatch n) e is h k rest pair =
     let r = rest (record s { next = Some (jumps.Dispatch n) }) t (subst (λ w. adds m w xs ≡ Some t) (sym same) k) in
     (jump (jumps.Dispatch n) ∷ r.0, (is, r.1), jumped s t (jumps.Dispatch n) r.0 e r.2)
 free_is m x xs s t v (found.If f y) e is h k rest pair =
-    let half : Half = record { test = f; high = y } in
-    let same : ◌≡◌ {A = Tally} (record { tree = s; waiting = Some half }) v = cc in
+    let half : PendingIf = record { test = f; high = y } in
+    let same : ◌≡◌ {A = Gathered} (record { tree = s; waiting = Some half }) v = cc in
     let q = pair half s t (subst (λ w. adds m w xs ≡ Some t) (sym same) k) in
     forked m x q.1 xs q.2 s t f y q.0 q.3 is q.4 e q.5
 free_is m x xs s t v (found.Else n) e is h k rest pair = absurd (cc)
 
-first_is : (m : Machine) (x : List Token) (xs : List (List Token)) (s t : Tree) (v : Tally) (p : Piece) → IsPiece m p x → add (at s) p ≡ Some v → adds m v xs ≡ Some t → Rest m xs → Fork m xs → Found m s (x ∷ xs) t
+first_is : (m : Machine) (x : List Token) (xs : List (List Token)) (s t : Tree) (v : Gathered) (p : Piece) → IsPiece m p x → add (at s) p ≡ Some v → adds m v xs ≡ Some t → Rest m xs → Fork m xs → Found m s (x ∷ xs) t
 unfolding Rest Fork Found at LastAfter
 first_is m x xs s t v p is h k rest pair = step s.next refl h
   where
@@ -349,7 +349,7 @@ first_is m x xs s t v p is h k rest pair = step s.next refl h
     step None e h = free_is m x xs s t v p e is h k rest pair
     step (Some n) e h = behind n p e is h
 
-else_is : (u : Tree) (h : Half) (p : Piece) (v : Tally) → add_else u h p ≡ Some v → (n : List ℕ) × (p ≡ found.Else n) × (going u (jumps.Branch h.test h.high n) ≡ v)
+else_is : (u : Tree) (h : PendingIf) (p : Piece) (v : Gathered) → add_else u h p ≡ Some v → (n : List ℕ) × (p ≡ found.Else n) × (gathered_jump u (jumps.Branch h.test h.high n) ≡ v)
 else_is u h (found.Else n) v e = (n, refl, cc)
 else_is u h _ v e = absurd (cc)
 
@@ -365,11 +365,11 @@ all_is m (x ∷ xs) = go (all_is m xs)
           let q = bound (add (at s)) (piece_of m x) p.0 p.1 in
           first_is m x xs s t p.0 q.0 (piece_is m x q.0 q.1) q.2 p.2 r.0 r.1,
       λ h u t e.
-          let w : Tally = record { tree = u; waiting = Some h } in
+          let w : Gathered = record { tree = u; waiting = Some h } in
           let p = bound (λ t. adds m t xs) (add_tokens m w x) t e in
           let q = bound (add w) (piece_of m x) p.0 p.1 in
           let z = else_is u h q.0 p.0 q.2 in
-          let k : adds m (going u (jumps.Branch h.test h.high z.0)) xs ≡ Some t = subst (λ o. adds m o xs ≡ Some t) (sym z.2) p.2 in
+          let k : adds m (gathered_jump u (jumps.Branch h.test h.high z.0)) xs ≡ Some t = subst (λ o. adds m o xs ≡ Some t) (sym z.2) p.2 in
           (z.0, x, xs, refl, subst (λ b. IsPiece m b x) z.1 (piece_is m x q.0 q.1), r.0 (record u { next = Some (jumps.Branch h.test h.high z.0) }) t k),
     )
 

@@ -9,7 +9,7 @@ use Rattle.micro_word.specs.declared.statement.BusSource.{BusSource}
 use Rattle.micro_word.specs.declared.statement.BusSource.TheVariants as bus
 use Rattle.micro_word.specs.declared.statement.Shift.{Shift}
 use Rattle.micro_word.specs.Coding.{row as gates_row}
-use Rattle.micro_word.specs.Canonical.{fits_side, has_operation, is_byte, is_h, is_mixed, is_pair, may_be_a, may_be_b, may_fetch}
+use Rattle.micro_word.specs.Words.{fits_side, has_operation, is_byte, is_h, is_mixed, is_pair, may_be_a, may_be_b, may_fetch}
 use Rattle.mal_tokens.specs.declared.token.Token.{Token}
 use Rattle.mal_tokens.specs.declared.token.Token.TheVariants as tokens
 use Rattle.mal_line.specs.declared.operation.Operation.{Operation}

@@ -5,7 +5,7 @@ use Rattle.std.specs.Prelude.{not, option_and_then}
 use Rattle.std.specs.List.{prefix_len, onto_first}
 use Rattle.machine_words.specs.declared.machine.Machine.{Machine}
 use Rattle.mal_tokens.specs.declared.token.Token.{Token}
-use Rattle.mal_line.specs.declared.tally.Tally.{Tally}
+use Rattle.mal_line.specs.declared.gathering.Gathered.{Gathered}
 use Rattle.mal_line.specs.Statements.{is_semicolon, pieces}
 use Rattle.mal_line.specs.Reading.{add_tokens, adds, ended}
 
@@ -51,7 +51,7 @@ tail_at (x ∷ xs) (suc n) y ys h =
     let lt = r.0 in
     (omega (arith, lt), rw k r.1)
 
-pub adds_more : (m : Machine) (s u : Tally) (xs : List Token) (n : ℕ) (piece behind : List Token) (y : Token) (after : List Token) → n ≡ len xs → piece ≡ take n xs → behind ≡ drop n xs → behind ≡ y ∷ after
+pub adds_more : (m : Machine) (s u : Gathered) (xs : List Token) (n : ℕ) (piece behind : List Token) (y : Token) (after : List Token) → n ≡ len xs → piece ≡ take n xs → behind ≡ drop n xs → behind ≡ y ∷ after
     → add_tokens m s piece ≡ Some u → adds m s (pieces xs) ≡ adds m u (pieces after)
 unfolding adds
 adds_more m s u xs n piece behind y after e p b c h =
@@ -60,7 +60,7 @@ adds_more m s u xs n piece behind y after e p b c h =
     let d : drop (len xs + 1) xs ≡ after = ap (λ i. drop (i + 1) xs) (sym e) ∙ t.1 in
     ap (adds m s) (split_more xs (rw e at t.0)) ∙ (ap (option_and_then (λ v. adds m v (pieces (drop (len xs + 1) xs)))) h2 ∙ ap (λ r. adds m u (pieces r)) d)
 
-pub adds_last : (m : Machine) (s u : Tally) (xs : List Token) (n : ℕ) (piece behind : List Token) → n ≡ len xs → piece ≡ take n xs → behind ≡ drop n xs → length behind ≡ 0
+pub adds_last : (m : Machine) (s u : Gathered) (xs : List Token) (n : ℕ) (piece behind : List Token) → n ≡ len xs → piece ≡ take n xs → behind ≡ drop n xs → length behind ≡ 0
     → add_tokens m s piece ≡ Some u → adds m s (pieces xs) ≡ ended u
 unfolding adds
 adds_last m s u xs n piece behind e p b none h =
@@ -69,7 +69,7 @@ adds_last m s u xs n piece behind e p b none h =
     let h2 : add_tokens m s (take (len xs) xs) ≡ Some u = ap (λ i. add_tokens m s (take i xs)) (sym e) ∙ (ap (add_tokens m s) (sym p) ∙ h) in
     ap (adds m s) (split_last xs (rw e at le)) ∙ ap (option_and_then ended) h2
 
-pub adds_none : (m : Machine) (s : Tally) (xs : List Token) (n : ℕ) (piece : List Token) → n ≡ len xs → piece ≡ take n xs → add_tokens m s piece ≡ None → adds m s (pieces xs) ≡ None
+pub adds_none : (m : Machine) (s : Gathered) (xs : List Token) (n : ℕ) (piece : List Token) → n ≡ len xs → piece ≡ take n xs → add_tokens m s piece ≡ None → adds m s (pieces xs) ≡ None
 unfolding adds
 adds_none m s xs n piece e p h =
     let h2 : add_tokens m s (take (len xs) xs) ≡ None = ap (λ i. add_tokens m s (take i xs)) (sym e) ∙ (ap (add_tokens m s) (sym p) ∙ h) in

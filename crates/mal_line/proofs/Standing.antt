@@ -8,7 +8,7 @@ use Rattle.machine_words.specs.declared.machine.Machine.TheVariants.{Mic1, Mic2}
 use Rattle.micro_word.specs.declared.statement.Part.{Part}
 use Rattle.micro_word.specs.declared.statement.Mem.{Mem}
 use Rattle.micro_word.specs.Coding.{idle, row}
-use Rattle.micro_word.specs.Canonical.{fits_side, has_operation, is_mixed, is_part, may_be_a, may_be_b, may_fetch}
+use Rattle.micro_word.specs.Words.{fits_side, has_operation, is_mixed, is_part, may_be_a, may_be_b, may_fetch}
 use Rattle.mal_tokens.specs.declared.sign.Sign.TheVariants as signs
 use Rattle.mal_tokens.specs.declared.token.Token.{Token}
 use Rattle.mal_tokens.specs.declared.token.Token.TheVariants as tokens
@@ -25,7 +25,7 @@ use Rattle.mal_line.specs.declared.next.Next.{Next}
 use Rattle.mal_line.specs.Expressions.{fits, part_with}
 use Rattle.mal_line.specs.Chains.{HasCoding, IsAssignment}
 use Rattle.mal_line.specs.Statements.{AreParts, AreTree, assign, assignments, counted, fetch_count, fetches, is_semicolon, jump, Kind, listed, memory, nothing, pieces}
-use Rattle.mal_line.specs.Lines.{content_of, HasPart, is_foreign, IsForm, names_foreign, next_of, part_by, part_of, parts_by, parts_of, Spells, with_access}
+use Rattle.mal_line.specs.Lines.{content_of, HasPart, is_foreign, IsForm, names_foreign, next_by_jump, part_by, part_of, parts_by, parts_of, SpellsLine, with_access}
 use Rattle.mal_line.proofs.Options.{mapped}
 use Rattle.mal_line.proofs.Destinations.{dest_bits-lt}
 
@@ -133,7 +133,7 @@ part_is m ts t p a own h =
         subst (λ q. is_part m (with_access t q) ≡ true) s.2 (with_dests m s.0 b.dests t.fetch f.fitting (small b.dests d) (may m ts t a own))
 
 parts_is : (m : Machine) (ts : List Token) (t : Tree) (p : Parts) → AreTree m ts t → names_foreign m ts ≡ false → parts_of t ≡ Some p → IsTrue (is_part m p.part)
-parts_is m ts t p a own h = go (part_of t) (next_of t.next) refl h
+parts_is m ts t p a own h = go (part_of t) (next_by_jump t.next) refl h
   where
     go : (q : Option Part) (n : Option (Next (List ℕ))) → part_of t ≡ q → parts_by q n ≡ Some p → IsTrue (is_part m p.part)
     go (Some q) (Some n) e h =
@@ -145,7 +145,7 @@ parts_is m ts t p a own h = go (part_of t) (next_of t.next) refl h
     go None n e h = absurd (cc)
 
 -- what the line says stands in a word of the machine
-pub stands : (m : Machine) (ts : List Token) (c : Content) → Spells m ts c → HasPart m c
+pub stands : (m : Machine) (ts : List Token) (c : Content) → SpellsLine m ts c → HasPart m c
 stands m ts c s = go s.form s.has s.says
   where
     go : (f : Form) → IsForm m ts f → content_of f ≡ Some c → HasPart m c

@@ -6,7 +6,7 @@ use Rattle.machine_words.specs.declared.machine.Machine.TheVariants.{Mic1, Mic2}
 use Rattle.micro_word.specs.declared.statement.AluOp.{AluOp}
 use Rattle.micro_word.specs.declared.statement.AluOp.TheVariants as ops
 use Rattle.micro_word.specs.declared.statement.BusSource.{BusSource}
-use Rattle.micro_word.specs.Canonical.{is_h}
+use Rattle.micro_word.specs.Words.{is_h}
 use Rattle.mal_tokens.specs.declared.word.Word.{Word}
 use Rattle.mal_tokens.specs.declared.word.Word.TheVariants as words
 use Rattle.mal_tokens.specs.declared.sign.Sign.TheVariants as signs
@@ -16,7 +16,7 @@ use Rattle.mal_line.specs.declared.operation.Operation.{Operation}
 use Rattle.mal_line.specs.declared.expression.Operand.{Operand}
 use Rattle.mal_line.specs.declared.expression.Operand.TheVariants as operands
 use Rattle.mal_line.specs.Expressions.{IsOneOf, minus, one_token, plus, side, source_word, spelling, spellings, zero_token}
-use Rattle.mal_line.specs.Lookup.{added, both, form_of, is_plus, joined, lone, negated, next_of, on_a, operand_by, operand_of, opposite, paired, prefixed, single, source_of, taken, work}
+use Rattle.mal_line.specs.Lookup.{added, both, form_of, is_plus, joined, from_one_source, negated, sum_and_one, on_a, operand_by, operand_of, opposite, paired, prefixed, single, source_of, taken, work}
 
 -- ---- what is looked up is spelled
 
@@ -69,7 +69,7 @@ Spelled : Machine → List Token → Option Operation → Type 0
 Spelled m body None = Unit {0}
 Spelled m body (Some o) = IsOneOf body (spellings m o)
 
-lone_a : (m : Machine) (x : BusSource) → Spelled m (tokens.Word (source_word x) ∷ []) (Some (lone m ops.A ops.B x))
+lone_a : (m : Machine) (x : BusSource) → Spelled m (tokens.Word (source_word x) ∷ []) (Some (from_one_source m ops.A ops.B x))
 unfolding Spelled
 lone_a m x = go (on_a m x)
   where
@@ -77,7 +77,7 @@ lone_a m x = go (on_a m x)
     go true = inl refl
     go false = inl refl
 
-lone_not : (m : Machine) (x : BusSource) → Spelled m (tokens.Word words.Not ∷ tokens.Word (source_word x) ∷ []) (Some (lone m ops.NotA ops.NotB x))
+lone_not : (m : Machine) (x : BusSource) → Spelled m (tokens.Word words.Not ∷ tokens.Word (source_word x) ∷ []) (Some (from_one_source m ops.NotA ops.NotB x))
 unfolding Spelled
 lone_not m x = go (on_a m x)
   where
@@ -85,7 +85,7 @@ lone_not m x = go (on_a m x)
     go true = inl refl
     go false = inl refl
 
-lone_inc : (m : Machine) (x : BusSource) → Spelled m (tokens.Word (source_word x) ∷ plus ∷ one_token ∷ []) (Some (lone m ops.IncA ops.IncB x))
+lone_inc : (m : Machine) (x : BusSource) → Spelled m (tokens.Word (source_word x) ∷ plus ∷ one_token ∷ []) (Some (from_one_source m ops.IncA ops.IncB x))
 unfolding Spelled
 lone_inc m x = go (on_a m x)
   where
@@ -93,7 +93,7 @@ lone_inc m x = go (on_a m x)
     go true = inl refl
     go false = inl refl
 
-lone_more : (m : Machine) (x : BusSource) → Spelled m (one_token ∷ plus ∷ tokens.Word (source_word x) ∷ []) (Some (lone m ops.IncA ops.IncB x))
+lone_more : (m : Machine) (x : BusSource) → Spelled m (one_token ∷ plus ∷ tokens.Word (source_word x) ∷ []) (Some (from_one_source m ops.IncA ops.IncB x))
 unfolding Spelled
 lone_more m x = go (on_a m x)
   where
@@ -188,7 +188,7 @@ unfolding Plus
 plus_is (tokens.Sign signs.Plus) = refl
 plus_is _ = tt
 
-next_is : (m : Machine) (p q r : Operand) (t a u b v : Token) → Stands p t → Stands q u → Stands r v → Spelled m (t ∷ a ∷ u ∷ b ∷ v ∷ []) (next_of m p a q b r)
+next_is : (m : Machine) (p q r : Operand) (t a u b v : Token) → Stands p t → Stands q u → Stands r v → Spelled m (t ∷ a ∷ u ∷ b ∷ v ∷ []) (sum_and_one m p a q b r)
 unfolding Spelled Plus Stands
 next_is m p q operands.One t a u b v s s2 s3 = go (is_plus a) (is_plus b) (plus_is a) (plus_is b) s3
   where

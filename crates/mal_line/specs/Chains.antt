@@ -109,7 +109,7 @@ pub record IsAssignment (machine : Machine) (ts : List Token) (a : Assignment) :
   pub are : list_all is_dest dests ≡ true
   pub some : is_filled dests ≡ true
   pub expr : list_all is_expr body ≡ true
-  pub filled : (length body == 0) ≡ false
+  pub not_empty : (length body == 0) ≡ false
   pub spelled : ts ≡ dest_tokens dests ++ (body ++ tail_tokens tail)
   pub bits : a.dests ≡ dest_bits 0 dests
   pub coded : HasCoding machine body tail a.operation

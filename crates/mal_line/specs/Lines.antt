@@ -5,7 +5,7 @@ use Rattle.machine_words.specs.declared.machine.Machine.{Machine}
 use Rattle.machine_words.specs.declared.machine.Machine.TheVariants.{Mic1, Mic2}
 use Rattle.micro_word.specs.declared.statement.Part.{Part}
 use Rattle.micro_word.specs.Coding.{idle}
-use Rattle.micro_word.specs.Canonical.{is_part}
+use Rattle.micro_word.specs.Words.{is_part}
 use Rattle.mal_tokens.specs.declared.word.Word.{Word}
 use Rattle.mal_tokens.specs.declared.word.Word.TheVariants as words
 use Rattle.mal_tokens.specs.declared.sign.Sign.TheVariants as signs
@@ -57,16 +57,16 @@ target_of (jumps.Dispatch None) = None
 target_of (jumps.Dispatch (Some high)) = Some (nexts.Dispatch high)
 target_of (jumps.Branch test high low) = Some (nexts.Branch test high low)
 
-abbrev pub next_of : Option Jump → Option (Next (List ℕ))
-next_of None = Some nexts.Following
-next_of (Some j) = target_of j
+abbrev pub next_by_jump : Option Jump → Option (Next (List ℕ))
+next_by_jump None = Some nexts.Following
+next_by_jump (Some j) = target_of j
 
 abbrev pub parts_by : Option Part → Option (Next (List ℕ)) → Option Parts
 parts_by (Some part) (Some next) = Some (record { part = part; next = next })
 parts_by _ _ = None
 
 abbrev pub parts_of : Tree → Option Parts
-parts_of tree = parts_by (part_of tree) (next_of tree.next)
+parts_of tree = parts_by (part_of tree) (next_by_jump tree.next)
 
 -- what it says, where each expression and each OR has a coding
 abbrev pub content_of : Form → Option Content
@@ -97,7 +97,7 @@ names_foreign machine ts = list_any (is_foreign machine) ts
 -- ---- what a line spells, and its refusals
 
 -- the tokens have a form that says this, and no word of the other machine
-pub record Spells (machine : Machine) (ts : List Token) (content : Content) : Type 0 where
+pub record SpellsLine (machine : Machine) (ts : List Token) (content : Content) : Type 0 where
   pub form : Form
   pub has : IsForm machine ts form
   pub own : names_foreign machine ts ≡ false

@@ -8,7 +8,7 @@ use Rattle.micro_word.specs.declared.statement.BusSource.{BusSource}
 use Rattle.micro_word.specs.declared.statement.BusSource.TheVariants as bus
 use Rattle.micro_word.specs.declared.statement.Shift.{Shift}
 use Rattle.micro_word.specs.declared.statement.Shift.TheVariants as shifts
-use Rattle.micro_word.specs.Canonical.{is_h}
+use Rattle.micro_word.specs.Words.{is_h}
 use Rattle.mal_tokens.specs.declared.word.Word.{Word}
 use Rattle.mal_tokens.specs.declared.word.Word.TheVariants as words
 use Rattle.mal_tokens.specs.declared.sign.Sign.TheVariants as signs
@@ -51,13 +51,13 @@ operand_of _ = operands.Other
 abbrev pub work : AluOp → Option BusSource → Option BusSource → Operation
 work op a b = record { op = op; a = a; b = b; shift = shifts.None }
 
--- a lone source stands on the A side where it is H of Mic-1, else on the B side
+-- a single source stands on the A side where it is H of Mic-1, else on the B side
 abbrev pub on_a : Machine → BusSource → Bool
 on_a Mic1 x = is_h x
 on_a Mic2 x = false
 
-abbrev pub lone : Machine → AluOp → AluOp → BusSource → Operation
-lone machine op_a op_b x = if on_a machine x then work op_a (Some x) None else work op_b None (Some x)
+abbrev pub from_one_source : Machine → AluOp → AluOp → BusSource → Operation
+from_one_source machine op_a op_b x = if on_a machine x then work op_a (Some x) None else work op_b None (Some x)
 
 -- of two sources the first stands on the A side, on Mic-1 the one that is H
 abbrev pub on_b : Machine → BusSource → Bool
@@ -68,13 +68,13 @@ abbrev pub paired : Machine → AluOp → BusSource → BusSource → Operation
 paired machine op x y = if on_b machine x then work op (Some y) (Some x) else work op (Some x) (Some y)
 
 abbrev pub single : Machine → Operand → Option Operation
-single machine (operands.Source x) = Some (lone machine ops.A ops.B x)
+single machine (operands.Source x) = Some (from_one_source machine ops.A ops.B x)
 single machine operands.Zero = Some (work ops.Zero None None)
 single machine operands.One = Some (work ops.One None None)
 single machine operands.Other = None
 
 abbrev pub negated : Machine → Operand → Option Operation
-negated machine (operands.Source x) = Some (lone machine ops.NotA ops.NotB x)
+negated machine (operands.Source x) = Some (from_one_source machine ops.NotA ops.NotB x)
 negated machine _ = None
 
 abbrev pub opposite : Operand → Option Operation
@@ -92,8 +92,8 @@ both machine op (operands.Source x) (operands.Source y) = Some (paired machine o
 both machine op _ _ = None
 
 abbrev pub added : Machine → Operand → Operand → Option Operation
-added machine (operands.Source x) operands.One = Some (lone machine ops.IncA ops.IncB x)
-added machine operands.One (operands.Source x) = Some (lone machine ops.IncA ops.IncB x)
+added machine (operands.Source x) operands.One = Some (from_one_source machine ops.IncA ops.IncB x)
+added machine operands.One (operands.Source x) = Some (from_one_source machine ops.IncA ops.IncB x)
 added machine x y = both machine ops.Sum x y
 
 abbrev pub taken : Operand → Operand → Option Operation
@@ -112,16 +112,16 @@ abbrev pub is_plus : Token → Bool
 is_plus (tokens.Sign signs.Plus) = true
 is_plus _ = false
 
-abbrev pub next_of : Machine → Operand → Token → Operand → Token → Operand → Option Operation
-next_of machine x p y q operands.One = if is_plus p then (if is_plus q then both machine ops.SumInc x y else None) else None
-next_of machine x p y q _ = None
+abbrev pub sum_and_one : Machine → Operand → Token → Operand → Token → Operand → Option Operation
+sum_and_one machine x p y q operands.One = if is_plus p then (if is_plus q then both machine ops.SumInc x y else None) else None
+sum_and_one machine x p y q _ = None
 
 -- the operation that has this form, on any machine that does it
 abbrev pub form_of : Machine → List Token → Option Operation
 form_of machine (x ∷ []) = single machine (operand_of x)
 form_of machine (o ∷ x ∷ []) = prefixed machine o (operand_of x)
 form_of machine (x ∷ o ∷ y ∷ []) = joined machine (operand_of x) o (operand_of y)
-form_of machine (x ∷ p ∷ y ∷ q ∷ z ∷ []) = next_of machine (operand_of x) p (operand_of y) q (operand_of z)
+form_of machine (x ∷ p ∷ y ∷ q ∷ z ∷ []) = sum_and_one machine (operand_of x) p (operand_of y) q (operand_of z)
 form_of machine _ = None
 
 abbrev pub checked : Machine → Operation → Option Operation

@@ -1,4 +1,4 @@
--- The reading of a line, token by token. It computes what `Lines` states: `line_of` answers what a line spells, or the first refusal that it has.
+-- The reading of a line, token by token. It computes what `Lines` states: `line_from` answers what a line spells, or the first refusal that it has.
 use Rattle.std.specs.Prelude.{ℕ, Bool, true, false, List, [], ◌∷◌, Option, Some, None, Result, Ok, Err, if◌then◌else◌, ◌==◌, length, take, drop, bit_or, is_some, option_map, option_and_then}
 use Rattle.std.specs.List.{prefix_len}
 use Rattle.machine_words.specs.declared.machine.Machine.{Machine}
@@ -21,8 +21,8 @@ use Rattle.mal_line.specs.declared.piece.Piece.TheVariants as found
 use Rattle.mal_line.specs.declared.tree.Jump.{Jump}
 use Rattle.mal_line.specs.declared.tree.Jump.TheVariants as jumps
 use Rattle.mal_line.specs.declared.tree.Tree.{Tree}
-use Rattle.mal_line.specs.declared.tally.Half.{Half}
-use Rattle.mal_line.specs.declared.tally.Tally.{Tally}
+use Rattle.mal_line.specs.declared.gathering.PendingIf.{PendingIf}
+use Rattle.mal_line.specs.declared.gathering.Gathered.{Gathered}
 use Rattle.mal_line.specs.declared.content.Content.{Content}
 use Rattle.mal_line.specs.declared.line.Form.{Form}
 use Rattle.mal_line.specs.declared.line.Form.TheVariants as forms
@@ -153,51 +153,51 @@ piece_of machine (first ∷ rest) = piece_by machine (head_of first) first rest
 abbrev pub empty : Tree
 empty = record { assignment = None; mem = mems.None; fetch = false; next = None }
 
-abbrev pub going : Tree → Jump → Tally
-going tree j = record { tree = record tree { next = Some j }; waiting = None }
+abbrev pub gathered_jump : Tree → Jump → Gathered
+gathered_jump tree j = record { tree = record tree { next = Some j }; waiting = None }
 
 abbrev pub is_access : Mem → Bool
 is_access mems.None = false
 is_access _ = true
 
 -- a part where no `if` waits and no jump was there
-abbrev pub add_free : Tree → Piece → Option Tally
+abbrev pub add_free : Tree → Piece → Option Gathered
 add_free tree found.Nothing = Some (record { tree = tree; waiting = None })
 add_free tree (found.Assign a) = if is_some tree.assignment then None else Some (record { tree = record tree { assignment = Some a }; waiting = None })
 add_free tree (found.Mem m) = if is_access tree.mem then None else Some (record { tree = record tree { mem = m }; waiting = None })
 add_free tree found.Fetch = if tree.fetch then None else Some (record { tree = record tree { fetch = true }; waiting = None })
-add_free tree (found.Goto label) = Some (going tree (jumps.Goto label))
-add_free tree (found.Dispatch high) = Some (going tree (jumps.Dispatch high))
+add_free tree (found.Goto label) = Some (gathered_jump tree (jumps.Goto label))
+add_free tree (found.Dispatch high) = Some (gathered_jump tree (jumps.Dispatch high))
 add_free tree (found.If test label) = Some (record { tree = tree; waiting = Some (record { test = test; high = label }) })
 add_free tree (found.Else label) = None
 
 -- an `if` waits for its `else`
-abbrev pub add_else : Tree → Half → Piece → Option Tally
-add_else tree half (found.Else label) = Some (going tree (jumps.Branch half.test half.high label))
+abbrev pub add_else : Tree → PendingIf → Piece → Option Gathered
+add_else tree half (found.Else label) = Some (gathered_jump tree (jumps.Branch half.test half.high label))
 add_else tree half _ = None
 
 -- behind a jump all is empty
-abbrev pub add_behind : Tree → Piece → Option Tally
+abbrev pub add_behind : Tree → Piece → Option Gathered
 add_behind tree found.Nothing = Some (record { tree = tree; waiting = None })
 add_behind tree _ = None
 
-abbrev pub add_by : Tree → Option Half → Option Jump → Piece → Option Tally
+abbrev pub add_by : Tree → Option PendingIf → Option Jump → Piece → Option Gathered
 add_by tree (Some half) next piece = add_else tree half piece
 add_by tree None None piece = add_free tree piece
 add_by tree None (Some j) piece = add_behind tree piece
 
-abbrev pub add : Tally → Piece → Option Tally
-add tally piece = add_by tally.tree tally.waiting tally.tree.next piece
+abbrev pub add : Gathered → Piece → Option Gathered
+add gathering piece = add_by gathering.tree gathering.waiting gathering.tree.next piece
 
-abbrev pub add_tokens : Machine → Tally → List Token → Option Tally
-add_tokens machine tally ts = option_and_then (add tally) (piece_of machine ts)
+abbrev pub add_tokens : Machine → Gathered → List Token → Option Gathered
+add_tokens machine gathering ts = option_and_then (add gathering) (piece_of machine ts)
 
-abbrev pub ended : Tally → Option Tree
-ended tally = if is_some tally.waiting then None else Some tally.tree
+abbrev pub ended : Gathered → Option Tree
+ended gathering = if is_some gathering.waiting then None else Some gathering.tree
 
-unfoldable pub adds : Machine → Tally → List (List Token) → Option Tree
-adds machine tally [] = ended tally
-adds machine tally (x ∷ xs) = option_and_then (λ t. adds machine t xs) (add_tokens machine tally x)
+unfoldable pub adds : Machine → Gathered → List (List Token) → Option Tree
+adds machine gathering [] = ended gathering
+adds machine gathering (x ∷ xs) = option_and_then (λ t. adds machine t xs) (add_tokens machine gathering x)
 
 abbrev pub tree_of : Machine → List Token → Option Tree
 tree_of machine ts = adds machine (record { tree = empty; waiting = None }) (pieces ts)
@@ -233,5 +233,5 @@ abbrev pub said_by : Machine → List Token → Option Form → Result Content L
 said_by machine ts None = Err faults.BadStatement
 said_by machine ts (Some form) = if names_foreign machine ts then Err faults.WrongMachine else said (content_of form)
 
-unfoldable pub line_of : Machine → List Token → Result Content LineFault
-line_of machine ts = said_by machine ts (form_of machine ts)
+unfoldable pub line_from : Machine → List Token → Result Content LineFault
+line_from machine ts = said_by machine ts (form_of machine ts)

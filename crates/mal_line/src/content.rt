@@ -1,6 +1,6 @@
 //! What a line says, from its form.
 ghost use Rattle.std.specs.Prelude.{◌≡◌};
-ghost use Rattle.mal_line.specs.Lines.{content_of, next_of, part_of, parts_of, target_of};
+ghost use Rattle.mal_line.specs.Lines.{content_of, next_by_jump, part_of, parts_of, target_of};
 
 use crate::line::Form;
 use crate::next::Next;
@@ -53,8 +53,8 @@ fn target_of(jump: Jump) -> Option<Next<Name>>
     }
 }
 
-fn next_of(jump: Option<Jump>) -> Option<Next<Name>>
-    ensures { result ≡ next_of jump }
+fn next_by_jump(jump: Option<Jump>) -> Option<Next<Name>>
+    ensures { result ≡ next_by_jump jump }
 {
     match jump {
         None => Some(Next::Following),
@@ -65,7 +65,7 @@ fn next_of(jump: Option<Jump>) -> Option<Next<Name>>
 fn parts_of(tree: Tree) -> Option<Parts>
     ensures { result ≡ parts_of tree }
 {
-    let next = next_of(tree.next)?;
+    let next = next_by_jump(tree.next)?;
     let part = part_of(tree)?;
     Some(Parts { part, next })
 }

@@ -1,7 +1,7 @@
 //! The coding of an expression, looked up by its tokens.
 ghost use Rattle.std.specs.Prelude.{◌≡◌};
-ghost use Rattle.micro_word.specs.Canonical.{is_h};
-ghost use Rattle.mal_line.specs.Lookup.{added, both, checked, coding_of, form_of, is_number, is_plus, joined, lone, negated, next_of, on_a, on_b, operand_of, opposite, paired, prefixed, shift_of, single, source_of, taken, with_shift, work};
+ghost use Rattle.micro_word.specs.Words.{is_h};
+ghost use Rattle.mal_line.specs.Lookup.{added, both, checked, coding_of, form_of, is_number, is_plus, joined, from_one_source, negated, sum_and_one, on_a, on_b, operand_of, opposite, paired, prefixed, shift_of, single, source_of, taken, with_shift, work};
 
 use crate::chain::Tail;
 use crate::operation::Operation;
@@ -70,9 +70,9 @@ fn is_h(source: BusSource) -> bool
     matches!(source, BusSource::H)
 }
 
-/// A lone source stands on the A side where it is H of Mic-1, else on the B side.
-fn lone(machine: Machine, op_a: AluOp, op_b: AluOp, source: BusSource) -> Operation
-    ensures { result ≡ lone machine op_a op_b source }
+/// A single source stands on the A side where it is H of Mic-1, else on the B side.
+fn from_one_source(machine: Machine, op_a: AluOp, op_b: AluOp, source: BusSource) -> Operation
+    ensures { result ≡ from_one_source machine op_a op_b source }
 {
     if matches!(machine, Machine::Mic1) && is_h(source) {
         work(op_a, Some(source), None)
@@ -96,7 +96,7 @@ fn single(machine: Machine, x: Operand) -> Option<Operation>
     ensures { result ≡ single machine x }
 {
     match x {
-        Operand::Source(x) => Some(lone(machine, AluOp::A, AluOp::B, x)),
+        Operand::Source(x) => Some(from_one_source(machine, AluOp::A, AluOp::B, x)),
         Operand::Zero => Some(work(AluOp::Zero, None, None)),
         Operand::One => Some(work(AluOp::One, None, None)),
         Operand::Other => None,
@@ -107,7 +107,7 @@ fn negated(machine: Machine, x: Operand) -> Option<Operation>
     ensures { result ≡ negated machine x }
 {
     match x {
-        Operand::Source(x) => Some(lone(machine, AluOp::NotA, AluOp::NotB, x)),
+        Operand::Source(x) => Some(from_one_source(machine, AluOp::NotA, AluOp::NotB, x)),
         _ => None,
     }
 }
@@ -145,8 +145,18 @@ fn added(machine: Machine, x: Operand, y: Operand) -> Option<Operation>
     ensures { result ≡ added machine x y }
 {
     match (x, y) {
-        (Operand::Source(x), Operand::One) => Some(lone(machine, AluOp::IncA, AluOp::IncB, x)),
-        (Operand::One, Operand::Source(y)) => Some(lone(machine, AluOp::IncA, AluOp::IncB, y)),
+        (Operand::Source(x), Operand::One) => Some(from_one_source(
+            machine,
+            AluOp::IncA,
+            AluOp::IncB,
+            x,
+        )),
+        (Operand::One, Operand::Source(y)) => Some(from_one_source(
+            machine,
+            AluOp::IncA,
+            AluOp::IncB,
+            y,
+        )),
         _ => both(machine, AluOp::Sum, x, y),
     }
 }
@@ -179,7 +189,7 @@ fn is_plus(token: Token) -> bool
     matches!(token, Token::Sign(Sign::Plus))
 }
 
-fn next_of(
+fn sum_and_one(
     machine: Machine,
     x: Operand,
     plus: Token,
@@ -187,7 +197,7 @@ fn next_of(
     then: Token,
     one: Operand,
 ) -> Option<Operation>
-    ensures { result ≡ next_of machine x plus y then one }
+    ensures { result ≡ sum_and_one machine x plus y then one }
 {
     match one {
         Operand::One => {
@@ -209,7 +219,7 @@ fn form_of(machine: Machine, body: &[Token]) -> Option<Operation>
         [x] => single(machine, operand_of(*x)),
         [prefix, x] => prefixed(machine, *prefix, operand_of(*x)),
         [x, between, y] => joined(machine, operand_of(*x), *between, operand_of(*y)),
-        [x, plus, y, then, one] => next_of(
+        [x, plus, y, then, one] => sum_and_one(
             machine,
             operand_of(*x),
             *plus,

@@ -10,15 +10,15 @@ ghost use Rattle.mal_line.specs.Table.{IsRow};
 ghost use Rattle.mal_line.specs.Chains.{dest_bits, LoadsNamed};
 ghost use Rattle.mal_line.specs.declared.content.Content.{Content};
 ghost use Rattle.mal_line.specs.declared.line.LineFault.{LineFault};
-ghost use Rattle.mal_line.specs.Lines.{HasPart, IsRefused, Spells};
-ghost use Rattle.mal_line.specs.Reading.{line_of};
+ghost use Rattle.mal_line.specs.Lines.{HasPart, IsRefused, SpellsLine};
+ghost use Rattle.mal_line.specs.Reading.{line_from};
 
 /// A line is read as what it spells, and refused by the first refusal that it has: so it spells at most one thing, and
 /// what it spells is never refused. A statement that is spelled stands in a word of the machine.
 pub fn reads_what_is_spelled()
-    ensures spelled { (m : Machine) (ts : List Token) (content : Content) → (line_of m ts ≡ Ok content) ↔ Spells m ts content }
-    ensures refused { (m : Machine) (ts : List Token) (fault : LineFault) → (line_of m ts ≡ Err fault) ↔ IsRefused m ts fault }
-    ensures stands { (m : Machine) (ts : List Token) (content : Content) → Spells m ts content → HasPart m content }
+    ensures spelled { (m : Machine) (ts : List Token) (content : Content) → (line_from m ts ≡ Ok content) ↔ SpellsLine m ts content }
+    ensures refused { (m : Machine) (ts : List Token) (fault : LineFault) → (line_from m ts ≡ Err fault) ↔ IsRefused m ts fault }
+    ensures stands { (m : Machine) (ts : List Token) (content : Content) → SpellsLine m ts content → HasPart m content }
 {}
 
 /// The bits of the destinations that are named load their registers, and no other.

@@ -4,16 +4,16 @@
 mod chain;
 mod content;
 mod expression;
+mod gathering;
 mod laws;
 mod line;
 mod next;
 mod operation;
 mod piece;
-mod tally;
 mod tree;
 
 pub use chain::bit;
 pub use content::{Content, Parts};
 pub use laws::{each_coding_is_a_row, named_registers_are_loaded, reads_what_is_spelled};
-pub use line::{LineFault, line_of};
+pub use line::{LineFault, line_from};
 pub use next::Next;

@@ -1,10 +1,10 @@
 //! A line, by its form.
 ghost use Rattle.std.specs.Prelude.{◌≡◌, ◌∷◌, IfOk, IfErr};
-ghost use Rattle.mal_line.specs.Lines.{HasPart, is_foreign, IsRefused, names_foreign, Spells};
-ghost use Rattle.mal_line.specs.Reading.{behind_colon, fix_of, form_of, labelled, line_of};
+ghost use Rattle.mal_line.specs.Lines.{HasPart, is_foreign, IsRefused, names_foreign, SpellsLine};
+ghost use Rattle.mal_line.specs.Reading.{behind_colon, fix_of, form_of, labelled, line_from};
 
 use crate::content::{Content, content_of};
-use crate::tally::tree_of;
+use crate::gathering::tree_of;
 use crate::tree::Tree;
 use mal_tokens::{Sign, Token, Word};
 use mic_base::Name;
@@ -84,18 +84,18 @@ fn names_foreign(machine: Machine, tokens: &[Token]) -> bool
 }
 
 /// What the tokens of a line say, or the first refusal.
-pub fn line_of(machine: Machine, tokens: &[Token]) -> Result<Content, LineFault>
-    ensures spells { IfOk result (Spells machine tokens.now) }
+pub fn line_from(machine: Machine, tokens: &[Token]) -> Result<Content, LineFault>
+    ensures spells { IfOk result (SpellsLine machine tokens.now) }
     ensures refused { IfErr result (IsRefused machine tokens.now) }
-    ensures value { result ≡ line_of machine tokens.now }
+    ensures value { result ≡ line_from machine tokens.now }
     ensures part { IfOk result (HasPart machine) }
 {
     read(machine, tokens)
 }
 
-#[tactic(auto, unfolding(crate::specs::Reading::line_of))]
+#[tactic(auto, unfolding(crate::specs::Reading::line_from))]
 fn read(machine: Machine, tokens: &[Token]) -> Result<Content, LineFault>
-    ensures { result ≡ line_of machine tokens.now }
+    ensures { result ≡ line_from machine tokens.now }
 {
     let Some(form) = form_of(machine, tokens) else {
         return Err(LineFault::BadStatement);

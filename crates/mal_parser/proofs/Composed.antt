@@ -8,15 +8,15 @@ use Rattle.mal_line.specs.declared.content.Content.{Content}
 use Rattle.mal_line.specs.declared.next.Next.{Next}
 use Rattle.mal_line.specs.declared.next.Next.TheVariants as nexts
 use Rattle.mal_print.specs.Pieces.{printed}
-use Rattle.mal_print.specs.Canonical.{fix}
+use Rattle.mal_print.specs.StatementText.{fix}
 use Rattle.mal_parser.specs.declared.source.Draft.{Draft}
 use Rattle.mal_parser.specs.declared.source.Fix.{Fix}
 use Rattle.mal_parser.specs.declared.statement.Statement.{Statement}
 use Rattle.mal_parser.specs.Labels.{address_of, AreDistinct, has_label, is_among, is_label, is_labelled, labels_of}
-use Rattle.mal_parser.specs.Text.{AreAddresses, AreResolved, fallbacks, fallbacks_from, fixes, fixes_from, IsFine, IsFixedBy, IsProgramOf, Leads, SayAll, Spells, statements, statements_from}
+use Rattle.mal_parser.specs.Text.{AreAddresses, AreResolved, fallbacks, fallbacks_from, fixes, fixes_from, IsFine, IsFixedBy, IsProgramOf, Leads, SayAll, SpellsProgram, statements, statements_from}
 use Rattle.mal_parser.specs.Reading.{address_at, fixed_of}
 use Rattle.mal_parser.specs.Program.{HasTargets, IsFallback, IsLabelled, IsProgram, label_at, Program}
-use Rattle.mal_parser.specs.Canonical.{canonical_text, canonical_lines, fix_count, fix_line, on_line, on_lines, relined}
+use Rattle.mal_parser.specs.ProgramText.{canonical_text, canonical_lines, fix_count, fix_line, on_line, on_lines, relined}
 use Rattle.mal_parser.proofs.Resolved.{same_text, text_same}
 use Rattle.mal_parser.proofs.Fixing.{fixed_is}
 use Rattle.mal_parser.proofs.Printed.{contents_text}
@@ -367,7 +367,7 @@ module _ (p : Program) (h : IsProgram p) where
   }
 
   -- the canonical text of a program spells it, on its own lines
-  pub text_spells : LinesSpell → Spells p.machine (canonical_text p) (relined p)
+  pub text_spells : LinesSpell → SpellsProgram p.machine (canonical_text p) (relined p)
   text_spells laws = record {
     content = content_of p;
     says = subst (λ ls. SayAll p.machine ls (content_of p)) (sym (contents_text (canonical_lines p) (lines_plain laws p h))) (lines_say laws p h);

@@ -13,7 +13,7 @@ use Rattle.mal_parser.specs.declared.source.Draft.{Draft}
 use Rattle.mal_parser.specs.declared.source.Fix.{Fix}
 use Rattle.mal_parser.specs.Labels.{address_of, has_label, is_labelled}
 use Rattle.mal_parser.specs.Text.{AreAddresses, AreRefused, fallbacks_from, falls, falls_off, FallsOff, fixes_from, is_statement, IsAt, IsFine, IsFirst, names_unknown, NamesUnknown, Never, statements, statements_from, targets_of}
-use Rattle.mal_parser.specs.Reading.{by_entry, by_falling, by_unknown, earlier, falling, first, first_falling, first_unknown, knows, main1, number_of, program_of, sketch_of, unknown_draft, unknown_fix, unknown_in}
+use Rattle.mal_parser.specs.Reading.{by_entry, by_falling, by_unknown, earlier, falling, first, first_falling, first_unknown, knows, main1, number_of, resolved_program, sketch_of, unknown_draft, unknown_fix, unknown_in}
 use Rattle.mal_parser.proofs.Resolved.{any_position, at_position}
 
 -- ---- the first line that names an unknown label
@@ -335,8 +335,8 @@ no_label ds label h = go (number_of ds label) refl
     go (Some i) e = absurd (let q = at_position (is_labelled label) ds i e in let k = passes_any ds i q.0 q.1 q.2 in cc)
 
 module _ (m : Machine) (cs : List Content) (fine : IsFine cs) where
-  pub ends_refused : (e : MalError) → program_of (sketch_of m cs) ≡ Err e → AreRefused cs e
-  unfolding program_of
+  pub ends_refused : (e : MalError) → resolved_program (sketch_of m cs) ≡ Err e → AreRefused cs e
+  unfolding resolved_program
   ends_refused e h = by_u (first_unknown (sketch_of m cs)) refl h
     where
       known : first_unknown (sketch_of m cs) ≡ None → Never (NamesUnknown cs)
@@ -360,8 +360,8 @@ module _ (m : Machine) (cs : List Content) (fine : IsFine cs) where
   none_unknown : Never (NamesUnknown cs) → first_unknown (sketch_of m cs) ≡ None
   none_unknown u = unknown_same m cs fine ∙ line_none (names_unknown (statements cs)) 1 cs u
 
-  pub refused_ends : (e : MalError) → AreRefused cs e → program_of (sketch_of m cs) ≡ Err e
-  unfolding program_of
+  pub refused_ends : (e : MalError) → AreRefused cs e → resolved_program (sketch_of m cs) ≡ Err e
+  unfolding resolved_program
   refused_ends (errors.UnknownLabel n) r = ap (by_unknown (sketch_of m cs)) (unknown_same m cs fine ∙ line_first (names_unknown (statements cs)) 1 n cs r)
   refused_ends (errors.LastFalls n) (u, f) = ap (by_unknown (sketch_of m cs)) (none_unknown u) ∙ ap (by_falling (sketch_of m cs)) (falling_same m cs fine ∙ line_first falls_off 1 n cs f)
   refused_ends errors.NoEntry (u, f, n) =

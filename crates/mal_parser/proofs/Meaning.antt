@@ -13,7 +13,7 @@ use Rattle.mal_parser.specs.declared.source.Fix.{Fix}
 use Rattle.mal_parser.specs.declared.statement.Statement.{Statement}
 use Rattle.mal_parser.specs.Labels.{AreDistinct, has_label, is_labelled, labels_of}
 use Rattle.mal_parser.specs.Text.{AreResolved, fallbacks, falls, fixes, IsFine, IsProgramOf, IsResolved, Leads, statements}
-use Rattle.mal_parser.specs.Reading.{by_entry, by_falling, by_unknown, earlier, falling, first, first_falling, first_unknown, fixed_of, IsSound, knows, main1, next_of, number_of, program_of, program_with, resolved, sketch_of, target, unknown_draft, unknown_fix, unknown_in}
+use Rattle.mal_parser.specs.Reading.{by_entry, by_falling, by_unknown, earlier, falling, first, first_falling, first_unknown, fixed_of, IsSound, knows, main1, resolved_next, number_of, resolved_program, program_with, resolved, sketch_of, target, unknown_draft, unknown_fix, unknown_in}
 use Rattle.mal_parser.specs.Program.{IsFallback, label_at, Program}
 use Rattle.mal_parser.proofs.Fixing.{fixed_is, fixed_there}
 use Rattle.mal_parser.proofs.Resolved.{among_at, any_position, at_position, found_later, label_is, neither, no_line, not_false, one_place, program_is, target_label}
@@ -21,7 +21,7 @@ use Rattle.mal_parser.proofs.Adding.{label_among}
 
 -- ---- what is resolved is the meaning
 
-leads : (ds : List Draft) (fs : List Fix) (next : Next (List ℕ)) → knows ds next ≡ true → Leads (map (resolved ds fs) ds) next (next_of ds next)
+leads : (ds : List Draft) (fs : List Fix) (next : Next (List ℕ)) → knows ds next ≡ true → Leads (map (resolved ds fs) ds) next (resolved_next ds next)
 leads ds fs nexts.Following h = tt
 leads ds fs (nexts.Goto label) h = target_label ds fs label h
 leads ds fs (nexts.Dispatch high) h = refl
@@ -73,8 +73,8 @@ module _ (m : Machine) (cs : List Content) (fine : IsFine cs) (sound : IsSound (
         whole = program_is (sketch_of m cs) entry sound u f e;
       }
 
-  pub program_means : (p : Program) → program_of (sketch_of m cs) ≡ Ok p → IsProgramOf m cs p
-  unfolding program_of
+  pub program_means : (p : Program) → resolved_program (sketch_of m cs) ≡ Ok p → IsProgramOf m cs p
+  unfolding resolved_program
   program_means p h = by_u (first_unknown (sketch_of m cs)) refl h
     where
       by_e : (o : Option ℕ) → first_unknown (sketch_of m cs) ≡ None → first_falling (sketch_of m cs) ≡ None → number_of (statements cs) main1 ≡ o → by_entry (sketch_of m cs) o ≡ Ok p → IsProgramOf m cs p
@@ -142,7 +142,7 @@ module _ (ds : List Draft) (fs : List Fix) (ss : List Statement) (distinct : Are
   knows_it (nexts.Branch test high low) (nexts.Goto to) l = absurd l
   knows_it (nexts.Branch test high low) (nexts.Dispatch h) l = absurd l
 
-  leads_there : (next : Next (List ℕ)) (t : Next ℕ) → Leads ss next t → t ≡ next_of ds next
+  leads_there : (next : Next (List ℕ)) (t : Next ℕ) → Leads ss next t → t ≡ resolved_next ds next
   leads_there nexts.Following nexts.Following l = refl
   leads_there nexts.Following (nexts.Goto to) l = absurd l
   leads_there nexts.Following (nexts.Dispatch h) l = absurd l
@@ -165,7 +165,7 @@ module _ (ds : List Draft) (fs : List Fix) (ss : List Statement) (distinct : Are
   leads_there (nexts.Branch test high low) (nexts.Dispatch h) l = absurd l
 
   statement_there : (d : Draft) (s : Statement) → IsResolved ss fs d s → s ≡ resolved ds fs d
-  statement_there d s r = one s.label d.label s.line d.line s.part d.parts.part s.next (next_of ds d.parts.next) s.fixed (fixed_of fs d.label) r.label r.line r.part (leads_there d.parts.next s.next r.next) (fixed_there fs d.label s.fixed once r.fixed)
+  statement_there d s r = one s.label d.label s.line d.line s.part d.parts.part s.next (resolved_next ds d.parts.next) s.fixed (fixed_of fs d.label) r.label r.line r.part (leads_there d.parts.next s.next r.next) (fixed_there fs d.label s.fixed once r.fixed)
     where
       one : (a a2 : Option (List ℕ)) (b b2 : ℕ) (c c2 : Part) (e e2 : Next ℕ) (f f2 : Option ℕ) → a ≡ a2 → b ≡ b2 → c ≡ c2 → e ≡ e2 → f ≡ f2
           → ◌≡◌ {A = Statement} (record { label = a; line = b; part = c; next = e; fixed = f }) (record { label = a2; line = b2; part = c2; next = e2; fixed = f2 })
@@ -281,7 +281,7 @@ module _ (m : Machine) (cs : List Content) (p : Program) (fine : IsFine cs) (is 
           → ◌≡◌ {A = Program} (record { machine = a; statements = b; fallback = c; entry = p.entry }) (record { machine = a2; statements = b2; fallback = c2; entry = p.entry })
       one a a2 b b2 c c2 g h i = rw (g, h, i) refl
 
-  pub means_program : program_of (sketch_of m cs) ≡ Ok p
-  unfolding program_of
+  pub means_program : resolved_program (sketch_of m cs) ≡ Ok p
+  unfolding resolved_program
   means_program =
       ap (by_unknown (sketch_of m cs)) no_unknown ∙ (ap (by_falling (sketch_of m cs)) no_falling ∙ (ap (by_entry (sketch_of m cs)) has_entry ∙ ap Ok program_there))

@@ -6,8 +6,8 @@ use Rattle.std.specs.Str.Lines.{lines, lines_of_parts, strip_carriage_return}
 use Rattle.std.proofs.lemmas.Bool.Decides.{nat_tests}
 use Rattle.source_text.specs.Content.{begins_comment, contents, without_comment}
 use Rattle.mal_parser.proofs.Options.{and_parts}
-use Rattle.mal_print.specs.Canonical.{is_plain}
-use Rattle.mal_parser.specs.Canonical.{text_of}
+use Rattle.mal_print.specs.StatementText.{is_plain}
+use Rattle.mal_parser.specs.ProgramText.{text_of}
 
 abbrev pub ArePlain : List (List ℕ) → Type 0
 ArePlain [] = Unit {0}

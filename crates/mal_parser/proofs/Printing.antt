@@ -8,14 +8,14 @@ use Rattle.micro_word.specs.declared.statement.PlacedNext.{PlacedNext}
 use Rattle.micro_word.specs.declared.statement.PlacedNext.TheVariants as placed
 use Rattle.machine_words.specs.declared.machine.Machine.{Machine}
 use Rattle.micro_word.specs.declared.statement.Placed.{Placed}
-use Rattle.micro_word.specs.Canonical.{is_next, is_part, is_valid}
+use Rattle.micro_word.specs.Words.{is_next, is_part, is_valid}
 use Rattle.mal_line.specs.declared.next.Next.{Next}
 use Rattle.mal_line.specs.declared.next.Next.TheVariants as nexts
 use Rattle.mal_parser.proofs.Options.{and_parts}
-use Rattle.mal_print.specs.Canonical.{FitTargets}
+use Rattle.mal_print.specs.StatementText.{FitTargets}
 use Rattle.mal_parser.specs.declared.statement.Statement.{Statement}
 use Rattle.mal_parser.specs.Program.{HasTargets, IsFallback, IsLabelled, IsStatement, Program}
-use Rattle.mal_parser.specs.Canonical.{by_addresses, by_labels, canonical_text, default_line, fallback_of, fallback_text, fix_line, line_of, parts_of, parts_text, statement_text, text_of}
+use Rattle.mal_parser.specs.ProgramText.{by_addresses, by_labels, canonical_text, default_line, fallback_of, fallback_text, fix_line, labelled_line, parts_of, parts_text, statement_text, text_of}
 
 -- ---- targets
 
@@ -65,7 +65,7 @@ stands_at p q s t e h lt g =
 pub parts_here : (p : Program) (s : ℕ) (t : Statement) → slice_get p.statements s ≡ Some t → parts_text p s ≡ parts_of p t
 parts_here p s t e = rw e refl
 
-pub line_here : (p : Program) (s : ℕ) (t : Statement) → slice_get p.statements s ≡ Some t → statement_text p s ≡ line_of p t
+pub line_here : (p : Program) (s : ℕ) (t : Statement) → slice_get p.statements s ≡ Some t → statement_text p s ≡ labelled_line p t
 line_here p s t e = rw e refl
 
 pub fallback_here : (p : Program) (t : Statement) → p.fallback ≡ Some t → fallback_text p ≡ fallback_of p t
@@ -94,10 +94,10 @@ fixes_more (t ∷ ss) (suc s) lt = let k : suc s + 1 ≡ suc (s + 1) = omega ari
     go None r = r
     go (Some l) r = ap (λ ls. l ∷ ls) r
 
-lines_more : (p : Program) (ss : List Statement) (s : ℕ) (t : Statement) → slice_get ss s ≡ Some t → map (line_of p) (take (s + 1) ss) ≡ map (line_of p) (take s ss) ++ line_of p t ∷ []
+lines_more : (p : Program) (ss : List Statement) (s : ℕ) (t : Statement) → slice_get ss s ≡ Some t → map (labelled_line p) (take (s + 1) ss) ≡ map (labelled_line p) (take s ss) ++ labelled_line p t ∷ []
 lines_more p [] s t e = absurd (cc)
-lines_more p (u ∷ ss) zero t e = let q : u ≡ t = cc in ap (λ v. line_of p v ∷ []) q
-lines_more p (u ∷ ss) (suc s) t e = let k : suc s + 1 ≡ suc (s + 1) = omega arith in rw k (ap (λ ls. line_of p u ∷ ls) (lines_more p ss s t e))
+lines_more p (u ∷ ss) zero t e = let q : u ≡ t = cc in ap (λ v. labelled_line p v ∷ []) q
+lines_more p (u ∷ ss) (suc s) t e = let k : suc s + 1 ≡ suc (s + 1) = omega arith in rw k (ap (λ ls. labelled_line p u ∷ ls) (lines_more p ss s t e))
 
 -- one more fixed address
 pub fix_added : (ss : List Statement) (s : ℕ) (begun old new : List ℕ) → s < length ss
@@ -110,19 +110,19 @@ fix_added ss s begun old new lt e f =
 
 -- one more statement
 line_behind : (p : Program) (s : ℕ) (t : Statement) (begun old new : List ℕ) → slice_get p.statements s ≡ Some t
-    → old ≡ begun ++ text_of (map (line_of p) (take s p.statements)) → new ≡ old ++ (line_of p t ++ 10 ∷ [])
-    → new ≡ begun ++ text_of (map (line_of p) (take (s + 1) p.statements))
+    → old ≡ begun ++ text_of (map (labelled_line p) (take s p.statements)) → new ≡ old ++ (labelled_line p t ++ 10 ∷ [])
+    → new ≡ begun ++ text_of (map (labelled_line p) (take (s + 1) p.statements))
 line_behind p s t begun old new at e f =
-    f ∙ (ap (λ front. front ++ (line_of p t ++ 10 ∷ [])) e
-    ∙ (append_assoc begun (text_of (map (line_of p) (take s p.statements))) (line_of p t ++ 10 ∷ [])
-    ∙ ap (λ rest. begun ++ rest) (sym (ap text_of (lines_more p p.statements s t at) ∙ text_append (map (line_of p) (take s p.statements)) (line_of p t ∷ [])))))
+    f ∙ (ap (λ front. front ++ (labelled_line p t ++ 10 ∷ [])) e
+    ∙ (append_assoc begun (text_of (map (labelled_line p) (take s p.statements))) (labelled_line p t ++ 10 ∷ [])
+    ∙ ap (λ rest. begun ++ rest) (sym (ap text_of (lines_more p p.statements s t at) ∙ text_append (map (labelled_line p) (take s p.statements)) (labelled_line p t ∷ [])))))
 
 pub line_added : (p : Program) (s : ℕ) (begun old new fresh line : List ℕ) → s < length p.statements → fresh ≡ [] → line ≡ fresh ++ statement_text p s
-    → old ≡ begun ++ text_of (map (line_of p) (take s p.statements)) → new ≡ old ++ (line ++ 10 ∷ [])
-    → new ≡ begun ++ text_of (map (line_of p) (take (s + 1) p.statements))
+    → old ≡ begun ++ text_of (map (labelled_line p) (take s p.statements)) → new ≡ old ++ (line ++ 10 ∷ [])
+    → new ≡ begun ++ text_of (map (labelled_line p) (take (s + 1) p.statements))
 line_added p s begun old new fresh line lt n l e f =
     let t = some_at p.statements s lt in
-    let q : line ≡ line_of p t.0 = l ∙ (ap (λ x. x ++ statement_text p s) n ∙ line_here p s t.0 t.1) in
+    let q : line ≡ labelled_line p t.0 = l ∙ (ap (λ x. x ++ statement_text p s) n ∙ line_here p s t.0 t.1) in
     line_behind p s t.0 begun old new t.1 e (f ∙ ap (λ x. old ++ (x ++ 10 ∷ [])) q)
 
 three_texts : (z a b c x y w : List ℕ) → x ≡ z ++ a → y ≡ x ++ b → w ≡ y ++ c → w ≡ z ++ (a ++ (b ++ c))
@@ -130,8 +130,8 @@ three_texts z a b c x y w e f g = rw (g, f, e) (simp append_assoc)
 
 -- all of them
 pub mal_text : (p : Program) (z x y w : List ℕ) → z ≡ [] → x ≡ z ++ text_of (filter_map fix_line p.statements)
-    → y ≡ x ++ text_of (option_to_list (option_map (default_line p) p.fallback)) → w ≡ y ++ text_of (map (line_of p) p.statements) → w ≡ canonical_text p
+    → y ≡ x ++ text_of (option_to_list (option_map (default_line p) p.fallback)) → w ≡ y ++ text_of (map (labelled_line p) p.statements) → w ≡ canonical_text p
 mal_text p z x y w n e f g =
-    three_texts z (text_of (filter_map fix_line p.statements)) (text_of (option_to_list (option_map (default_line p) p.fallback))) (text_of (map (line_of p) p.statements)) x y w e f g
-    ∙ (ap (λ front. front ++ (text_of (filter_map fix_line p.statements) ++ (text_of (option_to_list (option_map (default_line p) p.fallback)) ++ text_of (map (line_of p) p.statements)))) n
-    ∙ sym (canonical_parts (filter_map fix_line p.statements) (option_to_list (option_map (default_line p) p.fallback)) (map (line_of p) p.statements)))
+    three_texts z (text_of (filter_map fix_line p.statements)) (text_of (option_to_list (option_map (default_line p) p.fallback))) (text_of (map (labelled_line p) p.statements)) x y w e f g
+    ∙ (ap (λ front. front ++ (text_of (filter_map fix_line p.statements) ++ (text_of (option_to_list (option_map (default_line p) p.fallback)) ++ text_of (map (labelled_line p) p.statements)))) n
+    ∙ sym (canonical_parts (filter_map fix_line p.statements) (option_to_list (option_map (default_line p) p.fallback)) (map (labelled_line p) p.statements)))

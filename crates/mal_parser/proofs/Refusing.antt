@@ -11,7 +11,7 @@ use Rattle.mal_parser.specs.declared.error.MalError.{MalError}
 use Rattle.mal_parser.specs.declared.error.MalError.TheVariants as errors
 use Rattle.mal_parser.specs.declared.source.Draft.{Draft}
 use Rattle.mal_parser.specs.Labels.{address_of, has_fix, has_name}
-use Rattle.mal_parser.specs.Text.{fallbacks, fixes, HasFault, IsBadFix, IsDuplicate, IsOneTooMany, IsRefusedBehind, Says, statements}
+use Rattle.mal_parser.specs.Text.{fallbacks, fixes, HasFault, IsBadFix, IsDuplicate, IsOneTooMany, IsRefusedBehind, SaysLine, statements}
 use Rattle.mal_parser.specs.Reading.{add_content, add_fallback, add_fix, add_said, at_line, content_at, first, ReadsLines, sketch_of, step}
 use Rattle.mal_parser.proofs.Adding.{picked, with_fallback, with_fix, with_statement}
 use Rattle.mal_parser.proofs.Saying.{content_says, content_unsaid, says_content, Unsaid, unsaid_content}
@@ -38,7 +38,7 @@ module _ (laws : ReadsLines) (m : Machine) (cs : List Content) (k : ℕ) (line :
   unsaid_refused x (inr (faults.WrongMachine, e, f)) = subst (IsRefusedBehind m cs k line) (sym e) (refl, f)
   unsaid_refused x (inr (faults.NoSuchOperation, e, f)) = subst (IsRefusedBehind m cs k line) (sym e) (refl, f)
 
-  added_refused : (c : Content) (x : MalError) → Says m line c → add_content k (sketch_of m cs) c ≡ Err x → IsRefusedBehind m cs k line x
+  added_refused : (c : Content) (x : MalError) → SaysLine m line c → add_content k (sketch_of m cs) c ≡ Err x → IsRefusedBehind m cs k line x
   unfolding with_fix with_fallback with_statement
   added_refused said.Nothing x s h = absurd (cc)
   added_refused (said.Fix label number) x s h = go (address_of number) refl h
@@ -75,7 +75,7 @@ module _ (laws : ReadsLines) (m : Machine) (cs : List Content) (k : ℕ) (line :
   unfolding Unsaid
   fault_step fault h = unsaid_step (at_line k fault) (inr (fault, refl, h))
 
-  said_step : (c : Content) (x : MalError) → Says m line c → add_content k (sketch_of m cs) c ≡ Err x → step k (sketch_of m cs) line ≡ Err x
+  said_step : (c : Content) (x : MalError) → SaysLine m line c → add_content k (sketch_of m cs) c ≡ Err x → step k (sketch_of m cs) line ≡ Err x
   said_step c x s h = ap (add_said k (sketch_of m cs)) (content_says laws m k line c s) ∙ h
 
   bad_fix : (c : Content) → IsBadFix cs c → add_content k (sketch_of m cs) c ≡ Err (errors.BadFix k)

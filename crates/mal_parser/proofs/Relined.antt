@@ -5,7 +5,7 @@ use Rattle.mal_line.specs.declared.next.Next.{Next}
 use Rattle.mal_line.specs.declared.next.Next.TheVariants as nexts
 use Rattle.mal_parser.specs.declared.statement.Statement.{Statement}
 use Rattle.mal_parser.specs.Program.{HasTargets, IsFallback, IsLabelled, IsProgram, IsStatement, label_at, Program}
-use Rattle.mal_parser.specs.Canonical.{on_line, on_lines}
+use Rattle.mal_parser.specs.ProgramText.{on_line, on_lines}
 
 pub length_lines : (k : ℕ) (ss : List Statement) → length (on_lines k ss) ≡ length ss
 length_lines k [] = refl

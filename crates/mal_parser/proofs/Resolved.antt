@@ -17,7 +17,7 @@ use Rattle.mal_parser.specs.declared.source.Fix.{Fix}
 use Rattle.mal_parser.specs.declared.statement.Statement.{Statement}
 use Rattle.mal_parser.specs.Labels.{AreDistinct, has_label, is_among, is_label, is_labelled, labels_of}
 use Rattle.mal_parser.specs.Text.{falls}
-use Rattle.mal_parser.specs.Reading.{address_at, earlier, falling, first_falling, first_unknown, fixed_of, IsDraft, IsSound, knows, main1, next_of, number_of, program_with, resolved, Sketch, target, unknown_draft, unknown_fix, unknown_in}
+use Rattle.mal_parser.specs.Reading.{address_at, earlier, falling, first_falling, first_unknown, fixed_of, IsDraft, IsSound, knows, main1, resolved_next, number_of, program_with, resolved, Sketch, target, unknown_draft, unknown_fix, unknown_in}
 use Rattle.mal_parser.specs.Program.{HasTargets, IsFallback, IsLabelled, IsProgram, IsStatement, label_at}
 
 -- ---- places of lists
@@ -146,7 +146,7 @@ and_parts : (a b : Bool) → (a && b) ≡ true → (a ≡ true) × (b ≡ true)
 and_parts true b h = (refl, h)
 and_parts false b h = absurd (cc)
 
-has_targets : (ds : List Draft) (fs : List Fix) (next : Next (List ℕ)) → knows ds next ≡ true → HasTargets (map (resolved ds fs) ds) (next_of ds next)
+has_targets : (ds : List Draft) (fs : List Fix) (next : Next (List ℕ)) → knows ds next ≡ true → HasTargets (map (resolved ds fs) ds) (resolved_next ds next)
 has_targets ds fs nexts.Following h = tt
 has_targets ds fs (nexts.Goto label) h = is_target ds fs label h
 has_targets ds fs (nexts.Dispatch high) h = tt
@@ -189,7 +189,7 @@ not_falling d h = go (falls d.parts.next) h
     go true h = absurd (cc)
     go false h = refl
 
-falls_of : (ds : List Draft) (next : Next (List ℕ)) → next_of ds next ≡ nexts.Following → falls next ≡ true
+falls_of : (ds : List Draft) (next : Next (List ℕ)) → resolved_next ds next ≡ nexts.Following → falls next ≡ true
 falls_of ds nexts.Following h = refl
 falls_of ds (nexts.Goto label) h = absurd (cc)
 falls_of ds (nexts.Dispatch high) h = absurd (cc)

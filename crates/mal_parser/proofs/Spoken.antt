@@ -3,7 +3,7 @@ use Rattle.std.proofs.Common.{◌≡◌, ℕ, zero, suc, ◌<◌, true, List, []
 use Rattle.std.specs.Prelude.{IfSome, IsSome, IsTrue, pos, map, slice_get, unwrap_or, option_map, option_and_then, option_to_list}
 use Rattle.std.specs.List.{cons_option, filter_map}
 use Rattle.machine_words.specs.declared.machine.Machine.{Machine}
-use Rattle.micro_word.specs.Canonical.{is_part}
+use Rattle.micro_word.specs.Words.{is_part}
 use Rattle.mal_tokens.specs.Words.{IsLabelText}
 use Rattle.mal_line.specs.declared.content.Content.{Content}
 use Rattle.mal_line.specs.declared.content.Content.TheVariants as said
@@ -12,11 +12,11 @@ use Rattle.mal_line.specs.declared.next.Next.{Next}
 use Rattle.mal_line.specs.declared.next.Next.TheVariants as nexts
 use Rattle.mal_line.specs.Targets.{by_targets}
 use Rattle.mal_print.specs.Pieces.{printed}
-use Rattle.mal_print.specs.Canonical.{fallback, fix, HasLabels, labelled, statement}
+use Rattle.mal_print.specs.StatementText.{fallback, fix, HasLabels, labelled, statement}
 use Rattle.mal_print.specs.Lines.{IsLineOf}
 use Rattle.mal_parser.specs.declared.statement.Statement.{Statement}
 use Rattle.mal_parser.specs.Program.{HasTargets, IsFallback, IsLabelled, IsProgram, label_at, Program}
-use Rattle.mal_parser.specs.Canonical.{by_labels, canonical_lines, default_line, fix_line, line_of}
+use Rattle.mal_parser.specs.ProgramText.{by_labels, canonical_lines, default_line, fix_line, labelled_line}
 use Rattle.mal_parser.specs.Text.{SayAll}
 use Rattle.mal_parser.proofs.Printed.{ArePlain, plain_append}
 
@@ -145,10 +145,10 @@ module _ (laws : LinesSpell) (p : Program) (h : IsProgram p) where
       go (Some label) None l a r = r
       go (Some label) (Some address) l a r = said_more p.machine (printed (fix label address)) (said.Fix label (pos address)) (filter_map fix_line ss) (filter_map fix_content ss) (laws.fixes p.machine label address l a) r
 
-  said_statements : (ss : List Statement) → Each (IsSayable p.machine p.statements) ss → AreSaid p.machine (map (line_of p) ss) (map (statement_content p.statements) ss)
+  said_statements : (ss : List Statement) → Each (IsSayable p.machine p.statements) ss → AreSaid p.machine (map (labelled_line p) ss) (map (statement_content p.statements) ss)
   said_statements [] e = said_none p.machine
   said_statements (s ∷ ss) e =
-      said_more p.machine (line_of p s) (statement_content p.statements s) (map (line_of p) ss) (map (statement_content p.statements) ss)
+      said_more p.machine (labelled_line p s) (statement_content p.statements s) (map (labelled_line p) ss) (map (statement_content p.statements) ss)
       (subst (λ n. IsLineOf p.machine (printed (statement p.machine s.label s.part n)) (statement_content p.statements s)) (same_next p.statements s.next)
       (laws.statements p.machine s.label (parts_for p.statements s) e.0.part e.0.label e.0.next))
       (said_statements ss e.1)
@@ -164,10 +164,10 @@ module _ (laws : LinesSpell) (p : Program) (h : IsProgram p) where
   all_said : AreSaid p.machine (canonical_lines p) (content_of p)
   all_said =
       let e = each_at (IsSayable p.machine p.statements) p.statements sayable in
-      said_append p.machine (filter_map fix_line p.statements) (option_to_list (option_map (default_line p) p.fallback) ++ map (line_of p) p.statements)
+      said_append p.machine (filter_map fix_line p.statements) (option_to_list (option_map (default_line p) p.fallback) ++ map (labelled_line p) p.statements)
       (filter_map fix_content p.statements) (option_to_list (option_map (default_content p.statements) p.fallback) ++ map (statement_content p.statements) p.statements)
       (said_fixes p.statements e)
-      (said_append p.machine (option_to_list (option_map (default_line p) p.fallback)) (map (line_of p) p.statements)
+      (said_append p.machine (option_to_list (option_map (default_line p) p.fallback)) (map (labelled_line p) p.statements)
       (option_to_list (option_map (default_content p.statements) p.fallback)) (map (statement_content p.statements) p.statements)
       (said_default p.fallback h.fallback)
       (said_statements p.statements e))

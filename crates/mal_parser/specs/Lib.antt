@@ -1,5 +1,5 @@
 pub mod Program
-pub mod Canonical
+pub mod ProgramText
 pub mod Labels
 pub mod Text
 pub mod Reading

@@ -1,9 +1,9 @@
--- Computes which program a text spells, or its first refusal (`Spells` and `IsRefused` of `Text`): its lines one after the other, then its labels.
+-- Computes which program a text spells, or its first refusal (`SpellsProgram` and `IsRefused` of `Text`): its lines one after the other, then its labels.
 use Rattle.std.specs.Prelude.{◌≡◌, ◌<◌, ◌≤◌, ◌↔◌, ℕ, ◌-◌, ◌&&◌, Bool, true, false, not, List, [], ◌∷◌, ◌++◌, Option, Some, None, Result, Ok, Err, if◌then◌else◌, nat_le, min, length, map, find, slice_get, is_some, option_map, option_and_then, unwrap_or, codes, All, IsTrue, IfSome}
 use Rattle.std.specs.List.{position}
 use Rattle.std.specs.Str.{bytes_eq}
 use Rattle.machine_words.specs.declared.machine.Machine.{Machine}
-use Rattle.micro_word.specs.Canonical.{is_part}
+use Rattle.micro_word.specs.Words.{is_part}
 use Rattle.mal_tokens.specs.declared.token.Token.{Token}
 use Rattle.mal_tokens.specs.Reading.{read}
 use Rattle.mal_tokens.specs.Tokens as tokens
@@ -17,7 +17,7 @@ use Rattle.mal_line.specs.declared.next.Next.{Next}
 use Rattle.mal_line.specs.declared.next.Next.TheVariants as nexts
 use Rattle.mal_line.specs.Lines as lines
 use Rattle.mal_line.specs.Lines.{HasPart}
-use Rattle.mal_line.specs.Reading.{line_of}
+use Rattle.mal_line.specs.Reading.{line_from}
 use Rattle.mal_line.specs.Targets.{by_targets}
 use Rattle.mal_parser.specs.declared.error.MalError.{MalError}
 use Rattle.mal_parser.specs.declared.error.MalError.TheVariants as errors
@@ -30,10 +30,10 @@ use Rattle.mal_parser.specs.Text.{fallbacks, falls, fixes, is_memory, statements
 
 -- a line is read as what it spells, as the crates below say by their laws
 pub record ReadsLines : Type 0 where
-  pub tokens_read : (line : List ℕ) (ts : List Token) → (read line ≡ Some ts) ↔ tokens.Spells line ts
-  pub said : (machine : Machine) (ts : List Token) (content : Content) → (line_of machine ts ≡ Ok content) ↔ lines.Spells machine ts content
-  pub refused : (machine : Machine) (ts : List Token) (fault : LineFault) → (line_of machine ts ≡ Err fault) ↔ lines.IsRefused machine ts fault
-  pub stands : (machine : Machine) (ts : List Token) (content : Content) → lines.Spells machine ts content → HasPart machine content
+  pub tokens_read : (line : List ℕ) (ts : List Token) → (read line ≡ Some ts) ↔ tokens.SpellsTokens line ts
+  pub said : (machine : Machine) (ts : List Token) (content : Content) → (line_from machine ts ≡ Ok content) ↔ lines.SpellsLine machine ts content
+  pub refused : (machine : Machine) (ts : List Token) (fault : LineFault) → (line_from machine ts ≡ Err fault) ↔ lines.IsRefused machine ts fault
+  pub stands : (machine : Machine) (ts : List Token) (content : Content) → lines.SpellsLine machine ts content → HasPart machine content
 
 -- ---- computes what the lines say together (`SayAll` and `IsFine`), or which line is refused (`IsRefusedAtLine`)
 
@@ -78,7 +78,7 @@ placed_at k (Err fault) = Err (at_line k fault)
 
 abbrev pub said_by : Machine → ℕ → Option (List Token) → Result Content MalError
 said_by machine k None = Err (errors.BadToken k)
-said_by machine k (Some ts) = placed_at k (line_of machine ts)
+said_by machine k (Some ts) = placed_at k (line_from machine ts)
 
 -- what line `k` says
 abbrev pub content_at : Machine → ℕ → List ℕ → Result Content MalError
@@ -163,8 +163,8 @@ number_of ds label = position (is_labelled label) ds
 abbrev pub target : List Draft → List ℕ → ℕ
 target ds label = unwrap_or (number_of ds label) 0
 
-abbrev pub next_of : List Draft → Next (List ℕ) → Next ℕ
-next_of ds next = by_targets (target ds) next
+abbrev pub resolved_next : List Draft → Next (List ℕ) → Next ℕ
+resolved_next ds next = by_targets (target ds) next
 
 abbrev pub address_at : List Fix → List ℕ → Option ℕ
 address_at fs label = option_map (λ f. f.address) (find (λ f. bytes_eq f.label label) fs)
@@ -174,7 +174,7 @@ abbrev pub fixed_of : List Fix → Option (List ℕ) → Option ℕ
 fixed_of fs label = option_and_then (address_at fs) label
 
 abbrev pub resolved : List Draft → List Fix → Draft → Statement
-resolved ds fs d = record { label = d.label; line = d.line; part = d.parts.part; next = next_of ds d.parts.next; fixed = fixed_of fs d.label }
+resolved ds fs d = record { label = d.label; line = d.line; part = d.parts.part; next = resolved_next ds d.parts.next; fixed = fixed_of fs d.label }
 
 abbrev pub program_with : Sketch → ℕ → Program
 program_with s entry = record {
@@ -200,5 +200,5 @@ by_unknown s (Some line) = Err (errors.UnknownLabel line)
 by_unknown s None = by_falling s (first_falling s)
 
 -- the program, or the first refusal of the whole source
-unfoldable pub program_of : Sketch → Result Program MalError
-program_of s = by_unknown s (first_unknown s)
+unfoldable pub resolved_program : Sketch → Result Program MalError
+resolved_program s = by_unknown s (first_unknown s)

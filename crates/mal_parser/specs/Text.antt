@@ -23,15 +23,15 @@ use Rattle.mal_parser.specs.Program.{IsProgram, label_at, Program}
 -- ---- what the lines say
 
 -- the line spells this on the machine
-pub record Says (machine : Machine) (line : List ℕ) (content : Content) : Type 0 where
+pub record SaysLine (machine : Machine) (line : List ℕ) (content : Content) : Type 0 where
   pub sequence : List Token
-  pub spelled : tokens.Spells line sequence
-  pub means : lines.Spells machine sequence content
+  pub spelled : tokens.SpellsTokens line sequence
+  pub means : lines.SpellsLine machine sequence content
 
 -- so does each line, one by one
 abbrev pub SayAll : Machine → List (List ℕ) → List Content → Type 0
 SayAll machine [] [] = Unit {0}
-SayAll machine (line ∷ ls) (content ∷ cs) = Says machine line content × SayAll machine ls cs
+SayAll machine (line ∷ ls) (content ∷ cs) = SaysLine machine line content × SayAll machine ls cs
 SayAll machine _ _ = ⊥
 
 -- the statements, in order, of lines that are counted from this one on
@@ -111,7 +111,7 @@ pub record IsProgramOf (machine : Machine) (cs : List Content) (p : Program) : T
   pub whole : IsProgram p
 
 -- a text spells a program where its lines, one by one, spell the statements, and each name stands for the number of the statement with that label
-pub record Spells (machine : Machine) (text : List ℕ) (p : Program) : Type 0 where
+pub record SpellsProgram (machine : Machine) (text : List ℕ) (p : Program) : Type 0 where
   pub content : List Content
   pub says : SayAll machine (contents text) content
   pub fine : IsFine content
@@ -137,17 +137,17 @@ IsOneTooMany cs _ = ⊥
 
 -- the tokens of the line have this refusal
 abbrev pub HasFault : Machine → List ℕ → LineFault → Type 0
-HasFault machine line fault = (ts : List Token) × tokens.Spells line ts × lines.IsRefused machine ts fault
+HasFault machine line fault = (ts : List Token) × tokens.SpellsTokens line ts × lines.IsRefused machine ts fault
 
 -- behind lines that say this, line `k` has the refusal, and none that is looked for before it
 abbrev pub IsRefusedBehind : Machine → List Content → ℕ → List ℕ → MalError → Type 0
-IsRefusedBehind machine cs k line (errors.BadToken n) = (n ≡ k) × ((ts : List Token) → tokens.Spells line ts → ⊥)
+IsRefusedBehind machine cs k line (errors.BadToken n) = (n ≡ k) × ((ts : List Token) → tokens.SpellsTokens line ts → ⊥)
 IsRefusedBehind machine cs k line (errors.BadStatement n) = (n ≡ k) × HasFault machine line faults.BadStatement
 IsRefusedBehind machine cs k line (errors.WrongMachine n) = (n ≡ k) × HasFault machine line faults.WrongMachine
 IsRefusedBehind machine cs k line (errors.NoSuchOperation n) = (n ≡ k) × HasFault machine line faults.NoSuchOperation
-IsRefusedBehind machine cs k line (errors.DuplicateLabel n) = (n ≡ k) × ((c : Content) × Says machine line c × IsDuplicate cs c)
-IsRefusedBehind machine cs k line (errors.BadFix n) = (n ≡ k) × ((c : Content) × Says machine line c × IsBadFix cs c)
-IsRefusedBehind machine cs k line (errors.TooMany n) = (n ≡ k) × ((c : Content) × Says machine line c × IsOneTooMany cs c)
+IsRefusedBehind machine cs k line (errors.DuplicateLabel n) = (n ≡ k) × ((c : Content) × SaysLine machine line c × IsDuplicate cs c)
+IsRefusedBehind machine cs k line (errors.BadFix n) = (n ≡ k) × ((c : Content) × SaysLine machine line c × IsBadFix cs c)
+IsRefusedBehind machine cs k line (errors.TooMany n) = (n ≡ k) × ((c : Content) × SaysLine machine line c × IsOneTooMany cs c)
 IsRefusedBehind machine cs k line _ = ⊥
 
 -- of lines that are counted from `k` on, line `n` says what passes the test with what the lines behind it say

@@ -1,10 +1,10 @@
 ghost use Rattle.std.specs.Prelude.{◌≡◌, ℕ, List};
 ghost use Rattle.machine_words.specs.declared.machine.Machine.{Machine};
 ghost use Rattle.mal_parser.specs.declared.error.MalError.{MalError};
-ghost use Rattle.mal_parser.specs.Canonical.{canonical_text, relined};
+ghost use Rattle.mal_parser.specs.ProgramText.{canonical_text, relined};
 ghost use Rattle.mal_parser.specs.Program.{IsProgram, Program};
 ghost use Rattle.mal_parser.specs.Reading.{ReadsLines};
-ghost use Rattle.mal_parser.specs.Text.{IsRefused, Spells};
+ghost use Rattle.mal_parser.specs.Text.{IsRefused, SpellsProgram};
 
 use crate::source::SourceReader;
 use mal_print::lines_spell_what_is_printed;
@@ -20,8 +20,8 @@ pub(crate) fn reads_lines()
 
 /// A text spells at most one program, and not also a refusal, of which it has at most one.
 pub fn reads_what_is_spelled()
-    ensures one { (machine : Machine) (text : List ℕ) (p q : Program) → Spells machine text p → Spells machine text q → p ≡ q }
-    ensures apart { (machine : Machine) (text : List ℕ) (p : Program) (e : MalError) → Spells machine text p → IsRefused machine text e → ⊥ }
+    ensures one { (machine : Machine) (text : List ℕ) (p q : Program) → SpellsProgram machine text p → SpellsProgram machine text q → p ≡ q }
+    ensures apart { (machine : Machine) (text : List ℕ) (p : Program) (e : MalError) → SpellsProgram machine text p → IsRefused machine text e → ⊥ }
     ensures first { (machine : Machine) (text : List ℕ) (e f : MalError) → IsRefused machine text e → IsRefused machine text f → e ≡ f }
 {
     reads_lines();
@@ -30,7 +30,7 @@ pub fn reads_what_is_spelled()
 
 /// The canonical text of a program spells that program, with the lines of that text as its line numbers.
 pub fn canonical_text_spells_its_program()
-    ensures { (p : Program) → IsProgram p → Spells p.machine (canonical_text p) (relined p) }
+    ensures { (p : Program) → IsProgram p → SpellsProgram p.machine (canonical_text p) (relined p) }
 {
     lines_spell_what_is_printed();
 }

@@ -1,11 +1,11 @@
 ghost use Rattle.std.specs.Prelude.{◌≡◌, ◌⊎◌, ◌<◌, ◌^◌, length, IfOk, IfErr, Ok, Err, false};
 ghost use Rattle.mal_parser.specs.Program.{Program};
-ghost use Rattle.mal_parser.specs.Text.{IsRefused, is_memory, Spells};
+ghost use Rattle.mal_parser.specs.Text.{IsRefused, is_memory, SpellsProgram};
 
 use crate::error::MalError;
 use crate::laws::{reads_lines, reads_what_is_spelled};
 use crate::program::MalProgram;
-use crate::resolve::program_of;
+use crate::resolve::resolved_program;
 use crate::source::SourceReader;
 use micro_word::Machine;
 use source_text::{Reader, read_lines};
@@ -13,13 +13,13 @@ use std::alloc::Global;
 
 fn read(alloc: Global, machine: Machine, text: &[u8]) -> Result<MalProgram, MalError>
     requires { length text.now < 2 ^ 32 }
-    ensures ok { IfOk result (Spells machine text.now) }
+    ensures ok { IfOk result (SpellsProgram machine text.now) }
     ensures err { IfErr result (λ e. is_memory e ≡ false → IsRefused machine text.now e) }
 {
     reads_lines();
     let mut reader = SourceReader::new(alloc, machine);
     match read_lines(&mut reader, text) {
-        Ok(()) => program_of(&reader),
+        Ok(()) => resolved_program(&reader),
         Err(refusal) => Err(refusal),
     }
 }
@@ -28,9 +28,9 @@ fn read(alloc: Global, machine: Machine, text: &[u8]) -> Result<MalProgram, MalE
 /// line has one, that of all lines together.
 pub fn parse_mal(alloc: Global, machine: Machine, text: &[u8]) -> Result<MalProgram, MalError>
     requires { length text.now < 2 ^ 32 }
-    ensures ok { IfOk result (Spells machine text.now) }
+    ensures ok { IfOk result (SpellsProgram machine text.now) }
     ensures err { IfErr result (λ e. is_memory e ≡ false → IsRefused machine text.now e) }
-    ensures spelled { (p : Program) → Spells machine text.now p → (result ≡ Ok p) ⊎ (result ≡ Err MalError.OutOfMemory) }
+    ensures spelled { (p : Program) → SpellsProgram machine text.now p → (result ≡ Ok p) ⊎ (result ≡ Err MalError.OutOfMemory) }
     ensures refused { (e : MalError) → IsRefused machine text.now e → (result ≡ Err e) ⊎ (result ≡ Err MalError.OutOfMemory) }
 {
     reads_what_is_spelled();

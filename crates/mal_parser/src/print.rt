@@ -1,9 +1,9 @@
 ghost use Rattle.std.specs.Prelude.{◌≡◌, ◌≤◌, ◌<◌, ◌+◌, ◌++◌, ◌∷◌, [], length, map, slice_get, option_map, option_and_then, option_to_list, IsSome, IsTrue, Some, IfOk, OnOk};
 ghost use Rattle.std.specs.List.{filter_map};
-ghost use Rattle.micro_word.specs.Canonical.{is_next, is_valid};
+ghost use Rattle.micro_word.specs.Words.{is_next, is_valid};
 ghost use Rattle.mal_parser.specs.Program.{HasTargets, IsLabelled, IsProgram};
-ghost use Rattle.mal_parser.specs.Canonical.{by_addresses, by_label, by_labels, canonical_text, default_line, fallback_text, fix_line, line_of, parts_text, placed_text, relined, statement_text, text_of};
-ghost use Rattle.mal_parser.specs.Text.{Spells};
+ghost use Rattle.mal_parser.specs.ProgramText.{by_addresses, by_label, by_labels, canonical_text, default_line, fallback_text, fix_line, labelled_line, parts_text, placed_text, relined, statement_text, text_of};
+ghost use Rattle.mal_parser.specs.Text.{SpellsProgram};
 
 use crate::laws::canonical_text_spells_its_program;
 use crate::program::MalProgram;
@@ -151,7 +151,7 @@ fn add_default(program: &MalProgram, text: &mut Vec<u8>) -> Result<(), AllocErro
 }
 
 fn add_statements(program: &MalProgram, text: &mut Vec<u8>) -> Result<(), AllocError>
-    ensures text { OnOk result (text.new.items ≡ text.old.items ++ text_of (map (line_of program.now) program.now.statements)) }
+    ensures text { OnOk result (text.new.items ≡ text.old.items ++ text_of (map (labelled_line program.now) program.now.statements)) }
     ensures program { IsProgram program.now }
 {
     for s in 0..program.len() {
@@ -165,7 +165,7 @@ fn add_statements(program: &MalProgram, text: &mut Vec<u8>) -> Result<(), AllocE
 /// The canonical text of a program, which spells that program, with the lines of that text as its line numbers.
 pub fn print_mal(alloc: Global, program: &MalProgram) -> Result<Vec<u8>, AllocError>
     ensures text { IfOk result (λ text. text.items ≡ canonical_text program.now) }
-    ensures spells { IfOk result (λ text. Spells program.now.machine text.items (relined program.now)) }
+    ensures spells { IfOk result (λ text. SpellsProgram program.now.machine text.items (relined program.now)) }
 {
     canonical_text_spells_its_program();
     let mut text = Vec::new(alloc);

@@ -3,7 +3,7 @@ ghost use Rattle.std.specs.List.{position};
 ghost use Rattle.std.specs.Str.{bytes_eq};
 ghost use Rattle.mal_parser.specs.Labels.{has_label, is_labelled};
 ghost use Rattle.mal_parser.specs.Text.{falls};
-ghost use Rattle.mal_parser.specs.Reading.{address_at, earlier, FailsBy, falling, first_falling, first_unknown, fixed_of, IsSound, knows, main1, next_of, number_of, program_of, resolved, target, unknown_draft, unknown_fix, unknown_in};
+ghost use Rattle.mal_parser.specs.Reading.{address_at, earlier, FailsBy, falling, first_falling, first_unknown, fixed_of, IsSound, knows, main1, resolved_next, number_of, resolved_program, resolved, target, unknown_draft, unknown_fix, unknown_in};
 
 use crate::error::MalError;
 use crate::program::MalProgram;
@@ -107,9 +107,9 @@ fn target(drafts: &[Draft], label: &Name) -> u16
     number_of(drafts, label).unwrap_or(0) as u16
 }
 
-fn next_of(drafts: &[Draft], next: &Next<Name>) -> MalNext
+fn resolved_next(drafts: &[Draft], next: &Next<Name>) -> MalNext
     requires { length drafts.now ≤ 512 }
-    ensures { result ≡ next_of drafts.now next.now }
+    ensures { result ≡ resolved_next drafts.now next.now }
 {
     match next {
         Next::Following => Next::Following,
@@ -149,7 +149,7 @@ fn resolved(drafts: &[Draft], fixes: &[Fix], draft: &Draft) -> Statement
         label: draft.label,
         line: draft.line,
         part: draft.parts.part,
-        next: next_of(drafts, &draft.parts.next),
+        next: resolved_next(drafts, &draft.parts.next),
         fixed: fixed_of(fixes, &draft.label),
     }
 }
@@ -200,11 +200,11 @@ fn main1() -> Name
 }
 
 /// The program that the lines make, or the first refusal of the whole source.
-#[tactic(auto, unfolding(crate::specs::Reading::program_of))]
-pub(crate) fn program_of(reader: &SourceReader) -> Result<MalProgram, MalError>
+#[tactic(auto, unfolding(crate::specs::Reading::resolved_program))]
+pub(crate) fn resolved_program(reader: &SourceReader) -> Result<MalProgram, MalError>
     requires { IsSound reader.now }
-    ensures ok { IfOk result (λ p. program_of reader.now ≡ Ok p) }
-    ensures err { IfErr result (λ e. FailsBy e (program_of reader.now)) }
+    ensures ok { IfOk result (λ p. resolved_program reader.now ≡ Ok p) }
+    ensures err { IfErr result (λ e. FailsBy e (resolved_program reader.now)) }
 {
     if let Some(line) = first_unknown(reader) {
         return Err(MalError::UnknownLabel(line));

@@ -7,7 +7,7 @@ ghost use Rattle.mal_parser.specs.Reading.{at_line, content_at, FailsBy};
 
 use crate::error::MalError;
 use crate::laws::reads_lines;
-use mal_line::{Content, LineFault, Parts, line_of};
+use mal_line::{Content, LineFault, Parts, line_from};
 use mal_tokens::tokens_of;
 use mic_base::Name;
 use micro_word::Machine;
@@ -199,7 +199,7 @@ fn content_at(
 {
     reads_lines();
     match tokens_of(alloc, line) {
-        Ok(tokens) => match line_of(machine, &tokens) {
+        Ok(tokens) => match line_from(machine, &tokens) {
             Ok(content) => Ok(content),
             Err(fault) => Err(at_line(fault, number)),
         },

@@ -26,7 +26,7 @@ use Rattle.mal_line.specs.Targets.{EachTarget}
 use Rattle.mal_print.specs.declared.target.Target.{Target}
 use Rattle.mal_print.specs.declared.target.Target.TheVariants as targets
 use Rattle.mal_print.specs.Pieces.{behind_space, number, Piece, sign, spaced, word}
-use Rattle.mal_print.specs.Canonical.{chain, chain_part, dest_pieces, dests_of, dispatch_part, else_part, expression, fallback, fetch_part, fix, goto_part, heads, if_part, is_absent, joined_behind, lone, memory_part, next_parts, parts, pieces, plus_one, shifted, side, statement, target, value}
+use Rattle.mal_print.specs.StatementText.{chain, chain_part, dest_pieces, dests_of, dispatch_part, else_part, expression, fallback, fetch_part, fix, goto_part, heads, if_part, is_absent, joined_behind, or_semicolon, memory_part, next_parts, parts, pieces, plus_one, shifted, side, statement, target, value}
 use Rattle.mal_print.proofs.Spelling.{apart, apart_any, apart_append, apart_spaced, apart_weak, AreLexemes, lexemes_append, lexemes_spaced}
 use Rattle.mal_print.proofs.Halves.{and_parts}
 
@@ -191,7 +191,7 @@ fine_joined (p ∷ ps) h = fine_append false p (joined_behind true ps) h.0 (fine
 pub fine_pieces : (m : Machine) (part : Part) (next : Next Target) → AreLabels next → IsFine false (pieces m part next)
 fine_pieces m part next h = fine_joined (parts m part next) (fine_parts m part next h)
 
-fine_lone : (ps : List Piece) → IsFine false ps → IsFine false (lone ps)
+fine_lone : (ps : List Piece) → IsFine false ps → IsFine false (or_semicolon ps)
 fine_lone [] h = record { apart = refl; lexemes = (refl, tt) }
 fine_lone (p ∷ ps) h = h
 

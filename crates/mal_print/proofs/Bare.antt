@@ -10,7 +10,7 @@ use Rattle.mal_line.specs.declared.next.Next.{Next}
 use Rattle.mal_line.specs.declared.next.Next.TheVariants as nexts
 use Rattle.mal_print.specs.declared.target.Target.{Target}
 use Rattle.mal_print.specs.Pieces.{behind_space, Piece, printed}
-use Rattle.mal_print.specs.Canonical.{chain, dest_pieces, dests_of, fetch_part, has_parts, heads, is_absent, is_access, is_led, joined_behind, lone, memory_part, next_parts, pieces, value}
+use Rattle.mal_print.specs.StatementText.{chain, dest_pieces, dests_of, fetch_part, has_parts, heads, is_absent, is_access, is_led, joined_behind, or_semicolon, memory_part, next_parts, pieces, value}
 
 abbrev pub Bare : List Piece → Type 0
 Bare [] = ⊥
@@ -63,15 +63,15 @@ bare_spaced : (ps : List Piece) → Bare ps → printed (behind_space ps) ≡ 32
 bare_spaced [] b = absurd b
 bare_spaced (p ∷ ps) b = rw b refl
 
-bare_lone : (ps : List Piece) → Bare ps → lone ps ≡ ps
+bare_lone : (ps : List Piece) → Bare ps → or_semicolon ps ≡ ps
 bare_lone [] b = absurd b
 bare_lone (p ∷ ps) b = refl
 
-pub lone_some : (m : Machine) (part : Part) (next : Next Target) → has_parts part next ≡ true → printed (lone (pieces m part next)) ≡ printed (pieces m part next)
-lone_some m part next h = ap printed (bare_lone (pieces m part next) (bare_pieces m part next h))
+pub or_semicolon_some : (m : Machine) (part : Part) (next : Next Target) → has_parts part next ≡ true → printed (or_semicolon (pieces m part next)) ≡ printed (pieces m part next)
+or_semicolon_some m part next h = ap printed (bare_lone (pieces m part next) (bare_pieces m part next h))
 
-pub lone_none : (m : Machine) (part : Part) (next : Next Target) → has_parts part next ≡ false → printed (lone (pieces m part next)) ≡ 59 ∷ []
-lone_none m part next h = ap (λ ps. printed (lone ps)) (none_pieces m part next h)
+pub or_semicolon_none : (m : Machine) (part : Part) (next : Next Target) → has_parts part next ≡ false → printed (or_semicolon (pieces m part next)) ≡ 59 ∷ []
+or_semicolon_none m part next h = ap (λ ps. printed (or_semicolon ps)) (none_pieces m part next h)
 
 pub spaced_some : (m : Machine) (part : Part) (next : Next Target) → has_parts part next ≡ true → printed (behind_space (pieces m part next)) ≡ 32 ∷ printed (pieces m part next)
 spaced_some m part next h = bare_spaced (pieces m part next) (bare_pieces m part next h)

@@ -15,7 +15,7 @@ use Rattle.micro_word.specs.declared.statement.Mem.{Mem}
 use Rattle.micro_word.specs.declared.statement.Test.TheVariants as tests
 use Rattle.micro_word.specs.declared.statement.Part.{Part}
 use Rattle.micro_word.specs.Coding.{row}
-use Rattle.micro_word.specs.Canonical.{fits_side, has_operation, is_mixed, is_part, may_be_a, may_be_b, may_fetch}
+use Rattle.micro_word.specs.Words.{fits_side, has_operation, is_mixed, is_part, may_be_a, may_be_b, may_fetch}
 use Rattle.mal_tokens.specs.declared.word.Word.{Word}
 use Rattle.mal_tokens.specs.declared.word.Word.TheVariants as words
 use Rattle.mal_tokens.specs.declared.sign.Sign.TheVariants as signs
@@ -30,7 +30,7 @@ use Rattle.mal_line.specs.Expressions.{fits, source_word, spelling, tail_with}
 use Rattle.mal_line.specs.Chains.{dest_bits, dest_tokens, is_dest, is_expr, is_expr_word, is_filled, IsAssignment, tail_tokens}
 use Rattle.mal_print.specs.declared.target.Target.{Target}
 use Rattle.mal_print.specs.Pieces.{behind_space, number, Piece, sign, spaced, tokens_of, word}
-use Rattle.mal_print.specs.Canonical.{all_dests, chain, dest_pieces, dests_of, expression, has_dest, heads, is_absent, is_nothing, is_unshifted, is_zero, plus_one, shifted, side, tested, value}
+use Rattle.mal_print.specs.StatementText.{all_dests, chain, dest_pieces, dests_of, expression, has_dest, heads, is_absent, is_nothing, is_unshifted, is_zero, plus_one, shifted, side, tested, value}
 use Rattle.mal_print.proofs.Halves.{and_parts}
 
 pub tokens_append : (ps qs : List Piece) → tokens_of (ps ++ qs) ≡ tokens_of ps ++ tokens_of qs
@@ -271,7 +271,7 @@ chain_is m part next h = record {
   are = heads_dests (dests_of part.dests) next (filtered is_dest (has_dest part.dests) all_dests refl);
   some = heads_filled (dests_of part.dests) next;
   expr = spelling_expr part.op part.a part.b;
-  filled = filled_spelling m part.op part.a part.b h.a h.b;
+  not_empty = filled_spelling m part.op part.a part.b h.a h.b;
   spelled = chain_tokens part next;
   bits = sym (heads_bits (dests_of part.dests) next ∙ mask part.dests h.dests);
   coded = record { fitting = operation_fits m part h; spelled = inl refl; shifted = refl };

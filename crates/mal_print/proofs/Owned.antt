@@ -15,7 +15,7 @@ use Rattle.micro_word.specs.declared.statement.Shift.TheVariants as shifts
 use Rattle.micro_word.specs.declared.statement.Test.TheVariants as tests
 use Rattle.micro_word.specs.declared.statement.Part.{Part}
 use Rattle.micro_word.specs.Coding.{row}
-use Rattle.micro_word.specs.Canonical.{fits_side, may_be_a, may_be_b, may_fetch}
+use Rattle.micro_word.specs.Words.{fits_side, may_be_a, may_be_b, may_fetch}
 use Rattle.mal_tokens.specs.declared.word.Word.{Word}
 use Rattle.mal_tokens.specs.declared.word.Word.TheVariants as words
 use Rattle.mal_tokens.specs.declared.sign.Sign.TheVariants as signs
@@ -29,7 +29,7 @@ use Rattle.mal_line.specs.Chains.{dest_tokens, tail_tokens}
 use Rattle.mal_line.specs.Lines.{is_foreign, is_foreign_word, names_foreign}
 use Rattle.mal_print.specs.declared.target.Target.{Target}
 use Rattle.mal_print.specs.Pieces.{behind_space, Piece, tokens_of}
-use Rattle.mal_print.specs.Canonical.{all_dests, chain, chain_part, dests_of, fetch_part, has_dest, heads, is_absent, joined_behind, labelled, lone, memory_part, next_parts, parts, pieces, tested}
+use Rattle.mal_print.specs.StatementText.{all_dests, chain, chain_part, dests_of, fetch_part, has_dest, heads, is_absent, joined_behind, labelled, or_semicolon, memory_part, next_parts, parts, pieces, tested}
 use Rattle.mal_print.proofs.Chained.{chain_tokens, filtered, Fits, tokens_append, tokens_spaced}
 use Rattle.mal_print.proofs.Halves.{and_parts}
 
@@ -202,6 +202,6 @@ own_joined m (p ∷ ps) h = ap (names_foreign m) (tokens_append p (joined_behind
 pub own_pieces : (m : Machine) (part : Part) (next : Next (List ℕ)) → Fits m part → are_own m (tokens_of (pieces m part (labelled next)))
 own_pieces m part next f = own_joined m (parts m part (labelled next)) (own_parts m part next f)
 
-pub own_lone : (m : Machine) (ps : List Piece) → are_own m (tokens_of ps) → are_own m (tokens_of (lone ps))
+pub own_lone : (m : Machine) (ps : List Piece) → are_own m (tokens_of ps) → are_own m (tokens_of (or_semicolon ps))
 own_lone m [] h = refl
 own_lone m (p ∷ ps) h = h

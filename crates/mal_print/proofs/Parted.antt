@@ -27,7 +27,7 @@ use Rattle.mal_line.specs.Statements as statements
 use Rattle.mal_line.specs.Statements.{AreParts, AreTree, assign, assignments, counted, fetch_count, fetches, IsJumpLast, is_semicolon, jump, jumps_of, Kind, listed, listed_mem, memories, memory, nothing}
 use Rattle.mal_print.specs.declared.target.Target.{Target}
 use Rattle.mal_print.specs.Pieces.{behind_space, Piece, tokens_of}
-use Rattle.mal_print.specs.Canonical.{chain, chain_part, dest_pieces, dests_of, fetch_part, heads, is_absent, joined_behind, labelled, lone, memory_part, next_parts, parts, pieces, value}
+use Rattle.mal_print.specs.StatementText.{chain, chain_part, dest_pieces, dests_of, fetch_part, heads, is_absent, joined_behind, labelled, or_semicolon, memory_part, next_parts, parts, pieces, value}
 use Rattle.mal_print.proofs.Apart.{all_append}
 use Rattle.mal_print.proofs.Chained.{assignment_of, chain_is, chain_tokens, Fits, spelling_expr, tokens_append, tokens_spaced}
 use Rattle.mal_print.proofs.Halves.{and_parts}
@@ -201,17 +201,17 @@ tree_is m part next h = go (parts m part (labelled next)) (whole_parts m part ne
     go (p ∷ ps) w t = tree_some m (tree_for part next) p ps w t
 
 -- `;` stands where there is nothing
-pub lone_is : (m : Machine) (part : Part) (next : Next (List ℕ)) → Fits m part → AreTree m (tokens_of (lone (pieces m part (labelled next)))) (tree_for part next)
-lone_is m part next h = go (parts m part (labelled next)) (whole_parts m part next) (tallied_parts m part next h)
+pub or_semicolon_is : (m : Machine) (part : Part) (next : Next (List ℕ)) → Fits m part → AreTree m (tokens_of (or_semicolon (pieces m part (labelled next)))) (tree_for part next)
+or_semicolon_is m part next h = go (parts m part (labelled next)) (whole_parts m part next) (tallied_parts m part next h)
   where
-    some : (p : List Piece) (rest : List Piece) (tree : Tree) → (p ≡ [] → ⊥) → AreTree m (tokens_of (p ++ rest)) tree → AreTree m (tokens_of (lone (p ++ rest))) tree
+    some : (p : List Piece) (rest : List Piece) (tree : Tree) → (p ≡ [] → ⊥) → AreTree m (tokens_of (p ++ rest)) tree → AreTree m (tokens_of (or_semicolon (p ++ rest))) tree
     some [] rest tree n a = absurd (n refl)
     some (x ∷ p) rest tree n a = a
 
-    go : (ps : List (List Piece)) → AreWhole ps → Tallied m (map tokens_of ps) (tree_for part next) → AreTree m (tokens_of (lone (joined_behind false ps))) (tree_for part next)
+    go : (ps : List (List Piece)) → AreWhole ps → Tallied m (map tokens_of ps) (tree_for part next) → AreTree m (tokens_of (or_semicolon (joined_behind false ps))) (tree_for part next)
     go [] w t = tree_empty m (tree_for part next) t
     go (p ∷ ps) w t = some p (joined_behind true ps) (tree_for part next) w.1.0 (tree_some m (tree_for part next) p ps w t)
 
-pub lone_some : (ps : List Piece) → tokens_of (lone ps) ≡ [] → ⊥
-lone_some [] e = absurd (cc)
-lone_some (p ∷ ps) e = absurd (cc)
+pub or_semicolon_some : (ps : List Piece) → tokens_of (or_semicolon ps) ≡ [] → ⊥
+or_semicolon_some [] e = absurd (cc)
+or_semicolon_some (p ∷ ps) e = absurd (cc)

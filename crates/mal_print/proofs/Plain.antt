@@ -13,7 +13,7 @@ use Rattle.mal_tokens.specs.declared.token.Token.TheVariants as tokens
 use Rattle.mal_tokens.specs.Words.{sign_text, word_text}
 use Rattle.mal_tokens.specs.Tokens.{IsLexeme}
 use Rattle.mal_print.specs.Pieces.{Piece, printed}
-use Rattle.mal_print.specs.Canonical.{is_plain}
+use Rattle.mal_print.specs.StatementText.{is_plain}
 use Rattle.mal_print.proofs.Apart.{all_append}
 use Rattle.mal_print.proofs.Spelling.{AreLexemes}
 use Rattle.mal_print.proofs.Halves.{and_parts, name_parts}

@@ -9,7 +9,7 @@ use Rattle.mal_tokens.specs.declared.token.Token.TheVariants as tokens
 use Rattle.mal_tokens.specs.declared.sign.Sign.{Sign}
 use Rattle.mal_tokens.specs.declared.sign.Sign.TheVariants as signs
 use Rattle.mal_tokens.specs.Words.{sign_text}
-use Rattle.mal_tokens.specs.Tokens.{IsLexeme, Spells}
+use Rattle.mal_tokens.specs.Tokens.{IsLexeme, SpellsTokens}
 use Rattle.mal_print.specs.Pieces.{behind_space, Piece, printed, tokens_of}
 
 -- a token that ends, or may begin, with a letter or a digit
@@ -90,7 +90,7 @@ begins_fine (p ∷ ps) h l = go p.spaced (is_wordy p.token) refl (both_true (not
     go false true e h = absurd (cc)
     go false false e h = bare_begins p.token p.text (printed ps) e l.0
 
-pub prints : (after : Bool) (ps : List Piece) → apart after ps ≡ true → AreLexemes ps → Spells (printed ps) (tokens_of ps)
+pub prints : (after : Bool) (ps : List Piece) → apart after ps ≡ true → AreLexemes ps → SpellsTokens (printed ps) (tokens_of ps)
 prints after [] h l = refl
 prints after (p ∷ ps) h l = (cond p.spaced (32 ∷ []) [], p.text, printed ps, refl, blank p.spaced, l.0, ends (is_wordy p.token) refl behind, prints (is_wordy p.token) ps behind l.1)
   where

@@ -4,7 +4,7 @@ use Rattle.std.specs.Prelude.{IfSome, option_map, pos, ◌<◌}
 use Rattle.machine_words.specs.declared.machine.Machine.{Machine}
 use Rattle.machine_words.specs.declared.machine.Machine.TheVariants.{Mic1, Mic2}
 use Rattle.micro_word.specs.declared.statement.Part.{Part}
-use Rattle.micro_word.specs.Canonical.{is_part}
+use Rattle.micro_word.specs.Words.{is_part}
 use Rattle.mal_tokens.specs.declared.sign.Sign.TheVariants as signs
 use Rattle.mal_tokens.specs.declared.token.Token.{Token}
 use Rattle.mal_tokens.specs.declared.token.Token.TheVariants as tokens
@@ -13,14 +13,14 @@ use Rattle.mal_line.specs.declared.content.Content.TheVariants as contents
 use Rattle.mal_line.specs.declared.line.Form.TheVariants as forms
 use Rattle.mal_line.specs.declared.next.Next.{Next}
 use Rattle.mal_line.specs.declared.next.Next.TheVariants as nexts
-use Rattle.mal_line.specs.Lines.{names_foreign, next_of, part_by, part_of, parts_by, parts_of, Spells, with_access}
+use Rattle.mal_line.specs.Lines.{names_foreign, next_by_jump, part_by, part_of, parts_by, parts_of, SpellsLine, with_access}
 use Rattle.mal_print.specs.Pieces.{printed, tokens_of}
-use Rattle.mal_print.specs.Canonical.{fallback, fix, HasLabels, is_absent, labelled, pieces, statement}
+use Rattle.mal_print.specs.StatementText.{fallback, fix, HasLabels, is_absent, labelled, pieces, statement}
 use Rattle.mal_tokens.specs.Words.{IsLabelText}
 use Rattle.mal_print.proofs.Apart.{AreLabels, ReadsHex, fine_fallback, fine_fix, fine_statement}
 use Rattle.mal_print.proofs.Chained.{absent_bare, Fits, part_fits, tokens_spaced}
 use Rattle.mal_print.proofs.Owned.{own_lone, own_pieces}
-use Rattle.mal_print.proofs.Parted.{assigned_by, jump_of, lone_is, lone_some, tree_for, tree_is}
+use Rattle.mal_print.proofs.Parted.{assigned_by, jump_of, or_semicolon_is, or_semicolon_some, tree_for, tree_is}
 use Rattle.mal_print.proofs.Plain.{plain_printed}
 use Rattle.mal_print.proofs.Spelling.{prints}
 use Rattle.mal_print.specs.Lines.{IsLineOf}
@@ -34,14 +34,14 @@ part_again m part next h = go (is_absent part) refl
     go true e = ap Some (absent_bare m part h e)
     go false e = refl
 
-next_again : (next : Next (List ℕ)) → next_of (jump_of next) ≡ Some next
+next_again : (next : Next (List ℕ)) → next_by_jump (jump_of next) ≡ Some next
 next_again nexts.Following = refl
 next_again (nexts.Goto label) = refl
 next_again (nexts.Dispatch high) = refl
 next_again (nexts.Branch test high low) = refl
 
 parts_again : (m : Machine) (p : Parts) → Fits m p.part → parts_of (tree_for p.part p.next) ≡ Some p
-parts_again m p h = ap (λ o. parts_by o (next_of (jump_of p.next))) (part_again m p.part p.next h) ∙ ap (parts_by (Some p.part)) (next_again p.next)
+parts_again m p h = ap (λ o. parts_by o (next_by_jump (jump_of p.next))) (part_again m p.part p.next h) ∙ ap (parts_by (Some p.part)) (next_again p.next)
 
 -- ---- which tokens the lines have
 
@@ -53,10 +53,10 @@ own_default : (m : Machine) (ts : List Token) → names_foreign m ts ≡ false �
 own_default Mic1 ts h = h
 own_default Mic2 ts h = h
 
-statement_means : (m : Machine) (label : Option (List ℕ)) (p : Parts) → Fits m p.part → Spells m (tokens_of (statement m label p.part (labelled p.next))) (contents.Statement label p)
+statement_means : (m : Machine) (label : Option (List ℕ)) (p : Parts) → Fits m p.part → SpellsLine m (tokens_of (statement m label p.part (labelled p.next))) (contents.Statement label p)
 statement_means m None p h = record {
   form = forms.Statement None (tree_for p.part p.next);
-  has = (lone_some (pieces m p.part (labelled p.next)), lone_is m p.part p.next h);
+  has = (or_semicolon_some (pieces m p.part (labelled p.next)), or_semicolon_is m p.part p.next h);
   own = own_lone m (pieces m p.part (labelled p.next)) (own_pieces m p.part p.next h);
   says = ap (option_map (λ p. contents.Statement None p)) (parts_again m p h);
 }
@@ -69,7 +69,7 @@ statement_means m (Some label) p h =
       says = ap (option_map (λ p. contents.Statement (Some label) p)) (parts_again m p h);
     }
 
-fallback_means : (m : Machine) (p : Parts) → Fits m p.part → Spells m (tokens_of (fallback m p.part (labelled p.next))) (contents.Fallback p)
+fallback_means : (m : Machine) (p : Parts) → Fits m p.part → SpellsLine m (tokens_of (fallback m p.part (labelled p.next))) (contents.Fallback p)
 fallback_means m p h =
     let e = tokens_spaced (pieces m p.part (labelled p.next)) in
     record {
@@ -83,7 +83,7 @@ own_fix : (m : Machine) (label : List ℕ) (address : ℕ) → names_foreign m (
 own_fix Mic1 label address = refl
 own_fix Mic2 label address = refl
 
-fix_means : (m : Machine) (label : List ℕ) (address : ℕ) → Spells m (tokens_of (fix label address)) (contents.Fix label (pos address))
+fix_means : (m : Machine) (label : List ℕ) (address : ℕ) → SpellsLine m (tokens_of (fix label address)) (contents.Fix label (pos address))
 fix_means m label address = record { form = forms.Fix label (pos address); has = refl; own = own_fix m label address; says = refl }
 
 -- ---- which texts the lines have

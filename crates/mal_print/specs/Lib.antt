@@ -1,3 +1,3 @@
 pub mod Pieces
-pub mod Canonical
+pub mod StatementText
 pub mod Lines

@@ -1,11 +1,11 @@
 ghost use Rattle.std.specs.Prelude.{◌<◌, ℕ, List, Option, IfSome, IsTrue, pos};
 ghost use Rattle.machine_words.specs.declared.machine.Machine.{Machine};
-ghost use Rattle.micro_word.specs.Canonical.{is_part};
+ghost use Rattle.micro_word.specs.Words.{is_part};
 ghost use Rattle.mal_tokens.specs.Words.{IsLabelText};
 ghost use Rattle.mal_line.specs.declared.content.Parts.{Parts};
 ghost use Rattle.mal_line.specs.declared.content.Content.TheVariants as contents;
 ghost use Rattle.mal_print.specs.Pieces.{printed};
-ghost use Rattle.mal_print.specs.Canonical.{HasLabels, fallback, fix, labelled, statement};
+ghost use Rattle.mal_print.specs.StatementText.{HasLabels, fallback, fix, labelled, statement};
 ghost use Rattle.mal_print.specs.Lines.{IsLineOf};
 
 use mic_base::hex_is_read_back;

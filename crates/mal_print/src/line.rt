@@ -1,6 +1,6 @@
 ghost use Rattle.std.specs.Prelude.{◌≡◌, ◌≤◌, ◌<◌, ◌+◌, ◌++◌, length};
 ghost use Rattle.mal_print.specs.Pieces.{behind_space, printed};
-ghost use Rattle.mal_print.specs.Canonical.{fallback, FitTargets, fix, has_parts, lone, pieces, statement};
+ghost use Rattle.mal_print.specs.StatementText.{fallback, FitTargets, fix, has_parts, or_semicolon, pieces, statement};
 
 use crate::assignment::is_absent;
 use crate::parts::print_parts;
@@ -19,11 +19,11 @@ fn has_parts(part: &Part, next: &Next<Target>) -> bool
 }
 
 /// Appends the parts of a statement, `;` where it has none.
-#[tactic(auto, using(crate::proofs::Bare::lone_some, crate::proofs::Bare::lone_none))]
+#[tactic(auto, using(crate::proofs::Bare::or_semicolon_some, crate::proofs::Bare::or_semicolon_none))]
 pub fn print_lone(machine: Machine, part: &Part, next: &Next<Target>, line: &mut Line)
     requires room { length line.old + 256 ≤ 512 }
     requires fit { FitTargets next.now }
-    ensures text { line.new ≡ line.old ++ printed (lone (pieces machine part.now next.now)) }
+    ensures text { line.new ≡ line.old ++ printed (or_semicolon (pieces machine part.now next.now)) }
     ensures len { length line.new ≤ length line.old + 256 }
 {
     if has_parts(part, next) {

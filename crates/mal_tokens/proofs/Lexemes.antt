@@ -19,7 +19,7 @@ use Rattle.mal_tokens.specs.declared.sign.Sign.TheVariants as signs
 use Rattle.mal_tokens.specs.declared.token.Token.{Token}
 use Rattle.mal_tokens.specs.declared.token.Token.TheVariants as tokens
 use Rattle.mal_tokens.specs.Words.{word_text, sign_text, find_word, find_sign, all_words, all_signs, is_reserved}
-use Rattle.mal_tokens.specs.Tokens.{IsLexeme, Ends, mal}
+use Rattle.mal_tokens.specs.Tokens.{IsLexeme, EndsLexeme, mal}
 use Rattle.mal_tokens.specs.Reading.{begins, extent, lexer, number_token, sign_or, token_of, word_or_name}
 
 -- ---- the tables
@@ -189,12 +189,12 @@ extent_all (b ∷ text) rest s h e =
     let r = run_all is_name_byte text rest t e in
     rw s (omega (arith, r))
 
-far_name : (text rest : List ℕ) → begins_with is_name_byte text ≡ true → list_all is_name_byte text ≡ true → Ends text rest → extent (text ++ rest) ≡ length text
+far_name : (text rest : List ℕ) → begins_with is_name_byte text ≡ true → list_all is_name_byte text ≡ true → EndsLexeme text rest → extent (text ++ rest) ≡ length text
 far_name [] rest s h e = absurd (cc)
 far_name (b ∷ text) rest s h e = extent_all (b ∷ text) rest s h (e (ends_all is_name_byte b text h))
 
-far_sign : (s : Sign) (rest : List ℕ) → Ends (sign_text s) rest → extent (sign_text s ++ rest) ≡ length (sign_text s)
-far_sign s rest = elim s as (λ s. Ends (sign_text s) rest → extent (sign_text s ++ rest) ≡ length (sign_text s)) [
+far_sign : (s : Sign) (rest : List ℕ) → EndsLexeme (sign_text s) rest → extent (sign_text s ++ rest) ≡ length (sign_text s)
+far_sign s rest = elim s as (λ s. EndsLexeme (sign_text s) rest → extent (sign_text s ++ rest) ≡ length (sign_text s)) [
   | signs.Equals ↦ λ _. refl
   | signs.Plus ↦ λ _. refl
   | signs.Minus ↦ λ _. refl
@@ -212,11 +212,11 @@ digit_name : (text : List ℕ) → begins_digit text ≡ true → begins_with is
 digit_name [] h = absurd (cc)
 digit_name (b ∷ text) h = rw h refl
 
-far : (t : Token) (text rest : List ℕ) → IsLexeme t text → Ends text rest → extent (text ++ rest) ≡ length text
+far : (t : Token) (text rest : List ℕ) → IsLexeme t text → EndsLexeme text rest → extent (text ++ rest) ≡ length text
 far (tokens.Word w) text rest is e =
     let n : IsNamed text = subst IsNamed (sym is) (named (word_text w) (word_named w)) in
     far_name text rest n.starts n.all e
-far (tokens.Sign s) text rest is e = rw is (far_sign s rest (subst (λ x. Ends x rest) is e))
+far (tokens.Sign s) text rest is e = rw is (far_sign s rest (subst (λ x. EndsLexeme x rest) is e))
 far (tokens.Name m) text rest is e =
     let n : IsNamed text = subst IsNamed (sym is.0) (named m is.1.0) in
     far_name text rest n.starts n.all e
@@ -236,7 +236,7 @@ read_name text h free =
     go None e = rw h refl
     go (Some w) e = absurd (cc)
 
-read : (t : Token) (text rest : List ℕ) → IsLexeme t text → Ends text rest → token_of text ≡ Some t
+read : (t : Token) (text rest : List ℕ) → IsLexeme t text → EndsLexeme text rest → token_of text ≡ Some t
 read (tokens.Word w) text rest is e = rw is (read_word w)
 read (tokens.Sign s) text rest is e = rw is (rw (sign_digit s, sign_again s) refl)
 read (tokens.Name m) text rest is e = rw is.0 (read_name m is.1.0 is.1.1)
@@ -256,11 +256,11 @@ pair_ends : (b : ℕ) (rest : List ℕ) → is_name_byte b ≡ false → begins 
 pair_ends b [] w h = w
 pair_ends b (c ∷ rest) w h = let e : c ≡ b = eqb→eq c b (passes (c == b) h) in rw e w
 
-ends_at : (b : ℕ) (rest : List ℕ) → Ends (take (extent (b ∷ rest)) (b ∷ rest)) (drop (extent (b ∷ rest)) (b ∷ rest))
+ends_at : (b : ℕ) (rest : List ℕ) → EndsLexeme (take (extent (b ∷ rest)) (b ∷ rest)) (drop (extent (b ∷ rest)) (b ∷ rest))
 ends_at b rest = go (is_name_byte b) (b == 46) (b == 60 || b == 62) (begins b rest) refl refl
   where
     go : (w dot angle twice : Bool) → is_name_byte b ≡ w → begins b rest ≡ twice
-        → Ends (take (cond w (name_len rest + 1) (cond dot (name_len rest + 1) (cond (angle && twice) 2 1))) (b ∷ rest)) (drop (cond w (name_len rest + 1) (cond dot (name_len rest + 1) (cond (angle && twice) 2 1))) (b ∷ rest))
+        → EndsLexeme (take (cond w (name_len rest + 1) (cond dot (name_len rest + 1) (cond (angle && twice) 2 1))) (b ∷ rest)) (drop (cond w (name_len rest + 1) (cond dot (name_len rest + 1) (cond (angle && twice) 2 1))) (b ∷ rest))
     go true dot angle twice h k = λ _. stops b rest
     go false true angle twice h k = λ _. stops b rest
     go false false true true h k = λ e. absurd (let f = pair_ends b rest h k in cc)
@@ -311,8 +311,8 @@ no_name b rest h = rw h (go (nat_le 1 (length (b ∷ rest))) (nat_le (length (b 
     go true false = refl
     go false y = refl
 
-dark : (b : ℕ) (rest : List ℕ) (t : Token) → token_of (b ∷ rest) ≡ Some t → is_blank b ≡ false
-dark b rest t h = go (b == 32) (b == 9) refl refl
+not_blank : (b : ℕ) (rest : List ℕ) (t : Token) → token_of (b ∷ rest) ≡ Some t → is_blank b ≡ false
+not_blank b rest t h = go (b == 32) (b == 9) refl refl
   where
     space : (x : ℕ) → x ≡ 32 → token_of (x ∷ rest) ≡ None
     space x e = rw (e, no_name 32 rest refl) refl
@@ -332,6 +332,6 @@ agrees = record {
   spelled = λ b rest t h. is_lexeme (take (extent (b ∷ rest)) (b ∷ rest)) t (λ d. name_all b rest (digit_first b (extent (b ∷ rest)) rest d)) h;
   ends = λ b rest t h. ends_at b rest;
   some = some;
-  filled = refl;
-  dark = dark;
+  none_from_nothing = refl;
+  not_blank = not_blank;
 }

@@ -5,7 +5,7 @@ ghost use Rattle.source_text.specs.Runs.{begins_with};
 ghost use Rattle.mal_tokens.specs.Words.{find_word};
 ghost use Rattle.mal_tokens.specs.declared.token.Token.{Token};
 ghost use Rattle.mal_tokens.specs.Reading.{begins, number_token, read, word_or_name};
-ghost use Rattle.mal_tokens.specs.Tokens.{Spells};
+ghost use Rattle.mal_tokens.specs.Tokens.{SpellsTokens};
 
 use crate::sign::Sign;
 use crate::word::Word;
@@ -99,8 +99,8 @@ fn word_or_name(text: &[u8]) -> Option<Token>
 /// The tokens that a line without its comment spells; BadToken where it spells none.
 #[tactic(auto, using(crate::proofs::Lexemes::agrees))]
 pub fn tokens_of(alloc: Global, line: &[u8]) -> Result<Vec<Token>, TokenError>
-    ensures ok { IfOk result (λ tokens. Spells line.now tokens.items) }
-    ensures bad { IsErrOf result TokenError.BadToken → (tokens : List Token) → Spells line.now tokens → ⊥ }
+    ensures ok { IfOk result (λ tokens. SpellsTokens line.now tokens.items) }
+    ensures bad { IsErrOf result TokenError.BadToken → (tokens : List Token) → SpellsTokens line.now tokens → ⊥ }
 {
     source_text::tokens_of::<Mal>(alloc, line)
 }
@@ -108,7 +108,7 @@ pub fn tokens_of(alloc: Global, line: &[u8]) -> Result<Vec<Token>, TokenError>
 /// What is read from a line is what it spells: so it spells at most one list of tokens.
 #[tactic(auto, using(crate::proofs::Lexemes::agrees), unfolding(crate::specs::Reading::read))]
 pub fn reads_what_is_spelled()
-    ensures { (line : List ℕ) (tokens : List Token) → (read line ≡ Some tokens) ↔ Spells line tokens }
+    ensures { (line : List ℕ) (tokens : List Token) → (read line ≡ Some tokens) ↔ SpellsTokens line tokens }
 {
     source_text::reads_what_is_spelled::<Mal>();
 }

@@ -2,7 +2,7 @@
 
 ghost use Rattle.std.specs.Prelude.{◌≡◌, ◌==◌, IsTrue, refl, true, false};
 ghost use Rattle.machine_words.specs.declared.machine.Machine.TheVariants.{Mic1 as Mic1Machine};
-ghost use Rattle.micro_word.specs.Canonical.{is_canonical};
+ghost use Rattle.micro_word.specs.Words.{is_canonical};
 ghost use Rattle.micro_word.specs.Coding.{mem_of, statement_of};
 ghost use Rattle.micro_word.specs.Layout.{fields_of};
 ghost use Rattle.micro_word.specs.Lines.{AreLines};

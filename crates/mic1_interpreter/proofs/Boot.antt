@@ -12,7 +12,7 @@ use Rattle.mic1_interpreter.proofs.Shipped.{HasStatements}
 use Rattle.mic1_interpreter.specs.Stands.{Stands}
 use Rattle.mic1_interpreter.proofs.Accesses.{fetch_ok}
 use Rattle.mic1_interpreter.proofs.Guided.{clocked, pass-clocked}
-use Rattle.mic1_interpreter.proofs.Boundaries.{Comes, at_boundary, map_of}
+use Rattle.mic1_interpreter.proofs.Boundaries.{ReachesBoundary, at_boundary, map_of}
 use Rattle.ijvm_simulation.specs.Stands.{Origin}
 use Rattle.ijvm_simulation.specs.Passes.{Moment}
 use Rattle.ijvm_simulation.specs.Law.{Boots, reset_moment}
@@ -36,7 +36,7 @@ module _ (program : List ℕ) (has : HasStatements program) (o : Origin) (v : Ve
   abbrev pub start : MicroRun Micro
   start = start_run mic1_meaning 0x002 (0x8000 + v.main_locals - 1) world
 
-  pub boot : Comes program o 1 (record { state = start.state; world = world; stalls = 0 }) (start_of v.main_locals input)
+  pub boot : ReachesBoundary program o 1 (record { state = start.state; world = world; stalls = 0 }) (start_of v.main_locals input)
   boot =
       let fetch : fetch_refusal (length o.words) (next 4294967295) ≡ None = fetch_ok (length o.words) (map_of v o loads) first_address (omega arith) in
       let len : length (replicate {A = Option ℕ} v.main_locals (Some 0)) ≡ v.main_locals = length-replicate {A = Option ℕ} v.main_locals (Some 0) in
@@ -62,7 +62,7 @@ module _ (program : List ℕ) (has : HasStatements program) (o : Origin) (v : Ve
 
   pub boots : Boots mic1_meaning program (Stands o) o.given (reset_moment mic1_meaning 0x002 v.main_locals o input) (start_of v.main_locals input)
   boots =
-      let c : Comes program o 1 (reset_moment mic1_meaning 0x002 v.main_locals o input) (start_of v.main_locals input) = boot in
+      let c : ReachesBoundary program o 1 (reset_moment mic1_meaning 0x002 v.main_locals o input) (start_of v.main_locals input) = boot in
       record {
         off = refl;
         moves = record { n = 1; spent_is = refl; short = omega arith; begins = record { no_halt = refl; no_err = refl }; there = c.to; passes = c.passes; stands = c.stands };

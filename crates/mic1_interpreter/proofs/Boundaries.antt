@@ -17,7 +17,7 @@ use Rattle.mic1_interpreter.proofs.Shipped.{shipped, HasStatements}
 use Rattle.mic1_interpreter.specs.Stands.{Stands}
 use Rattle.mic1_interpreter.proofs.Guided.{clocked, IsSmooth, pass-clocked, outcome_is, step-refused}
 use Rattle.mic1_interpreter.proofs.Accesses.{IsMap, next_is, fetch_ok, byte_kept}
-use Rattle.ijvm_simulation.specs.Stands.{Origin, Holds}
+use Rattle.ijvm_simulation.specs.Stands.{Origin, RegistersStand}
 use Rattle.ijvm_simulation.specs.Passes.{Moment, is_inside, pass}
 use Rattle.ijvm_simulation.specs.Law.{Shows, HasWord, Moves, Overruns}
 
@@ -30,7 +30,7 @@ starts o s m w stalls h =
     λ i. record { state = record m { mpc = (h.ready.mpc ∙ h.ready.entry) i; word = h.ready.word i; byte = h.ready.byte i; entry = h.ready.entry i; clocked = h.ready.clocked i }; world = w; stalls = stalls }
 
 -- n + 1 microsteps come to the next boundary, which stands for this state
-pub record Comes (program : List ℕ) (o : Origin) (n : ℕ) (p : Moment Micro) (s : State) : Type 0 where
+pub record ReachesBoundary (program : List ℕ) (o : Origin) (n : ℕ) (p : Moment Micro) (s : State) : Type 0 where
   pub to : Moment Micro
   pub passes : pass mic1_meaning program n p ≡ Some to
   pub stands : Stands o s to.state to.world
@@ -40,7 +40,7 @@ pub comes : (program : List ℕ) (has : HasStatements program) (o : Origin) (gs 
     IsSmooth (length o.words) gs n (at_main m w k) →
     Stands o s' (clocked (length o.words) gs n (at_main m w k)).state (clocked (length o.words) gs n (at_main m w k)).world →
     (clocked (length o.words) gs n (at_main m w k)).stalls ≡ k →
-    Comes program o n (record { state = m; world = w; stalls = k }) s'
+    ReachesBoundary program o n (record { state = m; world = w; stalls = k }) s'
 comes program has o gs n m w k s s' h smooth new stalls =
     record {
       to = clocked (length o.words) gs n (at_main m w k);
@@ -101,7 +101,7 @@ counts o map s m w h inside =
     }
 
 -- a boundary, by what the machine has beside what it holds
-pub at_boundary : (o : Origin) (s : State) (m : Micro) (w : World) → Holds o s m.sp m.lv m.cpp m.tos w →
+pub at_boundary : (o : Origin) (s : State) (m : Micro) (w : World) → RegistersStand o s m.sp m.lv m.cpp m.tos w →
     m.pc ≡ s.at → m.mbr ≡ byte_in o.words s.at → m.mpc ≡ 2 → m.entry ≡ 2 → m.clocked ≡ true → m.word ≡ None → m.byte ≡ None → Stands o s m w
 at_boundary o s m w holds pc mbr mpc entry clocked word byte =
     record { holds = holds; ready = record { pc = pc; mbr = mbr; mpc = mpc ∙ sym entry; entry = entry; clocked = clocked; word = word; byte = byte } }
@@ -133,7 +133,7 @@ begins o s m w h =
 module _ (program : List ℕ) (o : Origin) (v : VerifiedView) where
   -- a pass to the next boundary, where it takes the instruction's cycles
   pub moves : (s to a : State) (q : Moment Micro) (i : Instr) (n : ℕ) → Stands o s q.state q.world → cost v.image Mic1 i s ≡ n + 1 → n < 1024 → a ≡ to →
-      Comes program o n q a → Moves mic1_meaning program (Stands o) o.given q (cost v.image Mic1 i s) to
+      ReachesBoundary program o n q a → Moves mic1_meaning program (Stands o) o.given q (cost v.image Mic1 i s) to
   moves s to a q i n h spent short same c =
       record {
         n = n;

@@ -31,7 +31,7 @@ use Rattle.mic1_interpreter.proofs.Shipped.{HasStatements}
 use Rattle.mic1_interpreter.proofs.Accesses.{IsMap, Access, access, next_is, write_limit, plus_is, minus_is, pair_is, byte_bound, byte_kept, fetch_ok, given_ok}
 use Rattle.mic1_interpreter.proofs.Keeps.{set_same, memory_set, frames_at, memory_at}
 use Rattle.mic1_interpreter.proofs.Facts.{with_operands, place, base_above, Top, top}
-use Rattle.mic1_interpreter.proofs.Boundaries.{Comes, comes, Counts, counts, at_boundary, map_of, moves, overruns}
+use Rattle.mic1_interpreter.proofs.Boundaries.{ReachesBoundary, comes, Counts, counts, at_boundary, map_of, moves, overruns}
 
 -- what a method's frame says of the words below its operands
 link_of : (words : List ℕ) (lv many caller r : ℕ) (back : Option ℕ) → back ≡ Some r → IsLinked words lv many caller back → IsLinked words lv many caller (Some r)
@@ -104,7 +104,7 @@ record Entering (o : Origin) (s : State) (m : Micro) (w : World) (k e n more : �
 
 module _ (program : List ℕ) (has : HasStatements program) (o : Origin) (map : IsMap (length o.words)) (keep : KeepFrames) (s : State) (m : Micro) (w : World) (k : ℕ) (h : Stands o s m w) (inside : s.at < 0x10000) where
   ireturn : (y r : ℕ) (rest : List ℕ) (f : Frame) (fs : List Frame) → byte_in o.words s.at ≡ 0xAC → s.running.operands ≡ y ∷ rest → s.running.back ≡ Some r → s.callers ≡ f ∷ fs → r < 0x10000 →
-      Comes program o 8 (record { state = m; world = w; stalls = k }) (record s { running = record f { operands = y ∷ f.operands }; callers = fs; at = r })
+      ReachesBoundary program o 8 (record { state = m; world = w; stalls = k }) (record s { running = record f { operands = y ∷ f.operands }; callers = fs; at = r })
   ireturn y r rest f fs code ops back callers to =
       let c : Counts o s m w = counts o map s m w h inside in
       let t : Top o map s m.sp m.lv m.cpp m.tos w h.holds y rest = top o map s m.sp m.lv m.cpp m.tos w h.holds y rest ops in
@@ -196,7 +196,7 @@ module _ (program : List ℕ) (has : HasStatements program) (o : Origin) (map : 
 
   invoke : (i e more : ℕ) (ps : List ℕ) (x : ℕ) (rest : List ℕ) → byte_in o.words s.at ≡ 0xB6 → Entering o s m w i e (length ps) more rest → e + 4 < 0x10000 →
       s.running.operands ≡ ps ++ x ∷ rest → place s rest + length ps + 1 + more + 1 < length o.words →
-      Comes program o 22 (record { state = m; world = w; stalls = k })
+      ReachesBoundary program o 22 (record { state = m; world = w; stalls = k })
       (record s { running = called ps more (s.at + 3); callers = with_operands s rest ∷ s.callers; at = e + 4 })
   invoke i e more ps x rest code en text ops space =
       let c : Counts o s m w = counts o map s m w h inside in

@@ -24,11 +24,11 @@ use Rattle.mic1_interpreter.specs.Groups.{IsOfConsole}
 use Rattle.mic1_interpreter.proofs.Shipped.{HasStatements}
 use Rattle.mic1_interpreter.proofs.Accesses.{IsMap, Access, next_is, write_limit, Port, console, port}
 use Rattle.mic1_interpreter.proofs.Facts.{room, Top, top, pushes, drops, IsTop_at}
-use Rattle.mic1_interpreter.proofs.Boundaries.{Comes, comes, Counts, counts, at_boundary, map_of, moves, overruns}
+use Rattle.mic1_interpreter.proofs.Boundaries.{ReachesBoundary, comes, Counts, counts, at_boundary, map_of, moves, overruns}
 
 module _ (program : List ℕ) (has : HasStatements program) (o : Origin) (map : IsMap (length o.words)) (keep : KeepFrames) (s : State) (m : Micro) (w : World) (k : ℕ) (h : Stands o s m w) (inside : s.at < 0x10000) where
   out : (y : ℕ) (rest : List ℕ) → byte_in o.words s.at ≡ 0xFD → s.running.operands ≡ y ∷ rest →
-      Comes program o 7 (record { state = m; world = w; stalls = k }) (record (moved s rest (s.at + 1)) { given = s.given ++ y % 256 ∷ [] })
+      ReachesBoundary program o 7 (record { state = m; world = w; stalls = k }) (record (moved s rest (s.at + 1)) { given = s.given ++ y % 256 ∷ [] })
   out y rest code ops =
       let c : Counts o s m w = counts o map s m w h inside in
       let t : Top o map s m.sp m.lv m.cpp m.tos w h.holds y rest = top o map s m.sp m.lv m.cpp m.tos w h.holds y rest ops in
@@ -46,7 +46,7 @@ module _ (program : List ℕ) (has : HasStatements program) (o : Origin) (map : 
       refl
 
   inp : byte_in o.words s.at ≡ 0xFC → base (frames_of s) < length o.words →
-      Comes program o 5 (record { state = m; world = w; stalls = k }) (push (taken s) (next_byte s.untaken) (s.at + 1))
+      ReachesBoundary program o 5 (record { state = m; world = w; stalls = k }) (push (taken s) (next_byte s.untaken) (s.at + 1))
   inp code space =
       let c : Counts o s m w = counts o map s m w h inside in
       let r : Access (length o.words) w (next m.sp) (base (frames_of s)) = room o map s m.sp m.lv m.cpp m.tos w h.holds space in

@@ -11,7 +11,7 @@ use Rattle.mic1_datapath.specs.Mic1.{mic1_meaning}
 use Rattle.ijvm_simulation.specs.Stands.{Origin}
 use Rattle.ijvm_simulation.specs.Passes.{Moment, pass}
 use Rattle.ijvm_simulation.specs.Verified.{Loads, Fine, IsNext}
-use Rattle.ijvm_simulation.specs.Law.{Stops, Ends}
+use Rattle.ijvm_simulation.specs.Law.{Stops, HaltsAndErrs}
 use Rattle.mic1_interpreter.specs.Stands.{Stands}
 use Rattle.mic1_interpreter.proofs.Shipped.{HasStatements}
 use Rattle.mic1_interpreter.proofs.Guided.{clocked, pass-clocked}
@@ -59,5 +59,5 @@ module _ (program : List ℕ) (has : HasStatements program) (o : Origin) (v : Ve
         world = refl;
       })
 
-  pub ends : Ends mic1_meaning program (Stands o) o.given v o
+  pub ends : HaltsAndErrs mic1_meaning program (Stands o) o.given v o
   ends = record { halts = halts; errs = errs }

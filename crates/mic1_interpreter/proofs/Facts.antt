@@ -5,7 +5,7 @@ use Rattle.machine_words.specs.Arithmetic.{next, before}
 use Rattle.console_port.specs.World.{World, read_value}
 use Rattle.ijvm_run.specs.Frames.{Frame, State, frames_of, operands_at, base}
 use Rattle.ijvm_run.specs.Step.{moved}
-use Rattle.ijvm_simulation.specs.Stands.{Origin, Holds, FramesStand, OperandsAt, IsTop}
+use Rattle.ijvm_simulation.specs.Stands.{Origin, RegistersStand, FramesStand, OperandsAt, IsTop}
 use Rattle.ijvm_simulation.specs.Writes.{KeepFrames}
 use Rattle.mic1_interpreter.proofs.Accesses.{IsMap, Access, access, next_is, before_is}
 use Rattle.mic1_interpreter.proofs.Keeps.{memory_set, frames_at, memory_at}
@@ -30,7 +30,7 @@ pub next_top_is : (words : List ℕ) (at a v : ℕ) (rest : List ℕ) → a + 1 
 next_top_is words at a v [] e is h = tt
 next_top_is words at a v (x ∷ xs) e is h = let same : a ≡ at + length xs = omega arith in is ∙ (ap (slice_index words) same ∙ h.0)
 
-module _ (o : Origin) (map : IsMap (length o.words)) (s : State) (sp lv cpp tos : ℕ) (w : World) (h : Holds o s sp lv cpp tos w) where
+module _ (o : Origin) (map : IsMap (length o.words)) (s : State) (sp lv cpp tos : ℕ) (w : World) (h : RegistersStand o s sp lv cpp tos w) where
   -- room for one more operand
   pub room : base (frames_of s) < length o.words → Access (length o.words) w (next sp) (base (frames_of s))
   room l = access (length o.words) w (next sp) (base (frames_of s)) (next_is sp (base (frames_of s)) h.sp_is (omega (arith, map.high))) l
@@ -92,7 +92,7 @@ module _ (o : Origin) (map : IsMap (length o.words)) (s : State) (sp lv cpp tos 
       FramesStand w.words (with_operands s xs ∷ s.callers) → place s xs < length o.words →
       lv' ≡ lv → cpp' ≡ cpp → sp' ≡ place s xs → tos' ≡ v →
       w'.words ≡ slice_set w.words (place s xs) v → w'.untaken ≡ left → w'.given ≡ w.given →
-      Holds o (record (moved s (v ∷ xs) to) { untaken = left }) sp' lv' cpp' tos' w'
+      RegistersStand o (record (moved s (v ∷ xs) to) { untaken = left }) sp' lv' cpp' tos' w'
   pushes keep xs v to sp' lv' cpp' tos' w' left frames below lvs cpps sps toss words untaken given =
       let a : ℕ = place s xs in
       let bottom : 0x8000 ≤ base s.callers = base_above s.callers in
@@ -114,7 +114,7 @@ module _ (o : Origin) (map : IsMap (length o.words)) (s : State) (sp lv cpp tos 
       FramesStand w.words (with_operands s xs ∷ s.callers) → place s xs ≤ length o.words →
       lv' ≡ lv → cpp' ≡ cpp → sp' + 1 ≡ place s xs → IsTop tos' xs →
       w'.words ≡ w.words → w'.untaken ≡ s.untaken → w'.given ≡ o.given ++ more →
-      Holds o (record (moved s xs to) { given = more }) sp' lv' cpp' tos' w'
+      RegistersStand o (record (moved s xs to) { given = more }) sp' lv' cpp' tos' w'
   drops xs to sp' lv' cpp' tos' w' more frames fits lvs cpps sps toss words untaken given =
       record {
         sp_is = sps;

@@ -19,12 +19,12 @@ use Rattle.mic1_interpreter.proofs.Shipped.{shipped, HasStatements}
 use Rattle.ijvm_simulation.specs.Passes.{Moment, is_inside, outcome_at, stalls_at, last, onward, pass}
 
 -- the next address: a goto's own, and else the first guess
-abbrev pub next_of : PlacedNext → List ℕ → ℕ
-next_of (Goto to) gs = to
-next_of (Dispatch high) [] = 0
-next_of (Dispatch high) (g ∷ gs) = g
-next_of (Branch test low) [] = 0
-next_of (Branch test low) (g ∷ gs) = g
+abbrev pub address_behind : PlacedNext → List ℕ → ℕ
+address_behind (Goto to) gs = to
+address_behind (Dispatch high) [] = 0
+address_behind (Dispatch high) (g ∷ gs) = g
+address_behind (Branch test low) [] = 0
+address_behind (Branch test low) (g ∷ gs) = g
 
 -- the guesses that are left
 abbrev pub left_of : PlacedNext → List ℕ → List ℕ
@@ -38,14 +38,14 @@ left_of (Branch test low) (g ∷ gs) = gs
 module _ (top : ℕ) where
   abbrev pub guided : Placed → List ℕ → Moment Micro → Moment Micro
   guided s gs p =
-      record { state = record (clock top s p.state p.world) { mpc = next_of s.next gs }; world = world_after top s p.state p.world; stalls = p.stalls }
+      record { state = record (clock top s p.state p.world) { mpc = address_behind s.next gs }; world = world_after top s p.state p.world; stalls = p.stalls }
 
   -- no access of a step is refused, and the guess is right
   abbrev pub IsClear : Placed → List ℕ → Moment Micro → Type 0
   IsClear s gs p =
       (memory_refusal top s.part.mem (settled s.part p.state).mar ≡ None)
       × (byte_refusal top s.part.fetch (settled s.part p.state).pc ≡ None)
-      × ((clock top s p.state p.world).mpc ≡ next_of s.next gs)
+      × ((clock top s p.state p.world).mpc ≡ address_behind s.next gs)
       × (nat_lt p.state.mpc 512 ≡ true)
 
   -- the moment after n + 1 steps along the guesses

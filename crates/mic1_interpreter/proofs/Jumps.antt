@@ -25,7 +25,7 @@ use Rattle.mic1_interpreter.specs.Groups.{IsJump}
 use Rattle.mic1_interpreter.proofs.Shipped.{HasStatements}
 use Rattle.mic1_interpreter.proofs.Accesses.{IsMap, Access, before_is, fetch_ok, byte_kept, plus_comm, signed_pair_is}
 use Rattle.mic1_interpreter.proofs.Facts.{place, base_above, Top, top, Two, two, two_down, two_next, drops, IsTop_at}
-use Rattle.mic1_interpreter.proofs.Boundaries.{Comes, comes, Counts, counts, at_boundary, map_of, moves}
+use Rattle.mic1_interpreter.proofs.Boundaries.{ReachesBoundary, comes, Counts, counts, at_boundary, map_of, moves}
 
 -- where the words of goto come to
 abbrev pub goes_to : Micro → World → ℕ
@@ -60,7 +60,7 @@ module _ (program : List ℕ) (has : HasStatements program) (o : Origin) (map : 
         byte = byte_kept w.words o.words h.holds.memory.kept is (omega (arith, to));
       }
 
-  go : byte_in o.words s.at ≡ 0xA7 → jump o.words s.at < 0x10000 → Comes program o 6 (record { state = m; world = w; stalls = k }) (moved s s.running.operands (jump o.words s.at))
+  go : byte_in o.words s.at ≡ 0xA7 → jump o.words s.at < 0x10000 → ReachesBoundary program o 6 (record { state = m; world = w; stalls = k }) (moved s s.running.operands (jump o.words s.at))
   go code to =
       let c : Counts o s m w = counts o map s m w h inside in
       let j : Jump o s m w = jumps to in
@@ -73,7 +73,7 @@ module _ (program : List ℕ) (has : HasStatements program) (o : Origin) (map : 
       refl
 
   ifeq_taken : (y : ℕ) (rest : List ℕ) → byte_in o.words s.at ≡ 0x99 → s.running.operands ≡ y ∷ rest → (y == 0) ≡ true → jump o.words s.at < 0x10000 →
-      Comes program o 10 (record { state = m; world = w; stalls = k }) (moved s rest (jump o.words s.at))
+      ReachesBoundary program o 10 (record { state = m; world = w; stalls = k }) (moved s rest (jump o.words s.at))
   ifeq_taken y rest code ops flag to =
       let c : Counts o s m w = counts o map s m w h inside in
       let t : Top o map s m.sp m.lv m.cpp m.tos w h.holds y rest = top o map s m.sp m.lv m.cpp m.tos w h.holds y rest ops in
@@ -88,7 +88,7 @@ module _ (program : List ℕ) (has : HasStatements program) (o : Origin) (map : 
       refl
 
   ifeq_not : (y : ℕ) (rest : List ℕ) → byte_in o.words s.at ≡ 0x99 → s.running.operands ≡ y ∷ rest → (y == 0) ≡ false →
-      Comes program o 7 (record { state = m; world = w; stalls = k }) (moved s rest (s.at + 3))
+      ReachesBoundary program o 7 (record { state = m; world = w; stalls = k }) (moved s rest (s.at + 3))
   ifeq_not y rest code ops flag =
       let c : Counts o s m w = counts o map s m w h inside in
       let t : Top o map s m.sp m.lv m.cpp m.tos w h.holds y rest = top o map s m.sp m.lv m.cpp m.tos w h.holds y rest ops in
@@ -102,7 +102,7 @@ module _ (program : List ℕ) (has : HasStatements program) (o : Origin) (map : 
       refl
 
   iflt_taken : (y : ℕ) (rest : List ℕ) → byte_in o.words s.at ≡ 0x9B → s.running.operands ≡ y ∷ rest → is_negative y ≡ true → jump o.words s.at < 0x10000 →
-      Comes program o 10 (record { state = m; world = w; stalls = k }) (moved s rest (jump o.words s.at))
+      ReachesBoundary program o 10 (record { state = m; world = w; stalls = k }) (moved s rest (jump o.words s.at))
   iflt_taken y rest code ops flag to =
       let c : Counts o s m w = counts o map s m w h inside in
       let t : Top o map s m.sp m.lv m.cpp m.tos w h.holds y rest = top o map s m.sp m.lv m.cpp m.tos w h.holds y rest ops in
@@ -117,7 +117,7 @@ module _ (program : List ℕ) (has : HasStatements program) (o : Origin) (map : 
       refl
 
   iflt_not : (y : ℕ) (rest : List ℕ) → byte_in o.words s.at ≡ 0x9B → s.running.operands ≡ y ∷ rest → is_negative y ≡ false →
-      Comes program o 7 (record { state = m; world = w; stalls = k }) (moved s rest (s.at + 3))
+      ReachesBoundary program o 7 (record { state = m; world = w; stalls = k }) (moved s rest (s.at + 3))
   iflt_not y rest code ops flag =
       let c : Counts o s m w = counts o map s m w h inside in
       let t : Top o map s m.sp m.lv m.cpp m.tos w h.holds y rest = top o map s m.sp m.lv m.cpp m.tos w h.holds y rest ops in
@@ -131,7 +131,7 @@ module _ (program : List ℕ) (has : HasStatements program) (o : Origin) (map : 
       refl
 
   icmpeq_taken : (y x : ℕ) (rest : List ℕ) → byte_in o.words s.at ≡ 0x9F → s.running.operands ≡ y ∷ x ∷ rest → IsWord y → IsWord x → (x == y) ≡ true → jump o.words s.at < 0x10000 →
-      Comes program o 12 (record { state = m; world = w; stalls = k }) (moved s rest (jump o.words s.at))
+      ReachesBoundary program o 12 (record { state = m; world = w; stalls = k }) (moved s rest (jump o.words s.at))
   icmpeq_taken y x rest code ops ly lx flag to =
       let c : Counts o s m w = counts o map s m w h inside in
       let t : Two o map s m.sp m.lv m.cpp m.tos w h.holds y x rest = two o map s m.sp m.lv m.cpp m.tos w h.holds y x rest ops in
@@ -151,7 +151,7 @@ module _ (program : List ℕ) (has : HasStatements program) (o : Origin) (map : 
       refl
 
   icmpeq_not : (y x : ℕ) (rest : List ℕ) → byte_in o.words s.at ≡ 0x9F → s.running.operands ≡ y ∷ x ∷ rest → IsWord y → IsWord x → (x == y) ≡ false →
-      Comes program o 9 (record { state = m; world = w; stalls = k }) (moved s rest (s.at + 3))
+      ReachesBoundary program o 9 (record { state = m; world = w; stalls = k }) (moved s rest (s.at + 3))
   icmpeq_not y x rest code ops ly lx flag =
       let c : Counts o s m w = counts o map s m w h inside in
       let t : Two o map s m.sp m.lv m.cpp m.tos w h.holds y x rest = two o map s m.sp m.lv m.cpp m.tos w h.holds y x rest ops in
@@ -191,7 +191,7 @@ module _ (program : List ℕ) (has : HasStatements program) (o : Origin) (v : Ve
   -- a branch by a test of the top
   branched : (s to : State) (q : Moment Micro) (i : Instr) (z : ℤ) (t : Bool) (rest : List ℕ) → Stands o s q.state q.world → jump o.words s.at ≡ target s.at z →
       moved s rest (way s.at z t) ≡ to → (t ≡ true → cost v.image Mic1 i s ≡ 11) → (t ≡ false → cost v.image Mic1 i s ≡ 8) →
-      (t ≡ true → Comes program o 10 q (moved s rest (jump o.words s.at))) → (t ≡ false → Comes program o 7 q (moved s rest (s.at + 3))) →
+      (t ≡ true → ReachesBoundary program o 10 q (moved s rest (jump o.words s.at))) → (t ≡ false → ReachesBoundary program o 7 q (moved s rest (s.at + 3))) →
       Moves mic1_meaning program (Stands o) o.given q (cost v.image Mic1 i s) to
   branched s to q i z true rest h e same jumps_in falls_in taken not =
       moves program o v s to _ q i 10 h (jumps_in refl) (omega arith) (ap (moved s rest) e ∙ same) (taken refl)
@@ -201,7 +201,7 @@ module _ (program : List ℕ) (has : HasStatements program) (o : Origin) (v : Ve
   -- IF_ICMPEQ takes two cycles more
   compared : (s to : State) (q : Moment Micro) (i : Instr) (z : ℤ) (t : Bool) (rest : List ℕ) → Stands o s q.state q.world → jump o.words s.at ≡ target s.at z →
       moved s rest (way s.at z t) ≡ to → (t ≡ true → cost v.image Mic1 i s ≡ 13) → (t ≡ false → cost v.image Mic1 i s ≡ 10) →
-      (t ≡ true → Comes program o 12 q (moved s rest (jump o.words s.at))) → (t ≡ false → Comes program o 9 q (moved s rest (s.at + 3))) →
+      (t ≡ true → ReachesBoundary program o 12 q (moved s rest (jump o.words s.at))) → (t ≡ false → ReachesBoundary program o 9 q (moved s rest (s.at + 3))) →
       Moves mic1_meaning program (Stands o) o.given q (cost v.image Mic1 i s) to
   compared s to q i z true rest h e same jumps_in falls_in taken not =
       moves program o v s to _ q i 12 h (jumps_in refl) (omega arith) (ap (moved s rest) e ∙ same) (taken refl)

@@ -28,10 +28,10 @@ use Rattle.mic1_interpreter.proofs.Shipped.{HasStatements}
 use Rattle.mic1_interpreter.proofs.Accesses.{IsMap, Access, access, next_is, write_limit, given_ok, plus_comm}
 use Rattle.mic1_interpreter.proofs.Keeps.{set_same, memory_set, frames_at, memory_at}
 use Rattle.mic1_interpreter.proofs.Facts.{with_operands, place, base_above, room, Top, top, Two, two, pushes, drops}
-use Rattle.mic1_interpreter.proofs.Boundaries.{Comes, comes, Counts, counts, at_boundary, map_of, moves, overruns}
+use Rattle.mic1_interpreter.proofs.Boundaries.{ReachesBoundary, comes, Counts, counts, at_boundary, map_of, moves, overruns}
 
 module _ (program : List ℕ) (has : HasStatements program) (o : Origin) (map : IsMap (length o.words)) (keep : KeepFrames) (s : State) (m : Micro) (w : World) (k : ℕ) (h : Stands o s m w) (inside : s.at < 0x10000) where
-  nop : byte_in o.words s.at ≡ 0x00 → Comes program o 1 (record { state = m; world = w; stalls = k }) (moved s s.running.operands (s.at + 1))
+  nop : byte_in o.words s.at ≡ 0x00 → ReachesBoundary program o 1 (record { state = m; world = w; stalls = k }) (moved s s.running.operands (s.at + 1))
   nop code =
       let c : Counts o s m w = counts o map s m w h inside in
       let op : m.mbr ≡ 0 = h.ready.mbr ∙ code in
@@ -43,7 +43,7 @@ module _ (program : List ℕ) (has : HasStatements program) (o : Origin) (map : 
       refl
 
   bipush : byte_in o.words s.at ≡ 0x10 → base (frames_of s) < length o.words →
-      Comes program o 3 (record { state = m; world = w; stalls = k }) (push s (signed_byte (byte_in o.words (s.at + 1))) (s.at + 2))
+      ReachesBoundary program o 3 (record { state = m; world = w; stalls = k }) (push s (signed_byte (byte_in o.words (s.at + 1))) (s.at + 2))
   bipush code space =
       let c : Counts o s m w = counts o map s m w h inside in
       let r : Access (length o.words) w (next m.sp) (base (frames_of s)) = room o map s m.sp m.lv m.cpp m.tos w h.holds space in
@@ -57,7 +57,7 @@ module _ (program : List ℕ) (has : HasStatements program) (o : Origin) (map : 
       refl
 
   pop : (y : ℕ) (rest : List ℕ) → byte_in o.words s.at ≡ 0x57 → s.running.operands ≡ y ∷ rest →
-      Comes program o 3 (record { state = m; world = w; stalls = k }) (moved s rest (s.at + 1))
+      ReachesBoundary program o 3 (record { state = m; world = w; stalls = k }) (moved s rest (s.at + 1))
   pop y rest code ops =
       let c : Counts o s m w = counts o map s m w h inside in
       let t : Top o map s m.sp m.lv m.cpp m.tos w h.holds y rest = top o map s m.sp m.lv m.cpp m.tos w h.holds y rest ops in
@@ -70,7 +70,7 @@ module _ (program : List ℕ) (has : HasStatements program) (o : Origin) (map : 
       refl
 
   dup : (y : ℕ) (rest : List ℕ) → byte_in o.words s.at ≡ 0x59 → s.running.operands ≡ y ∷ rest → base (frames_of s) < length o.words →
-      Comes program o 2 (record { state = m; world = w; stalls = k }) (push s y (s.at + 1))
+      ReachesBoundary program o 2 (record { state = m; world = w; stalls = k }) (push s y (s.at + 1))
   dup y rest code ops space =
       let c : Counts o s m w = counts o map s m w h inside in
       let t : Top o map s m.sp m.lv m.cpp m.tos w h.holds y rest = top o map s m.sp m.lv m.cpp m.tos w h.holds y rest ops in
@@ -84,7 +84,7 @@ module _ (program : List ℕ) (has : HasStatements program) (o : Origin) (map : 
       refl
 
   swap : (y x : ℕ) (rest : List ℕ) → byte_in o.words s.at ≡ 0x5F → s.running.operands ≡ y ∷ x ∷ rest →
-      Comes program o 6 (record { state = m; world = w; stalls = k }) (moved s (x ∷ y ∷ rest) (s.at + 1))
+      ReachesBoundary program o 6 (record { state = m; world = w; stalls = k }) (moved s (x ∷ y ∷ rest) (s.at + 1))
   swap y x rest code ops =
       let c : Counts o s m w = counts o map s m w h inside in
       let t : Two o map s m.sp m.lv m.cpp m.tos w h.holds y x rest = two o map s m.sp m.lv m.cpp m.tos w h.holds y x rest ops in
@@ -119,7 +119,7 @@ module _ (program : List ℕ) (has : HasStatements program) (o : Origin) (map : 
       refl
 
   iadd : (y x : ℕ) (rest : List ℕ) → byte_in o.words s.at ≡ 0x60 → s.running.operands ≡ y ∷ x ∷ rest →
-      Comes program o 3 (record { state = m; world = w; stalls = k }) (moved s (plus x y ∷ rest) (s.at + 1))
+      ReachesBoundary program o 3 (record { state = m; world = w; stalls = k }) (moved s (plus x y ∷ rest) (s.at + 1))
   iadd y x rest code ops =
       let c : Counts o s m w = counts o map s m w h inside in
       let t : Two o map s m.sp m.lv m.cpp m.tos w h.holds y x rest = two o map s m.sp m.lv m.cpp m.tos w h.holds y x rest ops in
@@ -133,7 +133,7 @@ module _ (program : List ℕ) (has : HasStatements program) (o : Origin) (map : 
       refl
 
   isub : (y x : ℕ) (rest : List ℕ) → byte_in o.words s.at ≡ 0x64 → s.running.operands ≡ y ∷ x ∷ rest →
-      Comes program o 3 (record { state = m; world = w; stalls = k }) (moved s (minus x y ∷ rest) (s.at + 1))
+      ReachesBoundary program o 3 (record { state = m; world = w; stalls = k }) (moved s (minus x y ∷ rest) (s.at + 1))
   isub y x rest code ops =
       let c : Counts o s m w = counts o map s m w h inside in
       let t : Two o map s m.sp m.lv m.cpp m.tos w h.holds y x rest = two o map s m.sp m.lv m.cpp m.tos w h.holds y x rest ops in
@@ -147,7 +147,7 @@ module _ (program : List ℕ) (has : HasStatements program) (o : Origin) (map : 
       refl
 
   iand : (y x : ℕ) (rest : List ℕ) → byte_in o.words s.at ≡ 0x7E → s.running.operands ≡ y ∷ x ∷ rest →
-      Comes program o 3 (record { state = m; world = w; stalls = k }) (moved s (bit_and x y ∷ rest) (s.at + 1))
+      ReachesBoundary program o 3 (record { state = m; world = w; stalls = k }) (moved s (bit_and x y ∷ rest) (s.at + 1))
   iand y x rest code ops =
       let c : Counts o s m w = counts o map s m w h inside in
       let t : Two o map s m.sp m.lv m.cpp m.tos w h.holds y x rest = two o map s m.sp m.lv m.cpp m.tos w h.holds y x rest ops in
@@ -161,7 +161,7 @@ module _ (program : List ℕ) (has : HasStatements program) (o : Origin) (map : 
       refl
 
   ior : (y x : ℕ) (rest : List ℕ) → byte_in o.words s.at ≡ 0xB0 → s.running.operands ≡ y ∷ x ∷ rest →
-      Comes program o 3 (record { state = m; world = w; stalls = k }) (moved s (bit_or x y ∷ rest) (s.at + 1))
+      ReachesBoundary program o 3 (record { state = m; world = w; stalls = k }) (moved s (bit_or x y ∷ rest) (s.at + 1))
   ior y x rest code ops =
       let c : Counts o s m w = counts o map s m w h inside in
       let t : Two o map s m.sp m.lv m.cpp m.tos w h.holds y x rest = two o map s m.sp m.lv m.cpp m.tos w h.holds y x rest ops in
@@ -175,7 +175,7 @@ module _ (program : List ℕ) (has : HasStatements program) (o : Origin) (map : 
       refl
 
   ior80 : (y x : ℕ) (rest : List ℕ) → byte_in o.words s.at ≡ 0x80 → s.running.operands ≡ y ∷ x ∷ rest →
-      Comes program o 3 (record { state = m; world = w; stalls = k }) (moved s (bit_or x y ∷ rest) (s.at + 1))
+      ReachesBoundary program o 3 (record { state = m; world = w; stalls = k }) (moved s (bit_or x y ∷ rest) (s.at + 1))
   ior80 y x rest code ops =
       let c : Counts o s m w = counts o map s m w h inside in
       let t : Two o map s m.sp m.lv m.cpp m.tos w h.holds y x rest = two o map s m.sp m.lv m.cpp m.tos w h.holds y x rest ops in

@@ -7,7 +7,7 @@ ghost use Rattle.ijvm_paths.specs.Accepted.{VerifiedView};
 ghost use Rattle.shipped_program.specs.Shipped.{HasShipped};
 ghost use Rattle.ijvm_simulation.specs.Stands.{Origin};
 ghost use Rattle.ijvm_simulation.specs.Verified.{Loads};
-ghost use Rattle.ijvm_simulation.specs.Law.{Takes, Ends};
+ghost use Rattle.ijvm_simulation.specs.Law.{Takes, HaltsAndErrs};
 ghost use Rattle.mic1_interpreter.specs.Stands.{Stands};
 ghost use Rattle.mic1_interpreter.specs.Groups.{IsOfOperands, IsOfLocals, IsOfConsole, IsJump, IsCall};
 
@@ -54,5 +54,5 @@ pub(crate) fn calls_law()
 /// HALT and ERR.
 pub(crate) fn ends_law()
     ensures { (store : List ℕ) (o : Origin) (v : VerifiedView) → HasShipped Mic1 store → Loads v o →
-        Ends mic1_meaning store (Stands o) o.given v o }
+        HaltsAndErrs mic1_meaning store (Stands o) o.given v o }
 {}

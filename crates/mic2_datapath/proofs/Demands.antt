@@ -4,7 +4,7 @@ use Rattle.std.specs.Prelude.{nat_lt}
 use Rattle.std.proofs.lemmas.Bool.Decides.{nat_tests}
 use Rattle.machine_words.specs.Arithmetic.{wrap}
 use Rattle.machine_words.specs.declared.machine.Machine.TheVariants.{Mic2}
-use Rattle.micro_word.specs.Canonical.{Valid, fits_side, is_byte, is_pair, may_be_b}
+use Rattle.micro_word.specs.Words.{Valid, fits_side, is_byte, is_pair, may_be_b}
 use Rattle.micro_word.specs.Coding.{addr_bits, jam_bits, row}
 use Rattle.micro_word.specs.Lines.{bytes_shown, bytes_taken, place_on_bus}
 use Rattle.micro_word.specs.declared.statement.BusSource.{BusSource}

@@ -5,7 +5,7 @@ ghost use Rattle.console_port.specs.World.{World};
 ghost use Rattle.machine_words.specs.declared.machine.Machine.TheVariants.{Mic2};
 ghost use Rattle.micro_word.specs.declared.statement.Placed.{Placed};
 ghost use Rattle.micro_word.specs.Coding.{word_of};
-ghost use Rattle.micro_word.specs.Canonical.{is_valid};
+ghost use Rattle.micro_word.specs.Words.{is_valid};
 ghost use Rattle.mic2_datapath.specs.Microstep.{microstep};
 ghost use Rattle.mic2_datapath.specs.Mic2.{step_of_word};
 ghost use Rattle.mic2_datapath.specs.Micro.{Micro};

@@ -37,7 +37,7 @@ struct Plain {
 
 /// What a step comes to.
 #[derive(Clone, Copy, Debug, PartialEq, Eq)]
-enum Comes {
+enum StepResult {
     Done,
     Stalled,
     Refused(BusFault),
@@ -261,7 +261,7 @@ impl Plain {
     }
 
     /// One microstep.
-    fn step(&mut self, s: &Placed) -> Result<Comes, AllocError> {
+    fn step(&mut self, s: &Placed) -> Result<StepResult, AllocError> {
         let operands = named(s.part.a).max(named(s.part.b));
         let demand = match s.next {
             PlacedNext::Dispatch { .. } => operands.saturating_add(1),
@@ -269,10 +269,10 @@ impl Plain {
         };
         if self.bytes.len() < demand {
             if let Some(fault) = self.refusal(Mem::None, 0, self.samples(0)) {
-                return Ok(Comes::Refused(fault));
+                return Ok(StepResult::Refused(fault));
             }
             self.edge(0)?;
-            return Ok(Comes::Stalled);
+            return Ok(StepResult::Stalled);
         }
         let result = operated(s.part.op, self.on_bus(s.part.a), self.on_bus(s.part.b));
         let registers = self.loaded(&s.part, demand, shifted(s.part.shift, result));
@@ -283,7 +283,7 @@ impl Plain {
             self.samples(demand)
         };
         if let Some(fault) = self.refusal(s.part.mem, registers[0], at) {
-            return Ok(Comes::Refused(fault));
+            return Ok(StepResult::Refused(fault));
         }
         let dispatched = self.byte(operands);
         self.registers = registers;
@@ -302,7 +302,7 @@ impl Plain {
             self.edge(demand)?;
         }
         self.mpc = target(s.next, result, (dispatched % 256) as u16);
-        Ok(Comes::Done)
+        Ok(StepResult::Done)
     }
 
     fn loaded(&self, part: &Part, demand: usize, value: u32) -> [u32; 9] {
@@ -443,7 +443,7 @@ impl Plain {
     }
 }
 
-fn clock(machine: &mut Mic2, store: &Store, bus: &mut Bus, source: &mut PlainSource) -> Comes
+fn clock(machine: &mut Mic2, store: &Store, bus: &mut Bus, source: &mut PlainSource) -> StepResult
     requires phase { phase machine.old ≡ AtRest }
     requires store { store.now.machine ≡ Mic2Machine }
     ensures { phase machine.new ≡ AtRest }
@@ -453,11 +453,11 @@ fn clock(machine: &mut Mic2, store: &Store, bus: &mut Bus, source: &mut PlainSou
     machine.compute();
     match machine.edge(bus, source, &mut PlainSink::new()) {
         Ok(()) => if drive.stalled {
-            Comes::Stalled
+            StepResult::Stalled
         } else {
-            Comes::Done
+            StepResult::Done
         },
-        Err(fault) => Comes::Refused(fault),
+        Err(fault) => StepResult::Refused(fault),
     }
 }
 
@@ -501,7 +501,7 @@ fn alike(
         if clocked != comes || !plain.shows(&machine.registers()) {
             return Ok(step);
         }
-        refused = matches!(comes, Comes::Refused(_));
+        refused = matches!(comes, StepResult::Refused(_));
     }
     for at in 0..WORDS {
         if bus.peek(at) != Some(plain.memory_at(at)) {

@@ -29,8 +29,8 @@ abbrev pub appended : List ℕ → ℕ → ℕ → Option ℕ → Prefetch
 appended bytes imar skip None = record { bytes = bytes; imar = imar; skip = skip; pending = None }
 appended bytes imar skip (Some word) = record { bytes = bytes ++ drop skip (bytes_of_word word); imar = next imar; skip = 0; pending = None }
 
-abbrev pub filled : Prefetch → Prefetch
-filled u = appended u.bytes u.imar u.skip u.pending
+abbrev pub with_pending : Prefetch → Prefetch
+with_pending u = appended u.bytes u.imar u.skip u.pending
 
 -- and where at most two bytes are there then, the word at IMAR is sampled.
 
@@ -42,11 +42,11 @@ sampled_by u = if is_short u then Some u.imar else None
 
 -- the word address that an edge samples, if it samples one
 abbrev pub sampled_at : ℕ → Prefetch → Option ℕ
-sampled_at t u = sampled_by (filled (without t u))
+sampled_at t u = sampled_by (with_pending (without t u))
 
 -- an edge that takes t bytes, over these memory words
 unfoldable pub edge : List ℕ → ℕ → Prefetch → Prefetch
-edge words t u = record (filled (without t u)) { pending = option_map (λ at. slice_index words at) (sampled_at t u) }
+edge words t u = record (with_pending (without t u)) { pending = option_map (λ at. slice_index words at) (sampled_at t u) }
 
 -- A jump to a byte address drops what is there, and samples the word there.
 unfoldable pub jump : List ℕ → ℕ → Prefetch

@@ -15,7 +15,7 @@ use Rattle.mic2_interpreter.proofs.Accesses.{IsMap}
 use Rattle.mic2_interpreter.proofs.Units.{unit_at}
 use Rattle.mic2_interpreter.proofs.Queue.{Jumped, Goes, Waits}
 use Rattle.mic2_interpreter.proofs.Guided.{Short, moment_of, clocked, Arrives, IsSmooth, pass-clocked}
-use Rattle.mic2_interpreter.proofs.Boundaries.{Comes, at_boundary, stands_at, map_of, Place, place_at, place_on}
+use Rattle.mic2_interpreter.proofs.Boundaries.{ReachesBoundary, at_boundary, stands_at, map_of, Place, place_at, place_on}
 use Rattle.ijvm_simulation.specs.Stands.{Origin, IsMemory}
 use Rattle.ijvm_simulation.specs.Passes.{Moment, pass}
 use Rattle.ijvm_simulation.specs.Law.{Boots, reset_moment}
@@ -43,7 +43,7 @@ module _ (program : List ℕ) (has : HasStatements program) (o : Origin) (v : Ve
   starts = λ i. record { state = record start.state { unit = unit_starts o.words i }; world = start.world; stalls = 0 }
 
   -- one stall, for the first word of the text
-  pub boot : Comes program o 1 1 start (start_of v.main_locals input)
+  pub boot : ReachesBoundary program o 1 1 start (start_of v.main_locals input)
   boot =
       let map : IsMap (length o.words) = map_of v o loads in
       let p0 : Place o.words 0 0 = place_at o.words 0 0 refl (omega arith) in
@@ -76,7 +76,7 @@ module _ (program : List ℕ) (has : HasStatements program) (o : Origin) (v : Ve
 
   pub boots : BootsWithStall program o v input
   boots =
-      let c : Comes program o 1 1 start (start_of v.main_locals input) = boot in
+      let c : ReachesBoundary program o 1 1 start (start_of v.main_locals input) = boot in
       record {
         moves = record { n = 1; spent_is = refl; short = omega arith; begins = record { no_halt = refl; no_err = refl }; there = c.to; passes = c.passes; stands = c.stands };
         stalled = c.stalls;

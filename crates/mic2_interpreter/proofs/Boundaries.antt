@@ -23,7 +23,7 @@ use Rattle.mic2_interpreter.proofs.Queue.{Held, AtLeast, IsHeld, Bounds, is_enou
 use Rattle.mic2_interpreter.proofs.Places.{unit_there, bounds_there, stands_there, many_there}
 use Rattle.mic2_interpreter.proofs.Guided.{Short, standing, moment_of, settled_by, text_result, clocked, IsSmooth, Arrives, pass-clocked, outcome_is, step-refused}
 use Rattle.mic2_interpreter.proofs.Accesses.{IsMap, wrap_small, before_is}
-use Rattle.ijvm_simulation.specs.Stands.{Origin, Holds}
+use Rattle.ijvm_simulation.specs.Stands.{Origin, RegistersStand}
 use Rattle.ijvm_simulation.specs.Passes.{Moment, is_inside, pass}
 use Rattle.ijvm_simulation.specs.Law.{Shows, HasWord, Overruns}
 
@@ -52,7 +52,7 @@ module _ (o : Origin) (s : State) (m : Micro) (w : World) (stalls : ℕ) (h : St
   starts_held = subst (λ (p : ℕ). Bounds 2 p many) (sym h.ready.pc) (bounds_there o.words (s.at + 1) m.unit h.ready.unit h.ready.two)
 
 -- n + 1 microsteps, of which so many stall, come to the next boundary, which stands for this state
-pub record Comes (program : List ℕ) (o : Origin) (n waits : ℕ) (p : Moment Micro) (s : State) : Type 0 where
+pub record ReachesBoundary (program : List ℕ) (o : Origin) (n waits : ℕ) (p : Moment Micro) (s : State) : Type 0 where
   pub to : Moment Micro
   pub passes : pass mic2_meaning program n p ≡ Some to
   pub stands : Stands o s to.state to.world
@@ -60,7 +60,7 @@ pub record Comes (program : List ℕ) (o : Origin) (n waits : ℕ) (p : Moment M
 
 -- a symbolic state at a boundary that stands for this state
 pub record IsThere (o : Origin) (s : State) (t : Short) : Type 0 where
-  pub holds : Holds o s t.state.sp t.state.lv t.state.cpp t.state.tos t.world
+  pub holds : RegistersStand o s t.state.sp t.state.lv t.state.cpp t.state.tos t.world
   pub pc : t.state.pc ≡ s.at + 1
   pub near : s.at < 0x1FE00
   pub mpc : t.state.mpc ≡ byte_in o.words s.at
@@ -93,7 +93,7 @@ stands_at o s t have there held =
 pub comes : (program : List ℕ) (has : HasStatements program) (o : Origin) (map : IsMap (length o.words)) (b : Beat) (bs : List Beat) (gs : List ℕ) (m : Micro) (w : World) (k code waits : ℕ) (s s' : State) →
     Stands o s m w → byte_in o.words s.at ≡ code → IsSmooth o.words (b ∷ bs) gs (at_opcode code m w k) → IsThere o s' (clocked o.words (b ∷ bs) gs (at_opcode code m w k)) →
     (clocked o.words (b ∷ bs) gs (at_opcode code m w k)).stalls ≡ k + waits →
-    Comes program o (length bs) waits (record { state = m; world = w; stalls = k }) s'
+    ReachesBoundary program o (length bs) waits (record { state = m; world = w; stalls = k }) s'
 comes program has o map b bs gs m w k code waits s s' h is smooth there stalls =
     let a : Arrives o.words (pass mic2_meaning program (length bs) (moment_of o.words (at_opcode code m w k) (length m.unit.bytes))) (clocked o.words (b ∷ bs) gs (at_opcode code m w k)) =
     pass-clocked program has o.words map.low b bs gs (at_opcode code m w k) (length m.unit.bytes) h.holds.memory (starts_held o s m w k h) smooth in
@@ -155,7 +155,7 @@ counts o s m w h inside =
     }
 
 -- a symbolic state at a boundary, by what the machine has beside what it holds
-pub at_boundary : (o : Origin) (s : State) (t : Short) (least : ℕ) → Holds o s t.state.sp t.state.lv t.state.cpp t.state.tos t.world →
+pub at_boundary : (o : Origin) (s : State) (t : Short) (least : ℕ) → RegistersStand o s t.state.sp t.state.lv t.state.cpp t.state.tos t.world →
     t.state.pc ≡ s.at + 1 → s.at < 0x1FE00 → t.state.mpc ≡ byte_in o.words s.at → t.state.word ≡ None → t.state.begins ≡ true → t.queue ≡ AtLeast least → nat_le 2 least ≡ true → IsThere o s t
 at_boundary o s t least holds pc near mpc word begins queue two =
     record { holds = holds; pc = pc; near = near; mpc = mpc; word = word; begins = begins; least = least; queue = queue; two = two }
@@ -188,7 +188,7 @@ begins o s m w code h is no_halt no_err =
 module _ (program : List ℕ) (o : Origin) (v : VerifiedView) where
   -- a pass to the next boundary, where it takes the instruction's cycles
   pub moves : (s to a : State) (q : Moment Micro) (i : Instr) (n waits code : ℕ) → Stands o s q.state q.world → byte_in o.words s.at ≡ code → (code == 255) ≡ false → (code == 254) ≡ false →
-      cost v.image Mic2 i s ≡ n + 1 → n < 1024 → a ≡ to → Comes program o n waits q a → MovesWithStalls program o q (cost v.image Mic2 i s) waits to
+      cost v.image Mic2 i s ≡ n + 1 → n < 1024 → a ≡ to → ReachesBoundary program o n waits q a → MovesWithStalls program o q (cost v.image Mic2 i s) waits to
   moves s to a q i n waits code h is no_halt no_err spent short same c =
       record {
         moves = record {

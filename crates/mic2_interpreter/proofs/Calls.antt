@@ -32,7 +32,7 @@ use Rattle.mic2_interpreter.proofs.Accesses.{IsMap, Access, access, next_is, wri
 use Rattle.mic2_interpreter.proofs.Keeps.{set_same, memory_set, frames_at, memory_at}
 use Rattle.mic2_interpreter.proofs.Facts.{with_operands, place, base_above, Top, top}
 use Rattle.mic2_interpreter.proofs.Queue.{Beat, Goes, Waits, WaitsLate, WaitsOn}
-use Rattle.mic2_interpreter.proofs.Boundaries.{Comes, comes, steps, Counts, counts, Place, place_at, place_on, pair_at, at_boundary, map_of, moves, overruns}
+use Rattle.mic2_interpreter.proofs.Boundaries.{ReachesBoundary, comes, steps, Counts, counts, Place, place_at, place_on, pair_at, at_boundary, map_of, moves, overruns}
 
 -- what a method's frame says of the words below its operands
 link_of : (words : List ℕ) (lv many caller r : ℕ) (back : Option ℕ) → back ≡ Some r → IsLinked words lv many caller back → IsLinked words lv many caller (Some r)
@@ -110,7 +110,7 @@ stalls_of_call late = if late then 2 else 1
 
 module _ (program : List ℕ) (has : HasStatements program) (o : Origin) (map : IsMap (length o.words)) (keep : KeepFrames) (s : State) (m : Micro) (w : World) (k : ℕ) (h : Stands o s m w) (inside : s.at < 0x10000) where
   ireturn : (y r : ℕ) (rest : List ℕ) (f : Frame) (fs : List Frame) → byte_in o.words s.at ≡ 0xAC → s.running.operands ≡ y ∷ rest → s.running.back ≡ Some r → s.callers ≡ f ∷ fs → r < 0x10000 →
-      Comes program o 7 0 (record { state = m; world = w; stalls = k }) (record s { running = record f { operands = y ∷ f.operands }; callers = fs; at = r })
+      ReachesBoundary program o 7 0 (record { state = m; world = w; stalls = k }) (record s { running = record f { operands = y ∷ f.operands }; callers = fs; at = r })
   ireturn y r rest f fs code ops back callers to =
       let c : Counts o s m = counts o s m w h inside in
       let t : Top o map s m.sp m.lv m.cpp m.tos w h.holds y rest = top o map s m.sp m.lv m.cpp m.tos w h.holds y rest ops in
@@ -197,7 +197,7 @@ module _ (program : List ℕ) (has : HasStatements program) (o : Origin) (map : 
 
   invoke : (i e more : ℕ) (ps : List ℕ) (x : ℕ) (rest : List ℕ) (late : Bool) → (e % 4 == 3) ≡ late → byte_in o.words s.at ≡ 0xB6 → Entering o s m w i e (length ps) more rest → e + 4 < 0x10000 →
       s.running.operands ≡ ps ++ x ∷ rest → place s rest + length ps + 1 + more + 1 < length o.words →
-      Comes program o (length (plan late (steps 8))) (stalls_of_call late) (record { state = m; world = w; stalls = k })
+      ReachesBoundary program o (length (plan late (steps 8))) (stalls_of_call late) (record { state = m; world = w; stalls = k })
       (record s { running = called ps more (s.at + 3); callers = with_operands s rest ∷ s.callers; at = e + 4 })
   invoke i e more ps x rest false remainder code en text ops space =
       let c : Counts o s m = counts o s m w h inside in
@@ -346,7 +346,7 @@ module _ (program : List ℕ) (has : HasStatements program) (o : Origin) (v : Ve
 
   -- the cycles of a call by its entry
   invoked : (s to : State) (q : Moment Micro) (k e : ℕ) (late : Bool) (a : State) → Stands o s q.state q.world → byte_in o.words s.at ≡ 0xB6 → slice_index v.image.pool k ≡ e → (e % 4 == 3) ≡ late → a ≡ to →
-      Comes program o (length (plan late (steps 8))) (stalls_of_call late) q a → MovesWithStalls program o q (cost v.image Mic2 (Invokevirtual k) s) (stalls_of v.image (Invokevirtual k)) to
+      ReachesBoundary program o (length (plan late (steps 8))) (stalls_of_call late) q a → MovesWithStalls program o q (cost v.image Mic2 (Invokevirtual k) s) (stalls_of v.image (Invokevirtual k)) to
   invoked s to q k e false a h code named late same c =
       let early : (slice_index v.image.pool k % 4 == 3) ≡ false = ap (λ (j : ℕ). j % 4 == 3) named ∙ late in
       subst (λ (n : ℕ). MovesWithStalls program o q (cost v.image Mic2 (Invokevirtual k) s) n to) (sym (ap (λ (b : Bool). stalls_of_call b) early))

@@ -10,7 +10,7 @@ use Rattle.mic2_datapath.specs.Mic2.{mic2_meaning}
 use Rattle.ijvm_simulation.specs.Stands.{Origin}
 use Rattle.ijvm_simulation.specs.Passes.{Moment}
 use Rattle.ijvm_simulation.specs.Verified.{Fine, IsNext}
-use Rattle.ijvm_simulation.specs.Law.{Stops, Ends}
+use Rattle.ijvm_simulation.specs.Law.{Stops, HaltsAndErrs}
 use Rattle.mic2_interpreter.specs.Stands.{Stands}
 
 -- MPC is the opcode, so the run ends at the boundary
@@ -21,5 +21,5 @@ module _ (program : List ℕ) (o : Origin) (v : VerifiedView) where
   errs : (s : State) (q : Moment Micro) → Fine v s → IsNext v o s Err → Stands o s q.state q.world → Stops mic2_meaning program (Stands o) o.given q (cost v.image Mic2 Err s) 0x0FE
   errs s q fine n h = inl (record { spent_is = refl; mpc_is = h.ready.mpc ∙ n.reads })
 
-  pub ends : Ends mic2_meaning program (Stands o) o.given v o
+  pub ends : HaltsAndErrs mic2_meaning program (Stands o) o.given v o
   ends = record { halts = halts; errs = errs }

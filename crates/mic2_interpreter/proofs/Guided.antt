@@ -4,7 +4,7 @@ use Rattle.std.specs.Prelude.{nat_lt, slice_index, if◌then◌else◌, ◌||◌
 use Rattle.std.proofs.lemmas.Bool.Decides.{nat_tests}
 use Rattle.machine_words.specs.Arithmetic.{signed_byte, signed_pair}
 use Rattle.console_port.specs.World.{World, Refusal, byte_in}
-use Rattle.micro_word.specs.Canonical.{is_byte, is_pair}
+use Rattle.micro_word.specs.Words.{is_byte, is_pair}
 use Rattle.micro_word.specs.Operation.{alu, shifted}
 use Rattle.micro_word.specs.declared.statement.BusSource.{BusSource}
 use Rattle.micro_word.specs.declared.statement.BusSource.TheVariants as sources
@@ -33,12 +33,12 @@ use Rattle.mic2_interpreter.proofs.Units.{unit_at, have_after, byte_there, lengt
 use Rattle.mic2_interpreter.proofs.Queue.{Held, Jumped, IsHeld, is_enough, held_after, held_fits, held_enough, held_edge, Beat, Goes, Waits, WaitsLate, WaitsOn, IsWait, held_waited, wait_short, wait_held}
 
 -- the next address: a goto's own, and else the first guess
-abbrev pub next_of : PlacedNext → List ℕ → ℕ
-next_of (Goto to) gs = to
-next_of (Dispatch high) [] = 0
-next_of (Dispatch high) (g ∷ gs) = g
-next_of (Branch test low) [] = 0
-next_of (Branch test low) (g ∷ gs) = g
+abbrev pub address_behind : PlacedNext → List ℕ → ℕ
+address_behind (Goto to) gs = to
+address_behind (Dispatch high) [] = 0
+address_behind (Dispatch high) (g ∷ gs) = g
+address_behind (Branch test low) [] = 0
+address_behind (Branch test low) (g ∷ gs) = g
 
 -- the guesses that are left
 abbrev pub left_of : PlacedNext → List ℕ → List ℕ
@@ -173,7 +173,7 @@ module _ (origin : List ℕ) where
   guided s gs t =
       let x = text_result origin s.part t.state in
       record {
-        state = clock_by top s x (next_of s.next gs) t.state.unit t.state t.world;
+        state = clock_by top s x (address_behind s.next gs) t.state.unit t.state t.world;
         queue = queue_after (jumps s.part) (demand s) t.queue;
         world = world_by top s x t.state t.world;
         stalls = t.stalls;
@@ -186,7 +186,7 @@ module _ (origin : List ℕ) where
       let r = settled_by s x t.state in
       (is_enough (demand s) t.queue ≡ true)
       × (memory_refusal top s.part.mem r.mar ≡ None)
-      × (target s.next x (text_from origin t.state.pc (operand_bytes s.part)) ≡ next_of s.next gs)
+      × (target s.next x (text_from origin t.state.pc (operand_bytes s.part)) ≡ address_behind s.next gs)
       × IsAbove s.part.mem r.mar
       × (t.state.pc < 0x1FF00)
       × (r.pc < 0x1FF00)
@@ -283,7 +283,7 @@ module _ (origin : List ℕ) where
       let none : refusal_by top s x (standing origin m have) ≡ None = ap₂ first_refusal c.1 unit in
       let byte : (0 < dispatch_bytes s.next → byte_at (unit_at origin m.pc have) (operand_bytes s.part) ≡ text_from origin m.pc (operand_bytes s.part)) =
       λ l. front_is origin m.pc have (operand_bytes s.part) (omega arith) in
-      let next : target s.next x (byte_at (unit_at origin m.pc have) (operand_bytes s.part)) ≡ next_of s.next gs = target_same s.next x _ _ byte ∙ c.2 in
+      let next : target s.next x (byte_at (unit_at origin m.pc have) (operand_bytes s.part)) ≡ address_behind s.next gs = target_same s.next x _ _ byte ∙ c.2 in
       let after : unit_after (jumps s.part) (written top s.part.mem (ports_given (settled_by s x m)) w).words (settled_by s x m).pc (demand s) (unit_at origin m.pc have)
       ≡ unit_at origin (settled_by s x m).pc (have_behind (jumps s.part) m.pc (demand s) have) =
       unit_is s m have x (written top s.part.mem (ports_given (settled_by s x m)) w).words (jumps s.part) refl les f.few

@@ -27,7 +27,7 @@ use Rattle.mic2_interpreter.proofs.Shipped.{HasStatements}
 use Rattle.mic2_interpreter.proofs.Accesses.{IsMap, Access, before_is, plus_comm}
 use Rattle.mic2_interpreter.proofs.Facts.{place, base_above, Top, top, Two, two, two_down, two_next, drops, IsTop_at}
 use Rattle.mic2_interpreter.proofs.Queue.{Goes}
-use Rattle.mic2_interpreter.proofs.Boundaries.{Comes, comes, steps, Counts, counts, Place, place_at, place_on, signed_pair_at, at_boundary, map_of, moves}
+use Rattle.mic2_interpreter.proofs.Boundaries.{ReachesBoundary, comes, steps, Counts, counts, Place, place_at, place_on, signed_pair_at, at_boundary, map_of, moves}
 
 -- where the words of goto come to
 abbrev pub goes_to : List ℕ → Micro → ℕ
@@ -60,7 +60,7 @@ module _ (program : List ℕ) (has : HasStatements program) (o : Origin) (map : 
       let there : Place o.words (goes_to o.words m) (jump o.words s.at) = place_at o.words (goes_to o.words m) (jump o.words s.at) is (omega arith) in
       record { there = there; behind = place_on o.words (goes_to o.words m) (jump o.words s.at) 1 (jump o.words s.at + 1) there refl (omega arith) }
 
-  go : byte_in o.words s.at ≡ 0xA7 → jump o.words s.at < 0x10000 → Comes program o 3 0 (record { state = m; world = w; stalls = k }) (moved s s.running.operands (jump o.words s.at))
+  go : byte_in o.words s.at ≡ 0xA7 → jump o.words s.at < 0x10000 → ReachesBoundary program o 3 0 (record { state = m; world = w; stalls = k }) (moved s s.running.operands (jump o.words s.at))
   go code to =
       let c : Counts o s m = counts o s m w h inside in
       let j : Jump o s m = jumps to in
@@ -72,7 +72,7 @@ module _ (program : List ℕ) (has : HasStatements program) (o : Origin) (map : 
       (sym (add-zero k))
 
   ifeq_taken : (y : ℕ) (rest : List ℕ) → byte_in o.words s.at ≡ 0x99 → s.running.operands ≡ y ∷ rest → (y == 0) ≡ true → jump o.words s.at < 0x10000 →
-      Comes program o 7 0 (record { state = m; world = w; stalls = k }) (moved s rest (jump o.words s.at))
+      ReachesBoundary program o 7 0 (record { state = m; world = w; stalls = k }) (moved s rest (jump o.words s.at))
   ifeq_taken y rest code ops flag to =
       let c : Counts o s m = counts o s m w h inside in
       let t : Top o map s m.sp m.lv m.cpp m.tos w h.holds y rest = top o map s m.sp m.lv m.cpp m.tos w h.holds y rest ops in
@@ -86,7 +86,7 @@ module _ (program : List ℕ) (has : HasStatements program) (o : Origin) (map : 
       (sym (add-zero k))
 
   ifeq_not : (y : ℕ) (rest : List ℕ) → byte_in o.words s.at ≡ 0x99 → s.running.operands ≡ y ∷ rest → (y == 0) ≡ false →
-      Comes program o 5 0 (record { state = m; world = w; stalls = k }) (moved s rest (s.at + 3))
+      ReachesBoundary program o 5 0 (record { state = m; world = w; stalls = k }) (moved s rest (s.at + 3))
   ifeq_not y rest code ops flag =
       let c : Counts o s m = counts o s m w h inside in
       let t : Top o map s m.sp m.lv m.cpp m.tos w h.holds y rest = top o map s m.sp m.lv m.cpp m.tos w h.holds y rest ops in
@@ -99,7 +99,7 @@ module _ (program : List ℕ) (has : HasStatements program) (o : Origin) (map : 
       (sym (add-zero k))
 
   iflt_taken : (y : ℕ) (rest : List ℕ) → byte_in o.words s.at ≡ 0x9B → s.running.operands ≡ y ∷ rest → is_negative y ≡ true → jump o.words s.at < 0x10000 →
-      Comes program o 7 0 (record { state = m; world = w; stalls = k }) (moved s rest (jump o.words s.at))
+      ReachesBoundary program o 7 0 (record { state = m; world = w; stalls = k }) (moved s rest (jump o.words s.at))
   iflt_taken y rest code ops flag to =
       let c : Counts o s m = counts o s m w h inside in
       let t : Top o map s m.sp m.lv m.cpp m.tos w h.holds y rest = top o map s m.sp m.lv m.cpp m.tos w h.holds y rest ops in
@@ -113,7 +113,7 @@ module _ (program : List ℕ) (has : HasStatements program) (o : Origin) (map : 
       (sym (add-zero k))
 
   iflt_not : (y : ℕ) (rest : List ℕ) → byte_in o.words s.at ≡ 0x9B → s.running.operands ≡ y ∷ rest → is_negative y ≡ false →
-      Comes program o 5 0 (record { state = m; world = w; stalls = k }) (moved s rest (s.at + 3))
+      ReachesBoundary program o 5 0 (record { state = m; world = w; stalls = k }) (moved s rest (s.at + 3))
   iflt_not y rest code ops flag =
       let c : Counts o s m = counts o s m w h inside in
       let t : Top o map s m.sp m.lv m.cpp m.tos w h.holds y rest = top o map s m.sp m.lv m.cpp m.tos w h.holds y rest ops in
@@ -126,7 +126,7 @@ module _ (program : List ℕ) (has : HasStatements program) (o : Origin) (map : 
       (sym (add-zero k))
 
   icmpeq_taken : (y x : ℕ) (rest : List ℕ) → byte_in o.words s.at ≡ 0x9F → s.running.operands ≡ y ∷ x ∷ rest → IsWord y → IsWord x → (x == y) ≡ true → jump o.words s.at < 0x10000 →
-      Comes program o 9 0 (record { state = m; world = w; stalls = k }) (moved s rest (jump o.words s.at))
+      ReachesBoundary program o 9 0 (record { state = m; world = w; stalls = k }) (moved s rest (jump o.words s.at))
   icmpeq_taken y x rest code ops ly lx flag to =
       let c : Counts o s m = counts o s m w h inside in
       let t : Two o map s m.sp m.lv m.cpp m.tos w h.holds y x rest = two o map s m.sp m.lv m.cpp m.tos w h.holds y x rest ops in
@@ -145,7 +145,7 @@ module _ (program : List ℕ) (has : HasStatements program) (o : Origin) (map : 
       (sym (add-zero k))
 
   icmpeq_not : (y x : ℕ) (rest : List ℕ) → byte_in o.words s.at ≡ 0x9F → s.running.operands ≡ y ∷ x ∷ rest → IsWord y → IsWord x → (x == y) ≡ false →
-      Comes program o 7 0 (record { state = m; world = w; stalls = k }) (moved s rest (s.at + 3))
+      ReachesBoundary program o 7 0 (record { state = m; world = w; stalls = k }) (moved s rest (s.at + 3))
   icmpeq_not y x rest code ops ly lx flag =
       let c : Counts o s m = counts o s m w h inside in
       let t : Two o map s m.sp m.lv m.cpp m.tos w h.holds y x rest = two o map s m.sp m.lv m.cpp m.tos w h.holds y x rest ops in
@@ -184,7 +184,7 @@ module _ (program : List ℕ) (has : HasStatements program) (o : Origin) (v : Ve
   -- a branch by a test of the top
   branched : (s to : State) (q : Moment Micro) (i : Instr) (z : ℤ) (t : Bool) (rest : List ℕ) (code : ℕ) → Stands o s q.state q.world → byte_in o.words s.at ≡ code → (code == 255) ≡ false → (code == 254) ≡ false → jump o.words s.at ≡ target s.at z →
       moved s rest (way s.at z t) ≡ to → (t ≡ true → cost v.image Mic2 i s ≡ 8) → (t ≡ false → cost v.image Mic2 i s ≡ 6) →
-      (t ≡ true → Comes program o 7 0 q (moved s rest (jump o.words s.at))) → (t ≡ false → Comes program o 5 0 q (moved s rest (s.at + 3))) →
+      (t ≡ true → ReachesBoundary program o 7 0 q (moved s rest (jump o.words s.at))) → (t ≡ false → ReachesBoundary program o 5 0 q (moved s rest (s.at + 3))) →
       MovesWithStalls program o q (cost v.image Mic2 i s) 0 to
   branched s to q i z true rest code h is no_halt no_err e same jumps_in falls_in taken not =
       moves program o v s to _ q i 7 0 code h is no_halt no_err (jumps_in refl) (omega arith) (ap (moved s rest) e ∙ same) (taken refl)
@@ -194,7 +194,7 @@ module _ (program : List ℕ) (has : HasStatements program) (o : Origin) (v : Ve
   -- IF_ICMPEQ takes two cycles more
   compared : (s to : State) (q : Moment Micro) (i : Instr) (z : ℤ) (t : Bool) (rest : List ℕ) (code : ℕ) → Stands o s q.state q.world → byte_in o.words s.at ≡ code → (code == 255) ≡ false → (code == 254) ≡ false → jump o.words s.at ≡ target s.at z →
       moved s rest (way s.at z t) ≡ to → (t ≡ true → cost v.image Mic2 i s ≡ 10) → (t ≡ false → cost v.image Mic2 i s ≡ 8) →
-      (t ≡ true → Comes program o 9 0 q (moved s rest (jump o.words s.at))) → (t ≡ false → Comes program o 7 0 q (moved s rest (s.at + 3))) →
+      (t ≡ true → ReachesBoundary program o 9 0 q (moved s rest (jump o.words s.at))) → (t ≡ false → ReachesBoundary program o 7 0 q (moved s rest (s.at + 3))) →
       MovesWithStalls program o q (cost v.image Mic2 i s) 0 to
   compared s to q i z true rest code h is no_halt no_err e same jumps_in falls_in taken not =
       moves program o v s to _ q i 9 0 code h is no_halt no_err (jumps_in refl) (omega arith) (ap (moved s rest) e ∙ same) (taken refl)

@@ -27,11 +27,11 @@ use Rattle.mic2_interpreter.proofs.Accesses.{IsMap, Access, access, next_is, wri
 use Rattle.mic2_interpreter.proofs.Keeps.{memory_set, frames_at, memory_at}
 use Rattle.mic2_interpreter.proofs.Facts.{with_operands, place, base_above, room, Top, top, local_at, pushes, next_top_is}
 use Rattle.mic2_interpreter.proofs.Queue.{Goes}
-use Rattle.mic2_interpreter.proofs.Boundaries.{Comes, comes, steps, Counts, counts, pair_at, signed_pair_at, at_boundary, map_of, moves, overruns}
+use Rattle.mic2_interpreter.proofs.Boundaries.{ReachesBoundary, comes, steps, Counts, counts, pair_at, signed_pair_at, at_boundary, map_of, moves, overruns}
 
 module _ (program : List ℕ) (has : HasStatements program) (o : Origin) (map : IsMap (length o.words)) (keep : KeepFrames) (s : State) (m : Micro) (w : World) (k : ℕ) (h : Stands o s m w) (inside : s.at < 0x10000) where
   iload : (i v : ℕ) → byte_in o.words s.at ≡ 0x15 → i ≡ byte_in o.words (s.at + 1) → slice_get s.running.locals i ≡ Some (Some v) → base (frames_of s) < length o.words →
-      Comes program o 2 0 (record { state = m; world = w; stalls = k }) (push s v (s.at + 2))
+      ReachesBoundary program o 2 0 (record { state = m; world = w; stalls = k }) (push s v (s.at + 2))
   iload i v code index local space =
       let c : Counts o s m = counts o s m w h inside in
       let r : Access (length o.words) w (next m.sp) (base (frames_of s)) = room o map s m.sp m.lv m.cpp m.tos w h.holds space in
@@ -51,7 +51,7 @@ module _ (program : List ℕ) (has : HasStatements program) (o : Origin) (map : 
       (sym (add-zero k))
 
   wide_iload : (i v : ℕ) → byte_in o.words s.at ≡ 0xC4 → byte_in o.words (s.at + 1) ≡ 0x15 → i ≡ 256 * byte_in o.words (s.at + 2) + byte_in o.words (s.at + 3) → slice_get s.running.locals i ≡ Some (Some v) → base (frames_of s) < length o.words →
-      Comes program o 3 0 (record { state = m; world = w; stalls = k }) (push s v (s.at + 4))
+      ReachesBoundary program o 3 0 (record { state = m; world = w; stalls = k }) (push s v (s.at + 4))
   wide_iload i v code code2 index local space =
       let c : Counts o s m = counts o s m w h inside in
       let r : Access (length o.words) w (next m.sp) (base (frames_of s)) = room o map s m.sp m.lv m.cpp m.tos w h.holds space in
@@ -72,7 +72,7 @@ module _ (program : List ℕ) (has : HasStatements program) (o : Origin) (map : 
       (sym (add-zero k))
 
   ldc_w : (i v : ℕ) → byte_in o.words s.at ≡ 0x13 → i ≡ 256 * byte_in o.words (s.at + 1) + byte_in o.words (s.at + 2) → i < 0x4000 → slice_index o.words (0x4000 + i) ≡ v → base (frames_of s) < length o.words →
-      Comes program o 2 0 (record { state = m; world = w; stalls = k }) (push s v (s.at + 3))
+      ReachesBoundary program o 2 0 (record { state = m; world = w; stalls = k }) (push s v (s.at + 3))
   ldc_w i v code index small constant space =
       let c : Counts o s m = counts o s m w h inside in
       let r : Access (length o.words) w (next m.sp) (base (frames_of s)) = room o map s m.sp m.lv m.cpp m.tos w h.holds space in
@@ -91,7 +91,7 @@ module _ (program : List ℕ) (has : HasStatements program) (o : Origin) (map : 
       (sym (add-zero k))
 
   istore : (i y : ℕ) (rest : List ℕ) → byte_in o.words s.at ≡ 0x36 → i ≡ byte_in o.words (s.at + 1) → s.running.operands ≡ y ∷ rest → i < length s.running.locals → is_own s.running.back i ≡ true →
-      Comes program o 4 0 (record { state = m; world = w; stalls = k }) (with_local s i y rest (s.at + 2))
+      ReachesBoundary program o 4 0 (record { state = m; world = w; stalls = k }) (with_local s i y rest (s.at + 2))
   istore i y rest code index ops l own =
       let c : Counts o s m = counts o s m w h inside in
       let t : Top o map s m.sp m.lv m.cpp m.tos w h.holds y rest = top o map s m.sp m.lv m.cpp m.tos w h.holds y rest ops in
@@ -126,7 +126,7 @@ module _ (program : List ℕ) (has : HasStatements program) (o : Origin) (map : 
       (sym (add-zero k))
 
   wide_istore : (i y : ℕ) (rest : List ℕ) → byte_in o.words s.at ≡ 0xC4 → byte_in o.words (s.at + 1) ≡ 0x36 → i ≡ 256 * byte_in o.words (s.at + 2) + byte_in o.words (s.at + 3) → s.running.operands ≡ y ∷ rest → i < length s.running.locals → is_own s.running.back i ≡ true →
-      Comes program o 5 0 (record { state = m; world = w; stalls = k }) (with_local s i y rest (s.at + 4))
+      ReachesBoundary program o 5 0 (record { state = m; world = w; stalls = k }) (with_local s i y rest (s.at + 4))
   wide_istore i y rest code code2 index ops l own =
       let c : Counts o s m = counts o s m w h inside in
       let op2 : byte_in o.words m.pc + 256 ≡ 0x136 = omega (arith, c.p0.byte ∙ code2) in
@@ -162,7 +162,7 @@ module _ (program : List ℕ) (has : HasStatements program) (o : Origin) (map : 
       (sym (add-zero k))
 
   iinc : (i v : ℕ) → byte_in o.words s.at ≡ 0x84 → i ≡ byte_in o.words (s.at + 1) → slice_get s.running.locals i ≡ Some (Some v) → is_own s.running.back i ≡ true →
-      Comes program o 2 0 (record { state = m; world = w; stalls = k }) (with_local s i (plus v (signed_byte (byte_in o.words (s.at + 2)))) s.running.operands (s.at + 3))
+      ReachesBoundary program o 2 0 (record { state = m; world = w; stalls = k }) (with_local s i (plus v (signed_byte (byte_in o.words (s.at + 2)))) s.running.operands (s.at + 3))
   iinc i v code index local own =
       let c : Counts o s m = counts o s m w h inside in
       let l : i < length s.running.locals = slice_get_within s.running.locals i (Some v) local in
@@ -196,7 +196,7 @@ module _ (program : List ℕ) (has : HasStatements program) (o : Origin) (map : 
       (sym (add-zero k))
 
   wide_iinc : (i v : ℕ) → byte_in o.words s.at ≡ 0xC4 → byte_in o.words (s.at + 1) ≡ 0x84 → i ≡ 256 * byte_in o.words (s.at + 2) + byte_in o.words (s.at + 3) → slice_get s.running.locals i ≡ Some (Some v) → is_own s.running.back i ≡ true →
-      Comes program o 4 0 (record { state = m; world = w; stalls = k }) (with_local s i (plus v (signed_pair (byte_in o.words (s.at + 4)) (byte_in o.words (s.at + 5)))) s.running.operands (s.at + 6))
+      ReachesBoundary program o 4 0 (record { state = m; world = w; stalls = k }) (with_local s i (plus v (signed_pair (byte_in o.words (s.at + 4)) (byte_in o.words (s.at + 5)))) s.running.operands (s.at + 6))
   wide_iinc i v code code2 index local own =
       let c : Counts o s m = counts o s m w h inside in
       let op2 : byte_in o.words m.pc + 256 ≡ 0x184 = omega (arith, c.p0.byte ∙ code2) in

@@ -28,10 +28,10 @@ use Rattle.mic2_interpreter.proofs.Accesses.{IsMap, Access, access, next_is, wri
 use Rattle.mic2_interpreter.proofs.Keeps.{set_same, memory_set, frames_at, memory_at}
 use Rattle.mic2_interpreter.proofs.Facts.{with_operands, place, base_above, room, Top, top, Two, two, pushes, drops}
 use Rattle.mic2_interpreter.proofs.Queue.{Goes}
-use Rattle.mic2_interpreter.proofs.Boundaries.{Comes, comes, steps, Counts, counts, at_boundary, map_of, moves, overruns}
+use Rattle.mic2_interpreter.proofs.Boundaries.{ReachesBoundary, comes, steps, Counts, counts, at_boundary, map_of, moves, overruns}
 
 module _ (program : List ℕ) (has : HasStatements program) (o : Origin) (map : IsMap (length o.words)) (keep : KeepFrames) (s : State) (m : Micro) (w : World) (k : ℕ) (h : Stands o s m w) (inside : s.at < 0x10000) where
-  nop : byte_in o.words s.at ≡ 0x00 → Comes program o 0 0 (record { state = m; world = w; stalls = k }) (moved s s.running.operands (s.at + 1))
+  nop : byte_in o.words s.at ≡ 0x00 → ReachesBoundary program o 0 0 (record { state = m; world = w; stalls = k }) (moved s s.running.operands (s.at + 1))
   nop code =
       let c : Counts o s m = counts o s m w h inside in
       comes program has o map Goes (steps 0) (byte_in o.words (s.at + 1) ∷ []) m w k 0x00 0 s _ h code (assumption)
@@ -42,7 +42,7 @@ module _ (program : List ℕ) (has : HasStatements program) (o : Origin) (map : 
       (sym (add-zero k))
 
   bipush : byte_in o.words s.at ≡ 0x10 → base (frames_of s) < length o.words →
-      Comes program o 1 0 (record { state = m; world = w; stalls = k }) (push s (signed_byte (byte_in o.words (s.at + 1))) (s.at + 2))
+      ReachesBoundary program o 1 0 (record { state = m; world = w; stalls = k }) (push s (signed_byte (byte_in o.words (s.at + 1))) (s.at + 2))
   bipush code space =
       let c : Counts o s m = counts o s m w h inside in
       let r : Access (length o.words) w (next m.sp) (base (frames_of s)) = room o map s m.sp m.lv m.cpp m.tos w h.holds space in
@@ -57,7 +57,7 @@ module _ (program : List ℕ) (has : HasStatements program) (o : Origin) (map : 
       (sym (add-zero k))
 
   pop : (y : ℕ) (rest : List ℕ) → byte_in o.words s.at ≡ 0x57 → s.running.operands ≡ y ∷ rest →
-      Comes program o 2 0 (record { state = m; world = w; stalls = k }) (moved s rest (s.at + 1))
+      ReachesBoundary program o 2 0 (record { state = m; world = w; stalls = k }) (moved s rest (s.at + 1))
   pop y rest code ops =
       let c : Counts o s m = counts o s m w h inside in
       let t : Top o map s m.sp m.lv m.cpp m.tos w h.holds y rest = top o map s m.sp m.lv m.cpp m.tos w h.holds y rest ops in
@@ -69,7 +69,7 @@ module _ (program : List ℕ) (has : HasStatements program) (o : Origin) (map : 
       (sym (add-zero k))
 
   dup : (y : ℕ) (rest : List ℕ) → byte_in o.words s.at ≡ 0x59 → s.running.operands ≡ y ∷ rest → base (frames_of s) < length o.words →
-      Comes program o 1 0 (record { state = m; world = w; stalls = k }) (push s y (s.at + 1))
+      ReachesBoundary program o 1 0 (record { state = m; world = w; stalls = k }) (push s y (s.at + 1))
   dup y rest code ops space =
       let c : Counts o s m = counts o s m w h inside in
       let t : Top o map s m.sp m.lv m.cpp m.tos w h.holds y rest = top o map s m.sp m.lv m.cpp m.tos w h.holds y rest ops in
@@ -84,7 +84,7 @@ module _ (program : List ℕ) (has : HasStatements program) (o : Origin) (map : 
       (sym (add-zero k))
 
   swap : (y x : ℕ) (rest : List ℕ) → byte_in o.words s.at ≡ 0x5F → s.running.operands ≡ y ∷ x ∷ rest →
-      Comes program o 5 0 (record { state = m; world = w; stalls = k }) (moved s (x ∷ y ∷ rest) (s.at + 1))
+      ReachesBoundary program o 5 0 (record { state = m; world = w; stalls = k }) (moved s (x ∷ y ∷ rest) (s.at + 1))
   swap y x rest code ops =
       let c : Counts o s m = counts o s m w h inside in
       let t : Two o map s m.sp m.lv m.cpp m.tos w h.holds y x rest = two o map s m.sp m.lv m.cpp m.tos w h.holds y x rest ops in
@@ -120,7 +120,7 @@ module _ (program : List ℕ) (has : HasStatements program) (o : Origin) (map : 
       (sym (add-zero k))
 
   iadd : (y x : ℕ) (rest : List ℕ) → byte_in o.words s.at ≡ 0x60 → s.running.operands ≡ y ∷ x ∷ rest →
-      Comes program o 2 0 (record { state = m; world = w; stalls = k }) (moved s (plus x y ∷ rest) (s.at + 1))
+      ReachesBoundary program o 2 0 (record { state = m; world = w; stalls = k }) (moved s (plus x y ∷ rest) (s.at + 1))
   iadd y x rest code ops =
       let c : Counts o s m = counts o s m w h inside in
       let t : Two o map s m.sp m.lv m.cpp m.tos w h.holds y x rest = two o map s m.sp m.lv m.cpp m.tos w h.holds y x rest ops in
@@ -135,7 +135,7 @@ module _ (program : List ℕ) (has : HasStatements program) (o : Origin) (map : 
       (sym (add-zero k))
 
   isub : (y x : ℕ) (rest : List ℕ) → byte_in o.words s.at ≡ 0x64 → s.running.operands ≡ y ∷ x ∷ rest →
-      Comes program o 2 0 (record { state = m; world = w; stalls = k }) (moved s (minus x y ∷ rest) (s.at + 1))
+      ReachesBoundary program o 2 0 (record { state = m; world = w; stalls = k }) (moved s (minus x y ∷ rest) (s.at + 1))
   isub y x rest code ops =
       let c : Counts o s m = counts o s m w h inside in
       let t : Two o map s m.sp m.lv m.cpp m.tos w h.holds y x rest = two o map s m.sp m.lv m.cpp m.tos w h.holds y x rest ops in
@@ -150,7 +150,7 @@ module _ (program : List ℕ) (has : HasStatements program) (o : Origin) (map : 
       (sym (add-zero k))
 
   iand : (y x : ℕ) (rest : List ℕ) → byte_in o.words s.at ≡ 0x7E → s.running.operands ≡ y ∷ x ∷ rest →
-      Comes program o 2 0 (record { state = m; world = w; stalls = k }) (moved s (bit_and x y ∷ rest) (s.at + 1))
+      ReachesBoundary program o 2 0 (record { state = m; world = w; stalls = k }) (moved s (bit_and x y ∷ rest) (s.at + 1))
   iand y x rest code ops =
       let c : Counts o s m = counts o s m w h inside in
       let t : Two o map s m.sp m.lv m.cpp m.tos w h.holds y x rest = two o map s m.sp m.lv m.cpp m.tos w h.holds y x rest ops in
@@ -165,7 +165,7 @@ module _ (program : List ℕ) (has : HasStatements program) (o : Origin) (map : 
       (sym (add-zero k))
 
   ior : (y x : ℕ) (rest : List ℕ) → byte_in o.words s.at ≡ 0xB0 → s.running.operands ≡ y ∷ x ∷ rest →
-      Comes program o 2 0 (record { state = m; world = w; stalls = k }) (moved s (bit_or x y ∷ rest) (s.at + 1))
+      ReachesBoundary program o 2 0 (record { state = m; world = w; stalls = k }) (moved s (bit_or x y ∷ rest) (s.at + 1))
   ior y x rest code ops =
       let c : Counts o s m = counts o s m w h inside in
       let t : Two o map s m.sp m.lv m.cpp m.tos w h.holds y x rest = two o map s m.sp m.lv m.cpp m.tos w h.holds y x rest ops in
@@ -180,7 +180,7 @@ module _ (program : List ℕ) (has : HasStatements program) (o : Origin) (map : 
       (sym (add-zero k))
 
   ior80 : (y x : ℕ) (rest : List ℕ) → byte_in o.words s.at ≡ 0x80 → s.running.operands ≡ y ∷ x ∷ rest →
-      Comes program o 2 0 (record { state = m; world = w; stalls = k }) (moved s (bit_or x y ∷ rest) (s.at + 1))
+      ReachesBoundary program o 2 0 (record { state = m; world = w; stalls = k }) (moved s (bit_or x y ∷ rest) (s.at + 1))
   ior80 y x rest code ops =
       let c : Counts o s m = counts o s m w h inside in
       let t : Two o map s m.sp m.lv m.cpp m.tos w h.holds y x rest = two o map s m.sp m.lv m.cpp m.tos w h.holds y x rest ops in

@@ -6,7 +6,7 @@ use Rattle.std.proofs.lemmas.Bool.{cases_Bool}
 use Rattle.std.proofs.lemmas.Bool.Decides.{nat_tests}
 use Rattle.machine_words.specs.Arithmetic.{next}
 use Rattle.console_port.specs.World.{byte_in, byte_of, word_refusal}
-use Rattle.mic2_fetch_unit.specs.FetchUnit.{Prefetch, bytes_of_word, without, appended, filled, sampled_by, sample_refusal, edge, jump, edge_refusal, jump_refusal}
+use Rattle.mic2_fetch_unit.specs.FetchUnit.{Prefetch, bytes_of_word, without, appended, with_pending, sampled_by, sample_refusal, edge, jump, edge_refusal, jump_refusal}
 use Rattle.ijvm_simulation.specs.Stands.{IsMemory}
 use Rattle.mic2_interpreter.proofs.Accesses.{next_is}
 
@@ -108,7 +108,7 @@ filled_some words p have t h l near =
     ∙ append_bytes words (p + t) (have - t) (4 - k))
     (omega arith) (omega arith) refl
 
-filled_is : (words : List ℕ) (p have t : ℕ) → t ≤ have → p < 0x20000 → filled (without t (unit_at words p have)) ≡ bare words (p + t) (have_after p have t)
+filled_is : (words : List ℕ) (p have t : ℕ) → t ≤ have → p < 0x20000 → with_pending (without t (unit_at words p have)) ≡ bare words (p + t) (have_after p have t)
 unfolding unit_at have_after
 filled_is words p have t h near = elim (cases_Bool (nat_le have 2)) [
   | inl b ↦ let l : have ≤ 2 = grind (arith, nat_tests) in rw b (filled_some words p have t h l near)

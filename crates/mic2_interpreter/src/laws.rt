@@ -10,7 +10,7 @@ ghost use Rattle.mic_clock.specs.Run.{turns};
 ghost use Rattle.ijvm_run.specs.Run.{Point, first_point};
 ghost use Rattle.ijvm_simulation.specs.Verified.{Loads, program};
 ghost use Rattle.ijvm_simulation.specs.Headline.{reset_run};
-ghost use Rattle.ijvm_simulation.specs.Law.{Ends};
+ghost use Rattle.ijvm_simulation.specs.Law.{HaltsAndErrs};
 ghost use Rattle.mic2_interpreter.specs.Stands.{Stands};
 ghost use Rattle.mic2_interpreter.specs.Stalls.{TakesWithStalls, BootsWithStall, HasStalled};
 ghost use Rattle.mic2_interpreter.specs.Groups.{IsOfOperands, IsOfLocals, IsOfConsole, IsJump, IsCall};
@@ -59,7 +59,7 @@ pub(crate) fn calls_law()
 /// HALT and ERR.
 pub(crate) fn ends_law()
     ensures { (store : List ℕ) (o : Origin) (v : VerifiedView) → HasShipped Mic2 store → Loads v o →
-        Ends mic2_meaning store (Stands o) o.given v o }
+        HaltsAndErrs mic2_meaning store (Stands o) o.given v o }
 {}
 
 /// How a run boots, and what every instruction takes. Behind the boot, whose one stall waits for the first word of the text, only a call stalls: once, or twice where its method's entry is the last byte of a word.

@@ -30,20 +30,20 @@ pub InTime-step : {State : Type 0} (m : Meaning State) (top bound : ℕ) (c c' :
     (end' ≡ None → c' ≡ counts_after m c stalled s) →
     (end' ≡ None → was ≡ true → c.cycles < bound) →
     InTime top c' (m.is_boundary s) end'
-InTime-step m top bound c c' was stalled s end (Some e) going le t still room counted below =
+InTime-step m top bound c c' was stalled s end (Some e) not_ended le t still room counted below =
     let same = still refl in
     let last_same : last_cycles c'.boundary ≡ last_cycles c.boundary = ap last_cycles same.1 in
     record { cycles = omega (arith, same.0, t.cycles); ordered = omega (arith, same.0, last_same, t.ordered); last = λ q. cc }
-InTime-step m top bound c c' was stalled s end None going le t still room counted below =
+InTime-step m top bound c c' was stalled s end None not_ended le t still room counted below =
     subst (λ x. InTime top x (m.is_boundary s) None) (sym (counted refl))
-    (clocked (m.is_boundary s) c stalled (m.address s) (m.registers s) was top bound (room refl) t.ordered le (below refl) (t.last going))
+    (clocked (m.is_boundary s) c stalled (m.address s) (m.registers s) was top bound (room refl) t.ordered le (below refl) (t.last not_ended))
 
 -- after the turns of an instruction, before which the bound was tested at a boundary
 pub InTime-stride : (top bound : ℕ) (c c' : Counts) (was is : Bool) (end end' : Option End) → end ≡ None → bound ≤ top → InTime top c was end →
     last_cycles c'.boundary ≤ c'.cycles → c'.cycles ≤ last_cycles c.boundary + 1024 → (was ≡ true → c'.cycles ≤ max (bound + 1024) c.cycles) →
     (end' ≡ None → is ≡ true) → InTime top c' is end'
-InTime-stride top bound c c' was is end end' going le t ordered within growth boundary =
-    record { cycles = by_last (t.last going); ordered = ordered; last = λ q. inr (boundary q) }
+InTime-stride top bound c c' was is end end' not_ended le t ordered within growth boundary =
+    record { cycles = by_last (t.last not_ended); ordered = ordered; last = λ q. inr (boundary q) }
   where
     by_last : (last_cycles c.boundary ≤ top) ⊎ (was ≡ true) → c'.cycles ≤ top + 1024
     by_last (inl last) = omega arith
@@ -76,7 +76,7 @@ InLeg-step m first c c' stalled s None within same later still room counted =
 
 -- causes of one call after another
 pub HasEndCause-step : (a b c d e f : ℕ) (end end' : Option End) → end ≡ None → HasEndCause a b c d None end → HasEndCause b e d f end end' → HasEndCause a e c f None end'
-HasEndCause-step a b c d e f end end' going first next =
+HasEndCause-step a b c d e f end end' not_ended first next =
     let source_same : b ≡ a = first.source_same (λ n q. cc) in
     let sink_same : d ≡ c = first.sink_same (λ n q. cc) in
-    subst (λ x. HasEndCause x e c f None end') source_same (subst (λ x. HasEndCause b e x f None end') sink_same (subst (λ x. HasEndCause b e d f x end') going next))
+    subst (λ x. HasEndCause x e c f None end') source_same (subst (λ x. HasEndCause b e x f None end') sink_same (subst (λ x. HasEndCause b e d f x end') not_ended next))

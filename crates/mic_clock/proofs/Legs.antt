@@ -35,11 +35,11 @@ module _ {M State : Type 0} (state : M → State) (m : Meaning State) (words : L
       board.end ≡ None → m.is_boundary (state board.machine) ≡ false →
       IsLedTo state left0 held0 board0 left board (λ r rest. (n : ℕ) × IsLeg m words n r × Leads state m words None board board0.buses rest n r (ShowsRun state left held board)) →
       IsLedTo state left0 held0 board0 left board (λ r rest. (n : ℕ) × IsLeg m words (suc n) r × Leads state m words None board board0.buses rest n r (ShowsRun state left held board))
-  leg-inside left0 held0 board0 left held board going inside led =
+  leg-inside left0 held0 board0 left held board not_ended inside led =
       IsLedTo-map state left0 held0 board0 left board _ _
       (λ r rest at. (
         at.0,
-        IsLeg-suc m words at.0 r at.1 (record { running = at.2.here.its_end ∙ going; no_boundary = ap m.is_boundary at.2.here.its_state ∙ inside }),
+        IsLeg-suc m words at.0 r at.1 (record { running = at.2.here.its_end ∙ not_ended; no_boundary = ap m.is_boundary at.2.here.its_state ∙ inside }),
         at.2,
       ))
       led

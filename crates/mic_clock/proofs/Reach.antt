@@ -89,7 +89,7 @@ module _ {M State : Type 0} (state : M → State) (m : Meaning State) (words : L
   pub Leads-read : board.end ≡ None → IsCut state m left held board left' held' board' faults.ReadFault →
       ((r : MicroRun State) → ShowsRun state left held board r → (bounded m bound r).end ≡ None) →
       IsLedTo state left0 held0 board0 left' board' (λ r rest. (n : ℕ) × Along n r × Leads state m words bound board' board0.buses rest n r (IsCutByRead state m words bound left' held' board'))
-  Leads-read going cut on =
+  Leads-read not_ended cut on =
       IsLedTo-stays state left0 held0 board0 left left' board board' _ cut.world.untaken cut.world.ended
       (IsLedTo-map state left0 held0 board0 left board _ _
       (λ r rest at. (
@@ -116,7 +116,7 @@ module _ {M State : Type 0} (state : M → State) (m : Meaning State) (words : L
   pub Leads-write : board.end ≡ None → IsCut state m left held board left' held' board' faults.WriteFault →
       ((r : MicroRun State) → ShowsRun state left held board r → (bounded m bound r).end ≡ None) →
       IsLedTo state left0 held0 board0 left' board' (λ r rest. (n : ℕ) × Along n r × Leads state m words bound board' board0.buses rest n r (IsCutByWrite state m words bound left' held' board'))
-  Leads-write going cut on =
+  Leads-write not_ended cut on =
       IsLedTo-stays state left0 held0 board0 left left' board board' _ cut.world.untaken cut.world.ended
       (IsLedTo-map state left0 held0 board0 left board _ _
       (λ r rest at. (
@@ -253,13 +253,13 @@ module _ {M State : Type 0} (state : M → State) (m : Meaning State) (bound : �
     pub Leads-bound : board.end ≡ None → board'.end ≡ Some ends.WriteFault → board'.buses ≡ board.buses → BoundIsCutByWrite state m left held board left held' board' bound →
         IsLedTo state left held board left board'
         (λ r rest. (n : ℕ) × Leads state m board.store.words (Some bound) board' board.buses rest n r (IsCutByWrite state m board.store.words (Some bound) left held' board'))
-    Leads-bound going failed same_buses cut rest fits = (
+    Leads-bound not_ended failed same_buses cut rest fits = (
       rest,
       fitting rest fits,
       λ r s e.
           let words = board.store.words in
           let b = bounded m (Some bound) r in
-          let c = cut going failed r s in
+          let c = cut not_ended failed r s in
           let still : turns m words (Some bound) (suc zero) r ≡ b = turn_by_ended m words b.end b (subst IsSome (sym c.0) refl) in (
             suc zero,
             record {

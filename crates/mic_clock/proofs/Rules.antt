@@ -8,7 +8,7 @@ use Rattle.mic_clock.specs.declared.counts.Counts.{Counts}
 use Rattle.mic_clock.specs.declared.end.End.{End}
 use Rattle.mic_clock.specs.declared.end.End.TheVariants as ends
 use Rattle.mic_clock.specs.Meaning.{Meaning, Outcome, Done, Refused}
-use Rattle.mic_clock.specs.Run.{MicroRun, number_of, since, completes, end_by, counts_ended, counts_after, counts_at, counts_between, end_before, word_at, stepped, gone, turn, turn_by}
+use Rattle.mic_clock.specs.Run.{MicroRun, number_of, since, completes, end_by, counts_ended, counts_after, counts_at, counts_between, end_before, word_at, after_step, after_end_or_step, turn, turn_by}
 use Rattle.mic_clock.specs.Rule.{EndsBefore, CountsEnd, CountsCycle, EndsAt, StepsTo, IsTurn}
 use Rattle.mic_clock.proofs.Turns.{turn_by_ended}
 
@@ -113,13 +113,13 @@ module _ {State : Type 0} (m : Meaning State) where
     is_stall = (m.drives (word_at m words r.state) r.state).stalled
 
     -- the turn of a run that ends here
-    ending : (e : End) → r.end ≡ None → end_before m r.state r.counts ≡ Some e → turn m words r ≡ gone m words (Some e) r
-    ending e none is = ap (λ (x : Option End). turn_by m words x r) none ∙ ap (λ (x : Option End). gone m words x r) is
+    ending : (e : End) → r.end ≡ None → end_before m r.state r.counts ≡ Some e → turn m words r ≡ after_end_or_step m words (Some e) r
+    ending e none is = ap (λ (x : Option End). turn_by m words x r) none ∙ ap (λ (x : Option End). after_end_or_step m words x r) is
 
     -- the turn of a run that comes to its microstep
-    clocking : (o : Outcome State) → r.end ≡ None → end_before m r.state r.counts ≡ None → step_here ≡ o → turn m words r ≡ stepped m words r o
+    clocking : (o : Outcome State) → r.end ≡ None → end_before m r.state r.counts ≡ None → step_here ≡ o → turn m words r ≡ after_step m words r o
     clocking o none is step =
-        ap (λ (x : Option End). turn_by m words x r) none ∙ (ap (λ (x : Option End). gone m words x r) is ∙ ap (λ (x : Outcome State). stepped m words r x) step)
+        ap (λ (x : Option End). turn_by m words x r) none ∙ (ap (λ (x : Option End). after_end_or_step m words x r) is ∙ ap (λ (x : Outcome State). after_step m words r x) step)
 
     turn-rule : IsTurn m words r (turn m words r)
     turn-rule =
@@ -139,7 +139,7 @@ module _ {State : Type 0} (m : Meaning State) where
     IsTurn-is : (q : MicroRun State) → IsTurn m words r q → q ≡ turn m words r
     IsTurn-is q h = by_end r.end refl
       where
-        by_step : (o : Outcome State) → step_here ≡ o → r.end ≡ None → EndsBefore (m.registers r.state).mpc r.counts None → q ≡ stepped m words r o
+        by_step : (o : Outcome State) → step_here ≡ o → r.end ≡ None → EndsBefore (m.registers r.state).mpc r.counts None → q ≡ after_step m words r o
         by_step (Refused why) is none before =
             let at = h.refused none before why is in
             λ i. record { state = at.0.state i; world = at.0.world i; counts = at.1 i; end = at.0.end i }
@@ -148,7 +148,7 @@ module _ {State : Type 0} (m : Meaning State) where
             let counts = counted_as_ruled r.counts is_stall s q.counts to.counts in
             λ i. record { state = to.state i; world = to.world i; counts = counts i; end = to.end i }
 
-        by_before : (e : Option End) → end_before m r.state r.counts ≡ e → r.end ≡ None → q ≡ gone m words e r
+        by_before : (e : Option End) → end_before m r.state r.counts ≡ e → r.end ≡ None → q ≡ after_end_or_step m words e r
         by_before (Some e) is none =
             let at = h.ends none e (subst (λ (x : Option End). EndsBefore (m.registers r.state).mpc r.counts x) is (end_before-rule r.state r.counts)) in
             let counts = ended_as_ruled r.counts e q.counts at.1 in

@@ -8,7 +8,7 @@ use Rattle.console_port.specs.declared.fault.BusFault.{BusFault}
 use Rattle.console_port.specs.declared.fault.BusFault.TheVariants as faults
 use Rattle.mic_clock.specs.declared.end.End.{End}
 use Rattle.mic_clock.specs.Meaning.{Meaning, Outcome, Done, Refused, refusal_in}
-use Rattle.mic_clock.specs.Run.{MicroRun, Buses, word_at, end_by, end_before, stepped, gone, turn, turn_by, turns, buses, buses_of, bounded, bounded_by}
+use Rattle.mic_clock.specs.Run.{MicroRun, Buses, word_at, end_by, end_before, after_step, after_end_or_step, turn, turn_by, turns, buses, buses_of, bounded, bounded_by}
 use Rattle.mic_clock.specs.View.{BoardView}
 use Rattle.mic_clock.specs.Board.{ShowsRun, IsLedTo, NoFault}
 
@@ -23,10 +23,10 @@ no_fault (faults.OutOfMap at) q f = f
 abbrev pub ended_by : {State : Type 0} → MicroRun State → BusFault → MicroRun State
 ended_by r e = record { state = r.state; world = r.world; counts = r.counts; end = Some (end_by e) }
 
-stepped-refused : {State : Type 0} (m : Meaning State) (words : List ℕ) (r : MicroRun State) (o : Outcome State) (e : BusFault) →
-    refusal_in o ≡ Some e → stepped m words r o ≡ ended_by r e
-stepped-refused m words r (Done s w) e h = absurd (cc)
-stepped-refused m words r (Refused x) e h =
+after_step-refused : {State : Type 0} (m : Meaning State) (words : List ℕ) (r : MicroRun State) (o : Outcome State) (e : BusFault) →
+    refusal_in o ≡ Some e → after_step m words r o ≡ ended_by r e
+after_step-refused m words r (Done s w) e h = absurd (cc)
+after_step-refused m words r (Refused x) e h =
     let is : fault_of x ≡ e = cc in
     ap (λ (y : BusFault). record { state = r.state; world = r.world; counts = r.counts; end = Some (end_by y) }) is
 
@@ -34,11 +34,11 @@ module _ {M State : Type 0} (state : M → State) (m : Meaning State) (left held
   pub turn-refused : (r : MicroRun State) → ShowsRun state left held board r → board.end ≡ None → end_before m (state board.machine) board.counts ≡ None →
       ((w : World) → Shows left held board.bus w → refusal_in (m.step (word_at m board.store.words (state board.machine)) (state board.machine) w) ≡ Some e) →
       turn m board.store.words r ≡ ended_by r e
-  turn-refused r s going no_end refused =
+  turn-refused r s not_ended no_end refused =
       let words = board.store.words in
       let here : end_before m r.state r.counts ≡ None = rw (s.its_state, s.counts) no_end in
       let is : refusal_in (m.step (word_at m words r.state) r.state r.world) ≡ Some e = rw s.its_state (refused r.world s.world) in
-      ap (λ (x : Option End). turn_by m words x r) (s.its_end ∙ going) ∙ (ap (λ (x : Option End). gone m words x r) here ∙ stepped-refused m words r _ e is)
+      ap (λ (x : Option End). turn_by m words x r) (s.its_end ∙ not_ended) ∙ (ap (λ (x : Option End). after_end_or_step m words x r) here ∙ after_step-refused m words r _ e is)
 
   -- a refused microstep leaves the run where it was
   pub led-refused : board.end ≡ None → end_before m (state board.machine) board.counts ≡ None →
@@ -46,11 +46,11 @@ module _ {M State : Type 0} (state : M → State) (m : Meaning State) (left held
       (IsFault e → ⊥) → Stands left held board.bus left' held' board'.bus e →
       state board'.machine ≡ state board.machine → board'.counts ≡ board.counts → board'.end ≡ Some (end_by e) →
       IsLedTo state left held board left' board' (λ r rest. ShowsRun state left' held' board' (turn m board.store.words r) × ((turn m board.store.words r).world.untaken ≡ rest))
-  led-refused going no_end refused other stands same_state same_counts ends rest fits = (
+  led-refused not_ended no_end refused other stands same_state same_counts ends rest fits = (
     rest,
     subst (λ (o : Option (List ℕ)). Untaken o board.bus.console.ended rest) stands.untaken (subst (λ (b : Bool). Untaken left' b rest) stands.ended fits),
     λ r s is_rest.
-        let is = turn-refused r s going no_end refused in
+        let is = turn-refused r s not_ended no_end refused in
         let no_write : e ≢ faults.WriteFault = λ w. other (subst IsFault (sym w) tt) in (
           subst (λ (x : MicroRun State). ShowsRun state left' held' board' x) (sym is)
               (record { its_state = s.its_state ∙ sym same_state; world = stands.same no_write r.world s.world; counts = s.counts ∙ sym same_counts; its_end = sym ends }),

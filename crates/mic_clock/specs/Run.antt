@@ -121,19 +121,19 @@ module _ {State : Type 0} (m : Meaning State) (words : List ℕ) where
   word_at s = slice_index words (m.registers s).mpc
 
   -- the run after its microstep
-  abbrev pub stepped : MicroRun State → Outcome State → MicroRun State
-  stepped r (Done s w) = record { state = s; world = w; counts = counts_after m r.counts (m.drives (word_at r.state) r.state).stalled s; end = None }
-  stepped r (Refused refusal) = record { state = r.state; world = r.world; counts = r.counts; end = Some (end_by (fault_of refusal)) }
+  abbrev pub after_step : MicroRun State → Outcome State → MicroRun State
+  after_step r (Done s w) = record { state = s; world = w; counts = counts_after m r.counts (m.drives (word_at r.state) r.state).stalled s; end = None }
+  after_step r (Refused refusal) = record { state = r.state; world = r.world; counts = r.counts; end = Some (end_by (fault_of refusal)) }
 
   -- the run after an end that comes before a cycle, else after a microstep
-  abbrev pub gone : Option End → MicroRun State → MicroRun State
-  gone (Some e) r = record { state = r.state; world = r.world; counts = counts_ended r.counts e; end = Some e }
-  gone None r = stepped r (m.step (word_at r.state) r.state r.world)
+  abbrev pub after_end_or_step : Option End → MicroRun State → MicroRun State
+  after_end_or_step (Some e) r = record { state = r.state; world = r.world; counts = counts_ended r.counts e; end = Some e }
+  after_end_or_step None r = after_step r (m.step (word_at r.state) r.state r.world)
 
   -- one turn, but for the test of the bound: an ended run stays
   abbrev pub turn_by : Option End → MicroRun State → MicroRun State
   turn_by (Some e) r = r
-  turn_by None r = gone (end_before m r.state r.counts) r
+  turn_by None r = after_end_or_step (end_before m r.state r.counts) r
 
   abbrev pub turn : MicroRun State → MicroRun State
   turn r = turn_by r.end r

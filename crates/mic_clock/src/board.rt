@@ -12,7 +12,7 @@ ghost use Rattle.mic_clock.specs.Board.{EndsInTime, IsCounted, ShowsBuses, EndsU
 
 use crate::buses::{Computed, Drive};
 use crate::clocked::Clocked;
-use crate::counting::{DRIFT, count, end_before, end_of, ended_counts};
+use crate::counting::{DRIFT, count, end_before, ended_counts, fault_end};
 use crate::counts::Counts;
 use crate::cycle::clock_once;
 use crate::end::{End, Tick};
@@ -139,7 +139,7 @@ impl<M: Clocked> Board<M> {
                 }
             }
             Err(fault) => {
-                let end = end_of(fault);
+                let end = fault_end(fault);
                 self.end = Some(end);
                 Tick::Ended(end)
             }

@@ -18,7 +18,7 @@ const ERR: u16 = 0x0FE;
 pub const DRIFT: u64 = 1024;
 
 /// The end by a refusal or a fault.
-pub fn end_of(fault: BusFault) -> End
+pub fn fault_end(fault: BusFault) -> End
     ensures { result ≡ end_by fault }
 {
     match fault {

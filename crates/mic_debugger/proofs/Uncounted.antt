@@ -5,7 +5,7 @@ use Rattle.mic_clock.specs.declared.counts.Counts.{Counts}
 use Rattle.mic_clock.specs.declared.end.End.{End}
 use Rattle.mic_clock.specs.declared.registers.Registers.{Registers}
 use Rattle.mic_clock.specs.Meaning.{Meaning, Outcome, Done, Refused}
-use Rattle.mic_clock.specs.Run.{MicroRun, counts_at, counts_between, bounded, bounded_by, end_before, gone, stepped, turn, turn_by, turns, word_at}
+use Rattle.mic_clock.specs.Run.{MicroRun, counts_at, counts_between, bounded, bounded_by, end_before, after_end_or_step, after_step, turn, turn_by, turns, word_at}
 
 counted_once : (b : Bool) (c : Counts) (stalled : Bool) (at : ℕ) (r : Registers) → (if b then counts_at c stalled at r else counts_between c stalled).cycles ≡ c.cycles + 1
 counted_once true c stalled at r = refl
@@ -39,12 +39,12 @@ module _ {State : Type 0} (m : Meaning State) where
     stays_ended bound (suc n) r some = ap (turns m words (Some bound) n) (one_ended bound r some) ∙ stays_ended bound n r some
 
     -- no turn uncounts a cycle
-    stepped_cycles : (r : MicroRun State) (o : Outcome State) → r.counts.cycles ≤ (stepped m words r o).counts.cycles
+    stepped_cycles : (r : MicroRun State) (o : Outcome State) → r.counts.cycles ≤ (after_step m words r o).counts.cycles
     stepped_cycles r (Done s w) =
         let e = counted_once (m.is_boundary s) r.counts (m.drives (word_at m words r.state) r.state).stalled (m.address s) (m.registers s) in omega (arith, e)
     stepped_cycles r (Refused why) = omega arith
 
-    gone_cycles : (e : Option End) (r : MicroRun State) → r.counts.cycles ≤ (gone m words e r).counts.cycles
+    gone_cycles : (e : Option End) (r : MicroRun State) → r.counts.cycles ≤ (after_end_or_step m words e r).counts.cycles
     gone_cycles (Some e) r = omega arith
     gone_cycles None r = stepped_cycles r (m.step (word_at m words r.state) r.state r.world)
 
@@ -65,11 +65,11 @@ module _ {State : Type 0} (m : Meaning State) where
         let rest = turns_cycles bound n (turn m words (bounded m (Some bound) r)) in omega (arith, first, rest)
 
     -- one that does not end counts a cycle
-    stepped_counted : (r : MicroRun State) (o : Outcome State) → (stepped m words r o).end ≡ None → (stepped m words r o).counts.cycles ≡ r.counts.cycles + 1
+    stepped_counted : (r : MicroRun State) (o : Outcome State) → (after_step m words r o).end ≡ None → (after_step m words r o).counts.cycles ≡ r.counts.cycles + 1
     stepped_counted r (Done s w) live = counted_once (m.is_boundary s) r.counts (m.drives (word_at m words r.state) r.state).stalled (m.address s) (m.registers s)
     stepped_counted r (Refused why) live = absurd (cc)
 
-    gone_counted : (e : Option End) (r : MicroRun State) → (gone m words e r).end ≡ None → (gone m words e r).counts.cycles ≡ r.counts.cycles + 1
+    gone_counted : (e : Option End) (r : MicroRun State) → (after_end_or_step m words e r).end ≡ None → (after_end_or_step m words e r).counts.cycles ≡ r.counts.cycles + 1
     gone_counted (Some e) r live = absurd (cc)
     gone_counted None r live = stepped_counted r (m.step (word_at m words r.state) r.state r.world) live
 

@@ -6,7 +6,7 @@ use Rattle.ijvm_instr.specs.Text.{instr_text}
 use Rattle.ijvm_instr.specs.declared.instr.Instr.{Instr}
 use Rattle.ijvm_paths.specs.Kinds.{IsKind}
 use Rattle.ijvm_paths.specs.declared.kind.Kind.TheVariants.{Start}
-use Rattle.mal_parser.specs.Canonical.{parts_text, fallback_of}
+use Rattle.mal_parser.specs.ProgramText.{parts_text, fallback_of}
 use Rattle.mal_parser.specs.Program.{Program, label_at}
 
 -- the label and the text of the statement at each address of the store, and the instruction at each byte address of the text

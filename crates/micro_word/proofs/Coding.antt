@@ -5,8 +5,8 @@ use Rattle.micro_word.proofs.Sums.{Fitting, fields-word, fields_fit, word_with-l
 use Rattle.micro_word.proofs.Parts.{row_back, gates_back, shift_back, shift_bits-shift_of, mem_back, mem_bits-mem_of, fetch_bit-lt, fetch_back, fetch_bit-back, bit_may_fetch, bus_back, bus_side, side-lt, side_fits, bus_code-back, a_back, a_side, a_code-lt, side_a_fits, a_code-back, NextBack, next_back, TargetBack, target_back}
 use Rattle.micro_word.specs.Layout.{word_with, fields_of}
 use Rattle.micro_word.specs.Coding.{row, row_of, op_of, shift_bits, shift_of, mem_bits, mem_of, fetch_bit, bus_code, source_of, a_code, a_of, codes, named, word_of, statement_of}
-use Rattle.micro_word.specs.Canonical.{has_operation, may_be_a, may_be_b, fits_side, is_mixed, is_valid, IsCanonical, is_row, is_side, is_side_a, are_apart, is_target, is_one_at_most, are_canonical, word_end, is_canonical, decoded_as, Spells}
-pub use Rattle.micro_word.specs.Canonical.{Valid}
+use Rattle.micro_word.specs.Words.{has_operation, may_be_a, may_be_b, fits_side, is_mixed, is_valid, IsCanonical, is_row, is_side, is_side_a, are_apart, is_target, is_one_at_most, are_canonical, word_end, is_canonical, decoded_as, SpellsWord}
+pub use Rattle.micro_word.specs.Words.{Valid}
 use Rattle.machine_words.specs.declared.machine.Machine.{Machine}
 use Rattle.machine_words.specs.declared.machine.Machine.TheVariants.{Mic1, Mic2}
 use Rattle.micro_word.specs.declared.statement.AluOp.{AluOp}
@@ -174,7 +174,7 @@ codes-named machine f fit c =
     λ i. record { addr = t.its_addr i; jam = t.its_jam i; shift = shift i; gates = gates i; c = f.c; mem = mem i; fetch = fetch i; a = a i; b = b i }
 
 -- a canonical word spells the statement that its fields name
-pub spells : (machine : Machine) (word : ℕ) → IsTrue (is_canonical machine word) → Spells machine word (statement_of machine word)
+pub spells : (machine : Machine) (word : ℕ) → IsTrue (is_canonical machine word) → SpellsWord machine word (statement_of machine word)
 unfolding is_canonical statement_of
 spells machine word h =
     let parts = both (nat_lt word (word_end machine)) (are_canonical machine (fields_of machine word)) h in
@@ -189,12 +189,12 @@ spells machine word h =
     }
 
 pub is_the_word : (machine : Machine) (word : ℕ) → IsTrue (is_canonical machine word) → IsCanonical machine word
-is_the_word machine word h = let s : Spells machine word (statement_of machine word) = spells machine word h in (statement_of machine word, s.valid, s.whole)
+is_the_word machine word h = let s : SpellsWord machine word (statement_of machine word) = spells machine word h in (statement_of machine word, s.valid, s.whole)
 
 -- Decoding
 
 known_by : (machine : Machine) (w : ℕ) (b : Bool) → is_canonical machine w ≡ b → IfSome (if b then Some (statement_of machine w) else None) (λ p. IsTrue (is_valid machine p) × (word_of machine p ≡ w))
-known_by machine w true e = let s : Spells machine w (statement_of machine w) = spells machine w e in (s.valid, s.whole)
+known_by machine w true e = let s : SpellsWord machine w (statement_of machine w) = spells machine w e in (s.valid, s.whole)
 known_by machine w false e = tt
 
 pub known : (machine : Machine) (w : ℕ) → IfSome (decoded_as machine w) (λ p. IsTrue (is_valid machine p) × (word_of machine p ≡ w))

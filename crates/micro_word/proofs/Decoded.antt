@@ -6,7 +6,7 @@ use Rattle.machine_words.specs.declared.machine.Machine.{Machine}
 use Rattle.micro_word.specs.Layout.{fields_of}
 use Rattle.micro_word.specs.Lines.{AreLines}
 use Rattle.micro_word.specs.ControlStore.{AreCanonical, AreDecoded}
-use Rattle.micro_word.specs.Canonical.{is_canonical}
+use Rattle.micro_word.specs.Words.{is_canonical}
 use Rattle.micro_word.specs.declared.lines.Lines.{Lines}
 
 both : (machine : Machine) (w v : ℕ) (l k : Lines) → w ≡ v → l ≡ k → AreLines machine (fields_of machine v) k → AreLines machine (fields_of machine w) l

@@ -3,8 +3,8 @@ use Rattle.std.proofs.Common.{◌≡◌, ℕ, zero, suc, ◌<◌, Bool, true, fa
 use Rattle.std.proofs.lemmas.Bool.Decides.{nat_tests}
 use Rattle.micro_word.proofs.Conditions.{both, equal, below, above, found}
 use Rattle.micro_word.proofs.Sums.{fetch_end, a_end}
-use Rattle.micro_word.specs.Coding.{row, row_of, op_of, operations, shift_bits, shift_of, mem_bits, mem_of, fetch_bit, source_code, sources, is_code, bus_code, source_of, idle_code, a_code, a_of, jam_bits, addr_bits, next_of}
-use Rattle.micro_word.specs.Canonical.{is_h, may_be_a, may_be_b, fits_side, may_fetch, is_next, is_side, is_side_a, is_target, is_one_at_most}
+use Rattle.micro_word.specs.Coding.{row, row_of, op_of, operations, shift_bits, shift_of, mem_bits, mem_of, fetch_bit, source_code, sources, is_code, bus_code, source_of, idle_code, a_code, a_of, jam_bits, addr_bits, decoded_next}
+use Rattle.micro_word.specs.Words.{is_h, may_be_a, may_be_b, fits_side, may_fetch, is_next, is_side, is_side_a, is_target, is_one_at_most}
 use Rattle.machine_words.specs.declared.machine.Machine.{Machine}
 use Rattle.machine_words.specs.declared.machine.Machine.TheVariants.{Mic1, Mic2}
 use Rattle.micro_word.specs.declared.statement.AluOp.{AluOp}
@@ -283,7 +283,7 @@ a_code-back Mic2 op code k h = bus_code-back Mic2 (row op).uses_a code h
 -- The next address
 
 pub record NextBack (n : PlacedNext) : Type 0 where
-  pub is_back : next_of (jam_bits n) (addr_bits n) ≡ n
+  pub is_back : decoded_next (jam_bits n) (addr_bits n) ≡ n
   pub in_jam : jam_bits n < 8
   pub in_addr : addr_bits n < 512
   pub target : IsTrue (is_target (jam_bits n) (addr_bits n))
@@ -297,9 +297,9 @@ next_back (nexts.Branch tests.Z low) h = record { is_back = refl; in_jam = omega
 
 -- the fields of the next address and the target that they name
 pub record TargetBack (jam addr : ℕ) : Type 0 where
-  pub its_jam : jam_bits (next_of jam addr) ≡ jam
-  pub its_addr : addr_bits (next_of jam addr) ≡ addr
-  pub valid : IsTrue (is_next (next_of jam addr))
+  pub its_jam : jam_bits (decoded_next jam addr) ≡ jam
+  pub its_addr : addr_bits (decoded_next jam addr) ≡ addr
+  pub valid : IsTrue (is_next (decoded_next jam addr))
 
 dispatched : (addr : ℕ) → IsTrue (addr == 0 || addr == 256 || false) → (if addr == 256 then 256 else 0) ≡ addr
 dispatched addr h = grind (arith, nat_tests)

@@ -1,5 +1,5 @@
 -- The fields of a sum of fields.
-use Rattle.micro_word.specs.Canonical.{word_end}
+use Rattle.micro_word.specs.Words.{word_end}
 use Rattle.std.proofs.Common.{◌≡◌, ℕ, ◌/◌, ◌%◌, ◌^◌, ◌<◌, arith}
 use Rattle.micro_word.specs.Layout.{word_with, fields_of}
 use Rattle.machine_words.specs.declared.machine.Machine.{Machine}

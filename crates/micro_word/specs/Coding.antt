@@ -156,8 +156,8 @@ addr_bits (nexts.Goto to) = to
 addr_bits (nexts.Dispatch high) = if high then 256 else 0
 addr_bits (nexts.Branch test low) = low
 
-abbrev pub next_of : ℕ → ℕ → PlacedNext
-next_of jam addr =
+abbrev pub decoded_next : ℕ → ℕ → PlacedNext
+decoded_next jam addr =
     if jam == 0 then nexts.Goto addr else
     if jam == 4 then nexts.Dispatch (addr == 256) else
     if jam == 2 then nexts.Branch tests.N addr else nexts.Branch tests.Z addr
@@ -190,7 +190,7 @@ named machine f =
         mem = mem_of f.mem;
         fetch = f.fetch == 1;
       };
-      next = next_of f.jam f.addr;
+      next = decoded_next f.jam f.addr;
     }
 
 -- the word of a placed statement, a sum of fields

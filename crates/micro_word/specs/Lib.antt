@@ -2,6 +2,6 @@ pub mod Operation
 pub mod Destinations
 pub mod Layout
 pub mod Coding
-pub mod Canonical
+pub mod Words
 pub mod Lines
 pub mod ControlStore

@@ -1,6 +1,6 @@
 //! The fields that spell a statement, and the statement that fields name.
 ghost use Rattle.std.specs.Prelude.{◌≡◌, ◌==◌, if◌then◌else◌};
-ghost use Rattle.micro_word.specs.Coding.{shift_bits, shift_of, mem_bits, mem_of, fetch_bit, jam_bits, addr_bits, next_of, codes, named};
+ghost use Rattle.micro_word.specs.Coding.{shift_bits, shift_of, mem_bits, mem_of, fetch_bit, jam_bits, addr_bits, decoded_next, codes, named};
 
 use crate::bus::{code_of_a, code_on_bus, side_a};
 use crate::layout::Fields;
@@ -74,7 +74,7 @@ impl PlacedNext {
     }
 
     fn of_fields(jam: u8, addr: u16) -> PlacedNext
-        ensures { result ≡ next_of jam addr }
+        ensures { result ≡ decoded_next jam addr }
     {
         match jam {
             0 => PlacedNext::Goto(addr),

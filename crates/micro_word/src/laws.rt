@@ -2,7 +2,7 @@
 ghost use Rattle.std.specs.Prelude.{◌≡◌, ◌↔◌, ℕ, IsTrue};
 ghost use Rattle.micro_word.specs.declared.statement.Placed.{Placed};
 ghost use Rattle.micro_word.specs.Coding.{word_of, statement_of};
-ghost use Rattle.micro_word.specs.Canonical.{is_valid, is_canonical, IsCanonical, Spells, Valid};
+ghost use Rattle.micro_word.specs.Words.{is_valid, is_canonical, IsCanonical, SpellsWord, Valid};
 
 use machine_words::Machine;
 
@@ -16,5 +16,5 @@ pub fn statement_law(_machine: Machine)
 /// The test for a canonical number tells the words of valid statements, and each is spelled by its fields.
 pub fn word_law(_machine: Machine)
     ensures canonical { (word : ℕ) → IsTrue (is_canonical _machine word) ↔ IsCanonical _machine word }
-    ensures spells { (word : ℕ) → IsTrue (is_canonical _machine word) → Spells _machine word (statement_of _machine word) }
+    ensures spells { (word : ℕ) → IsTrue (is_canonical _machine word) → SpellsWord _machine word (statement_of _machine word) }
 {}

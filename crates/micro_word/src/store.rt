@@ -1,7 +1,7 @@
 //! The control store.
 ghost use Rattle.std.specs.Prelude.{◌≡◌, ◌<◌, IsTrue, replicate, slice_index, slice_set};
 ghost use Rattle.micro_word.specs.Coding.{word_of};
-ghost use Rattle.micro_word.specs.Canonical.{is_valid, is_canonical};
+ghost use Rattle.micro_word.specs.Words.{is_valid, is_canonical};
 ghost use Rattle.micro_word.specs.Layout.{fields_of};
 ghost use Rattle.micro_word.specs.Lines.{AreLines};
 

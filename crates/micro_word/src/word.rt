@@ -4,7 +4,7 @@ ghost use Rattle.machine_words.specs.declared.machine.Machine.TheVariants.{Mic1,
 ghost use Rattle.micro_word.specs.declared.statement.Placed.{Placed};
 ghost use Rattle.micro_word.specs.Layout.{fields_of};
 ghost use Rattle.micro_word.specs.Coding.{word_of, statement_of};
-ghost use Rattle.micro_word.specs.Canonical.{is_valid, IsCanonical, is_canonical, decoded_as, word_end};
+ghost use Rattle.micro_word.specs.Words.{is_valid, IsCanonical, is_canonical, decoded_as, word_end};
 
 use crate::layout::{Fields, fields1, fields2, word_with1, word_with2};
 use crate::statement::Placed;
@@ -20,7 +20,7 @@ pub struct Word1 {
 impl Model for Word1 {
     ghost use Rattle.std.specs.Prelude.{ℕ, IsTrue};
     ghost use Rattle.machine_words.specs.declared.machine.Machine.TheVariants.{Mic1};
-    ghost use Rattle.micro_word.specs.Canonical.{is_canonical};
+    ghost use Rattle.micro_word.specs.Words.{is_canonical};
 
     ghost Value = { ℕ };
 
@@ -40,7 +40,7 @@ pub struct Word2 {
 impl Model for Word2 {
     ghost use Rattle.std.specs.Prelude.{ℕ, IsTrue};
     ghost use Rattle.machine_words.specs.declared.machine.Machine.TheVariants.{Mic2};
-    ghost use Rattle.micro_word.specs.Canonical.{is_canonical};
+    ghost use Rattle.micro_word.specs.Words.{is_canonical};
 
     ghost Value = { ℕ };
 
@@ -79,7 +79,7 @@ fn is_short(machine: Machine, bits: u64) -> bool
     }
 }
 
-#[tactic(auto, unfolding(crate::specs::Coding::statement_of, crate::specs::Canonical::is_canonical))]
+#[tactic(auto, unfolding(crate::specs::Coding::statement_of, crate::specs::Words::is_canonical))]
 fn decoded(machine: Machine, bits: u64) -> Option<Placed>
     ensures { result ≡ decoded_as machine bits }
 {

@@ -14,7 +14,7 @@ use Rattle.ijvm_instr.specs.Instructions.{instr_at}
 use Rattle.ijvm_image.specs.Image.{ImageView, method_at}
 use Rattle.ijvm_run.specs.Frames.{Frame, State, base, frames_of}
 use Rattle.ijvm_instr.specs.Instructions.{word_of}
-use Rattle.ijvm_run.specs.Step.{Outcome, Goes, Halts, Errs, Limits, Stuck, moved, limited, pushed, pushed_constant, loaded, stored, with_local, is_own, increased, popped, doubled, swapped, combined, branched, compared, returned, in_method, entered, called_at, taken, given_out, step, stepped, outcome}
+use Rattle.ijvm_run.specs.Step.{Outcome, Goes, Halts, Errs, Limits, Stuck, moved, limited, pushed, pushed_constant, loaded, stored, with_local, is_own, increased, popped, doubled, swapped, combined, branched, compared, returned, in_method, entered, called_at, taken, given_out, step, step_if_any, outcome}
 use Rattle.ijvm_run.specs.Cost.{cost_at}
 use Rattle.ijvm_run.specs.Run.{Program, Point, Finish, point_after, after_outcome, after_test, finish_from, EndsBy}
 use Rattle.plain_machine.specs.Runs.{GoesOn, Reaches, Begins, Onward}
@@ -140,7 +140,7 @@ step_at image n Out g s = given_at g s s.running.operands
 step_at image n Err g s = refl
 step_at image n Halt g s = refl
 
-stepped_at : (image : ImageView) (n : ℕ) (g : List ℕ) (s : State) (i : Option Instr) → stepped image n (behind g s) i ≡ lifted g (stepped image n s i)
+stepped_at : (image : ImageView) (n : ℕ) (g : List ℕ) (s : State) (i : Option Instr) → step_if_any image n (behind g s) i ≡ lifted g (step_if_any image n s i)
 stepped_at image n g s None = refl
 stepped_at image n g s (Some i) = step_at image n i g s
 
@@ -196,17 +196,17 @@ ended_behind p bound g at f e =
     let found = mapped g (finish_from p bound e.0 at) f (sym (finish-behind p bound g e.0 at) ∙ e.1) in
     (found.0, (e.0, found.1), found.2)
 
-gone : (g : List ℕ) (o : Outcome) (to : State) → lifted g o ≡ Goes to → (first : State) × (o ≡ Goes first) × (to ≡ behind g first)
-gone g (Goes first) to e = (first, refl, cc)
-gone g Halts to e = absurd (cc)
-gone g Errs to e = absurd (cc)
-gone g (Limits left) to e = absurd (cc)
-gone g Stuck to e = absurd (cc)
+goes_behind : (g : List ℕ) (o : Outcome) (to : State) → lifted g o ≡ Goes to → (first : State) × (o ≡ Goes first) × (to ≡ behind g first)
+goes_behind g (Goes first) to e = (first, refl, cc)
+goes_behind g Halts to e = absurd (cc)
+goes_behind g Errs to e = absurd (cc)
+goes_behind g (Limits left) to e = absurd (cc)
+goes_behind g Stuck to e = absurd (cc)
 
 on_behind : (told : Bool) (p : Program) (bound : ℕ) (g : List ℕ) (b next : Point) (c c' : ConsoleView) → GoesOn told p bound (point_behind g b) next c c' →
     (first : Point) × GoesOn told p bound b first c c' × (next ≡ point_behind g first)
 on_behind told p bound g b next c c' on =
-    let step = gone g (outcome p.image p.stack_end b.state) next.state (sym (outcome-behind p.image p.stack_end g b.state) ∙ on.goes) in
+    let step = goes_behind g (outcome p.image p.stack_end b.state) next.state (sym (outcome-behind p.image p.stack_end g b.state) ∙ on.goes) in
     let to : Point = point_after p b step.0 in
     let is : next ≡ point_behind g to = on.counts ∙ ap (point_after p (point_behind g b)) step.2 ∙ next-behind p g b step.0 in (
       to,

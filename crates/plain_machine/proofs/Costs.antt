@@ -12,7 +12,7 @@ use Rattle.ijvm_instr.specs.declared.row.Row.{Row}
 use Rattle.ijvm_instr.specs.Instructions.{row_of, instr_at}
 use Rattle.ijvm_image.specs.Image.{ImageView}
 use Rattle.ijvm_run.specs.Frames.{State}
-use Rattle.ijvm_run.specs.Step.{Goes, step, stepped, outcome}
+use Rattle.ijvm_run.specs.Step.{Goes, step, step_if_any, outcome}
 use Rattle.ijvm_run.specs.Cost.{column, cycles_of, is_taken, entry_of, cost, cost_at, next_cost}
 
 pub index-none : (xs : List ℕ) (i : ℕ) → slice_get xs i ≡ None → slice_index xs i ≡ 0
@@ -128,7 +128,7 @@ cheap Out = refl
 cheap Err = refl
 cheap Halt = refl
 
-least_at : (image : ImageView) (n : ℕ) (machine : Machine) (i : Option Instr) (s to : State) → stepped image n s i ≡ Goes to → 1 ≤ cost_at image machine s i
+least_at : (image : ImageView) (n : ℕ) (machine : Machine) (i : Option Instr) (s to : State) → step_if_any image n s i ≡ Goes to → 1 ≤ cost_at image machine s i
 least_at image n machine None s to e = absurd (cc)
 least_at image n machine (Some i) s to e =
     least_cycles 1 (column machine (row_of i)) (is_taken i s.running.operands) (entry_of image.pool i) (of_both (at_least 1) machine (row_of i) (paid image n i s to e))

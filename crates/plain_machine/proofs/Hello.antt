@@ -5,7 +5,7 @@ use Rattle.ijvm_instr.specs.declared.instr.Instr.TheVariants.{Bipush, Out, Halt}
 use Rattle.ijvm_instr.specs.Instructions.{instr_at, of_bytes}
 use Rattle.ijvm_image.specs.Image.{ImageView}
 use Rattle.ijvm_run.specs.Frames.{Frame, State, base, frames_of, start_of}
-use Rattle.ijvm_run.specs.Step.{Goes, Limits, Halts, Stuck, moved, given_out, step, stepped, outcome}
+use Rattle.ijvm_run.specs.Step.{Goes, Limits, Halts, Stuck, moved, given_out, step, step_if_any, outcome}
 use Rattle.ijvm_run.specs.Safe.{SameFrames, ComesTo, Here, On, IsSafe}
 
 -- BIPUSH 72, OUT, HALT
@@ -31,7 +31,7 @@ unfolding instr_at of_bytes
 at_3 = refl
 
 outcome_there : (n : ℕ) (s : State) (at : ℕ) (i : Instr) → s.at ≡ at → instr_at hello.text at ≡ Some i → outcome hello n s ≡ step hello n i s
-outcome_there n s at i is found = ap (stepped hello n s) (ap (instr_at hello.text) is ∙ found)
+outcome_there n s at i is found = ap (step_if_any hello n s) (ap (instr_at hello.text) is ∙ found)
 
 limited_goes : (t : Bool) (left to u : State) → (if t then Goes to else Limits left) ≡ Goes u → to ≡ u
 limited_goes true left to u e = cc

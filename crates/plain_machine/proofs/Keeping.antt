@@ -5,7 +5,7 @@ use Rattle.console_port.specs.View.{ConsoleView}
 use Rattle.console_port.specs.Console.{Untaken, Asks}
 use Rattle.ijvm_instr.specs.declared.instr.Instr.{Instr}
 use Rattle.ijvm_instr.specs.declared.instr.Instr.TheVariants.{In, Out}
-use Rattle.plain_machine.specs.Kept.{IsTold, is_empty, ReadsIn, WritesOut, Keeps, HasRead, HasKept}
+use Rattle.plain_machine.specs.Kept.{TellsLeft, is_empty, ReadsIn, WritesOut, Keeps, HasRead, HasKept}
 
 -- the source, asked for a byte
 abbrev pub AsksOf : Option (List ℕ) → Option (List ℕ) → ConsoleView → ConsoleView → Type 0
@@ -16,31 +16,31 @@ ended_by [] untaken left' ended asks same = asks.1 ∙ sym (ap is_empty same)
 ended_by (b ∷ rest) untaken left' ended asks same = asks.1 ∙ sym (ap is_empty same)
 
 told_bytes : (left : Option (List ℕ)) (bytes untaken : List ℕ) (ended : Bool) → left ≡ Some bytes → ended ≡ false → Untaken left ended untaken → untaken ≡ bytes
-told_bytes left bytes untaken ended is going h =
-    let here : Untaken left false untaken = subst (λ (b : Bool). Untaken left b untaken) going h in
+told_bytes left bytes untaken ended is not_ended h =
+    let here : Untaken left false untaken = subst (λ (b : Bool). Untaken left b untaken) not_ended h in
     subst (λ (l : Option (List ℕ)). IfSome l (λ x. untaken ≡ x)) is here
 
 pub take_reads : (left left' : Option (List ℕ)) (c c' : ConsoleView) → (c.ended ≡ true → c' ≡ c) → (c.ended ≡ false → c'.kept ≡ []) → AsksOf left left' c c' → HasRead left c c'
 take_reads left left' c c' later emptied asks = λ told untaken tell here. record {
   later = later;
   emptied = emptied;
-  end = λ going is.
-      let t : IsTold left c.ended = tell is in
-      ended_by t.bytes untaken left' c'.ended (asks t.bytes going t.tells) (told_bytes left t.bytes untaken c.ended t.tells going here);
+  end = λ not_ended is.
+      let t : TellsLeft left c.ended = tell is in
+      ended_by t.bytes untaken left' c'.ended (asks t.bytes not_ended t.tells) (told_bytes left t.bytes untaken c.ended t.tells not_ended here);
 }
 
-told_asked : (bytes : List ℕ) (left' : Option (List ℕ)) (ended : Bool) → Asks bytes left' ended → IsTold left' ended
+told_asked : (bytes : List ℕ) (left' : Option (List ℕ)) (ended : Bool) → Asks bytes left' ended → TellsLeft left' ended
 told_asked [] left' ended asks = record { bytes = []; tells = asks.0; none_left = λ e. refl }
-told_asked (b ∷ rest) left' ended asks = record { bytes = rest; tells = asks.0; none_left = λ e. absurd (let going : ended ≡ false = asks.1 in cc) }
+told_asked (b ∷ rest) left' ended asks = record { bytes = rest; tells = asks.0; none_left = λ e. absurd (let not_ended : ended ≡ false = asks.1 in cc) }
 
-pub told_as : (left left' : Option (List ℕ)) (ended ended' : Bool) → left' ≡ left → ended' ≡ ended → IsTold left ended → IsTold left' ended'
+pub told_as : (left left' : Option (List ℕ)) (ended ended' : Bool) → left' ≡ left → ended' ≡ ended → TellsLeft left ended → TellsLeft left' ended'
 told_as left left' ended ended' same still t = record { bytes = t.bytes; tells = same ∙ t.tells; none_left = λ e. t.none_left (sym still ∙ e) }
 
 pub take_tells : (left left' : Option (List ℕ)) (c c' : ConsoleView) → (c.ended ≡ true → c' ≡ c) → (c.ended ≡ true → left' ≡ left) → AsksOf left left' c c' →
-    IsTold left c.ended → IsTold left' c'.ended
+    TellsLeft left c.ended → TellsLeft left' c'.ended
 take_tells left left' c c' later same asks t = by_end c.ended refl
   where
-    by_end : (b : Bool) → c.ended ≡ b → IsTold left' c'.ended
+    by_end : (b : Bool) → c.ended ≡ b → TellsLeft left' c'.ended
     by_end true e = told_as left left' c.ended c'.ended (same e) (ap (λ (v : ConsoleView). v.ended) (later e)) t
     by_end false e = told_asked t.bytes left' c'.ended (asks t.bytes e t.tells)
 

@@ -10,7 +10,7 @@ use Rattle.ijvm_instr.specs.Instructions.{instr_at}
 use Rattle.ijvm_image.specs.Image.{ImageView, method_at}
 use Rattle.ijvm_run.specs.Frames.{Frame, State, base, frames_of}
 use Rattle.ijvm_instr.specs.Instructions.{word_of}
-use Rattle.ijvm_run.specs.Step.{Goes, Limits, Stuck, moved, limited, pushed, pushed_constant, loaded, stored, with_local, is_own, increased, popped, doubled, swapped, combined, branched, compared, returned, in_method, entered, called_at, read_in, taken, given_out, step, stepped, outcome}
+use Rattle.ijvm_run.specs.Step.{Goes, Limits, Stuck, moved, limited, pushed, pushed_constant, loaded, stored, with_local, is_own, increased, popped, doubled, swapped, combined, branched, compared, returned, in_method, entered, called_at, read_in, taken, given_out, step, step_if_any, outcome}
 use Rattle.ijvm_run.specs.Safe.{SameFrames}
 
 same : (s : State) → SameFrames s s
@@ -131,7 +131,7 @@ step_at image n Out s out e = given_at s s.running.operands out e
 step_at image n Err s out e = absurd (cc)
 step_at image n Halt s out e = absurd (cc)
 
-stepped_at : (image : ImageView) (stack_end : ℕ) (s : State) (i : Option Instr) (out : State) → stepped image stack_end s i ≡ Limits out → SameFrames s out
+stepped_at : (image : ImageView) (stack_end : ℕ) (s : State) (i : Option Instr) (out : State) → step_if_any image stack_end s i ≡ Limits out → SameFrames s out
 stepped_at image stack_end s None out e = absurd (cc)
 stepped_at image stack_end s (Some i) out e = step_at image stack_end i s out e
 

@@ -26,8 +26,8 @@ use Rattle.plain_machine.specs.Steps.{IsLedOn, Does, IsCutOff, IsMetBy}
 use Rattle.plain_machine.proofs.Costs.{next_cost-least}
 use Rattle.plain_machine.proofs.SafeLemmas.{some_untaken, some_given}
 use Rattle.plain_machine.proofs.Limited.{limits-same}
-use Rattle.plain_machine.specs.Kept.{IsTold, HasKept}
-use Rattle.plain_machine.specs.Runs.{program_of, point_at, Ends, IsAllBut, IsCut, StoppedBy, IsShown, LedTo, GoesOn, Reaches, Begins, Onward, cut_by}
+use Rattle.plain_machine.specs.Kept.{TellsLeft, HasKept}
+use Rattle.plain_machine.specs.Runs.{program_of, point_at, RunEndsWith, IsAllBut, IsCut, StoppedBy, IsShown, LedTo, GoesOn, Reaches, Begins, Onward, cut_by}
 
 -- what a step leads to, told in other words
 pub led_as : (left held : Option (List ℕ)) (c : ConsoleView) (left' held' : Option (List ℕ)) (c' : ConsoleView) (P Q : List ℕ → List ℕ → List ℕ → List ℕ → Type 0) →
@@ -42,7 +42,7 @@ led_as left held c left' held' c' P Q led told = λ rest here.
     )
 
 pub goes_on : (told : Bool) (left : Option (List ℕ)) (c c' : ConsoleView) (bound : ℕ) (machine : Machine) (old new : MachineView) (cycles instructions cycles' instructions' cost : ℕ) (u g u' g' : List ℕ) →
-    (told ≡ true → IsTold left c.ended) → HasKept left (instr_at old.image.text old.at) c c' → cycles < bound →
+    (told ≡ true → TellsLeft left c.ended) → HasKept left (instr_at old.image.text old.at) c c' → cycles < bound →
     cost ≡ next_cost old.image machine (state_of old [] []) → cycles' ≡ cycles + cost → instructions' ≡ instructions + 1 → Untaken left c.ended u → Does steps.Went old new u g u' g' →
     GoesOn told (program_of old machine) bound (point_at old cycles instructions u g) (point_at new cycles' instructions' u' g') c c'
 goes_on told left c c' bound machine old new cycles instructions cycles' instructions' cost u g u' g' tell kept under is more one here does =
@@ -250,7 +250,7 @@ cut_on e told held p bound from at c0 c r new u g first cut =
       lost = cut.lost;
     }
 
-abbrev ends_on : (p : Program) (bound : ℕ) (from at : Point) (r : Counts) (new : MachineView) (u g : List ℕ) → Passes p bound from at → Ends p bound at r new u g → Ends p bound from r new u g
+abbrev ends_on : (p : Program) (bound : ℕ) (from at : Point) (r : Counts) (new : MachineView) (u g : List ℕ) → Passes p bound from at → RunEndsWith p bound at r new u g → RunEndsWith p bound from r new u g
 ends_on p bound from at r new u g first e =
     record {
       finish = e.finish;
@@ -329,9 +329,9 @@ passed_end end told l0 h0 c0 l1 h1 c1 l2 h2 c2 bound machine cycles instructions
 
 -- what holds of a run between two turns
 pub record IsRunning (l0 h0 : Option (List ℕ)) (c0 : ConsoleView) (l1 h1 : Option (List ℕ)) (c1 : ConsoleView) (bound : ℕ) (machine : Machine) (counts0 counts1 : Counts) (old new : MachineView) : Type 0 where
-  pub passed : (told : Bool) → (told ≡ true → IsTold l0 c0.ended) →
+  pub passed : (told : Bool) → (told ≡ true → TellsLeft l0 c0.ended) →
       LedTo Given l0 h0 c0 l1 h1 c1 (HasPassed told bound machine counts0.cycles counts0.instructions counts1.cycles counts1.instructions c0 c1 old new)
-  pub tells : IsTold l0 c0.ended → IsTold l1 c1.ended
+  pub tells : TellsLeft l0 c0.ended → TellsLeft l1 c1.ended
   pub program : KeepsProgram old new
   pub boundary : counts1.boundary ≡ counts1.cycles
   pub few : counts1.instructions ≤ counts1.cycles

@@ -22,9 +22,9 @@ use Rattle.ijvm_run.specs.Safe.{SameFrames}
 use Rattle.ijvm_run.specs.Run.{Program, Point, Finish, first_point, EndsBy}
 use Rattle.plain_machine.specs.Machine.{MachineView, state_of, started}
 use Rattle.plain_machine.specs.Steps.{IsMetBy}
-use Rattle.plain_machine.specs.Kept.{IsTold, fresh}
+use Rattle.plain_machine.specs.Kept.{TellsLeft, fresh}
 use Rattle.plain_machine.specs.Runs.{program_of, point_at, IsAllBut, IsCut, EndsIn, StoppedBy, IsShown, IsDriven, Reaches, Begins}
-use Rattle.plain_machine.specs.Plain.{told_of, end_of, Reports, Leaves, GotFront, Finishes, Stops, HasRun, IsCutByRead, IsCutInside, IsCutAtEnd, IsShort}
+use Rattle.plain_machine.specs.Plain.{told_of, reported_end, Reports, Leaves, GotFront, Finishes, Stops, HasRun, IsCutByRead, IsCutInside, IsCutAtEnd, IsShort}
 use Rattle.plain_machine.proofs.SafeLemmas.{some_untaken}
 use Rattle.plain_machine.proofs.Running.{lost_shown}
 use Rattle.plain_machine.proofs.Behind.{behind, point_behind, finish_behind, ended_behind, reached_behind}
@@ -143,7 +143,7 @@ told_given (Some h) = refl
 
 -- What the source tells in the end.
 
-rest_told : (left' : Option (List ℕ)) (ended : Bool) (rest : List ℕ) → IsTold left' ended → Untaken left' ended rest → left' ≡ Some rest
+rest_told : (left' : Option (List ℕ)) (ended : Bool) (rest : List ℕ) → TellsLeft left' ended → Untaken left' ended rest → left' ≡ Some rest
 rest_told left' true rest t here = t.tells ∙ ap some (t.none_left refl ∙ sym here)
   where
     some : List ℕ → Option (List ℕ)
@@ -155,12 +155,12 @@ rest_told left' false rest t here =
     some : List ℕ → Option (List ℕ)
     some x = Some x
 
-told_bytes : (left : Option (List ℕ)) (ended : Bool) (bytes : List ℕ) → ended ≡ false → left ≡ Some bytes → IsTold left ended
-told_bytes left ended bytes going is = record { bytes = bytes; tells = is; none_left = λ e. absurd (cc) }
+told_bytes : (left : Option (List ℕ)) (ended : Bool) (bytes : List ℕ) → ended ≡ false → left ≡ Some bytes → TellsLeft left ended
+told_bytes left ended bytes not_ended is = record { bytes = bytes; tells = is; none_left = λ e. absurd (cc) }
 
-told_if : (left : Option (List ℕ)) (ended : Bool) → ended ≡ false → is_some left ≡ true → IsTold left ended
-told_if None ended going is = absurd (cc)
-told_if (Some bytes) ended going is = told_bytes (Some bytes) ended bytes going refl
+told_if : (left : Option (List ℕ)) (ended : Bool) → ended ≡ false → is_some left ≡ true → TellsLeft left ended
+told_if None ended not_ended is = absurd (cc)
+told_if (Some bytes) ended not_ended is = told_bytes (Some bytes) ended bytes not_ended refl
 
 -- a run that was driven from its first boundary to this stop: what the source and the sink told before it, and what came of it
 pub record Driven (stop : Result PlainEnd AllocError) (left held left' held' : Option (List ℕ)) (c' : ConsoleView) (p : Program) (main_locals bound : ℕ) (c : Counts) (new : MachineView) : Type 0 where
@@ -173,7 +173,7 @@ pub record Driven (stop : Result PlainEnd AllocError) (left held left' held' : O
   pub stopped : StoppedBy (is_some left) fresh held' stop p bound (point_behind (told_of held) (first_point main_locals input)) c new rest all
 
 pub driven : (stop : Result PlainEnd AllocError) (left held left' held' : Option (List ℕ)) (c0 c' : ConsoleView) (image : ImageView) (n main_locals bound : ℕ) (machine : Machine) (c0s c : Counts) (old new : MachineView) →
-    c0.kept ≡ [] → c0.ended ≡ false → c0s.cycles ≡ 2 → c0s.instructions ≡ 0 → old ≡ started image n main_locals → (IsTold left c0.ended → IsTold left' c'.ended) →
+    c0.kept ≡ [] → c0.ended ≡ false → c0s.cycles ≡ 2 → c0s.instructions ≡ 0 → old ≡ started image n main_locals → (TellsLeft left c0.ended → TellsLeft left' c'.ended) →
     IsDriven (Some stop) bound machine c0s c left held c0 left' held' c' old new →
     Driven stop left held left' held' c' (record { image = image; stack_end = n; machine = machine }) main_locals bound c new
 driven stop left held left' held' c0 c' image n main_locals bound machine c0s c old new kept ended cycles instructions is tells led =
@@ -216,12 +216,12 @@ finishes left held left' held' p main_locals bound input rest all end c new told
 -- the run has ended as the definition's
 has_run : (end : RunEnd) (left held left' held' : Option (List ℕ)) (p : Program) (main_locals bound : ℕ) (input rest all : List ℕ) (c : Counts) (new : MachineView) (r : PlainReport) →
     Untaken left false input → Leaves left left' rest → EndsIn end p bound (point_behind (told_of held) (first_point main_locals input)) c new rest all → Given held' [] all →
-    IsReportOf r c new → r.end ≡ end_of end → HasRun p main_locals bound left held left' held' r
+    IsReportOf r c new → r.end ≡ reported_end end → HasRun p main_locals bound left held left' held' r
 has_run end left held left' held' p main_locals bound input rest all c new r told untaken e shown is by =
     let b = ends_behind (told_of held) p bound (first_point main_locals input) end c new rest all e in
     record {
       run = finishes left held left' held' p main_locals bound input rest all end c new told untaken b.0 b.1 b.2.untaken;
-      end = by ∙ ap end_of (sym b.2.is_end);
+      end = by ∙ ap reported_end (sym b.2.is_end);
       report = reports r c new rest all b.0.cycles b.0.instructions b.0.last is b.2.cycles b.2.instructions b.2.boundary b.2.frames;
       given = got_all (told_of held) b.0.left.given all held' shown b.2.given;
     }

@@ -5,9 +5,9 @@ use Rattle.ijvm_instr.specs.declared.instr.Instr.TheVariants.{Nop, Bipush, LdcW,
 use Rattle.plain_machine.specs.declared.compute.Effect.{Effect}
 use Rattle.plain_machine.specs.declared.compute.Effect.TheVariants as effects
 use Rattle.ijvm_instr.specs.Instructions.{instr_at}
-use Rattle.ijvm_run.specs.Step.{outcome, step, stepped}
+use Rattle.ijvm_run.specs.Step.{outcome, step, step_if_any}
 use Rattle.plain_machine.specs.Machine.{MachineView, IsComputed, state_of, outcome_of}
-use Rattle.plain_machine.specs.Steps.{Turns, end_of}
+use Rattle.plain_machine.specs.Steps.{Turns, step_end}
 
 pub is_computed : (i : Instr) → i ≢ Halt → i ≢ Err → i ≢ In → i ≢ Out → IsComputed i
 is_computed In h e n m = n refl
@@ -38,7 +38,7 @@ is_computed Err h e n m = e refl
 is_computed Halt h e n m = h refl
 
 pub effect-turns : (effect : Effect) (old new : MachineView) (u g u' g' : List ℕ) → outcome old.image old.stack_end (state_of old u g) ≡ outcome_of effect (state_of new u' g') →
-    Turns (end_of effect) old new u g u' g'
+    Turns (step_end effect) old new u g u' g'
 effect-turns effects.Went old new u g u' g' e = e
 effect-turns effects.StackLimit old new u g u' g' e = e
 effect-turns effects.Stuck old new u g u' g' e = e
@@ -46,4 +46,4 @@ effect-turns effects.Stuck old new u g u' g' e = e
 -- the instruction at the address, as it is decoded
 pub outcome-at : (old : MachineView) (i : Instr) (u g : List ℕ) → instr_at old.image.text old.at ≡ Some i →
     outcome old.image old.stack_end (state_of old u g) ≡ step old.image old.stack_end i (state_of old u g)
-outcome-at old i u g e = ap (stepped old.image old.stack_end (state_of old u g)) e
+outcome-at old i u g e = ap (step_if_any old.image old.stack_end (state_of old u g)) e

@@ -8,7 +8,7 @@ use Rattle.plain_machine.specs.declared.frames.StepError.{StepError}
 use Rattle.plain_machine.specs.declared.frames.StepError.TheVariants as errors
 
 -- the source tells what it has left: nothing once its end was met
-pub record IsTold (left : Option (List ℕ)) (ended : Bool) : Type 0 where
+pub record TellsLeft (left : Option (List ℕ)) (ended : Bool) : Type 0 where
   pub bytes : List ℕ
   pub tells : left ≡ Some bytes
   pub none_left : ended ≡ true → bytes ≡ []
@@ -46,10 +46,10 @@ pub record HasAsked (e : StepError) (c : ConsoleView) : Type 0 where
 -- after an IN, and after any instruction, whatever the source may have left
 
 abbrev pub HasRead : Option (List ℕ) → ConsoleView → ConsoleView → Type 0
-HasRead left c c' = (told : Bool) (untaken : List ℕ) → (told ≡ true → IsTold left c.ended) → Untaken left c.ended untaken → ReadsIn told untaken c c'
+HasRead left c c' = (told : Bool) (untaken : List ℕ) → (told ≡ true → TellsLeft left c.ended) → Untaken left c.ended untaken → ReadsIn told untaken c c'
 
 abbrev pub HasKept : Option (List ℕ) → Option Instr → ConsoleView → ConsoleView → Type 0
-HasKept left i c c' = (told : Bool) (untaken : List ℕ) → (told ≡ true → IsTold left c.ended) → Untaken left c.ended untaken → Keeps told i untaken c c'
+HasKept left i c c' = (told : Bool) (untaken : List ℕ) → (told ≡ true → TellsLeft left c.ended) → Untaken left c.ended untaken → Keeps told i untaken c c'
 
 -- a console that keeps nothing, before the end of input
 abbrev pub fresh : ConsoleView

@@ -26,11 +26,11 @@ abbrev pub program : ImageView → MemoryMap → Machine → Program
 program image map machine = record { image = image; stack_end = map.stack_end; machine = machine }
 
 -- an end of the definition's run, as it is reported
-abbrev pub end_of : RunEnd → PlainEnd
-end_of defined.Halt = ends.Halt
-end_of defined.Err = ends.Err
-end_of defined.Bound = ends.Bound
-end_of defined.StackLimit = ends.StackLimit
+abbrev pub reported_end : RunEnd → PlainEnd
+reported_end defined.Halt = ends.Halt
+reported_end defined.Err = ends.Err
+reported_end defined.Bound = ends.Bound
+reported_end defined.StackLimit = ends.StackLimit
 
 -- the counts of a report, and its last boundary
 pub record Reports (r : PlainReport) (cycles instructions : ℕ) (last : Point) : Type 0 where
@@ -74,7 +74,7 @@ module _ (p : Program) (main_locals bound : ℕ) (left held left' held' : Option
   -- no fault came: the end is the definition's, and the sink has got all its output
   pub record HasRun (r : PlainReport) : Type 0 where
     pub run : Finishes
-    pub end : r.end ≡ end_of run.finish.end
+    pub end : r.end ≡ reported_end run.finish.end
     pub report : Reports r run.finish.cycles run.finish.instructions run.finish.last
     pub given : GotAll held held' run.finish.left.given
 

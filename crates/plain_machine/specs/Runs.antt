@@ -16,7 +16,7 @@ use Rattle.ijvm_instr.specs.Instructions.{instr_at}
 use Rattle.ijvm_run.specs.Safe.{SameFrames}
 use Rattle.plain_machine.specs.Machine.{MachineView, state_of}
 use Rattle.ijvm_run.specs.Step.{Goes, outcome}
-use Rattle.plain_machine.specs.Kept.{IsTold, Keeps}
+use Rattle.plain_machine.specs.Kept.{TellsLeft, Keeps}
 use Rattle.plain_machine.specs.Steps.{IsMetBy}
 use Rattle.ijvm_run.specs.Run.{Program, Point, Finish, EndsBy, point_after}
 
@@ -32,7 +32,7 @@ abbrev pub IsAllBut : Option (List ℕ) → List ℕ → List ℕ → Type 0
 IsAllBut held kept given = IfSome held (λ h. (n : ℕ) × (h ++ drop n kept ≡ given))
 
 -- the run that goes on so ends with these counts, frames and bytes
-pub record Ends (p : Program) (bound : ℕ) (from : Point) (c : Counts) (new : MachineView) (untaken given : List ℕ) : Type 0 where
+pub record RunEndsWith (p : Program) (bound : ℕ) (from : Point) (c : Counts) (new : MachineView) (untaken given : List ℕ) : Type 0 where
   pub finish : Finish
   pub ends : EndsBy p bound from finish
   pub boundary : finish.last.cycles ≡ c.boundary
@@ -69,7 +69,7 @@ pub record IsCut (e : StepError) (told : Bool) (c0 : ConsoleView) (held : Option
 
 -- an end of the definition's run
 abbrev pub EndsIn : RunEnd → Program → ℕ → Point → Counts → MachineView → List ℕ → List ℕ → Type 0
-EndsIn end p bound from c new untaken given = (e : Ends p bound from c new untaken given) × (e.finish.end ≡ end)
+EndsIn end p bound from c new untaken given = (e : RunEndsWith p bound from c new untaken given) × (e.finish.end ≡ end)
 
 -- where a run stops: at an end of the definition's, or where a fault or want of memory cuts it
 abbrev pub StoppedBy : Bool → ConsoleView → Option (List ℕ) → Result PlainEnd AllocError → Program → ℕ → Point → Counts → MachineView → List ℕ → List ℕ → Type 0
@@ -117,7 +117,7 @@ TurnsTo told (Some stop) bound machine old_counts counts c c' held' old new unta
 abbrev pub IsDriven : Option (Result PlainEnd AllocError) → ℕ → Machine → Counts → Counts → Option (List ℕ) → Option (List ℕ) → ConsoleView → Option (List ℕ) → Option (List ℕ) → ConsoleView →
     MachineView → MachineView → Type 0
 IsDriven stop bound machine old_counts counts left held c left' held' c' old new =
-    (told : Bool) → (told ≡ true → IsTold left c.ended) →
+    (told : Bool) → (told ≡ true → TellsLeft left c.ended) →
     LedTo (ShownBy stop) left held c left' held' c' (TurnsTo told stop bound machine old_counts counts c c' held' old new)
 
 -- after a fault nothing is kept

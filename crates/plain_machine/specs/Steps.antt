@@ -35,10 +35,10 @@ LedBy does left held c left' held' c' old new effect =
 abbrev pub Gives : List ℕ → Option (List ℕ) → List ℕ → Option (List ℕ) → List ℕ → Type 0
 Gives bytes held kept held' kept' = (given : List ℕ) → Given held kept given → Given held' kept' (given ++ bytes)
 
-abbrev pub end_of : Effect → Option StepEnd
-end_of effects.Went = Some ends.Went
-end_of effects.StackLimit = Some ends.StackLimit
-end_of effects.Stuck = None
+abbrev pub step_end : Effect → Option StepEnd
+step_end effects.Went = Some ends.Went
+step_end effects.StackLimit = Some ends.StackLimit
+step_end effects.Stuck = None
 
 -- what each end of a step says
 abbrev pub Does : StepEnd → MachineView → MachineView → List ℕ → List ℕ → List ℕ → List ℕ → Type 0

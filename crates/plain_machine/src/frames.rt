@@ -8,8 +8,8 @@ ghost use Rattle.ijvm_run.specs.Cost.{next_cost};
 ghost use Rattle.ijvm_run.specs.Frames.{base, top_of};
 ghost use Rattle.ijvm_run.specs.Safe.{NeverStuck, IsSafe};
 ghost use Rattle.plain_machine.specs.Machine.{MachineView, KeepsProgram, state_of, started};
-ghost use Rattle.plain_machine.specs.Kept.{IsTold, HasKept};
-ghost use Rattle.plain_machine.specs.Steps.{IsLedOn, end_of, Does, Turns, IsCutOff, IsMetBy, HasStepCause};
+ghost use Rattle.plain_machine.specs.Kept.{TellsLeft, HasKept};
+ghost use Rattle.plain_machine.specs.Steps.{IsLedOn, step_end, Does, Turns, IsCutOff, IsMetBy, HasStepCause};
 
 use crate::compute::{Effect, compute};
 use crate::cost::cost_of;
@@ -54,8 +54,8 @@ impl From<AllocError> for StepError {
     }
 }
 
-fn end_of(effect: Effect) -> Option<StepEnd>
-    ensures { result ≡ end_of effect }
+fn step_end(effect: Effect) -> Option<StepEnd>
+    ensures { result ≡ step_end effect }
 {
     match effect {
         Effect::Went => Some(StepEnd::Went),
@@ -80,7 +80,7 @@ pub fn turn<S: Source, K: Sink>(
     ensures flushed { result ≢ Err StepError.WriteFault → StaysFlushed (K.held sink.old) (K.passed sink.old) (K.held sink.new) (K.passed sink.new) }
     ensures met { IfErr result (λ e. IsMetBy e (instr_at machine.old.image.text machine.old.at) console.old) }
     ensures kept { IfOk result (λ end. IsSome end → HasKept (S.left source.old) (instr_at machine.old.image.text machine.old.at) console.old console.new) }
-    ensures tells { IsTold (S.left source.old) console.old.ended → IsTold (S.left source.new) console.new.ended }
+    ensures tells { TellsLeft (S.left source.old) console.old.ended → TellsLeft (S.left source.new) console.new.ended }
     ensures cause { HasStepCause (S.faults source.old) (S.faults source.new) (K.faults sink.old) (K.faults sink.new) result }
     ensures program { KeepsProgram machine.old machine.new }
 {
@@ -91,15 +91,15 @@ pub fn turn<S: Source, K: Sink>(
         Instr::Halt => Ok(Some(StepEnd::Halt)),
         Instr::Err => Ok(Some(StepEnd::Err)),
         Instr::In => match read_in(machine, console, source, sink) {
-            Ok(effect) => Ok(end_of(effect)),
+            Ok(effect) => Ok(step_end(effect)),
             Err(error) => Err(error),
         },
         Instr::Out => match write_out(machine, console, sink) {
-            Ok(effect) => Ok(end_of(effect)),
+            Ok(effect) => Ok(step_end(effect)),
             Err(error) => Err(error),
         },
         _ => match compute(machine, instr) {
-            Ok(effect) => Ok(end_of(effect)),
+            Ok(effect) => Ok(step_end(effect)),
             Err(error) => Err(error.into()),
         },
     }
@@ -152,7 +152,7 @@ impl Frames {
         ensures flushed { result ≢ Err StepError.WriteFault → StaysFlushed (K.held sink.old) (K.passed sink.old) (K.held sink.new) (K.passed sink.new) }
         ensures met { IfErr result (λ e. IsMetBy e (instr_at self.old.image.text self.old.at) console.old) }
         ensures kept { OnOk result (HasKept (S.left source.old) (instr_at self.old.image.text self.old.at) console.old console.new) }
-        ensures tells { IsTold (S.left source.old) console.old.ended → IsTold (S.left source.new) console.new.ended }
+        ensures tells { TellsLeft (S.left source.old) console.old.ended → TellsLeft (S.left source.new) console.new.ended }
         ensures cause { HasStepCause (S.faults source.old) (S.faults source.new) (K.faults sink.old) (K.faults sink.new) result }
     {
         match turn(&mut self.machine, console, source, sink) {

@@ -13,7 +13,7 @@ use Rattle.store_placement.specs.Listed.{IsListed}
 use Rattle.store_placement.specs.Chosen as chosen
 use Rattle.store_placement.specs.Forced as forced
 use Rattle.store_placement.specs.First as first
-use Rattle.shipped_program.specs.Listing.{program_of, addresses_of, program1, rows1, program2, rows2, addresses1, addresses2}
+use Rattle.shipped_program.specs.Listing.{listed_program, addresses_of, program1, rows1, program2, rows2, addresses1, addresses2}
 
 pub listed1 : IsListed (demands_of program1) addresses1
 unfolding program1 rows1 demands_of chosen.is_taken chosen.free_lows chosen.free_addresses chosen.open_pairs chosen.is_single chosen.singles chosen.before_singles forced.forced forced.all_forced first.below
@@ -23,7 +23,7 @@ pub listed2 : IsListed (demands_of program2) addresses2
 unfolding program2 rows2 demands_of chosen.is_taken chosen.free_lows chosen.free_addresses chosen.open_pairs chosen.is_single chosen.singles chosen.before_singles forced.forced forced.all_forced first.below
 listed2 = record { count = refl; in_store = refl; different = refl; forced_kept = refl; pairs_kept = refl; lows = refl; rest = refl }
 
-pub listed : (machine : Machine) → IsListed (demands_of (program_of machine)) (addresses_of machine)
+pub listed : (machine : Machine) → IsListed (demands_of (listed_program machine)) (addresses_of machine)
 listed Mic1 = listed1
 listed Mic2 = listed2
 
@@ -85,6 +85,6 @@ within2 =
       targets = each_leads (length (demands_of program2).fixed) (demands_of program2).pairs refl;
     }
 
-pub within : (machine : Machine) → AreWithin (demands_of (program_of machine)).fixed (demands_of (program_of machine)).pairs
+pub within : (machine : Machine) → AreWithin (demands_of (listed_program machine)).fixed (demands_of (listed_program machine)).pairs
 within Mic1 = within1
 within Mic2 = within2

@@ -6,7 +6,7 @@ use Rattle.std.specs.Str.{bytes_eq}
 use Rattle.std.proofs.lemmas.Bool.{ltb-true}
 use Rattle.std.proofs.lemmas.Slice.Eq.{bytes_eq-Decides}
 use Rattle.machine_words.specs.declared.machine.Machine.{Machine}
-use Rattle.micro_word.specs.Canonical.{is_part}
+use Rattle.micro_word.specs.Words.{is_part}
 use Rattle.mic_base.specs.Name.{is_name}
 use Rattle.mal_tokens.specs.Words.{is_reserved, IsLabelText}
 use Rattle.mal_line.specs.declared.next.Next.{Next}
@@ -14,7 +14,7 @@ use Rattle.mal_line.specs.declared.next.Next.TheVariants as nexts
 use Rattle.mal_parser.specs.declared.statement.Statement.{Statement}
 use Rattle.mal_parser.specs.Program.{Program, label_at, HasTargets, IsStatement, IsProgram}
 use Rattle.machine_words.specs.declared.machine.Machine.TheVariants.{Mic1, Mic2}
-use Rattle.shipped_program.specs.Listing.{program_of, program1, rows1, program2, rows2}
+use Rattle.shipped_program.specs.Listing.{listed_program, program1, rows1, program2, rows2}
 
 both : (a b : Bool) → (a && b) ≡ true → (a ≡ true) × (b ≡ true)
 both true b h = (refl, h)
@@ -174,6 +174,6 @@ valid2 =
       entry = refl;
     }
 
-pub valid : (machine : Machine) → IsProgram (program_of machine)
+pub valid : (machine : Machine) → IsProgram (listed_program machine)
 valid Mic1 = valid1
 valid Mic2 = valid2

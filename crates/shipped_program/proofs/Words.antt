@@ -5,12 +5,12 @@ use Rattle.std.proofs.lemmas.Bool.Decides.{nat_tests}
 use Rattle.machine_words.specs.declared.machine.Machine.{Machine}
 use Rattle.machine_words.specs.declared.machine.Machine.TheVariants.{Mic1, Mic2}
 use Rattle.micro_word.specs.declared.statement.Placed.{Placed}
-use Rattle.micro_word.specs.Canonical.{is_valid}
+use Rattle.micro_word.specs.Words.{is_valid}
 use Rattle.micro_word.specs.Coding.{word_of, statement_of}
 use Rattle.mal_parser.specs.declared.statement.Statement.{Statement}
 use Rattle.mal_parser.specs.Program.{Program}
 use Rattle.store_placement.specs.Program.{placed_statement, placed_default, IsFilled, Decodes}
-use Rattle.shipped_program.specs.Listing.{Row, program_of, addresses_of, program1, rows1, program2, rows2}
+use Rattle.shipped_program.specs.Listing.{Row, listed_program, addresses_of, program1, rows1, program2, rows2}
 use Rattle.shipped_program.specs.Shipped.{statement_among, HasShipped}
 
 same_test : (x y : ℕ) → (x == y) ≡ true → x ≡ y
@@ -89,13 +89,13 @@ filled_is machine rows program words m s law filled at below =
 
 -- the words of a store that is filled with a shipped microprogram at its addresses
 pub shipped_words : (machine : Machine) (words : List ℕ) → ((q : Placed) → IsTrue (is_valid machine q) → statement_of machine (word_of machine q) ≡ q) →
-    IsFilled (program_of machine) (addresses_of machine) words → HasShipped machine words
+    IsFilled (listed_program machine) (addresses_of machine) words → HasShipped machine words
 unfolding program1 program2
 shipped_words Mic1 words law filled = filled_is Mic1 rows1 program1 words refl refl law filled
 shipped_words Mic2 words law filled = filled_is Mic2 rows2 program2 words refl refl law filled
 
 -- Main1 stands at 0x002 on both machines
-pub entry_at : (machine : Machine) (addresses : List ℕ) (entry : ℕ) → addresses ≡ addresses_of machine → entry ≡ slice_index addresses (program_of machine).entry → entry ≡ 0x002
+pub entry_at : (machine : Machine) (addresses : List ℕ) (entry : ℕ) → addresses ≡ addresses_of machine → entry ≡ slice_index addresses (listed_program machine).entry → entry ≡ 0x002
 unfolding program1 rows1 program2 rows2
 entry_at Mic1 addresses entry a e = e ∙ ap (λ (list : List ℕ). slice_index list 0) a
 entry_at Mic2 addresses entry a e = e ∙ ap (λ (list : List ℕ). slice_index list 0) a

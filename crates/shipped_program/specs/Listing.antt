@@ -302,9 +302,9 @@ abbrev pub text_of : Machine → List ℕ
 text_of Mic1 = MIC1.now
 text_of Mic2 = MIC2.now
 
-abbrev pub program_of : Machine → Program
-program_of Mic1 = program1
-program_of Mic2 = program2
+abbrev pub listed_program : Machine → Program
+listed_program Mic1 = program1
+listed_program Mic2 = program2
 
 abbrev pub addresses_of : Machine → List ℕ
 addresses_of Mic1 = addresses1

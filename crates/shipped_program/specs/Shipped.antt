@@ -5,7 +5,7 @@ use Rattle.machine_words.specs.declared.machine.Machine.TheVariants.{Mic1, Mic2}
 use Rattle.micro_word.specs.declared.statement.Placed.{Placed}
 use Rattle.micro_word.specs.Coding.{statement_of}
 use Rattle.store_placement.specs.Program.{placed_statement, placed_default}
-use Rattle.shipped_program.specs.Listing.{Row, rows1, rows2, program_of, addresses_of}
+use Rattle.shipped_program.specs.Listing.{Row, rows1, rows2, listed_program, addresses_of}
 
 abbrev pub rows_of : Machine → List Row
 rows_of Mic1 = rows1
@@ -21,7 +21,7 @@ statement_among unused address number (r ∷ rows) at =
 abbrev pub shipped : Machine → ℕ → Placed
 shipped machine at =
     let address : ℕ → ℕ = slice_index (addresses_of machine) in
-    statement_among (placed_default address (program_of machine).fallback) address 0 (rows_of machine) at
+    statement_among (placed_default address (listed_program machine).fallback) address 0 (rows_of machine) at
 
 -- the words of a control store that holds the microprogram
 abbrev pub HasShipped : Machine → List ℕ → Type 0

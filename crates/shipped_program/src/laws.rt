@@ -2,11 +2,11 @@
 
 ghost use Rattle.std.specs.Prelude.{◌≡◌, ℕ, List};
 ghost use Rattle.machine_words.specs.declared.machine.Machine.{Machine};
-ghost use Rattle.mal_parser.specs.Canonical.{canonical_text};
+ghost use Rattle.mal_parser.specs.ProgramText.{canonical_text};
 ghost use Rattle.store_placement.specs.Chosen.{IsChosenList};
 ghost use Rattle.store_placement.specs.Program.{demands_of};
 ghost use Rattle.shipped_program.specs.declared.loaded.Loaded.{Loaded};
-ghost use Rattle.shipped_program.specs.Listing.{program_of, addresses_of, text_of};
+ghost use Rattle.shipped_program.specs.Listing.{listed_program, addresses_of, text_of};
 ghost use Rattle.shipped_program.specs.Loaded.{IsLoaded};
 ghost use Rattle.shipped_program.specs.Shipped.{HasShipped};
 
@@ -15,21 +15,21 @@ use store_placement::chosen_law;
 
 /// Each text is the canonical text of the program that is listed.
 pub fn shipped_texts_are_canonical()
-    ensures { (machine : Machine) → text_of machine ≡ canonical_text (program_of machine) }
+    ensures { (machine : Machine) → text_of machine ≡ canonical_text (listed_program machine) }
 {}
 
 /// The listed addresses are the chosen placement, and no other addresses are.
 pub fn shipped_programs_are_listed()
-    ensures chosen { (machine : Machine) → IsChosenList (demands_of (program_of machine)) (addresses_of machine) }
-    ensures only { (machine : Machine) (addresses : List ℕ) → IsChosenList (demands_of (program_of machine)) addresses → addresses ≡ addresses_of machine }
+    ensures chosen { (machine : Machine) → IsChosenList (demands_of (listed_program machine)) (addresses_of machine) }
+    ensures only { (machine : Machine) (addresses : List ℕ) → IsChosenList (demands_of (listed_program machine)) addresses → addresses ≡ addresses_of machine }
 {
     chosen_law();
 }
 
 /// A shipped microprogram that is loaded has the listed statement at each address of its control store, and Main1 at 0x002.
 pub fn loaded_programs_are_shipped()
-    ensures words { (machine : Machine) (l : Loaded) → IsLoaded (program_of machine) l → HasShipped machine l.store.words }
-    ensures entry { (machine : Machine) (l : Loaded) → IsLoaded (program_of machine) l → l.entry ≡ 0x002 }
+    ensures words { (machine : Machine) (l : Loaded) → IsLoaded (listed_program machine) l → HasShipped machine l.store.words }
+    ensures entry { (machine : Machine) (l : Loaded) → IsLoaded (listed_program machine) l → l.entry ≡ 0x002 }
 {
     shipped_programs_are_listed();
     statement_law(Machine::Mic1);

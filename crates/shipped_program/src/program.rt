@@ -1,9 +1,9 @@
 //! The shipped microprograms as programs.
 
 ghost use Rattle.std.specs.Prelude.{◌≡◌, IfOk, option_map};
-ghost use Rattle.mal_parser.specs.Canonical.{relined};
+ghost use Rattle.mal_parser.specs.ProgramText.{relined};
 ghost use Rattle.mal_parser.specs.Program.{IsProgram};
-ghost use Rattle.shipped_program.specs.Listing.{program_of, text_of, unlined, without_line};
+ghost use Rattle.shipped_program.specs.Listing.{listed_program, text_of, unlined, without_line};
 
 use crate::mic1::MIC1;
 use crate::mic2::MIC2;
@@ -55,7 +55,7 @@ fn unlined(alloc: Global, program: &MalProgram) -> Result<MalProgram, AllocError
 
 /// The program of a machine's text, with the line numbers of that text.
 fn read(alloc: Global, machine: Machine) -> Result<MalProgram, AllocError>
-    ensures { IfOk result (λ p. p ≡ relined (program_of machine)) }
+    ensures { IfOk result (λ p. p ≡ relined (listed_program machine)) }
 {
     canonical_text_spells_its_program();
     match parse_mal(alloc, machine, shipped_text(machine).as_bytes()) {
@@ -67,7 +67,7 @@ fn read(alloc: Global, machine: Machine) -> Result<MalProgram, AllocError>
 /// The microprogram that interprets IJVM on this machine, with 0 for each line number.
 #[tactic(auto, using(crate::proofs::Lines::unlined_is_program, crate::proofs::Lines::unlined_of))]
 pub fn shipped_program(alloc: Global, machine: Machine) -> Result<MalProgram, AllocError>
-    ensures { IfOk result (λ p. p ≡ program_of machine) }
+    ensures { IfOk result (λ p. p ≡ listed_program machine) }
 {
     let program = read(alloc, machine)?;
     unlined(alloc, &program)

@@ -15,7 +15,7 @@ use Rattle.ijvm_image.specs.Image.{ImageView, params, others, method_at}
 use Rattle.ijvm_paths.specs.declared.error.VerifyError.{VerifyError}
 use Rattle.ijvm_paths.specs.declared.error.VerifyError.TheVariants as errors
 use Rattle.ijvm_paths.specs.Paths.{Arrival, arrival, HasRow, HasNext, HasJump, IsNoCall, need_by, need_of, callee, GoesOn, left_unset, MayCarry, Goes, Enters, Follows, On, Into, Reached, Start, Then, IsReachedMethod}
-use Rattle.ijvm_paths.specs.Facts.{Names, IsWrongAt, MainNames, IsMainCount, Piece, Code, Header, Covers, Holds, Accepts}
+use Rattle.ijvm_paths.specs.Facts.{Names, IsWrongAt, MainNames, IsMainCount, Piece, Code, Header, Covers, IsTrueOf, Accepts}
 use Rattle.soak_program.proofs.Stops.{Chunk, Add, Increment, Subtract, Call, Skip, Last, Method, Stop, Add1, Add2, Add3, Add4, Increment1, Subtract1, Subtract2, Subtract3, Subtract4, Call1, Call2, Call3, Call4, Skip1, Skip2, Skip3, Last1, Last2, Method1, Method2, Method3, Method4, chunk_size, chunk_of, place_of, depth_of, instr_of, after, need_at, Joins, joins, owner, owned, unowned, ends_inside}
 
 -- the row of an instruction

@@ -137,15 +137,15 @@ module _ {T : Type 0} (L : Lexicon T) (X : Lexer T) (agrees : Agrees L X) where
       go true w h rec = lex_blank X b (gap ++ rest) w ∙ rec h
       go false w h rec = absurd (cc)
 
-  token_again : (text rest : List ℕ) (t : T) → L.IsLexeme t text → L.Ends text rest → lex X 0 (text ++ rest) ≡ option_map (λ ts. t ∷ ts) (lex X 0 rest)
-  token_again [] rest t is ends = absurd (let k = agrees.read t [] rest is ends in let f = agrees.filled in cc)
+  token_again : (text rest : List ℕ) (t : T) → L.IsLexeme t text → L.EndsLexeme text rest → lex X 0 (text ++ rest) ≡ option_map (λ ts. t ∷ ts) (lex X 0 rest)
+  token_again [] rest t is ends = absurd (let k = agrees.read t [] rest is ends in let f = agrees.none_from_nothing in cc)
   token_again (b ∷ text) rest t is ends =
       let found = agrees.read t (b ∷ text) rest is ends in
       let far : X.extent (b ∷ (text ++ rest)) ≡ length (b ∷ text) = agrees.far t (b ∷ text) rest is ends in
       let tk : take (X.extent (b ∷ (text ++ rest))) (b ∷ (text ++ rest)) ≡ b ∷ text = rw far (take-append_seam (b ∷ text) rest) in
       let dr : drop (X.extent (b ∷ (text ++ rest))) (b ∷ (text ++ rest)) ≡ rest = rw far (drop-append_seam (b ∷ text) rest) in
       let c : X.token (take (X.extent (b ∷ (text ++ rest))) (b ∷ (text ++ rest))) ≡ Some t = ap X.token tk ∙ found in
-      lex_token X b (text ++ rest) (agrees.some b (text ++ rest)) (agrees.dark b text t found)
+      lex_token X b (text ++ rest) (agrees.some b (text ++ rest)) (agrees.not_blank b text t found)
       ∙ (ap (λ (o : Option T). option_and_then (λ t. option_map (λ ts. t ∷ ts) (lex X 0 (drop (X.extent (b ∷ (text ++ rest))) (b ∷ (text ++ rest))))) o) c
       ∙ ap (λ (r : List ℕ). option_map (λ ts. t ∷ ts) (lex X 0 r)) dr)
 

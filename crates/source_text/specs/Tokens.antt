@@ -13,10 +13,10 @@ pub record Lexicon (T : Type 0) : Type 1 where
   -- these bytes spell the token
   pub IsLexeme : T → List ℕ → Type 0
   -- a token of these bytes may stand before those
-  pub Ends : List ℕ → List ℕ → Type 0
+  pub EndsLexeme : List ℕ → List ℕ → Type 0
 
 -- the line is the tokens in order, with blanks before, between and behind them
 abbrev pub Spells : {T : Type 0} → Lexicon T → List ℕ → List T → Type 0
 Spells L text [] = AreBlank text
 Spells L text (t ∷ ts) = (gap : List ℕ) × (lexeme : List ℕ) × (rest : List ℕ)
-    × (text ≡ gap ++ (lexeme ++ rest)) × AreBlank gap × L.IsLexeme t lexeme × L.Ends lexeme rest × Spells L rest ts
+    × (text ≡ gap ++ (lexeme ++ rest)) × AreBlank gap × L.IsLexeme t lexeme × L.EndsLexeme lexeme rest × Spells L rest ts

@@ -11,7 +11,7 @@ use Rattle.store_placement.specs.First.{below, Never, NeverTwo}
 use Rattle.store_placement.specs.Forced.{forced, all_forced}
 use Rattle.store_placement.specs.Refusals.{stands_in, clashes, in_wrong_half, collide}
 use Rattle.store_placement.specs.Chosen.{is_free_low, free_lows, free_addresses, open_pairs, is_single, singles, before_singles, IsChosen, IsChosenList}
-use Rattle.store_placement.specs.Reading.{pair_address, with_pairs, filled}
+use Rattle.store_placement.specs.Reading.{pair_address, with_pairs, with_free}
 use Rattle.store_placement.proofs.Among.{Among, All-among, All-from_among, none_of, left_or, right_or, among-below, among_below, among-filter, among_filter}
 use Rattle.store_placement.proofs.Below.{length-map_below}
 use Rattle.store_placement.proofs.ForcedLemmas.{length-all_forced, at_all_forced}
@@ -19,7 +19,7 @@ use Rattle.store_placement.proofs.ClearPairs.{AreClear, of_statements, stands_ye
 use Rattle.store_placement.proofs.ForcedBy.{forced_none}
 use Rattle.store_placement.proofs.OpenPairs.{IsOpen, Apart-open, open_from, open_unforced}
 use Rattle.store_placement.proofs.ChosenPlacement.{AreApart, chosen_places, ByForce, ByLow, ByHigh, placed_by}
-use Rattle.store_placement.proofs.StepsLemmas.{at_low, pair_places, pair_misses, nones, nones-count, length-filled, filled_kept, rest_taken, free_enough}
+use Rattle.store_placement.proofs.StepsLemmas.{at_low, pair_places, pair_misses, nones, nones-count, length-with_free, filled_kept, rest_taken, free_enough}
 
 map_same : {X Y : Type 0} (f g : X → Y) (xs : List X) → ((x : X) → Among x xs → f x ≡ g x) → map f xs ≡ map g xs
 map_same f g [] h = refl
@@ -48,7 +48,7 @@ paired_at fixed pairs s = pair_address (open_pairs fixed pairs) (free_lows (all_
 
 -- the address after all steps
 abbrev pub step_address : List (Option ℕ) → List Pair → ℕ → ℕ
-step_address fixed pairs s = get_or (filled (placed_of fixed pairs) (free_addresses (placed_of fixed pairs))) s 0
+step_address fixed pairs s = get_or (with_free (placed_of fixed pairs) (free_addresses (placed_of fixed pairs))) s 0
 
 pub length-placed : (fixed : List (Option ℕ)) (pairs : List Pair) → length (placed_of fixed pairs) ≡ length fixed
 unfolding with_pairs
@@ -203,7 +203,7 @@ chosen_agree {d} {f} {g} c by_f by_g s inside =
     ] refl
 
 -- the addresses that the steps leave are the chosen placement, where nothing is refused
-pub steps_place : (fixed : List (Option ℕ)) (pairs : List Pair) (addresses : List ℕ) → AreWithin fixed pairs → Never (clashes pairs) (length fixed) → Never (in_wrong_half fixed pairs) (length fixed) → NeverTwo (collide fixed pairs) (length fixed) → length (open_pairs fixed pairs) ≤ length (free_lows (all_forced fixed pairs)) → addresses ≡ filled (placed_of fixed pairs) (free_addresses (placed_of fixed pairs)) → IsChosenList (record { fixed = fixed; pairs = pairs }) addresses
+pub steps_place : (fixed : List (Option ℕ)) (pairs : List Pair) (addresses : List ℕ) → AreWithin fixed pairs → Never (clashes pairs) (length fixed) → Never (in_wrong_half fixed pairs) (length fixed) → NeverTwo (collide fixed pairs) (length fixed) → length (open_pairs fixed pairs) ≤ length (free_lows (all_forced fixed pairs)) → addresses ≡ with_free (placed_of fixed pairs) (free_addresses (placed_of fixed pairs)) → IsChosenList (record { fixed = fixed; pairs = pairs }) addresses
 steps_place fixed pairs addresses within clear halved apart enough are =
     let c : AreClear fixed pairs = record { within = within; clear = clear } in
     let h : AreApart fixed pairs = record { halved = record { clear = c; halved = halved }; apart = apart } in
@@ -212,7 +212,7 @@ steps_place fixed pairs addresses within clear halved apart enough are =
     let P : List ℕ → Type 0 = λ xs. IsChosenList d xs in
     subst P (sym are) (record {
       places = record {
-        count = length-filled (placed_of fixed pairs) (free_addresses (placed_of fixed pairs)) (placed_enough within) ∙ length-placed fixed pairs;
+        count = length-with_free (placed_of fixed pairs) (free_addresses (placed_of fixed pairs)) (placed_enough within) ∙ length-placed fixed pairs;
         places = chosen_places h chosen;
       };
       chosen = chosen;

@@ -7,7 +7,7 @@ use Rattle.std.proofs.lemmas.Bool.{lt-ltb, cases_eq}
 use Rattle.std.proofs.lemmas.List.{length-map, length-set, length-replicate, get_or-replicate, get_or-set_same, get_or-set_other}
 use Rattle.std.proofs.lemmas.Option.{slice_get_within, get_or_from_slice_get}
 use Rattle.micro_word.specs.Coding.{word_of}
-use Rattle.micro_word.specs.Canonical.{is_valid, is_part, is_next}
+use Rattle.micro_word.specs.Words.{is_valid, is_part, is_next}
 use Rattle.mal_line.specs.declared.next.Next.{Next}
 use Rattle.mal_line.specs.declared.next.Next.TheVariants as nexts
 use Rattle.mal_parser.specs.declared.statement.Statement.{Statement}

@@ -10,7 +10,7 @@ use Rattle.store_placement.specs.declared.pair.Pair.{Pair}
 use Rattle.store_placement.specs.First.{below}
 use Rattle.store_placement.specs.Forced.{same_address}
 use Rattle.store_placement.specs.Chosen.{is_taken, is_free, free_addresses}
-use Rattle.store_placement.specs.Reading.{pair_address, filled}
+use Rattle.store_placement.specs.Reading.{pair_address, with_free}
 use Rattle.store_placement.proofs.Among.{Among, from_any, among-filter, among_filter_map}
 use Rattle.store_placement.proofs.Apart.{Apart, Apart-below, Apart-weaker, Apart-filter, length-le_from_among}
 use Rattle.store_placement.proofs.Below.{length-below, below_none, filter-below_kept, filter-below_dropped}
@@ -67,13 +67,13 @@ nones_step (Some a) placed = refl
 pub nones-count : (placed : List (Option ℕ)) → nones placed ≡ count_by (λ o. is_none o) placed
 nones-count = is_count_by nones (λ o. is_none o) refl nones_step
 
-pub length-filled : (placed : List (Option ℕ)) (free : List ℕ) → nones placed ≤ length free → length (filled placed free) ≡ length placed
-length-filled [] free enough = refl
-length-filled (Some a ∷ placed) free enough = ap suc (length-filled placed free enough)
-length-filled (None ∷ placed) [] enough = absurd (omega arith)
-length-filled (None ∷ placed) (a ∷ free) enough = ap suc (length-filled placed free (omega arith))
+pub length-with_free : (placed : List (Option ℕ)) (free : List ℕ) → nones placed ≤ length free → length (with_free placed free) ≡ length placed
+length-with_free [] free enough = refl
+length-with_free (Some a ∷ placed) free enough = ap suc (length-with_free placed free enough)
+length-with_free (None ∷ placed) [] enough = absurd (omega arith)
+length-with_free (None ∷ placed) (a ∷ free) enough = ap suc (length-with_free placed free (omega arith))
 
-pub filled_kept : (placed : List (Option ℕ)) (free : List ℕ) (s a : ℕ) → nones placed ≤ length free → get_or placed s None ≡ Some a → get_or (filled placed free) s 0 ≡ a
+pub filled_kept : (placed : List (Option ℕ)) (free : List ℕ) (s a : ℕ) → nones placed ≤ length free → get_or placed s None ≡ Some a → get_or (with_free placed free) s 0 ≡ a
 filled_kept [] free s a enough is = cc
 filled_kept (Some b ∷ placed) free zero a enough is = cc
 filled_kept (Some b ∷ placed) free (suc s) a enough is = filled_kept placed free s a enough is
@@ -81,7 +81,7 @@ filled_kept (None ∷ placed) [] s a enough is = absurd (omega arith)
 filled_kept (None ∷ placed) (b ∷ free) zero a enough is = cc
 filled_kept (None ∷ placed) (b ∷ free) (suc s) a enough is = filled_kept placed free s a (omega arith) is
 
-filled_at : (placed : List (Option ℕ)) (free : List ℕ) (s : ℕ) → nones placed ≤ length free → s < length placed → get_or placed s None ≡ None → get_or (filled placed free) s 0 ≡ get_or free (nones (take s placed)) 0
+filled_at : (placed : List (Option ℕ)) (free : List ℕ) (s : ℕ) → nones placed ≤ length free → s < length placed → get_or placed s None ≡ None → get_or (with_free placed free) s 0 ≡ get_or free (nones (take s placed)) 0
 filled_at [] free s enough inside is = absurd (omega arith)
 filled_at (Some b ∷ placed) free zero enough inside is = cc
 filled_at (Some b ∷ placed) free (suc s) enough inside is = filled_at placed free s enough (omega arith) is
@@ -105,7 +105,7 @@ nones_take_le (None ∷ placed) (suc s) = let e = nones_take_le placed s in omeg
 
 -- the statements without an address take the free ones in order
 record TakeFree (placed : List (Option ℕ)) (free : List ℕ) (m : ℕ) : Type 0 where
-  taken : map (λ s. get_or (filled placed free) s 0) (filter (λ s. is_none (get_or placed s None)) (below m)) ≡ take (nones (take m placed)) free
+  taken : map (λ s. get_or (with_free placed free) s 0) (filter (λ s. is_none (get_or placed s None)) (below m)) ≡ take (nones (take m placed)) free
   count : length (filter (λ s. is_none (get_or placed s None)) (below m)) ≡ nones (take m placed)
 
 none_from : (o : Option ℕ) → is_none o ≡ true → o ≡ None
@@ -115,7 +115,7 @@ none_from (Some a) h = cc
 take_free_more : (placed : List (Option ℕ)) (free : List ℕ) (m : ℕ) → nones placed ≤ length free → m < length placed → TakeFree placed free m → TakeFree placed free (suc m)
 take_free_more placed free m enough inside h =
     let p : ℕ → Bool = λ s. is_none (get_or placed s None) in
-    let at : ℕ → ℕ = λ s. get_or (filled placed free) s 0 in
+    let at : ℕ → ℕ = λ s. get_or (with_free placed free) s 0 in
     let one : suc m ≡ m + 1 = omega arith in
     let more : nones (take (suc m) placed) ≡ nones (take m placed) + cond (p m) 1 0 = nones_take placed m inside in
     let most : nones (take (suc m) placed) ≤ nones placed = nones_take_le placed (suc m) in
@@ -139,13 +139,13 @@ take_free_more placed free m enough inside h =
 
 take_free : (placed : List (Option ℕ)) (free : List ℕ) (m : ℕ) → nones placed ≤ length free → m ≤ length placed → TakeFree placed free m
 take_free placed free zero enough inside = record {
-  taken = ap (λ xs. map (λ s. get_or (filled placed free) s 0) (filter (λ s. is_none (get_or placed s None)) xs)) below_none;
+  taken = ap (λ xs. map (λ s. get_or (with_free placed free) s 0) (filter (λ s. is_none (get_or placed s None)) xs)) below_none;
   count = ap (λ xs. length (filter (λ s. is_none (get_or placed s None)) xs)) below_none;
 }
 take_free placed free (suc m) enough inside = take_free_more placed free m enough (omega arith) (take_free placed free m enough (omega arith))
 
 pub rest_taken : (placed : List (Option ℕ)) (free : List ℕ) → nones placed ≤ length free →
-    map (λ s. get_or (filled placed free) s 0) (filter (λ s. is_none (get_or placed s None)) (below (length placed)))
+    map (λ s. get_or (with_free placed free) s 0) (filter (λ s. is_none (get_or placed s None)) (below (length placed)))
     ≡ take (length (filter (λ s. is_none (get_or placed s None)) (below (length placed)))) free
 rest_taken placed free enough =
     let r = take_free placed free (length placed) enough (omega arith) in

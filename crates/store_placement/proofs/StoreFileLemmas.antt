@@ -9,7 +9,7 @@ use Rattle.std.specs.Cmp.Lexicographic.{same_text}
 use Rattle.std.proofs.lemmas.List.FromFn.{length-map-range_with_len, get_or-map-range_with_len}
 use Rattle.machine_words.specs.declared.machine.Machine.{Machine}
 use Rattle.machine_words.specs.declared.machine.Machine.TheVariants.{Mic1, Mic2}
-use Rattle.micro_word.specs.Canonical.{is_canonical}
+use Rattle.micro_word.specs.Words.{is_canonical}
 use Rattle.micro_word.specs.ControlStore.{ControlStore, IsStore}
 use Rattle.store_placement.specs.First.{IsFirst}
 use Rattle.store_placement.specs.StoreFile.{magic, word_bytes, store_file, machine_of, number_at, word_at, is_bad, IsReadFrom}

@@ -7,7 +7,7 @@ use Rattle.micro_word.specs.declared.statement.Placed.{Placed}
 use Rattle.micro_word.specs.declared.statement.PlacedNext.{PlacedNext}
 use Rattle.micro_word.specs.declared.statement.PlacedNext.TheVariants as placed
 use Rattle.micro_word.specs.Coding.{idle, word_of}
-use Rattle.micro_word.specs.Canonical.{is_valid}
+use Rattle.micro_word.specs.Words.{is_valid}
 use Rattle.mal_line.specs.declared.next.Next.{Next}
 use Rattle.mal_line.specs.declared.next.Next.TheVariants as nexts
 use Rattle.mal_parser.specs.declared.statement.Statement.{Statement}

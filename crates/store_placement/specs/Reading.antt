@@ -17,8 +17,8 @@ with_pairs forced pairs lows =
     map (λ s. option_or (slice_index_or forced s None) (pair_address pairs lows s)) (below (length forced))
 
 -- the statements that have no address yet take the free ones, one by one
-abbrev pub filled : List (Option ℕ) → List ℕ → List ℕ
-filled [] free = []
-filled (Some a ∷ placed) free = a ∷ filled placed free
-filled (None ∷ placed) [] = []
-filled (None ∷ placed) (a ∷ free) = a ∷ filled placed free
+abbrev pub with_free : List (Option ℕ) → List ℕ → List ℕ
+with_free [] free = []
+with_free (Some a ∷ placed) free = a ∷ with_free placed free
+with_free (None ∷ placed) [] = []
+with_free (None ∷ placed) (a ∷ free) = a ∷ with_free placed free

@@ -3,7 +3,7 @@ use Rattle.std.specs.Prelude.{◌≡◌, ◌≢◌, ℕ, ◌+◌, ◌*◌, ◌/�
 use Rattle.std.specs.List.{flat_map, starts_with}
 use Rattle.machine_words.specs.declared.machine.Machine.{Machine}
 use Rattle.machine_words.specs.declared.machine.Machine.TheVariants.{Mic1, Mic2}
-use Rattle.micro_word.specs.Canonical.{is_canonical}
+use Rattle.micro_word.specs.Words.{is_canonical}
 use Rattle.micro_word.specs.ControlStore.{ControlStore}
 use Rattle.store_placement.specs.declared.store_error.StoreError.{StoreError}
 use Rattle.store_placement.specs.declared.store_error.StoreError.TheVariants as errors

@@ -14,7 +14,7 @@ use crate::open::open_pairs;
 use crate::pair::Pair;
 use crate::placement::Placement;
 use crate::refusal::PlaceError;
-use crate::steps::{filled, with_pairs};
+use crate::steps::{with_free, with_pairs};
 use arrayvec::ArrayVec;
 
 /// The chosen addresses of the statements, in order.
@@ -39,7 +39,7 @@ fn addresses_for(fixed: &[Option<u16>], pairs: &[Pair]) -> Result<ArrayVec<u16, 
     }
     let placed = with_pairs(&forced, &open, &lows);
     let free = free_addresses(&placed);
-    Ok(filled(&placed, &free))
+    Ok(with_free(&placed, &free))
 }
 
 /// The chosen placement. Fails exactly where there is none.

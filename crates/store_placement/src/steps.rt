@@ -1,6 +1,6 @@
 //! Addresses for the statements that no fixed address forces.
 ghost use Rattle.std.specs.Prelude.{◌≡◌, ◌≤◌, ◌<◌, All, IfSome, is_none, length, count_by};
-ghost use Rattle.store_placement.specs.Reading.{pair_address, with_pairs, filled};
+ghost use Rattle.store_placement.specs.Reading.{pair_address, with_pairs, with_free};
 
 use crate::pair::Pair;
 use arrayvec::ArrayVec;
@@ -42,10 +42,10 @@ pub fn with_pairs(
 }
 
 /// The statements that have no address yet take the free ones, one by one.
-pub fn filled(placed: &[Option<u16>], free: &[u16]) -> ArrayVec<u16, 512>
+pub fn with_free(placed: &[Option<u16>], free: &[u16]) -> ArrayVec<u16, 512>
     requires count { length placed.now ≤ 512 }
     requires enough { count_by (λ o. is_none o) placed.now ≤ length free.now }
-    ensures { result.items ≡ filled placed.now free.now }
+    ensures { result.items ≡ with_free placed.now free.now }
 {
     let mut addresses = ArrayVec::new();
     let mut used = 0;

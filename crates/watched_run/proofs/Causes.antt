@@ -7,7 +7,7 @@ use Rattle.mic_clock.specs.Board.{HasEndCause, NoFault}
 
 -- nothing was called
 pub cause-start : (a b : ℕ) (end : Option End) → end ≡ None → HasEndCause a a b b None end
-cause-start a b end going =
+cause-start a b end not_ended =
     record {
       source_later = omega arith;
       sink_later = omega arith;

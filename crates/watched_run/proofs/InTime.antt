@@ -30,17 +30,17 @@ pub InTime-step : {State : Type 0} (m : Meaning State) (top bound : ℕ) (c c' :
     (end' ≡ None → c' ≡ counts_after m c stalled s) →
     (end' ≡ None → was ≡ true → c.cycles < bound) →
     InTime top c' (m.is_boundary s) end'
-InTime-step m top bound c c' was stalled s end (Some e) going le t still room counted below =
+InTime-step m top bound c c' was stalled s end (Some e) not_ended le t still room counted below =
     let same = still refl in
     let last_same : last_cycles c'.boundary ≡ last_cycles c.boundary = ap last_cycles same.1 in
     record { cycles = omega (arith, same.0, t.cycles); ordered = omega (arith, same.0, last_same, t.ordered); last = λ q. cc }
-InTime-step m top bound c c' was stalled s end None going le t still room counted below =
+InTime-step m top bound c c' was stalled s end None not_ended le t still room counted below =
     subst (λ x. InTime top x (m.is_boundary s) None) (sym (counted refl))
-    (clocked (m.is_boundary s) c stalled (m.address s) (m.registers s) was top bound (room refl) t.ordered le (below refl) (t.last going))
+    (clocked (m.is_boundary s) c stalled (m.address s) (m.registers s) was top bound (room refl) t.ordered le (below refl) (t.last not_ended))
 
 -- causes of one call after another
 pub HasEndCause-step : (a b c d e f : ℕ) (end end' : Option End) → end ≡ None → HasEndCause a b c d None end → HasEndCause b e d f end end' → HasEndCause a e c f None end'
-HasEndCause-step a b c d e f end end' going first next =
+HasEndCause-step a b c d e f end end' not_ended first next =
     let source_same : b ≡ a = first.source_same (λ n q. cc) in
     let sink_same : d ≡ c = first.sink_same (λ n q. cc) in
-    subst (λ x. HasEndCause x e c f None end') source_same (subst (λ x. HasEndCause b e x f None end') sink_same (subst (λ x. HasEndCause b e d f x end') going next))
+    subst (λ x. HasEndCause x e c f None end') source_same (subst (λ x. HasEndCause b e x f None end') sink_same (subst (λ x. HasEndCause b e d f x end') not_ended next))

@@ -29,13 +29,13 @@ module _ {M State : Type 0} (state : M → State) (m : Meaning State) (bound : �
     turn_shows : (mpc : ℕ) → mpc ≡ (m.registers (state board.machine)).mpc → last_cycles board.counts.boundary ≤ board.counts.cycles →
         IsCounted state m board board' → ShowsBuses state m board board' → board'.end ≡ None →
         cycle_between m board.store.words (state board.machine) (state board'.machine) board'.counts ≡ cycle_on state m mpc board'
-    turn_shows mpc is ordered counted seen going =
+    turn_shows mpc is ordered counted seen not_ended =
         let words = board.store.words in
         let s = state board.machine in
         let driven : board'.buses ≡ record { drive = m.drives (word_at m words s) s; computed = m.computes (word_at m words s) s } =
-        seen ∙ ap (λ (e : Option End). buses_of m words s board.buses e) going in
+        seen ∙ ap (λ (e : Option End). buses_of m words s board.buses e) not_ended in
         let reached : boundary_in board'.counts ≡ boundary_of m words (state board'.machine) =
-        boundary-counted m board.counts board'.counts (m.drives (word_at m words s) s).stalled (state board'.machine) ordered (counted going).1 in
+        boundary-counted m board.counts board'.counts (m.drives (word_at m words s) s).stalled (state board'.machine) ordered (counted not_ended).1 in
         λ i. record {
           mpc = sym is i;
           drive = (sym driven i).drive;
@@ -96,18 +96,18 @@ module _ {M State : Type 0} (state : M → State) (m : Meaning State) (bound : �
         RunIsCutByRead state m left held board left' held' board' (Some bound) →
         RunIsCutByWrite state m left held board left' held' board' (Some bound) →
         ShowsCycles state m bound left held board left' held' board' (shown_on state m mpc board') board'.end
-    one-turn mpc is ordered going counted seen still turned read write =
+    one-turn mpc is ordered not_ended counted seen still turned read write =
         let words = board.store.words in
         let none : (e : End) → board'.end ≡ Some e → shown_on state m mpc board' ≡ [] = λ e p. ap (λ (x : Option End). shown_where x (cycle_on state m mpc board')) p in
         let same : (e : End) → board'.end ≡ Some e → board'.counts.cycles ≡ board.counts.cycles = λ e p. (still (subst IsSome (sym p) refl)).0 in
         record {
-          run = λ q. turn_over mpc is ordered counted seen (turned (subst (λ (e : Option End). NoFault e board'.end) (sym going) q));
+          run = λ q. turn_over mpc is ordered counted seen (turned (subst (λ (e : Option End). NoFault e board'.end) (sym not_ended) q));
           read = λ p. let H = IsCutByRead state m words (Some bound) left' held' board' in
               subst (λ (cs : List Cycle). LeadsOver state m bound left held board left' held' board' cs H) (sym (none ends.ReadFault p))
-              (still_over H (λ r h. h.counts) (same ends.ReadFault p) (read going p));
+              (still_over H (λ r h. h.counts) (same ends.ReadFault p) (read not_ended p));
           write = λ p. let H = IsCutByWrite state m words (Some bound) left' held' board' in
               subst (λ (cs : List Cycle). LeadsOver state m bound left held board left' held' board' cs H) (sym (none ends.WriteFault p))
-              (still_over H (λ r h. h.counts) (same ends.WriteFault p) (write going p));
+              (still_over H (λ r h. h.counts) (same ends.WriteFault p) (write not_ended p));
         }
 
 module _ {M State : Type 0} (state : M → State) (m : Meaning State) (bound : ℕ) (left0 held0 : Option (List ℕ)) (board0 : BoardView M)
@@ -145,8 +145,8 @@ module _ {M State : Type 0} (state : M → State) (m : Meaning State) (bound : �
       ShowsCycles state m bound left0 held0 board0 left held board cs board.end →
       ShowsCycles state m bound left held board left' held' board' ds board'.end →
       ShowsCycles state m bound left0 held0 board0 left' held' board' (cs ++ ds) board'.end
-  shows-then cs ds program going first next =
-      let led = first.run (subst (λ (e : Option End). NoFault None e) (sym going) tt) in
+  shows-then cs ds program not_ended first next =
+      let led = first.run (subst (λ (e : Option End). NoFault None e) (sym not_ended) tt) in
       record {
         run = λ q. over_then (λ (ws : List ℕ) (r : MicroRun State). ShowsRun state left' held' board' r) cs ds program led (next.run q);
         read = λ p. over_then (λ (ws : List ℕ) (r : MicroRun State). IsCutByRead state m ws (Some bound) left' held' board' r) cs ds program led (next.read p);

@@ -10,7 +10,7 @@ use Rattle.mic_clock.specs.declared.end.End.{End}
 use Rattle.mic_clock.specs.declared.end.End.TheVariants as ends
 use Rattle.mic_clock.specs.declared.registers.Registers.{Registers}
 use Rattle.mic_clock.specs.Meaning.{Meaning, Outcome, Done, Refused}
-use Rattle.mic_clock.specs.Run.{MicroRun, Buses, last_cycles, word_at, end_before, stepped, gone, turn, turn_by, turns, buses, buses_of, bounded, bounded_by, counts_at, counts_between, counts_after}
+use Rattle.mic_clock.specs.Run.{MicroRun, Buses, last_cycles, word_at, end_before, after_step, after_end_or_step, turn, turn_by, turns, buses, buses_of, bounded, bounded_by, counts_at, counts_between, counts_after}
 use Rattle.watched_run.specs.declared.cycle.Cycle.{Cycle}
 use Rattle.watched_run.specs.Cycles.{shown_where, cycle_between, shown, cycles_of, boundary_at, boundary_in}
 
@@ -62,11 +62,11 @@ either_counts true false r e same = refl
 either_counts false over r e same = refl
 
 module _ {State : Type 0} (m : Meaning State) (words : List ℕ) where
-  step_counts : (r : MicroRun State) (o : Outcome State) → Counted r (stepped m words r o)
+  step_counts : (r : MicroRun State) (o : Outcome State) → Counted r (after_step m words r o)
   step_counts r (Done s w) c = omega (arith, counted_cycles (m.is_boundary s) r.counts (m.drives (word_at m words r.state) r.state).stalled (m.address s) (m.registers s))
   step_counts r (Refused why) c = omega arith
 
-  gone_counts : (r : MicroRun State) (e : Option End) → Counted r (gone m words e r)
+  gone_counts : (r : MicroRun State) (e : Option End) → Counted r (after_end_or_step m words e r)
   gone_counts r (Some e) c = omega arith
   gone_counts r None c = step_counts r (m.step (word_at m words r.state) r.state r.world) c
 

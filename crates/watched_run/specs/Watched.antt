@@ -24,31 +24,31 @@ module _ {M State : Type 0} (state : M → State) (m : Meaning State) (bound : �
     pub read : end ≡ Some ends.ReadFault → LeadsOver cs (IsCutByRead state m board.store.words (Some bound) left' held' board')
     pub write : end ≡ Some ends.WriteFault → LeadsOver cs (IsCutByWrite state m board.store.words (Some bound) left' held' board')
 
-module _ {Kept : Type 0} (keeps : Kept → Cycle → Kept) (Says : Kept → Cycle → List ℕ → Type 0) where
+module _ {Kept : Type 0} (keeps : Kept → Cycle → Kept) (Prints : Kept → Cycle → List ℕ → Type 0) where
   -- what a watcher keeps after these cycles
   abbrev pub kept_of : Kept → List Cycle → Kept
   kept_of k [] = k
   kept_of k (c ∷ cs) = kept_of (keeps k c) cs
 
   -- it says this of them: the texts of the cycles one after the other
-  abbrev pub SaysOf : Kept → List Cycle → List ℕ → Type 0
-  SaysOf k [] text = text ≡ []
-  SaysOf k (c ∷ cs) text = (first rest : List ℕ) × Says k c first × SaysOf (keeps k c) cs rest × (text ≡ first ++ rest)
+  abbrev pub PrintsOf : Kept → List Cycle → List ℕ → Type 0
+  PrintsOf k [] text = text ≡ []
+  PrintsOf k (c ∷ cs) text = (first rest : List ℕ) × Prints k c first × PrintsOf (keeps k c) cs rest × (text ≡ first ++ rest)
 
   -- A watcher saw these cycles. Where `err` failed, it has a front of what was said.
   pub record Saw {E : Type 0} (k k' : Kept) (err err' : Option (List ℕ)) (cs : List Cycle) (result : Result Unit E) : Type 0 where
     pub kept : k' ≡ kept_of k cs
     pub text : List ℕ
-    pub says : SaysOf k cs text
+    pub says : PrintsOf k cs text
     pub said : Puts err text result err'
 
-module _ {M State Kept : Type 0} (state : M → State) (m : Meaning State) (bound : ℕ) (keeps : Kept → Cycle → Kept) (Says : Kept → Cycle → List ℕ → Type 0) where
+module _ {M State Kept : Type 0} (state : M → State) (m : Meaning State) (bound : ℕ) (keeps : Kept → Cycle → Kept) (Prints : Kept → Cycle → List ℕ → Type 0) where
   -- The run of a board that comes to this end, or has none yet where `err` failed: it shows some cycles, and a watcher saw them.
   pub record IsWatched {E : Type 0} (left held : Option (List ℕ)) (board : BoardView M) (left' held' : Option (List ℕ)) (board' : BoardView M)
       (k k' : Kept) (err err' : Option (List ℕ)) (end : Option End) (result : Result Unit E) : Type 0 where
     pub cycles : List Cycle
     pub run : ShowsCycles state m bound left held board left' held' board' cycles end
-    pub saw : Saw keeps Says k k' err err' cycles result
+    pub saw : Saw keeps Prints k k' err err' cycles result
 
 -- the end of a run, where it came to one
 abbrev pub end_in : {E : Type 0} → Result End E → Option End

@@ -24,8 +24,8 @@ fn show<M: Clocked, W: Watcher, E: Sink>(
     err: &mut E,
 ) -> Result<(), SinkFailed>
     requires { mpc < 512 }
-    ensures saw { Saw W.keeps W.Says (W.kept watcher.old) (W.kept watcher.new) (E.held err.old) (E.held err.new) (shown_on M.state M.meaning mpc board.now) result }
-    ensures going { OnErr result (board.now.end ≡ None) }
+    ensures saw { Saw W.keeps W.Prints (W.kept watcher.old) (W.kept watcher.new) (E.held err.old) (E.held err.new) (shown_on M.state M.meaning mpc board.now) result }
+    ensures not_ended { OnErr result (board.now.end ≡ None) }
     ensures cause { HasCause (E.faults err.old) (E.faults err.new) result }
 {
     if board.ended().is_some() {
@@ -50,11 +50,11 @@ fn watch_turns<M: Clocked, W: Watcher, S: Source, K: Sink, E: Sink>(
     requires cycles { board.old.counts.cycles ≤ 2 ^ 62 + 1024 }
     requires ordered { last_cycles board.old.counts.boundary ≤ board.old.counts.cycles }
     requires near { board.old.counts.cycles ≤ last_cycles board.old.counts.boundary + 1024 }
-    requires going { board.old.end ≡ None }
-    ensures watched { IsWatched M.state M.meaning bound W.keeps W.Says (S.left source.old) (K.held sink.old) board.old (S.left source.new) (K.held sink.new) board.new
+    requires not_ended { board.old.end ≡ None }
+    ensures watched { IsWatched M.state M.meaning bound W.keeps W.Prints (S.left source.old) (K.held sink.old) board.old (S.left source.new) (K.held sink.new) board.new
         (W.kept watcher.old) (W.kept watcher.new) (E.held err.old) (E.held err.new) board.new.end result }
     ensures ended { OnOk result (IsSome board.new.end) }
-    ensures going { OnErr result (board.new.end ≡ None) }
+    ensures not_ended { OnErr result (board.new.end ≡ None) }
     ensures store { board.new.store ≡ board.old.store }
     ensures kept { (e : BusFault) → IsFault e → board.new.end ≡ Some (end_by e) → board.new.bus.console.kept ≡ [] }
     ensures keeps { (front : List ℕ) → Holds front (K.held sink.old) → Holds front (K.held sink.new) }
@@ -86,8 +86,8 @@ pub fn run_watched<M: Clocked, W: Watcher, S: Source, K: Sink, E: Sink>(
     requires cycles { board.old.counts.cycles ≤ 2 ^ 62 + 1024 }
     requires ordered { last_cycles board.old.counts.boundary ≤ board.old.counts.cycles }
     requires near { board.old.counts.cycles ≤ last_cycles board.old.counts.boundary + 1024 }
-    requires going { board.old.end ≡ None }
-    ensures watched { IsWatched M.state M.meaning bound W.keeps W.Says (S.left source.old) (K.held sink.old) board.old (S.left source.new) (K.held sink.new) board.new
+    requires not_ended { board.old.end ≡ None }
+    ensures watched { IsWatched M.state M.meaning bound W.keeps W.Prints (S.left source.old) (K.held sink.old) board.old (S.left source.new) (K.held sink.new) board.new
         (W.kept watcher.old) (W.kept watcher.new) (E.held err.old) (E.held err.new) (end_in result) (done result) }
     ensures end { IfOk result (λ e. e ≢ End.WriteFault → board.new.end ≡ Some e) }
     ensures store { board.new.store ≡ board.old.store }

@@ -18,11 +18,11 @@ pub trait Watcher {
     /// What it keeps after a cycle, and the texts that it may say of it.
     ghost keeps: { Kept → Cycle → Kept };
 
-    ghost Says: { Kept → Cycle → List ℕ → Type 0 };
+    ghost Prints: { Kept → Cycle → List ℕ → Type 0 };
 
     /// Whether it has anything to do with cycles that reach a boundary, or with those that do not.
     fn wants(&self, boundary: bool) -> bool
-        ensures { result ≡ false → (cycle : Cycle) → is_some cycle.boundary ≡ boundary → (keeps (kept self.now) cycle ≡ kept self.now) × Says (kept self.now) cycle [] }
+        ensures { result ≡ false → (cycle : Cycle) → is_some cycle.boundary ≡ boundary → (keeps (kept self.now) cycle ≡ kept self.now) × Prints (kept self.now) cycle [] }
     {
         true
     }
@@ -31,6 +31,6 @@ pub trait Watcher {
         requires word { cycle.now.mpc < 512 }
         requires next { cycle.now.registers.mpc < 512 }
         ensures keeps { kept self.new ≡ keeps (kept self.old) cycle.now }
-        ensures says { (text : List ℕ) × Says (kept self.old) cycle.now text × Puts (E.held err.old) text result (E.held err.new) }
+        ensures says { (text : List ℕ) × Prints (kept self.old) cycle.now text × Puts (E.held err.old) text result (E.held err.new) }
         ensures cause { HasCause (E.faults err.old) (E.faults err.new) result };
 }

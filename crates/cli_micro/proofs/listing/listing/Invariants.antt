@@ -1,6 +1,6 @@
 use Rattle.std.proofs.Common.{◌≡◌}
 use Rattle.std.specs.Prelude.{map}
-use Rattle.mal_parser.specs.Canonical.{text_of}
+use Rattle.mal_parser.specs.ProgramText.{text_of}
 use Rattle.store_placement.specs.First.{below}
 use Rattle.cli_micro.specs.Texts.{store_line}
 use Rattle.cli_micro.proofs.listing.listing.Given as goal

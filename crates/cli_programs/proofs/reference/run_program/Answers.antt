@@ -12,4 +12,4 @@ returns-in-Ok g c =
       flushed = c.in-Ok.ensures.flushed;
       cause = c.in-Ok.ensures.cause;
     }))
-    (rw (c.bytes.ensures.value, c.plain_report.ensures, c.status_of.ensures, c.end_of.ensures) at c.say.ensures)
+    (rw (c.bytes.ensures.value, c.plain_report.ensures, c.status_of.ensures, c.clocked_end.ensures) at c.say.ensures)

@@ -10,7 +10,7 @@ use Rattle.clap.specs.declared.error.Error.{Error}
 use Rattle.clap.specs.declared.error.kind.ErrorKind.TheVariants.{OutOfMemory}
 use Rattle.clap.specs.declared.parser.matches.ArgMatches.{ArgMatches}
 use Rattle.cli_words.specs.Reading.{Entry, Form, Text, is_distinct, names_of, reads}
-use Rattle.cli_words.specs.Taking.{Holds, app_for, bytes_of, form_of}
+use Rattle.cli_words.specs.Taking.{HoldsGiven, app_for, bytes_of, form_of}
 use Rattle.cli_words.proofs.Rules.{app_is, free_for}
 use Rattle.cli_words.proofs.Ends.{Agrees, agrees_with}
 use Rattle.cli_words.proofs.Getting.{holds}
@@ -28,7 +28,7 @@ first_true true d h = refl
 first_true false d h = cc
 
 taken : (f : Form) (a : App) (words : List Text) (m : ArgMatches) → is_distinct (names_of f) ≡ true → is_simple_and_free a ≡ true → Agrees a f words → fault_of a words ≡ [] → HasMatchesOf a words m
-    → (g : List Entry) × (reads f words ≡ Some g) × Holds f g m
+    → (g : List Entry) × (reads f words ≡ Some g) × HoldsGiven f g m
 taken f a words m distinct free (inl h) passes matches = (h.0, h.1, holds f h.0 m distinct ((matches (first_true _ _ free)).0 ∙ h.3))
 taken f a words m distinct free (inr h) passes matches = let bad : [] ≡ h.1.0 ∷ h.1.1 = sym passes ∙ h.1.2 in cc
 

@@ -5,18 +5,18 @@ use Rattle.ijvm_asm.specs.Adding.{step}
 use Rattle.ijvm_asm.proofs.Outcome.{is_refused, is_spelled, line_refused}
 use Rattle.ijvm_asm.proofs.parse.parse_source.Goals as goal
 
-pub program_of-requires : goal.program_of-requires
-program_of-requires c = (c.args.text.now, c.requires, subst (λ s. Leads step 1 s (contents c.args.text.now) c.read_lines.new.reader) c.new-reader.ensures c.in-Ok.ensures.ok)
+pub whole_program-requires : goal.whole_program-requires
+whole_program-requires c = (c.args.text.now, c.requires, subst (λ s. Leads step 1 s (contents c.args.text.now) c.read_lines.new.reader) c.new-reader.ensures c.in-Ok.ensures.ok)
 
 pub returns-in-Ok-clause-ok : goal.returns-in-Ok-clause-ok
 returns-in-Ok-clause-ok c =
     is_spelled c.reads_lines.ensures c.args.text.now c.read_lines.new.reader
-    (subst (λ s. Leads step 1 s (contents c.args.text.now) c.read_lines.new.reader) c.new-reader.ensures c.in-Ok.ensures.ok) c.program_of.result c.program_of.ensures.ok
+    (subst (λ s. Leads step 1 s (contents c.args.text.now) c.read_lines.new.reader) c.new-reader.ensures c.in-Ok.ensures.ok) c.whole_program.result c.whole_program.ensures.ok
 
 pub returns-in-Ok-clause-err : goal.returns-in-Ok-clause-err
 returns-in-Ok-clause-err c =
     is_refused c.reads_lines.ensures c.args.text.now c.read_lines.new.reader
-    (subst (λ s. Leads step 1 s (contents c.args.text.now) c.read_lines.new.reader) c.new-reader.ensures c.in-Ok.ensures.ok) c.program_of.result c.program_of.ensures.err
+    (subst (λ s. Leads step 1 s (contents c.args.text.now) c.read_lines.new.reader) c.new-reader.ensures c.in-Ok.ensures.ok) c.whole_program.result c.whole_program.ensures.err
 
 pub returns-clause-err : goal.returns-clause-err
 returns-clause-err c = λ free.

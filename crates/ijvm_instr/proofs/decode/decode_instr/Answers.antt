@@ -1,7 +1,7 @@
 use Rattle.std.proofs.Common.{◌≡◌, ◌<◌, ◌≤◌, All, ℕ, Some, None, length, take, sym, ◌∙◌, ap, subst}
 use Rattle.std.proofs.lemmas.List.Elements.{All-from_get_or}
 use Rattle.ijvm_instr.specs.declared.instr.Instr.{Instr}
-use Rattle.ijvm_instr.specs.Instructions.{instr_at, row_of, size_of, Spells}
+use Rattle.ijvm_instr.specs.Instructions.{instr_at, row_of, size_of, SpellsInstr}
 use Rattle.ijvm_instr.proofs.Spelled.{front-decoded, decoded-front, length-spelled}
 use Rattle.ijvm_instr.proofs.decode.decode_instr.Goals as goal
 
@@ -17,7 +17,7 @@ returns-clause-spelled c =
     let small : All (λ (b : ℕ). b < 256) c.args.bytes.now = All-from_get_or (λ (b : ℕ). b < 256) c.args.bytes.now 0 (λ k inside. (c.type_inv.bytes k).fits) in
     let read : instr_at c.args.bytes.now 0 ≡ Some i = sym (c.in_ok-instr.ensures.is) in
     let size : c.size.result ≡ size_of (row_of i) = c.size.ensures.is ∙ ap size_of c.row.ensures in
-    subst (λ (n : ℕ). Spells (take n c.args.bytes.now) i × (n ≤ length c.args.bytes.now)) (sym size) (decoded-front c.args.bytes.now i small read)
+    subst (λ (n : ℕ). SpellsInstr (take n c.args.bytes.now) i × (n ≤ length c.args.bytes.now)) (sym size) (decoded-front c.args.bytes.now i small read)
 
 pub returns-clause-decodes : goal.returns-clause-decodes
 returns-clause-decodes c = λ i front rest real spells e.

@@ -1,5 +1,5 @@
 use Rattle.std.proofs.Common.{subst, sym}
-use Rattle.mal_print.specs.Canonical.{FitTargets}
+use Rattle.mal_print.specs.StatementText.{FitTargets}
 use Rattle.mal_parser.proofs.Printing.{fit_addresses, next_valid}
 use Rattle.mal_parser.proofs.print.print_placed.Goals as goal
 

@@ -2,7 +2,7 @@ use Rattle.std.proofs.Common.{◌≡◌, IsTrue, Option, IfSome, sym, subst, ◌
 use Rattle.machine_words.specs.declared.machine.Machine.TheVariants.{Mic2}
 use Rattle.micro_word.specs.declared.statement.Placed.{Placed}
 use Rattle.micro_word.specs.Coding.{word_of}
-use Rattle.micro_word.specs.Canonical.{is_valid}
+use Rattle.micro_word.specs.Words.{is_valid}
 use Rattle.micro_word.proofs.Coding.{known, back, none}
 use Rattle.micro_word.proofs.word.decode2.Goals as goal
 

@@ -21,7 +21,7 @@ returns-in-Ok-write_out-clause-ok g c = λ rest u.
           let outcome_is = outcome-at old Out led.0 given found ∙ next.2 in (
             next.0,
             next.1,
-            subst (λ (end : Option StepEnd). Turns end old new led.0 given rest next.0) (sym c.end_of-in-Ok-write_out.ensures)
+            subst (λ (end : Option StepEnd). Turns end old new led.0 given rest next.0) (sym c.step_end-in-Ok-write_out.ensures)
                 (effect-turns c.in-Ok-write_out.effect old new led.0 given rest next.0 outcome_is),
           ),
     )
@@ -45,7 +45,7 @@ returns-in-Ok-clause-ok g c = λ rest u.
           let outcome_is = outcome-at old In led.0 given found ∙ next.2 in (
             next.0,
             next.1,
-            subst (λ (end : Option StepEnd). Turns end old new led.0 given rest next.0) (sym c.end_of.ensures)
+            subst (λ (end : Option StepEnd). Turns end old new led.0 given rest next.0) (sym c.step_end.ensures)
                 (effect-turns c.in-Ok.effect old new led.0 given rest next.0 outcome_is),
           ),
     )

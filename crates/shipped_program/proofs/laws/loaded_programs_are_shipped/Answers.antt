@@ -2,10 +2,10 @@ use Rattle.std.proofs.Common.{◌≡◌, ℕ, List, IsTrue, subst}
 use Rattle.machine_words.specs.declared.machine.Machine.{Machine}
 use Rattle.machine_words.specs.declared.machine.Machine.TheVariants.{Mic1, Mic2}
 use Rattle.micro_word.specs.declared.statement.Placed.{Placed}
-use Rattle.micro_word.specs.Canonical.{is_valid}
+use Rattle.micro_word.specs.Words.{is_valid}
 use Rattle.micro_word.specs.Coding.{word_of, statement_of}
 use Rattle.store_placement.specs.Program.{IsFilled}
-use Rattle.shipped_program.specs.Listing.{program_of, addresses_of}
+use Rattle.shipped_program.specs.Listing.{listed_program, addresses_of}
 use Rattle.shipped_program.proofs.Words.{shipped_words, entry_at}
 use Rattle.shipped_program.proofs.laws.loaded_programs_are_shipped.Goals as goal
 
@@ -15,7 +15,7 @@ returns-clause-words c = λ machine l loaded.
     elim m as (λ n. (q : Placed) → IsTrue (is_valid n q) → statement_of n (word_of n q) ≡ q)
     [ Mic1 ↦ c.statement_law.ensures.statement | Mic2 ↦ c.statement_law-2.ensures.statement ] in
     let addresses : l.placement ≡ addresses_of machine = c.shipped_programs_are_listed.ensures.only machine l.placement loaded.chosen in
-    shipped_words machine l.store.words (law machine) (subst (λ (list : List ℕ). IsFilled (program_of machine) list l.store.words) addresses loaded.filled)
+    shipped_words machine l.store.words (law machine) (subst (λ (list : List ℕ). IsFilled (listed_program machine) list l.store.words) addresses loaded.filled)
 
 pub returns-clause-entry : goal.returns-clause-entry
 returns-clause-entry c = λ machine l loaded.

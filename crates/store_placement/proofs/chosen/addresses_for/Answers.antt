@@ -11,11 +11,11 @@ with_pairs-placed-requires-clause-low c =
     let lows : c.deref-5.result.now ≡ free_lows forced = cc in
     subst P (sym lows) (lows_inside forced)
 
-pub filled-requires-clause-enough : goal.filled-requires-clause-enough
-filled-requires-clause-enough c = free_for_rest c.args.fixed.now c.args.pairs.now c.deref-7.result.now c.deref-8.result.now c.requires (cc) (cc)
+pub with_free-requires-clause-enough : goal.with_free-requires-clause-enough
+with_free-requires-clause-enough c = free_for_rest c.args.fixed.now c.args.pairs.now c.deref-7.result.now c.deref-8.result.now c.requires (cc) (cc)
 
 pub returns : goal.returns
 returns c =
     let forced = all_forced c.args.fixed.now c.args.pairs.now in
     let lows : c.free_lows-lows.result.items ≡ free_lows forced = cc in
-    steps_place c.args.fixed.now c.args.pairs.now c.filled.result.items c.requires c.in_default.ensures c.in_default-first_in_wrong_half.ensures c.in_default-first_collision.ensures (omega (arith, ap length lows, ap length c.open_pairs-open.ensures)) (cc)
+    steps_place c.args.fixed.now c.args.pairs.now c.with_free.result.items c.requires c.in_default.ensures c.in_default-first_in_wrong_half.ensures c.in_default-first_collision.ensures (omega (arith, ap length lows, ap length c.open_pairs-open.ensures)) (cc)

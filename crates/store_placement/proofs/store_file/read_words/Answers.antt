@@ -1,7 +1,7 @@
 use Rattle.std.proofs.Common.{◌≡◌, false, not, refl, sym, ap, ◌∙◌}
 use Rattle.machine_words.specs.declared.machine.Machine.{Machine}
 use Rattle.micro_word.specs.Coding.{word_of}
-use Rattle.micro_word.specs.Canonical.{is_canonical}
+use Rattle.micro_word.specs.Words.{is_canonical}
 use Rattle.store_placement.specs.StoreFile.{is_bad}
 use Rattle.store_placement.proofs.StoreFileLemmas.{none_read, read_more}
 use Rattle.store_placement.proofs.store_file.read_words.Goals as goal

@@ -14,7 +14,7 @@ turns-init g c =
     let state = g.M.Clocked.state in
     let m = g.M.Clocked.meaning in
     let board = c.args.board.now in
-    let going : board.end ≡ None = c.requires.going in
+    let not_ended : board.end ≡ None = c.requires.not_ended in
     record {
       watched = record {
         cycles = [];
@@ -23,12 +23,12 @@ turns-init g c =
           read = λ p. absurd (cc);
           write = λ p. absurd (cc);
         };
-        saw = saw-nothing g.W.Watcher.keeps g.W.Watcher.Says (g.W.Watcher.kept c.args.watcher.now) (g.E.Sink.held c.args.err.now);
+        saw = saw-nothing g.W.Watcher.keeps g.W.Watcher.Prints (g.W.Watcher.kept c.args.watcher.now) (g.E.Sink.held c.args.err.now);
       };
       kept = λ e f p. absurd (cc);
       keeps = λ front h. h;
       flushed = λ q h. h;
-      cause = cause-start (g.S.Source.faults c.args.source.now) (g.K.Sink.faults c.args.sink.now) board.end going;
+      cause = cause-start (g.S.Source.faults c.args.source.now) (g.K.Sink.faults c.args.sink.now) board.end not_ended;
       said = record { later = omega arith; failed = tt; quiet = refl };
       store = refl;
       in_time = record { cycles = omega arith; ordered = c.requires.ordered; last = λ _. inl (omega arith) };
@@ -48,7 +48,7 @@ turns-preserved g c =
     let left' = g.S.Source.left c.turn.new.source in
     let held' = g.K.Sink.held c.turn.new.sink in
     let inv = c.turns.invariant in
-    let going : old.end ≡ None = search rules in
+    let not_ended : old.end ≡ None = search rules in
     let program : old.store.words ≡ first.store.words = ap (λ (s : ControlStore). s.words) inv.store in
     let top : ℕ = max c.args.bound (last_cycles first.counts.boundary) in
     let cs : List Cycle = inv.watched.cycles in
@@ -56,19 +56,19 @@ turns-preserved g c =
     record {
       watched = record {
         cycles = cs ++ ds;
-        run = shows-then state m c.args.bound left0 held0 first left held old left' held' new cs ds program going inv.watched.run
-            (one-turn state m c.args.bound left held old left' held' new c.mpc-mpc.result c.mpc-mpc.ensures.value inv.in_time.ordered going
+        run = shows-then state m c.args.bound left0 held0 first left held old left' held' new cs ds program not_ended inv.watched.run
+            (one-turn state m c.args.bound left held old left' held' new c.mpc-mpc.result c.mpc-mpc.ensures.value inv.in_time.ordered not_ended
             c.turn.ensures.clocked c.turn.ensures.buses c.turn.ensures.still c.turn.ensures.turn c.turn.ensures.read c.turn.ensures.write);
-        saw = saw-then g.W.Watcher.keeps g.W.Watcher.Says (g.W.Watcher.kept c.args.watcher.now) (g.W.Watcher.kept c.turns.watcher) (g.W.Watcher.kept c.show.new.watcher)
+        saw = saw-then g.W.Watcher.keeps g.W.Watcher.Prints (g.W.Watcher.kept c.args.watcher.now) (g.W.Watcher.kept c.turns.watcher) (g.W.Watcher.kept c.show.new.watcher)
             (g.E.Sink.held c.args.err.now) (g.E.Sink.held c.turns.err) (g.E.Sink.held c.show.new.err) cs ds (Ok (tt {0})) inv.watched.saw c.in-Ok.ensures.saw;
       };
-      kept = λ e f p. c.turn.ensures.kept e going f p;
+      kept = λ e f p. c.turn.ensures.kept e not_ended f p;
       keeps = λ front h. c.turn.ensures.keeps front (inv.keeps front h);
       flushed = λ q h. c.turn.ensures.flushed q (inv.flushed (λ w. cc) h);
-      cause = HasEndCause-step _ _ _ _ _ _ old.end new.end going inv.cause c.turn.ensures.cause;
+      cause = HasEndCause-step _ _ _ _ _ _ old.end new.end not_ended inv.cause c.turn.ensures.cause;
       said = cause-then (g.E.Sink.faults c.args.err.now) (g.E.Sink.faults c.turns.err) (g.E.Sink.faults c.show.new.err) tt (Ok (tt {0})) inv.said c.in-Ok.ensures.cause;
       store = c.turn.ensures.store ∙ inv.store;
-      in_time = InTime-step m top c.args.bound old.counts new.counts (m.is_boundary (state old.machine)) (m.drives (word_at m old.store.words (state old.machine)) (state old.machine)).stalled (state new.machine) old.end new.end going (omega arith) inv.in_time
+      in_time = InTime-step m top c.args.bound old.counts new.counts (m.is_boundary (state old.machine)) (m.drives (word_at m old.store.words (state old.machine)) (state old.machine)).stalled (state new.machine) old.end new.end not_ended (omega arith) inv.in_time
           c.turn.ensures.still c.turn.ensures.room (λ q. (c.turn.ensures.clocked q).1) c.turn.ensures.below;
     }
 
@@ -86,15 +86,15 @@ returns-in-Err-clause-watched g c =
     let left' = g.S.Source.left c.turn.new.source in
     let held' = g.K.Sink.held c.turn.new.sink in
     let inv = c.turns.invariant in
-    let going : old.end ≡ None = search rules in
+    let not_ended : old.end ≡ None = search rules in
     let program : old.store.words ≡ first.store.words = ap (λ (s : ControlStore). s.words) inv.store in
     let cs : List Cycle = inv.watched.cycles in
     let ds : List Cycle = shown_on state m c.mpc-mpc.result new in
     record {
       cycles = cs ++ ds;
-      run = shows-then state m c.args.bound left0 held0 first left held old left' held' new cs ds program going inv.watched.run
-          (one-turn state m c.args.bound left held old left' held' new c.mpc-mpc.result c.mpc-mpc.ensures.value inv.in_time.ordered going
+      run = shows-then state m c.args.bound left0 held0 first left held old left' held' new cs ds program not_ended inv.watched.run
+          (one-turn state m c.args.bound left held old left' held' new c.mpc-mpc.result c.mpc-mpc.ensures.value inv.in_time.ordered not_ended
           c.turn.ensures.clocked c.turn.ensures.buses c.turn.ensures.still c.turn.ensures.turn c.turn.ensures.read c.turn.ensures.write);
-      saw = saw-then g.W.Watcher.keeps g.W.Watcher.Says (g.W.Watcher.kept c.args.watcher.now) (g.W.Watcher.kept c.turns.watcher) (g.W.Watcher.kept c.show.new.watcher)
+      saw = saw-then g.W.Watcher.keeps g.W.Watcher.Prints (g.W.Watcher.kept c.args.watcher.now) (g.W.Watcher.kept c.turns.watcher) (g.W.Watcher.kept c.show.new.watcher)
           (g.E.Sink.held c.args.err.now) (g.E.Sink.held c.turns.err) (g.E.Sink.held c.show.new.err) cs ds (Err c.in-Err.failed) inv.watched.saw c.in-Err.ensures.saw;
     }

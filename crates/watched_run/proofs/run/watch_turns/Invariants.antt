@@ -17,7 +17,7 @@ invariant-turns g l =
     let state = g.M.Clocked.state in
     let m = g.M.Clocked.meaning in
     record {
-      watched : IsWatched state m l.bound g.W.Watcher.keeps g.W.Watcher.Says {E = SinkFailed} (g.S.Source.left l.fn.source) (g.K.Sink.held l.fn.sink) l.fn.board
+      watched : IsWatched state m l.bound g.W.Watcher.keeps g.W.Watcher.Prints {E = SinkFailed} (g.S.Source.left l.fn.source) (g.K.Sink.held l.fn.sink) l.fn.board
           (g.S.Source.left l.source) (g.K.Sink.held l.sink) l.board (g.W.Watcher.kept l.fn.watcher) (g.W.Watcher.kept l.watcher) (g.E.Sink.held l.fn.err) (g.E.Sink.held l.err) l.board.end (Ok (tt {0}));
       kept : (e : BusFault) → IsFault e → l.board.end ≡ Some (end_by e) → l.board.bus.console.kept ≡ [];
       keeps : (front : List ℕ) → Holds front (g.K.Sink.held l.fn.sink) → Holds front (g.K.Sink.held l.sink);

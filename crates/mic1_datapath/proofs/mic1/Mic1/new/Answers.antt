@@ -1,5 +1,5 @@
 use Rattle.std.proofs.Common.{refl}
-use Rattle.micro_word.specs.Canonical.{is_canonical}
+use Rattle.micro_word.specs.Words.{is_canonical}
 use Rattle.micro_word.specs.Coding.{statement_of}
 use Rattle.mic1_datapath.proofs.mic1.Mic1.new.Goals as goal
 

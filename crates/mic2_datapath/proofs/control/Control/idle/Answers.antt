@@ -3,7 +3,7 @@ use Rattle.machine_words.specs.declared.machine.Machine.TheVariants as machines
 use Rattle.micro_word.specs.Layout.{fields_of}
 use Rattle.micro_word.specs.Lines.{AreLines, bytes_taken}
 use Rattle.micro_word.specs.declared.layout.Fields.{Fields}
-use Rattle.micro_word.specs.Canonical.{is_canonical}
+use Rattle.micro_word.specs.Words.{is_canonical}
 use Rattle.micro_word.specs.Coding.{statement_of}
 use Rattle.mic2_datapath.proofs.control.Control.idle.Goals as goal
 

@@ -24,11 +24,11 @@ returns-in-Err-clause-turn g c =
     let state = g.M.Clocked.state in
     let m = g.M.Clocked.meaning in
     let board = c.args.self.now in
-    let going : board.end ≡ None = search rules in
+    let not_ended : board.end ≡ None = search rules in
     let no_end : end_before m (state board.machine) board.counts ≡ None = search rules in
     λ q.
-    let plain : NoFault None (Some c.end_of-end.result) = subst (λ (x : Option End). NoFault x (Some c.end_of-end.result)) going q in
-    let other = no_fault c.in-Err.fault (subst (λ (x : End). NoFault None (Some x)) c.end_of-end.ensures plain) in
+    let plain : NoFault None (Some c.fault_end-end.result) = subst (λ (x : Option End). NoFault x (Some c.fault_end-end.result)) not_ended q in
+    let other = no_fault c.in-Err.fault (subst (λ (x : End). NoFault None (Some x)) c.fault_end-end.ensures plain) in
     let refused : (w : World) → Shows (g.S.Source.left c.args.source.now) (g.K.Sink.held c.args.sink.now) board.bus w →
     refusal_in (m.step (word_at m board.store.words (state board.machine)) (state board.machine) w) ≡ Some c.in-Err.fault = search rules in
-    led-refused state m _ _ _ (g.K.Sink.held c.clock_once.new.sink) board _ c.in-Err.fault going no_end refused other (search rules) (search rules) (search rules) (search rules)
+    led-refused state m _ _ _ (g.K.Sink.held c.clock_once.new.sink) board _ c.in-Err.fault not_ended no_end refused other (search rules) (search rules) (search rules) (search rules)

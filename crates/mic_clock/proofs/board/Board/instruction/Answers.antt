@@ -20,7 +20,7 @@ inside-init g c =
     let left' = g.S.Source.left c.cycle.new.source in
     let held' = g.K.Sink.held c.cycle.new.sink in
     let Along : ℕ → MicroRun g.M.Clocked.State → Type 0 = λ n r. IsLeg m words (suc n) r in
-    let going : first.end ≡ None = search rules in
+    let not_ended : first.end ≡ None = search rules in
     let top : ℕ = first.counts.cycles in
     let ordered : last_cycles first.counts.boundary ≤ first.counts.cycles = search rules in
     let near : first.counts.cycles ≤ top + 1024 = omega arith in
@@ -30,22 +30,22 @@ inside-init g c =
     record {
       run = λ q. IsLedTo-map state left0 held0 first left' new _ _ (λ r rest at. (suc at.0, at.1, at.2))
           (Leads-turn state m words None left0 held0 first Along left0 held0 first left' held' new refl led
-          (c.cycle.ensures.turn (subst (λ (e : Option _). NoFault e new.end) (sym going) q)) c.cycle.ensures.buses);
+          (c.cycle.ensures.turn (subst (λ (e : Option _). NoFault e new.end) (sym not_ended) q)) c.cycle.ensures.buses);
       read = λ p. Leads-read state m words None left0 held0 first Along left0 held0 first left' held' new refl led
-          going (c.cycle.ensures.cut faults.ReadFault going tt p) (λ r s. s.its_end ∙ going);
+          not_ended (c.cycle.ensures.cut faults.ReadFault not_ended tt p) (λ r s. s.its_end ∙ not_ended);
       write = λ p. Leads-write state m words None left0 held0 first Along left0 held0 first left' held' new refl led
-          going (c.cycle.ensures.cut faults.WriteFault going tt p) (λ r s. s.its_end ∙ going);
+          not_ended (c.cycle.ensures.cut faults.WriteFault not_ended tt p) (λ r s. s.its_end ∙ not_ended);
       keeps = c.cycle.ensures.keeps;
       asked_no_more = c.cycle.ensures.asked_no_more;
       tells = c.cycle.ensures.tells;
       flushed = c.cycle.ensures.flushed;
-      cause = rw going at c.cycle.ensures.cause;
+      cause = rw not_ended at c.cycle.ensures.cause;
       store = c.cycle.ensures.store;
-      empty_read = λ p. c.cycle.ensures.kept faults.ReadFault going tt p;
-      empty_write = λ p. c.cycle.ensures.kept faults.WriteFault going tt p;
+      empty_read = λ p. c.cycle.ensures.kept faults.ReadFault not_ended tt p;
+      empty_write = λ p. c.cycle.ensures.kept faults.WriteFault not_ended tt p;
       in_leg = InLeg-step m first.counts first.counts new.counts (m.drives (word_at m words (state first.machine)) (state first.machine)).stalled (state new.machine) new.end (search rules) refl (omega arith)
           c.cycle.ensures.still c.cycle.ensures.room (λ q. (c.cycle.ensures.clocked q).1);
-      in_time = InTime-step m top top first.counts new.counts false (m.drives (word_at m words (state first.machine)) (state first.machine)).stalled (state new.machine) first.end new.end going (omega arith) in_time
+      in_time = InTime-step m top top first.counts new.counts false (m.drives (word_at m words (state first.machine)) (state first.machine)).stalled (state new.machine) first.end new.end not_ended (omega arith) in_time
           c.cycle.ensures.still c.cycle.ensures.room (λ q. (c.cycle.ensures.clocked q).1) (λ _ here. absurd (cc));
     }
 
@@ -64,32 +64,32 @@ inside-preserved g c =
     let left' = g.S.Source.left c.cycle-in-inside.new.source in
     let held' = g.K.Sink.held c.cycle-in-inside.new.sink in
     let Along : ℕ → MicroRun g.M.Clocked.State → Type 0 = λ n r. IsLeg m words (suc n) r in
-    let going : old.end ≡ None = search rules in
+    let not_ended : old.end ≡ None = search rules in
     let no_boundary : m.is_boundary (state old.machine) ≡ false = search rules in
     let program : old.store.words ≡ words = ap (λ (s : ControlStore). s.words) c.inside.invariant.store in
     let top : ℕ = first.counts.cycles in
-    let past = c.inside.invariant.in_leg.onward going in
+    let past = c.inside.invariant.in_leg.onward not_ended in
     let later : first.counts.cycles ≤ old.counts.cycles = omega arith in
-    let led = leg-inside state m words left0 held0 first left held old going no_boundary (c.inside.invariant.run (subst (λ (e : Option _). NoFault None e) (sym going) tt)) in
+    let led = leg-inside state m words left0 held0 first left held old not_ended no_boundary (c.inside.invariant.run (subst (λ (e : Option _). NoFault None e) (sym not_ended) tt)) in
     record {
       run = λ q. IsLedTo-map state left0 held0 first left' new _ _ (λ r rest at. (suc at.0, at.1, at.2))
           (Leads-turn state m words None left0 held0 first Along left held old left' held' new program led
-          (c.cycle-in-inside.ensures.turn (subst (λ (e : Option _). NoFault e new.end) (sym going) q)) c.cycle-in-inside.ensures.buses);
+          (c.cycle-in-inside.ensures.turn (subst (λ (e : Option _). NoFault e new.end) (sym not_ended) q)) c.cycle-in-inside.ensures.buses);
       read = λ p. Leads-read state m words None left0 held0 first Along left held old left' held' new program led
-          going (c.cycle-in-inside.ensures.cut faults.ReadFault going tt p) (λ r s. s.its_end ∙ going);
+          not_ended (c.cycle-in-inside.ensures.cut faults.ReadFault not_ended tt p) (λ r s. s.its_end ∙ not_ended);
       write = λ p. Leads-write state m words None left0 held0 first Along left held old left' held' new program led
-          going (c.cycle-in-inside.ensures.cut faults.WriteFault going tt p) (λ r s. s.its_end ∙ going);
+          not_ended (c.cycle-in-inside.ensures.cut faults.WriteFault not_ended tt p) (λ r s. s.its_end ∙ not_ended);
       keeps = λ front h. c.cycle-in-inside.ensures.keeps front (c.inside.invariant.keeps front h);
       asked_no_more = λ e. let first = c.inside.invariant.asked_no_more e in let next = c.cycle-in-inside.ensures.asked_no_more first.0 in (next.0, next.1 ∙ first.1);
       tells = λ h. c.cycle-in-inside.ensures.tells (c.inside.invariant.tells h);
       flushed = λ q h. c.cycle-in-inside.ensures.flushed q (c.inside.invariant.flushed (λ w. cc) h);
-      cause = HasEndCause-step _ _ _ _ _ _ old.end new.end going c.inside.invariant.cause c.cycle-in-inside.ensures.cause;
+      cause = HasEndCause-step _ _ _ _ _ _ old.end new.end not_ended c.inside.invariant.cause c.cycle-in-inside.ensures.cause;
       store = c.cycle-in-inside.ensures.store ∙ c.inside.invariant.store;
-      empty_read = λ p. c.cycle-in-inside.ensures.kept faults.ReadFault going tt p;
-      empty_write = λ p. c.cycle-in-inside.ensures.kept faults.WriteFault going tt p;
+      empty_read = λ p. c.cycle-in-inside.ensures.kept faults.ReadFault not_ended tt p;
+      empty_write = λ p. c.cycle-in-inside.ensures.kept faults.WriteFault not_ended tt p;
       in_leg = InLeg-step m first.counts old.counts new.counts (m.drives (word_at m old.store.words (state old.machine)) (state old.machine)).stalled (state new.machine) new.end
-          c.inside.invariant.in_leg.within (c.inside.invariant.in_leg.same going no_boundary) later
+          c.inside.invariant.in_leg.within (c.inside.invariant.in_leg.same not_ended no_boundary) later
           c.cycle-in-inside.ensures.still c.cycle-in-inside.ensures.room (λ q. (c.cycle-in-inside.ensures.clocked q).1);
-      in_time = InTime-step m top top old.counts new.counts (m.is_boundary (state old.machine)) (m.drives (word_at m old.store.words (state old.machine)) (state old.machine)).stalled (state new.machine) old.end new.end going (omega arith) c.inside.invariant.in_time
+      in_time = InTime-step m top top old.counts new.counts (m.is_boundary (state old.machine)) (m.drives (word_at m old.store.words (state old.machine)) (state old.machine)).stalled (state new.machine) old.end new.end not_ended (omega arith) c.inside.invariant.in_time
           c.cycle-in-inside.ensures.still c.cycle-in-inside.ensures.room (λ q. (c.cycle-in-inside.ensures.clocked q).1) (λ _ here. absurd (cc));
     }

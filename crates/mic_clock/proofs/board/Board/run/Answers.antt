@@ -24,28 +24,28 @@ strides-preserved g c =
     let held = g.K.Sink.held c.strides.sink in
     let left' = g.S.Source.left c.stride.new.source in
     let held' = g.K.Sink.held c.stride.new.sink in
-    let going : old.end ≡ None = search rules in
+    let not_ended : old.end ≡ None = search rules in
     let program : old.store.words ≡ words = ap (λ (s : ControlStore). s.words) c.strides.invariant.store in
     let top : ℕ = max c.args.bound (last_cycles first.counts.boundary) in
     let le : c.args.bound ≤ top = omega arith in
-    let led = c.strides.invariant.run (subst (λ (e : Option _). NoFault None e) (sym going) tt) in
+    let led = c.strides.invariant.run (subst (λ (e : Option _). NoFault None e) (sym not_ended) tt) in
     record {
       run = λ q. Leads-on state m (Some c.args.bound) left0 held0 first left held old left' new (λ ws r. ShowsRun state left' held' new r) words program led (c.stride.ensures.run q);
       read = λ p. Leads-on state m (Some c.args.bound) left0 held0 first left held old left' new (λ ws r. IsCutByRead state m ws (Some c.args.bound) left' held' new r)
-          words program led (c.stride.ensures.read going p);
+          words program led (c.stride.ensures.read not_ended p);
       write = λ p. Leads-on state m (Some c.args.bound) left0 held0 first left held old left' new (λ ws r. IsCutByWrite state m ws (Some c.args.bound) left' held' new r)
-          words program led (c.stride.ensures.write going p);
+          words program led (c.stride.ensures.write not_ended p);
       empty_read = λ p. c.stride.ensures.kept faults.ReadFault tt p;
       empty_write = λ p. c.stride.ensures.kept faults.WriteFault tt p;
       keeps = λ front h. c.stride.ensures.keeps front (c.strides.invariant.keeps front h);
       asked_no_more = λ e. let before = c.strides.invariant.asked_no_more e in let next = c.stride.ensures.asked_no_more before.0 in (next.0, next.1 ∙ before.1);
       tells = λ h. c.stride.ensures.tells (c.strides.invariant.tells h);
       flushed = λ q h. c.stride.ensures.flushed q (c.strides.invariant.flushed (λ w. cc) h);
-      cause = HasEndCause-step _ _ _ _ _ _ old.end new.end going c.strides.invariant.cause
+      cause = HasEndCause-step _ _ _ _ _ _ old.end new.end not_ended c.strides.invariant.cause
           (subst (λ (e : Option _). HasEndCause (g.S.Source.faults c.strides.source) (g.S.Source.faults c.stride.new.source) (g.K.Sink.faults c.strides.sink) (g.K.Sink.faults c.stride.new.sink) e new.end)
-          (sym going) c.stride.ensures.cause);
+          (sym not_ended) c.stride.ensures.cause);
       store = c.stride.ensures.store ∙ c.strides.invariant.store;
-      in_time = InTime-stride top c.args.bound old.counts new.counts (m.is_boundary (state old.machine)) (m.is_boundary (state new.machine)) old.end new.end going le
+      in_time = InTime-stride top c.args.bound old.counts new.counts (m.is_boundary (state old.machine)) (m.is_boundary (state new.machine)) old.end new.end not_ended le
           c.strides.invariant.in_time c.stride.ensures.ordered c.stride.ensures.within c.stride.ensures.growth c.stride.ensures.boundary;
     }
 

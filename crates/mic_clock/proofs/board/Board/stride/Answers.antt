@@ -18,17 +18,17 @@ returns-then-is_some-clause-run g c = λ plain.
     let held = g.K.Sink.held c.args.sink.now in
     let held' = g.K.Sink.held c.stop_at.new.sink in
     let Along : ℕ → MicroRun g.M.Clocked.State → Type 0 = λ n r. Unit {0} in
-    let going : board.end ≡ None = search rules in
+    let not_ended : board.end ≡ None = search rules in
     let over : IsSome new.end = search rules in
-    let plain_turn : NoFault board.end new.end = subst (λ (e : Option _). NoFault e new.end) (sym going) plain in
+    let plain_turn : NoFault board.end new.end = subst (λ (e : Option _). NoFault e new.end) (sym not_ended) plain in
     IsLedTo-map state left held board left new _ _ (λ r rest at. (suc at.0, at.2))
     (Leads-turn state m board.store.words (Some c.args.bound) left held board Along left held board left held' new refl (Leads-start state m c.args.bound left held board)
     (IsTurned-ended state m c.args.bound left held board held' new c.stop_at.ensures.input over c.stop_at.ensures.run plain_turn)
     (ap (λ (b : BoardView g.row.M.Denot). b.buses) c.stop_at.ensures.same ∙ sym (buses_of-ended m board.store.words (state board.machine) board.buses new.end over)))
 
 pub returns-then-is_some-clause-write : goal.returns-then-is_some-clause-write
-returns-then-is_some-clause-write g c = λ going p.
-    Leads-bound g.M.Clocked.state g.M.Clocked.meaning c.args.bound _ _ c.args.self.now _ c.stop_at.new.self c.stop_at.ensures.input going p
+returns-then-is_some-clause-write g c = λ not_ended p.
+    Leads-bound g.M.Clocked.state g.M.Clocked.meaning c.args.bound _ _ c.args.self.now _ c.stop_at.new.self c.stop_at.ensures.input not_ended p
     (ap (λ (b : BoardView g.row.M.Denot). b.buses) c.stop_at.ensures.same) (c.stop_at.ensures.write _)
 
 pub returns-then-is_some-clause-within : goal.returns-then-is_some-clause-within
@@ -56,12 +56,12 @@ returns-clause-run g c = λ plain.
     λ P p. subst (λ b. P b held) stays.0 (subst (λ h. P c.stop_at.new.self h) same_held p) in
     let shows : NoFault board.end board.end → ShowsAs state held board held board (bounded m (Some c.args.bound)) =
     here (λ b h. NoFault board.end b.end → ShowsAs state held board h b (bounded m (Some c.args.bound))) c.stop_at.ensures.run in
-    let going : board.end ≡ None = search rules in
+    let not_ended : board.end ≡ None = search rules in
     stride-run state m c.args.bound left held board (shows (search rules)) left' held' new
-    (here (λ b h. IsLegRun state m left h b left' held' new) c.instruction.ensures.run going plain)
+    (here (λ b h. IsLegRun state m left h b left' held' new) c.instruction.ensures.run not_ended plain)
 
 pub returns-clause-read : goal.returns-clause-read
-returns-clause-read g c = λ going p.
+returns-clause-read g c = λ not_ended p.
     let state = g.M.Clocked.state in
     let m = g.M.Clocked.meaning in
     let board = c.args.self.now in
@@ -78,10 +78,10 @@ returns-clause-read g c = λ going p.
     let shows : NoFault board.end board.end → ShowsAs state held board held board (bounded m (Some c.args.bound)) =
     here (λ b h. NoFault board.end b.end → ShowsAs state held board h b (bounded m (Some c.args.bound))) c.stop_at.ensures.run in
     stride-read state m c.args.bound left held board (shows (search rules)) left' held' new
-    (here (λ b h. LegIsCutByRead state m left h b left' held' new) c.instruction.ensures.read going p)
+    (here (λ b h. LegIsCutByRead state m left h b left' held' new) c.instruction.ensures.read not_ended p)
 
 pub returns-clause-write : goal.returns-clause-write
-returns-clause-write g c = λ going p.
+returns-clause-write g c = λ not_ended p.
     let state = g.M.Clocked.state in
     let m = g.M.Clocked.meaning in
     let board = c.args.self.now in
@@ -98,4 +98,4 @@ returns-clause-write g c = λ going p.
     let shows : NoFault board.end board.end → ShowsAs state held board held board (bounded m (Some c.args.bound)) =
     here (λ b h. NoFault board.end b.end → ShowsAs state held board h b (bounded m (Some c.args.bound))) c.stop_at.ensures.run in
     stride-write state m c.args.bound left held board (shows (search rules)) left' held' new
-    (here (λ b h. LegIsCutByWrite state m left h b left' held' new) c.instruction.ensures.write going p)
+    (here (λ b h. LegIsCutByWrite state m left h b left' held' new) c.instruction.ensures.write not_ended p)

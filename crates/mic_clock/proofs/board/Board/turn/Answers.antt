@@ -7,8 +7,8 @@ use Rattle.mic_clock.proofs.Reach.{IsLedTo-map, Leads-start, Leads-read, Leads-w
 use Rattle.mic_clock.proofs.board.Board.turn.Goals as goal
 
 pub returns-in-Some-clause-write : goal.returns-in-Some-clause-write
-returns-in-Some-clause-write g c = λ going p.
-    Leads-bound g.M.Clocked.state g.M.Clocked.meaning c.args.bound _ _ c.args.self.now _ c.stop_at.new.self c.stop_at.ensures.input going p
+returns-in-Some-clause-write g c = λ not_ended p.
+    Leads-bound g.M.Clocked.state g.M.Clocked.meaning c.args.bound _ _ c.args.self.now _ c.stop_at.new.self c.stop_at.ensures.input not_ended p
     (ap (λ (b : BoardView g.row.M.Denot). b.buses) c.stop_at.ensures.same) (c.stop_at.ensures.write _)
 
 pub returns-clause-turn : goal.returns-clause-turn
@@ -32,7 +32,7 @@ returns-clause-turn g c =
     (here (λ b h. IsTurned state m left h b left' held' new None) c.cycle.ensures.turn) plain
 
 pub returns-clause-read : goal.returns-clause-read
-returns-clause-read g c = λ going p.
+returns-clause-read g c = λ not_ended p.
     let state = g.M.Clocked.state in
     let m = g.M.Clocked.meaning in
     let board = c.args.self.now in
@@ -48,14 +48,14 @@ returns-clause-read g c = λ going p.
     λ P p. subst (λ b. P b held) stays.0 (subst (λ h. P c.stop_at.new.self h) same_held p) in
     let shows : NoFault board.end board.end → ShowsAs state held board held board (bounded m (Some c.args.bound)) =
     here (λ b h. NoFault board.end b.end → ShowsAs state held board h b (bounded m (Some c.args.bound))) c.stop_at.ensures.run in
-    let cut = here (λ b h. IsCutByFault state m left h b left' held' new) c.cycle.ensures.cut faults.ReadFault going tt p in
+    let cut = here (λ b h. IsCutByFault state m left h b left' held' new) c.cycle.ensures.cut faults.ReadFault not_ended tt p in
     let Along : ℕ → MicroRun g.M.Clocked.State → Type 0 = λ n r. Unit {0} in
     IsLedTo-map state left held board left' new _ _ (λ r rest at. (at.0, at.2))
     (Leads-read state m board.store.words (Some c.args.bound) left held board Along left held board left' held' new refl (Leads-start state m c.args.bound left held board)
-    going cut (λ r s. (shows (search rules) left r s).its_end ∙ going))
+    not_ended cut (λ r s. (shows (search rules) left r s).its_end ∙ not_ended))
 
 pub returns-clause-write : goal.returns-clause-write
-returns-clause-write g c = λ going p.
+returns-clause-write g c = λ not_ended p.
     let state = g.M.Clocked.state in
     let m = g.M.Clocked.meaning in
     let board = c.args.self.now in
@@ -71,8 +71,8 @@ returns-clause-write g c = λ going p.
     λ P p. subst (λ b. P b held) stays.0 (subst (λ h. P c.stop_at.new.self h) same_held p) in
     let shows : NoFault board.end board.end → ShowsAs state held board held board (bounded m (Some c.args.bound)) =
     here (λ b h. NoFault board.end b.end → ShowsAs state held board h b (bounded m (Some c.args.bound))) c.stop_at.ensures.run in
-    let cut = here (λ b h. IsCutByFault state m left h b left' held' new) c.cycle.ensures.cut faults.WriteFault going tt p in
+    let cut = here (λ b h. IsCutByFault state m left h b left' held' new) c.cycle.ensures.cut faults.WriteFault not_ended tt p in
     let Along : ℕ → MicroRun g.M.Clocked.State → Type 0 = λ n r. Unit {0} in
     IsLedTo-map state left held board left' new _ _ (λ r rest at. (at.0, at.2))
     (Leads-write state m board.store.words (Some c.args.bound) left held board Along left held board left' held' new refl (Leads-start state m c.args.bound left held board)
-    going cut (λ r s. (shows (search rules) left r s).its_end ∙ going))
+    not_ended cut (λ r s. (shows (search rules) left r s).its_end ∙ not_ended))

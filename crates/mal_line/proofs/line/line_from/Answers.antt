@@ -2,29 +2,29 @@ use Rattle.std.proofs.Common.{◌≡◌, Ok, Err, sym}
 use Rattle.std.specs.Prelude.{Result, IfOk, IfErr}
 use Rattle.mal_line.specs.declared.content.Content.{Content}
 use Rattle.mal_line.specs.declared.line.LineFault.{LineFault}
-use Rattle.mal_line.specs.Lines.{HasPart, IsRefused, Spells}
-use Rattle.mal_line.specs.Reading.{line_of}
+use Rattle.mal_line.specs.Lines.{HasPart, IsRefused, SpellsLine}
+use Rattle.mal_line.specs.Reading.{line_from}
 use Rattle.mal_line.proofs.Lining.{line_refused, line_spells}
 use Rattle.mal_line.proofs.Standing.{stands}
-use Rattle.mal_line.proofs.line.line_of.Goals as goal
+use Rattle.mal_line.proofs.line.line_from.Goals as goal
 
 pub returns-clause-spells : goal.returns-clause-spells
 returns-clause-spells c = go c.read.result (sym c.read.ensures)
   where
-    go : (r : Result Content LineFault) → line_of c.args.machine c.args.tokens.now ≡ r → IfOk r (Spells c.args.machine c.args.tokens.now)
+    go : (r : Result Content LineFault) → line_from c.args.machine c.args.tokens.now ≡ r → IfOk r (SpellsLine c.args.machine c.args.tokens.now)
     go (Ok x) e = line_spells c.args.machine c.args.tokens.now x e
     go (Err f) e = tt
 
 pub returns-clause-refused : goal.returns-clause-refused
 returns-clause-refused c = go c.read.result (sym c.read.ensures)
   where
-    go : (r : Result Content LineFault) → line_of c.args.machine c.args.tokens.now ≡ r → IfErr r (IsRefused c.args.machine c.args.tokens.now)
+    go : (r : Result Content LineFault) → line_from c.args.machine c.args.tokens.now ≡ r → IfErr r (IsRefused c.args.machine c.args.tokens.now)
     go (Ok x) e = tt
     go (Err f) e = line_refused c.args.machine c.args.tokens.now f e
 
 pub returns-clause-part : goal.returns-clause-part
 returns-clause-part c = go c.read.result (sym c.read.ensures)
   where
-    go : (r : Result Content LineFault) → line_of c.args.machine c.args.tokens.now ≡ r → IfOk r (HasPart c.args.machine)
+    go : (r : Result Content LineFault) → line_from c.args.machine c.args.tokens.now ≡ r → IfOk r (HasPart c.args.machine)
     go (Ok x) e = stands c.args.machine c.args.tokens.now x (line_spells c.args.machine c.args.tokens.now x e)
     go (Err f) e = tt

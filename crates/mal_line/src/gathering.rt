@@ -1,7 +1,7 @@
 //! The parts of a statement, gathered one by one.
 ghost use Rattle.std.specs.Prelude.{◌≡◌, ◌≤◌, length, not, None, Some};
 ghost use Rattle.std.specs.List.{prefix_len};
-ghost use Rattle.mal_line.specs.Reading.{add, add_behind, add_else, add_free, add_tokens, empty, ended, going, is_access, tree_of};
+ghost use Rattle.mal_line.specs.Reading.{add, add_behind, add_else, add_free, add_tokens, empty, ended, gathered_jump, is_access, tree_of};
 ghost use Rattle.mal_line.specs.Statements.{is_semicolon};
 
 use crate::piece::{Piece, piece_of};
@@ -12,29 +12,29 @@ use micro_word::{Machine, Mem, Test};
 
 /// An `if` that waits for its `else`.
 #[derive(Clone, Copy)]
-struct Half {
+struct PendingIf {
     test: Test,
     high: Name,
 }
 
 /// The parts so far.
 #[derive(Clone, Copy)]
-struct Tally {
+struct Gathered {
     tree: Tree,
-    waiting: Option<Half>,
+    waiting: Option<PendingIf>,
 }
 
-fn settled(tree: Tree) -> Option<Tally>
+fn settled(tree: Tree) -> Option<Gathered>
     ensures { result ≡ Some (record { tree = tree; waiting = None }) }
 {
-    Some(Tally {
+    Some(Gathered {
         tree,
         waiting: None,
     })
 }
 
-fn going(tree: Tree, next: Jump) -> Option<Tally>
-    ensures { result ≡ Some (going tree next) }
+fn gathered_jump(tree: Tree, next: Jump) -> Option<Gathered>
+    ensures { result ≡ Some (gathered_jump tree next) }
 {
     settled(Tree {
         next: Some(next),
@@ -43,7 +43,7 @@ fn going(tree: Tree, next: Jump) -> Option<Tally>
 }
 
 /// A part where no `if` waits and no jump was there.
-fn add_free(tree: Tree, piece: Piece) -> Option<Tally>
+fn add_free(tree: Tree, piece: Piece) -> Option<Gathered>
     ensures { result ≡ add_free tree piece }
 {
     match piece {
@@ -69,27 +69,27 @@ fn add_free(tree: Tree, piece: Piece) -> Option<Tally>
                 })
             }
         }
-        Piece::Goto(label) => going(tree, Jump::Goto(label)),
-        Piece::Dispatch(high) => going(tree, Jump::Dispatch(high)),
-        Piece::If(test, high) => Some(Tally {
+        Piece::Goto(label) => gathered_jump(tree, Jump::Goto(label)),
+        Piece::Dispatch(high) => gathered_jump(tree, Jump::Dispatch(high)),
+        Piece::If(test, high) => Some(Gathered {
             tree,
-            waiting: Some(Half { test, high }),
+            waiting: Some(PendingIf { test, high }),
         }),
         Piece::Else(_) => None,
     }
 }
 
-fn add_else(tree: Tree, half: Half, piece: Piece) -> Option<Tally>
+fn add_else(tree: Tree, half: PendingIf, piece: Piece) -> Option<Gathered>
     ensures { result ≡ add_else tree half piece }
 {
     match piece {
-        Piece::Else(low) => going(tree, Jump::Branch(half.test, half.high, low)),
+        Piece::Else(low) => gathered_jump(tree, Jump::Branch(half.test, half.high, low)),
         _ => None,
     }
 }
 
 /// Behind a jump all is empty.
-fn add_behind(tree: Tree, piece: Piece) -> Option<Tally>
+fn add_behind(tree: Tree, piece: Piece) -> Option<Gathered>
     ensures { result ≡ add_behind tree piece }
 {
     match piece {
@@ -98,10 +98,10 @@ fn add_behind(tree: Tree, piece: Piece) -> Option<Tally>
     }
 }
 
-fn add(tally: Tally, piece: Piece) -> Option<Tally>
-    ensures { result ≡ add tally piece }
+fn add(gathering: Gathered, piece: Piece) -> Option<Gathered>
+    ensures { result ≡ add gathering piece }
 {
-    let Tally { tree, waiting } = tally;
+    let Gathered { tree, waiting } = gathering;
     match waiting {
         Some(half) => add_else(tree, half, piece),
         None => match tree.next {
@@ -111,20 +111,20 @@ fn add(tally: Tally, piece: Piece) -> Option<Tally>
     }
 }
 
-fn add_tokens(machine: Machine, tally: Tally, tokens: &[Token]) -> Option<Tally>
-    ensures { result ≡ add_tokens machine tally tokens.now }
+fn add_tokens(machine: Machine, gathering: Gathered, tokens: &[Token]) -> Option<Gathered>
+    ensures { result ≡ add_tokens machine gathering tokens.now }
 {
     match piece_of(machine, tokens) {
-        Some(piece) => add(tally, piece),
+        Some(piece) => add(gathering, piece),
         None => None,
     }
 }
 
-fn ended(tally: Tally) -> Option<Tree>
-    ensures { result ≡ ended tally }
+fn ended(gathering: Gathered) -> Option<Tree>
+    ensures { result ≡ ended gathering }
 {
-    match tally.waiting {
-        None => Some(tally.tree),
+    match gathering.waiting {
+        None => Some(gathering.tree),
         Some(_) => None,
     }
 }
@@ -149,20 +149,20 @@ fn piece_len(tokens: &[Token]) -> usize
 pub(crate) fn tree_of(machine: Machine, tokens: &[Token]) -> Option<Tree>
     ensures { result ≡ tree_of machine tokens.now }
 {
-    let mut tally = Tally {
+    let mut gathering = Gathered {
         tree: Tree::EMPTY,
         waiting: None,
     };
     let mut rest = tokens;
     loop {
         let (piece, behind) = rest.split_at(piece_len(rest));
-        match add_tokens(machine, tally, piece) {
-            Some(next) => tally = next,
+        match add_tokens(machine, gathering, piece) {
+            Some(next) => gathering = next,
             None => return None,
         }
         match behind.split_first() {
             Some((_, after)) => rest = after,
-            None => return ended(tally),
+            None => return ended(gathering),
         }
     }
 }

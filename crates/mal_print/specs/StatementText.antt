@@ -187,13 +187,13 @@ abbrev pub labelled : Next (List ℕ) → Next Target
 labelled next = by_targets (λ label. targets.Label label) next
 
 -- `;` where there is nothing
-abbrev pub lone : List Piece → List Piece
-lone [] = sign signs.Semicolon ∷ []
-lone (p ∷ ps) = p ∷ ps
+abbrev pub or_semicolon : List Piece → List Piece
+or_semicolon [] = sign signs.Semicolon ∷ []
+or_semicolon (p ∷ ps) = p ∷ ps
 
 -- a statement: its label and its parts
 abbrev pub statement : Machine → Option (List ℕ) → Part → Next Target → List Piece
-statement machine None part next = lone (pieces machine part next)
+statement machine None part next = or_semicolon (pieces machine part next)
 statement machine (Some label) part next = name label ∷ behind_space (pieces machine part next)
 
 -- what unused words hold

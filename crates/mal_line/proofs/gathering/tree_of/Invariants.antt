@@ -4,7 +4,7 @@ use Rattle.mal_line.specs.Reading.{adds, tree_of}
 use Rattle.mal_line.proofs.tally.tree_of.Given as goal
 
 abbrev pub invariant-loop-next : goal.invariant-loop-next
-invariant-loop-next l = adds l.machine l.tally (pieces l.rest) ≡ tree_of l.machine l.tokens
+invariant-loop-next l = adds l.machine l.gathering (pieces l.rest) ≡ tree_of l.machine l.tokens
 
 abbrev pub decreases-loop-next : goal.decreases-loop-next
 decreases-loop-next l = length l.rest

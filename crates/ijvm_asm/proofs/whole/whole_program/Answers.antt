@@ -2,7 +2,7 @@ use Rattle.std.proofs.Common.{◌≡◌, Some, None, ◌∙◌, subst, sym, rule
 use Rattle.ijvm_asm.specs.Source.{Source}
 use Rattle.ijvm_asm.specs.ReadingNames.{missing}
 use Rattle.ijvm_asm.proofs.Programs.{parts_are_program}
-use Rattle.ijvm_asm.proofs.whole.program_of.Goals as goal
+use Rattle.ijvm_asm.proofs.whole.whole_program.Goals as goal
 
 pub new-requires : goal.new-requires
 new-requires c =

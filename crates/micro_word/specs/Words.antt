@@ -132,7 +132,7 @@ abbrev pub decoded_as : Machine → ℕ → Option Placed
 decoded_as machine word = if is_canonical machine word then Some (statement_of machine word) else None
 
 -- a word spells a statement: it is the statement's word, and its fields are the statement's codes
-pub record Spells (machine : Machine) (word : ℕ) (p : Placed) : Type 0 where
+pub record SpellsWord (machine : Machine) (word : ℕ) (p : Placed) : Type 0 where
   pub valid : IsTrue (is_valid machine p)
   pub whole : word_of machine p ≡ word
   pub fields : fields_of machine word ≡ codes machine p

@@ -11,7 +11,7 @@ use Rattle.mal_line.specs.Targets.{by_targets}
 use Rattle.mal_print.specs.declared.target.Target.{Target}
 use Rattle.mal_print.specs.declared.target.Target.TheVariants as targets
 use Rattle.mal_print.specs.Pieces.{printed}
-use Rattle.mal_print.specs.Canonical.{fallback, fix, lone, pieces, statement}
+use Rattle.mal_print.specs.StatementText.{fallback, fix, or_semicolon, pieces, statement}
 use Rattle.mal_parser.specs.declared.statement.Statement.{Statement}
 use Rattle.mal_parser.specs.Program.{label_at, Program}
 
@@ -24,8 +24,8 @@ by_label ss to = targets.Label (unwrap_or (label_at ss to) [])
 abbrev pub by_labels : List Statement → Next ℕ → Next Target
 by_labels ss next = by_targets (by_label ss) next
 
-abbrev pub next_of : Program → Statement → Next Target
-next_of p s = by_labels p.statements s.next
+abbrev pub next_by_labels : Program → Statement → Next Target
+next_by_labels p s = by_labels p.statements s.next
 
 -- by their addresses
 abbrev pub by_addresses : PlacedNext → Next Target
@@ -37,22 +37,22 @@ by_addresses (placed.Branch test low) = nexts.Branch test (targets.Address (low 
 
 -- its parts, `;` where it has none
 abbrev pub parts_of : Program → Statement → List ℕ
-parts_of p s = printed (lone (pieces p.machine s.part (next_of p s)))
+parts_of p s = printed (or_semicolon (pieces p.machine s.part (next_by_labels p s)))
 
 -- its label and its parts
-abbrev pub line_of : Program → Statement → List ℕ
-line_of p s = printed (statement p.machine s.label s.part (next_of p s))
+abbrev pub labelled_line : Program → Statement → List ℕ
+labelled_line p s = printed (statement p.machine s.label s.part (next_by_labels p s))
 
 -- the same of the statement with a number
 abbrev pub parts_text : Program → ℕ → List ℕ
 parts_text p s = unwrap_or (option_map (parts_of p) (slice_get p.statements s)) []
 
 abbrev pub statement_text : Program → ℕ → List ℕ
-statement_text p s = unwrap_or (option_map (line_of p) (slice_get p.statements s)) []
+statement_text p s = unwrap_or (option_map (labelled_line p) (slice_get p.statements s)) []
 
 -- the parts of what unused words hold
 abbrev pub fallback_of : Program → Statement → List ℕ
-fallback_of p s = printed (pieces p.machine s.part (next_of p s))
+fallback_of p s = printed (pieces p.machine s.part (next_by_labels p s))
 
 abbrev pub fallback_text : Program → List ℕ
 fallback_text p = unwrap_or (option_map (fallback_of p) p.fallback) []
@@ -69,10 +69,10 @@ fix_line s = option_and_then (λ label. option_map (λ address. printed (fix lab
 
 -- `.default PARTS`
 abbrev pub default_line : Program → Statement → List ℕ
-default_line p s = printed (fallback p.machine s.part (next_of p s))
+default_line p s = printed (fallback p.machine s.part (next_by_labels p s))
 
 abbrev pub canonical_lines : Program → List (List ℕ)
-canonical_lines p = filter_map fix_line p.statements ++ (option_to_list (option_map (default_line p) p.fallback) ++ map (line_of p) p.statements)
+canonical_lines p = filter_map fix_line p.statements ++ (option_to_list (option_map (default_line p) p.fallback) ++ map (labelled_line p) p.statements)
 
 -- each line with a newline behind it
 abbrev pub text_of : List (List ℕ) → List ℕ
