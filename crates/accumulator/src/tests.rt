@@ -1,3 +1,5 @@
+//! Runs of the board over the accumulator.
+
 ghost use Rattle.std.specs.Prelude.{◌≡◌, ◌<◌, length, false, [], IfOk, IsTrue};
 ghost use Rattle.machine_words.specs.declared.machine.Machine.TheVariants.{Mic1};
 ghost use Rattle.micro_word.specs.Words.{is_valid};

@@ -1,3 +1,5 @@
+//! What a command comes to.
+
 use mic_base::Line;
 
 /// What a command comes to, once its file is read.

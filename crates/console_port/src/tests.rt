@@ -1,3 +1,5 @@
+//! The bus, by both maps and with streams that fail.
+
 use crate::*;
 use mic_base::{MemSink, MemSource, PlainSink};
 use std::test::Fail;

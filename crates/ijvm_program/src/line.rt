@@ -1,3 +1,5 @@
+//! Constants, labels and code lines.
+
 use ijvm_instr::Instr;
 use mic_base::Name;
 

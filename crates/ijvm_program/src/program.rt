@@ -1,3 +1,5 @@
+//! Whole programs.
+
 ghost use Rattle.std.specs.Prelude.{◌≡◌};
 ghost use Rattle.ijvm_program.specs.Program.{IsProgram};
 

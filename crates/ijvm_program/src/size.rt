@@ -1,3 +1,5 @@
+//! The sizes of code lines.
+
 ghost use Rattle.std.specs.Prelude.{◌≡◌, ◌≤◌};
 ghost use Rattle.ijvm_program.specs.Layout.{line_size};
 

@@ -1,3 +1,5 @@
+//! The units of a program.
+
 ghost use Rattle.std.specs.Prelude.{◌≡◌, option_copied};
 
 use crate::line::{CodeLine, Label};

@@ -1,3 +1,5 @@
+//! How a run ends.
+
 /// How a run ends.
 #[derive(Clone, Copy, Debug, PartialEq, Eq)]
 pub enum RunEnd {

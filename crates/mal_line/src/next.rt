@@ -1,3 +1,5 @@
+//! Where a statement goes next.
+
 use micro_word::Test;
 
 /// Where a statement goes next, by targets of one kind: labels, numbers of statements, or what is printed.

@@ -1,3 +1,5 @@
+//! The refusals of a text.
+
 ghost use Rattle.std.specs.Prelude.{◌≡◌};
 
 use std::alloc::AllocFailed;

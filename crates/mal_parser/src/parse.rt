@@ -1,3 +1,5 @@
+//! From a text to its program.
+
 ghost use Rattle.std.specs.Prelude.{◌≡◌, ◌⊎◌, ◌<◌, ◌^◌, length, IfOk, IfErr, Ok, Err, false};
 ghost use Rattle.mal_parser.specs.Program.{Program};
 ghost use Rattle.mal_parser.specs.Text.{IsRefused, is_memory, SpellsProgram};

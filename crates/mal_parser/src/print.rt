@@ -1,3 +1,5 @@
+//! From a program to its canonical text.
+
 ghost use Rattle.std.specs.Prelude.{◌≡◌, ◌≤◌, ◌<◌, ◌+◌, ◌++◌, ◌∷◌, [], length, map, slice_get, option_map, option_and_then, option_to_list, IsSome, IsTrue, Some, IfOk, OnOk};
 ghost use Rattle.std.specs.List.{filter_map};
 ghost use Rattle.micro_word.specs.Words.{is_next, is_valid};

@@ -1,3 +1,5 @@
+//! Programs.
+
 ghost use Rattle.std.specs.Prelude.{◌≡◌, ◌<◌, length, slice_get, option_copied, IfSome, Some};
 ghost use Rattle.mal_parser.specs.Program.{IsFallback, IsProgram, IsStatement};
 

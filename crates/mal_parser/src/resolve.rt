@@ -1,3 +1,5 @@
+//! Labels become the numbers of their statements.
+
 ghost use Rattle.std.specs.Prelude.{◌≡◌, ◌≤◌, ◌<◌, ◌-◌, length, not, option_map, map, slice_get, find, min, IfOk, IfErr, Ok, Some};
 ghost use Rattle.std.specs.List.{position};
 ghost use Rattle.std.specs.Str.{bytes_eq};

@@ -1,3 +1,5 @@
+//! The lines of a source, kept as drafts.
+
 ghost use Rattle.std.specs.Prelude.{◌≡◌, ◌≤◌, ◌<◌, false, length, List, ℕ, Ok, Err, OnOk, OnErr, IfOk, IfErr, is_some};
 ghost use Rattle.mal_tokens.specs.Reading.{read};
 ghost use Rattle.mal_line.specs.Lines.{HasPart};

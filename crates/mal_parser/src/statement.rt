@@ -1,3 +1,5 @@
+//! The statements of a program.
+
 use mal_line::Next;
 use mic_base::Name;
 use micro_word::Part;

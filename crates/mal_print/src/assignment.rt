@@ -1,3 +1,5 @@
+//! The text of an assignment.
+
 ghost use Rattle.std.specs.Prelude.{◌≡◌, ◌≤◌, ◌+◌, ◌*◌, ◌++◌, ◌∷◌, [], length, false};
 ghost use Rattle.mal_line.specs.Expressions.{source_word};
 ghost use Rattle.mal_tokens.specs.declared.word.Word.TheVariants as words;

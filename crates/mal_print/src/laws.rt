@@ -1,3 +1,5 @@
+//! What holds of every canonical line.
+
 ghost use Rattle.std.specs.Prelude.{◌<◌, ℕ, List, Option, IfSome, IsTrue, pos};
 ghost use Rattle.machine_words.specs.declared.machine.Machine.{Machine};
 ghost use Rattle.micro_word.specs.Words.{is_part};

@@ -1,3 +1,5 @@
+//! The text of a statement's line.
+
 ghost use Rattle.std.specs.Prelude.{◌≡◌, ◌≤◌, ◌<◌, ◌+◌, ◌++◌, length};
 ghost use Rattle.mal_print.specs.Pieces.{behind_space, printed};
 ghost use Rattle.mal_print.specs.StatementText.{fallback, FitTargets, fix, has_parts, or_semicolon, pieces, statement};

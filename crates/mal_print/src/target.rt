@@ -1,3 +1,5 @@
+//! The targets that are printed.
+
 use mic_base::Name;
 
 /// A target of a goto, as it is printed.

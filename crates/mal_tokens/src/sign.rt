@@ -1,3 +1,5 @@
+//! Signs and dotted words.
+
 ghost use Rattle.std.specs.Prelude.{◌≡◌};
 ghost use Rattle.mal_tokens.specs.Words.{find_sign, sign_text};
 

@@ -1,3 +1,5 @@
+//! Tokens, and how the first of a line is read.
+
 ghost use Rattle.std.specs.Prelude.{◌≡◌, ◌+◌, ◌<◌, ◌≤◌, ◌∷◌, ◌↔◌, Some, length, IfOk, IsErrOf, List, ℕ};
 ghost use Rattle.mic_base.specs.Name.{begins_digit};
 ghost use Rattle.mic_base.specs.Number.{number_of};

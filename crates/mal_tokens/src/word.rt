@@ -1,3 +1,5 @@
+//! Reserved words.
+
 ghost use Rattle.std.specs.Prelude.{◌≡◌};
 ghost use Rattle.mal_tokens.specs.Words.{find_word, word_text};
 

@@ -1,3 +1,5 @@
+//! The refusals of the linker.
+
 ghost use Rattle.std.specs.Prelude.{◌≡◌};
 
 use std::alloc::{AllocError, AllocFailed};

@@ -1,3 +1,5 @@
+//! Files as a trait.
+
 ghost use Rattle.std.specs.Prelude.{◌≡◌, ℕ, Option};
 ghost use Rattle.mic_base.specs.Files.{Contents, HasFileCause, Reads, Writes};
 

@@ -1,3 +1,5 @@
+//! Names in sources.
+
 ghost use Rattle.std.specs.Prelude.{◌≡◌, ◌≤◌, Some, None, true, if◌then◌else◌, length, nat_eq, refl};
 ghost use Rattle.std.specs.List.{list_all};
 ghost use Rattle.std.specs.Ordering.{nat_cmp};

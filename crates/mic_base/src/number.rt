@@ -1,3 +1,5 @@
+//! Numbers in words and in sources.
+
 ghost use Rattle.std.specs.Prelude.{◌≡◌, ◌++◌, ◌+◌, codes, pos, ◌^◌, ◌<◌, ◌≤◌, ℕ, length, min, not, true};
 ghost use Rattle.std.specs.Char.{digit_value, is_digit};
 ghost use Rattle.std.specs.List.{list_all, position};

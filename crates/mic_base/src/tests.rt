@@ -1,3 +1,5 @@
+//! Numbers, names, lines, sources, sinks and files.
+
 use crate::*;
 use std::io::{ErrorKind, Read, Write};
 use std::test::Fail;

@@ -1,3 +1,5 @@
+//! Names in order, each with its place.
+
 ghost use Rattle.std.specs.Prelude.{◌≡◌, ◌<◌, ◌++◌, ◌∷◌, [], None, OnOk, OnErr, IfSome, length};
 ghost use Rattle.name_list.specs.Places.{place_of};
 

@@ -1,3 +1,5 @@
+//! Runs of letters, digits and `_`.
+
 ghost use Rattle.std.specs.Prelude.{◌≡◌, ◌≤◌, length};
 ghost use Rattle.mic_base.specs.Name.{is_name_byte};
 ghost use Rattle.source_text.specs.Runs.{name_len};

@@ -1,3 +1,5 @@
+//! The tokens of a line, in any language.
+
 ghost use Rattle.std.specs.Prelude.{◌≡◌, ◌+◌, ◌≤◌, ◌<◌, ◌∷◌, ◌↔◌, ℕ, List, length, IfOk, IsErrOf, Some};
 ghost use Rattle.source_text.specs.Reading.{Agrees, lex};
 ghost use Rattle.source_text.specs.Tokens.{Spells, is_blank};

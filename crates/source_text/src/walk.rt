@@ -1,3 +1,5 @@
+//! The lines of a source, one after the other.
+
 ghost use Rattle.std.specs.Prelude.{◌≡◌, ◌<◌, ◌^◌, ℕ, List, length, false, Ok, Err, OnOk, IfErr};
 ghost use Rattle.source_text.specs.Content.{contents};
 ghost use Rattle.source_text.specs.Walk.{FirstRefused, Leads, StopsAt};

@@ -1,3 +1,5 @@
+//! The chosen placement.
+
 ghost use Rattle.std.specs.Prelude.{◌≡◌, ◌≤◌, ◌<◌, ◌↔◌, IsOk, IfOk, MatchResult, length};
 ghost use Rattle.store_placement.specs.declared.refusal.PlaceError.{PlaceError};
 ghost use Rattle.store_placement.specs.Chosen.{IsChosenList};

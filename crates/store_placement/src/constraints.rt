@@ -1,3 +1,5 @@
+//! What a placement has to keep.
+
 ghost use Rattle.std.specs.Prelude.{◌≡◌, ◌<◌, ◌≤◌, ◌+◌, [], ◌∷◌, ◌++◌, length};
 ghost use Rattle.std.specs.Option.{ForSome};
 ghost use Rattle.std.specs.Set.{distinct_count, is_member};

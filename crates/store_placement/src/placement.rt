@@ -1,3 +1,5 @@
+//! Placements.
+
 ghost use Rattle.std.specs.Prelude.{◌≡◌, ◌≢◌, ◌<◌, ℕ, List, length, slice_index, IfSome, IfNone};
 
 use arrayvec::ArrayVec;

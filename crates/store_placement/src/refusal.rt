@@ -1,3 +1,5 @@
+//! Why there is no placement.
+
 use thiserror::Error;
 
 /// Why there is no placement; statements are numbered from 0.

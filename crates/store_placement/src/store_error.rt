@@ -1,3 +1,5 @@
+//! Why bytes are no store file.
+
 use thiserror::Error;
 
 /// Why bytes are no store file.

@@ -1,3 +1,5 @@
+//! Which calls fail.
+
 ghost use Rattle.std.specs.Prelude.{◌≡◌, ◌≤◌, ◌↔◌, IsTrue, Contains};
 ghost use Rattle.mic_base.specs.Causes.{Rose};
 ghost use Rattle.mic_base.specs.Numbering.{next_number};

@@ -1,3 +1,5 @@
+//! Files in memory.
+
 ghost use Rattle.std.specs.Prelude.{◌≡◌, ◌<◌, ◌⊎◌, ◌↔◌, List, ℕ, Option, Some, None, option_map, length, IfOk, OnOk, OnErr, IsErrOf, Contains, ◌≢◌};
 ghost use Rattle.mic_base.specs.Files.{file_in, HasFileCause, KeepsOthers, most_bytes, Reads, Writes};
 ghost use Rattle.mic_base.specs.Numbering.{next_number};

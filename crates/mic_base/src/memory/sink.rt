@@ -1,3 +1,5 @@
+//! A sink in memory.
+
 ghost use Rattle.std.specs.Prelude.{◌≡◌, ◌≤◌, ◌<◌, ◌+◌, ◌⊎◌, ◌↔◌, [], List, ℕ, Some, vec_len, vec_capacity, length, take, IsErr, OnOk, OnErr, IfOk, Contains};
 ghost use Rattle.mic_base.specs.Causes.{HasCause};
 ghost use Rattle.mic_base.specs.Numbering.{next_number};

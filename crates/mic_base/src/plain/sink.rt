@@ -1,3 +1,5 @@
+//! A sink without state.
+
 ghost use Rattle.std.specs.Prelude.{IsOk, None};
 
 use crate::sink::{Sink, SinkFailed};

@@ -1,3 +1,5 @@
+//! The system's files.
+
 ghost use Rattle.std.specs.Prelude.{◌≡◌, None};
 
 use super::answers::{counted, file_read, file_written};

@@ -1,3 +1,5 @@
+//! The system's outputs.
+
 ghost use Rattle.std.specs.Prelude.{◌≡◌, None, OnOk};
 ghost use Rattle.std.specs.Io.KnownBytes.{Appends, Keeps};
 ghost use Rattle.mic_base.specs.Causes.{HasCause};

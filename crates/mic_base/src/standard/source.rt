@@ -1,3 +1,5 @@
+//! The system's input.
+
 ghost use Rattle.std.specs.Prelude.{◌≡◌, [], ◌∷◌, None, IfOk, IfSome};
 ghost use Rattle.std.specs.Io.KnownBytes.{Consumes};
 ghost use Rattle.mic_base.specs.Causes.{HasCause};
