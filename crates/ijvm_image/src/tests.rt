@@ -13,7 +13,7 @@ const FILE: [u8; 54] = [
 ];
 
 #[test]
-fn reads_and_writes_images(rt: HostRuntime) -> Result<(), Fail> {
+fn an_image_is_written_as_it_was_read(rt: HostRuntime) -> Result<(), Fail> {
     let image = read_image(rt.alloc(), &FILE)?;
     assert_eq!(rt; image.text(), &FILE[28..]);
     assert_eq!(rt; image.pool(), [64, 12].as_slice());
@@ -33,7 +33,7 @@ fn refusal(alloc: Global, bytes: &[u8]) -> Option<ImageError> {
 }
 
 #[test]
-fn refuses_damaged_images(rt: HostRuntime) -> Result<(), Fail> {
+fn each_damaged_image_has_its_refusal(rt: HostRuntime) -> Result<(), Fail> {
     let alloc = rt.alloc();
     for n in 0..54 {
         assert_eq!(rt; refusal(alloc, &FILE[..n]), Some(ImageError::Truncated(n)));

@@ -12,7 +12,7 @@ fn assert_prints(rt: &impl Abort, instr: Instr, at: u32, text: &[u8]) {
 }
 
 #[test]
-fn prints_instructions(rt: HostRuntime) {
+fn instructions_are_printed_with_their_operands(rt: HostRuntime) {
     assert_prints(&rt, Instr::LdcW(0), 0, b"LDC_W 0");
     assert_prints(&rt, Instr::Bipush(-1), 0, b"BIPUSH -1");
     assert_prints(&rt, Instr::Iinc(0, 65), 0, b"IINC 0 65");
@@ -27,7 +27,7 @@ fn prints_instructions(rt: HostRuntime) {
 }
 
 #[test]
-fn decodes_and_encodes(rt: HostRuntime) {
+fn bytes_are_decoded_and_encoded(rt: HostRuntime) {
     let cases: [(&[u8], Instr); 8] = [
         (b"\x10\xFF", Instr::Bipush(-1)),
         (b"\x84\x03\x80", Instr::Iinc(3, -128)),

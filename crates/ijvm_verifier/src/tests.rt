@@ -21,7 +21,7 @@ fn letter(kind: Kind) -> u8 {
 }
 
 #[test]
-fn tells_kinds(rt: HostRuntime) {
+fn each_byte_of_a_text_has_its_kind(rt: HostRuntime) {
     match read_image(rt.alloc(), ADD_FILE) {
         Err(error) => assert!(rt; false, "no file, by {error:?}"),
         Ok(image) => match verify(rt.alloc(), image, MemoryMap::STANDARD) {

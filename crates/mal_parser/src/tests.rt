@@ -5,7 +5,7 @@ use micro_word::{AluOp, BusSource, Machine, Mem, Part, Shift};
 use std::test::Fail;
 
 #[test]
-fn one_statement(rt: HostRuntime) -> Result<(), Fail> {
+fn a_line_is_read_and_printed_as_its_statement(rt: HostRuntime) -> Result<(), Fail> {
     let text = b"Main1: MDR = TOS = MDR+H ;wr;goto Main1";
     let program = parse_mal(rt.alloc(), Machine::Mic1, text)?;
     assert_eq!(rt;

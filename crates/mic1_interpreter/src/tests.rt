@@ -15,7 +15,7 @@ const CALL: [u8; 19] = [
 ];
 
 #[test]
-fn a_call_on_both_maps(rt: HostRuntime) -> Result<(), Fail> {
+fn a_call_takes_its_cycles_on_both_maps(rt: HostRuntime) -> Result<(), Fail> {
     let alloc = rt.alloc();
     for map in [MemoryMap::STANDARD, MemoryMap::LARGE] {
         let image = Image::new(

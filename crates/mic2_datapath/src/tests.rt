@@ -47,7 +47,7 @@ fn main1_waits_for_the_first_opcode(rt: HostRuntime) -> Result<(), Fail> {
 }
 
 #[test]
-fn then_it_dispatches(rt: HostRuntime) -> Result<(), Fail> {
+fn with_its_opcode_main1_dispatches(rt: HostRuntime) -> Result<(), Fail> {
     let mut board = board(rt.alloc())?;
     let mut source = PlainSource::new(Vec::new(rt.alloc()));
     let end = board.run(100, &mut source, &mut PlainSink::new());

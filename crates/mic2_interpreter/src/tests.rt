@@ -21,7 +21,7 @@ const LATE_CALL: [u8; 21] = [
 ];
 
 #[test]
-fn a_call_on_both_maps(rt: HostRuntime) -> Result<(), Fail> {
+fn a_call_takes_its_cycles_on_both_maps(rt: HostRuntime) -> Result<(), Fail> {
     let alloc = rt.alloc();
     for map in [MemoryMap::STANDARD, MemoryMap::LARGE] {
         for (text, entry, cycles, stalls) in [

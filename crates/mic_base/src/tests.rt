@@ -42,7 +42,7 @@ fn numbers_are_read(rt: HostRuntime) {
 }
 
 #[test]
-fn names_are_names(rt: HostRuntime) {
+fn names_are_read_and_other_texts_refused(rt: HostRuntime) {
     for text in [
         "a",
         "_",
@@ -92,7 +92,7 @@ fn sources_give_their_bytes(rt: HostRuntime) -> Result<(), Fail> {
 }
 
 #[test]
-fn memory_is_there(rt: HostRuntime) -> Result<(), Fail> {
+fn what_is_put_in_memory_is_there(rt: HostRuntime) -> Result<(), Fail> {
     let alloc = rt.alloc();
     let mut sink = MemSink::new(alloc, 4, vec![in alloc; 3]?)?;
     assert_eq!(rt; sink.put(b"ab"), Ok(()));

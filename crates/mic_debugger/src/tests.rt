@@ -15,7 +15,7 @@ fn assert_refused(rt: &impl Abort, line: &[u8], error: CommandError) {
 }
 
 #[test]
-fn reads_commands_at_their_limits(rt: HostRuntime) {
+fn commands_are_read_at_their_limits(rt: HostRuntime) {
     assert_reads(&rt, b"micro", Verb::Micro, 1);
     assert_reads(&rt, b" \tstep\t1000000 ", Verb::Step, 1_000_000);
     assert_reads(&rt, b"break 0xFFFF", Verb::Break, 65_535);
@@ -25,7 +25,7 @@ fn reads_commands_at_their_limits(rt: HostRuntime) {
 }
 
 #[test]
-fn refuses_what_is_no_command(rt: HostRuntime) {
+fn what_is_no_command_is_refused(rt: HostRuntime) {
     assert_refused(&rt, b"step\r", CommandError::BadCommand);
     assert_refused(&rt, b"Step", CommandError::BadCommand);
     assert_refused(&rt, b"break", CommandError::BadCommand);
@@ -36,7 +36,7 @@ fn refuses_what_is_no_command(rt: HostRuntime) {
 }
 
 #[test]
-fn refuses_numbers(rt: HostRuntime) {
+fn numbers_out_of_range_are_refused(rt: HostRuntime) {
     assert_refused(&rt, b"micro 0", CommandError::BadNumber);
     assert_refused(&rt, b"step 1000001", CommandError::BadNumber);
     assert_refused(&rt, b"break 65536", CommandError::BadNumber);

@@ -67,7 +67,7 @@ const ECHO: [u8; 13] = [
 ];
 
 #[test]
-fn copies_its_input_to_a_newline(rt: HostRuntime) -> Result<(), Fail> {
+fn input_is_copied_up_to_a_newline(rt: HostRuntime) -> Result<(), Fail> {
     let (told, given) = run_of(rt.alloc(), &ECHO, &[], 0x1_0000, b"ab\n")?;
     assert_eq!(rt; given.as_slice(), b"ab\n".as_slice());
     let want = Told {
@@ -88,7 +88,7 @@ const ADD: [u8; 26] = [
 ];
 
 #[test]
-fn calls_a_method(rt: HostRuntime) -> Result<(), Fail> {
+fn a_called_method_returns_to_its_caller(rt: HostRuntime) -> Result<(), Fail> {
     let (told, given) = run_of(rt.alloc(), &ADD, &[64, 12], 0x1_0000, b"")?;
     assert_eq!(rt; given.as_slice(), b"*".as_slice());
     assert_eq!(rt; told.end, Some(StepEnd::Halt));
@@ -130,7 +130,7 @@ fn hello(alloc: Global) -> Result<Image, AllocError>
 }
 
 #[test]
-fn runs_to_its_end_or_to_the_bound(rt: HostRuntime) -> Result<(), Fail> {
+fn a_run_goes_to_its_end_or_to_the_bound(rt: HostRuntime) -> Result<(), Fail> {
     let alloc = rt.alloc();
     let image = hello(alloc)?;
     for (machine, bound, end, cycles, instructions, boundary, address) in [

@@ -99,7 +99,7 @@ fn check_listing(
 }
 
 #[test]
-fn shipped_programs(rt: HostRuntime) -> Result<(), Fail> {
+fn the_shipped_programs_have_their_addresses(rt: HostRuntime) -> Result<(), Fail> {
     check_listing(&rt, MIC1, Pair { yes: 79, no: 80 }, 27)?;
     check_listing(&rt, MIC2, Pair { yes: 61, no: 62 }, 27)
 }
@@ -109,7 +109,7 @@ const fn pair(yes: u16, no: u16) -> Pair {
 }
 
 #[test]
-fn refusals(rt: HostRuntime) {
+fn each_refusal_names_its_statement(rt: HostRuntime) {
     let fixed = [None, Some(0x105), None, Some(0x005)];
     // `.label T 0x105`, `.label x 0x005`, a conditional with the targets T and F, T, F, x
     let cases: [(&[Option<u16>], &[Pair], PlaceError); 8] = [
@@ -150,7 +150,7 @@ fn refusals(rt: HostRuntime) {
 }
 
 #[test]
-fn placements(rt: HostRuntime) -> Result<(), Fail> {
+fn free_statements_take_the_first_addresses_in_turn(rt: HostRuntime) -> Result<(), Fail> {
     let cases: [(&[Option<u16>], &[Pair], &[u16]); 4] = [
         // a fixed statement splits the first address pair
         (
@@ -194,7 +194,7 @@ fn taken_below(taken: u16, count: u16) -> ArrayVec<Option<u16>, 512>
 }
 
 #[test]
-fn full_stores(rt: HostRuntime) -> Result<(), Fail> {
+fn a_full_store_has_an_address_for_each_statement(rt: HostRuntime) -> Result<(), Fail> {
     let all_free = constraints(&rt, &taken_below(0, 512), &[]);
     let placement = place(&all_free)?;
     for s in 0..512 {
@@ -228,7 +228,7 @@ const ADD: Placed = Placed {
 };
 
 #[test]
-fn store_files(rt: HostRuntime) -> Result<(), Fail> {
+fn a_store_file_is_read_as_it_was_written(rt: HostRuntime) -> Result<(), Fail> {
     let mut store = Store::filled(Machine::Mic1, &goto_end());
     store.set(0x000, &ADD);
     let mut bytes = store_bytes(rt.alloc(), &store)?;
@@ -277,7 +277,7 @@ const LAST: Placed = Placed {
 };
 
 #[test]
-fn store_of_the_second_machine(rt: HostRuntime) -> Result<(), Fail> {
+fn a_store_of_mic2_keeps_its_machine(rt: HostRuntime) -> Result<(), Fail> {
     let mut store = Store::filled(Machine::Mic2, &goto_end());
     assert!(rt; LAST.valid(Machine::Mic2));
     store.set(0x1ff, &LAST);
@@ -293,7 +293,7 @@ fn store_of_the_second_machine(rt: HostRuntime) -> Result<(), Fail> {
 }
 
 #[test]
-fn as_many_statements_as_words(rt: HostRuntime) -> Result<(), Fail> {
+fn a_program_of_512_statements_fills_the_store(rt: HostRuntime) -> Result<(), Fail> {
     let mut text = Vec::new(rt.alloc());
     text.extend_from_slice(b"Main1 wr; goto Main1\n")?;
     for _ in 1..512 {
