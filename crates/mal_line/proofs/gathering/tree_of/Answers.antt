@@ -1,7 +1,7 @@
 use Rattle.std.proofs.Common.{◌≡◌, ◌∙◌, Some, None, sym}
 use Rattle.mal_line.specs.Reading.{add_tokens}
 use Rattle.mal_line.proofs.Splitting.{adds_more, adds_last, adds_none}
-use Rattle.mal_line.proofs.tally.tree_of.Goals as goal
+use Rattle.mal_line.proofs.gathering.tree_of.Goals as goal
 
 pub returns-in-None : goal.returns-in-None
 returns-in-None c =
