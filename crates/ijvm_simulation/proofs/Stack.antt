@@ -1,5 +1,5 @@
 -- What a machine at a boundary knows of its stack, and what it stands for behind an instruction.
-use Rattle.std.proofs.Common.{◌≡◌, ◌≢◌, ℕ, suc, ◌+◌, ◌-◌, ◌<◌, ◌≤◌, true, Some, None, Option, List, [], ◌∷◌, ◌++◌, length, refl, arith, ◌∙◌, ap, sym, subst, get_or-set_other, length-set}
+use Rattle.std.proofs.Common.{◌≡◌, ◌≢◌, ℕ, suc, ◌+◌, ◌-◌, ◌<◌, ◌≤◌, true, Some, List, [], ◌∷◌, ◌++◌, length, refl, arith, ◌∙◌, ap, sym, subst, get_or-set_other, length-set}
 use Rattle.std.specs.Prelude.{slice_index, slice_set}
 use Rattle.machine_words.specs.Arithmetic.{next, before}
 use Rattle.console_port.specs.World.{World, StackLimit, read_value, write_refusal}
