@@ -6,7 +6,7 @@ use Rattle.console_port.specs.World.{World, StackLimit, read_value, write_refusa
 use Rattle.ijvm_run.specs.Frames.{Frame, State, frames_of, operands_at, base}
 use Rattle.ijvm_run.specs.Step.{moved, is_own, with_local, called}
 use Rattle.ijvm_simulation.specs.Stands.{Origin, RegistersStand, FramesStand, OperandsAt, IsTop, IsMemory}
-use Rattle.ijvm_simulation.specs.Stack.{IsMapEnd, IsWordAccess, with_operands, place, linked_words, Top, Two, AtBoundary, StackLaw}
+use Rattle.ijvm_simulation.specs.Stack.{IsMapEnd, IsWordAccess, frame_with, place_behind, linked_words, Top, Two, AtBoundary, StackLaw}
 use Rattle.ijvm_simulation.proofs.Accesses.{next_is, before_is, access, port, limit}
 use Rattle.ijvm_simulation.proofs.Methods.{locals, arguments, constant, method}
 use Rattle.ijvm_simulation.proofs.Writes.{pushed, stored, entered}
@@ -46,19 +46,19 @@ module _ (o : Origin) (s : State) (sp lv cpp tos : ℕ) (w : World) (map : IsMap
       let len : length s.running.operands ≡ suc (length rest) = ap length has in
       let bottom : 0x8000 ≤ base s.callers = above s.callers in
       let ops = rw has at h.frames.0.operands in
-      let sp_at : sp ≡ place s rest = omega (arith, h.sp_is) in
+      let sp_at : sp ≡ place_behind s rest = omega (arith, h.sp_is) in
       let fits : base (frames_of s) ≤ length o.words = h.fits in
-      let below : place s rest < length o.words = omega arith in
+      let below : place_behind s rest < length o.words = omega arith in
       let high : length o.words < 0x80000000 = map.high in
-      let down : IsWordAccess (length o.words) w (before sp) (place s rest - 1) =
-      access (length o.words) w (before sp) (place s rest - 1) (before_is sp (place s rest - 1) (omega arith) (omega arith)) (omega arith) in
+      let down : IsWordAccess (length o.words) w (before sp) (place_behind s rest - 1) =
+      access (length o.words) w (before sp) (place_behind s rest - 1) (before_is sp (place_behind s rest - 1) (omega arith) (omega arith)) (omega arith) in
       record {
         tos_is = rw has at h.tos_is;
         sp_is = sp_at;
         below = below;
         above = omega arith;
         down = down;
-        next_top = next_top_is w.words (operands_at (base s.callers) s.running) (place s rest - 1) _ rest (omega arith) down.value ops.1;
+        next_top = next_top_is w.words (operands_at (base s.callers) s.running) (place_behind s rest - 1) _ rest (omega arith) down.value ops.1;
         frames = (record { locals = h.frames.0.locals; operands = ops.1; linked = h.frames.0.linked }, h.frames.1);
       }
 
@@ -67,18 +67,18 @@ module _ (o : Origin) (s : State) (sp lv cpp tos : ℕ) (w : World) (map : IsMap
       let t : Top o s sp lv cpp tos w y (x ∷ rest) = top y (x ∷ rest) has in
       let bottom : 0x8000 ≤ base s.callers = above s.callers in
       let high : length o.words < 0x80000000 = map.high in
-      let same : place s (x ∷ rest) - 1 ≡ place s rest = omega arith in
-      let at : IsWordAccess (length o.words) w (before sp) (place s rest) = access (length o.words) w (before sp) (place s rest) (t.down.is ∙ same) (omega (arith, t.below)) in
-      let down : IsWordAccess (length o.words) w (before (before sp)) (place s rest - 1) =
-      access (length o.words) w (before (before sp)) (place s rest - 1)
-      (before_is (before sp) (place s rest - 1) (omega (arith, at.is)) (omega (arith, at.is, at.below))) (omega (arith, at.below)) in
+      let same : place_behind s (x ∷ rest) - 1 ≡ place_behind s rest = omega arith in
+      let at : IsWordAccess (length o.words) w (before sp) (place_behind s rest) = access (length o.words) w (before sp) (place_behind s rest) (t.down.is ∙ same) (omega (arith, t.below)) in
+      let down : IsWordAccess (length o.words) w (before (before sp)) (place_behind s rest - 1) =
+      access (length o.words) w (before (before sp)) (place_behind s rest - 1)
+      (before_is (before sp) (place_behind s rest - 1) (omega (arith, at.is)) (omega (arith, at.is, at.below))) (omega (arith, at.below)) in
       record {
         tos_is = t.tos_is;
         sp_is = omega (arith, t.sp_is);
         at = at;
         second = t.next_top;
         down = down;
-        next_top = next_top_is w.words (operands_at (base s.callers) s.running) (place s rest - 1) _ rest (omega arith) down.value t.frames.0.operands.1;
+        next_top = next_top_is w.words (operands_at (base s.callers) s.running) (place_behind s rest - 1) _ rest (omega arith) down.value t.frames.0.operands.1;
         frames = (record { locals = t.frames.0.locals; operands = t.frames.0.operands.1; linked = t.frames.0.linked }, t.frames.1);
       }
 
@@ -86,12 +86,12 @@ module _ (o : Origin) (s : State) (sp lv cpp tos : ℕ) (w : World) (map : IsMap
   local x k l e = access (length o.words) w x (base s.callers + k) e (omega (arith, h.fits))
 
   pushes : (xs : List ℕ) (v to sp' lv' cpp' tos' : ℕ) (w' : World) (left : List ℕ) →
-      FramesStand w.words (with_operands s xs ∷ s.callers) → place s xs < length o.words →
-      lv' ≡ lv → cpp' ≡ cpp → sp' ≡ place s xs → tos' ≡ v →
-      w'.words ≡ slice_set w.words (place s xs) v → w'.untaken ≡ left → w'.given ≡ w.given →
+      FramesStand w.words (frame_with s xs ∷ s.callers) → place_behind s xs < length o.words →
+      lv' ≡ lv → cpp' ≡ cpp → sp' ≡ place_behind s xs → tos' ≡ v →
+      w'.words ≡ slice_set w.words (place_behind s xs) v → w'.untaken ≡ left → w'.given ≡ w.given →
       RegistersStand o (record (moved s (v ∷ xs) to) { untaken = left }) sp' lv' cpp' tos' w'
   pushes xs v to sp' lv' cpp' tos' w' left frames below lvs cpps sps toss words untaken given =
-      let a : ℕ = place s xs in
+      let a : ℕ = place_behind s xs in
       let bottom : 0x8000 ≤ base s.callers = above s.callers in
       let lt : a < length w.words = omega (arith, h.memory.long) in
       record {
@@ -99,7 +99,7 @@ module _ (o : Origin) (s : State) (sp lv cpp tos : ℕ) (w : World) (map : IsMap
         lv_is = lvs ∙ h.lv_is;
         cpp_is = cpps ∙ h.cpp_is;
         tos_is = toss;
-        frames = frames_at (with_operands s (v ∷ xs)) s.callers (sym words) (pushed w.words a v (with_operands s xs) s.callers refl lt frames);
+        frames = frames_at (frame_with s (v ∷ xs)) s.callers (sym words) (pushed w.words a v (frame_with s xs) s.callers refl lt frames);
         memory = memory_at (sym words) (memory_set o.words w.words a v (omega arith) h.memory);
         fits = omega arith;
         untaken = untaken;
@@ -107,8 +107,8 @@ module _ (o : Origin) (s : State) (sp lv cpp tos : ℕ) (w : World) (map : IsMap
       }
 
   drops : (xs : List ℕ) (to sp' lv' cpp' tos' : ℕ) (w' : World) (more : List ℕ) →
-      FramesStand w.words (with_operands s xs ∷ s.callers) → place s xs ≤ length o.words →
-      lv' ≡ lv → cpp' ≡ cpp → sp' + 1 ≡ place s xs → IsTop tos' xs →
+      FramesStand w.words (frame_with s xs ∷ s.callers) → place_behind s xs ≤ length o.words →
+      lv' ≡ lv → cpp' ≡ cpp → sp' + 1 ≡ place_behind s xs → IsTop tos' xs →
       w'.words ≡ w.words → w'.untaken ≡ s.untaken → w'.given ≡ o.given ++ more →
       RegistersStand o (record (moved s xs to) { given = more }) sp' lv' cpp' tos' w'
   drops xs to sp' lv' cpp' tos' w' more frames fits lvs cpps sps toss words untaken given =
@@ -117,7 +117,7 @@ module _ (o : Origin) (s : State) (sp lv cpp tos : ℕ) (w : World) (map : IsMap
         lv_is = lvs ∙ h.lv_is;
         cpp_is = cpps ∙ h.cpp_is;
         tos_is = toss;
-        frames = frames_at (with_operands s xs) s.callers (sym words) frames;
+        frames = frames_at (frame_with s xs) s.callers (sym words) frames;
         memory = memory_at (sym words) h.memory;
         fits = fits;
         untaken = untaken;
@@ -126,22 +126,22 @@ module _ (o : Origin) (s : State) (sp lv cpp tos : ℕ) (w : World) (map : IsMap
 
   swaps : (y x : ℕ) (rest : List ℕ) (to sp' lv' cpp' tos' : ℕ) (w' : World) → Two o s sp lv cpp tos w y x rest →
       lv' ≡ lv → cpp' ≡ cpp → sp' ≡ sp → tos' ≡ x →
-      w'.words ≡ slice_set (slice_set w.words (place s rest) y) (place s rest + 1) x → w'.untaken ≡ s.untaken → w'.given ≡ w.given →
+      w'.words ≡ slice_set (slice_set w.words (place_behind s rest) y) (place_behind s rest + 1) x → w'.untaken ≡ s.untaken → w'.given ≡ w.given →
       RegistersStand o (moved s (x ∷ y ∷ rest) to) sp' lv' cpp' tos' w'
   swaps y x rest to sp' lv' cpp' tos' w' t lvs cpps sps toss words untaken given =
-      let a : ℕ = place s rest in
+      let a : ℕ = place_behind s rest in
       let bottom : 0x8000 ≤ base s.callers = above s.callers in
       let m1 : List ℕ = slice_set w.words a y in
       let behind : sp ≡ a + 1 = t.sp_is in
       let fits : a + 1 < length o.words = omega (arith, h.sp_is, h.fits) in
-      let frames1 : FramesStand m1 (with_operands s (y ∷ rest) ∷ s.callers) = pushed w.words a y (with_operands s rest) s.callers refl (omega (arith, h.memory.long)) t.frames in
+      let frames1 : FramesStand m1 (frame_with s (y ∷ rest) ∷ s.callers) = pushed w.words a y (frame_with s rest) s.callers refl (omega (arith, h.memory.long)) t.frames in
       record {
         sp_is = omega arith;
         lv_is = lvs ∙ h.lv_is;
         cpp_is = cpps ∙ h.cpp_is;
         tos_is = toss;
-        frames = frames_at (with_operands s (x ∷ y ∷ rest)) s.callers (sym words)
-            (pushed m1 (a + 1) x (with_operands s (y ∷ rest)) s.callers (omega arith) (omega (arith, length-set w.words a y, h.memory.long)) frames1);
+        frames = frames_at (frame_with s (x ∷ y ∷ rest)) s.callers (sym words)
+            (pushed m1 (a + 1) x (frame_with s (y ∷ rest)) s.callers (omega arith) (omega (arith, length-set w.words a y, h.memory.long)) frames1);
         memory = memory_at (sym words) (memory_set o.words m1 (a + 1) x (omega arith) (memory_set o.words w.words a y (omega arith) h.memory));
         fits = omega arith;
         untaken = untaken;
@@ -156,15 +156,15 @@ module _ (o : Origin) (s : State) (sp lv cpp tos : ℕ) (w : World) (map : IsMap
       let f : Frame = record s.running { locals = slice_set s.running.locals k (Some y); operands = rest } in
       let bottom : 0x8000 ≤ base s.callers = above s.callers in
       let inside : base s.callers + k < length w.words = omega (arith, h.memory.long, h.fits) in
-      let frames : FramesStand w'.words (f ∷ s.callers) = frames_at f s.callers (sym words) (stored w.words k y (with_operands s rest) s.callers l own inside t.frames) in
+      let frames : FramesStand w'.words (f ∷ s.callers) = frames_at f s.callers (sym words) (stored w.words k y (frame_with s rest) s.callers l own inside t.frames) in
       let len : length f.locals ≡ length s.running.locals = length-set s.running.locals k (Some y) in
-      let down : IsWordAccess (length o.words) (record w { words = w'.words }) (before sp) (place s rest - 1) =
-      access (length o.words) (record w { words = w'.words }) (before sp) (place s rest - 1) t.down.is t.down.below in
+      let down : IsWordAccess (length o.words) (record w { words = w'.words }) (before sp) (place_behind s rest - 1) =
+      access (length o.words) (record w { words = w'.words }) (before sp) (place_behind s rest - 1) t.down.is t.down.below in
       record {
         sp_is = omega (arith, t.down.is, t.above);
         lv_is = lvs ∙ h.lv_is;
         cpp_is = cpps ∙ h.cpp_is;
-        tos_is = next_top_is w'.words (operands_at (base s.callers) f) (place s rest - 1) tos' rest (omega (arith, t.above)) (toss ∙ down.value) frames.0.operands;
+        tos_is = next_top_is w'.words (operands_at (base s.callers) f) (place_behind s rest - 1) tos' rest (omega (arith, t.above)) (toss ∙ down.value) frames.0.operands;
         frames = frames;
         memory = memory_at (sym words) (memory_set o.words w.words (base s.callers + k) y (omega arith) h.memory);
         fits = omega (arith, t.below);
@@ -194,12 +194,12 @@ module _ (o : Origin) (s : State) (sp lv cpp tos : ℕ) (w : World) (map : IsMap
       }
 
   enters : (ps : List ℕ) (x : ℕ) (rest : List ℕ) (more back to sp' lv' cpp' tos' : ℕ) (w' : World) → s.running.operands ≡ ps ++ x ∷ rest →
-      place s rest + length ps + 1 + more + 1 < length o.words →
-      lv' ≡ place s rest → cpp' ≡ cpp → sp' ≡ place s rest + (length ps + 1 + more) + 1 →
-      w'.words ≡ linked_words w.words (place s rest) (length ps + 1 + more) back (base s.callers) → w'.untaken ≡ s.untaken → w'.given ≡ w.given →
-      RegistersStand o (record s { running = called ps more back; callers = with_operands s rest ∷ s.callers; at = to }) sp' lv' cpp' tos' w'
+      place_behind s rest + length ps + 1 + more + 1 < length o.words →
+      lv' ≡ place_behind s rest → cpp' ≡ cpp → sp' ≡ place_behind s rest + (length ps + 1 + more) + 1 →
+      w'.words ≡ linked_words w.words (place_behind s rest) (length ps + 1 + more) back (base s.callers) → w'.untaken ≡ s.untaken → w'.given ≡ w.given →
+      RegistersStand o (record s { running = called ps more back; callers = frame_with s rest ∷ s.callers; at = to }) sp' lv' cpp' tos' w'
   enters ps x rest more back to sp' lv' cpp' tos' w' ops space lvs cpps sps words untaken given =
-      let lv1 : ℕ = place s rest in
+      let lv1 : ℕ = place_behind s rest in
       let many : ℕ = length ps + 1 + more in
       let bottom : 0x8000 ≤ base s.callers = above s.callers in
       let m1 : List ℕ = slice_set w.words lv1 (lv1 + many) in
@@ -213,7 +213,7 @@ module _ (o : Origin) (s : State) (sp lv cpp tos : ℕ) (w : World) (map : IsMap
         lv_is = lvs;
         cpp_is = cpps ∙ h.cpp_is;
         tos_is = tt;
-        frames = frames_at g (with_operands s rest ∷ s.callers) (sym words) (entered w.words ps x rest more back s.running s.callers (omega (arith, h.memory.long)) ops h.frames);
+        frames = frames_at g (frame_with s rest ∷ s.callers) (sym words) (entered w.words ps x rest more back s.running s.callers (omega (arith, h.memory.long)) ops h.frames);
         memory = memory_at (sym words) (memory_set o.words m2 (lv1 + many + 1) (base s.callers) (omega arith) new2);
         fits = omega arith;
         untaken = untaken;

@@ -27,25 +27,25 @@ pub record IsWordAccess (top : ℕ) (w : World) (x a : ℕ) : Type 0 where
   pub given : (given : List ℕ) (v : ℕ) → given_after top given x v ≡ given
 
 -- minus three, as the words of IN and OUT make it
-abbrev pub console : ℕ
-console = plus 4294967295 (plus 4294967295 4294967295)
+abbrev pub console_address : ℕ
+console_address = plus 4294967295 (plus 4294967295 4294967295)
 
 -- an access there
 pub record IsConsoleAccess (top : ℕ) (w : World) : Type 0 where
-  pub read : read_refusal top console ≡ None
-  pub write : write_refusal top console ≡ None
-  pub value : read_value top w.words w.untaken console ≡ next_byte w.untaken
-  pub words : (v : ℕ) → slice_set w.words console v ≡ w.words
-  pub untaken : untaken_after top w.untaken console ≡ drop 1 w.untaken
-  pub given : (v : ℕ) → given_after top w.given console v ≡ w.given ++ v % 256 ∷ []
+  pub read : read_refusal top console_address ≡ None
+  pub write : write_refusal top console_address ≡ None
+  pub value : read_value top w.words w.untaken console_address ≡ next_byte w.untaken
+  pub words : (v : ℕ) → slice_set w.words console_address v ≡ w.words
+  pub untaken : untaken_after top w.untaken console_address ≡ drop 1 w.untaken
+  pub given : (v : ℕ) → given_after top w.given console_address v ≡ w.given ++ v % 256 ∷ []
 
 -- the running frame with other operands
-abbrev pub with_operands : State → List ℕ → Frame
-with_operands s xs = record s.running { operands = xs }
+abbrev pub frame_with : State → List ℕ → Frame
+frame_with s xs = record s.running { operands = xs }
 
 -- the place behind the operands, where these are xs
-abbrev pub place : State → List ℕ → ℕ
-place s xs = base (with_operands s xs ∷ s.callers)
+abbrev pub place_behind : State → List ℕ → ℕ
+place_behind s xs = base (frame_with s xs ∷ s.callers)
 
 -- the memory with the three words of a method's frame that a call writes: its link word, its return address, and its caller's LV
 abbrev pub linked_words : List ℕ → ℕ → ℕ → ℕ → ℕ → List ℕ
@@ -76,22 +76,22 @@ module _ (o : Origin) (s : State) (sp lv cpp tos : ℕ) (w : World) where
   -- a last operand y over rest
   pub record Top (y : ℕ) (rest : List ℕ) : Type 0 where
     pub tos_is : tos ≡ y
-    pub sp_is : sp ≡ place s rest
-    pub below : place s rest < length o.words
-    pub above : 0x8000 ≤ place s rest
-    pub down : IsWordAccess (length o.words) w (before sp) (place s rest - 1)
+    pub sp_is : sp ≡ place_behind s rest
+    pub below : place_behind s rest < length o.words
+    pub above : 0x8000 ≤ place_behind s rest
+    pub down : IsWordAccess (length o.words) w (before sp) (place_behind s rest - 1)
     pub next_top : IsTop (read_value (length o.words) w.words w.untaken (before sp)) rest
-    pub frames : FramesStand w.words (with_operands s rest ∷ s.callers)
+    pub frames : FramesStand w.words (frame_with s rest ∷ s.callers)
 
   -- two last operands, y and x over rest
   pub record Two (y x : ℕ) (rest : List ℕ) : Type 0 where
     pub tos_is : tos ≡ y
-    pub sp_is : sp ≡ place s rest + 1
-    pub at : IsWordAccess (length o.words) w (before sp) (place s rest)
+    pub sp_is : sp ≡ place_behind s rest + 1
+    pub at : IsWordAccess (length o.words) w (before sp) (place_behind s rest)
     pub second : read_value (length o.words) w.words w.untaken (before sp) ≡ x
-    pub down : IsWordAccess (length o.words) w (before (before sp)) (place s rest - 1)
+    pub down : IsWordAccess (length o.words) w (before (before sp)) (place_behind s rest - 1)
     pub next_top : IsTop (read_value (length o.words) w.words w.untaken (before (before sp))) rest
-    pub frames : FramesStand w.words (with_operands s rest ∷ s.callers)
+    pub frames : FramesStand w.words (frame_with s rest ∷ s.callers)
 
   pub record AtBoundary : Type 0 where
     -- room for one more operand, and none
@@ -103,20 +103,20 @@ module _ (o : Origin) (s : State) (sp lv cpp tos : ℕ) (w : World) where
     pub local : (x k : ℕ) → k < length s.running.locals → x ≡ base s.callers + k → IsWordAccess (length o.words) w x (base s.callers + k)
     -- behind a push of v over the operands xs
     pub pushes : (xs : List ℕ) (v to sp' lv' cpp' tos' : ℕ) (w' : World) (left : List ℕ) →
-        FramesStand w.words (with_operands s xs ∷ s.callers) → place s xs < length o.words →
-        lv' ≡ lv → cpp' ≡ cpp → sp' ≡ place s xs → tos' ≡ v →
-        w'.words ≡ slice_set w.words (place s xs) v → w'.untaken ≡ left → w'.given ≡ w.given →
+        FramesStand w.words (frame_with s xs ∷ s.callers) → place_behind s xs < length o.words →
+        lv' ≡ lv → cpp' ≡ cpp → sp' ≡ place_behind s xs → tos' ≡ v →
+        w'.words ≡ slice_set w.words (place_behind s xs) v → w'.untaken ≡ left → w'.given ≡ w.given →
         RegistersStand o (record (moved s (v ∷ xs) to) { untaken = left }) sp' lv' cpp' tos' w'
     -- behind the operands have become xs, with no write to memory
     pub drops : (xs : List ℕ) (to sp' lv' cpp' tos' : ℕ) (w' : World) (more : List ℕ) →
-        FramesStand w.words (with_operands s xs ∷ s.callers) → place s xs ≤ length o.words →
-        lv' ≡ lv → cpp' ≡ cpp → sp' + 1 ≡ place s xs → IsTop tos' xs →
+        FramesStand w.words (frame_with s xs ∷ s.callers) → place_behind s xs ≤ length o.words →
+        lv' ≡ lv → cpp' ≡ cpp → sp' + 1 ≡ place_behind s xs → IsTop tos' xs →
         w'.words ≡ w.words → w'.untaken ≡ s.untaken → w'.given ≡ o.given ++ more →
         RegistersStand o (record (moved s xs to) { given = more }) sp' lv' cpp' tos' w'
     -- behind a swap of two operands
     pub swaps : (y x : ℕ) (rest : List ℕ) (to sp' lv' cpp' tos' : ℕ) (w' : World) → Two y x rest →
         lv' ≡ lv → cpp' ≡ cpp → sp' ≡ sp → tos' ≡ x →
-        w'.words ≡ slice_set (slice_set w.words (place s rest) y) (place s rest + 1) x → w'.untaken ≡ s.untaken → w'.given ≡ w.given →
+        w'.words ≡ slice_set (slice_set w.words (place_behind s rest) y) (place_behind s rest + 1) x → w'.untaken ≡ s.untaken → w'.given ≡ w.given →
         RegistersStand o (moved s (x ∷ y ∷ rest) to) sp' lv' cpp' tos' w'
     -- behind a store of the last operand to a local
     pub stores : (k y : ℕ) (rest : List ℕ) (to sp' lv' cpp' tos' : ℕ) (w' : World) → Top y rest → k < length s.running.locals → is_own s.running.back k ≡ true →
@@ -130,10 +130,10 @@ module _ (o : Origin) (s : State) (sp lv cpp tos : ℕ) (w : World) where
         RegistersStand o (with_local s k y s.running.operands to) sp' lv' cpp' tos' w'
     -- behind a call with the arguments ps
     pub enters : (ps : List ℕ) (x : ℕ) (rest : List ℕ) (more back to sp' lv' cpp' tos' : ℕ) (w' : World) → s.running.operands ≡ ps ++ x ∷ rest →
-        place s rest + length ps + 1 + more + 1 < length o.words →
-        lv' ≡ place s rest → cpp' ≡ cpp → sp' ≡ place s rest + (length ps + 1 + more) + 1 →
-        w'.words ≡ linked_words w.words (place s rest) (length ps + 1 + more) back (base s.callers) → w'.untaken ≡ s.untaken → w'.given ≡ w.given →
-        RegistersStand o (record s { running = called ps more back; callers = with_operands s rest ∷ s.callers; at = to }) sp' lv' cpp' tos' w'
+        place_behind s rest + length ps + 1 + more + 1 < length o.words →
+        lv' ≡ place_behind s rest → cpp' ≡ cpp → sp' ≡ place_behind s rest + (length ps + 1 + more) + 1 →
+        w'.words ≡ linked_words w.words (place_behind s rest) (length ps + 1 + more) back (base s.callers) → w'.untaken ≡ s.untaken → w'.given ≡ w.given →
+        RegistersStand o (record s { running = called ps more back; callers = frame_with s rest ∷ s.callers; at = to }) sp' lv' cpp' tos' w'
     -- behind a return of y to the caller f
     pub returns : (y : ℕ) (rest : List ℕ) (f : Frame) (fs : List Frame) (to sp' lv' cpp' tos' : ℕ) (w' : World) → s.running.operands ≡ y ∷ rest → s.callers ≡ f ∷ fs →
         lv' ≡ base fs → cpp' ≡ cpp → sp' ≡ base (f ∷ fs) → tos' ≡ y →

@@ -14,7 +14,7 @@ use Rattle.mic1_datapath.specs.Micro.{Micro}
 use Rattle.datapath.specs.Memory.{first_refusal}
 use Rattle.mic1_datapath.specs.Mic1.{mic1_meaning}
 use Rattle.ijvm_simulation.specs.Stands.{Origin, IsTop}
-use Rattle.ijvm_simulation.specs.Stack.{IsMapEnd, IsWordAccess, IsConsoleAccess, console, Top, AtBoundary, StackLaw}
+use Rattle.ijvm_simulation.specs.Stack.{IsMapEnd, IsWordAccess, IsConsoleAccess, console_address, Top, AtBoundary, StackLaw}
 use Rattle.ijvm_simulation.specs.Passes.{Moment}
 use Rattle.ijvm_simulation.specs.Outcomes.{Went, Overran, push}
 use Rattle.ijvm_simulation.specs.Verified.{Loads, Fine, IsNext}
@@ -35,7 +35,7 @@ module _ (program : List ℕ) (has : HasStatements program) (o : Origin) (map : 
       let t : Top o s m.sp m.lv m.cpp m.tos w y rest = here.top y rest ops in
       let p : IsConsoleAccess (length o.words) w = law.port (length o.words) w map h.holds.memory.long in
       let op : m.mbr ≡ 0xFD = h.ready.mbr ∙ code in
-      let same : slice_set w.words console m.tos ≡ w.words = p.words m.tos in
+      let same : slice_set w.words console_address m.tos ≡ w.words = p.words m.tos in
       comes program has o (0xFD ∷ []) 7 m w k s _ h (assumption)
       (at_boundary o _ _ _
       (here.drops rest (s.at + 1) _ _ _ _ _ (s.given ++ y % 256 ∷ []) t.frames (omega (arith, t.below))
@@ -53,7 +53,7 @@ module _ (program : List ℕ) (has : HasStatements program) (o : Origin) (map : 
       let r : IsWordAccess (length o.words) w (next m.sp) (base (frames_of s)) = here.room space in
       let p : IsConsoleAccess (length o.words) w = law.port (length o.words) w map h.holds.memory.long in
       let op : m.mbr ≡ 0xFC = h.ready.mbr ∙ code in
-      let v : read_value (length o.words) w.words w.untaken console ≡ next_byte s.untaken = p.value ∙ ap next_byte h.holds.untaken in
+      let v : read_value (length o.words) w.words w.untaken console_address ≡ next_byte s.untaken = p.value ∙ ap next_byte h.holds.untaken in
       comes program has o (0xFC ∷ []) 5 m w k s _ h (assumption)
       (at_boundary o _ _ _
       (here.pushes s.running.operands _ (s.at + 1) _ _ _ _ _ (drop 1 s.untaken) h.holds.frames space

@@ -17,7 +17,7 @@ use Rattle.mic1_datapath.specs.Micro.{Micro}
 use Rattle.datapath.specs.Memory.{first_refusal}
 use Rattle.mic1_datapath.specs.Mic1.{mic1_meaning}
 use Rattle.ijvm_simulation.specs.Stands.{Origin}
-use Rattle.ijvm_simulation.specs.Stack.{IsMapEnd, IsWordAccess, place, Top, Two, AtBoundary, StackLaw}
+use Rattle.ijvm_simulation.specs.Stack.{IsMapEnd, IsWordAccess, place_behind, Top, Two, AtBoundary, StackLaw}
 use Rattle.ijvm_simulation.specs.Passes.{Moment}
 use Rattle.ijvm_simulation.specs.Outcomes.{Went, Overran, push}
 use Rattle.ijvm_simulation.specs.Verified.{Loads, Fine, IsNext}
@@ -91,11 +91,11 @@ module _ (program : List ℕ) (has : HasStatements program) (o : Origin) (map : 
       let t : Two o s m.sp m.lv m.cpp m.tos w y x rest = here.two y x rest ops in
       let bottom : 0x8000 ≤ base s.callers = law.above s.callers in
       let len : length s.running.operands ≡ suc (suc (length rest)) = ap length ops in
-      let top_at : IsWordAccess (length o.words) w m.sp (place s rest + 1) = law.access (length o.words) w m.sp (place s rest + 1) t.sp_is (omega (arith, h.holds.fits)) in
+      let top_at : IsWordAccess (length o.words) w m.sp (place_behind s rest + 1) = law.access (length o.words) w m.sp (place_behind s rest + 1) t.sp_is (omega (arith, h.holds.fits)) in
       let op : m.mbr ≡ 0x5F = h.ready.mbr ∙ code in
-      let apart : place s rest + 1 ≢ place s rest = omega arith in
-      let same : slice_set (slice_set w.words m.sp (read_value (length o.words) w.words w.untaken (before m.sp))) (before m.sp) m.tos ≡ slice_set (slice_set w.words (place s rest) y) (place s rest + 1) x =
-      (λ j. slice_set (slice_set w.words (top_at.is j) (t.second j)) (t.at.is j) (t.tos_is j)) ∙ set_comm w.words (place s rest + 1) (place s rest) x y apart in
+      let apart : place_behind s rest + 1 ≢ place_behind s rest = omega arith in
+      let same : slice_set (slice_set w.words m.sp (read_value (length o.words) w.words w.untaken (before m.sp))) (before m.sp) m.tos ≡ slice_set (slice_set w.words (place_behind s rest) y) (place_behind s rest + 1) x =
+      (λ j. slice_set (slice_set w.words (top_at.is j) (t.second j)) (t.at.is j) (t.tos_is j)) ∙ set_comm w.words (place_behind s rest + 1) (place_behind s rest) x y apart in
       comes program has o (0x5F ∷ []) 6 m w k s _ h (assumption)
       (at_boundary o _ _ _
       (here.swaps y x rest (s.at + 1) _ _ _ _ _ t refl refl refl t.second same (t.at.untaken ∙ h.holds.untaken) (t.at.given _ _ ∙ top_at.given _ _))

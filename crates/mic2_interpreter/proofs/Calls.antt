@@ -16,7 +16,7 @@ use Rattle.ijvm_paths.specs.Accepted.{VerifiedView}
 use Rattle.mic2_datapath.specs.Micro.{Micro}
 use Rattle.mic2_datapath.specs.Mic2.{mic2_meaning}
 use Rattle.ijvm_simulation.specs.Stands.{Origin, IsLinked, caller_lv}
-use Rattle.ijvm_simulation.specs.Stack.{IsMapEnd, IsWordAccess, with_operands, place, linked_words, Arguments, IsMethod, Top, AtBoundary, StackLaw}
+use Rattle.ijvm_simulation.specs.Stack.{IsMapEnd, IsWordAccess, frame_with, place_behind, linked_words, Arguments, IsMethod, Top, AtBoundary, StackLaw}
 use Rattle.ijvm_simulation.specs.Passes.{Moment}
 use Rattle.ijvm_simulation.specs.Outcomes.{Went, Overran}
 use Rattle.ijvm_simulation.specs.Verified.{Loads, Fine, IsNext}
@@ -70,8 +70,8 @@ record Entering (o : Origin) (s : State) (m : Micro) (w : World) (k e n more : �
   pub count_is : count o m w ≡ n + 1
   pub own_is : own o m w ≡ more
   pub few : more < 65536
-  pub link_access : IsWordAccess (length o.words) w (link_at o m w) (place s rest)
-  pub link_is : link o m w ≡ place s rest + (n + 1 + more)
+  pub link_access : IsWordAccess (length o.words) w (link_at o m w) (place_behind s rest)
+  pub link_is : link o m w ≡ place_behind s rest + (n + 1 + more)
 
 -- The steps of a call up to the word that stalls, and its stalls: one, or two where the entry is the last byte of a word.
 abbrev plan : Bool → List Beat → List Beat
@@ -141,7 +141,7 @@ module _ (program : List ℕ) (has : HasStatements program) (o : Origin) (map : 
       let b2 : byte_in o.words (e + 2) < 256 = byte_bound o.words (e + 2) in
       let b3 : byte_in o.words (e + 3) < 256 = byte_bound o.words (e + 3) in
       let few : more < 65536 = omega arith in
-      let lv : ℕ = place s rest in
+      let lv : ℕ = place_behind s rest in
       let sp : m.sp ≡ lv + n = omega (arith, h.holds.sp_is) in
       let low : lv < length o.words = omega (arith, h.holds.fits) in
       let start : minus m.sp (count o m w) ≡ lv - 1 = minus_is refl count_is (omega arith) (omega (arith, h.holds.sp_is, h.holds.fits)) in
@@ -159,14 +159,14 @@ module _ (program : List ℕ) (has : HasStatements program) (o : Origin) (map : 
       }
 
   invoke : (i e more : ℕ) (ps : List ℕ) (x : ℕ) (rest : List ℕ) (late : Bool) → (e % 4 == 3) ≡ late → byte_in o.words s.at ≡ 0xB6 → Entering o s m w i e (length ps) more rest → e + 4 < 0x10000 →
-      s.running.operands ≡ ps ++ x ∷ rest → place s rest + length ps + 1 + more + 1 < length o.words →
+      s.running.operands ≡ ps ++ x ∷ rest → place_behind s rest + length ps + 1 + more + 1 < length o.words →
       ReachesBoundary program o (length (plan late (steps 8))) (stalls_of_call late) (record { state = m; world = w; stalls = k })
-      (record s { running = called ps more (s.at + 3); callers = with_operands s rest ∷ s.callers; at = e + 4 })
+      (record s { running = called ps more (s.at + 3); callers = frame_with s rest ∷ s.callers; at = e + 4 })
   invoke i e more ps x rest false remainder code en text ops space =
       let c : Counts o s m = counts o s m w h inside in
       let bottom : 0x8000 ≤ base s.callers = law.above s.callers in
       let high : length o.words < 0x80000000 = map.high in
-      let lv : ℕ = place s rest in
+      let lv : ℕ = place_behind s rest in
       let many : ℕ = length ps + 1 + more in
       let a : IsWordAccess (length o.words) w (from o m w) (0x4000 + i) = en.constant in
       let b : IsWordAccess (length o.words) w (link_at o m w) lv = en.link_access in
@@ -189,7 +189,7 @@ module _ (program : List ℕ) (has : HasStatements program) (o : Origin) (map : 
       let c : Counts o s m = counts o s m w h inside in
       let bottom : 0x8000 ≤ base s.callers = law.above s.callers in
       let high : length o.words < 0x80000000 = map.high in
-      let lv : ℕ = place s rest in
+      let lv : ℕ = place_behind s rest in
       let many : ℕ = length ps + 1 + more in
       let a : IsWordAccess (length o.words) w (from o m w) (0x4000 + i) = en.constant in
       let b : IsWordAccess (length o.words) w (link_at o m w) lv = en.link_access in
@@ -271,7 +271,7 @@ module _ (program : List ℕ) (has : HasStatements program) (o : Origin) (v : Ve
       let near : length o.words ≤ 0x20000 = map.near in
       let many : length (onto ps (replicate over.method.others None)) ≡ length ps + over.method.others = law.locals ps over.method.others in
       let depth : length s.running.operands ≡ over.others + suc (length rest) = args.depth in
-      let lv : ℕ = place s rest in
+      let lv : ℕ = place_behind s rest in
       let behind : ℕ = lv + (over.others + 1 + over.method.others) in
       let beyond : length o.words < behind + 2 = omega (arith, over.leads.over, loads.long, args.long) in
       let a : IsWordAccess (length o.words) q.world (from o q.state q.world) (0x4000 + k) = en.constant in

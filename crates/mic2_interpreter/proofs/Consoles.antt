@@ -13,7 +13,7 @@ use Rattle.ijvm_paths.specs.Accepted.{VerifiedView}
 use Rattle.mic2_datapath.specs.Micro.{Micro}
 use Rattle.mic2_datapath.specs.Mic2.{mic2_meaning}
 use Rattle.ijvm_simulation.specs.Stands.{Origin, IsTop}
-use Rattle.ijvm_simulation.specs.Stack.{IsMapEnd, IsWordAccess, IsConsoleAccess, console, Top, AtBoundary, StackLaw}
+use Rattle.ijvm_simulation.specs.Stack.{IsMapEnd, IsWordAccess, IsConsoleAccess, console_address, Top, AtBoundary, StackLaw}
 use Rattle.ijvm_simulation.specs.Passes.{Moment}
 use Rattle.ijvm_simulation.specs.Outcomes.{Went, Overran, push}
 use Rattle.ijvm_simulation.specs.Verified.{Loads, Fine, IsNext}
@@ -36,8 +36,8 @@ module _ (program : List ℕ) (has : HasStatements program) (o : Origin) (map : 
       let c : Counts o s m = counts o s m w h inside in
       let t : Top o s m.sp m.lv m.cpp m.tos w y rest = here.top y rest ops in
       let p : IsConsoleAccess (length o.words) w = law.port (length o.words) w map h.holds.memory.long in
-      let far : 0x8000 ≤ console = console_above in
-      let same : slice_set w.words console m.tos ≡ w.words = p.words m.tos in
+      let far : 0x8000 ≤ console_address = console_above in
+      let same : slice_set w.words console_address m.tos ≡ w.words = p.words m.tos in
       comes program has o map Goes (steps 6) (byte_in o.words (s.at + 1) ∷ []) m w k 0xFD 0 s _ h code (assumption)
       (at_boundary o _ _ _
       (here.drops rest (s.at + 1) _ _ _ _ _ (s.given ++ y % 256 ∷ []) t.frames (omega (arith, t.below))
@@ -56,7 +56,7 @@ module _ (program : List ℕ) (has : HasStatements program) (o : Origin) (map : 
       let p : IsConsoleAccess (length o.words) w = law.port (length o.words) w map h.holds.memory.long in
       let bottom : 0x8000 ≤ base s.callers = law.above s.callers in
       let high : 0x8000 ≤ next m.sp = omega (arith, r.is) in
-      let v : read_value (length o.words) w.words w.untaken console ≡ next_byte s.untaken = p.value ∙ ap next_byte h.holds.untaken in
+      let v : read_value (length o.words) w.words w.untaken console_address ≡ next_byte s.untaken = p.value ∙ ap next_byte h.holds.untaken in
       comes program has o map Goes (steps 4) (byte_in o.words (s.at + 1) ∷ []) m w k 0xFC 0 s _ h code (assumption)
       (at_boundary o _ _ _
       (here.pushes s.running.operands _ (s.at + 1) _ _ _ _ _ (drop 1 s.untaken) h.holds.frames space

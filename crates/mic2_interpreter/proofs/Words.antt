@@ -2,7 +2,7 @@
 use Rattle.std.proofs.Common.{◌≡◌, ℕ, ◌+◌, ◌^◌, ◌<◌, ◌≤◌, List, arith, ◌∙◌, ap, add_comm}
 use Rattle.machine_words.specs.Arithmetic.{wrap, plus, minus, next, before}
 use Rattle.console_port.specs.World.{byte_in}
-use Rattle.ijvm_simulation.specs.Stack.{console}
+use Rattle.ijvm_simulation.specs.Stack.{console_address}
 
 pub wrap_small : (x : ℕ) → x < 2 ^ 32 → wrap x ≡ x
 unfolding wrap
@@ -31,6 +31,6 @@ unfolding wrap
 minus_is {x} {y} {x'} {y'} {z} ex ey e h = omega arith
 
 -- the console is no word below the stack
-pub console_above : 0x8000 ≤ console
+pub console_above : 0x8000 ≤ console_address
 unfolding wrap
 console_above = omega arith
