@@ -1,5 +1,5 @@
 -- Calls and returns.
-use Rattle.std.proofs.Common.{◌≡◌, ℕ, zero, suc, ◌+◌, ◌-◌, ◌*◌, ◌<◌, ◌≤◌, Bool, true, false, Some, None, Option, List, [], ◌∷◌, ◌++◌, length, take, drop, replicate, ◌==◌, ◌%◌, refl, arith, sym, ◌∙◌, ap, ap₂, subst, inl, inr, add-zero, length-set}
+use Rattle.std.proofs.Common.{◌≡◌, ℕ, suc, ◌+◌, ◌-◌, ◌*◌, ◌<◌, ◌≤◌, Bool, true, false, Some, None, Option, List, [], ◌∷◌, ◌++◌, length, take, drop, replicate, ◌==◌, ◌%◌, refl, arith, sym, ◌∙◌, ap, ap₂, subst, inl, inr, add-zero, length-set}
 use Rattle.std.specs.Prelude.{slice_index, slice_set, if◌then◌else◌}
 use Rattle.std.proofs.lemmas.Bool.{cases_lt, cases_Bool}
 use Rattle.machine_words.specs.declared.machine.Machine.TheVariants.{Mic2}
@@ -8,7 +8,6 @@ use Rattle.console_port.specs.World.{World, StackLimit, read_value, after_read, 
 use Rattle.ijvm_instr.specs.declared.instr.Instr.{Instr}
 use Rattle.ijvm_instr.specs.declared.instr.Instr.TheVariants.{Ireturn, Invokevirtual}
 use Rattle.ijvm_image.specs.declared.method.Method.{Method}
-use Rattle.ijvm_image.specs.Image.{params, others}
 use Rattle.ijvm_run.specs.Frames.{Frame, State, base, kept_words}
 use Rattle.ijvm_run.specs.Cost.{cost}
 use Rattle.ijvm_run.specs.Step.{onto, called}

@@ -1,5 +1,5 @@
 -- Instructions that name a local or a constant.
-use Rattle.std.proofs.Common.{◌≡◌, ℕ, ◌+◌, ◌-◌, ◌*◌, ◌<◌, ◌≤◌, Some, List, [], ◌∷◌, ◌++◌, length, true, refl, arith, sym, ◌∙◌, ap, ap₂, inl, add-zero}
+use Rattle.std.proofs.Common.{◌≡◌, ℕ, ◌+◌, ◌*◌, ◌<◌, ◌≤◌, Some, List, [], ◌∷◌, ◌++◌, length, true, refl, arith, sym, ◌∙◌, ap, ap₂, inl, add-zero}
 use Rattle.std.specs.Prelude.{slice_index, slice_set, slice_get}
 use Rattle.std.proofs.lemmas.Option.{slice_get_within}
 use Rattle.machine_words.specs.declared.machine.Machine.TheVariants.{Mic2}
