@@ -90,7 +90,7 @@ Within n i = instruction_size i ≤ n
 
 alone_size : (instr : Instr) (ts : List Token) → Begins (kinds.Alone instr) [] ts → instr_size instr ≤ tokens_size ts + 1
 alone_size instr ts b =
-    let a = (word_bytes b.text (kinds.Alone instr) b.of_kind).1 in
+    let a : instr_size instr ≡ 1 = (word_bytes b.text (kinds.Alone instr) b.of_kind).1 in
     omega (arith, a)
 
 push_size : (value : Option ℤ) (ts : List Token) (i : Instruction) → Begins kinds.Push (tokens.Number value ∷ []) ts → ranges.push value ≡ Ok i → Within (tokens_size ts + 1) i

@@ -1,6 +1,6 @@
 -- How many bytes tokens have at least, and the words that begin instructions among them.
-use Rattle.std.proofs.Common.{◌≡◌, ◌==◌, ℕ, ◌+◌, ◌≤◌, Bool, true, Option, Some, None, List, [], ◌∷◌, ◌++◌, codes, inl, inr, length, refl, ap, subst, sym, ◌∙◌, arith, length-append}
-use Rattle.std.specs.Prelude.{◌&&◌, nat_le}
+use Rattle.std.proofs.Common.{◌≡◌, ℕ, ◌+◌, ◌≤◌, true, Option, List, [], ◌∷◌, ◌++◌, codes, inl, inr, length, refl, ap, sym, ◌∙◌, arith, length-append}
+use Rattle.std.specs.Prelude.{nat_le, option_map, unwrap_or}
 use Rattle.std.specs.Char.{to_ascii_lowercase}
 use Rattle.std.proofs.lemmas.List.{length-map}
 use Rattle.std.proofs.lemmas.Bool.Decides.{nat_tests}
@@ -65,22 +65,29 @@ kind_least _ = 2
 same_length : (word text : List ℕ) → IsSpelled word text → length word ≡ length text
 same_length word text e = sym (length-map word to_ascii_lowercase) ∙ (ap length e ∙ length-map text to_ascii_lowercase)
 
--- so many bytes are enough for a word of this kind, and an instruction without operands is one byte
-abbrev has_least : Option Kind → ℕ → Bool
-has_least None n = true
-has_least (Some kind) n = nat_le (kind_least kind) n && (kind_size kind == 1)
+-- the fewest bytes of a mnemonic, and the bytes of the instruction that stands alone there
+abbrev least_in : Option Kind → ℕ
+least_in kind = unwrap_or (option_map kind_least kind) 0
 
-mnemonic_least : (i : Instr) → has_least (kind_of i) (length (name_of i)) ≡ true
-mnemonic_least instrs.Nop = refl
-mnemonic_least _ = refl
+abbrev size_in : Option Kind → ℕ
+size_in kind = unwrap_or (option_map kind_size kind) 1
+
+mnemonic_bytes : (i : Instr) → (nat_le (least_in (kind_of i)) (length (name_of i)) ≡ true) × (size_in (kind_of i) ≡ 1)
+mnemonic_bytes instrs.Nop = (refl, refl)
+mnemonic_bytes _ = (refl, refl)
 
 -- a word of this kind has at least these bytes, and an instruction without operands is one byte
 pub word_bytes : (text : List ℕ) (kind : Kind) → IsOfKind text kind → (kind_least kind ≤ length text) × (kind_size kind ≡ 1)
-word_bytes text kind (inl (spelled, e)) = let same = same_length (codes "WIDE") text spelled in rw e (omega (arith, same), refl)
+word_bytes text kind (inl (spelled, e)) =
+    let a = same_length (codes "WIDE") text spelled in
+    let g : kind_least kind ≡ 2 = ap kind_least e in
+    (omega (arith, a, g), ap kind_size e)
 word_bytes text kind (inr (i, spelled, e)) =
-    let same = same_length (name_of i) text spelled in
-    let h : has_least (Some kind) (length (name_of i)) ≡ true = subst (λ k. has_least k (length (name_of i)) ≡ true) e (mnemonic_least i) in
-    (grind (arith, nat_tests), grind (arith, nat_tests))
+    let a = same_length (name_of i) text spelled in
+    let c = (mnemonic_bytes i).0 in
+    let f : least_in (kind_of i) ≤ length (name_of i) = grind (arith, nat_tests) in
+    let g : least_in (kind_of i) ≡ kind_least kind = ap least_in e in
+    (omega (arith, a, f, g), sym (ap size_in e) ∙ (mnemonic_bytes i).1)
 
 name_size : (n : List ℕ) → length n ≤ token_size (tokens.Name n)
 name_size [] = omega arith
