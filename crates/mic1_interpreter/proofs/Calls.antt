@@ -8,7 +8,6 @@ use Rattle.console_port.specs.World.{World, Refusal, StackLimit, read_value, aft
 use Rattle.ijvm_instr.specs.declared.instr.Instr.{Instr}
 use Rattle.ijvm_instr.specs.declared.instr.Instr.TheVariants.{Ireturn, Invokevirtual}
 use Rattle.ijvm_image.specs.declared.method.Method.{Method}
-use Rattle.ijvm_image.specs.Image.{params, others}
 use Rattle.ijvm_run.specs.Frames.{Frame, State, base, kept_words}
 use Rattle.ijvm_run.specs.Cost.{cost}
 use Rattle.ijvm_run.specs.Step.{onto, called}
