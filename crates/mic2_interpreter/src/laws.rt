@@ -17,7 +17,6 @@ ghost use Rattle.ijvm_simulation.specs.Groups.{IsOfOperands, IsOfLocals, IsOfCon
 
 use crate::interpreter::Mic2Interpreter;
 use ijvm_simulation::{groups_are_all, stack_law, stalls_add_up};
-use mic2_datapath::Mic2;
 
 /// The instructions on the operands alone.
 pub(crate) fn operands_law()
@@ -75,7 +74,7 @@ pub fn stalls_law()
     jumps_law();
     calls_law();
     consoles_law();
-    groups_are_all::<Mic2>();
+    groups_are_all::<mic2_datapath::Mic2>();
 }
 
 /// So at each boundary of a run the clock has counted the stall of the boot and those of the calls, and no other.
