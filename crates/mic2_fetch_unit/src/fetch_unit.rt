@@ -99,7 +99,7 @@ impl FetchUnit {
 
     /// Whether more than two bytes stay behind an edge that takes so many. It samples nothing then.
     #[inline(always)]
-    pub fn is_full(&self, taken: u8) -> bool
+    fn is_full(&self, taken: u8) -> bool
         requires { taken ≤ length self.now.bytes }
         ensures more { result ≡ true → taken + 2 < length self.now.bytes }
         ensures samples { result ≡ true → sampled_at taken self.now ≡ None }
@@ -140,7 +140,7 @@ impl FetchUnit {
 
     /// The edge where it is not refused: so many bytes leave the queue, a pending word enters it, and where few bytes are there the word at this address is sampled.
     #[inline(always)]
-    pub fn go_on_from(&mut self, taken: u8, at: Option<u32>, bus: &Bus)
+    fn go_on(&mut self, taken: u8, at: Option<u32>, bus: &Bus)
         requires within { taken ≤ length self.old.bytes }
         requires at { at ≡ sampled_at taken self.old }
         requires allowed { sample_refusal (length bus.now.words) at ≡ None }
@@ -170,7 +170,7 @@ impl FetchUnit {
 
     /// The jump where it is not refused: the unit goes on at this byte address.
     #[tactic(auto, unfolding(crate::specs::FetchUnit::jump, console_port::specs::World::word_refusal))]
-    pub fn go_to(&mut self, pc: u32, bus: &Bus)
+    fn go_to(&mut self, pc: u32, bus: &Bus)
         requires { jump_refusal (length bus.now.words) pc ≡ None }
         ensures { self.new ≡ jump_of bus.now.words pc }
     {
@@ -192,7 +192,7 @@ impl FetchUnit {
         ensures stays { OnErr result (self.new ≡ self.old) }
     {
         check_sample(at, bus)?;
-        self.go_on_from(taken, at, bus);
+        self.go_on(taken, at, bus);
         Ok(())
     }
 

@@ -3,7 +3,7 @@ use Rattle.std.specs.Option.{option_map}
 use Rattle.machine_words.specs.Arithmetic.{wrap, next}
 use Rattle.mic2_fetch_unit.specs.FetchUnit.{Prefetch, bytes_of_word}
 use Rattle.mic2_fetch_unit.proofs.Units.{edge_none, edge_some}
-use Rattle.mic2_fetch_unit.proofs.fetch_unit.FetchUnit.go_on_from.Goals as goal
+use Rattle.mic2_fetch_unit.proofs.fetch_unit.FetchUnit.go_on.Goals as goal
 
 pub returns-then-full : goal.returns-then-full
 returns-then-full c = c.take.ensures c.args.bus.now.words
