@@ -1,6 +1,8 @@
 -- How a command ends that had nothing of its file, or something.
 use Rattle.std.proofs.Common.{ℕ, List}
-use Rattle.cli_outside.specs.Outside.{LentView, Over, OutsideView}
+use Rattle.cli_outside.specs.Status as exits
+use Rattle.cli_outside.specs.Messages.{out_of_memory}
+use Rattle.cli_outside.specs.Outside.{LentView, Over, OutsideView, Tells}
 use Rattle.cli_outside.specs.Work.{Did, Ends, IsHad, IsNotHad, IsRead, IsRefusal, IsUnread, NotHad, Refused, Short, TellsRefusal, Unread}
 use Rattle.cli_outside.specs.declared.refusal.Refusal.{Refusal}
 use Rattle.cli_outside.specs.declared.refusal.Refusal.TheVariants as refusals
@@ -18,6 +20,9 @@ module _ {Refuses : List ℕ → List ℕ → Type 0} {file : List ℕ} where
 
   pub unread : {old new : LentView} {status : ℕ} → Over (IsUnread file) old new status → Over (IsNotHad Refuses file) old new status
   unread over = record { names = over.names; does = Unread over.does }
+
+  pub short : {old new : LentView} {status : ℕ} → Over (Tells out_of_memory exits.memory) old new status → Over (IsNotHad Refuses file) old new status
+  short over = record { names = over.names; does = Short over.does }
 
   module _ {V : Type 0} {Is : List ℕ → V → Type 0} {Does : V → OutsideView → OutsideView → ℕ → Type 0} where
     pub not_had : {old new : LentView} {status : ℕ} → Over (IsNotHad Refuses file) old new status → Over (Ends Refuses Is Does file) old new status
