@@ -1,11 +1,17 @@
 -- How a command ends that had nothing of its file, or something.
-use Rattle.std.proofs.Common.{ℕ, List}
+use Rattle.std.proofs.Common.{◌≡◌, ℕ, List, Option, Some, None, refl}
 use Rattle.cli_outside.specs.Status as exits
 use Rattle.cli_outside.specs.Messages.{out_of_memory}
 use Rattle.cli_outside.specs.Outside.{LentView, Over, OutsideView, Tells}
-use Rattle.cli_outside.specs.Work.{Did, Ends, IsHad, IsNotHad, IsRead, IsRefusal, IsUnread, NotHad, Refused, Short, TellsRefusal, Unread}
+use Rattle.cli_outside.specs.Work.{Did, Ends, IsHad, IsNotHad, IsRead, IsRefusal, IsUnread, NotHad, Refused, Short, TellsRefusal, Unread, refusal_by}
 use Rattle.cli_outside.specs.declared.refusal.Refusal.{Refusal}
 use Rattle.cli_outside.specs.declared.refusal.Refusal.TheVariants as refusals
+
+-- each reason that a file of these bytes is refused for holds of them
+pub by_reason : (Refuses : List ℕ → List ℕ → Type 0) (bytes : List ℕ) (reason : Option (List ℕ)) →
+    ((text : List ℕ) → reason ≡ Some text → Refuses bytes text) → IsRefusal Refuses bytes (refusal_by reason)
+by_reason Refuses bytes None refuses = tt
+by_reason Refuses bytes (Some text) refuses = refuses text refl
 
 module _ {Refuses : List ℕ → List ℕ → Type 0} {file : List ℕ} where
   told : {bytes : List ℕ} (refusal : Refusal) {old new : OutsideView} {status : ℕ} → IsRead file bytes old → IsRefusal Refuses bytes refusal →

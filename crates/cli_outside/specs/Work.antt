@@ -1,5 +1,5 @@
 -- How a command ends that reads one file: nothing is had of the file, or this is done over what it holds.
-use Rattle.std.specs.Prelude.{◌≡◌, ◌<◌, ◌≤◌, ℕ, List, length, Option, None, MatchOption, IsSomeAnd}
+use Rattle.std.specs.Prelude.{◌≡◌, ◌<◌, ◌≤◌, ℕ, List, length, Option, None, Some, MatchOption, IsSomeAnd}
 use Rattle.mic_base.specs.Causes.{Rose}
 use Rattle.mic_base.specs.Files.{Contents, KeepsOthers, Tells as Contain, most_bytes}
 use Rattle.cli_outside.specs.Status as exits
@@ -31,6 +31,11 @@ pub data IsNotHad (Refuses : List ℕ → List ℕ → Type 0) (file : List ℕ)
   Refused : (bytes reason : List ℕ) → IsRead file bytes old → Refuses bytes reason → Tells (message file reason) exits.refused old new status →
       IsNotHad Refuses file old new status
   Short : Tells out_of_memory exits.memory old new status → IsNotHad Refuses file old new status
+
+-- for a reason, or for want of memory where there is none
+abbrev pub refusal_by : Option (List ℕ) → Refusal
+refusal_by None = refusals.OutOfMemory
+refusal_by (Some reason) = refusals.Refused reason
 
 -- what a refusal of a file of these bytes says of them; and what is told of it
 abbrev pub IsRefusal : (List ℕ → List ℕ → Type 0) → List ℕ → Refusal → Type 0
