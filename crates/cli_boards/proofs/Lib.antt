@@ -1,3 +1,4 @@
 pub mod Reporting
 pub mod Micros
 pub mod Parts
+pub mod Ending

@@ -1,11 +1,14 @@
 -- Why there is no microprogram, and where one begins.
-use Rattle.std.proofs.Common.{◌≡◌, ◌<◌, ◌≤◌, ◌∙◌, ℕ, List, [], ◌∷◌, ◌++◌, length, take, get_or, Some, false, refl, ap, subst, arith, inl, inr}
+use Rattle.std.proofs.Common.{◌≡◌, ◌<◌, ◌≤◌, ◌∙◌, ℕ, List, [], ◌∷◌, ◌++◌, length, take, get_or, Some, false, refl, sym, ap, subst, arith, inl, inr}
 use Rattle.machine_words.specs.declared.machine.Machine.{Machine}
 use Rattle.machine_words.specs.declared.machine.Machine.TheVariants.{Mic1, Mic2}
 use Rattle.watched_run.specs.declared.cycle.Cycle.{Cycle}
 use Rattle.watched_run.specs.Watched.{PrintsOf}
 use Rattle.cli_profile.specs.Profile.{Profile, Silent, counted}
+use Rattle.cli_outside.specs.declared.refusal.Refusal.{Refusal}
 use Rattle.cli_outside.specs.Outside.{Got, GotFront}
+use Rattle.cli_outside.specs.Work.{IsRefusal, refusal_by}
+use Rattle.cli_micro.specs.Answers.{IsRefusedText, NoProgram}
 use Rattle.shipped_program.specs.Listing.{program1, program2, listed_program}
 use Rattle.std.proofs.Math.Seq.{take-nil}
 use Rattle.std.proofs.lemmas.Bool.{cases_lt}
@@ -15,7 +18,7 @@ use Rattle.mal_parser.specs.declared.error.MalError.{MalError}
 use Rattle.mal_parser.specs.declared.error.MalError.TheVariants as mal
 use Rattle.mal_parser.specs.declared.statement.Statement.{Statement}
 use Rattle.mal_parser.specs.Program.{Program}
-use Rattle.mal_parser.specs.Text.{is_memory}
+use Rattle.mal_parser.specs.Text.{IsRefused, is_memory}
 use Rattle.store_placement.specs.declared.refusal.PlaceError.{PlaceError}
 use Rattle.store_placement.specs.declared.refusal.PlaceError.TheVariants as place
 use Rattle.store_placement.specs.Demands.{Demands}
@@ -28,7 +31,7 @@ use Rattle.shipped_program.specs.Loaded.{IsLoaded}
 use Rattle.cli_micro.specs.Reasons.{mal_reason, NamesStatements}
 
 -- what has a reason is a refusal
-pub is_refusal : (e : MalError) (reason : List ℕ) → Some reason ≡ mal_reason e → is_memory e ≡ false
+is_refusal : (e : MalError) (reason : List ℕ) → Some reason ≡ mal_reason e → is_memory e ≡ false
 is_refusal (mal.BadToken line) reason h = refl
 is_refusal (mal.BadStatement line) reason h = refl
 is_refusal (mal.WrongMachine line) reason h = refl
@@ -40,6 +43,15 @@ is_refusal (mal.UnknownLabel line) reason h = refl
 is_refusal (mal.LastFalls line) reason h = refl
 is_refusal mal.NoEntry reason h = refl
 is_refusal mal.OutOfMemory reason h = cc
+
+-- why a text is no microprogram
+pub no_program : (machine : Machine) (bytes : List ℕ) (e : MalError) (refusal : Refusal) → (is_memory e ≡ false → IsRefused machine bytes e) →
+    refusal ≡ refusal_by (mal_reason e) → IsRefusal (IsRefusedText machine) bytes refusal
+no_program machine bytes e refusal refused is = subst (IsRefusal (IsRefusedText machine) bytes) (sym is) (by (mal_reason e) refl)
+  where
+    by : (reason : Option (List ℕ)) → mal_reason e ≡ reason → IsRefusal (IsRefusedText machine) bytes (refusal_by reason)
+    by None h = tt
+    by (Some reason) h = NoProgram e (refused (is_refusal e reason (sym h))) h
 
 -- each statement has its demand
 length_fixed : (program : Program) → length (demands_of program).fixed ≡ length program.statements

@@ -4,15 +4,16 @@
 mod choice;
 mod commands;
 mod microprogram;
+mod preparing;
 mod profile;
 mod report;
 mod reset;
 mod run;
 mod trace;
 
-pub use choice::chosen_microprogram;
 pub use commands::{profile_file, run_own_file, trace_file};
-pub use microprogram::{Microprogram, NoMicroprogram, placed_microprogram, shipped_microprogram};
+pub use microprogram::{Microprogram, placed_microprogram, shipped_microprogram};
+pub use preparing::{Prepared, prepare};
 pub use profile::profile_program;
 pub use reset::reset_board;
 pub use run::run_program;

@@ -4,11 +4,12 @@ ghost use Rattle.std.specs.Prelude.{◌≡◌, ◌<◌, ◌^◌, length, IfOk, I
 ghost use Rattle.mal_parser.specs.Text.{SpellsProgram};
 ghost use Rattle.shipped_program.specs.Loaded.{IsLoaded};
 ghost use Rattle.shipped_program.specs.Listing.{listed_program};
-ghost use Rattle.cli_boards.specs.Own.{IsNoMicroprogram};
+ghost use Rattle.cli_outside.specs.Work.{IsRefusal};
+ghost use Rattle.cli_micro.specs.Answers.{IsRefusedText};
 
 use cli_micro::{mal_reason, place_reason};
+use cli_outside::Refusal;
 use mal_parser::{MalProgram, parse_mal};
-use mic_base::Line;
 use micro_word::Machine;
 use shipped_program::{Loaded, load_micro, shipped_program, shipped_programs_are_listed};
 use std::alloc::{AllocError, Global};
@@ -21,37 +22,24 @@ pub struct Microprogram {
     ghost is_loaded: { IsLoaded program loaded },
 }
 
-/// Why a text is no microprogram.
-#[derive(Drop)]
-pub enum NoMicroprogram {
-    /// It is refused: what follows the file's name in the message.
-    Refused(Line),
-    OutOfMemory,
-}
-
 /// The microprogram that a text spells, at its chosen placement.
 pub fn placed_microprogram(
     alloc: Global,
     machine: Machine,
     bytes: &[u8],
-) -> Result<Microprogram, NoMicroprogram>
+) -> Result<Microprogram, Refusal>
     requires { length bytes.now < 2 ^ 32 }
     ensures ok { IfOk result (λ micro. SpellsProgram machine bytes.now micro.program) }
     ensures machine { IfOk result (λ micro. micro.program.machine ≡ machine) }
-    ensures err { IfErr result (IsNoMicroprogram machine bytes.now) }
+    ensures err { IfErr result (IsRefusal (IsRefusedText machine) bytes.now) }
 {
     let program = match parse_mal(alloc, machine, bytes) {
         Ok(program) => program,
-        Err(error) => {
-            return match mal_reason(error) {
-                Ok(reason) => Err(NoMicroprogram::Refused(reason)),
-                Err(_) => Err(NoMicroprogram::OutOfMemory),
-            };
-        }
+        Err(error) => return Err(Refusal::by(mal_reason(error))),
     };
     match load_micro(&program) {
         Ok(loaded) => Ok(Microprogram { program, loaded }),
-        Err(error) => Err(NoMicroprogram::Refused(place_reason(&program, error))),
+        Err(error) => Err(Refusal::Refused(place_reason(&program, error))),
     }
 }
 

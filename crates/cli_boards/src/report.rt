@@ -5,7 +5,7 @@ ghost use Rattle.mic_base.specs.Causes.{HasCause};
 ghost use Rattle.mic_base.specs.Streams.{Puts};
 ghost use Rattle.cli_outside.specs.Outside.{Says, SinkState, sink_of};
 ghost use Rattle.cli_run_texts.specs.Ends.{status_of};
-ghost use Rattle.cli_boards.specs.Traced.{report_on};
+ghost use Rattle.cli_boards.specs.Runs.{report_on};
 
 use cli_outside::{Status, say};
 use cli_run_texts::{clocked_report, status_of};

@@ -1,5 +1,5 @@
 -- What a failing sink leaves of a line, as the definition has it.
-use Rattle.std.proofs.Common.{◌≡◌, ◌≢◌, inl, inr, ◌∙◌, ℕ, zero, suc, ◌≤◌, Bool, true, false, List, [], ◌++◌, length, take, min, if◌then◌else◌, Option, Some, None, IsSome, Result, Ok, Err, refl, sym, ap, subst, append_assoc, arith}
+use Rattle.std.proofs.Common.{◌≡◌, ◌≢◌, ◌⊎◌, inl, inr, ◌∙◌, ℕ, zero, suc, ◌≤◌, Bool, true, false, List, [], ◌++◌, length, take, min, if◌then◌else◌, Option, Some, None, IsSome, Result, Ok, Err, refl, sym, ap, subst, append_assoc, arith}
 use Rattle.std.specs.Prelude.{OnErr, nat_le}
 use Rattle.std.specs.Option.{option_map}
 use Rattle.std.proofs.lemmas.Bool.{cases_lt}
@@ -18,9 +18,11 @@ use Rattle.mic_debugger.specs.Clocking.{IsDone, IsGoing, after, printed, turn_li
 use Rattle.mic_debugger.specs.Obeys.{IsBrokenIn, IsSaidInPart, plan_in}
 use Rattle.mic_debugger.specs.Session.{HasReadCause, IsFrontOf}
 use Rattle.mic_debugger.specs.View.{SessionView}
-use Rattle.cli_outside.specs.Outside.{GotFront}
+use Rattle.mic_base.specs.Causes.{Rose}
+use Rattle.mic_base.specs.Streams.{Holds}
+use Rattle.cli_outside.specs.Outside.{GotFront, OutsideView}
 use Rattle.cli_debug.specs.Stand.{Begins, Carries, IsBrokenOff, OnlyGives, Shows, Stand, StandsAt, plan_at, shown_at}
-use Rattle.cli_debug.specs.Goes.{BreaksOff}
+use Rattle.cli_debug.specs.Goes.{BreaksOff, IsCutShort, Place, place}
 use Rattle.cli_debug.proofs.Standing.{leads_on, no_rise, same_plan, shown_same}
 
 -- ---- fronts
@@ -205,13 +207,22 @@ module _ {M State : Type 0} (state : M → State) (m : Meaning State) (book : Bo
   left_by plans.Nothing part = stayed plans.Nothing part
   left_by plans.Quit part = stayed plans.Quit part
 
-pub breaks_by : {M State T E : Type 0} (state : M → State) (m : Meaning State) (left left' : List ℕ) (held held' said said' : Option (List ℕ)) (v v' : SessionView M) (line : List ℕ) (r : Result T E) →
+pub breaks_by : {M State T E : Type 0} {state : M → State} {m : Meaning State} {left left' : List ℕ} {o o' : OutsideView} {v v' : SessionView M} (line : List ℕ) (r : Result T E) →
     OnErr r ((v.board.end ≡ None → v'.board.end ≢ Some ends.ReadFault) → (book : Book) → IsBook v.listing.program v.listing.placement v.listing.image book →
-    IsBrokenIn state m book (Some left) held said v (Some left') held' said' v'.board (plan_in v line)) →
-    (v.board.end ≡ None → HasReadCause 0 0 v'.board.end) → OnErr r (BreaksOff state m line (Some left) held said v held' said')
-breaks_by state m left left' held held' said said' v v' line (Ok reply) broken input = tt
-breaks_by state m left left' held held' said said' v v' line (Err e) broken input =
+    IsBrokenIn state m book (Some left) o.out.held o.err.held v (Some left') o'.out.held o'.err.held v'.board (plan_in v line)) →
+    (v.board.end ≡ None → HasReadCause 0 0 v'.board.end) → OnErr r (BreaksOff state m line (place v left o) o')
+breaks_by line (Ok reply) broken input = tt
+breaks_by {state = state} {m = m} {left = left} {left' = left'} {o = o} {o' = o'} {v = v} {v' = v'} line (Err e) broken input =
     λ book is_book s here.
-    let at = left_by state m book left left' held held' said said' v v'.board s here (plan_in v line) (broken (λ none read. no_rise ((input none).rose read)) book is_book) in
-    broken_off m book v.board.store.words v.listing.memory v.bound s line held' said said' at.0 at.1
-    (subst (λ (p : Plan). Begins m book v.board.store.words v.listing.memory v.bound p s at.0 at.1) (same_plan state m book left left' held held' v v'.board [] s here line) at.2) at.3 at.4
+    let at = left_by state m book left left' o.out.held o'.out.held o.err.held o'.err.held v v'.board s here (plan_in v line) (broken (λ none read. no_rise ((input none).rose read)) book is_book) in
+    broken_off m book v.board.store.words v.listing.memory v.bound s line o'.out.held o.err.held o'.err.held at.0 at.1
+    (subst (λ (p : Plan). Begins m book v.board.store.words v.listing.memory v.bound p s at.0 at.1) (same_plan state m book left left' o.out.held o'.out.held v v'.board [] s here line) at.2) at.3 at.4
+
+-- so it is cut short
+pub cut_by : {M State T E : Type 0} {state : M → State} {m : Meaning State} {old : Place M} {new : OutsideView} (line : List ℕ) (r : Result T E) →
+    OnErr r (BreaksOff state m line old new) → ((front : List ℕ) → Holds front old.seen.out.held → Holds front new.out.held) →
+    ((front : List ℕ) → Holds front old.seen.err.held → Holds front new.err.held) → new.files ≡ old.seen.files →
+    OnErr r (Rose old.seen.out.faults new.out.faults ⊎ Rose old.seen.err.faults new.err.faults) → OnErr r (IsCutShort state m line old new)
+cut_by line (Ok reply) breaks keeps_out keeps_err files rose = tt
+cut_by line (Err e) breaks keeps_out keeps_err files rose =
+    record { breaks = breaks; keeps_out = keeps_out; keeps_err = keeps_err; files = files; rose = rose }

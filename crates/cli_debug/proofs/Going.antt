@@ -4,7 +4,6 @@ use Rattle.std.specs.Prelude.{if◌then◌else◌, IfSome, Ok}
 use Rattle.std.specs.Option.{option_map}
 use Rattle.std.proofs.lemmas.List.{append-nil}
 use Rattle.mic_base.specs.Causes.{Rose}
-use Rattle.mic_base.specs.Streams.{Holds}
 use Rattle.micro_word.specs.ControlStore.{ControlStore}
 use Rattle.mic_clock.specs.Meaning.{Meaning}
 use Rattle.mic_debugger.specs.Book.{Book, IsBook}
@@ -17,7 +16,7 @@ use Rattle.cli_debug.specs.declared.lines.Step.{Step}
 use Rattle.cli_debug.specs.declared.lines.Step.TheVariants as steps
 use Rattle.cli_debug.specs.Told.{IsCut, IsFirst, ReadsOf, behind_line, line_in}
 use Rattle.cli_debug.specs.Stand.{DoesAll, Stand, StandsAt, is_quit, lines_of}
-use Rattle.cli_debug.specs.Goes.{BreaksOff, ConsoleFailed, Goes, Gone, On, Over, Place, SinkFailed, step_behind}
+use Rattle.cli_debug.specs.Goes.{ConsoleFailed, Goes, Gone, IsCutShort, On, Over, Place, SinkFailed, step_behind}
 
 -- ---- what is printed
 
@@ -53,9 +52,9 @@ pub told_as : (left : Option (List ℕ)) (P Q : List ℕ → Type 0) → IfSome 
 told_as None P Q p f = tt
 told_as (Some bytes) P Q p f = f bytes p
 
-module _ {M State : Type 0} (state : M → State) (m : Meaning State) where
-  -- ---- how they lead a session on
+-- ---- how they lead a session on
 
+module _ {State : Type 0} (m : Meaning State) where
   does_more : (book : Book) (words : List ℕ) (memory bound : ℕ) (lines more : List (List ℕ)) (s t u : Stand State) (a b : List ℕ) →
       DoesAll m book words memory bound lines s a t → DoesAll m book words memory bound more t b u → DoesAll m book words memory bound (lines ++ more) s (a ++ b) u
   does_more book words memory bound [] more s t u a b first rest =
@@ -70,19 +69,20 @@ module _ {M State : Type 0} (state : M → State) (m : Meaning State) where
     ap (λ (x : List ℕ). x ++ b) first.5 ∙ append_assoc first.0 first.1 b,
   )
 
+module _ {M State : Type 0} {state : M → State} {m : Meaning State} where
   -- before the first line
-  pub gone_none : (old new : Place M) → new.session ≡ old.session → new.input ≡ old.input → new.out ≡ old.out → new.err ≡ old.err →
-      old.session.board.bus.console.kept ≡ [] → Gone state m [] old new
-  gone_none old new session input out err kept =
+  pub gone_none : {old new : Place M} → new.session ≡ old.session → new.input ≡ old.input → new.seen.files ≡ old.seen.files → new.seen.out ≡ old.seen.out →
+      new.seen.err ≡ old.seen.err → old.session.board.bus.console.kept ≡ [] → Gone state m [] old new
+  gone_none {old = old} {new = new} session input files out err kept =
       record {
         led = λ book is_book. (
           [],
-          subst (λ (e : SinkState). Prints old.err.held [] e.held) (sym err) (prints_none old.err.held),
+          subst (λ (e : SinkState). Prints old.seen.err.held [] e.held) (sym err) (prints_none old.seen.err.held),
           λ s here. (
             s,
             (refl, refl),
-            subst (λ (v : SessionView M). StandsAt state (Some new.input) new.out.held v s) (sym session)
-                (subst (λ (l : List ℕ). StandsAt state (Some l) new.out.held old.session s) (sym input)
+            subst (λ (v : SessionView M). StandsAt state (Some new.input) new.seen.out.held v s) (sym session)
+                (subst (λ (l : List ℕ). StandsAt state (Some l) new.seen.out.held old.session s) (sym input)
                 (subst (λ (o : SinkState). StandsAt state (Some old.input) o.held old.session s) (sym out) here)),
           ),
         );
@@ -90,6 +90,7 @@ module _ {M State : Type 0} (state : M → State) (m : Meaning State) where
         bound = ap (λ (v : SessionView M). v.bound) session;
         store = ap (λ (v : SessionView M). v.board.store) session;
         kept = ap (λ (v : SessionView M). v.board.bus.console.kept) session ∙ kept;
+        files = files;
         out = ap (λ (o : SinkState). o.faults) out;
         err = ap (λ (e : SinkState). e.faults) err;
       }
@@ -101,12 +102,12 @@ module _ {M State : Type 0} (state : M → State) (m : Meaning State) where
             let one = first.led book is_book in
             let two = rest.led book (subst (λ (l : ListingView). IsBook l.program l.placement l.image book) (sym first.listing) is_book) in (
               one.0 ++ two.0,
-              prints_more old.err.held mid.err.held new.err.held one.0 two.0 one.1 two.1,
+              prints_more old.seen.err.held mid.seen.err.held new.seen.err.held one.0 two.0 one.1 two.1,
               λ s here.
                   let near = one.2 s here in
                   let far = two.2 near.0 near.2 in (
                     far.0,
-                    does_more book old.session.board.store.words old.session.listing.memory old.session.bound lines more s near.0 far.0 one.0 two.0 near.1
+                    does_more m book old.session.board.store.words old.session.listing.memory old.session.bound lines more s near.0 far.0 one.0 two.0 near.1
                         (subst (λ (w : ControlStore). DoesAll m book w.words old.session.listing.memory old.session.bound more near.0 two.0 far.0) first.store
                         (subst (λ (l : ListingView). DoesAll m book mid.session.board.store.words l.memory old.session.bound more near.0 two.0 far.0) first.listing
                         (subst (λ (b : ℕ). DoesAll m book mid.session.board.store.words mid.session.listing.memory b more near.0 two.0 far.0) first.bound far.1))),
@@ -117,44 +118,45 @@ module _ {M State : Type 0} (state : M → State) (m : Meaning State) where
         bound = rest.bound ∙ first.bound;
         store = rest.store ∙ first.store;
         kept = rest.kept;
+        files = rest.files ∙ first.files;
         out = rest.out ∙ first.out;
         err = rest.err ∙ first.err;
       }
 
   -- ---- how it goes on
 
-  pub goes_start : (most : ℕ) (p : Place M) → p.session.board.bus.console.kept ≡ [] → Goes state m most most p p steps.On
-  goes_start most p kept = On [] (gone_none p p refl refl refl refl kept) refl (here p.console.left)
+  pub goes_start : (most : ℕ) {p : Place M} → p.session.board.bus.console.kept ≡ [] → Goes state m most most p p steps.On
+  goes_start most {p = p} kept = On [] (gone_none refl refl refl refl refl kept) refl (here p.seen.console.left)
     where
       here : (left : Option (List ℕ)) → IfSome left (λ bytes. (rest : List ℕ) × (left ≡ Some rest) × (lines_of p.session.listing.memory most bytes ≡ [] ++ lines_of p.session.listing.memory most rest))
       here None = tt
       here (Some bytes) = (bytes, refl, refl)
 
-  go_on : (most n : ℕ) (old mid new : Place M) (step : Step) (lines : List (List ℕ)) → Gone state m lines old mid → mid.console.faults ≡ old.console.faults →
-      IfSome old.console.left (λ bytes. (rest : List ℕ) × (mid.console.left ≡ Some rest)
+  go_on : (most n : ℕ) (old mid new : Place M) (step : Step) (lines : List (List ℕ)) → Gone state m lines old mid → mid.seen.console.faults ≡ old.seen.console.faults →
+      IfSome old.seen.console.left (λ bytes. (rest : List ℕ) × (mid.seen.console.left ≡ Some rest)
       × (lines_of old.session.listing.memory most bytes ≡ lines ++ lines_of old.session.listing.memory (suc n) rest)) →
       Goes state m (suc n) n mid new step → Goes state m most n old new step
-  go_on most n old mid new step lines gone quiet told (On more gone' quiet' told') =
+  go_on most n old mid new step lines done quiet told (On more done' quiet' told') =
       let memory = old.session.listing.memory in
-      let same : mid.session.listing.memory ≡ memory = ap (λ (l : ListingView). l.memory) gone.listing in
-      On (lines ++ more) (gone_more lines more old mid new gone gone') (quiet' ∙ quiet)
-      (then_told old.console.left mid.console.left (λ bytes rest. lines_of memory most bytes ≡ lines ++ lines_of memory (suc n) rest) _ _ told told'
+      let same : mid.session.listing.memory ≡ memory = ap (λ (l : ListingView). l.memory) done.listing in
+      On (lines ++ more) (gone_more lines more old mid new done done') (quiet' ∙ quiet)
+      (then_told old.seen.console.left mid.seen.console.left (λ bytes rest. lines_of memory most bytes ≡ lines ++ lines_of memory (suc n) rest) _ _ told told'
       (λ bytes rest e q. (
         q.0,
         q.1,
         e ∙ ap (λ (x : List (List ℕ)). lines ++ x) (subst (λ (k : ℕ). lines_of k (suc n) rest ≡ more ++ lines_of k n q.0) same q.2) ∙ sym (append_assoc lines more (lines_of memory n q.0)),
       )))
-  go_on most n old mid new step lines gone quiet told (Over more gone' quiet' told') =
+  go_on most n old mid new step lines done quiet told (Over more done' quiet' told') =
       let memory = old.session.listing.memory in
-      let same : mid.session.listing.memory ≡ memory = ap (λ (l : ListingView). l.memory) gone.listing in
-      Over (lines ++ more) (gone_more lines more old mid new gone gone') (quiet' ∙ quiet)
-      (then_told old.console.left mid.console.left (λ bytes rest. lines_of memory most bytes ≡ lines ++ lines_of memory (suc n) rest) _ _ told told'
+      let same : mid.session.listing.memory ≡ memory = ap (λ (l : ListingView). l.memory) done.listing in
+      Over (lines ++ more) (gone_more lines more old mid new done done') (quiet' ∙ quiet)
+      (then_told old.seen.console.left mid.seen.console.left (λ bytes rest. lines_of memory most bytes ≡ lines ++ lines_of memory (suc n) rest) _ _ told told'
       (λ bytes rest e q. ap (λ (x : List (List ℕ)). lines ++ x) (subst (λ (k : ℕ). more ≡ lines_of k (suc n) rest) same q) ∙ sym e))
-  go_on most n old mid new step lines gone quiet told (ConsoleFailed more gone' rose told') =
+  go_on most n old mid new step lines done quiet told (ConsoleFailed more done' rose told') =
       let memory = old.session.listing.memory in
-      let same : mid.session.listing.memory ≡ memory = ap (λ (l : ListingView). l.memory) gone.listing in
-      ConsoleFailed (lines ++ more) (gone_more lines more old mid new gone gone') (subst (λ (k : ℕ). Rose k new.console.faults) quiet rose)
-      (then_told old.console.left mid.console.left (λ bytes rest. lines_of memory most bytes ≡ lines ++ lines_of memory (suc n) rest) _ _ told told'
+      let same : mid.session.listing.memory ≡ memory = ap (λ (l : ListingView). l.memory) done.listing in
+      ConsoleFailed (lines ++ more) (gone_more lines more old mid new done done') (subst (λ (k : ℕ). Rose k new.seen.console.faults) quiet rose)
+      (then_told old.seen.console.left mid.seen.console.left (λ bytes rest. lines_of memory most bytes ≡ lines ++ lines_of memory (suc n) rest) _ _ told told'
       (λ bytes rest e q. record {
         before = q.before;
         cut = q.cut;
@@ -165,39 +167,39 @@ module _ {M State : Type 0} (state : M → State) (m : Meaning State) where
         whole = e ∙ ap (λ (x : List (List ℕ)). lines ++ x) (subst (λ (k : ℕ). lines_of k (suc n) rest ≡ more ++ lines_of k q.before (q.cut ++ q.rest)) same q.whole)
             ∙ sym (append_assoc lines more (lines_of memory q.before (q.cut ++ q.rest)));
       }))
-  go_on most n old mid new step lines gone quiet told (SinkFailed more line at gone' quiet' told' broken out err rose) =
+  go_on most n old mid new step lines done quiet told (SinkFailed more line at done' quiet' told' cut) =
       let memory = old.session.listing.memory in
-      let same : mid.session.listing.memory ≡ memory = ap (λ (l : ListingView). l.memory) gone.listing in
-      SinkFailed (lines ++ more) line at (gone_more lines more old mid at gone gone') (quiet' ∙ quiet)
-      (then_told old.console.left mid.console.left (λ bytes rest. lines_of memory most bytes ≡ lines ++ lines_of memory (suc n) rest) _ _ told told'
+      let same : mid.session.listing.memory ≡ memory = ap (λ (l : ListingView). l.memory) done.listing in
+      SinkFailed (lines ++ more) line at (gone_more lines more old mid at done done') (quiet' ∙ quiet)
+      (then_told old.seen.console.left mid.seen.console.left (λ bytes rest. lines_of memory most bytes ≡ lines ++ lines_of memory (suc n) rest) _ _ told told'
       (λ bytes rest e q. (
         q.0,
         e ∙ ap (λ (x : List (List ℕ)). lines ++ x) (subst (λ (k : ℕ). lines_of k (suc n) rest ≡ more ++ line ∷ q.0) same q.1) ∙ sym (append_assoc lines more (line ∷ q.0)),
       )))
-      broken out err (subst (λ (k : ℕ). Rose k new.out.faults ⊎ Rose old.err.faults new.err.faults) gone.out (subst (λ (k : ℕ). Rose mid.out.faults new.out.faults ⊎ Rose k new.err.faults) gone.err rose))
+      cut
 
   -- a line more
-  pub goes_more : (most n : ℕ) (old mid new : Place M) (before step : Step) → before ≡ steps.On → Goes state m most (suc n) old mid before →
+  pub goes_more : (most n : ℕ) {old mid new : Place M} (before step : Step) → before ≡ steps.On → Goes state m most (suc n) old mid before →
       Goes state m (suc n) n mid new step → Goes state m most n old new step
-  goes_more most n old mid new before step e (On lines gone quiet told) next = go_on most n old mid new step lines gone quiet told next
-  goes_more most n old mid new before step e (Over lines gone quiet told) next = absurd (cc)
-  goes_more most n old mid new before step e (ConsoleFailed lines gone rose told) next = absurd (cc)
-  goes_more most n old mid new before step e (SinkFailed lines line at gone quiet told broken out err rose) next = absurd (cc)
+  goes_more most n {old = old} {mid = mid} {new = new} before step e (On lines done quiet told) next = go_on most n old mid new step lines done quiet told next
+  goes_more most n {old = old} {mid = mid} {new = new} before step e (Over lines done quiet told) next = absurd (cc)
+  goes_more most n {old = old} {mid = mid} {new = new} before step e (ConsoleFailed lines done rose told) next = absurd (cc)
+  goes_more most n {old = old} {mid = mid} {new = new} before step e (SinkFailed lines line at done quiet told cut) next = absurd (cc)
 
   -- ---- one line
 
   -- the end is met at once
-  pub goes_nowhere : (n : ℕ) (old new : Place M) → Gone state m [] old new → new.console.faults ≡ old.console.faults →
-      IfSome old.console.left (λ told. told ≡ []) → Goes state m (suc n) n old new steps.Over
-  goes_nowhere n old new gone quiet told =
-      Over [] gone quiet (told_as old.console.left _ _ told (λ bytes e. ap (lines_of old.session.listing.memory (suc n)) (sym e)))
+  pub goes_nowhere : (n : ℕ) {old new : Place M} → Gone state m [] old new → new.seen.console.faults ≡ old.seen.console.faults →
+      IfSome old.seen.console.left (λ told. told ≡ []) → Goes state m (suc n) n old new steps.Over
+  goes_nowhere n {old = old} {new = new} done quiet told =
+      Over [] done quiet (told_as old.seen.console.left _ _ told (λ bytes e. ap (lines_of old.session.listing.memory (suc n)) (sym e)))
 
   -- the console fails
-  pub goes_cut : (n : ℕ) (old new : Place M) (line : List ℕ) → Gone state m [] old new → Rose old.console.faults new.console.faults →
-      IfSome old.console.left (λ told. IsCut told line new.console.left) → Goes state m (suc n) n old new steps.ConsoleFailed
-  goes_cut n old new line gone rose told =
-      ConsoleFailed [] gone rose
-      (told_as old.console.left _ _ told
+  pub goes_cut : (n : ℕ) {old new : Place M} (line : List ℕ) → Gone state m [] old new → Rose old.seen.console.faults new.seen.console.faults →
+      IfSome old.seen.console.left (λ told. IsCut told line new.seen.console.left) → Goes state m (suc n) n old new steps.ConsoleFailed
+  goes_cut n {old = old} {new = new} line done rose told =
+      ConsoleFailed [] done rose
+      (told_as old.seen.console.left _ _ told
       (λ bytes cut. record {
         before = suc n;
         cut = line;
@@ -209,72 +211,70 @@ module _ {M State : Type 0} (state : M → State) (m : Meaning State) where
       }))
 
   -- a sink fails
-  pub goes_wrong : (E : Type 0) (n : ℕ) (old mid new : Place M) (line : List ℕ) (read : Read) → read ≢ reads.Nothing → Gone state m [] old mid → new.console.faults ≡ old.console.faults →
-      IfSome old.console.left (λ told. ReadsOf {E = E} told line (Ok read) new.console.left) →
-      BreaksOff state m line (Some mid.input) mid.out.held mid.err.held mid.session new.out.held new.err.held →
-      ((front : List ℕ) → Holds front mid.out.held → Holds front new.out.held) → ((front : List ℕ) → Holds front mid.err.held → Holds front new.err.held) →
-      (Rose old.out.faults new.out.faults ⊎ Rose old.err.faults new.err.faults) → Goes state m (suc n) n old new steps.SinkFailed
-  goes_wrong E n old mid new line read other gone quiet told broken out err rose =
-      SinkFailed [] line mid gone quiet (told_as old.console.left _ _ told (λ bytes q. (_, by read other bytes q))) broken out err rose
+  pub goes_wrong : (E : Type 0) (n : ℕ) {old mid new : Place M} (line : List ℕ) (read : Read) → read ≢ reads.Nothing → Gone state m [] old mid →
+      new.seen.console.faults ≡ old.seen.console.faults → IfSome old.seen.console.left (λ told. ReadsOf {E = E} told line (Ok read) new.seen.console.left) →
+      IsCutShort state m line mid new.seen → Goes state m (suc n) n old new steps.SinkFailed
+  goes_wrong E n {old = old} {mid = mid} {new = new} line read other done quiet told cut =
+      SinkFailed [] line mid done quiet (told_as old.seen.console.left _ _ told (λ bytes q. (_, by read other bytes q))) cut
     where
-      first_is : (bytes : List ℕ) → IsFirst bytes line new.console.left →
+      first_is : (bytes : List ℕ) → IsFirst bytes line new.seen.console.left →
           lines_of old.session.listing.memory (suc n) bytes ≡ line ∷ (if is_quit old.session.listing.memory line then [] else lines_of old.session.listing.memory n (behind_line 256 bytes))
       first_is bytes first = lines_first old.session.listing.memory n bytes line first.some first.line_is
 
-      by : (one : Read) → one ≢ reads.Nothing → (bytes : List ℕ) → ReadsOf {E = E} bytes line (Ok one) new.console.left →
+      by : (one : Read) → one ≢ reads.Nothing → (bytes : List ℕ) → ReadsOf {E = E} bytes line (Ok one) new.seen.console.left →
           lines_of old.session.listing.memory (suc n) bytes ≡ line ∷ (if is_quit old.session.listing.memory line then [] else lines_of old.session.listing.memory n (behind_line 256 bytes))
       by reads.Line well bytes first = first_is bytes first
       by reads.Last well bytes first = first_is bytes first.0
       by reads.Nothing well bytes none = absurd (well refl)
 
   -- a line is done
-  pub goes_one : (E : Type 0) (n : ℕ) (old new : Place M) (line : List ℕ) (read : Read) (quits : Bool) → quits ≡ is_quit old.session.listing.memory line → read ≢ reads.Nothing →
-      Gone state m (line ∷ []) old new → new.console.faults ≡ old.console.faults →
-      IfSome old.console.left (λ told. ReadsOf {E = E} told line (Ok read) new.console.left) → Goes state m (suc n) n old new (step_behind read quits)
-  goes_one E n old new line reads.Line true is other gone quiet told =
-      Over (line ∷ []) gone quiet (told_as old.console.left _ _ told (λ bytes first. quits_at n bytes first))
+  pub goes_one : (E : Type 0) (n : ℕ) {old new : Place M} (line : List ℕ) (read : Read) (quits : Bool) → quits ≡ is_quit old.session.listing.memory line → read ≢ reads.Nothing →
+      Gone state m (line ∷ []) old new → new.seen.console.faults ≡ old.seen.console.faults →
+      IfSome old.seen.console.left (λ told. ReadsOf {E = E} told line (Ok read) new.seen.console.left) → Goes state m (suc n) n old new (step_behind read quits)
+  goes_one E n {old = old} {new = new} line reads.Line true is other done quiet told =
+      Over (line ∷ []) done quiet (told_as old.seen.console.left _ _ told (λ bytes first. quits_at n bytes first))
     where
-      quits_at : (k : ℕ) (bytes : List ℕ) → IsFirst bytes line new.console.left → line ∷ [] ≡ lines_of old.session.listing.memory (suc k) bytes
+      quits_at : (k : ℕ) (bytes : List ℕ) → IsFirst bytes line new.seen.console.left → line ∷ [] ≡ lines_of old.session.listing.memory (suc k) bytes
       quits_at k bytes first =
           sym (lines_first old.session.listing.memory k bytes line first.some first.line_is
           ∙ ap (λ (q : Bool). line ∷ (if q then [] else lines_of old.session.listing.memory k (behind_line 256 bytes))) (sym is))
-  goes_one E n old new line reads.Last true is other gone quiet told =
-      Over (line ∷ []) gone quiet
-      (told_as old.console.left _ _ told
+  goes_one E n {old = old} {new = new} line reads.Last true is other done quiet told =
+      Over (line ∷ []) done quiet
+      (told_as old.seen.console.left _ _ told
       (λ bytes first.
       sym (lines_first old.session.listing.memory n bytes line first.0.some first.0.line_is
       ∙ ap (λ (q : Bool). line ∷ (if q then [] else lines_of old.session.listing.memory n (behind_line 256 bytes))) (sym is))))
-  goes_one E n old new line reads.Line false is other gone quiet told =
-      On (line ∷ []) gone quiet
-      (told_as old.console.left _ _ told
+  goes_one E n {old = old} {new = new} line reads.Line false is other done quiet told =
+      On (line ∷ []) done quiet
+      (told_as old.seen.console.left _ _ told
       (λ bytes first. (
         behind_line 256 bytes,
         first.rest,
         lines_first old.session.listing.memory n bytes line first.some first.line_is
             ∙ ap (λ (q : Bool). line ∷ (if q then [] else lines_of old.session.listing.memory n (behind_line 256 bytes))) (sym is),
       )))
-  goes_one E n old new line reads.Last false is other gone quiet told =
-      Over (line ∷ []) gone quiet
-      (told_as old.console.left _ _ told
+  goes_one E n {old = old} {new = new} line reads.Last false is other done quiet told =
+      Over (line ∷ []) done quiet
+      (told_as old.seen.console.left _ _ told
       (λ bytes first.
       sym (lines_first old.session.listing.memory n bytes line first.0.some first.0.line_is
       ∙ ap (λ (q : Bool). line ∷ (if q then [] else lines_of old.session.listing.memory n (behind_line 256 bytes))) (sym is)
       ∙ ap (λ (r : List ℕ). line ∷ lines_of old.session.listing.memory n r) first.1
       ∙ ap (λ (x : List (List ℕ)). line ∷ x) (no_lines old.session.listing.memory n))))
-  goes_one E n old new line reads.Nothing quits is other gone quiet told = absurd (other refl)
+  goes_one E n {old = old} {new = new} line reads.Nothing quits is other done quiet told = absurd (other refl)
 
   -- ---- many lines
 
   -- nothing waits for `out` where a session goes on
   pub kept_on : (most n : ℕ) (old new : Place M) (step : Step) → step ≡ steps.On → Goes state m most n old new step → new.session.board.bus.console.kept ≡ []
-  kept_on most n old new step e (On lines gone quiet told) = gone.kept
-  kept_on most n old new step e (Over lines gone quiet told) = absurd (cc)
-  kept_on most n old new step e (ConsoleFailed lines gone rose told) = absurd (cc)
-  kept_on most n old new step e (SinkFailed lines line at gone quiet told broken out err rose) = absurd (cc)
+  kept_on most n old new step e (On lines done quiet told) = done.kept
+  kept_on most n old new step e (Over lines done quiet told) = absurd (cc)
+  kept_on most n old new step e (ConsoleFailed lines done rose told) = absurd (cc)
+  kept_on most n old new step e (SinkFailed lines line at done quiet told cut) = absurd (cc)
 
   -- where it does not, it does not matter how many lines might have followed
-  pub goes_over : (most n k : ℕ) (old new : Place M) (step : Step) → (step ≢ steps.On) → Goes state m most n old new step → Goes state m most k old new step
-  goes_over most n k old new step other (On lines gone quiet told) = absurd (other refl)
-  goes_over most n k old new step other (Over lines gone quiet told) = Over lines gone quiet told
-  goes_over most n k old new step other (ConsoleFailed lines gone rose told) = ConsoleFailed lines gone rose told
-  goes_over most n k old new step other (SinkFailed lines line at gone quiet told broken out err rose) = SinkFailed lines line at gone quiet told broken out err rose
+  pub goes_over : (most n k : ℕ) {old new : Place M} (step : Step) → (step ≢ steps.On) → Goes state m most n old new step → Goes state m most k old new step
+  goes_over most n k step other (On lines done quiet told) = absurd (other refl)
+  goes_over most n k step other (Over lines done quiet told) = Over lines done quiet told
+  goes_over most n k step other (ConsoleFailed lines done rose told) = ConsoleFailed lines done rose told
+  goes_over most n k step other (SinkFailed lines line at done quiet told cut) = SinkFailed lines line at done quiet told cut

@@ -1,7 +1,6 @@
 -- How debugging an accepted program ends: what the lines of the console print, and the report; or less, where a fault stopped it.
-use Rattle.std.specs.Prelude.{◌≡◌, ◌⊎◌, ℕ, List, [], ◌∷◌, ◌++◌, Some, None, IfSome}
+use Rattle.std.specs.Prelude.{◌≡◌, ℕ, List, [], ◌∷◌, ◌++◌, None, IfSome}
 use Rattle.mic_base.specs.Causes.{Rose}
-use Rattle.mic_base.specs.Streams.{Holds}
 use Rattle.mic_clock.specs.Meaning.{Meaning}
 use Rattle.ijvm_paths.specs.Accepted.{VerifiedView}
 use Rattle.mal_parser.specs.Program.{Program}
@@ -9,11 +8,11 @@ use Rattle.shipped_program.specs.declared.loaded.Loaded.{Loaded}
 use Rattle.mic_debugger.specs.View.{SessionView}
 use Rattle.cli_outside.specs.Status as exits
 use Rattle.cli_outside.specs.Messages.{out_of_memory}
-use Rattle.cli_outside.specs.Outside.{Says, SinkState, SourceState}
+use Rattle.cli_outside.specs.Outside.{OutsideView, Tells}
 use Rattle.cli_run_texts.specs.Report.{left_report}
-use Rattle.cli_boards.specs.Traced.{IsFirst}
+use Rattle.cli_boards.specs.Runs.{IsFirst}
 use Rattle.cli_debug.specs.Stand.{lines_of, most_lines}
-use Rattle.cli_debug.specs.Goes.{BreaksOff, Gone, IsCutIn, Place, place}
+use Rattle.cli_debug.specs.Goes.{Gone, IsCutIn, IsCutShort, Place, place}
 
 -- what a session has before its first line
 pub record IsBegun {M : Type 0} (micro : Program) (l : Loaded) (program : VerifiedView) (bound : ℕ) (v : SessionView M) : Type 0 where
@@ -31,31 +30,27 @@ module _ {M State : Type 0} (state : M → State) (m : Meaning State) where
   report_in v = left_report v.board.end v.board.counts (m.registers (state v.board.machine))
 
   -- a session over an accepted program at its reset, before its first line
-  pub record IsStart (micro : Program) (l : Loaded) (program : VerifiedView) (bound : ℕ) (v : SessionView M) : Type 0 where
+  pub record IsStart (bound : ℕ) (micro : Program) (l : Loaded) (program : VerifiedView) (v : SessionView M) : Type 0 where
     pub reset : IsFirst state m micro l program v.board
     pub begun : IsBegun micro l program bound v
 
-  pub data IsDebugged (micro : Program) (program : VerifiedView) (bound : ℕ) (input : List ℕ)
-      (console console' : SourceState) (out out' err err' : SinkState) (status : ℕ) : Type 0 where
+  pub data IsDebugged (bound : ℕ) (micro : Program) (program : VerifiedView) (input : List ℕ) (old new : OutsideView) (status : ℕ) : Type 0 where
     -- memory was wanting before the first line
-    NoRoom : console' ≡ console → out' ≡ out → Says err err' out_of_memory exits.memory status → IsDebugged micro program bound input console console' out out' err err' status
+    NoRoom : Tells out_of_memory exits.memory old new status → IsDebugged bound micro program input old new status
     -- the lines of the console were done, and then it was reported where the session stands
     Left : (l : Loaded) (first : SessionView M) (lines : List (List ℕ)) (last : Place M) →
-        IsStart micro l program bound first → Gone state m lines (place first console input out err) last →
-        IfSome console.left (λ bytes. lines ≡ lines_of program.map.stack_end most_lines bytes) →
-        console' ≡ last.console → console'.faults ≡ console.faults → out' ≡ last.out → Says last.err err' (report_in last.session) exits.done status →
-        IsDebugged micro program bound input console console' out out' err err' status
+        IsStart bound micro l program first → Gone state m lines (place first input old) last →
+        IfSome old.console.left (λ bytes. lines ≡ lines_of program.map.stack_end most_lines bytes) → new.console.faults ≡ old.console.faults →
+        Tells (report_in last.session) exits.done last.seen new status → IsDebugged bound micro program input old new status
     -- the console failed: so it was reported behind the whole lines before that
     Cut : (l : Loaded) (first : SessionView M) (lines : List (List ℕ)) (last : Place M) →
-        IsStart micro l program bound first → Gone state m lines (place first console input out err) last →
-        IfSome console.left (λ bytes. IsCutIn program.map.stack_end most_lines bytes lines console'.left) →
-        console' ≡ last.console → Rose console.faults console'.faults → out' ≡ last.out → Says last.err err' (report_in last.session) exits.console status →
-        IsDebugged micro program bound input console console' out out' err err' status
-    -- `out` or `err` failed in the line behind these: both hold all that they held before it, and then fronts of what that line gives and prints
+        IsStart bound micro l program first → Gone state m lines (place first input old) last →
+        IfSome old.console.left (λ bytes. IsCutIn program.map.stack_end most_lines bytes lines new.console.left) →
+        Rose old.console.faults new.console.faults →
+        Tells (report_in last.session) exits.console last.seen new status → IsDebugged bound micro program input old new status
+    -- `out` or `err` failed in the line behind these
     Stopped : (l : Loaded) (first : SessionView M) (lines : List (List ℕ)) (line : List ℕ) (mid : Place M) →
-        IsStart micro l program bound first → Gone state m lines (place first console input out err) mid →
-        IfSome console.left (λ bytes. (behind : List (List ℕ)) × (lines_of program.map.stack_end most_lines bytes ≡ lines ++ line ∷ behind)) →
-        BreaksOff state m line (Some mid.input) mid.out.held mid.err.held mid.session out'.held err'.held →
-        ((front : List ℕ) → Holds front mid.out.held → Holds front out'.held) → ((front : List ℕ) → Holds front mid.err.held → Holds front err'.held) →
-        console'.faults ≡ console.faults → (Rose out.faults out'.faults ⊎ Rose err.faults err'.faults) → status ≡ exits.sink →
-        IsDebugged micro program bound input console console' out out' err err' status
+        IsStart bound micro l program first → Gone state m lines (place first input old) mid →
+        IfSome old.console.left (λ bytes. (behind : List (List ℕ)) × (lines_of program.map.stack_end most_lines bytes ≡ lines ++ line ∷ behind)) →
+        IsCutShort state m line mid new → new.console.faults ≡ old.console.faults → status ≡ exits.sink →
+        IsDebugged bound micro program input old new status

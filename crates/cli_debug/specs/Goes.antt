@@ -8,7 +8,7 @@ use Rattle.mic_debugger.specs.declared.reply.Reply.TheVariants as replies
 use Rattle.mic_debugger.specs.Book.{Book, IsBook}
 use Rattle.mic_debugger.specs.Session.{Prints}
 use Rattle.mic_debugger.specs.View.{SessionView}
-use Rattle.cli_outside.specs.Outside.{SinkState, SourceState}
+use Rattle.cli_outside.specs.Outside.{OutsideView}
 use Rattle.cli_debug.specs.declared.line.Read.{Read}
 use Rattle.cli_debug.specs.declared.line.Read.TheVariants as reads
 use Rattle.cli_debug.specs.declared.lines.Step.{Step}
@@ -16,17 +16,14 @@ use Rattle.cli_debug.specs.declared.lines.Step.TheVariants as steps
 use Rattle.cli_debug.specs.Told.{line_in}
 use Rattle.cli_debug.specs.Stand.{DoesAll, IsBrokenOff, Stand, StandsAt, lines_of}
 
--- a session, and what it stands between
+-- a session, and what it stands between: what the input has left, and what is seen of the outside
 pub record Place (M : Type 0) : Type 0 where
   pub session : SessionView M
-  pub console : SourceState
-  -- what the input has left
   pub input : List ℕ
-  pub out : SinkState
-  pub err : SinkState
+  pub seen : OutsideView
 
-abbrev pub place : {M : Type 0} → SessionView M → SourceState → List ℕ → SinkState → SinkState → Place M
-place session console input out err = record { session = session; console = console; input = input; out = out; err = err }
+abbrev pub place : {M : Type 0} → SessionView M → List ℕ → OutsideView → Place M
+place session input seen = record { session = session; input = input; seen = seen }
 
 abbrev pub is_quit_reply : Reply → Bool
 is_quit_reply replies.Quit = true
@@ -54,41 +51,51 @@ pub record IsCutIn (memory most : ℕ) (bytes : List ℕ) (lines : List (List �
 
 module _ {M State : Type 0} (state : M → State) (m : Meaning State) where
   -- these lines lead a session on, and print what `err` has got
-  abbrev pub LeadsOver : List (List ℕ) → Option (List ℕ) → Option (List ℕ) → Option (List ℕ) → SessionView M → Option (List ℕ) → Option (List ℕ) → Option (List ℕ) → SessionView M → Type 0
-  LeadsOver lines left held said v left' held' said' v' =
-      (book : Book) → IsBook v.listing.program v.listing.placement v.listing.image book →
-      (text : List ℕ) × Prints said text said' ×
-      ((s : Stand State) → StandsAt state left held v s →
-      (s' : Stand State) × DoesAll m book v.board.store.words v.listing.memory v.bound lines s text s' × StandsAt state left' held' v' s')
+  abbrev pub LeadsOver : List (List ℕ) → Place M → Place M → Type 0
+  LeadsOver lines old new =
+      (book : Book) → IsBook old.session.listing.program old.session.listing.placement old.session.listing.image book →
+      (text : List ℕ) × Prints old.seen.err.held text new.seen.err.held ×
+      ((s : Stand State) → StandsAt state (Some old.input) old.seen.out.held old.session s →
+      (s' : Stand State) × DoesAll m book old.session.board.store.words old.session.listing.memory old.session.bound lines s text s'
+      × StandsAt state (Some new.input) new.seen.out.held new.session s')
 
   -- a failing sink breaks a line off: so it does for each run that the session shows
-  abbrev pub BreaksOff : List ℕ → Option (List ℕ) → Option (List ℕ) → Option (List ℕ) → SessionView M → Option (List ℕ) → Option (List ℕ) → Type 0
-  BreaksOff line left held said v held' said' =
-      (book : Book) → IsBook v.listing.program v.listing.placement v.listing.image book →
-      (s : Stand State) → StandsAt state left held v s → IsBrokenOff m book v.board.store.words v.listing.memory v.bound line s held' said said'
+  abbrev pub BreaksOff : List ℕ → Place M → OutsideView → Type 0
+  BreaksOff line old new =
+      (book : Book) → IsBook old.session.listing.program old.session.listing.placement old.session.listing.image book →
+      (s : Stand State) → StandsAt state (Some old.input) old.seen.out.held old.session s →
+      IsBrokenOff m book old.session.board.store.words old.session.listing.memory old.session.bound line s new.out.held old.seen.err.held new.err.held
 
   -- these lines were done whole: no sink failed, and nothing waits for `out`
   pub record Gone (lines : List (List ℕ)) (old new : Place M) : Type 0 where
-    pub led : LeadsOver lines (Some old.input) old.out.held old.err.held old.session (Some new.input) new.out.held new.err.held new.session
+    pub led : LeadsOver lines old new
     pub listing : new.session.listing ≡ old.session.listing
     pub bound : new.session.bound ≡ old.session.bound
     pub store : new.session.board.store ≡ old.session.board.store
     pub kept : new.session.board.bus.console.kept ≡ []
-    pub out : new.out.faults ≡ old.out.faults
-    pub err : new.err.faults ≡ old.err.faults
+    pub files : new.seen.files ≡ old.seen.files
+    pub out : new.seen.out.faults ≡ old.seen.out.faults
+    pub err : new.seen.err.faults ≡ old.seen.err.faults
+
+  -- `out` or `err` failed in this line: both hold all that they held before it, and then fronts of what it gives and prints
+  pub record IsCutShort (line : List ℕ) (old : Place M) (new : OutsideView) : Type 0 where
+    pub breaks : BreaksOff line old new
+    pub keeps_out : (front : List ℕ) → Holds front old.seen.out.held → Holds front new.out.held
+    pub keeps_err : (front : List ℕ) → Holds front old.seen.err.held → Holds front new.err.held
+    pub files : new.files ≡ old.seen.files
+    pub rose : Rose old.seen.out.faults new.out.faults ⊎ Rose old.seen.err.faults new.err.faults
 
   -- the lines that a place is gone to by, of at most `most`, where at most `more` may follow
   pub data Goes (most more : ℕ) (old new : Place M) : Step → Type 0 where
-    On : (lines : List (List ℕ)) → Gone lines old new → new.console.faults ≡ old.console.faults →
-        IfSome old.console.left (λ bytes. (rest : List ℕ) × (new.console.left ≡ Some rest)
+    On : (lines : List (List ℕ)) → Gone lines old new → new.seen.console.faults ≡ old.seen.console.faults →
+        IfSome old.seen.console.left (λ bytes. (rest : List ℕ) × (new.seen.console.left ≡ Some rest)
         × (lines_of old.session.listing.memory most bytes ≡ lines ++ lines_of old.session.listing.memory more rest)) → Goes most more old new steps.On
-    Over : (lines : List (List ℕ)) → Gone lines old new → new.console.faults ≡ old.console.faults →
-        IfSome old.console.left (λ bytes. lines ≡ lines_of old.session.listing.memory most bytes) → Goes most more old new steps.Over
-    ConsoleFailed : (lines : List (List ℕ)) → Gone lines old new → Rose old.console.faults new.console.faults →
-        IfSome old.console.left (λ bytes. IsCutIn old.session.listing.memory most bytes lines new.console.left) → Goes most more old new steps.ConsoleFailed
+    Over : (lines : List (List ℕ)) → Gone lines old new → new.seen.console.faults ≡ old.seen.console.faults →
+        IfSome old.seen.console.left (λ bytes. lines ≡ lines_of old.session.listing.memory most bytes) → Goes most more old new steps.Over
+    ConsoleFailed : (lines : List (List ℕ)) → Gone lines old new → Rose old.seen.console.faults new.seen.console.faults →
+        IfSome old.seen.console.left (λ bytes. IsCutIn old.session.listing.memory most bytes lines new.seen.console.left) →
+        Goes most more old new steps.ConsoleFailed
     -- in the line behind these
-    SinkFailed : (lines : List (List ℕ)) (line : List ℕ) (mid : Place M) → Gone lines old mid → new.console.faults ≡ old.console.faults →
-        IfSome old.console.left (λ bytes. (behind : List (List ℕ)) × (lines_of old.session.listing.memory most bytes ≡ lines ++ line ∷ behind)) →
-        BreaksOff line (Some mid.input) mid.out.held mid.err.held mid.session new.out.held new.err.held →
-        ((front : List ℕ) → Holds front mid.out.held → Holds front new.out.held) → ((front : List ℕ) → Holds front mid.err.held → Holds front new.err.held) →
-        (Rose old.out.faults new.out.faults ⊎ Rose old.err.faults new.err.faults) → Goes most more old new steps.SinkFailed
+    SinkFailed : (lines : List (List ℕ)) (line : List ℕ) (mid : Place M) → Gone lines old mid → new.seen.console.faults ≡ old.seen.console.faults →
+        IfSome old.seen.console.left (λ bytes. (behind : List (List ℕ)) × (lines_of old.session.listing.memory most bytes ≡ lines ++ line ∷ behind)) →
+        IsCutShort line mid new.seen → Goes most more old new steps.SinkFailed

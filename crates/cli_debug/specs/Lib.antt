@@ -2,4 +2,4 @@ pub mod Told
 pub mod Stand
 pub mod Goes
 pub mod Debugged
-pub mod Over
+pub mod Input

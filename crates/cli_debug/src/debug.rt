@@ -1,39 +1,32 @@
 //! A session over an accepted program.
 
-ghost use Rattle.std.specs.Prelude.{◌≡◌, ◌≤◌, ◌^◌};
-ghost use Rattle.cli_outside.specs.Outside.{Says, sink_of, source_of};
+ghost use Rattle.std.specs.Prelude.{◌≡◌, ◌≤◌, ◌^◌, IfOk};
+ghost use Rattle.cli_outside.specs.Outside.{Over, Tells};
 ghost use Rattle.cli_run_texts.specs.Report.{left_report};
-ghost use Rattle.cli_debug.specs.Debugged.{IsDebugged};
+ghost use Rattle.cli_debug.specs.Debugged.{IsDebugged, IsStart};
 
 use crate::lines::{Step, do_lines};
-use cli_boards::{Microprogram, reset_board};
-use cli_outside::{Status, no_memory, say};
+use cli_boards::{Microprogram, Prepared, reset_board};
+use cli_outside::{Outside, Status};
 use cli_run_texts::left_report;
-use ijvm_verifier::VerifiedImage;
-use mic_base::{PlainSource, Sink, Source};
+use mic_base::{Files, PlainSource, Sink, Source};
 use mic_clock::{Board, Clocked};
 use mic_debugger::Session;
 use shipped_program::Loaded;
-use std::alloc::Global;
+use std::alloc::{AllocError, Global};
 
-/// Debugs an accepted program with a microprogram: the lines come from the console, the program's input is given whole. Then it is reported where the run stands.
-pub fn debug_program<M: Clocked + Drop, S: Source, K: Sink, E: Sink>(
+/// A session over an accepted program at its reset.
+fn begun<M: Clocked + Drop>(
     alloc: Global,
     machine: M,
-    micro: Microprogram,
-    program: VerifiedImage,
+    prepared: Prepared,
     bound: u64,
-    input: Vec<u8>,
-    console: &mut S,
-    out: &mut K,
-    err: &mut E,
-) -> Status
-    requires machine { micro.program.machine ≡ M.meaning.machine }
+) -> Result<Session<M>, AllocError>
+    requires machine { prepared.micro.program.machine ≡ M.meaning.machine }
     requires bound { bound ≤ 2 ^ 62 }
-    ensures { IsDebugged M.state M.meaning micro.program program bound input.items (source_of S.left S.faults console.old) (source_of S.left S.faults console.new)
-        (sink_of K.held K.passed K.faults out.old) (sink_of K.held K.passed K.faults out.new)
-        (sink_of E.held E.passed E.faults err.old) (sink_of E.held E.passed E.faults err.new) result.0 }
+    ensures { IfOk result (IsStart M.state M.meaning bound prepared.micro.program prepared.micro.loaded prepared.program) }
 {
+    let Prepared { program, micro } = prepared;
     let Microprogram {
         program: listing,
         loaded,
@@ -43,25 +36,45 @@ pub fn debug_program<M: Clocked + Drop, S: Source, K: Sink, E: Sink>(
         placement,
         entry,
     } = loaded;
-    let board = match reset_board(alloc, machine, store, entry, &program) {
-        Ok(board) => board,
-        Err(_) => return no_memory(err),
+    let board = reset_board(alloc, machine, store, entry, &program)?;
+    Ok(Session::new(board, listing, placement, program, bound))
+}
+
+/// Debugs an accepted program with a microprogram: the lines come from the console, the program's input is given whole. Then it is reported where the run stands.
+pub fn debug_program<M: Clocked + Drop, F: Files, S: Source, K: Sink, E: Sink>(
+    alloc: Global,
+    machine: M,
+    prepared: Prepared,
+    bound: u64,
+    input: Vec<u8>,
+    outside: &mut Outside<'_, F, S, K, E>,
+) -> Status
+    requires machine { prepared.micro.program.machine ≡ M.meaning.machine }
+    requires bound { bound ≤ 2 ^ 62 }
+    ensures { Over (IsDebugged M.state M.meaning bound prepared.micro.program prepared.program input.items) outside.old outside.new result.0 }
+{
+    let mut session = match begun(alloc, machine, prepared, bound) {
+        Ok(session) => session,
+        Err(_) => return outside.no_memory(),
     };
-    let mut session = Session::new(board, listing, placement, program, bound);
     let mut input = PlainSource::new(input);
-    match do_lines(&mut session, console, &mut input, out, err) {
+    match do_lines(&mut session, &mut input, outside) {
         Step::SinkFailed => Status::SINK,
-        Step::ConsoleFailed => report(session.board(), err, Status::CONSOLE),
-        _ => report(session.board(), err, Status::DONE),
+        Step::ConsoleFailed => report(session.board(), outside, Status::CONSOLE),
+        _ => report(session.board(), outside, Status::DONE),
     }
 }
 
 /// Reports where the run of a board that is left stands.
-fn report<M: Clocked, E: Sink>(board: &Board<M>, err: &mut E, status: Status) -> Status
-    ensures { Says (sink_of E.held E.passed E.faults err.old) (sink_of E.held E.passed E.faults err.new)
-        (left_report board.now.end board.now.counts (M.meaning.registers (M.state board.now.machine))) status.0 result.0 }
+fn report<M: Clocked, F: Files, S: Source, K: Sink, E: Sink>(
+    board: &Board<M>,
+    outside: &mut Outside<'_, F, S, K, E>,
+    status: Status,
+) -> Status
+    ensures { Over (Tells (left_report board.now.end board.now.counts (M.meaning.registers (M.state board.now.machine))) status.0)
+        outside.old outside.new result.0 }
 {
     let _next = board.mpc();
     let line = left_report(board.ended(), &board.counts(), &board.registers());
-    say(err, line.bytes(), status)
+    outside.tell(line.bytes(), status)
 }

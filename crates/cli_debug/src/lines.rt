@@ -1,16 +1,14 @@
 //! The lines of a session, one after the other.
 
-ghost use Rattle.std.specs.Prelude.{◌≡◌, ◌⊎◌, ◌∷◌, ℕ, suc, List, [], Some, IfOk, OnOk, OnErr};
-ghost use Rattle.mic_base.specs.Causes.{HasCause, Rose};
+ghost use Rattle.std.specs.Prelude.{◌≡◌, ◌∷◌, ℕ, suc, [], IfOk, OnOk, OnErr};
 ghost use Rattle.mic_base.specs.Plain.{plain_left};
-ghost use Rattle.mic_base.specs.Streams.{Holds};
 ghost use Rattle.cli_debug.specs.Stand.{is_quit, most_lines};
-ghost use Rattle.cli_debug.specs.Goes.{BreaksOff, Goes, LeadsOver, is_quit_reply, place, step_behind};
-ghost use Rattle.cli_outside.specs.Outside.{sink_of, source_of};
+ghost use Rattle.cli_debug.specs.Goes.{Goes, Gone, IsCutShort, is_quit_reply, place, step_behind};
 
 use crate::line::{Read, read_line};
 use arrayvec::ArrayVec;
-use mic_base::{PlainSource, Sink, Source};
+use cli_outside::Outside;
+use mic_base::{Files, PlainSource, Sink, Source};
 use mic_clock::Clocked;
 use mic_debugger::{Reply, Session, SessionFault};
 
@@ -40,72 +38,62 @@ fn step_behind(read: Read, reply: Reply) -> Step
 }
 
 /// Does a line.
-fn answer_line<M: Clocked, K: Sink, E: Sink>(
+fn answer_line<M: Clocked, F: Files, S: Source, K: Sink, E: Sink>(
     session: &mut Session<M>,
     line: &[u8],
     input: &mut PlainSource,
-    out: &mut K,
-    err: &mut E,
+    outside: &mut Outside<'_, F, S, K, E>,
 ) -> Result<Reply, SessionFault>
     ensures quits { IfOk result (λ reply. is_quit_reply reply ≡ is_quit session.old.listing.memory line.now) }
-    ensures led { OnOk result (LeadsOver M.state M.meaning (line.now ∷ []) (Some (plain_left input.old)) (K.held out.old) (E.held err.old) session.old
-        (Some (plain_left input.new)) (K.held out.new) (E.held err.new) session.new) }
-    ensures broken { OnErr result (BreaksOff M.state M.meaning line.now (Some (plain_left input.old)) (K.held out.old) (E.held err.old) session.old
-        (K.held out.new) (E.held err.new)) }
-    ensures kept { OnOk result (session.new.board.bus.console.kept ≡ []) }
-    ensures same { (session.new.listing ≡ session.old.listing) × (session.new.bound ≡ session.old.bound) × (session.new.board.store ≡ session.old.board.store) }
-    ensures keeps_out { (front : List ℕ) → Holds front (K.held out.old) → Holds front (K.held out.new) }
-    ensures keeps_err { (front : List ℕ) → Holds front (E.held err.old) → Holds front (E.held err.new) }
-    ensures quiet { OnOk result ((K.faults out.new ≡ K.faults out.old) × (E.faults err.new ≡ E.faults err.old)) }
-    ensures rose { OnErr result (Rose (K.faults out.old) (K.faults out.new) ⊎ Rose (E.faults err.old) (E.faults err.new)) }
+    ensures done { OnOk result (Gone M.state M.meaning (line.now ∷ []) (place session.old (plain_left input.old) outside.old.seen)
+        (place session.new (plain_left input.new) outside.new.seen)) }
+    ensures broken { OnErr result (IsCutShort M.state M.meaning line.now (place session.old (plain_left input.old) outside.old.seen) outside.new.seen) }
+    ensures console { outside.new.seen.console ≡ outside.old.seen.console }
+    ensures names { outside.new.names ≡ outside.old.names }
 {
-    session.command(line, input, out, err)
+    session.command(line, input, outside.out, outside.err)
 }
 
 /// Reads a line and does it.
-fn do_line<M: Clocked, S: Source, K: Sink, E: Sink>(
+fn do_line<M: Clocked, F: Files, S: Source, K: Sink, E: Sink>(
     session: &mut Session<M>,
-    console: &mut S,
     input: &mut PlainSource,
-    out: &mut K,
-    err: &mut E,
+    outside: &mut Outside<'_, F, S, K, E>,
 ) -> Step
     requires { session.old.board.bus.console.kept ≡ [] }
-    ensures { (n : ℕ) → Goes M.state M.meaning (suc n) n
-        (place session.old (source_of S.left S.faults console.old) (plain_left input.old) (sink_of K.held K.passed K.faults out.old) (sink_of E.held E.passed E.faults err.old))
-        (place session.new (source_of S.left S.faults console.new) (plain_left input.new) (sink_of K.held K.passed K.faults out.new) (sink_of E.held E.passed E.faults err.new)) result }
+    ensures goes { (n : ℕ) → Goes M.state M.meaning (suc n) n (place session.old (plain_left input.old) outside.old.seen)
+        (place session.new (plain_left input.new) outside.new.seen) result }
+    ensures names { outside.new.names ≡ outside.old.names }
 {
     let mut line = ArrayVec::new();
-    let read = match read_line(console, &mut line) {
+    let read = match read_line(outside.console, &mut line) {
         Ok(read) => read,
         Err(_) => return Step::ConsoleFailed,
     };
     if read == Read::Nothing {
         return Step::Over;
     }
-    match answer_line(session, line.as_slice(), input, out, err) {
+    match answer_line(session, line.as_slice(), input, outside) {
         Ok(reply) => step_behind(read, reply),
         Err(_) => Step::SinkFailed,
     }
 }
 
 /// Does the lines of the console until the session is left.
-pub(crate) fn do_lines<M: Clocked, S: Source, K: Sink, E: Sink>(
+pub(crate) fn do_lines<M: Clocked, F: Files, S: Source, K: Sink, E: Sink>(
     session: &mut Session<M>,
-    console: &mut S,
     input: &mut PlainSource,
-    out: &mut K,
-    err: &mut E,
+    outside: &mut Outside<'_, F, S, K, E>,
 ) -> Step
     requires { session.old.board.bus.console.kept ≡ [] }
-    ensures { Goes M.state M.meaning most_lines 0
-        (place session.old (source_of S.left S.faults console.old) (plain_left input.old) (sink_of K.held K.passed K.faults out.old) (sink_of E.held E.passed E.faults err.old))
-        (place session.new (source_of S.left S.faults console.new) (plain_left input.new) (sink_of K.held K.passed K.faults out.new) (sink_of E.held E.passed E.faults err.new)) result }
+    ensures goes { Goes M.state M.meaning most_lines 0 (place session.old (plain_left input.old) outside.old.seen)
+        (place session.new (plain_left input.new) outside.new.seen) result }
+    ensures names { outside.new.names ≡ outside.old.names }
 {
     let mut step = Step::On;
     let mut left = MOST_LINES;
     'lines: while left > 0 && step == Step::On {
-        step = do_line(session, console, input, out, err);
+        step = do_line(session, input, outside);
         left -= 1;
     }
     step

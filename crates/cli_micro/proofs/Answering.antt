@@ -1,25 +1,27 @@
 -- What a command answers, from what the layers below it say.
-use Rattle.std.proofs.Common.{◌≡◌, ℕ, List, Option, Some, None, Result, Ok, Err, false, IsSome, IfOk, refl, sym, subst, length, arith}
+use Rattle.std.proofs.Common.{◌≡◌, ◌⊎◌, ℕ, List, Option, Some, None, false, IsSome, refl, sym, subst, length, arith}
 use Rattle.std.proofs.lemmas.List.{length-map}
 use Rattle.machine_words.specs.declared.machine.Machine.{Machine}
-use Rattle.cli_outside.specs.declared.answer.Answer.{Answer}
-use Rattle.cli_outside.specs.Outside.{Desk, FilesState, SinkState, desk}
-use Rattle.cli_outside.specs.Work.{answered, Answered, Did, Ends, IsCarriedOut, IsRead, Writes}
+use Rattle.cli_outside.specs.declared.refusal.Refusal.{Refusal}
+use Rattle.cli_outside.specs.Work.{IsRefusal, refusal_by}
+use Rattle.cli_outside.proofs.Ending.{by_reason}
 use Rattle.mal_parser.specs.declared.error.MalError.{MalError}
 use Rattle.mal_parser.specs.declared.error.MalError.TheVariants as mal
 use Rattle.mal_parser.specs.declared.statement.Statement.{Statement}
 use Rattle.mal_parser.specs.Program.{Program}
-use Rattle.mal_parser.specs.Text.{is_memory}
+use Rattle.mal_parser.specs.Text.{is_memory, IsRefused}
 use Rattle.store_placement.specs.declared.refusal.PlaceError.{PlaceError}
 use Rattle.store_placement.specs.declared.refusal.PlaceError.TheVariants as place
 use Rattle.store_placement.specs.declared.store_error.StoreError.{StoreError}
+use Rattle.store_placement.specs.declared.store_error.StoreError.TheVariants as store
 use Rattle.store_placement.specs.Chosen.{IsChosenList}
 use Rattle.store_placement.specs.Demands.{Demands}
 use Rattle.store_placement.specs.Program.{demands_of}
 use Rattle.store_placement.specs.Refusals as placing
-use Rattle.store_placement.specs.StoreFile.{machine_of}
-use Rattle.cli_micro.specs.Answers.{OfStoreFile, OfText, PrintMicroAnswers, StoreFileAnswers, TextAnswers}
-use Rattle.cli_micro.specs.Reasons.{mal_reason, NamesStatements}
+use Rattle.store_placement.specs.StoreFile.{machine_of, RefusesFile}
+use Rattle.cli_micro.specs.Answers.{IsRefusedText, IsUnprinted, NoProgram, NoStore, NoText}
+use Rattle.cli_micro.specs.Reasons.{mal_reason, store_reason, NamesStatements}
+use Rattle.cli_micro.proofs.Stores.{refused_file}
 
 -- what has a reason is a refusal
 pub is_refusal : (e : MalError) (reason : List ℕ) → Some reason ≡ mal_reason e → is_memory e ≡ false
@@ -59,28 +61,26 @@ pub chosen_by : (program : Program) (constraints : Demands) (addresses : List �
     IsChosenList (demands_of program) addresses
 chosen_by program constraints addresses same h = let P : Demands → Type 0 = λ d. IsChosenList d addresses in subst P same h
 
-pub writes_same : (target bytes file text printed : List ℕ) → bytes ≡ file → text ≡ printed → Writes target bytes text ≡ Writes target file printed
-writes_same target bytes file text printed same alike = cc
-
-known : (o : Option Machine) (machine : Machine) → Some machine ≡ o → IsSome o
+pub known : (o : Option Machine) (machine : Machine) → Some machine ≡ o → IsSome o
 known (Some other) machine h = refl
 known None machine h = cc
 
-pub of_store_file : {E : Type 0} (machine own : Machine) (bytes : List ℕ) (result : Result Answer E) → Some own ≡ machine_of bytes →
-    IfOk result (λ answer. StoreFileAnswers bytes (answered answer)) → IfOk result (λ answer. PrintMicroAnswers machine bytes (answered answer))
-of_store_file machine own bytes (Ok answer) is h = OfStoreFile (known (machine_of bytes) own is) h
-of_store_file machine own bytes (Err e) is h = tt
+-- why a text is no microprogram
+pub no_program : (machine : Machine) (bytes : List ℕ) (e : MalError) (refusal : Refusal) → (is_memory e ≡ false → IsRefused machine bytes e) →
+    refusal ≡ refusal_by (mal_reason e) → IsRefusal (IsRefusedText machine) bytes refusal
+no_program machine bytes e refusal refused is =
+    subst (IsRefusal (IsRefusedText machine) bytes) (sym is)
+    (by_reason (IsRefusedText machine) bytes (mal_reason e) (λ reason h. NoProgram e (refused (is_refusal e reason (sym h))) h))
 
-pub of_text : {E : Type 0} (machine : Machine) (bytes : List ℕ) (result : Result Answer E) → None ≡ machine_of bytes →
-    IfOk result (λ answer. TextAnswers machine bytes (answered answer)) → IfOk result (λ answer. PrintMicroAnswers machine bytes (answered answer))
-of_text machine bytes (Ok answer) is h = OfText (sym is) h
-of_text machine bytes (Err e) is h = tt
+-- why a file is not printed
+pub no_text : (machine : Machine) (bytes : List ℕ) (e : MalError) (refusal : Refusal) → machine_of bytes ≡ None → (is_memory e ≡ false → IsRefused machine bytes e) →
+    refusal ≡ refusal_by (mal_reason e) → IsRefusal (IsUnprinted machine) bytes refusal
+no_text machine bytes e refusal none refused is =
+    subst (IsRefusal (IsUnprinted machine) bytes) (sym is)
+    (by_reason (IsUnprinted machine) bytes (mal_reason e) (λ reason h. NoText e none (refused (is_refusal e reason (sym h))) h))
 
--- a file was read, which changed nothing, and what came of it was carried out
-pub did : (Comes : List ℕ → Answered → Type 0) (file bytes : List ℕ) (answer : Answered) (before after : FilesState) (out err silent : SinkState) (new : Desk)
-    (status : ℕ) → after ≡ before → silent ≡ err → IsRead file bytes before → Comes bytes answer →
-    IsCarriedOut file answer (desk after out silent) new status → Ends Comes file (desk before out err) new status
-did Comes file bytes answer before after out err silent new status same quiet read comes carried =
-    let P : FilesState → Type 0 = λ f. IsCarriedOut file answer (desk f out silent) new status in
-    let Q : SinkState → Type 0 = λ s. IsCarriedOut file answer (desk before out s) new status in
-    Did bytes answer read comes (subst Q quiet (subst P same carried))
+pub no_store : (machine : Machine) (bytes : List ℕ) (e : StoreError) (refusal : Refusal) → IsSome (machine_of bytes) → (e ≡ store.OutOfMemory) ⊎ RefusesFile bytes e →
+    refusal ≡ refusal_by (store_reason e) → IsRefusal (IsUnprinted machine) bytes refusal
+no_store machine bytes e refusal some cause is =
+    subst (IsRefusal (IsUnprinted machine) bytes) (sym is)
+    (by_reason (IsUnprinted machine) bytes (store_reason e) (λ reason h. NoStore e some (refused_file bytes e reason (sym h) cause) h))

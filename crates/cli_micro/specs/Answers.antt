@@ -1,8 +1,10 @@
--- What `micro` and `print-micro` come to over a file's bytes.
+-- How `micro` and `print-micro` end.
 use Rattle.std.specs.Prelude.{◌≡◌, ℕ, List, Some, None, IsSome}
 use Rattle.machine_words.specs.declared.machine.Machine.{Machine}
 use Rattle.micro_word.specs.ControlStore.{ControlStore, IsStore}
-use Rattle.cli_outside.specs.Work.{Answered, Prints, Writes, Refuses}
+use Rattle.cli_outside.specs.Status as exits
+use Rattle.cli_outside.specs.Outside.{OutsideView, Prints}
+use Rattle.cli_outside.specs.Work.{Ends, Writes}
 use Rattle.mal_parser.specs.declared.error.MalError.{MalError}
 use Rattle.mal_parser.specs.Program.{Program}
 use Rattle.mal_parser.specs.Text.{IsRefused, SpellsProgram}
@@ -22,31 +24,51 @@ pub record IsStoreOf (program : Program) (addresses : List ℕ) (s : ControlStor
   pub store : IsStore s
   pub filled : IsFilled program addresses s.words
 
--- `micro` on this machine, with the store file to be written: the text is refused, or the program that it spells is;
--- else the store of the chosen placement is written, and its text printed
-pub data MicroAnswers (machine : Machine) (target bytes : List ℕ) (answer : Answered) : Type 0 where
-  NoProgram : (e : MalError) (reason : List ℕ) → IsRefused machine bytes e → mal_reason e ≡ Some reason → answer ≡ Refuses reason →
-      MicroAnswers machine target bytes answer
+-- the text spells no microprogram, or one that has no placement, for this reason
+pub data IsRefusedText (machine : Machine) (bytes reason : List ℕ) : Type 0 where
+  NoProgram : (e : MalError) → IsRefused machine bytes e → mal_reason e ≡ Some reason → IsRefusedText machine bytes reason
   NoPlacement : (program : Program) (e : PlaceError) → SpellsProgram machine bytes program → placing.Refuses (demands_of program) e →
-      answer ≡ Refuses (place_reason program.statements e) → MicroAnswers machine target bytes answer
-  Placed : (program : Program) (addresses : List ℕ) (s : ControlStore) → SpellsProgram machine bytes program →
-      IsChosenList (demands_of program) addresses → IsStoreOf program addresses s →
-      answer ≡ Writes target (store_file s) (placement_text program addresses s) → MicroAnswers machine target bytes answer
+      reason ≡ place_reason program.statements e → IsRefusedText machine bytes reason
 
--- a store file is listed, or refused
-pub data StoreFileAnswers (bytes : List ℕ) (answer : Answered) : Type 0 where
-  Listed : (s : ControlStore) → IsStore s → bytes ≡ store_file s → answer ≡ Prints (listing s) → StoreFileAnswers bytes answer
-  NoStore : (e : StoreError) (reason : List ℕ) → RefusesFile bytes e → store_reason e ≡ Some reason → answer ≡ Refuses reason →
-      StoreFileAnswers bytes answer
+-- a microprogram, its addresses and its control store
+pub record Placed : Type 0 where
+  pub program : Program
+  pub addresses : List ℕ
+  pub store : ControlStore
 
--- the text of a microprogram is printed in canonical form, or refused
-pub data TextAnswers (machine : Machine) (bytes : List ℕ) (answer : Answered) : Type 0 where
-  Printed : (program : Program) → SpellsProgram machine bytes program → answer ≡ Prints (canonical_text program) → TextAnswers machine bytes answer
-  NoProgram : (e : MalError) (reason : List ℕ) → IsRefused machine bytes e → mal_reason e ≡ Some reason → answer ≡ Refuses reason →
-      TextAnswers machine bytes answer
+-- the text spells it, and it is at its chosen placement
+pub record IsPlaced (machine : Machine) (bytes : List ℕ) (p : Placed) : Type 0 where
+  pub spelled : SpellsProgram machine bytes p.program
+  pub chosen : IsChosenList (demands_of p.program) p.addresses
+  pub stored : IsStoreOf p.program p.addresses p.store
 
--- `print-micro`: a file that begins with the magic of a machine is a store file of that machine, and any other is the text of a
--- microprogram for this one
-pub data PrintMicroAnswers (machine : Machine) (bytes : List ℕ) (answer : Answered) : Type 0 where
-  OfStoreFile : IsSome (machine_of bytes) → StoreFileAnswers bytes answer → PrintMicroAnswers machine bytes answer
-  OfText : machine_of bytes ≡ None → TextAnswers machine bytes answer → PrintMicroAnswers machine bytes answer
+-- its store file, and what is printed of it
+pub record IsMadeOf (p : Placed) (file text : List ℕ) : Type 0 where
+  pub file_is : file ≡ store_file p.store
+  pub text_is : text ≡ placement_text p.program p.addresses p.store
+
+-- these are made of the text's microprogram
+pub record IsMade (machine : Machine) (bytes file text : List ℕ) : Type 0 where
+  pub placed : Placed
+  pub is : IsPlaced machine bytes placed
+  pub made : IsMadeOf placed file text
+
+-- `micro` on this machine: the store of the placed microprogram is written to the target, and then its text is printed
+abbrev pub MicroAnswers : Machine → List ℕ → List ℕ → OutsideView → OutsideView → ℕ → Type 0
+MicroAnswers machine target =
+    Ends (IsRefusedText machine) (IsPlaced machine) (λ p. Writes target (store_file p.store) (placement_text p.program p.addresses p.store))
+
+-- what is printed of a file. One that begins with the magic of a machine is a store file of that machine, which is listed; any other is the
+-- text of a microprogram for this one, which is printed in canonical form
+pub data IsPrinted (machine : Machine) (bytes text : List ℕ) : Type 0 where
+  OfStoreFile : (s : ControlStore) → IsSome (machine_of bytes) → IsStore s → bytes ≡ store_file s → text ≡ listing s → IsPrinted machine bytes text
+  OfText : (program : Program) → machine_of bytes ≡ None → SpellsProgram machine bytes program → text ≡ canonical_text program → IsPrinted machine bytes text
+
+-- it is neither, for this reason
+pub data IsUnprinted (machine : Machine) (bytes reason : List ℕ) : Type 0 where
+  NoStore : (e : StoreError) → IsSome (machine_of bytes) → RefusesFile bytes e → store_reason e ≡ Some reason → IsUnprinted machine bytes reason
+  NoText : (e : MalError) → machine_of bytes ≡ None → IsRefused machine bytes e → mal_reason e ≡ Some reason → IsUnprinted machine bytes reason
+
+-- `print-micro`
+abbrev pub PrintMicroAnswers : Machine → List ℕ → OutsideView → OutsideView → ℕ → Type 0
+PrintMicroAnswers machine = Ends (IsUnprinted machine) (IsPrinted machine) (λ text. Prints text exits.done)

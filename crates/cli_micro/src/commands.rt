@@ -1,74 +1,65 @@
 //! The commands, from the file that they read to their status.
 
-ghost use Rattle.std.specs.Prelude.{◌≡◌};
 ghost use Rattle.mal_parser.specs.ProgramText.{canonical_text};
 ghost use Rattle.shipped_program.specs.Listing.{listed_program};
 ghost use Rattle.cli_outside.specs.Status as exits;
-ghost use Rattle.cli_outside.specs.Outside.{Says, desk, files_of, sink_of};
-ghost use Rattle.cli_outside.specs.Work.{Ends};
+ghost use Rattle.cli_outside.specs.Outside.{Over, Prints};
 ghost use Rattle.cli_micro.specs.Answers.{MicroAnswers, PrintMicroAnswers};
 
-use crate::listing::printed_answer;
-use crate::placing::placed_answer;
-use cli_outside::{Status, carry_out, no_memory, read_named, say};
-use mic_base::{Files, Sink};
+use crate::listing::printed_text;
+use crate::placing::made_of;
+use cli_outside::{Outside, Status};
+use mic_base::{Files, Sink, Source};
 use micro_word::Machine;
 use shipped_program::{shipped_text, shipped_texts_are_canonical};
 use std::alloc::Global;
 
 /// Places the microprogram of a file, writes its store file, and then prints its addresses and words.
-pub fn micro<F: Files, K: Sink, E: Sink>(
+pub fn micro<F: Files, S: Source, K: Sink, E: Sink>(
     alloc: Global,
     mal: &str,
     store: &str,
     machine: Machine,
-    files: &mut F,
-    out: &mut K,
-    err: &mut E,
+    outside: &mut Outside<'_, F, S, K, E>,
 ) -> Status
-    ensures { Ends (MicroAnswers machine store.now) mal.now
-        (desk (files_of F.contents F.faults files.old) (sink_of K.held K.passed K.faults out.old) (sink_of E.held E.passed E.faults err.old))
-        (desk (files_of F.contents F.faults files.new) (sink_of K.held K.passed K.faults out.new) (sink_of E.held E.passed E.faults err.new))
-        result.0 }
+    ensures { Over (MicroAnswers machine store.now mal.now) outside.old outside.new result.0 }
 {
-    let bytes = match read_named(alloc, mal, files, err) {
+    let bytes = match outside.read(alloc, mal) {
         Ok(bytes) => bytes,
         Err(status) => return status,
     };
-    match placed_answer(alloc, machine, store, &bytes) {
-        Ok(answer) => carry_out(alloc, mal, answer, files, out, err),
-        Err(_) => no_memory(err),
+    match made_of(alloc, machine, &bytes) {
+        Ok(made) => outside.write(alloc, store, &made.file, &made.text),
+        Err(refusal) => outside.refuse(mal, refusal),
     }
 }
 
 /// Prints the microprogram of a file in canonical text, or lists a store file.
-pub fn print_micro<F: Files, K: Sink, E: Sink>(
+pub fn print_micro<F: Files, S: Source, K: Sink, E: Sink>(
     alloc: Global,
     file: &str,
     machine: Machine,
-    files: &mut F,
-    out: &mut K,
-    err: &mut E,
+    outside: &mut Outside<'_, F, S, K, E>,
 ) -> Status
-    ensures { Ends (PrintMicroAnswers machine) file.now
-        (desk (files_of F.contents F.faults files.old) (sink_of K.held K.passed K.faults out.old) (sink_of E.held E.passed E.faults err.old))
-        (desk (files_of F.contents F.faults files.new) (sink_of K.held K.passed K.faults out.new) (sink_of E.held E.passed E.faults err.new))
-        result.0 }
+    ensures { Over (PrintMicroAnswers machine file.now) outside.old outside.new result.0 }
 {
-    let bytes = match read_named(alloc, file, files, err) {
+    let bytes = match outside.read(alloc, file) {
         Ok(bytes) => bytes,
         Err(status) => return status,
     };
-    match printed_answer(alloc, machine, &bytes) {
-        Ok(answer) => carry_out(alloc, file, answer, files, out, err),
-        Err(_) => no_memory(err),
+    match printed_text(alloc, machine, &bytes) {
+        Ok(text) => outside.print(&text, Status::DONE),
+        Err(refusal) => outside.refuse(file, refusal),
     }
 }
 
 /// Prints the microprogram that ships for a machine, in canonical text.
-pub fn print_shipped<K: Sink>(machine: Machine, out: &mut K) -> Status
-    ensures { Says (sink_of K.held K.passed K.faults out.old) (sink_of K.held K.passed K.faults out.new) (canonical_text (listed_program machine)) exits.done result.0 }
+pub fn print_shipped<F: Files, S: Source, K: Sink, E: Sink>(
+    machine: Machine,
+    outside: &mut Outside<'_, F, S, K, E>,
+) -> Status
+    ensures { Over (Prints (canonical_text (listed_program machine)) exits.done) outside.old outside.new result.0 }
 {
     shipped_texts_are_canonical();
-    say(out, shipped_text(machine).as_bytes(), Status::DONE)
+    outside.print(shipped_text(machine).as_bytes(), Status::DONE)
 }

@@ -8,6 +8,4 @@ mod placing;
 mod reasons;
 
 pub use commands::{micro, print_micro, print_shipped};
-pub use listing::printed_answer;
-pub use placing::placed_answer;
 pub use reasons::{mal_reason, place_reason};

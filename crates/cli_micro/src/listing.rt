@@ -1,14 +1,15 @@
 //! A control store is listed, and a microprogram printed.
 
-ghost use Rattle.std.specs.Prelude.{◌≡◌, ◌<◌, ◌^◌, length, IfOk};
+ghost use Rattle.std.specs.Prelude.{◌≡◌, ◌<◌, ◌^◌, length, IfOk, IfErr, IsSome, None};
 ghost use Rattle.micro_word.specs.ControlStore.{IsStore};
-ghost use Rattle.cli_outside.specs.Work.{answered};
-ghost use Rattle.cli_micro.specs.Answers.{PrintMicroAnswers, StoreFileAnswers, TextAnswers};
+ghost use Rattle.store_placement.specs.StoreFile.{machine_of};
+ghost use Rattle.cli_outside.specs.Work.{IsRefusal};
+ghost use Rattle.cli_micro.specs.Answers.{IsPrinted, IsUnprinted};
 ghost use Rattle.cli_micro.specs.Texts.{listing, store_line};
 
 use crate::lines::{add_line, statement_of, word_text};
 use crate::reasons::{mal_reason, store_reason};
-use cli_outside::Answer;
+use cli_outside::Refusal;
 use mal_parser::{parse_mal, print_mal, print_placed};
 use mic_base::Line;
 use micro_word::{Machine, Store};
@@ -44,39 +45,44 @@ fn listing(alloc: Global, store: &Store) -> Result<Vec<u8>, AllocError>
     Ok(text)
 }
 
-/// What comes of a store file.
-fn listed(alloc: Global, bytes: &[u8]) -> Result<Answer<'static>, AllocError>
-    requires { length bytes.now < 2 ^ 32 }
-    ensures { IfOk result (λ answer. StoreFileAnswers bytes.now (answered answer)) }
+/// The listing of a store file.
+fn listed(alloc: Global, machine: Machine, bytes: &[u8]) -> Result<Vec<u8>, Refusal>
+    requires store { IsSome (machine_of bytes.now) }
+    requires len { length bytes.now < 2 ^ 32 }
+    ensures ok { IfOk result (λ text. IsPrinted machine bytes.now text.items) }
+    ensures err { IfErr result (IsRefusal (IsUnprinted machine) bytes.now) }
 {
     match read_store(alloc, bytes) {
-        Ok(store) => Ok(Answer::Prints(listing(alloc, &store)?)),
-        Err(error) => Ok(Answer::Refuses(store_reason(error)?)),
+        Ok(store) => Ok(listing(alloc, &store)?),
+        Err(error) => Err(Refusal::by(store_reason(error))),
     }
 }
 
-/// What comes of the text of a microprogram.
-fn printed(alloc: Global, machine: Machine, bytes: &[u8]) -> Result<Answer<'static>, AllocError>
-    requires { length bytes.now < 2 ^ 32 }
-    ensures { IfOk result (λ answer. TextAnswers machine bytes.now (answered answer)) }
+/// The canonical text of a microprogram.
+fn printed(alloc: Global, machine: Machine, bytes: &[u8]) -> Result<Vec<u8>, Refusal>
+    requires text { machine_of bytes.now ≡ None }
+    requires len { length bytes.now < 2 ^ 32 }
+    ensures ok { IfOk result (λ text. IsPrinted machine bytes.now text.items) }
+    ensures err { IfErr result (IsRefusal (IsUnprinted machine) bytes.now) }
 {
     match parse_mal(alloc, machine, bytes) {
-        Ok(program) => Ok(Answer::Prints(print_mal(alloc, &program)?)),
-        Err(error) => Ok(Answer::Refuses(mal_reason(error)?)),
+        Ok(program) => Ok(print_mal(alloc, &program)?),
+        Err(error) => Err(Refusal::by(mal_reason(error))),
     }
 }
 
-/// What `print-micro` comes to over a file of these bytes: the text to be printed, or why the file is refused.
-pub fn printed_answer(
+/// What `print-micro` prints of a file of these bytes, or why the file is refused.
+pub(crate) fn printed_text(
     alloc: Global,
     machine: Machine,
     bytes: &[u8],
-) -> Result<Answer<'static>, AllocError>
+) -> Result<Vec<u8>, Refusal>
     requires { length bytes.now < 2 ^ 32 }
-    ensures { IfOk result (λ answer. PrintMicroAnswers machine bytes.now (answered answer)) }
+    ensures ok { IfOk result (λ text. IsPrinted machine bytes.now text.items) }
+    ensures err { IfErr result (IsRefusal (IsUnprinted machine) bytes.now) }
 {
     match machine_of(bytes) {
-        Some(_) => listed(alloc, bytes),
+        Some(_) => listed(alloc, machine, bytes),
         None => printed(alloc, machine, bytes),
     }
 }

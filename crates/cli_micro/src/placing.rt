@@ -1,22 +1,29 @@
 //! A microprogram is placed: its control store, and what is printed of it.
 
-ghost use Rattle.std.specs.Prelude.{◌≡◌, ◌≤◌, ◌<◌, ◌^◌, ◌++◌, length, map, slice_index, IfOk, OnOk};
+ghost use Rattle.std.specs.Prelude.{◌≡◌, ◌≤◌, ◌<◌, ◌^◌, ◌++◌, length, map, slice_index, IfOk, IfErr, OnOk};
 ghost use Rattle.mal_parser.specs.ProgramText.{text_of};
 ghost use Rattle.store_placement.specs.First.{below};
 ghost use Rattle.store_placement.specs.Placement.{Places};
 ghost use Rattle.store_placement.specs.Program.{demands_of};
-ghost use Rattle.cli_outside.specs.Work.{answered};
-ghost use Rattle.cli_micro.specs.Answers.{MicroAnswers};
+ghost use Rattle.cli_outside.specs.Work.{IsRefusal};
+ghost use Rattle.cli_micro.specs.Answers.{IsMade, IsRefusedText};
 ghost use Rattle.cli_micro.specs.Texts.{counts_line, placement_text, statement_line, statement_lines};
 
 use crate::lines::{add_line, store_law, word_text};
 use crate::reasons::{mal_reason, number, place_reason};
-use cli_outside::Answer;
+use cli_outside::Refusal;
 use mal_parser::{MalProgram, parse_mal, print_labelled};
 use mic_base::Line;
 use micro_word::{Machine, Store};
 use std::alloc::{AllocError, Global};
 use store_placement::{Constraints, Placement, constraints_of, fill, place, store_bytes};
+
+/// The store file of a placed microprogram, and what is printed of it.
+#[derive(Drop)]
+pub(crate) struct Made {
+    pub file: Vec<u8>,
+    pub text: Vec<u8>,
+}
 
 /// A statement's address, the word there, and its canonical line.
 fn statement_line(program: &MalProgram, placement: &Placement, store: &Store, s: u16) -> Line
@@ -78,30 +85,25 @@ fn placement_text(
     Ok(text)
 }
 
-/// What `micro` comes to over a file of these bytes: the store file to be written and the text to be printed, or why the file is refused.
-pub fn placed_answer<'a>(
-    alloc: Global,
-    machine: Machine,
-    target: &'a str,
-    bytes: &[u8],
-) -> Result<Answer<'a>, AllocError>
+/// What `micro` makes of a file of these bytes, or why the file is refused.
+pub(crate) fn made_of(alloc: Global, machine: Machine, bytes: &[u8]) -> Result<Made, Refusal>
     requires { length bytes.now < 2 ^ 32 }
-    ensures { IfOk result (λ answer. MicroAnswers machine target.entry.now bytes.now (answered answer)) }
+    ensures ok { IfOk result (λ made. IsMade machine bytes.now made.file.items made.text.items) }
+    ensures err { IfErr result (IsRefusal (IsRefusedText machine) bytes.now) }
 {
     let program = match parse_mal(alloc, machine, bytes) {
         Ok(program) => program,
-        Err(error) => return Ok(Answer::Refuses(mal_reason(error)?)),
+        Err(error) => return Err(Refusal::by(mal_reason(error))),
     };
     let constraints = constraints_of(&program);
     let placement = match place(&constraints) {
         Ok(placement) => placement,
-        Err(error) => return Ok(Answer::Refuses(place_reason(&program, error))),
+        Err(error) => return Err(Refusal::Refused(place_reason(&program, error))),
     };
     let store = fill(&program, &placement);
     store_law(&store);
-    Ok(Answer::Writes {
-        target,
-        bytes: store_bytes(alloc, &store)?,
+    Ok(Made {
+        file: store_bytes(alloc, &store)?,
         text: placement_text(alloc, &program, &constraints, &placement, &store)?,
     })
 }

@@ -2,14 +2,12 @@
 
 ghost use Rattle.std.specs.Prelude.{◌≡◌, ◌≤◌, ◌<◌, ◌+◌, ◌++◌, length, codes};
 ghost use Rattle.std.specs.Fmt.{decimal};
-ghost use Rattle.std.specs.Result.{result_ok};
 ghost use Rattle.mic_base.specs.Digits.{hex_text};
 ghost use Rattle.cli_outside.specs.Messages.{of_file, of_line};
 ghost use Rattle.cli_micro.specs.Reasons.{line_at, mal_reason, place_reason, store_reason, NamesPlaces, NamesStatements};
 
 use mal_parser::{MalError, MalProgram};
 use mic_base::Line;
-use std::alloc::AllocError;
 use store_placement::{PlaceError, StoreError};
 
 #[tactic(auto, using(crate::proofs::Numbers::short_decimal))]
@@ -45,21 +43,21 @@ fn of_line(number_of_line: u32, text: &str) -> Line
 }
 
 /// Why a text is no program, unless memory was wanting.
-pub fn mal_reason(error: MalError) -> Result<Line, AllocError>
-    ensures { result_ok result ≡ mal_reason error }
+pub fn mal_reason(error: MalError) -> Option<Line>
+    ensures { result ≡ mal_reason error }
 {
     match error {
-        MalError::BadToken(line) => Ok(of_line(line, "bad token")),
-        MalError::BadStatement(line) => Ok(of_line(line, "bad statement")),
-        MalError::WrongMachine(line) => Ok(of_line(line, "not on this machine")),
-        MalError::NoSuchOperation(line) => Ok(of_line(line, "no such operation")),
-        MalError::DuplicateLabel(line) => Ok(of_line(line, "name used twice")),
-        MalError::BadFix(line) => Ok(of_line(line, "bad fixed address")),
-        MalError::TooMany(line) => Ok(of_line(line, "more than 512 statements")),
-        MalError::UnknownLabel(line) => Ok(of_line(line, "unknown name")),
-        MalError::LastFalls(line) => Ok(of_line(line, "no statement follows")),
-        MalError::NoEntry => Ok(of_file("no Main1")),
-        MalError::OutOfMemory => Err(AllocError),
+        MalError::BadToken(line) => Some(of_line(line, "bad token")),
+        MalError::BadStatement(line) => Some(of_line(line, "bad statement")),
+        MalError::WrongMachine(line) => Some(of_line(line, "not on this machine")),
+        MalError::NoSuchOperation(line) => Some(of_line(line, "no such operation")),
+        MalError::DuplicateLabel(line) => Some(of_line(line, "name used twice")),
+        MalError::BadFix(line) => Some(of_line(line, "bad fixed address")),
+        MalError::TooMany(line) => Some(of_line(line, "more than 512 statements")),
+        MalError::UnknownLabel(line) => Some(of_line(line, "unknown name")),
+        MalError::LastFalls(line) => Some(of_line(line, "no statement follows")),
+        MalError::NoEntry => Some(of_file("no Main1")),
+        MalError::OutOfMemory => None,
     }
 }
 
@@ -113,14 +111,14 @@ fn bad_word(address: u16) -> Line
 }
 
 /// Why bytes are no store file, unless memory was wanting.
-pub(crate) fn store_reason(error: StoreError) -> Result<Line, AllocError>
+pub(crate) fn store_reason(error: StoreError) -> Option<Line>
     requires { NamesPlaces error }
-    ensures { result_ok result ≡ store_reason error }
+    ensures { result ≡ store_reason error }
 {
     match error {
-        StoreError::BadMagic => Ok(of_file("bad magic")),
-        StoreError::BadLength(length) => Ok(bad_length(length as u32)),
-        StoreError::BadWord(address) => Ok(bad_word(address)),
-        StoreError::OutOfMemory => Err(AllocError),
+        StoreError::BadMagic => Some(of_file("bad magic")),
+        StoreError::BadLength(length) => Some(bad_length(length as u32)),
+        StoreError::BadWord(address) => Some(bad_word(address)),
+        StoreError::OutOfMemory => None,
     }
 }

@@ -2,7 +2,6 @@
 use Rattle.std.proofs.Common.{◌≡◌, ◌≢◌, ◌<◌, ℕ, List, Option, Some, None, length, arith, refl, Result, Err}
 use Rattle.std.specs.Prelude.{IfSome, IsSomeAnd, replicate}
 use Rattle.std.proofs.lemmas.List.{length-replicate}
-use Rattle.cli_outside.specs.Outside.{files_state}
 use Rattle.mic_base.specs.Files.{Contents, Tells, file_in, most_bytes}
 use Rattle.mic_base.specs.declared.files.FileError.{FileError}
 use Rattle.mic_base.specs.declared.files.FileError.TheVariants as errors
@@ -27,7 +26,3 @@ long_is_no_failure result is failed = cc
 
 pub memory_is_no_failure : {T : Type 0} (result : Result T FileError) → result ≡ Err errors.OutOfMemory → result ≢ Err errors.Failed
 memory_is_no_failure result is failed = cc
-
-pub same_state : (contents before : Option Contents) (faults fewer : ℕ) → contents ≡ before → faults ≡ fewer →
-    files_state contents faults ≡ files_state before fewer
-same_state contents before faults fewer c f = cc

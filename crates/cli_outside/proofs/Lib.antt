@@ -1,2 +1,4 @@
 pub mod Putting
 pub mod Files
+pub mod Ending
+pub mod Given

@@ -1,6 +1,7 @@
 -- What a call of `mic` sees of the outside and does to it: files, the console, and the two sinks `out` and `err`.
 use Rattle.std.specs.Prelude.{◌≡◌, ℕ, List, ◌++◌, take, Option}
 use Rattle.std.specs.Option.{option_map}
+use Rattle.std.specs.Borrow.{GName}
 use Rattle.mic_base.specs.Causes.{Rose}
 use Rattle.mic_base.specs.Files.{Contents}
 use Rattle.mic_base.specs.Streams.{IsFlushed}
@@ -42,14 +43,42 @@ source_of left faults s = source_state (left s) (faults s)
 abbrev pub files_of : {F : Type 0} → (F → Option Contents) → (F → ℕ) → F → FilesState
 files_of contents faults f = files_state (contents f) (faults f)
 
--- the files and the two sinks: all that a command uses that reads nothing from the console
-pub record Desk : Type 0 where
+-- all that a call of `mic` sees of the outside
+pub record OutsideView : Type 0 where
   pub files : FilesState
+  pub console : SourceState
   pub out : SinkState
   pub err : SinkState
 
-abbrev pub desk : FilesState → SinkState → SinkState → Desk
-desk files out err = record { files = files; out = out; err = err }
+abbrev pub outside_view : FilesState → SourceState → SinkState → SinkState → OutsideView
+outside_view files console out err = record { files = files; console = console; out = out; err = err }
+
+-- all but the files is as it was
+abbrev pub with_files : OutsideView → FilesState → OutsideView
+with_files o files = outside_view files o.console o.out o.err
+
+-- which references lend the parts
+pub record Names : Type 0 where
+  pub files : GName
+  pub console : GName
+  pub out : GName
+  pub err : GName
+
+abbrev pub names_of : GName → GName → GName → GName → Names
+names_of files console out err = record { files = files; console = console; out = out; err = err }
+
+-- what is seen of an outside whose parts are lent, and which references lend them
+pub record LentView : Type 0 where
+  pub names : Names
+  pub seen : OutsideView
+
+abbrev pub lent_view : Names → OutsideView → LentView
+lent_view names seen = record { names = names; seen = seen }
+
+-- This is done to what is seen, and the same references lend it.
+pub record Over (Does : OutsideView → OutsideView → ℕ → Type 0) (old new : LentView) (status : ℕ) : Type 0 where
+  pub names : new.names ≡ old.names
+  pub does : Does old.seen new.seen status
 
 -- The sink got this text; it got a front of it.
 
@@ -63,3 +92,17 @@ GotFront old text new = (n : ℕ) × (new ≡ option_map (λ held. held ++ take 
 pub data Says (old new : SinkState) (text : List ℕ) (code status : ℕ) : Type 0 where
   Said : status ≡ code → Got old.held text new.held → IsFlushed new.held new.passed → new.faults ≡ old.faults → Says old new text code status
   Unsaid : status ≡ exits.sink → GotFront old.held text new.held → Rose old.faults new.faults → Says old new text code status
+
+-- The text is put to `out`, or to `err`, and nothing else is done.
+
+pub record Prints (text : List ℕ) (code : ℕ) (old new : OutsideView) (status : ℕ) : Type 0 where
+  pub files : new.files ≡ old.files
+  pub console : new.console ≡ old.console
+  pub err : new.err ≡ old.err
+  pub says : Says old.out new.out text code status
+
+pub record Tells (text : List ℕ) (code : ℕ) (old new : OutsideView) (status : ℕ) : Type 0 where
+  pub files : new.files ≡ old.files
+  pub console : new.console ≡ old.console
+  pub out : new.out ≡ old.out
+  pub says : Says old.err new.err text code status

@@ -1,62 +1,76 @@
--- How a command ends that reads one file and then prints, writes or refuses.
-use Rattle.std.specs.Prelude.{◌≡◌, ◌<◌, ◌≤◌, ℕ, List, length, Option, None, MatchOption, IsSomeAnd}
+-- How a command ends that reads one file: nothing is had of the file, or this is done over what it holds.
+use Rattle.std.specs.Prelude.{◌≡◌, ◌<◌, ◌≤◌, ℕ, List, length, Option, None, Some, MatchOption, IsSomeAnd}
 use Rattle.mic_base.specs.Causes.{Rose}
-use Rattle.mic_base.specs.Files.{Contents, KeepsOthers, Tells, most_bytes}
+use Rattle.mic_base.specs.Files.{Contents, KeepsOthers, Tells as Contain, most_bytes}
 use Rattle.cli_outside.specs.Status as exits
-use Rattle.cli_outside.specs.Outside.{Desk, FilesState, SinkState, Says}
+use Rattle.cli_outside.specs.Outside.{OutsideView, Prints, Tells, with_files}
 use Rattle.cli_outside.specs.Messages.{cannot_read, cannot_write, message, out_of_memory, too_long}
-use Rattle.cli_outside.specs.declared.answer.Answer.{Answer}
-use Rattle.cli_outside.specs.declared.answer.Answer.TheVariants as answers
-
--- What a command comes to, once its file is read: a text for `out`; bytes for a file, and then a text for `out`; or the reason why the file is refused.
-pub data Answered : Type 0 where
-  Prints : (text : List ℕ) → Answered
-  Writes : (target bytes text : List ℕ) → Answered
-  Refuses : (reason : List ℕ) → Answered
-
-abbrev pub answered : Answer → Answered
-answered (answers.Prints text) = Prints text.items
-answered (answers.Writes target bytes text) = Writes target.now bytes.items text.items
-answered (answers.Refuses reason) = Refuses reason
+use Rattle.cli_outside.specs.declared.refusal.Refusal.{Refusal}
+use Rattle.cli_outside.specs.declared.refusal.Refusal.TheVariants as refusals
 
 -- every file but this one is as it was
 abbrev pub OthersKept : Option Contents → Option Contents → List ℕ → Type 0
 OthersKept old new name = MatchOption old (new ≡ None) (λ before. IsSomeAnd new (KeepsOthers before name))
 
--- The file's bytes are not had: the files failed, it is too long, or there is no memory for it. Nothing else is done.
-pub data IsUnread (file : List ℕ) (old new : FilesState) (err err' : SinkState) (status : ℕ) : Type 0 where
-  Failed : new.contents ≡ old.contents → Rose old.faults new.faults → Says err err' (message file cannot_read) exits.file status →
-      IsUnread file old new err err' status
-  TooLong : (bytes : List ℕ) → Tells old.contents file bytes → most_bytes < length bytes → new ≡ old →
-      Says err err' (message file too_long) exits.too_long status → IsUnread file old new err err' status
-  NoRoom : new ≡ old → Says err err' out_of_memory exits.memory status → IsUnread file old new err err' status
-
 -- the file has these bytes, and they are few enough
-pub record IsRead (file bytes : List ℕ) (files : FilesState) : Type 0 where
-  pub tells : Tells files.contents file bytes
+pub record IsRead (file bytes : List ℕ) (o : OutsideView) : Type 0 where
+  pub has : Contain o.files.contents file bytes
   pub short : length bytes ≤ most_bytes
 
--- An answer is carried out, or memory was wanting for it.
-pub data IsCarriedOut (file : List ℕ) (answer : Answered) (old new : Desk) (status : ℕ) : Type 0 where
-  Refused : (reason : List ℕ) → answer ≡ Refuses reason → new.files ≡ old.files → new.out ≡ old.out → Says old.err new.err (message file reason) exits.refused status →
-      IsCarriedOut file answer old new status
-  Printed : (text : List ℕ) → answer ≡ Prints text → new.files ≡ old.files → new.err ≡ old.err → Says old.out new.out text exits.done status →
-      IsCarriedOut file answer old new status
-  -- the file is written first
-  Written : (target bytes text : List ℕ) → answer ≡ Writes target bytes text → Tells new.files.contents target bytes →
-      OthersKept old.files.contents new.files.contents target → new.files.faults ≡ old.files.faults → new.err ≡ old.err →
-      Says old.out new.out text exits.done status → IsCarriedOut file answer old new status
-  -- the files failed, and what the file to be written contains is open
-  Unwritten : (target bytes text : List ℕ) → answer ≡ Writes target bytes text → OthersKept old.files.contents new.files.contents target →
-      Rose old.files.faults new.files.faults → new.out ≡ old.out → Says old.err new.err (message target cannot_write) exits.file status →
-      IsCarriedOut file answer old new status
-  -- Memory was wanting for the writing. That answer is free: the file to be written may be whole, in part, or as it was.
-  Short : (target bytes text : List ℕ) → answer ≡ Writes target bytes text → OthersKept old.files.contents new.files.contents target →
-      new.files.faults ≡ old.files.faults → new.out ≡ old.out → Says old.err new.err out_of_memory exits.memory status → IsCarriedOut file answer old new status
+-- The file's bytes are not had: the files failed, it is too long, or there is no memory for it. Nothing else is done.
+pub data IsUnread (file : List ℕ) (old new : OutsideView) (status : ℕ) : Type 0 where
+  Failed : new.files.contents ≡ old.files.contents → Rose old.files.faults new.files.faults →
+      Tells (message file cannot_read) exits.file (with_files old new.files) new status → IsUnread file old new status
+  TooLong : (bytes : List ℕ) → Contain old.files.contents file bytes → most_bytes < length bytes →
+      Tells (message file too_long) exits.too_long old new status → IsUnread file old new status
+  NoRoom : Tells out_of_memory exits.memory old new status → IsUnread file old new status
 
--- How a command ends that reads a file: `Comes bytes answer` says what a file of these bytes comes to.
-pub data Ends (Comes : List ℕ → Answered → Type 0) (file : List ℕ) (old new : Desk) (status : ℕ) : Type 0 where
-  Unread : IsUnread file old.files new.files old.err new.err status → new.out ≡ old.out → Ends Comes file old new status
-  NoRoom : new.files ≡ old.files → new.out ≡ old.out → Says old.err new.err out_of_memory exits.memory status → Ends Comes file old new status
-  Did : (bytes : List ℕ) (answer : Answered) → IsRead file bytes old.files → Comes bytes answer → IsCarriedOut file answer old new status →
-      Ends Comes file old new status
+-- Nothing is had of a file: it is not read, it is refused, or memory is wanting. `Refuses bytes reason` says why a file of these bytes is refused.
+pub data IsNotHad (Refuses : List ℕ → List ℕ → Type 0) (file : List ℕ) (old new : OutsideView) (status : ℕ) : Type 0 where
+  Unread : IsUnread file old new status → IsNotHad Refuses file old new status
+  Refused : (bytes reason : List ℕ) → IsRead file bytes old → Refuses bytes reason → Tells (message file reason) exits.refused old new status →
+      IsNotHad Refuses file old new status
+  Short : Tells out_of_memory exits.memory old new status → IsNotHad Refuses file old new status
+
+-- for a reason, or for want of memory where there is none
+abbrev pub refusal_by : Option (List ℕ) → Refusal
+refusal_by None = refusals.OutOfMemory
+refusal_by (Some reason) = refusals.Refused reason
+
+-- what a refusal of a file of these bytes says of them; and what is told of it
+abbrev pub IsRefusal : (List ℕ → List ℕ → Type 0) → List ℕ → Refusal → Type 0
+IsRefusal Refuses bytes (refusals.Refused reason) = Refuses bytes reason
+IsRefusal Refuses bytes refusals.OutOfMemory = Unit {0}
+
+abbrev pub TellsRefusal : List ℕ → Refusal → OutsideView → OutsideView → ℕ → Type 0
+TellsRefusal file (refusals.Refused reason) = Tells (message file reason) exits.refused
+TellsRefusal file refusals.OutOfMemory = Tells out_of_memory exits.memory
+
+-- the file holds this: `Is bytes value` says that a file of these bytes does
+pub record IsHad {V : Type 0} (Is : List ℕ → V → Type 0) (file : List ℕ) (o : OutsideView) (value : V) : Type 0 where
+  pub bytes : List ℕ
+  pub read : IsRead file bytes o
+  pub is : Is bytes value
+
+-- How a command ends that reads a file. `Does value old new status` says what is done over what the file holds.
+pub data Ends {V : Type 0} (Refuses : List ℕ → List ℕ → Type 0) (Is : List ℕ → V → Type 0) (Does : V → OutsideView → OutsideView → ℕ → Type 0)
+    (file : List ℕ) (old new : OutsideView) (status : ℕ) : Type 0 where
+  NotHad : IsNotHad Refuses file old new status → Ends Refuses Is Does file old new status
+  Did : (value : V) → IsHad Is file old value → Does value old new status → Ends Refuses Is Does file old new status
+
+-- a text of it is printed: `Shows value text` says that this is the text
+pub record PrintsOf {V : Type 0} (Shows : V → List ℕ → Type 0) (value : V) (old new : OutsideView) (status : ℕ) : Type 0 where
+  pub text : List ℕ
+  pub shows : Shows value text
+  pub prints : Prints text exits.done old new status
+
+-- Bytes are written to a file, and then a text is printed.
+pub data Writes (target bytes text : List ℕ) (old new : OutsideView) (status : ℕ) : Type 0 where
+  Written : Contain new.files.contents target bytes → OthersKept old.files.contents new.files.contents target →
+      new.files.faults ≡ old.files.faults → Prints text exits.done (with_files old new.files) new status → Writes target bytes text old new status
+  -- the files failed, and what the file to be written contains is open
+  Unwritten : OthersKept old.files.contents new.files.contents target → Rose old.files.faults new.files.faults →
+      Tells (message target cannot_write) exits.file (with_files old new.files) new status → Writes target bytes text old new status
+  -- Memory was wanting for the writing. That answer is free: the file to be written may be whole, in part, or as it was.
+  HalfWritten : OthersKept old.files.contents new.files.contents target → new.files.faults ≡ old.files.faults →
+      Tells out_of_memory exits.memory (with_files old new.files) new status → Writes target bytes text old new status

@@ -3,11 +3,14 @@
 ghost use Rattle.std.specs.Prelude.{◌≡◌, ◌++◌, ℕ, List, Option, OnOk};
 ghost use Rattle.mic_base.specs.Causes.{HasCause};
 ghost use Rattle.mic_base.specs.Streams.{IsFlushed, Puts};
-ghost use Rattle.cli_outside.specs.Messages.{message};
+ghost use Rattle.cli_outside.specs.Status as exits;
+ghost use Rattle.cli_outside.specs.Messages.{message, out_of_memory};
 ghost use Rattle.cli_outside.specs.Outside.{Says, sink_of};
 
 use crate::status::Status;
 use mic_base::{Sink, SinkFailed};
+
+const OUT_OF_MEMORY: &[u8] = b"mic: out of memory\n";
 
 /// Puts a piece behind what was put, unless that failed.
 pub fn put_after<E: Sink>(
@@ -56,4 +59,11 @@ pub fn say_of<E: Sink>(err: &mut E, file: &str, reason: &[u8], status: Status) -
     let said = put_after(said, err, b"\n");
     let said = flush_after(said, err);
     status.once(said)
+}
+
+/// Says that memory is wanting.
+pub fn no_memory<E: Sink>(err: &mut E) -> Status
+    ensures { Says (sink_of E.held E.passed E.faults err.old) (sink_of E.held E.passed E.faults err.new) out_of_memory exits.memory result.0 }
+{
+    say(err, OUT_OF_MEMORY, Status::MEMORY)
 }

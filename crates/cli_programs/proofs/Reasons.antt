@@ -1,5 +1,5 @@
 -- Why no accepted program is had.
-use Rattle.std.proofs.Common.{◌≡◌, ◌⊎◌, inl, inr, ℕ, List, Option, Some, None, refl, sym, ◌∙◌, ap, subst, true, false, Result, Ok, Err}
+use Rattle.std.proofs.Common.{◌≡◌, ◌⊎◌, inl, inr, ℕ, List, Some, refl, sym, ◌∙◌, ap, subst, true, false, Result, Ok, Err}
 use Rattle.std.specs.Prelude.{IfErr}
 use Rattle.console_port.specs.declared.map.MemoryMap.{MemoryMap}
 use Rattle.ijvm_image.specs.declared.image.ImageError.{ImageError}
@@ -10,9 +10,11 @@ use Rattle.ijvm_paths.specs.declared.error.VerifyError.{VerifyError}
 use Rattle.ijvm_paths.specs.declared.error.VerifyError.TheVariants as facts
 use Rattle.ijvm_paths.specs.Facts.{IsTrueOf}
 use Rattle.cli_texts.specs.Refusals.{image_reason, link_reason, source_reason, verify_reason}
-use Rattle.cli_programs.specs.declared.program.Unaccepted.{Unaccepted}
-use Rattle.cli_programs.specs.Program.{IsNoSource, IsOf, IsRefused, IsUnaccepted, IsUnlinked, IsUnread, NoImage, NoProgram, NoSource, NotAccepted, NotLinked, begins_image, unaccepted_by}
-use Rattle.cli_programs.specs.declared.program.Unaccepted.TheVariants as reasons
+use Rattle.cli_outside.specs.declared.refusal.Refusal.{Refusal}
+use Rattle.cli_outside.specs.declared.refusal.Refusal.TheVariants as refusals
+use Rattle.cli_outside.specs.Work.{IsRefusal, refusal_by}
+use Rattle.cli_outside.proofs.Ending.{by_reason}
+use Rattle.cli_programs.specs.Program.{IsNoSource, IsOf, IsRefused, IsRefusalByAll, NoImage, NoProgram, NoSource, NotAccepted, NotLinked, begins_image}
 use Rattle.ijvm_program.specs.Program.{ProgramView}
 use Rattle.ijvm_asm.specs.declared.error.AsmError.{AsmError}
 use Rattle.ijvm_asm.specs.declared.error.AsmError.TheVariants as sources
@@ -22,27 +24,19 @@ use Rattle.ijvm_asm.specs.Text as assembler
 use Rattle.method_linker.specs.declared.error.LinkError.{LinkError}
 use Rattle.method_linker.specs.Linked as linker
 
-by_reason : (map : MemoryMap) (bytes : List ℕ) (reason : Option (List ℕ)) → ((text : List ℕ) → reason ≡ Some text → IsRefused map bytes text) → IsUnaccepted map bytes (unaccepted_by reason)
-by_reason map bytes None refuses = tt
-by_reason map bytes (Some text) refuses = refuses text refl
-
-pub no_image : (map : MemoryMap) (bytes : List ℕ) (e : ImageError) (u : Unaccepted) → begins_image bytes ≡ true → (e ≡ images.OutOfMemory) ⊎ IsRefusedFile bytes e →
-    u ≡ unaccepted_by (image_reason e) → IsUnaccepted map bytes u
+pub no_image : (map : MemoryMap) (bytes : List ℕ) (e : ImageError) (u : Refusal) → begins_image bytes ≡ true → (e ≡ images.OutOfMemory) ⊎ IsRefusedFile bytes e →
+    u ≡ refusal_by (image_reason e) → IsRefusal (IsRefused map) bytes u
 no_image map bytes e u begins (inl short) is =
-    subst (IsUnaccepted map bytes) (sym (is ∙ ap (λ (x : ImageError). unaccepted_by (image_reason x)) short)) tt
+    subst (IsRefusal (IsRefused map) bytes) (sym (is ∙ ap (λ (x : ImageError). refusal_by (image_reason x)) short)) tt
 no_image map bytes e u begins (inr read) is =
-    subst (IsUnaccepted map bytes) (sym is) (by_reason map bytes (image_reason e) (λ text said. NoImage e begins read said))
+    subst (IsRefusal (IsRefused map) bytes) (sym is) (by_reason (IsRefused map) bytes (image_reason e) (λ text said. NoImage e begins read said))
 
-pub not_accepted : (map : MemoryMap) (bytes : List ℕ) (image : ImageView) (e : VerifyError) (u : Unaccepted) → IsOf bytes image → (e ≡ facts.OutOfMemory) ⊎ IsTrueOf image map.stack_end e →
-    u ≡ unaccepted_by (verify_reason e) → IsUnaccepted map bytes u
+pub not_accepted : (map : MemoryMap) (bytes : List ℕ) (image : ImageView) (e : VerifyError) (u : Refusal) → IsOf bytes image → (e ≡ facts.OutOfMemory) ⊎ IsTrueOf image map.stack_end e →
+    u ≡ refusal_by (verify_reason e) → IsRefusal (IsRefused map) bytes u
 not_accepted map bytes image e u of (inl short) is =
-    subst (IsUnaccepted map bytes) (sym (is ∙ ap (λ (x : VerifyError). unaccepted_by (verify_reason x)) short)) tt
+    subst (IsRefusal (IsRefused map) bytes) (sym (is ∙ ap (λ (x : VerifyError). refusal_by (verify_reason x)) short)) tt
 not_accepted map bytes image e u of (inr holds) is =
-    subst (IsUnaccepted map bytes) (sym is) (by_reason map bytes (verify_reason e) (λ text said. NotAccepted image e of holds said))
-
-by_text : (text : List ℕ) (reason : Option (List ℕ)) → ((said : List ℕ) → reason ≡ Some said → IsNoSource text said) → IsUnlinked text (unaccepted_by reason)
-by_text text None refuses = tt
-by_text text (Some said) refuses = refuses said refl
+    subst (IsRefusal (IsRefused map) bytes) (sym is) (by_reason (IsRefused map) bytes (verify_reason e) (λ text said. NotAccepted image e of holds said))
 
 -- a refusal that is told is not want of memory
 is_told : (e : AsmError) (said : List ℕ) → source_reason e ≡ Some said → is_memory e ≡ false
@@ -57,20 +51,20 @@ is_told (sources.UnknownName line) said h = refl
 is_told sources.NoMain said h = refl
 is_told sources.OutOfMemory said h = cc
 
-pub no_source : (text : List ℕ) (e : AsmError) (u : Unaccepted) → (is_memory e ≡ false → assembler.IsRefused text e) → u ≡ unaccepted_by (source_reason e) → IsUnlinked text u
+pub no_source : (text : List ℕ) (e : AsmError) (u : Refusal) → (is_memory e ≡ false → assembler.IsRefused text e) → u ≡ refusal_by (source_reason e) → IsRefusal IsNoSource text u
 no_source text e u refused is =
-    subst (IsUnlinked text) (sym is) (by_text text (source_reason e) (λ said h. NoSource e (refused (is_told e said h)) h))
+    subst (IsRefusal IsNoSource text) (sym is) (by_reason IsNoSource text (source_reason e) (λ said h. NoSource e (refused (is_told e said h)) h))
 
-pub not_linked : (text : List ℕ) (source : ProgramView) (e : LinkError) (u : Unaccepted) → SpellsProgram text source → linker.IsRefused source e →
-    u ≡ unaccepted_by (link_reason e) → IsUnlinked text u
+pub not_linked : (text : List ℕ) (source : ProgramView) (e : LinkError) (u : Refusal) → SpellsProgram text source → linker.IsRefused source e →
+    u ≡ refusal_by (link_reason e) → IsRefusal IsNoSource text u
 not_linked text source e u spelled refused is =
-    subst (IsUnlinked text) (sym is) (by_text text (link_reason e) (λ said h. NotLinked source e spelled refused h))
+    subst (IsRefusal IsNoSource text) (sym is) (by_reason IsNoSource text (link_reason e) (λ said h. NotLinked source e spelled refused h))
 
 -- a source that has no image holds no accepted program
-pub no_program : (map : MemoryMap) (bytes : List ℕ) (u : Unaccepted) → begins_image bytes ≡ false → IsUnlinked bytes u → IsUnaccepted map bytes u
-no_program map bytes (reasons.Refused reason) begins h = NoProgram begins h
-no_program map bytes reasons.OutOfMemory begins h = tt
+pub no_program : (map : MemoryMap) (bytes : List ℕ) (u : Refusal) → begins_image bytes ≡ false → IsRefusal IsNoSource bytes u → IsRefusal (IsRefused map) bytes u
+no_program map bytes (refusals.Refused reason) begins h = NoProgram begins h
+no_program map bytes refusals.OutOfMemory begins h = tt
 
-pub no_program_in : {T : Type 0} (bytes : List ℕ) (r : Result T Unaccepted) → begins_image bytes ≡ false → IfErr r (IsUnlinked bytes) → IfErr r (IsUnread bytes)
+pub no_program_in : {T : Type 0} (bytes : List ℕ) (r : Result T Refusal) → begins_image bytes ≡ false → IfErr r (IsRefusal IsNoSource bytes) → IfErr r (IsRefusalByAll bytes)
 no_program_in bytes (Ok x) begins h = tt
 no_program_in bytes (Err u) begins h = λ map. no_program map bytes u begins h

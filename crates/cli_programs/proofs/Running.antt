@@ -8,22 +8,22 @@ use Rattle.plain_machine.specs.declared.plain.PlainReport.{PlainReport}
 use Rattle.plain_machine.specs.Runs.{HasRunCause}
 use Rattle.plain_machine.specs.Plain.{HasRun, IsCutByRead, IsCutByWrite}
 use Rattle.ijvm_paths.specs.Accepted.{VerifiedView}
-use Rattle.cli_outside.specs.Outside.{SinkState, SourceState}
+use Rattle.cli_outside.specs.Outside.{OutsideView}
 use Rattle.cli_programs.specs.Reference.{CutByRead, CutByWrite, IsReported, Ran, verified_program}
 
-module _ (program : VerifiedView) (machine : Machine) (bound : ℕ) (console console' : SourceState) (out out' : SinkState) where
+module _ (machine : Machine) (bound : ℕ) (program : VerifiedView) (old new : OutsideView) where
   -- what is known of a run
   pub record IsKnown (r : PlainReport) : Type 0 where
-    pub run : r.end ≢ ends.ReadFault → r.end ≢ ends.WriteFault → HasRun (verified_program program machine) program.main_locals bound console.left out.held console'.left out'.held r
-    pub read : r.end ≡ ends.ReadFault → IsCutByRead (verified_program program machine) program.main_locals bound console.left out.held console'.left out'.held r
-    pub write : r.end ≡ ends.WriteFault → IsCutByWrite (verified_program program machine) program.main_locals bound console.left out.held console'.left out'.held r
-    pub flushed : r.end ≢ ends.WriteFault → StaysFlushed out.held out.passed out'.held out'.passed
-    pub cause : HasRunCause console.faults console'.faults out.faults out'.faults (Some (Ok r.end))
+    pub run : r.end ≢ ends.ReadFault → r.end ≢ ends.WriteFault → HasRun (verified_program program machine) program.main_locals bound old.console.left old.out.held new.console.left new.out.held r
+    pub read : r.end ≡ ends.ReadFault → IsCutByRead (verified_program program machine) program.main_locals bound old.console.left old.out.held new.console.left new.out.held r
+    pub write : r.end ≡ ends.WriteFault → IsCutByWrite (verified_program program machine) program.main_locals bound old.console.left old.out.held new.console.left new.out.held r
+    pub flushed : r.end ≢ ends.WriteFault → StaysFlushed old.out.held old.out.passed new.out.held new.out.passed
+    pub cause : HasRunCause old.console.faults new.console.faults old.out.faults new.out.faults (Some (Ok r.end))
 
-  whole : (r : PlainReport) → IsKnown r → r.end ≢ ends.ReadFault → r.end ≢ ends.WriteFault → IsReported program machine bound console console' out out' r
+  whole : (r : PlainReport) → IsKnown r → r.end ≢ ends.ReadFault → r.end ≢ ends.WriteFault → IsReported machine bound program old new r
   whole r k unread unwritten = Ran (k.run unread unwritten) (k.cause.source_same (λ e. unread (cc))) (k.cause.sink_same (λ e. unwritten (cc))) (k.flushed unwritten)
 
-  by_end : (r : PlainReport) (end : PlainEnd) → r.end ≡ end → IsKnown r → IsReported program machine bound console console' out out' r
+  by_end : (r : PlainReport) (end : PlainEnd) → r.end ≡ end → IsKnown r → IsReported machine bound program old new r
   by_end r ends.Halt e k = whole r k (λ q. cc) (λ q. cc)
   by_end r ends.Err e k = whole r k (λ q. cc) (λ q. cc)
   by_end r ends.Bound e k = whole r k (λ q. cc) (λ q. cc)
@@ -33,5 +33,5 @@ module _ (program : VerifiedView) (machine : Machine) (bound : ℕ) (console con
   by_end r ends.WriteFault e k =
       CutByWrite e (k.write e) (k.cause.source_same (λ q. cc)) (k.cause.write (ap (λ (x : PlainEnd). Some (Ok x)) e))
 
-  pub reported : (r : PlainReport) → IsKnown r → IsReported program machine bound console console' out out' r
+  pub reported : (r : PlainReport) → IsKnown r → IsReported machine bound program old new r
   reported r k = by_end r r.end refl k

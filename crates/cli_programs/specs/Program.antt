@@ -1,5 +1,5 @@
 -- What a file holds, by its bytes: an image or a source of one, that is accepted or refused for a reason.
-use Rattle.std.specs.Prelude.{◌≡◌, ℕ, Bool, false, true, ◌==◌, List, [], ◌∷◌, Option, None, Some}
+use Rattle.std.specs.Prelude.{◌≡◌, ℕ, Bool, false, true, ◌==◌, List, [], ◌∷◌, Some}
 use Rattle.console_port.specs.declared.map.MemoryMap.{MemoryMap}
 use Rattle.ijvm_image.specs.declared.image.ImageError.{ImageError}
 use Rattle.ijvm_image.specs.Image.{ImageView, IsWithinLimits}
@@ -15,8 +15,8 @@ use Rattle.ijvm_paths.specs.declared.error.VerifyError.{VerifyError}
 use Rattle.ijvm_paths.specs.Accepted.{IsAccepted, VerifiedView}
 use Rattle.ijvm_paths.specs.Facts.{IsTrueOf}
 use Rattle.cli_texts.specs.Refusals.{image_reason, link_reason, source_reason, verify_reason}
-use Rattle.cli_programs.specs.declared.program.Unaccepted.{Unaccepted}
-use Rattle.cli_programs.specs.declared.program.Unaccepted.TheVariants as reasons
+use Rattle.cli_outside.specs.declared.refusal.Refusal.{Refusal}
+use Rattle.cli_outside.specs.Work.{IsRefusal}
 
 -- A file is an image file by its first byte. Every other file is a source.
 abbrev pub begins_image : List ℕ → Bool
@@ -51,21 +51,6 @@ pub data IsRefused (map : MemoryMap) (bytes reason : List ℕ) : Type 0 where
   NoProgram : begins_image bytes ≡ false → IsNoSource bytes reason → IsRefused map bytes reason
   NotAccepted : (image : ImageView) (e : VerifyError) → IsOf bytes image → IsTrueOf image map.stack_end e → verify_reason e ≡ Some reason → IsRefused map bytes reason
 
--- for a reason, or for want of memory where there is none
-abbrev pub unaccepted_by : Option (List ℕ) → Unaccepted
-unaccepted_by None = reasons.OutOfMemory
-unaccepted_by (Some reason) = reasons.Refused reason
-
--- what it means that no accepted program is had from these bytes
-abbrev pub IsUnaccepted : MemoryMap → List ℕ → Unaccepted → Type 0
-IsUnaccepted map bytes (reasons.Refused reason) = IsRefused map bytes reason
-IsUnaccepted map bytes reasons.OutOfMemory = Unit {0}
-
 -- what it means that no image is had from these bytes: no map has an accepted program then
-abbrev pub IsUnread : List ℕ → Unaccepted → Type 0
-IsUnread bytes unaccepted = (map : MemoryMap) → IsUnaccepted map bytes unaccepted
-
--- what it means that no image is had from this source
-abbrev pub IsUnlinked : List ℕ → Unaccepted → Type 0
-IsUnlinked text (reasons.Refused reason) = IsNoSource text reason
-IsUnlinked text reasons.OutOfMemory = Unit {0}
+abbrev pub IsRefusalByAll : List ℕ → Refusal → Type 0
+IsRefusalByAll bytes refusal = (map : MemoryMap) → IsRefusal (IsRefused map) bytes refusal

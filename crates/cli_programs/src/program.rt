@@ -1,36 +1,21 @@
 //! The accepted program that a file holds.
 
-ghost use Rattle.std.specs.Prelude.{◌≡◌, ◌≤◌, true, length, IfOk, IfErr};
+ghost use Rattle.std.specs.Prelude.{◌≡◌, ◌≤◌, true, length, IfOk, IfErr, OnOk};
 ghost use Rattle.mic_base.specs.Files.{most_bytes};
 ghost use Rattle.console_port.specs.Map.{IsMap};
-ghost use Rattle.cli_programs.specs.Program.{IsOf, IsProgram, IsSource, IsUnaccepted, IsUnlinked, IsUnread, begins_image, unaccepted_by};
+ghost use Rattle.cli_outside.specs.Outside.{Over};
+ghost use Rattle.cli_outside.specs.Work.{IsHad, IsNotHad, IsRefusal};
+ghost use Rattle.cli_programs.specs.Program.{IsNoSource, IsOf, IsProgram, IsRefusalByAll, IsRefused, IsSource, begins_image};
 
+use cli_outside::{Outside, Refusal, Status};
 use cli_texts::{image_reason, link_reason, source_reason, verify_reason};
 use console_port::MemoryMap;
 use ijvm_asm::parse_source;
 use ijvm_image::{Image, read_image};
 use ijvm_verifier::{VerifiedImage, verify};
 use method_linker::link;
-use mic_base::Line;
+use mic_base::{Files, Sink, Source};
 use std::alloc::Global;
-
-/// Why no accepted program is had from a file.
-#[derive(Drop)]
-pub enum Unaccepted {
-    /// The file is refused: what follows its name in the message.
-    Refused(Line),
-    OutOfMemory,
-}
-
-/// A reason, or want of memory where there is none.
-fn refused(reason: Option<Line>) -> Unaccepted
-    ensures { result ≡ unaccepted_by reason }
-{
-    match reason {
-        Some(line) => Unaccepted::Refused(line),
-        None => Unaccepted::OutOfMemory,
-    }
-}
 
 fn begins_image(bytes: &[u8]) -> bool
     ensures { result ≡ begins_image bytes.now }
@@ -39,38 +24,38 @@ fn begins_image(bytes: &[u8]) -> bool
 }
 
 /// The image of an image file.
-fn image_of(alloc: Global, bytes: &[u8]) -> Result<Image, Unaccepted>
+fn image_of(alloc: Global, bytes: &[u8]) -> Result<Image, Refusal>
     requires { begins_image bytes.now ≡ true }
     ensures ok { IfOk result (IsOf bytes.now) }
-    ensures err { IfErr result (IsUnread bytes.now) }
+    ensures err { IfErr result (IsRefusalByAll bytes.now) }
 {
     match read_image(alloc, bytes) {
         Ok(image) => Ok(image),
-        Err(error) => Err(refused(image_reason(error))),
+        Err(error) => Err(Refusal::by(image_reason(error))),
     }
 }
 
 /// The image of a source.
-pub(crate) fn assembled(alloc: Global, text: &[u8]) -> Result<Image, Unaccepted>
+pub(crate) fn assembled(alloc: Global, text: &[u8]) -> Result<Image, Refusal>
     requires { length text.now ≤ most_bytes }
     ensures ok { IfOk result (IsSource text.now) }
-    ensures err { IfErr result (IsUnlinked text.now) }
+    ensures err { IfErr result (IsRefusal IsNoSource text.now) }
 {
     let source = match parse_source(alloc, text) {
         Ok(source) => source,
-        Err(error) => return Err(refused(source_reason(error))),
+        Err(error) => return Err(Refusal::by(source_reason(error))),
     };
     match link(alloc, &source) {
         Ok(image) => Ok(image),
-        Err(error) => Err(refused(link_reason(error))),
+        Err(error) => Err(Refusal::by(link_reason(error))),
     }
 }
 
 /// The image of a file, which is an image file or a source.
-fn found_image(alloc: Global, bytes: &[u8]) -> Result<Image, Unaccepted>
+fn found_image(alloc: Global, bytes: &[u8]) -> Result<Image, Refusal>
     requires { length bytes.now ≤ most_bytes }
     ensures ok { IfOk result (IsOf bytes.now) }
-    ensures err { IfErr result (IsUnread bytes.now) }
+    ensures err { IfErr result (IsRefusalByAll bytes.now) }
 {
     if begins_image(bytes) {
         image_of(alloc, bytes)
@@ -80,19 +65,37 @@ fn found_image(alloc: Global, bytes: &[u8]) -> Result<Image, Unaccepted>
 }
 
 /// The program of a file, if it is accepted for this map.
-pub fn accepted_program(
-    alloc: Global,
-    bytes: &[u8],
-    map: MemoryMap,
-) -> Result<VerifiedImage, Unaccepted>
+fn accepted_program(alloc: Global, bytes: &[u8], map: MemoryMap) -> Result<VerifiedImage, Refusal>
     requires few { length bytes.now ≤ most_bytes }
     requires map { IsMap map.stack_end }
     ensures ok { IfOk result (IsProgram map bytes.now) }
-    ensures err { IfErr result (IsUnaccepted map bytes.now) }
+    ensures err { IfErr result (IsRefusal (IsRefused map) bytes.now) }
 {
     let image = found_image(alloc, bytes)?;
     match verify(alloc, image, map) {
         Ok(program) => Ok(program),
-        Err(error) => Err(refused(verify_reason(error))),
+        Err(error) => Err(Refusal::by(verify_reason(error))),
+    }
+}
+
+/// The accepted program that a file holds; or it is said why none is had, and the status tells.
+pub fn program_in_file<F: Files, S: Source, K: Sink, E: Sink>(
+    alloc: Global,
+    file: &str,
+    map: MemoryMap,
+    outside: &mut Outside<'_, F, S, K, E>,
+) -> Result<VerifiedImage, Status>
+    requires { IsMap map.stack_end }
+    ensures had { IfOk result (IsHad (IsProgram map) file.now outside.old.seen) }
+    ensures same { OnOk result (outside.new ≡ outside.old) }
+    ensures not_had { IfErr result (λ status. Over (IsNotHad (IsRefused map) file.now) outside.old outside.new status.0) }
+{
+    let bytes = match outside.read(alloc, file) {
+        Ok(bytes) => bytes,
+        Err(status) => return Err(status),
+    };
+    match accepted_program(alloc, &bytes, map) {
+        Ok(program) => Ok(program),
+        Err(refusal) => Err(outside.refuse(file, refusal)),
     }
 }

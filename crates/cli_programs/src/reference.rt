@@ -2,12 +2,12 @@
 
 ghost use Rattle.std.specs.Prelude.{◌≤◌, ◌^◌};
 ghost use Rattle.console_port.specs.Map.{IsMap};
-ghost use Rattle.cli_outside.specs.Outside.{desk, files_of, sink_of, source_of};
-ghost use Rattle.cli_programs.specs.Reference.{EndsReference, IsRun};
+ghost use Rattle.cli_outside.specs.Outside.{Over};
+ghost use Rattle.cli_programs.specs.Answers.{EndsOver};
+ghost use Rattle.cli_programs.specs.Reference.{IsRun};
 
-use crate::program::accepted_program;
-use crate::refusal::refuse;
-use cli_outside::{Status, no_memory, read_named, say};
+use crate::program::program_in_file;
+use cli_outside::{Outside, Status};
 use cli_run_texts::{clocked_end, plain_report, status_of};
 use console_port::MemoryMap;
 use ijvm_verifier::VerifiedImage;
@@ -17,30 +17,31 @@ use plain_machine::run_plain;
 use std::alloc::Global;
 
 /// Runs an accepted program, and reports.
-fn run_program<S: Source, K: Sink, E: Sink>(
+fn run_program<F: Files, S: Source, K: Sink, E: Sink>(
     alloc: Global,
     program: &VerifiedImage,
     machine: Machine,
     bound: u64,
-    console: &mut S,
-    out: &mut K,
-    err: &mut E,
+    outside: &mut Outside<'_, F, S, K, E>,
 ) -> Status
     requires { bound ≤ 2 ^ 62 }
-    ensures { IsRun program.now machine bound (source_of S.left S.faults console.old) (source_of S.left S.faults console.new)
-        (sink_of K.held K.passed K.faults out.old) (sink_of K.held K.passed K.faults out.new)
-        (sink_of E.held E.passed E.faults err.old) (sink_of E.held E.passed E.faults err.new) result.0 }
+    ensures { Over (IsRun machine bound program.now) outside.old outside.new result.0 }
 {
     let locals = program.main_locals();
     let image = program.image();
     let map = program.map();
-    match run_plain(alloc, image, locals, map, machine, bound, console, out) {
-        Ok(run) => say(
-            err,
-            plain_report(&run).bytes(),
-            status_of(clocked_end(run.end)),
-        ),
-        Err(_) => no_memory(err),
+    match run_plain(
+        alloc,
+        image,
+        locals,
+        map,
+        machine,
+        bound,
+        outside.console,
+        outside.out,
+    ) {
+        Ok(run) => outside.tell(plain_report(&run).bytes(), status_of(clocked_end(run.end))),
+        Err(_) => outside.no_memory(),
     }
 }
 
@@ -51,24 +52,14 @@ pub fn reference_file<F: Files, S: Source, K: Sink, E: Sink>(
     machine: Machine,
     bound: u64,
     map: MemoryMap,
-    files: &mut F,
-    console: &mut S,
-    out: &mut K,
-    err: &mut E,
+    outside: &mut Outside<'_, F, S, K, E>,
 ) -> Status
     requires bound { bound ≤ 2 ^ 62 }
     requires map { IsMap map.stack_end }
-    ensures { EndsReference file.now machine bound map (source_of S.left S.faults console.old) (source_of S.left S.faults console.new)
-        (desk (files_of F.contents F.faults files.old) (sink_of K.held K.passed K.faults out.old) (sink_of E.held E.passed E.faults err.old))
-        (desk (files_of F.contents F.faults files.new) (sink_of K.held K.passed K.faults out.new) (sink_of E.held E.passed E.faults err.new))
-        result.0 }
+    ensures { Over (EndsOver map (IsRun machine bound) file.now) outside.old outside.new result.0 }
 {
-    let bytes = match read_named(alloc, file, files, err) {
-        Ok(bytes) => bytes,
-        Err(status) => return status,
-    };
-    match accepted_program(alloc, &bytes, map) {
-        Ok(program) => run_program(alloc, &program, machine, bound, console, out, err),
-        Err(unaccepted) => refuse(file, unaccepted, err),
+    match program_in_file(alloc, file, map, outside) {
+        Ok(program) => run_program(alloc, &program, machine, bound, outside),
+        Err(status) => status,
     }
 }

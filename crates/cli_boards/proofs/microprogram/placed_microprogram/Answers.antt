@@ -1,12 +1,12 @@
-use Rattle.std.proofs.Common.{refl, sym}
-use Rattle.cli_boards.specs.Own.{NoPlacement, NoProgram}
-use Rattle.cli_boards.proofs.Micros.{is_refusal, names_inside}
+use Rattle.std.proofs.Common.{◌∙◌, ap, refl}
+use Rattle.cli_outside.specs.Work.{refusal_by}
+use Rattle.cli_micro.specs.Answers.{NoPlacement}
+use Rattle.cli_boards.proofs.Micros.{names_inside, no_program}
 use Rattle.cli_boards.proofs.microprogram.placed_microprogram.Goals as goal
 
-pub returns-in-Ok-mal_reason-clause-err : goal.returns-in-Ok-mal_reason-clause-err
-returns-in-Ok-mal_reason-clause-err c =
-    let reason = c.in-Ok-mal_reason.ensures in
-    NoProgram c.in-Err.error (c.in-Err.ensures.err (is_refusal c.in-Err.error c.in-Ok-mal_reason.reason reason)) (sym reason)
+pub returns-in-Err-clause-err : goal.returns-in-Err-clause-err
+returns-in-Err-clause-err c =
+    no_program c.args.machine c.args.bytes.now c.in-Err.error c.by.result c.in-Err.ensures.err (c.by.ensures ∙ ap refusal_by c.mal_reason.ensures)
 
 pub place_reason-requires : goal.place_reason-requires
 place_reason-requires c =

@@ -1,10 +1,9 @@
-use Rattle.std.proofs.Common.{◌≡◌, ◌++◌, ◌∙◌, ap, refl, sym, subst, ℕ, List, [], Option, None, Some}
+use Rattle.std.proofs.Common.{◌≡◌, ◌∙◌, ap, refl, rules, ℕ, List, [], Option, None, Some}
 use Rattle.std.specs.Option.{option_map}
 use Rattle.std.proofs.lemmas.List.{append-nil}
 use Rattle.mic_base.specs.Streams.{Puts}
 use Rattle.mic_base.specs.Causes.{HasCause}
 use Rattle.mic_clock.specs.declared.counts.Counts.{Counts}
-use Rattle.cli_outside.specs.Outside.{SinkState, sink_of}
 use Rattle.cli_profile.specs.Profile.{Profile, profile_of, profile_text, start_profile, Silent, counted}
 use Rattle.watched_run.specs.Watched.{kept_of}
 use Rattle.cli_boards.specs.Profiled.{Stopped, Whole}
@@ -13,7 +12,6 @@ use Rattle.cli_boards.proofs.profile.profile_program.Goals as goal
 
 pub returns-in-Ok-run_watched : goal.returns-in-Ok-run_watched
 returns-in-Ok-run_watched g c =
-    let old : SinkState = sink_of g.E.Sink.held g.E.Sink.passed g.E.Sink.faults c.args.err.now in
     let last = c.run_watched.new.board in
     let end = c.in-Ok-run_watched.end in
     let watched = c.in-Ok-run_watched.ensures.watched in
@@ -22,22 +20,43 @@ returns-in-Ok-run_watched g c =
     let begun : record { rows = c.new-profiler.result.rows.now; boot = c.new-profiler.result.boot; last = c.new-profiler.result.last; tallies = c.new-profiler.result.tallies } ≡ start_profile rows =
     λ i. record { rows = (c.new-profiler.ensures.rows ∙ c.deref.ensures.value) i; boot = c.new-profiler.ensures.boot i; last = c.new-profiler.ensures.last i; tallies = c.new-profiler.ensures.tallies i } in
     let counted_all = watched.saw.kept ∙ ap (λ (p : Profile). kept_of counted Silent p watched.cycles) begun in
-    let held = nothing_put (g.E.Sink.held c.args.err.now) (g.E.Sink.held c.run_watched.new.err) watched.saw.text (silent_says _ watched.cycles watched.saw.text watched.saw.says) watched.saw.said in
+    let held = nothing_put _ _ watched.saw.text (silent_says _ watched.cycles watched.saw.text watched.saw.says) watched.saw.said in
     let profiler = c.run_watched.new.watcher in
     let now : Profile = record { rows = profiler.rows.now; boot = profiler.boot; last = profiler.last; tallies = profiler.tallies } in
     let text : profile_text now end c.counts.result ≡ profile_text (profile_of rows watched.cycles) end last.counts =
     λ i. profile_text (counted_all i) end (c.counts.ensures i) in
     let put = rw (text, held) at c.put_profile-said.ensures.puts in
     let cause = rw said.quiet at c.put_profile-said.ensures.cause in
-    Whole c.args.micro.loaded c.in-Ok-reset_board.board last watched.cycles end rows
-    (record { loaded = c.args.micro.is_loaded; store = c.in-Ok-reset_board.ensures.store; reset = c.in-Ok-reset_board.ensures.reset })
-    watched.run c.in-Ok-run_watched.ensures.end c.in-Ok-run_watched.ensures.cause c.in-Ok-run_watched.ensures.flushed c.in-Ok.ensures
-    (c.report_behind.ensures old (profile_text (profile_of rows watched.cycles) end last.counts) put cause)
+    record {
+      names = search rules;
+      does =
+          rw (← c.outside.view_is)
+          (Whole c.args.prepared.micro.loaded last watched.cycles end rows
+          (record {
+            first = c.in-Ok-reset_board.board;
+            begins = record { loaded = c.args.prepared.micro.is_loaded; store = c.in-Ok-reset_board.ensures.store; reset = c.in-Ok-reset_board.ensures.reset };
+            shows = watched.run;
+            ends = c.in-Ok-run_watched.ensures.end;
+            left = record { files = refl; cause = c.in-Ok-run_watched.ensures.cause; flushed = c.in-Ok-run_watched.ensures.flushed };
+          })
+          c.in-Ok.ensures (c.report_behind.ensures _ (profile_text (profile_of rows watched.cycles) end last.counts) put cause));
+    }
 
 pub returns : goal.returns
 returns g c =
     let watched = c.in-Err-run_watched.ensures.watched in
-    let held = nothing_put_of (g.E.Sink.held c.args.err.now) (g.E.Sink.held c.run_watched.new.err) watched.saw.text (silent_says _ watched.cycles watched.saw.text watched.saw.says) watched.saw.said in
-    Stopped c.args.micro.loaded c.in-Ok-reset_board.board c.run_watched.new.board watched.cycles
-    (record { loaded = c.args.micro.is_loaded; store = c.in-Ok-reset_board.ensures.store; reset = c.in-Ok-reset_board.ensures.reset })
-    watched.run c.in-Err-run_watched.ensures.cause held c.in-Err-run_watched.ensures.said.failed refl
+    let held = nothing_put_of _ _ watched.saw.text (silent_says _ watched.cycles watched.saw.text watched.saw.says) watched.saw.said in
+    record {
+      names = search rules;
+      does =
+          rw (← c.outside.view_is)
+          (Stopped c.args.prepared.micro.loaded c.run_watched.new.board watched.cycles
+          (record {
+            first = c.in-Ok-reset_board.board;
+            begins = record { loaded = c.args.prepared.micro.is_loaded; store = c.in-Ok-reset_board.ensures.store; reset = c.in-Ok-reset_board.ensures.reset };
+            shows = watched.run;
+            ends = tt;
+            left = record { files = refl; cause = c.in-Err-run_watched.ensures.cause; flushed = tt };
+          })
+          held c.in-Err-run_watched.ensures.said.failed refl);
+    }

@@ -1,7 +1,7 @@
 use Rattle.std.proofs.Common.{◌≡◌, ℕ, List, refl, subst, rules}
 use Rattle.cli_outside.specs.Outside.{Says, SinkState, sink_of}
 use Rattle.cli_run_texts.specs.Ends.{status_of}
-use Rattle.cli_boards.specs.Traced.{report_on}
+use Rattle.cli_boards.specs.Runs.{report_on}
 use Rattle.cli_boards.proofs.Reporting.{says-behind, unsaid-behind}
 use Rattle.cli_boards.proofs.report.report_behind.Goals as goal
 

@@ -1,24 +1,32 @@
-use Rattle.std.proofs.Common.{◌≡◌, ◌∙◌, ap, sym, subst, ℕ, List, Option, None, Some}
+use Rattle.std.proofs.Common.{◌≡◌, ◌∙◌, ap, sym, rules, Option}
 use Rattle.std.specs.Prelude.{unwrap_or}
 use Rattle.mic_clock.specs.declared.counts.Counts.{Counts}
 use Rattle.mic_clock.specs.declared.end.End.{End}
 use Rattle.mic_clock.specs.declared.registers.Registers.{Registers}
-use Rattle.mic_clock.specs.Board.{HasEndCause}
 use Rattle.cli_run_texts.specs.Report.{report as report_of}
 use Rattle.cli_boards.specs.OwnRun.{Ran}
-use Rattle.cli_boards.specs.Traced.{report_on}
+use Rattle.cli_boards.specs.Runs.{report_on}
 use Rattle.cli_boards.proofs.run.run_program.Goals as goal
 
 pub returns : goal.returns
 returns g c =
     let last = c.run-end.new.self in
     let end : End = c.run-end.result in
+    let told = c.tell.ensures.does in
     let printed : c.bytes.result.now ≡ report_on g.M.Clocked.state g.M.Clocked.meaning end last =
     c.bytes.ensures.value ∙ c.clocked_report-line.ensures
     ∙ (ap (λ (k : Counts). report_of end k c.registers.result) c.counts.ensures ∙ ap (λ (r : Registers). report_of end last.counts r) c.registers.ensures) in
-    Ran c.args.micro.loaded c.in-Ok.board last end
-    (record { loaded = c.args.micro.is_loaded; store = c.in-Ok.ensures.store; reset = c.in-Ok.ensures.reset })
-    c.run-end.ensures.end c.run-end.ensures.run c.run-end.ensures.read c.run-end.ensures.write
-    (rw (c.in-Ok.ensures.reset.end, c.run-end.ensures.end) at c.run-end.ensures.cause)
-    (λ other. c.run-end.ensures.flushed (λ is. other (ap (λ (e : Option End). unwrap_or e end) (sym c.run-end.ensures.end ∙ is))))
-    (rw (printed, c.status_of.ensures) at c.say.ensures)
+    record {
+      names = search rules;
+      does =
+          rw (← c.outside.view_is)
+          (Ran c.args.prepared.micro.loaded c.in-Ok.board last end
+          (record { loaded = c.args.prepared.micro.is_loaded; store = c.in-Ok.ensures.store; reset = c.in-Ok.ensures.reset })
+          c.run-end.ensures.end (rw (told.console, told.out) c.run-end.ensures.run) (rw (told.console, told.out) c.run-end.ensures.read) (rw (told.console, told.out) c.run-end.ensures.write)
+          (record {
+            files = told.files;
+            cause = rw (told.console, told.out) (rw (c.in-Ok.ensures.reset.end, c.run-end.ensures.end) at c.run-end.ensures.cause);
+            flushed = λ other. rw told.out (c.run-end.ensures.flushed (λ is. other (ap (λ (e : Option End). unwrap_or e end) (sym c.run-end.ensures.end ∙ is))));
+          })
+          (rw (printed, c.status_of.ensures) at told.says));
+    }

@@ -1,27 +1,16 @@
-use Rattle.std.proofs.Common.{ℕ, List, refl, subst}
-use Rattle.cli_outside.specs.Outside.{files_state, sink_state, desk}
-use Rattle.cli_outside.specs.Work.{answered, Unread}
-use Rattle.cli_micro.specs.Answers.{MicroAnswers}
-use Rattle.cli_micro.proofs.Answering.{did}
+use Rattle.cli_outside.proofs.Ending.{did, not_had, refused, unread}
 use Rattle.cli_micro.proofs.commands.micro.Goals as goal
 
 pub returns-in-Err : goal.returns-in-Err
-returns-in-Err g c = Unread c.in-Err.ensures.unread refl
+returns-in-Err g c = not_had (unread c.in-Err.ensures.unread)
 
-pub returns-in-Ok-placed_answer : goal.returns-in-Ok-placed_answer
-returns-in-Ok-placed_answer g c =
-    let Comes : List ℕ → Type 0 = λ bytes. MicroAnswers c.args.machine c.args.store.now bytes (answered c.in-Ok-placed_answer.answer) in
-    did (MicroAnswers c.args.machine c.args.store.now) c.args.mal.now c.in-Ok.bytes.items (answered c.in-Ok-placed_answer.answer)
-    (files_state (g.F.Files.contents c.args.files.now) (g.F.Files.faults c.args.files.now))
-    (files_state (g.F.Files.contents c.read_named.new.files) (g.F.Files.faults c.read_named.new.files))
-    (sink_state (g.K.Sink.held c.args.out.now) (g.K.Sink.passed c.args.out.now) (g.K.Sink.faults c.args.out.now))
-    (sink_state (g.E.Sink.held c.args.err.now) (g.E.Sink.passed c.args.err.now) (g.E.Sink.faults c.args.err.now))
-    (sink_state (g.E.Sink.held c.read_named.new.err) (g.E.Sink.passed c.read_named.new.err) (g.E.Sink.faults c.read_named.new.err))
-    (desk (files_state (g.F.Files.contents c.carry_out.new.files) (g.F.Files.faults c.carry_out.new.files))
-    (sink_state (g.K.Sink.held c.carry_out.new.out) (g.K.Sink.passed c.carry_out.new.out) (g.K.Sink.faults c.carry_out.new.out))
-    (sink_state (g.E.Sink.held c.carry_out.new.err) (g.E.Sink.passed c.carry_out.new.err) (g.E.Sink.faults c.carry_out.new.err)))
-    c.carry_out.result.0 c.in-Ok.ensures.same
-    (cc c.in-Ok.ensures.silent)
-    c.in-Ok.ensures.read
-    (subst Comes c.deref.ensures.value c.in-Ok-placed_answer.ensures)
-    c.carry_out.ensures
+pub returns-in-Ok-made_of : goal.returns-in-Ok-made_of
+returns-in-Ok-made_of g c =
+    let m = rw c.deref.ensures.value at c.in-Ok-made_of.ensures.ok in
+    did m.placed (record { bytes = c.in-Ok.bytes.items; read = c.in-Ok.ensures.read; is = m.is })
+    (rw (m.made.file_is, m.made.text_is) at (rw (c.in-Ok.ensures.same, c.deref-in-Ok-made_of.ensures.value, c.deref-in-Ok-made_of-2.ensures.value) at c.write.ensures))
+
+pub returns : goal.returns
+returns g c =
+    not_had (refused c.in-Err-made_of.refusal c.in-Ok.ensures.read (rw c.deref.ensures.value at c.in-Err-made_of.ensures.err)
+    (rw c.in-Ok.ensures.same at c.refuse.ensures))

@@ -1,24 +1,18 @@
-use Rattle.std.proofs.Common.{ℕ, List, refl, subst}
-use Rattle.cli_outside.specs.Outside.{files_state, sink_state, desk}
-use Rattle.cli_outside.specs.Work.{answered, Unread}
-use Rattle.cli_programs.specs.Answers.{Assembled}
-use Rattle.cli_programs.proofs.Ending.{carried_ends}
+use Rattle.cli_outside.proofs.Ending.{did, not_had, refused, short, unread}
 use Rattle.cli_programs.proofs.assemble.assemble_file.Goals as goal
 
 pub returns-in-Err : goal.returns-in-Err
-returns-in-Err g c = Unread c.in-Err.ensures.unread refl
+returns-in-Err g c = not_had (unread c.in-Err.ensures.unread)
 
-pub returns-in-Ok-image_answer : goal.returns-in-Ok-image_answer
-returns-in-Ok-image_answer g c =
-    let Is : List ℕ → Type 0 = λ bytes. Assembled c.args.image.now bytes (answered c.in-Ok-image_answer.answer) in
-    carried_ends (Assembled c.args.image.now) c.args.source.now c.in-Ok.text.items (answered c.in-Ok-image_answer.answer)
-    (files_state (g.F.Files.contents c.args.files.now) (g.F.Files.faults c.args.files.now))
-    (files_state (g.F.Files.contents c.read_named.new.files) (g.F.Files.faults c.read_named.new.files))
-    (sink_state (g.K.Sink.held c.args.out.now) (g.K.Sink.passed c.args.out.now) (g.K.Sink.faults c.args.out.now))
-    (sink_state (g.E.Sink.held c.args.err.now) (g.E.Sink.passed c.args.err.now) (g.E.Sink.faults c.args.err.now))
-    (sink_state (g.E.Sink.held c.read_named.new.err) (g.E.Sink.passed c.read_named.new.err) (g.E.Sink.faults c.read_named.new.err))
-    (desk (files_state (g.F.Files.contents c.carry_out.new.files) (g.F.Files.faults c.carry_out.new.files))
-    (sink_state (g.K.Sink.held c.carry_out.new.out) (g.K.Sink.passed c.carry_out.new.out) (g.K.Sink.faults c.carry_out.new.out))
-    (sink_state (g.E.Sink.held c.carry_out.new.err) (g.E.Sink.passed c.carry_out.new.err) (g.E.Sink.faults c.carry_out.new.err)))
-    c.carry_out.result.0 c.in-Ok.ensures.same (cc c.in-Ok.ensures.silent) c.in-Ok.ensures.read
-    (subst Is c.deref.ensures.value c.in-Ok-image_answer.ensures) c.carry_out.ensures
+pub returns-in-Err-assembled : goal.returns-in-Err-assembled
+returns-in-Err-assembled g c =
+    not_had (refused c.in-Err-assembled.refusal c.in-Ok.ensures.read (rw c.deref.ensures.value at c.in-Err-assembled.ensures.err)
+    (rw c.in-Ok.ensures.same at c.refuse.ensures))
+
+pub returns-in-Ok-write_image : goal.returns-in-Ok-write_image
+returns-in-Ok-write_image g c =
+    did c.in-Ok-assembled.image (record { bytes = c.in-Ok.text.items; read = c.in-Ok.ensures.read; is = rw c.deref.ensures.value at c.in-Ok-assembled.ensures.ok })
+    (rw (c.in-Ok-write_image.ensures.file, c.sizes_of.ensures) at (rw (c.in-Ok.ensures.same, c.bytes.ensures.value, c.deref-in-Ok-write_image.ensures.value) at c.write.ensures))
+
+pub returns : goal.returns
+returns g c = not_had (short (rw c.in-Ok.ensures.same at c.no_memory.ensures))

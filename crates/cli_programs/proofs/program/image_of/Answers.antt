@@ -1,8 +1,8 @@
 use Rattle.std.proofs.Common.{◌∙◌, ap}
-use Rattle.cli_programs.specs.Program.{unaccepted_by}
+use Rattle.cli_outside.specs.Work.{refusal_by}
 use Rattle.cli_programs.proofs.Reasons.{no_image}
 use Rattle.cli_programs.proofs.program.image_of.Goals as goal
 
 pub returns-in-Err-clause-err : goal.returns-in-Err-clause-err
 returns-in-Err-clause-err c =
-    λ map. no_image map c.args.bytes.now c.in-Err.error c.refused.result c.requires c.in-Err.ensures.err (c.refused.ensures ∙ ap unaccepted_by c.image_reason.ensures)
+    λ map. no_image map c.args.bytes.now c.in-Err.error c.by.result c.requires c.in-Err.ensures.err (c.by.ensures ∙ ap refusal_by c.image_reason.ensures)

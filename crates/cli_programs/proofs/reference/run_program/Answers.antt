@@ -1,15 +1,34 @@
-use Rattle.cli_programs.specs.Reference.{Reported}
+use Rattle.std.proofs.Common.{rules}
+use Rattle.cli_programs.specs.Reference.{Reported, Short}
 use Rattle.cli_programs.proofs.Running.{reported}
 use Rattle.cli_programs.proofs.reference.run_program.Goals as goal
 
 pub returns-in-Ok : goal.returns-in-Ok
 returns-in-Ok g c =
-    Reported c.in-Ok.run'
-    (reported c.args.program.now c.args.machine c.args.bound _ _ _ _ c.in-Ok.run' (record {
-      run = rw (c.main_locals-locals.ensures.is, c.image-image.ensures.is, c.map-map.ensures.is) at c.in-Ok.ensures.run;
-      read = rw (c.main_locals-locals.ensures.is, c.image-image.ensures.is, c.map-map.ensures.is) at c.in-Ok.ensures.read;
-      write = rw (c.main_locals-locals.ensures.is, c.image-image.ensures.is, c.map-map.ensures.is) at c.in-Ok.ensures.write;
-      flushed = c.in-Ok.ensures.flushed;
-      cause = c.in-Ok.ensures.cause;
-    }))
-    (rw (c.bytes.ensures.value, c.plain_report.ensures, c.status_of.ensures, c.clocked_end.ensures) at c.say.ensures)
+    let told = c.tell.ensures.does in
+    record {
+      names = search rules;
+      does =
+          rw (← c.outside.view_is)
+          (Reported c.in-Ok.run'
+          (reported c.args.machine c.args.bound c.args.program.now _ _ c.in-Ok.run' (record {
+            run = rw (told.console, told.out) (rw (c.main_locals-locals.ensures.is, c.image-image.ensures.is, c.map-map.ensures.is) at c.in-Ok.ensures.run);
+            read = rw (told.console, told.out) (rw (c.main_locals-locals.ensures.is, c.image-image.ensures.is, c.map-map.ensures.is) at c.in-Ok.ensures.read);
+            write = rw (told.console, told.out) (rw (c.main_locals-locals.ensures.is, c.image-image.ensures.is, c.map-map.ensures.is) at c.in-Ok.ensures.write);
+            flushed = rw told.out c.in-Ok.ensures.flushed;
+            cause = rw (told.console, told.out) c.in-Ok.ensures.cause;
+          }))
+          told.files
+          (rw (c.bytes.ensures.value, c.plain_report.ensures, c.status_of.ensures, c.clocked_end.ensures) at told.says));
+    }
+
+pub returns-in-Err : goal.returns-in-Err
+returns-in-Err g c =
+    let told = c.no_memory.ensures.does in
+    record {
+      names = search rules;
+      does =
+          rw (← c.outside.view_is)
+          (Short (rw (told.console, told.out) (rw (c.main_locals-locals.ensures.is, c.image-image.ensures.is, c.map-map.ensures.is) at c.in-Err.ensures.short))
+          (rw told.console c.in-Err.ensures.quiet.0) (rw told.out c.in-Err.ensures.quiet.1) (rw told.out (c.in-Err.ensures.flushed tt)) told.files told.says);
+    }

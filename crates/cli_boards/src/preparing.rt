@@ -1,0 +1,50 @@
+//! What a command clocks, from the files that it reads.
+
+ghost use Rattle.std.specs.Prelude.{◌≡◌, IfOk, IfErr, OnOk, option_map};
+ghost use Rattle.console_port.specs.Map.{IsMap};
+ghost use Rattle.cli_outside.specs.Outside.{Over};
+ghost use Rattle.cli_boards.specs.Prepared.{IsPrepared, IsUnprepared};
+
+use crate::choice::chosen_microprogram;
+use crate::microprogram::Microprogram;
+use cli_outside::{Outside, Status};
+use cli_programs::program_in_file;
+use console_port::MemoryMap;
+use ijvm_verifier::VerifiedImage;
+use mic_base::{Files, Sink, Source};
+use micro_word::Machine;
+use std::alloc::Global;
+
+/// An accepted program, and the microprogram that clocks it.
+#[derive(Drop)]
+pub struct Prepared {
+    pub program: VerifiedImage,
+    pub micro: Microprogram,
+}
+
+/// Reads a program and a microprogram; or it is said of a file why nothing is had of it, and the status tells.
+pub fn prepare<F: Files, S: Source, K: Sink, E: Sink>(
+    alloc: Global,
+    machine: Machine,
+    file: &str,
+    own: Option<&str>,
+    map: MemoryMap,
+    outside: &mut Outside<'_, F, S, K, E>,
+) -> Result<Prepared, Status>
+    requires { IsMap map.stack_end }
+    ensures prepared { IfOk result (λ p. IsPrepared machine map file.now (option_map (λ name. name.now) own.entry) outside.old.seen
+        p.micro.program p.program) }
+    ensures machine { IfOk result (λ p. p.micro.program.machine ≡ machine) }
+    ensures same { OnOk result (outside.new ≡ outside.old) }
+    ensures unprepared { IfErr result (λ status. Over (IsUnprepared machine map file.now (option_map (λ name. name.now) own.entry))
+        outside.old outside.new status.0) }
+{
+    let program = match program_in_file(alloc, file, map, outside) {
+        Ok(program) => program,
+        Err(status) => return Err(status),
+    };
+    match chosen_microprogram(alloc, machine, own, outside) {
+        Ok(micro) => Ok(Prepared { program, micro }),
+        Err(status) => Err(status),
+    }
+}

@@ -1,0 +1,37 @@
+//! Why nothing is had of a file.
+
+ghost use Rattle.std.specs.Prelude.{◌≡◌};
+ghost use Rattle.cli_outside.specs.Work.{refusal_by};
+
+use mic_base::Line;
+use std::alloc::AllocError;
+
+/// Why nothing is had from the bytes of a file.
+#[derive(Drop)]
+pub enum Refusal {
+    /// The file is refused: what follows its name in the message.
+    Refused(Line),
+    OutOfMemory,
+}
+
+impl Refusal {
+    /// For this reason, or for want of memory where there is none.
+    pub fn by(reason: Option<Line>) -> Refusal
+        ensures { result ≡ refusal_by reason }
+    {
+        match reason {
+            Some(line) => Refusal::Refused(line),
+            None => Refusal::OutOfMemory,
+        }
+    }
+}
+
+impl From<AllocError> for Refusal {
+    ghost use Rattle.cli_outside.specs.declared.refusal.Refusal.TheVariants.{OutOfMemory};
+
+    ghost from_gives = { λ _ e. e ≡ OutOfMemory };
+
+    fn from(_: AllocError) -> Refusal {
+        Refusal::OutOfMemory
+    }
+}

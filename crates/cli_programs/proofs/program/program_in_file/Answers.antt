@@ -1,0 +1,14 @@
+use Rattle.cli_outside.proofs.Ending.{refused, unread}
+use Rattle.cli_programs.proofs.program.program_in_file.Goals as goal
+
+pub returns-in-Err-clause-not_had : goal.returns-in-Err-clause-not_had
+returns-in-Err-clause-not_had g c = unread c.in-Err.ensures.unread
+
+pub returns-in-Ok-accepted_program-clause-had : goal.returns-in-Ok-accepted_program-clause-had
+returns-in-Ok-accepted_program-clause-had g c =
+    record { bytes = c.in-Ok.bytes.items; read = c.in-Ok.ensures.read; is = rw c.deref.ensures.value at c.in-Ok-accepted_program.ensures.ok }
+
+pub returns-clause-not_had : goal.returns-clause-not_had
+returns-clause-not_had g c =
+    refused c.in-Err-accepted_program.refusal c.in-Ok.ensures.read (rw c.deref.ensures.value at c.in-Err-accepted_program.ensures.err)
+    (rw c.in-Ok.ensures.same at c.refuse.ensures)
