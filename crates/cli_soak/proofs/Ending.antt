@@ -1,5 +1,5 @@
 -- How `soak` ends: a plain source and a plain sink never fail, so the run is never cut.
-use Rattle.std.proofs.Common.{◌≡◌, ◌∙◌, ℕ, List, [], length, Option, Some, None, refl, sym, ap, subst, arith}
+use Rattle.std.proofs.Common.{◌≡◌, ◌∙◌, ℕ, List, [], length, Option, Some, None, refl, sym, subst, arith}
 use Rattle.mic_base.specs.Causes.{Rose}
 use Rattle.mic_clock.specs.declared.end.End.{End}
 use Rattle.mic_clock.specs.declared.end.End.TheVariants as ends
@@ -10,7 +10,7 @@ use Rattle.ijvm_image.specs.Image.{ImageView}
 use Rattle.ijvm_paths.specs.Accepted.{VerifiedView}
 use Rattle.ijvm_simulation.specs.Simulates.{board_end}
 use Rattle.ijvm_simulation.specs.Headline.{HasRun}
-use Rattle.cli_outside.specs.Outside.{SinkState, Says}
+use Rattle.cli_outside.specs.Outside.{LentView, Over, Prints}
 use Rattle.cli_run_texts.specs.Ends.{status_of}
 use Rattle.soak_program.specs.Generated.{generated}
 use Rattle.cli_soak.specs.Summary.{summary}
@@ -35,19 +35,22 @@ unfailed (Some ends.Adrift) c = tt
 
 module _ {M S : Type 0} (state : M → S) (m : Meaning S) (IsReady : ℕ → List ℕ → ℕ → S → Type 0) (IsShipped : List ℕ → Type 0) (entry : ℕ) where
   -- the summary by the end of the definition's run, and by the size of the generated text
-  pub ends_by : (seed size : ℕ) (program : VerifiedView) (begun left : Option (List ℕ)) (board : BoardView M) (end : End) (out out' err err' : SinkState) (status : ℕ) →
+  pub ends_by : (seed size : ℕ) (program : VerifiedView) (begun left : Option (List ℕ)) (board : BoardView M) (end : End) (old new : LentView) (status : ℕ) →
       IsGenerated seed size program → begun ≡ Some [] →
       (NoFault None board.end → HasRun state m IsReady IsShipped entry program soak_bound begun None left None board) →
-      HasEndCause 0 0 0 0 None board.end → board.end ≡ Some end → err' ≡ err →
-      Says out out' (summary (length program.image.text) end board.counts (m.registers (state board.machine)).tos) (status_of end) status →
-      SoakEnds state m IsReady IsShipped entry seed size out out' err err' status
-  ends_by seed size program begun left board end out out' err err' status is none run cause ended same says =
+      HasEndCause 0 0 0 0 None board.end → board.end ≡ Some end →
+      Over (Prints (summary (length program.image.text) end board.counts (m.registers (state board.machine)).tos) (status_of end)) old new status →
+      Over (SoakEnds state m IsReady IsShipped entry seed size) old new status
+  ends_by seed size program begun left board end old new status is none run cause ended prints =
+      let tos : ℕ = (m.registers (state board.machine)).tos in
       let r : HasRun state m IsReady IsShipped entry program soak_bound (Some []) None left None board =
       subst (λ (x : Option (List ℕ)). HasRun state m IsReady IsShipped entry program soak_bound x None left None board) none (run (unfailed board.end cause)) in
       let agrees : end ≡ board_end r.begins.finish.end = some_is end (board_end r.begins.finish.end) (sym ended ∙ (sym r.end ∙ r.agrees.end)) in
-      let by_end : Says out out' (summary (length program.image.text) (board_end r.begins.finish.end) board.counts (m.registers (state board.machine)).tos)
-      (status_of (board_end r.begins.finish.end)) status =
-      subst (λ (x : End). Says out out' (summary (length program.image.text) x board.counts (m.registers (state board.machine)).tos) (status_of x) status) agrees says in
-      Ran program is left board r same
-      (subst (λ (x : ImageView). Says out out' (summary (length x.text) (board_end r.begins.finish.end) board.counts (m.registers (state board.machine)).tos)
-      (status_of (board_end r.begins.finish.end)) status) is.image_is by_end)
+      let by_end : Prints (summary (length program.image.text) (board_end r.begins.finish.end) board.counts tos) (status_of (board_end r.begins.finish.end)) old.seen new.seen status =
+      subst (λ (x : End). Prints (summary (length program.image.text) x board.counts tos) (status_of x) old.seen new.seen status) agrees prints.does in
+      record {
+        names = prints.names;
+        does = Ran program is left board r
+            (subst (λ (x : ImageView). Prints (summary (length x.text) (board_end r.begins.finish.end) board.counts tos) (status_of (board_end r.begins.finish.end)) old.seen new.seen status)
+            is.image_is by_end);
+      }

@@ -1,15 +1,15 @@
 //! The run of a generated program.
 
-ghost use Rattle.std.specs.Prelude.{◌≡◌, ◌≤◌, ℕ};
-ghost use Rattle.cli_outside.specs.Outside.{sink_of};
+ghost use Rattle.std.specs.Prelude.{◌≤◌, ℕ};
+ghost use Rattle.cli_outside.specs.Outside.{Over};
 ghost use Rattle.cli_soak.specs.SoakEnds.{IsGenerated, SoakEnds};
 
 use crate::summary::summary;
-use cli_outside::{Status, no_memory, say};
+use cli_outside::{Outside, Status};
 use cli_run_texts::status_of;
 use ijvm_simulation::{Interpreter, run_image};
 use ijvm_verifier::VerifiedImage;
-use mic_base::{PlainSink, PlainSource, Sink};
+use mic_base::{Files, PlainSink, PlainSource, Sink, Source};
 use soak_program::soak_image;
 use std::alloc::Global;
 
@@ -17,39 +17,33 @@ use std::alloc::Global;
 const BOUND: u64 = 10_000_000;
 
 /// Clocks the program of a seed and a size, 1 to 9,000, and prints the summary of its run.
-pub fn soak<I: Interpreter, K: Sink, E: Sink>(
+pub fn soak<I: Interpreter, F: Files, S: Source, K: Sink, E: Sink>(
     alloc: Global,
     seed: u32,
     size: u16,
-    out: &mut K,
-    err: &mut E,
+    outside: &mut Outside<'_, F, S, K, E>,
 ) -> Status
 where
     I::Machine: Drop,
     requires { size ≤ 9000 }
-    ensures { SoakEnds I.Machine.state I.Machine.meaning I.Machine.IsReady I.IsShipped I.entry seed size
-        (sink_of K.held K.passed K.faults out.old) (sink_of K.held K.passed K.faults out.new)
-        (sink_of E.held E.passed E.faults err.old) (sink_of E.held E.passed E.faults err.new) result.0 }
+    ensures { Over (SoakEnds I.Machine.state I.Machine.meaning I.Machine.IsReady I.IsShipped I.entry seed size) outside.old outside.new result.0 }
 {
     match soak_image(alloc, seed, size) {
-        Ok(program) => run_soak::<I, K, E>(alloc, &program, out, err),
-        Err(_) => no_memory(err),
+        Ok(program) => run_soak::<I, F, S, K, E>(alloc, &program, outside),
+        Err(_) => outside.no_memory(),
     }
 }
 
 /// Clocks the generated program, and prints the summary of its run.
-fn run_soak<I: Interpreter, K: Sink, E: Sink>(
+fn run_soak<I: Interpreter, F: Files, S: Source, K: Sink, E: Sink>(
     alloc: Global,
     program: &VerifiedImage,
-    out: &mut K,
-    err: &mut E,
+    outside: &mut Outside<'_, F, S, K, E>,
 ) -> Status
 where
     I::Machine: Drop,
     ensures { (seed size : ℕ) → IsGenerated seed size program.now →
-        SoakEnds I.Machine.state I.Machine.meaning I.Machine.IsReady I.IsShipped I.entry seed size
-        (sink_of K.held K.passed K.faults out.old) (sink_of K.held K.passed K.faults out.new)
-        (sink_of E.held E.passed E.faults err.old) (sink_of E.held E.passed E.faults err.new) result.0 }
+        Over (SoakEnds I.Machine.state I.Machine.meaning I.Machine.IsReady I.IsShipped I.entry seed size) outside.old outside.new result.0 }
 {
     let mut source = PlainSource::new(Vec::new(alloc));
     let mut sink = PlainSink::new();
@@ -58,8 +52,8 @@ where
             let end = board.ended().unwrap();
             let size_of_text = program.image().text().len();
             let line = summary(size_of_text, end, &board.counts(), board.registers().tos);
-            say(out, line.bytes(), status_of(end))
+            outside.print(line.bytes(), status_of(end))
         }
-        Err(_) => no_memory(err),
+        Err(_) => outside.no_memory(),
     }
 }

@@ -1,8 +1,7 @@
-use Rattle.std.proofs.Common.{◌≡◌, ◌∙◌, ℕ, List, Option, Some, length, refl, sym, ap, arith}
+use Rattle.std.proofs.Common.{◌≡◌, ◌∙◌, ℕ, List, Some, length, sym, ap}
 use Rattle.mic_clock.specs.declared.end.End.{End}
 use Rattle.mic_clock.specs.declared.counts.Counts.{Counts}
 use Rattle.mic_clock.specs.declared.registers.Registers.{Registers}
-use Rattle.cli_outside.specs.Outside.{sink_state}
 use Rattle.cli_soak.specs.Summary.{summary}
 use Rattle.cli_soak.specs.SoakEnds.{NoRoom}
 use Rattle.cli_soak.proofs.Ending.{ends_by}
@@ -20,9 +19,9 @@ returns-in-Ok g c = λ seed size is.
     ∙ (ap (λ (k : Counts). summary (length c.args.program.now.image.text) end k c.registers.result.tos) c.counts.ensures
     ∙ ap (λ (r : Registers). summary (length c.args.program.now.image.text) end c.in-Ok.board.counts r.tos) c.registers.ensures)) in
     ends_by g.I.Machine.Clocked.state g.I.Machine.Clocked.meaning g.I.Machine.Clocked.IsReady g.I.Interpreter.IsShipped g.I.Interpreter.entry
-    seed size c.args.program.now _ _ c.in-Ok.board end _ _ _ _ c.say.result.0 is
+    seed size c.args.program.now _ _ c.in-Ok.board end _ _ c.print.result.0 is
     (ap (λ (xs : List ℕ). Some xs) (c.new-source.ensures ∙ c.new.ensures.items))
-    c.in-Ok.ensures.run c.in-Ok.ensures.cause ended refl (rw (printed, c.status_of.ensures) at c.say.ensures)
+    c.in-Ok.ensures.run c.in-Ok.ensures.cause ended (rw (printed, c.status_of.ensures) at c.print.ensures)
 
 pub returns : goal.returns
-returns g c = λ seed size is. NoRoom refl c.no_memory.ensures
+returns g c = λ seed size is. record { names = c.no_memory.ensures.names; does = NoRoom c.no_memory.ensures.does }
