@@ -1,13 +1,11 @@
 -- `run` and `reference` of one program agree.
-use Rattle.std.proofs.Common.{◌≡◌, ◌≢◌, ◌∙◌, ℕ, zero, suc, Bool, true, false, List, ◌++◌, Some, None, Option, refl, sym, ap, subst, nat_le}
-use Rattle.std.specs.Prelude.{codes, unwrap_or, IfSome}
+use Rattle.std.proofs.Common.{◌≡◌, ◌≢◌, ◌∙◌, ℕ, zero, suc, Bool, true, false, List, ◌++◌, Some, Option, refl, sym, ap, subst, nat_le}
+use Rattle.std.specs.Prelude.{codes, IfSome}
 use Rattle.mic_base.specs.Causes.{Rose}
 use Rattle.console_port.specs.Console.{Untaken}
 use Rattle.mic_clock.specs.declared.end.End.{End}
-use Rattle.mic_clock.specs.declared.end.End.TheVariants as clocked
 use Rattle.mic_clock.specs.declared.counts.Boundary.{Boundary}
 use Rattle.mic_clock.specs.declared.counts.Counts.{Counts}
-use Rattle.mic_clock.specs.declared.registers.Registers.{Registers}
 use Rattle.mic_clock.specs.Meaning.{Meaning}
 use Rattle.mic_clock.specs.View.{BoardView}
 use Rattle.ijvm_run.specs.declared.run.RunEnd.{RunEnd}
@@ -18,19 +16,18 @@ use Rattle.plain_machine.specs.declared.plain.PlainReport.{PlainReport}
 use Rattle.plain_machine.specs.Plain.{Reports, HasRun as HasPlainRun}
 use Rattle.plain_machine.specs.Plain as plain
 use Rattle.ijvm_paths.specs.Accepted.{VerifiedView}
-use Rattle.ijvm_simulation.specs.Simulates.{boundary_of, board_end, IsEnd}
+use Rattle.ijvm_simulation.specs.Simulates.{boundary_of, board_end}
 use Rattle.ijvm_simulation.specs.Verified.{program as program_on}
 use Rattle.ijvm_simulation.specs.Headline.{HasRun}
-use Rattle.cli_outside.specs.Status as exits
-use Rattle.cli_outside.specs.Outside.{Got, Said, Says, SinkState, Unsaid}
+use Rattle.cli_outside.specs.Outside.{Got, OutsideView, Said, Says, SinkState, Unsaid}
 use Rattle.cli_run_texts.specs.Ends.{status_of}
 use Rattle.cli_run_texts.specs.Ends as texts
 use Rattle.mic_clock.specs.State.{state_line}
 use Rattle.cli_run_texts.specs.Report.{clocked_head, cycles_of, head, last_boundary, plain_head}
-use Rattle.cli_programs.specs.Reference.{IsReported, IsRun, Reported}
+use Rattle.cli_programs.specs.Reference.{IsRun, Reported}
 use Rattle.cli_programs.specs.Reference as reference
-use Rattle.cli_call.specs.Outside.{Streams}
-use Rattle.cli_call.specs.RunEnds.{ClockedEnd, CutByRead, CutByWrite, NoRoom, Ran, report_on}
+use Rattle.cli_boards.specs.Runs.{report_on}
+use Rattle.cli_call.specs.ClockedEnd.{ClockedEnd, CutByRead, CutByWrite, NoRoom, Ran}
 use Rattle.cli_call.specs.Agree.{Agrees, IsQuiet}
 
 -- At a stack limit the definition's cycles are those of the last boundary.
@@ -111,7 +108,7 @@ abbrev pub OneEnd : Type 0
 OneEnd = (p : Program) (n : ℕ) (from : Point) (f g : Finish) → EndsBy p n from f → EndsBy p n from g → f ≡ g
 
 module _ {M S : Type 0} (state : M → S) (m : Meaning S) (IsReady : ℕ → List ℕ → ℕ → S → Type 0) (IsShipped : List ℕ → Type 0) (entry : ℕ) where
-  module _ (program : VerifiedView) (bound : ℕ) (input : List ℕ) (old ran told : Streams) (status status' : ℕ) where
+  module _ (program : VerifiedView) (bound : ℕ) (input : List ℕ) (old ran told : OutsideView) (status status' : ℕ) where
     -- both ran to their ends
     both : OneEnd → old.console.left ≡ Some input →
         (board : BoardView M) (run : HasRun state m IsReady IsShipped entry program bound old.console.left old.out.held ran.console.left ran.out.held board) →
@@ -151,20 +148,20 @@ module _ {M S : Type 0} (state : M → S) (m : Meaning S) (IsReady : ℕ → Lis
     by_reference : OneEnd → old.console.left ≡ Some input →
         (board : BoardView M) (run : HasRun state m IsReady IsShipped entry program bound old.console.left old.out.held ran.console.left ran.out.held board) →
         Says old.err ran.err (report_on state m (board_end run.begins.finish.end) board) (status_of (board_end run.begins.finish.end)) status →
-        IsRun program m.machine bound old.console told.console old.out told.out old.err told.err status' →
+        IsRun m.machine bound program old told status' →
         IsQuiet old ran status → IsQuiet old told status' → Agrees old ran told status status'
-    by_reference one tells board run says (Reported r (reference.Ran plainly console out flushed) says') quiet quiet' =
+    by_reference one tells board run says (Reported r (reference.Ran plainly console out flushed) files says') quiet quiet' =
         both one tells board run says r plainly says' quiet quiet'
-    by_reference one tells board run says (Reported r (reference.CutByRead e cut rose out flushed) says') quiet quiet' = absurd (quiet'.console rose)
-    by_reference one tells board run says (Reported r (reference.CutByWrite e cut console rose) says') quiet quiet' = absurd (quiet'.out rose)
-    by_reference one tells board run says (reference.Short short console out flushed says') quiet quiet' =
+    by_reference one tells board run says (Reported r (reference.CutByRead e cut rose out flushed) files says') quiet quiet' = absurd (quiet'.console rose)
+    by_reference one tells board run says (Reported r (reference.CutByWrite e cut console rose) files says') quiet quiet' = absurd (quiet'.out rose)
+    by_reference one tells board run says (reference.Short short console out flushed files says') quiet quiet' =
         absurd (quiet'.memory (said old.err told.err _ _ status' quiet'.err says').0)
 
     pub agree : OneEnd → old.console.left ≡ Some input →
-        ClockedEnd state m IsReady IsShipped entry program bound old ran status →
-        IsRun program m.machine bound old.console told.console old.out told.out old.err told.err status' →
+        ClockedEnd state m IsReady IsShipped entry bound program old ran status →
+        IsRun m.machine bound program old told status' →
         IsQuiet old ran status → IsQuiet old told status' → Agrees old ran told status status'
-    agree one tells (NoRoom same says) reference quiet quiet' = absurd (quiet.memory (said old.err ran.err _ _ status quiet.err says).0)
-    agree one tells (Ran board run console out flushed says) reference quiet quiet' = by_reference one tells board run says reference quiet quiet'
-    agree one tells (CutByRead board cut rose out flushed says) reference quiet quiet' = absurd (quiet.console rose)
-    agree one tells (CutByWrite board cut console rose says) reference quiet quiet' = absurd (quiet.out rose)
+    agree one tells (NoRoom tells') reference quiet quiet' = absurd (quiet.memory (said old.err ran.err _ _ status quiet.err tells'.says).0)
+    agree one tells (Ran board run files console out flushed says) reference quiet quiet' = by_reference one tells board run says reference quiet quiet'
+    agree one tells (CutByRead board cut files rose out flushed says) reference quiet quiet' = absurd (quiet.console rose)
+    agree one tells (CutByWrite board cut files console rose says) reference quiet quiet' = absurd (quiet.out rose)

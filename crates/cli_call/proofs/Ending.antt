@@ -1,5 +1,5 @@
 -- How a run ends, by the end of its board.
-use Rattle.std.proofs.Common.{◌≡◌, ◌≢◌, ◌∙◌, ℕ, List, Some, None, refl, sym, ap, subst}
+use Rattle.std.proofs.Common.{◌≡◌, ◌≢◌, ◌∙◌, ℕ, List, Some, None, refl, sym, subst}
 use Rattle.console_port.specs.Console.{StaysFlushed}
 use Rattle.mic_clock.specs.declared.end.End.{End}
 use Rattle.mic_clock.specs.declared.end.End.TheVariants as ends
@@ -9,18 +9,19 @@ use Rattle.mic_clock.specs.View.{BoardView}
 use Rattle.ijvm_paths.specs.Accepted.{VerifiedView}
 use Rattle.ijvm_simulation.specs.Simulates.{board_end}
 use Rattle.ijvm_simulation.specs.Headline.{HasRun, IsCutByRead, IsCutByWrite}
-use Rattle.cli_outside.specs.Outside.{Says}
-use Rattle.cli_call.specs.Outside.{Streams}
+use Rattle.cli_outside.specs.Outside.{OutsideView, Says}
 use Rattle.cli_run_texts.specs.Ends.{status_of}
-use Rattle.cli_call.specs.RunEnds.{ClockedEnd, CutByRead, CutByWrite, Ran, report_on}
+use Rattle.cli_boards.specs.Runs.{report_on}
+use Rattle.cli_call.specs.ClockedEnd.{ClockedEnd, CutByRead, CutByWrite, Ran}
 
 some_is : {A : Type 0} → (x y : A) → Some x ≡ Some y → x ≡ y
 some_is x y e = cc
 
 module _ {M S : Type 0} (state : M → S) (m : Meaning S) (IsReady : ℕ → List ℕ → ℕ → S → Type 0) (IsShipped : List ℕ → Type 0) (entry : ℕ) where
-  module _ (program : VerifiedView) (bound : ℕ) (old new : Streams) (board : BoardView M) where
-    -- what is known of a board that was run between these streams
-    pub record IsRun : Type 0 where
+  module _ (bound : ℕ) (program : VerifiedView) (old new : OutsideView) (board : BoardView M) where
+    -- what is known of a board that was clocked between these
+    pub record IsClocked : Type 0 where
+      pub files : new.files ≡ old.files
       pub run : NoFault None board.end →
           HasRun state m IsReady IsShipped entry program bound old.console.left old.out.held new.console.left new.out.held board
       pub read : board.end ≡ Some ends.ReadFault →
@@ -35,23 +36,23 @@ module _ {M S : Type 0} (state : M → S) (m : Meaning S) (IsReady : ℕ → Lis
         (end : End) → board.end ≡ Some end → end ≡ board_end run.begins.finish.end
     agrees run end e = some_is end (board_end run.begins.finish.end) (sym e ∙ sym run.end ∙ run.agrees.end)
 
-    whole : (end : End) (status : ℕ) → IsRun → board.end ≡ Some end → NoFault None (Some end) → (Some end ≡ Some ends.ReadFault → ⊥) → (Some end ≡ Some ends.WriteFault → ⊥) →
+    whole : (end : End) (status : ℕ) → IsClocked → board.end ≡ Some end → NoFault None (Some end) → (Some end ≡ Some ends.ReadFault → ⊥) → (Some end ≡ Some ends.WriteFault → ⊥) →
         Says old.err new.err (report_on state m end board) (status_of end) status →
-        ClockedEnd state m IsReady IsShipped entry program bound old new status
+        ClockedEnd state m IsReady IsShipped entry bound program old new status
     whole end status r e none unread unwritten says =
         let run : HasRun state m IsReady IsShipped entry program bound old.console.left old.out.held new.console.left new.out.held board =
         r.run (subst (NoFault None) (sym e) none) in
-        Ran board run (r.cause.source_same (λ _ q. unread (sym e ∙ q))) (r.cause.sink_same (λ _ q. unwritten (sym e ∙ q))) (r.flushed (λ q. unwritten (sym e ∙ q)))
+        Ran board run r.files (r.cause.source_same (λ _ q. unread (sym e ∙ q))) (r.cause.sink_same (λ _ q. unwritten (sym e ∙ q))) (r.flushed (λ q. unwritten (sym e ∙ q)))
         (subst (λ (x : End). Says old.err new.err (report_on state m x board) (status_of x) status) (agrees run end e) says)
 
-    pub ends_by : (end : End) (status : ℕ) → IsRun → board.end ≡ Some end →
+    pub ends_by : (end : End) (status : ℕ) → IsClocked → board.end ≡ Some end →
         Says old.err new.err (report_on state m end board) (status_of end) status →
-        ClockedEnd state m IsReady IsShipped entry program bound old new status
+        ClockedEnd state m IsReady IsShipped entry bound program old new status
     ends_by ends.ReadFault status r e says =
         let unwritten : board.end ≢ Some ends.WriteFault = λ q. let c : Some ends.ReadFault ≡ Some ends.WriteFault = sym e ∙ q in cc in
-        CutByRead board (r.read e) (r.cause.read refl e) (r.cause.sink_same (λ _. unwritten)) (r.flushed unwritten) says
+        CutByRead board (r.read e) r.files (r.cause.read refl e) (r.cause.sink_same (λ _. unwritten)) (r.flushed unwritten) says
     ends_by ends.WriteFault status r e says =
-        CutByWrite board (r.write e) (r.cause.source_same (λ _ q. let c : Some ends.WriteFault ≡ Some ends.ReadFault = sym e ∙ q in cc)) (r.cause.write refl e) says
+        CutByWrite board (r.write e) r.files (r.cause.source_same (λ _ q. let c : Some ends.WriteFault ≡ Some ends.ReadFault = sym e ∙ q in cc)) (r.cause.write refl e) says
     ends_by ends.Halt status r e says = whole ends.Halt status r e tt (λ q. cc) (λ q. cc) says
     ends_by ends.Err status r e says = whole ends.Err status r e tt (λ q. cc) (λ q. cc) says
     ends_by ends.Bound status r e says = whole ends.Bound status r e tt (λ q. cc) (λ q. cc) says

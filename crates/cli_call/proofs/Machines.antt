@@ -11,10 +11,10 @@ use Rattle.ijvm_simulation.specs.Headline.{HasRun}
 use Rattle.ijvm_simulation.specs.Agreement.{MeetNoBound}
 use Rattle.ijvm_simulation.specs.Agreement as boards
 use Rattle.cli_outside.specs.Status as exits
-use Rattle.cli_outside.specs.Outside.{Got, Says}
+use Rattle.cli_outside.specs.Outside.{Got, OutsideView, Says}
 use Rattle.cli_run_texts.specs.Ends.{status_of}
-use Rattle.cli_call.specs.Outside.{Streams}
-use Rattle.cli_call.specs.RunEnds.{ClockedEnd, CutByRead, CutByWrite, NoRoom, Ran, report_on}
+use Rattle.cli_boards.specs.Runs.{report_on}
+use Rattle.cli_call.specs.ClockedEnd.{ClockedEnd, CutByRead, CutByWrite, NoRoom, Ran}
 use Rattle.cli_call.specs.Agree.{EndAlike, IsQuiet}
 use Rattle.cli_call.proofs.Agreeing.{said}
 
@@ -37,7 +37,7 @@ module _ {M N S T : Type 0} (state : M → S) (m : Meaning S) (IsReady : ℕ →
       HasRun state' m' IsReady' IsShipped' entry' v bound' (Some input) before left' held' board' →
       MeetNoBound board board' → boards.EndAlike held held' board board'
 
-  module _ (program : VerifiedView) (bound bound' : ℕ) (input : List ℕ) (old one other : Streams) (status status' : ℕ) where
+  module _ (program : VerifiedView) (bound bound' : ℕ) (input : List ℕ) (old one other : OutsideView) (status status' : ℕ) where
     -- both ran to their ends
     both : BoardsAgree → old.console.left ≡ Some input →
         (board : BoardView M) (run : HasRun state m IsReady IsShipped entry program bound old.console.left old.out.held one.console.left one.out.held board) →
@@ -76,18 +76,18 @@ module _ {M N S T : Type 0} (state : M → S) (m : Meaning S) (IsReady : ℕ →
     by_other : BoardsAgree → old.console.left ≡ Some input →
         (board : BoardView M) (run : HasRun state m IsReady IsShipped entry program bound old.console.left old.out.held one.console.left one.out.held board) →
         Says old.err one.err (report_on state m (board_end run.begins.finish.end) board) (status_of (board_end run.begins.finish.end)) status →
-        ClockedEnd state' m' IsReady' IsShipped' entry' program bound' old other status' →
+        ClockedEnd state' m' IsReady' IsShipped' entry' bound' program old other status' →
         IsQuiet old one status → IsQuiet old other status' → status ≢ exits.bound → status' ≢ exits.bound → EndAlike old one other status status'
-    by_other agree tells board run says (Ran board' run' console out flushed says') quiet quiet' = both agree tells board run says board' run' says' quiet quiet'
-    by_other agree tells board run says (NoRoom same says') quiet quiet' = absurd (quiet'.memory (said old.err other.err _ _ status' quiet'.err says').0)
-    by_other agree tells board run says (CutByRead board' cut rose out flushed says') quiet quiet' = absurd (quiet'.console rose)
-    by_other agree tells board run says (CutByWrite board' cut console rose says') quiet quiet' = absurd (quiet'.out rose)
+    by_other agree tells board run says (Ran board' run' files console out flushed says') quiet quiet' = both agree tells board run says board' run' says' quiet quiet'
+    by_other agree tells board run says (NoRoom tells') quiet quiet' = absurd (quiet'.memory (said old.err other.err _ _ status' quiet'.err tells'.says).0)
+    by_other agree tells board run says (CutByRead board' cut files rose out flushed says') quiet quiet' = absurd (quiet'.console rose)
+    by_other agree tells board run says (CutByWrite board' cut files console rose says') quiet quiet' = absurd (quiet'.out rose)
 
     pub end_alike : BoardsAgree → old.console.left ≡ Some input →
-        ClockedEnd state m IsReady IsShipped entry program bound old one status →
-        ClockedEnd state' m' IsReady' IsShipped' entry' program bound' old other status' →
+        ClockedEnd state m IsReady IsShipped entry bound program old one status →
+        ClockedEnd state' m' IsReady' IsShipped' entry' bound' program old other status' →
         IsQuiet old one status → IsQuiet old other status' → status ≢ exits.bound → status' ≢ exits.bound → EndAlike old one other status status'
-    end_alike agree tells (Ran board run console out flushed says) ends quiet quiet' = by_other agree tells board run says ends quiet quiet'
-    end_alike agree tells (NoRoom same says) ends quiet quiet' = absurd (quiet.memory (said old.err one.err _ _ status quiet.err says).0)
-    end_alike agree tells (CutByRead board cut rose out flushed says) ends quiet quiet' = absurd (quiet.console rose)
-    end_alike agree tells (CutByWrite board cut console rose says) ends quiet quiet' = absurd (quiet.out rose)
+    end_alike agree tells (Ran board run files console out flushed says) ends quiet quiet' = by_other agree tells board run says ends quiet quiet'
+    end_alike agree tells (NoRoom tells') ends quiet quiet' = absurd (quiet.memory (said old.err one.err _ _ status quiet.err tells'.says).0)
+    end_alike agree tells (CutByRead board cut files rose out flushed says) ends quiet quiet' = absurd (quiet.console rose)
+    end_alike agree tells (CutByWrite board cut files console rose says) ends quiet quiet' = absurd (quiet.out rose)

@@ -6,20 +6,19 @@ use Rattle.mic_clock.specs.declared.end.End.{End}
 use Rattle.mic_clock.specs.declared.registers.Registers.{Registers}
 use Rattle.plain_machine.specs.declared.plain.PlainReport.{PlainReport}
 use Rattle.cli_outside.specs.Status as exits
-use Rattle.cli_outside.specs.Outside.{Got}
+use Rattle.cli_outside.specs.Outside.{Got, OutsideView}
 use Rattle.mic_clock.specs.State.{state_line}
 use Rattle.cli_run_texts.specs.Report.{plain_head, report as report_of}
-use Rattle.cli_call.specs.Outside.{Streams}
 
--- a call met no fault of these streams, and memory was not wanting
-pub record IsQuiet (old new : Streams) (status : ℕ) : Type 0 where
+-- a run met no fault of its streams, and memory was not wanting
+pub record IsQuiet (old new : OutsideView) (status : ℕ) : Type 0 where
   pub console : Rose old.console.faults new.console.faults → ⊥
   pub out : Rose old.out.faults new.out.faults → ⊥
   pub err : Rose old.err.faults new.err.faults → ⊥
   pub memory : status ≢ exits.memory
 
--- `run` led to the streams `ran`, and `reference` to `told`
-pub record Agrees (old ran told : Streams) (status status' : ℕ) : Type 0 where
+-- `run` led to the outside `ran`, and `reference` to `told`
+pub record Agrees (old ran told : OutsideView) (status status' : ℕ) : Type 0 where
   pub same_status : status ≡ status'
   pub same_out : (one other : List ℕ) → ran.out.held ≡ Some one → told.out.held ≡ Some other → one ≡ other
   -- `reference` says three lines, and `run` these and the state line
@@ -28,8 +27,8 @@ pub record Agrees (old ran told : Streams) (status status' : ℕ) : Type 0 where
   pub run_says : Got old.err.held (plain_head report ++ state_line registers ++ codes "\n") ran.err.held
   pub reference_says : Got old.err.held (plain_head report) told.err.held
 
--- `run` on one machine led to the streams `one`, and on another to `other`
-pub record EndAlike (old one other : Streams) (status status' : ℕ) : Type 0 where
+-- `run` on one machine led to the outside `one`, and on another to `other`
+pub record EndAlike (old one other : OutsideView) (status status' : ℕ) : Type 0 where
   pub same_status : status ≡ status'
   pub same_out : (given given' : List ℕ) → one.out.held ≡ Some given → other.out.held ≡ Some given' → given ≡ given'
   -- both report this end, with as many instructions

@@ -1,10 +1,10 @@
 -- The answers of a call of `mic`, one by one: what caused it, and what stands after it.
 use Rattle.std.specs.Prelude.{◌≡◌, ◌<◌, ◌≤◌, ◌⊎◌, ℕ, List, length, Option, Some, None}
 use Rattle.mic_base.specs.Causes.{Rose}
-use Rattle.mic_base.specs.Files.{Tells, most_bytes}
+use Rattle.mic_base.specs.Files.{Tells as Contain, most_bytes}
 use Rattle.cli_words.specs.Words.{Asked, Assemble, ListOf, Verify, Run, RunOwn, Trace, Profile, Debug, Reference, Micro, PrintMicro, Soak}
 use Rattle.cli_outside.specs.Status as exits
-use Rattle.cli_call.specs.Outside.{IsUntouched, Outside}
+use Rattle.cli_outside.specs.Outside.{OutsideView}
 
 -- the words have this file read
 abbrev pub Reads : Option Asked → List ℕ → Type 0
@@ -44,33 +44,38 @@ abbrev pub IsReference : Option Asked → Type 0
 IsReference (Some (Reference file machine bound map)) = Unit {0}
 IsReference asks = ⊥
 
--- files, console and `out` are as they were
-pub record IsRefusal (old new : Outside) : Type 0 where
+-- console and `out` are as they were
+pub record IsUntouched (old new : OutsideView) : Type 0 where
+  pub console : new.console ≡ old.console
+  pub out : new.out ≡ old.out
+
+-- and so are the files
+pub record IsOnlyTold (old new : OutsideView) : Type 0 where
   pub files : new.files ≡ old.files
-  pub untouched : IsUntouched old.streams new.streams
+  pub untouched : IsUntouched old new
 
 -- A status is one of these, each with its cause. None but these comes.
-pub data IsAnswer (asks : Option Asked) (old new : Outside) (status : ℕ) : Type 0 where
+pub data IsAnswer (asks : Option Asked) (old new : OutsideView) (status : ℕ) : Type 0 where
   -- 0: the command is done, or a run came to HALT
   Done : status ≡ exits.done → IsAnswer asks old new status
   -- 1, 2, 3: a run came to ERR, to its bound, to the end of the stack
   Ended : Runs asks → exits.error ≤ status → status ≤ exits.stack_limit → IsAnswer asks old new status
   -- 64
-  Misused : asks ≡ None → IsRefusal old new → status ≡ exits.usage → IsAnswer asks old new status
+  Misused : asks ≡ None → IsOnlyTold old new → status ≡ exits.usage → IsAnswer asks old new status
   -- 65
-  Refused : IsRefusal old new → status ≡ exits.refused → IsAnswer asks old new status
+  Refused : IsOnlyTold old new → status ≡ exits.refused → IsAnswer asks old new status
   -- 66
-  FileFailed : Rose old.files.faults new.files.faults → IsUntouched old.streams new.streams → status ≡ exits.file → IsAnswer asks old new status
+  FileFailed : Rose old.files.faults new.files.faults → IsUntouched old new → status ≡ exits.file → IsAnswer asks old new status
   -- 67
-  TooLong : (name bytes : List ℕ) → Reads asks name → Tells old.files.contents name bytes → most_bytes < length bytes → IsRefusal old new →
+  TooLong : (name bytes : List ℕ) → Reads asks name → Contain old.files.contents name bytes → most_bytes < length bytes → IsOnlyTold old new →
       status ≡ exits.too_long → IsAnswer asks old new status
   -- 68, 69: only by a person's own microprogram
   OutOfMap : RunsOwn asks → status ≡ exits.out_of_map → IsAnswer asks old new status
   Adrift : RunsOwn asks → status ≡ exits.adrift → IsAnswer asks old new status
   -- 70
-  ConsoleFailed : Rose old.streams.console.faults new.streams.console.faults → status ≡ exits.console → IsAnswer asks old new status
+  ConsoleFailed : Rose old.console.faults new.console.faults → status ≡ exits.console → IsAnswer asks old new status
   -- 71
-  SinkFailed : Rose old.streams.out.faults new.streams.out.faults ⊎ Rose old.streams.err.faults new.streams.err.faults → status ≡ exits.sink → IsAnswer asks old new status
+  SinkFailed : Rose old.out.faults new.out.faults ⊎ Rose old.err.faults new.err.faults → status ≡ exits.sink → IsAnswer asks old new status
   -- 75: before the first cycle of a run, and before anything was printed; or later, by the definition's run
-  NoMemory : IsUntouched old.streams new.streams → status ≡ exits.memory → IsAnswer asks old new status
+  NoMemory : IsUntouched old new → status ≡ exits.memory → IsAnswer asks old new status
   ShortOfMemory : IsReference asks → status ≡ exits.memory → IsAnswer asks old new status

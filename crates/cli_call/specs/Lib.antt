@@ -1,8 +1,5 @@
-pub mod Outside
 pub mod Usage
-pub mod RunEnds
-pub mod Ends
-pub mod JobEnds
-pub mod SoaksOn
+pub mod ClockedEnd
+pub mod CallEnds
 pub mod Agree
 pub mod Answers

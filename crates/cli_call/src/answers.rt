@@ -2,13 +2,12 @@
 
 ghost use Rattle.std.specs.Prelude.{ℕ, Option, map, string_bytes};
 ghost use Rattle.cli_words.specs.Words.{Asked, request_of};
-ghost use Rattle.cli_outside.specs.Outside.{files_of, sink_of, source_of};
-ghost use Rattle.cli_call.specs.Outside.{Outside, outside, streams};
-ghost use Rattle.cli_call.specs.Ends.{Ends};
+ghost use Rattle.cli_outside.specs.Outside.{OutsideView, files_of, outside_view, sink_of, source_of};
+ghost use Rattle.cli_call.specs.CallEnds.{CallEnds};
 ghost use Rattle.cli_call.specs.Answers.{IsAnswer};
 
 use crate::top_call::answer_words;
-use cli_outside::Status;
+use cli_outside::{Outside, Status, close};
 use ijvm_simulation::shipped_runs_end_as_defined;
 use mic_base::{Files, Sink, Source};
 use shipped_microcode::{Mic1Interpreter, Mic2Interpreter};
@@ -17,7 +16,7 @@ use std::alloc::Global;
 
 /// Each status that a call ends with has its cause, and no other comes.
 pub fn each_answer_has_its_cause()
-    ensures { (asks : Option Asked) (old new : Outside) (status : ℕ) → Ends asks old new status → IsAnswer asks old new status }
+    ensures { (asks : Option Asked) (old new : OutsideView) (status : ℕ) → CallEnds asks old new status → IsAnswer asks old new status }
 {
     loaded_programs_are_shipped();
     shipped_runs_end_as_defined::<Mic1Interpreter>();
@@ -33,19 +32,23 @@ pub fn mic_main<F: Files, S: Source, K: Sink, E: Sink>(
     out: &mut K,
     err: &mut E,
 ) -> Status
-    ensures ends { Ends (request_of (map string_bytes words.now))
-        (outside (files_of F.contents F.faults files.old)
-        (streams (source_of S.left S.faults console.old) (sink_of K.held K.passed K.faults out.old) (sink_of E.held E.passed E.faults err.old)))
-        (outside (files_of F.contents F.faults files.new)
-        (streams (source_of S.left S.faults console.new) (sink_of K.held K.passed K.faults out.new) (sink_of E.held E.passed E.faults err.new)))
+    ensures ends { CallEnds (request_of (map string_bytes words.now))
+        (outside_view (files_of F.contents F.faults files.old) (source_of S.left S.faults console.old)
+        (sink_of K.held K.passed K.faults out.old) (sink_of E.held E.passed E.faults err.old))
+        (outside_view (files_of F.contents F.faults files.new) (source_of S.left S.faults console.new)
+        (sink_of K.held K.passed K.faults out.new) (sink_of E.held E.passed E.faults err.new))
         result.0 }
     ensures answer { IsAnswer (request_of (map string_bytes words.now))
-        (outside (files_of F.contents F.faults files.old)
-        (streams (source_of S.left S.faults console.old) (sink_of K.held K.passed K.faults out.old) (sink_of E.held E.passed E.faults err.old)))
-        (outside (files_of F.contents F.faults files.new)
-        (streams (source_of S.left S.faults console.new) (sink_of K.held K.passed K.faults out.new) (sink_of E.held E.passed E.faults err.new)))
+        (outside_view (files_of F.contents F.faults files.old) (source_of S.left S.faults console.old)
+        (sink_of K.held K.passed K.faults out.old) (sink_of E.held E.passed E.faults err.old))
+        (outside_view (files_of F.contents F.faults files.new) (source_of S.left S.faults console.new)
+        (sink_of K.held K.passed K.faults out.new) (sink_of E.held E.passed E.faults err.new))
         result.0 }
 {
     each_answer_has_its_cause();
-    answer_words(alloc, words, files, console, out, err)
+    let mut outside = Outside::new(files, console, out, err);
+    let status = answer_words(alloc, words, &mut outside);
+    let (files, console, out, err) = outside.into_parts();
+    close(files, console, out, err);
+    status
 }

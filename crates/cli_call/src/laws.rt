@@ -11,8 +11,8 @@ ghost use Rattle.ijvm_paths.specs.Accepted.{VerifiedView};
 ghost use Rattle.cli_programs.specs.Reference.{IsRun};
 ghost use Rattle.cli_debug.specs.Stand.{OnlyGives};
 ghost use Rattle.cli_outside.specs.Status as exits;
-ghost use Rattle.cli_call.specs.Outside.{Streams};
-ghost use Rattle.cli_call.specs.RunEnds.{ClockedEnd};
+ghost use Rattle.cli_outside.specs.Outside.{OutsideView};
+ghost use Rattle.cli_call.specs.ClockedEnd.{ClockedEnd};
 ghost use Rattle.cli_call.specs.Agree.{Agrees, EndAlike, IsQuiet};
 
 use ijvm_run::runs_end_once;
@@ -21,13 +21,13 @@ use shipped_microcode::{Mic1Interpreter, Mic2Interpreter};
 
 /// `run` and `reference` of one accepted program, on the same machine, with the same bound and input, agree where no fault comes and memory is not wanting.
 pub fn run_agrees_with_reference()
-    ensures mic1 { (program : VerifiedView) (bound : ℕ) (input : List ℕ) (old ran told : Streams) (status status' : ℕ) → old.console.left ≡ Some input →
-        ClockedEnd micro_of1 mic1_meaning IsReady1 (HasShipped Mic1) 0x002 program bound old ran status →
-        IsRun program Mic1 bound old.console told.console old.out told.out old.err told.err status' →
+    ensures mic1 { (program : VerifiedView) (bound : ℕ) (input : List ℕ) (old ran told : OutsideView) (status status' : ℕ) → old.console.left ≡ Some input →
+        ClockedEnd micro_of1 mic1_meaning IsReady1 (HasShipped Mic1) 0x002 bound program old ran status →
+        IsRun Mic1 bound program old told status' →
         IsQuiet old ran status → IsQuiet old told status' → Agrees old ran told status status' }
-    ensures mic2 { (program : VerifiedView) (bound : ℕ) (input : List ℕ) (old ran told : Streams) (status status' : ℕ) → old.console.left ≡ Some input →
-        ClockedEnd micro_of2 mic2_meaning IsReady2 (HasShipped Mic2) 0x002 program bound old ran status →
-        IsRun program Mic2 bound old.console told.console old.out told.out old.err told.err status' →
+    ensures mic2 { (program : VerifiedView) (bound : ℕ) (input : List ℕ) (old ran told : OutsideView) (status status' : ℕ) → old.console.left ≡ Some input →
+        ClockedEnd micro_of2 mic2_meaning IsReady2 (HasShipped Mic2) 0x002 bound program old ran status →
+        IsRun Mic2 bound program old told status' →
         IsQuiet old ran status → IsQuiet old told status' → Agrees old ran told status status' }
 {
     runs_end_once();
@@ -35,9 +35,9 @@ pub fn run_agrees_with_reference()
 
 /// `run` of one accepted program on Mic-1 and on Mic-2, with the same input, gives the same output and the same end where no fault comes, memory is not wanting and neither meets its bound.
 pub fn run_agrees_on_both_machines()
-    ensures { (program : VerifiedView) (bound bound' : ℕ) (input : List ℕ) (old one other : Streams) (status status' : ℕ) → old.console.left ≡ Some input →
-        ClockedEnd micro_of1 mic1_meaning IsReady1 (HasShipped Mic1) 0x002 program bound old one status →
-        ClockedEnd micro_of2 mic2_meaning IsReady2 (HasShipped Mic2) 0x002 program bound' old other status' →
+    ensures { (program : VerifiedView) (bound bound' : ℕ) (input : List ℕ) (old one other : OutsideView) (status status' : ℕ) → old.console.left ≡ Some input →
+        ClockedEnd micro_of1 mic1_meaning IsReady1 (HasShipped Mic1) 0x002 bound program old one status →
+        ClockedEnd micro_of2 mic2_meaning IsReady2 (HasShipped Mic2) 0x002 bound' program old other status' →
         IsQuiet old one status → IsQuiet old other status' → status ≢ exits.bound → status' ≢ exits.bound → EndAlike old one other status status' }
 {
     interpreters_agree::<Mic1Interpreter, Mic2Interpreter>();

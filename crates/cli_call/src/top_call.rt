@@ -2,15 +2,14 @@
 
 ghost use Rattle.std.specs.Prelude.{Some, map, string_bytes};
 ghost use Rattle.cli_words.specs.Words.{HasLimits, asked, request_of};
-ghost use Rattle.cli_outside.specs.Outside.{files_of, sink_of, source_of};
-ghost use Rattle.cli_call.specs.Outside.{outside, streams};
-ghost use Rattle.cli_call.specs.Ends.{Ends, EndsAs};
+ghost use Rattle.cli_outside.specs.Outside.{Over};
+ghost use Rattle.cli_call.specs.CallEnds.{CallEnds, EndsAs};
 
 use crate::job::run_job;
 use crate::soak::soak_on;
 use crate::usage::misused;
 use cli_micro::{micro, print_micro, print_shipped};
-use cli_outside::{Status, no_memory};
+use cli_outside::{Outside, Status};
 use cli_programs::{assemble_file, list_file, verify_file};
 use cli_words::{Request, WordsError, read_words};
 use mic_base::{Files, Sink, Source};
@@ -20,22 +19,14 @@ use std::alloc::Global;
 pub(crate) fn answer_words<F: Files, S: Source, K: Sink, E: Sink>(
     alloc: Global,
     words: &[String],
-    files: &mut F,
-    console: &mut S,
-    out: &mut K,
-    err: &mut E,
+    outside: &mut Outside<'_, F, S, K, E>,
 ) -> Status
-    ensures { Ends (request_of (map string_bytes words.now))
-        (outside (files_of F.contents F.faults files.old)
-        (streams (source_of S.left S.faults console.old) (sink_of K.held K.passed K.faults out.old) (sink_of E.held E.passed E.faults err.old)))
-        (outside (files_of F.contents F.faults files.new)
-        (streams (source_of S.left S.faults console.new) (sink_of K.held K.passed K.faults out.new) (sink_of E.held E.passed E.faults err.new)))
-        result.0 }
+    ensures { Over (CallEnds (request_of (map string_bytes words.now))) outside.old outside.new result.0 }
 {
     match read_words(alloc, words) {
-        Err(WordsError::Usage) => misused(err),
-        Err(WordsError::OutOfMemory) => no_memory(err),
-        Ok(request) => answer_request(alloc, request, files, console, out, err),
+        Err(WordsError::Usage) => misused(outside.err),
+        Err(WordsError::OutOfMemory) => outside.no_memory(),
+        Ok(request) => answer_request(alloc, request, outside),
     }
 }
 
@@ -43,43 +34,33 @@ pub(crate) fn answer_words<F: Files, S: Source, K: Sink, E: Sink>(
 fn answer_request<F: Files, S: Source, K: Sink, E: Sink>(
     alloc: Global,
     request: Request,
-    files: &mut F,
-    console: &mut S,
-    out: &mut K,
-    err: &mut E,
+    outside: &mut Outside<'_, F, S, K, E>,
 ) -> Status
     requires { HasLimits request }
-    ensures { EndsAs (Some (asked request.entry))
-        (outside (files_of F.contents F.faults files.old)
-        (streams (source_of S.left S.faults console.old) (sink_of K.held K.passed K.faults out.old) (sink_of E.held E.passed E.faults err.old)))
-        (outside (files_of F.contents F.faults files.new)
-        (streams (source_of S.left S.faults console.new) (sink_of K.held K.passed K.faults out.new) (sink_of E.held E.passed E.faults err.new)))
-        result.0 }
+    ensures { Over (EndsAs (Some (asked request.entry))) outside.old outside.new result.0 }
 {
     match request {
-        Request::Assemble { source, image } => {
-            assemble_file(alloc, source, image, files, out, err)
-        }
-        Request::List { file, map } => list_file(alloc, file, map, files, out, err),
-        Request::Verify { file, map } => verify_file(alloc, file, map, files, out, err),
-        Request::Run { job, mode } => run_job(alloc, job, mode, files, console, out, err),
+        Request::Assemble { source, image } => assemble_file(alloc, source, image, outside),
+        Request::List { file, map } => list_file(alloc, file, map, outside),
+        Request::Verify { file, map } => verify_file(alloc, file, map, outside),
+        Request::Run { job, mode } => run_job(alloc, job, mode, outside),
         Request::Micro {
             mal,
             store,
             machine,
-        } => micro(alloc, mal, store, machine, files, out, err),
+        } => micro(alloc, mal, store, machine, outside),
         Request::PrintMicro {
             file: Some(file),
             machine,
-        } => print_micro(alloc, file, machine, files, out, err),
+        } => print_micro(alloc, file, machine, outside),
         Request::PrintMicro {
             file: None,
             machine,
-        } => print_shipped(machine, out),
+        } => print_shipped(machine, outside),
         Request::Soak {
             seed,
             size,
             machine,
-        } => soak_on(alloc, seed, size, machine, out, err),
+        } => soak_on(alloc, seed, size, machine, outside),
     }
 }

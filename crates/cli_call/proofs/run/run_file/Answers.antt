@@ -1,10 +1,8 @@
-use Rattle.std.proofs.Common.{refl}
-use Rattle.cli_call.specs.RunEnds.{Read, Unread}
+use Rattle.cli_outside.proofs.Ending.{did, not_had}
 use Rattle.cli_call.proofs.run.run_file.Goals as goal
 
 pub returns-in-Ok : goal.returns-in-Ok
-returns-in-Ok g c =
-    Read c.in-Ok.bytes.items c.in-Ok.ensures.read c.in-Ok.ensures.same (rw (c.in-Ok.ensures.silent, c.deref.ensures.value) at c.run_bytes.ensures)
+returns-in-Ok g c = did c.in-Ok.program c.in-Ok.ensures.had (rw c.in-Ok.ensures.same at c.run_program.ensures)
 
 pub returns-in-Err : goal.returns-in-Err
-returns-in-Err g c = Unread c.in-Err.ensures.unread (record { console = refl; out = refl })
+returns-in-Err g c = not_had c.in-Err.ensures.not_had

@@ -1,7 +1,9 @@
-use Rattle.std.proofs.Common.{Some}
-use Rattle.cli_words.specs.Words.{asked}
-use Rattle.cli_call.proofs.Asking.{asked_ends}
+use Rattle.std.proofs.Common.{rules}
+use Rattle.cli_call.proofs.Asking.{call_ends}
 use Rattle.cli_call.proofs.top_call.answer_words.Goals as goal
 
+pub returns-in-Err-Usage : goal.returns-in-Err-Usage
+returns-in-Err-Usage g c = call_ends c.in-Err-Usage.ensures.asks (record { names = search rules; does = search rules })
+
 pub returns-in-Ok : goal.returns-in-Ok
-returns-in-Ok g c = asked_ends _ (Some (asked c.in-Ok.request)) _ _ _ c.in-Ok.ensures.asks c.answer_request.ensures
+returns-in-Ok g c = call_ends c.in-Ok.ensures.asks c.answer_request.ensures

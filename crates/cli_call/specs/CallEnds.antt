@@ -1,0 +1,72 @@
+-- How a call of `mic` ends, by what its words ask for.
+use Rattle.std.specs.Prelude.{ℕ, List, Option, Some, None}
+use Rattle.machine_words.specs.declared.machine.Machine.{Machine}
+use Rattle.machine_words.specs.declared.machine.Machine.TheVariants.{Mic1, Mic2}
+use Rattle.mal_parser.specs.ProgramText.{canonical_text}
+use Rattle.mic_clock.specs.Meaning.{Meaning}
+use Rattle.mic1_datapath.specs.Mic1.{mic1_meaning, IsReady as IsReady1}
+use Rattle.mic1_datapath.specs.View.{micro_of as micro_of1}
+use Rattle.mic2_datapath.specs.Mic2.{mic2_meaning, IsReady as IsReady2}
+use Rattle.mic2_datapath.specs.View.{micro_of as micro_of2}
+use Rattle.shipped_program.specs.Listing.{listed_program}
+use Rattle.shipped_program.specs.Shipped.{HasShipped}
+use Rattle.cli_words.specs.Words.{Asked, Assemble, ListOf, Verify, Run, RunOwn, Trace, Profile, Debug, Reference, Micro, PrintMicro, Soak}
+use Rattle.cli_outside.specs.Status as exits
+use Rattle.cli_outside.specs.Messages.{out_of_memory}
+use Rattle.cli_outside.specs.Outside.{OutsideView, Prints, Tells}
+use Rattle.cli_outside.specs.Work.{PrintsOf}
+use Rattle.cli_texts.specs.Listing.{Lists}
+use Rattle.cli_texts.specs.Summary.{Summarizes}
+use Rattle.cli_programs.specs.Answers.{Assembles, EndsOver}
+use Rattle.cli_programs.specs.Reference.{IsRun}
+use Rattle.cli_micro.specs.Answers.{MicroAnswers, PrintMicroAnswers}
+use Rattle.cli_boards.specs.OwnRun.{IsOwnRun}
+use Rattle.cli_boards.specs.Prepared.{EndsPrepared}
+use Rattle.cli_boards.specs.Profiled.{IsProfiled}
+use Rattle.cli_boards.specs.Traced.{IsTraced}
+use Rattle.cli_debug.specs.Debugged.{IsDebugged}
+use Rattle.cli_debug.specs.Input.{EndsWithInput}
+use Rattle.cli_soak.specs.SoakEnds.{SoakEnds}
+use Rattle.cli_call.specs.ClockedEnd.{ClockedEnd}
+use Rattle.cli_call.specs.Usage.{usage}
+
+-- A machine: its meaning, when its next instruction is ready, its store that ships, and where that begins.
+module _ {M S : Type 0} (state : M → S) (m : Meaning S) (IsReady : ℕ → List ℕ → ℕ → S → Type 0) (IsShipped : List ℕ → Type 0) (entry : ℕ) where
+  -- how what is asked of it ends
+  abbrev pub EndsOn : Asked → OutsideView → OutsideView → ℕ → Type 0
+  EndsOn (Run file machine bound map) = EndsOver map (ClockedEnd state m IsReady IsShipped entry bound) file
+  EndsOn (RunOwn file machine bound map micro) = EndsPrepared m.machine map (IsOwnRun state m bound) file (Some micro)
+  EndsOn (Trace file machine bound map micro buses) = EndsPrepared m.machine map (IsTraced state m bound buses) file micro
+  EndsOn (Profile file machine bound map micro) = EndsPrepared m.machine map (IsProfiled state m bound) file micro
+  EndsOn (Debug file machine bound map own input) =
+      EndsPrepared m.machine map (λ micro program. EndsWithInput (IsDebugged state m bound micro program) input) file own
+  EndsOn (Reference file machine bound map) = EndsOver map (IsRun machine bound) file
+  EndsOn (Soak seed size machine) = SoakEnds state m IsReady IsShipped entry seed size
+  EndsOn asked = λ old new status. ⊥
+
+-- each machine with the microprogram that ships for it, and Main1 at 0x002
+abbrev pub EndsBy : Machine → Asked → OutsideView → OutsideView → ℕ → Type 0
+EndsBy Mic1 = EndsOn micro_of1 mic1_meaning IsReady1 (HasShipped Mic1) 0x002
+EndsBy Mic2 = EndsOn micro_of2 mic2_meaning IsReady2 (HasShipped Mic2) 0x002
+
+-- Where the words ask for nothing, the usage text says how `mic` is called.
+abbrev pub EndsAs : Option Asked → OutsideView → OutsideView → ℕ → Type 0
+EndsAs None = Tells usage exits.usage
+EndsAs (Some (Assemble source image)) = Assembles image source
+EndsAs (Some (ListOf file map)) = EndsOver map (PrintsOf Lists) file
+EndsAs (Some (Verify file map)) = EndsOver map (PrintsOf Summarizes) file
+EndsAs (Some (Run file machine bound map)) = EndsBy machine (Run file machine bound map)
+EndsAs (Some (RunOwn file machine bound map micro)) = EndsBy machine (RunOwn file machine bound map micro)
+EndsAs (Some (Trace file machine bound map micro buses)) = EndsBy machine (Trace file machine bound map micro buses)
+EndsAs (Some (Profile file machine bound map micro)) = EndsBy machine (Profile file machine bound map micro)
+EndsAs (Some (Debug file machine bound map micro input)) = EndsBy machine (Debug file machine bound map micro input)
+EndsAs (Some (Reference file machine bound map)) = EndsBy machine (Reference file machine bound map)
+EndsAs (Some (Micro mal store machine)) = MicroAnswers machine store mal
+EndsAs (Some (PrintMicro (Some file) machine)) = PrintMicroAnswers machine file
+EndsAs (Some (PrintMicro None machine)) = Prints (canonical_text (listed_program machine)) exits.done
+EndsAs (Some (Soak seed size machine)) = EndsBy machine (Soak seed size machine)
+
+-- memory is wanting before anything is done, or the call ends as its words ask
+pub data CallEnds (asks : Option Asked) (old new : OutsideView) (status : ℕ) : Type 0 where
+  NoRoom : Tells out_of_memory exits.memory old new status → CallEnds asks old new status
+  Done : EndsAs asks old new status → CallEnds asks old new status
