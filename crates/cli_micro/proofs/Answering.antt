@@ -4,7 +4,7 @@ use Rattle.std.proofs.lemmas.List.{length-map}
 use Rattle.machine_words.specs.declared.machine.Machine.{Machine}
 use Rattle.cli_outside.specs.declared.refusal.Refusal.{Refusal}
 use Rattle.cli_outside.specs.Work.{IsRefusal, refusal_by}
-use Rattle.cli_outside.proofs.Ending.{by_reason}
+use Rattle.cli_outside.specs.Ways.{by_reason}
 use Rattle.mal_parser.specs.declared.error.MalError.{MalError}
 use Rattle.mal_parser.specs.declared.error.MalError.TheVariants as mal
 use Rattle.mal_parser.specs.declared.statement.Statement.{Statement}

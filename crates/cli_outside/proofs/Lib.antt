@@ -1,4 +1,2 @@
 pub mod Putting
 pub mod Files
-pub mod Ending
-pub mod Given

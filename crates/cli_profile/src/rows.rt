@@ -1,12 +1,12 @@
 //! The rows of a profile: one for each instruction, in the table's order, and one for what is none.
 
-ghost use Rattle.std.specs.Prelude.{◌≡◌, ◌≤◌, length, slice_get, IfOk};
+ghost use Rattle.std.specs.Prelude.{◌≡◌, ◌≤◌, ◌<◌, length, slice_get, IfOk, IfSome};
 ghost use Rattle.ijvm_instr.specs.declared.instr.Instr.{Instr};
 ghost use Rattle.ijvm_instr.specs.Instructions.{name_of};
-ghost use Rattle.cli_profile.specs.Rows.{AreRows, IsRow, row_name, row_number};
+ghost use Rattle.cli_profile.specs.Rows.{AreRows, IsRow, place_in, row_name, row_number};
 
 use cli_cycle_texts::reached_at;
-use ijvm_instr::{Instr, name};
+use ijvm_instr::{INSTRUCTIONS, Instr, name};
 use ijvm_verifier::VerifiedImage;
 use std::alloc::{AllocError, Global};
 
@@ -16,67 +16,21 @@ pub const ROWS: usize = 27;
 /// The row of what is no reached instruction.
 pub const OTHER: u8 = 26;
 
-/// An instruction of each row but the last.
-pub const TABLE: [Instr; 26] = [
-    Instr::Nop,
-    Instr::Bipush(0),
-    Instr::LdcW(0),
-    Instr::Iload(0),
-    Instr::Istore(0),
-    Instr::Pop,
-    Instr::Dup,
-    Instr::Swap,
-    Instr::Iadd,
-    Instr::Isub,
-    Instr::Iand,
-    Instr::Iinc(0, 0),
-    Instr::Ifeq(0),
-    Instr::Iflt(0),
-    Instr::IfIcmpeq(0),
-    Instr::Goto(0),
-    Instr::Ireturn,
-    Instr::Ior,
-    Instr::Invokevirtual(0),
-    Instr::WideIload(0),
-    Instr::WideIstore(0),
-    Instr::WideIinc(0, 0),
-    Instr::In,
-    Instr::Out,
-    Instr::Err,
-    Instr::Halt,
-];
+/// The place of the first instruction with that name, from 0.
+fn place_in(table: &[Instr], text: &str) -> Option<usize>
+    ensures is { result ≡ place_in table.now text.now }
+    ensures inside { IfSome result (λ place. place < length table.now) }
+{
+    table.iter().position(|instr| name(*instr) == text)
+}
 
-/// The place of an instruction's row, from 0.
+/// The place of an instruction's row.
 fn row_number(instr: Instr) -> u8
     ensures { result ≡ row_number instr }
 {
-    match instr {
-        Instr::Nop => 0,
-        Instr::Bipush(_) => 1,
-        Instr::LdcW(_) => 2,
-        Instr::Iload(_) => 3,
-        Instr::Istore(_) => 4,
-        Instr::Pop => 5,
-        Instr::Dup => 6,
-        Instr::Swap => 7,
-        Instr::Iadd => 8,
-        Instr::Isub => 9,
-        Instr::Iand => 10,
-        Instr::Iinc(_, _) => 11,
-        Instr::Ifeq(_) => 12,
-        Instr::Iflt(_) => 13,
-        Instr::IfIcmpeq(_) => 14,
-        Instr::Goto(_) => 15,
-        Instr::Ireturn => 16,
-        Instr::Ior => 17,
-        Instr::Invokevirtual(_) => 18,
-        Instr::WideIload(_) => 19,
-        Instr::WideIstore(_) => 20,
-        Instr::WideIinc(_, _) => 21,
-        Instr::In => 22,
-        Instr::Out => 23,
-        Instr::Err => 24,
-        Instr::Halt => 25,
+    match place_in(&INSTRUCTIONS, name(instr)) {
+        Some(place) => place as u8,
+        None => OTHER,
     }
 }
 
@@ -95,7 +49,7 @@ pub fn row_name(row: usize) -> &'static str
     ensures name { result.now ≡ row_name row }
     ensures len { length result.now ≤ 13 }
 {
-    match instr_in(&TABLE, row) {
+    match instr_in(&INSTRUCTIONS, row) {
         Some(instr) => name(instr),
         None => "?",
     }

@@ -13,7 +13,7 @@ use Rattle.cli_texts.specs.Refusals.{image_reason, link_reason, source_reason, v
 use Rattle.cli_outside.specs.declared.refusal.Refusal.{Refusal}
 use Rattle.cli_outside.specs.declared.refusal.Refusal.TheVariants as refusals
 use Rattle.cli_outside.specs.Work.{IsRefusal, refusal_by}
-use Rattle.cli_outside.proofs.Ending.{by_reason}
+use Rattle.cli_outside.specs.Ways.{by_reason}
 use Rattle.cli_programs.specs.Program.{IsNoSource, IsOf, IsRefused, IsRefusalByAll, NoImage, NoProgram, NoSource, NotAccepted, NotLinked, begins_image}
 use Rattle.ijvm_program.specs.Program.{ProgramView}
 use Rattle.ijvm_asm.specs.declared.error.AsmError.{AsmError}

@@ -4,3 +4,4 @@ pub mod Adding
 pub mod Walks
 pub mod Ends
 pub mod Getting
+pub mod Naming

@@ -1,58 +1,63 @@
--- The table of commands: each with the words that it takes.
-use Rattle.std.specs.Prelude.{true, false, [], ◌∷◌, Option, Some, None, codes, if◌then◌else◌}
+-- The table of commands: each with its name and the words that it takes.
+use Prim.Native.String.{String as Literal}
+use Rattle.std.specs.Prelude.{◌≡◌, Bool, true, false, List, [], ◌∷◌, map, Option, Some, None, codes, find}
 use Rattle.std.specs.Str.{bytes_eq}
 use Rattle.cli_words.specs.Reading.{Form, Text}
+use Rattle.cli_words.specs.Taking.{form_of}
 use Rattle.cli_words.specs.declared.table.CommandName.{CommandName}
-use Rattle.cli_words.specs.declared.table.CommandName.TheVariants as name
+use Rattle.cli_words.specs.declared.table.CommandName.TheVariants as command
+use Rattle.cli_words.specs.declared.table.Row.{Row}
 
-abbrev pub form_for : CommandName → Form
-form_for name.Assemble = record { plain = codes "SOURCE" ∷ codes "IMAGE" ∷ []; is_whole = true; options = []; flags = [] }
-form_for name.List = record { plain = codes "FILE" ∷ []; is_whole = true; options = codes "map" ∷ []; flags = [] }
-form_for name.Verify = record { plain = codes "FILE" ∷ []; is_whole = true; options = codes "map" ∷ []; flags = [] }
-form_for name.Run = record {
-  plain = codes "FILE" ∷ [];
-  is_whole = true;
-  options = codes "machine" ∷ codes "bound" ∷ codes "micro" ∷ codes "map" ∷ [];
-  flags = [];
-}
-form_for name.Trace = record {
-  plain = codes "FILE" ∷ [];
-  is_whole = true;
-  options = codes "machine" ∷ codes "bound" ∷ codes "micro" ∷ codes "map" ∷ [];
-  flags = codes "buses" ∷ [];
-}
-form_for name.Profile = record {
-  plain = codes "FILE" ∷ [];
-  is_whole = true;
-  options = codes "machine" ∷ codes "bound" ∷ codes "micro" ∷ codes "map" ∷ [];
-  flags = [];
-}
-form_for name.Debug = record {
-  plain = codes "FILE" ∷ [];
-  is_whole = true;
-  options = codes "machine" ∷ codes "bound" ∷ codes "micro" ∷ codes "input" ∷ codes "map" ∷ [];
-  flags = [];
-}
-form_for name.Reference = record {
-  plain = codes "FILE" ∷ [];
-  is_whole = true;
-  options = codes "machine" ∷ codes "bound" ∷ codes "map" ∷ [];
-  flags = [];
-}
-form_for name.Micro = record { plain = codes "MAL" ∷ codes "STORE" ∷ []; is_whole = true; options = codes "machine" ∷ []; flags = [] }
-form_for name.PrintMicro = record { plain = codes "FILE" ∷ []; is_whole = false; options = codes "machine" ∷ []; flags = [] }
-form_for name.Soak = record { plain = codes "SEED" ∷ codes "SIZE" ∷ []; is_whole = true; options = codes "machine" ∷ []; flags = [] }
+-- a command's name, and the words that it takes
+pub record Named : Type 0 where
+  pub name : Text
+  pub form : Form
 
+abbrev row : Literal → List Literal → Bool → List Literal → List Literal → Named
+row name plain is_whole options flags = record {
+  name = codes name;
+  form = record { plain = map codes plain; is_whole = is_whole; options = map codes options; flags = map codes flags };
+}
+
+-- a command: its name, its plain words, whether none may be left out, its options, its flags
+abbrev pub row_for : CommandName → Named
+row_for command.Assemble = row "assemble" ("SOURCE" ∷ "IMAGE" ∷ []) true [] []
+row_for command.List = row "list" ("FILE" ∷ []) true ("map" ∷ []) []
+row_for command.Verify = row "verify" ("FILE" ∷ []) true ("map" ∷ []) []
+row_for command.Run = row "run" ("FILE" ∷ []) true ("machine" ∷ "bound" ∷ "micro" ∷ "map" ∷ []) []
+row_for command.Trace = row "trace" ("FILE" ∷ []) true ("machine" ∷ "bound" ∷ "micro" ∷ "map" ∷ []) ("buses" ∷ [])
+row_for command.Profile = row "profile" ("FILE" ∷ []) true ("machine" ∷ "bound" ∷ "micro" ∷ "map" ∷ []) []
+row_for command.Debug = row "debug" ("FILE" ∷ []) true ("machine" ∷ "bound" ∷ "micro" ∷ "input" ∷ "map" ∷ []) []
+row_for command.Reference = row "reference" ("FILE" ∷ []) true ("machine" ∷ "bound" ∷ "map" ∷ []) []
+row_for command.Micro = row "micro" ("MAL" ∷ "STORE" ∷ []) true ("machine" ∷ []) []
+row_for command.PrintMicro = row "print-micro" ("FILE" ∷ []) false ("machine" ∷ []) []
+row_for command.Soak = row "soak" ("SEED" ∷ "SIZE" ∷ []) true ("machine" ∷ []) []
+
+abbrev pub all_commands : List CommandName
+all_commands = command.Assemble ∷ command.List ∷ command.Verify ∷ command.Run ∷ command.Trace ∷ command.Profile ∷ command.Debug
+    ∷ command.Reference ∷ command.Micro ∷ command.PrintMicro ∷ command.Soak ∷ []
+
+-- the command of a list that a word names
+abbrev pub named_in : Text → List CommandName → Option CommandName
+named_in word = find (λ command. bytes_eq (row_for command).name word)
+
+-- the command that a word names
 abbrev pub name_for : Text → Option CommandName
-name_for word =
-    if bytes_eq word (codes "assemble") then Some name.Assemble
-    else (if bytes_eq word (codes "list") then Some name.List
-    else (if bytes_eq word (codes "verify") then Some name.Verify
-    else (if bytes_eq word (codes "run") then Some name.Run
-    else (if bytes_eq word (codes "trace") then Some name.Trace
-    else (if bytes_eq word (codes "profile") then Some name.Profile
-    else (if bytes_eq word (codes "debug") then Some name.Debug
-    else (if bytes_eq word (codes "reference") then Some name.Reference
-    else (if bytes_eq word (codes "micro") then Some name.Micro
-    else (if bytes_eq word (codes "print-micro") then Some name.PrintMicro
-    else (if bytes_eq word (codes "soak") then Some name.Soak else None))))))))))
+name_for word = named_in word all_commands
+
+-- the words that a command takes
+abbrev pub form_for : CommandName → Form
+form_for command = (row_for command).form
+
+-- the row has the name of its command, and takes its words
+abbrev pub IsRow : Row → Type 0
+IsRow row = (row.name.now ≡ (row_for row.command).name) × (form_of row ≡ form_for row.command)
+
+abbrev pub AreRows : List Row → Type 0
+AreRows [] = Unit {0}
+AreRows (row ∷ rows) = IsRow row × AreRows rows
+
+-- it is the row of the command that is named, and there is none where none is
+abbrev pub IsRowOf : Option CommandName → Option Row → Type 0
+IsRowOf named None = named ≡ None
+IsRowOf named (Some row) = (named ≡ Some row.command) × IsRow row

@@ -222,11 +222,11 @@ pub fn read_words<'a>(alloc: Global, words: &'a [String]) -> Result<Request<'a>,
     let [command, rest @ ..] = words else {
         return Err(WordsError::Usage);
     };
-    let Some(command) = named(command.as_str()) else {
+    let Some(row) = named(command.as_str()) else {
         return Err(WordsError::Usage);
     };
-    let matches = take_command(alloc, command, rest)?;
-    match request_in(command, &matches) {
+    let matches = take_command(alloc, &row, rest)?;
+    match request_in(row.command, &matches) {
         Some(request) => Ok(request),
         None => Err(WordsError::Usage),
     }

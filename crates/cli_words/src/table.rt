@@ -1,8 +1,8 @@
 //! The table of commands: the words that each takes.
 
-ghost use Rattle.std.specs.Prelude.{◌≡◌};
-ghost use Rattle.cli_words.specs.Table.{form_for, name_for};
-ghost use Rattle.cli_words.specs.Taking.{form_of};
+ghost use Rattle.std.specs.Prelude.{◌≡◌, find, map};
+ghost use Rattle.std.specs.Str.{bytes_eq};
+ghost use Rattle.cli_words.specs.Table.{AreRows, IsRowOf, name_for, named_in};
 
 /// The commands, each by its name.
 #[derive(Clone, Copy, Debug, PartialEq, Eq)]
@@ -20,9 +20,11 @@ pub enum CommandName {
     Soak,
 }
 
-/// What a command takes: plain words, options with a value, and flags, by name.
-#[derive(Drop)]
+/// A command's name, and what it takes: plain words, options with a value, and flags, by name.
+#[derive(Clone, Copy)]
 pub struct Row {
+    pub command: CommandName,
+    pub name: &'static str,
     pub plain: &'static [&'static str],
     /// Whether no plain word may be left out.
     pub is_whole: bool,
@@ -30,96 +32,51 @@ pub struct Row {
     pub flags: &'static [&'static str],
 }
 
-/// The words that a command takes.
-pub(crate) fn row_of(command: CommandName) -> Row
-    ensures { form_of result ≡ form_for command }
-{
-    match command {
-        CommandName::Assemble => Row {
-            plain: &["SOURCE", "IMAGE"],
-            is_whole: true,
-            options: &[],
-            flags: &[],
-        },
-        CommandName::List => Row {
-            plain: &["FILE"],
-            is_whole: true,
-            options: &["map"],
-            flags: &[],
-        },
-        CommandName::Verify => Row {
-            plain: &["FILE"],
-            is_whole: true,
-            options: &["map"],
-            flags: &[],
-        },
-        CommandName::Run => Row {
-            plain: &["FILE"],
-            is_whole: true,
-            options: &["machine", "bound", "micro", "map"],
-            flags: &[],
-        },
-        CommandName::Trace => Row {
-            plain: &["FILE"],
-            is_whole: true,
-            options: &["machine", "bound", "micro", "map"],
-            flags: &["buses"],
-        },
-        CommandName::Profile => Row {
-            plain: &["FILE"],
-            is_whole: true,
-            options: &["machine", "bound", "micro", "map"],
-            flags: &[],
-        },
-        CommandName::Debug => Row {
-            plain: &["FILE"],
-            is_whole: true,
-            options: &["machine", "bound", "micro", "input", "map"],
-            flags: &[],
-        },
-        CommandName::Reference => Row {
-            plain: &["FILE"],
-            is_whole: true,
-            options: &["machine", "bound", "map"],
-            flags: &[],
-        },
-        CommandName::Micro => Row {
-            plain: &["MAL", "STORE"],
-            is_whole: true,
-            options: &["machine"],
-            flags: &[],
-        },
-        CommandName::PrintMicro => Row {
-            plain: &["FILE"],
-            is_whole: false,
-            options: &["machine"],
-            flags: &[],
-        },
-        CommandName::Soak => Row {
-            plain: &["SEED", "SIZE"],
-            is_whole: true,
-            options: &["machine"],
-            flags: &[],
-        },
-    }
+macro_rules! rows {
+    ($($command:ident $name:literal $plain:tt $is_whole:literal $options:tt $flags:tt)*) => {
+        [$(Row {
+            command: CommandName::$command,
+            name: $name,
+            plain: &$plain,
+            is_whole: $is_whole,
+            options: &$options,
+            flags: &$flags,
+        }),*]
+    };
 }
 
-/// The command that a word names.
-pub(crate) fn named(word: &str) -> Option<CommandName>
-    ensures { result ≡ name_for word.now }
+const COMMANDS: [Row; 11] = rows! {
+    // command  name           plain words          whole  options                                           flags
+    Assemble    "assemble"     ["SOURCE", "IMAGE"]  true   []                                                []
+    List        "list"         ["FILE"]             true   ["map"]                                           []
+    Verify      "verify"       ["FILE"]             true   ["map"]                                           []
+    Run         "run"          ["FILE"]             true   ["machine", "bound", "micro", "map"]              []
+    Trace       "trace"        ["FILE"]             true   ["machine", "bound", "micro", "map"]              ["buses"]
+    Profile     "profile"      ["FILE"]             true   ["machine", "bound", "micro", "map"]              []
+    Debug       "debug"        ["FILE"]             true   ["machine", "bound", "micro", "input", "map"]     []
+    Reference   "reference"    ["FILE"]             true   ["machine", "bound", "map"]                       []
+    Micro       "micro"        ["MAL", "STORE"]     true   ["machine"]                                       []
+    PrintMicro  "print-micro"  ["FILE"]             false  ["machine"]                                       []
+    Soak        "soak"         ["SEED", "SIZE"]     true   ["machine"]                                       []
+};
+
+fn first_named(rows: &[Row], word: &str) -> Option<Row>
+    ensures { result ≡ find (λ row. bytes_eq row.name.now word.now) rows.now }
 {
-    match word {
-        "assemble" => Some(CommandName::Assemble),
-        "list" => Some(CommandName::List),
-        "verify" => Some(CommandName::Verify),
-        "run" => Some(CommandName::Run),
-        "trace" => Some(CommandName::Trace),
-        "profile" => Some(CommandName::Profile),
-        "debug" => Some(CommandName::Debug),
-        "reference" => Some(CommandName::Reference),
-        "micro" => Some(CommandName::Micro),
-        "print-micro" => Some(CommandName::PrintMicro),
-        "soak" => Some(CommandName::Soak),
-        _ => None,
-    }
+    rows.iter().copied().find(|row| row.name == word)
+}
+
+#[tactic(auto, using(crate::proofs::Naming::first_is_row))]
+fn row_in(rows: &[Row], word: &str) -> Option<Row>
+    requires { AreRows rows.now }
+    ensures { IsRowOf (named_in word.now (map (λ row. row.command) rows.now)) result }
+{
+    first_named(rows, word)
+}
+
+/// The row of the command that a word names.
+pub(crate) fn named(word: &str) -> Option<Row>
+    ensures { IsRowOf (name_for word.now) result }
+{
+    row_in(&COMMANDS, word)
 }

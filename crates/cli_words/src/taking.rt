@@ -5,11 +5,11 @@ ghost use Rattle.std.specs.List.{All};
 ghost use Rattle.std.specs.Str.{IsUtf8};
 ghost use Rattle.clap.specs.Words.{app_of, rule_of};
 ghost use Rattle.cli_words.specs.Reading.{is_distinct, names_of, reads};
-ghost use Rattle.cli_words.specs.Table.{form_for};
+ghost use Rattle.cli_words.specs.Table.{IsRow, form_for};
 ghost use Rattle.cli_words.specs.Taking.{TakesAs, app_for, bytes_of, form_of, rule_in, rules_in, texts_of, with_rules};
 
 use crate::error::WordsError;
-use crate::table::{CommandName, Row, row_of};
+use crate::table::Row;
 use clap::builder::ValueParser;
 use clap::error::ErrorKind;
 use clap::{Arg, ArgAction, ArgMatches, Command};
@@ -111,11 +111,11 @@ fn take_words<'a>(
 /// Takes the words behind the name of a command.
 pub(crate) fn take_command<'a>(
     alloc: Global,
-    command: CommandName,
+    row: &Row,
     words: &'a [String],
 ) -> Result<ArgMatches<'a>, WordsError>
-    ensures { TakesAs (form_for command) (reads (form_for command) (bytes_of words.entry.now)) result }
+    requires { IsRow row.now }
+    ensures { TakesAs (form_for row.now.command) (reads (form_for row.now.command) (bytes_of words.entry.now)) result }
 {
-    let row = row_of(command);
-    take_words(alloc, &row, words)
+    take_words(alloc, row, words)
 }

@@ -8,7 +8,6 @@ use Rattle.ijvm_tokens.specs.declared.token.Token.TheVariants as tokens
 use Rattle.ijvm_line.specs.declared.mnemonic.Access.{Access}
 use Rattle.ijvm_line.specs.declared.mnemonic.Access.TheVariants as accesses
 use Rattle.ijvm_line.specs.declared.mnemonic.Kind.TheVariants as kinds
-use Rattle.ijvm_line.specs.Mnemonics.{kind_of}
 use Rattle.ijvm_line.specs.declared.statement.Operand.{Operand}
 use Rattle.ijvm_line.specs.declared.statement.Operand.TheVariants as operands
 use Rattle.ijvm_line.specs.declared.statement.Statement.{Statement}
@@ -27,7 +26,7 @@ use Rattle.ijvm_line.specs.Forms.{IsForm}
 use Rattle.ijvm_line.specs.Lines as lines
 use Rattle.ijvm_asm.specs.Said.{line_meant, place_of, Said, SayAll, SaysLine}
 use Rattle.ijvm_asm.proofs.Bytes.{bytes_of}
-use Rattle.ijvm_asm.proofs.Tokens.{behind_mnemonic, instr_size, kind_size, mnemonic_bytes, some_size, spelled_size, tokens_size}
+use Rattle.ijvm_asm.proofs.Tokens.{behind_word, instr_size, some_size, spelled_size, tokens_size, word_bytes}
 
 -- ---- costs
 
@@ -91,22 +90,21 @@ Within n i = instruction_size i ≤ n
 
 alone_size : (instr : Instr) (ts : List Token) → Begins (kinds.Alone instr) [] ts → instr_size instr ≤ tokens_size ts + 1
 alone_size instr ts b =
-    let a = (mnemonic_bytes b.mnemonic).1 in
-    let c : kind_size (kind_of b.mnemonic) ≡ instr_size instr = ap kind_size b.has in
-    omega (arith, a, c)
+    let a : instr_size instr ≡ 1 = (word_bytes b.text (kinds.Alone instr) b.of_kind).1 in
+    omega (arith, a)
 
 push_size : (value : Option ℤ) (ts : List Token) (i : Instruction) → Begins kinds.Push (tokens.Number value ∷ []) ts → ranges.push value ≡ Ok i → Within (tokens_size ts + 1) i
 push_size value ts i b h =
-    let a = behind_mnemonic kinds.Push (tokens.Number value ∷ []) ts b in
+    let a = behind_word kinds.Push (tokens.Number value ∷ []) ts b in
     of_made (Within (tokens_size ts + 1)) (λ v. instructions.Plain (instrs.Bipush v)) i (ranges.byte value) h (λ v e. omega (arith, a))
 
 constant_size : (o : Operand) (ts : List Token) (i : Instruction) → Begins kinds.Constant (operand_token o ∷ []) ts → ranges.constant o ≡ Ok i → Within (tokens_size ts + 1) i
 constant_size (operands.Name n) ts i b h =
-    let a = behind_mnemonic kinds.Constant (tokens.Name n ∷ []) ts b in
+    let a = behind_word kinds.Constant (tokens.Name n ∷ []) ts b in
     let s = some_size (operands.Name n) in
     same (Within (tokens_size ts + 1)) (instructions.Constant n) i h (omega (arith, a, s))
 constant_size (operands.Number v) ts i b h =
-    let a = behind_mnemonic kinds.Constant (tokens.Number v ∷ []) ts b in
+    let a = behind_word kinds.Constant (tokens.Number v ∷ []) ts b in
     of_made (Within (tokens_size ts + 1)) (λ k. instructions.Plain (instrs.LdcW k)) i (ranges.index v) h (λ k e. omega (arith, a))
 
 local_size : (access : Access) (wide : Bool) (o : Operand) (ts : List Token) (i : Instruction) → 2 + tokens_size (operand_token o ∷ []) ≤ tokens_size ts → ranges.local access wide o ≡ Ok i → Within (tokens_size ts + 1) i
@@ -118,7 +116,7 @@ local_size access wide (operands.Number v) ts i a h =
 
 increment_least : (o : Operand) (by : Option ℤ) (ts : List Token) → Begins kinds.Increment (operand_token o ∷ tokens.Number by ∷ []) ts → 6 ≤ tokens_size ts
 increment_least o by ts b =
-    let a = behind_mnemonic kinds.Increment (operand_token o ∷ tokens.Number by ∷ []) ts b in
+    let a = behind_word kinds.Increment (operand_token o ∷ tokens.Number by ∷ []) ts b in
     let s = some_size o in
     omega (arith, a, s)
 
@@ -136,22 +134,22 @@ statement_size : (st : Statement) (ts : List Token) (i : Instruction) → IsStat
 statement_size (statements.Plain instr) ts i b h = same (Within (tokens_size ts + 1)) (instructions.Plain instr) i h (alone_size instr ts b)
 statement_size (statements.Push value) ts i b h = push_size value ts i b h
 statement_size (statements.Constant o) ts i b h = constant_size o ts i b h
-statement_size (statements.Local access false o) ts i b h = local_size access false o ts i (behind_mnemonic (kinds.Local access) (operand_token o ∷ []) ts b) h
+statement_size (statements.Local access false o) ts i b h = local_size access false o ts i (behind_word (kinds.Local access) (operand_token o ∷ []) ts b) h
 statement_size (statements.Local access true o) ts i (rest, b, c) h =
-    let a = behind_mnemonic kinds.Wide rest ts b in
-    let d = behind_mnemonic (kinds.Local access) (operand_token o ∷ []) rest c in
+    let a = behind_word kinds.Wide rest ts b in
+    let d = behind_word (kinds.Local access) (operand_token o ∷ []) rest c in
     local_size access true o ts i (omega (arith, a, d)) h
 statement_size (statements.Increment false o by) ts i b h = increment_size false o by ts i (increment_least o by ts b) h
 statement_size (statements.Increment true o by) ts i (rest, b, c) h =
-    let a = behind_mnemonic kinds.Wide rest ts b in
+    let a = behind_word kinds.Wide rest ts b in
     let d = increment_least o by rest c in
     increment_size true o by ts i (omega (arith, a, d)) h
 statement_size (statements.Jump jump label) ts i b h =
-    let a = behind_mnemonic (kinds.Jump jump) (tokens.Name label ∷ []) ts b in
+    let a = behind_word (kinds.Jump jump) (tokens.Name label ∷ []) ts b in
     let s = some_size (operands.Name label) in
     same (Within (tokens_size ts + 1)) (instructions.Jump jump label) i h (omega (arith, a, s))
 statement_size (statements.Call method) ts i b h =
-    let a = behind_mnemonic kinds.Call (tokens.Name method ∷ []) ts b in
+    let a = behind_word kinds.Call (tokens.Name method ∷ []) ts b in
     let s = some_size (operands.Name method) in
     same (Within (tokens_size ts + 1)) (instructions.Call method) i h (omega (arith, a, s))
 

@@ -1,21 +1,19 @@
--- How many bytes tokens have at least, and the mnemonics among them.
-use Rattle.std.proofs.Common.{◌≡◌, ℕ, ◌+◌, ◌≤◌, true, List, [], ◌∷◌, ◌++◌, length, refl, ap, sym, ◌∙◌, arith, length-append}
-use Rattle.std.specs.Prelude.{nat_le}
-use Rattle.std.specs.Str.{str_to_ascii_lowercase}
+-- How many bytes tokens have at least, and the words that begin instructions among them.
+use Rattle.std.proofs.Common.{◌≡◌, ℕ, ◌+◌, ◌≤◌, true, Option, List, [], ◌∷◌, ◌++◌, codes, inl, inr, length, refl, ap, sym, ◌∙◌, arith, length-append}
+use Rattle.std.specs.Prelude.{nat_le, option_map, unwrap_or}
 use Rattle.std.specs.Char.{to_ascii_lowercase}
 use Rattle.std.proofs.lemmas.List.{length-map}
 use Rattle.std.proofs.lemmas.Bool.Decides.{nat_tests}
 use Rattle.ijvm_instr.specs.declared.instr.Instr.{Instr}
-use Rattle.ijvm_instr.specs.Instructions.{row_of, size_of}
+use Rattle.ijvm_instr.specs.declared.instr.Instr.TheVariants as instrs
+use Rattle.ijvm_instr.specs.Instructions.{name_of, row_of, size_of}
 use Rattle.ijvm_tokens.specs.Signs.{sign_text}
 use Rattle.ijvm_tokens.specs.declared.token.Token.{Token}
 use Rattle.ijvm_tokens.specs.declared.token.Token.TheVariants as tokens
 use Rattle.ijvm_tokens.specs.Tokens as spelling
 use Rattle.ijvm_line.specs.declared.mnemonic.Kind.{Kind}
 use Rattle.ijvm_line.specs.declared.mnemonic.Kind.TheVariants as kinds
-use Rattle.ijvm_line.specs.declared.mnemonic.Mnemonic.{Mnemonic}
-use Rattle.ijvm_line.specs.declared.mnemonic.Mnemonic.TheVariants as mnemonics
-use Rattle.ijvm_line.specs.Mnemonics.{kind_of, mnemonic_text}
+use Rattle.ijvm_line.specs.Mnemonics.{IsOfKind, IsSpelled, kind_of}
 use Rattle.ijvm_line.specs.declared.statement.Operand.{Operand}
 use Rattle.ijvm_line.specs.declared.statement.Operand.TheVariants as operands
 use Rattle.ijvm_line.specs.Statements.{Begins, operand_token}
@@ -50,7 +48,7 @@ spelled_size (t ∷ ts) line (gap, lexeme, rest, e, blank, is_lexeme, ends, more
     let f = length-append lexeme rest in
     omega (arith, a, b, c, d, f)
 
--- ---- the bytes of a mnemonic
+-- ---- the bytes of a word that begins an instruction
 
 abbrev pub instr_size : Instr → ℕ
 instr_size i = size_of (row_of i)
@@ -59,37 +57,37 @@ abbrev pub kind_size : Kind → ℕ
 kind_size (kinds.Alone i) = instr_size i
 kind_size _ = 1
 
--- the fewest bytes of a mnemonic with such operands
+-- the fewest bytes of a word of this kind
 abbrev pub kind_least : Kind → ℕ
 kind_least kinds.Increment = 4
 kind_least _ = 2
 
--- a mnemonic has at least these bytes, and an instruction without operands is one byte
-pub mnemonic_bytes : (m : Mnemonic) → (nat_le (kind_least (kind_of m)) (length (mnemonic_text m)) ≡ true) × (kind_size (kind_of m) ≡ 1)
-mnemonic_bytes mnemonics.Nop = (refl, refl)
-mnemonic_bytes mnemonics.Bipush = (refl, refl)
-mnemonic_bytes mnemonics.LdcW = (refl, refl)
-mnemonic_bytes mnemonics.Iload = (refl, refl)
-mnemonic_bytes mnemonics.Istore = (refl, refl)
-mnemonic_bytes mnemonics.Pop = (refl, refl)
-mnemonic_bytes mnemonics.Dup = (refl, refl)
-mnemonic_bytes mnemonics.Swap = (refl, refl)
-mnemonic_bytes mnemonics.Iadd = (refl, refl)
-mnemonic_bytes mnemonics.Isub = (refl, refl)
-mnemonic_bytes mnemonics.Iand = (refl, refl)
-mnemonic_bytes mnemonics.Iinc = (refl, refl)
-mnemonic_bytes mnemonics.Ifeq = (refl, refl)
-mnemonic_bytes mnemonics.Iflt = (refl, refl)
-mnemonic_bytes mnemonics.IfIcmpeq = (refl, refl)
-mnemonic_bytes mnemonics.Goto = (refl, refl)
-mnemonic_bytes mnemonics.Ireturn = (refl, refl)
-mnemonic_bytes mnemonics.Ior = (refl, refl)
-mnemonic_bytes mnemonics.Invokevirtual = (refl, refl)
-mnemonic_bytes mnemonics.Wide = (refl, refl)
-mnemonic_bytes mnemonics.In = (refl, refl)
-mnemonic_bytes mnemonics.Out = (refl, refl)
-mnemonic_bytes mnemonics.Err = (refl, refl)
-mnemonic_bytes mnemonics.Halt = (refl, refl)
+same_length : (word text : List ℕ) → IsSpelled word text → length word ≡ length text
+same_length word text e = sym (length-map word to_ascii_lowercase) ∙ (ap length e ∙ length-map text to_ascii_lowercase)
+
+-- the fewest bytes of a mnemonic, and the bytes of the instruction that stands alone there
+abbrev least_in : Option Kind → ℕ
+least_in kind = unwrap_or (option_map kind_least kind) 0
+
+abbrev size_in : Option Kind → ℕ
+size_in kind = unwrap_or (option_map kind_size kind) 1
+
+mnemonic_bytes : (i : Instr) → (nat_le (least_in (kind_of i)) (length (name_of i)) ≡ true) × (size_in (kind_of i) ≡ 1)
+mnemonic_bytes instrs.Nop = (refl, refl)
+mnemonic_bytes _ = (refl, refl)
+
+-- a word of this kind has at least these bytes, and an instruction without operands is one byte
+pub word_bytes : (text : List ℕ) (kind : Kind) → IsOfKind text kind → (kind_least kind ≤ length text) × (kind_size kind ≡ 1)
+word_bytes text kind (inl (spelled, e)) =
+    let a = same_length (codes "WIDE") text spelled in
+    let g : kind_least kind ≡ 2 = ap kind_least e in
+    (omega (arith, a, g), ap kind_size e)
+word_bytes text kind (inr (i, spelled, e)) =
+    let a = same_length (name_of i) text spelled in
+    let c = (mnemonic_bytes i).0 in
+    let f : least_in (kind_of i) ≤ length (name_of i) = grind (arith, nat_tests) in
+    let g : least_in (kind_of i) ≡ kind_least kind = ap least_in e in
+    (omega (arith, a, f, g), sym (ap size_in e) ∙ (mnemonic_bytes i).1)
 
 name_size : (n : List ℕ) → length n ≤ token_size (tokens.Name n)
 name_size [] = omega arith
@@ -100,16 +98,10 @@ some_size (operands.Name []) = omega arith
 some_size (operands.Name (b ∷ n)) = omega arith
 some_size (operands.Number v) = omega arith
 
-same_length : (m : Mnemonic) (text : List ℕ) → str_to_ascii_lowercase (mnemonic_text m) ≡ str_to_ascii_lowercase text → length (mnemonic_text m) ≡ length text
-same_length m text e = sym (length-map (mnemonic_text m) to_ascii_lowercase) ∙ (ap length e ∙ length-map text to_ascii_lowercase)
-
--- a mnemonic, before what stands behind it
-pub behind_mnemonic : (kind : Kind) (rest ts : List Token) → Begins kind rest ts → kind_least kind + tokens_size rest ≤ tokens_size ts
-behind_mnemonic kind rest ts b =
-    let a = same_length b.mnemonic b.text b.spelled in
-    let c = (mnemonic_bytes b.mnemonic).0 in
+-- a word, before what stands behind it
+pub behind_word : (kind : Kind) (rest ts : List Token) → Begins kind rest ts → kind_least kind + tokens_size rest ≤ tokens_size ts
+behind_word kind rest ts b =
+    let a = (word_bytes b.text kind b.of_kind).0 in
     let d = name_size b.text in
     let e = ap tokens_size b.split in
-    let f : kind_least (kind_of b.mnemonic) ≤ length (mnemonic_text b.mnemonic) = grind (arith, nat_tests) in
-    let g : kind_least (kind_of b.mnemonic) ≡ kind_least kind = ap kind_least b.has in
-    omega (arith, a, d, e, f, g)
+    omega (arith, a, d, e)

@@ -45,64 +45,42 @@ abbrev pub call : ℕ → ℕ → ℕ → ℕ → ℕ → Row
 call opcode constant cycles1 early2 late2 =
     record (plain opcode 0 1 cycles1 0) { operands = Index constant; flow = Call constant; constant = Some constant; mic2 = ByEntry early2 late2 }
 
--- The table: opcode, needs, gives, cycles on Mic-1 and on Mic-2; then the operands, where the instruction leads, and what it names.
+-- The table: mnemonic, opcode, needs, gives, cycles on Mic-1 and on Mic-2; then the operands, where the instruction leads, and what it names.
 -- A call needs its method's parameters besides.
-abbrev pub row_of : Instr → Row
-row_of Nop = plain 0x00 0 0 2 1
-row_of (Bipush b) = record (plain 0x10 0 1 4 2) { operands = Byte b }
-row_of (LdcW k) = record (plain 0x13 0 1 8 3) { operands = Index k; constant = Some k }
-row_of (Iload k) = record (plain 0x15 0 1 6 3) { operands = Local k; reads = Some k }
-row_of (Istore k) = record (plain 0x36 1 0 7 5) { operands = Local k; stores = Some k }
-row_of Pop = plain 0x57 1 0 4 3
-row_of Dup = plain 0x59 1 2 3 2
-row_of Swap = plain 0x5F 2 2 7 6
-row_of Iadd = plain 0x60 2 1 4 3
-row_of Isub = plain 0x64 2 1 4 3
-row_of Iand = plain 0x7E 2 1 4 3
-row_of (Iinc k b) = record (plain 0x84 0 0 7 3) { operands = LocalByte k b; reads = Some k }
-row_of (Ifeq o) = branch 0x99 1 o 11 8 8 6
-row_of (Iflt o) = branch 0x9B 1 o 11 8 8 6
-row_of (IfIcmpeq o) = branch 0x9F 2 o 13 10 10 8
-row_of (Goto o) = jump 0xA7 o 7 4
-row_of Ireturn = record (plain 0xAC 1 0 9 8) { flow = Return }
-row_of Ior = plain 0xB0 2 1 4 3
-row_of (Invokevirtual k) = call 0xB6 k 23 12 13
-row_of (WideIload k) = record (wide 0x15 0 1 9 4) { operands = Index k; reads = Some k }
-row_of (WideIstore k) = record (wide 0x36 1 0 10 6) { operands = Index k; stores = Some k }
-row_of (WideIinc k n) = record (wide 0x84 0 0 12 5) { operands = IndexHalf k n; reads = Some k }
-row_of In = plain 0xFC 0 1 6 5
-row_of Out = plain 0xFD 1 0 8 7
-row_of Err = record (plain 0xFE 0 0 1 0) { flow = End }
-row_of Halt = record (plain 0xFF 0 0 1 0) { flow = End }
+abbrev pub named_row : Instr → List ℕ × Row
+named_row Nop = (codes "NOP", plain 0x00 0 0 2 1)
+named_row (Bipush b) = (codes "BIPUSH", record (plain 0x10 0 1 4 2) { operands = Byte b })
+named_row (LdcW k) = (codes "LDC_W", record (plain 0x13 0 1 8 3) { operands = Index k; constant = Some k })
+named_row (Iload k) = (codes "ILOAD", record (plain 0x15 0 1 6 3) { operands = Local k; reads = Some k })
+named_row (Istore k) = (codes "ISTORE", record (plain 0x36 1 0 7 5) { operands = Local k; stores = Some k })
+named_row Pop = (codes "POP", plain 0x57 1 0 4 3)
+named_row Dup = (codes "DUP", plain 0x59 1 2 3 2)
+named_row Swap = (codes "SWAP", plain 0x5F 2 2 7 6)
+named_row Iadd = (codes "IADD", plain 0x60 2 1 4 3)
+named_row Isub = (codes "ISUB", plain 0x64 2 1 4 3)
+named_row Iand = (codes "IAND", plain 0x7E 2 1 4 3)
+named_row (Iinc k b) = (codes "IINC", record (plain 0x84 0 0 7 3) { operands = LocalByte k b; reads = Some k })
+named_row (Ifeq o) = (codes "IFEQ", branch 0x99 1 o 11 8 8 6)
+named_row (Iflt o) = (codes "IFLT", branch 0x9B 1 o 11 8 8 6)
+named_row (IfIcmpeq o) = (codes "IF_ICMPEQ", branch 0x9F 2 o 13 10 10 8)
+named_row (Goto o) = (codes "GOTO", jump 0xA7 o 7 4)
+named_row Ireturn = (codes "IRETURN", record (plain 0xAC 1 0 9 8) { flow = Return })
+named_row Ior = (codes "IOR", plain 0xB0 2 1 4 3)
+named_row (Invokevirtual k) = (codes "INVOKEVIRTUAL", call 0xB6 k 23 12 13)
+named_row (WideIload k) = (codes "WIDE ILOAD", record (wide 0x15 0 1 9 4) { operands = Index k; reads = Some k })
+named_row (WideIstore k) = (codes "WIDE ISTORE", record (wide 0x36 1 0 10 6) { operands = Index k; stores = Some k })
+named_row (WideIinc k n) = (codes "WIDE IINC", record (wide 0x84 0 0 12 5) { operands = IndexHalf k n; reads = Some k })
+named_row In = (codes "IN", plain 0xFC 0 1 6 5)
+named_row Out = (codes "OUT", plain 0xFD 1 0 8 7)
+named_row Err = (codes "ERR", record (plain 0xFE 0 0 1 0) { flow = End })
+named_row Halt = (codes "HALT", record (plain 0xFF 0 0 1 0) { flow = End })
 
--- the table's names
+-- the mnemonic, behind WIDE where its opcode is
 abbrev pub name_of : Instr → List ℕ
-name_of Nop = codes "NOP"
-name_of (Bipush b) = codes "BIPUSH"
-name_of (LdcW k) = codes "LDC_W"
-name_of (Iload k) = codes "ILOAD"
-name_of (Istore k) = codes "ISTORE"
-name_of Pop = codes "POP"
-name_of Dup = codes "DUP"
-name_of Swap = codes "SWAP"
-name_of Iadd = codes "IADD"
-name_of Isub = codes "ISUB"
-name_of Iand = codes "IAND"
-name_of (Iinc k b) = codes "IINC"
-name_of (Ifeq o) = codes "IFEQ"
-name_of (Iflt o) = codes "IFLT"
-name_of (IfIcmpeq o) = codes "IF_ICMPEQ"
-name_of (Goto o) = codes "GOTO"
-name_of Ireturn = codes "IRETURN"
-name_of Ior = codes "IOR"
-name_of (Invokevirtual k) = codes "INVOKEVIRTUAL"
-name_of (WideIload k) = codes "WIDE ILOAD"
-name_of (WideIstore k) = codes "WIDE ISTORE"
-name_of (WideIinc k n) = codes "WIDE IINC"
-name_of In = codes "IN"
-name_of Out = codes "OUT"
-name_of Err = codes "ERR"
-name_of Halt = codes "HALT"
+name_of i = (named_row i).0
+
+abbrev pub row_of : Instr → Row
+row_of i = (named_row i).1
 
 -- a signed number as a word
 abbrev pub word_of : ℤ → ℕ
@@ -124,6 +102,14 @@ operand_bytes (LocalByte k b) = k ∷ cast_unsigned w8 b ∷ []
 operand_bytes (Index k) = two_bytes k
 operand_bytes (IndexHalf k n) = two_bytes k ++ two_bytes (cast_unsigned w16 n)
 operand_bytes (Offset o) = two_bytes (cast_unsigned w16 o)
+
+-- the local or the constant that they name
+abbrev pub operand_index : Operands → Option ℕ
+operand_index (Local k) = Some k
+operand_index (LocalByte k b) = Some k
+operand_index (Index k) = Some k
+operand_index (IndexHalf k n) = Some k
+operand_index _ = None
 
 -- the operands' numbers are in the ranges of their types
 abbrev pub AreInRange : Operands → Type 0

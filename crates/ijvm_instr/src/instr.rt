@@ -30,3 +30,33 @@ pub enum Instr {
     Err,
     Halt,
 }
+
+/// An instruction of each row of the table, in its order.
+pub const INSTRUCTIONS: [Instr; 26] = [
+    Instr::Nop,
+    Instr::Bipush(0),
+    Instr::LdcW(0),
+    Instr::Iload(0),
+    Instr::Istore(0),
+    Instr::Pop,
+    Instr::Dup,
+    Instr::Swap,
+    Instr::Iadd,
+    Instr::Isub,
+    Instr::Iand,
+    Instr::Iinc(0, 0),
+    Instr::Ifeq(0),
+    Instr::Iflt(0),
+    Instr::IfIcmpeq(0),
+    Instr::Goto(0),
+    Instr::Ireturn,
+    Instr::Ior,
+    Instr::Invokevirtual(0),
+    Instr::WideIload(0),
+    Instr::WideIstore(0),
+    Instr::WideIinc(0, 0),
+    Instr::In,
+    Instr::Out,
+    Instr::Err,
+    Instr::Halt,
+];

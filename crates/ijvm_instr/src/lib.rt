@@ -10,10 +10,10 @@ pub mod row;
 
 pub use decode::{decode_at, decode_instr};
 pub use encode::encode_instr;
-pub use instr::Instr;
+pub use instr::{INSTRUCTIONS, Instr};
 pub use laws::read_instructions_are_whole;
-pub use print::{name, print_instr, print_name, target_of};
-pub use row::{Cost, Flow, Operands, Row};
+pub use print::{print_instr, print_name, target_of};
+pub use row::{Cost, Flow, Operands, Row, name};
 
 #[cfg(test)]
 mod tests;

@@ -5,43 +5,8 @@ ghost use Rattle.ijvm_instr.specs.Instructions.{name_of, row_of, target};
 ghost use Rattle.ijvm_instr.specs.Text.{number_text, operand_text, instr_text};
 
 use crate::instr::Instr;
-use crate::row::Operands;
+use crate::row::{Operands, name};
 use mic_base::Line;
-
-/// The mnemonic.
-pub fn name(instr: Instr) -> &'static str
-    ensures is { result.now ≡ name_of instr }
-    ensures len { length result.now ≤ 13 }
-{
-    match instr {
-        Instr::Nop => "NOP",
-        Instr::Bipush(_) => "BIPUSH",
-        Instr::LdcW(_) => "LDC_W",
-        Instr::Iload(_) => "ILOAD",
-        Instr::Istore(_) => "ISTORE",
-        Instr::Pop => "POP",
-        Instr::Dup => "DUP",
-        Instr::Swap => "SWAP",
-        Instr::Iadd => "IADD",
-        Instr::Isub => "ISUB",
-        Instr::Iand => "IAND",
-        Instr::Iinc(_, _) => "IINC",
-        Instr::Ifeq(_) => "IFEQ",
-        Instr::Iflt(_) => "IFLT",
-        Instr::IfIcmpeq(_) => "IF_ICMPEQ",
-        Instr::Goto(_) => "GOTO",
-        Instr::Ireturn => "IRETURN",
-        Instr::Ior => "IOR",
-        Instr::Invokevirtual(_) => "INVOKEVIRTUAL",
-        Instr::WideIload(_) => "WIDE ILOAD",
-        Instr::WideIstore(_) => "WIDE ISTORE",
-        Instr::WideIinc(_, _) => "WIDE IINC",
-        Instr::In => "IN",
-        Instr::Out => "OUT",
-        Instr::Err => "ERR",
-        Instr::Halt => "HALT",
-    }
-}
 
 /// The target of a jump at this address.
 #[tactic(auto, unfolding(machine_words::specs::Arithmetic::wrap))]

@@ -1,7 +1,7 @@
 //! The instruction table.
 
 ghost use Rattle.std.specs.Prelude.{◌≡◌, ◌≤◌, length, Some};
-ghost use Rattle.ijvm_instr.specs.Instructions.{plain, wide, jump, branch, call, row_of, operand_bytes, size_of};
+ghost use Rattle.ijvm_instr.specs.Instructions.{plain, wide, jump, branch, call, name_of, operand_index, row_of, operand_bytes, size_of};
 
 use crate::instr::Instr;
 
@@ -77,6 +77,17 @@ impl Operands {
             Operands::Byte(_) | Operands::Local(_) => 1,
             Operands::LocalByte(_, _) | Operands::Index(_) | Operands::Offset(_) => 2,
             Operands::IndexHalf(_, _) => 4,
+        }
+    }
+
+    /// The local or the constant that they name.
+    fn index(self) -> Option<u16>
+        ensures { result ≡ operand_index self }
+    {
+        match self {
+            Operands::None | Operands::Byte(_) | Operands::Offset(_) => None,
+            Operands::Local(local) | Operands::LocalByte(local, _) => Some(u16::from(local)),
+            Operands::Index(index) | Operands::IndexHalf(index, _) => Some(index),
         }
     }
 }
@@ -173,23 +184,23 @@ impl Row {
     }
 
     /// With operands that name a local, which it reads.
-    fn reads(self, local: u16, operands: Operands) -> Row
-        ensures { result ≡ record self { operands = operands; reads = Some local } }
+    fn reads(self, operands: Operands) -> Row
+        ensures { result ≡ record self { operands = operands; reads = operand_index operands } }
     {
         Row {
             operands,
-            reads: Some(local),
+            reads: operands.index(),
             ..self
         }
     }
 
     /// With operands that name a local, which it stores to.
-    fn stores(self, local: u16, operands: Operands) -> Row
-        ensures { result ≡ record self { operands = operands; stores = Some local } }
+    fn stores(self, operands: Operands) -> Row
+        ensures { result ≡ record self { operands = operands; stores = operand_index operands } }
     {
         Row {
             operands,
-            stores: Some(local),
+            stores: operands.index(),
             ..self
         }
     }
@@ -211,40 +222,60 @@ impl Row {
     }
 }
 
+/// The instruction table: each instruction's mnemonic and its row.
+fn named_row(instr: Instr) -> (&'static str, Row)
+    ensures name { result.0.now ≡ name_of instr }
+    ensures len { length result.0.now ≤ 13 }
+    ensures row { result.1 ≡ row_of instr }
+{
+    use Operands::{Byte, Index, IndexHalf, Local, LocalByte};
+    match instr {
+        // mnemonic, opcode, needs, gives, cycles on Mic-1, cycles on Mic-2
+        Instr::Nop => ("NOP", Row::plain(0x00, 0, 0, 2, 1)),
+        Instr::Bipush(b) => ("BIPUSH", Row::plain(0x10, 0, 1, 4, 2).with(Byte(b))),
+        Instr::LdcW(k) => ("LDC_W", Row::plain(0x13, 0, 1, 8, 3).names(k)),
+        Instr::Iload(k) => ("ILOAD", Row::plain(0x15, 0, 1, 6, 3).reads(Local(k))),
+        Instr::Istore(k) => ("ISTORE", Row::plain(0x36, 1, 0, 7, 5).stores(Local(k))),
+        Instr::Pop => ("POP", Row::plain(0x57, 1, 0, 4, 3)),
+        Instr::Dup => ("DUP", Row::plain(0x59, 1, 2, 3, 2)),
+        Instr::Swap => ("SWAP", Row::plain(0x5F, 2, 2, 7, 6)),
+        Instr::Iadd => ("IADD", Row::plain(0x60, 2, 1, 4, 3)),
+        Instr::Isub => ("ISUB", Row::plain(0x64, 2, 1, 4, 3)),
+        Instr::Iand => ("IAND", Row::plain(0x7E, 2, 1, 4, 3)),
+        Instr::Iinc(k, b) => ("IINC", Row::plain(0x84, 0, 0, 7, 3).reads(LocalByte(k, b))),
+        Instr::Ifeq(o) => ("IFEQ", Row::branch(0x99, 1, o, (11, 8), (8, 6))),
+        Instr::Iflt(o) => ("IFLT", Row::branch(0x9B, 1, o, (11, 8), (8, 6))),
+        Instr::IfIcmpeq(o) => ("IF_ICMPEQ", Row::branch(0x9F, 2, o, (13, 10), (10, 8))),
+        Instr::Goto(o) => ("GOTO", Row::jump(0xA7, o, 7, 4)),
+        Instr::Ireturn => ("IRETURN", Row::plain(0xAC, 1, 0, 9, 8).leads(Flow::Return)),
+        Instr::Ior => ("IOR", Row::plain(0xB0, 2, 1, 4, 3)),
+        Instr::Invokevirtual(k) => ("INVOKEVIRTUAL", Row::call(0xB6, k, 23, (12, 13))),
+        Instr::WideIload(k) => ("WIDE ILOAD", Row::wide(0x15, 0, 1, 9, 4).reads(Index(k))),
+        Instr::WideIstore(k) => ("WIDE ISTORE", Row::wide(0x36, 1, 0, 10, 6).stores(Index(k))),
+        Instr::WideIinc(k, n) => (
+            "WIDE IINC",
+            Row::wide(0x84, 0, 0, 12, 5).reads(IndexHalf(k, n)),
+        ),
+        Instr::In => ("IN", Row::plain(0xFC, 0, 1, 6, 5)),
+        Instr::Out => ("OUT", Row::plain(0xFD, 1, 0, 8, 7)),
+        Instr::Err => ("ERR", Row::plain(0xFE, 0, 0, 1, 0).leads(Flow::End)),
+        Instr::Halt => ("HALT", Row::plain(0xFF, 0, 0, 1, 0).leads(Flow::End)),
+    }
+}
+
+/// The mnemonic, behind WIDE where its opcode is.
+pub fn name(instr: Instr) -> &'static str
+    ensures is { result.now ≡ name_of instr }
+    ensures len { length result.now ≤ 13 }
+{
+    named_row(instr).0
+}
+
 impl Instr {
     /// Its row of the table.
     pub fn row(self) -> Row
         ensures { result ≡ row_of self }
     {
-        use Operands::{Byte, Index, IndexHalf, Local, LocalByte};
-        match self {
-            //    opcode, needs, gives, cycles on Mic-1, cycles on Mic-2
-            Instr::Nop => Row::plain(0x00, 0, 0, 2, 1),
-            Instr::Bipush(b) => Row::plain(0x10, 0, 1, 4, 2).with(Byte(b)),
-            Instr::LdcW(k) => Row::plain(0x13, 0, 1, 8, 3).names(k),
-            Instr::Iload(k) => Row::plain(0x15, 0, 1, 6, 3).reads(u16::from(k), Local(k)),
-            Instr::Istore(k) => Row::plain(0x36, 1, 0, 7, 5).stores(u16::from(k), Local(k)),
-            Instr::Pop => Row::plain(0x57, 1, 0, 4, 3),
-            Instr::Dup => Row::plain(0x59, 1, 2, 3, 2),
-            Instr::Swap => Row::plain(0x5F, 2, 2, 7, 6),
-            Instr::Iadd => Row::plain(0x60, 2, 1, 4, 3),
-            Instr::Isub => Row::plain(0x64, 2, 1, 4, 3),
-            Instr::Iand => Row::plain(0x7E, 2, 1, 4, 3),
-            Instr::Iinc(k, b) => Row::plain(0x84, 0, 0, 7, 3).reads(u16::from(k), LocalByte(k, b)),
-            Instr::Ifeq(o) => Row::branch(0x99, 1, o, (11, 8), (8, 6)),
-            Instr::Iflt(o) => Row::branch(0x9B, 1, o, (11, 8), (8, 6)),
-            Instr::IfIcmpeq(o) => Row::branch(0x9F, 2, o, (13, 10), (10, 8)),
-            Instr::Goto(o) => Row::jump(0xA7, o, 7, 4),
-            Instr::Ireturn => Row::plain(0xAC, 1, 0, 9, 8).leads(Flow::Return),
-            Instr::Ior => Row::plain(0xB0, 2, 1, 4, 3),
-            Instr::Invokevirtual(k) => Row::call(0xB6, k, 23, (12, 13)),
-            Instr::WideIload(k) => Row::wide(0x15, 0, 1, 9, 4).reads(k, Index(k)),
-            Instr::WideIstore(k) => Row::wide(0x36, 1, 0, 10, 6).stores(k, Index(k)),
-            Instr::WideIinc(k, n) => Row::wide(0x84, 0, 0, 12, 5).reads(k, IndexHalf(k, n)),
-            Instr::In => Row::plain(0xFC, 0, 1, 6, 5),
-            Instr::Out => Row::plain(0xFD, 1, 0, 8, 7),
-            Instr::Err => Row::plain(0xFE, 0, 0, 1, 0).leads(Flow::End),
-            Instr::Halt => Row::plain(0xFF, 0, 0, 1, 0).leads(Flow::End),
-        }
+        named_row(self).1
     }
 }

@@ -1,12 +1,16 @@
--- A text is read as the mnemonic that it spells, in letters of any case.
-use Rattle.std.proofs.Common.{◌≡◌, ℕ, List, [], ◌∷◌, Option, Some, Bool, true, refl, sym, ap, subst, ◌∙◌, inl, inr}
-use Rattle.std.specs.Prelude.{find}
+-- A text is read as the word that it spells, in letters of any case.
+use Rattle.std.proofs.Common.{◌≡◌, ℕ, List, [], ◌∷◌, Option, Some, Bool, true, false, refl, sym, ap, subst, ◌∙◌, inl, inr, codes, if◌then◌else◌}
+use Rattle.std.specs.Prelude.{find, option_and_then}
 use Rattle.std.specs.Str.{bytes_eq, str_eq_ignore_ascii_case, str_to_ascii_lowercase}
 use Rattle.std.proofs.lemmas.Slice.Eq.{bytes_eq-Decides}
-use Rattle.ijvm_line.specs.declared.mnemonic.Mnemonic.{Mnemonic}
-use Rattle.ijvm_line.specs.declared.mnemonic.Mnemonic.TheVariants as mnemonics
-use Rattle.ijvm_line.proofs.Options.{chosen}
-use Rattle.ijvm_line.specs.Mnemonics.{all_mnemonics, find_mnemonic, mnemonic_text}
+use Rattle.ijvm_instr.specs.declared.instr.Instr.{Instr}
+use Rattle.ijvm_instr.specs.declared.instr.Instr.TheVariants as instrs
+use Rattle.ijvm_instr.specs.declared.instr.TheConstants.{INSTRUCTIONS}
+use Rattle.ijvm_instr.specs.Instructions.{name_of}
+use Rattle.ijvm_line.specs.declared.mnemonic.Kind.{Kind}
+use Rattle.ijvm_line.specs.declared.mnemonic.Kind.TheVariants as kinds
+use Rattle.ijvm_line.proofs.Options.{chosen, found}
+use Rattle.ijvm_line.specs.Mnemonics.{find_kind, IsOfKind, IsSpelled, kind_of, spelled_in}
 
 find_passes : {A : Type 0} (p : A → Bool) (xs : List A) (x : A) → find p xs ≡ Some x → p x ≡ true
 find_passes p [] x h = absurd (cc)
@@ -15,42 +19,35 @@ find_passes p (y ∷ ys) x h = elim (chosen (p y) (Some y) (find p ys) (Some x) 
   | inr w ↦ find_passes p ys x w.1
 ]
 
--- what is found in lower case
-by_lower : List ℕ → Option Mnemonic
-by_lower lower = find (λ m. bytes_eq (str_to_ascii_lowercase (mnemonic_text m)) lower) all_mnemonics
+-- the kind of a text in lower case
+by_lower : List ℕ → Option Kind
+by_lower lower =
+    if bytes_eq (str_to_ascii_lowercase (codes "WIDE")) lower then Some kinds.Wide
+    else option_and_then kind_of (find (λ i. bytes_eq (str_to_ascii_lowercase (name_of i)) lower) INSTRUCTIONS)
 
-again : (m : Mnemonic) → by_lower (str_to_ascii_lowercase (mnemonic_text m)) ≡ Some m
+again : (i : Instr) → by_lower (str_to_ascii_lowercase (name_of i)) ≡ kind_of i
 unfolding by_lower
-again m = elim m as (λ m. by_lower (str_to_ascii_lowercase (mnemonic_text m)) ≡ Some m) [
-  | mnemonics.Nop ↦ refl
-  | mnemonics.Bipush ↦ refl
-  | mnemonics.LdcW ↦ refl
-  | mnemonics.Iload ↦ refl
-  | mnemonics.Istore ↦ refl
-  | mnemonics.Pop ↦ refl
-  | mnemonics.Dup ↦ refl
-  | mnemonics.Swap ↦ refl
-  | mnemonics.Iadd ↦ refl
-  | mnemonics.Isub ↦ refl
-  | mnemonics.Iand ↦ refl
-  | mnemonics.Iinc ↦ refl
-  | mnemonics.Ifeq ↦ refl
-  | mnemonics.Iflt ↦ refl
-  | mnemonics.IfIcmpeq ↦ refl
-  | mnemonics.Goto ↦ refl
-  | mnemonics.Ireturn ↦ refl
-  | mnemonics.Ior ↦ refl
-  | mnemonics.Invokevirtual ↦ refl
-  | mnemonics.Wide ↦ refl
-  | mnemonics.In ↦ refl
-  | mnemonics.Out ↦ refl
-  | mnemonics.Err ↦ refl
-  | mnemonics.Halt ↦ refl
-]
+again instrs.Nop = refl
+again _ = refl
 
-pub mnemonic_again : (text : List ℕ) (m : Mnemonic) → str_to_ascii_lowercase (mnemonic_text m) ≡ str_to_ascii_lowercase text → find_mnemonic text ≡ Some m
+pub kind_again : (text : List ℕ) (kind : Kind) → IsOfKind text kind → find_kind text ≡ Some kind
 unfolding by_lower
-mnemonic_again text m h = ap by_lower (sym h) ∙ again m
+kind_again text kind (inl (spelled, e)) = ap by_lower (sym spelled) ∙ ap Some (sym e)
+kind_again text kind (inr (i, spelled, e)) = ap by_lower (sym spelled) ∙ (again i ∙ e)
 
-pub mnemonic_is : (text : List ℕ) (m : Mnemonic) → find_mnemonic text ≡ Some m → str_to_ascii_lowercase (mnemonic_text m) ≡ str_to_ascii_lowercase text
-mnemonic_is text m h = (bytes_eq-Decides (str_to_ascii_lowercase (mnemonic_text m)) (str_to_ascii_lowercase text)).0 (find_passes (λ m. str_eq_ignore_ascii_case (mnemonic_text m) text) all_mnemonics m h)
+spelled_by : (word text : List ℕ) → str_eq_ignore_ascii_case word text ≡ true → IsSpelled word text
+spelled_by word text h = (bytes_eq-Decides (str_to_ascii_lowercase word) (str_to_ascii_lowercase text)).0 h
+
+pub kind_is : (text : List ℕ) (kind : Kind) → find_kind text ≡ Some kind → IsOfKind text kind
+kind_is text kind h =
+    elim (chosen (str_eq_ignore_ascii_case (codes "WIDE") text) (Some kinds.Wide) (option_and_then kind_of (spelled_in INSTRUCTIONS text)) (Some kind) h) [
+      | inl w ↦ inl (spelled_by (codes "WIDE") text w.0, let e = w.1 in cc)
+      | inr w ↦
+          let f = found kind_of (spelled_in INSTRUCTIONS text) kind w.1 in
+          inr (f.0, spelled_by (name_of f.0) text (find_passes (λ i. str_eq_ignore_ascii_case (name_of i) text) INSTRUCTIONS f.0 f.1), f.2)
+    ]
+
+-- the kind of a word that is not WIDE
+pub kind_else : (wide : Bool) (named : Option Instr) → wide ≡ false → option_and_then kind_of named ≡ (if wide then Some kinds.Wide else option_and_then kind_of named)
+kind_else true named h = absurd (cc)
+kind_else false named h = refl

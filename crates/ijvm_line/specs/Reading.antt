@@ -23,7 +23,7 @@ use Rattle.ijvm_line.specs.declared.form.Form.TheVariants as forms
 use Rattle.ijvm_line.specs.declared.line.Line.{Line}
 use Rattle.ijvm_line.specs.declared.line.LineFault.{LineFault}
 use Rattle.ijvm_line.specs.declared.line.LineFault.TheVariants as faults
-use Rattle.ijvm_line.specs.Mnemonics.{find_mnemonic, kind_of}
+use Rattle.ijvm_line.specs.Mnemonics.{find_kind}
 use Rattle.ijvm_line.specs.Lines.{line_by}
 
 -- ---- a list of parameters
@@ -60,7 +60,7 @@ mark_of _ _ = None
 -- ---- instructions
 
 abbrev pub kind_at : Token → Option Kind
-kind_at (tokens.Name text) = option_map kind_of (find_mnemonic text)
+kind_at (tokens.Name text) = find_kind text
 kind_at _ = None
 
 abbrev pub operand_of : List Token → Option Operand

@@ -1,23 +1,19 @@
 -- How instructions are spelled by tokens.
 use Rattle.std.specs.Prelude.{◌≡◌, ℕ, true, false, List, [], ◌∷◌}
-use Rattle.std.specs.Str.{str_to_ascii_lowercase}
 use Rattle.ijvm_tokens.specs.declared.token.Token.{Token}
 use Rattle.ijvm_tokens.specs.declared.token.Token.TheVariants as tokens
-use Rattle.ijvm_line.specs.declared.mnemonic.Mnemonic.{Mnemonic}
 use Rattle.ijvm_line.specs.declared.mnemonic.Kind.{Kind}
 use Rattle.ijvm_line.specs.declared.mnemonic.Kind.TheVariants as kinds
 use Rattle.ijvm_line.specs.declared.statement.Operand.{Operand}
 use Rattle.ijvm_line.specs.declared.statement.Operand.TheVariants as operands
 use Rattle.ijvm_line.specs.declared.statement.Statement.{Statement}
 use Rattle.ijvm_line.specs.declared.statement.Statement.TheVariants as statements
-use Rattle.ijvm_line.specs.Mnemonics.{kind_of, mnemonic_text}
+use Rattle.ijvm_line.specs.Mnemonics.{IsOfKind}
 
--- the tokens are a mnemonic with such operands, in letters of any case, and then these tokens
+-- the tokens are a word of this kind, and then these tokens
 pub record Begins (kind : Kind) (rest : List Token) (ts : List Token) : Type 0 where
-  pub mnemonic : Mnemonic
-  pub has : kind_of mnemonic ≡ kind
   pub text : List ℕ
-  pub spelled : str_to_ascii_lowercase (mnemonic_text mnemonic) ≡ str_to_ascii_lowercase text
+  pub of_kind : IsOfKind text kind
   pub split : ts ≡ tokens.Name text ∷ rest
 
 abbrev pub operand_token : Operand → Token

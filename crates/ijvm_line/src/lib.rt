@@ -14,7 +14,7 @@ pub use form::Form;
 pub use instruction::{Instruction, access_instr, increment_instr};
 pub use laws::{parameters_are_those_spelled, reads_what_is_spelled};
 pub use line::{Line, LineFault, line_from};
-pub use mnemonic::{Access, Kind, Mnemonic};
+pub use mnemonic::{Access, Kind};
 pub use parameters::parameters_of;
 pub use place::{Mark, Place};
 pub use statement::{Operand, Statement};

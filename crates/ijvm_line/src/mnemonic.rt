@@ -1,40 +1,11 @@
-//! The mnemonics, and what kind of operands each takes.
+//! The words that begin an instruction's line, and what kind of operands stands behind each.
 
 ghost use Rattle.std.specs.Prelude.{◌≡◌};
 ghost use Rattle.std.specs.Str.{str_eq_ignore_ascii_case};
-ghost use Rattle.ijvm_line.specs.Mnemonics.{find_mnemonic, kind_of, mnemonic_text};
+ghost use Rattle.ijvm_line.specs.Mnemonics.{find_kind, kind_of, spelled_in};
 
-use ijvm_instr::Instr;
+use ijvm_instr::{INSTRUCTIONS, Instr, name};
 use ijvm_program::Jump;
-
-/// What begins an instruction's line.
-#[derive(Clone, Copy, Debug, PartialEq, Eq)]
-pub enum Mnemonic {
-    Nop,
-    Bipush,
-    LdcW,
-    Iload,
-    Istore,
-    Pop,
-    Dup,
-    Swap,
-    Iadd,
-    Isub,
-    Iand,
-    Iinc,
-    Ifeq,
-    Iflt,
-    IfIcmpeq,
-    Goto,
-    Ireturn,
-    Ior,
-    Invokevirtual,
-    Wide,
-    In,
-    Out,
-    Err,
-    Halt,
-}
 
 /// Whether a local is loaded or stored.
 #[derive(Clone, Copy, Debug, PartialEq, Eq)]
@@ -43,7 +14,7 @@ pub enum Access {
     Store,
 }
 
-/// Which operands a mnemonic has.
+/// Which operands stand behind a word.
 #[derive(Clone, Copy, Debug, PartialEq, Eq)]
 pub enum Kind {
     /// None: it is this instruction.
@@ -64,109 +35,54 @@ pub enum Kind {
     Wide,
 }
 
-const MNEMONICS: [Mnemonic; 24] = [
-    Mnemonic::Nop,
-    Mnemonic::Bipush,
-    Mnemonic::LdcW,
-    Mnemonic::Iload,
-    Mnemonic::Istore,
-    Mnemonic::Pop,
-    Mnemonic::Dup,
-    Mnemonic::Swap,
-    Mnemonic::Iadd,
-    Mnemonic::Isub,
-    Mnemonic::Iand,
-    Mnemonic::Iinc,
-    Mnemonic::Ifeq,
-    Mnemonic::Iflt,
-    Mnemonic::IfIcmpeq,
-    Mnemonic::Goto,
-    Mnemonic::Ireturn,
-    Mnemonic::Ior,
-    Mnemonic::Invokevirtual,
-    Mnemonic::Wide,
-    Mnemonic::In,
-    Mnemonic::Out,
-    Mnemonic::Err,
-    Mnemonic::Halt,
-];
+/// Whether the text is the word, in letters of any case.
+fn is_spelled(word: &str, text: &[u8]) -> bool
+    ensures { result ≡ str_eq_ignore_ascii_case word.now text.now }
+{
+    word.as_bytes().eq_ignore_ascii_case(text)
+}
 
-impl Mnemonic {
-    pub fn text(self) -> &'static str
-        ensures { result.now ≡ mnemonic_text self }
+/// The first of the instructions whose mnemonic the text is.
+fn spelled_in(table: &[Instr], text: &[u8]) -> Option<Instr>
+    ensures { result ≡ spelled_in table.now text.now }
+{
+    table
+        .iter()
+        .copied()
+        .find(|instr| is_spelled(name(*instr), text))
+}
+
+/// The kind of operands behind an instruction's mnemonic. The wide forms are begun by WIDE.
+fn kind_of(instr: Instr) -> Option<Kind>
+    ensures { result ≡ kind_of instr }
+{
+    match instr {
+        Instr::Bipush(_) => Some(Kind::Push),
+        Instr::LdcW(_) => Some(Kind::Constant),
+        Instr::Iload(_) => Some(Kind::Local(Access::Load)),
+        Instr::Istore(_) => Some(Kind::Local(Access::Store)),
+        Instr::Iinc(_, _) => Some(Kind::Increment),
+        Instr::Ifeq(_) => Some(Kind::Jump(Jump::Ifeq)),
+        Instr::Iflt(_) => Some(Kind::Jump(Jump::Iflt)),
+        Instr::IfIcmpeq(_) => Some(Kind::Jump(Jump::IfIcmpeq)),
+        Instr::Goto(_) => Some(Kind::Jump(Jump::Goto)),
+        Instr::Invokevirtual(_) => Some(Kind::Call),
+        Instr::WideIload(_) | Instr::WideIstore(_) | Instr::WideIinc(_, _) => None,
+        alone => Some(Kind::Alone(alone)),
+    }
+}
+
+impl Kind {
+    /// The kind of a word: WIDE, or a mnemonic of the table.
+    pub fn find(text: &[u8]) -> Option<Kind>
+        ensures { result ≡ find_kind text.now }
     {
-        match self {
-            Mnemonic::Nop => "NOP",
-            Mnemonic::Bipush => "BIPUSH",
-            Mnemonic::LdcW => "LDC_W",
-            Mnemonic::Iload => "ILOAD",
-            Mnemonic::Istore => "ISTORE",
-            Mnemonic::Pop => "POP",
-            Mnemonic::Dup => "DUP",
-            Mnemonic::Swap => "SWAP",
-            Mnemonic::Iadd => "IADD",
-            Mnemonic::Isub => "ISUB",
-            Mnemonic::Iand => "IAND",
-            Mnemonic::Iinc => "IINC",
-            Mnemonic::Ifeq => "IFEQ",
-            Mnemonic::Iflt => "IFLT",
-            Mnemonic::IfIcmpeq => "IF_ICMPEQ",
-            Mnemonic::Goto => "GOTO",
-            Mnemonic::Ireturn => "IRETURN",
-            Mnemonic::Ior => "IOR",
-            Mnemonic::Invokevirtual => "INVOKEVIRTUAL",
-            Mnemonic::Wide => "WIDE",
-            Mnemonic::In => "IN",
-            Mnemonic::Out => "OUT",
-            Mnemonic::Err => "ERR",
-            Mnemonic::Halt => "HALT",
+        if is_spelled("WIDE", text) {
+            return Some(Kind::Wide);
         }
-    }
-
-    fn is_spelled(self, text: &[u8]) -> bool
-        ensures { result ≡ str_eq_ignore_ascii_case (mnemonic_text self) text.now }
-    {
-        self.text().as_bytes().eq_ignore_ascii_case(text)
-    }
-
-    /// The mnemonic that is spelled so, in letters of any case.
-    pub fn find(text: &[u8]) -> Option<Mnemonic>
-        ensures { result ≡ find_mnemonic text.now }
-    {
-        MNEMONICS
-            .iter()
-            .copied()
-            .find(|mnemonic| mnemonic.is_spelled(text))
-    }
-
-    pub fn kind(self) -> Kind
-        ensures { result ≡ kind_of self }
-    {
-        match self {
-            Mnemonic::Nop => Kind::Alone(Instr::Nop),
-            Mnemonic::Bipush => Kind::Push,
-            Mnemonic::LdcW => Kind::Constant,
-            Mnemonic::Iload => Kind::Local(Access::Load),
-            Mnemonic::Istore => Kind::Local(Access::Store),
-            Mnemonic::Pop => Kind::Alone(Instr::Pop),
-            Mnemonic::Dup => Kind::Alone(Instr::Dup),
-            Mnemonic::Swap => Kind::Alone(Instr::Swap),
-            Mnemonic::Iadd => Kind::Alone(Instr::Iadd),
-            Mnemonic::Isub => Kind::Alone(Instr::Isub),
-            Mnemonic::Iand => Kind::Alone(Instr::Iand),
-            Mnemonic::Iinc => Kind::Increment,
-            Mnemonic::Ifeq => Kind::Jump(Jump::Ifeq),
-            Mnemonic::Iflt => Kind::Jump(Jump::Iflt),
-            Mnemonic::IfIcmpeq => Kind::Jump(Jump::IfIcmpeq),
-            Mnemonic::Goto => Kind::Jump(Jump::Goto),
-            Mnemonic::Ireturn => Kind::Alone(Instr::Ireturn),
-            Mnemonic::Ior => Kind::Alone(Instr::Ior),
-            Mnemonic::Invokevirtual => Kind::Call,
-            Mnemonic::Wide => Kind::Wide,
-            Mnemonic::In => Kind::Alone(Instr::In),
-            Mnemonic::Out => Kind::Alone(Instr::Out),
-            Mnemonic::Err => Kind::Alone(Instr::Err),
-            Mnemonic::Halt => Kind::Alone(Instr::Halt),
+        match spelled_in(&INSTRUCTIONS, text) {
+            Some(instr) => kind_of(instr),
+            None => None,
         }
     }
 }

@@ -3,7 +3,7 @@
 ghost use Rattle.std.specs.Prelude.{◌≡◌};
 ghost use Rattle.ijvm_line.specs.Reading.{alone, call, constant, increment, jump_to, kind_at, local, operand_of, push, statement_of, wide};
 
-use crate::mnemonic::{Access, Kind, Mnemonic};
+use crate::mnemonic::{Access, Kind};
 use ijvm_instr::Instr;
 use ijvm_program::Jump;
 use ijvm_tokens::Token;
@@ -43,7 +43,7 @@ fn kind_at(token: Token) -> Option<Kind>
     ensures { result ≡ kind_at token }
 {
     match token {
-        Token::Name(name) => Some(Mnemonic::find(name.text().as_bytes())?.kind()),
+        Token::Name(name) => Kind::find(name.text().as_bytes()),
         Token::Sign(_) | Token::Number(_) => None,
     }
 }

@@ -13,4 +13,8 @@ pub mod Boards
 pub mod Alike
 pub mod Ending
 pub mod Stalls
+pub mod Groups
+pub mod Accesses
+pub mod Methods
 pub mod Writes
+pub mod Stack

@@ -6,7 +6,8 @@ use Rattle.std.proofs.lemmas.Option.{slice_get_within}
 use Rattle.ijvm_run.specs.Step.{is_own, onto, called}
 use Rattle.ijvm_run.specs.Frames.{Frame, operands_at, frame_end, base, kept_words}
 use Rattle.ijvm_simulation.specs.Stands.{OperandsAt, IsLinked, FrameStands, FramesStand, caller_lv}
-use Rattle.ijvm_simulation.specs.Writes.{linked_words, KeepFrames}
+use Rattle.ijvm_simulation.specs.Stack.{linked_words}
+use Rattle.ijvm_simulation.proofs.Methods.{length-onto}
 
 read_other : (words : List ℕ) (a b v : ℕ) → (b < a) ⊎ (a < b) → slice_index (slice_set words a v) b ≡ slice_index words b
 read_other words a b v h = let ne : b ≢ a = omega arith in get_or-set_other words a b v 0 ne
@@ -44,7 +45,7 @@ frames_below words a v (f ∷ fs) le h = (
 )
 
 -- a word is pushed
-pushed : (words : List ℕ) (a v : ℕ) (f : Frame) (fs : List Frame) → a ≡ base (f ∷ fs) → a < length words → FramesStand words (f ∷ fs) →
+pub pushed : (words : List ℕ) (a v : ℕ) (f : Frame) (fs : List Frame) → a ≡ base (f ∷ fs) → a < length words → FramesStand words (f ∷ fs) →
     FramesStand (slice_set words a v) (record f { operands = v ∷ f.operands } ∷ fs)
 pushed words a v f fs e lt h =
     let below : FrameStands (slice_set words a v) (base fs) (caller_lv fs) f = frame_below words (base fs) (caller_lv fs) a v f (omega arith) h.0 in (
@@ -100,7 +101,7 @@ stored_locals words lv k v xs l room h j u e =
           get_or-set_other words (lv + k) (lv + j) v 0 ne ∙ h j u (sym g.1 ∙ e)
     ]
 
-stored : (words : List ℕ) (k v : ℕ) (f : Frame) (fs : List Frame) → k < length f.locals → is_own f.back k ≡ true → base fs + k < length words →
+pub stored : (words : List ℕ) (k v : ℕ) (f : Frame) (fs : List Frame) → k < length f.locals → is_own f.back k ≡ true → base fs + k < length words →
     FramesStand words (f ∷ fs) → FramesStand (slice_set words (base fs + k) v) (record f { locals = slice_set f.locals k (Some v) } ∷ fs)
 stored words k v f fs l own room h =
     let len : length (slice_set f.locals k (Some v)) ≡ length f.locals = length-set f.locals k (Some v) in
@@ -150,10 +151,6 @@ onto_at words b (p ∷ ps) tail xs o h = onto_at words b ps tail (Some p ∷ xs)
     (cons_at words (b + length (ps ++ tail)) (Some p) xs (λ v e. o.0 ∙ same_value p v e)
     (λ k v e. let same : b + length (ps ++ tail) + 1 + k ≡ b + length (p ∷ (ps ++ tail)) + k = omega arith in ap (slice_index words) same ∙ h k v e))
 
-length-onto : (ps : List ℕ) (xs : List (Option ℕ)) → length (onto ps xs) ≡ length ps + length xs
-length-onto [] xs = omega arith
-length-onto (p ∷ ps) xs = let e : length (onto ps (Some p ∷ xs)) ≡ length ps + length (Some p ∷ xs) = length-onto ps (Some p ∷ xs) in omega arith
-
 none_some : (v : ℕ) → ◌≡◌ {A = Option ℕ} None (Some v) → ⊥
 none_some v e = cc
 
@@ -169,7 +166,7 @@ locals_at_link : (words : List ℕ) (lv v : ℕ) (xs : List (Option ℕ)) → Lo
 locals_at_link words lv v xs h zero u e = absurd (none_some u (some_some e))
 locals_at_link words lv v xs h (suc k) u e = read_other words lv (lv + suc k) v (inr (omega arith)) ∙ h (suc k) u e
 
-entered : (words : List ℕ) (ps : List ℕ) (o : ℕ) (rest : List ℕ) (more r : ℕ) (f : Frame) (fs : List Frame) →
+pub entered : (words : List ℕ) (ps : List ℕ) (o : ℕ) (rest : List ℕ) (more r : ℕ) (f : Frame) (fs : List Frame) →
     base (record f { operands = rest } ∷ fs) + length ps + 1 + more + 1 < length words → f.operands ≡ ps ++ o ∷ rest → FramesStand words (f ∷ fs) →
     FramesStand (linked_words words (base (record f { operands = rest } ∷ fs)) (length ps + 1 + more) r (base fs))
     (called ps more r ∷ record f { operands = rest } ∷ fs)
@@ -204,6 +201,3 @@ entered words ps o rest more r f fs room ops h =
       get_or-set_same m2 (lv + many + 1) (base fs) 0 (omega arith),
     ) in
     (record { locals = own3; operands = tt; linked = subst (λ (k : ℕ). IsLinked m3 lv k (base fs) (Some r)) (sym len) link }, below3)
-
-pub keep_frames : KeepFrames
-keep_frames = record { pushed = pushed; stored = stored; entered = entered }

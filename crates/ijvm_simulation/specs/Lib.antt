@@ -1,5 +1,7 @@
 pub mod Stands
-pub mod Writes
+pub mod Groups
+pub mod Guesses
+pub mod Stack
 pub mod Passes
 pub mod Simulates
 pub mod Bytes

@@ -1,12 +1,20 @@
-//! What holds of every run of an interpreter, whoever clocks it.
+//! What holds of every interpreter, and of every run of one, whoever clocks it.
 
+ghost use Rattle.std.specs.Prelude.{ℕ, List};
+ghost use Rattle.ijvm_instr.specs.declared.instr.Instr.{Instr};
+ghost use Rattle.ijvm_image.specs.Image.{ImageView};
+ghost use Rattle.ijvm_paths.specs.Accepted.{VerifiedView};
+ghost use Rattle.ijvm_simulation.specs.Stands.{Origin, IsAt};
+ghost use Rattle.ijvm_simulation.specs.Groups.{ByGroups};
+ghost use Rattle.ijvm_simulation.specs.Law.{Takes};
 ghost use Rattle.ijvm_simulation.specs.Starts.{EndsAsDefined};
-ghost use Rattle.ijvm_simulation.specs.Stalls.{StallsAddUp};
-ghost use Rattle.ijvm_simulation.specs.Writes.{KeepFrames};
+ghost use Rattle.ijvm_simulation.specs.Stack.{StackLaw};
+ghost use Rattle.ijvm_simulation.specs.Stalls.{StallsAddUp, TakesWithStalls};
 
 use crate::interpreter::Interpreter;
 use ijvm_paths::accepted_images_keep_sound;
 use ijvm_run::runs_keep_words;
+use mic_clock::Clocked;
 
 /// A run over the store that ships, from its reset over a verified image, ends as the definition's run where no fault cuts it. So it is never adrift, and never out of the memory map.
 pub fn shipped_runs_end_as_defined<I: Interpreter>()
@@ -26,7 +34,14 @@ pub fn stalls_add_up<I: Interpreter>()
     I::law();
 }
 
-/// Behind the writes of a push, a store to a local and a call the frames stand in memory as the definition has them.
-pub fn writes_keep_frames()
-    ensures { KeepFrames }
+/// What a machine at a boundary knows of its memory and its stack, and that it stands for the state behind an instruction once its registers and its memory have become what the instruction makes of them.
+pub fn stack_law()
+    ensures { StackLaw }
+{}
+
+/// What is shown of each group of instructions holds of every instruction.
+pub fn groups_are_all<C: Clocked>()
+    ensures takes { (store : List ℕ) (entry : ℕ) (v : VerifiedView) (o : Origin) → ByGroups (Takes C.meaning store (IsAt C.meaning C.IsReady entry o) o.given v o) }
+    ensures stalls { (store : List ℕ) (entry : ℕ) (stalls_of : ImageView → Instr → ℕ) (v : VerifiedView) (o : Origin) →
+        ByGroups (TakesWithStalls C.meaning store (IsAt C.meaning C.IsReady entry o) o.given stalls_of v o) }
 {}

@@ -8,5 +8,5 @@ pub mod run;
 
 pub use agreement::interpreters_agree;
 pub use interpreter::Interpreter;
-pub use laws::{shipped_runs_end_as_defined, stalls_add_up, writes_keep_frames};
+pub use laws::{groups_are_all, shipped_runs_end_as_defined, stack_law, stalls_add_up};
 pub use run::{first_sp, loaded_bus, reset_board, run_image};

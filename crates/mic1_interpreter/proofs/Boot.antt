@@ -10,9 +10,9 @@ use Rattle.mic1_datapath.specs.Mic1.{mic1_meaning}
 use Rattle.ijvm_run.specs.Frames.{start_of}
 use Rattle.mic1_interpreter.proofs.Shipped.{HasStatements}
 use Rattle.mic1_interpreter.specs.Stands.{Stands}
-use Rattle.mic1_interpreter.proofs.Accesses.{fetch_ok}
 use Rattle.mic1_interpreter.proofs.Guided.{clocked, pass-clocked}
 use Rattle.mic1_interpreter.proofs.Boundaries.{ReachesBoundary, at_boundary, map_of}
+use Rattle.mic1_interpreter.proofs.Words.{fetch_ok}
 use Rattle.ijvm_simulation.specs.Stands.{Origin}
 use Rattle.ijvm_simulation.specs.Passes.{Moment}
 use Rattle.ijvm_simulation.specs.Law.{Boots, reset_moment}

@@ -16,8 +16,9 @@ use Rattle.ijvm_simulation.specs.Verified.{Loads}
 use Rattle.mic1_interpreter.proofs.Shipped.{shipped, HasStatements}
 use Rattle.mic1_interpreter.specs.Stands.{Stands}
 use Rattle.mic1_interpreter.proofs.Guided.{clocked, IsSmooth, pass-clocked, outcome_is, step-refused}
-use Rattle.mic1_interpreter.proofs.Accesses.{IsMap, next_is, fetch_ok, byte_kept}
+use Rattle.mic1_interpreter.proofs.Words.{byte_kept, fetch_ok, next_is}
 use Rattle.ijvm_simulation.specs.Stands.{Origin, RegistersStand}
+use Rattle.ijvm_simulation.specs.Stack.{IsMapEnd}
 use Rattle.ijvm_simulation.specs.Passes.{Moment, is_inside, pass}
 use Rattle.ijvm_simulation.specs.Law.{Shows, HasWord, Moves, Overruns}
 
@@ -70,7 +71,7 @@ pub record Counts (o : Origin) (s : State) (m : Micro) (w : World) : Type 0 wher
   pub byte5 : byte_in w.words (next (next (next (next (next m.pc))))) ≡ byte_in o.words (s.at + 5)
   pub byte6 : byte_in w.words (next (next (next (next (next (next m.pc)))))) ≡ byte_in o.words (s.at + 6)
 
-pub counts : (o : Origin) (map : IsMap (length o.words)) (s : State) (m : Micro) (w : World) → Stands o s m w → s.at < 0x10000 → Counts o s m w
+pub counts : (o : Origin) (map : IsMapEnd (length o.words)) (s : State) (m : Micro) (w : World) → Stands o s m w → s.at < 0x10000 → Counts o s m w
 counts o map s m w h inside =
     let e1 : next m.pc ≡ s.at + 1 = next_is m.pc (s.at + 1) (omega (arith, h.ready.pc)) (omega arith) in
     let e2 : next (next m.pc) ≡ s.at + 2 = next_is (next m.pc) (s.at + 2) (omega arith) (omega arith) in
@@ -106,6 +107,12 @@ pub at_boundary : (o : Origin) (s : State) (m : Micro) (w : World) → Registers
 at_boundary o s m w holds pc mbr mpc entry clocked word byte =
     record { holds = holds; ready = record { pc = pc; mbr = mbr; mpc = mpc ∙ sym entry; entry = entry; clocked = clocked; word = word; byte = byte } }
 
+-- one whose byte was fetched from the memory as it is left
+pub at_text : (o : Origin) (s : State) (m : Micro) (w : World) → RegistersStand o s m.sp m.lv m.cpp m.tos w →
+    m.pc ≡ s.at → s.at < 0x20000 → m.mbr ≡ byte_in w.words m.pc → m.mpc ≡ 2 → m.entry ≡ 2 → m.clocked ≡ true → m.word ≡ None → m.byte ≡ None → Stands o s m w
+at_text o s m w holds pc text mbr mpc entry clocked word byte =
+    at_boundary o s m w holds pc (mbr ∙ byte_kept w.words o.words holds.memory.kept pc text) mpc entry clocked word byte
+
 -- what a Mic-1 shows at a boundary
 pub shows : (program : List ℕ) (o : Origin) (s : State) (m : Micro) (w : World) → Stands o s m w → Shows mic1_meaning program (Stands o) o.given s m w
 shows program o s m w h =
@@ -119,7 +126,7 @@ shows program o s m w h =
     }
 
 -- a verified image's memory ends where a map has it
-pub map_of : (v : VerifiedView) (o : Origin) → Loads v o → IsMap (length o.words)
+pub map_of : (v : VerifiedView) (o : Origin) → Loads v o → IsMapEnd (length o.words)
 map_of v o loads = elim loads.accepted.map_is [
   | inl e ↦ let long : length o.words ≡ v.map.stack_end = loads.long in record { low = omega (arith, e); high = omega (arith, e); near = omega (arith, e) }
   | inr e ↦ let long : length o.words ≡ v.map.stack_end = loads.long in record { low = omega (arith, e); high = omega (arith, e); near = omega (arith, e) }

@@ -1,5 +1,5 @@
 -- IN and OUT.
-use Rattle.std.proofs.Common.{◌≡◌, ℕ, ◌+◌, ◌%◌, ◌<◌, Some, None, Option, List, [], ◌∷◌, ◌++◌, length, drop, refl, arith, ◌∙◌, ap, ap₂, append_assoc}
+use Rattle.std.proofs.Common.{◌≡◌, ℕ, ◌+◌, ◌%◌, ◌<◌, Some, None, Option, List, [], ◌∷◌, ◌++◌, length, drop, refl, arith, ◌∙◌, ap, ap₂, append_assoc, subst, sym}
 use Rattle.std.specs.Prelude.{slice_set}
 use Rattle.machine_words.specs.declared.machine.Machine.TheVariants.{Mic1}
 use Rattle.machine_words.specs.Arithmetic.{next, before}
@@ -13,33 +13,34 @@ use Rattle.ijvm_paths.specs.Accepted.{VerifiedView}
 use Rattle.mic1_datapath.specs.Micro.{Micro}
 use Rattle.datapath.specs.Memory.{first_refusal}
 use Rattle.mic1_datapath.specs.Mic1.{mic1_meaning}
-use Rattle.ijvm_simulation.specs.Stands.{Origin}
-use Rattle.ijvm_simulation.specs.Writes.{KeepFrames}
+use Rattle.ijvm_simulation.specs.Stands.{Origin, IsTop}
+use Rattle.ijvm_simulation.specs.Stack.{IsMapEnd, IsWordAccess, IsConsoleAccess, console_address, Top, AtBoundary, StackLaw}
 use Rattle.ijvm_simulation.specs.Passes.{Moment}
 use Rattle.ijvm_simulation.specs.Outcomes.{Went, Overran, push}
 use Rattle.ijvm_simulation.specs.Verified.{Loads, Fine, IsNext}
 use Rattle.ijvm_simulation.specs.Law.{Moves, Overruns, Takes}
+use Rattle.ijvm_simulation.specs.Groups.{IsOfConsole}
 use Rattle.mic1_interpreter.specs.Stands.{Stands}
-use Rattle.mic1_interpreter.specs.Groups.{IsOfConsole}
 use Rattle.mic1_interpreter.proofs.Shipped.{HasStatements}
-use Rattle.mic1_interpreter.proofs.Accesses.{IsMap, Access, next_is, write_limit, Port, console, port}
-use Rattle.mic1_interpreter.proofs.Facts.{room, Top, top, pushes, drops, IsTop_at}
 use Rattle.mic1_interpreter.proofs.Boundaries.{ReachesBoundary, comes, Counts, counts, at_boundary, map_of, moves, overruns}
 
-module _ (program : List ℕ) (has : HasStatements program) (o : Origin) (map : IsMap (length o.words)) (keep : KeepFrames) (s : State) (m : Micro) (w : World) (k : ℕ) (h : Stands o s m w) (inside : s.at < 0x10000) where
+module _ (program : List ℕ) (has : HasStatements program) (o : Origin) (map : IsMapEnd (length o.words)) (law : StackLaw) (s : State) (m : Micro) (w : World) (k : ℕ) (h : Stands o s m w) (inside : s.at < 0x10000) where
+  abbrev here : AtBoundary o s m.sp m.lv m.cpp m.tos w
+  here = law.boundary o s m.sp m.lv m.cpp m.tos w map h.holds
+
   out : (y : ℕ) (rest : List ℕ) → byte_in o.words s.at ≡ 0xFD → s.running.operands ≡ y ∷ rest →
       ReachesBoundary program o 7 (record { state = m; world = w; stalls = k }) (record (moved s rest (s.at + 1)) { given = s.given ++ y % 256 ∷ [] })
   out y rest code ops =
       let c : Counts o s m w = counts o map s m w h inside in
-      let t : Top o map s m.sp m.lv m.cpp m.tos w h.holds y rest = top o map s m.sp m.lv m.cpp m.tos w h.holds y rest ops in
-      let p : Port (length o.words) w = port (length o.words) w map h.holds.memory.long in
+      let t : Top o s m.sp m.lv m.cpp m.tos w y rest = here.top y rest ops in
+      let p : IsConsoleAccess (length o.words) w = law.port (length o.words) w map h.holds.memory.long in
       let op : m.mbr ≡ 0xFD = h.ready.mbr ∙ code in
-      let same : slice_set w.words console m.tos ≡ w.words = p.words m.tos in
+      let same : slice_set w.words console_address m.tos ≡ w.words = p.words m.tos in
       comes program has o (0xFD ∷ []) 7 m w k s _ h (assumption)
       (at_boundary o _ _ _
-      (drops o map s m.sp m.lv m.cpp m.tos w h.holds rest (s.at + 1) _ _ _ _ _ (s.given ++ y % 256 ∷ []) t.frames (omega (arith, t.below))
+      (here.drops rest (s.at + 1) _ _ _ _ _ (s.given ++ y % 256 ∷ []) t.frames (omega (arith, t.below))
       refl refl (omega (arith, t.down.is, t.above))
-      (IsTop_at rest (ap (λ (ws : List ℕ). read_value (length o.words) ws w.untaken (before m.sp)) same) t.next_top)
+      (subst (λ (n : ℕ). IsTop n rest) (sym (ap (λ (ws : List ℕ). read_value (length o.words) ws w.untaken (before m.sp)) same)) t.next_top)
       same (t.down.untaken ∙ h.holds.untaken)
       (p.given m.tos ∙ (ap₂ (λ (g : List ℕ) (v : ℕ). g ++ v % 256 ∷ []) h.holds.given t.tos_is ∙ append_assoc o.given s.given (y % 256 ∷ []))))
       c.pc1 c.byte1 refl refl refl refl refl)
@@ -49,19 +50,19 @@ module _ (program : List ℕ) (has : HasStatements program) (o : Origin) (map : 
       ReachesBoundary program o 5 (record { state = m; world = w; stalls = k }) (push (taken s) (next_byte s.untaken) (s.at + 1))
   inp code space =
       let c : Counts o s m w = counts o map s m w h inside in
-      let r : Access (length o.words) w (next m.sp) (base (frames_of s)) = room o map s m.sp m.lv m.cpp m.tos w h.holds space in
-      let p : Port (length o.words) w = port (length o.words) w map h.holds.memory.long in
+      let r : IsWordAccess (length o.words) w (next m.sp) (base (frames_of s)) = here.room space in
+      let p : IsConsoleAccess (length o.words) w = law.port (length o.words) w map h.holds.memory.long in
       let op : m.mbr ≡ 0xFC = h.ready.mbr ∙ code in
-      let v : read_value (length o.words) w.words w.untaken console ≡ next_byte s.untaken = p.value ∙ ap next_byte h.holds.untaken in
+      let v : read_value (length o.words) w.words w.untaken console_address ≡ next_byte s.untaken = p.value ∙ ap next_byte h.holds.untaken in
       comes program has o (0xFC ∷ []) 5 m w k s _ h (assumption)
       (at_boundary o _ _ _
-      (pushes o map s m.sp m.lv m.cpp m.tos w h.holds keep s.running.operands _ (s.at + 1) _ _ _ _ _ (drop 1 s.untaken) h.holds.frames space
-      refl refl r.is v (ap₂ (slice_set w.words) r.is v) (p.untaken ∙ ap (drop 1) h.holds.untaken) (r.given _))
+      (here.pushes s.running.operands _ (s.at + 1) _ _ _ _ _ (drop 1 s.untaken) h.holds.frames space
+      refl refl r.is v (ap₂ (slice_set w.words) r.is v) (p.untaken ∙ ap (drop 1) h.holds.untaken) (r.given _ _))
       c.pc1 c.byte1 refl refl refl refl refl)
       refl
 
-module _ (program : List ℕ) (has : HasStatements program) (o : Origin) (v : VerifiedView) (loads : Loads v o) (keep : KeepFrames) where
-  abbrev map : IsMap (length o.words)
+module _ (program : List ℕ) (has : HasStatements program) (o : Origin) (v : VerifiedView) (loads : Loads v o) (law : StackLaw) where
+  abbrev map : IsMapEnd (length o.words)
   map = map_of v o loads
 
   inside : (s : State) (i : Instr) → IsNext v o s i → s.at < 0x10000
@@ -70,21 +71,19 @@ module _ (program : List ℕ) (has : HasStatements program) (o : Origin) (v : Ve
   goes : (s to : State) (q : Moment Micro) (i : Instr) → IsOfConsole i → Fine v s → IsNext v o s i → Stands o s q.state q.world → Went v.image v.map.stack_end s to i →
       Moves mic1_meaning program (Stands o) o.given q (cost v.image Mic1 i s) to
   goes s to q In is fine n h went =
-      moves program o v s to _ q In 5 h refl (omega arith) went.goes (inp program has o map keep s q.state q.world q.stalls h (inside s In n) n.reads (omega (arith, went.fits, loads.long)))
+      moves program o v s to _ q In 5 h refl (omega arith) went.goes (inp program has o map law s q.state q.world q.stalls h (inside s In n) n.reads (omega (arith, went.fits, loads.long)))
   goes s to q Out is fine n h went =
-      moves program o v s to _ q Out 7 h refl (omega arith) went.leads (out program has o map keep s q.state q.world q.stalls h (inside s Out n) went.top went.rest n.reads went.are)
+      moves program o v s to _ q Out 7 h refl (omega arith) went.leads (out program has o map law s q.state q.world q.stalls h (inside s Out n) went.top went.rest n.reads went.are)
   goes s to q i is fine n h went = absurd is
 
   limits : (s left : State) (q : Moment Micro) (i : Instr) → IsOfConsole i → Fine v s → IsNext v o s i → Stands o s q.state q.world → Overran v.image v.map.stack_end s left i →
       Overruns mic1_meaning program (Stands o) o.given q left
   limits s left q In is fine n h over =
       let c : Counts o s q.state q.world = counts o map s q.state q.world h (inside s In n) in
-      let p : Port (length o.words) q.world = port (length o.words) q.world map h.holds.memory.long in
+      let p : IsConsoleAccess (length o.words) q.world = law.port (length o.words) q.world map h.holds.memory.long in
       let op : q.state.mbr ≡ 0xFC = h.ready.mbr ∙ n.reads in
-      let high : length o.words < 0x80000000 = map.high in
-      let sp : next q.state.sp ≡ base (frames_of s) = next_is q.state.sp (base (frames_of s)) h.holds.sp_is (omega (arith, h.holds.fits)) in
       let fault : write_refusal (length o.words) (next q.state.sp) ≡ Some (StackLimit (next q.state.sp)) =
-      write_limit (length o.words) (next q.state.sp) (omega (arith, over.over, loads.long)) (omega (arith, h.holds.fits)) in
+      (law.boundary o s q.state.sp q.state.lv q.state.cpp q.state.tos q.world map h.holds).full (omega (arith, over.over, loads.long)) in
       overruns program has o s left q (0xFC ∷ []) 4 (next q.state.sp) h (omega arith) (assumption) refl refl h.holds.memory.long
       (ap (λ (r : Option Refusal). first_refusal r None) fault)
       (p.untaken ∙ (ap (drop 1) h.holds.untaken ∙ ap (λ (t : State). t.untaken) over.leaves)) (h.holds.given ∙ ap (λ (t : State). o.given ++ t.given) over.leaves)

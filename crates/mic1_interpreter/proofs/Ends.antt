@@ -9,17 +9,17 @@ use Rattle.ijvm_paths.specs.Accepted.{VerifiedView}
 use Rattle.mic1_datapath.specs.Micro.{Micro}
 use Rattle.mic1_datapath.specs.Mic1.{mic1_meaning}
 use Rattle.ijvm_simulation.specs.Stands.{Origin}
+use Rattle.ijvm_simulation.specs.Stack.{IsMapEnd}
 use Rattle.ijvm_simulation.specs.Passes.{Moment, pass}
 use Rattle.ijvm_simulation.specs.Verified.{Loads, Fine, IsNext}
 use Rattle.ijvm_simulation.specs.Law.{Stops, HaltsAndErrs}
 use Rattle.mic1_interpreter.specs.Stands.{Stands}
 use Rattle.mic1_interpreter.proofs.Shipped.{HasStatements}
 use Rattle.mic1_interpreter.proofs.Guided.{clocked, pass-clocked}
-use Rattle.mic1_interpreter.proofs.Accesses.{IsMap}
 use Rattle.mic1_interpreter.proofs.Boundaries.{Counts, counts, at_main, starts, begins, map_of}
 
 module _ (program : List ℕ) (has : HasStatements program) (o : Origin) (v : VerifiedView) (loads : Loads v o) where
-  abbrev map : IsMap (length o.words)
+  abbrev map : IsMapEnd (length o.words)
   map = map_of v o loads
 
   inside : (s : State) (i : Instr) → IsNext v o s i → s.at < 0x10000

@@ -1,13 +1,11 @@
 -- Symbolic runs of Mic-1 over the shipped microprogram: a run along guessed next addresses, and what makes it the machine's.
-use Rattle.std.proofs.Common.{ap, ap₂, ◌∙◌, ◌≡◌, ℕ, zero, suc, ◌<◌, Option, Some, None, true, List, [], ◌∷◌, length, arith, refl, add-zero, length-set}
+use Rattle.std.proofs.Common.{ap, ap₂, ◌∙◌, ◌≡◌, ℕ, zero, suc, ◌<◌, Option, Some, None, true, List, length, arith, refl, add-zero, length-set}
 use Rattle.std.specs.Prelude.{nat_lt}
 use Rattle.std.proofs.lemmas.Bool.Decides.{nat_tests}
 use Rattle.console_port.specs.World.{World, Refusal}
 use Rattle.micro_word.specs.declared.statement.Mem.{Mem}
 use Rattle.micro_word.specs.declared.statement.Mem.TheVariants.{None as Idle, Read, Write}
 use Rattle.micro_word.specs.declared.statement.Placed.{Placed}
-use Rattle.micro_word.specs.declared.statement.PlacedNext.{PlacedNext}
-use Rattle.micro_word.specs.declared.statement.PlacedNext.TheVariants.{Goto, Dispatch, Branch}
 use Rattle.mic_clock.specs.Meaning.{Done, Refused}
 use Rattle.mic1_datapath.specs.Micro.{Micro}
 use Rattle.datapath.specs.declared.ports.Ports.{Ports}
@@ -17,22 +15,7 @@ use Rattle.datapath.specs.Memory.{outcome}
 use Rattle.mic1_datapath.specs.Mic1.{mic1_meaning, microstep, step_of_word, driven}
 use Rattle.mic1_interpreter.proofs.Shipped.{shipped, HasStatements}
 use Rattle.ijvm_simulation.specs.Passes.{Moment, is_inside, outcome_at, stalls_at, last, onward, pass}
-
--- the next address: a goto's own, and else the first guess
-abbrev pub address_behind : PlacedNext → List ℕ → ℕ
-address_behind (Goto to) gs = to
-address_behind (Dispatch high) [] = 0
-address_behind (Dispatch high) (g ∷ gs) = g
-address_behind (Branch test low) [] = 0
-address_behind (Branch test low) (g ∷ gs) = g
-
--- the guesses that are left
-abbrev pub left_of : PlacedNext → List ℕ → List ℕ
-left_of (Goto to) gs = gs
-left_of (Dispatch high) [] = []
-left_of (Dispatch high) (g ∷ gs) = gs
-left_of (Branch test low) [] = []
-left_of (Branch test low) (g ∷ gs) = gs
+use Rattle.ijvm_simulation.specs.Guesses.{address_behind, left_of}
 
 -- `top` is the end of the memory.
 module _ (top : ℕ) where

@@ -1,5 +1,5 @@
 -- Jumps and branches.
-use Rattle.std.proofs.Common.{◌≡◌, ℕ, ◌+◌, ◌-◌, ◌*◌, ◌<◌, ◌≤◌, Bool, true, false, ◌==◌, None, List, [], ◌∷◌, length, refl, arith, sym, ◌∙◌, ap, ap₂, subst, All, inr}
+use Rattle.std.proofs.Common.{◌≡◌, ℕ, ◌+◌, ◌*◌, ◌<◌, ◌≤◌, Bool, true, false, ◌==◌, None, List, [], ◌∷◌, length, refl, arith, sym, ◌∙◌, ap, ap₂, subst, All, inr}
 use Rattle.std.specs.Prelude.{bit_or, if◌then◌else◌, ℤ}
 use Rattle.std.proofs.lemmas.Bool.Decides.{nat_tests}
 use Rattle.std.proofs.lemmas.List.Elements.{All-get_or}
@@ -15,17 +15,17 @@ use Rattle.ijvm_run.specs.Step.{moved, way}
 use Rattle.ijvm_paths.specs.Accepted.{VerifiedView}
 use Rattle.mic1_datapath.specs.Micro.{Micro}
 use Rattle.mic1_datapath.specs.Mic1.{mic1_meaning}
-use Rattle.ijvm_simulation.specs.Stands.{Origin}
+use Rattle.ijvm_simulation.specs.Stands.{Origin, IsTop}
+use Rattle.ijvm_simulation.specs.Stack.{IsMapEnd, Top, Two, AtBoundary, StackLaw}
 use Rattle.ijvm_simulation.specs.Passes.{Moment}
 use Rattle.ijvm_simulation.specs.Outcomes.{Went, Overran}
 use Rattle.ijvm_simulation.specs.Verified.{Loads, Fine, IsNext}
 use Rattle.ijvm_simulation.specs.Law.{Moves, Overruns, Takes}
+use Rattle.ijvm_simulation.specs.Groups.{IsJump}
 use Rattle.mic1_interpreter.specs.Stands.{Stands}
-use Rattle.mic1_interpreter.specs.Groups.{IsJump}
 use Rattle.mic1_interpreter.proofs.Shipped.{HasStatements}
-use Rattle.mic1_interpreter.proofs.Accesses.{IsMap, Access, before_is, fetch_ok, byte_kept, plus_comm, signed_pair_is}
-use Rattle.mic1_interpreter.proofs.Facts.{place, base_above, Top, top, Two, two, two_down, two_next, drops, IsTop_at}
 use Rattle.mic1_interpreter.proofs.Boundaries.{ReachesBoundary, comes, Counts, counts, at_boundary, map_of, moves}
+use Rattle.mic1_interpreter.proofs.Words.{before_is, byte_kept, fetch_ok, plus_comm, signed_pair_is}
 
 -- where the words of goto come to
 abbrev pub goes_to : Micro → World → ℕ
@@ -48,7 +48,10 @@ difference_zero : (y x : ℕ) → IsWord y → IsWord x → (minus y x == 0) ≡
 unfolding wrap
 difference_zero y x ly lx = grind (arith, nat_tests)
 
-module _ (program : List ℕ) (has : HasStatements program) (o : Origin) (map : IsMap (length o.words)) (s : State) (m : Micro) (w : World) (k : ℕ) (h : Stands o s m w) (inside : s.at < 0x10000) where
+module _ (program : List ℕ) (has : HasStatements program) (o : Origin) (map : IsMapEnd (length o.words)) (law : StackLaw) (s : State) (m : Micro) (w : World) (k : ℕ) (h : Stands o s m w) (inside : s.at < 0x10000) where
+  abbrev here : AtBoundary o s m.sp m.lv m.cpp m.tos w
+  here = law.boundary o s m.sp m.lv m.cpp m.tos w map h.holds
+
   jumps : jump o.words s.at < 0x10000 → Jump o s m w
   jumps to =
       let c : Counts o s m w = counts o map s m w h inside in
@@ -67,7 +70,7 @@ module _ (program : List ℕ) (has : HasStatements program) (o : Origin) (map : 
       let op : m.mbr ≡ 0xA7 = h.ready.mbr ∙ code in
       comes program has o (0xA7 ∷ []) 6 m w k s _ h (assumption)
       (at_boundary o _ _ _
-      (drops o map s m.sp m.lv m.cpp m.tos w h.holds s.running.operands (jump o.words s.at) _ _ _ _ _ s.given h.holds.frames h.holds.fits
+      (here.drops s.running.operands (jump o.words s.at) _ _ _ _ _ s.given h.holds.frames h.holds.fits
       refl refl h.holds.sp_is h.holds.tos_is refl h.holds.untaken h.holds.given)
       j.is j.byte refl refl refl refl refl)
       refl
@@ -76,13 +79,13 @@ module _ (program : List ℕ) (has : HasStatements program) (o : Origin) (map : 
       ReachesBoundary program o 10 (record { state = m; world = w; stalls = k }) (moved s rest (jump o.words s.at))
   ifeq_taken y rest code ops flag to =
       let c : Counts o s m w = counts o map s m w h inside in
-      let t : Top o map s m.sp m.lv m.cpp m.tos w h.holds y rest = top o map s m.sp m.lv m.cpp m.tos w h.holds y rest ops in
+      let t : Top o s m.sp m.lv m.cpp m.tos w y rest = here.top y rest ops in
       let j : Jump o s m w = jumps to in
       let op : m.mbr ≡ 0x99 = h.ready.mbr ∙ code in
       let to_t : branch (m.tos == 0) ≡ 257 = ap branch (ap (λ (k : ℕ). k == 0) t.tos_is ∙ flag) in
       comes program has o (0x99 ∷ 257 ∷ []) 10 m w k s _ h (assumption)
       (at_boundary o _ _ _
-      (drops o map s m.sp m.lv m.cpp m.tos w h.holds rest (jump o.words s.at) _ _ _ _ _ s.given t.frames (omega (arith, t.below))
+      (here.drops rest (jump o.words s.at) _ _ _ _ _ s.given t.frames (omega (arith, t.below))
       refl refl (omega (arith, t.down.is, t.above)) t.next_top refl (t.down.untaken ∙ h.holds.untaken) h.holds.given)
       j.is j.byte refl refl refl refl refl)
       refl
@@ -91,12 +94,12 @@ module _ (program : List ℕ) (has : HasStatements program) (o : Origin) (map : 
       ReachesBoundary program o 7 (record { state = m; world = w; stalls = k }) (moved s rest (s.at + 3))
   ifeq_not y rest code ops flag =
       let c : Counts o s m w = counts o map s m w h inside in
-      let t : Top o map s m.sp m.lv m.cpp m.tos w h.holds y rest = top o map s m.sp m.lv m.cpp m.tos w h.holds y rest ops in
+      let t : Top o s m.sp m.lv m.cpp m.tos w y rest = here.top y rest ops in
       let op : m.mbr ≡ 0x99 = h.ready.mbr ∙ code in
       let to_f : branch (m.tos == 0) ≡ 1 = ap branch (ap (λ (k : ℕ). k == 0) t.tos_is ∙ flag) in
       comes program has o (0x99 ∷ 1 ∷ []) 7 m w k s _ h (assumption)
       (at_boundary o _ _ _
-      (drops o map s m.sp m.lv m.cpp m.tos w h.holds rest (s.at + 3) _ _ _ _ _ s.given t.frames (omega (arith, t.below))
+      (here.drops rest (s.at + 3) _ _ _ _ _ s.given t.frames (omega (arith, t.below))
       refl refl (omega (arith, t.down.is, t.above)) t.next_top refl (t.down.untaken ∙ h.holds.untaken) h.holds.given)
       c.pc3 c.byte3 refl refl refl refl refl)
       refl
@@ -105,13 +108,13 @@ module _ (program : List ℕ) (has : HasStatements program) (o : Origin) (map : 
       ReachesBoundary program o 10 (record { state = m; world = w; stalls = k }) (moved s rest (jump o.words s.at))
   iflt_taken y rest code ops flag to =
       let c : Counts o s m w = counts o map s m w h inside in
-      let t : Top o map s m.sp m.lv m.cpp m.tos w h.holds y rest = top o map s m.sp m.lv m.cpp m.tos w h.holds y rest ops in
+      let t : Top o s m.sp m.lv m.cpp m.tos w y rest = here.top y rest ops in
       let j : Jump o s m w = jumps to in
       let op : m.mbr ≡ 0x9B = h.ready.mbr ∙ code in
       let to_t : branch (is_negative m.tos) ≡ 257 = ap branch (ap is_negative t.tos_is ∙ flag) in
       comes program has o (0x9B ∷ 257 ∷ []) 10 m w k s _ h (assumption)
       (at_boundary o _ _ _
-      (drops o map s m.sp m.lv m.cpp m.tos w h.holds rest (jump o.words s.at) _ _ _ _ _ s.given t.frames (omega (arith, t.below))
+      (here.drops rest (jump o.words s.at) _ _ _ _ _ s.given t.frames (omega (arith, t.below))
       refl refl (omega (arith, t.down.is, t.above)) t.next_top refl (t.down.untaken ∙ h.holds.untaken) h.holds.given)
       j.is j.byte refl refl refl refl refl)
       refl
@@ -120,12 +123,12 @@ module _ (program : List ℕ) (has : HasStatements program) (o : Origin) (map : 
       ReachesBoundary program o 7 (record { state = m; world = w; stalls = k }) (moved s rest (s.at + 3))
   iflt_not y rest code ops flag =
       let c : Counts o s m w = counts o map s m w h inside in
-      let t : Top o map s m.sp m.lv m.cpp m.tos w h.holds y rest = top o map s m.sp m.lv m.cpp m.tos w h.holds y rest ops in
+      let t : Top o s m.sp m.lv m.cpp m.tos w y rest = here.top y rest ops in
       let op : m.mbr ≡ 0x9B = h.ready.mbr ∙ code in
       let to_f : branch (is_negative m.tos) ≡ 1 = ap branch (ap is_negative t.tos_is ∙ flag) in
       comes program has o (0x9B ∷ 1 ∷ []) 7 m w k s _ h (assumption)
       (at_boundary o _ _ _
-      (drops o map s m.sp m.lv m.cpp m.tos w h.holds rest (s.at + 3) _ _ _ _ _ s.given t.frames (omega (arith, t.below))
+      (here.drops rest (s.at + 3) _ _ _ _ _ s.given t.frames (omega (arith, t.below))
       refl refl (omega (arith, t.down.is, t.above)) t.next_top refl (t.down.untaken ∙ h.holds.untaken) h.holds.given)
       c.pc3 c.byte3 refl refl refl refl refl)
       refl
@@ -134,19 +137,18 @@ module _ (program : List ℕ) (has : HasStatements program) (o : Origin) (map : 
       ReachesBoundary program o 12 (record { state = m; world = w; stalls = k }) (moved s rest (jump o.words s.at))
   icmpeq_taken y x rest code ops ly lx flag to =
       let c : Counts o s m w = counts o map s m w h inside in
-      let t : Two o map s m.sp m.lv m.cpp m.tos w h.holds y x rest = two o map s m.sp m.lv m.cpp m.tos w h.holds y x rest ops in
-      let d : Access (length o.words) w (before (before m.sp)) (place s rest - 1) = two_down o map s m.sp m.lv m.cpp m.tos w h.holds y x rest t in
-      let bottom : 0x8000 ≤ base s.callers = base_above s.callers in
+      let t : Two o s m.sp m.lv m.cpp m.tos w y x rest = here.two y x rest ops in
+      let bottom : 0x8000 ≤ base s.callers = law.above s.callers in
       let j : Jump o s m w = jumps to in
       let op : m.mbr ≡ 0x9F = h.ready.mbr ∙ code in
       let to_t : branch (minus m.tos (read_value (length o.words) w.words w.untaken (before m.sp)) == 0) ≡ 257 =
       ap branch (ap₂ (λ (i : ℕ) (k : ℕ). minus i k == 0) t.tos_is t.second ∙ (difference_zero y x ly lx ∙ flag)) in
       comes program has o (0x9F ∷ 257 ∷ []) 12 m w k s _ h (assumption)
       (at_boundary o _ _ _
-      (drops o map s m.sp m.lv m.cpp m.tos w h.holds rest (jump o.words s.at) _ _ _ _ _ s.given t.frames (omega (arith, t.at.below))
-      refl refl (omega (arith, d.is))
-      (IsTop_at rest (ap (λ (u : List ℕ). read_value (length o.words) w.words u (before (before m.sp))) t.at.untaken) (two_next o map s m.sp m.lv m.cpp m.tos w h.holds y x rest t))
-      refl (ap (λ (u : List ℕ). untaken_after (length o.words) u (before (before m.sp))) t.at.untaken ∙ (d.untaken ∙ h.holds.untaken)) h.holds.given)
+      (here.drops rest (jump o.words s.at) _ _ _ _ _ s.given t.frames (omega (arith, t.at.below))
+      refl refl (omega (arith, t.down.is))
+      (subst (λ (n : ℕ). IsTop n rest) (sym (ap (λ (u : List ℕ). read_value (length o.words) w.words u (before (before m.sp))) t.at.untaken)) t.next_top)
+      refl (ap (λ (u : List ℕ). untaken_after (length o.words) u (before (before m.sp))) t.at.untaken ∙ (t.down.untaken ∙ h.holds.untaken)) h.holds.given)
       j.is j.byte refl refl refl refl refl)
       refl
 
@@ -154,23 +156,22 @@ module _ (program : List ℕ) (has : HasStatements program) (o : Origin) (map : 
       ReachesBoundary program o 9 (record { state = m; world = w; stalls = k }) (moved s rest (s.at + 3))
   icmpeq_not y x rest code ops ly lx flag =
       let c : Counts o s m w = counts o map s m w h inside in
-      let t : Two o map s m.sp m.lv m.cpp m.tos w h.holds y x rest = two o map s m.sp m.lv m.cpp m.tos w h.holds y x rest ops in
-      let d : Access (length o.words) w (before (before m.sp)) (place s rest - 1) = two_down o map s m.sp m.lv m.cpp m.tos w h.holds y x rest t in
-      let bottom : 0x8000 ≤ base s.callers = base_above s.callers in
+      let t : Two o s m.sp m.lv m.cpp m.tos w y x rest = here.two y x rest ops in
+      let bottom : 0x8000 ≤ base s.callers = law.above s.callers in
       let op : m.mbr ≡ 0x9F = h.ready.mbr ∙ code in
       let to_f : branch (minus m.tos (read_value (length o.words) w.words w.untaken (before m.sp)) == 0) ≡ 1 =
       ap branch (ap₂ (λ (i : ℕ) (k : ℕ). minus i k == 0) t.tos_is t.second ∙ (difference_zero y x ly lx ∙ flag)) in
       comes program has o (0x9F ∷ 1 ∷ []) 9 m w k s _ h (assumption)
       (at_boundary o _ _ _
-      (drops o map s m.sp m.lv m.cpp m.tos w h.holds rest (s.at + 3) _ _ _ _ _ s.given t.frames (omega (arith, t.at.below))
-      refl refl (omega (arith, d.is))
-      (IsTop_at rest (ap (λ (u : List ℕ). read_value (length o.words) w.words u (before (before m.sp))) t.at.untaken) (two_next o map s m.sp m.lv m.cpp m.tos w h.holds y x rest t))
-      refl (ap (λ (u : List ℕ). untaken_after (length o.words) u (before (before m.sp))) t.at.untaken ∙ (d.untaken ∙ h.holds.untaken)) h.holds.given)
+      (here.drops rest (s.at + 3) _ _ _ _ _ s.given t.frames (omega (arith, t.at.below))
+      refl refl (omega (arith, t.down.is))
+      (subst (λ (n : ℕ). IsTop n rest) (sym (ap (λ (u : List ℕ). read_value (length o.words) w.words u (before (before m.sp))) t.at.untaken)) t.next_top)
+      refl (ap (λ (u : List ℕ). untaken_after (length o.words) u (before (before m.sp))) t.at.untaken ∙ (t.down.untaken ∙ h.holds.untaken)) h.holds.given)
       c.pc3 c.byte3 refl refl refl refl refl)
       refl
 
-module _ (program : List ℕ) (has : HasStatements program) (o : Origin) (v : VerifiedView) (loads : Loads v o) where
-  abbrev map : IsMap (length o.words)
+module _ (program : List ℕ) (has : HasStatements program) (o : Origin) (v : VerifiedView) (loads : Loads v o) (law : StackLaw) where
+  abbrev map : IsMapEnd (length o.words)
   map = map_of v o loads
 
   inside : (s : State) (i : Instr) → IsNext v o s i → s.at < 0x10000
@@ -214,23 +215,23 @@ module _ (program : List ℕ) (has : HasStatements program) (o : Origin) (v : Ve
       let e : jump o.words s.at ≡ target s.at z = target_is s z n.reads.1 in
       let there : jump o.words s.at < 0x10000 = target_inside s z e (n.finds.inside (target s.at z) (inr (z, refl, refl))) in
       moves program o v s to _ q (Goto z) 6 h refl (omega arith) (ap (moved s s.running.operands) e ∙ went)
-      (go program has o map s q.state q.world q.stalls h (inside s (Goto z) n) n.reads.0 there)
+      (go program has o map law s q.state q.world q.stalls h (inside s (Goto z) n) n.reads.0 there)
   goes s to q (Ifeq z) is fine n h went =
       let e : jump o.words s.at ≡ target s.at z = target_is s z n.reads.1 in
       let there : jump o.words s.at < 0x10000 = target_inside s z e (n.finds.inside (target s.at z) (inr (z, refl, refl))) in
       let taken_is : tests (λ (y : ℕ). y == 0) s.running.operands ≡ (went.top == 0) = ap (tests (λ (y : ℕ). y == 0)) went.are in
       branched s to q (Ifeq z) z (went.top == 0) went.rest h e went.leads
       (λ t. ap (λ (b : Bool). if b then 11 else 8) (taken_is ∙ t)) (λ t. ap (λ (b : Bool). if b then 11 else 8) (taken_is ∙ t))
-      (λ t. ifeq_taken program has o map s q.state q.world q.stalls h (inside s (Ifeq z) n) went.top went.rest n.reads.0 went.are t there)
-      (λ t. ifeq_not program has o map s q.state q.world q.stalls h (inside s (Ifeq z) n) went.top went.rest n.reads.0 went.are t)
+      (λ t. ifeq_taken program has o map law s q.state q.world q.stalls h (inside s (Ifeq z) n) went.top went.rest n.reads.0 went.are t there)
+      (λ t. ifeq_not program has o map law s q.state q.world q.stalls h (inside s (Ifeq z) n) went.top went.rest n.reads.0 went.are t)
   goes s to q (Iflt z) is fine n h went =
       let e : jump o.words s.at ≡ target s.at z = target_is s z n.reads.1 in
       let there : jump o.words s.at < 0x10000 = target_inside s z e (n.finds.inside (target s.at z) (inr (z, refl, refl))) in
       let taken_is : tests is_negative s.running.operands ≡ is_negative went.top = ap (tests is_negative) went.are in
       branched s to q (Iflt z) z (is_negative went.top) went.rest h e went.leads
       (λ t. ap (λ (b : Bool). if b then 11 else 8) (taken_is ∙ t)) (λ t. ap (λ (b : Bool). if b then 11 else 8) (taken_is ∙ t))
-      (λ t. iflt_taken program has o map s q.state q.world q.stalls h (inside s (Iflt z) n) went.top went.rest n.reads.0 went.are t there)
-      (λ t. iflt_not program has o map s q.state q.world q.stalls h (inside s (Iflt z) n) went.top went.rest n.reads.0 went.are t)
+      (λ t. iflt_taken program has o map law s q.state q.world q.stalls h (inside s (Iflt z) n) went.top went.rest n.reads.0 went.are t there)
+      (λ t. iflt_not program has o map law s q.state q.world q.stalls h (inside s (Iflt z) n) went.top went.rest n.reads.0 went.are t)
   goes s to q (IfIcmpeq z) is fine n h went =
       let e : jump o.words s.at ≡ target s.at z = target_is s z n.reads.1 in
       let there : jump o.words s.at < 0x10000 = target_inside s z e (n.finds.inside (target s.at z) (inr (z, refl, refl))) in
@@ -240,8 +241,8 @@ module _ (program : List ℕ) (has : HasStatements program) (o : Origin) (v : Ve
       let lx : IsWord went.second = All-get_or IsWord (went.top ∷ went.second ∷ went.rest) 1 went.second (omega arith) words in
       compared s to q (IfIcmpeq z) z (went.second == went.top) went.rest h e went.leads
       (λ t. ap (λ (b : Bool). if b then 13 else 10) (taken_is ∙ t)) (λ t. ap (λ (b : Bool). if b then 13 else 10) (taken_is ∙ t))
-      (λ t. icmpeq_taken program has o map s q.state q.world q.stalls h (inside s (IfIcmpeq z) n) went.top went.second went.rest n.reads.0 went.are ly lx t there)
-      (λ t. icmpeq_not program has o map s q.state q.world q.stalls h (inside s (IfIcmpeq z) n) went.top went.second went.rest n.reads.0 went.are ly lx t)
+      (λ t. icmpeq_taken program has o map law s q.state q.world q.stalls h (inside s (IfIcmpeq z) n) went.top went.second went.rest n.reads.0 went.are ly lx t there)
+      (λ t. icmpeq_not program has o map law s q.state q.world q.stalls h (inside s (IfIcmpeq z) n) went.top went.second went.rest n.reads.0 went.are ly lx t)
   goes s to q i is fine n h went = absurd is
 
   limits : (s left : State) (q : Moment Micro) (i : Instr) → IsJump i → Fine v s → IsNext v o s i → Stands o s q.state q.world → Overran v.image v.map.stack_end s left i →

@@ -1,8 +1,6 @@
 pub mod Shipped
 pub mod Guided
-pub mod Accesses
-pub mod Keeps
-pub mod Facts
+pub mod Words
 pub mod Boundaries
 pub mod Boot
 pub mod Output
@@ -12,5 +10,4 @@ pub mod Jumps
 pub mod Locals
 pub mod Calls
 pub mod Ends
-pub mod Groups
 pub mod Store

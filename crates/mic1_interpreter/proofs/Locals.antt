@@ -1,95 +1,90 @@
 -- Instructions that name a local or a constant.
-use Rattle.std.proofs.Common.{◌≡◌, ℕ, ◌+◌, ◌-◌, ◌*◌, ◌<◌, ◌≤◌, Some, Option, List, [], ◌∷◌, ◌++◌, length, true, refl, arith, sym, ◌∙◌, ap, ap₂, length-set, inl}
+use Rattle.std.proofs.Common.{◌≡◌, ℕ, ◌+◌, ◌*◌, ◌<◌, Some, Option, List, [], ◌∷◌, ◌++◌, length, true, refl, arith, sym, ◌∙◌, ap, ap₂, inl}
 use Rattle.std.specs.Prelude.{slice_index, slice_set, slice_get, bit_or}
-use Rattle.std.proofs.lemmas.Option.{get_or_from_slice_get, slice_get_within}
+use Rattle.std.proofs.lemmas.Option.{slice_get_within}
 use Rattle.machine_words.specs.declared.machine.Machine.TheVariants.{Mic1}
-use Rattle.machine_words.specs.Arithmetic.{wrap, plus, next, before, signed_byte, signed_pair}
+use Rattle.machine_words.specs.Arithmetic.{wrap, plus, next, signed_byte, signed_pair}
 use Rattle.console_port.specs.World.{World, Refusal, StackLimit, read_value, byte_in, write_refusal, fetch_refusal}
 use Rattle.ijvm_instr.specs.declared.instr.Instr.{Instr}
 use Rattle.ijvm_instr.specs.declared.instr.Instr.TheVariants.{LdcW, Iload, Istore, Iinc, WideIload, WideIstore, WideIinc}
-use Rattle.ijvm_run.specs.Frames.{Frame, State, frames_of, base, operands_at}
+use Rattle.ijvm_run.specs.Frames.{State, frames_of, base}
 use Rattle.ijvm_run.specs.Cost.{cost}
 use Rattle.ijvm_run.specs.Step.{with_local, is_own}
 use Rattle.ijvm_paths.specs.Accepted.{VerifiedView}
 use Rattle.mic1_datapath.specs.Micro.{Micro}
 use Rattle.datapath.specs.Memory.{first_refusal}
 use Rattle.mic1_datapath.specs.Mic1.{mic1_meaning}
-use Rattle.ijvm_simulation.specs.Stands.{Origin, FramesStand, IsMemory}
-use Rattle.ijvm_simulation.specs.Writes.{KeepFrames}
+use Rattle.ijvm_simulation.specs.Stands.{Origin}
+use Rattle.ijvm_simulation.specs.Stack.{IsMapEnd, IsWordAccess, IsConstant, Top, AtBoundary, StackLaw}
 use Rattle.ijvm_simulation.specs.Passes.{Moment}
 use Rattle.ijvm_simulation.specs.Outcomes.{Went, Overran, push}
 use Rattle.ijvm_simulation.specs.Verified.{Loads, Fine, IsNext}
 use Rattle.ijvm_simulation.specs.Law.{Moves, Overruns, Takes}
+use Rattle.ijvm_simulation.specs.Groups.{IsOfLocals}
 use Rattle.mic1_interpreter.specs.Stands.{Stands}
-use Rattle.mic1_interpreter.specs.Groups.{IsOfLocals}
 use Rattle.mic1_interpreter.proofs.Shipped.{HasStatements}
-use Rattle.mic1_interpreter.proofs.Accesses.{IsMap, Access, access, next_is, write_limit, plus_is, plus_comm, pair_is, signed_pair_is, byte_kept}
-use Rattle.mic1_interpreter.proofs.Keeps.{memory_set, frames_at, memory_at}
-use Rattle.mic1_interpreter.proofs.Facts.{with_operands, place, base_above, room, Top, top, local_at, pushes, next_top_is}
-use Rattle.mic1_interpreter.proofs.Boundaries.{ReachesBoundary, comes, Counts, counts, at_boundary, map_of, moves, overruns}
+use Rattle.mic1_interpreter.proofs.Boundaries.{ReachesBoundary, comes, Counts, counts, at_boundary, at_text, map_of, moves, overruns}
+use Rattle.mic1_interpreter.proofs.Words.{pair_is, plus_comm, plus_is, signed_pair_is}
 
-module _ (program : List ℕ) (has : HasStatements program) (o : Origin) (map : IsMap (length o.words)) (keep : KeepFrames) (s : State) (m : Micro) (w : World) (k : ℕ) (h : Stands o s m w) (inside : s.at < 0x10000) where
+module _ (program : List ℕ) (has : HasStatements program) (o : Origin) (map : IsMapEnd (length o.words)) (law : StackLaw) (s : State) (m : Micro) (w : World) (k : ℕ) (h : Stands o s m w) (inside : s.at < 0x10000) where
+  abbrev here : AtBoundary o s m.sp m.lv m.cpp m.tos w
+  here = law.boundary o s m.sp m.lv m.cpp m.tos w map h.holds
+
   iload : (i v : ℕ) → byte_in o.words s.at ≡ 0x15 → i ≡ byte_in o.words (s.at + 1) → slice_get s.running.locals i ≡ Some (Some v) → base (frames_of s) < length o.words →
       ReachesBoundary program o 5 (record { state = m; world = w; stalls = k }) (push s v (s.at + 2))
   iload i v code index local space =
       let c : Counts o s m w = counts o map s m w h inside in
-      let r : Access (length o.words) w (next m.sp) (base (frames_of s)) = room o map s m.sp m.lv m.cpp m.tos w h.holds space in
+      let r : IsWordAccess (length o.words) w (next m.sp) (base (frames_of s)) = here.room space in
       let op : m.mbr ≡ 0x15 = h.ready.mbr ∙ code in
       let from : ℕ = plus m.lv (byte_in w.words (next m.pc)) in
       let l : i < length s.running.locals = slice_get_within s.running.locals i (Some v) local in
-      let a : Access (length o.words) w from (base s.callers + i) =
-      local_at o map s m.sp m.lv m.cpp m.tos w h.holds from i l (plus_is h.holds.lv_is (c.byte1 ∙ sym index) refl (omega (arith, h.holds.fits, map.high))) in
+      let a : IsWordAccess (length o.words) w from (base s.callers + i) =
+      here.local from i l (plus_is h.holds.lv_is (c.byte1 ∙ sym index) refl (omega (arith, h.holds.fits, map.high))) in
       let is : read_value (length o.words) w.words w.untaken from ≡ v = a.value ∙ h.holds.frames.0.locals i v local in
-      let bottom : 0x8000 ≤ base s.callers = base_above s.callers in
-      let new : IsMemory o.words (slice_set w.words (base (frames_of s)) v) = memory_set o.words w.words _ v (omega arith) h.holds.memory in
       let same : slice_set w.words (next m.sp) (read_value (length o.words) w.words w.untaken from) ≡ slice_set w.words (base (frames_of s)) v = ap₂ (slice_set w.words) r.is is in
       comes program has o (0x15 ∷ []) 5 m w k s _ h (assumption)
-      (at_boundary o _ _ _
-      (pushes o map s m.sp m.lv m.cpp m.tos w h.holds keep s.running.operands _ (s.at + 2) _ _ _ _ _ s.untaken h.holds.frames space
-      refl refl r.is is same (a.untaken ∙ h.holds.untaken) (r.given _))
-      c.pc2 (ap (λ (ws : List ℕ). byte_in ws (next (next m.pc))) same ∙ byte_kept _ o.words new.kept c.pc2 (omega arith)) refl refl refl refl refl)
+      (at_text o _ _ _
+      (here.pushes s.running.operands _ (s.at + 2) _ _ _ _ _ s.untaken h.holds.frames space
+      refl refl r.is is same (a.untaken ∙ h.holds.untaken) (r.given _ _))
+      c.pc2 (omega arith) refl refl refl refl refl refl)
       refl
 
   wide_iload : (i v : ℕ) → byte_in o.words s.at ≡ 0xC4 → byte_in o.words (s.at + 1) ≡ 0x15 → i ≡ 256 * byte_in o.words (s.at + 2) + byte_in o.words (s.at + 3) → slice_get s.running.locals i ≡ Some (Some v) → base (frames_of s) < length o.words →
       ReachesBoundary program o 8 (record { state = m; world = w; stalls = k }) (push s v (s.at + 4))
   wide_iload i v code code2 index local space =
       let c : Counts o s m w = counts o map s m w h inside in
-      let r : Access (length o.words) w (next m.sp) (base (frames_of s)) = room o map s m.sp m.lv m.cpp m.tos w h.holds space in
+      let r : IsWordAccess (length o.words) w (next m.sp) (base (frames_of s)) = here.room space in
       let op : m.mbr ≡ 0xC4 = h.ready.mbr ∙ code in
       let op2 : byte_in w.words (next m.pc) + 256 ≡ 0x115 = omega (arith, c.byte1 ∙ code2) in
       let from : ℕ = plus (bit_or (wrap (256 * byte_in w.words (next (next m.pc)))) (byte_in w.words (next (next (next m.pc))))) m.lv in
       let l : i < length s.running.locals = slice_get_within s.running.locals i (Some v) local in
-      let a : Access (length o.words) w from (base s.callers + i) =
-      local_at o map s m.sp m.lv m.cpp m.tos w h.holds from i l (plus_is (pair_is o.words (s.at + 2) (s.at + 3) c.byte2 c.byte3 index) h.holds.lv_is (omega arith) (omega (arith, h.holds.fits, map.high))) in
+      let a : IsWordAccess (length o.words) w from (base s.callers + i) =
+      here.local from i l (plus_is (pair_is o.words (s.at + 2) (s.at + 3) c.byte2 c.byte3 index) h.holds.lv_is (omega arith) (omega (arith, h.holds.fits, map.high))) in
       let is : read_value (length o.words) w.words w.untaken from ≡ v = a.value ∙ h.holds.frames.0.locals i v local in
-      let bottom : 0x8000 ≤ base s.callers = base_above s.callers in
-      let new : IsMemory o.words (slice_set w.words (base (frames_of s)) v) = memory_set o.words w.words _ v (omega arith) h.holds.memory in
       let same : slice_set w.words (next m.sp) (read_value (length o.words) w.words w.untaken from) ≡ slice_set w.words (base (frames_of s)) v = ap₂ (slice_set w.words) r.is is in
       comes program has o (0xC4 ∷ 0x115 ∷ []) 8 m w k s _ h (assumption)
-      (at_boundary o _ _ _
-      (pushes o map s m.sp m.lv m.cpp m.tos w h.holds keep s.running.operands _ (s.at + 4) _ _ _ _ _ s.untaken h.holds.frames space
-      refl refl r.is is same (a.untaken ∙ h.holds.untaken) (r.given _))
-      c.pc4 (ap (λ (ws : List ℕ). byte_in ws (next (next (next (next m.pc))))) same ∙ byte_kept _ o.words new.kept c.pc4 (omega arith)) refl refl refl refl refl)
+      (at_text o _ _ _
+      (here.pushes s.running.operands _ (s.at + 4) _ _ _ _ _ s.untaken h.holds.frames space
+      refl refl r.is is same (a.untaken ∙ h.holds.untaken) (r.given _ _))
+      c.pc4 (omega arith) refl refl refl refl refl refl)
       refl
 
   ldc_w : (i v : ℕ) → byte_in o.words s.at ≡ 0x13 → i ≡ 256 * byte_in o.words (s.at + 1) + byte_in o.words (s.at + 2) → i < 0x4000 → slice_index o.words (0x4000 + i) ≡ v → base (frames_of s) < length o.words →
       ReachesBoundary program o 7 (record { state = m; world = w; stalls = k }) (push s v (s.at + 3))
   ldc_w i v code index small constant space =
       let c : Counts o s m w = counts o map s m w h inside in
-      let r : Access (length o.words) w (next m.sp) (base (frames_of s)) = room o map s m.sp m.lv m.cpp m.tos w h.holds space in
+      let r : IsWordAccess (length o.words) w (next m.sp) (base (frames_of s)) = here.room space in
       let op : m.mbr ≡ 0x13 = h.ready.mbr ∙ code in
       let from : ℕ = plus (bit_or (wrap (256 * byte_in w.words (next m.pc))) (byte_in w.words (next (next m.pc)))) m.cpp in
-      let a : Access (length o.words) w from (0x4000 + i) =
-      access (length o.words) w from (0x4000 + i) (plus_is (pair_is o.words (s.at + 1) (s.at + 2) c.byte1 c.byte2 index) h.holds.cpp_is (omega arith) (omega (arith, small))) (omega (arith, map.low)) in
+      let a : IsWordAccess (length o.words) w from (0x4000 + i) =
+      law.access (length o.words) w from (0x4000 + i) (plus_is (pair_is o.words (s.at + 1) (s.at + 2) c.byte1 c.byte2 index) h.holds.cpp_is (omega arith) (omega (arith, small))) (omega (arith, map.low)) in
       let is : read_value (length o.words) w.words w.untaken from ≡ v = a.value ∙ (h.holds.memory.kept (0x4000 + i) (omega arith) ∙ constant) in
-      let bottom : 0x8000 ≤ base s.callers = base_above s.callers in
-      let new : IsMemory o.words (slice_set w.words (base (frames_of s)) v) = memory_set o.words w.words _ v (omega arith) h.holds.memory in
       let same : slice_set w.words (next m.sp) (read_value (length o.words) w.words w.untaken from) ≡ slice_set w.words (base (frames_of s)) v = ap₂ (slice_set w.words) r.is is in
       comes program has o (0x13 ∷ []) 7 m w k s _ h (assumption)
-      (at_boundary o _ _ _
-      (pushes o map s m.sp m.lv m.cpp m.tos w h.holds keep s.running.operands _ (s.at + 3) _ _ _ _ _ s.untaken h.holds.frames space
-      refl refl r.is is same (a.untaken ∙ h.holds.untaken) (r.given _))
-      c.pc3 (ap (λ (ws : List ℕ). byte_in ws (next (next (next m.pc)))) same ∙ byte_kept _ o.words new.kept c.pc3 (omega arith)) refl refl refl refl refl)
+      (at_text o _ _ _
+      (here.pushes s.running.operands _ (s.at + 3) _ _ _ _ _ s.untaken h.holds.frames space
+      refl refl r.is is same (a.untaken ∙ h.holds.untaken) (r.given _ _))
+      c.pc3 (omega arith) refl refl refl refl refl refl)
       refl
 
   istore : (i y : ℕ) (rest : List ℕ) → byte_in o.words s.at ≡ 0x36 → i ≡ byte_in o.words (s.at + 1) → s.running.operands ≡ y ∷ rest → i < length s.running.locals → is_own s.running.back i ≡ true →
@@ -97,34 +92,14 @@ module _ (program : List ℕ) (has : HasStatements program) (o : Origin) (map : 
   istore i y rest code index ops l own =
       let c : Counts o s m w = counts o map s m w h inside in
       let op : m.mbr ≡ 0x36 = h.ready.mbr ∙ code in
-      let t : Top o map s m.sp m.lv m.cpp m.tos w h.holds y rest = top o map s m.sp m.lv m.cpp m.tos w h.holds y rest ops in
+      let t : Top o s m.sp m.lv m.cpp m.tos w y rest = here.top y rest ops in
       let to : ℕ = plus m.lv (byte_in w.words (next m.pc)) in
-      let a : Access (length o.words) w to (base s.callers + i) = local_at o map s m.sp m.lv m.cpp m.tos w h.holds to i l (plus_is h.holds.lv_is (c.byte1 ∙ sym index) refl (omega (arith, h.holds.fits, map.high))) in
-      let f : Frame = record s.running { locals = slice_set s.running.locals i (Some y); operands = rest } in
-      let ms : List ℕ = slice_set w.words (base s.callers + i) y in
-      let same : slice_set w.words to m.tos ≡ ms = ap₂ (slice_set w.words) a.is t.tos_is in
-      let bottom : 0x8000 ≤ base s.callers = base_above s.callers in
-      let inside_words : base s.callers + i < length w.words = omega (arith, h.holds.memory.long, a.below) in
-      let frames : FramesStand ms (f ∷ s.callers) = keep.stored w.words i y (with_operands s rest) s.callers l own inside_words t.frames in
-      let new : IsMemory o.words ms = memory_set o.words w.words (base s.callers + i) y (omega arith) h.holds.memory in
-      let len : length f.locals ≡ length s.running.locals = length-set s.running.locals i (Some y) in
-      let down : Access (length o.words) (record w { words = ms }) (before m.sp) (place s rest - 1) = access (length o.words) (record w { words = ms }) (before m.sp) (place s rest - 1) t.down.is t.down.below in
-      let tos : read_value (length o.words) (slice_set w.words to m.tos) w.untaken (before m.sp) ≡ slice_index ms (place s rest - 1) =
-      ap (λ (ws : List ℕ). read_value (length o.words) ws w.untaken (before m.sp)) same ∙ down.value in
+      let a : IsWordAccess (length o.words) w to (base s.callers + i) = here.local to i l (plus_is h.holds.lv_is (c.byte1 ∙ sym index) refl (omega (arith, h.holds.fits, map.high))) in
+      let same : slice_set w.words to m.tos ≡ slice_set w.words (base s.callers + i) y = ap₂ (slice_set w.words) a.is t.tos_is in
       comes program has o (0x36 ∷ []) 6 m w k s _ h (assumption)
-      (at_boundary o _ _ _
-      (record {
-        sp_is = omega (arith, t.down.is, t.above);
-        lv_is = h.holds.lv_is;
-        cpp_is = h.holds.cpp_is;
-        tos_is = next_top_is ms (operands_at (base s.callers) f) (place s rest - 1) _ rest (omega (arith, t.above)) tos frames.0.operands;
-        frames = frames_at f s.callers (sym same) frames;
-        memory = memory_at (sym same) new;
-        fits = omega (arith, t.below);
-        untaken = t.down.untaken ∙ h.holds.untaken;
-        given = a.given _ ∙ h.holds.given;
-      })
-      c.pc2 (ap (λ (ws : List ℕ). byte_in ws (next (next m.pc))) same ∙ byte_kept ms o.words new.kept c.pc2 (omega arith)) refl refl refl refl refl)
+      (at_text o _ _ _
+      (here.stores i y rest (s.at + 2) _ _ _ _ _ t l own refl refl refl refl same (t.down.untaken ∙ h.holds.untaken) (a.given _ _))
+      c.pc2 (omega arith) refl refl refl refl refl refl)
       refl
 
   wide_istore : (i y : ℕ) (rest : List ℕ) → byte_in o.words s.at ≡ 0xC4 → byte_in o.words (s.at + 1) ≡ 0x36 → i ≡ 256 * byte_in o.words (s.at + 2) + byte_in o.words (s.at + 3) → s.running.operands ≡ y ∷ rest → i < length s.running.locals → is_own s.running.back i ≡ true →
@@ -133,34 +108,14 @@ module _ (program : List ℕ) (has : HasStatements program) (o : Origin) (map : 
       let c : Counts o s m w = counts o map s m w h inside in
       let op : m.mbr ≡ 0xC4 = h.ready.mbr ∙ code in
       let op2 : byte_in w.words (next m.pc) + 256 ≡ 0x136 = omega (arith, c.byte1 ∙ code2) in
-      let t : Top o map s m.sp m.lv m.cpp m.tos w h.holds y rest = top o map s m.sp m.lv m.cpp m.tos w h.holds y rest ops in
+      let t : Top o s m.sp m.lv m.cpp m.tos w y rest = here.top y rest ops in
       let to : ℕ = plus (bit_or (wrap (256 * byte_in w.words (next (next m.pc)))) (byte_in w.words (next (next (next m.pc))))) m.lv in
-      let a : Access (length o.words) w to (base s.callers + i) = local_at o map s m.sp m.lv m.cpp m.tos w h.holds to i l (plus_is (pair_is o.words (s.at + 2) (s.at + 3) c.byte2 c.byte3 index) h.holds.lv_is (omega arith) (omega (arith, h.holds.fits, map.high))) in
-      let f : Frame = record s.running { locals = slice_set s.running.locals i (Some y); operands = rest } in
-      let ms : List ℕ = slice_set w.words (base s.callers + i) y in
-      let same : slice_set w.words to m.tos ≡ ms = ap₂ (slice_set w.words) a.is t.tos_is in
-      let bottom : 0x8000 ≤ base s.callers = base_above s.callers in
-      let inside_words : base s.callers + i < length w.words = omega (arith, h.holds.memory.long, a.below) in
-      let frames : FramesStand ms (f ∷ s.callers) = keep.stored w.words i y (with_operands s rest) s.callers l own inside_words t.frames in
-      let new : IsMemory o.words ms = memory_set o.words w.words (base s.callers + i) y (omega arith) h.holds.memory in
-      let len : length f.locals ≡ length s.running.locals = length-set s.running.locals i (Some y) in
-      let down : Access (length o.words) (record w { words = ms }) (before m.sp) (place s rest - 1) = access (length o.words) (record w { words = ms }) (before m.sp) (place s rest - 1) t.down.is t.down.below in
-      let tos : read_value (length o.words) (slice_set w.words to m.tos) w.untaken (before m.sp) ≡ slice_index ms (place s rest - 1) =
-      ap (λ (ws : List ℕ). read_value (length o.words) ws w.untaken (before m.sp)) same ∙ down.value in
+      let a : IsWordAccess (length o.words) w to (base s.callers + i) = here.local to i l (plus_is (pair_is o.words (s.at + 2) (s.at + 3) c.byte2 c.byte3 index) h.holds.lv_is (omega arith) (omega (arith, h.holds.fits, map.high))) in
+      let same : slice_set w.words to m.tos ≡ slice_set w.words (base s.callers + i) y = ap₂ (slice_set w.words) a.is t.tos_is in
       comes program has o (0xC4 ∷ 0x136 ∷ []) 9 m w k s _ h (assumption)
-      (at_boundary o _ _ _
-      (record {
-        sp_is = omega (arith, t.down.is, t.above);
-        lv_is = h.holds.lv_is;
-        cpp_is = h.holds.cpp_is;
-        tos_is = next_top_is ms (operands_at (base s.callers) f) (place s rest - 1) _ rest (omega (arith, t.above)) tos frames.0.operands;
-        frames = frames_at f s.callers (sym same) frames;
-        memory = memory_at (sym same) new;
-        fits = omega (arith, t.below);
-        untaken = t.down.untaken ∙ h.holds.untaken;
-        given = a.given _ ∙ h.holds.given;
-      })
-      c.pc4 (ap (λ (ws : List ℕ). byte_in ws (next (next (next (next m.pc))))) same ∙ byte_kept ms o.words new.kept c.pc4 (omega arith)) refl refl refl refl refl)
+      (at_text o _ _ _
+      (here.stores i y rest (s.at + 4) _ _ _ _ _ t l own refl refl refl refl same (t.down.untaken ∙ h.holds.untaken) (a.given _ _))
+      c.pc4 (omega arith) refl refl refl refl refl refl)
       refl
 
   iinc : (i v : ℕ) → byte_in o.words s.at ≡ 0x84 → i ≡ byte_in o.words (s.at + 1) → slice_get s.running.locals i ≡ Some (Some v) → is_own s.running.back i ≡ true →
@@ -170,30 +125,13 @@ module _ (program : List ℕ) (has : HasStatements program) (o : Origin) (map : 
       let op : m.mbr ≡ 0x84 = h.ready.mbr ∙ code in
       let l : i < length s.running.locals = slice_get_within s.running.locals i (Some v) local in
       let at : ℕ = plus m.lv (byte_in w.words (next m.pc)) in
-      let a : Access (length o.words) w at (base s.callers + i) = local_at o map s m.sp m.lv m.cpp m.tos w h.holds at i l (plus_is h.holds.lv_is (c.byte1 ∙ sym index) refl (omega (arith, h.holds.fits, map.high))) in
+      let a : IsWordAccess (length o.words) w at (base s.callers + i) = here.local at i l (plus_is h.holds.lv_is (c.byte1 ∙ sym index) refl (omega (arith, h.holds.fits, map.high))) in
       let y : ℕ = plus v (signed_byte (byte_in o.words (s.at + 2))) in
       let is : plus (read_value (length o.words) w.words w.untaken at) (signed_byte (byte_in w.words (next (next m.pc)))) ≡ y = ap₂ plus (a.value ∙ h.holds.frames.0.locals i v local) (ap signed_byte c.byte2) in
-      let f : Frame = record s.running { locals = slice_set s.running.locals i (Some y) } in
-      let ms : List ℕ = slice_set w.words (base s.callers + i) y in
-      let same : slice_set w.words at (plus (read_value (length o.words) w.words w.untaken at) (signed_byte (byte_in w.words (next (next m.pc))))) ≡ ms = ap₂ (slice_set w.words) a.is is in
-      let bottom : 0x8000 ≤ base s.callers = base_above s.callers in
-      let inside_words : base s.callers + i < length w.words = omega (arith, h.holds.memory.long, a.below) in
-      let frames : FramesStand ms (f ∷ s.callers) = keep.stored w.words i y s.running s.callers l own inside_words h.holds.frames in
-      let new : IsMemory o.words ms = memory_set o.words w.words (base s.callers + i) y (omega arith) h.holds.memory in
-      let len : length f.locals ≡ length s.running.locals = length-set s.running.locals i (Some y) in
+      let same : slice_set w.words at (plus (read_value (length o.words) w.words w.untaken at) (signed_byte (byte_in w.words (next (next m.pc))))) ≡ slice_set w.words (base s.callers + i) y = ap₂ (slice_set w.words) a.is is in
       comes program has o (0x84 ∷ []) 6 m w k s _ h (assumption)
       (at_boundary o _ _ _
-      (record {
-        sp_is = omega (arith, h.holds.sp_is);
-        lv_is = h.holds.lv_is;
-        cpp_is = h.holds.cpp_is;
-        tos_is = h.holds.tos_is;
-        frames = frames_at f s.callers (sym same) frames;
-        memory = memory_at (sym same) new;
-        fits = omega (arith, h.holds.fits);
-        untaken = a.untaken ∙ h.holds.untaken;
-        given = a.given _ ∙ h.holds.given;
-      })
+      (here.changes i y (s.at + 3) _ _ _ _ _ l own refl refl refl refl same (a.untaken ∙ h.holds.untaken) (a.given _ _))
       c.pc3 c.byte3 refl refl refl refl refl)
       refl
 
@@ -205,76 +143,49 @@ module _ (program : List ℕ) (has : HasStatements program) (o : Origin) (map : 
       let op2 : byte_in w.words (next m.pc) + 256 ≡ 0x184 = omega (arith, c.byte1 ∙ code2) in
       let l : i < length s.running.locals = slice_get_within s.running.locals i (Some v) local in
       let at : ℕ = plus (bit_or (wrap (256 * byte_in w.words (next (next m.pc)))) (byte_in w.words (next (next (next m.pc))))) m.lv in
-      let a : Access (length o.words) w at (base s.callers + i) = local_at o map s m.sp m.lv m.cpp m.tos w h.holds at i l (plus_is (pair_is o.words (s.at + 2) (s.at + 3) c.byte2 c.byte3 index) h.holds.lv_is (omega arith) (omega (arith, h.holds.fits, map.high))) in
+      let a : IsWordAccess (length o.words) w at (base s.callers + i) = here.local at i l (plus_is (pair_is o.words (s.at + 2) (s.at + 3) c.byte2 c.byte3 index) h.holds.lv_is (omega arith) (omega (arith, h.holds.fits, map.high))) in
       let y : ℕ = plus v (signed_pair (byte_in o.words (s.at + 4)) (byte_in o.words (s.at + 5))) in
       let is : plus (bit_or (wrap (256 * signed_byte (byte_in w.words (next (next (next (next m.pc))))))) (byte_in w.words (next (next (next (next (next m.pc))))))) (read_value (length o.words) w.words w.untaken at) ≡ y = ap₂ plus (signed_pair_is o.words (s.at + 4) (s.at + 5) c.byte4 c.byte5) (a.value ∙ h.holds.frames.0.locals i v local) ∙ plus_comm (signed_pair (byte_in o.words (s.at + 4)) (byte_in o.words (s.at + 5))) v in
-      let f : Frame = record s.running { locals = slice_set s.running.locals i (Some y) } in
-      let ms : List ℕ = slice_set w.words (base s.callers + i) y in
-      let same : slice_set w.words at (plus (bit_or (wrap (256 * signed_byte (byte_in w.words (next (next (next (next m.pc))))))) (byte_in w.words (next (next (next (next (next m.pc))))))) (read_value (length o.words) w.words w.untaken at)) ≡ ms = ap₂ (slice_set w.words) a.is is in
-      let bottom : 0x8000 ≤ base s.callers = base_above s.callers in
-      let inside_words : base s.callers + i < length w.words = omega (arith, h.holds.memory.long, a.below) in
-      let frames : FramesStand ms (f ∷ s.callers) = keep.stored w.words i y s.running s.callers l own inside_words h.holds.frames in
-      let new : IsMemory o.words ms = memory_set o.words w.words (base s.callers + i) y (omega arith) h.holds.memory in
-      let len : length f.locals ≡ length s.running.locals = length-set s.running.locals i (Some y) in
+      let same : slice_set w.words at (plus (bit_or (wrap (256 * signed_byte (byte_in w.words (next (next (next (next m.pc))))))) (byte_in w.words (next (next (next (next (next m.pc))))))) (read_value (length o.words) w.words w.untaken at)) ≡ slice_set w.words (base s.callers + i) y = ap₂ (slice_set w.words) a.is is in
       comes program has o (0xC4 ∷ 0x184 ∷ []) 11 m w k s _ h (assumption)
       (at_boundary o _ _ _
-      (record {
-        sp_is = omega (arith, h.holds.sp_is);
-        lv_is = h.holds.lv_is;
-        cpp_is = h.holds.cpp_is;
-        tos_is = h.holds.tos_is;
-        frames = frames_at f s.callers (sym same) frames;
-        memory = memory_at (sym same) new;
-        fits = omega (arith, h.holds.fits);
-        untaken = a.untaken ∙ h.holds.untaken;
-        given = a.given _ ∙ h.holds.given;
-      })
+      (here.changes i y (s.at + 6) _ _ _ _ _ l own refl refl refl refl same (a.untaken ∙ h.holds.untaken) (a.given _ _))
       c.pc6 c.byte6 refl refl refl refl refl)
       refl
 
-module _ (program : List ℕ) (has : HasStatements program) (o : Origin) (v : VerifiedView) (loads : Loads v o) (keep : KeepFrames) where
-  abbrev map : IsMap (length o.words)
+module _ (program : List ℕ) (has : HasStatements program) (o : Origin) (v : VerifiedView) (loads : Loads v o) (law : StackLaw) where
+  abbrev map : IsMapEnd (length o.words)
   map = map_of v o loads
 
   inside : (s : State) (i : Instr) → IsNext v o s i → s.at < 0x10000
   inside s i n = omega (arith, n.begins, loads.image.limits.text_fits)
 
-  -- a constant in the memory
-  pub record Constant (k x : ℕ) : Type 0 where
-    pub small : k < 0x4000
-    pub there : slice_index o.words (0x4000 + k) ≡ x
-
-  constant : (k x : ℕ) → slice_get v.image.pool k ≡ Some x → Constant k x
-  constant k x e =
-      let l : k < length v.image.pool = slice_get_within v.image.pool k x e in
-      record { small = omega (arith, loads.image.limits.pool_fits); there = loads.pool k l ∙ get_or_from_slice_get v.image.pool k x 0 e }
-
   goes : (s to : State) (q : Moment Micro) (i : Instr) → IsOfLocals i → Fine v s → IsNext v o s i → Stands o s q.state q.world → Went v.image v.map.stack_end s to i →
       Moves mic1_meaning program (Stands o) o.given q (cost v.image Mic1 i s) to
   goes s to q (LdcW k) is fine n h went =
-      let c : Constant k went.value = constant k went.value went.found in
+      let c : IsConstant o k went.value = law.constant v o loads k went.value went.found in
       moves program o v s to _ q (LdcW k) 7 h refl (omega arith) went.leads.goes
-      (ldc_w program has o map keep s q.state q.world q.stalls h (inside s (LdcW k) n) k went.value n.reads.0 n.reads.1 c.small c.there (omega (arith, went.leads.fits, loads.long)))
+      (ldc_w program has o map law s q.state q.world q.stalls h (inside s (LdcW k) n) k went.value n.reads.0 n.reads.1 c.small c.there (omega (arith, went.leads.fits, loads.long)))
   goes s to q (Iload k) is fine n h went =
       moves program o v s to _ q (Iload k) 5 h refl (omega arith) went.leads.goes
-      (iload program has o map keep s q.state q.world q.stalls h (inside s (Iload k) n) k went.value n.reads.0 n.reads.1 went.set (omega (arith, went.leads.fits, loads.long)))
+      (iload program has o map law s q.state q.world q.stalls h (inside s (Iload k) n) k went.value n.reads.0 n.reads.1 went.set (omega (arith, went.leads.fits, loads.long)))
   goes s to q (Istore k) is fine n h went =
       moves program o v s to _ q (Istore k) 6 h refl (omega arith) went.leads.goes
-      (istore program has o map keep s q.state q.world q.stalls h (inside s (Istore k) n) k went.top went.rest n.reads.0 n.reads.1 went.are went.leads.inside went.leads.own)
+      (istore program has o map law s q.state q.world q.stalls h (inside s (Istore k) n) k went.top went.rest n.reads.0 n.reads.1 went.are went.leads.inside went.leads.own)
   goes s to q (Iinc k b) is fine n h went =
       moves program o v s to _ q (Iinc k b) 6 h refl (omega arith)
       (ap (λ (x : ℕ). with_local s k (plus went.value x) s.running.operands (s.at + 3)) (sym n.reads.2) ∙ went.leads)
-      (iinc program has o map keep s q.state q.world q.stalls h (inside s (Iinc k b) n) k went.value n.reads.0 n.reads.1 went.set (n.finds.named k (inl refl)).1)
+      (iinc program has o map law s q.state q.world q.stalls h (inside s (Iinc k b) n) k went.value n.reads.0 n.reads.1 went.set (n.finds.named k (inl refl)).1)
   goes s to q (WideIload k) is fine n h went =
       moves program o v s to _ q (WideIload k) 8 h refl (omega arith) went.leads.goes
-      (wide_iload program has o map keep s q.state q.world q.stalls h (inside s (WideIload k) n) k went.value n.reads.0 n.reads.1 n.reads.2 went.set (omega (arith, went.leads.fits, loads.long)))
+      (wide_iload program has o map law s q.state q.world q.stalls h (inside s (WideIload k) n) k went.value n.reads.0 n.reads.1 n.reads.2 went.set (omega (arith, went.leads.fits, loads.long)))
   goes s to q (WideIstore k) is fine n h went =
       moves program o v s to _ q (WideIstore k) 9 h refl (omega arith) went.leads.goes
-      (wide_istore program has o map keep s q.state q.world q.stalls h (inside s (WideIstore k) n) k went.top went.rest n.reads.0 n.reads.1 n.reads.2 went.are went.leads.inside went.leads.own)
+      (wide_istore program has o map law s q.state q.world q.stalls h (inside s (WideIstore k) n) k went.top went.rest n.reads.0 n.reads.1 n.reads.2 went.are went.leads.inside went.leads.own)
   goes s to q (WideIinc k z) is fine n h went =
       moves program o v s to _ q (WideIinc k z) 11 h refl (omega arith)
       (ap (λ (x : ℕ). with_local s k (plus went.value x) s.running.operands (s.at + 6)) (sym n.reads.3) ∙ went.leads)
-      (wide_iinc program has o map keep s q.state q.world q.stalls h (inside s (WideIinc k z) n) k went.value n.reads.0 n.reads.1 n.reads.2 went.set (n.finds.named k (inl refl)).1)
+      (wide_iinc program has o map law s q.state q.world q.stalls h (inside s (WideIinc k z) n) k went.value n.reads.0 n.reads.1 n.reads.2 went.set (n.finds.named k (inl refl)).1)
   goes s to q i is fine n h went = absurd is
 
   limits : (s left : State) (q : Moment Micro) (i : Instr) → IsOfLocals i → Fine v s → IsNext v o s i → Stands o s q.state q.world → Overran v.image v.map.stack_end s left i →
@@ -282,28 +193,24 @@ module _ (program : List ℕ) (has : HasStatements program) (o : Origin) (v : Ve
   limits s left q (LdcW k) is fine n h over =
       let c : Counts o s q.state q.world = counts o map s q.state q.world h (inside s (LdcW k) n) in
       let op : q.state.mbr ≡ 0x13 = h.ready.mbr ∙ n.reads.0 in
-      let high : length o.words < 0x80000000 = map.high in
       let from : ℕ = plus (bit_or (wrap (256 * byte_in q.world.words (next q.state.pc))) (byte_in q.world.words (next (next q.state.pc)))) q.state.cpp in
-      let small : k < 0x4000 = (constant k over.value over.found).small in
-      let a : Access (length o.words) q.world from (0x4000 + k) =
-      access (length o.words) q.world from (0x4000 + k) (plus_is (pair_is o.words (s.at + 1) (s.at + 2) c.byte1 c.byte2 n.reads.1) h.holds.cpp_is (omega arith) (omega (arith, small))) (omega (arith, map.low)) in
-      let sp : next q.state.sp ≡ base (frames_of s) = next_is q.state.sp (base (frames_of s)) h.holds.sp_is (omega (arith, h.holds.fits)) in
+      let small : k < 0x4000 = (law.constant v o loads k over.value over.found).small in
+      let a : IsWordAccess (length o.words) q.world from (0x4000 + k) =
+      law.access (length o.words) q.world from (0x4000 + k) (plus_is (pair_is o.words (s.at + 1) (s.at + 2) c.byte1 c.byte2 n.reads.1) h.holds.cpp_is (omega arith) (omega (arith, small))) (omega (arith, map.low)) in
       let fault : write_refusal (length o.words) (next q.state.sp) ≡ Some (StackLimit (next q.state.sp)) =
-      write_limit (length o.words) (next q.state.sp) (omega (arith, over.leads.over, loads.long)) (omega (arith, h.holds.fits)) in
+      (law.boundary o s q.state.sp q.state.lv q.state.cpp q.state.tos q.world map h.holds).full (omega (arith, over.leads.over, loads.long)) in
       overruns program has o s left q (0x13 ∷ []) 5 (next q.state.sp) h (omega arith) (assumption) refl refl h.holds.memory.long
       (ap (λ (r : Option Refusal). first_refusal r (fetch_refusal (length o.words) (next (next (next q.state.pc))))) fault)
       (a.untaken ∙ (h.holds.untaken ∙ ap (λ (t : State). t.untaken) over.leads.leaves)) (h.holds.given ∙ ap (λ (t : State). o.given ++ t.given) over.leads.leaves)
   limits s left q (Iload k) is fine n h over =
       let c : Counts o s q.state q.world = counts o map s q.state q.world h (inside s (Iload k) n) in
       let op : q.state.mbr ≡ 0x15 = h.ready.mbr ∙ n.reads.0 in
-      let high : length o.words < 0x80000000 = map.high in
       let from : ℕ = plus q.state.lv (byte_in q.world.words (next q.state.pc)) in
       let l : k < length s.running.locals = slice_get_within s.running.locals k (Some over.value) over.set in
-      let a : Access (length o.words) q.world from (base s.callers + k) =
-      local_at o map s q.state.sp q.state.lv q.state.cpp q.state.tos q.world h.holds from k l (plus_is h.holds.lv_is (c.byte1 ∙ sym n.reads.1) refl (omega (arith, h.holds.fits, map.high))) in
-      let sp : next q.state.sp ≡ base (frames_of s) = next_is q.state.sp (base (frames_of s)) h.holds.sp_is (omega (arith, h.holds.fits)) in
+      let a : IsWordAccess (length o.words) q.world from (base s.callers + k) =
+      (law.boundary o s q.state.sp q.state.lv q.state.cpp q.state.tos q.world map h.holds).local from k l (plus_is h.holds.lv_is (c.byte1 ∙ sym n.reads.1) refl (omega (arith, h.holds.fits, map.high))) in
       let fault : write_refusal (length o.words) (next q.state.sp) ≡ Some (StackLimit (next q.state.sp)) =
-      write_limit (length o.words) (next q.state.sp) (omega (arith, over.leads.over, loads.long)) (omega (arith, h.holds.fits)) in
+      (law.boundary o s q.state.sp q.state.lv q.state.cpp q.state.tos q.world map h.holds).full (omega (arith, over.leads.over, loads.long)) in
       overruns program has o s left q (0x15 ∷ []) 3 (next q.state.sp) h (omega arith) (assumption) refl refl h.holds.memory.long
       (ap (λ (r : Option Refusal). first_refusal r (fetch_refusal (length o.words) (next (next q.state.pc)))) fault)
       (a.untaken ∙ (h.holds.untaken ∙ ap (λ (t : State). t.untaken) over.leads.leaves)) (h.holds.given ∙ ap (λ (t : State). o.given ++ t.given) over.leads.leaves)
@@ -311,14 +218,12 @@ module _ (program : List ℕ) (has : HasStatements program) (o : Origin) (v : Ve
       let c : Counts o s q.state q.world = counts o map s q.state q.world h (inside s (WideIload k) n) in
       let op : q.state.mbr ≡ 0xC4 = h.ready.mbr ∙ n.reads.0 in
       let op2 : byte_in q.world.words (next q.state.pc) + 256 ≡ 0x115 = omega (arith, c.byte1 ∙ n.reads.1) in
-      let high : length o.words < 0x80000000 = map.high in
       let from : ℕ = plus (bit_or (wrap (256 * byte_in q.world.words (next (next q.state.pc)))) (byte_in q.world.words (next (next (next q.state.pc))))) q.state.lv in
       let l : k < length s.running.locals = slice_get_within s.running.locals k (Some over.value) over.set in
-      let a : Access (length o.words) q.world from (base s.callers + k) =
-      local_at o map s q.state.sp q.state.lv q.state.cpp q.state.tos q.world h.holds from k l (plus_is (pair_is o.words (s.at + 2) (s.at + 3) c.byte2 c.byte3 n.reads.2) h.holds.lv_is (omega arith) (omega (arith, h.holds.fits, map.high))) in
-      let sp : next q.state.sp ≡ base (frames_of s) = next_is q.state.sp (base (frames_of s)) h.holds.sp_is (omega (arith, h.holds.fits)) in
+      let a : IsWordAccess (length o.words) q.world from (base s.callers + k) =
+      (law.boundary o s q.state.sp q.state.lv q.state.cpp q.state.tos q.world map h.holds).local from k l (plus_is (pair_is o.words (s.at + 2) (s.at + 3) c.byte2 c.byte3 n.reads.2) h.holds.lv_is (omega arith) (omega (arith, h.holds.fits, map.high))) in
       let fault : write_refusal (length o.words) (next q.state.sp) ≡ Some (StackLimit (next q.state.sp)) =
-      write_limit (length o.words) (next q.state.sp) (omega (arith, over.leads.over, loads.long)) (omega (arith, h.holds.fits)) in
+      (law.boundary o s q.state.sp q.state.lv q.state.cpp q.state.tos q.world map h.holds).full (omega (arith, over.leads.over, loads.long)) in
       overruns program has o s left q (0xC4 ∷ 0x115 ∷ []) 6 (next q.state.sp) h (omega arith) (assumption) refl refl h.holds.memory.long
       (ap (λ (r : Option Refusal). first_refusal r (fetch_refusal (length o.words) (next (next (next (next q.state.pc)))))) fault)
       (a.untaken ∙ (h.holds.untaken ∙ ap (λ (t : State). t.untaken) over.leads.leaves)) (h.holds.given ∙ ap (λ (t : State). o.given ++ t.given) over.leads.leaves)

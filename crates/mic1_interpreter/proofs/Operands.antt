@@ -1,5 +1,5 @@
 -- Instructions on the operands alone.
-use Rattle.std.proofs.Common.{◌≡◌, ◌≢◌, ℕ, suc, ◌+◌, ◌<◌, ◌≤◌, Some, None, List, [], ◌∷◌, ◌++◌, length, refl, arith, sym, ◌∙◌, ap, ap₂, length-set, inl, inr}
+use Rattle.std.proofs.Common.{◌≡◌, ◌≢◌, ℕ, suc, ◌+◌, ◌<◌, ◌≤◌, Some, None, List, [], ◌∷◌, ◌++◌, length, refl, arith, sym, ◌∙◌, ap, ap₂, inl, inr}
 use Rattle.std.specs.Prelude.{slice_set, bit_and, bit_or, Option}
 use Rattle.std.proofs.lemmas.Nat.{and_comm, or_comm}
 use Rattle.std.proofs.lemmas.List.{set_comm}
@@ -16,28 +16,29 @@ use Rattle.ijvm_paths.specs.Accepted.{VerifiedView}
 use Rattle.mic1_datapath.specs.Micro.{Micro}
 use Rattle.datapath.specs.Memory.{first_refusal}
 use Rattle.mic1_datapath.specs.Mic1.{mic1_meaning}
-use Rattle.ijvm_simulation.specs.Stands.{Origin, FramesStand, IsMemory}
-use Rattle.ijvm_simulation.specs.Writes.{KeepFrames}
+use Rattle.ijvm_simulation.specs.Stands.{Origin}
+use Rattle.ijvm_simulation.specs.Stack.{IsMapEnd, IsWordAccess, place_behind, Top, Two, AtBoundary, StackLaw}
 use Rattle.ijvm_simulation.specs.Passes.{Moment}
 use Rattle.ijvm_simulation.specs.Outcomes.{Went, Overran, push}
 use Rattle.ijvm_simulation.specs.Verified.{Loads, Fine, IsNext}
 use Rattle.ijvm_simulation.specs.Law.{Moves, Overruns, Takes}
+use Rattle.ijvm_simulation.specs.Groups.{IsOfOperands}
 use Rattle.mic1_interpreter.specs.Stands.{Stands}
-use Rattle.mic1_interpreter.specs.Groups.{IsOfOperands}
 use Rattle.mic1_interpreter.proofs.Shipped.{HasStatements}
-use Rattle.mic1_interpreter.proofs.Accesses.{IsMap, Access, access, next_is, write_limit, given_ok, plus_comm}
-use Rattle.mic1_interpreter.proofs.Keeps.{set_same, memory_set, frames_at, memory_at}
-use Rattle.mic1_interpreter.proofs.Facts.{with_operands, place, base_above, room, Top, top, Two, two, pushes, drops}
 use Rattle.mic1_interpreter.proofs.Boundaries.{ReachesBoundary, comes, Counts, counts, at_boundary, map_of, moves, overruns}
+use Rattle.mic1_interpreter.proofs.Words.{plus_comm}
 
-module _ (program : List ℕ) (has : HasStatements program) (o : Origin) (map : IsMap (length o.words)) (keep : KeepFrames) (s : State) (m : Micro) (w : World) (k : ℕ) (h : Stands o s m w) (inside : s.at < 0x10000) where
+module _ (program : List ℕ) (has : HasStatements program) (o : Origin) (map : IsMapEnd (length o.words)) (law : StackLaw) (s : State) (m : Micro) (w : World) (k : ℕ) (h : Stands o s m w) (inside : s.at < 0x10000) where
+  abbrev here : AtBoundary o s m.sp m.lv m.cpp m.tos w
+  here = law.boundary o s m.sp m.lv m.cpp m.tos w map h.holds
+
   nop : byte_in o.words s.at ≡ 0x00 → ReachesBoundary program o 1 (record { state = m; world = w; stalls = k }) (moved s s.running.operands (s.at + 1))
   nop code =
       let c : Counts o s m w = counts o map s m w h inside in
       let op : m.mbr ≡ 0 = h.ready.mbr ∙ code in
       comes program has o (0 ∷ []) 1 m w k s _ h (assumption)
       (at_boundary o _ _ _
-      (drops o map s m.sp m.lv m.cpp m.tos w h.holds s.running.operands (s.at + 1) _ _ _ _ _ s.given h.holds.frames h.holds.fits
+      (here.drops s.running.operands (s.at + 1) _ _ _ _ _ s.given h.holds.frames h.holds.fits
       refl refl h.holds.sp_is h.holds.tos_is refl h.holds.untaken h.holds.given)
       c.pc1 c.byte1 refl refl refl refl refl)
       refl
@@ -46,13 +47,13 @@ module _ (program : List ℕ) (has : HasStatements program) (o : Origin) (map : 
       ReachesBoundary program o 3 (record { state = m; world = w; stalls = k }) (push s (signed_byte (byte_in o.words (s.at + 1))) (s.at + 2))
   bipush code space =
       let c : Counts o s m w = counts o map s m w h inside in
-      let r : Access (length o.words) w (next m.sp) (base (frames_of s)) = room o map s m.sp m.lv m.cpp m.tos w h.holds space in
+      let r : IsWordAccess (length o.words) w (next m.sp) (base (frames_of s)) = here.room space in
       let op : m.mbr ≡ 0x10 = h.ready.mbr ∙ code in
       let v : signed_byte (byte_in w.words (next m.pc)) ≡ signed_byte (byte_in o.words (s.at + 1)) = ap signed_byte c.byte1 in
       comes program has o (0x10 ∷ []) 3 m w k s _ h (assumption)
       (at_boundary o _ _ _
-      (pushes o map s m.sp m.lv m.cpp m.tos w h.holds keep s.running.operands _ (s.at + 2) _ _ _ _ _ s.untaken h.holds.frames space
-      refl refl r.is v (ap₂ (slice_set w.words) r.is v) h.holds.untaken (r.given _))
+      (here.pushes s.running.operands _ (s.at + 2) _ _ _ _ _ s.untaken h.holds.frames space
+      refl refl r.is v (ap₂ (slice_set w.words) r.is v) h.holds.untaken (r.given _ _))
       c.pc2 c.byte2 refl refl refl refl refl)
       refl
 
@@ -60,11 +61,11 @@ module _ (program : List ℕ) (has : HasStatements program) (o : Origin) (map : 
       ReachesBoundary program o 3 (record { state = m; world = w; stalls = k }) (moved s rest (s.at + 1))
   pop y rest code ops =
       let c : Counts o s m w = counts o map s m w h inside in
-      let t : Top o map s m.sp m.lv m.cpp m.tos w h.holds y rest = top o map s m.sp m.lv m.cpp m.tos w h.holds y rest ops in
+      let t : Top o s m.sp m.lv m.cpp m.tos w y rest = here.top y rest ops in
       let op : m.mbr ≡ 0x57 = h.ready.mbr ∙ code in
       comes program has o (0x57 ∷ []) 3 m w k s _ h (assumption)
       (at_boundary o _ _ _
-      (drops o map s m.sp m.lv m.cpp m.tos w h.holds rest (s.at + 1) _ _ _ _ _ s.given t.frames (omega (arith, t.below))
+      (here.drops rest (s.at + 1) _ _ _ _ _ s.given t.frames (omega (arith, t.below))
       refl refl (omega (arith, t.down.is, t.above)) t.next_top refl (t.down.untaken ∙ h.holds.untaken) h.holds.given)
       c.pc1 c.byte1 refl refl refl refl refl)
       refl
@@ -73,13 +74,13 @@ module _ (program : List ℕ) (has : HasStatements program) (o : Origin) (map : 
       ReachesBoundary program o 2 (record { state = m; world = w; stalls = k }) (push s y (s.at + 1))
   dup y rest code ops space =
       let c : Counts o s m w = counts o map s m w h inside in
-      let t : Top o map s m.sp m.lv m.cpp m.tos w h.holds y rest = top o map s m.sp m.lv m.cpp m.tos w h.holds y rest ops in
-      let r : Access (length o.words) w (next m.sp) (base (frames_of s)) = room o map s m.sp m.lv m.cpp m.tos w h.holds space in
+      let t : Top o s m.sp m.lv m.cpp m.tos w y rest = here.top y rest ops in
+      let r : IsWordAccess (length o.words) w (next m.sp) (base (frames_of s)) = here.room space in
       let op : m.mbr ≡ 0x59 = h.ready.mbr ∙ code in
       comes program has o (0x59 ∷ []) 2 m w k s _ h (assumption)
       (at_boundary o _ _ _
-      (pushes o map s m.sp m.lv m.cpp m.tos w h.holds keep s.running.operands _ (s.at + 1) _ _ _ _ _ s.untaken h.holds.frames space
-      refl refl r.is t.tos_is (ap₂ (slice_set w.words) r.is t.tos_is) h.holds.untaken (r.given _))
+      (here.pushes s.running.operands _ (s.at + 1) _ _ _ _ _ s.untaken h.holds.frames space
+      refl refl r.is t.tos_is (ap₂ (slice_set w.words) r.is t.tos_is) h.holds.untaken (r.given _ _))
       c.pc1 c.byte1 refl refl refl refl refl)
       refl
 
@@ -87,34 +88,17 @@ module _ (program : List ℕ) (has : HasStatements program) (o : Origin) (map : 
       ReachesBoundary program o 6 (record { state = m; world = w; stalls = k }) (moved s (x ∷ y ∷ rest) (s.at + 1))
   swap y x rest code ops =
       let c : Counts o s m w = counts o map s m w h inside in
-      let t : Two o map s m.sp m.lv m.cpp m.tos w h.holds y x rest = two o map s m.sp m.lv m.cpp m.tos w h.holds y x rest ops in
-      let bottom : 0x8000 ≤ base s.callers = base_above s.callers in
+      let t : Two o s m.sp m.lv m.cpp m.tos w y x rest = here.two y x rest ops in
+      let bottom : 0x8000 ≤ base s.callers = law.above s.callers in
       let len : length s.running.operands ≡ suc (suc (length rest)) = ap length ops in
-      let top_at : Access (length o.words) w m.sp (place s rest + 1) = access (length o.words) w m.sp (place s rest + 1) t.sp_is (omega (arith, h.holds.fits)) in
+      let top_at : IsWordAccess (length o.words) w m.sp (place_behind s rest + 1) = law.access (length o.words) w m.sp (place_behind s rest + 1) t.sp_is (omega (arith, h.holds.fits)) in
       let op : m.mbr ≡ 0x5F = h.ready.mbr ∙ code in
-      let a : ℕ = place s rest in
-      let m1 : List ℕ = slice_set w.words a y in
-      let ms : List ℕ = slice_set m1 (a + 1) x in
-      let apart : a + 1 ≢ a = omega arith in
-      let same : slice_set (slice_set w.words m.sp (read_value (length o.words) w.words w.untaken (before m.sp))) (before m.sp) m.tos ≡ ms =
-      set_same (set_same refl top_at.is t.second) t.at.is t.tos_is ∙ set_comm w.words (a + 1) a x y apart in
-      let frames : FramesStand ms (with_operands s (x ∷ y ∷ rest) ∷ s.callers) =
-      keep.pushed m1 (a + 1) x (with_operands s (y ∷ rest)) s.callers (omega arith) (omega (arith, length-set w.words a y, h.holds.memory.long, top_at.below))
-      (keep.pushed w.words a y (with_operands s rest) s.callers refl (omega (arith, h.holds.memory.long, t.at.below)) t.frames) in
-      let new : IsMemory o.words ms = memory_set o.words m1 (a + 1) x (omega arith) (memory_set o.words w.words a y (omega arith) h.holds.memory) in
+      let apart : place_behind s rest + 1 ≢ place_behind s rest = omega arith in
+      let same : slice_set (slice_set w.words m.sp (read_value (length o.words) w.words w.untaken (before m.sp))) (before m.sp) m.tos ≡ slice_set (slice_set w.words (place_behind s rest) y) (place_behind s rest + 1) x =
+      (λ j. slice_set (slice_set w.words (top_at.is j) (t.second j)) (t.at.is j) (t.tos_is j)) ∙ set_comm w.words (place_behind s rest + 1) (place_behind s rest) x y apart in
       comes program has o (0x5F ∷ []) 6 m w k s _ h (assumption)
       (at_boundary o _ _ _
-      (record {
-        sp_is = omega (arith, h.holds.sp_is);
-        lv_is = h.holds.lv_is;
-        cpp_is = h.holds.cpp_is;
-        tos_is = t.second;
-        frames = frames_at (with_operands s (x ∷ y ∷ rest)) s.callers (sym same) frames;
-        memory = memory_at (sym same) new;
-        fits = omega (arith, h.holds.fits);
-        untaken = t.at.untaken ∙ h.holds.untaken;
-        given = given_ok (length o.words) _ _ t.at.is t.at.below ∙ (top_at.given _ ∙ h.holds.given);
-      })
+      (here.swaps y x rest (s.at + 1) _ _ _ _ _ t refl refl refl t.second same (t.at.untaken ∙ h.holds.untaken) (t.at.given _ _ ∙ top_at.given _ _))
       c.pc1 c.byte1 refl refl refl refl refl)
       refl
 
@@ -122,13 +106,13 @@ module _ (program : List ℕ) (has : HasStatements program) (o : Origin) (map : 
       ReachesBoundary program o 3 (record { state = m; world = w; stalls = k }) (moved s (plus x y ∷ rest) (s.at + 1))
   iadd y x rest code ops =
       let c : Counts o s m w = counts o map s m w h inside in
-      let t : Two o map s m.sp m.lv m.cpp m.tos w h.holds y x rest = two o map s m.sp m.lv m.cpp m.tos w h.holds y x rest ops in
+      let t : Two o s m.sp m.lv m.cpp m.tos w y x rest = here.two y x rest ops in
       let op : m.mbr ≡ 0x60 = h.ready.mbr ∙ code in
       let v : plus m.tos (read_value (length o.words) w.words w.untaken (before m.sp)) ≡ plus x y = ap₂ plus t.tos_is t.second ∙ plus_comm y x in
       comes program has o (0x60 ∷ []) 3 m w k s _ h (assumption)
       (at_boundary o _ _ _
-      (pushes o map s m.sp m.lv m.cpp m.tos w h.holds keep rest _ (s.at + 1) _ _ _ _ _ s.untaken t.frames t.at.below
-      refl refl t.at.is v (ap₂ (slice_set w.words) t.at.is v) (t.at.untaken ∙ h.holds.untaken) (t.at.given _))
+      (here.pushes rest _ (s.at + 1) _ _ _ _ _ s.untaken t.frames t.at.below
+      refl refl t.at.is v (ap₂ (slice_set w.words) t.at.is v) (t.at.untaken ∙ h.holds.untaken) (t.at.given _ _))
       c.pc1 c.byte1 refl refl refl refl refl)
       refl
 
@@ -136,13 +120,13 @@ module _ (program : List ℕ) (has : HasStatements program) (o : Origin) (map : 
       ReachesBoundary program o 3 (record { state = m; world = w; stalls = k }) (moved s (minus x y ∷ rest) (s.at + 1))
   isub y x rest code ops =
       let c : Counts o s m w = counts o map s m w h inside in
-      let t : Two o map s m.sp m.lv m.cpp m.tos w h.holds y x rest = two o map s m.sp m.lv m.cpp m.tos w h.holds y x rest ops in
+      let t : Two o s m.sp m.lv m.cpp m.tos w y x rest = here.two y x rest ops in
       let op : m.mbr ≡ 0x64 = h.ready.mbr ∙ code in
       let v : minus (read_value (length o.words) w.words w.untaken (before m.sp)) m.tos ≡ minus x y = ap₂ minus t.second t.tos_is in
       comes program has o (0x64 ∷ []) 3 m w k s _ h (assumption)
       (at_boundary o _ _ _
-      (pushes o map s m.sp m.lv m.cpp m.tos w h.holds keep rest _ (s.at + 1) _ _ _ _ _ s.untaken t.frames t.at.below
-      refl refl t.at.is v (ap₂ (slice_set w.words) t.at.is v) (t.at.untaken ∙ h.holds.untaken) (t.at.given _))
+      (here.pushes rest _ (s.at + 1) _ _ _ _ _ s.untaken t.frames t.at.below
+      refl refl t.at.is v (ap₂ (slice_set w.words) t.at.is v) (t.at.untaken ∙ h.holds.untaken) (t.at.given _ _))
       c.pc1 c.byte1 refl refl refl refl refl)
       refl
 
@@ -150,13 +134,13 @@ module _ (program : List ℕ) (has : HasStatements program) (o : Origin) (map : 
       ReachesBoundary program o 3 (record { state = m; world = w; stalls = k }) (moved s (bit_and x y ∷ rest) (s.at + 1))
   iand y x rest code ops =
       let c : Counts o s m w = counts o map s m w h inside in
-      let t : Two o map s m.sp m.lv m.cpp m.tos w h.holds y x rest = two o map s m.sp m.lv m.cpp m.tos w h.holds y x rest ops in
+      let t : Two o s m.sp m.lv m.cpp m.tos w y x rest = here.two y x rest ops in
       let op : m.mbr ≡ 0x7E = h.ready.mbr ∙ code in
       let v : bit_and m.tos (read_value (length o.words) w.words w.untaken (before m.sp)) ≡ bit_and x y = ap₂ bit_and t.tos_is t.second ∙ and_comm y x in
       comes program has o (0x7E ∷ []) 3 m w k s _ h (assumption)
       (at_boundary o _ _ _
-      (pushes o map s m.sp m.lv m.cpp m.tos w h.holds keep rest _ (s.at + 1) _ _ _ _ _ s.untaken t.frames t.at.below
-      refl refl t.at.is v (ap₂ (slice_set w.words) t.at.is v) (t.at.untaken ∙ h.holds.untaken) (t.at.given _))
+      (here.pushes rest _ (s.at + 1) _ _ _ _ _ s.untaken t.frames t.at.below
+      refl refl t.at.is v (ap₂ (slice_set w.words) t.at.is v) (t.at.untaken ∙ h.holds.untaken) (t.at.given _ _))
       c.pc1 c.byte1 refl refl refl refl refl)
       refl
 
@@ -164,13 +148,13 @@ module _ (program : List ℕ) (has : HasStatements program) (o : Origin) (map : 
       ReachesBoundary program o 3 (record { state = m; world = w; stalls = k }) (moved s (bit_or x y ∷ rest) (s.at + 1))
   ior y x rest code ops =
       let c : Counts o s m w = counts o map s m w h inside in
-      let t : Two o map s m.sp m.lv m.cpp m.tos w h.holds y x rest = two o map s m.sp m.lv m.cpp m.tos w h.holds y x rest ops in
+      let t : Two o s m.sp m.lv m.cpp m.tos w y x rest = here.two y x rest ops in
       let op : m.mbr ≡ 0xB0 = h.ready.mbr ∙ code in
       let v : bit_or m.tos (read_value (length o.words) w.words w.untaken (before m.sp)) ≡ bit_or x y = ap₂ bit_or t.tos_is t.second ∙ or_comm y x in
       comes program has o (0xB0 ∷ []) 3 m w k s _ h (assumption)
       (at_boundary o _ _ _
-      (pushes o map s m.sp m.lv m.cpp m.tos w h.holds keep rest _ (s.at + 1) _ _ _ _ _ s.untaken t.frames t.at.below
-      refl refl t.at.is v (ap₂ (slice_set w.words) t.at.is v) (t.at.untaken ∙ h.holds.untaken) (t.at.given _))
+      (here.pushes rest _ (s.at + 1) _ _ _ _ _ s.untaken t.frames t.at.below
+      refl refl t.at.is v (ap₂ (slice_set w.words) t.at.is v) (t.at.untaken ∙ h.holds.untaken) (t.at.given _ _))
       c.pc1 c.byte1 refl refl refl refl refl)
       refl
 
@@ -178,18 +162,18 @@ module _ (program : List ℕ) (has : HasStatements program) (o : Origin) (map : 
       ReachesBoundary program o 3 (record { state = m; world = w; stalls = k }) (moved s (bit_or x y ∷ rest) (s.at + 1))
   ior80 y x rest code ops =
       let c : Counts o s m w = counts o map s m w h inside in
-      let t : Two o map s m.sp m.lv m.cpp m.tos w h.holds y x rest = two o map s m.sp m.lv m.cpp m.tos w h.holds y x rest ops in
+      let t : Two o s m.sp m.lv m.cpp m.tos w y x rest = here.two y x rest ops in
       let op : m.mbr ≡ 0x80 = h.ready.mbr ∙ code in
       let v : bit_or m.tos (read_value (length o.words) w.words w.untaken (before m.sp)) ≡ bit_or x y = ap₂ bit_or t.tos_is t.second ∙ or_comm y x in
       comes program has o (0x80 ∷ []) 3 m w k s _ h (assumption)
       (at_boundary o _ _ _
-      (pushes o map s m.sp m.lv m.cpp m.tos w h.holds keep rest _ (s.at + 1) _ _ _ _ _ s.untaken t.frames t.at.below
-      refl refl t.at.is v (ap₂ (slice_set w.words) t.at.is v) (t.at.untaken ∙ h.holds.untaken) (t.at.given _))
+      (here.pushes rest _ (s.at + 1) _ _ _ _ _ s.untaken t.frames t.at.below
+      refl refl t.at.is v (ap₂ (slice_set w.words) t.at.is v) (t.at.untaken ∙ h.holds.untaken) (t.at.given _ _))
       c.pc1 c.byte1 refl refl refl refl refl)
       refl
 
-module _ (program : List ℕ) (has : HasStatements program) (o : Origin) (v : VerifiedView) (loads : Loads v o) (keep : KeepFrames) where
-  abbrev map : IsMap (length o.words)
+module _ (program : List ℕ) (has : HasStatements program) (o : Origin) (v : VerifiedView) (loads : Loads v o) (law : StackLaw) where
+  abbrev map : IsMapEnd (length o.words)
   map = map_of v o loads
 
   inside : (s : State) (i : Instr) → IsNext v o s i → s.at < 0x10000
@@ -197,29 +181,29 @@ module _ (program : List ℕ) (has : HasStatements program) (o : Origin) (v : Ve
 
   goes : (s to : State) (q : Moment Micro) (i : Instr) → IsOfOperands i → Fine v s → IsNext v o s i → Stands o s q.state q.world → Went v.image v.map.stack_end s to i →
       Moves mic1_meaning program (Stands o) o.given q (cost v.image Mic1 i s) to
-  goes s to q Nop is fine n h went = moves program o v s to _ q Nop 1 h refl (omega arith) went (nop program has o map keep s q.state q.world q.stalls h (inside s Nop n) n.reads)
+  goes s to q Nop is fine n h went = moves program o v s to _ q Nop 1 h refl (omega arith) went (nop program has o map law s q.state q.world q.stalls h (inside s Nop n) n.reads)
   goes s to q (Bipush b) is fine n h went =
       let word : signed_byte (byte_in o.words (s.at + 1)) ≡ word_of b = sym n.reads.1 in
       moves program o v s to _ q (Bipush b) 3 h refl (omega arith) (ap (λ (x : ℕ). push s x (s.at + 2)) word ∙ went.goes)
-      (bipush program has o map keep s q.state q.world q.stalls h (inside s (Bipush b) n) n.reads.0 (omega (arith, went.fits, loads.long)))
+      (bipush program has o map law s q.state q.world q.stalls h (inside s (Bipush b) n) n.reads.0 (omega (arith, went.fits, loads.long)))
   goes s to q Pop is fine n h went =
-      moves program o v s to _ q Pop 3 h refl (omega arith) went.leads (pop program has o map keep s q.state q.world q.stalls h (inside s Pop n) went.top went.rest n.reads went.are)
+      moves program o v s to _ q Pop 3 h refl (omega arith) went.leads (pop program has o map law s q.state q.world q.stalls h (inside s Pop n) went.top went.rest n.reads went.are)
   goes s to q Dup is fine n h went =
       moves program o v s to _ q Dup 2 h refl (omega arith) went.leads.goes
-      (dup program has o map keep s q.state q.world q.stalls h (inside s Dup n) went.top went.rest n.reads went.are (omega (arith, went.leads.fits, loads.long)))
+      (dup program has o map law s q.state q.world q.stalls h (inside s Dup n) went.top went.rest n.reads went.are (omega (arith, went.leads.fits, loads.long)))
   goes s to q Swap is fine n h went =
-      moves program o v s to _ q Swap 6 h refl (omega arith) went.leads (swap program has o map keep s q.state q.world q.stalls h (inside s Swap n) went.top went.second went.rest n.reads went.are)
+      moves program o v s to _ q Swap 6 h refl (omega arith) went.leads (swap program has o map law s q.state q.world q.stalls h (inside s Swap n) went.top went.second went.rest n.reads went.are)
   goes s to q Iadd is fine n h went =
-      moves program o v s to _ q Iadd 3 h refl (omega arith) went.leads (iadd program has o map keep s q.state q.world q.stalls h (inside s Iadd n) went.top went.second went.rest n.reads went.are)
+      moves program o v s to _ q Iadd 3 h refl (omega arith) went.leads (iadd program has o map law s q.state q.world q.stalls h (inside s Iadd n) went.top went.second went.rest n.reads went.are)
   goes s to q Isub is fine n h went =
-      moves program o v s to _ q Isub 3 h refl (omega arith) went.leads (isub program has o map keep s q.state q.world q.stalls h (inside s Isub n) went.top went.second went.rest n.reads went.are)
+      moves program o v s to _ q Isub 3 h refl (omega arith) went.leads (isub program has o map law s q.state q.world q.stalls h (inside s Isub n) went.top went.second went.rest n.reads went.are)
   goes s to q Iand is fine n h went =
-      moves program o v s to _ q Iand 3 h refl (omega arith) went.leads (iand program has o map keep s q.state q.world q.stalls h (inside s Iand n) went.top went.second went.rest n.reads went.are)
+      moves program o v s to _ q Iand 3 h refl (omega arith) went.leads (iand program has o map law s q.state q.world q.stalls h (inside s Iand n) went.top went.second went.rest n.reads went.are)
   goes s to q Ior is fine n h went = elim n.reads [
     | inl code ↦
-        moves program o v s to _ q Ior 3 h refl (omega arith) went.leads (ior program has o map keep s q.state q.world q.stalls h (inside s Ior n) went.top went.second went.rest code went.are)
+        moves program o v s to _ q Ior 3 h refl (omega arith) went.leads (ior program has o map law s q.state q.world q.stalls h (inside s Ior n) went.top went.second went.rest code went.are)
     | inr code ↦
-        moves program o v s to _ q Ior 3 h refl (omega arith) went.leads (ior80 program has o map keep s q.state q.world q.stalls h (inside s Ior n) went.top went.second went.rest code went.are)
+        moves program o v s to _ q Ior 3 h refl (omega arith) went.leads (ior80 program has o map law s q.state q.world q.stalls h (inside s Ior n) went.top went.second went.rest code went.are)
   ]
   goes s to q i is fine n h went = absurd is
 
@@ -228,20 +212,16 @@ module _ (program : List ℕ) (has : HasStatements program) (o : Origin) (v : Ve
   limits s left q (Bipush b) is fine n h over =
       let c : Counts o s q.state q.world = counts o map s q.state q.world h (inside s (Bipush b) n) in
       let op : q.state.mbr ≡ 0x10 = h.ready.mbr ∙ n.reads.0 in
-      let high : length o.words < 0x80000000 = map.high in
-      let sp : next q.state.sp ≡ base (frames_of s) = next_is q.state.sp (base (frames_of s)) h.holds.sp_is (omega (arith, h.holds.fits)) in
       let fault : write_refusal (length o.words) (next q.state.sp) ≡ Some (StackLimit (next q.state.sp)) =
-      write_limit (length o.words) (next q.state.sp) (omega (arith, over.over, loads.long)) (omega (arith, h.holds.fits)) in
+      (law.boundary o s q.state.sp q.state.lv q.state.cpp q.state.tos q.world map h.holds).full (omega (arith, over.over, loads.long)) in
       overruns program has o s left q (0x10 ∷ []) 2 (next q.state.sp) h (omega arith) (assumption) refl refl h.holds.memory.long
       (ap (λ (r : Option Refusal). first_refusal r None) fault)
       (h.holds.untaken ∙ ap (λ (t : State). t.untaken) over.leaves) (h.holds.given ∙ ap (λ (t : State). o.given ++ t.given) over.leaves)
   limits s left q Dup is fine n h over =
       let c : Counts o s q.state q.world = counts o map s q.state q.world h (inside s Dup n) in
       let op : q.state.mbr ≡ 0x59 = h.ready.mbr ∙ n.reads in
-      let high : length o.words < 0x80000000 = map.high in
-      let sp : next q.state.sp ≡ base (frames_of s) = next_is q.state.sp (base (frames_of s)) h.holds.sp_is (omega (arith, h.holds.fits)) in
       let fault : write_refusal (length o.words) (next q.state.sp) ≡ Some (StackLimit (next q.state.sp)) =
-      write_limit (length o.words) (next q.state.sp) (omega (arith, over.leads.over, loads.long)) (omega (arith, h.holds.fits)) in
+      (law.boundary o s q.state.sp q.state.lv q.state.cpp q.state.tos q.world map h.holds).full (omega (arith, over.leads.over, loads.long)) in
       overruns program has o s left q (0x59 ∷ []) 1 (next q.state.sp) h (omega arith) (assumption) refl refl h.holds.memory.long
       (ap (λ (r : Option Refusal). first_refusal r None) fault)
       (h.holds.untaken ∙ ap (λ (t : State). t.untaken) over.leads.leaves) (h.holds.given ∙ ap (λ (t : State). o.given ++ t.given) over.leads.leaves)

@@ -10,7 +10,7 @@ ghost use Rattle.shipped_program.specs.Shipped.{HasShipped};
 ghost use Rattle.ijvm_simulation.specs.Headline.{HasRun, IsCutByRead, IsCutByWrite};
 
 use crate::laws::{calls_law, consoles_law, ends_law, jumps_law, locals_law, operands_law};
-use ijvm_simulation::{Interpreter, run_image};
+use ijvm_simulation::{Interpreter, groups_are_all, run_image};
 use ijvm_verifier::VerifiedImage;
 use mic_base::{Sink, Source};
 use mic_clock::{Board, End};
@@ -62,6 +62,7 @@ impl Interpreter for Mic1Interpreter {
         calls_law();
         consoles_law();
         ends_law();
+        groups_are_all::<Mic1>();
     }
 }
 

@@ -9,16 +9,16 @@ ghost use Rattle.ijvm_simulation.specs.Stands.{Origin};
 ghost use Rattle.ijvm_simulation.specs.Verified.{Loads};
 ghost use Rattle.ijvm_simulation.specs.Law.{Takes, HaltsAndErrs};
 ghost use Rattle.mic1_interpreter.specs.Stands.{Stands};
-ghost use Rattle.mic1_interpreter.specs.Groups.{IsOfOperands, IsOfLocals, IsOfConsole, IsJump, IsCall};
+ghost use Rattle.ijvm_simulation.specs.Groups.{IsOfOperands, IsOfLocals, IsOfConsole, IsJump, IsCall};
 
-use ijvm_simulation::writes_keep_frames;
+use ijvm_simulation::stack_law;
 
 /// The instructions on the operands alone.
 pub(crate) fn operands_law()
     ensures { (store : List ℕ) (o : Origin) (v : VerifiedView) → HasShipped Mic1 store → Loads v o →
         Takes mic1_meaning store (Stands o) o.given v o IsOfOperands }
 {
-    writes_keep_frames();
+    stack_law();
 }
 
 /// IN and OUT.
@@ -26,21 +26,23 @@ pub(crate) fn consoles_law()
     ensures { (store : List ℕ) (o : Origin) (v : VerifiedView) → HasShipped Mic1 store → Loads v o →
         Takes mic1_meaning store (Stands o) o.given v o IsOfConsole }
 {
-    writes_keep_frames();
+    stack_law();
 }
 
 /// The jumps and branches.
 pub(crate) fn jumps_law()
     ensures { (store : List ℕ) (o : Origin) (v : VerifiedView) → HasShipped Mic1 store → Loads v o →
         Takes mic1_meaning store (Stands o) o.given v o IsJump }
-{}
+{
+    stack_law();
+}
 
 /// The instructions that name a local or a constant.
 pub(crate) fn locals_law()
     ensures { (store : List ℕ) (o : Origin) (v : VerifiedView) → HasShipped Mic1 store → Loads v o →
         Takes mic1_meaning store (Stands o) o.given v o IsOfLocals }
 {
-    writes_keep_frames();
+    stack_law();
 }
 
 /// Calls and returns.
@@ -48,7 +50,7 @@ pub(crate) fn calls_law()
     ensures { (store : List ℕ) (o : Origin) (v : VerifiedView) → HasShipped Mic1 store → Loads v o →
         Takes mic1_meaning store (Stands o) o.given v o IsCall }
 {
-    writes_keep_frames();
+    stack_law();
 }
 
 /// HALT and ERR.

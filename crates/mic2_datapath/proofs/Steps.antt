@@ -1,5 +1,6 @@
 -- What is asked of the bus for a statement, with its accesses, is its microstep or its refusal.
-use Rattle.std.proofs.Common.{◌≡◌, ℕ, ◌%◌, ◌≤◌, ◌==◌, ◌&&◌, Bool, true, false, if◌then◌else◌, IsTrue, List, [], ◌∷◌, ◌++◌, drop, Option, Some, None, Result, Err, length, inl, inr, refl, sym, ap, subst, ◌∙◌}
+use Rattle.std.proofs.Common.{◌≡◌, ℕ, ◌%◌, ◌≤◌, ◌==◌, ◌&&◌, Bool, true, false, if◌then◌else◌, IsTrue, List, [], ◌∷◌, ◌++◌, drop, Option, Some, None, Result, Ok, Err, length, inl, inr, refl, sym, ap, subst, ◌∙◌}
+use Rattle.std.specs.Prelude.{⊤, IfErr, OnOk}
 use Rattle.console_port.specs.World.{World, Refusal, StackLimit, OutOfMap, fault_of, console_at}
 use Rattle.console_port.specs.Bus.{refused_by}
 use Rattle.console_port.specs.Console.{IsFault}
@@ -59,6 +60,16 @@ is_asked word m stalled value c dests taken jump ports mem at computed goes dest
       its = its ∙ (λ i. unit_samples (jump i) ports.pc (taken_is i) m.unit);
     }
 
+-- the address that the word port is given
+pub mar_there : (word : ℕ) (m : Micro) (stalled : Bool) (value c dests : ℕ) →
+    let s = statement_of machines.Mic2 word in
+    HasComputed s m stalled value c → stalled ≡ false → dests ≡ (fields_of machines.Mic2 word).c → (loaded dests c m.word (registers_in m)).mar ≡ (settled s m).mar
+unfolding statement_of
+mar_there word m stalled value c dests computed goes dests_are =
+    let s = statement_of machines.Mic2 word in
+    let v : c ≡ shifted s.part.shift (result_of s.part m) = computed.shifter goes ∙ ap (λ (x : ℕ). shifted s.part.shift x) (computed.alu goes) in
+    λ i. (loaded (dests_are i) (v i) m.word (registers_in m)).mar
+
 -- what the fetch unit samples, by the bits of the word and what is on the C bus
 pub sampled_there : (s : Placed) (m : Micro) (c taken : ℕ) (named : Bool) → named ≡ jumps s.part → taken ≡ demand s → c ≡ shifted s.part.shift (result_of s.part m) →
     unit_samples named c taken m.unit ≡ unit_samples (jumps s.part) (settled s m).pc (demand s) m.unit
@@ -78,16 +89,16 @@ unfolding edge_refusal
 refused_there true n pc taken u = refl
 refused_there false n pc taken u = refl
 
--- what a cycle asks that accesses nothing
-abbrev pub asked_alone : Placed → Micro → Asked
-asked_alone s m = record { ports = ports_given (settled s m); mem = mems.None; at = unit_samples (jumps s.part) (settled s m).pc (demand s) m.unit }
+-- what a cycle asks whose statement accesses memory so
+abbrev pub asked_for : Placed → Micro → Mem → Asked
+asked_for s m mem = record { ports = ports_given (settled s m); mem = mem; at = unit_samples (jumps s.part) (settled s m).pc (demand s) m.unit }
 
-pub is_alone : (s : Placed) (m : Micro) → is_stalled s m ≡ false → mems.None ≡ s.part.mem → IsAsked s m (asked_alone s m)
-is_alone s m goes none =
+pub is_for : (s : Placed) (m : Micro) (mem : Mem) → is_stalled s m ≡ false → mem ≡ s.part.mem → IsAsked s m (asked_for s m mem)
+is_for s m mem goes memory =
     record {
       goes = goes;
       given = refl;
-      memory = none;
+      memory = memory;
       samples = λ n. refused_there (jumps s.part) n (settled s m).pc (demand s) m.unit;
       its = refl;
     }
@@ -100,6 +111,10 @@ same_refusal s m p h n =
     sym
     (ap (λ (r : Option Refusal). first_refusal (memory_refusal n p.mem p.ports.mar) r) (h.samples n)
     ∙ (λ i. first_refusal (memory_refusal n (h.memory i) (h.given i).mar) (unit_refusal (jumps s.part) n (h.given i).pc (demand s) m.unit)))
+
+-- where the write or the read is not refused, only the unit's fetch may be
+pub refusal_left : (n : ℕ) (p : Asked) → memory_refusal n p.mem p.ports.mar ≡ None → refusal_on n p ≡ sample_refusal n p.at
+refusal_left n p clear = ap (λ (r : Option Refusal). first_refusal r (sample_refusal n p.at)) clear
 
 abbrev step_on : ℕ → Placed → Micro → World → Outcome Micro
 step_on n s m w = outcome (refusal n s m) (clock n s m w) (world_after n s m w)
@@ -165,9 +180,22 @@ refused_no_fault None e is fault = absurd (cc)
 refused_no_fault (Some (StackLimit at)) e is fault = let same : e ≡ fault_of (StackLimit at) = cc in subst IsFault same fault
 refused_no_fault (Some (OutOfMap at)) e is fault = let same : e ≡ fault_of (OutOfMap at) = cc in subst IsFault same fault
 
-pub second_clear : (a b : Option Refusal) → first_refusal a b ≡ None → b ≡ None
+-- what is not refused is done
+pub unrefused : {P : Type 0} (r : Result ⊤ BusFault) (why : Option Refusal) → IfErr r (λ e. refused_by why ≡ Some e) → why ≡ None → OnOk r P → P
+unrefused (Ok done) why fails clear holds = holds
+unrefused (Err e) why fails clear holds = let none : None ≡ Some e = sym (ap refused_by clear) ∙ fails in absurd (cc)
+
+second_clear : (a b : Option Refusal) → first_refusal a b ≡ None → b ≡ None
 second_clear (Some why) b h = absurd (cc)
 second_clear None b h = h
+
+-- an access that is not refused leaves the unit's fetch clear
+pub samples_clear : (s : Placed) (m : Micro) (p : Asked) → IsAsked s m p → (n n' : ℕ) → n' ≡ n → refusal_on n p ≡ None →
+    sample_refusal n' (unit_samples (jumps s.part) (settled s m).pc (demand s) m.unit) ≡ None
+samples_clear s m p h n n' size clear =
+    let its : p.at ≡ unit_samples (jumps s.part) (settled s m).pc (demand s) m.unit =
+    h.its ∙ ap (λ (q : Ports). unit_samples (jumps s.part) q.pc (demand s) m.unit) h.given in
+    (λ i. sample_refusal (size i) (sym its i)) ∙ second_clear (memory_refusal n p.mem p.ports.mar) (sample_refusal n p.at) clear
 
 both : (a b : Bool) → (a && b) ≡ true → a ≡ true
 both true b h = refl

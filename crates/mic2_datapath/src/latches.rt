@@ -4,6 +4,7 @@ ghost use Rattle.std.specs.Prelude.{◌≡◌, ◌≢◌, ◌≤◌, ◌<◌, �
 ghost use Rattle.machine_words.specs.Arithmetic.{signed_byte, signed_pair};
 ghost use Rattle.micro_word.specs.declared.statement.PlacedNext.{PlacedNext};
 ghost use Rattle.micro_word.specs.Coding.{addr_bits, jam_bits, statement_of};
+ghost use Rattle.micro_word.specs.Words.{is_next};
 ghost use Rattle.micro_word.specs.Lines.{AreSlots};
 ghost use Rattle.micro_word.specs.Operation.{shifted};
 ghost use Rattle.machine_words.specs.declared.machine.Machine.TheVariants.{Mic2};
@@ -20,7 +21,7 @@ use crate::control::{Control, JMPC};
 use console_port::{Bus, BusFault};
 use datapath::{Places, Ports, arrived, next_address, port, settle, sign_extended};
 use mic_clock::Start;
-use mic2_fetch_unit::{FetchUnit, check_sample};
+use mic2_fetch_unit::FetchUnit;
 use micro_word::{Machine, bits, is_named, statement_law, word_law};
 
 /// The places of the registers that the memory's ports are given, and of the front of the queue in its four forms.
@@ -53,11 +54,7 @@ pub struct Latches {
 fn sign_extended_pair(pair: u16) -> u32
     ensures { (high low : ℕ) → low < 256 → pair ≡ 256 * high + low → result ≡ signed_pair high low }
 {
-    if pair < 0x8000 {
-        pair as u32
-    } else {
-        pair as u32 + 0xFFFF_0000
-    }
+    (pair.wrapping_add(0x8000) as u32).wrapping_sub(0x8000)
 }
 
 /// Puts the first byte of the queue on its two places.
@@ -99,18 +96,20 @@ fn load(destinations: u16, control: &Control, c: u32, arriving: Option<u32>, pla
     settle(destinations, &control.lines, c, arriving, places);
 }
 
-/// The fetch unit at a clock edge, where it samples this word address: it jumps to PC, or so many bytes are taken.
+/// The fetch unit at a clock edge: it jumps to PC, or so many bytes are taken. An Err leaves it.
 #[inline(always)]
-fn go(jumps: bool, pc: u32, taken: u8, at: Option<u32>, bus: &Bus, unit: &mut FetchUnit)
+#[tactic(auto, unfolding(mic2_fetch_unit::specs::FetchUnit::edge_refusal))]
+fn go(jumps: bool, pc: u32, taken: u8, bus: &Bus, unit: &mut FetchUnit) -> Result<(), BusFault>
     requires there { taken ≤ length unit.old.bytes }
-    requires at { at ≡ unit_samples jumps pc taken unit.old }
-    requires allowed { sample_refusal (length bus.now.words) at ≡ None }
-    ensures { unit.new ≡ unit_after jumps bus.now.words pc taken unit.old }
+    ensures ok { OnOk result (unit.new ≡ unit_after jumps bus.now.words pc taken unit.old) }
+    ensures allowed { OnOk result (sample_refusal (length bus.now.words) (unit_samples jumps pc taken unit.old) ≡ None) }
+    ensures err { IfErr result (λ e. refused_by (sample_refusal (length bus.now.words) (unit_samples jumps pc taken unit.old)) ≡ Some e) }
+    ensures stays { OnErr result (unit.new ≡ unit.old) }
 {
     if jumps {
-        unit.go_to(pc, bus);
+        unit.jump(pc, bus)
     } else {
-        unit.go_on_from(taken, at, bus);
+        unit.edge(taken, bus)
     }
 }
 
@@ -119,6 +118,26 @@ fn is_first(jam: u8, addr: u16) -> bool
     ensures { (n : PlacedNext) → jam ≡ jam_bits n → addr ≡ addr_bits n → result ≡ is_to_instruction n }
 {
     jam == JMPC && addr == 0
+}
+
+/// Where a cycle goes on.
+#[derive(Clone, Copy, Debug, PartialEq, Eq)]
+struct Onward {
+    mpc: u16,
+    begins: bool,
+}
+
+/// Where a word goes on that dispatches nothing.
+fn straight_on(jam: u8, addr: u16, value: u32) -> Onward
+    requires addr { addr < 512 }
+    requires jam { jam ≢ JMPC }
+    ensures mpc { (n : PlacedNext) (byte : ℕ) → IsTrue (is_next n) → addr ≡ addr_bits n → jam ≡ jam_bits n → result.mpc ≡ target n value byte }
+    ensures small { result.mpc < 512 }
+    ensures begins { (n : PlacedNext) → jam ≡ jam_bits n → addr ≡ addr_bits n → result.begins ≡ is_to_instruction n }
+{
+    let mpc = next_address(addr, jam, value, 0);
+    let begins = is_first(jam, addr);
+    Onward { mpc, begins }
 }
 
 impl Latches {
@@ -162,15 +181,29 @@ impl Latches {
     pub fn ports(&self, c: u16, value: u32, taken: u8) -> Ports
         ensures { result ≡ ports_given (loaded c value self.now.word (record (registers_at self.now.places) { pc = advanced taken (registers_at self.now.places).pc })) }
     {
-        let mar = port(c, MAR, value, &self.places);
-        let there = port(c, MDR, value, &self.places);
-        let mdr = arrived(self.word, there);
+        let mar = self.mar_port(c, value);
+        let mdr = self.mdr_port(c, value);
         let pc = if is_named(c, PC) {
             value
         } else {
             behind(self.places[PC as usize], taken)
         };
         Ports { mar, mdr, pc }
+    }
+
+    /// The address that the word port is given.
+    pub fn mar_port(&self, c: u16, value: u32) -> u32
+        ensures { result ≡ (loaded c value self.now.word (registers_at self.now.places)).mar }
+    {
+        port(c, MAR, value, &self.places)
+    }
+
+    /// The word that the word port is given.
+    pub fn mdr_port(&self, c: u16, value: u32) -> u32
+        ensures { result ≡ (loaded c value self.now.word (registers_at self.now.places)).mdr }
+    {
+        let there = port(c, MDR, value, &self.places);
+        arrived(self.word, there)
     }
 
     /// The word address that the fetch unit samples, if it samples one: where it jumps, that of the new PC.
@@ -201,22 +234,33 @@ impl Latches {
         Ok(())
     }
 
-    /// The byte that a dispatch takes, which is the last of those that its word takes. A word with other bits goes on without it.
-    fn dispatched(&self, jam: u8, takes: u8) -> u8
+    /// Where a word goes on. A dispatch takes the last of the bytes that its word takes.
+    #[inline(always)]
+    fn goes_on(&self, jam: u8, addr: u16, takes: u8, value: u32) -> Onward
+        requires addr { addr < 512 }
         requires there { takes ≤ length self.now.unit.bytes }
         requires some { jam ≡ JMPC → 1 ≤ takes }
-        ensures { (n : PlacedNext) (value operands : ℕ) → jam ≡ jam_bits n → takes ≡ operands + dispatch_bytes n →
-            target n value result ≡ target n value (byte_at self.now.unit operands) }
+        ensures mpc { (n : PlacedNext) (operands : ℕ) → IsTrue (is_next n) → addr ≡ addr_bits n → jam ≡ jam_bits n → takes ≡ operands + dispatch_bytes n →
+            result.mpc ≡ target n value (byte_at self.now.unit operands) }
+        ensures small { result.mpc < 512 }
+        ensures begins { (n : PlacedNext) → jam ≡ jam_bits n → addr ≡ addr_bits n → result.begins ≡ is_to_instruction n }
     {
+        // Most words go on to Addr.
+        let plain = jam == 0;
+        if plain {
+            return straight_on(jam, addr, value);
+        }
         let dispatches = jam == JMPC;
         if dispatches {
-            self.unit.byte_at(takes - 1)
-        } else {
-            0
+            let byte = self.unit.byte_at(takes - 1);
+            let mpc = next_address(addr, jam, value, byte);
+            let begins = is_first(jam, addr);
+            return Onward { mpc, begins };
         }
+        straight_on(jam, addr, value)
     }
 
-    /// The edge of a cycle that does not stall, behind its accesses: this word is under way, and the fetch unit samples this word address.
+    /// The edge of a cycle that does not stall, behind its accesses: this word is under way. An Err leaves all.
     #[inline(always)]
     pub fn advance(
         &mut self,
@@ -224,84 +268,15 @@ impl Latches {
         value: u32,
         c: u32,
         word: Option<u32>,
-        at: Option<u32>,
         bus: &Bus,
-    )
+    ) -> Result<(), BusFault>
         requires latches { AreLatches self.old }
         requires there { control.now.lines.takes ≤ length self.old.unit.bytes }
         requires value { value ≡ result_of (statement_of Mic2 control.now.word).part (micro_in self.old) }
         requires c { c ≡ shifted (statement_of Mic2 control.now.word).part.shift value }
-        requires at { let s = statement_of Mic2 control.now.word in
-            at ≡ unit_samples (jumps s.part) (settled s (micro_in self.old)).pc (demand s) self.old.unit }
-        requires allowed { sample_refusal (length bus.now.words) at ≡ None }
         ensures latches { AreLatches self.new }
-        ensures micro { let s = statement_of Mic2 control.now.word in let m = micro_in self.old in
+        ensures ok { OnOk result (let s = statement_of Mic2 control.now.word in let m = micro_in self.old in
             micro_in self.new ≡ moved (settled s m) (target s.next value (byte_at m.unit (operand_bytes s.part))) word
-            (unit_after (jumps s.part) bus.now.words (settled s m).pc (demand s) m.unit) (is_to_instruction s.next) }
-    {
-        word_law(Machine::Mic2);
-        statement_law(Machine::Mic2);
-        let destinations = bits::destinations(Machine::Mic2, control.word);
-        let jam = bits::jam(Machine::Mic2, control.word);
-        let dispatched = self.dispatched(jam, control.lines.takes);
-        go(
-            is_named(destinations, PC),
-            c,
-            control.lines.takes,
-            at,
-            bus,
-            &mut self.unit,
-        );
-        load(destinations, control, c, self.word, &mut self.places);
-        self.mpc = next_address(control.lines.addr, jam, value, dispatched);
-        self.word = word;
-        self.begins = is_first(jam, control.lines.addr);
-    }
-    /// The same in a cycle without an access, where the word address is tested here. An Err leaves all.
-    #[inline(always)]
-    fn advance_sampling(
-        &mut self,
-        control: &Control,
-        value: u32,
-        c: u32,
-        at: Option<u32>,
-        bus: &Bus,
-    ) -> Result<(), BusFault>
-        requires latches { AreLatches self.old }
-        requires there { control.now.lines.takes ≤ length self.old.unit.bytes }
-        requires value { value ≡ result_of (statement_of Mic2 control.now.word).part (micro_in self.old) }
-        requires c { c ≡ shifted (statement_of Mic2 control.now.word).part.shift value }
-        requires at { let s = statement_of Mic2 control.now.word in
-            at ≡ unit_samples (jumps s.part) (settled s (micro_in self.old)).pc (demand s) self.old.unit }
-        ensures latches { AreLatches self.new }
-        ensures ok { OnOk result (let s = statement_of Mic2 control.now.word in let m = micro_in self.old in
-            micro_in self.new ≡ moved (settled s m) (target s.next value (byte_at m.unit (operand_bytes s.part))) None
-            (unit_after (jumps s.part) bus.now.words (settled s m).pc (demand s) m.unit) (is_to_instruction s.next)) }
-        ensures allowed { OnOk result (sample_refusal (length bus.now.words) at ≡ None) }
-        ensures err { IfErr result (λ e. refused_by (sample_refusal (length bus.now.words) at) ≡ Some e) }
-        ensures state { OnErr result (micro_in self.new ≡ micro_in self.old) }
-    {
-        check_sample(at, bus)?;
-        self.advance(control, value, c, None, at, bus);
-        Ok(())
-    }
-
-    /// The edge of a cycle that does not stall and accesses nothing. An Err leaves all.
-    #[inline(always)]
-    pub fn advance_alone(
-        &mut self,
-        control: &Control,
-        value: u32,
-        c: u32,
-        bus: &Bus,
-    ) -> Result<(), BusFault>
-        requires latches { AreLatches self.old }
-        requires there { control.now.lines.takes ≤ length self.old.unit.bytes }
-        requires value { value ≡ result_of (statement_of Mic2 control.now.word).part (micro_in self.old) }
-        requires c { c ≡ shifted (statement_of Mic2 control.now.word).part.shift value }
-        ensures latches { AreLatches self.new }
-        ensures ok { OnOk result (let s = statement_of Mic2 control.now.word in let m = micro_in self.old in
-            micro_in self.new ≡ moved (settled s m) (target s.next value (byte_at m.unit (operand_bytes s.part))) None
             (unit_after (jumps s.part) bus.now.words (settled s m).pc (demand s) m.unit) (is_to_instruction s.next)) }
         ensures allowed { OnOk result (let s = statement_of Mic2 control.now.word in let m = micro_in self.old in
             sample_refusal (length bus.now.words) (unit_samples (jumps s.part) (settled s m).pc (demand s) m.unit) ≡ None) }
@@ -309,16 +284,17 @@ impl Latches {
             refused_by (sample_refusal (length bus.now.words) (unit_samples (jumps s.part) (settled s m).pc (demand s) m.unit)) ≡ Some e) }
         ensures state { OnErr result (micro_in self.new ≡ micro_in self.old) }
     {
-        let jumps = is_named(bits::destinations(Machine::Mic2, control.word), PC);
-        if jumps {
-            return self.advance_sampling(control, value, c, Some(c / 4), bus);
-        }
-        let full = self.unit.is_full(control.lines.takes);
-        if full {
-            self.advance(control, value, c, None, None, bus);
-            return Ok(());
-        }
-        let at = self.unit.will_fetch(control.lines.takes);
-        self.advance_sampling(control, value, c, at, bus)
+        word_law(Machine::Mic2);
+        statement_law(Machine::Mic2);
+        let destinations = bits::destinations(Machine::Mic2, control.word);
+        let jam = bits::jam(Machine::Mic2, control.word);
+        let next = self.goes_on(jam, control.lines.addr, control.lines.takes, value);
+        let jumps = is_named(destinations, PC);
+        go(jumps, c, control.lines.takes, bus, &mut self.unit)?;
+        load(destinations, control, c, self.word, &mut self.places);
+        self.mpc = next.mpc;
+        self.word = word;
+        self.begins = next.begins;
+        Ok(())
     }
 }

@@ -12,7 +12,7 @@ use crate::access::access;
 use crate::control::Control;
 use crate::latches::{Latches, PC};
 use console_port::{Bus, BusFault};
-use datapath::{Stage, console_law, operate, shift_by, side_law};
+use datapath::{Stage, console_law, operate, read_alone, shift_by, side_law};
 use mic_base::{Sink, Source};
 use mic_clock::{Clocked, Computed, Drive, Registers, Start, Tail};
 use mic1_alu::AluOut;
@@ -44,6 +44,13 @@ fn is_quiet(word: u64) -> bool
     ensures { result ≡ true → mem_of (fields_of Mic2Machine word).mem ≡ Mem.None }
 {
     bits::mem(Machine::Mic2, word) == 0
+}
+
+/// Whether a word reads.
+fn is_read(word: u64) -> bool
+    ensures { result ≡ true → mem_of (fields_of Mic2Machine word).mem ≡ Mem.Read }
+{
+    bits::mem(Machine::Mic2, word) == 1
 }
 
 impl Mic2 {
@@ -184,15 +191,28 @@ impl Clocked for Mic2 {
         }
         // Loaded before an access, behind which they would be loaded again.
         let (word, value, c) = (self.control.word, self.value, self.c);
-        // Most words access nothing.
+        // Most words access nothing, and most others read what is in memory.
         if is_quiet(word) {
-            return match self.latches.advance_alone(&self.control, value, c, bus) {
+            return match self.latches.advance(&self.control, value, c, None, bus) {
                 Ok(()) => Ok(()),
                 Err(fault) => Err(fault),
             };
         }
-        let mem = Mem::of_bits(bits::mem(Machine::Mic2, word));
         let destinations = bits::destinations(Machine::Mic2, word);
+        if is_read(word) {
+            let mar = self.latches.mar_port(destinations, c);
+            if bus.has(mar) {
+                let sampled = read_alone(mar, bus);
+                return match self
+                    .latches
+                    .advance(&self.control, value, c, sampled.word, bus)
+                {
+                    Ok(()) => Ok(()),
+                    Err(fault) => Err(fault),
+                };
+            }
+        }
+        let mem = Mem::of_bits(bits::mem(Machine::Mic2, word));
         let ports = self
             .latches
             .ports(destinations, c, self.control.lines.takes);
@@ -203,7 +223,8 @@ impl Clocked for Mic2 {
         );
         match access(mem, at, &ports, bus, source, sink) {
             Ok(word) => {
-                self.latches.advance(&self.control, value, c, word, at, bus);
+                // What the fetch unit samples was tested before the access.
+                let _ = self.latches.advance(&self.control, value, c, word, bus);
                 Ok(())
             }
             Err(fault) => Err(fault),

@@ -4,7 +4,6 @@ ghost use Rattle.std.specs.Prelude.{◌≡◌, ◌+◌, ◌*◌, ◌≤◌, ◌<
 ghost use Rattle.console_port.specs.Bus.{refused_by};
 ghost use Rattle.mic2_fetch_unit.specs.FetchUnit.{at_start, sampled_at, edge as edge_of, jump as jump_of, edge_refusal, jump_refusal, sample_refusal};
 
-use crate::next::behind;
 use crate::queue::Queue;
 use crate::sampling::{check_jump, check_sample, sampled};
 use arrayvec::ArrayVec;
@@ -100,7 +99,7 @@ impl FetchUnit {
 
     /// Whether more than two bytes stay behind an edge that takes so many. It samples nothing then.
     #[inline(always)]
-    pub fn is_full(&self, taken: u8) -> bool
+    fn is_full(&self, taken: u8) -> bool
         requires { taken ≤ length self.now.bytes }
         ensures more { result ≡ true → taken + 2 < length self.now.bytes }
         ensures samples { result ≡ true → sampled_at taken self.now ≡ None }
@@ -112,7 +111,7 @@ impl FetchUnit {
 
     /// The edge that takes so many bytes and leaves more than two.
     #[inline(always)]
-    pub fn take(&mut self, taken: u8)
+    fn take(&mut self, taken: u8)
         requires { taken + 2 < length self.old.bytes }
         ensures { (words : List ℕ) → self.new ≡ edge_of words taken self.old }
     {
@@ -126,65 +125,42 @@ impl FetchUnit {
         requires { taken ≤ length self.now.bytes }
         ensures { result ≡ sampled_at taken self.now }
     {
-        let skip = self.skip;
-        let have = self.have();
+        let have = self.queue.count();
+        let stay = have - taken;
         // Most edges leave more than two bytes, and nothing is pending before them.
-        let full = have - taken > 2;
+        let full = stay > 2;
         if full {
             return None;
         }
-        let next = behind(have, skip, taken);
         match self.pending {
-            Some(_) => at_if(next.samples, self.imar.wrapping_add(1)),
-            None => at_if(next.samples, self.imar),
+            Some(_) => at_if(stay + 4 - self.skip <= 2, self.imar.wrapping_add(1)),
+            None => Some(self.imar),
         }
     }
 
-    /// Tests the address that an edge samples.
-    #[tactic(auto, unfolding(crate::specs::FetchUnit::edge_refusal))]
-    pub fn check_edge(&self, taken: u8, bus: &Bus) -> Result<(), BusFault>
-        requires { taken ≤ length self.now.bytes }
-        ensures ok { OnOk result (edge_refusal (length bus.now.words) taken self.now ≡ None) }
-        ensures err { IfErr result (λ e. refused_by (edge_refusal (length bus.now.words) taken self.now) ≡ Some e) }
-    {
-        check_sample(self.will_fetch(taken), bus)
-    }
-
-    /// The edge where it is not refused: so many bytes leave the queue, a pending word enters it, and where few bytes are there the next word is sampled.
-    pub fn go_on(&mut self, taken: u8, bus: &Bus)
-        requires within { taken ≤ length self.old.bytes }
-        requires allowed { edge_refusal (length bus.now.words) taken self.old ≡ None }
-        ensures { self.new ≡ edge_of bus.now.words taken self.old }
-    {
-        let at = self.will_fetch(taken);
-        self.go_on_from(taken, at, bus);
-    }
-
-    /// The same, where the address that is sampled is known.
+    /// The edge where it is not refused: so many bytes leave the queue, a pending word enters it, and where few bytes are there the word at this address is sampled.
     #[inline(always)]
-    pub fn go_on_from(&mut self, taken: u8, at: Option<u32>, bus: &Bus)
+    fn go_on(&mut self, taken: u8, at: Option<u32>, bus: &Bus)
         requires within { taken ≤ length self.old.bytes }
         requires at { at ≡ sampled_at taken self.old }
         requires allowed { sample_refusal (length bus.now.words) at ≡ None }
         ensures { self.new ≡ edge_of bus.now.words taken self.old }
     {
-        let have = self.have();
-        let stay = have - taken;
+        let stay = self.have() - taken;
         let full = stay > 2;
         if full {
             self.take(taken);
             return;
         }
         let pending = sampled(at, bus);
-        let next = behind(have, self.skip, taken);
         match self.pending {
             None => {
-                self.queue.leave(taken, next.count);
+                self.queue.leave(taken, stay);
                 self.pending = pending;
             }
             Some(word) => {
                 self.queue.leave(taken, stay);
-                self.queue.enter(word, self.skip, next.count);
+                self.queue.enter(word, self.skip, stay + 4 - self.skip);
                 self.imar = self.imar.wrapping_add(1);
                 self.skip = 0;
                 self.pending = pending;
@@ -194,7 +170,7 @@ impl FetchUnit {
 
     /// The jump where it is not refused: the unit goes on at this byte address.
     #[tactic(auto, unfolding(crate::specs::FetchUnit::jump, console_port::specs::World::word_refusal))]
-    pub fn go_to(&mut self, pc: u32, bus: &Bus)
+    fn go_to(&mut self, pc: u32, bus: &Bus)
         requires { jump_refusal (length bus.now.words) pc ≡ None }
         ensures { self.new ≡ jump_of bus.now.words pc }
     {
@@ -204,7 +180,25 @@ impl FetchUnit {
         self.pending = Some(bus.word(pc / 4));
     }
 
+    /// The edge that samples this word address, if it samples one. An Err is `OutOfMap`.
+    #[inline(always)]
+    #[tactic(auto, unfolding(crate::specs::FetchUnit::edge_refusal))]
+    fn edge_at(&mut self, taken: u8, at: Option<u32>, bus: &Bus) -> Result<(), BusFault>
+        requires within { taken ≤ length self.old.bytes }
+        requires at { at ≡ sampled_at taken self.old }
+        ensures ok { OnOk result (self.new ≡ edge_of bus.now.words taken self.old) }
+        ensures allowed { OnOk result (edge_refusal (length bus.now.words) taken self.old ≡ None) }
+        ensures err { IfErr result (λ e. refused_by (edge_refusal (length bus.now.words) taken self.old) ≡ Some e) }
+        ensures stays { OnErr result (self.new ≡ self.old) }
+    {
+        check_sample(at, bus)?;
+        self.go_on(taken, at, bus);
+        Ok(())
+    }
+
     /// The edge that takes so many bytes. An Err is `OutOfMap`.
+    #[inline(always)]
+    #[tactic(auto, unfolding(crate::specs::FetchUnit::edge_refusal))]
     pub fn edge(&mut self, taken: u8, bus: &Bus) -> Result<(), BusFault>
         requires { taken ≤ length self.old.bytes }
         ensures ok { OnOk result (self.new ≡ edge_of bus.now.words taken self.old) }
@@ -212,12 +206,21 @@ impl FetchUnit {
         ensures err { IfErr result (λ e. refused_by (edge_refusal (length bus.now.words) taken self.old) ≡ Some e) }
         ensures stays { OnErr result (self.new ≡ self.old) }
     {
-        self.check_edge(taken, bus)?;
-        self.go_on(taken, bus);
-        Ok(())
+        // Most edges leave more than two bytes, and nothing is pending before them.
+        let full = self.is_full(taken);
+        if full {
+            self.take(taken);
+            return Ok(());
+        }
+        let at = self.will_fetch(taken);
+        match at {
+            None => self.edge_at(taken, None, bus),
+            Some(at) => self.edge_at(taken, Some(at), bus),
+        }
     }
 
     /// The jump to a byte address. An Err is `OutOfMap`.
+    #[inline(always)]
     pub fn jump(&mut self, pc: u32, bus: &Bus) -> Result<(), BusFault>
         ensures ok { OnOk result (self.new ≡ jump_of bus.now.words pc) }
         ensures allowed { OnOk result (jump_refusal (length bus.now.words) pc ≡ None) }

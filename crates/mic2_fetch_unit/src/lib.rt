@@ -3,7 +3,6 @@
 
 mod fetch_unit;
 mod laws;
-mod next;
 mod queue;
 mod sampling;
 #[cfg(test)]

@@ -33,7 +33,7 @@ fn a_jump_empties_the_queue(rt: HostRuntime) -> Result<(), Fail> {
     Ok(())
 }
 
-/// The number of bytes behind an edge that takes so many, by the rule that the table follows.
+/// The number of bytes behind an edge that takes so many.
 fn count_behind(have: u8, skip: u8, taken: u8) -> u8 {
     let stay = have.saturating_sub(taken);
     if have <= 2 {

@@ -11,12 +11,12 @@ use Rattle.ijvm_run.specs.Frames.{start_of}
 use Rattle.mic2_interpreter.specs.Stands.{Stands}
 use Rattle.mic2_interpreter.specs.Stalls.{BootsWithStall}
 use Rattle.mic2_interpreter.proofs.Shipped.{HasStatements}
-use Rattle.mic2_interpreter.proofs.Accesses.{IsMap}
 use Rattle.mic2_interpreter.proofs.Units.{unit_at}
 use Rattle.mic2_interpreter.proofs.Queue.{Jumped, Goes, Waits}
 use Rattle.mic2_interpreter.proofs.Guided.{Short, moment_of, clocked, Arrives, IsSmooth, pass-clocked}
 use Rattle.mic2_interpreter.proofs.Boundaries.{ReachesBoundary, at_boundary, stands_at, map_of, Place, place_at, place_on}
 use Rattle.ijvm_simulation.specs.Stands.{Origin, IsMemory}
+use Rattle.ijvm_simulation.specs.Stack.{IsMapEnd}
 use Rattle.ijvm_simulation.specs.Passes.{Moment, pass}
 use Rattle.ijvm_simulation.specs.Law.{Boots, reset_moment}
 use Rattle.ijvm_simulation.specs.Verified.{Loads}
@@ -45,7 +45,7 @@ module _ (program : List ℕ) (has : HasStatements program) (o : Origin) (v : Ve
   -- one stall, for the first word of the text
   pub boot : ReachesBoundary program o 1 1 start (start_of v.main_locals input)
   boot =
-      let map : IsMap (length o.words) = map_of v o loads in
+      let map : IsMapEnd (length o.words) = map_of v o loads in
       let p0 : Place o.words 0 0 = place_at o.words 0 0 refl (omega arith) in
       let p1 : Place o.words (plus 0 1) 1 = place_on o.words 0 0 1 1 p0 (omega arith) (omega arith) in
       let memory : IsMemory o.words o.words = record { kept = λ a l. refl; long = refl } in

@@ -22,8 +22,9 @@ use Rattle.mic2_interpreter.proofs.Units.{unit_at}
 use Rattle.mic2_interpreter.proofs.Queue.{Held, AtLeast, IsHeld, Bounds, is_enough, Beat, Goes}
 use Rattle.mic2_interpreter.proofs.Places.{unit_there, bounds_there, stands_there, many_there}
 use Rattle.mic2_interpreter.proofs.Guided.{Short, standing, moment_of, settled_by, text_result, clocked, IsSmooth, Arrives, pass-clocked, outcome_is, step-refused}
-use Rattle.mic2_interpreter.proofs.Accesses.{IsMap, wrap_small, before_is}
+use Rattle.mic2_interpreter.proofs.Words.{before_is, wrap_small}
 use Rattle.ijvm_simulation.specs.Stands.{Origin, RegistersStand}
+use Rattle.ijvm_simulation.specs.Stack.{IsMapEnd}
 use Rattle.ijvm_simulation.specs.Passes.{Moment, is_inside, pass}
 use Rattle.ijvm_simulation.specs.Law.{Shows, HasWord, Overruns}
 
@@ -90,7 +91,7 @@ stands_at o s t have there held =
       };
     }
 
-pub comes : (program : List ℕ) (has : HasStatements program) (o : Origin) (map : IsMap (length o.words)) (b : Beat) (bs : List Beat) (gs : List ℕ) (m : Micro) (w : World) (k code waits : ℕ) (s s' : State) →
+pub comes : (program : List ℕ) (has : HasStatements program) (o : Origin) (map : IsMapEnd (length o.words)) (b : Beat) (bs : List Beat) (gs : List ℕ) (m : Micro) (w : World) (k code waits : ℕ) (s s' : State) →
     Stands o s m w → byte_in o.words s.at ≡ code → IsSmooth o.words (b ∷ bs) gs (at_opcode code m w k) → IsThere o s' (clocked o.words (b ∷ bs) gs (at_opcode code m w k)) →
     (clocked o.words (b ∷ bs) gs (at_opcode code m w k)).stalls ≡ k + waits →
     ReachesBoundary program o (length bs) waits (record { state = m; world = w; stalls = k }) s'
@@ -173,7 +174,7 @@ shows program o s m w h =
     }
 
 -- a verified image's memory ends where a map has it
-pub map_of : (v : VerifiedView) (o : Origin) → Loads v o → IsMap (length o.words)
+pub map_of : (v : VerifiedView) (o : Origin) → Loads v o → IsMapEnd (length o.words)
 map_of v o loads = elim loads.accepted.map_is [
   | inl e ↦ let long : length o.words ≡ v.map.stack_end = loads.long in record { low = omega (arith, e); high = omega (arith, e); near = omega (arith, e) }
   | inr e ↦ let long : length o.words ≡ v.map.stack_end = loads.long in record { low = omega (arith, e); high = omega (arith, e); near = omega (arith, e) }
@@ -211,7 +212,7 @@ IsFull o t x =
     × (memory_refusal (length o.words) s.part.mem (settled_by s (text_result o.words s.part t.state) t.state).mar ≡ Some (StackLimit x))
 
 -- some steps of a symbolic run, and then a write that is refused
-pub overruns : (program : List ℕ) (has : HasStatements program) (o : Origin) (map : IsMap (length o.words)) (s left : State) (q : Moment Micro) (b : Beat) (bs : List Beat) (gs : List ℕ) (code x : ℕ) →
+pub overruns : (program : List ℕ) (has : HasStatements program) (o : Origin) (map : IsMapEnd (length o.words)) (s left : State) (q : Moment Micro) (b : Beat) (bs : List Beat) (gs : List ℕ) (code x : ℕ) →
     Stands o s q.state q.world → byte_in o.words s.at ≡ code → (code == 255) ≡ false → (code == 254) ≡ false → length bs < 1023 →
     IsSmooth o.words (b ∷ bs) gs (at_opcode code q.state q.world q.stalls) →
     is_inside mic2_meaning (clocked o.words (b ∷ bs) gs (at_opcode code q.state q.world q.stalls)).state ≡ true →

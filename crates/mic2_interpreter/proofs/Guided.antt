@@ -1,6 +1,6 @@
 -- Symbolic runs of Mic-2 over the shipped microprogram: a run along a plan of stalls and guessed next addresses, and what makes it the machine's.
-use Rattle.std.proofs.Common.{ap, ap₂, ◌∙◌, ◌≡◌, ℕ, zero, suc, ◌+◌, ◌*◌, ◌<◌, ◌≤◌, Option, Some, None, Bool, true, false, List, [], ◌∷◌, length, arith, refl, sym, subst, add-zero}
-use Rattle.std.specs.Prelude.{nat_lt, slice_index, if◌then◌else◌, ◌||◌}
+use Rattle.std.proofs.Common.{◌≢◌, get_or-set_other, length-set, ap, ap₂, ◌∙◌, ◌≡◌, ℕ, zero, suc, ◌+◌, ◌*◌, ◌<◌, ◌≤◌, Option, Some, None, Bool, true, false, List, [], ◌∷◌, length, arith, refl, sym, subst, add-zero}
+use Rattle.std.specs.Prelude.{slice_set, nat_lt, slice_index, if◌then◌else◌, ◌||◌}
 use Rattle.std.proofs.lemmas.Bool.Decides.{nat_tests}
 use Rattle.machine_words.specs.Arithmetic.{signed_byte, signed_pair}
 use Rattle.console_port.specs.World.{World, Refusal, byte_in}
@@ -26,27 +26,11 @@ use Rattle.mic_clock.specs.Run.{number_of}
 use Rattle.mic2_datapath.specs.Mic2.{mic2_meaning, step_of_word, driven, driven_by, stalled_drive}
 use Rattle.ijvm_simulation.specs.Stands.{IsMemory}
 use Rattle.ijvm_simulation.specs.Passes.{Moment, is_inside, outcome_at, stalls_at, last, onward, pass}
-use Rattle.mic2_interpreter.proofs.Accesses.{wrap_small}
-use Rattle.mic2_interpreter.proofs.Keeps.{memory_set}
+use Rattle.ijvm_simulation.specs.Guesses.{address_behind, left_of}
 use Rattle.mic2_interpreter.proofs.Shipped.{shipped, HasStatements}
 use Rattle.mic2_interpreter.proofs.Units.{unit_at, have_after, byte_there, length-bytes, Fits, edge_stands, edge_allowed, jump_stands, jump_allowed}
 use Rattle.mic2_interpreter.proofs.Queue.{Held, Jumped, IsHeld, is_enough, held_after, held_fits, held_enough, held_edge, Beat, Goes, Waits, WaitsLate, WaitsOn, IsWait, held_waited, wait_short, wait_held}
-
--- the next address: a goto's own, and else the first guess
-abbrev pub address_behind : PlacedNext → List ℕ → ℕ
-address_behind (Goto to) gs = to
-address_behind (Dispatch high) [] = 0
-address_behind (Dispatch high) (g ∷ gs) = g
-address_behind (Branch test low) [] = 0
-address_behind (Branch test low) (g ∷ gs) = g
-
--- the guesses that are left
-abbrev pub left_of : PlacedNext → List ℕ → List ℕ
-left_of (Goto to) gs = gs
-left_of (Dispatch high) [] = []
-left_of (Dispatch high) (g ∷ gs) = gs
-left_of (Branch test low) [] = []
-left_of (Branch test low) (g ∷ gs) = gs
+use Rattle.mic2_interpreter.proofs.Words.{wrap_small}
 
 -- A symbolic state: what the machine has but for its unit, and what is known of the queue there.
 pub record Short : Type 0 where
@@ -260,8 +244,12 @@ module _ (origin : List ℕ) where
   abbrev there_of : Placed → List ℕ → Short → ℕ → Moment Micro
   there_of s gs t have = moment_of origin (guided s gs t) (have_behind (jumps s.part) t.state.pc (demand s) have)
 
+  memory_set : (words : List ℕ) (a v : ℕ) → 0x8000 ≤ a → IsMemory origin words → IsMemory origin (slice_set words a v)
+  memory_set words a v le h =
+      record { kept = λ b l. let ne : b ≢ a = omega arith in get_or-set_other words a b v 0 ne ∙ h.kept b l; long = length-set words a v ∙ h.long }
+
   written-memory : (mem : Mem) (p : Ports) (w : World) → IsAbove mem p.mar → IsMemory origin w.words → IsMemory origin (written top mem p w).words
-  written-memory Write p w above h = memory_set origin w.words p.mar p.mdr above h
+  written-memory Write p w above h = memory_set w.words p.mar p.mdr above h
   written-memory Read p w above h = h
   written-memory Idle p w above h = h
 

@@ -1,7 +1,5 @@
 pub mod Shipped
-pub mod Accesses
-pub mod Keeps
-pub mod Facts
+pub mod Words
 pub mod Units
 pub mod Queue
 pub mod Guided
@@ -15,5 +13,4 @@ pub mod Jumps
 pub mod Locals
 pub mod Calls
 pub mod Output
-pub mod Groups
 pub mod Store

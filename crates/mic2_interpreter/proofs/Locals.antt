@@ -1,52 +1,53 @@
 -- Instructions that name a local or a constant.
-use Rattle.std.proofs.Common.{◌≡◌, ℕ, ◌+◌, ◌-◌, ◌*◌, ◌<◌, ◌≤◌, Some, List, [], ◌∷◌, ◌++◌, length, true, refl, arith, sym, ◌∙◌, ap, ap₂, length-set, inl, add-zero}
+use Rattle.std.proofs.Common.{◌≡◌, ℕ, ◌+◌, ◌*◌, ◌<◌, ◌≤◌, Some, List, [], ◌∷◌, ◌++◌, length, true, refl, arith, sym, ◌∙◌, ap, ap₂, inl, add-zero}
 use Rattle.std.specs.Prelude.{slice_index, slice_set, slice_get}
-use Rattle.std.proofs.lemmas.Option.{get_or_from_slice_get, slice_get_within}
+use Rattle.std.proofs.lemmas.Option.{slice_get_within}
 use Rattle.machine_words.specs.declared.machine.Machine.TheVariants.{Mic2}
-use Rattle.machine_words.specs.Arithmetic.{plus, next, before, signed_byte, signed_pair}
+use Rattle.machine_words.specs.Arithmetic.{plus, next, signed_byte, signed_pair}
 use Rattle.console_port.specs.World.{World, StackLimit, read_value, byte_in, write_refusal}
 use Rattle.ijvm_instr.specs.declared.instr.Instr.{Instr}
 use Rattle.ijvm_instr.specs.declared.instr.Instr.TheVariants.{LdcW, Iload, Istore, Iinc, WideIload, WideIstore, WideIinc}
-use Rattle.ijvm_run.specs.Frames.{Frame, State, frames_of, base, operands_at}
+use Rattle.ijvm_run.specs.Frames.{State, frames_of, base}
 use Rattle.ijvm_run.specs.Cost.{cost}
 use Rattle.ijvm_run.specs.Step.{with_local, is_own}
 use Rattle.ijvm_paths.specs.Accepted.{VerifiedView}
 use Rattle.mic2_datapath.specs.Micro.{Micro}
 use Rattle.mic2_datapath.specs.Mic2.{mic2_meaning}
-use Rattle.ijvm_simulation.specs.Stands.{Origin, FramesStand, IsMemory}
-use Rattle.ijvm_simulation.specs.Writes.{KeepFrames}
+use Rattle.ijvm_simulation.specs.Stands.{Origin}
+use Rattle.ijvm_simulation.specs.Stack.{IsMapEnd, IsWordAccess, IsConstant, Top, AtBoundary, StackLaw}
 use Rattle.ijvm_simulation.specs.Passes.{Moment}
 use Rattle.ijvm_simulation.specs.Outcomes.{Went, Overran, push}
 use Rattle.ijvm_simulation.specs.Verified.{Loads, Fine, IsNext}
 use Rattle.ijvm_simulation.specs.Law.{Overruns}
+use Rattle.ijvm_simulation.specs.Groups.{IsOfLocals}
 use Rattle.mic2_interpreter.specs.Stands.{Stands}
 use Rattle.mic2_interpreter.specs.Stalls.{MovesWithStalls, TakesWithStalls, stalls_of}
-use Rattle.mic2_interpreter.specs.Groups.{IsOfLocals}
 use Rattle.mic2_interpreter.proofs.Shipped.{HasStatements}
-use Rattle.mic2_interpreter.proofs.Accesses.{IsMap, Access, access, next_is, write_limit, plus_is}
-use Rattle.mic2_interpreter.proofs.Keeps.{memory_set, frames_at, memory_at}
-use Rattle.mic2_interpreter.proofs.Facts.{with_operands, place, base_above, room, Top, top, local_at, pushes, next_top_is}
 use Rattle.mic2_interpreter.proofs.Queue.{Goes}
 use Rattle.mic2_interpreter.proofs.Boundaries.{ReachesBoundary, comes, steps, Counts, counts, pair_at, signed_pair_at, at_boundary, map_of, moves, overruns}
+use Rattle.mic2_interpreter.proofs.Words.{plus_is}
 
-module _ (program : List ℕ) (has : HasStatements program) (o : Origin) (map : IsMap (length o.words)) (keep : KeepFrames) (s : State) (m : Micro) (w : World) (k : ℕ) (h : Stands o s m w) (inside : s.at < 0x10000) where
+module _ (program : List ℕ) (has : HasStatements program) (o : Origin) (map : IsMapEnd (length o.words)) (law : StackLaw) (s : State) (m : Micro) (w : World) (k : ℕ) (h : Stands o s m w) (inside : s.at < 0x10000) where
+  abbrev here : AtBoundary o s m.sp m.lv m.cpp m.tos w
+  here = law.boundary o s m.sp m.lv m.cpp m.tos w map h.holds
+
   iload : (i v : ℕ) → byte_in o.words s.at ≡ 0x15 → i ≡ byte_in o.words (s.at + 1) → slice_get s.running.locals i ≡ Some (Some v) → base (frames_of s) < length o.words →
       ReachesBoundary program o 2 0 (record { state = m; world = w; stalls = k }) (push s v (s.at + 2))
   iload i v code index local space =
       let c : Counts o s m = counts o s m w h inside in
-      let r : Access (length o.words) w (next m.sp) (base (frames_of s)) = room o map s m.sp m.lv m.cpp m.tos w h.holds space in
-      let bottom : 0x8000 ≤ base s.callers = base_above s.callers in
+      let r : IsWordAccess (length o.words) w (next m.sp) (base (frames_of s)) = here.room space in
+      let bottom : 0x8000 ≤ base s.callers = law.above s.callers in
       let high : 0x8000 ≤ next m.sp = omega (arith, r.is) in
       let from : ℕ = plus m.lv (byte_in o.words m.pc) in
       let l : i < length s.running.locals = slice_get_within s.running.locals i (Some v) local in
-      let a : Access (length o.words) w from (base s.callers + i) =
-      local_at o map s m.sp m.lv m.cpp m.tos w h.holds from i l (plus_is h.holds.lv_is (c.p0.byte ∙ sym index) refl (omega (arith, h.holds.fits, map.high))) in
+      let a : IsWordAccess (length o.words) w from (base s.callers + i) =
+      here.local from i l (plus_is h.holds.lv_is (c.p0.byte ∙ sym index) refl (omega (arith, h.holds.fits, map.high))) in
       let is : read_value (length o.words) w.words w.untaken from ≡ v = a.value ∙ h.holds.frames.0.locals i v local in
       let same : slice_set w.words (next m.sp) (read_value (length o.words) w.words w.untaken from) ≡ slice_set w.words (base (frames_of s)) v = ap₂ (slice_set w.words) r.is is in
       comes program has o map Goes (steps 2) (byte_in o.words (s.at + 2) ∷ []) m w k 0x15 0 s _ h code (assumption)
       (at_boundary o _ _ _
-      (pushes o map s m.sp m.lv m.cpp m.tos w h.holds keep s.running.operands _ (s.at + 2) _ _ _ _ _ s.untaken h.holds.frames space
-      refl refl r.is is same (a.untaken ∙ h.holds.untaken) (r.given _))
+      (here.pushes s.running.operands _ (s.at + 2) _ _ _ _ _ s.untaken h.holds.frames space
+      refl refl r.is is same (a.untaken ∙ h.holds.untaken) (r.given _ _))
       (omega (arith, c.p11.is)) (omega arith) refl refl refl refl refl)
       (sym (add-zero k))
 
@@ -54,20 +55,20 @@ module _ (program : List ℕ) (has : HasStatements program) (o : Origin) (map : 
       ReachesBoundary program o 3 0 (record { state = m; world = w; stalls = k }) (push s v (s.at + 4))
   wide_iload i v code code2 index local space =
       let c : Counts o s m = counts o s m w h inside in
-      let r : Access (length o.words) w (next m.sp) (base (frames_of s)) = room o map s m.sp m.lv m.cpp m.tos w h.holds space in
-      let bottom : 0x8000 ≤ base s.callers = base_above s.callers in
+      let r : IsWordAccess (length o.words) w (next m.sp) (base (frames_of s)) = here.room space in
+      let bottom : 0x8000 ≤ base s.callers = law.above s.callers in
       let high : 0x8000 ≤ next m.sp = omega (arith, r.is) in
       let op2 : byte_in o.words m.pc + 256 ≡ 0x115 = omega (arith, c.p0.byte ∙ code2) in
       let from : ℕ = plus m.lv (256 * byte_in o.words (plus m.pc 1) + byte_in o.words (plus m.pc 1 + 1)) in
       let l : i < length s.running.locals = slice_get_within s.running.locals i (Some v) local in
-      let a : Access (length o.words) w from (base s.callers + i) =
-      local_at o map s m.sp m.lv m.cpp m.tos w h.holds from i l (plus_is h.holds.lv_is (pair_at o.words (plus m.pc 1) (s.at + 2) (s.at + 3) c.p1 (omega arith) ∙ sym index) refl (omega (arith, h.holds.fits, map.high))) in
+      let a : IsWordAccess (length o.words) w from (base s.callers + i) =
+      here.local from i l (plus_is h.holds.lv_is (pair_at o.words (plus m.pc 1) (s.at + 2) (s.at + 3) c.p1 (omega arith) ∙ sym index) refl (omega (arith, h.holds.fits, map.high))) in
       let is : read_value (length o.words) w.words w.untaken from ≡ v = a.value ∙ h.holds.frames.0.locals i v local in
       let same : slice_set w.words (next m.sp) (read_value (length o.words) w.words w.untaken from) ≡ slice_set w.words (base (frames_of s)) v = ap₂ (slice_set w.words) r.is is in
       comes program has o map Goes (steps 3) (0x115 ∷ byte_in o.words (s.at + 4) ∷ []) m w k 0xC4 0 s _ h code (assumption)
       (at_boundary o _ _ _
-      (pushes o map s m.sp m.lv m.cpp m.tos w h.holds keep s.running.operands _ (s.at + 4) _ _ _ _ _ s.untaken h.holds.frames space
-      refl refl r.is is same (a.untaken ∙ h.holds.untaken) (r.given _))
+      (here.pushes s.running.operands _ (s.at + 4) _ _ _ _ _ s.untaken h.holds.frames space
+      refl refl r.is is same (a.untaken ∙ h.holds.untaken) (r.given _ _))
       (omega (arith, c.p121.is)) (omega arith) refl refl refl refl refl)
       (sym (add-zero k))
 
@@ -75,18 +76,18 @@ module _ (program : List ℕ) (has : HasStatements program) (o : Origin) (map : 
       ReachesBoundary program o 2 0 (record { state = m; world = w; stalls = k }) (push s v (s.at + 3))
   ldc_w i v code index small constant space =
       let c : Counts o s m = counts o s m w h inside in
-      let r : Access (length o.words) w (next m.sp) (base (frames_of s)) = room o map s m.sp m.lv m.cpp m.tos w h.holds space in
-      let bottom : 0x8000 ≤ base s.callers = base_above s.callers in
+      let r : IsWordAccess (length o.words) w (next m.sp) (base (frames_of s)) = here.room space in
+      let bottom : 0x8000 ≤ base s.callers = law.above s.callers in
       let high : 0x8000 ≤ next m.sp = omega (arith, r.is) in
       let from : ℕ = plus m.cpp (256 * byte_in o.words m.pc + byte_in o.words (m.pc + 1)) in
-      let a : Access (length o.words) w from (0x4000 + i) =
-      access (length o.words) w from (0x4000 + i) (plus_is h.holds.cpp_is (pair_at o.words m.pc (s.at + 1) (s.at + 2) c.p0 (omega arith) ∙ sym index) refl (omega (arith, small))) (omega (arith, map.low)) in
+      let a : IsWordAccess (length o.words) w from (0x4000 + i) =
+      law.access (length o.words) w from (0x4000 + i) (plus_is h.holds.cpp_is (pair_at o.words m.pc (s.at + 1) (s.at + 2) c.p0 (omega arith) ∙ sym index) refl (omega (arith, small))) (omega (arith, map.low)) in
       let is : read_value (length o.words) w.words w.untaken from ≡ v = a.value ∙ (h.holds.memory.kept (0x4000 + i) (omega arith) ∙ constant) in
       let same : slice_set w.words (next m.sp) (read_value (length o.words) w.words w.untaken from) ≡ slice_set w.words (base (frames_of s)) v = ap₂ (slice_set w.words) r.is is in
       comes program has o map Goes (steps 2) (byte_in o.words (s.at + 3) ∷ []) m w k 0x13 0 s _ h code (assumption)
       (at_boundary o _ _ _
-      (pushes o map s m.sp m.lv m.cpp m.tos w h.holds keep s.running.operands _ (s.at + 3) _ _ _ _ _ s.untaken h.holds.frames space
-      refl refl r.is is same (a.untaken ∙ h.holds.untaken) (r.given _))
+      (here.pushes s.running.operands _ (s.at + 3) _ _ _ _ _ s.untaken h.holds.frames space
+      refl refl r.is is same (a.untaken ∙ h.holds.untaken) (r.given _ _))
       (omega (arith, c.p21.is)) (omega arith) refl refl refl refl refl)
       (sym (add-zero k))
 
@@ -94,34 +95,15 @@ module _ (program : List ℕ) (has : HasStatements program) (o : Origin) (map : 
       ReachesBoundary program o 4 0 (record { state = m; world = w; stalls = k }) (with_local s i y rest (s.at + 2))
   istore i y rest code index ops l own =
       let c : Counts o s m = counts o s m w h inside in
-      let t : Top o map s m.sp m.lv m.cpp m.tos w h.holds y rest = top o map s m.sp m.lv m.cpp m.tos w h.holds y rest ops in
+      let t : Top o s m.sp m.lv m.cpp m.tos w y rest = here.top y rest ops in
       let to : ℕ = plus m.lv (byte_in o.words m.pc) in
-      let a : Access (length o.words) w to (base s.callers + i) = local_at o map s m.sp m.lv m.cpp m.tos w h.holds to i l (plus_is h.holds.lv_is (c.p0.byte ∙ sym index) refl (omega (arith, h.holds.fits, map.high))) in
-      let f : Frame = record s.running { locals = slice_set s.running.locals i (Some y); operands = rest } in
-      let ms : List ℕ = slice_set w.words (base s.callers + i) y in
-      let same : slice_set w.words to m.tos ≡ ms = ap₂ (slice_set w.words) a.is t.tos_is in
-      let bottom : 0x8000 ≤ base s.callers = base_above s.callers in
+      let a : IsWordAccess (length o.words) w to (base s.callers + i) = here.local to i l (plus_is h.holds.lv_is (c.p0.byte ∙ sym index) refl (omega (arith, h.holds.fits, map.high))) in
+      let same : slice_set w.words to m.tos ≡ slice_set w.words (base s.callers + i) y = ap₂ (slice_set w.words) a.is t.tos_is in
+      let bottom : 0x8000 ≤ base s.callers = law.above s.callers in
       let high : 0x8000 ≤ to = omega (arith, a.is) in
-      let inside_words : base s.callers + i < length w.words = omega (arith, h.holds.memory.long, a.below) in
-      let frames : FramesStand ms (f ∷ s.callers) = keep.stored w.words i y (with_operands s rest) s.callers l own inside_words t.frames in
-      let new : IsMemory o.words ms = memory_set o.words w.words (base s.callers + i) y (omega arith) h.holds.memory in
-      let len : length f.locals ≡ length s.running.locals = length-set s.running.locals i (Some y) in
-      let down : Access (length o.words) (record w { words = ms }) (before m.sp) (place s rest - 1) = access (length o.words) (record w { words = ms }) (before m.sp) (place s rest - 1) t.down.is t.down.below in
-      let tos : read_value (length o.words) (slice_set w.words to m.tos) w.untaken (before m.sp) ≡ slice_index ms (place s rest - 1) =
-      ap (λ (ws : List ℕ). read_value (length o.words) ws w.untaken (before m.sp)) same ∙ down.value in
       comes program has o map Goes (steps 4) (byte_in o.words (s.at + 2) ∷ []) m w k 0x36 0 s _ h code (assumption)
       (at_boundary o _ _ _
-      (record {
-        sp_is = omega (arith, t.down.is, t.above);
-        lv_is = h.holds.lv_is;
-        cpp_is = h.holds.cpp_is;
-        tos_is = next_top_is ms (operands_at (base s.callers) f) (place s rest - 1) _ rest (omega (arith, t.above)) tos frames.0.operands;
-        frames = frames_at f s.callers (sym same) frames;
-        memory = memory_at (sym same) new;
-        fits = omega (arith, t.below);
-        untaken = t.down.untaken ∙ h.holds.untaken;
-        given = a.given _ ∙ h.holds.given;
-      })
+      (here.stores i y rest (s.at + 2) _ _ _ _ _ t l own refl refl refl refl same (t.down.untaken ∙ h.holds.untaken) (a.given _ _))
       (omega (arith, c.p11.is)) (omega arith) refl refl refl refl refl)
       (sym (add-zero k))
 
@@ -130,34 +112,15 @@ module _ (program : List ℕ) (has : HasStatements program) (o : Origin) (map : 
   wide_istore i y rest code code2 index ops l own =
       let c : Counts o s m = counts o s m w h inside in
       let op2 : byte_in o.words m.pc + 256 ≡ 0x136 = omega (arith, c.p0.byte ∙ code2) in
-      let t : Top o map s m.sp m.lv m.cpp m.tos w h.holds y rest = top o map s m.sp m.lv m.cpp m.tos w h.holds y rest ops in
+      let t : Top o s m.sp m.lv m.cpp m.tos w y rest = here.top y rest ops in
       let to : ℕ = plus m.lv (256 * byte_in o.words (plus m.pc 1) + byte_in o.words (plus m.pc 1 + 1)) in
-      let a : Access (length o.words) w to (base s.callers + i) = local_at o map s m.sp m.lv m.cpp m.tos w h.holds to i l (plus_is h.holds.lv_is (pair_at o.words (plus m.pc 1) (s.at + 2) (s.at + 3) c.p1 (omega arith) ∙ sym index) refl (omega (arith, h.holds.fits, map.high))) in
-      let f : Frame = record s.running { locals = slice_set s.running.locals i (Some y); operands = rest } in
-      let ms : List ℕ = slice_set w.words (base s.callers + i) y in
-      let same : slice_set w.words to m.tos ≡ ms = ap₂ (slice_set w.words) a.is t.tos_is in
-      let bottom : 0x8000 ≤ base s.callers = base_above s.callers in
+      let a : IsWordAccess (length o.words) w to (base s.callers + i) = here.local to i l (plus_is h.holds.lv_is (pair_at o.words (plus m.pc 1) (s.at + 2) (s.at + 3) c.p1 (omega arith) ∙ sym index) refl (omega (arith, h.holds.fits, map.high))) in
+      let same : slice_set w.words to m.tos ≡ slice_set w.words (base s.callers + i) y = ap₂ (slice_set w.words) a.is t.tos_is in
+      let bottom : 0x8000 ≤ base s.callers = law.above s.callers in
       let high : 0x8000 ≤ to = omega (arith, a.is) in
-      let inside_words : base s.callers + i < length w.words = omega (arith, h.holds.memory.long, a.below) in
-      let frames : FramesStand ms (f ∷ s.callers) = keep.stored w.words i y (with_operands s rest) s.callers l own inside_words t.frames in
-      let new : IsMemory o.words ms = memory_set o.words w.words (base s.callers + i) y (omega arith) h.holds.memory in
-      let len : length f.locals ≡ length s.running.locals = length-set s.running.locals i (Some y) in
-      let down : Access (length o.words) (record w { words = ms }) (before m.sp) (place s rest - 1) = access (length o.words) (record w { words = ms }) (before m.sp) (place s rest - 1) t.down.is t.down.below in
-      let tos : read_value (length o.words) (slice_set w.words to m.tos) w.untaken (before m.sp) ≡ slice_index ms (place s rest - 1) =
-      ap (λ (ws : List ℕ). read_value (length o.words) ws w.untaken (before m.sp)) same ∙ down.value in
       comes program has o map Goes (steps 5) (0x136 ∷ byte_in o.words (s.at + 4) ∷ []) m w k 0xC4 0 s _ h code (assumption)
       (at_boundary o _ _ _
-      (record {
-        sp_is = omega (arith, t.down.is, t.above);
-        lv_is = h.holds.lv_is;
-        cpp_is = h.holds.cpp_is;
-        tos_is = next_top_is ms (operands_at (base s.callers) f) (place s rest - 1) _ rest (omega (arith, t.above)) tos frames.0.operands;
-        frames = frames_at f s.callers (sym same) frames;
-        memory = memory_at (sym same) new;
-        fits = omega (arith, t.below);
-        untaken = t.down.untaken ∙ h.holds.untaken;
-        given = a.given _ ∙ h.holds.given;
-      })
+      (here.stores i y rest (s.at + 4) _ _ _ _ _ t l own refl refl refl refl same (t.down.untaken ∙ h.holds.untaken) (a.given _ _))
       (omega (arith, c.p121.is)) (omega arith) refl refl refl refl refl)
       (sym (add-zero k))
 
@@ -167,31 +130,15 @@ module _ (program : List ℕ) (has : HasStatements program) (o : Origin) (map : 
       let c : Counts o s m = counts o s m w h inside in
       let l : i < length s.running.locals = slice_get_within s.running.locals i (Some v) local in
       let at : ℕ = plus m.lv (byte_in o.words m.pc) in
-      let a : Access (length o.words) w at (base s.callers + i) = local_at o map s m.sp m.lv m.cpp m.tos w h.holds at i l (plus_is h.holds.lv_is (c.p0.byte ∙ sym index) refl (omega (arith, h.holds.fits, map.high))) in
+      let a : IsWordAccess (length o.words) w at (base s.callers + i) = here.local at i l (plus_is h.holds.lv_is (c.p0.byte ∙ sym index) refl (omega (arith, h.holds.fits, map.high))) in
       let y : ℕ = plus v (signed_byte (byte_in o.words (s.at + 2))) in
       let is : plus (read_value (length o.words) w.words w.untaken at) (signed_byte (byte_in o.words (plus m.pc 1))) ≡ y = ap₂ plus (a.value ∙ h.holds.frames.0.locals i v local) (ap signed_byte c.p1.byte) in
-      let f : Frame = record s.running { locals = slice_set s.running.locals i (Some y) } in
-      let ms : List ℕ = slice_set w.words (base s.callers + i) y in
-      let same : slice_set w.words at (plus (read_value (length o.words) w.words w.untaken at) (signed_byte (byte_in o.words (plus m.pc 1)))) ≡ ms = ap₂ (slice_set w.words) a.is is in
-      let bottom : 0x8000 ≤ base s.callers = base_above s.callers in
+      let same : slice_set w.words at (plus (read_value (length o.words) w.words w.untaken at) (signed_byte (byte_in o.words (plus m.pc 1)))) ≡ slice_set w.words (base s.callers + i) y = ap₂ (slice_set w.words) a.is is in
+      let bottom : 0x8000 ≤ base s.callers = law.above s.callers in
       let high : 0x8000 ≤ at = omega (arith, a.is) in
-      let inside_words : base s.callers + i < length w.words = omega (arith, h.holds.memory.long, a.below) in
-      let frames : FramesStand ms (f ∷ s.callers) = keep.stored w.words i y s.running s.callers l own inside_words h.holds.frames in
-      let new : IsMemory o.words ms = memory_set o.words w.words (base s.callers + i) y (omega arith) h.holds.memory in
-      let len : length f.locals ≡ length s.running.locals = length-set s.running.locals i (Some y) in
       comes program has o map Goes (steps 2) (byte_in o.words (s.at + 3) ∷ []) m w k 0x84 0 s _ h code (assumption)
       (at_boundary o _ _ _
-      (record {
-        sp_is = omega (arith, h.holds.sp_is);
-        lv_is = h.holds.lv_is;
-        cpp_is = h.holds.cpp_is;
-        tos_is = h.holds.tos_is;
-        frames = frames_at f s.callers (sym same) frames;
-        memory = memory_at (sym same) new;
-        fits = omega (arith, h.holds.fits);
-        untaken = a.untaken ∙ h.holds.untaken;
-        given = a.given _ ∙ h.holds.given;
-      })
+      (here.changes i y (s.at + 3) _ _ _ _ _ l own refl refl refl refl same (a.untaken ∙ h.holds.untaken) (a.given _ _))
       (omega (arith, c.p111.is)) (omega arith) refl refl refl refl refl)
       (sym (add-zero k))
 
@@ -202,116 +149,84 @@ module _ (program : List ℕ) (has : HasStatements program) (o : Origin) (map : 
       let op2 : byte_in o.words m.pc + 256 ≡ 0x184 = omega (arith, c.p0.byte ∙ code2) in
       let l : i < length s.running.locals = slice_get_within s.running.locals i (Some v) local in
       let at : ℕ = plus m.lv (256 * byte_in o.words (plus m.pc 1) + byte_in o.words (plus m.pc 1 + 1)) in
-      let a : Access (length o.words) w at (base s.callers + i) = local_at o map s m.sp m.lv m.cpp m.tos w h.holds at i l (plus_is h.holds.lv_is (pair_at o.words (plus m.pc 1) (s.at + 2) (s.at + 3) c.p1 (omega arith) ∙ sym index) refl (omega (arith, h.holds.fits, map.high))) in
+      let a : IsWordAccess (length o.words) w at (base s.callers + i) = here.local at i l (plus_is h.holds.lv_is (pair_at o.words (plus m.pc 1) (s.at + 2) (s.at + 3) c.p1 (omega arith) ∙ sym index) refl (omega (arith, h.holds.fits, map.high))) in
       let y : ℕ = plus v (signed_pair (byte_in o.words (s.at + 4)) (byte_in o.words (s.at + 5))) in
       let is : plus (read_value (length o.words) w.words w.untaken at) (signed_pair (byte_in o.words (plus (plus m.pc 1) 2)) (byte_in o.words (plus (plus m.pc 1) 2 + 1))) ≡ y = ap₂ plus (a.value ∙ h.holds.frames.0.locals i v local) (signed_pair_at o.words (plus (plus m.pc 1) 2) (s.at + 4) (s.at + 5) c.p12 (omega arith)) in
-      let f : Frame = record s.running { locals = slice_set s.running.locals i (Some y) } in
-      let ms : List ℕ = slice_set w.words (base s.callers + i) y in
-      let same : slice_set w.words at (plus (read_value (length o.words) w.words w.untaken at) (signed_pair (byte_in o.words (plus (plus m.pc 1) 2)) (byte_in o.words (plus (plus m.pc 1) 2 + 1)))) ≡ ms = ap₂ (slice_set w.words) a.is is in
-      let bottom : 0x8000 ≤ base s.callers = base_above s.callers in
+      let same : slice_set w.words at (plus (read_value (length o.words) w.words w.untaken at) (signed_pair (byte_in o.words (plus (plus m.pc 1) 2)) (byte_in o.words (plus (plus m.pc 1) 2 + 1)))) ≡ slice_set w.words (base s.callers + i) y = ap₂ (slice_set w.words) a.is is in
+      let bottom : 0x8000 ≤ base s.callers = law.above s.callers in
       let high : 0x8000 ≤ at = omega (arith, a.is) in
-      let inside_words : base s.callers + i < length w.words = omega (arith, h.holds.memory.long, a.below) in
-      let frames : FramesStand ms (f ∷ s.callers) = keep.stored w.words i y s.running s.callers l own inside_words h.holds.frames in
-      let new : IsMemory o.words ms = memory_set o.words w.words (base s.callers + i) y (omega arith) h.holds.memory in
-      let len : length f.locals ≡ length s.running.locals = length-set s.running.locals i (Some y) in
       comes program has o map Goes (steps 4) (0x184 ∷ byte_in o.words (s.at + 6) ∷ []) m w k 0xC4 0 s _ h code (assumption)
       (at_boundary o _ _ _
-      (record {
-        sp_is = omega (arith, h.holds.sp_is);
-        lv_is = h.holds.lv_is;
-        cpp_is = h.holds.cpp_is;
-        tos_is = h.holds.tos_is;
-        frames = frames_at f s.callers (sym same) frames;
-        memory = memory_at (sym same) new;
-        fits = omega (arith, h.holds.fits);
-        untaken = a.untaken ∙ h.holds.untaken;
-        given = a.given _ ∙ h.holds.given;
-      })
+      (here.changes i y (s.at + 6) _ _ _ _ _ l own refl refl refl refl same (a.untaken ∙ h.holds.untaken) (a.given _ _))
       (omega (arith, c.p1221.is)) (omega arith) refl refl refl refl refl)
       (sym (add-zero k))
 
-module _ (program : List ℕ) (has : HasStatements program) (o : Origin) (v : VerifiedView) (loads : Loads v o) (keep : KeepFrames) where
-  abbrev map : IsMap (length o.words)
+module _ (program : List ℕ) (has : HasStatements program) (o : Origin) (v : VerifiedView) (loads : Loads v o) (law : StackLaw) where
+  abbrev map : IsMapEnd (length o.words)
   map = map_of v o loads
 
   inside : (s : State) (i : Instr) → IsNext v o s i → s.at < 0x10000
   inside s i n = omega (arith, n.begins, loads.image.limits.text_fits)
 
-  -- a constant in the memory
-  pub record Constant (k x : ℕ) : Type 0 where
-    pub small : k < 0x4000
-    pub there : slice_index o.words (0x4000 + k) ≡ x
-
-  constant : (k x : ℕ) → slice_get v.image.pool k ≡ Some x → Constant k x
-  constant k x e =
-      let l : k < length v.image.pool = slice_get_within v.image.pool k x e in
-      record { small = omega (arith, loads.image.limits.pool_fits); there = loads.pool k l ∙ get_or_from_slice_get v.image.pool k x 0 e }
-
   goes : (s to : State) (q : Moment Micro) (i : Instr) → IsOfLocals i → Fine v s → IsNext v o s i → Stands o s q.state q.world → Went v.image v.map.stack_end s to i →
       MovesWithStalls program o q (cost v.image Mic2 i s) (stalls_of v.image i) to
   goes s to q (LdcW k) is fine n h went =
-      let c : Constant k went.value = constant k went.value went.found in
+      let c : IsConstant o k went.value = law.constant v o loads k went.value went.found in
       moves program o v s to _ q (LdcW k) 2 0 0x13 h n.reads.0 refl refl refl (omega arith) went.leads.goes
-      (ldc_w program has o map keep s q.state q.world q.stalls h (inside s (LdcW k) n) k went.value n.reads.0 n.reads.1 c.small c.there (omega (arith, went.leads.fits, loads.long)))
+      (ldc_w program has o map law s q.state q.world q.stalls h (inside s (LdcW k) n) k went.value n.reads.0 n.reads.1 c.small c.there (omega (arith, went.leads.fits, loads.long)))
   goes s to q (Iload k) is fine n h went =
       moves program o v s to _ q (Iload k) 2 0 0x15 h n.reads.0 refl refl refl (omega arith) went.leads.goes
-      (iload program has o map keep s q.state q.world q.stalls h (inside s (Iload k) n) k went.value n.reads.0 n.reads.1 went.set (omega (arith, went.leads.fits, loads.long)))
+      (iload program has o map law s q.state q.world q.stalls h (inside s (Iload k) n) k went.value n.reads.0 n.reads.1 went.set (omega (arith, went.leads.fits, loads.long)))
   goes s to q (Istore k) is fine n h went =
       moves program o v s to _ q (Istore k) 4 0 0x36 h n.reads.0 refl refl refl (omega arith) went.leads.goes
-      (istore program has o map keep s q.state q.world q.stalls h (inside s (Istore k) n) k went.top went.rest n.reads.0 n.reads.1 went.are went.leads.inside went.leads.own)
+      (istore program has o map law s q.state q.world q.stalls h (inside s (Istore k) n) k went.top went.rest n.reads.0 n.reads.1 went.are went.leads.inside went.leads.own)
   goes s to q (Iinc k b) is fine n h went =
       moves program o v s to _ q (Iinc k b) 2 0 0x84 h n.reads.0 refl refl refl (omega arith)
       (ap (λ (x : ℕ). with_local s k (plus went.value x) s.running.operands (s.at + 3)) (sym n.reads.2) ∙ went.leads)
-      (iinc program has o map keep s q.state q.world q.stalls h (inside s (Iinc k b) n) k went.value n.reads.0 n.reads.1 went.set (n.finds.named k (inl refl)).1)
+      (iinc program has o map law s q.state q.world q.stalls h (inside s (Iinc k b) n) k went.value n.reads.0 n.reads.1 went.set (n.finds.named k (inl refl)).1)
   goes s to q (WideIload k) is fine n h went =
       moves program o v s to _ q (WideIload k) 3 0 0xC4 h n.reads.0 refl refl refl (omega arith) went.leads.goes
-      (wide_iload program has o map keep s q.state q.world q.stalls h (inside s (WideIload k) n) k went.value n.reads.0 n.reads.1 n.reads.2 went.set (omega (arith, went.leads.fits, loads.long)))
+      (wide_iload program has o map law s q.state q.world q.stalls h (inside s (WideIload k) n) k went.value n.reads.0 n.reads.1 n.reads.2 went.set (omega (arith, went.leads.fits, loads.long)))
   goes s to q (WideIstore k) is fine n h went =
       moves program o v s to _ q (WideIstore k) 5 0 0xC4 h n.reads.0 refl refl refl (omega arith) went.leads.goes
-      (wide_istore program has o map keep s q.state q.world q.stalls h (inside s (WideIstore k) n) k went.top went.rest n.reads.0 n.reads.1 n.reads.2 went.are went.leads.inside went.leads.own)
+      (wide_istore program has o map law s q.state q.world q.stalls h (inside s (WideIstore k) n) k went.top went.rest n.reads.0 n.reads.1 n.reads.2 went.are went.leads.inside went.leads.own)
   goes s to q (WideIinc k z) is fine n h went =
       moves program o v s to _ q (WideIinc k z) 4 0 0xC4 h n.reads.0 refl refl refl (omega arith)
       (ap (λ (x : ℕ). with_local s k (plus went.value x) s.running.operands (s.at + 6)) (sym n.reads.3) ∙ went.leads)
-      (wide_iinc program has o map keep s q.state q.world q.stalls h (inside s (WideIinc k z) n) k went.value n.reads.0 n.reads.1 n.reads.2 went.set (n.finds.named k (inl refl)).1)
+      (wide_iinc program has o map law s q.state q.world q.stalls h (inside s (WideIinc k z) n) k went.value n.reads.0 n.reads.1 n.reads.2 went.set (n.finds.named k (inl refl)).1)
   goes s to q i is fine n h went = absurd is
 
   limits : (s left : State) (q : Moment Micro) (i : Instr) → IsOfLocals i → Fine v s → IsNext v o s i → Stands o s q.state q.world → Overran v.image v.map.stack_end s left i →
       Overruns mic2_meaning program (Stands o) o.given q left
   limits s left q (LdcW k) is fine n h over =
       let c : Counts o s q.state = counts o s q.state q.world h (inside s (LdcW k) n) in
-      let high : length o.words < 0x80000000 = map.high in
       let from : ℕ = plus q.state.cpp (256 * byte_in o.words q.state.pc + byte_in o.words (q.state.pc + 1)) in
-      let small : k < 0x4000 = (constant k over.value over.found).small in
-      let a : Access (length o.words) q.world from (0x4000 + k) =
-      access (length o.words) q.world from (0x4000 + k) (plus_is h.holds.cpp_is (pair_at o.words q.state.pc (s.at + 1) (s.at + 2) c.p0 (omega arith) ∙ sym n.reads.1) refl (omega (arith, small))) (omega (arith, map.low)) in
-      let sp : next q.state.sp ≡ base (frames_of s) = next_is q.state.sp (base (frames_of s)) h.holds.sp_is (omega (arith, h.holds.fits)) in
+      let small : k < 0x4000 = (law.constant v o loads k over.value over.found).small in
+      let a : IsWordAccess (length o.words) q.world from (0x4000 + k) =
+      law.access (length o.words) q.world from (0x4000 + k) (plus_is h.holds.cpp_is (pair_at o.words q.state.pc (s.at + 1) (s.at + 2) c.p0 (omega arith) ∙ sym n.reads.1) refl (omega (arith, small))) (omega (arith, map.low)) in
       let fault : write_refusal (length o.words) (next q.state.sp) ≡ Some (StackLimit (next q.state.sp)) =
-      write_limit (length o.words) (next q.state.sp) (omega (arith, over.leads.over, loads.long)) (omega (arith, h.holds.fits)) in
+      (law.boundary o s q.state.sp q.state.lv q.state.cpp q.state.tos q.world map h.holds).full (omega (arith, over.leads.over, loads.long)) in
       overruns program has o map s left q Goes (steps 1) [] 0x13 (next q.state.sp) h n.reads.0 refl refl (omega arith) (assumption) refl refl (refl, fault)
       (a.untaken ∙ (h.holds.untaken ∙ ap (λ (t : State). t.untaken) over.leads.leaves)) (h.holds.given ∙ ap (λ (t : State). o.given ++ t.given) over.leads.leaves)
   limits s left q (Iload k) is fine n h over =
       let c : Counts o s q.state = counts o s q.state q.world h (inside s (Iload k) n) in
-      let high : length o.words < 0x80000000 = map.high in
       let from : ℕ = plus q.state.lv (byte_in o.words q.state.pc) in
       let l : k < length s.running.locals = slice_get_within s.running.locals k (Some over.value) over.set in
-      let a : Access (length o.words) q.world from (base s.callers + k) =
-      local_at o map s q.state.sp q.state.lv q.state.cpp q.state.tos q.world h.holds from k l (plus_is h.holds.lv_is (c.p0.byte ∙ sym n.reads.1) refl (omega (arith, h.holds.fits, map.high))) in
-      let sp : next q.state.sp ≡ base (frames_of s) = next_is q.state.sp (base (frames_of s)) h.holds.sp_is (omega (arith, h.holds.fits)) in
+      let a : IsWordAccess (length o.words) q.world from (base s.callers + k) =
+      (law.boundary o s q.state.sp q.state.lv q.state.cpp q.state.tos q.world map h.holds).local from k l (plus_is h.holds.lv_is (c.p0.byte ∙ sym n.reads.1) refl (omega (arith, h.holds.fits, map.high))) in
       let fault : write_refusal (length o.words) (next q.state.sp) ≡ Some (StackLimit (next q.state.sp)) =
-      write_limit (length o.words) (next q.state.sp) (omega (arith, over.leads.over, loads.long)) (omega (arith, h.holds.fits)) in
+      (law.boundary o s q.state.sp q.state.lv q.state.cpp q.state.tos q.world map h.holds).full (omega (arith, over.leads.over, loads.long)) in
       overruns program has o map s left q Goes (steps 1) [] 0x15 (next q.state.sp) h n.reads.0 refl refl (omega arith) (assumption) refl refl (refl, fault)
       (a.untaken ∙ (h.holds.untaken ∙ ap (λ (t : State). t.untaken) over.leads.leaves)) (h.holds.given ∙ ap (λ (t : State). o.given ++ t.given) over.leads.leaves)
   limits s left q (WideIload k) is fine n h over =
       let c : Counts o s q.state = counts o s q.state q.world h (inside s (WideIload k) n) in
       let op2 : byte_in o.words q.state.pc + 256 ≡ 0x115 = omega (arith, c.p0.byte ∙ n.reads.1) in
-      let high : length o.words < 0x80000000 = map.high in
       let from : ℕ = plus q.state.lv (256 * byte_in o.words (plus q.state.pc 1) + byte_in o.words (plus q.state.pc 1 + 1)) in
       let l : k < length s.running.locals = slice_get_within s.running.locals k (Some over.value) over.set in
-      let a : Access (length o.words) q.world from (base s.callers + k) =
-      local_at o map s q.state.sp q.state.lv q.state.cpp q.state.tos q.world h.holds from k l (plus_is h.holds.lv_is (pair_at o.words (plus q.state.pc 1) (s.at + 2) (s.at + 3) c.p1 (omega arith) ∙ sym n.reads.2) refl (omega (arith, h.holds.fits, map.high))) in
-      let sp : next q.state.sp ≡ base (frames_of s) = next_is q.state.sp (base (frames_of s)) h.holds.sp_is (omega (arith, h.holds.fits)) in
+      let a : IsWordAccess (length o.words) q.world from (base s.callers + k) =
+      (law.boundary o s q.state.sp q.state.lv q.state.cpp q.state.tos q.world map h.holds).local from k l (plus_is h.holds.lv_is (pair_at o.words (plus q.state.pc 1) (s.at + 2) (s.at + 3) c.p1 (omega arith) ∙ sym n.reads.2) refl (omega (arith, h.holds.fits, map.high))) in
       let fault : write_refusal (length o.words) (next q.state.sp) ≡ Some (StackLimit (next q.state.sp)) =
-      write_limit (length o.words) (next q.state.sp) (omega (arith, over.leads.over, loads.long)) (omega (arith, h.holds.fits)) in
+      (law.boundary o s q.state.sp q.state.lv q.state.cpp q.state.tos q.world map h.holds).full (omega (arith, over.leads.over, loads.long)) in
       overruns program has o map s left q Goes (steps 2) (0x115 ∷ []) 0xC4 (next q.state.sp) h n.reads.0 refl refl (omega arith) (assumption) refl refl (refl, fault)
       (a.untaken ∙ (h.holds.untaken ∙ ap (λ (t : State). t.untaken) over.leads.leaves)) (h.holds.given ∙ ap (λ (t : State). o.given ++ t.given) over.leads.leaves)
   limits s left q (Istore k) is fine n h over = absurd over

@@ -8,7 +8,7 @@ use Rattle.machine_words.specs.Arithmetic.{next}
 use Rattle.console_port.specs.World.{byte_in, byte_of, word_refusal}
 use Rattle.mic2_fetch_unit.specs.FetchUnit.{Prefetch, bytes_of_word, without, appended, with_pending, sampled_by, sample_refusal, edge, jump, edge_refusal, jump_refusal}
 use Rattle.ijvm_simulation.specs.Stands.{IsMemory}
-use Rattle.mic2_interpreter.proofs.Accesses.{next_is}
+use Rattle.mic2_interpreter.proofs.Words.{next_is}
 
 -- so many bytes from a byte address on
 abbrev pub bytes_from : List ℕ → ℕ → ℕ → List ℕ

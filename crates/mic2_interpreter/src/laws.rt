@@ -13,17 +13,17 @@ ghost use Rattle.ijvm_simulation.specs.Headline.{reset_run};
 ghost use Rattle.ijvm_simulation.specs.Law.{HaltsAndErrs};
 ghost use Rattle.mic2_interpreter.specs.Stands.{Stands};
 ghost use Rattle.mic2_interpreter.specs.Stalls.{TakesWithStalls, BootsWithStall, HasStalled};
-ghost use Rattle.mic2_interpreter.specs.Groups.{IsOfOperands, IsOfLocals, IsOfConsole, IsJump, IsCall};
+ghost use Rattle.ijvm_simulation.specs.Groups.{IsOfOperands, IsOfLocals, IsOfConsole, IsJump, IsCall};
 
 use crate::interpreter::Mic2Interpreter;
-use ijvm_simulation::{stalls_add_up, writes_keep_frames};
+use ijvm_simulation::{groups_are_all, stack_law, stalls_add_up};
 
 /// The instructions on the operands alone.
 pub(crate) fn operands_law()
     ensures { (store : List ℕ) (o : Origin) (v : VerifiedView) → HasShipped Mic2 store → Loads v o →
         TakesWithStalls store o v IsOfOperands }
 {
-    writes_keep_frames();
+    stack_law();
 }
 
 /// IN and OUT.
@@ -31,21 +31,23 @@ pub(crate) fn consoles_law()
     ensures { (store : List ℕ) (o : Origin) (v : VerifiedView) → HasShipped Mic2 store → Loads v o →
         TakesWithStalls store o v IsOfConsole }
 {
-    writes_keep_frames();
+    stack_law();
 }
 
 /// The jumps and branches.
 pub(crate) fn jumps_law()
     ensures { (store : List ℕ) (o : Origin) (v : VerifiedView) → HasShipped Mic2 store → Loads v o →
         TakesWithStalls store o v IsJump }
-{}
+{
+    stack_law();
+}
 
 /// The instructions that name a local or a constant.
 pub(crate) fn locals_law()
     ensures { (store : List ℕ) (o : Origin) (v : VerifiedView) → HasShipped Mic2 store → Loads v o →
         TakesWithStalls store o v IsOfLocals }
 {
-    writes_keep_frames();
+    stack_law();
 }
 
 /// Calls and returns.
@@ -53,7 +55,7 @@ pub(crate) fn calls_law()
     ensures { (store : List ℕ) (o : Origin) (v : VerifiedView) → HasShipped Mic2 store → Loads v o →
         TakesWithStalls store o v IsCall }
 {
-    writes_keep_frames();
+    stack_law();
 }
 
 /// HALT and ERR.
@@ -72,6 +74,7 @@ pub fn stalls_law()
     jumps_law();
     calls_law();
     consoles_law();
+    groups_are_all::<mic2_datapath::Mic2>();
 }
 
 /// So at each boundary of a run the clock has counted the stall of the boot and those of the calls, and no other.

@@ -8,6 +8,7 @@ use Rattle.ijvm_paths.specs.Kinds.{IsKind}
 use Rattle.ijvm_paths.specs.declared.kind.Kind.TheVariants.{Start}
 use Rattle.mal_parser.specs.ProgramText.{parts_text, fallback_of}
 use Rattle.mal_parser.specs.Program.{Program, label_at}
+use Rattle.mic_debugger.specs.View.{ListingView}
 
 -- the label and the text of the statement at each address of the store, and the instruction at each byte address of the text
 pub record Book : Type 0 where
@@ -32,3 +33,7 @@ pub record IsBook (program : Program) (placement : List ℕ) (image : ImageView)
   -- a reached instruction begins there, or none does
   pub reached : (at : ℕ) (i : Instr) → IsKind image at Start → instr_at image.text at ≡ Some i → book.instruction at ≡ instr_text i at
   pub unreached : (at : ℕ) → (IsKind image at Start → ⊥) → book.instruction at ≡ codes "?"
+
+-- the book of what a session lists
+abbrev pub IsBookOf : ListingView → Book → Type 0
+IsBookOf l book = IsBook l.program l.placement l.image book

@@ -6,7 +6,7 @@ ghost use Rattle.mic_base.specs.Causes.{HasCause, Rose};
 ghost use Rattle.mic_base.specs.Streams.{Holds, Puts};
 ghost use Rattle.mic_clock.specs.Run.{number_of, word_at};
 ghost use Rattle.mic_clock.specs.Board.{IsTurned, RunIsCutByRead, RunIsCutByWrite, IsCounted, EndsUncounted, HasRoom, HasEndCause, NoFault, IsLedTo};
-ghost use Rattle.mic_debugger.specs.Book.{Book, IsBook};
+ghost use Rattle.mic_debugger.specs.Book.{Book, IsBookOf};
 ghost use Rattle.mic_debugger.specs.InTime.{InTime};
 ghost use Rattle.mic_debugger.specs.Lines.{end_line};
 ghost use Rattle.mic_debugger.specs.Clocking.{cause_line, comes, counted, first_piece, has_break, has_changed, is_at_boundary, second_piece, turn_text};
@@ -84,7 +84,7 @@ impl Clocking<'_> {
     /// The first piece of what is printed of a turn that is waited for.
     fn first_piece(&self, mpc: u16, stalled: bool, counts: &Counts) -> Line
         requires { mpc < 512 }
-        ensures { (book : Book) → IsBook self.now.listing.now.program self.now.listing.now.placement self.now.listing.now.image book →
+        ensures { (book : Book) → IsBookOf self.now.listing.now book →
             result ≡ first_piece book self.now.breaks.now self.now.until mpc stalled counts.now }
     {
         let mut line = Line::new();
@@ -105,7 +105,7 @@ impl Clocking<'_> {
 
     /// The second piece.
     fn second_piece<M: Clocked>(&self, board: &Board<M>) -> Line
-        ensures { (book : Book) → IsBook self.now.listing.now.program self.now.listing.now.placement self.now.listing.now.image book →
+        ensures { (book : Book) → IsBookOf self.now.listing.now book →
             result ≡ second_piece book self.now.breaks.now self.now.until (M.meaning.registers (M.state board.now.machine)) }
     {
         let mpc = board.mpc();
@@ -123,7 +123,7 @@ impl Clocking<'_> {
         err: &mut E,
     ) -> Result<(), SinkFailed>
         requires { mpc < 512 }
-        ensures puts { (book : Book) → IsBook self.now.listing.now.program self.now.listing.now.placement self.now.listing.now.image book →
+        ensures puts { (book : Book) → IsBookOf self.now.listing.now book →
             Puts (E.held err.old) (turn_text book self.now.breaks.now self.now.until mpc board.now.buses.drive.stalled board.now.counts
             (M.meaning.registers (M.state board.now.machine)) board.now.bus.words board.now.end) result (E.held err.new) }
         ensures keeps { (front : List ℕ) → Holds front (E.held err.old) → Holds front (E.held err.new) }
@@ -155,10 +155,10 @@ impl Clocking<'_> {
         ensures turn { IsTurned M.state M.meaning (S.left input.old) (K.held out.old) board.old (S.left input.new) (K.held out.new) board.new (Some self.now.bound) }
         ensures read { RunIsCutByRead M.state M.meaning (S.left input.old) (K.held out.old) board.old (S.left input.new) (K.held out.new) board.new (Some self.now.bound) }
         ensures write { RunIsCutByWrite M.state M.meaning (S.left input.old) (K.held out.old) board.old (S.left input.new) (K.held out.new) board.new (Some self.now.bound) }
-        ensures text { OnOk result ((book : Book) → IsBook self.now.listing.now.program self.now.listing.now.placement self.now.listing.now.image book →
+        ensures text { OnOk result ((book : Book) → IsBookOf self.now.listing.now book →
             Prints (E.held err.old) (text_between M.state M.meaning book self.now.breaks.now self.now.until board.old board.new) (E.held err.new)) }
         ensures front { OnErr result (board.new.end ≢ Some End.WriteFault → (book : Book) →
-            IsBook self.now.listing.now.program self.now.listing.now.placement self.now.listing.now.image book →
+            IsBookOf self.now.listing.now book →
             GotFront (E.held err.old) (text_between M.state M.meaning book self.now.breaks.now self.now.until board.old board.new) (E.held err.new)) }
         ensures silent { board.new.end ≡ Some End.WriteFault → E.held err.new ≡ E.held err.old }
         ensures came { IfOk result (λ came. number_of came ≡ counted self.now.breaks.now self.now.until board.new.counts board.new.bus.words board.new.end) }
@@ -198,17 +198,17 @@ impl Clocking<'_> {
         requires live { board.old.end ≡ None }
         requires bound { self.now.bound ≤ 2 ^ 62 }
         requires in_time { InTime (2 ^ 62) board.old.counts (M.meaning.is_boundary (M.state board.old.machine)) board.old.end }
-        ensures done { OnOk result (NoFault None board.new.end → (book : Book) → IsBook self.now.listing.now.program self.now.listing.now.placement self.now.listing.now.image book →
+        ensures done { OnOk result (NoFault None board.new.end → (book : Book) → IsBookOf self.now.listing.now book →
             (text : List ℕ) × Prints (E.held err.old) text (E.held err.new) ×
             IsLedTo M.state (S.left input.old) (K.held out.old) board.old (S.left input.new) board.new
             (λ r rest. (n : ℕ) × IsClocked M.state M.meaning book board.old.store.words self.now.breaks.now self.now.bound self.now.until times
             (S.left input.new) (K.held out.new) board.new rest text n r)) }
-        ensures read { OnOk result (board.new.end ≡ Some End.ReadFault → (book : Book) → IsBook self.now.listing.now.program self.now.listing.now.placement self.now.listing.now.image book →
+        ensures read { OnOk result (board.new.end ≡ Some End.ReadFault → (book : Book) → IsBookOf self.now.listing.now book →
             (text : List ℕ) × Prints (E.held err.old) text (E.held err.new) ×
             IsLedTo M.state (S.left input.old) (K.held out.old) board.old (S.left input.new) board.new
             (λ r rest. (n : ℕ) × (k : ℕ) × IsStopped M.state M.meaning book board.old.store.words self.now.breaks.now self.now.bound self.now.until times
             (S.left input.new) (K.held out.new) board.new rest text n k r)) }
-        ensures broken { OnErr result (board.new.end ≢ Some End.ReadFault → (book : Book) → IsBook self.now.listing.now.program self.now.listing.now.placement self.now.listing.now.image book →
+        ensures broken { OnErr result (board.new.end ≢ Some End.ReadFault → (book : Book) → IsBookOf self.now.listing.now book →
             IsLedTo M.state (S.left input.old) (K.held out.old) board.old (S.left input.new) board.new
             (λ r rest. (n : ℕ) × IsBroken M.state M.meaning book board.old.store.words self.now.breaks.now self.now.bound self.now.until times
             (K.held out.new) (E.held err.old) (E.held err.new) n r)) }

@@ -7,7 +7,7 @@ ghost use Rattle.ijvm_image.specs.Image.{ImageView};
 ghost use Rattle.ijvm_instr.specs.Instructions.{instr_at};
 ghost use Rattle.ijvm_paths.specs.Kinds.{IsKind};
 ghost use Rattle.mic_base.specs.Digits.{hex_text};
-ghost use Rattle.mic_debugger.specs.Book.{Book, IsBook, label_text, unused_text};
+ghost use Rattle.mic_debugger.specs.Book.{Book, IsBookOf, label_text, unused_text};
 ghost use Rattle.mic_debugger.specs.Lines.{cycle_line, end_line, name_of, place_line, place_text, next_line};
 
 use cli_outside::number;
@@ -77,7 +77,7 @@ impl Listing {
     /// Appends the label of the statement at an address of the store.
     fn label(&self, mpc: u16, line: &mut Line)
         requires { length line.old + 64 ≤ 512 }
-        ensures text { (book : Book) → IsBook self.now.program self.now.placement self.now.image book → line.new ≡ line.old ++ book.label mpc }
+        ensures text { (book : Book) → IsBookOf self.now book → line.new ≡ line.old ++ book.label mpc }
         ensures len { length line.new ≤ length line.old + 64 }
     {
         match statement_at(&self.program, &self.placement, mpc) {
@@ -92,7 +92,7 @@ impl Listing {
     /// Appends the text of the statement at an address of the store.
     fn text(&self, mpc: u16, line: &mut Line)
         requires { length line.old + 256 ≤ 512 }
-        ensures text { (book : Book) → IsBook self.now.program self.now.placement self.now.image book → line.new ≡ line.old ++ book.text mpc }
+        ensures text { (book : Book) → IsBookOf self.now book → line.new ≡ line.old ++ book.text mpc }
         ensures len { length line.new ≤ length line.old + 256 }
     {
         match statement_at(&self.program, &self.placement, mpc) {
@@ -117,7 +117,7 @@ impl Listing {
     /// Appends the text of a cycle's statement, `stall` where it was one.
     fn cycle_text(&self, mpc: u16, stalled: bool, line: &mut Line)
         requires { length line.old + 256 ≤ 512 }
-        ensures text { (book : Book) → IsBook self.now.program self.now.placement self.now.image book →
+        ensures text { (book : Book) → IsBookOf self.now book →
             line.new ≡ line.old ++ (if stalled then codes "stall" else book.text mpc) }
         ensures len { length line.new ≤ length line.old + 256 }
     {
@@ -132,7 +132,7 @@ impl Listing {
     #[tactic(auto, unfolding(crate::specs::Lines::cycle_line))]
     pub fn cycle_line(&self, cycles: u64, mpc: u16, stalled: bool) -> Line
         requires { mpc < 512 }
-        ensures { (book : Book) → IsBook self.now.program self.now.placement self.now.image book → result ≡ cycle_line book cycles mpc stalled }
+        ensures { (book : Book) → IsBookOf self.now book → result ≡ cycle_line book cycles mpc stalled }
     {
         let mut line = Line::new();
         number(&mut line, "", cycles);
@@ -149,7 +149,7 @@ impl Listing {
     /// Appends the last boundary's address and instruction.
     fn place(&self, boundary: Option<Boundary>, line: &mut Line)
         requires { length line.old ≤ 256 }
-        ensures { (book : Book) → IsBook self.now.program self.now.placement self.now.image book → line.new ≡ line.old ++ place_text book boundary }
+        ensures { (book : Book) → IsBookOf self.now book → line.new ≡ line.old ++ place_text book boundary }
     {
         match boundary {
             None => line.text("- -"),
@@ -160,7 +160,7 @@ impl Listing {
     /// Appends a byte address and the instruction there.
     fn instruction(&self, at: u32, line: &mut Line)
         requires { length line.old ≤ 256 }
-        ensures { (book : Book) → IsBook self.now.program self.now.placement self.now.image book →
+        ensures { (book : Book) → IsBookOf self.now book →
             line.new ≡ line.old ++ (hex_text 8 at ++ codes " " ++ book.instruction at) }
     {
         line.hex(u64::from(at), 8);
@@ -175,7 +175,7 @@ impl Listing {
     #[tactic(auto, unfolding(crate::specs::Lines::place_line))]
     pub fn place_line(&self, counts: &Counts, line: &mut Line)
         requires { length line.old ≤ 64 }
-        ensures { (book : Book) → IsBook self.now.program self.now.placement self.now.image book → line.new ≡ line.old ++ place_line book counts.now }
+        ensures { (book : Book) → IsBookOf self.now book → line.new ≡ line.old ++ place_line book counts.now }
     {
         number(line, "cycle ", counts.cycles);
         line.text(" at ");
@@ -186,7 +186,7 @@ impl Listing {
     #[tactic(auto, unfolding(crate::specs::Lines::next_line))]
     pub fn next_line(&self, mpc: u16) -> Line
         requires { mpc < 512 }
-        ensures { (book : Book) → IsBook self.now.program self.now.placement self.now.image book → result ≡ next_line book mpc }
+        ensures { (book : Book) → IsBookOf self.now book → result ≡ next_line book mpc }
     {
         let mut line = Line::new();
         line.text(" mpc ");

@@ -8,7 +8,7 @@ ghost use Rattle.store_placement.specs.Program.{demands_of, IsFilled};
 ghost use Rattle.mic_clock.specs.Board.{AreCounts, NoFault, ShowsAs, ShowsRun};
 ghost use Rattle.mic_clock.specs.Run.{MicroRun};
 ghost use Rattle.mic_clock.specs.State.{state_line};
-ghost use Rattle.mic_debugger.specs.Book.{Book, IsBook};
+ghost use Rattle.mic_debugger.specs.Book.{Book, IsBookOf};
 ghost use Rattle.mic_debugger.specs.Commands.{command_of};
 ghost use Rattle.mic_debugger.specs.Lines.{stack_text, where_line};
 ghost use Rattle.mic_debugger.specs.Obeys.{Obeys, IsBrokenIn, IsStoppedIn, plan_in, shown_text};
@@ -188,7 +188,7 @@ impl<M: Clocked> Session<M> {
 
     /// Puts where the run stands.
     fn put_where<E: Sink>(&self, err: &mut E) -> Result<(), SinkFailed>
-        ensures puts { (book : Book) → IsBook self.now.listing.program self.now.listing.placement self.now.listing.image book →
+        ensures puts { (book : Book) → IsBookOf self.now.listing book →
             Puts (E.held err.old) (where_line book self.now.board.counts (M.meaning.registers (M.state self.now.board.machine)).mpc) result (E.held err.new) }
         ensures keeps { (front : List ℕ) → Holds front (E.held err.old) → Holds front (E.held err.new) }
         ensures cause { HasCause (E.faults err.old) (E.faults err.new) result }
@@ -216,7 +216,7 @@ impl<M: Clocked> Session<M> {
     /// Puts what is shown by a plan that clocks nothing.
     #[tactic(auto, using(crate::proofs::Putting::puts_nothing))]
     fn show<E: Sink>(&self, plan: Plan, err: &mut E) -> Result<(), SinkFailed>
-        ensures puts { (book : Book) → IsBook self.now.listing.program self.now.listing.placement self.now.listing.image book →
+        ensures puts { (book : Book) → IsBookOf self.now.listing book →
             Puts (E.held err.old) (shown_text M.state M.meaning book self.now plan) result (E.held err.new) }
         ensures keeps { (front : List ℕ) → Holds front (E.held err.old) → Holds front (E.held err.new) }
         ensures cause { HasCause (E.faults err.old) (E.faults err.new) result }
@@ -242,13 +242,13 @@ impl<M: Clocked> Session<M> {
         err: &mut E,
     ) -> Result<(), SessionFault>
         requires { self.old.board.end ≡ None }
-        ensures done { OnOk result (NoFault None self.new.board.end → (book : Book) → IsBook self.old.listing.program self.old.listing.placement self.old.listing.image book →
+        ensures done { OnOk result (NoFault None self.new.board.end → (book : Book) → IsBookOf self.old.listing book →
             (text : List ℕ) × Prints (E.held err.old) text (E.held err.new) ×
             Obeys M.state M.meaning book (S.left input.old) (K.held out.old) self.old (S.left input.new) (K.held out.new) self.new.board text (Plan.Clock until times)) }
-        ensures read { OnOk result (self.new.board.end ≡ Some End.ReadFault → (book : Book) → IsBook self.old.listing.program self.old.listing.placement self.old.listing.image book →
+        ensures read { OnOk result (self.new.board.end ≡ Some End.ReadFault → (book : Book) → IsBookOf self.old.listing book →
             (text : List ℕ) × Prints (E.held err.old) text (E.held err.new) ×
             IsStoppedIn M.state M.meaning book (S.left input.old) (K.held out.old) self.old (S.left input.new) (K.held out.new) self.new.board text (Plan.Clock until times)) }
-        ensures broken { OnErr result (self.new.board.end ≢ Some End.ReadFault → (book : Book) → IsBook self.old.listing.program self.old.listing.placement self.old.listing.image book →
+        ensures broken { OnErr result (self.new.board.end ≢ Some End.ReadFault → (book : Book) → IsBookOf self.old.listing book →
             IsBrokenIn M.state M.meaning book (S.left input.old) (K.held out.old) (E.held err.old) self.old
             (S.left input.new) (K.held out.new) (E.held err.new) self.new.board (Plan.Clock until times)) }
         ensures fault { OnOk result (self.new.board.end ≢ Some End.WriteFault) }
@@ -279,15 +279,15 @@ impl<M: Clocked> Session<M> {
     ) -> Result<(), SessionFault>
         requires { (u : Until) (times : ℕ) → plan ≡ Plan.Clock u times → self.old.board.end ≡ None }
         ensures obeys { OnOk result (NoFault self.old.board.end self.new.board.end → (book : Book) →
-            IsBook self.old.listing.program self.old.listing.placement self.old.listing.image book →
+            IsBookOf self.old.listing book →
             (text : List ℕ) × Prints (E.held err.old) text (E.held err.new) ×
             Obeys M.state M.meaning book (S.left input.old) (K.held out.old) self.old (S.left input.new) (K.held out.new) self.new.board text plan) }
         ensures read { OnOk result (self.old.board.end ≡ None → self.new.board.end ≡ Some End.ReadFault → (book : Book) →
-            IsBook self.old.listing.program self.old.listing.placement self.old.listing.image book →
+            IsBookOf self.old.listing book →
             (text : List ℕ) × Prints (E.held err.old) text (E.held err.new) ×
             IsStoppedIn M.state M.meaning book (S.left input.old) (K.held out.old) self.old (S.left input.new) (K.held out.new) self.new.board text plan) }
         ensures broken { OnErr result ((self.old.board.end ≡ None → self.new.board.end ≢ Some End.ReadFault) → (book : Book) →
-            IsBook self.old.listing.program self.old.listing.placement self.old.listing.image book →
+            IsBookOf self.old.listing book →
             IsBrokenIn M.state M.meaning book (S.left input.old) (K.held out.old) (E.held err.old) self.old
             (S.left input.new) (K.held out.new) (E.held err.new) self.new.board plan) }
         ensures fault { OnOk result (self.old.board.end ≡ None → self.new.board.end ≢ Some End.WriteFault) }
@@ -341,15 +341,15 @@ impl<M: Clocked> Session<M> {
     ) -> Result<Reply, SessionFault>
         ensures reply { IfOk result (λ reply. reply ≡ reply_of (plan_in self.old line.now)) }
         ensures obeys { OnOk result (NoFault self.old.board.end self.new.board.end → (book : Book) →
-            IsBook self.old.listing.program self.old.listing.placement self.old.listing.image book →
+            IsBookOf self.old.listing book →
             (text : List ℕ) × Prints (E.held err.old) text (E.held err.new) ×
             Obeys M.state M.meaning book (S.left input.old) (K.held out.old) self.old (S.left input.new) (K.held out.new) self.new.board text (plan_in self.old line.now)) }
         ensures read { OnOk result (self.old.board.end ≡ None → self.new.board.end ≡ Some End.ReadFault → (book : Book) →
-            IsBook self.old.listing.program self.old.listing.placement self.old.listing.image book →
+            IsBookOf self.old.listing book →
             (text : List ℕ) × Prints (E.held err.old) text (E.held err.new) ×
             IsStoppedIn M.state M.meaning book (S.left input.old) (K.held out.old) self.old (S.left input.new) (K.held out.new) self.new.board text (plan_in self.old line.now)) }
         ensures broken { OnErr result ((self.old.board.end ≡ None → self.new.board.end ≢ Some End.ReadFault) → (book : Book) →
-            IsBook self.old.listing.program self.old.listing.placement self.old.listing.image book →
+            IsBookOf self.old.listing book →
             IsBrokenIn M.state M.meaning book (S.left input.old) (K.held out.old) (E.held err.old) self.old
             (S.left input.new) (K.held out.new) (E.held err.new) self.new.board (plan_in self.old line.now)) }
         ensures fault { OnOk result (self.old.board.end ≡ None → self.new.board.end ≢ Some End.WriteFault) }

@@ -1,4 +1,4 @@
-use Rattle.cli_outside.proofs.Ending.{refused, unread}
+use Rattle.cli_outside.specs.Ways.{refused, unread}
 use Rattle.cli_boards.proofs.choice.own_microprogram.Goals as goal
 
 pub returns-in-Err-clause-not_had : goal.returns-in-Err-clause-not_had

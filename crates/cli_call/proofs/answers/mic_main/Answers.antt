@@ -2,7 +2,7 @@ use Rattle.std.proofs.Common.{rules, map}
 use Rattle.std.specs.Prelude.{string_bytes}
 use Rattle.cli_words.specs.Words.{request_of}
 use Rattle.cli_outside.specs.Outside.{files_of, outside_view, sink_of, source_of}
-use Rattle.cli_outside.proofs.Given.{given_back}
+use Rattle.cli_outside.specs.Given.{given_back}
 use Rattle.cli_call.specs.CallEnds.{CallEnds}
 use Rattle.cli_call.proofs.answers.mic_main.Goals as goal
 

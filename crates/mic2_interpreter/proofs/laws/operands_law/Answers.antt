@@ -3,4 +3,4 @@ use Rattle.mic2_interpreter.proofs.Operands.{operands}
 use Rattle.mic2_interpreter.proofs.laws.operands_law.Goals as goal
 
 pub returns : goal.returns
-returns c = λ store o v has loads. operands store (has_statements store has) o v loads c.writes_keep_frames.ensures
+returns c = λ store o v has loads. operands store (has_statements store has) o v loads c.stack_law.ensures

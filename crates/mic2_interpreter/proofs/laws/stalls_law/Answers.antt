@@ -1,6 +1,6 @@
 use Rattle.mic2_interpreter.proofs.Shipped.{has_statements}
 use Rattle.mic2_interpreter.proofs.Boot.{boots}
-use Rattle.mic2_interpreter.proofs.Groups.{takes}
+use Rattle.mic2_interpreter.specs.Stalls.{stalls_of}
 use Rattle.mic2_interpreter.proofs.laws.stalls_law.Goals as goal
 
 pub returns-clause-boots : goal.returns-clause-boots
@@ -8,5 +8,5 @@ returns-clause-boots c = λ store o v input has loads. boots store (has_statemen
 
 pub returns-clause-takes : goal.returns-clause-takes
 returns-clause-takes c = λ store o v has loads.
-    takes store o v (c.operands_law.ensures store o v has loads) (c.locals_law.ensures store o v has loads) (c.jumps_law.ensures store o v has loads)
+    c.groups_are_all.ensures.stalls store 0x002 stalls_of v o (c.operands_law.ensures store o v has loads) (c.locals_law.ensures store o v has loads) (c.jumps_law.ensures store o v has loads)
     (c.calls_law.ensures store o v has loads) (c.consoles_law.ensures store o v has loads)

@@ -4,15 +4,16 @@ use Rattle.console_port.specs.Console.{IsFault}
 use Rattle.console_port.specs.declared.fault.BusFault.TheVariants as faults
 use Rattle.mic2_datapath.proofs.Demands.{are_there}
 use Rattle.micro_word.specs.Coding.{statement_of, mem_of}
+use Rattle.micro_word.specs.declared.statement.Mem.TheVariants as mems
 use Rattle.machine_words.specs.declared.machine.Machine.TheVariants as machines
 use Rattle.datapath.specs.declared.ports.Ports.{Ports}
-use Rattle.datapath.specs.Memory.{memory_refusal}
-use Rattle.mic2_fetch_unit.specs.FetchUnit.{edge_refusal, sample_refusal}
+use Rattle.mic2_fetch_unit.specs.FetchUnit.{edge_refusal}
 use Rattle.mic2_datapath.specs.Micro.{Micro}
-use Rattle.mic2_datapath.specs.Microstep.{demand, is_stalled, jumps, unit_samples}
+use Rattle.mic2_datapath.specs.Microstep.{is_stalled}
 use Rattle.mic2_datapath.specs.Mic2.{step_of_word}
 use Rattle.mic2_datapath.specs.Latches.{micro_in}
-use Rattle.mic2_datapath.proofs.Steps.{Asked, AtConsole, IsAsked, asked_alone, is_alone, is_asked, is_done, moved_on, not_refused, reads_console, refusal_on, refused_no_fault, second_clear, stall_done, stall_refusal, step_refusal, uses_console}
+use Rattle.mic2_datapath.proofs.Inside.{first_clear, is_transfer}
+use Rattle.mic2_datapath.proofs.Steps.{Asked, AtConsole, IsAsked, asked_for, is_asked, is_done, is_for, mar_there, moved_on, not_refused, reads_console, refusal_left, refusal_on, refused_no_fault, samples_clear, stall_done, stall_refusal, step_refusal, unrefused, uses_console}
 use Rattle.mic2_datapath.proofs.mic2.Mic2Clocked.edge.Goals as goal
 
 pub returns-in-Ok-clause-ok : goal.returns-in-Ok-clause-ok
@@ -69,71 +70,71 @@ returns-in-Err-clause-err g c =
 
 -- a cycle that accesses nothing
 
-pub returns-in-Ok-advance_alone-clause-ok : goal.returns-in-Ok-advance_alone-clause-ok
+pub returns-in-Ok-advance-clause-ok : goal.returns-in-Ok-advance-clause-ok
 unfolding step_of_word statement_of
-returns-in-Ok-advance_alone-clause-ok g c =
+returns-in-Ok-advance-clause-ok g c =
     let old = c.args.self.now in
     let s = statement_of machines.Mic2 old.control.word in
     let m = micro_in old.latches in
-    let is : IsAsked s m (asked_alone s m) =
-    is_alone s m (sym (old.computed c.requires).waits ∙ c.if-self.false) (sym (c.is_quiet.ensures c.if-is_quiet.true)) in
+    let is : IsAsked s m (asked_for s m mems.None) =
+    is_for s m mems.None (sym (old.computed c.requires).waits ∙ c.if-self.false) (sym (c.is_quiet.ensures c.if-is_quiet.true)) in
     λ rest fits. (
       rest,
       fits,
       λ w shows same. (
         w,
-        is_done s m (asked_alone s m) is w w _ (ap (λ (ws : List ℕ). length ws) shows.words) None _ c.in-Ok-advance_alone.ensures.allowed (record { its_word = refl; after = refl; words = refl }) shows.words _
-            (c.in-Ok-advance_alone.ensures.ok ∙ ap (λ (x : ℕ). moved_on s m x c.args.bus.now.words None) ((old.computed c.requires).alu c.if-self.false)),
+        is_done s m (asked_for s m mems.None) is w w _ (ap (λ (ws : List ℕ). length ws) shows.words) None _ c.in-Ok-advance.ensures.allowed (record { its_word = refl; after = refl; words = refl }) shows.words _
+            (c.in-Ok-advance.ensures.ok ∙ ap (λ (x : ℕ). moved_on s m x c.args.bus.now.words None) ((old.computed c.requires).alu c.if-self.false)),
         shows,
         same,
       ),
     )
 
-pub returns-in-Ok-advance_alone-clause-refusal : goal.returns-in-Ok-advance_alone-clause-refusal
+pub returns-in-Ok-advance-clause-refusal : goal.returns-in-Ok-advance-clause-refusal
 unfolding step_of_word statement_of
-returns-in-Ok-advance_alone-clause-refusal g c =
+returns-in-Ok-advance-clause-refusal g c =
     let old = c.args.self.now in
     let s = statement_of machines.Mic2 old.control.word in
     let m = micro_in old.latches in
-    let is : IsAsked s m (asked_alone s m) =
-    is_alone s m (sym (old.computed c.requires).waits ∙ c.if-self.false) (sym (c.is_quiet.ensures c.if-is_quiet.true)) in
+    let is : IsAsked s m (asked_for s m mems.None) =
+    is_for s m mems.None (sym (old.computed c.requires).waits ∙ c.if-self.false) (sym (c.is_quiet.ensures c.if-is_quiet.true)) in
     λ w e shows refused.
-    let why = step_refusal s m (asked_alone s m) is _ w (ap (λ (ws : List ℕ). length ws) shows.words) in
-    let clear = ap refused_by c.in-Ok-advance_alone.ensures.allowed in
+    let why = step_refusal s m (asked_for s m mems.None) is _ w (ap (λ (ws : List ℕ). length ws) shows.words) in
+    let clear = ap refused_by c.in-Ok-advance.ensures.allowed in
     let none = sym refused ∙ why ∙ clear in
     absurd (cc)
 
-pub returns-in-Err-advance_alone-clause-refusal : goal.returns-in-Err-advance_alone-clause-refusal
+pub returns-in-Err-advance-clause-refusal : goal.returns-in-Err-advance-clause-refusal
 unfolding step_of_word statement_of
-returns-in-Err-advance_alone-clause-refusal g c =
+returns-in-Err-advance-clause-refusal g c =
     let old = c.args.self.now in
     let s = statement_of machines.Mic2 old.control.word in
     let m = micro_in old.latches in
-    let is : IsAsked s m (asked_alone s m) =
-    is_alone s m (sym (old.computed c.requires).waits ∙ c.if-self.false) (sym (c.is_quiet.ensures c.if-is_quiet.true)) in
+    let is : IsAsked s m (asked_for s m mems.None) =
+    is_for s m mems.None (sym (old.computed c.requires).waits ∙ c.if-self.false) (sym (c.is_quiet.ensures c.if-is_quiet.true)) in
     λ w e shows refused.
-    let why = step_refusal s m (asked_alone s m) is _ w (ap (λ (ws : List ℕ). length ws) shows.words) in
-    let same = sym c.in-Err-advance_alone.ensures.err ∙ (sym why ∙ refused) in
+    let why = step_refusal s m (asked_for s m mems.None) is _ w (ap (λ (ws : List ℕ). length ws) shows.words) in
+    let same = sym c.in-Err-advance.ensures.err ∙ (sym why ∙ refused) in
     cc
 
-pub returns-in-Err-advance_alone-clause-err : goal.returns-in-Err-advance_alone-clause-err
+pub returns-in-Err-advance-clause-err : goal.returns-in-Err-advance-clause-err
 unfolding step_of_word statement_of
-returns-in-Err-advance_alone-clause-err g c =
+returns-in-Err-advance-clause-err g c =
     let old = c.args.self.now in
     let s = statement_of machines.Mic2 old.control.word in
     let m = micro_in old.latches in
-    let is : IsAsked s m (asked_alone s m) =
-    is_alone s m (sym (old.computed c.requires).waits ∙ c.if-self.false) (sym (c.is_quiet.ensures c.if-is_quiet.true)) in
-    let never = refused_no_fault (refusal_on (length c.args.bus.now.words) (asked_alone s m)) c.in-Err-advance_alone.fault c.in-Err-advance_alone.ensures.err in
+    let is : IsAsked s m (asked_for s m mems.None) =
+    is_for s m mems.None (sym (old.computed c.requires).waits ∙ c.if-self.false) (sym (c.is_quiet.ensures c.if-is_quiet.true)) in
+    let never = refused_no_fault (refusal_on (length c.args.bus.now.words) (asked_for s m mems.None)) c.in-Err-advance.fault c.in-Err-advance.ensures.err in
     record {
-      refused = λ no_fault w shows. step_refusal s m (asked_alone s m) is _ w (ap (λ (ws : List ℕ). length ws) shows.words) ∙ c.in-Err-advance_alone.ensures.err;
+      refused = λ no_fault w shows. step_refusal s m (asked_for s m mems.None) is _ w (ap (λ (ws : List ℕ). length ws) shows.words) ∙ c.in-Err-advance.ensures.err;
       reads = λ e w shows. absurd (never (subst IsFault (sym e) tt));
       uses = λ e w shows. absurd (never (subst IsFault (sym e) tt));
     }
 
-pub returns-in-Err-advance_alone-clause-stands : goal.returns-in-Err-advance_alone-clause-stands
-returns-in-Err-advance_alone-clause-stands g c =
-    let never = refused_no_fault _ c.in-Err-advance_alone.fault c.in-Err-advance_alone.ensures.err in
+pub returns-in-Err-advance-clause-stands : goal.returns-in-Err-advance-clause-stands
+returns-in-Err-advance-clause-stands g c =
+    let never = refused_no_fault _ c.in-Err-advance.fault c.in-Err-advance.ensures.err in
     record {
       words = refl;
       same = λ no_fault w shows. shows;
@@ -143,14 +144,110 @@ returns-in-Err-advance_alone-clause-stands g c =
       lost = λ e. absurd (never (subst IsFault (sym e) tt));
     }
 
-pub returns-in-Err-advance_alone-clause-cause : goal.returns-in-Err-advance_alone-clause-cause
-returns-in-Err-advance_alone-clause-cause g c =
-    let never = refused_no_fault _ c.in-Err-advance_alone.fault c.in-Err-advance_alone.ensures.err in
+pub returns-in-Err-advance-clause-cause : goal.returns-in-Err-advance-clause-cause
+returns-in-Err-advance-clause-cause g c =
+    let never = refused_no_fault _ c.in-Err-advance.fault c.in-Err-advance.ensures.err in
     record {
       source_later = omega arith;
       sink_later = omega arith;
-      read = λ q. absurd (never (subst IsFault (sym (let f : c.in-Err-advance_alone.fault ≡ faults.ReadFault = cc in f)) tt));
-      write = λ q. absurd (never (subst IsFault (sym (let f : c.in-Err-advance_alone.fault ≡ faults.WriteFault = cc in f)) tt));
+      read = λ q. absurd (never (subst IsFault (sym (let f : c.in-Err-advance.fault ≡ faults.ReadFault = cc in f)) tt));
+      write = λ q. absurd (never (subst IsFault (sym (let f : c.in-Err-advance.fault ≡ faults.WriteFault = cc in f)) tt));
+      source_same = λ q. refl;
+      sink_same = λ q. refl;
+    }
+
+-- a cycle that reads what is in memory
+
+pub returns-in-Ok-advance-2-clause-ok : goal.returns-in-Ok-advance-2-clause-ok
+unfolding step_of_word statement_of
+returns-in-Ok-advance-2-clause-ok g c =
+    let old = c.args.self.now in
+    let s = statement_of machines.Mic2 old.control.word in
+    let m = micro_in old.latches in
+    let is : IsAsked s m (asked_for s m mems.Read) =
+    is_for s m mems.Read (sym (old.computed c.requires).waits ∙ c.if-self.false) (sym (c.is_read.ensures c.if-is_read.true)) in
+    let here = sym (c.mar_port-mar.ensures ∙ mar_there old.control.word m old.stalled old.value old.c c.destinations-destinations.result (old.computed c.requires) c.if-self.false c.destinations-destinations.ensures.value) in
+    let left = refusal_left (length c.args.bus.now.words) (asked_for s m mems.Read) (first_clear _ _ (c.read_alone-sampled.ensures.clear (asked_for s m mems.Read).ports here)) in
+    λ rest fits. (
+      rest,
+      fits,
+      λ w shows same. (
+        w,
+        is_done s m (asked_for s m mems.Read) is w w _ (ap (λ (ws : List ℕ). length ws) shows.words) _ _ (left ∙ c.in-Ok-advance-2.ensures.allowed) (is_transfer _ _ _ w _ _ w.words (c.read_alone-sampled.ensures.access (asked_for s m mems.Read).ports here w shows.words)) shows.words _
+            (c.in-Ok-advance-2.ensures.ok ∙ ap (λ (x : ℕ). moved_on s m x c.args.bus.now.words c.read_alone-sampled.result.word) ((old.computed c.requires).alu c.if-self.false)),
+        shows,
+        same,
+      ),
+    )
+
+pub returns-in-Ok-advance-2-clause-refusal : goal.returns-in-Ok-advance-2-clause-refusal
+unfolding step_of_word statement_of
+returns-in-Ok-advance-2-clause-refusal g c =
+    let old = c.args.self.now in
+    let s = statement_of machines.Mic2 old.control.word in
+    let m = micro_in old.latches in
+    let is : IsAsked s m (asked_for s m mems.Read) =
+    is_for s m mems.Read (sym (old.computed c.requires).waits ∙ c.if-self.false) (sym (c.is_read.ensures c.if-is_read.true)) in
+    let here = sym (c.mar_port-mar.ensures ∙ mar_there old.control.word m old.stalled old.value old.c c.destinations-destinations.result (old.computed c.requires) c.if-self.false c.destinations-destinations.ensures.value) in
+    let left = refusal_left (length c.args.bus.now.words) (asked_for s m mems.Read) (first_clear _ _ (c.read_alone-sampled.ensures.clear (asked_for s m mems.Read).ports here)) in
+    λ w e shows refused.
+    let why = step_refusal s m (asked_for s m mems.Read) is _ w (ap (λ (ws : List ℕ). length ws) shows.words) in
+    let clear = ap refused_by (left ∙ c.in-Ok-advance-2.ensures.allowed) in
+    let none = sym refused ∙ why ∙ clear in
+    absurd (cc)
+
+pub returns-in-Err-advance-2-clause-refusal : goal.returns-in-Err-advance-2-clause-refusal
+unfolding step_of_word statement_of
+returns-in-Err-advance-2-clause-refusal g c =
+    let old = c.args.self.now in
+    let s = statement_of machines.Mic2 old.control.word in
+    let m = micro_in old.latches in
+    let is : IsAsked s m (asked_for s m mems.Read) =
+    is_for s m mems.Read (sym (old.computed c.requires).waits ∙ c.if-self.false) (sym (c.is_read.ensures c.if-is_read.true)) in
+    let here = sym (c.mar_port-mar.ensures ∙ mar_there old.control.word m old.stalled old.value old.c c.destinations-destinations.result (old.computed c.requires) c.if-self.false c.destinations-destinations.ensures.value) in
+    let left = refusal_left (length c.args.bus.now.words) (asked_for s m mems.Read) (first_clear _ _ (c.read_alone-sampled.ensures.clear (asked_for s m mems.Read).ports here)) in
+    λ w e shows refused.
+    let why = step_refusal s m (asked_for s m mems.Read) is _ w (ap (λ (ws : List ℕ). length ws) shows.words) in
+    let same = sym (ap refused_by left ∙ c.in-Err-advance-2.ensures.err) ∙ (sym why ∙ refused) in
+    cc
+
+pub returns-in-Err-advance-2-clause-err : goal.returns-in-Err-advance-2-clause-err
+unfolding step_of_word statement_of
+returns-in-Err-advance-2-clause-err g c =
+    let old = c.args.self.now in
+    let s = statement_of machines.Mic2 old.control.word in
+    let m = micro_in old.latches in
+    let is : IsAsked s m (asked_for s m mems.Read) =
+    is_for s m mems.Read (sym (old.computed c.requires).waits ∙ c.if-self.false) (sym (c.is_read.ensures c.if-is_read.true)) in
+    let here = sym (c.mar_port-mar.ensures ∙ mar_there old.control.word m old.stalled old.value old.c c.destinations-destinations.result (old.computed c.requires) c.if-self.false c.destinations-destinations.ensures.value) in
+    let left = refusal_left (length c.args.bus.now.words) (asked_for s m mems.Read) (first_clear _ _ (c.read_alone-sampled.ensures.clear (asked_for s m mems.Read).ports here)) in
+    let never = refused_no_fault (refusal_on (length c.args.bus.now.words) (asked_for s m mems.Read)) c.in-Err-advance-2.fault (ap refused_by left ∙ c.in-Err-advance-2.ensures.err) in
+    record {
+      refused = λ no_fault w shows. step_refusal s m (asked_for s m mems.Read) is _ w (ap (λ (ws : List ℕ). length ws) shows.words) ∙ (ap refused_by left ∙ c.in-Err-advance-2.ensures.err);
+      reads = λ e w shows. absurd (never (subst IsFault (sym e) tt));
+      uses = λ e w shows. absurd (never (subst IsFault (sym e) tt));
+    }
+
+pub returns-in-Err-advance-2-clause-stands : goal.returns-in-Err-advance-2-clause-stands
+returns-in-Err-advance-2-clause-stands g c =
+    let never = refused_no_fault _ c.in-Err-advance-2.fault c.in-Err-advance-2.ensures.err in
+    record {
+      words = refl;
+      same = λ no_fault w shows. shows;
+      untaken = refl;
+      ended = refl;
+      emptied = λ fault. absurd (never fault);
+      lost = λ e. absurd (never (subst IsFault (sym e) tt));
+    }
+
+pub returns-in-Err-advance-2-clause-cause : goal.returns-in-Err-advance-2-clause-cause
+returns-in-Err-advance-2-clause-cause g c =
+    let never = refused_no_fault _ c.in-Err-advance-2.fault c.in-Err-advance-2.ensures.err in
+    record {
+      source_later = omega arith;
+      sink_later = omega arith;
+      read = λ q. absurd (never (subst IsFault (sym (let f : c.in-Err-advance-2.fault ≡ faults.ReadFault = cc in f)) tt));
+      write = λ q. absurd (never (subst IsFault (sym (let f : c.in-Err-advance-2.fault ≡ faults.WriteFault = cc in f)) tt));
       source_same = λ q. refl;
       sink_same = λ q. refl;
     }
@@ -161,29 +258,6 @@ pub will_fetch-at-requires : goal.will_fetch-at-requires
 will_fetch-at-requires g c =
     let old = c.args.self.now in
     are_there _ _ _ (sym (old.computed c.requires).waits ∙ c.if-self.false) old.control.demands
-
-pub advance-requires-clause-there : goal.advance-requires-clause-there
-advance-requires-clause-there g c =
-    let old = c.args.self.now in
-    are_there _ _ _ (sym (old.computed c.requires).waits ∙ c.if-self.false) old.control.demands
-
-pub advance-requires-clause-at : goal.advance-requires-clause-at
-advance-requires-clause-at g c =
-    let old = c.args.self.now in
-    let s = statement_of machines.Mic2 old.control.word in
-    let m = micro_in old.latches in
-    let asked : Asked = record { ports = c.ports-ports.result; mem = c.of_bits-mem.result; at = c.will_fetch-at.result } in
-    let is : IsAsked s m asked =
-    is_asked old.control.word m old.stalled old.value old.c c.destinations-destinations.result old.control.lines.takes c.is_named.result c.ports-ports.result c.of_bits-mem.result
-    c.will_fetch-at.result (old.computed c.requires) c.if-self.false c.destinations-destinations.ensures.value old.control.demands c.is_named.ensures c.ports-ports.ensures
-    (c.of_bits-mem.ensures ∙ ap mem_of c.mem.ensures) c.will_fetch-at.ensures.refusal c.will_fetch-at.ensures.value in
-    is.its ∙ ap (λ (p : Ports). unit_samples (jumps s.part) p.pc (demand s) m.unit) is.given
-
-pub advance-requires-clause-allowed : goal.advance-requires-clause-allowed
-advance-requires-clause-allowed g c =
-    let n = length c.args.bus.now.words in
-    ap (λ (k : ℕ). sample_refusal k c.will_fetch-at.result) c.in-Ok-access.ensures.size
-    ∙ second_clear (memory_refusal n c.of_bits-mem.result c.ports-ports.result.mar) (sample_refusal n c.will_fetch-at.result) c.in-Ok-access.ensures.allowed
 
 pub returns-in-Ok-access-clause-ok : goal.returns-in-Ok-access-clause-ok
 unfolding step_of_word
@@ -196,6 +270,7 @@ returns-in-Ok-access-clause-ok g c =
     is_asked old.control.word m old.stalled old.value old.c c.destinations-destinations.result old.control.lines.takes c.is_named.result c.ports-ports.result c.of_bits-mem.result
     c.will_fetch-at.result (old.computed c.requires) c.if-self.false c.destinations-destinations.ensures.value old.control.demands c.is_named.ensures c.ports-ports.ensures
     (c.of_bits-mem.ensures ∙ ap mem_of c.mem.ensures) c.will_fetch-at.ensures.refusal c.will_fetch-at.ensures.value in
+    let moves = unrefused _ _ c.advance-in-Ok-access.ensures.err (samples_clear s m asked is _ _ c.in-Ok-access.ensures.size c.in-Ok-access.ensures.allowed) c.advance-in-Ok-access.ensures.ok in
     λ rest fits.
     let led = c.in-Ok-access.ensures.ok rest fits in (
       led.0,
@@ -204,7 +279,7 @@ returns-in-Ok-access-clause-ok g c =
           let to = led.2 w shows same in (
             to.0,
             is_done s m asked is w to.0 _ (ap (λ (ws : List ℕ). length ws) shows.words) _ _ c.in-Ok-access.ensures.allowed to.1 to.2.words _
-                (c.advance.ensures.micro ∙ ap (λ (x : ℕ). moved_on s m x c.access.new.bus.words c.in-Ok-access.word) ((old.computed c.requires).alu c.if-self.false)),
+                (moves ∙ ap (λ (x : ℕ). moved_on s m x c.access.new.bus.words c.in-Ok-access.word) ((old.computed c.requires).alu c.if-self.false)),
             to.2,
             to.3,
           ),
@@ -220,7 +295,8 @@ returns-in-Ok-access-clause-others g c =
     is_asked old.control.word m old.stalled old.value old.c c.destinations-destinations.result old.control.lines.takes c.is_named.result c.ports-ports.result c.of_bits-mem.result
     c.will_fetch-at.result (old.computed c.requires) c.if-self.false c.destinations-destinations.ensures.value old.control.demands c.is_named.ensures c.ports-ports.ensures
     (c.of_bits-mem.ensures ∙ ap mem_of c.mem.ensures) c.will_fetch-at.ensures.refusal c.will_fetch-at.ensures.value in
-    let mar = ap (λ (p : Ports). p.mar) is.given ∙ sym (ap (λ (n : Micro). n.mar) c.advance.ensures.micro) in
+    let moves = unrefused _ _ c.advance-in-Ok-access.ensures.err (samples_clear s m asked is _ _ c.in-Ok-access.ensures.size c.in-Ok-access.ensures.allowed) c.advance-in-Ok-access.ensures.ok in
+    let mar = ap (λ (p : Ports). p.mar) is.given ∙ sym (ap (λ (n : Micro). n.mar) moves) in
     subst (λ (at : ℕ). ChangesOnly at c.args.bus.now.words c.access.new.bus.words) mar c.in-Ok-access.ensures.others
 
 pub returns-in-Ok-access-clause-refusal : goal.returns-in-Ok-access-clause-refusal

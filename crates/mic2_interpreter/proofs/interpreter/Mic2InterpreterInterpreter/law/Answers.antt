@@ -1,5 +1,4 @@
 use Rattle.mic2_interpreter.proofs.Shipped.{has_statements}
-use Rattle.mic2_interpreter.proofs.Groups.{without_stalls}
 use Rattle.mic2_interpreter.proofs.Boundaries.{shows}
 use Rattle.mic2_interpreter.proofs.Boot.{boots_off}
 use Rattle.mic2_interpreter.proofs.Output.{step_grows}
@@ -8,7 +7,10 @@ use Rattle.mic2_interpreter.proofs.interpreter.Mic2InterpreterInterpreter.law.Go
 pub returns-clause-law : goal.returns-clause-law
 returns-clause-law c = λ store o v has loads. record {
   shows = shows store o;
-  takes = without_stalls store o v (c.stalls_law.ensures.takes store o v has loads);
+  takes = record {
+    goes = λ s to q i any fine n h went. ((c.stalls_law.ensures.takes store o v has loads).goes s to q i any fine n h went).moves;
+    limits = (c.stalls_law.ensures.takes store o v has loads).limits;
+  };
   ends = c.ends_law.ensures store o v has loads;
 }
 

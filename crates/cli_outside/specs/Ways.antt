@@ -1,4 +1,4 @@
--- How a command ends that had nothing of its file, or something.
+-- The ways in which a command ends that had nothing of its file, or something, each from what was done.
 use Rattle.std.proofs.Common.{◌≡◌, ℕ, List, Option, Some, None, refl}
 use Rattle.cli_outside.specs.Status as exits
 use Rattle.cli_outside.specs.Messages.{out_of_memory}

@@ -42,3 +42,7 @@ abbrev pub IsOfConsole : Instr → Type 0
 IsOfConsole In = Unit {0}
 IsOfConsole Out = Unit {0}
 IsOfConsole i = ⊥
+
+-- what holds of each group holds of all
+abbrev pub ByGroups : ((Instr → Type 0) → Type 0) → Type 0
+ByGroups Holds = Holds IsOfOperands → Holds IsOfLocals → Holds IsJump → Holds IsCall → Holds IsOfConsole → Holds (λ i. Unit {0})

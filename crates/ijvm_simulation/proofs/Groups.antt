@@ -1,0 +1,78 @@
+-- Each instruction is of a group, or ends a run.
+use Rattle.std.proofs.Common.{ℕ, List}
+use Rattle.console_port.specs.World.{World}
+use Rattle.mic_clock.specs.Meaning.{Meaning}
+use Rattle.ijvm_instr.specs.declared.instr.Instr.{Instr}
+use Rattle.ijvm_instr.specs.declared.instr.Instr.TheVariants.{Nop, Bipush, LdcW, Iload, Istore, Pop, Dup, Swap, Iadd, Isub, Iand, Iinc, Ifeq, Iflt, IfIcmpeq, Goto, Ireturn, Ior, Invokevirtual, WideIload, WideIstore, WideIinc, In, Out, Err, Halt}
+use Rattle.ijvm_image.specs.Image.{ImageView}
+use Rattle.ijvm_run.specs.Frames.{State}
+use Rattle.ijvm_run.specs.Cost.{cost}
+use Rattle.ijvm_paths.specs.Accepted.{VerifiedView}
+use Rattle.ijvm_simulation.specs.Stands.{Origin}
+use Rattle.ijvm_simulation.specs.Groups.{IsOfOperands, IsOfLocals, IsJump, IsCall, IsOfConsole, ByGroups}
+use Rattle.ijvm_simulation.specs.Passes.{Moment}
+use Rattle.ijvm_simulation.specs.Outcomes.{Went, Overran}
+use Rattle.ijvm_simulation.specs.Verified.{Fine, IsNext}
+use Rattle.ijvm_simulation.specs.Law.{Moves, Overruns, Takes}
+use Rattle.ijvm_simulation.specs.Stalls.{MovesWithStalls, TakesWithStalls}
+
+module _ (P : Instr → Type 0) (operands : (i : Instr) → IsOfOperands i → P i) (locals : (i : Instr) → IsOfLocals i → P i) (jumps : (i : Instr) → IsJump i → P i)
+    (calls : (i : Instr) → IsCall i → P i) (consoles : (i : Instr) → IsOfConsole i → P i) (err : P Err) (halt : P Halt) where
+  each : (i : Instr) → P i
+  each Nop = operands Nop tt
+  each (Bipush b) = operands (Bipush b) tt
+  each (LdcW k) = locals (LdcW k) tt
+  each (Iload k) = locals (Iload k) tt
+  each (Istore k) = locals (Istore k) tt
+  each Pop = operands Pop tt
+  each Dup = operands Dup tt
+  each Swap = operands Swap tt
+  each Iadd = operands Iadd tt
+  each Isub = operands Isub tt
+  each Iand = operands Iand tt
+  each (Iinc k b) = locals (Iinc k b) tt
+  each (Ifeq z) = jumps (Ifeq z) tt
+  each (Iflt z) = jumps (Iflt z) tt
+  each (IfIcmpeq z) = jumps (IfIcmpeq z) tt
+  each (Goto z) = jumps (Goto z) tt
+  each Ireturn = calls Ireturn tt
+  each Ior = operands Ior tt
+  each (Invokevirtual k) = calls (Invokevirtual k) tt
+  each (WideIload k) = locals (WideIload k) tt
+  each (WideIstore k) = locals (WideIstore k) tt
+  each (WideIinc k n) = locals (WideIinc k n) tt
+  each In = consoles In tt
+  each Out = consoles Out tt
+  each Err = err
+  each Halt = halt
+
+module _ {S : Type 0} (m : Meaning S) (words : List ℕ) (IsAt : State → S → World → Type 0) (before : List ℕ) (v : VerifiedView) (o : Origin) where
+  -- what an instruction takes where it goes on, and where the stack has no room
+  abbrev On : (State → Moment S → Instr → Type 0) → State → State → Moment S → Instr → Type 0
+  On Leads s to q i = Fine v s → IsNext v o s i → IsAt s q.state q.world → Went v.image v.map.stack_end s to i → Leads to q i
+
+  abbrev Full : State → State → Moment S → Instr → Type 0
+  Full s left q i = Fine v s → IsNext v o s i → IsAt s q.state q.world → Overran v.image v.map.stack_end s left i → Overruns m words IsAt before q left
+
+  pub takes : ByGroups (Takes m words IsAt before v o)
+  takes operands locals jumps calls consoles =
+      record {
+        goes = λ s to q i any.
+            each (On (λ t p j. Moves m words IsAt before p (cost v.image m.machine j s) t) s to q) (operands.goes s to q) (locals.goes s to q) (jumps.goes s to q) (calls.goes s to q) (consoles.goes s to q)
+            (λ fine n h went. absurd went) (λ fine n h went. absurd went) i;
+        limits = λ s left q i any.
+            each (Full s left q) (operands.limits s left q) (locals.limits s left q) (jumps.limits s left q) (calls.limits s left q) (consoles.limits s left q)
+            (λ fine n h over. absurd over) (λ fine n h over. absurd over) i;
+      }
+
+  pub takes_with_stalls : (stalls_of : ImageView → Instr → ℕ) → ByGroups (TakesWithStalls m words IsAt before stalls_of v o)
+  takes_with_stalls stalls_of operands locals jumps calls consoles =
+      record {
+        goes = λ s to q i any.
+            each (On (λ t p j. MovesWithStalls m words IsAt before p (cost v.image m.machine j s) (stalls_of v.image j) t) s to q)
+            (operands.goes s to q) (locals.goes s to q) (jumps.goes s to q) (calls.goes s to q) (consoles.goes s to q)
+            (λ fine n h went. absurd went) (λ fine n h went. absurd went) i;
+        limits = λ s left q i any.
+            each (Full s left q) (operands.limits s left q) (locals.limits s left q) (jumps.limits s left q) (calls.limits s left q) (consoles.limits s left q)
+            (λ fine n h over. absurd over) (λ fine n h over. absurd over) i;
+      }

@@ -1,0 +1,79 @@
+-- Words, and the bytes of a memory.
+use Rattle.std.proofs.Common.{◌≡◌, ℕ, ◌+◌, ◌-◌, ◌/◌, ◌%◌, ◌^◌, ◌<◌, ◌≤◌, ◌*◌, None, true, false, List, arith, ◌∙◌, ap, ap₂, add_comm, inl, inr}
+use Rattle.std.specs.Prelude.{slice_index, nat_lt, bit_or}
+use Rattle.std.proofs.lemmas.Bool.Decides.{nat_tests}
+use Rattle.std.proofs.lemmas.Bool.{cases_lt}
+use Rattle.std.proofs.lemmas.Nat.{or_shifted}
+use Rattle.machine_words.specs.Arithmetic.{wrap, plus, minus, next, before, signed_byte, signed_pair}
+use Rattle.console_port.specs.World.{fetch_refusal, byte_in}
+use Rattle.ijvm_simulation.specs.Stack.{IsMapEnd}
+
+pub wrap_small : (x : ℕ) → x < 2 ^ 32 → wrap x ≡ x
+unfolding wrap
+wrap_small x h = omega arith
+
+pub next_is : (x y : ℕ) → x + 1 ≡ y → y < 2 ^ 32 → next x ≡ y
+unfolding wrap
+next_is x y e h = omega arith
+
+pub before_is : (x y : ℕ) → x ≡ y + 1 → x < 2 ^ 32 → before x ≡ y
+unfolding wrap
+before_is x y e h = omega arith
+
+pub byte_bound : (words : List ℕ) (p : ℕ) → byte_in words p < 256
+unfolding byte_in
+byte_bound words p = omega arith
+
+pub fetch_ok : (top : ℕ) {x p : ℕ} → IsMapEnd top → x ≡ p → p < 0x20000 → fetch_refusal top x ≡ None
+unfolding fetch_refusal
+fetch_ok top {x} {p} map e l =
+    let low : 0x8000 ≤ top = map.low in
+    let t : nat_lt (x / 4) top ≡ true = grind (arith, nat_tests) in
+    rw t
+
+-- a byte below the stack is what it was
+pub byte_kept : (words origin : List ℕ) {x p : ℕ} → ((a : ℕ) → a < 0x8000 → slice_index words a ≡ slice_index origin a) → x ≡ p → p < 0x20000 →
+    byte_in words x ≡ byte_in origin p
+unfolding byte_in
+byte_kept words origin {x} {p} h e l =
+    ap (λ (k : ℕ). slice_index words (k / 4) / 256 ^ (3 - k % 4) % 256) e
+    ∙ ap (λ (v : ℕ). v / 256 ^ (3 - p % 4) % 256) (h (p / 4) (omega arith))
+
+pub plus_comm : (x y : ℕ) → plus x y ≡ plus y x
+plus_comm x y = ap wrap (add_comm x y)
+
+pub plus_is : {x y x' y' z : ℕ} → x ≡ x' → y ≡ y' → x' + y' ≡ z → z < 2 ^ 32 → plus x y ≡ z
+plus_is {x} {y} {x'} {y'} {z} ex ey e h = wrap_small (x + y) (omega arith) ∙ omega arith
+
+pub minus_is : {x y x' y' z : ℕ} → x ≡ x' → y ≡ y' → x' ≡ z + y' → x' < 2 ^ 32 → minus x y ≡ z
+unfolding wrap
+minus_is {x} {y} {x'} {y'} {z} ex ey e h = omega arith
+
+-- two bytes as a number
+pub two_bytes : (a b : ℕ) → a < 256 → b < 256 → bit_or (wrap (256 * a)) b ≡ 256 * a + b
+two_bytes a b la lb =
+    let e : wrap (256 * a) ≡ a * 2 ^ 8 = wrap_small (256 * a) (omega arith) ∙ omega arith in
+    ap (λ (k : ℕ). bit_or k b) e ∙ (or_shifted a 8 b lb ∙ omega arith)
+
+-- the number that two bytes of a memory make
+pub pair_is : (words : List ℕ) (p q : ℕ) {x y k : ℕ} → x ≡ byte_in words p → y ≡ byte_in words q → k ≡ 256 * byte_in words p + byte_in words q → bit_or (wrap (256 * x)) y ≡ k
+pair_is words p q {x} {y} {k} ex ey e =
+    ap₂ (λ (i : ℕ) (j : ℕ). bit_or (wrap (256 * i)) j) ex ey ∙ (two_bytes (byte_in words p) (byte_in words q) (byte_bound words p) (byte_bound words q) ∙ omega (arith, e))
+
+-- and a signed one
+signed_two : (a b : ℕ) → a < 256 → b < 256 → bit_or (wrap (256 * signed_byte a)) b ≡ signed_pair a b
+unfolding signed_byte signed_pair wrap
+signed_two a b la lb = elim (cases_lt a 128) [
+  | inl low ↦
+      let t : nat_lt a 128 ≡ true = grind (arith, nat_tests) in
+      rw t (two_bytes a b la lb)
+  | inr high ↦
+      let t : nat_lt a 128 ≡ false = grind (arith, nat_tests) in
+      let e : (256 * (a + 4294967040)) % 4294967296 ≡ (a + 16776960) * 2 ^ 8 = omega arith in
+      rw t (ap (λ (k : ℕ). bit_or k b) e ∙ (or_shifted (a + 16776960) 8 b lb ∙ omega arith))
+]
+
+pub signed_pair_is : (words : List ℕ) (p q : ℕ) {x y : ℕ} → x ≡ byte_in words p → y ≡ byte_in words q → bit_or (wrap (256 * signed_byte x)) y ≡ signed_pair (byte_in words p) (byte_in words q)
+signed_pair_is words p q {x} {y} ex ey =
+    ap₂ (λ (i : ℕ) (j : ℕ). bit_or (wrap (256 * signed_byte i)) j) ex ey
+    ∙ signed_two (byte_in words p) (byte_in words q) (byte_bound words p) (byte_bound words q)
