@@ -207,22 +207,22 @@ module _ {M State : Type 0} (state : M → State) (m : Meaning State) (book : Bo
   left_by plans.Nothing part = stayed plans.Nothing part
   left_by plans.Quit part = stayed plans.Quit part
 
-pub breaks_by : {M State T E : Type 0} {state : M → State} {m : Meaning State} {left left' : List ℕ} {o o' : OutsideView} {v v' : SessionView M} (line : List ℕ) (r : Result T E) →
+pub breaks_by : {M State T E : Type 0} (state : M → State) (m : Meaning State) (left left' : List ℕ) (o o' : OutsideView) (v v' : SessionView M) (line : List ℕ) (r : Result T E) →
     OnErr r ((v.board.end ≡ None → v'.board.end ≢ Some ends.ReadFault) → (book : Book) → IsBook v.listing.program v.listing.placement v.listing.image book →
     IsBrokenIn state m book (Some left) o.out.held o.err.held v (Some left') o'.out.held o'.err.held v'.board (plan_in v line)) →
     (v.board.end ≡ None → HasReadCause 0 0 v'.board.end) → OnErr r (BreaksOff state m line (place v left o) o')
-breaks_by line (Ok reply) broken input = tt
-breaks_by {state = state} {m = m} {left = left} {left' = left'} {o = o} {o' = o'} {v = v} {v' = v'} line (Err e) broken input =
+breaks_by state m left left' o o' v v' line (Ok reply) broken input = tt
+breaks_by state m left left' o o' v v' line (Err e) broken input =
     λ book is_book s here.
     let at = left_by state m book left left' o.out.held o'.out.held o.err.held o'.err.held v v'.board s here (plan_in v line) (broken (λ none read. no_rise ((input none).rose read)) book is_book) in
     broken_off m book v.board.store.words v.listing.memory v.bound s line o'.out.held o.err.held o'.err.held at.0 at.1
     (subst (λ (p : Plan). Begins m book v.board.store.words v.listing.memory v.bound p s at.0 at.1) (same_plan state m book left left' o.out.held o'.out.held v v'.board [] s here line) at.2) at.3 at.4
 
 -- so it is cut short
-pub cut_by : {M State T E : Type 0} {state : M → State} {m : Meaning State} {old : Place M} {new : OutsideView} (line : List ℕ) (r : Result T E) →
+pub cut_by : {M State T E : Type 0} (state : M → State) (m : Meaning State) (old : Place M) (new : OutsideView) (line : List ℕ) (r : Result T E) →
     OnErr r (BreaksOff state m line old new) → ((front : List ℕ) → Holds front old.seen.out.held → Holds front new.out.held) →
     ((front : List ℕ) → Holds front old.seen.err.held → Holds front new.err.held) → new.files ≡ old.seen.files →
     OnErr r (Rose old.seen.out.faults new.out.faults ⊎ Rose old.seen.err.faults new.err.faults) → OnErr r (IsCutShort state m line old new)
-cut_by line (Ok reply) breaks keeps_out keeps_err files rose = tt
-cut_by line (Err e) breaks keeps_out keeps_err files rose =
+cut_by state m old new line (Ok reply) breaks keeps_out keeps_err files rose = tt
+cut_by state m old new line (Err e) breaks keeps_out keeps_err files rose =
     record { breaks = breaks; keeps_out = keeps_out; keeps_err = keeps_err; files = files; rose = rose }

@@ -174,13 +174,13 @@ quits_by v line (Ok reply) is = ap is_quit_reply is ∙ line_quits v.board.end v
 quits_by v line (Err e) is = tt
 
 -- it leads the session over the line
-pub leads_by : {M State T E : Type 0} {state : M → State} {m : Meaning State} {left left' : List ℕ} {o o' : OutsideView} {v v' : SessionView M} (line : List ℕ) (r : Result T E) →
+pub leads_by : {M State T E : Type 0} (state : M → State) (m : Meaning State) (left left' : List ℕ) (o o' : OutsideView) (v v' : SessionView M) (line : List ℕ) (r : Result T E) →
     OnOk r (NoFault v.board.end v'.board.end → (book : Book) → IsBook v.listing.program v.listing.placement v.listing.image book →
     (text : List ℕ) × Prints o.err.held text o'.err.held × Obeys state m book (Some left) o.out.held v (Some left') o'.out.held v'.board text (plan_in v line)) →
     OnOk r (v.board.end ≡ None → v'.board.end ≢ Some ends.WriteFault) → (v.board.end ≡ None → HasReadCause 0 0 v'.board.end) →
     OnOk r (v'.breaks ≡ breaks_after v.breaks (command_of v.listing.memory line)) → OnOk r (v'.watched ≡ watched_after v.watched (command_of v.listing.memory line)) →
     OnOk r (LeadsOver state m (line ∷ []) (place v left o) (place v' left' o'))
-leads_by {state = state} {m = m} {left = left} {left' = left'} {o = o} {o' = o'} {v = v} {v' = v'} line (Ok reply) obeys fault input breaks watched =
+leads_by state m left left' o o' v v' line (Ok reply) obeys fault input breaks watched =
     λ book is_book.
     let read : v.board.end ≡ None → v'.board.end ≢ Some ends.ReadFault = λ none e. no_rise ((input none).rose e) in
     let at = obeys (no_fault v.board.end v'.board.end read fault) book is_book in (
@@ -188,14 +188,14 @@ leads_by {state = state} {m = m} {left = left} {left' = left'} {o = o} {o' = o'}
       at.1,
       λ s here. stands_next state m book left left' o.out.held o'.out.held v v'.board at.0 s here line v' refl breaks watched at.2,
     )
-leads_by line (Err e) obeys fault input breaks watched = tt
+leads_by state m left left' o o' v v' line (Err e) obeys fault input breaks watched = tt
 
 -- so it is done whole
-pub done_by : {M State T E : Type 0} {state : M → State} {m : Meaning State} {old new : Place M} (line : List ℕ) (r : Result T E) →
+pub done_by : {M State T E : Type 0} (state : M → State) (m : Meaning State) (old new : Place M) (line : List ℕ) (r : Result T E) →
     OnOk r (LeadsOver state m (line ∷ []) old new) → OnOk r (new.session.board.bus.console.kept ≡ []) →
     (new.session.listing ≡ old.session.listing) × (new.session.bound ≡ old.session.bound) → new.session.board.store ≡ old.session.board.store →
     new.seen.files ≡ old.seen.files → OnOk r ((new.seen.out.faults ≡ old.seen.out.faults) × (new.seen.err.faults ≡ old.seen.err.faults)) →
     OnOk r (Gone state m (line ∷ []) old new)
-done_by line (Ok reply) led kept same store files quiet =
+done_by state m old new line (Ok reply) led kept same store files quiet =
     record { led = led; listing = same.0; bound = same.1; store = store; kept = kept; files = files; out = quiet.0; err = quiet.1 }
-done_by line (Err e) led kept same store files quiet = tt
+done_by state m old new line (Err e) led kept same store files quiet = tt

@@ -5,7 +5,7 @@ pub returns : goal.returns
 returns g c =
     let made = c.new.ensures in
     record {
-      reset = rw made.board (record { loaded = c.args.prepared.micro.is_loaded; store = c.in-Ok.ensures.store; reset = c.in-Ok.ensures.reset });
+      reset = rw made.board (record { loaded = c.args.prepared.micro.is_loaded; store = c.in_ok-board.ensures.store; reset = c.in_ok-board.ensures.reset });
       begun = record {
         program_is = made.program;
         placement = made.placement;

@@ -1,0 +1,7 @@
+use Rattle.std.proofs.Common.{IfErr, option_map, ℕ, List, Bor}
+use Rattle.cli_outside.specs.Outside.{Over}
+use Rattle.cli_debug.specs.Input.{IsNoInput}
+use Rattle.cli_debug.proofs.commands.chosen_input.Goals as goal
+
+pub returns-in-Some-clause-err : goal.returns-in-Some-clause-err
+returns-in-Some-clause-err g c = rw c.in-Some.is c.read.ensures.unread
