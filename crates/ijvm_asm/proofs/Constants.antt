@@ -1,7 +1,9 @@
 -- The lines of a section of constants make what the section makes.
 use Rattle.std.proofs.Common.{◌≡◌, ℕ, ◌+◌, true, false, List, [], ◌∷◌, ◌++◌, map, Option, Some, None, refl, ap, sym, subst, ◌∙◌}
 use Rattle.std.specs.Prelude.{is_some}
-use Rattle.std.proofs.lemmas.List.{append_assoc}
+use Rattle.std.proofs.lemmas.List.{append_assoc, append-nil}
+use Rattle.std.proofs.lemmas.Bool.{or_parts, or_from}
+use Rattle.std.proofs.option.Match.{None-if_not_some}
 use Rattle.ijvm_program.specs.declared.line.Constant.{Constant}
 use Rattle.ijvm_line.specs.declared.place.Place.TheVariants as places
 use Rattle.ijvm_line.specs.declared.place.Mark.TheVariants as marks
@@ -14,7 +16,7 @@ use Rattle.ijvm_asm.specs.Making.{AreConstants, defined}
 use Rattle.ijvm_asm.proofs.Made.{MakesConstants}
 use Rattle.ijvm_asm.specs.Adding.{is_declared}
 use Rattle.ijvm_asm.proofs.Building.{Build}
-use Rattle.ijvm_asm.proofs.Conditions.{both, if_ok, neither, nil, none, ok, ok_if}
+use Rattle.ijvm_asm.proofs.Conditions.{if_ok, ok, ok_if}
 
 abbrev names_of : List Constant → List (List ℕ)
 names_of cs = map (λ c. c.name) cs
@@ -32,7 +34,7 @@ abbrev items_lines : List (Option Constant) → List Said
 items_lines items = map constant_line items ++ (Dotted marks.EndConstants ∷ [])
 
 none_added : (s : Source) → added s (s.constants ++ []) (s.values ++ []) ≡ added s s.constants s.values
-none_added s = ap (λ cs. added s cs (s.values ++ [])) (nil s.constants) ∙ ap (λ vs. added s s.constants vs) (nil s.values)
+none_added s = ap (λ cs. added s cs (s.values ++ [])) (append-nil s.constants) ∙ ap (λ vs. added s s.constants vs) (append-nil s.values)
 
 one_added : (s : Source) (c : Constant) (cs : List Constant) → added (with_one s c) ((s.constants ++ c.name ∷ []) ++ names_of cs) ((s.values ++ c.value ∷ []) ++ values_of cs)
     ≡ added s (s.constants ++ names_of (c ∷ cs)) (s.values ++ values_of (c ∷ cs))
@@ -53,12 +55,12 @@ items_add (Some c ∷ items) k s u e (v, p, h, more) =
     let b = if_ok (is_declared s c.name) (errors.DuplicateName k) (ok (with_one s c)) v h in
     let g : ok (with_one s c) ≡ ok v = b.1 in
     let q : with_one s c ≡ v = cc in
-    let n = both (is_some (names.place_of s.constants c.name)) (is_some (names.place_of s.methods c.name)) b.0 in
+    let n = or_parts (is_some (names.place_of s.constants c.name)) (is_some (names.place_of s.methods c.name)) b.0 in
     let r = items_add items (k + 1) (with_one s c) u e (subst (λ w. Build (k + 1) w (items_lines items) u) (sym q) more) in
-    ((none _ n.0, none _ n.1, r.0), r.1 ∙ one_added s c (defined items))
+    ((None-if_not_some _ n.0, None-if_not_some _ n.1, r.0), r.1 ∙ one_added s c (defined items))
 
 undeclared : (s : Source) (name : List ℕ) → names.place_of s.constants name ≡ None → names.place_of s.methods name ≡ None → is_declared s name ≡ false
-undeclared s name a b = neither (is_some (names.place_of s.constants name)) (is_some (names.place_of s.methods name)) (ap is_some a) (ap is_some b)
+undeclared s name a b = or_from (is_some (names.place_of s.constants name)) (is_some (names.place_of s.methods name)) (ap is_some a) (ap is_some b)
 
 items_added : (items : List (Option Constant)) (k : ℕ) (s u : Source) → s.place ≡ places.Constants → Added s (defined items) u → Build k s (items_lines items) u
 items_added [] k s u e (n, q) = (added s s.constants s.values, e, refl, sym (q ∙ none_added s))

@@ -55,14 +55,14 @@ costs (x ∷ xs) = cost_of (line_meant x) + costs xs
 
 -- ---- the bytes of an instruction
 
-abbrev ok : {A : Type 0} → A → Result A LineFault
+abbrev pub ok : {A : Type 0} → A → Result A LineFault
 ok a = Ok a
 
-same : {A : Type 0} (P : A → Type 0) (a b : A) → ok a ≡ ok b → P a → P b
-same P a b e h = let q : a ≡ b = cc in subst P q h
+pub same_ok : {A : Type 0} (P : A → Type 0) (a b : A) → ok a ≡ ok b → P a → P b
+same_ok P a b e h = let q : a ≡ b = cc in subst P q h
 
-of_made : {A B : Type 0} (P : B → Type 0) (f : A → B) (b : B) (r : Result A LineFault) → ranges.made f r ≡ Ok b → ((a : A) → r ≡ Ok a → P (f a)) → P b
-of_made P f b (Ok a) e h = same P (f a) b e (h a refl)
+pub of_made : {A B : Type 0} (P : B → Type 0) (f : A → B) (b : B) (r : Result A LineFault) → ranges.made f r ≡ Ok b → ((a : A) → r ≡ Ok a → P (f a)) → P b
+of_made P f b (Ok a) e h = same_ok P (f a) b e (h a refl)
 of_made P f b (Err x) e h = absurd (cc)
 
 pub access_size : (access : Access) (wide : Bool) (k : ℕ) → instr_size (ranges.access_instr access wide k) ≤ 4
@@ -102,7 +102,7 @@ constant_size : (o : Operand) (ts : List Token) (i : Instruction) → Begins kin
 constant_size (operands.Name n) ts i b h =
     let a = behind_word kinds.Constant (tokens.Name n ∷ []) ts b in
     let s = some_size (operands.Name n) in
-    same (Within (tokens_size ts + 1)) (instructions.Constant n) i h (omega (arith, a, s))
+    same_ok (Within (tokens_size ts + 1)) (instructions.Constant n) i h (omega (arith, a, s))
 constant_size (operands.Number v) ts i b h =
     let a = behind_word kinds.Constant (tokens.Number v ∷ []) ts b in
     of_made (Within (tokens_size ts + 1)) (λ k. instructions.Plain (instrs.LdcW k)) i (ranges.index v) h (λ k e. omega (arith, a))
@@ -110,7 +110,7 @@ constant_size (operands.Number v) ts i b h =
 local_size : (access : Access) (wide : Bool) (o : Operand) (ts : List Token) (i : Instruction) → 2 + tokens_size (operand_token o ∷ []) ≤ tokens_size ts → ranges.local access wide o ≡ Ok i → Within (tokens_size ts + 1) i
 local_size access wide (operands.Name n) ts i a h =
     let s = some_size (operands.Name n) in
-    same (Within (tokens_size ts + 1)) (instructions.Local access wide n) i h (omega (arith, a, s))
+    same_ok (Within (tokens_size ts + 1)) (instructions.Local access wide n) i h (omega (arith, a, s))
 local_size access wide (operands.Number v) ts i a h =
     of_made (Within (tokens_size ts + 1)) (λ k. instructions.Plain (ranges.access_instr access wide k)) i (ranges.index v) h (λ k e. let s = access_size access wide k in omega (arith, a, s))
 
@@ -131,7 +131,7 @@ increment_size wide (operands.Number index) by ts i a h = go (ranges.index index
     go (Err x) h = absurd (cc)
 
 statement_size : (st : Statement) (ts : List Token) (i : Instruction) → IsStatement ts st → ranges.instruction_of st ≡ Ok i → Within (tokens_size ts + 1) i
-statement_size (statements.Plain instr) ts i b h = same (Within (tokens_size ts + 1)) (instructions.Plain instr) i h (alone_size instr ts b)
+statement_size (statements.Plain instr) ts i b h = same_ok (Within (tokens_size ts + 1)) (instructions.Plain instr) i h (alone_size instr ts b)
 statement_size (statements.Push value) ts i b h = push_size value ts i b h
 statement_size (statements.Constant o) ts i b h = constant_size o ts i b h
 statement_size (statements.Local access false o) ts i b h = local_size access false o ts i (behind_word (kinds.Local access) (operand_token o ∷ []) ts b) h
@@ -147,11 +147,11 @@ statement_size (statements.Increment true o by) ts i (rest, b, c) h =
 statement_size (statements.Jump jump label) ts i b h =
     let a = behind_word (kinds.Jump jump) (tokens.Name label ∷ []) ts b in
     let s = some_size (operands.Name label) in
-    same (Within (tokens_size ts + 1)) (instructions.Jump jump label) i h (omega (arith, a, s))
+    same_ok (Within (tokens_size ts + 1)) (instructions.Jump jump label) i h (omega (arith, a, s))
 statement_size (statements.Call method) ts i b h =
     let a = behind_word kinds.Call (tokens.Name method ∷ []) ts b in
     let s = some_size (operands.Name method) in
-    same (Within (tokens_size ts + 1)) (instructions.Call method) i h (omega (arith, a, s))
+    same_ok (Within (tokens_size ts + 1)) (instructions.Call method) i h (omega (arith, a, s))
 
 -- ---- the bytes of a line
 
@@ -159,12 +159,12 @@ abbrev Costs : ℕ → Line → Type 0
 Costs n m = cost_of m ≤ n
 
 form_size : (p : Place) (ts : List Token) (f : Form) (m : Line) → IsForm p ts f → lines.line_by f ≡ Ok m → Costs (tokens_size ts + 1) m
-form_size p ts forms.Nothing m h e = same (Costs (tokens_size ts + 1)) says.Nothing m e (omega arith)
-form_size p ts (forms.Mark mark) m h e = same (Costs (tokens_size ts + 1)) (says.Mark mark) m e (omega arith)
-form_size p ts (forms.Method n) m h e = let a = ap tokens_size h.1.1 in same (Costs (tokens_size ts + 1)) (says.Method n) m e (omega (arith, a))
+form_size p ts forms.Nothing m h e = same_ok (Costs (tokens_size ts + 1)) says.Nothing m e (omega arith)
+form_size p ts (forms.Mark mark) m h e = same_ok (Costs (tokens_size ts + 1)) (says.Mark mark) m e (omega arith)
+form_size p ts (forms.Method n) m h e = let a = ap tokens_size h.1.1 in same_ok (Costs (tokens_size ts + 1)) (says.Method n) m e (omega (arith, a))
 form_size p ts (forms.Constant n v) m h e = of_made (Costs (tokens_size ts + 1)) (λ w. says.Constant n w) m (ranges.word v) e (λ w f. omega arith)
-form_size p ts (forms.Local n) m h e = same (Costs (tokens_size ts + 1)) (says.Local n) m e (omega arith)
-form_size p ts (forms.Code l None) m h e = same (Costs (tokens_size ts + 1)) (says.Code l None) m e (omega arith)
+form_size p ts (forms.Local n) m h e = same_ok (Costs (tokens_size ts + 1)) (says.Local n) m e (omega arith)
+form_size p ts (forms.Code l None) m h e = same_ok (Costs (tokens_size ts + 1)) (says.Code l None) m e (omega arith)
 form_size p ts (forms.Code None (Some st)) m h e =
     of_made (Costs (tokens_size ts + 1)) (λ i. says.Code None (Some i)) m (ranges.instruction_of st) e (λ i f. statement_size st ts i h.1 f)
 form_size p ts (forms.Code (Some l) (Some st)) m h e =

@@ -1,13 +1,14 @@
 -- What sections make of the reader's record is what they declare.
 use Rattle.std.proofs.Common.{◌≡◌, ℕ, ◌+◌, true, false, List, [], ◌∷◌, ◌++◌, map, length, Option, Some, None, refl, ap, sym, subst, ◌∙◌}
 use Rattle.std.specs.Prelude.{is_some}
+use Rattle.std.proofs.lemmas.List.{append-nil}
+use Rattle.std.proofs.option.Match.{None-if_not_some}
 use Rattle.ijvm_line.specs.declared.place.Place.TheVariants as places
 use Rattle.ijvm_asm.specs.Drafts.{begun, DraftView}
 use Rattle.ijvm_asm.specs.Sections.{Between, Body, CodeItem, Constants, Locals, Main, Method, Section, section_lines}
 use Rattle.ijvm_asm.specs.Source.{declarations_of, Source}
 use Rattle.ijvm_asm.specs.Units.{AreLocals, AreNew, code_from, declared, labels_in, lines_in, locals_in, MakesUnit, positions_in, waits_behind}
 use Rattle.ijvm_asm.specs.Making.{Declarations, defined, SectionAdds, SectionsDeclare}
-use Rattle.ijvm_asm.proofs.Conditions.{nil, none}
 use Rattle.ijvm_asm.proofs.Made.{MakesBody, Makes, may_declare_behind, OpensLocals, SectionsMake}
 use Rattle.ijvm_asm.proofs.Mains.{main_ended, main_opened}
 use Rattle.ijvm_asm.proofs.Methods.{ended, opened}
@@ -28,7 +29,7 @@ coded j items u = record u {
 }
 
 opens_is : (o : Option Locals) (k : ℕ) (s v : Source) (name : Option (List ℕ)) (ps : List (List ℕ)) → s.unit ≡ begun name ps → OpensLocals k s o v → AreLocals ps (locals_in o) × (v.unit ≡ with_locals name ps o)
-opens_is None k s v name ps e q = (tt, ap (λ (w : Source). w.unit) (sym q) ∙ (e ∙ ap (λ (ns : List (List ℕ)). record (begun name ps) { names = ns }) (sym (nil ps))))
+opens_is None k s v name ps e q = (tt, ap (λ (w : Source). w.unit) (sym q) ∙ (e ∙ ap (λ (ns : List (List ℕ)). record (begun name ps) { names = ns }) (sym (append-nil ps))))
 opens_is (Some d) k s v name ps e q = (
   subst (λ (u : DraftView). AreLocals u.names (declared d.names)) e q.0,
   ap (λ (w : Source). w.unit) q.1 ∙ ap (λ (u : DraftView). record u { names = u.names ++ declared d.names }) e,
@@ -83,7 +84,7 @@ section_adds (Main b) k s u e m =
     let t = m.last in
     let d : declarations_of t ≡ declarations_of s = body_keeps declarations_of (λ w p n c v. refl) (k + 1) (main_opened k s) b t m.content in (
       record {
-        first = none s.main (sym e ∙ m.first);
+        first = None-if_not_some s.main (sym e ∙ m.first);
         unit = t.unit;
         is = body_is (k + 1) (main_opened k s) t None [] b refl m.content;
         adds = ap declarations_of m.ends ∙ ap (λ (x : Declarations). record x { main = Some t.unit }) d;

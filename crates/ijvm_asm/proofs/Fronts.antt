@@ -1,6 +1,7 @@
 -- Lines are the first of some sections exactly where they make something, one by one: what is open can always be ended.
 use Rattle.std.proofs.Common.{◌≡◌, ℕ, ◌+◌, Bool, true, false, List, [], ◌∷◌, ◌++◌, Option, Some, None, length, refl, ap, sym, subst, ◌∙◌}
 use Rattle.std.specs.Prelude.{◌||◌, not, Ok, is_some}
+use Rattle.std.proofs.lemmas.Bool.{or_from, not_from_true}
 use Rattle.ijvm_instr.specs.declared.instr.Instr.TheVariants as instrs
 use Rattle.ijvm_line.specs.declared.place.Place.{Place}
 use Rattle.ijvm_line.specs.declared.place.Place.TheVariants as places
@@ -14,7 +15,7 @@ use Rattle.ijvm_asm.specs.Source.{declarations_of, empty, Source}
 use Rattle.ijvm_asm.specs.Adding.{add_instruction}
 use Rattle.ijvm_asm.specs.Refusals.{IsFront, StandsAt}
 use Rattle.ijvm_asm.proofs.Building.{add, Build, join, split}
-use Rattle.ijvm_asm.proofs.Conditions.{neither, not_true, ok, ok_if}
+use Rattle.ijvm_asm.proofs.Conditions.{ok, ok_if}
 use Rattle.ijvm_asm.proofs.Declaring.{declared_make, sections_declare}
 use Rattle.ijvm_asm.proofs.InOrder.{from_order, in_order}
 use Rattle.ijvm_asm.proofs.Mains.{main_ended}
@@ -33,13 +34,13 @@ unit_ends k t e p = go t.unit.name refl
     go None f = (
       Dotted marks.EndMain ∷ [],
       main_ended t,
-      (main_ended t, e, ok_if (is_some t.unit.name || t.unit.pending) (errors.BadLine k) (ok (main_ended t)) (neither (is_some t.unit.name) t.unit.pending (ap is_some f) p), refl),
+      (main_ended t, e, ok_if (is_some t.unit.name || t.unit.pending) (errors.BadLine k) (ok (main_ended t)) (or_from (is_some t.unit.name) t.unit.pending (ap is_some f) p), refl),
       refl,
     )
     go (Some n) f = (
       Dotted marks.EndMethod ∷ [],
       ended t,
-      (ended t, e, ok_if (not (is_some t.unit.name) || t.unit.pending) (errors.BadLine k) (ok (ended t)) (neither (not (is_some t.unit.name)) t.unit.pending (not_true (is_some t.unit.name) (ap is_some f)) p), refl),
+      (ended t, e, ok_if (not (is_some t.unit.name) || t.unit.pending) (errors.BadLine k) (ok (ended t)) (or_from (not (is_some t.unit.name)) t.unit.pending (not_from_true (is_some t.unit.name) (ap is_some f)) p), refl),
       refl,
     )
 

@@ -2,6 +2,7 @@
 use Rattle.std.proofs.Common.{◌≡◌, ℕ, zero, suc, ◌+◌, true, false, List, [], ◌∷◌, ◌++◌, map, replicate, length, Option, Some, None, refl, ap, sym, subst, ◌∙◌}
 use Rattle.std.specs.Prelude.{◌||◌, not, is_some}
 use Rattle.std.proofs.lemmas.List.{append_assoc}
+use Rattle.std.proofs.lemmas.Bool.{or_parts, or_from, not_from_true}
 use Rattle.ijvm_line.specs.declared.place.Mark.TheVariants as marks
 use Rattle.ijvm_line.specs.declared.place.Place.TheVariants as places
 use Rattle.ijvm_asm.specs.declared.error.AsmError.TheVariants as errors
@@ -12,7 +13,7 @@ use Rattle.ijvm_asm.specs.Source.{Source}
 use Rattle.ijvm_asm.specs.Units.{code_from}
 use Rattle.ijvm_asm.proofs.Made.{MakesMain, OpensLocals}
 use Rattle.ijvm_asm.proofs.Building.{Build, join, moved, same, split}
-use Rattle.ijvm_asm.proofs.Conditions.{both, if_ok, neither, not_true, ok, ok_if}
+use Rattle.ijvm_asm.proofs.Conditions.{if_ok, ok, ok_if}
 use Rattle.ijvm_asm.proofs.Units.{code_makes, locals_make, make_locals, makes_code}
 
 blanks_make : (n k : ℕ) (ys : List Said) (s u : Source) → Build k s (replicate n (BlankAt places.Code) ++ ys) u → Build (k + n) s ys u
@@ -49,7 +50,7 @@ open_locals (Some d) k s v u zs e m q b =
     let more = subst (λ ws. Build (n + 1) (in_locals n s) ws u) (append_assoc (map local_line d.names) (Dotted marks.EndLocals ∷ []) zs)
     (join (locals_end d) zs (n + 1) (in_locals n s) v u (make_locals d.names (n + 1) (in_locals n s) v refl q) b) in
     make_blanks d.blank_lines k (Dotted marks.BeginLocals ∷ (map local_line d.names ++ (Dotted marks.EndLocals ∷ zs))) s u e
-    (in_locals n s, e, ok_if (not s.may_declare) (errors.BadLine n) (ok (in_locals n s)) (not_true s.may_declare m), more)
+    (in_locals n s, e, ok_if (not s.may_declare) (errors.BadLine n) (ok (in_locals n s)) (not_from_true s.may_declare m), more)
 
 -- where the code of a unit starts, and that its name stays
 pub opens_code : (o : Option Locals) (k : ℕ) (s v : Source) → s.place ≡ places.Code → OpensLocals k s o v → (v.place ≡ places.Code) × (v.unit.name ≡ s.unit.name)
@@ -81,7 +82,7 @@ main_makes k s u b e (v, p, h, more) =
         behind_locals = o.0;
         opens = o.1;
         makes = code_makes b.code (code_from (k + 1) b.locals) o.0 r.0 c.0 r.1;
-        ready = (both (is_some r.0.unit.name) r.0.unit.pending l.0).1;
+        ready = (or_parts (is_some r.0.unit.name) r.0.unit.pending l.0).1;
       };
       ends = sym (z ∙ r.2.3);
     }
@@ -99,5 +100,5 @@ makes_main k s u b e m =
       ok_if s.seen_main (errors.BadLine k) (ok (main_opened k s)) m.first,
       open_locals b.locals (k + 1) (main_opened k s) d.behind_locals u (map code_line b.code ++ (Dotted marks.EndMain ∷ [])) refl refl d.opens
           (join (map code_line b.code) (Dotted marks.EndMain ∷ []) j d.behind_locals w u (makes_code b.code j d.behind_locals w c.0 d.makes)
-          (main_ended w, at, ok_if (is_some w.unit.name || w.unit.pending) (errors.BadLine (j + length (map code_line b.code))) (ok (main_ended w)) (neither (is_some w.unit.name) w.unit.pending (ap is_some n) d.ready), sym m.ends)),
+          (main_ended w, at, ok_if (is_some w.unit.name || w.unit.pending) (errors.BadLine (j + length (map code_line b.code))) (ok (main_ended w)) (or_from (is_some w.unit.name) w.unit.pending (ap is_some n) d.ready), sym m.ends)),
     )

@@ -1,8 +1,9 @@
 -- The lines of a method make what the method says.
-use Rattle.std.proofs.Common.{◌≡◌, ℕ, ◌+◌, ◌≤◌, Bool, true, false, List, [], ◌∷◌, ◌++◌, map, length, Option, Some, None, refl, ap, sym, subst, ◌∙◌, arith, cond}
+use Rattle.std.proofs.Common.{◌≡◌, ℕ, ◌+◌, ◌≤◌, true, List, [], ◌∷◌, ◌++◌, map, length, Option, Some, None, refl, ap, sym, subst, ◌∙◌, cond}
 use Rattle.std.specs.Prelude.{◌||◌, not, Ok, is_some, nat_lt}
-use Rattle.std.proofs.lemmas.List.{append_assoc}
-use Rattle.std.proofs.lemmas.Bool.Decides.{nat_tests}
+use Rattle.std.proofs.lemmas.List.{append_assoc, append-nil}
+use Rattle.std.proofs.lemmas.Bool.{or_parts, or_from, le-ltb, ltb-false}
+use Rattle.std.proofs.option.Match.{None-if_not_some}
 use Rattle.ijvm_program.specs.Program.{most_names}
 use Rattle.ijvm_line.specs.declared.place.Mark.TheVariants as marks
 use Rattle.ijvm_line.specs.declared.place.Place.TheVariants as places
@@ -16,12 +17,12 @@ use Rattle.ijvm_asm.specs.Units.{AreNew, code_from}
 use Rattle.ijvm_asm.proofs.Made.{MakesMethod}
 use Rattle.ijvm_asm.specs.Adding.{gather, is_declared, method_by}
 use Rattle.ijvm_asm.proofs.Building.{Build, join, split}
-use Rattle.ijvm_asm.proofs.Conditions.{both, if_ok, neither, nil, none, ok, ok_if}
+use Rattle.ijvm_asm.proofs.Conditions.{if_ok, ok, ok_if}
 use Rattle.ijvm_asm.proofs.Units.{code_makes, makes_code}
 use Rattle.ijvm_asm.proofs.Mains.{open_locals, opens, opens_code}
 
 pub gathered : (ps seen qs : List (List ℕ)) → gather seen ps ≡ Some qs → AreNew seen ps × (qs ≡ seen ++ ps)
-gathered [] seen qs h = let q : seen ≡ qs = cc in (tt, sym q ∙ sym (nil seen))
+gathered [] seen qs h = let q : seen ≡ qs = cc in (tt, sym q ∙ sym (append-nil seen))
 gathered (n ∷ ns) seen qs h = go (names.place_of seen n) refl (gathered ns (seen ++ n ∷ []) qs) h
   where
     go : (o : Option ℕ) → names.place_of seen n ≡ o → (gather (seen ++ n ∷ []) ns ≡ Some qs → AreNew (seen ++ n ∷ []) ns × (qs ≡ (seen ++ n ∷ []) ++ ns)) → cond (is_some o) None (gather (seen ++ n ∷ []) ns) ≡ Some qs → AreNew seen (n ∷ ns) × (qs ≡ seen ++ n ∷ ns)
@@ -29,18 +30,8 @@ gathered (n ∷ ns) seen qs h = go (names.place_of seen n) refl (gathered ns (se
     go (Some i) e f h = absurd (cc)
 
 pub gathers : (ps seen : List (List ℕ)) → AreNew seen ps → gather seen ps ≡ Some (seen ++ ps)
-gathers [] seen a = ap Some (sym (nil seen))
+gathers [] seen a = ap Some (sym (append-nil seen))
 gathers (n ∷ ns) seen a = ap (λ o. cond (is_some o) None (gather (seen ++ n ∷ []) ns)) a.0 ∙ (gathers ns (seen ++ n ∷ []) a.1 ∙ ap Some (append_assoc seen (n ∷ []) ns))
-
-few : (n : ℕ) → nat_lt most_names n ≡ false → n ≤ most_names
-few n h = grind (arith, nat_tests)
-
-not_many : (n : ℕ) → n ≤ most_names → nat_lt most_names n ≡ false
-not_many n h = go (nat_lt most_names n) refl
-  where
-    go : (b : Bool) → nat_lt most_names n ≡ b → b ≡ false
-    go false e = refl
-    go true e = absurd (grind (arith, nat_tests))
 
 abbrev pub opened : ℕ → Source → List ℕ → List (List ℕ) → Source
 opened k s n ps = record s { place = places.Code; section = k; may_declare = true; methods = s.methods ++ n ∷ []; unit = begun (Some n) ps }
@@ -53,15 +44,15 @@ begins k s v n ps None e h = absurd (cc)
 begins k s v n ps (Some qs) e h =
     let g = gathered ps [] qs e in
     let i = if_ok (nat_lt most_names (length qs)) (errors.TooManyNames k) (ok (opened k s n qs)) v h in
-    (g.0, subst (λ x. length x ≤ most_names) g.1 (few (length qs) i.0), subst (λ x. ok (opened k s n x) ≡ ok v) g.1 i.1)
+    (g.0, subst (λ x. length x ≤ most_names) g.1 (ltb-false most_names (length qs) i.0), subst (λ x. ok (opened k s n x) ≡ ok v) g.1 i.1)
 
 begun_by : (k : ℕ) (s : Source) (n : List ℕ) (ps : List (List ℕ)) → AreNew [] ps → length ps ≤ most_names → method_by k s n (gather [] ps) ≡ ok (opened k s n ps)
-begun_by k s n ps a l = ap (method_by k s n) (gathers ps [] a) ∙ ok_if (nat_lt most_names (length ps)) (errors.TooManyNames k) (ok (opened k s n ps)) (not_many (length ps) l)
+begun_by k s n ps a l = ap (method_by k s n) (gathers ps [] a) ∙ ok_if (nat_lt most_names (length ps)) (errors.TooManyNames k) (ok (opened k s n ps)) (le-ltb most_names (length ps) l)
 
 pub method_makes : (k : ℕ) (s u : Source) (n : List ℕ) (ps : List (List ℕ)) (b : Body) → s.place ≡ places.Outside → Build k s (section_lines (Method n ps b) []) u → MakesMethod k s n ps b u
 method_makes k s u n ps b e (v, p, h, more) =
     let i = if_ok (is_declared s n) (errors.DuplicateName k) (method_by k s n (gather [] ps)) v h in
-    let a = both (is_some (names.place_of s.constants n)) (is_some (names.place_of s.methods n)) i.0 in
+    let a = or_parts (is_some (names.place_of s.constants n)) (is_some (names.place_of s.methods n)) i.0 in
     let m = begins k s v n ps (gather [] ps) refl i.1 in
     let g : ok (opened k s n ps) ≡ ok v = m.2 in
     let q : opened k s n ps ≡ v = cc in
@@ -73,7 +64,7 @@ method_makes k s u n ps b e (v, p, h, more) =
     let f : ok (ended r.0) ≡ ok r.2.0 = l.1 in
     let z : ended r.0 ≡ r.2.0 = cc in
     record {
-      is_new = (none (names.place_of s.constants n) a.0, none (names.place_of s.methods n) a.1);
+      is_new = (None-if_not_some (names.place_of s.constants n) a.0, None-if_not_some (names.place_of s.methods n) a.1);
       once = m.0;
       few = m.1;
       last = r.0;
@@ -81,7 +72,7 @@ method_makes k s u n ps b e (v, p, h, more) =
         behind_locals = o.0;
         opens = o.1;
         makes = code_makes b.code (code_from (k + 1) b.locals) o.0 r.0 c.0 r.1;
-        ready = (both (not (is_some r.0.unit.name)) r.0.unit.pending l.0).1;
+        ready = (or_parts (not (is_some r.0.unit.name)) r.0.unit.pending l.0).1;
       };
       ends = sym (z ∙ r.2.3);
     }
@@ -94,11 +85,11 @@ makes_method k s u n ps b e m =
     let name : w.unit.name ≡ Some n = ap (λ x. x.unit.name) d.makes.1 ∙ c.1 in
     let at : w.place ≡ places.Code = ap (λ x. x.place) d.makes.1 ∙ c.0 in
     let j = code_from (k + 1) b.locals in
-    let i = ok_if (is_declared s n) (errors.DuplicateName k) (method_by k s n (gather [] ps)) (neither (is_some (names.place_of s.constants n)) (is_some (names.place_of s.methods n)) (ap is_some m.is_new.0) (ap is_some m.is_new.1)) in (
+    let i = ok_if (is_declared s n) (errors.DuplicateName k) (method_by k s n (gather [] ps)) (or_from (is_some (names.place_of s.constants n)) (is_some (names.place_of s.methods n)) (ap is_some m.is_new.0) (ap is_some m.is_new.1)) in (
       opened k s n ps,
       e,
       i ∙ begun_by k s n ps m.once m.few,
       open_locals b.locals (k + 1) (opened k s n ps) d.behind_locals u (map code_line b.code ++ (Dotted marks.EndMethod ∷ [])) refl refl d.opens
           (join (map code_line b.code) (Dotted marks.EndMethod ∷ []) j d.behind_locals w u (makes_code b.code j d.behind_locals w c.0 d.makes)
-          (ended w, at, ok_if (not (is_some w.unit.name) || w.unit.pending) (errors.BadLine (j + length (map code_line b.code))) (ok (ended w)) (neither (not (is_some w.unit.name)) w.unit.pending (ap (λ x. not (is_some x)) name) d.ready), sym m.ends)),
+          (ended w, at, ok_if (not (is_some w.unit.name) || w.unit.pending) (errors.BadLine (j + length (map code_line b.code))) (ok (ended w)) (or_from (not (is_some w.unit.name)) w.unit.pending (ap (λ x. not (is_some x)) name) d.ready), sym m.ends)),
     )

@@ -71,19 +71,19 @@ pub record LeadOneWay : Type 0 where
   pub first : (k : ℕ) (s : Source) (ls : List (List ℕ)) (e f : AsmError) → FirstRefused step k s ls e → FirstRefused step k s ls f → e ≡ f
 
 -- what the lines of a text come to
-IsOutcome : List ℕ → Result ProgramView AsmError → Type 0
-IsOutcome text r = ((s : Source) × Leads step 1 empty (contents text) s × (whole_program s ≡ r)) ⊎ ((e : AsmError) × FirstRefused step 1 empty (contents text) e × (r ≡ Err e))
+IsReadAs : List ℕ → Result ProgramView AsmError → Type 0
+IsReadAs text r = ((s : Source) × Leads step 1 empty (contents text) s × (whole_program s ≡ r)) ⊎ ((e : AsmError) × FirstRefused step 1 empty (contents text) e × (r ≡ Err e))
 
-one_end : LeadOneWay → (text : List ℕ) (r q : Result ProgramView AsmError) → IsOutcome text r → IsOutcome text q → r ≡ q
-unfolding IsOutcome
+one_end : LeadOneWay → (text : List ℕ) (r q : Result ProgramView AsmError) → IsReadAs text r → IsReadAs text q → r ≡ q
+unfolding IsReadAs
 one_end walks text r q (inl (s, led, h)) (inl (t, other, g)) = sym h ∙ (ap whole_program (walks.one 1 empty s t (contents text) led other) ∙ g)
 one_end walks text r q (inl (s, led, h)) (inr (f, stop, g)) = absurd (walks.apart 1 empty s (contents text) f led stop)
 one_end walks text r q (inr (e, stop, h)) (inl (t, other, g)) = absurd (walks.apart 1 empty t (contents text) e other stop)
 one_end walks text r q (inr (e, stop, h)) (inr (f, other, g)) = h ∙ (ap Err (walks.first 1 empty (contents text) e f stop other) ∙ sym g)
 
 module _ (laws : ReadsLines) (walks : LeadOneWay) (text : List ℕ) where
-  spelled_comes : (p : ProgramView) → SpellsProgram text p → IsOutcome text (Ok p)
-  unfolding IsOutcome
+  spelled_comes : (p : ProgramView) → SpellsProgram text p → IsReadAs text (Ok p)
+  unfolding IsReadAs
   spelled_comes p w =
       let of = of_sections text w.source w.sections in
       inl (of.0, make_leads laws (contents text) 1 empty of.0 of.1, whole_again of.0 p of.2 (subst (λ d. IsProgramOf d p) (sym of.3) w.program))
@@ -115,8 +115,8 @@ module _ (laws : ReadsLines) (walks : LeadOneWay) (text : List ℕ) where
       (of.0, of.1, (of.2, subst (λ d. (k : ℕ) → NamesUnknown d k → ⊥) (sym of.3) w.known, ap (λ (d : Declarations). d.main) of.3 ∙ w.no_main))
   from_end _ w = absurd w
 
-  refused_comes : (e : AsmError) → IsRefused text e → IsOutcome text (Err e)
-  unfolding IsOutcome
+  refused_comes : (e : AsmError) → IsRefused text e → IsReadAs text (Err e)
+  unfolding IsReadAs
   refused_comes e (inl r) = inr (e, from_line e r, refl)
   refused_comes e (inr r) =
       let of = from_end e r in

@@ -1,6 +1,7 @@
 -- What lines make is what their sections make: lines that end outside of all sections are the lines of sections.
 use Rattle.std.proofs.Common.{◌≡◌, ℕ, zero, suc, ◌+◌, Bool, true, false, List, [], ◌∷◌, ◌++◌, map, Option, Some, None, length, refl, ap, sym, subst, ◌∙◌, cond}
 use Rattle.std.specs.Prelude.{◌||◌, not, Ok, Err, is_some, nat_le, nat_lt}
+use Rattle.std.proofs.lemmas.Bool.{or_parts, not-false}
 use Rattle.ijvm_program.specs.declared.line.Constant.{Constant}
 use Rattle.ijvm_line.specs.declared.place.Place.{Place}
 use Rattle.ijvm_line.specs.declared.place.Place.TheVariants as places
@@ -16,7 +17,7 @@ use Rattle.ijvm_asm.specs.Drafts.{begun, DraftView}
 use Rattle.ijvm_asm.specs.Source.{Source}
 use Rattle.ijvm_asm.specs.Adding.{add_code, add_constant, add_instruction, add_method, begin_constants, begin_locals, begin_main, end_main, end_method, gather, is_declared, method_by, on_local, with_unit}
 use Rattle.ijvm_asm.proofs.Building.{add, Build}
-use Rattle.ijvm_asm.proofs.Conditions.{both, if_ok, not_false, ok}
+use Rattle.ijvm_asm.proofs.Conditions.{if_ok, ok}
 
 -- ---- what is left at each place
 
@@ -184,7 +185,7 @@ module _ (k : ℕ) (s u : Source) (xs : List Said) (left : RestOf u xs) where
   by_locals e h =
       let b = if_ok (not s.may_declare) (errors.BadLine k) _ u h in
       at_place s places.Code (Dotted marks.BeginLocals ∷ xs) e
-      (subst (λ c. Coded c (is_some s.unit.name) (Dotted marks.BeginLocals ∷ xs)) (sym (not_false s.may_declare b.0))
+      (subst (λ c. Coded c (is_some s.unit.name) (Dotted marks.BeginLocals ∷ xs)) (sym (not-false s.may_declare b.0))
       (coded_locals (is_some s.unit.name) xs (made (record s { place = places.Locals; inner = k; may_declare = false }) u xs b.1 left)))
 
   by_end_locals : s.place ≡ places.Locals → ok (record s { place = places.Code }) ≡ ok u → RestOf s (Dotted marks.EndLocals ∷ xs)
@@ -196,7 +197,7 @@ module _ (k : ℕ) (s u : Source) (xs : List Said) (left : RestOf u xs) where
       let b = if_ok (is_some s.unit.name || s.unit.pending) (errors.BadLine k) _ u h in
       let r : Rest places.Outside s.may_declare false xs = made (record s { place = places.Outside; unit = begun None []; main = Some s.unit }) u xs b.1 left in
       at_place s places.Code (Dotted marks.EndMain ∷ xs) e
-      (subst (λ m. Coded s.may_declare m (Dotted marks.EndMain ∷ xs)) (sym (both (is_some s.unit.name) s.unit.pending b.0).0)
+      (subst (λ m. Coded s.may_declare m (Dotted marks.EndMain ∷ xs)) (sym (or_parts (is_some s.unit.name) s.unit.pending b.0).0)
       (coded_main s.may_declare xs r.0 r.1))
 
   by_end_method : s.place ≡ places.Code → end_method k s ≡ Ok u → RestOf s (Dotted marks.EndMethod ∷ xs)
@@ -204,7 +205,7 @@ module _ (k : ℕ) (s u : Source) (xs : List Said) (left : RestOf u xs) where
       let b = if_ok (not (is_some s.unit.name) || s.unit.pending) (errors.BadLine k) _ u h in
       let r : Rest places.Outside s.may_declare false xs = made (record s { place = places.Outside; unit = begun None []; units = s.units ++ s.unit ∷ [] }) u xs b.1 left in
       at_place s places.Code (Dotted marks.EndMethod ∷ xs) e
-      (subst (λ m. Coded s.may_declare m (Dotted marks.EndMethod ∷ xs)) (sym (not_false (is_some s.unit.name) (both (not (is_some s.unit.name)) s.unit.pending b.0).0))
+      (subst (λ m. Coded s.may_declare m (Dotted marks.EndMethod ∷ xs)) (sym (not-false (is_some s.unit.name) (or_parts (not (is_some s.unit.name)) s.unit.pending b.0).0))
       (coded_method s.may_declare xs r.0 r.1))
 
   by_local : (n : List ℕ) → s.place ≡ places.Locals → on_local k s n ≡ Ok u → RestOf s (Declares n ∷ xs)

@@ -1,6 +1,6 @@
 -- Lines, one by one, make what is outside of all sections exactly where they are those of sections that make it.
 use Rattle.std.proofs.Common.{◌≡◌, ℕ, ◌+◌, List, [], ◌∷◌, Some, None, length, refl, ap, sym, subst, ◌∙◌}
-use Rattle.std.specs.Prelude.{Result, Ok, Err, ⊤}
+use Rattle.std.specs.Prelude.{Result, Ok, ⊤}
 use Rattle.source_text.specs.Content.{contents}
 use Rattle.ijvm_tokens.specs.declared.token.Token.{Token}
 use Rattle.ijvm_line.specs.declared.place.Place.{Place}
@@ -9,17 +9,17 @@ use Rattle.ijvm_line.specs.declared.form.Form.{Form}
 use Rattle.ijvm_line.specs.declared.form.Form.TheVariants as forms
 use Rattle.ijvm_line.specs.declared.line.Line.{Line}
 use Rattle.ijvm_line.specs.declared.line.Line.TheVariants as says
-use Rattle.ijvm_line.specs.declared.line.LineFault.{LineFault}
 use Rattle.ijvm_line.specs.Forms.{IsForm}
 use Rattle.ijvm_line.specs.Lines as lines
 use Rattle.ijvm_line.specs.Parameters.{parameters}
 use Rattle.ijvm_line.specs.Places.{mark_place}
-use Rattle.ijvm_line.specs.Ranges.{instruction_of, made, word}
+use Rattle.ijvm_line.specs.Ranges.{instruction_of, word}
 use Rattle.ijvm_asm.specs.declared.error.AsmError.{AsmError}
 use Rattle.ijvm_asm.specs.Said.{BlankAt, Codes, Declares, Defines, Dotted, Heads, line_meant, Lists, place_of, Said, SayAll, SaysLine}
 use Rattle.ijvm_asm.specs.Sections.{lines_of, Section, section_lines}
 use Rattle.ijvm_asm.specs.Source.{declarations_of, empty, Source}
 use Rattle.ijvm_asm.specs.Making.{Declarations}
+use Rattle.ijvm_asm.proofs.Costs.{of_made, same_ok}
 use Rattle.ijvm_asm.proofs.Made.{SectionsMake}
 use Rattle.ijvm_asm.specs.Text.{IsSource}
 use Rattle.ijvm_asm.specs.Adding.{add_line}
@@ -39,24 +39,14 @@ StandsAt p (says.Constant n v) = p ≡ places.Constants
 StandsAt p (says.Local n) = p ≡ places.Locals
 StandsAt p (says.Code l i) = p ≡ places.Code
 
-abbrev ok : {A : Type 0} → A → Result A LineFault
-ok a = Ok a
-
-same : (p : Place) (l m : Line) → ok l ≡ ok m → StandsAt p l → StandsAt p m
-same p l m e h = let q : l ≡ m = cc in subst (StandsAt p) q h
-
-of_made : {A : Type 0} (p : Place) (f : A → Line) (m : Line) (r : Result A LineFault) → made f r ≡ Ok m → ((a : A) → StandsAt p (f a)) → StandsAt p m
-of_made p f m (Ok a) e h = same p (f a) m e (h a)
-of_made p f m (Err x) e h = absurd (cc)
-
 form_stands : (p : Place) (ts : List Token) (f : Form) → IsForm p ts f → (m : Line) → lines.line_by f ≡ Ok m → StandsAt p m
-form_stands p ts forms.Nothing h m e = same p says.Nothing m e tt
-form_stands p ts (forms.Mark mark) h m e = same p (says.Mark mark) m e h.0
-form_stands p ts (forms.Method n) h m e = same p (says.Method n) m e h.0
-form_stands p ts (forms.Constant n v) h m e = of_made p (λ w. says.Constant n w) m (word v) e (λ w. h.0)
-form_stands p ts (forms.Local n) h m e = same p (says.Local n) m e h.0
-form_stands p ts (forms.Code l None) h m e = same p (says.Code l None) m e h.0
-form_stands p ts (forms.Code l (Some st)) h m e = of_made p (λ i. says.Code l (Some i)) m (instruction_of st) e (λ i. h.0)
+form_stands p ts forms.Nothing h m e = same_ok (StandsAt p) says.Nothing m e tt
+form_stands p ts (forms.Mark mark) h m e = same_ok (StandsAt p) (says.Mark mark) m e h.0
+form_stands p ts (forms.Method n) h m e = same_ok (StandsAt p) (says.Method n) m e h.0
+form_stands p ts (forms.Constant n v) h m e = of_made (StandsAt p) (λ w. says.Constant n w) m (word v) e (λ w _. h.0)
+form_stands p ts (forms.Local n) h m e = same_ok (StandsAt p) (says.Local n) m e h.0
+form_stands p ts (forms.Code l None) h m e = same_ok (StandsAt p) (says.Code l None) m e h.0
+form_stands p ts (forms.Code l (Some st)) h m e = of_made (StandsAt p) (λ i. says.Code l (Some i)) m (instruction_of st) e (λ i _. h.0)
 
 stands : (p : Place) (ts : List Token) (m : Line) → lines.SpellsLine p ts m → StandsAt p m
 stands p ts m s = form_stands p ts s.form s.has m s.says

@@ -1,7 +1,7 @@
 -- What sections make is sound: names and values go together, labels stand before instructions, and units are few enough.
 use Rattle.std.proofs.Common.{◌≡◌, ℕ, ◌+◌, ◌<◌, ◌≤◌, Bool, true, false, List, [], ◌∷◌, ◌++◌, map, length, Option, Some, None, refl, ap, sym, subst, ◌∙◌, arith, length-append}
 use Rattle.std.specs.Prelude.{◌||◌, All, is_some, IsSome, ⊤}
-use Rattle.std.proofs.lemmas.List.{append_assoc, length-map}
+use Rattle.std.proofs.lemmas.List.{append_assoc, length-map, append-nil}
 use Rattle.std.proofs.lemmas.List.Elements.{All-append, All-cons, All-nil}
 use Rattle.ijvm_program.specs.Program.{most_names}
 use Rattle.ijvm_line.specs.declared.instruction.Instruction.{Instruction}
@@ -11,7 +11,6 @@ use Rattle.ijvm_asm.specs.Source.{empty, Source}
 use Rattle.ijvm_asm.specs.Units.{AreLocals, positions_in, behind_instruction, code_from, declared, lines_in, waits, waits_behind, with_position, with_instruction}
 use Rattle.ijvm_asm.specs.Making.{defined}
 use Rattle.ijvm_asm.proofs.Made.{Makes, MakesBody, OpensLocals, SectionsMake}
-use Rattle.ijvm_asm.proofs.Conditions.{nil}
 use Rattle.ijvm_asm.proofs.Totals.{body_keeps, body_lines_are, opens_unit}
 
 -- ---- what is sound
@@ -66,7 +65,7 @@ positions_below (Some c ∷ items) n k b w = go c.label c.instruction (λ n b w.
 -- ---- a unit
 
 locals_few : (ns seen : List (List ℕ)) → AreLocals seen ns → length seen ≤ most_names → length (seen ++ ns) ≤ most_names
-locals_few [] seen a h = subst (λ xs. length xs ≤ most_names) (sym (nil seen)) h
+locals_few [] seen a h = subst (λ xs. length xs ≤ most_names) (sym (append-nil seen)) h
 locals_few (n ∷ ns) seen (new, few, more) h =
     let l = length-append seen (n ∷ []) in
     subst (λ xs. length xs ≤ most_names) (append_assoc seen (n ∷ []) ns) (locals_few ns (seen ++ n ∷ []) more (omega (arith, few, l)))

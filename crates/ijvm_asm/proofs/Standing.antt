@@ -2,7 +2,7 @@
 use Rattle.std.proofs.Common.{◌≡◌, ℕ, ◌+◌, List, [], ◌∷◌, ◌++◌, Option, Some, None, refl, ap, sym, subst, ◌∙◌, take, drop}
 use Rattle.std.specs.Prelude.{option_map, option_and_then}
 use Rattle.std.specs.List.{slice_get}
-use Rattle.std.proofs.lemmas.List.{append_assoc}
+use Rattle.std.proofs.lemmas.List.{append_assoc, append-nil}
 use Rattle.name_list.specs.Places.{place_of}
 use Rattle.ijvm_program.specs.declared.line.CodeLine.{CodeLine}
 use Rattle.ijvm_program.specs.declared.line.Label.{Label}
@@ -16,7 +16,6 @@ use Rattle.ijvm_asm.specs.declared.draft.DraftLine.{DraftLine}
 use Rattle.ijvm_asm.specs.Drafts.{DraftView}
 use Rattle.ijvm_asm.specs.Names.{first_index, IsLineOf, IsLocal, IsUnitOf, labels_of, Pairwise, StandsFor}
 use Rattle.ijvm_asm.specs.ReadingNames.{index_of, label_of, lines_from, operation_of, unit_of, unit_with, units_from}
-use Rattle.ijvm_asm.proofs.Conditions.{nil}
 
 mapped : {A B : Type 0} (f : A → B) (o : Option A) (y : B) → option_map f o ≡ Some y → (x : A) × (o ≡ Some x) × (y ≡ f x)
 mapped f (Some x) y h = (x, refl, cc)
@@ -67,14 +66,14 @@ module _ (constants methods : List (List ℕ)) where
 
   lines_are : (u : DraftView) (ds : List DraftLine) (done out : List CodeLine) → lines_from constants methods u done ds ≡ Some out
       → (new : List CodeLine) × (out ≡ done ++ new) × Pairwise (IsLineOf constants methods u) ds new
-  lines_are u [] done out h = let k : done ≡ out = cc in ([], sym k ∙ sym (nil done), tt)
+  lines_are u [] done out h = let k : done ≡ out = cc in ([], sym k ∙ sym (append-nil done), tt)
   lines_are u (d ∷ ds) done out h =
       let c = chained (λ o. lines_from constants methods u (done ++ line_with d o ∷ []) ds) (operation_of constants methods u d.instruction) out h in
       let r = lines_are u ds (done ++ line_with d c.0 ∷ []) out c.2 in
       (line_with d c.0 ∷ r.0, r.1 ∙ append_assoc done (line_with d c.0 ∷ []) r.0, (record { number = refl; operation = operation_is u d.instruction c.0 c.1 }, r.2))
 
   lines_again : (u : DraftView) (ds : List DraftLine) (done new : List CodeLine) → Pairwise (IsLineOf constants methods u) ds new → lines_from constants methods u done ds ≡ Some (done ++ new)
-  lines_again u [] done [] w = ap Some (sym (nil done))
+  lines_again u [] done [] w = ap Some (sym (append-nil done))
   lines_again u [] done (l ∷ new) w = absurd w
   lines_again u (d ∷ ds) done [] w = absurd w
   lines_again u (d ∷ ds) done (l ∷ new) (w, more) =
@@ -108,7 +107,7 @@ module _ (constants methods : List (List ℕ)) where
 
   units_are : (us : List DraftView) (done out : List UnitView) → units_from constants methods done us ≡ Some out
       → (new : List UnitView) × (out ≡ done ++ new) × Pairwise (IsUnitOf constants methods) us new
-  units_are [] done out h = let k : done ≡ out = cc in ([], sym k ∙ sym (nil done), tt)
+  units_are [] done out h = let k : done ≡ out = cc in ([], sym k ∙ sym (append-nil done), tt)
   units_are (u ∷ us) done out h =
       let c = chained (λ v. units_from constants methods (done ++ v ∷ []) us) (unit_of constants methods u) out h in
       let r = units_are us (done ++ c.0 ∷ []) out c.2 in
@@ -118,7 +117,7 @@ module _ (constants methods : List (List ℕ)) where
   all_units_are us out h = let r = units_are us [] out h in subst (Pairwise (IsUnitOf constants methods) us) (sym r.1) r.2
 
   pub units_again : (us : List DraftView) (done new : List UnitView) → Pairwise (IsUnitOf constants methods) us new → units_from constants methods done us ≡ Some (done ++ new)
-  units_again [] done [] w = ap Some (sym (nil done))
+  units_again [] done [] w = ap Some (sym (append-nil done))
   units_again [] done (v ∷ new) w = absurd w
   units_again (u ∷ us) done [] w = absurd w
   units_again (u ∷ us) done (v ∷ new) (w, more) =

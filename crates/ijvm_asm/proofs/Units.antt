@@ -1,8 +1,9 @@
 -- The lines of a unit make what its names, labels and instructions make.
-use Rattle.std.proofs.Common.{◌≡◌, ℕ, ◌+◌, ◌<◌, Bool, true, false, List, [], ◌∷◌, ◌++◌, map, length, Option, Some, None, refl, ap, sym, subst, ◌∙◌, cond, arith}
+use Rattle.std.proofs.Common.{◌≡◌, ℕ, ◌+◌, Bool, true, false, List, [], ◌∷◌, ◌++◌, map, length, Option, Some, None, refl, ap, sym, subst, ◌∙◌, cond}
 use Rattle.std.specs.Prelude.{◌||◌, Ok, Err, is_some, nat_le, ⊤}
-use Rattle.std.proofs.lemmas.List.{append_assoc, length-append}
-use Rattle.std.proofs.lemmas.Bool.Decides.{nat_tests}
+use Rattle.std.proofs.lemmas.List.{append_assoc, length-append, append-nil}
+use Rattle.std.proofs.option.Match.{None-if_not_some}
+use Rattle.std.proofs.lemmas.Bool.{leb-false, lt-leb}
 use Rattle.ijvm_program.specs.Program.{most_names}
 use Rattle.ijvm_line.specs.declared.place.Place.TheVariants as places
 use Rattle.ijvm_line.specs.declared.place.Mark.TheVariants as marks
@@ -19,7 +20,7 @@ use Rattle.ijvm_asm.specs.Units.{AreNew, positions_in, behind_instruction, decla
 use Rattle.ijvm_asm.proofs.Made.{MakesCode, MakesLocals, may_declare_behind}
 use Rattle.ijvm_asm.specs.Adding.{add_code, add_instruction, with_unit}
 use Rattle.ijvm_asm.proofs.Building.{Build}
-use Rattle.ijvm_asm.proofs.Conditions.{nil, none, ok}
+use Rattle.ijvm_asm.proofs.Conditions.{ok}
 
 -- ---- locals
 
@@ -31,16 +32,6 @@ with_local s n = record s { unit = record s.unit { names = s.unit.names ++ n ∷
 
 abbrev locals_end : List (Option (List ℕ)) → List Said
 locals_end items = map local_line items ++ (Dotted marks.EndLocals ∷ [])
-
-few : (n : ℕ) → nat_le most_names n ≡ false → n < most_names
-few n h = grind (arith, nat_tests)
-
-not_many : (n : ℕ) → n < most_names → nat_le most_names n ≡ false
-not_many n h = go (nat_le most_names n) refl
-  where
-    go : (b : Bool) → nat_le most_names n ≡ b → b ≡ false
-    go false e = refl
-    go true e = absurd (grind (arith, nat_tests))
 
 pub with_both : (f : DraftView → Source) (a b : Bool) (v : DraftView) (e g : AsmError) (u : Source) → with_unit f (cond a (Err e) (cond b (Err g) (Ok v))) ≡ Ok u → (a ≡ false) × (b ≡ false) × (ok (f v) ≡ ok u)
 with_both f true b v e g u h = absurd (cc)
@@ -55,7 +46,7 @@ both_with f false false v e g h j = refl
 pub locals_make : (items : List (Option (List ℕ))) (k : ℕ) (s u : Source) → s.place ≡ places.Locals → Build k s (locals_end items) u → MakesLocals s items u
 locals_make [] k s u e (v, p, h, m) =
     let q : named s s.unit.names ≡ v = cc in
-    (tt, sym m ∙ (sym q ∙ sym (ap (named s) (nil s.unit.names))))
+    (tt, sym m ∙ (sym q ∙ sym (ap (named s) (append-nil s.unit.names))))
 locals_make (None ∷ items) k s u e (v, p, h, more) =
     let q : s ≡ v = cc in
     locals_make items (k + 1) s u e (subst (λ w. Build (k + 1) w (locals_end items) u) (sym q) more)
@@ -64,15 +55,15 @@ locals_make (Some n ∷ items) k s u e (v, p, h, more) =
     let g : ok (with_local s n) ≡ ok v = b.2 in
     let q : with_local s n ≡ v = cc in
     let r = locals_make items (k + 1) (with_local s n) u e (subst (λ w. Build (k + 1) w (locals_end items) u) (sym q) more) in
-    ((none _ b.0, few (length s.unit.names) b.1, r.0), r.1 ∙ ap (named s) (append_assoc s.unit.names (n ∷ []) (declared items)))
+    ((None-if_not_some _ b.0, leb-false most_names (length s.unit.names) b.1, r.0), r.1 ∙ ap (named s) (append_assoc s.unit.names (n ∷ []) (declared items)))
 
 pub make_locals : (items : List (Option (List ℕ))) (k : ℕ) (s u : Source) → s.place ≡ places.Locals → MakesLocals s items u → Build k s (locals_end items) u
-make_locals [] k s u e (n, q) = (named s s.unit.names, e, refl, sym (q ∙ ap (named s) (nil s.unit.names)))
+make_locals [] k s u e (n, q) = (named s s.unit.names, e, refl, sym (q ∙ ap (named s) (append-nil s.unit.names)))
 make_locals (None ∷ items) k s u e a = (s, e, refl, make_locals items (k + 1) s u e a)
 make_locals (Some n ∷ items) k s u e ((new, less, more), q) = (
   with_local s n,
   e,
-  both_with (λ w. record s { unit = w }) (is_some (names.place_of s.unit.names n)) (nat_le most_names (length s.unit.names)) (record s.unit { names = s.unit.names ++ n ∷ [] }) (errors.DuplicateName k) (errors.TooManyNames k) (ap is_some new) (not_many (length s.unit.names) less),
+  both_with (λ w. record s { unit = w }) (is_some (names.place_of s.unit.names n)) (nat_le most_names (length s.unit.names)) (record s.unit { names = s.unit.names ++ n ∷ [] }) (errors.DuplicateName k) (errors.TooManyNames k) (ap is_some new) (lt-leb most_names (length s.unit.names) less),
   make_locals items (k + 1) (with_local s n) u e (more, q ∙ sym (ap (named s) (append_assoc s.unit.names (n ∷ []) (declared items)))),
 )
 
@@ -144,7 +135,7 @@ behind k s items = coded s (s.unit.labels ++ labels_in items) (s.unit.label_posi
 
 behind_none : (k : ℕ) (s : Source) → behind k s [] ≡ s
 behind_none k s = coded_same s (s.unit.labels ++ []) s.unit.labels (s.unit.label_positions ++ []) s.unit.label_positions (s.unit.lines ++ []) s.unit.lines s.unit.pending s.unit.pending s.may_declare s.may_declare
-    (nil s.unit.labels) (nil s.unit.label_positions) (nil s.unit.lines) refl refl
+    (append-nil s.unit.labels) (append-nil s.unit.label_positions) (append-nil s.unit.lines) refl refl
 
 behind_one : (k : ℕ) (s : Source) (c : CodeItem) (items : List (Option CodeItem)) → behind (k + 1) (after k s c.label c.instruction) items ≡ behind k s (Some c ∷ items)
 behind_one k s c items =
@@ -186,7 +177,7 @@ pub line_made : (k : ℕ) (s v : Source) (l : Option (List ℕ)) (i : Option Ins
 line_made k s v None i h = (tt, h)
 line_made k s v (Some l) i h =
     let b = with_if (λ u. record s { unit = add_instruction k u i; may_declare = false }) (is_some (names.place_of s.unit.labels l)) (labelled s.unit (Some l)) (errors.DuplicateName k) v h in
-    (none _ b.0, b.1)
+    (None-if_not_some _ b.0, b.1)
 
 made_line : (k : ℕ) (s : Source) (l : Option (List ℕ)) (i : Option Instruction) → IsNew s.unit.labels l → add_code k s l i ≡ ok (after k s l i)
 made_line k s None i n = refl
