@@ -2,6 +2,7 @@
 use Rattle.std.proofs.Common.{◌≡◌, ℕ, suc, ◌+◌, Bool, true, false, List, [], ◌∷◌, ◌++◌, take, drop, length, refl, arith, cond}
 use Rattle.std.specs.Prelude.{◌&&◌}
 use Rattle.std.specs.List.{prefix_len, list_all}
+use Rattle.std.proofs.lemmas.Bool.{and_parts}
 use Rattle.source_text.specs.Runs.{begins_with, ends_with}
 
 module _ (p : ℕ → Bool) where
@@ -31,13 +32,5 @@ module _ (p : ℕ → Bool) where
       go false h rec = h
 
   pub ends_all : (b : ℕ) (text : List ℕ) → list_all p (b ∷ text) ≡ true → ends_with p (b ∷ text) ≡ true
-  ends_all b [] h = go (p b) h
-    where
-      go : (w : Bool) → (w && true) ≡ true → w ≡ true
-      go true h = refl
-      go false h = absurd (cc)
-  ends_all b (c ∷ text) h = go (p b) h (ends_all c text)
-    where
-      go : (w : Bool) → (w && list_all p (c ∷ text)) ≡ true → (list_all p (c ∷ text) ≡ true → ends_with p (c ∷ text) ≡ true) → ends_with p (c ∷ text) ≡ true
-      go true h rec = rec h
-      go false h rec = absurd (cc)
+  ends_all b [] h = (and_parts (p b) true h).0
+  ends_all b (c ∷ text) h = ends_all c text (and_parts (p b) (list_all p (c ∷ text)) h).1

@@ -1,10 +1,10 @@
 -- What is spelled as a token is read as that token, and what is read as one is spelled so.
-use Rattle.std.specs.Bool.{passes}
-use Rattle.std.proofs.Common.{◌≡◌, ℕ, zero, suc, ◌+◌, ◌<◌, Bool, true, false, inl, inr, subst, List, [], ◌∷◌, ◌++◌, Option, Some, None, drop, take, length, refl, sym, ap, arith, eqb→eq}
+use Rattle.std.proofs.Common.{◌≡◌, ℕ, zero, suc, ◌+◌, ◌<◌, Bool, true, false, inl, inr, subst, List, [], ◌∷◌, ◌++◌, Option, Some, None, drop, take, length, refl, sym, ap, arith}
 use Rattle.std.specs.Prelude.{Ok, Err, Result, ◌⊎◌, ℤ, not, ◌==◌, ◌||◌, ◌&&◌, codes, find, cond, nat_le, is_some}
 use Rattle.std.proofs.lemmas.Slice.Eq.{bytes_eq-Decides}
 use Rattle.std.specs.List.{list_all}
 use Rattle.std.specs.Str.{bytes_eq}
+use Rattle.std.proofs.lemmas.Bool.{and_parts, not-true, and_right, eqb-true}
 use Rattle.mic_base.specs.Name.{begins_digit, is_name, is_name_byte}
 use Rattle.mic_base.specs.Number.{number_of}
 use Rattle.mic_base.specs.declared.number.NumberError.{NumberError}
@@ -155,14 +155,6 @@ no_sign text h = go (find_sign text) refl
     go None e = refl
     go (Some s) e = let f : text ≡ sign_text s = found_sign text s e in absurd (let k = sign_dark s in cc)
 
-and_parts : (a b : Bool) → (a && b) ≡ true → (a ≡ true) × (b ≡ true)
-and_parts true b h = (refl, h)
-and_parts false b h = absurd (cc)
-
-not_true : (a : Bool) → not a ≡ true → a ≡ false
-not_true true h = absurd (cc)
-not_true false h = refl
-
 -- what a name is
 record IsNamed (text : List ℕ) : Type 0 where
   starts : begins_with is_name_byte text ≡ true
@@ -174,7 +166,7 @@ named text h =
     let p = and_parts (nat_le 1 (length text)) (nat_le (length text) 64 && (list_all is_name_byte text && not (begins_digit text))) h in
     let q = and_parts (nat_le (length text) 64) (list_all is_name_byte text && not (begins_digit text)) p.1 in
     let r = and_parts (list_all is_name_byte text) (not (begins_digit text)) q.1 in
-    record { starts = first text p.0 r.0; no_digit = not_true (begins_digit text) r.1; all = r.0 }
+    record { starts = first text p.0 r.0; no_digit = not-true (begins_digit text) r.1; all = r.0 }
   where
     first : (text : List ℕ) → nat_le 1 (length text) ≡ true → list_all is_name_byte text ≡ true → begins_with is_name_byte text ≡ true
     first [] some all = absurd (cc)
@@ -254,7 +246,7 @@ stops b rest = let k : name_len rest + 1 ≡ suc (name_len rest) = omega arith i
 
 pair_ends : (b : ℕ) (rest : List ℕ) → is_name_byte b ≡ false → begins b rest ≡ true → ends_with is_name_byte (take 2 (b ∷ rest)) ≡ false
 pair_ends b [] w h = w
-pair_ends b (c ∷ rest) w h = let e : c ≡ b = eqb→eq c b (passes (c == b) h) in rw e w
+pair_ends b (c ∷ rest) w h = let e : c ≡ b = eqb-true c b h in rw e w
 
 ends_at : (b : ℕ) (rest : List ℕ) → EndsLexeme (take (extent (b ∷ rest)) (b ∷ rest)) (drop (extent (b ∷ rest)) (b ∷ rest))
 ends_at b rest = go (is_name_byte b) (b == 46) (b == 60 || b == 62) (begins b rest) refl refl
@@ -304,12 +296,7 @@ some b rest = go (is_name_byte b) (b == 46) ((b == 60 || b == 62) && begins b re
     go false false false = omega arith
 
 no_name : (b : ℕ) (rest : List ℕ) → is_name_byte b ≡ false → is_name (b ∷ rest) ≡ false
-no_name b rest h = rw h (go (nat_le 1 (length (b ∷ rest))) (nat_le (length (b ∷ rest)) 64))
-  where
-    go : (x y : Bool) → (x && (y && false)) ≡ false
-    go true true = refl
-    go true false = refl
-    go false y = refl
+no_name b rest h = rw h (and_right (nat_le 1 (length (b ∷ rest))) (nat_le (length (b ∷ rest)) 64 && false) (and_right (nat_le (length (b ∷ rest)) 64) false refl))
 
 not_blank : (b : ℕ) (rest : List ℕ) (t : Token) → token_of (b ∷ rest) ≡ Some t → is_blank b ≡ false
 not_blank b rest t h = go (b == 32) (b == 9) refl refl
@@ -321,8 +308,8 @@ not_blank b rest t h = go (b == 32) (b == 9) refl refl
     tab x e = rw (e, no_name 9 rest refl) refl
 
     go : (x y : Bool) → (b == 32) ≡ x → (b == 9) ≡ y → (x || y) ≡ false
-    go true y e f = absurd (let k = space b (eqb→eq b 32 (passes (b == 32) e)) in cc)
-    go false true e f = absurd (let k = tab b (eqb→eq b 9 (passes (b == 9) f)) in cc)
+    go true y e f = absurd (let k = space b (eqb-true b 32 e) in cc)
+    go false true e f = absurd (let k = tab b (eqb-true b 9 f) in cc)
     go false false e f = refl
 
 pub agrees : Agrees mal lexer
