@@ -1,11 +1,11 @@
 -- What is spelled as a token is read as that token, and what is read as one is spelled so.
-use Rattle.std.specs.Bool.{passes}
-use Rattle.std.proofs.Common.{◌≡◌, ℕ, zero, suc, ◌+◌, ◌<◌, ◌≤◌, Bool, true, false, inl, inr, subst, List, [], ◌∷◌, ◌++◌, Option, Some, None, drop, take, length, refl, sym, arith, eqb→eq}
+use Rattle.std.proofs.Common.{◌≡◌, ℕ, zero, suc, ◌+◌, ◌<◌, ◌≤◌, Bool, true, false, inl, inr, subst, List, [], ◌∷◌, ◌++◌, Option, Some, None, drop, take, length, refl, sym, arith}
 use Rattle.std.specs.Prelude.{◌⊎◌, not, ◌==◌, ◌||◌, ◌&&◌, codes, find, cond, nat_le}
 use Rattle.std.specs.Char.{is_ascii_digit}
 use Rattle.std.proofs.lemmas.Slice.Eq.{bytes_eq-Decides}
 use Rattle.std.specs.List.{list_all, prefix_len}
 use Rattle.std.specs.Str.{bytes_eq}
+use Rattle.std.proofs.lemmas.Bool.{and_parts, eqb-true, not-true, or_cases, or_left, and_right}
 use Rattle.mic_base.specs.Name.{begins_digit, is_name, is_name_byte}
 use Rattle.source_text.specs.Tokens.{is_blank}
 use Rattle.source_text.specs.Runs.{name_len, begins_with}
@@ -93,24 +93,6 @@ no_sign text h = go (find_sign text) refl
 
 -- ---- names and runs
 
-and_parts : (a b : Bool) → (a && b) ≡ true → (a ≡ true) × (b ≡ true)
-and_parts true b h = (refl, h)
-and_parts false b h = absurd (cc)
-
-or_parts : (a b : Bool) → (a || b) ≡ true → (a ≡ true) ⊎ (b ≡ true)
-or_parts true b h = inl refl
-or_parts false b h = inr h
-
-or_left : (a b : Bool) → a ≡ true → (a || b) ≡ true
-or_left a b h = rw h refl
-
-not_true : (a : Bool) → not a ≡ true → a ≡ false
-not_true true h = absurd (cc)
-not_true false h = refl
-
-is_byte : (b k : ℕ) → (b == k) ≡ true → b ≡ k
-is_byte b k h = eqb→eq b k (passes (b == k) h)
-
 -- what a name is
 record IsNamed (text : List ℕ) : Type 0 where
   starts : begins_with is_name_byte text ≡ true
@@ -122,7 +104,7 @@ named text h =
     let p = and_parts (nat_le 1 (length text)) (nat_le (length text) 64 && (list_all is_name_byte text && not (begins_digit text))) h in
     let q = and_parts (nat_le (length text) 64) (list_all is_name_byte text && not (begins_digit text)) p.1 in
     let r = and_parts (list_all is_name_byte text) (not (begins_digit text)) q.1 in
-    record { starts = first text p.0 r.0; no_digit = not_true (begins_digit text) r.1; all = r.0 }
+    record { starts = first text p.0 r.0; no_digit = not-true (begins_digit text) r.1; all = r.0 }
   where
     first : (text : List ℕ) → nat_le 1 (length text) ≡ true → list_all is_name_byte text ≡ true → begins_with is_name_byte text ≡ true
     first [] some all = absurd (cc)
@@ -134,8 +116,8 @@ no_number [] s d = refl
 no_number (b ∷ rest) s d = rw d (go (b == 45) (b == 39) refl refl)
   where
     go : (x y : Bool) → (b == 45) ≡ x → (b == 39) ≡ y → (x || y) ≡ false
-    go true y e f = absurd (let k = is_byte b 45 e in let w : is_name_byte 45 ≡ true = subst (λ z. is_name_byte z ≡ true) k s in cc)
-    go false true e f = absurd (let k = is_byte b 39 f in let w : is_name_byte 39 ≡ true = subst (λ z. is_name_byte z ≡ true) k s in cc)
+    go true y e f = absurd (let k = eqb-true b 45 e in let w : is_name_byte 45 ≡ true = subst (λ z. is_name_byte z ≡ true) k s in cc)
+    go false true e f = absurd (let k = eqb-true b 39 f in let w : is_name_byte 39 ≡ true = subst (λ z. is_name_byte z ≡ true) k s in cc)
     go false false e f = refl
 
 digit_name : (b : ℕ) → is_ascii_digit b ≡ true → is_name_byte b ≡ true
@@ -143,9 +125,9 @@ digit_name b h = rw h refl
 
 -- a digit or `-` begins a run
 begins_run : (b : ℕ) → (is_ascii_digit b || b == 45) ≡ true → (is_name_byte b || b == 45) ≡ true
-begins_run b h = elim (or_parts (is_ascii_digit b) (b == 45) h) [
+begins_run b h = elim (or_cases (is_ascii_digit b) (b == 45) h) [
   | inl d ↦ or_left (is_name_byte b) (b == 45) (digit_name b d)
-  | inr m ↦ let e = is_byte b 45 m in rw e refl
+  | inr m ↦ let e = eqb-true b 45 m in rw e refl
 ]
 
 -- ---- what is spelled is read
@@ -208,9 +190,9 @@ read_name text h =
 read_number : (text : List ℕ) → IsNumberText text → begins_number text ≡ true
 read_number [] is = absurd is
 read_number (b ∷ rest) (inl w) = let e = w.0 in rw e refl
-read_number (b ∷ rest) (inr w) = elim (or_parts (is_ascii_digit b) (b == 45) w.0) [
+read_number (b ∷ rest) (inr w) = elim (or_cases (is_ascii_digit b) (b == 45) w.0) [
   | inl d ↦ rw d refl
-  | inr m ↦ let e = is_byte b 45 m in rw e refl
+  | inr m ↦ let e = eqb-true b 45 m in rw e refl
 ]
 
 read : (t : Token) (text rest : List ℕ) → IsLexeme t text → EndsLexeme text rest → token_of text ≡ Some t
@@ -255,8 +237,8 @@ ends_at b rest = go (is_name_byte b || b == 45) (b == 46) (b == 39) refl refl re
     go : (w dot quote : Bool) → (is_name_byte b || b == 45) ≡ w → (b == 46) ≡ dot → (b == 39) ≡ quote
         → EndsLexeme (take (cond w (name_len rest + 1) (cond dot (prefix_len is_word_byte rest + 1) (cond quote (quote_len rest) 1))) (b ∷ rest)) (drop (cond w (name_len rest + 1) (cond dot (prefix_len is_word_byte rest + 1) (cond quote (quote_len rest) 1))) (b ∷ rest))
     go true dot quote h d q = ends_run b rest h
-    go false true quote h d q = ends_word b rest h (is_byte b 46 d)
-    go false false true h d q = ends_quote b rest h (is_byte b 39 q)
+    go false true quote h d q = ends_word b rest h (eqb-true b 46 d)
+    go false false true h d q = ends_quote b rest h (eqb-true b 39 q)
     go false false false h d q = record {
       run = λ k. absurd (cc);
       word = λ e. absurd (let f : (46 == 46) ≡ false = subst (λ z. (z == 46) ≡ false) e d in cc);
@@ -279,7 +261,7 @@ is_number b rest h = go (is_ascii_digit b) (b == 45) (b == 39) refl refl refl h
     go : (d m q : Bool) → is_ascii_digit b ≡ d → (b == 45) ≡ m → (b == 39) ≡ q → (d || m || q) ≡ true → IsNumberText (take (extent (b ∷ rest)) (b ∷ rest))
     go true m q e f g h = number_run b rest (rw e refl)
     go false true q e f g h = number_run b rest (rw (e, f) refl)
-    go false false true e f g h = let k = is_byte b 39 g in subst (λ z. IsNumberText (take (extent (z ∷ rest)) (z ∷ rest))) (sym k) (number_quote rest)
+    go false false true e f g h = let k = eqb-true b 39 g in subst (λ z. IsNumberText (take (extent (z ∷ rest)) (z ∷ rest))) (sym k) (number_quote rest)
     go false false false e f g h = absurd (cc)
 
 begins_first : (b n : ℕ) (rest : List ℕ) → begins_number (take n (b ∷ rest)) ≡ true → begins_number (b ∷ rest) ≡ true
@@ -316,12 +298,7 @@ some b rest = go (is_name_byte b || b == 45) (b == 46) (b == 39) rest
     go false false false rest = omega arith
 
 no_name : (b : ℕ) (rest : List ℕ) → is_name_byte b ≡ false → is_name (b ∷ rest) ≡ false
-no_name b rest h = rw h (go (nat_le 1 (length (b ∷ rest))) (nat_le (length (b ∷ rest)) 64))
-  where
-    go : (x y : Bool) → (x && (y && false)) ≡ false
-    go true true = refl
-    go true false = refl
-    go false y = refl
+no_name b rest h = rw h (and_right (nat_le 1 (length (b ∷ rest))) (nat_le (length (b ∷ rest)) 64 && false) (and_right (nat_le (length (b ∷ rest)) 64) false refl))
 
 not_blank : (b : ℕ) (rest : List ℕ) (t : Token) → token_of (b ∷ rest) ≡ Some t → is_blank b ≡ false
 not_blank b rest t h = go (b == 32) (b == 9) refl refl
@@ -333,8 +310,8 @@ not_blank b rest t h = go (b == 32) (b == 9) refl refl
     tab x e = rw (e, no_name 9 rest refl) refl
 
     go : (x y : Bool) → (b == 32) ≡ x → (b == 9) ≡ y → (x || y) ≡ false
-    go true y e f = absurd (let k = space b (is_byte b 32 e) in cc)
-    go false true e f = absurd (let k = tab b (is_byte b 9 f) in cc)
+    go true y e f = absurd (let k = space b (eqb-true b 32 e) in cc)
+    go false true e f = absurd (let k = tab b (eqb-true b 9 f) in cc)
     go false false e f = refl
 
 pub agrees : Agrees ijvm lexer
