@@ -4,6 +4,7 @@ use Rattle.std.specs.Prelude.{option_map, bit_or, ◌||◌, ◌&&◌, ◌==◌}
 use Rattle.std.specs.List.{prefix_len, list_all}
 use Rattle.std.proofs.lemmas.List.{take-append-drop}
 use Rattle.std.proofs.Math.Seq.{take-append_seam, drop-append_seam}
+use Rattle.std.proofs.lemmas.Bool.{and_parts, or_right}
 use Rattle.machine_words.specs.declared.machine.Machine.{Machine}
 use Rattle.mal_tokens.specs.declared.word.Word.{Word}
 use Rattle.mal_tokens.specs.declared.sign.Sign.TheVariants as signs
@@ -16,7 +17,7 @@ use Rattle.mal_line.specs.declared.chain.Tail.TheVariants as tails
 use Rattle.mal_line.specs.Chains.{bit, dest_bits, dest_tokens, HasCoding, is_dest, is_expr, is_filled, IsAssignment, tail_tokens}
 use Rattle.mal_line.specs.Lookup.{coding_of}
 use Rattle.mal_line.specs.Reading.{assigned, chain_at, dest_of, last, on_dest, shifting, tail_of}
-use Rattle.mal_line.proofs.Options.{and_parts, chosen, mapped}
+use Rattle.mal_line.proofs.Options.{chosen, mapped}
 use Rattle.mal_line.proofs.Codings.{coding_again, coding_is}
 
 -- ---- fronts that pass a test
@@ -210,10 +211,6 @@ dest_is (tokens.Word w) (tokens.Sign signs.Equals) = go (is_dest w) refl
     go false e = tt
 dest_is _ _ = tt
 
-or_true : (b : Bool) → (b || true) ≡ true
-or_true true = refl
-or_true false = refl
-
 more_linked : (m : Machine) (some : Bool) (dests : ℕ) (t u : Token) (rest : List Token) (w : Word) (a : Assignment) → (t ≡ tokens.Word w) × (u ≡ tokens.Sign signs.Equals) × (is_dest w ≡ true)
     → IsLinked m true (bit_or dests (bit w)) rest a → IsLinked m some dests (t ∷ u ∷ rest) a
 more_linked m some dests t u rest w a d l = record {
@@ -221,7 +218,7 @@ more_linked m some dests t u rest w a d l = record {
   body = l.body;
   tail = l.tail;
   are = let k = d.2 in rw k l.are;
-  some = or_true some;
+  some = or_right some true refl;
   expr = l.expr;
   not_empty = l.not_empty;
   spelled = ap (λ (x : Token). x ∷ u ∷ rest) d.0 ∙ (ap (λ (x : Token). tokens.Word w ∷ x ∷ rest) d.1 ∙ ap (λ (r : List Token). tokens.Word w ∷ tokens.Sign signs.Equals ∷ r) l.spelled);

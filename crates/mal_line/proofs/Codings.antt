@@ -1,7 +1,7 @@
 -- The coding of an expression is the one that is looked up for it.
-use Rattle.std.proofs.Common.{◌≡◌, ℕ, Bool, true, false, List, [], ◌∷◌, Option, Some, None, refl, ap, subst, ◌∙◌, inl, inr, eqb→eq}
-use Rattle.std.specs.Bool.{passes}
-use Rattle.std.specs.Prelude.{ℤ, pos, negsuc, not, option_and_then, ◌&&◌, ◌==◌, nat_lt}
+use Rattle.std.proofs.Common.{◌≡◌, ℕ, Bool, true, false, List, [], ◌∷◌, Option, Some, None, refl, ap, subst, ◌∙◌, inl, inr}
+use Rattle.std.specs.Prelude.{ℤ, pos, negsuc, not, option_and_then, ◌&&◌, nat_lt}
+use Rattle.std.proofs.lemmas.Bool.{and_parts, eqb-true}
 use Rattle.machine_words.specs.declared.machine.Machine.{Machine}
 use Rattle.machine_words.specs.declared.machine.Machine.TheVariants.{Mic1, Mic2}
 use Rattle.micro_word.specs.declared.statement.AluOp.{AluOp}
@@ -182,20 +182,17 @@ again m _ _ _ body h f g e = absurd (cc)
 
 -- ---- the coding as a whole
 
-six : (u v w x y z : Bool) → (((((u && v) && w) && x) && y) && z) ≡ true → (v ≡ true) × (w ≡ true) × (x ≡ true)
-six true true true x y z h = (refl, refl, first x y z h)
-  where
-    first : (x y z : Bool) → ((x && y) && z) ≡ true → x ≡ true
-    first true y z h = refl
-    first false y z h = absurd (cc)
-six true true false x y z h = absurd (cc)
-six true false w x y z h = absurd (cc)
-six false v w x y z h = absurd (cc)
+pub six_parts : (u v w x y z : Bool) → (((((u && v) && w) && x) && y) && z) ≡ true → (v ≡ true) × (w ≡ true) × (x ≡ true) × (y ≡ true)
+six_parts u v w x y z h =
+    let four = and_parts (((u && v) && w) && x) y (and_parts ((((u && v) && w) && x) && y) z h).0 in
+    let three = and_parts ((u && v) && w) x four.0 in
+    let two = and_parts (u && v) w three.0 in
+    ((and_parts u v two.0).1, two.1, three.1, four.1)
 
 form_again : (m : Machine) (body : List Token) (o : Operation) → fits m o ≡ true → IsOneOf body (spellings m o) → form_of m body ≡ Some (work o.op o.a o.b)
 unfolding Again
 form_again m body o h s =
-    let p = six (nat_lt 0 512) (has_operation m o.op) (fits_side (row o.op).uses_a (may_be_a m) o.a) (fits_side (row o.op).uses_b (may_be_b m) o.b) (not (is_mixed o.a o.b)) (may_fetch m false) h in
+    let p = six_parts (nat_lt 0 512) (has_operation m o.op) (fits_side (row o.op).uses_a (may_be_a m) o.a) (fits_side (row o.op).uses_b (may_be_b m) o.b) (not (is_mixed o.a o.b)) (may_fetch m false) h in
     again m o.op o.a o.b body p.0 p.1 p.2 s
 
 shift_again : (s : Shift) → shift_of (tail_with s) ≡ Some s
@@ -203,8 +200,8 @@ shift_again shifts.None = refl
 shift_again shifts.Left8 = refl
 shift_again shifts.Right1 = refl
 
-number_is : (v : ℤ) (n : ℕ) → is_number v n ≡ true → v ≡ pos n
-number_is (pos k) n h = ap pos (eqb→eq k n (passes (k == n) h))
+pub number_is : (v : ℤ) (n : ℕ) → is_number v n ≡ true → v ≡ pos n
+number_is (pos k) n h = ap pos (eqb-true k n h)
 number_is (negsuc k) n h = absurd (cc)
 
 shift_is : (t : Tail) (s : Shift) → shift_of t ≡ Some s → t ≡ tail_with s

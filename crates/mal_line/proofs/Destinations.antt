@@ -2,7 +2,7 @@
 use Rattle.std.proofs.Common.{◌≡◌, ℕ, zero, suc, ◌<◌, List, [], ◌∷◌, Some, IsTrue, Contains, refl, sym, ap, subst, ◌∙◌, arith, inl, inr}
 use Rattle.std.specs.Prelude.{◌⊎◌, bit_or, max}
 use Rattle.std.specs.Int.{bit_at}
-use Rattle.std.proofs.lemmas.Nat.Bits.{bit_at_or}
+use Rattle.std.proofs.lemmas.Nat.Bits.{bit_at_or, bit_at-lt}
 use Rattle.std.proofs.lemmas.Nat.{or_lt}
 use Rattle.std.proofs.lemmas.Bool.Decides.{nat_tests}
 use Rattle.micro_word.specs.declared.destination.Destination.{Destination}
@@ -49,9 +49,6 @@ at_loads c registers.Pc h = grind (arith, nat_tests)
 at_loads c registers.Mdr h = grind (arith, nat_tests)
 at_loads c registers.Mar h = grind (arith, nat_tests)
 
-bit_two : (c i : ℕ) → bit_at c i < 2
-bit_two c i = omega arith
-
 one_of : (x y : ℕ) → x < 2 → y < 2 → max x y ≡ 1 → (x ≡ 1) ⊎ (y ≡ 1)
 one_of zero zero p q h = absurd (cc)
 one_of zero (suc zero) p q h = inr refl
@@ -60,7 +57,7 @@ one_of (suc zero) y p q h = inl refl
 one_of (suc (suc n)) y p q h = absurd (omega arith)
 
 or_split : (a b : ℕ) (r : Destination) → IsTrue (loads (bit_or a b) r) → IsTrue (loads a r) ⊎ IsTrue (loads b r)
-or_split a b r h = elim (one_of (bit_at a (place r)) (bit_at b (place r)) (bit_two a (place r)) (bit_two b (place r)) (sym (bit_at_or a b (place r)) ∙ loads_at (bit_or a b) r h)) [
+or_split a b r h = elim (one_of (bit_at a (place r)) (bit_at b (place r)) (bit_at-lt a (place r)) (bit_at-lt b (place r)) (sym (bit_at_or a b (place r)) ∙ loads_at (bit_or a b) r h)) [
   | inl e ↦ inl (at_loads a r e)
   | inr e ↦ inr (at_loads b r e)
 ]
@@ -76,10 +73,10 @@ max_right (suc zero) y e h = ap (max 1) e
 max_right (suc (suc n)) y e h = absurd (omega arith)
 
 or_left : (a b : ℕ) (r : Destination) → IsTrue (loads a r) → IsTrue (loads (bit_or a b) r)
-or_left a b r h = at_loads (bit_or a b) r (bit_at_or a b (place r) ∙ max_left (bit_at a (place r)) (bit_at b (place r)) (loads_at a r h) (bit_two b (place r)))
+or_left a b r h = at_loads (bit_or a b) r (bit_at_or a b (place r) ∙ max_left (bit_at a (place r)) (bit_at b (place r)) (loads_at a r h) (bit_at-lt b (place r)))
 
 or_right : (a b : ℕ) (r : Destination) → IsTrue (loads b r) → IsTrue (loads (bit_or a b) r)
-or_right a b r h = at_loads (bit_or a b) r (bit_at_or a b (place r) ∙ max_right (bit_at a (place r)) (bit_at b (place r)) (loads_at b r h) (bit_two a (place r)))
+or_right a b r h = at_loads (bit_or a b) r (bit_at_or a b (place r) ∙ max_right (bit_at a (place r)) (bit_at b (place r)) (loads_at b r h) (bit_at-lt a (place r)))
 
 -- ---- one word
 

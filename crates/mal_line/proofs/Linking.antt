@@ -1,6 +1,5 @@
 -- Reading the destinations of an assignment one after the other.
-use Rattle.std.proofs.Common.{◌≡◌, ℕ, suc, ◌+◌, ◌-◌, ◌<◌, ◌≤◌, Bool, true, List, [], ◌∷◌, Some, None, length, drop, take, get_or, refl, sym, ap, ◌∙◌, arith, drop-cons, length-drop}
-use Rattle.std.proofs.lemmas.List.{take_all}
+use Rattle.std.proofs.Common.{◌≡◌, ℕ, suc, ◌+◌, ◌-◌, ◌<◌, ◌≤◌, Bool, true, List, [], ◌∷◌, Some, None, length, drop, get_or, refl, sym, ap, ◌∙◌, arith, drop-cons}
 use Rattle.std.specs.Prelude.{bit_or}
 use Rattle.machine_words.specs.declared.machine.Machine.{Machine}
 use Rattle.mal_tokens.specs.declared.word.Word.{Word}
@@ -31,6 +30,3 @@ two_at xs i t u lt is_t is_u =
     let one : drop i xs ≡ t ∷ drop (suc i) xs = drop-cons xs i t near ∙ ap (λ (x : Token). x ∷ drop (suc i) xs) (sym is_t) in
     let two : drop (suc i) xs ≡ u ∷ drop (suc (suc i)) xs = drop-cons xs (suc i) u far ∙ ap (λ (x : Token). x ∷ drop (suc (suc i)) xs) (sym (rw s at is_u)) in
     rw s2 (one ∙ ap (λ (zs : List Token). t ∷ zs) two)
-
-pub rest_all : (xs : List Token) (i : ℕ) → take (length xs - i) (drop i xs) ≡ drop i xs
-rest_all xs i = take_all (length xs - i) (drop i xs) (omega (arith, length-drop i xs))

@@ -1,6 +1,6 @@
 -- What an answer says of the parts that it was made from.
 use Rattle.std.proofs.Common.{◌≡◌, Bool, true, false, Option, Some, None, refl, inl, inr, cond}
-use Rattle.std.specs.Prelude.{option_map, option_and_then, ◌⊎◌, ◌&&◌, not}
+use Rattle.std.specs.Prelude.{option_map, option_and_then, ◌⊎◌}
 
 pub chosen : {A : Type 0} (b : Bool) (x y z : Option A) → cond b x y ≡ z → ((b ≡ true) × (x ≡ z)) ⊎ ((b ≡ false) × (y ≡ z))
 chosen true x y z h = inl (refl, h)
@@ -13,11 +13,3 @@ mapped f None y h = absurd (cc)
 pub bound : {A B : Type 0} (f : A → Option B) (o : Option A) (y : B) → option_and_then f o ≡ Some y → (a : A) × (o ≡ Some a) × (f a ≡ Some y)
 bound f (Some a) y h = (a, refl, h)
 bound f None y h = absurd (cc)
-
-pub and_parts : (a b : Bool) → (a && b) ≡ true → (a ≡ true) × (b ≡ true)
-and_parts true b h = (refl, h)
-and_parts false b h = absurd (cc)
-
-pub not_true : (a : Bool) → not a ≡ true → a ≡ false
-not_true true h = absurd (cc)
-not_true false h = refl

@@ -1,8 +1,8 @@
 -- What stands between two semicolons is read exactly as it is spelled.
-use Rattle.std.proofs.Common.{◌≡◌, ℕ, Bool, true, false, List, [], ◌∷◌, ◌++◌, Option, Some, None, refl, sym, ap, subst, ◌∙◌, inl, inr, cond, eqb→eq}
-use Rattle.std.specs.Bool.{passes}
-use Rattle.std.specs.Prelude.{ℤ, pos, negsuc, option_map, ◌==◌, ◌≢◌}
+use Rattle.std.proofs.Common.{◌≡◌, ℕ, Bool, true, false, List, [], ◌∷◌, ◌++◌, Option, Some, None, refl, sym, ap, subst, ◌∙◌, inl, inr, cond}
+use Rattle.std.specs.Prelude.{ℤ, pos, option_map, ◌≢◌}
 use Rattle.std.specs.List.{list_all}
+use Rattle.std.proofs.lemmas.Bool.{and_parts}
 use Rattle.machine_words.specs.declared.machine.Machine.{Machine}
 use Rattle.micro_word.specs.declared.statement.Mem.{Mem}
 use Rattle.micro_word.specs.declared.statement.Mem.TheVariants as mems
@@ -22,7 +22,8 @@ use Rattle.mal_line.specs.Chains.{dest_tokens, is_dest, is_filled, IsAssignment,
 use Rattle.mal_line.specs.Lookup.{is_number}
 use Rattle.mal_line.specs.Statements.{is_byte_word, IsDispatch, IsElse, IsFetch, IsGoto, IsIf, IsMem, test_word}
 use Rattle.mal_line.specs.Reading.{alone, branch_on, chain_at, else_of, goto_of, head_of, if_of, is_byte_in, is_goto, is_or, is_test_in, name_of, offset_of, piece_by, piece_of, test_of}
-use Rattle.mal_line.proofs.Options.{and_parts, chosen, mapped}
+use Rattle.mal_line.proofs.Codings.{number_is}
+use Rattle.mal_line.proofs.Options.{chosen, mapped}
 use Rattle.mal_line.proofs.Chaining.{chain_again, chain_is}
 
 -- these tokens spell what stands between two semicolons
@@ -148,10 +149,6 @@ framed _ _ g = tt
 frame_is : (o c g : Token) → is_test_in o c g ≡ true → (o ≡ tokens.Sign signs.Open) × (c ≡ tokens.Sign signs.Close) × (g ≡ tokens.Word words.Goto)
 unfolding Framed
 frame_is o c g h = subst (Framed o c g) h (framed o c g)
-
-number_is : (v : ℤ) (n : ℕ) → is_number v n ≡ true → v ≡ pos n
-number_is (pos k) n h = ap pos (eqb→eq k n (passes (k == n) h))
-number_is (negsuc k) n h = absurd (cc)
 
 number_not : (v : ℤ) → v ≢ pos 256 → is_number v 256 ≡ false
 number_not v ne = go (is_number v 256) refl

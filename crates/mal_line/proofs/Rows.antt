@@ -1,6 +1,7 @@
 -- An expression has a coding exactly where it is a row of the table.
 use Rattle.std.proofs.Common.{◌≡◌, Bool, true, false, List, ◌∷◌, Option, Some, None, refl, sym, ap, subst, inl, inr}
 use Rattle.std.specs.Prelude.{not, ◌&&◌, nat_lt}
+use Rattle.std.proofs.lemmas.Bool.{and_right, not-true}
 use Rattle.machine_words.specs.declared.machine.Machine.{Machine}
 use Rattle.machine_words.specs.declared.machine.Machine.TheVariants.{Mic1, Mic2}
 use Rattle.micro_word.specs.declared.statement.AluOp.{AluOp}
@@ -16,7 +17,7 @@ use Rattle.mal_line.specs.declared.operation.Operation.{Operation}
 use Rattle.mal_line.specs.declared.chain.Tail.{Tail}
 use Rattle.mal_line.specs.Expressions.{fits, IsCoded, IsOneOf, other_spellings, side, source_word, spelling, spellings, tail_with}
 use Rattle.mal_line.specs.Table.{conjunction, difference, disjunction, Does, inverse, IsRow, minus_one, negative, next, next_before, one, plain, previous, Row, row_tokens, RowDoes, sum, sum_next, zero}
-use Rattle.mal_line.proofs.Options.{not_true}
+use Rattle.mal_line.proofs.Codings.{six_parts}
 
 h_is : (x : BusSource) → is_h x ≡ true → x ≡ bus.H
 h_is bus.H h = refl
@@ -118,12 +119,8 @@ fits_by : (m : Machine) (op : AluOp) (a b : Option BusSource) (s : Shift) → ha
 unfolding work
 fits_by m op a b s h f g k = all_true (nat_lt 0 512) (has_operation m op) (fits_side (gates_row op).uses_a (may_be_a m) a) (fits_side (gates_row op).uses_b (may_be_b m) b) (not (is_mixed a b)) (may_fetch m false) refl h f g (ap not k) (no_fetch m)
 
-and_false : (b : Bool) → (b && false) ≡ false
-and_false true = refl
-and_false false = refl
-
 unmixed : (x : BusSource) → is_mixed (Some x) None ≡ false
-unmixed x = rw (and_false (is_byte (Some x)), and_false (is_pair (Some x))) refl
+unmixed x = rw (and_right (is_byte (Some x)) false refl, and_right (is_pair (Some x)) false refl) refl
 
 by_work : (m : Machine) (body : List Token) (o : Operation) (op : AluOp) (a b : Option BusSource) → Does o op a b → IsSpelled m body (work op a b o.shift) → IsSpelled m body o
 unfolding work
@@ -173,19 +170,11 @@ row_is Mic2 minus_one x y o w = by_work Mic2 (row_tokens minus_one (tokens.Word 
 
 -- ---- the coding
 
-six : (u v w x y z : Bool) → (((((u && v) && w) && x) && y) && z) ≡ true → (v ≡ true) × (w ≡ true) × (x ≡ true) × (y ≡ true)
-six true true true true true z h = (refl, refl, refl, refl)
-six true true true true false z h = absurd (cc)
-six true true true false y z h = absurd (cc)
-six true true false x y z h = absurd (cc)
-six true false w x y z h = absurd (cc)
-six false v w x y z h = absurd (cc)
-
 pub coded_row : (m : Machine) (body : List Token) (t : Tail) (o : Operation) → IsCoded m body t o → IsRow m body o
 unfolding ToRow work
 coded_row m body t o c =
-    let p = six (nat_lt 0 512) (has_operation m o.op) (fits_side (gates_row o.op).uses_a (may_be_a m) o.a) (fits_side (gates_row o.op).uses_b (may_be_b m) o.b) (not (is_mixed o.a o.b)) (may_fetch m false) c.fitting in
-    to_row m o.op o.a o.b body o.shift p.0 p.1 p.2 (not_true (is_mixed o.a o.b) p.3) c.spelled
+    let p = six_parts (nat_lt 0 512) (has_operation m o.op) (fits_side (gates_row o.op).uses_a (may_be_a m) o.a) (fits_side (gates_row o.op).uses_b (may_be_b m) o.b) (not (is_mixed o.a o.b)) (may_fetch m false) c.fitting in
+    to_row m o.op o.a o.b body o.shift p.0 p.1 p.2 (not-true (is_mixed o.a o.b) p.3) c.spelled
 
 pub row_coded : (m : Machine) (body : List Token) (t : Tail) (o : Operation) → IsRow m body o → t ≡ tail_with o.shift → IsCoded m body t o
 unfolding IsSpelled

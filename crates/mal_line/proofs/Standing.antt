@@ -1,8 +1,9 @@
 -- What a line says stands in a word of its machine.
 use Rattle.std.proofs.Common.{◌≡◌, ℕ, ◌<◌, Bool, true, false, List, [], ◌∷◌, Option, Some, None, refl, sym, ap, subst, ◌∙◌, arith, inl, inr, cond}
-use Rattle.std.specs.Prelude.{◌⊎◌, ◌&&◌, ◌||◌, not, nat_lt, IsTrue}
+use Rattle.std.specs.Prelude.{◌⊎◌, ◌&&◌, not, nat_lt, IsTrue}
 use Rattle.std.specs.List.{list_any, list_all, onto_first}
 use Rattle.std.proofs.lemmas.Bool.Decides.{nat_tests}
+use Rattle.std.proofs.lemmas.Bool.{or_parts}
 use Rattle.machine_words.specs.declared.machine.Machine.{Machine}
 use Rattle.machine_words.specs.declared.machine.Machine.TheVariants.{Mic1, Mic2}
 use Rattle.micro_word.specs.declared.statement.Part.{Part}
@@ -30,10 +31,6 @@ use Rattle.mal_line.proofs.Options.{mapped}
 use Rattle.mal_line.proofs.Destinations.{dest_bits-lt}
 
 -- ---- no word of the other machine
-
-or_parts : (a b : Bool) → (a || b) ≡ false → (a ≡ false) × (b ≡ false)
-or_parts true b h = absurd (cc)
-or_parts false b h = (refl, h)
 
 abbrev Own : (Token → Bool) → List (List Token) → Type 0
 Own p xs = list_all (λ x. not (list_any p x)) xs ≡ true

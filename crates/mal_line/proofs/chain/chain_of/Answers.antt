@@ -1,8 +1,9 @@
 use Rattle.std.proofs.Common.{◌≡◌, ◌+◌, ◌∷◌, ◌∙◌, Some, None, true, length-drop, drop, sym, ap, arith}
 use Rattle.std.specs.Prelude.{bit_or}
+use Rattle.std.proofs.lemmas.List.{take_rest}
 use Rattle.mal_line.specs.Chains.{bit}
 use Rattle.mal_line.specs.Reading.{chain_at, dest_of, last}
-use Rattle.mal_line.proofs.Linking.{chain_step, chain_stop, chain_short, two_at, rest_all}
+use Rattle.mal_line.proofs.Linking.{chain_step, chain_stop, chain_short, two_at}
 use Rattle.mal_line.proofs.chain.chain_of.Goals as goal
 
 pub loop-at-preserved : goal.loop-at-preserved
@@ -25,11 +26,11 @@ returns-in-None c =
     let d : dest_of t u ≡ None = sym c.dest_of.ensures ∙ c.in-None.is in
     let stop : chain_at c.args.machine c.loop-at.some c.loop-at.dests (drop c.loop-at.at ts) ≡ last c.args.machine c.loop-at.some c.loop-at.dests (drop c.loop-at.at ts) =
     chain_stop c.args.machine c.loop-at.some c.loop-at.dests (drop c.loop-at.at ts) t u (drop (c.loop-at.at + 2) ts) e d in
-    c.last.ensures ∙ (ap (last c.args.machine c.loop-at.some c.loop-at.dests) (rest_all ts c.loop-at.at) ∙ (sym stop ∙ c.loop-at.invariant.1))
+    c.last.ensures ∙ (ap (last c.args.machine c.loop-at.some c.loop-at.dests) (take_rest ts c.loop-at.at) ∙ (sym stop ∙ c.loop-at.invariant.1))
 
 pub returns : goal.returns
 returns c =
     let ts = c.args.tokens.now in
     let stop : chain_at c.args.machine c.loop-at.some c.loop-at.dests (drop c.loop-at.at ts) ≡ last c.args.machine c.loop-at.some c.loop-at.dests (drop c.loop-at.at ts) =
     chain_short c.args.machine c.loop-at.some c.loop-at.dests (drop c.loop-at.at ts) (omega (arith, length-drop c.loop-at.at ts, c.loop-at.invariant.0, c.loop-at-test.false)) in
-    c.last-2.ensures ∙ (ap (last c.args.machine c.loop-at.some c.loop-at.dests) (rest_all ts c.loop-at.at) ∙ (sym stop ∙ c.loop-at.invariant.1))
+    c.last-2.ensures ∙ (ap (last c.args.machine c.loop-at.some c.loop-at.dests) (take_rest ts c.loop-at.at) ∙ (sym stop ∙ c.loop-at.invariant.1))
