@@ -3,8 +3,10 @@ use Rattle.std.proofs.Common.{◌≡◌, ℕ, suc, ◌+◌, ◌≤◌, Bool, tru
 use Rattle.std.specs.Prelude.{Result, Ok, Err, map, nat_le, ◌||◌, ◌⊎◌, is_some, option_map, option_to_list, IsSome}
 use Rattle.std.specs.List.{cons_option}
 use Rattle.std.specs.Str.{bytes_eq}
-use Rattle.std.proofs.lemmas.List.{append-nil}
+use Rattle.std.proofs.lemmas.List.{append-nil, map-append}
 use Rattle.std.proofs.lemmas.Bool.Decides.{nat_tests}
+use Rattle.std.proofs.lemmas.List.Folds.{list_any-append}
+use Rattle.std.proofs.lemmas.Bool.{or_from, or_parts}
 use Rattle.source_text.specs.Walk.{Leads}
 use Rattle.machine_words.specs.declared.machine.Machine.{Machine}
 use Rattle.mal_line.specs.declared.content.Content.{Content}
@@ -17,7 +19,6 @@ use Rattle.mal_parser.specs.declared.source.Fix.{Fix}
 use Rattle.mal_parser.specs.Labels.{address_of, AreDistinct, has_fix, has_label, has_name, is_among, is_label, labels_of}
 use Rattle.mal_parser.specs.Text.{AreAddresses, fallbacks_from, fixes_from, IsFine, SayAll, statements_from}
 use Rattle.mal_parser.specs.Reading.{add_content, add_fix, add_said, content_at, empty, first, ReadsLines, Sketch, sketch_of, step}
-use Rattle.mal_parser.proofs.Naming.{any_append}
 use Rattle.mal_parser.proofs.Resolved.{same_text, text_same}
 use Rattle.mal_parser.proofs.Saying.{content_says, says_content}
 
@@ -118,13 +119,6 @@ adds_leads laws (l ∷ ls) (c ∷ cs) k s t say h = go (add_content k s c) refl 
 
 -- ---- no name stands twice
 
-or_parts : (a b : Bool) → (a || b) ≡ false → (a ≡ false) × (b ≡ false)
-or_parts true b h = absurd (cc)
-or_parts false b h = (refl, h)
-
-false_or : (a b : Bool) → a ≡ false → b ≡ false → (a || b) ≡ false
-false_or a b h k = rw (h, k) refl
-
 differ : (a b : List ℕ) → bytes_eq a b ≡ false → bytes_eq b a ≡ false
 differ a b h = go (bytes_eq b a) refl
   where
@@ -136,16 +130,16 @@ distinct_push : (xs : List (List ℕ)) (y : List ℕ) → AreDistinct xs → is_
 distinct_push [] y h n = (refl, tt)
 distinct_push (x ∷ xs) y h n =
     let p = or_parts (bytes_eq x y) (is_among y xs) n in
-    let e : is_among x (xs ++ y ∷ []) ≡ false = any_append (λ o. bytes_eq o x) xs (y ∷ []) ∙ false_or (is_among x xs) (bytes_eq y x || false) h.0 (false_or (bytes_eq y x) false (differ x y p.0) refl) in
+    let e : is_among x (xs ++ y ∷ []) ≡ false = list_any-append (λ o. bytes_eq o x) xs (y ∷ []) ∙ or_from (is_among x xs) (bytes_eq y x || false) h.0 (or_from (bytes_eq y x) false (differ x y p.0) refl) in
     (e, distinct_push xs y h.1 p.1)
 
 distinct_middle : (xs ys : List (List ℕ)) (y : List ℕ) → AreDistinct (xs ++ y ∷ ys) → is_among y xs ≡ false
 distinct_middle [] ys y h = refl
 distinct_middle (x ∷ xs) ys y h =
-    let a : (is_among x xs || (bytes_eq y x || is_among x ys)) ≡ false = sym (any_append (λ o. bytes_eq o x) xs (y ∷ ys)) ∙ h.0 in
+    let a : (is_among x xs || (bytes_eq y x || is_among x ys)) ≡ false = sym (list_any-append (λ o. bytes_eq o x) xs (y ∷ ys)) ∙ h.0 in
     let p = or_parts (is_among x xs) (bytes_eq y x || is_among x ys) a in
     let q = or_parts (bytes_eq y x) (is_among x ys) p.1 in
-    false_or (bytes_eq x y) (is_among y xs) (differ y x q.0) (distinct_middle xs ys y h.1)
+    or_from (bytes_eq x y) (is_among y xs) (differ y x q.0) (distinct_middle xs ys y h.1)
 
 labels_append : (ds es : List Draft) → labels_of (ds ++ es) ≡ labels_of ds ++ labels_of es
 labels_append [] es = refl
@@ -154,13 +148,6 @@ labels_append (d ∷ ds) es = go d.label (labels_append ds es)
     go : (o : Option (List ℕ)) → labels_of (ds ++ es) ≡ labels_of ds ++ labels_of es → cons_option o (labels_of (ds ++ es)) ≡ cons_option o (labels_of ds) ++ labels_of es
     go None h = h
     go (Some l) h = ap (λ ls. l ∷ ls) h
-
-fix_labels : List Fix → List (List ℕ)
-fix_labels fs = map (λ (f : Fix). f.label) fs
-
-fix_labels_append : (fs gs : List Fix) → map (λ (f : Fix). f.label) (fs ++ gs) ≡ map (λ (f : Fix). f.label) fs ++ map (λ (f : Fix). f.label) gs
-fix_labels_append [] gs = refl
-fix_labels_append (f ∷ fs) gs = ap (λ ls. f.label ∷ ls) (fix_labels_append fs gs)
 
 pub label_among : (ds : List Draft) (l : List ℕ) → has_label ds l ≡ is_among l (labels_of ds)
 label_among [] l = refl
@@ -322,7 +309,7 @@ grows k s (said.Fix label number) u h (a, e, f, g) =
     subst IsFineAlone g (record {
       labels = h.labels;
       few = h.few;
-      fixed = subst AreDistinct (sym (fix_labels_append s.fixes (new ∷ []))) (distinct_push (map (λ (f : Fix). f.label) s.fixes) label h.fixed (sym (fix_among s.fixes label) ∙ f));
+      fixed = subst AreDistinct (sym (map-append (λ (f : Fix). f.label) s.fixes (new ∷ []))) (distinct_push (map (λ (f : Fix). f.label) s.fixes) label h.fixed (sym (fix_among s.fixes label) ∙ f));
     })
 grows k s (said.Fallback parts) u h (f, g) = subst IsFineAlone g (record { labels = h.labels; few = h.few; fixed = h.fixed })
 grows k s (said.Statement label parts) u h (f, n, g) =
@@ -369,7 +356,7 @@ fine_step k s (said.Fix label number) cs h = go (address_of number) refl h.addre
     go None e i d = absurd (cc)
     go (Some a) e i d =
         let new : Fix = record { label = label; line = k; address = a } in
-        let m = subst AreDistinct (fix_labels_append s.fixes (new ∷ fixes_from (k + 1) cs)) d in
+        let m = subst AreDistinct (map-append (λ (f : Fix). f.label) s.fixes (new ∷ fixes_from (k + 1) cs)) d in
         let f : has_fix s.fixes label ≡ false = fix_among s.fixes label ∙ distinct_middle (map (λ (f : Fix). f.label) s.fixes) (map (λ (f : Fix). f.label) (fixes_from (k + 1) cs)) label m in
         (with_fix k s label a, (a, e, f, refl))
 fine_step k s (said.Fallback parts) cs h =

@@ -4,6 +4,7 @@ use Rattle.std.specs.Prelude.{◌||◌, ◌&&◌, IfSome, IsSome, pos, map, nat_
 use Rattle.std.specs.List.{cons_option, filter_map, list_all}
 use Rattle.std.specs.Str.{bytes_eq}
 use Rattle.std.proofs.lemmas.Bool.Decides.{nat_tests}
+use Rattle.std.proofs.lemmas.Bool.{or_from, or_right}
 use Rattle.mal_line.specs.declared.content.Content.{Content}
 use Rattle.mal_line.specs.declared.next.Next.{Next}
 use Rattle.mal_line.specs.declared.next.Next.TheVariants as nexts
@@ -18,7 +19,7 @@ use Rattle.mal_parser.specs.Reading.{address_at, fixed_of}
 use Rattle.mal_parser.specs.Program.{HasTargets, IsFallback, IsLabelled, IsProgram, label_at, Program}
 use Rattle.mal_parser.specs.ProgramText.{canonical_text, canonical_lines, fix_count, fix_line, on_line, on_lines, relined}
 use Rattle.mal_parser.proofs.Resolved.{same_text, text_same}
-use Rattle.mal_parser.proofs.Fixing.{fixed_is}
+use Rattle.mal_parser.proofs.Fixing.{fix_labels, fixed_is}
 use Rattle.mal_parser.proofs.Printed.{contents_text}
 use Rattle.mal_parser.proofs.Relined.{label_lined, program_lined}
 use Rattle.mal_parser.proofs.Spoken.{content_of, default_content, Each, each_at, fix_content, fix_said_by, lines_plain, LinesSpell, lines_say, name_of, named_next, parts_for, statement_content}
@@ -156,17 +157,13 @@ foreign_behind s ss label one h i name e = go (bytes_eq name label) refl
     go false f = refl
     go true f = let k : suc i ≡ zero = one (suc i) zero label (e ∙ ap Some (same_text name label f)) h in absurd (omega arith)
 
-or_false : (a b : Bool) → a ≡ false → b ≡ false → (a || b) ≡ false
-or_false true b e f = absurd (cc)
-or_false false b e f = f
-
 foreign_labels : (all : List Statement) (ss : List Statement) (k : ℕ) (label : List ℕ) → IsForeign label ss → is_among label (labels_of (drafts all k ss)) ≡ false
 foreign_labels all [] k label f = refl
 foreign_labels all (s ∷ ss) k label f = go s.label refl (foreign_labels all ss (k + 1) label (foreign_later label s ss f))
   where
     go : (o : Option (List ℕ)) → s.label ≡ o → is_among label (labels_of (drafts all (k + 1) ss)) ≡ false → is_among label (cons_option o (labels_of (drafts all (k + 1) ss))) ≡ false
     go None e rec = rec
-    go (Some name) e rec = or_false (bytes_eq name label) (is_among label (labels_of (drafts all (k + 1) ss))) (f zero name e) rec
+    go (Some name) e rec = or_from (bytes_eq name label) (is_among label (labels_of (drafts all (k + 1) ss))) (f zero name e) rec
 
 distinct_labels : (all : List Statement) (ss : List Statement) (k : ℕ) → OneEach ss → AreDistinct (labels_of (drafts all k ss))
 distinct_labels all [] k one = tt
@@ -176,9 +173,6 @@ distinct_labels all (s ∷ ss) k one = go s.label refl (distinct_labels all ss (
     go None e rec = rec
     go (Some name) e rec = (foreign_labels all ss (k + 1) name (foreign_behind s ss name one e), rec)
 
-abbrev fix_labels : List Fix → List (List ℕ)
-fix_labels fs = map (λ (f : Fix). f.label) fs
-
 foreign_fixes : (ss : List Statement) (k : ℕ) (label : List ℕ) → IsForeign label ss → is_among label (fix_labels (fixes_at ss k)) ≡ false
 foreign_fixes [] k label f = refl
 foreign_fixes (s ∷ ss) k label f = go s.label s.fixed refl (λ n. foreign_fixes ss n label (foreign_later label s ss f))
@@ -186,7 +180,7 @@ foreign_fixes (s ∷ ss) k label f = go s.label s.fixed refl (λ n. foreign_fixe
     go : (o : Option (List ℕ)) (a : Option ℕ) → s.label ≡ o → ((n : ℕ) → is_among label (fix_labels (fixes_at ss n)) ≡ false) → is_among label (fix_labels (fixed_by k o a (λ n. fixes_at ss n))) ≡ false
     go None a e rec = rec k
     go (Some name) None e rec = rec k
-    go (Some name) (Some address) e rec = or_false (bytes_eq name label) (is_among label (fix_labels (fixes_at ss (k + 1)))) (f zero name e) (rec (k + 1))
+    go (Some name) (Some address) e rec = or_from (bytes_eq name label) (is_among label (fix_labels (fixes_at ss (k + 1)))) (f zero name e) (rec (k + 1))
 
 distinct_fixes : (ss : List Statement) (k : ℕ) → OneEach ss → AreDistinct (fix_labels (fixes_at ss k))
 distinct_fixes [] k one = tt
@@ -247,11 +241,8 @@ has_draft all (x ∷ ss) k zero s label h e = go x.label (let q : x ≡ s = cc i
     go : (o : Option (List ℕ)) → o ≡ Some label → (is_label label o || has_label (drafts all (k + 1) ss) label) ≡ true
     go None f = absurd (cc)
     go (Some name) f = let n : name ≡ label = cc in ap (λ b. b || has_label (drafts all (k + 1) ss) label) (ap (bytes_eq name) (sym n) ∙ text_same name)
-has_draft all (x ∷ ss) k (suc i) s label h e = go (is_labelled label (draft all k x)) (has_draft all ss (k + 1) i s label h e)
-  where
-    go : (b : Bool) → has_label (drafts all (k + 1) ss) label ≡ true → (b || has_label (drafts all (k + 1) ss) label) ≡ true
-    go true r = refl
-    go false r = r
+has_draft all (x ∷ ss) k (suc i) s label h e =
+    or_right (is_labelled label (draft all k x)) (has_label (drafts all (k + 1) ss) label) (has_draft all ss (k + 1) i s label h e)
 
 known_fixes : (ds : List Draft) (xs : List Statement) (k : ℕ) → ((i : ℕ) (s : Statement) (label : List ℕ) → slice_get xs i ≡ Some s → s.label ≡ Some label → has_label ds label ≡ true) → list_all (λ f. has_label ds f.label) (fixes_at xs k) ≡ true
 known_fixes ds [] k h = refl

@@ -2,6 +2,7 @@
 use Rattle.std.proofs.Common.{◌≡◌, ℕ, zero, suc, ◌+◌, ◌-◌, ◌≤◌, Bool, true, false, List, [], ◌∷◌, ◌++◌, Option, Some, None, length, refl, sym, ap, subst, ◌∙◌, arith, cond}
 use Rattle.std.specs.Prelude.{Err, find, slice_get, not, min, option_map, ◌||◌, ◌&&◌, IsSome}
 use Rattle.std.specs.List.{cons_option, list_any}
+use Rattle.std.proofs.lemmas.Bool.{and_right, or_right}
 use Rattle.machine_words.specs.declared.machine.Machine.{Machine}
 use Rattle.mal_line.specs.declared.content.Content.{Content}
 use Rattle.mal_line.specs.declared.content.Content.TheVariants as said
@@ -271,10 +272,6 @@ default_least (said.Fix l n ∷ cs) k = least_more k (falling (first (fallbacks_
 default_least (said.Fallback p ∷ cs) k = cond_least k (falls p.next)
 default_least (said.Statement l p ∷ cs) k = least_more k (falling (first (fallbacks_from (k + 1) cs))) (default_least cs (k + 1))
 
-and_false : (b : Bool) → (b && false) ≡ false
-and_false true = refl
-and_false false = refl
-
 and_true : (b : Bool) → (b && true) ≡ b
 and_true true = refl
 and_true false = refl
@@ -304,7 +301,7 @@ two_lines (said.Statement l p ∷ cs) k le = go (statements_from (k + 1) cs) (ha
     go [] e h = alone (falls p.next) h ∙ ap (λ b. cond b (Some k) (line_from falls_off (k + 1) cs)) (sym (ap (λ b. falls p.next && not b) e ∙ and_true (falls p.next)))
     go (x ∷ ds) e h =
         ap (λ o. earlier (falling o) (falling (first (fallbacks_from (k + 1) cs)))) (last_more (record { label = l; line = k; parts = p }) x ds)
-        ∙ (h ∙ ap (λ b. cond b (Some k) (line_from falls_off (k + 1) cs)) (sym (ap (λ b. falls p.next && not b) e ∙ and_false (falls p.next))))
+        ∙ (h ∙ ap (λ b. cond b (Some k) (line_from falls_off (k + 1) cs)) (sym (ap (λ b. falls p.next && not b) e ∙ and_right (falls p.next) false refl)))
 
 falling_same : (m : Machine) (cs : List Content) → IsFine cs → first_falling (sketch_of m cs) ≡ line_from falls_off 1 cs
 falling_same m cs fine = two_lines cs 1 fine.one_default
@@ -324,11 +321,7 @@ no_label ds label h = go (number_of ds label) refl
     passes_any : (ds : List Draft) (i : ℕ) (d : Draft) → slice_get ds i ≡ Some d → is_labelled label d ≡ true → list_any (is_labelled label) ds ≡ true
     passes_any [] i d g e = absurd (cc)
     passes_any (x ∷ ds) zero d g e = let k : x ≡ d = cc in let f : is_labelled label x ≡ true = subst (λ y. is_labelled label y ≡ true) (sym k) e in rw f refl
-    passes_any (x ∷ ds) (suc i) d g e = or_true (is_labelled label x) (list_any (is_labelled label) ds) (passes_any ds i d g e)
-      where
-        or_true : (a b : Bool) → b ≡ true → (a || b) ≡ true
-        or_true true b h = refl
-        or_true false b h = h
+    passes_any (x ∷ ds) (suc i) d g e = or_right (is_labelled label x) (list_any (is_labelled label) ds) (passes_any ds i d g e)
 
     go : (o : Option ℕ) → number_of ds label ≡ o → o ≡ None
     go None e = refl

@@ -2,6 +2,7 @@
 use Rattle.std.proofs.Common.{◌≡◌, ℕ, zero, suc, Bool, true, false, List, [], ◌∷◌, Option, Some, None, refl, sym, ap, subst, ◌∙◌, cond}
 use Rattle.std.specs.Prelude.{map, find, slice_get, option_map, ◌||◌}
 use Rattle.std.specs.Str.{bytes_eq}
+use Rattle.std.proofs.lemmas.Bool.{or_right}
 use Rattle.mal_parser.specs.declared.source.Fix.{Fix}
 use Rattle.mal_parser.specs.Labels.{AreDistinct, is_among}
 use Rattle.mal_parser.specs.Text.{IsFixedBy}
@@ -36,17 +37,13 @@ fixed_is fs (Some label) = address_is label fs
 
 -- ---- there is one at most
 
-abbrev fix_labels : List Fix → List (List ℕ)
+abbrev pub fix_labels : List Fix → List (List ℕ)
 fix_labels fs = map (λ (f : Fix). f.label) fs
-
-or_true : (a b : Bool) → b ≡ true → (a || b) ≡ true
-or_true true b h = refl
-or_true false b h = h
 
 fix_among : (fs : List Fix) (i : ℕ) (f : Fix) → slice_get fs i ≡ Some f → is_among f.label (fix_labels fs) ≡ true
 fix_among [] i f at = absurd (cc)
 fix_among (x ∷ fs) zero f at = let e : x ≡ f = cc in let t = text_same f.label in subst (λ (y : Fix). (bytes_eq y.label f.label || is_among f.label (fix_labels fs)) ≡ true) (sym e) (rw t refl)
-fix_among (x ∷ fs) (suc i) f at = or_true (bytes_eq x.label f.label) (is_among f.label (fix_labels fs)) (fix_among fs i f at)
+fix_among (x ∷ fs) (suc i) f at = or_right (bytes_eq x.label f.label) (is_among f.label (fix_labels fs)) (fix_among fs i f at)
 
 one_fix : (fs : List Fix) (i j : ℕ) (f g : Fix) → AreDistinct (fix_labels fs) → slice_get fs i ≡ Some f → slice_get fs j ≡ Some g → f.label ≡ g.label → f ≡ g
 one_fix [] i j f g d a b e = absurd (cc)

@@ -1,8 +1,9 @@
 -- The program of what fine lines say is the one that their labels are resolved to.
 use Rattle.std.proofs.Common.{◌≡◌, ℕ, zero, suc, ◌-◌, ◌≤◌, Bool, true, false, List, [], ◌∷◌, Option, Some, None, length, refl, sym, ap, subst, ◌∙◌, arith, cond}
-use Rattle.std.specs.Prelude.{Ok, IfSome, map, find, not, slice_get, option_map, option_and_then, option_to_list, unwrap_or, ◌&&◌}
+use Rattle.std.specs.Prelude.{Ok, IfSome, map, find, not, slice_get, option_map, option_to_list, unwrap_or, ◌&&◌}
 use Rattle.std.specs.List.{list_all}
 use Rattle.std.proofs.lemmas.Option.{slice_get_within}
+use Rattle.std.proofs.lemmas.Bool.{not-false}
 use Rattle.machine_words.specs.declared.machine.Machine.{Machine}
 use Rattle.micro_word.specs.declared.statement.Part.{Part}
 use Rattle.mal_line.specs.declared.content.Content.{Content}
@@ -16,7 +17,7 @@ use Rattle.mal_parser.specs.Text.{AreResolved, fallbacks, falls, fixes, IsFine, 
 use Rattle.mal_parser.specs.Reading.{by_entry, by_falling, by_unknown, earlier, falling, first, first_falling, first_unknown, fixed_of, IsSound, knows, main1, resolved_next, number_of, resolved_program, program_with, resolved, sketch_of, target, unknown_draft, unknown_fix, unknown_in}
 use Rattle.mal_parser.specs.Program.{IsFallback, label_at, Program}
 use Rattle.mal_parser.proofs.Fixing.{fixed_is, fixed_there}
-use Rattle.mal_parser.proofs.Resolved.{among_at, any_position, at_position, found_later, label_is, neither, no_line, not_false, one_place, program_is, target_label}
+use Rattle.mal_parser.proofs.Resolved.{among_at, any_position, at_position, draft_label, found_later, known_one, label_is, labelled_at, neither, no_line, one_place, program_is, target_label}
 use Rattle.mal_parser.proofs.Adding.{label_among}
 
 -- ---- what is resolved is the meaning
@@ -39,21 +40,14 @@ all_resolve : (ds : List Draft) (fs : List Fix) (xs : List Draft) → find (λ d
 all_resolve ds fs [] h = tt
 all_resolve ds fs (x ∷ xs) h =
     let p = found_later (not (knows ds x.parts.next)) x (find (λ d. not (knows ds d.parts.next)) xs) h in
-    (resolves ds fs x (not_false (knows ds x.parts.next) p.0), all_resolve ds fs xs p.1)
+    (resolves ds fs x (not-false (knows ds x.parts.next) p.0), all_resolve ds fs xs p.1)
 
 known_fixes : (ds : List Draft) (fs : List Fix) → find (λ f. not (has_label ds f.label)) fs ≡ None → list_all (λ f. has_label ds f.label) fs ≡ true
 known_fixes ds [] h = refl
 known_fixes ds (f ∷ fs) h =
     let p = found_later (not (has_label ds f.label)) f (find (λ f. not (has_label ds f.label)) fs) h in
-    let k = not_false (has_label ds f.label) p.0 in
+    let k = not-false (has_label ds f.label) p.0 in
     rw k (known_fixes ds fs p.1)
-
-known_one : (ds : List Draft) (d : Draft) → unknown_in ds (Some d) ≡ None → knows ds d.parts.next ≡ true
-known_one ds d h = go (knows ds d.parts.next) h
-  where
-    go : (b : Bool) → cond b None (Some d.line) ≡ None → b ≡ true
-    go true h = refl
-    go false h = absurd (cc)
 
 fallback_resolves : (ds : List Draft) (fs : List Fix) (fb : List Draft) → length fb ≤ 1 → unknown_in ds (first fb) ≡ None → AreResolved (map (resolved ds fs) ds) fs fb (option_to_list (option_map (resolved ds fs) (first fb)))
 fallback_resolves ds fs [] le h = tt
@@ -91,9 +85,6 @@ module _ (m : Machine) (cs : List Content) (fine : IsFine cs) (sound : IsSound (
 
 -- ---- the meaning is what is resolved
 
-draft_label : List Draft → ℕ → Option (List ℕ)
-draft_label ds i = option_and_then (λ (d : Draft). d.label) (slice_get ds i)
-
 same_labels : (ss : List Statement) (fs : List Fix) (ds : List Draft) (ys : List Statement) (i : ℕ) → AreResolved ss fs ds ys → draft_label ds i ≡ label_at ys i
 unfolding draft_label
 same_labels ss fs [] [] i a = refl
@@ -102,20 +93,12 @@ same_labels ss fs (d ∷ ds) [] i a = absurd a
 same_labels ss fs (d ∷ ds) (y ∷ ys) zero a = sym a.0.label
 same_labels ss fs (d ∷ ds) (y ∷ ys) (suc i) a = same_labels ss fs ds ys i a.1
 
-at_label : (ds : List Draft) (i : ℕ) (label : List ℕ) → draft_label ds i ≡ Some label → (d : Draft) × (slice_get ds i ≡ Some d) × (d.label ≡ Some label)
-unfolding draft_label
-at_label ds i label h = go (slice_get ds i) refl h
-  where
-    go : (o : Option Draft) → slice_get ds i ≡ o → option_and_then (λ (d : Draft). d.label) o ≡ Some label → (d : Draft) × (slice_get ds i ≡ Some d) × (d.label ≡ Some label)
-    go None e h = absurd (cc)
-    go (Some d) e h = (d, e, h)
-
 has_at : (ds : List Draft) (i : ℕ) (label : List ℕ) → draft_label ds i ≡ Some label → has_label ds label ≡ true
-has_at ds i label h = let a = at_label ds i label h in label_among ds label ∙ among_at ds i a.0 label a.1 a.2
+has_at ds i label h = let a = labelled_at ds i label h in label_among ds label ∙ among_at ds i a.0 label a.1 a.2
 
 number_at : (ds : List Draft) (i : ℕ) (label : List ℕ) → AreDistinct (labels_of ds) → draft_label ds i ≡ Some label → number_of ds label ≡ Some i
 number_at ds i label d h =
-    let a = at_label ds i label h in
+    let a = labelled_at ds i label h in
     let p = any_position (is_labelled label) ds (has_at ds i label h) in
     let q = at_position (is_labelled label) ds p.0 p.1 in
     p.1 ∙ ap Some (one_place ds p.0 i q.0 a.0 label d q.1 (label_is label q.0.label q.2) a.1 a.2)

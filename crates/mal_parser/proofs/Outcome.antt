@@ -62,23 +62,23 @@ pub record LeadOneWay : Type 0 where
   pub first : (k : ℕ) (s : Sketch) (ls : List (List ℕ)) (e f : MalError) → FirstRefused step k s ls e → FirstRefused step k s ls f → e ≡ f
 
 -- what the lines of a text come to
-IsOutcome : Machine → List ℕ → Result Program MalError → Type 0
-IsOutcome m text r = ((t : Sketch) × Leads step 1 (empty m) (contents text) t × (resolved_program t ≡ r)) ⊎ ((e : MalError) × FirstRefused step 1 (empty m) (contents text) e × (r ≡ Err e))
+IsReadAs : Machine → List ℕ → Result Program MalError → Type 0
+IsReadAs m text r = ((t : Sketch) × Leads step 1 (empty m) (contents text) t × (resolved_program t ≡ r)) ⊎ ((e : MalError) × FirstRefused step 1 (empty m) (contents text) e × (r ≡ Err e))
 
-one_end : LeadOneWay → (m : Machine) (text : List ℕ) (r s : Result Program MalError) → IsOutcome m text r → IsOutcome m text s → r ≡ s
-unfolding IsOutcome
+one_end : LeadOneWay → (m : Machine) (text : List ℕ) (r s : Result Program MalError) → IsReadAs m text r → IsReadAs m text s → r ≡ s
+unfolding IsReadAs
 one_end walks m text r s (inl (t, led, h)) (inl (u, other, g)) = sym h ∙ (ap resolved_program (walks.one 1 (empty m) t u (contents text) led other) ∙ g)
 one_end walks m text r s (inl (t, led, h)) (inr (f, stop, g)) = absurd (walks.apart 1 (empty m) t (contents text) f led stop)
 one_end walks m text r s (inr (e, stop, h)) (inl (u, other, g)) = absurd (walks.apart 1 (empty m) u (contents text) e other stop)
 one_end walks m text r s (inr (e, stop, h)) (inr (f, other, g)) = h ∙ (ap Err (walks.first 1 (empty m) (contents text) e f stop other) ∙ sym g)
 
 module _ (laws : ReadsLines) (walks : LeadOneWay) (m : Machine) (text : List ℕ) where
-  spelled_comes : (p : Program) → SpellsProgram m text p → IsOutcome m text (Ok p)
-  unfolding IsOutcome
+  spelled_comes : (p : Program) → SpellsProgram m text p → IsReadAs m text (Ok p)
+  unfolding IsReadAs
   spelled_comes p s = inl (sketch_of m s.content, fine_leads laws m (contents text) s.content s.says s.fine, means_program m s.content p s.fine s.makes)
 
-  refused_comes : (e : MalError) → IsRefused m text e → IsOutcome m text (Err e)
-  unfolding IsOutcome
+  refused_comes : (e : MalError) → IsRefused m text e → IsReadAs m text (Err e)
+  unfolding IsReadAs
   refused_comes e (inl r) = inr (
     e,
     (

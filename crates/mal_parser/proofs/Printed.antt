@@ -4,8 +4,8 @@ use Rattle.std.specs.Prelude.{◌==◌, ◌&&◌, map, take}
 use Rattle.std.specs.List.{list_all, onto_first, slice_split}
 use Rattle.std.specs.Str.Lines.{lines, lines_of_parts, strip_carriage_return}
 use Rattle.std.proofs.lemmas.Bool.Decides.{nat_tests}
+use Rattle.std.proofs.lemmas.Bool.{and_parts}
 use Rattle.source_text.specs.Content.{begins_comment, contents, without_comment}
-use Rattle.mal_parser.proofs.Options.{and_parts}
 use Rattle.mal_print.specs.StatementText.{is_plain}
 use Rattle.mal_parser.specs.ProgramText.{text_of}
 

@@ -1,7 +1,7 @@
 -- What the labels of a sound source are resolved to is a program.
 use Rattle.std.proofs.Common.{◌≡◌, ℕ, zero, suc, ◌+◌, ◌-◌, ◌<◌, Bool, true, false, List, [], ◌∷◌, Option, Some, None, length, get_or, refl, sym, ap, subst, ◌∙◌, arith, inl, inr, cond}
-use Rattle.std.specs.Prelude.{not, map, find, option_map, option_and_then, unwrap_or, slice_get, ◌||◌, ◌&&◌, nat_lt, IfSome, IsSome, All}
-use Rattle.std.proofs.lemmas.Bool.{cases_lt}
+use Rattle.std.specs.Prelude.{not, map, find, option_map, option_and_then, unwrap_or, slice_get, ◌||◌, nat_lt, IfSome, IsSome, All}
+use Rattle.std.proofs.lemmas.Bool.{cases_lt, and_parts, not-false, or_right}
 use Rattle.std.specs.List.{cons_option, list_any, position, position_or_len}
 use Rattle.std.specs.Str.{bytes_eq}
 use Rattle.std.proofs.lemmas.List.{length-map}
@@ -75,11 +75,7 @@ among_at (x ∷ ds) (suc i) d label g e = go x.label (among_at ds i d label g e)
   where
     go : (o : Option (List ℕ)) → is_among label (labels_of ds) ≡ true → is_among label (cons_option o (labels_of ds)) ≡ true
     go None h = h
-    go (Some own) h = or_true (bytes_eq own label) (is_among label (labels_of ds)) h
-      where
-        or_true : (a b : Bool) → b ≡ true → (a || b) ≡ true
-        or_true true b h = refl
-        or_true false b h = h
+    go (Some own) h = or_right (bytes_eq own label) (is_among label (labels_of ds)) h
 
 distinct_tail : (o : Option (List ℕ)) (ls : List (List ℕ)) → AreDistinct (cons_option o ls) → AreDistinct ls
 distinct_tail None ls h = h
@@ -102,7 +98,7 @@ one_place (x ∷ ds) (suc i) zero d e label h gi li gj lj =
     absurd (distinct_head x.label label (labels_of ds) own h (among_at ds i d label gi li))
 one_place (x ∷ ds) (suc i) (suc j) d e label h gi li gj lj = ap suc (one_place ds i j d e label (distinct_tail x.label (labels_of ds) h) gi li gj lj)
 
-draft_label : List Draft → ℕ → Option (List ℕ)
+unfoldable pub draft_label : List Draft → ℕ → Option (List ℕ)
 draft_label ds i = option_and_then (λ d. d.label) (slice_get ds i)
 
 -- a statement keeps its draft's label
@@ -122,7 +118,7 @@ draft_of ds fs all i t h = go (slice_get ds i) refl (sym (slice_get-map (resolve
     go None e h = absurd (cc)
     go (Some d) e h = (d, e, cc)
 
-labelled_at : (ds : List Draft) (i : ℕ) (label : List ℕ) → draft_label ds i ≡ Some label → (d : Draft) × (slice_get ds i ≡ Some d) × (d.label ≡ Some label)
+pub labelled_at : (ds : List Draft) (i : ℕ) (label : List ℕ) → draft_label ds i ≡ Some label → (d : Draft) × (slice_get ds i ≡ Some d) × (d.label ≡ Some label)
 unfolding draft_label
 labelled_at ds i label h = go (slice_get ds i) refl h
   where
@@ -142,10 +138,6 @@ target_label ds fs label h =
 is_target : (ds : List Draft) (fs : List Fix) (label : List ℕ) → has_label ds label ≡ true → IsLabelled (map (resolved ds fs) ds) (target ds label)
 is_target ds fs label h = let k = target_label ds fs label h in rw k refl
 
-and_parts : (a b : Bool) → (a && b) ≡ true → (a ≡ true) × (b ≡ true)
-and_parts true b h = (refl, h)
-and_parts false b h = absurd (cc)
-
 has_targets : (ds : List Draft) (fs : List Fix) (next : Next (List ℕ)) → knows ds next ≡ true → HasTargets (map (resolved ds fs) ds) (resolved_next ds next)
 has_targets ds fs nexts.Following h = tt
 has_targets ds fs (nexts.Goto label) h = is_target ds fs label h
@@ -163,24 +155,23 @@ pub no_line : {A : Type 0} (line : A → ℕ) (o : Option A) → option_map line
 no_line line None h = refl
 no_line line (Some x) h = absurd (cc)
 
-pub not_false : (b : Bool) → not b ≡ false → b ≡ true
-not_false true h = refl
-not_false false h = absurd (cc)
-
 known : (s : Sketch) → first_unknown s ≡ None → (i : ℕ) (d : Draft) → slice_get s.statements i ≡ Some d → knows s.statements d.parts.next ≡ true
 known s h i d g =
     let p = neither (unknown_draft s.statements s.statements) (earlier (unknown_fix s.statements s.fixes) (unknown_in s.statements s.fallback)) h in
-    not_false (knows s.statements d.parts.next) (find_none (λ d. not (knows s.statements d.parts.next)) s.statements i d (no_line (λ (d : Draft). d.line) (find (λ d. not (knows s.statements d.parts.next)) s.statements) p.0) g)
+    not-false (knows s.statements d.parts.next) (find_none (λ d. not (knows s.statements d.parts.next)) s.statements i d (no_line (λ (d : Draft). d.line) (find (λ d. not (knows s.statements d.parts.next)) s.statements) p.0) g)
+
+pub known_one : (ds : List Draft) (d : Draft) → unknown_in ds (Some d) ≡ None → knows ds d.parts.next ≡ true
+known_one ds d h = go (knows ds d.parts.next) h
+  where
+    go : (b : Bool) → cond b None (Some d.line) ≡ None → b ≡ true
+    go true h = refl
+    go false h = absurd (cc)
 
 known_fallback : (s : Sketch) (d : Draft) → first_unknown s ≡ None → s.fallback ≡ Some d → knows s.statements d.parts.next ≡ true
 known_fallback s d h e =
     let p = neither (unknown_draft s.statements s.statements) (earlier (unknown_fix s.statements s.fixes) (unknown_in s.statements s.fallback)) h in
     let q = neither (unknown_fix s.statements s.fixes) (unknown_in s.statements s.fallback) p.1 in
-    go (knows s.statements d.parts.next) (ap (unknown_in s.statements) (sym e) ∙ q.1)
-  where
-    go : (b : Bool) → cond b None (Some d.line) ≡ None → b ≡ true
-    go true h = refl
-    go false h = absurd (cc)
+    known_one s.statements d (ap (unknown_in s.statements) (sym e) ∙ q.1)
 
 pub not_falling : (d : Draft) → falling (Some d) ≡ None → falls d.parts.next ≡ false
 not_falling d h = go (falls d.parts.next) h

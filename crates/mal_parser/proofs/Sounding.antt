@@ -1,8 +1,9 @@
 -- What fine lines say together is sound.
-use Rattle.std.proofs.Common.{◌≡◌, ℕ, zero, suc, ◌+◌, ◌<◌, Bool, true, false, List, [], ◌∷◌, Option, Some, None, refl, subst, arith, cond}
+use Rattle.std.proofs.Common.{◌≡◌, ℕ, ◌+◌, ◌<◌, Bool, true, false, List, [], ◌∷◌, Option, Some, None, refl, subst, arith, cond}
 use Rattle.std.specs.Prelude.{IfSome, All, nat_lt, option_map, ℤ, pos, negsuc}
 use Rattle.std.specs.List.{cons_option}
 use Rattle.std.proofs.lemmas.Bool.Decides.{nat_tests}
+use Rattle.std.proofs.lemmas.List.Elements.{All-cons, All-nil}
 use Rattle.machine_words.specs.declared.machine.Machine.{Machine}
 use Rattle.mal_line.specs.declared.content.Content.{Content}
 use Rattle.mal_line.specs.declared.content.Content.TheVariants as said
@@ -12,26 +13,16 @@ use Rattle.mal_parser.specs.Text.{fallbacks_from, fixes_from, IsFine, SayAll, st
 use Rattle.mal_parser.specs.Reading.{first, IsDraft, IsSound, ReadsLines, sketch_of}
 use Rattle.mal_parser.proofs.Saying.{free_label}
 
-all_none : {A : Type 0} (P : A → Type 0) → All P []
-all_none P = λ k d lt. absurd (omega (arith, lt))
-
-all_more : {A : Type 0} (P : A → Type 0) (x : A) (xs : List A) → P x → All P xs → All P (x ∷ xs)
-all_more P x xs p all = go
-  where
-    go : All P (x ∷ xs)
-    go zero d lt = p
-    go (suc k) d lt = all k d (omega (arith, lt))
-
 module _ (laws : ReadsLines) (m : Machine) where
   drafts : (ls : List (List ℕ)) (cs : List Content) (k : ℕ) → SayAll m ls cs → All (IsDraft m) (statements_from k cs)
-  drafts [] [] k say = all_none (IsDraft m)
+  drafts [] [] k say = All-nil (IsDraft m)
   drafts [] (c ∷ cs) k say = absurd say
   drafts (l ∷ ls) [] k say = absurd say
   drafts (l ∷ ls) (said.Nothing ∷ cs) k say = drafts ls cs (k + 1) say.1
   drafts (l ∷ ls) (said.Fix label number ∷ cs) k say = drafts ls cs (k + 1) say.1
   drafts (l ∷ ls) (said.Fallback parts ∷ cs) k say = drafts ls cs (k + 1) say.1
   drafts (l ∷ ls) (said.Statement label parts ∷ cs) k say =
-      all_more (IsDraft m) (record { label = label; line = k; parts = parts }) (statements_from (k + 1) cs)
+      All-cons (IsDraft m) (record { label = label; line = k; parts = parts }) (statements_from (k + 1) cs)
       (record { part = laws.stands m say.0.sequence (said.Statement label parts) say.0.means; label = free_label m l label parts say.0 }) (drafts ls cs (k + 1) say.1)
 
   fallback : (ls : List (List ℕ)) (cs : List Content) (k : ℕ) → SayAll m ls cs → IfSome (first (fallbacks_from k cs)) (λ d. IsDraft m d × (d.label ≡ None))
@@ -52,14 +43,14 @@ below (pos n) a h = go (nat_lt n 512) refl h
     go true e h = let k : n ≡ a = cc in subst (λ a. a < 512) k (grind (arith, nat_tests))
 
 addresses : (cs : List Content) (k : ℕ) → All (λ f. f.address < 512) (fixes_from k cs)
-addresses [] k = all_none (λ (f : Fix). f.address < 512)
+addresses [] k = All-nil (λ (f : Fix). f.address < 512)
 addresses (said.Nothing ∷ cs) k = addresses cs (k + 1)
 addresses (said.Fix label number ∷ cs) k = go (address_of number) refl (addresses cs (k + 1))
   where
     go : (o : Option ℕ) → address_of number ≡ o → All (λ (f : Fix). f.address < 512) (fixes_from (k + 1) cs)
         → All (λ (f : Fix). f.address < 512) (cons_option (option_map {U = Fix} (λ address. record { label = label; line = k; address = address }) o) (fixes_from (k + 1) cs))
     go None e rest = rest
-    go (Some a) e rest = all_more (λ (f : Fix). f.address < 512) (record { label = label; line = k; address = a }) (fixes_from (k + 1) cs) (below number a e) rest
+    go (Some a) e rest = All-cons (λ (f : Fix). f.address < 512) (record { label = label; line = k; address = a }) (fixes_from (k + 1) cs) (below number a e) rest
 addresses (said.Fallback parts ∷ cs) k = addresses cs (k + 1)
 addresses (said.Statement label parts ∷ cs) k = addresses cs (k + 1)
 
