@@ -1,63 +1,33 @@
 -- Elements of a list, and what holds of them.
-use Rattle.std.proofs.Common.{◌≡◌, ℕ, ◌+◌, ◌<◌, ◌≤◌, Bool, true, false, cond, ◌&&◌, ◌||◌, ◌⊎◌, List, [], ◌∷◌, Option, Some, None, length, map, filter, get_or, take, refl, sym, ap, subst, ◌∙◌, inl, inr, zero, suc, arith}
+use Rattle.std.proofs.Common.{◌≡◌, ℕ, ◌+◌, ◌<◌, ◌≤◌, Bool, true, false, cond, ◌&&◌, ◌⊎◌, List, [], ◌∷◌, Option, Some, None, length, map, filter, get_or, take, refl, sym, ap, subst, ◌∙◌, inl, inr, zero, suc, arith}
 use Rattle.std.specs.List.{All, list_any, filter_map, cons_option, find, range_with_len}
-use Rattle.std.proofs.lemmas.Bool.{cases_eq}
+use Rattle.std.proofs.lemmas.Bool.{cases_eq, or_cases, or_left, or_parts, or_right}
 use Rattle.store_placement.specs.First.{below}
 
 abbrev pub Among : {X : Type 0} → X → List X → Type 0
 Among x [] = ⊥
 Among x (y ∷ ys) = (x ≡ y) ⊎ Among x ys
 
-pub true_left : (a b : Bool) → (a && b) ≡ true → a ≡ true
-true_left true b h = refl
-true_left false b h = h
-
-pub true_right : (a b : Bool) → (a && b) ≡ true → b ≡ true
-true_right true b h = h
-true_right false b h = cc
-
-pub both_true : (a b : Bool) → a ≡ true → b ≡ true → (a && b) ≡ true
-both_true a b h k = rw h k
-
 pub right_false : (a b : Bool) → (a && b) ≡ false → a ≡ true → b ≡ false
 right_false true b h k = h
 right_false false b h k = cc
 
-pub either : (a b : Bool) → (a || b) ≡ true → (a ≡ true) ⊎ (b ≡ true)
-either true b h = inl refl
-either false b h = inr h
-
-pub left_or : (a b : Bool) → a ≡ true → (a || b) ≡ true
-left_or a b h = rw h refl
-
-pub right_or : (a b : Bool) → b ≡ true → (a || b) ≡ true
-right_or true b h = refl
-right_or false b h = h
-
-pub neither_left : (a b : Bool) → (a || b) ≡ false → a ≡ false
-neither_left true b h = h
-neither_left false b h = refl
-
-pub neither_right : (a b : Bool) → (a || b) ≡ false → b ≡ false
-neither_right true b h = cc
-neither_right false b h = h
-
 pub any_at : {X : Type 0} (test : X → Bool) (xs : List X) (x : X) → Among x xs → test x ≡ true → list_any test xs ≡ true
 any_at test [] x among passes = absurd among
-any_at test (y ∷ ys) x (inl e) passes = left_or (test y) (list_any test ys) (ap test (sym e) ∙ passes)
-any_at test (y ∷ ys) x (inr rest) passes = right_or (test y) (list_any test ys) (any_at test ys x rest passes)
+any_at test (y ∷ ys) x (inl e) passes = or_left (test y) (list_any test ys) (ap test (sym e) ∙ passes)
+any_at test (y ∷ ys) x (inr rest) passes = or_right (test y) (list_any test ys) (any_at test ys x rest passes)
 
 pub from_any : {X : Type 0} (test : X → Bool) (xs : List X) → list_any test xs ≡ true → (x : X) × Among x xs × (test x ≡ true)
 from_any test [] h = cc
-from_any test (y ∷ ys) h = elim (either (test y) (list_any test ys) h) [
+from_any test (y ∷ ys) h = elim (or_cases (test y) (list_any test ys) h) [
   | inl here ↦ (y, inl refl, here)
   | inr later ↦ let r = from_any test ys later in (r.0, inr r.1, r.2)
 ]
 
 pub none_of : {X : Type 0} (test : X → Bool) (xs : List X) (x : X) → list_any test xs ≡ false → Among x xs → test x ≡ false
 none_of test [] x h among = absurd among
-none_of test (y ∷ ys) x h (inl e) = ap test e ∙ neither_left (test y) (list_any test ys) h
-none_of test (y ∷ ys) x h (inr rest) = none_of test ys x (neither_right (test y) (list_any test ys) h) rest
+none_of test (y ∷ ys) x h (inl e) = ap test e ∙ (or_parts (test y) (list_any test ys) h).0
+none_of test (y ∷ ys) x h (inr rest) = none_of test ys x (or_parts (test y) (list_any test ys) h).1 rest
 
 pub any_none : {X : Type 0} (test : X → Bool) (xs : List X) → ((x : X) → Among x xs → test x ≡ false) → list_any test xs ≡ false
 any_none test [] h = refl

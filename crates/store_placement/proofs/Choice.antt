@@ -3,7 +3,7 @@ use Rattle.std.proofs.Common.{◌≡◌, ℕ, ◌+◌, ◌<◌, ◌≤◌, Bool,
 use Rattle.std.specs.Prelude.{is_none}
 use Rattle.std.specs.Option.{option_or}
 use Rattle.std.specs.List.{list_any, All, filter, count_by}
-use Rattle.std.proofs.lemmas.Bool.{eq-eqb}
+use Rattle.std.proofs.lemmas.Bool.{eq-eqb, or_left, or_right}
 use Rattle.std.proofs.lemmas.List.FromFn.{get_or-map-range_with_len, fill_by_all}
 use Rattle.store_placement.specs.declared.pair.Pair.{Pair}
 use Rattle.store_placement.specs.Demands.{Demands, AreWithin, fixed_at}
@@ -12,7 +12,7 @@ use Rattle.store_placement.specs.Forced.{forced, all_forced}
 use Rattle.store_placement.specs.Refusals.{stands_in, clashes, in_wrong_half, collide}
 use Rattle.store_placement.specs.Chosen.{is_free_low, free_lows, free_addresses, open_pairs, is_single, singles, before_singles, IsChosen, IsChosenList}
 use Rattle.store_placement.specs.Reading.{pair_address, with_pairs, with_free}
-use Rattle.store_placement.proofs.Among.{Among, All-among, All-from_among, none_of, left_or, right_or, among-below, among_below, among-filter, among_filter}
+use Rattle.store_placement.proofs.Among.{Among, All-among, All-from_among, none_of, among-below, among_below, among-filter, among_filter}
 use Rattle.store_placement.proofs.Below.{length-map_below}
 use Rattle.store_placement.proofs.ForcedLemmas.{length-all_forced, at_all_forced}
 use Rattle.store_placement.proofs.ClearPairs.{AreClear, of_statements, stands_yes, stands_no, one_role}
@@ -114,8 +114,8 @@ single_none {fixed} {pairs} h s inside is =
     let unforced : forced fixed pairs s ≡ None = forced_none fixed pairs s parts.0 (λ p among yes_stands. absurd (stands p among yes_stands)) in
     let missed : paired_at fixed pairs s ≡ None = pair_misses (open_pairs fixed pairs) (free_lows (all_forced fixed pairs)) s (λ p among.
     let left = open_from fixed pairs p among in (
-      λ e. stands p left.among (right_or (eqb p.yes s) (eqb p.no s) (eq-eqb p.no s e)),
-      λ e. stands p left.among (left_or (eqb p.yes s) (eqb p.no s) (eq-eqb p.yes s e)),
+      λ e. stands p left.among (or_right (eqb p.yes s) (eqb p.no s) (eq-eqb p.no s e)),
+      λ e. stands p left.among (or_left (eqb p.yes s) (eqb p.no s) (eq-eqb p.yes s e)),
     )) in
     at_placed fixed pairs s inside ∙ (ap (λ o. option_or o (paired_at fixed pairs s)) unforced ∙ missed)
 

@@ -2,7 +2,7 @@
 use Rattle.std.proofs.Common.{◌≡◌, ◌≢◌, ℕ, ◌+◌, ◌-◌, ◌<◌, Bool, true, false, cond, not, ◌&&◌, List, Option, Some, None, length, map, eqb, refl, sym, ap, subst, ◌∙◌, inl, inr, arith}
 use Rattle.std.specs.Prelude.{is_none}
 use Rattle.std.specs.List.{list_any, filter}
-use Rattle.std.proofs.lemmas.Bool.{eqb-true, eq-eqb, cases_lt, cases_eq}
+use Rattle.std.proofs.lemmas.Bool.{eqb-true, eq-eqb, cases_lt, cases_eq, and_parts, not-true, or_parts, or_right}
 use Rattle.std.proofs.lemmas.List.{get_or_past}
 use Rattle.store_placement.specs.declared.pair.Pair.{Pair}
 use Rattle.store_placement.specs.Demands.{Demands, fixed_at}
@@ -11,7 +11,7 @@ use Rattle.store_placement.specs.Forced.{forced, all_forced, same_address}
 use Rattle.store_placement.specs.Refusals.{stands_in, is_pair_of, are_split, split_apart, collide}
 use Rattle.store_placement.specs.Chosen.{is_taken, is_free, is_free_low, free_lows, free_addresses, open_pairs, is_single, singles, before_singles, IsChosen}
 use Rattle.store_placement.specs.Placement.{IsPlacement}
-use Rattle.store_placement.proofs.Among.{Among, All-among, All-from_among, any_at, from_any, none_of, true_left, true_right, right_false, right_or, neither_left, neither_right, among_map, among-take, among-filter, among_filter, among-below, among_below}
+use Rattle.store_placement.proofs.Among.{Among, All-among, All-from_among, any_at, from_any, none_of, right_false, among_map, among-take, among-filter, among_filter, among-below, among_below}
 use Rattle.store_placement.proofs.Apart.{Apart, Apart-below, Apart-weaker, Apart-filter, Apart-take, same_from_map}
 use Rattle.store_placement.proofs.ClearPairs.{AreClear, AreHalved, of_statements, stands_cases, one_role, fixed_high, fixed_low}
 use Rattle.store_placement.proofs.ForcedBy.{IsForcedBy, Own, Above, Under, forced_cases, forced_own, own_none, forced_above, forced_under, partner_none}
@@ -31,10 +31,6 @@ record IsLow (d : Demands) (a : ℕ) : Type 0 where
   free : is_taken (all_forced d.fixed d.pairs) a ≡ false
   partner_free : is_taken (all_forced d.fixed d.pairs) (a + 256) ≡ false
 
-not_true : (b : Bool) → not b ≡ true → b ≡ false
-not_true true h = cc
-not_true false h = refl
-
 low_of : {d : Demands} {address : ℕ → ℕ} → IsChosen d address → (p : Pair) → Among p (open_pairs d.fixed d.pairs) → IsLow d (address p.no)
 unfolding free_lows
 low_of {d} {address} chosen p among =
@@ -46,8 +42,8 @@ low_of {d} {address} chosen p among =
     let r = among-filter (is_free_low taken) (below 256) (address p.no) among_lows in
     record {
       inside = among-below 256 (address p.no) r.0;
-      free = not_true (is_taken taken (address p.no)) (true_left (is_free taken (address p.no)) (is_free taken (address p.no + 256)) r.1);
-      partner_free = not_true (is_taken taken (address p.no + 256)) (true_right (is_free taken (address p.no)) (is_free taken (address p.no + 256)) r.1);
+      free = not-true (is_taken taken (address p.no)) (and_parts (is_free taken (address p.no)) (is_free taken (address p.no + 256)) r.1).0;
+      partner_free = not-true (is_taken taken (address p.no + 256)) (and_parts (is_free taken (address p.no)) (is_free taken (address p.no + 256)) r.1).1;
     }
 
 high_of : {d : Demands} {address : ℕ → ℕ} → IsChosen d address → (p : Pair) → Among p (open_pairs d.fixed d.pairs) → address p.yes ≡ address p.no + 256
@@ -72,7 +68,7 @@ single_at {d} {address} chosen s inside is =
     let among_free : Among (address s) (free_addresses taken) =
     among-take (length last) (free_addresses taken) (address s) (subst P chosen.rest (among_map address last s among_last)) in
     let r = among-filter (is_free taken) (below 512) (address s) among_free in
-    (among-below 512 (address s) r.0, not_true (is_taken taken (address s)) r.1)
+    (among-below 512 (address s) r.0, not-true (is_taken taken (address s)) r.1)
 
 one_single_at : {d : Demands} {address : ℕ → ℕ} → IsChosen d address → (s t : ℕ) → s < length d.fixed → t < length d.fixed → is_single d.fixed d.pairs s ≡ true → is_single d.fixed d.pairs t ≡ true → address s ≡ address t → s ≡ t
 unfolding free_addresses singles
@@ -134,7 +130,7 @@ unfolding collide
 forced_apart {d} h s t a in_s in_t is_s is_t =
     let together : (u v : ℕ) → u < v → v < length d.fixed → forced d.fixed d.pairs u ≡ Some a → forced d.fixed d.pairs v ≡ Some a → ⊥ = λ u v less inside is_u is_v.
     let one : same_address (forced d.fixed d.pairs u) (forced d.fixed d.pairs v) ≡ true = rw (is_u, is_v) (eq-eqb a a refl) in
-    let none = neither_left (same_address (forced d.fixed d.pairs u) (forced d.fixed d.pairs v)) (split_apart d.fixed d.pairs u v) (h.apart u v less inside) in
+    let none = (or_parts (same_address (forced d.fixed d.pairs u) (forced d.fixed d.pairs v)) (split_apart d.fixed d.pairs u v) (h.apart u v less inside)).0 in
     let wrong : true ≡ false = sym one ∙ none in cc in
     elim (cases_eq s t) [
       | inl same ↦ same
@@ -222,13 +218,13 @@ not_split {d} h p among =
     let split : Pair → Bool = λ r. are_split (fixed_at d.fixed r.yes) (fixed_at d.fixed r.no) in
     elim (cases_lt p.yes p.no) [
       | inl less ↦
-          let none = neither_right (same_address (forced d.fixed d.pairs p.yes) (forced d.fixed d.pairs p.no)) (split_apart d.fixed d.pairs p.yes p.no) (h.apart p.yes p.no less of.1) in
+          let none = (or_parts (same_address (forced d.fixed d.pairs p.yes) (forced d.fixed d.pairs p.no)) (split_apart d.fixed d.pairs p.yes p.no) (h.apart p.yes p.no less of.1)).1 in
           let pair : is_pair_of p.yes p.no p ≡ true = rw (eq-eqb p.yes p.yes refl, eq-eqb p.no p.no refl) refl in
           right_false (is_pair_of p.yes p.no p) (split p) (none_of (λ r. is_pair_of p.yes p.no r && split r) d.pairs p none among) pair
       | inr more ↦
-          let none = neither_right (same_address (forced d.fixed d.pairs p.no) (forced d.fixed d.pairs p.yes)) (split_apart d.fixed d.pairs p.no p.yes) (h.apart p.no p.yes (omega (arith, roles)) of.0) in
+          let none = (or_parts (same_address (forced d.fixed d.pairs p.no) (forced d.fixed d.pairs p.yes)) (split_apart d.fixed d.pairs p.no p.yes) (h.apart p.no p.yes (omega (arith, roles)) of.0)).1 in
           let pair : is_pair_of p.no p.yes p ≡ true =
-          right_or (eqb p.yes p.no && eqb p.no p.yes) (eqb p.yes p.yes && eqb p.no p.no) (rw (eq-eqb p.yes p.yes refl, eq-eqb p.no p.no refl) refl) in
+          or_right (eqb p.yes p.no && eqb p.no p.yes) (eqb p.yes p.yes && eqb p.no p.no) (rw (eq-eqb p.yes p.yes refl, eq-eqb p.no p.no refl) refl) in
           right_false (is_pair_of p.no p.yes p) (split p) (none_of (λ r. is_pair_of p.no p.yes r && split r) d.pairs p none among) pair
     ]
 

@@ -1,11 +1,11 @@
 -- What holds where no statement stands in two pairs or in both roles, none is fixed in the wrong half, and no two collide.
-use Rattle.std.proofs.Common.{◌≡◌, ℕ, ◌<◌, ◌≤◌, Bool, true, false, cond, not, ◌&&◌, ◌⊎◌, List, Option, Some, length, eqb, refl, sym, ap, ◌∙◌, inl, inr, arith}
-use Rattle.std.proofs.lemmas.Bool.{eqb-true, eq-eqb, cases_lt, lt-ltb, le-ltb}
+use Rattle.std.proofs.Common.{◌≡◌, ℕ, ◌<◌, ◌≤◌, true, false, cond, not, ◌&&◌, ◌⊎◌, List, Option, Some, length, eqb, refl, sym, ap, ◌∙◌, inl, inr, arith}
+use Rattle.std.proofs.lemmas.Bool.{eqb-true, eq-eqb, cases_lt, lt-ltb, le-ltb, and_from, and_parts, not-false, or_cases, or_left, or_parts, or_right}
 use Rattle.store_placement.specs.declared.pair.Pair.{Pair}
 use Rattle.store_placement.specs.Demands.{AreWithin, IsOfStatements, fixed_at, same_pair}
 use Rattle.store_placement.specs.First.{Never}
 use Rattle.store_placement.specs.Refusals.{stands_in, stands_beside, stands_twice, clashes, in_wrong_half, is_wrong, is_true_target, is_false_target}
-use Rattle.store_placement.proofs.Among.{Among, All-among, any_at, none_of, true_left, true_right, both_true, right_false, either, left_or, right_or, neither_left, neither_right}
+use Rattle.store_placement.proofs.Among.{Among, All-among, any_at, none_of, right_false}
 
 -- the pairs are of statements, and no statement clashes
 pub record AreClear (fixed : List (Option ℕ)) (pairs : List Pair) : Type 0 where
@@ -16,16 +16,16 @@ pub of_statements : {fixed : List (Option ℕ)} {pairs : List Pair} → AreWithi
 of_statements {fixed} {pairs} within p among = All-among (IsOfStatements (length fixed)) pairs p within.targets among
 
 pub stands_cases : (s : ℕ) (p : Pair) → stands_in s p ≡ true → (p.yes ≡ s) ⊎ (p.no ≡ s)
-stands_cases s p h = elim (either (eqb p.yes s) (eqb p.no s) h) [
+stands_cases s p h = elim (or_cases (eqb p.yes s) (eqb p.no s) h) [
   | inl high ↦ inl (eqb-true p.yes s high)
   | inr low ↦ inr (eqb-true p.no s low)
 ]
 
 pub stands_yes : (p : Pair) → stands_in p.yes p ≡ true
-stands_yes p = left_or (eqb p.yes p.yes) (eqb p.no p.yes) (eq-eqb p.yes p.yes refl)
+stands_yes p = or_left (eqb p.yes p.yes) (eqb p.no p.yes) (eq-eqb p.yes p.yes refl)
 
 pub stands_no : (p : Pair) → stands_in p.no p ≡ true
-stands_no p = right_or (eqb p.yes p.no) (eqb p.no p.no) (eq-eqb p.no p.no refl)
+stands_no p = or_right (eqb p.yes p.no) (eqb p.no p.no) (eq-eqb p.no p.no refl)
 
 stands_below : (n s : ℕ) (p : Pair) → IsOfStatements n p → stands_in s p ≡ true → s < n
 stands_below n s p of h = elim (stands_cases s p h) [ inl high ↦ omega arith | inr low ↦ omega arith ]
@@ -36,11 +36,7 @@ pair_is p q same_high same_low =
     ap (λ y. made y p.no) same_high ∙ ap (λ n. made q.yes n) same_low
 
 same_pair_is : (p q : Pair) → same_pair p q ≡ true → p ≡ q
-same_pair_is p q h = pair_is p q (eqb-true p.yes q.yes (true_left _ _ h)) (eqb-true p.no q.no (true_right _ _ h))
-
-not_false : (b : Bool) → not b ≡ false → b ≡ true
-not_false true h = refl
-not_false false h = cc
+same_pair_is p q h = pair_is p q (eqb-true p.yes q.yes (and_parts _ _ h).0) (eqb-true p.no q.no (and_parts _ _ h).1)
 
 no_clash : {fixed : List (Option ℕ)} {pairs : List Pair} → AreClear fixed pairs → (s : ℕ) (p : Pair) → Among p pairs → stands_in s p ≡ true → clashes pairs s ≡ false
 no_clash {fixed} {pairs} c s p among stands = c.clear s (stands_below (length fixed) s p (of_statements c.within p among) stands)
@@ -50,19 +46,19 @@ pub one_pair : {fixed : List (Option ℕ)} {pairs : List Pair} → AreClear fixe
 unfolding clashes stands_twice
 one_pair {fixed} {pairs} c s p q in_p in_q stands_p stands_q =
     let none = no_clash c s p in_p stands_p in
-    let twice = neither_left (stands_twice pairs s) (is_true_target pairs s && is_false_target pairs s) none in
+    let twice = (or_parts (stands_twice pairs s) (is_true_target pairs s && is_false_target pairs s) none).0 in
     let beside = right_false (stands_in s p) (stands_beside pairs s p) (none_of (λ r. stands_in s r && stands_beside pairs s r) pairs p twice in_p) stands_p in
-    same_pair_is p q (not_false (same_pair p q) (right_false (stands_in s q) (not (same_pair p q)) (none_of (λ r. stands_in s r && not (same_pair p r)) pairs q beside in_q) stands_q))
+    same_pair_is p q (not-false (same_pair p q) (right_false (stands_in s q) (not (same_pair p q)) (none_of (λ r. stands_in s r && not (same_pair p r)) pairs q beside in_q) stands_q))
 
 -- and in one role
 pub one_role : {fixed : List (Option ℕ)} {pairs : List Pair} → AreClear fixed pairs → (p q : Pair) → Among p pairs → Among q pairs → p.yes ≡ q.no → ⊥
 unfolding clashes
 one_role {fixed} {pairs} c p q in_p in_q same =
     let none = no_clash c p.yes p in_p (stands_yes p) in
-    let roles = neither_right (stands_twice pairs p.yes) (is_true_target pairs p.yes && is_false_target pairs p.yes) none in
+    let roles = (or_parts (stands_twice pairs p.yes) (is_true_target pairs p.yes && is_false_target pairs p.yes) none).1 in
     let is_high = any_at (λ r. eqb r.yes p.yes) pairs p in_p (eq-eqb p.yes p.yes refl) in
     let is_low = any_at (λ r. eqb r.no p.yes) pairs q in_q (eq-eqb q.no p.yes (sym same)) in
-    let both = both_true (is_true_target pairs p.yes) (is_false_target pairs p.yes) is_high is_low in
+    let both = and_from (is_true_target pairs p.yes) (is_false_target pairs p.yes) is_high is_low in
     let wrong : true ≡ false = sym both ∙ roles in cc
 
 -- and none is fixed in the wrong half

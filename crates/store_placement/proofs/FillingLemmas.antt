@@ -3,7 +3,7 @@ use Rattle.std.proofs.Common.{◌≡◌, ◌≢◌, ℕ, ◌+◌, ◌<◌, true,
 use Rattle.std.specs.Prelude.{slice_get, slice_index, option_and_then, IsTrue}
 use Rattle.std.specs.List.{filter_map}
 use Rattle.std.specs.Option.{option_to_list}
-use Rattle.std.proofs.lemmas.Bool.{lt-ltb, cases_eq}
+use Rattle.std.proofs.lemmas.Bool.{lt-ltb, cases_eq, and_from}
 use Rattle.std.proofs.lemmas.List.{length-map, length-set, length-replicate, get_or-replicate, get_or-set_same, get_or-set_other}
 use Rattle.std.proofs.lemmas.Option.{slice_get_within, get_or_from_slice_get}
 use Rattle.micro_word.specs.Coding.{word_of}
@@ -15,7 +15,7 @@ use Rattle.mal_parser.specs.Program.{Program, IsProgram, HasTargets}
 use Rattle.store_placement.specs.declared.pair.Pair.{Pair}
 use Rattle.store_placement.specs.Placement.{Places}
 use Rattle.store_placement.specs.Program.{demands_of, pair_of, statement_pair, placed_next, LeadsInside, placed_statement, placed_default, IsFilled}
-use Rattle.store_placement.proofs.Among.{Among, All-among, among_at, among_filter_map, both_true}
+use Rattle.store_placement.proofs.Among.{Among, All-among, among_at, among_filter_map}
 use Rattle.store_placement.proofs.ProgramLemmas.{labelled_below, fallback_is}
 
 pub placed_count : (p : Program) (addresses : List ℕ) → Places (demands_of p) addresses → length addresses ≡ length p.statements
@@ -95,7 +95,7 @@ pair_inside p addresses is places (nexts.Branch test high low) has among pair e 
 pub statement_valid : (p : Program) (addresses : List ℕ) → IsProgram p → Places (demands_of p) addresses → (s : ℕ) (t : Statement) → slice_get p.statements s ≡ Some t → IsTrue (is_valid p.machine (placed_statement (slice_index addresses) s t))
 statement_valid p addresses is places s t here =
     let statement = is.statements s t here in
-    both_true (is_part p.machine t.part) (is_next (placed_next (slice_index addresses) s t.next)) statement.part
+    and_from (is_part p.machine t.part) (is_next (placed_next (slice_index addresses) s t.next)) statement.part
     (next_fits addresses s t.next (inside_all p addresses places) (statement_leads p addresses is places s t here)
     (pair_inside p addresses is places t.next statement.targets (λ pair e.
     among_left (filter_map statement_pair p.statements) (option_to_list (option_and_then statement_pair p.fallback)) pair
@@ -104,7 +104,7 @@ statement_valid p addresses is places s t here =
 pub fallback_valid : (p : Program) (addresses : List ℕ) → IsProgram p → Places (demands_of p) addresses → (t : Statement) → p.fallback ≡ Some t → IsTrue (is_valid p.machine (placed_statement (slice_index addresses) 0 t))
 fallback_valid p addresses is places t here =
     let fallback = fallback_is p is t here in
-    both_true (is_part p.machine t.part) (is_next (placed_next (slice_index addresses) 0 t.next)) fallback.part
+    and_from (is_part p.machine t.part) (is_next (placed_next (slice_index addresses) 0 t.next)) fallback.part
     (next_fits addresses 0 t.next (inside_all p addresses places) (fallback_leads p addresses is places t here)
     (pair_inside p addresses is places t.next fallback.targets (λ pair e.
     let P : Option Statement → Type 0 = λ o. Among pair (option_to_list (option_and_then statement_pair o)) in

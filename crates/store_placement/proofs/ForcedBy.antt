@@ -1,12 +1,13 @@
 -- What forces a statement to its address.
 use Rattle.std.proofs.Common.{◌≡◌, ℕ, ◌+◌, ◌-◌, true, false, cond, ◌⊎◌, List, [], ◌∷◌, Option, Some, None, eqb, refl, sym, ap, ◌∙◌, inl, inr}
 use Rattle.std.specs.Option.{option_or, option_map}
-use Rattle.std.proofs.lemmas.Bool.{eqb-true, eq-eqb, ne_eqb}
+use Rattle.std.proofs.lemmas.Bool.{eqb-true, eq-eqb, ne_eqb, or_left, or_right}
+use Rattle.std.proofs.lemmas.Option.{same_Some}
 use Rattle.store_placement.specs.declared.pair.Pair.{Pair}
 use Rattle.store_placement.specs.Demands.{fixed_at}
 use Rattle.store_placement.specs.Refusals.{stands_in}
 use Rattle.store_placement.specs.Forced.{given_by, given, forced}
-use Rattle.store_placement.proofs.Among.{Among, left_or, right_or}
+use Rattle.store_placement.proofs.Among.{Among}
 use Rattle.store_placement.proofs.ClearPairs.{AreClear, stands_cases, one_pair, one_role}
 
 -- its own address, or one 256 above or below its partner's
@@ -15,12 +16,9 @@ pub data IsForcedBy (fixed : List (Option ℕ)) (pairs : List Pair) (s a : ℕ) 
   Above : (p : Pair) (b : ℕ) → fixed_at fixed s ≡ None → Among p pairs → p.yes ≡ s → fixed_at fixed p.no ≡ Some b → a ≡ b + 256 → IsForcedBy fixed pairs s a
   Under : (p : Pair) (b : ℕ) → fixed_at fixed s ≡ None → Among p pairs → p.no ≡ s → fixed_at fixed p.yes ≡ Some b → a ≡ b - 256 → IsForcedBy fixed pairs s a
 
-some_is : (a b : ℕ) → Some a ≡ Some b → a ≡ b
-some_is a b e = cc
-
 option_map_some : (f : ℕ → ℕ) (o : Option ℕ) (a : ℕ) → option_map f o ≡ Some a → (b : ℕ) × (o ≡ Some b) × (a ≡ f b)
 option_map_some f None a e = cc
-option_map_some f (Some b) a e = (b, refl, sym (some_is (f b) a e))
+option_map_some f (Some b) a e = (b, refl, sym (same_Some (f b) a e))
 
 given_by_cases : (fixed : List (Option ℕ)) (s : ℕ) (p : Pair) (a : ℕ) → given_by fixed s p ≡ Some a → ((p.yes ≡ s) × ((b : ℕ) × (fixed_at fixed p.no ≡ Some b) × (a ≡ b + 256))) ⊎ ((p.no ≡ s) × ((b : ℕ) × (fixed_at fixed p.yes ≡ Some b) × (a ≡ b - 256)))
 given_by_cases fixed s p a e =
@@ -34,8 +32,8 @@ given_by_cases fixed s p a e =
 
 given_by_stands : (fixed : List (Option ℕ)) (s : ℕ) (p : Pair) (a : ℕ) → given_by fixed s p ≡ Some a → stands_in s p ≡ true
 given_by_stands fixed s p a e = elim (given_by_cases fixed s p a e) [
-  | inl high ↦ left_or (eqb p.yes s) (eqb p.no s) (eq-eqb p.yes s high.0)
-  | inr low ↦ right_or (eqb p.yes s) (eqb p.no s) (eq-eqb p.no s low.0)
+  | inl high ↦ or_left (eqb p.yes s) (eqb p.no s) (eq-eqb p.yes s high.0)
+  | inr low ↦ or_right (eqb p.yes s) (eqb p.no s) (eq-eqb p.no s low.0)
 ]
 
 given_some : (fixed : List (Option ℕ)) (s : ℕ) (pairs : List Pair) (a : ℕ) → given fixed s pairs ≡ Some a → (p : Pair) × Among p pairs × (given_by fixed s p ≡ Some a)

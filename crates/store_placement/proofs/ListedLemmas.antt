@@ -2,7 +2,7 @@
 use Rattle.std.proofs.Common.{◌≡◌, ◌≢◌, ℕ, ◌+◌, ◌<◌, Bool, true, false, not, List, [], ◌∷◌, Option, Some, None, length, zero, suc, eqb, refl, sym, ap, ◌∙◌, inl, inr, arith}
 use Rattle.std.specs.Prelude.{slice_index, nat_lt}
 use Rattle.std.specs.List.{list_any, list_all}
-use Rattle.std.proofs.lemmas.Bool.{eqb-true, eq-eqb, ltb-true, cases_lt}
+use Rattle.std.proofs.lemmas.Bool.{eqb-true, eq-eqb, ltb-true, cases_lt, and_parts, not-true}
 use Rattle.std.proofs.lemmas.List.{ext_get_or}
 use Rattle.store_placement.specs.declared.pair.Pair.{Pair}
 use Rattle.store_placement.specs.Demands.{Demands, AreWithin}
@@ -12,7 +12,7 @@ use Rattle.store_placement.specs.Refusals.{clashes}
 use Rattle.store_placement.specs.Placement.{IsPlacement}
 use Rattle.store_placement.specs.Chosen.{open_pairs, IsChosenList}
 use Rattle.store_placement.specs.Listed.{are_different, is_kept, IsListed}
-use Rattle.store_placement.proofs.Among.{Among, All-from_among, among_at, among_below, true_left, true_right, none_of}
+use Rattle.store_placement.proofs.Among.{Among, All-from_among, among_at, among_below, none_of}
 use Rattle.store_placement.proofs.ForcedBy.{forced_own}
 use Rattle.store_placement.proofs.OpenPairs.{open_from}
 use Rattle.store_placement.proofs.ChosenPlacement.{fixed_below}
@@ -21,22 +21,18 @@ use Rattle.store_placement.proofs.Choice.{chosen_agree}
 
 all_of : {X : Type 0} (test : X → Bool) (xs : List X) (x : X) → list_all test xs ≡ true → Among x xs → test x ≡ true
 all_of test [] x h among = absurd among
-all_of test (y ∷ ys) x h (inl here) = ap test here ∙ true_left (test y) (list_all test ys) h
-all_of test (y ∷ ys) x h (inr later) = all_of test ys x (true_right (test y) (list_all test ys) h) later
-
-not_true : (b : Bool) → not b ≡ true → b ≡ false
-not_true true h = cc
-not_true false h = refl
+all_of test (y ∷ ys) x h (inl here) = ap test here ∙ (and_parts (test y) (list_all test ys) h).0
+all_of test (y ∷ ys) x h (inr later) = all_of test ys x (and_parts (test y) (list_all test ys) h).1 later
 
 different_at : (others : List ℕ) → are_different others ≡ true → (s t : ℕ) → s < t → t < length others → slice_index others s ≢ slice_index others t
 different_at [] h s t less inside same = omega arith
 different_at (a ∷ others) h s zero less inside same = omega arith
 different_at (a ∷ others) h zero (suc t) less inside same =
-    let none = not_true (list_any (λ b. eqb b a) others) (true_left (not (list_any (λ b. eqb b a) others)) (are_different others) h) in
+    let none = not-true (list_any (λ b. eqb b a) others) (and_parts (not (list_any (λ b. eqb b a) others)) (are_different others) h).0 in
     let wrong : true ≡ false = sym (eq-eqb (slice_index others t) a (sym same)) ∙ none_of (λ b. eqb b a) others (slice_index others t) none (among_at others t 0 (omega arith)) in
     cc
 different_at (a ∷ others) h (suc s) (suc t) less inside same =
-    different_at others (true_right (not (list_any (λ b. eqb b a) others)) (are_different others) h) s t (omega arith) (omega arith) same
+    different_at others (and_parts (not (list_any (λ b. eqb b a) others)) (are_different others) h).1 s t (omega arith) (omega arith) same
 
 all_different : (others : List ℕ) → are_different others ≡ true → (s t : ℕ) → s < length others → t < length others → slice_index others s ≡ slice_index others t → s ≡ t
 all_different others h s t in_s in_t same = elim (cases_lt s t) [

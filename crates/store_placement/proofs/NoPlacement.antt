@@ -1,6 +1,6 @@
 -- Where constraints are refused, there is no placement.
-use Rattle.std.proofs.Common.{◌≡◌, ◌≢◌, ℕ, ◌+◌, ◌<◌, ◌≤◌, Bool, true, false, cond, not, ◌&&◌, List, Option, Some, None, length, map, eqb, ltb, refl, sym, ap, subst, ◌∙◌, inl, inr, arith}
-use Rattle.std.proofs.lemmas.Bool.{eqb-true, eqb-false, eq-eqb, ltb-true, ltb-false, false_from_ne_true}
+use Rattle.std.proofs.Common.{◌≡◌, ◌≢◌, ℕ, ◌+◌, ◌<◌, ◌≤◌, true, false, cond, not, ◌&&◌, List, Option, Some, None, length, map, eqb, ltb, refl, sym, ap, subst, ◌∙◌, inl, inr, arith}
+use Rattle.std.proofs.lemmas.Bool.{eqb-true, eqb-false, eq-eqb, ltb-true, ltb-false, false_from_ne_true, and_parts, not-true, or_cases}
 use Rattle.std.proofs.lemmas.List.{length-map}
 use Rattle.store_placement.specs.declared.pair.Pair.{Pair}
 use Rattle.store_placement.specs.declared.refusal.PlaceError.{PlaceError}
@@ -11,7 +11,7 @@ use Rattle.store_placement.specs.Forced.{forced, all_forced, same_address}
 use Rattle.store_placement.specs.Refusals.{stands_in, stands_beside, stands_twice, clashes, in_wrong_half, is_wrong, is_true_target, is_false_target, is_pair_of, are_split, split_apart, collide, Refuses}
 use Rattle.store_placement.specs.Chosen.{is_taken, is_free_low, free_lows, open_pairs}
 use Rattle.store_placement.specs.Placement.{IsPlacement, HasPlacement}
-use Rattle.store_placement.proofs.Among.{Among, All-among, from_any, true_left, true_right, either, among-map, among-below, among_below, among_filter}
+use Rattle.store_placement.proofs.Among.{Among, All-among, from_any, among-map, among-below, among_below, among_filter}
 use Rattle.store_placement.proofs.Apart.{Apart, Apart-map, length-le_from_among}
 use Rattle.store_placement.proofs.ClearPairs.{AreClear, of_statements, stands_cases, stands_yes, stands_no, pair_is}
 use Rattle.store_placement.proofs.ForcedBy.{Own, Above, Under, forced_cases}
@@ -52,10 +52,6 @@ same_from_pairs {d} {address} within is s p q in_p in_q stands_p stands_q =
       ]
     ]
 
-not_true : (b : Bool) → not b ≡ true → b ≡ false
-not_true true h = cc
-not_true false h = refl
-
 not_same_pair : (p q : Pair) → p ≡ q → same_pair p q ≡ false → ⊥
 not_same_pair p q same h =
     let both : same_pair p q ≡ true = rw (eq-eqb p.yes q.yes (ap (λ (r : Pair). r.yes) same), eq-eqb p.no q.no (ap (λ (r : Pair). r.no) same)) refl in
@@ -63,17 +59,17 @@ not_same_pair p q same h =
 
 pub no_clash : {d : Demands} {address : ℕ → ℕ} → AreWithin d.fixed d.pairs → IsPlacement d address → (s : ℕ) → clashes d.pairs s ≡ true → ⊥
 unfolding clashes stands_twice
-no_clash {d} {address} within is s h = elim (either (stands_twice d.pairs s) (is_true_target d.pairs s && is_false_target d.pairs s) h) [
+no_clash {d} {address} within is s h = elim (or_cases (stands_twice d.pairs s) (is_true_target d.pairs s && is_false_target d.pairs s) h) [
   | inl twice ↦
       let p = from_any (λ r. stands_in s r && stands_beside d.pairs s r) d.pairs twice in
-      let stands_p = true_left (stands_in s p.0) (stands_beside d.pairs s p.0) p.2 in
-      let q = from_any (λ r. stands_in s r && not (same_pair p.0 r)) d.pairs (true_right (stands_in s p.0) (stands_beside d.pairs s p.0) p.2) in
-      let stands_q = true_left (stands_in s q.0) (not (same_pair p.0 q.0)) q.2 in
-      let differ = not_true (same_pair p.0 q.0) (true_right (stands_in s q.0) (not (same_pair p.0 q.0)) q.2) in
+      let stands_p = (and_parts (stands_in s p.0) (stands_beside d.pairs s p.0) p.2).0 in
+      let q = from_any (λ r. stands_in s r && not (same_pair p.0 r)) d.pairs (and_parts (stands_in s p.0) (stands_beside d.pairs s p.0) p.2).1 in
+      let stands_q = (and_parts (stands_in s q.0) (not (same_pair p.0 q.0)) q.2).0 in
+      let differ = not-true (same_pair p.0 q.0) (and_parts (stands_in s q.0) (not (same_pair p.0 q.0)) q.2).1 in
       not_same_pair p.0 q.0 (same_from_pairs within is s p.0 q.0 p.1 q.1 stands_p stands_q) differ
   | inr both ↦
-      let p = from_any (λ r. eqb r.yes s) d.pairs (true_left (is_true_target d.pairs s) (is_false_target d.pairs s) both) in
-      let q = from_any (λ r. eqb r.no s) d.pairs (true_right (is_true_target d.pairs s) (is_false_target d.pairs s) both) in
+      let p = from_any (λ r. eqb r.yes s) d.pairs (and_parts (is_true_target d.pairs s) (is_false_target d.pairs s) both).0 in
+      let q = from_any (λ r. eqb r.no s) d.pairs (and_parts (is_true_target d.pairs s) (is_false_target d.pairs s) both).1 in
       no_both within is p.0 q.0 p.1 q.1 (eqb-true p.0.yes s p.2 ∙ sym (eqb-true q.0.no s q.2))
 ]
 
@@ -116,18 +112,18 @@ both_some (Some a) (Some b) h = (a, refl, ap Some (sym (eqb-true a b h)))
 split_some : (x y : Option ℕ) → are_split x y ≡ true → (a b : ℕ) × (x ≡ Some a) × (y ≡ Some b) × (a ≢ b + 256)
 split_some None y h = cc
 split_some (Some a) None h = cc
-split_some (Some a) (Some b) h = (a, b, refl, refl, eqb-false a (b + 256) (not_true (eqb a (b + 256)) h))
+split_some (Some a) (Some b) h = (a, b, refl, refl, eqb-false a (b + 256) (not-true (eqb a (b + 256)) h))
 
 no_collision : {d : Demands} {address : ℕ → ℕ} → IsPlacement d address → (s t : ℕ) → s < t → t < length d.fixed → collide d.fixed d.pairs s t ≡ true → ⊥
 unfolding collide split_apart
-no_collision {d} {address} is s t less inside h = elim (either (same_address (forced d.fixed d.pairs s) (forced d.fixed d.pairs t)) (split_apart d.fixed d.pairs s t) h) [
+no_collision {d} {address} is s t less inside h = elim (or_cases (same_address (forced d.fixed d.pairs s) (forced d.fixed d.pairs t)) (split_apart d.fixed d.pairs s t) h) [
   | inl same ↦
       let r = both_some (forced d.fixed d.pairs s) (forced d.fixed d.pairs t) same in
       let e = is.apart s t (omega arith) inside (keeps_forced is s r.0 r.1 ∙ sym (keeps_forced is t r.0 r.2)) in
       omega arith
   | inr apart ↦
       let p = from_any (λ r. is_pair_of s t r && are_split (fixed_at d.fixed r.yes) (fixed_at d.fixed r.no)) d.pairs apart in
-      let r = split_some (fixed_at d.fixed p.0.yes) (fixed_at d.fixed p.0.no) (true_right (is_pair_of s t p.0) (are_split (fixed_at d.fixed p.0.yes) (fixed_at d.fixed p.0.no)) p.2) in
+      let r = split_some (fixed_at d.fixed p.0.yes) (fixed_at d.fixed p.0.no) (and_parts (is_pair_of s t p.0) (are_split (fixed_at d.fixed p.0.yes) (fixed_at d.fixed p.0.no)) p.2).1 in
       let at_yes = is.keeps_fixed p.0.yes r.0 r.2 in
       let at_no = is.keeps_fixed p.0.no r.1 r.3 in
       let pair = paired is p.0 p.1 in

@@ -1,19 +1,19 @@
 -- The pairs that no fixed statement places.
 use Rattle.std.proofs.Common.{◌≡◌, ◌≢◌, ℕ, ◌<◌, min, true, ◌&&◌, List, Option, Some, None, length, eqb, refl, sym, ap, ◌∙◌, inl, inr, arith}
 use Rattle.std.specs.Prelude.{is_none}
-use Rattle.std.proofs.lemmas.Bool.{eqb-true, eq-eqb, cases_lt}
+use Rattle.std.proofs.lemmas.Bool.{eqb-true, eq-eqb, cases_lt, and_parts, or_left, or_right}
 use Rattle.store_placement.specs.declared.pair.Pair.{Pair}
 use Rattle.store_placement.specs.Demands.{fixed_at}
 use Rattle.store_placement.specs.First.{below}
 use Rattle.store_placement.specs.Refusals.{stands_in}
 use Rattle.store_placement.specs.Forced.{forced}
 use Rattle.store_placement.specs.Chosen.{is_opened_by, opened_by, open_pairs}
-use Rattle.store_placement.proofs.Among.{Among, true_left, true_right, left_or, right_or, among-filter_map, among_filter_map, among_below, found, find_some}
+use Rattle.store_placement.proofs.Among.{Among, among-filter_map, among_filter_map, among_below, found, find_some}
 use Rattle.store_placement.proofs.Apart.{Apart, Apart-below, Apart-filter_map}
 use Rattle.store_placement.proofs.ClearPairs.{AreClear, of_statements, stands_cases, stands_yes, stands_no, one_pair, one_role}
 use Rattle.store_placement.proofs.ForcedBy.{forced_none}
 
-none_is : (o : Option ℕ) → is_none o ≡ true → o ≡ None
+pub none_is : (o : Option ℕ) → is_none o ≡ true → o ≡ None
 none_is None h = refl
 none_is (Some x) h = cc
 
@@ -26,12 +26,12 @@ pub record IsOpen (fixed : List (Option ℕ)) (pairs : List Pair) (p : Pair) : T
 opened : (fixed : List (Option ℕ)) (pairs : List Pair) (s : ℕ) (p : Pair) → opened_by fixed pairs s ≡ Some p → IsOpen fixed pairs p × (min p.yes p.no ≡ s)
 opened fixed pairs s p e =
     let r = found (is_opened_by fixed s) pairs p e in
-    let lower = true_left (eqb (min p.yes p.no) s) (is_none (fixed_at fixed p.yes) && is_none (fixed_at fixed p.no)) r.1 in
-    let unfixed = true_right (eqb (min p.yes p.no) s) (is_none (fixed_at fixed p.yes) && is_none (fixed_at fixed p.no)) r.1 in (
+    let lower = (and_parts (eqb (min p.yes p.no) s) (is_none (fixed_at fixed p.yes) && is_none (fixed_at fixed p.no)) r.1).0 in
+    let unfixed = (and_parts (eqb (min p.yes p.no) s) (is_none (fixed_at fixed p.yes) && is_none (fixed_at fixed p.no)) r.1).1 in (
       record {
         among = r.0;
-        yes_free = none_is (fixed_at fixed p.yes) (true_left (is_none (fixed_at fixed p.yes)) (is_none (fixed_at fixed p.no)) unfixed);
-        no_free = none_is (fixed_at fixed p.no) (true_right (is_none (fixed_at fixed p.yes)) (is_none (fixed_at fixed p.no)) unfixed);
+        yes_free = none_is (fixed_at fixed p.yes) (and_parts (is_none (fixed_at fixed p.yes)) (is_none (fixed_at fixed p.no)) unfixed).0;
+        no_free = none_is (fixed_at fixed p.no) (and_parts (is_none (fixed_at fixed p.yes)) (is_none (fixed_at fixed p.no)) unfixed).1;
       },
       eqb-true (min p.yes p.no) s lower,
     )
@@ -44,8 +44,8 @@ open_from fixed pairs p among =
 
 lower_stands : (p : Pair) (s : ℕ) → min p.yes p.no ≡ s → stands_in s p ≡ true
 lower_stands p s e = elim (cases_lt p.no p.yes) [
-  | inl less ↦ right_or (eqb p.yes s) (eqb p.no s) (eq-eqb p.no s (omega arith))
-  | inr more ↦ left_or (eqb p.yes s) (eqb p.no s) (eq-eqb p.yes s (omega arith))
+  | inl less ↦ or_right (eqb p.yes s) (eqb p.no s) (eq-eqb p.no s (omega arith))
+  | inr more ↦ or_left (eqb p.yes s) (eqb p.no s) (eq-eqb p.yes s (omega arith))
 ]
 
 pub among_open : {fixed : List (Option ℕ)} {pairs : List Pair} → AreClear fixed pairs → (p : Pair) → IsOpen fixed pairs p → Among p (open_pairs fixed pairs)
@@ -74,10 +74,10 @@ Apart-open {fixed} {pairs} c =
     let in_q = opened fixed pairs t q is_q in
     let differ : p ≡ q → ⊥ = λ same. let e : s ≡ t = sym in_p.1 ∙ (ap (λ (r : Pair). min r.yes r.no) same ∙ in_q.1) in omega arith in
     record {
-      yes_yes = λ e. differ (one_pair c p.yes p q in_p.0.among in_q.0.among (stands_yes p) (left_or (eqb q.yes p.yes) (eqb q.no p.yes) (eq-eqb q.yes p.yes (sym e))));
+      yes_yes = λ e. differ (one_pair c p.yes p q in_p.0.among in_q.0.among (stands_yes p) (or_left (eqb q.yes p.yes) (eqb q.no p.yes) (eq-eqb q.yes p.yes (sym e))));
       yes_no = λ e. one_role c p q in_p.0.among in_q.0.among e;
       no_yes = λ e. one_role c q p in_q.0.among in_p.0.among (sym e);
-      no_no = λ e. differ (one_pair c p.no p q in_p.0.among in_q.0.among (stands_no p) (right_or (eqb q.yes p.no) (eqb q.no p.no) (eq-eqb q.no p.no (sym e))));
+      no_no = λ e. differ (one_pair c p.no p q in_p.0.among in_q.0.among (stands_no p) (or_right (eqb q.yes p.no) (eqb q.no p.no) (eq-eqb q.no p.no (sym e))));
     }) (below (length fixed)) (Apart-below (length fixed))
 
 -- the targets of a remaining pair are forced to no address

@@ -14,7 +14,7 @@ use Rattle.store_placement.specs.Reading.{pair_address, with_free}
 use Rattle.store_placement.proofs.Among.{Among, from_any, among-filter, among_filter_map}
 use Rattle.store_placement.proofs.Apart.{Apart, Apart-below, Apart-weaker, Apart-filter, length-le_from_among}
 use Rattle.store_placement.proofs.Below.{length-below, below_none, filter-below_kept, filter-below_dropped}
-use Rattle.store_placement.proofs.OpenPairs.{AreDisjoint}
+use Rattle.store_placement.proofs.OpenPairs.{AreDisjoint, none_is}
 
 -- the pairs' targets, one at a low address and one 256 above
 pub at_low : (pairs : List Pair) (lows : List ℕ) (f : Pair → ℕ) → Apart AreDisjoint pairs → length pairs ≤ length lows → ((p : Pair) → Among p pairs → pair_address pairs lows p.no ≡ Some (f p)) → map f pairs ≡ take (length pairs) lows
@@ -108,10 +108,6 @@ record TakeFree (placed : List (Option ℕ)) (free : List ℕ) (m : ℕ) : Type 
   taken : map (λ s. get_or (with_free placed free) s 0) (filter (λ s. is_none (get_or placed s None)) (below m)) ≡ take (nones (take m placed)) free
   count : length (filter (λ s. is_none (get_or placed s None)) (below m)) ≡ nones (take m placed)
 
-none_from : (o : Option ℕ) → is_none o ≡ true → o ≡ None
-none_from None h = refl
-none_from (Some a) h = cc
-
 take_free_more : (placed : List (Option ℕ)) (free : List ℕ) (m : ℕ) → nones placed ≤ length free → m < length placed → TakeFree placed free m → TakeFree placed free (suc m)
 take_free_more placed free m enough inside h =
     let p : ℕ → Bool = λ s. is_none (get_or placed s None) in
@@ -122,7 +118,7 @@ take_free_more placed free m enough inside h =
     elim (p m) as (λ b. p m ≡ b → nones (take (suc m) placed) ≡ nones (take m placed) + cond b 1 0 → TakeFree placed free (suc m)) [
       | true ↦ λ is count.
           let list : filter p (below (suc m)) ≡ filter p (below m) ++ m ∷ [] = ap (λ k. filter p (below k)) one ∙ filter-below_kept p m is in
-          let here : at m ≡ get_or free (nones (take m placed)) 0 = filled_at placed free m enough inside (none_from (get_or placed m None) is) in
+          let here : at m ≡ get_or free (nones (take m placed)) 0 = filled_at placed free m enough inside (none_is (get_or placed m None) is) in
           let next : take (nones (take m placed) + 1) free ≡ take (nones (take m placed)) free ++ get_or free (nones (take m placed)) 0 ∷ [] = take_more free (nones (take m placed)) 0 (omega arith) in
           record {
             taken = ap (map at) list ∙ (map-append at (filter p (below m)) (m ∷ []) ∙ (ap (λ xs. xs ++ at m ∷ []) h.taken ∙ (ap (λ x. take (nones (take m placed)) free ++ x ∷ []) here ∙ (sym next ∙ ap (λ k. take k free) (sym count)))));

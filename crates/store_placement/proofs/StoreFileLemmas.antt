@@ -2,7 +2,7 @@
 use Rattle.std.proofs.Common.{◌≡◌, ◌≢◌, ℕ, ◌+◌, ◌*◌, ◌/◌, ◌%◌, ◌^◌, ◌<◌, ◌≤◌, true, false, cond, not, List, [], ◌∷◌, ◌++◌, Some, None, length, map, take, drop, set, replicate, suc, refl, sym, ap, subst, ◌∙◌, arith}
 use Rattle.std.specs.Prelude.{slice_index, IsTrue, nat_eq}
 use Rattle.std.specs.List.{flat_map, starts_with, range_with_len}
-use Rattle.std.proofs.lemmas.Bool.{ltb-true}
+use Rattle.std.proofs.lemmas.Bool.{ltb-true, and_parts}
 use Rattle.std.proofs.lemmas.List.{drop_more, drop_all, ext_get_or, length-append, length-set, length-replicate, get_or-set_same, get_or-set_other, take-append-drop}
 use borrow.Author.Count.{below_more}
 use Rattle.std.specs.Cmp.Lexicographic.{same_text}
@@ -13,7 +13,6 @@ use Rattle.micro_word.specs.Words.{is_canonical}
 use Rattle.micro_word.specs.ControlStore.{ControlStore, IsStore}
 use Rattle.store_placement.specs.First.{IsFirst}
 use Rattle.store_placement.specs.StoreFile.{magic, word_bytes, store_file, machine_of, number_at, word_at, is_bad, IsReadFrom}
-use Rattle.store_placement.proofs.Among.{true_left}
 
 -- the bytes from k on are five and the rest
 five_more : (bytes : List ℕ) (k : ℕ) → k + 5 ≤ length bytes →
@@ -76,8 +75,8 @@ length-flat (w ∷ ws) = let rest = length-flat ws in omega arith
 -- a canonical word is short
 short_word : (machine : Machine) (word : ℕ) → IsTrue (is_canonical machine word) → word < 2 ^ 40
 unfolding is_canonical
-short_word Mic1 word h = let less = ltb-true word (2 ^ 36) (true_left _ _ h) in omega arith
-short_word Mic2 word h = let less = ltb-true word (2 ^ 39) (true_left _ _ h) in omega arith
+short_word Mic1 word h = let less = ltb-true word (2 ^ 36) (and_parts _ _ h).0 in omega arith
+short_word Mic2 word h = let less = ltb-true word (2 ^ 39) (and_parts _ _ h).0 in omega arith
 
 pub short_words : (s : ControlStore) → IsStore s → (a : ℕ) → a < length s.words → slice_index s.words a < 2 ^ 40
 short_words s is a less = let full = is.full in short_word s.machine (slice_index s.words a) (is.canonical a (omega arith))
