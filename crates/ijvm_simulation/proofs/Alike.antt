@@ -1,6 +1,7 @@
 -- Runs of the definition with the cycles of two machines end alike, and so do the machines.
 use Rattle.std.proofs.Common.{◌≡◌, ◌≢◌, ℕ, zero, suc, ◌+◌, ◌++◌, Bool, true, false, Option, Some, None, List, refl, sym, ◌∙◌, ap}
 use Rattle.std.specs.Prelude.{nat_le, IfSome}
+use Rattle.std.proofs.lemmas.Option.{same_Some}
 use Rattle.mic_clock.specs.declared.counts.Counts.{Counts}
 use Rattle.mic_clock.specs.declared.end.End.TheVariants as clocked
 use Rattle.mic_clock.specs.Meaning.{Meaning}
@@ -22,9 +23,6 @@ pub record Alike (f g : Finish) : Type 0 where
   pub left : f.left ≡ g.left
   pub instructions : f.instructions ≡ g.instructions
 
-some_same : {f g : Finish} → Some f ≡ Some g → f ≡ g
-some_same e = cc
-
 module _ (p q : Program) (image : q.image ≡ p.image) (stack_end : q.stack_end ≡ p.stack_end) (b c : ℕ) where
   abbrev Later : ℕ → ℕ → Type 0
   Later n k = (at to : Point) (f g : Finish) → at.state ≡ to.state → at.instructions ≡ to.instructions →
@@ -34,24 +32,24 @@ module _ (p q : Program) (image : q.image ≡ p.image) (stack_end : q.stack_end 
       after_outcome (finish_from p b n) p at out ≡ Some f → after_outcome (finish_from q c k) q to out ≡ Some g → f.end ≢ defined.Bound → g.end ≢ defined.Bound → Alike f g
   by_outcome n k later at to f g same many (Goes s) ef eg nf ng = later (point_after p at s) (point_after q to s) f g refl (ap (λ (i : ℕ). i + 1) many) ef eg nf ng
   by_outcome n k later at to f g same many Halts ef eg nf ng =
-      let one : completed p at defined.Halt ≡ f = some_same ef in
-      let other : completed q to defined.Halt ≡ g = some_same eg in
+      let one : completed p at defined.Halt ≡ f = same_Some _ _ ef in
+      let other : completed q to defined.Halt ≡ g = same_Some _ _ eg in
       record {
         end = ap (λ (x : Finish). x.end) (sym one) ∙ ap (λ (x : Finish). x.end) other;
         left = ap (λ (x : Finish). x.left) (sym one) ∙ (same ∙ ap (λ (x : Finish). x.left) other);
         instructions = ap (λ (x : Finish). x.instructions) (sym one) ∙ (ap (λ (i : ℕ). i + 1) many ∙ ap (λ (x : Finish). x.instructions) other);
       }
   by_outcome n k later at to f g same many Errs ef eg nf ng =
-      let one : completed p at defined.Err ≡ f = some_same ef in
-      let other : completed q to defined.Err ≡ g = some_same eg in
+      let one : completed p at defined.Err ≡ f = same_Some _ _ ef in
+      let other : completed q to defined.Err ≡ g = same_Some _ _ eg in
       record {
         end = ap (λ (x : Finish). x.end) (sym one) ∙ ap (λ (x : Finish). x.end) other;
         left = ap (λ (x : Finish). x.left) (sym one) ∙ (same ∙ ap (λ (x : Finish). x.left) other);
         instructions = ap (λ (x : Finish). x.instructions) (sym one) ∙ (ap (λ (i : ℕ). i + 1) many ∙ ap (λ (x : Finish). x.instructions) other);
       }
   by_outcome n k later at to f g same many (Limits left) ef eg nf ng =
-      let one : stopped at defined.StackLimit left ≡ f = some_same ef in
-      let other : stopped to defined.StackLimit left ≡ g = some_same eg in
+      let one : stopped at defined.StackLimit left ≡ f = same_Some _ _ ef in
+      let other : stopped to defined.StackLimit left ≡ g = same_Some _ _ eg in
       record {
         end = ap (λ (x : Finish). x.end) (sym one) ∙ ap (λ (x : Finish). x.end) other;
         left = ap (λ (x : Finish). x.left) (sym one) ∙ ap (λ (x : Finish). x.left) other;
@@ -61,8 +59,8 @@ module _ (p q : Program) (image : q.image ≡ p.image) (stack_end : q.stack_end 
 
   by_tests : (n k : ℕ) → Later n k → (at to : Point) (f g : Finish) → at.state ≡ to.state → at.instructions ≡ to.instructions → (t u : Bool) →
       after_test (finish_from p b n) p at t ≡ Some f → after_test (finish_from q c k) q to u ≡ Some g → f.end ≢ defined.Bound → g.end ≢ defined.Bound → Alike f g
-  by_tests n k later at to f g same many true u ef eg nf ng = absurd (nf (ap (λ (x : Finish). x.end) (sym (some_same ef))))
-  by_tests n k later at to f g same many false true ef eg nf ng = absurd (ng (ap (λ (x : Finish). x.end) (sym (some_same eg))))
+  by_tests n k later at to f g same many true u ef eg nf ng = absurd (nf (ap (λ (x : Finish). x.end) (sym (same_Some _ _ ef))))
+  by_tests n k later at to f g same many false true ef eg nf ng = absurd (ng (ap (λ (x : Finish). x.end) (sym (same_Some _ _ eg))))
   by_tests n k later at to f g same many false false ef eg nf ng =
       let there : outcome q.image q.stack_end to.state ≡ outcome p.image p.stack_end at.state = λ i. outcome (image i) (stack_end i) (sym same i) in
       by_outcome n k later at to f g same many (outcome p.image p.stack_end at.state) ef

@@ -6,6 +6,7 @@ use Rattle.std.proofs.lemmas.Bool.{cases_lt}
 use Rattle.std.proofs.lemmas.Bool.Decides.{nat_tests}
 use Rattle.std.proofs.lemmas.List.{get_or_past}
 use Rattle.std.proofs.lemmas.List.Elements.{All-get_or}
+use Rattle.std.proofs.lemmas.Option.{same_Some}
 use Rattle.ijvm_instr.specs.declared.instr.Instr.{Instr}
 use Rattle.ijvm_instr.specs.declared.instr.Instr.TheVariants.{Nop, Bipush, LdcW, Iload, Istore, Pop, Dup, Swap, Iadd, Isub, Iand, Iinc, Ifeq, Iflt, IfIcmpeq, Goto, Ireturn, Ior, Invokevirtual, WideIload, WideIstore, WideIinc, In, Out, Err, Halt}
 use Rattle.ijvm_simulation.specs.Bytes.{Reads}
@@ -19,10 +20,7 @@ row_by P x y found rest i true is here there e = let same : x ≡ y = grind (ari
 row_by P x y found rest i false is here there e = there e
 
 row : (P : Instr → Type 0) (x y : ℕ) (j : Instr) (rest : Option Instr) (i : Instr) → (x ≡ y → P j) → (rest ≡ Some i → P i) → (if x == y then Some j else rest) ≡ Some i → P i
-row P x y j rest i here there e = row_by P x y (Some j) rest i (x == y) refl (λ same found. subst P (some_same found) (here same)) there e
-  where
-    some_same : {u v : Instr} → Some u ≡ Some v → u ≡ v
-    some_same q = cc
+row P x y j rest i here there e = row_by P x y (Some j) rest i (x == y) refl (λ same found. subst P (same_Some _ _ found) (here same)) there e
 
 pub reads : (a b c d e f : ℕ) (i : Instr) → b < 256 → c < 256 → e < 256 → f < 256 → of_bytes a b c d e f ≡ Some i → Reads a b c d e f i
 unfolding of_bytes
@@ -74,10 +72,7 @@ decoded text bytes at i e = by_whole (begun_at text at) refl e
   where
     by_test : (j : Instr) → begun_at text at ≡ Some j →
         (t : Bool) → nat_le (at + size_of (row_of j)) (length text) ≡ t → (if t then Some j else None) ≡ Some i → Decoded text at i
-    by_test j is true t found = subst (λ (k : Instr). Decoded text at k) (some_same found) (record { reads = reads _ _ _ _ _ _ j (small text bytes (at + 1)) (small text bytes (at + 2)) (small text bytes (at + 4)) (small text bytes (at + 5)) is; fits = grind (arith, nat_tests) })
-      where
-        some_same : {u v : Instr} → Some u ≡ Some v → u ≡ v
-        some_same q = cc
+    by_test j is true t found = subst (λ (k : Instr). Decoded text at k) (same_Some _ _ found) (record { reads = reads _ _ _ _ _ _ j (small text bytes (at + 1)) (small text bytes (at + 2)) (small text bytes (at + 4)) (small text bytes (at + 5)) is; fits = grind (arith, nat_tests) })
     by_test j is false t found = absurd (cc)
 
     by_whole : (found : Option Instr) → begun_at text at ≡ found →

@@ -1,5 +1,6 @@
 -- A run from a reset with the store that ships ends as the definition's run.
-use Rattle.std.proofs.Common.{◌≡◌, ℕ, List, Some, Bool, refl, sym, ◌∙◌, ap, subst}
+use Rattle.std.proofs.Common.{ℕ, List, Bool, refl, sym, ◌∙◌, ap, subst}
+use Rattle.std.proofs.lemmas.Option.{same_Some}
 use Rattle.console_port.specs.World.{World}
 use Rattle.console_port.specs.Console.{Untaken, Given}
 use Rattle.mic_clock.specs.Meaning.{Meaning}
@@ -13,9 +14,6 @@ use Rattle.ijvm_simulation.proofs.Next.{Known}
 use Rattle.ijvm_simulation.proofs.Carried.{Promises, simulated}
 use Rattle.ijvm_simulation.proofs.Boards.{rest_of, rest_fits, given_told}
 use Rattle.ijvm_simulation.proofs.Worlds.{same_end}
-
-some_is : {A : Type 0} → (x y : A) → Some x ≡ Some y → x ≡ y
-some_is x y e = cc
 
 pub ends_as_defined : {M S : Type 0} (state : M → S) (m : Meaning S) (IsReady : ℕ → List ℕ → ℕ → S → Type 0) (IsShipped : List ℕ → Type 0) (entry : ℕ) → Promises m IsReady IsShipped entry →
     ((v : VerifiedView) → IsAccepted v → IsImage v.image → Known v) → EndsAsDefined state m IsShipped entry
@@ -35,5 +33,5 @@ ends_as_defined state m IsReady IsShipped entry promises knows =
       told = subst (λ (e : Bool). Untaken left e input) s.input l.1;
       finish = sim.finishes.0;
       finishes = sim.finishes.1;
-      is = some_is end (board_end sim.finishes.0.end) (sym come ∙ (ap (λ (r : MicroRun _). r.end) same ∙ stop.1.end));
+      is = same_Some end (board_end sim.finishes.0.end) (sym come ∙ (ap (λ (r : MicroRun _). r.end) same ∙ stop.1.end));
     }

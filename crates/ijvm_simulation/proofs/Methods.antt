@@ -3,7 +3,7 @@ use Rattle.std.proofs.Common.{◌≡◌, ℕ, zero, suc, ◌+◌, ◌*◌, ◌<�
 use Rattle.std.specs.Prelude.{slice_index, slice_get, nat_lt, if◌then◌else◌}
 use Rattle.std.proofs.lemmas.Bool.Decides.{nat_tests}
 use Rattle.std.proofs.lemmas.List.{length-replicate}
-use Rattle.std.proofs.lemmas.Option.{slice_get_within, get_or_from_slice_get}
+use Rattle.std.proofs.lemmas.Option.{slice_get_within, get_or_from_slice_get, same_Some}
 use Rattle.console_port.specs.World.{byte_in}
 use Rattle.ijvm_image.specs.declared.method.Method.{Method}
 use Rattle.ijvm_image.specs.Image.{method_at, params, others}
@@ -44,9 +44,6 @@ module _ (v : VerifiedView) (o : Origin) (loads : Loads v o) where
       256 * slice_index v.image.text p + slice_index v.image.text q ≡ 256 * byte_in o.words p + byte_in o.words q
   two_bytes_are p q lp lq = sym (ap₂ (λ (a b : ℕ). 256 * a + b) (loads.bytes p lp) (loads.bytes q lq))
 
-  same_method : {m m' : Method} → Some m ≡ Some m' → m ≡ m'
-  same_method e = cc
-
   method_named : (k e : ℕ) (m : Method) → slice_get v.image.pool k ≡ Some e → method_at v.image.text (Some e) ≡ Some m → IsMethod v o k m
   unfolding params others
   method_named k e m named is = by_test (nat_lt (e + 4) (length v.image.text)) refl is
@@ -56,7 +53,7 @@ module _ (v : VerifiedView) (o : Origin) (loads : Loads v o) where
       by_test false t is = absurd (cc)
       by_test true t is =
           let l : e + 4 < length v.image.text = grind (arith, nat_tests) in
-          subst (IsMethod v o k) (same_method is)
+          subst (IsMethod v o k) (same_Some _ _ is)
           (record {
             constant = constant k e named;
             named = get_or_from_slice_get v.image.pool k e 0 named;

@@ -3,6 +3,7 @@ use Rattle.std.proofs.Common.{◌≡◌, ℕ, true, false, Option, Some, None, L
 use Rattle.std.proofs.lemmas.Bool.{cases_Bool}
 use Rattle.std.proofs.lemmas.Bool.Decides.{nat_tests}
 use Rattle.std.proofs.Common.{inl, inr}
+use Rattle.std.proofs.lemmas.Option.{same_Some}
 use Rattle.mic_clock.specs.Meaning.{Meaning, Outcome, Done, Refused}
 use Rattle.ijvm_simulation.specs.Passes.{Moment, is_inside, last, onward}
 
@@ -40,7 +41,4 @@ module _ {State : Type 0} (m : Meaning State) (program : List ℕ) where
 
   pub last_is : (stalls : ℕ) (o : Outcome State) (q : Moment State) → last m program stalls o ≡ Some q → Last stalls o q
   last_is stalls (Refused why) q h = absurd (cc)
-  last_is stalls (Done s w) q h = record { is = λ i. Done ((some_same h) i).state ((some_same h) i).world; counted = λ i. (some_same (sym h) i).stalls }
-    where
-      some_same : {p r : Moment State} → Some p ≡ Some r → p ≡ r
-      some_same e = cc
+  last_is stalls (Done s w) q h = record { is = λ i. Done ((same_Some _ _ h) i).state ((same_Some _ _ h) i).world; counted = λ i. (same_Some _ _ (sym h) i).stalls }

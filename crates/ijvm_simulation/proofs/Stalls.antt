@@ -2,6 +2,7 @@
 use Rattle.std.proofs.Common.{◌≡◌, ℕ, suc, ◌+◌, ◌<◌, Some, false, List, refl, arith, sym, ◌∙◌, ap, subst, zero-add}
 use Rattle.std.specs.Prelude.{nat_le}
 use Rattle.std.proofs.lemmas.Bool.Decides.{nat_tests}
+use Rattle.std.proofs.lemmas.Option.{same_Some}
 use Rattle.console_port.specs.World.{World}
 use Rattle.mic_clock.specs.Meaning.{Meaning}
 use Rattle.mic_clock.specs.Run.{MicroRun, turns, last_cycles}
@@ -26,9 +27,6 @@ use Rattle.ijvm_simulation.proofs.Instruction.{Law as BoundaryLaw, Keeps, Moved,
 use Rattle.ijvm_simulation.proofs.Next.{Known, fine_start, keeps, next, boundary_law}
 use Rattle.ijvm_simulation.proofs.Boots.{booted}
 
-some_same : {i j : Instr} → Some i ≡ Some j → i ≡ j
-some_same e = cc
-
 module _ {S : Type 0} (m : Meaning S) (store : List ℕ) (IsAt : State → S → World → Type 0) (o : Origin) (v : VerifiedView) (loads : Loads v o) (known : Known v)
     (law : Law m store IsAt o.given v o) (stalls_of : ImageView → Instr → ℕ) (takes : TakesWithStalls m store IsAt o.given stalls_of v o (λ i. Unit {0})) (bound : ℕ) where
   abbrev p : Program
@@ -49,7 +47,7 @@ module _ {S : Type 0} (m : Meaning S) (store : List ℕ) (IsAt : State → S →
       (turns m store (Some bound) (next_cost v.image m.machine at.state) r).counts.stalls ≡ stalls + stalls_of v.image i
   stalls_behind at stalls r i to h below code goes =
       let n = next v o loads known at.state h.fine in
-      let same : n.0 ≡ i = some_same (sym n.1.finds.code ∙ code) in
+      let same : n.0 ≡ i = same_Some n.0 i (sym n.1.finds.code ∙ code) in
       let is : IsNext v o at.state i = subst (λ (j : Instr). IsNext v o at.state j) same n.1 in
       let went : Went v.image v.map.stack_end at.state to i =
       subst (λ (x : Outcome). IsOutcome v.image v.map.stack_end at.state i x) (ap (step_if_any v.image v.map.stack_end at.state) (sym code) ∙ goes) (says v.image v.map.stack_end at.state i) in

@@ -3,8 +3,8 @@ use Rattle.std.proofs.Common.{◌≡◌, ℕ, zero, suc, ◌+◌, ◌-◌, ◌<�
 use Rattle.std.specs.Prelude.{nat_le}
 use Rattle.std.proofs.lemmas.Bool.{cases_lt}
 use Rattle.std.proofs.lemmas.Bool.Decides.{nat_tests}
+use Rattle.std.proofs.lemmas.Option.{none-some, same_Some}
 use Rattle.console_port.specs.World.{World}
-use Rattle.mic_clock.specs.declared.end.End.{End}
 use Rattle.mic_clock.specs.Meaning.{Meaning}
 use Rattle.mic_clock.specs.Run.{MicroRun, turns}
 use Rattle.ijvm_run.specs.declared.run.RunEnd.TheVariants as defined
@@ -44,18 +44,12 @@ module _ {S : Type 0} (m : Meaning S) (words : List ℕ) (IsAt : State → S →
         later = omega (arith, l.later, v.spent);
         is = subst (λ (x : MicroRun S). IsBoundary IsAt t x) (sym (onward v.k l.k (v.k + l.k) r refl)) l.is;
       }
-  reaches_by i later at r t h fine (Over f finish points v) is = absurd (none_is (sym (points i) ∙ is))
-    where
-      none_is : {x : Point} → None ≡ Some x → ⊥
-      none_is e = cc
+  reaches_by i later at r t h fine (Over f finish points v) is = absurd (none-some _ (sym (points i) ∙ is))
 
   pub reaches : (i : ℕ) → Reaches i
   reaches zero at r t h fine is =
-      let same : at ≡ t = some_same is in
+      let same : at ≡ t = same_Some at t is in
       record { k = 0; later = ap (λ (x : Point). x.cycles) (sym same) ∙ omega arith; is = subst (λ (x : Point). IsBoundary IsAt x r) same h }
-    where
-      some_same : {x y : Point} → Some x ≡ Some y → x ≡ y
-      some_same e = cc
   reaches (suc i) at r t h fine is = reaches_by i (reaches i) at r t h fine (turnout m words IsAt before p Fine law keep bound at r h fine) is
 
   -- where the definition's run ends, the clocked run has ended
@@ -71,10 +65,7 @@ module _ {S : Type 0} (m : Meaning S) (words : List ℕ) (IsAt : State → S →
       let l : Stopped (after v.k r) f = later (point_after p at to) (after v.k r) f v.is ok (sym (finish n) ∙ is) in
       record { k = v.k + l.k; is = subst (λ (x : MicroRun S). IsEnd before f x) (sym (onward v.k l.k (v.k + l.k) r refl)) l.is }
   stops_by n later at r f h fine (Over g finish points v) is =
-      record { k = v.k; is = subst (λ (x : Finish). IsEnd before x (after v.k r)) (some_same (sym (finish n) ∙ is)) v.is }
-    where
-      some_same : {x y : Finish} → Some x ≡ Some y → x ≡ y
-      some_same e = cc
+      record { k = v.k; is = subst (λ (x : Finish). IsEnd before x (after v.k r)) (same_Some g f (sym (finish n) ∙ is)) v.is }
 
   pub stops : (n : ℕ) → Stops n
   stops zero at r f h fine is = absurd (cc)
@@ -125,11 +116,8 @@ module _ {S : Type 0} (m : Meaning S) (words : List ℕ) (IsAt : State → S →
         | inr high ↦
             let e : after n r ≡ after v.k r =
             onward v.k (n - v.k) n r (omega arith) ∙ ended_stays m words bound (n - v.k) (after v.k r) (board_end f.end) v.is.end in
-            absurd (none_is (sym not_ended ∙ (ap (λ (x : MicroRun S). x.end) e ∙ v.is.end)))
+            absurd (none-some _ (sym not_ended ∙ (ap (λ (x : MicroRun S). x.end) e ∙ v.is.end)))
       ]
-    where
-      none_is : {x : End} → None ≡ Some x → ⊥
-      none_is q = cc
 
   pub knows : (d : ℕ) → Knows d
   knows d zero le at r h fine not_ended here = record { i = 0; t = at; are = refl; later = omega arith }

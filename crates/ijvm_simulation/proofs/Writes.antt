@@ -2,7 +2,7 @@
 use Rattle.std.proofs.Common.{true, refl, subst, ◌≡◌, ◌≢◌, ℕ, zero, suc, ◌+◌, ◌<◌, ◌≤◌, ◌⊎◌, inl, inr, Option, Some, None, List, [], ◌∷◌, ◌++◌, length, replicate, arith, sym, ap, ◌∙◌, add-zero, get_or-set_same, get_or-set_other, length-set}
 use Rattle.std.specs.Prelude.{slice_index, slice_set, slice_get}
 use Rattle.std.proofs.lemmas.List.{length-replicate}
-use Rattle.std.proofs.lemmas.Option.{slice_get_within}
+use Rattle.std.proofs.lemmas.Option.{slice_get_within, none-some, same_Some}
 use Rattle.ijvm_run.specs.Step.{is_own, onto, called}
 use Rattle.ijvm_run.specs.Frames.{Frame, operands_at, frame_end, base, kept_words}
 use Rattle.ijvm_simulation.specs.Stands.{OperandsAt, IsLinked, FrameStands, FramesStand, caller_lv}
@@ -84,9 +84,6 @@ get_set (y ∷ ys) (suc k) (suc j) x l = elim (get_set ys k j x (omega arith)) [
   | inr h ↦ inr (let ne : j ≢ k = h.0 in omega arith, h.1)
 ]
 
-some_same : {x y : ℕ} → Some (Some x) ≡ Some (Some y) → x ≡ y
-some_same e = cc
-
 stored_locals : (words : List ℕ) (lv k v : ℕ) (xs : List (Option ℕ)) → k < length xs → lv + k < length words →
     ((j u : ℕ) → slice_get xs j ≡ Some (Some u) → slice_index words (lv + j) ≡ u) →
     (j u : ℕ) → slice_get (slice_set xs k (Some v)) j ≡ Some (Some u) → slice_index (slice_set words (lv + k) v) (lv + j) ≡ u
@@ -94,7 +91,7 @@ stored_locals words lv k v xs l room h j u e =
     elim (get_set xs k j (Some v) l) [
       | inl g ↦
           let at : lv + j ≡ lv + k = omega (arith, g.0) in
-          ap (slice_index (slice_set words (lv + k) v)) at ∙ (get_or-set_same words (lv + k) v 0 room ∙ some_same (sym g.1 ∙ e))
+          ap (slice_index (slice_set words (lv + k) v)) at ∙ (get_or-set_same words (lv + k) v 0 room ∙ same_Some v u (same_Some (Some v) (Some u) (sym g.1 ∙ e)))
       | inr g ↦
           let other : j ≢ k = g.0 in
           let ne : lv + j ≢ lv + k = omega arith in
@@ -133,26 +130,17 @@ none_at words a (suc more) (suc k) v e = absurd (none_there more k v e)
     none_there (suc i) zero u e = cc
     none_there (suc i) (suc j) u e = none_there i j u e
 
-some_some : {x y : Option ℕ} → Some x ≡ Some y → x ≡ y
-some_some e = cc
-
 cons_at : (words : List ℕ) (a : ℕ) (x : Option ℕ) (xs : List (Option ℕ)) → ((v : ℕ) → x ≡ Some v → slice_index words a ≡ v) → LocalsAt words (a + 1) xs → LocalsAt words a (x ∷ xs)
-cons_at words a x xs first h zero v e = rw add-zero (first v (some_some e))
+cons_at words a x xs first h zero v e = rw add-zero (first v (same_Some _ _ e))
 cons_at words a x xs first h (suc k) v e = let same : a + suc k ≡ a + 1 + k = omega arith in ap (slice_index words) same ∙ h k v e
-
-same_value : (x y : ℕ) → Some x ≡ Some y → x ≡ y
-same_value x y e = cc
 
 -- the arguments on the stack are the parameters in their places
 onto_at : (words : List ℕ) (b : ℕ) (ps tail : List ℕ) (xs : List (Option ℕ)) → OperandsAt words b (ps ++ tail) → LocalsAt words (b + length (ps ++ tail)) xs →
     LocalsAt words (b + length tail) (onto ps xs)
 onto_at words b [] tail xs o h = h
 onto_at words b (p ∷ ps) tail xs o h = onto_at words b ps tail (Some p ∷ xs) o.1
-    (cons_at words (b + length (ps ++ tail)) (Some p) xs (λ v e. o.0 ∙ same_value p v e)
+    (cons_at words (b + length (ps ++ tail)) (Some p) xs (λ v e. o.0 ∙ same_Some p v e)
     (λ k v e. let same : b + length (ps ++ tail) + 1 + k ≡ b + length (p ∷ (ps ++ tail)) + k = omega arith in ap (slice_index words) same ∙ h k v e))
-
-none_some : (v : ℕ) → ◌≡◌ {A = Option ℕ} None (Some v) → ⊥
-none_some v e = cc
 
 -- the operands below the last ones
 dropped : (words : List ℕ) (b : ℕ) (ps tail : List ℕ) → OperandsAt words b (ps ++ tail) → OperandsAt words b tail
@@ -163,7 +151,7 @@ locals_below : (words : List ℕ) (lv a v : ℕ) (xs : List (Option ℕ)) → lv
 locals_below words lv a v xs le h k u e = let l : k < length xs = slice_get_within xs k (Some u) e in read_other words a (lv + k) v (inl (omega arith)) ∙ h k u e
 
 locals_at_link : (words : List ℕ) (lv v : ℕ) (xs : List (Option ℕ)) → LocalsAt words lv (None ∷ xs) → LocalsAt (slice_set words lv v) lv (None ∷ xs)
-locals_at_link words lv v xs h zero u e = absurd (none_some u (some_some e))
+locals_at_link words lv v xs h zero u e = absurd (none-some u (same_Some _ _ e))
 locals_at_link words lv v xs h (suc k) u e = read_other words lv (lv + suc k) v (inr (omega arith)) ∙ h (suc k) u e
 
 pub entered : (words : List ℕ) (ps : List ℕ) (o : ℕ) (rest : List ℕ) (more r : ℕ) (f : Frame) (fs : List Frame) →
@@ -185,7 +173,7 @@ entered words ps o rest more r f fs room ops h =
     let params_at : LocalsAt words (operands_at (base fs) f + length (o ∷ rest)) (onto ps (replicate more None)) =
     onto_at words (operands_at (base fs) f) ps (o ∷ rest) (replicate more None) all (none_at words _ more) in
     let own : LocalsAt words lv locals =
-    cons_at words lv None (onto ps (replicate more None)) (λ v e. absurd (none_some v e))
+    cons_at words lv None (onto ps (replicate more None)) (λ v e. absurd (none-some v e))
     (λ k v e. let same : lv + 1 + k ≡ operands_at (base fs) f + length (o ∷ rest) + k = omega arith in ap (slice_index words) same ∙ params_at k v e) in
     let len : length locals ≡ many = omega (arith, length-onto ps (replicate more None), length-replicate {A = Option ℕ} more None) in
     let own1 : LocalsAt m1 lv locals = locals_at_link words lv (lv + many) (onto ps (replicate more None)) own in
