@@ -1,6 +1,7 @@
 -- The graph of the reached instructions, and the paths that carry a local as unset.
 use Rattle.std.proofs.Common.{◌≡◌, ℕ, zero, suc, ◌+◌, ◌<◌, ◌⊎◌, inl, inr, Option, Some, None, List, [], ◌∷◌, ◌++◌, length, refl, arith, ◌∙◌, sym, subst}
 use Rattle.std.specs.Prelude.{slice_get}
+use Rattle.std.proofs.lemmas.Option.{none-some}
 use Rattle.ijvm_instr.specs.declared.row.Row.{Row}
 use Rattle.ijvm_instr.specs.Instructions.{size_of}
 use Rattle.ijvm_image.specs.Image.{ImageView}
@@ -45,11 +46,8 @@ graph_push image seen graph node h now at n is = elim (get_push graph node n at 
 pub node_nowhere : (image : ImageView) (seen : List (Option Kept)) (at : ℕ) → slice_get seen at ≡ Some None → IsNodeAt image seen at (record { next = None; jump = None; reads = None; stores = None })
 node_nowhere image seen at none = record {
   here = λ k r is has. absurd (differ k is);
-  inside = λ to leads. elim leads [ inl on ↦ absurd (no to on) | inr off ↦ absurd (no to off) ];
+  inside = λ to leads. elim leads [ inl on ↦ absurd (none-some to on) | inr off ↦ absurd (none-some to off) ];
 }
   where
     differ : (k : Kept) → slice_get seen at ≡ Some (Some k) → ⊥
     differ k is = cc
-
-    no : (to : ℕ) → None ≡ Some to → ⊥
-    no to is = cc

@@ -2,19 +2,13 @@
 use Rattle.std.proofs.Common.{◌≡◌, ◌≢◌, ℕ, ◌<◌, ◌⊎◌, inl, inr, Option, Some, None, List, length, refl, arith, ◌∙◌, ap, sym, subst, length-set}
 use Rattle.std.specs.Prelude.{slice_get, slice_set, IfSome}
 use Rattle.std.proofs.lemmas.Bool.{cases_eq}
-use Rattle.std.proofs.lemmas.Option.{slice_get_within, slice_get-get_or}
+use Rattle.std.proofs.lemmas.Option.{slice_get_within, slice_get-get_or, same_Some}
 use Rattle.ijvm_unset.specs.declared.graph.Node.{Node}
 use Rattle.ijvm_unset.specs.declared.local_set.LocalSet.{LocalSet}
 use Rattle.ijvm_unset.specs.Graph.{LeadsTo, IsInside, Carries, Begin, Pass}
 use Rattle.ijvm_unset.specs.Trace.{ReadsUnset, ReadsNone}
 use Rattle.ijvm_unset.specs.Shortcut.{IsPlain, first_way, IsEndAt, Skips, Stay, Skip, IsPast, IsShortOf, IsShort}
 use Rattle.ijvm_unset.proofs.Traces.{get_set_same, get_set_other, way_below}
-
-one_node : (x y : Node) (o : Option Node) → o ≡ Some x → o ≡ Some y → x ≡ y
-one_node x y o p q = cc
-
-one_number : (x y : ℕ) (o : Option ℕ) → o ≡ Some x → o ≡ Some y → x ≡ y
-one_number x y o p q = cc
 
 no_number : (o : Option ℕ) (x : ℕ) → o ≡ None → o ≡ Some x → ⊥
 no_number o x p q = cc
@@ -31,7 +25,7 @@ past_none graph (Some at) = Stay
 pub short_same : (graph : List Node) → IsShort graph graph
 short_same graph = record {
   long = refl;
-  each = λ at node new is is_new. subst (λ (x : Node). IsShortOf graph node x) (one_node node new (slice_get graph at) is is_new)
+  each = λ at node new is is_new. subst (λ (x : Node). IsShortOf graph node x) (same_Some node new (sym is ∙ is_new))
       (record { reads = refl; stores = refl; next = past_none graph node.next; jump = past_none graph node.jump });
 }
 
@@ -45,15 +39,15 @@ short_way : (graph : List Node) (way new : Option ℕ) (to : ℕ) → IsPast gra
 short_way graph None None to h is = cc
 short_way graph None (Some far) to h is = elim h [ ]
 short_way graph (Some at) None to h is = cc
-short_way graph (Some at) (Some far) to h is = (at, refl, subst (λ (x : ℕ). Skips graph x at) (one_number far to (Some far) refl is) h)
+short_way graph (Some at) (Some far) to h is = (at, refl, subst (λ (x : ℕ). Skips graph x at) (same_Some far to is) h)
 
 past_from : (graph : List Node) (from at to : ℕ) (node : Node) (way new : Option ℕ) → slice_get graph at ≡ Some node → IsPlain node to → Skips graph at from → way ≡ Some to → IsPast graph way new → IsPast graph (Some from) new
 past_from graph from at to node None new is plain before way h = cc
 past_from graph from at to node (Some next) None is plain before way h =
-    let same : next ≡ to = one_number next to (Some next) refl way in
+    let same : next ≡ to = same_Some next to way in
     (h.0, skips_on graph h.0 at from (Skip at to node is plain (subst (λ (x : ℕ). Skips graph h.0 x) same h.1)) before, h.2)
 past_from graph from at to node (Some next) (Some far) is plain before way h =
-    let same : next ≡ to = one_number next to (Some next) refl way in
+    let same : next ≡ to = same_Some next to way in
     skips_on graph far at from (Skip at to node is plain (subst (λ (x : ℕ). Skips graph far x) same h)) before
 
 -- a way past a plain node goes on as the way from there
@@ -82,7 +76,7 @@ short_set graph short i old next jump s is_old on off = record {
     | inl same ↦
         let lt : i < length short = slice_get_within short i old is_old in
         let made : record old { next = next; jump = jump } ≡ new =
-        one_node _ new (slice_get (slice_set short i (record old { next = next; jump = jump })) i) (get_set_same short i (record old { next = next; jump = jump }) lt) (ap (slice_get (slice_set short i (record old { next = next; jump = jump }))) (sym same) ∙ is_new) in
+        same_Some _ new (sym (get_set_same short i (record old { next = next; jump = jump }) lt) ∙ (ap (slice_get (slice_set short i (record old { next = next; jump = jump }))) (sym same) ∙ is_new)) in
         let was = s.each i node old (ap (slice_get graph) (sym same) ∙ is) is_old in
         subst (λ (x : Node). IsShortOf graph node x) made (record { reads = was.reads; stores = was.stores; next = on node.next was.next; jump = off node.jump was.jump })
     | inr ne ↦ s.each at node new is (sym (get_set_other short i at (record old { next = next; jump = jump }) ne) ∙ is_new)
@@ -102,8 +96,8 @@ HasShort graph new at = ((to : ℕ) × (new ≡ Some to) × Skips graph to at) �
 way_short : (graph : List Node) (way new : Option ℕ) (at : ℕ) → IsPast graph way new → way ≡ Some at → HasShort graph new at
 way_short graph None None at h is = cc
 way_short graph None (Some far) at h is = cc
-way_short graph (Some from) None at h is = inr (h.0, subst (λ (x : ℕ). Skips graph h.0 x) (one_number from at (Some from) refl is) h.1, h.2)
-way_short graph (Some from) (Some far) at h is = inl (far, refl, subst (λ (x : ℕ). Skips graph far x) (one_number from at (Some from) refl is) h)
+way_short graph (Some from) None at h is = inr (h.0, subst (λ (x : ℕ). Skips graph h.0 x) (same_Some from at is) h.1, h.2)
+way_short graph (Some from) (Some far) at h is = inl (far, refl, subst (λ (x : ℕ). Skips graph far x) (same_Some from at is) h)
 
 -- a way with shortcuts is a way
 short_carries : (graph short : List Node) (start k : ℕ) → IsShort graph short → (at : ℕ) → Carries short start k at → Carries graph start k at
@@ -145,7 +139,7 @@ comes_short graph short start k s i (Pass at to node way is ne leads) =
 
     from_end : IsEndAt graph at → ComesTo graph short start k to
     from_end (p, is_p, end) =
-        let same : p ≡ node = one_node p node (slice_get graph at) is_p is in
+        let same : p ≡ node = same_Some p node (sym is_p ∙ is) in
         elim leads [
           | inl on ↦ absurd (no_number p.next to end.next (ap (λ (x : Node). x.next) same ∙ on))
           | inr off ↦ absurd (no_number p.jump to end.jump (ap (λ (x : Node). x.jump) same ∙ off))
@@ -153,7 +147,7 @@ comes_short graph short start k s i (Pass at to node way is ne leads) =
 
     past_here : (far next : ℕ) (p : Node) → Carries short start k far ⊎ IsEndAt graph far → slice_get graph at ≡ Some p → IsPlain p next → Skips graph far next → ComesTo graph short start k to
     past_here far next p c is_p plain rest =
-        let same : p ≡ node = one_node p node (slice_get graph at) is_p is in
+        let same : p ≡ node = same_Some p node (sym is_p ∙ is) in
         let next_is : to ≡ next = plain.only to (subst (λ (x : Node). LeadsTo x to) (sym same) leads) in
         (far, c, subst (λ (x : ℕ). Skips graph far x) (sym next_is) rest)
 
@@ -177,12 +171,12 @@ short_reads_none graph short group start locals s none at k node is_in way is re
   where
     by_skips : (far i : ℕ) → Skips graph far i → Carries short start k far ⊎ IsEndAt graph far → i ≡ at → ⊥
     by_skips far i Stay (inr e) same =
-        no_number e.0.reads k e.2.reads (ap (λ (x : Node). x.reads) (one_node e.0 node (slice_get graph at) (ap (slice_get graph) (sym same) ∙ e.1) is) ∙ reads)
+        no_number e.0.reads k e.2.reads (ap (λ (x : Node). x.reads) (same_Some e.0 node (sym (ap (slice_get graph) (sym same) ∙ e.1) ∙ is)) ∙ reads)
     by_skips far i Stay (inl c) same =
         let there_is = there short at (omega (arith, slice_get_within graph at node is, s.long)) in
         none at k there_is.0 is_in (subst (λ (x : ℕ). Carries short start k x) same c) there_is.1 ((s.each at node there_is.0 is there_is.1).reads ∙ reads)
     by_skips far i (Skip j next p is_p plain rest) c same =
-        no_number p.reads k plain.reads (ap (λ (x : Node). x.reads) (one_node p node (slice_get graph at) (ap (slice_get graph) (sym same) ∙ is_p) is) ∙ reads)
+        no_number p.reads k plain.reads (ap (λ (x : Node). x.reads) (same_Some p node (sym (ap (slice_get graph) (sym same) ∙ is_p) ∙ is)) ∙ reads)
 
 -- no shortcut leads out of the graph
 skips_inside : (graph : List Node) (to at : ℕ) → IsInside graph → at < length graph → Skips graph to at → to < length graph

@@ -5,6 +5,7 @@ use Rattle.std.specs.Int.{bit_at}
 use Rattle.std.proofs.lemmas.Bool.{cases_eq, eq-eqb, ne_eqb}
 use Rattle.std.proofs.lemmas.Nat.Bits.{bit_at-zero}
 use Rattle.std.proofs.lemmas.List.Elements.{Contains-append_left, Contains-push, Contains-push_cases}
+use Rattle.std.proofs.lemmas.Option.{same_Some}
 use Rattle.ijvm_unset.specs.declared.graph.Node.{Node}
 use Rattle.ijvm_unset.specs.declared.local_set.LocalSet.{LocalSet}
 use Rattle.ijvm_unset.specs.declared.trace.Mark.{Mark}
@@ -23,6 +24,9 @@ get_set_other (x ∷ xs) zero zero v ne = absurd (ne refl)
 get_set_other (x ∷ xs) zero (suc j) v ne = refl
 get_set_other (x ∷ xs) (suc i) zero v ne = refl
 get_set_other (x ∷ xs) (suc i) (suc j) v ne = get_set_other xs i j v (λ e. ne (omega arith))
+
+empty : (at : ℕ) → Contains {X = ℕ} [] at → ⊥
+empty at h = omega (arith, h.1)
 
 pub held_get : (n : ℕ) (marks : List Mark) (at : ℕ) (m : Mark) → slice_get marks at ≡ Some m → held_at n marks at ≡ held n m
 held_get n [] at m is = cc
@@ -134,9 +138,6 @@ tracing_begun graph n group start locals marks new todo later ready inside more 
   inside = λ at has. elim (more.todo_inside at has) [ inl was ↦ absurd (empty at (subst (λ (xs : List ℕ). Contains xs at) ready.idle was)) | inr lt ↦ omega (arith, ready.long) ];
   older = more.older (λ at m is. let below : m.search < n = ready.older at m is in omega arith);
 }
-  where
-    empty : (at : ℕ) → Contains {X = ℕ} [] at → ⊥
-    empty at h = omega (arith, h.1)
 
 passed_on : (graph : List Node) (n group : ℕ) (marks new : List Mark) (todo later : List ℕ) (at k : ℕ) → MarksMore n marks new todo later → IsPassed graph n marks group at k → IsPassed graph n new group at k
 passed_on graph n group marks new todo later at k more p = (p.0, p.1, p.2, λ ne to leads. let w = p.3 ne to leads in (w.0, more.keeps to (k % 64) w.1))
@@ -186,29 +187,20 @@ traced graph n group start locals marks todo t none k is_in = by_way
       | inl waits ↦ absurd (empty at (subst (λ (xs : List ℕ). Contains xs at) none waits))
       | inr done ↦ done
     ]
-      where
-        empty : (at : ℕ) → Contains {X = ℕ} [] at → ⊥
-        empty at h = omega (arith, h.1)
 
     by_way : (at : ℕ) → Carries graph start k at → IsMarked n marks group at k × IsPassed graph n marks group at k
     by_way at Begin = let m = t.begin k is_in in (m, passed start m)
     by_way i (Pass at to node way is ne leads) =
         let p = (by_way at way).1 in
-        let same : p.0 ≡ node = one p.0 node (slice_get graph at) p.1 is in
+        let same : p.0 ≡ node = same_Some p.0 node (sym p.1 ∙ is) in
         let m = p.3 (λ e. ne (sym (ap (λ (x : Node). x.stores) same) ∙ e)) to (subst (λ (x : Node). LeadsTo x to) (sym same) leads) in
         (m, passed to m)
-      where
-        one : (x y : Node) (o : Option Node) → o ≡ Some x → o ≡ Some y → x ≡ y
-        one x y o p q = cc
 
 pub reads_none : (graph : List Node) (n group start : ℕ) (locals : LocalSet) (marks : List Mark) (todo : List ℕ) → IsTracing graph n group start locals marks todo → todo ≡ [] → ReadsNone graph group start locals
 reads_none graph n group start locals marks todo t none at k node is_in way is reads =
     let p = (traced graph n group start locals marks todo t none k is_in at way).1 in
-    let same : p.0 ≡ node = one p.0 node (slice_get graph at) p.1 is in
+    let same : p.0 ≡ node = same_Some p.0 node (sym p.1 ∙ is) in
     p.2 (ap (λ (x : Node). x.reads) same ∙ reads)
-  where
-    one : (x y : Node) (o : Option Node) → o ≡ Some x → o ≡ Some y → x ≡ y
-    one x y o p q = cc
 
 pub ready_again : (graph : List Node) (n group start : ℕ) (locals : LocalSet) (marks : List Mark) (todo : List ℕ) → IsTracing graph n group start locals marks todo → todo ≡ [] → IsReady (n + 1) (length graph) marks todo
 ready_again graph n group start locals marks todo t none = record { long = t.long; older = t.older; idle = none }

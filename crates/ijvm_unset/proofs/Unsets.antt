@@ -3,7 +3,7 @@ use Rattle.std.proofs.Common.{◌≡◌, ◌≢◌, ℕ, ◌+◌, ◌-◌, ◌/�
 use Rattle.std.specs.Prelude.{slice_get, Contains, ◌==◌, ◌↔◌}
 use Rattle.std.specs.List.Sorted.{IsPermutation}
 use Rattle.std.proofs.lemmas.Bool.{cases_eq, cases_lt, eq-eqb, ne_eqb}
-use Rattle.std.proofs.lemmas.Option.{slice_get_within, slice_get-get_or}
+use Rattle.std.proofs.lemmas.Option.{slice_get_within, slice_get-get_or, none-some, same_Some}
 use Rattle.std.proofs.lemmas.List.Elements.{Contains-append_left, Contains-push, Contains-push_cases}
 use Rattle.std.proofs.lemmas.List.Sorted.{Contains-permutation, IsPermutation-sym}
 use Rattle.ijvm_instr.specs.declared.row.Row.{Row}
@@ -24,15 +24,9 @@ use Rattle.ijvm_unset.specs.Trace.{IsReady, ReadsUnset, ReadsNone}
 use Rattle.ijvm_unset.specs.Unset.{AreSet, Wants, AreWanted}
 use Rattle.ijvm_unset.proofs.Graphs.{way_inside}
 
-some_one : (x y : ℕ) → Some x ≡ Some y → x ≡ y
-some_one x y p = cc
-
 -- what is carried behind an instruction was carried before, and is not stored
 was_carried : (stores unset : Option ℕ) (k : ℕ) → left_unset stores unset ≡ Some k → (unset ≡ Some k) × (stores ≢ Some k)
-was_carried None unset k is = (is, λ e. absurd (no e))
-  where
-    no : None ≡ Some k → ⊥
-    no e = cc
+was_carried None unset k is = (is, λ e. absurd (none-some k e))
 was_carried (Some s) None k is = cc
 was_carried (Some s) (Some c) k is = by_test (cases_eq c s)
   where
@@ -42,7 +36,7 @@ was_carried (Some s) (Some c) k is = by_test (cases_eq c s)
     by_test (inr ne) =
         let this : cond (c == s) None (Some c) ≡ Some c = ap (λ (b : Bool). cond b None (Some c)) (ne_eqb c s ne) in
         let one : Some c ≡ Some k = sym this ∙ is in
-        (one, λ e. ne (some_one c k one ∙ sym (some_one s k e)))
+        (one, λ e. ne (same_Some c k one ∙ sym (same_Some s k e)))
 
 -- where no store is, the local stays unset
 stays_unset : (stores : Option ℕ) (k : ℕ) → stores ≢ Some k → left_unset stores (Some k) ≡ Some k
@@ -58,7 +52,7 @@ pub entered_with : (image : ImageView) (e : ℕ) (unset : Option ℕ) → MayCar
 entered_with image e unset may a Start unit = cc
 entered_with image e unset may b (Then a to reached (On r need g)) unit = entered_with image e unset may a reached (sym g.unit_is ∙ unit)
 entered_with image e unset may b (Then a to reached (Into r need f g)) unit =
-    let same : f ≡ e = some_one f e (sym g.unit_is ∙ unit) in
+    let same : f ≡ e = same_Some f e (sym g.unit_is ∙ unit) in
     Then a (arrival (Some e) (e + 4) 0 unset) reached (Into r need e (record {
       works = g.works;
       calls = (g.calls.0, g.calls.1, g.calls.2 ∙ ap Some same);
@@ -90,9 +84,6 @@ node_there image seen graph at here r closed g is has = by_node (slice_get graph
         let some : slice_get graph at ≡ Some _ = slice_get-get_or graph at (record { next = None; jump = None; reads = None; stores = None }) inside in cc
     by_node (Some node) is_node = (node, is_node, (g.nodes at node is_node).here here r is has)
 
-one_node : (x y : Node) (o : Option Node) → o ≡ Some x → o ≡ Some y → x ≡ y
-one_node x y o p q = cc
-
 -- a path that carries the local is a way
 reached_carries : (image : ImageView) (seen : List (Option Kept)) (graph : List Node) (e k : ℕ) → IsClosed image seen → IsGraph image seen graph → (a : Arrival) → Reached image a → a.unit ≡ Some e → a.unset ≡ Some k → Carries graph (e + 4) k a.at
 reached_carries image seen graph e k closed g a Start unit unset = cc
@@ -102,7 +93,7 @@ reached_carries image seen graph e k closed g b (Then a to reached (On r need h)
     let n = node_there image seen graph a.at (kept_of a.unit a.depth) r closed g (closed.all a reached) h.works.has_row in
     Pass a.at to.at n.0 before n.1 (λ stores. was.1 (sym n.2.stores ∙ stores)) (n.2.leads to.at h.way)
 reached_carries image seen graph e k closed g b (Then a to reached (Into r need f h)) unit unset =
-    let at : to.at ≡ e + 4 = h.at_is ∙ ap (λ (x : ℕ). x + 4) (some_one f e (sym h.unit_is ∙ unit)) in
+    let at : to.at ≡ e + 4 = h.at_is ∙ ap (λ (x : ℕ). x + 4) (same_Some f e (sym h.unit_is ∙ unit)) in
     subst (λ (x : ℕ). Carries graph (e + 4) k x) (sym at) Begin
 
 -- and a way is a path that carries the local
@@ -114,7 +105,7 @@ carries_reached image seen graph e k closed g start i (Pass at to node way is ne
     let kept : slice_get seen at ≡ Some (Some (kept_of (Some e) w.0)) = closed.all (arrival (Some e) at w.0 (Some k)) w.1 in
     let d = closed.checked at (kept_of (Some e) w.0) kept in
     let n = node_there image seen graph at (kept_of (Some e) w.0) d.0 closed g kept d.2.has_row in
-    let same : n.0 ≡ node = one_node n.0 node (slice_get graph at) n.1 is in
+    let same : n.0 ≡ node = same_Some n.0 node (sym n.1 ∙ is) in
     let goes : GoesOn d.0.flow at (at + size_of d.0) to = n.2.only to (subst (λ (x : Node). LeadsTo x to) (sym same) leads) in
     let stays : left_unset d.0.stores (Some k) ≡ Some k = stays_unset d.0.stores k (λ stores. ne (ap (λ (x : Node). x.stores) (sym same) ∙ (n.2.stores ∙ stores))) in (
       w.0 - d.1 + d.0.gives,
@@ -137,13 +128,10 @@ wanted_push image seen graph n wanted w h now small one = record {
   all = λ at v lt wants. elim (cases_lt at n) [
     | inl old ↦ Contains-append_left wanted (w ∷ []) v (h.all at v old wants)
     | inr last ↦ let here : at ≡ n = omega arith in
-        let same : w ≡ v = the w v (one v (subst (λ (i : ℕ). Wants image seen graph i v) here wants)) in
+        let same : w ≡ v = same_Some w v (one v (subst (λ (i : ℕ). Wants image seen graph i v) here wants)) in
         subst (λ (x : Wanted). Contains (wanted ++ w ∷ []) x) same (Contains-push wanted w)
   ];
 }
-  where
-    the : (x y : Wanted) → Some x ≡ Some y → x ≡ y
-    the x y e = cc
 
 pub wanted_skip : (image : ImageView) (seen : List (Option Kept)) (graph : List Node) (n : ℕ) (wanted : List Wanted) → AreWanted image seen graph n wanted → ((v : Wanted) → Wants image seen graph n v → None ≡ Some v) →
     AreWanted image seen graph (n + 1) wanted
@@ -152,12 +140,9 @@ wanted_skip image seen graph n wanted h none = record {
   small = h.small;
   all = λ at v lt wants. elim (cases_lt at n) [
     | inl old ↦ h.all at v old wants
-    | inr last ↦ let here : at ≡ n = omega arith in absurd (no v (none v (subst (λ (i : ℕ). Wants image seen graph i v) here wants)))
+    | inr last ↦ let here : at ≡ n = omega arith in absurd (none-some v (none v (subst (λ (i : ℕ). Wants image seen graph i v) here wants)))
   ];
 }
-  where
-    no : (v : Wanted) → None ≡ Some v → ⊥
-    no v e = cc
 
 pub wanted_sorted : (image : ImageView) (seen : List (Option Kept)) (graph : List Node) (n : ℕ) (wanted sorted : List Wanted) → IsPermutation wanted sorted → AreWanted image seen graph n wanted → AreWanted image seen graph n sorted
 wanted_sorted image seen graph n wanted sorted same h = record {
@@ -189,7 +174,7 @@ reads_holds image z seen graph w locals at k closed g method owns h =
     let kept : slice_get seen at ≡ Some (Some (kept_of (Some w.entry) p.0)) = closed.all (arrival (Some w.entry) at p.0 (Some k)) p.1 in
     let d = closed.checked at (kept_of (Some w.entry) p.0) kept in
     let n = node_there image seen graph at (kept_of (Some w.entry) p.0) d.0 closed g kept d.2.has_row in
-    let same : n.0 ≡ h.node = one_node n.0 h.node (slice_get graph at) n.1 h.is in
+    let same : n.0 ≡ h.node = same_Some n.0 h.node (sym n.1 ∙ h.is) in
     (arrival (Some w.entry) at p.0 (Some k), p.1, (refl, d.0, d.2.has_row, refl, sym n.2.reads ∙ (ap (λ (x : Node). x.reads) same ∙ h.reads)))
 
 -- a search may also begin with a higher number
@@ -228,11 +213,8 @@ pub set_next : (image : ImageView) (wanted : List Wanted) (i : ℕ) (here : Want
 set_next image wanted i here before is set j w lt is_w = elim (cases_lt j i) [
   | inl old ↦ before j w old is_w
   | inr last ↦ let same : j ≡ i = omega arith in
-      subst (λ (x : Wanted). AreSet image x) (the here w (slice_get wanted i) is (ap (slice_get wanted) (sym same) ∙ is_w)) set
+      subst (λ (x : Wanted). AreSet image x) (same_Some here w (sym is ∙ (ap (slice_get wanted) (sym same) ∙ is_w))) set
 ]
-  where
-    the : (x y : Wanted) (o : Option Wanted) → o ≡ Some x → o ≡ Some y → x ≡ y
-    the x y o p q = cc
 
 pub set_again : (image : ImageView) (wanted : List Wanted) (i : ℕ) → ((j : ℕ) (w : Wanted) → j < i → slice_get wanted j ≡ Some w → AreSet image w) → (j : ℕ) × (j + 1 ≡ i) × (slice_get wanted j ≡ slice_get wanted i) →
     (j : ℕ) (w : Wanted) → j < i + 1 → slice_get wanted j ≡ Some w → AreSet image w
