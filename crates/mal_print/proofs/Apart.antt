@@ -3,6 +3,7 @@ use Rattle.std.proofs.Common.{◌≡◌, ℕ, zero, suc, ◌<◌, ◌≤◌, ◌
 use Rattle.std.specs.Prelude.{pos, codes, IfSome, Ok, ◌&&◌, ◌^◌}
 use Rattle.std.specs.Char.{digit_char}
 use Rattle.std.specs.List.{list_all}
+use Rattle.std.proofs.lemmas.Bool.{and_parts}
 use Rattle.machine_words.specs.declared.machine.Machine.{Machine}
 use Rattle.micro_word.specs.declared.statement.AluOp.{AluOp}
 use Rattle.micro_word.specs.declared.statement.AluOp.TheVariants as ops
@@ -28,7 +29,6 @@ use Rattle.mal_print.specs.declared.target.Target.TheVariants as targets
 use Rattle.mal_print.specs.Pieces.{behind_space, number, Piece, sign, spaced, word}
 use Rattle.mal_print.specs.StatementText.{chain, chain_part, dest_pieces, dests_of, dispatch_part, else_part, expression, fallback, fetch_part, fix, goto_part, heads, if_part, is_absent, joined_behind, or_semicolon, memory_part, next_parts, parts, pieces, plus_one, shifted, side, statement, target, value}
 use Rattle.mal_print.proofs.Spelling.{apart, apart_any, apart_append, apart_spaced, apart_weak, AreLexemes, lexemes_append, lexemes_spaced}
-use Rattle.mal_print.proofs.Halves.{and_parts}
 
 pub all_append : {A : Type 0} (p : A → Bool) (xs ys : List A) → list_all p xs ≡ true → list_all p ys ≡ true → list_all p (xs ++ ys) ≡ true
 all_append p [] ys h g = g

@@ -1,4 +1,4 @@
-pub mod Halves
+pub mod NameBytes
 pub mod Prints
 pub mod Bare
 pub mod Spelling

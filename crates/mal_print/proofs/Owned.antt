@@ -2,6 +2,7 @@
 use Rattle.std.proofs.Common.{◌≡◌, ℕ, Bool, true, false, List, [], ◌∷◌, ◌++◌, Option, Some, None, refl, ap, ◌∙◌, cond}
 use Rattle.std.specs.Prelude.{◌||◌, not}
 use Rattle.std.specs.List.{list_all}
+use Rattle.std.proofs.lemmas.Bool.{and_parts, not-true}
 use Rattle.machine_words.specs.declared.machine.Machine.{Machine}
 use Rattle.machine_words.specs.declared.machine.Machine.TheVariants.{Mic1, Mic2}
 use Rattle.micro_word.specs.declared.statement.AluOp.{AluOp}
@@ -31,7 +32,6 @@ use Rattle.mal_print.specs.declared.target.Target.{Target}
 use Rattle.mal_print.specs.Pieces.{behind_space, Piece, tokens_of}
 use Rattle.mal_print.specs.StatementText.{all_dests, chain, chain_part, dests_of, fetch_part, has_dest, heads, is_absent, joined_behind, labelled, or_semicolon, memory_part, next_parts, parts, pieces, tested}
 use Rattle.mal_print.proofs.Chained.{chain_tokens, filtered, Fits, tokens_append, tokens_spaced}
-use Rattle.mal_print.proofs.Halves.{and_parts}
 
 -- none of the tokens is a word of the other machine
 abbrev pub are_own : Machine → List Token → Type 0
@@ -69,17 +69,13 @@ own_tested Mic2 (nexts.Dispatch high) = refl
 own_tested Mic2 (nexts.Branch tests.N high low) = refl
 own_tested Mic2 (nexts.Branch tests.Z high low) = refl
 
-not_foreign : (b : Bool) → not b ≡ true → b ≡ false
-not_foreign true h = absurd (cc)
-not_foreign false h = refl
-
 own_heads : (m : Machine) (ws : List Word) (next : Next Target) → list_all (is_own m) ws ≡ true → are_own m (dest_tokens (heads ws next))
 own_heads m [] next h = own_more m (tokens.Word (tested next)) (tokens.Sign signs.Equals ∷ []) (own_tested m next) refl
 own_heads m (w ∷ ws) next h = all (w ∷ ws) h
   where
     all : (ws : List Word) → list_all (is_own m) ws ≡ true → are_own m (dest_tokens ws)
     all [] h = refl
-    all (w ∷ ws) h = let p = and_parts (is_own m w) (list_all (is_own m) ws) h in own_more m (tokens.Word w) (tokens.Sign signs.Equals ∷ dest_tokens ws) (not_foreign (is_foreign_word m w) p.0) (all ws p.1)
+    all (w ∷ ws) h = let p = and_parts (is_own m w) (list_all (is_own m) ws) h in own_more m (tokens.Word w) (tokens.Sign signs.Equals ∷ dest_tokens ws) (not-true (is_foreign_word m w) p.0) (all ws p.1)
 
 own_source_b : (m : Machine) (x : BusSource) → may_be_b m x ≡ true → is_foreign_word m (source_word x) ≡ false
 own_source_b Mic1 bus.Mbr1 h = absurd (cc)

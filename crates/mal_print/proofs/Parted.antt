@@ -2,6 +2,7 @@
 use Rattle.std.proofs.Common.{◌≡◌, ℕ, suc, Bool, true, false, List, [], ◌∷◌, ◌++◌, Option, Some, None, refl, sym, ap, subst, ◌∙◌, cond}
 use Rattle.std.specs.Prelude.{◌&&◌, not, map}
 use Rattle.std.specs.List.{list_all, onto_first}
+use Rattle.std.proofs.lemmas.Bool.{and_parts}
 use Rattle.machine_words.specs.declared.machine.Machine.{Machine}
 use Rattle.machine_words.specs.declared.machine.Machine.TheVariants.{Mic1, Mic2}
 use Rattle.micro_word.specs.declared.statement.Mem.{Mem}
@@ -30,7 +31,6 @@ use Rattle.mal_print.specs.Pieces.{behind_space, Piece, tokens_of}
 use Rattle.mal_print.specs.StatementText.{chain, chain_part, dest_pieces, dests_of, fetch_part, heads, is_absent, joined_behind, labelled, or_semicolon, memory_part, next_parts, parts, pieces, value}
 use Rattle.mal_print.proofs.Apart.{all_append}
 use Rattle.mal_print.proofs.Chained.{assignment_of, chain_is, chain_tokens, Fits, spelling_expr, tokens_append, tokens_spaced}
-use Rattle.mal_print.proofs.Halves.{and_parts}
 
 -- ---- no semicolon within a part
 

@@ -3,6 +3,7 @@ use Rattle.std.proofs.Common.{◌≡◌, ℕ, Bool, true, false, List, [], ◌�
 use Rattle.std.specs.Prelude.{◌&&◌}
 use Rattle.std.specs.List.{list_all}
 use Rattle.std.proofs.lemmas.Bool.Decides.{nat_tests}
+use Rattle.std.proofs.lemmas.Bool.{and_parts}
 use Rattle.mic_base.specs.Name.{is_name_byte}
 use Rattle.mal_tokens.specs.declared.word.Word.{Word}
 use Rattle.mal_tokens.specs.declared.word.Word.TheVariants as words
@@ -16,7 +17,7 @@ use Rattle.mal_print.specs.Pieces.{Piece, printed}
 use Rattle.mal_print.specs.StatementText.{is_plain}
 use Rattle.mal_print.proofs.Apart.{all_append}
 use Rattle.mal_print.proofs.Spelling.{AreLexemes}
-use Rattle.mal_print.proofs.Halves.{and_parts, name_parts}
+use Rattle.mal_print.proofs.NameBytes.{name_parts}
 
 plain_byte : (b : ℕ) → is_name_byte b ≡ true → is_plain b ≡ true
 plain_byte b h = grind (arith, nat_tests)

@@ -13,7 +13,7 @@ use Rattle.mal_line.specs.declared.next.Next.{Next}
 use Rattle.mal_print.specs.declared.target.Target.{Target}
 use Rattle.mal_print.specs.Pieces.{Piece, printed, word}
 use Rattle.mal_print.specs.StatementText.{are_before, chain, chain_part, dest_pieces, dests_of, dispatch_part, divided, else_part, expression, fetch_part, goto_part, heads, if_part, is_absent, joined_behind, memory_part, next_parts, pieces, shifted, side, value}
-use Rattle.mal_print.proofs.Halves.{name_parts}
+use Rattle.mal_print.proofs.NameBytes.{name_parts}
 
 pub printed_append : (ps qs : List Piece) → printed (ps ++ qs) ≡ printed ps ++ printed qs
 printed_append [] qs = refl

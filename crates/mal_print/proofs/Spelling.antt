@@ -1,6 +1,7 @@
 -- Pieces spell their tokens where each text is its token's and no two words meet.
 use Rattle.std.proofs.Common.{◌≡◌, ℕ, Bool, true, false, List, [], ◌∷◌, ◌++◌, refl, sym, ap, ◌∙◌, cond}
 use Rattle.std.specs.Prelude.{not, ◌&&◌, ◌||◌}
+use Rattle.std.proofs.lemmas.Bool.{and_from, and_parts}
 use Rattle.mic_base.specs.Name.{is_name_byte}
 use Rattle.source_text.specs.Runs.{begins_with, ends_with}
 use Rattle.source_text.specs.Tokens.{AreBlank}
@@ -29,14 +30,6 @@ apart after (p ∷ ps) = (not (is_wordy p.token) || (p.spaced || not after)) && 
 abbrev pub AreLexemes : List Piece → Type 0
 AreLexemes [] = Unit {0}
 AreLexemes (p ∷ ps) = IsLexeme p.token p.text × AreLexemes ps
-
-both_true : (a b : Bool) → (a && b) ≡ true → (a ≡ true) × (b ≡ true)
-both_true true b h = (refl, h)
-both_true false b h = absurd (cc)
-
-pub true_both : (a b : Bool) → a ≡ true → b ≡ true → (a && b) ≡ true
-true_both true b g h = h
-true_both false b g h = absurd (cc)
 
 -- ---- texts of signs
 
@@ -83,7 +76,7 @@ bare_ends (tokens.Sign s) text h is = ap (ends_with is_name_byte) is ∙ sign_en
 -- what stands behind a word begins with no letter or digit
 begins_fine : (ps : List Piece) → apart true ps ≡ true → AreLexemes ps → begins_with is_name_byte (printed ps) ≡ false
 begins_fine [] h l = refl
-begins_fine (p ∷ ps) h l = go p.spaced (is_wordy p.token) refl (both_true (not (is_wordy p.token) || (p.spaced || false)) (apart (is_wordy p.token) ps) h).0
+begins_fine (p ∷ ps) h l = go p.spaced (is_wordy p.token) refl (and_parts (not (is_wordy p.token) || (p.spaced || false)) (apart (is_wordy p.token) ps) h).0
   where
     go : (s w : Bool) → is_wordy p.token ≡ w → (not w || (s || false)) ≡ true → begins_with is_name_byte (cond s (32 ∷ []) [] ++ (p.text ++ printed ps)) ≡ false
     go true w e h = refl
@@ -95,7 +88,7 @@ prints after [] h l = refl
 prints after (p ∷ ps) h l = (cond p.spaced (32 ∷ []) [], p.text, printed ps, refl, blank p.spaced, l.0, ends (is_wordy p.token) refl behind, prints (is_wordy p.token) ps behind l.1)
   where
     behind : apart (is_wordy p.token) ps ≡ true
-    behind = (both_true (not (is_wordy p.token) || (p.spaced || not after)) (apart (is_wordy p.token) ps) h).1
+    behind = (and_parts (not (is_wordy p.token) || (p.spaced || not after)) (apart (is_wordy p.token) ps) h).1
 
     blank : (s : Bool) → AreBlank (cond s (32 ∷ []) [])
     blank true = refl
@@ -123,8 +116,8 @@ apart_any false ps h = apart_weak ps h
 pub apart_append : (b : Bool) (ps qs : List Piece) → apart b ps ≡ true → apart true qs ≡ true → apart b (ps ++ qs) ≡ true
 apart_append b [] qs h g = apart_any b qs g
 apart_append b (p ∷ ps) qs h g =
-    let t = both_true (not (is_wordy p.token) || (p.spaced || not b)) (apart (is_wordy p.token) ps) h in
-    true_both (not (is_wordy p.token) || (p.spaced || not b)) (apart (is_wordy p.token) (ps ++ qs)) t.0 (apart_append (is_wordy p.token) ps qs t.1 g)
+    let t = and_parts (not (is_wordy p.token) || (p.spaced || not b)) (apart (is_wordy p.token) ps) h in
+    and_from (not (is_wordy p.token) || (p.spaced || not b)) (apart (is_wordy p.token) (ps ++ qs)) t.0 (apart_append (is_wordy p.token) ps qs t.1 g)
 
 pub apart_spaced : (ps : List Piece) → apart false ps ≡ true → apart true (behind_space ps) ≡ true
 apart_spaced [] h = refl

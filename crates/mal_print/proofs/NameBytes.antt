@@ -1,12 +1,9 @@
--- What a conjunction says of its halves, and a name of its bytes.
-use Rattle.std.proofs.Common.{◌≡◌, ℕ, Bool, true, false, List, length, refl}
+-- What a name says of its bytes.
+use Rattle.std.proofs.Common.{◌≡◌, ℕ, true, List, length}
 use Rattle.std.specs.Prelude.{◌&&◌, not, nat_le}
 use Rattle.std.specs.List.{list_all}
+use Rattle.std.proofs.lemmas.Bool.{and_parts}
 use Rattle.mic_base.specs.Name.{begins_digit, is_name, is_name_byte}
-
-pub and_parts : (a b : Bool) → (a && b) ≡ true → (a ≡ true) × (b ≡ true)
-and_parts true b h = (refl, h)
-and_parts false b h = absurd (cc)
 
 pub record IsName (text : List ℕ) : Type 0 where
   pub short : nat_le (length text) 64 ≡ true
