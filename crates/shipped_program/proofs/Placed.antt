@@ -1,9 +1,9 @@
 -- The listed addresses are the chosen placement.
 use Rattle.std.proofs.Common.{◌≡◌, ℕ, List, refl}
-use Rattle.std.proofs.Common.{◌<◌, zero, suc, ◌&&◌, Bool, true, false, nat_lt, [], ◌∷◌, length, All, Option, Some, None, subst, arith}
+use Rattle.std.proofs.Common.{◌<◌, zero, suc, ◌&&◌, Bool, true, nat_lt, [], ◌∷◌, length, All, Option, Some, None, subst, arith}
 use Rattle.std.specs.Prelude.{slice_index_or}
 use Rattle.std.specs.List.{list_all}
-use Rattle.std.proofs.lemmas.Bool.{ltb-true}
+use Rattle.std.proofs.lemmas.Bool.{ltb-true, and_parts}
 use Rattle.machine_words.specs.declared.machine.Machine.{Machine}
 use Rattle.machine_words.specs.declared.machine.Machine.TheVariants.{Mic1, Mic2}
 use Rattle.store_placement.specs.declared.pair.Pair.{Pair}
@@ -37,16 +37,8 @@ inside : (fixed : List (Option ℕ)) → list_all is_inside fixed ≡ true → A
 unfolding is_inside
 inside [] h s a e = absurd (cc)
 inside (None ∷ fixed) h zero a e = absurd (cc)
-inside (Some x ∷ fixed) h zero a e = let same : x ≡ a = cc in subst (λ (n : ℕ). n < 512) same (ltb-true x 512 (first _ _ h))
-  where
-    first : (a b : Bool) → (a && b) ≡ true → a ≡ true
-    first true b h = refl
-    first false b h = absurd (cc)
-inside (x ∷ fixed) h (suc s) a e = inside fixed (second _ _ h) s a e
-  where
-    second : (a b : Bool) → (a && b) ≡ true → b ≡ true
-    second true b h = h
-    second false b h = absurd (cc)
+inside (Some x ∷ fixed) h zero a e = let same : x ≡ a = cc in subst (λ (n : ℕ). n < 512) same (ltb-true x 512 (and_parts _ _ h).0)
+inside (x ∷ fixed) h (suc s) a e = inside fixed (and_parts _ _ h).1 s a e
 
 leads_inside : ℕ → Pair → Bool
 leads_inside count p = nat_lt p.yes count && nat_lt p.no count
@@ -56,16 +48,12 @@ pairs_at : (count : ℕ) (p : Pair) (pairs : List Pair) → IsOfStatements count
 pairs_at count p pairs here later zero d below = here
 pairs_at count p pairs here later (suc k) d below = later k d (omega arith)
 
-both : (a b : Bool) → (a && b) ≡ true → (a ≡ true) × (b ≡ true)
-both true b h = (refl, h)
-both false b h = absurd (cc)
-
 each_leads : (count : ℕ) (pairs : List Pair) → list_all (leads_inside count) pairs ≡ true → All (IsOfStatements count) pairs
 unfolding leads_inside
 each_leads count [] h = λ k d below. absurd (omega arith)
 each_leads count (p ∷ pairs) h =
-    let two = both _ _ (both _ _ h).0 in
-    pairs_at count p pairs (ltb-true p.yes count two.0, ltb-true p.no count two.1) (each_leads count pairs (both _ _ h).1)
+    let two = and_parts _ _ (and_parts _ _ h).0 in
+    pairs_at count p pairs (ltb-true p.yes count two.0, ltb-true p.no count two.1) (each_leads count pairs (and_parts _ _ h).1)
 
 within1 : AreWithin (demands_of program1).fixed (demands_of program1).pairs
 unfolding program1 rows1 demands_of is_inside leads_inside

@@ -1,9 +1,9 @@
 -- Both programs are programs: each statement may stand where it stands, and no label stands twice.
-use Rattle.std.proofs.Common.{◌≡◌, ◌<◌, ℕ, zero, suc, ◌+◌, add-zero, zero-add, ◌&&◌, ◌||◌, not, Bool, true, false, nat_lt, List, [], ◌∷◌, length, Option, Some, None, is_some, refl, sym, ap, subst, arith}
+use Rattle.std.proofs.Common.{◌≡◌, ◌<◌, ℕ, zero, suc, ◌+◌, add-zero, zero-add, ◌&&◌, not, Bool, true, false, nat_lt, List, [], ◌∷◌, length, Option, Some, None, is_some, refl, sym, ap, subst, arith}
 use Rattle.std.specs.Prelude.{slice_get, IsSome, IfSome}
 use Rattle.std.specs.List.{list_any}
 use Rattle.std.specs.Str.{bytes_eq}
-use Rattle.std.proofs.lemmas.Bool.{ltb-true}
+use Rattle.std.proofs.lemmas.Bool.{ltb-true, and_parts, not-true, or_right}
 use Rattle.std.proofs.lemmas.Slice.Eq.{bytes_eq-Decides}
 use Rattle.machine_words.specs.declared.machine.Machine.{Machine}
 use Rattle.micro_word.specs.Words.{is_part}
@@ -15,10 +15,6 @@ use Rattle.mal_parser.specs.declared.statement.Statement.{Statement}
 use Rattle.mal_parser.specs.Program.{Program, label_at, HasTargets, IsStatement, IsProgram}
 use Rattle.machine_words.specs.declared.machine.Machine.TheVariants.{Mic1, Mic2}
 use Rattle.shipped_program.specs.Listing.{listed_program, program1, rows1, program2, rows2}
-
-both : (a b : Bool) → (a && b) ≡ true → (a ≡ true) × (b ≡ true)
-both true b h = (refl, h)
-both false b h = absurd (cc)
 
 -- ---- each statement may stand where it stands
 
@@ -55,7 +51,7 @@ unfolding leads
 leads_is p nexts.Following h = tt
 leads_is p (nexts.Goto to) h = h
 leads_is p (nexts.Dispatch high) h = tt
-leads_is p (nexts.Branch test high low) h = both _ _ h
+leads_is p (nexts.Branch test high low) h = and_parts _ _ h
 
 follows_is : (count number : ℕ) (next : Next ℕ) → follows count number next ≡ true → next ≡ nexts.Following → number + 1 < count
 unfolding follows
@@ -64,27 +60,23 @@ follows_is count number (nexts.Goto to) h e = absurd (cc)
 follows_is count number (nexts.Dispatch high) h e = absurd (cc)
 follows_is count number (nexts.Branch test high low) h e = absurd (cc)
 
-not_true : (b : Bool) → not b ≡ true → b ≡ false
-not_true true h = absurd (cc)
-not_true false h = refl
-
 is_label_is : (label : Option (List ℕ)) → is_label label ≡ true → IfSome label IsLabelText
 unfolding is_label
 is_label_is None h = tt
-is_label_is (Some name) h = let two = both (is_name name) _ h in (two.0, not_true (is_reserved name) two.1)
+is_label_is (Some name) h = let two = and_parts (is_name name) _ h in (two.0, not-true (is_reserved name) two.1)
 
 is_fix_is : (fixed : Option ℕ) (label : Option (List ℕ)) → is_fix fixed label ≡ true → IfSome fixed (λ address. (address < 512) × IsSome label)
 unfolding is_fix
 is_fix_is None label h = tt
-is_fix_is (Some address) label h = let two = both (nat_lt address 512) (is_some label) h in (ltb-true address 512 two.0, two.1)
+is_fix_is (Some address) label h = let two = and_parts (nat_lt address 512) (is_some label) h in (ltb-true address 512 two.0, two.1)
 
 stands_is : (p : Program) (number : ℕ) (s : Statement) → stands p number s ≡ true → IsStatement p number s
 unfolding stands
 stands_is p number s h =
-    let part = both (is_part p.machine s.part) _ h in
-    let targets = both (leads p s.next) _ part.1 in
-    let followed = both (follows (length p.statements) number s.next) _ targets.1 in
-    let named = both (is_label s.label) (is_fix s.fixed s.label) followed.1 in
+    let part = and_parts (is_part p.machine s.part) _ h in
+    let targets = and_parts (leads p s.next) _ part.1 in
+    let followed = and_parts (follows (length p.statements) number s.next) _ targets.1 in
+    let named = and_parts (is_label s.label) (is_fix s.fixed s.label) followed.1 in
     record {
       part = part.0;
       targets = leads_is p s.next targets.0;
@@ -98,9 +90,9 @@ unfolding all_stand
 one_stands p number [] h k s e = absurd (cc)
 one_stands p number (x ∷ xs) h zero s e =
     let same : x ≡ s = cc in
-    rw add-zero (subst (λ (y : Statement). stands p number y ≡ true) same (both _ _ h).0)
+    rw add-zero (subst (λ (y : Statement). stands p number y ≡ true) same (and_parts _ _ h).0)
 one_stands p number (x ∷ xs) h (suc k) s e =
-    let later : stands p (number + 1 + k) s ≡ true = one_stands p (number + 1) xs (both _ _ h).1 k s e in
+    let later : stands p (number + 1 + k) s ≡ true = one_stands p (number + 1) xs (and_parts _ _ h).1 k s e in
     let place : number + 1 + k ≡ number + suc k = omega arith in
     subst (λ (n : ℕ). stands p n s ≡ true) place later
 
@@ -125,18 +117,14 @@ found : (name : List ℕ) (ss : List Statement) (k : ℕ) → label_at ss k ≡ 
 unfolding has
 found name [] k e = absurd (cc)
 found name (s ∷ ss) zero e = rw e (rw (bytes_same name) refl)
-found name (s ∷ ss) (suc k) e = rw (found name ss k e) (or_true (has name s.label))
-  where
-    or_true : (b : Bool) → (b || true) ≡ true
-    or_true true = refl
-    or_true false = refl
+found name (s ∷ ss) (suc k) e = or_right (has name s.label) (list_any (λ s. has name s.label) ss) (found name ss k e)
 
 new_is : (label : Option (List ℕ)) (ss : List Statement) (name : List ℕ) (k : ℕ) → is_new label ss ≡ true → label ≡ Some name → label_at ss k ≡ Some name → ⊥
 unfolding is_new
 new_is None ss name k h e f = cc
 new_is (Some other) ss name k h e f =
     let same : other ≡ name = cc in
-    let none : list_any (λ s. has other s.label) ss ≡ false = not_true _ h in
+    let none : list_any (λ s. has other s.label) ss ≡ false = not-true _ h in
     let some : list_any (λ s. has other s.label) ss ≡ true = subst (λ (n : List ℕ). list_any (λ s. has n s.label) ss ≡ true) (sym same) (found name ss k f) in
     cc
 
@@ -144,9 +132,9 @@ apart : (ss : List Statement) → are_apart ss ≡ true → (s t : ℕ) (name : 
 unfolding are_apart
 apart [] h s t name e f = absurd (cc)
 apart (x ∷ xs) h zero zero name e f = refl
-apart (x ∷ xs) h zero (suc t) name e f = absurd (new_is x.label xs name t (both _ _ h).0 e f)
-apart (x ∷ xs) h (suc s) zero name e f = absurd (new_is x.label xs name s (both _ _ h).0 f e)
-apart (x ∷ xs) h (suc s) (suc t) name e f = ap suc (apart xs (both _ _ h).1 s t name e f)
+apart (x ∷ xs) h zero (suc t) name e f = absurd (new_is x.label xs name t (and_parts _ _ h).0 e f)
+apart (x ∷ xs) h (suc s) zero name e f = absurd (new_is x.label xs name s (and_parts _ _ h).0 f e)
+apart (x ∷ xs) h (suc s) (suc t) name e f = ap suc (apart xs (and_parts _ _ h).1 s t name e f)
 
 -- ---- the programs
 

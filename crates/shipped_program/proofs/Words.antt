@@ -1,7 +1,7 @@
 -- The words of a loaded shipped microprogram are those that are listed.
 use Rattle.std.proofs.Common.{◌≡◌, ◌≢◌, ◌<◌, ℕ, zero, suc, ◌+◌, add-zero, ◌==◌, Bool, true, false, List, [], ◌∷◌, length, map, Some, refl, sym, ap, ◌∙◌, subst, IsTrue, arith}
 use Rattle.std.specs.Prelude.{slice_get, slice_index}
-use Rattle.std.proofs.lemmas.Bool.Decides.{nat_tests}
+use Rattle.std.proofs.lemmas.Bool.{eqb-false, eqb-true}
 use Rattle.machine_words.specs.declared.machine.Machine.{Machine}
 use Rattle.machine_words.specs.declared.machine.Machine.TheVariants.{Mic1, Mic2}
 use Rattle.micro_word.specs.declared.statement.Placed.{Placed}
@@ -13,16 +13,10 @@ use Rattle.store_placement.specs.Program.{placed_statement, placed_default, IsFi
 use Rattle.shipped_program.specs.Listing.{Row, listed_program, addresses_of, program1, rows1, program2, rows2}
 use Rattle.shipped_program.specs.Shipped.{statement_among, HasShipped}
 
-same_test : (x y : ℕ) → (x == y) ≡ true → x ≡ y
-same_test x y e = grind (arith, nat_tests)
-
-other_test : (x y : ℕ) → (x == y) ≡ false → x ≢ y
-other_test x y e = grind (arith, nat_tests)
-
 by_test : (P : Placed → Type 0) (here there : Placed) (x y : ℕ) (t : Bool) → (x == y) ≡ t → (x ≡ y → P here) → (x ≢ y → P there) →
     P (elim t [ true ↦ here | false ↦ there ])
-by_test P here there x y true e hit miss = hit (same_test x y e)
-by_test P here there x y false e hit miss = miss (other_test x y e)
+by_test P here there x y true e hit miss = hit (eqb-true x y e)
+by_test P here there x y false e hit miss = miss (eqb-false x y e)
 
 none_of : (r : Row) (rows : List Row) (at : ℕ) → r.address ≢ at → ((k : ℕ) (s : Row) → slice_get rows k ≡ Some s → s.address ≢ at) →
     (k : ℕ) (s : Row) → slice_get (r ∷ rows) k ≡ Some s → s.address ≢ at
