@@ -1,10 +1,11 @@
 -- What comes of a call.
-use Rattle.std.proofs.Common.{◌≡◌, ◌<◌, ◌≤◌, ℕ, suc, ◌+◌, ◌-◌, Bool, true, false, nat_le, nat_lt, if◌then◌else◌, List, ◌∷◌, length, take, drop, replicate, Option, Some, None, ap, ◌∙◌, arith}
+use Rattle.std.proofs.Common.{◌≡◌, ◌<◌, ◌≤◌, ℕ, suc, ◌+◌, ◌-◌, nat_le, nat_lt, List, ◌∷◌, length, take, drop, replicate, Option, Some, None, ap, ◌∙◌, arith}
 use Rattle.std.proofs.lemmas.Bool.Decides.{nat_tests}
 use Rattle.std.proofs.lemmas.List.{length-drop, length-take-le, length-replicate}
+use Rattle.std.proofs.lemmas.Bool.{cond-true, cond-false}
 use Rattle.ijvm_image.specs.declared.method.Method.{Method}
 use Rattle.ijvm_run.specs.Frames.{Frame, State, base, frames_of}
-use Rattle.ijvm_run.specs.Step.{Outcome, Goes, Limits, Stuck, called, onto, limited, in_method, entered, called_at}
+use Rattle.ijvm_run.specs.Step.{Goes, Limits, Stuck, called, onto, limited, in_method, entered, called_at}
 use Rattle.plain_machine.specs.Machine.{MachineView, state_of, in_call}
 use Rattle.plain_machine.proofs.Placed.{length-onto}
 
@@ -19,16 +20,10 @@ base_call running callers n others back enough =
     let unset : length (replicate {A = Option ℕ} others None) ≡ others = length-replicate others None in
     omega arith
 
-chosen : (t : Bool) (x y : Outcome) → t ≡ true → (if t then x else y) ≡ x
-chosen t x y e = ap (λ (b : Bool). (if b then x else y)) e
-
-refused : (t : Bool) (x y : Outcome) → t ≡ false → (if t then x else y) ≡ y
-refused t x y e = ap (λ (b : Bool). (if b then x else y)) e
-
 entered_in : (stack_end : ℕ) (s : State) (method : Method) (params n : ℕ) → params ≡ suc n → n < length s.running.operands →
     entered stack_end s method params ≡ limited stack_end s (in_method s method n)
 entered_in stack_end s method params n e enough =
-    ap (entered stack_end s method) e ∙ chosen (nat_lt n (length s.running.operands)) (limited stack_end s (in_method s method n)) Stuck (grind (arith, nat_tests))
+    ap (entered stack_end s method) e ∙ cond-true (nat_lt n (length s.running.operands)) (limited stack_end s (in_method s method n)) Stuck (grind (arith, nat_tests))
 
 pub call-went : (m : MachineView) (method : Method) (untaken given : List ℕ) → 0 < method.params → method.params ≤ length m.running.operands →
     base (m.running ∷ m.callers) + method.others + 2 ≤ m.stack_end →
@@ -42,7 +37,7 @@ call-went m method untaken given some enough room =
     ≡ base (m.running ∷ m.callers) + method.others + 2 = base_call m.running m.callers n method.others (m.at + 3) less in
     let fits : base (frames_of (in_method (state_of m untaken given) method n)) ≤ m.stack_end = omega arith in
     entered_in m.stack_end (state_of m untaken given) method method.params n is few
-    ∙ chosen (nat_le (base (frames_of (in_method (state_of m untaken given) method n))) m.stack_end) (Goes (in_method (state_of m untaken given) method n)) (Limits (state_of m untaken given))
+    ∙ cond-true (nat_le (base (frames_of (in_method (state_of m untaken given) method n))) m.stack_end) (Goes (in_method (state_of m untaken given) method n)) (Limits (state_of m untaken given))
     (grind (arith, nat_tests))
 
 pub call-limit : (m : MachineView) (method : Method) (untaken given : List ℕ) → 0 < method.params → method.params ≤ length m.running.operands →
@@ -57,11 +52,5 @@ call-limit m method untaken given some enough full =
     ≡ base (m.running ∷ m.callers) + method.others + 2 = base_call m.running m.callers n method.others (m.at + 3) less in
     let over : m.stack_end < base (frames_of (in_method (state_of m untaken given) method n)) = omega arith in
     entered_in m.stack_end (state_of m untaken given) method method.params n is few
-    ∙ refused (nat_le (base (frames_of (in_method (state_of m untaken given) method n))) m.stack_end) (Goes (in_method (state_of m untaken given) method n)) (Limits (state_of m untaken given))
+    ∙ cond-false (nat_le (base (frames_of (in_method (state_of m untaken given) method n))) m.stack_end) (Goes (in_method (state_of m untaken given) method n)) (Limits (state_of m untaken given))
     (grind (arith, nat_tests))
-
-pub not_le : (m n : ℕ) → nat_le m n ≡ false → n < m
-not_le m n h = grind (arith, nat_tests)
-
-pub is_le : (m n : ℕ) → nat_le m n ≡ true → m ≤ n
-is_le m n h = grind (arith, nat_tests)

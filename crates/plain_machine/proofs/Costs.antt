@@ -2,6 +2,7 @@
 use Rattle.std.proofs.Common.{◌≡◌, ◌≤◌, ◌==◌, ◌%◌, ◌&&◌, nat_le, ℕ, zero, suc, Bool, true, false, if◌then◌else◌, List, [], ◌∷◌, Option, Some, None, refl, arith}
 use Rattle.std.proofs.lemmas.Bool.Decides.{nat_tests}
 use Rattle.std.specs.Prelude.{slice_get, slice_index}
+use Rattle.std.proofs.lemmas.Bool.{and_parts}
 use Rattle.machine_words.specs.declared.machine.Machine.{Machine}
 use Rattle.machine_words.specs.declared.machine.Machine.TheVariants.{Mic1, Mic2}
 use Rattle.ijvm_instr.specs.declared.instr.Instr.{Instr}
@@ -56,16 +57,8 @@ most_cycles n (IfTaken jumps falls) taken entry h = most_chosen n jumps falls ta
 most_cycles n (ByEntry early late) taken entry h = most_chosen n late early (entry % 4 == 3) (swapped (nat_le early n) (nat_le late n) h)
 
 of_both : (P : Cost → Bool) (machine : Machine) (r : Row) → (P r.mic1 && P r.mic2) ≡ true → P (column machine r) ≡ true
-of_both P Mic1 r h = first (P r.mic1) (P r.mic2) h
-  where
-    first : (a b : Bool) → (a && b) ≡ true → a ≡ true
-    first true b h = refl
-    first false b h = absurd (cc)
-of_both P Mic2 r h = second (P r.mic1) (P r.mic2) h
-  where
-    second : (a b : Bool) → (a && b) ≡ true → b ≡ true
-    second true b h = h
-    second false b h = absurd (cc)
+of_both P Mic1 r h = (and_parts (P r.mic1) (P r.mic2) h).0
+of_both P Mic2 r h = (and_parts (P r.mic1) (P r.mic2) h).1
 
 abbrev both : (Cost → Bool) → Instr → Bool
 both P i = P (row_of i).mic1 && P (row_of i).mic2

@@ -13,15 +13,15 @@ use Rattle.ijvm_instr.specs.Instructions.{word_of}
 use Rattle.ijvm_run.specs.Step.{Goes, Limits, Stuck, moved, limited, pushed, pushed_constant, loaded, stored, with_local, is_own, increased, popped, doubled, swapped, combined, branched, compared, returned, in_method, entered, called_at, read_in, taken, given_out, step, step_if_any, outcome}
 use Rattle.ijvm_run.specs.Safe.{SameFrames}
 
-same : (s : State) → SameFrames s s
-same s = record { running = refl; callers = refl; at = refl }
+pub same_frames : (s : State) → SameFrames s s
+same_frames s = record { running = refl; callers = refl; at = refl }
 
 limited_by : (t : Bool) (left to out : State) → (if t then Goes to else Limits left) ≡ Limits out → left ≡ out
 limited_by true left to out e = absurd (cc)
 limited_by false left to out e = cc
 
 limited_at : (stack_end : ℕ) (s to out : State) → limited stack_end s to ≡ Limits out → SameFrames s out
-limited_at stack_end s to out e = subst (SameFrames s) (limited_by (nat_le (base (frames_of to)) stack_end) s to out e) (same s)
+limited_at stack_end s to out e = subst (SameFrames s) (limited_by (nat_le (base (frames_of to)) stack_end) s to out e) (same_frames s)
 
 pushed_at : (stack_end : ℕ) (s : State) (v to : ℕ) (out : State) → pushed stack_end s v to ≡ Limits out → SameFrames s out
 pushed_at stack_end s v to out e = limited_at stack_end s (moved s (v ∷ s.running.operands) to) out e

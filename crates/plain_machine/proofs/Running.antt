@@ -1,8 +1,8 @@
 -- A turn of a run, from the step of its frames.
-use Rattle.std.proofs.Common.{◌≡◌, ◌<◌, ◌≤◌, ℕ, zero, suc, ◌+◌, Bool, true, false, nat_le, List, [], ◌++◌, take, drop, append_assoc, Option, Some, None, IfSome, Result, Ok, Err, refl, sym, ap, ap₂, subst, ◌∙◌, arith}
+use Rattle.std.proofs.Common.{◌≡◌, ◌<◌, ◌≤◌, ℕ, zero, suc, ◌+◌, Bool, true, List, [], ◌++◌, take, drop, append_assoc, Option, Some, None, IfSome, Result, Ok, Err, refl, sym, ap, ap₂, subst, ◌∙◌}
 use Rattle.std.specs.declared.alloc.AllocError.{AllocError}
-use Rattle.std.proofs.lemmas.Bool.Decides.{nat_tests}
 use Rattle.std.proofs.lemmas.List.{take-append-drop}
+use Rattle.std.proofs.lemmas.Bool.{lt-leb, le-leb}
 use Rattle.machine_words.specs.declared.machine.Machine.{Machine}
 use Rattle.console_port.specs.View.{ConsoleView}
 use Rattle.console_port.specs.Console.{Untaken, Given, IsLost}
@@ -13,7 +13,6 @@ use Rattle.ijvm_run.specs.declared.run.RunEnd.TheVariants as defined
 use Rattle.plain_machine.specs.declared.plain.PlainEnd.{PlainEnd}
 use Rattle.plain_machine.specs.declared.plain.PlainEnd.TheVariants as ends
 use Rattle.ijvm_instr.specs.Instructions.{instr_at}
-use Rattle.ijvm_run.specs.Safe.{SameFrames}
 use Rattle.mic_base.specs.Streams.{Holds}
 use Rattle.plain_machine.specs.declared.plain.Counts.{Counts}
 use Rattle.ijvm_image.specs.Image.{ImageView}
@@ -25,7 +24,7 @@ use Rattle.plain_machine.specs.Machine.{MachineView, KeepsProgram, state_of}
 use Rattle.plain_machine.specs.Steps.{IsLedOn, Does, IsCutOff, IsMetBy}
 use Rattle.plain_machine.proofs.Costs.{next_cost-least}
 use Rattle.plain_machine.proofs.SafeLemmas.{some_untaken, some_given}
-use Rattle.plain_machine.proofs.Limited.{limits-same}
+use Rattle.plain_machine.proofs.Limited.{limits-same, same_frames}
 use Rattle.plain_machine.specs.Kept.{TellsLeft, HasKept}
 use Rattle.plain_machine.specs.Runs.{program_of, point_at, RunEndsWith, IsAllBut, IsCut, StoppedBy, IsShown, LedTo, GoesOn, Reaches, Begins, Onward, cut_by}
 
@@ -53,20 +52,11 @@ goes_on told left c c' bound machine old new cycles instructions cycles' instruc
       keeps = kept told u tell here;
     }
 
-is_under : (bound cycles : ℕ) → cycles < bound → nat_le bound cycles ≡ false
-is_under bound cycles h = grind (arith, nat_tests)
-
-is_over : (bound cycles : ℕ) → bound ≤ cycles → nat_le bound cycles ≡ true
-is_over bound cycles h = grind (arith, nat_tests)
-
-same_frames : (s : State) → SameFrames s s
-same_frames s = record { running = refl; callers = refl; at = refl }
-
 -- the run ends at this boundary, by the outcome of its instruction
 ends_by : (p : Program) (bound : ℕ) (at : Point) (o : Outcome) (f : Finish) → at.cycles < bound → outcome p.image p.stack_end at.state ≡ o →
     after_outcome (finish_from p bound zero) p at o ≡ Some f → EndsBy p bound at f
 ends_by p bound at o f under is then_ =
-    (suc zero, ap (after_test (finish_from p bound zero) p at) (is_under bound at.cycles under) ∙ ap (after_outcome (finish_from p bound zero) p at) is ∙ then_)
+    (suc zero, ap (after_test (finish_from p bound zero) p at) (lt-leb bound at.cycles under) ∙ ap (after_outcome (finish_from p bound zero) p at) is ∙ then_)
 
 pub halt_ends : (told : Bool) (c : ConsoleView) (held : Option (List ℕ)) (bound : ℕ) (machine : Machine) (old new : MachineView) (cycles instructions cost : ℕ) (r : Counts) (u g u' g' : List ℕ) → cycles < bound →
     cost ≡ next_cost old.image machine (state_of old [] []) → r.boundary ≡ cycles → r.cycles ≡ cycles + cost → r.instructions ≡ instructions + 1 → Does steps.Halt old new u g u' g' →
@@ -130,7 +120,7 @@ bound_ends told c held bound machine m cycles instructions r u g over boundary a
     let at : Point = point_at m cycles instructions u g in (
       record {
         finish = stopped at defined.Bound at.state;
-        ends = (suc zero, ap (after_test (finish_from p bound zero) p at) (is_over bound cycles over));
+        ends = (suc zero, ap (after_test (finish_from p bound zero) p at) (le-leb bound cycles over));
         boundary = sym boundary;
         cycles = sym all;
         instructions = sym one;
@@ -222,7 +212,7 @@ finish_passes p bound from at f (Start a same) e = subst (λ (x : Point). EndsBy
 finish_passes p bound from at f (More b next to first under goes is) e =
     let e0 : EndsBy p bound (point_after p b to) f = subst (λ (x : Point). EndsBy p bound x f) is e in
     finish_passes p bound from b f first
-    (suc e0.0, ap (after_test (finish_from p bound e0.0) p b) (is_under bound b.cycles under) ∙ ap (after_outcome (finish_from p bound e0.0) p b) goes ∙ e0.1)
+    (suc e0.0, ap (after_test (finish_from p bound e0.0) p b) (lt-leb bound b.cycles under) ∙ ap (after_outcome (finish_from p bound e0.0) p b) goes ∙ e0.1)
 
 -- the boundaries that it reaches are boundaries that it passes
 pub passed : (told : Bool) (p : Program) (bound : ℕ) (from : Point) (c0 : ConsoleView) (at : Point) (c : ConsoleView) → Reaches told p bound from c0 at c → Passes p bound from at

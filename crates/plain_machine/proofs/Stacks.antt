@@ -6,9 +6,6 @@ use Rattle.ijvm_run.specs.Cost.{are_equal}
 use Rattle.ijvm_run.specs.Step.{onto}
 use Rattle.plain_machine.specs.Machine.{IsSwapped}
 
-pub reverse-end : (xs : List ℕ) (x : ℕ) → reverse (xs ++ x ∷ []) ≡ x ∷ reverse xs
-reverse-end xs x = reverse-append xs (x ∷ [])
-
 last_split : (xs : List ℕ) → 0 < length xs → xs ≡ take (length xs - 1) xs ++ slice_index xs (length xs - 1) ∷ []
 last_split xs some =
     let i : ℕ = length xs - 1 in
@@ -24,8 +21,8 @@ reverse_set_last xs v some =
     let over : length xs ≤ suc i = omega arith in
     let split : slice_set xs i v ≡ take i xs ++ v ∷ drop (suc i) xs = set_split xs i v inside in
     let none : drop (suc i) xs ≡ [] = drop_all (suc i) xs over in
-    let back : reverse (take i xs ++ v ∷ []) ≡ v ∷ reverse (take i xs) = reverse-end (take i xs) v in
-    let old : reverse xs ≡ slice_index xs i ∷ reverse (take i xs) = ap reverse (last_split xs some) ∙ reverse-end (take i xs) (slice_index xs i) in
+    let back : reverse (take i xs ++ v ∷ []) ≡ v ∷ reverse (take i xs) = reverse-append (take i xs) (v ∷ []) in
+    let old : reverse xs ≡ slice_index xs i ∷ reverse (take i xs) = ap reverse (last_split xs some) ∙ reverse-append (take i xs) (slice_index xs i ∷ []) in
     ap reverse (split ∙ ap (λ (ys : List ℕ). take i xs ++ v ∷ ys) none) ∙ back ∙ ap (λ (ys : List ℕ). v ∷ drop 1 ys) (sym old)
 
 -- the last n values, and those before them
