@@ -5,6 +5,7 @@ use Rattle.std.proofs.lemmas.Bool.Decides.{nat_tests}
 use Rattle.std.proofs.lemmas.Grind.{flat_map-append}
 use Rattle.std.proofs.lemmas.List.{drop_more, take_more, length-drop, length-take-le, drop-drop, drop_all, take-append-drop}
 use Rattle.std.proofs.Math.Seq.{take-append_seam}
+use Rattle.std.proofs.lemmas.Bool.{cond-true, cond-false, le-leb, leb-true, eqb-true}
 use Rattle.ijvm_image.specs.declared.reader.Block.{Block}
 use Rattle.ijvm_image.specs.declared.image.ImageError.{ImageError}
 use Rattle.ijvm_image.specs.declared.image.ImageError.TheVariants as errors
@@ -89,15 +90,6 @@ field_read file place w rest e =
 and_then_ok : {A B : Type 0} (r : Result A ImageError) (next : A → Result B ImageError) (x : A) (y : Result B ImageError) → r ≡ Ok x → next x ≡ y → and_then r next ≡ y
 and_then_ok {A} r next x y e f = ap (λ (s : Result A ImageError). and_then s next) e ∙ f
 
-if_true : {A : Type 0} (t : Bool) (x y : A) → t ≡ true → (if t then x else y) ≡ x
-if_true {A} t x y e = ap (λ (b : Bool). (if b then x else y)) e
-
-if_false : {A : Type 0} (t : Bool) (x y : A) → t ≡ false → (if t then x else y) ≡ y
-if_false {A} t x y e = ap (λ (b : Bool). (if b then x else y)) e
-
-is_le : (m n : ℕ) → m ≤ n → nat_le m n ≡ true
-is_le m n h = grind (arith, nat_tests)
-
 -- the block of these bytes at a place
 abbrev block_there : ℕ → ℕ → ℕ → Block
 block_there origin place size = record { origin = origin; from = place + 8; to = place + 8 + size }
@@ -121,13 +113,13 @@ block_read file place first origin bytes rest e origin_ok size_ok =
     let same : length (drop (place + 8) file) ≡ length (bytes ++ rest) = ap length e2 in
     let fits : place + 8 + n ≤ length file = omega arith in
     let last : block_from file origin (place + 8) n ≡ Ok (block_there origin place n) =
-    if_true (is_size origin n) _ _ size_ok ∙ if_true (nat_le (place + 8 + n) (length file)) _ _ (is_le _ _ fits) in
+    cond-true (is_size origin n) _ _ size_ok ∙ cond-true (nat_le (place + 8 + n) (length file)) _ _ (le-leb _ _ fits) in
     let sized : (λ (size : ℕ). block_from file origin (place + 8) size) n ≡ Ok (block_there origin place n) = last in
     let whole : block_at file place first ≡ Ok (block_there origin place n) =
     and_then_ok (field file place)
     (λ (o : ℕ). if is_origin first o then and_then (field file (place + 4)) (λ (size : ℕ). block_from file o (place + 8) size) else Err (errors.BadOrigin o))
     origin (Ok (block_there origin place n)) f1
-    (if_true (is_origin first origin) _ _ origin_ok
+    (cond-true (is_origin first origin) _ _ origin_ok
     ∙ and_then_ok (field file (place + 4)) (λ (size : ℕ). block_from file origin (place + 8) size) n (Ok (block_there origin place n)) f2 sized) in
     (whole, e2, fits)
 
@@ -181,7 +173,7 @@ blocks_read file o1 o2 b1 b2 e origin1 origin2 size1 size2 =
     let fits : second + 8 + length b2 ≤ length file = r2.2 in
     let all : nat_lt (second + 8 + length b2) (length file) ≡ false = grind (arith, nat_tests) in
     let last : ended file (block_there o1 4 (length b1)) (block_there o2 second (length b2)) ≡ Ok (joined file (block_there o1 4 (length b1)) (block_there o2 second (length b2))) =
-    if_false (nat_lt (second + 8 + length b2) (length file)) _ _ all in
+    cond-false (nat_lt (second + 8 + length b2) (length file)) _ _ all in
     let behind : and_then (block_at file second (Some o1)) (λ (b : Block). ended file (block_there o1 4 (length b1)) b)
     ≡ Ok (joined file (block_there o1 4 (length b1)) (block_there o2 second (length b2))) =
     and_then_ok (block_at file second (Some o1)) (λ (b : Block). ended file (block_there o1 4 (length b1)) b) (block_there o2 second (length b2)) _ r2.0 last in
@@ -246,15 +238,12 @@ chose_ok : {A : Type 0} (t : Bool) (x y : Result A ImageError) (z : A) → (e : 
 chose_ok true x y z e bad is = (refl, is)
 chose_ok false x y z e bad is = absurd (cc)
 
-le_true : (m n : ℕ) → nat_le m n ≡ true → m ≤ n
-le_true m n h = grind (arith, nat_tests)
-
 field-ok : (file : List ℕ) (place w : ℕ) → field file place ≡ Ok w → (place + 4 ≤ length file) × (word_at file place ≡ w)
 field-ok file place w e =
     let c : (nat_le (place + 4) (length file) ≡ true) × (good_word (word_at file place) ≡ Ok w) =
     chose_ok (nat_le (place + 4) (length file)) (good_word (word_at file place)) (Err (errors.Truncated (length file))) w (errors.Truncated (length file)) refl e in
     let same : word_at file place ≡ w = let f : good_word (word_at file place) ≡ Ok w = c.1 in cc in
-    (le_true _ _ c.0, same)
+    (leb-true _ _ c.0, same)
   where
     good_word : ℕ → Result ℕ ImageError
     good_word x = Ok x
@@ -358,7 +347,7 @@ block-ok file place first b small e =
     let c3 : (nat_le (place + 8 + size) (length file) ≡ true) × (read_block there ≡ Ok b) =
     chose_ok (nat_le (place + 8 + size) (length file)) (read_block there) _ b (errors.Truncated (length file)) refl c2.1 in
     let same : there ≡ b = let f : read_block there ≡ Ok b = c3.1 in cc in
-    subst (λ (x : Block). IsRead file place first x) same (block_stands file place first origin size small f2.0 f1.1 f2.1 c1.0 c2.0 (le_true _ _ c3.0))
+    subst (λ (x : Block). IsRead file place first x) same (block_stands file place first origin size small f2.0 f1.1 f2.1 c1.0 c2.0 (leb-true _ _ c3.0))
 
 words_back : (file : List ℕ) (place n : ℕ) → All (λ (b : ℕ). b < 256) file → place + 4 * n ≤ length file →
     drop place file ≡ flat_map word_bytes (words_at file place n) ++ drop (place + 4 * n) file
@@ -400,14 +389,11 @@ then_text o h = grind (arith, nat_tests)
 whole_words : (size : ℕ) → is_size pool_origin size ≡ true → size % 4 ≡ 0
 whole_words size h = grind (arith, nat_tests)
 
-is_eq : (m n : ℕ) → (m == n) ≡ true → m ≡ n
-is_eq m n h = grind (arith, nat_tests)
-
 image_from : (file : List ℕ) (a b : Block) (image : ImageView) → All (λ (x : ℕ). x < 256) file → IsRead file 4 None a → IsRead file a.to (Some a.origin) b →
     file ≡ word_bytes magic ++ (block_of a.origin (slice_range file a.from a.to) ++ block_of b.origin (slice_range file b.from b.to)) →
     (t : Bool) → (a.origin == text_origin) ≡ t → (if t then image_of file a b else image_of file b a) ≡ image → IsFileOf file image
 image_from file a b image small ra rb e true is joined =
-    let text : a.origin ≡ text_origin = is_eq a.origin text_origin is in
+    let text : a.origin ≡ text_origin = eqb-true a.origin text_origin is in
     let pool : b.origin ≡ pool_origin = not_first b.origin (subst (λ (o : ℕ). is_origin (Some o) b.origin ≡ true) text rb.origin) in
     let even : (b.to - b.from) % 4 ≡ 0 = whole_words (b.to - b.from) (subst (λ (o : ℕ). is_size o (b.to - b.from) ≡ true) pool rb.size) in
     let bytes : slice_range file b.from b.to ≡ flat_map word_bytes (words_at file b.from ((b.to - b.from) / 4)) = pool_back file b small rb.ordered rb.inside even in
@@ -431,7 +417,7 @@ file-was file image small e =
     let w : ℕ = at1.0 in
     let f1 : (0 + 4 ≤ length file) × (word_at file 0 ≡ w) = field-ok file 0 w at1.1 in
     let c1 : ((w == magic) ≡ true) × (blocks ≡ Ok image) = chose_ok (w == magic) blocks _ image errors.BadMagic refl at1.2 in
-    let magical : w ≡ magic = is_eq w magic c1.0 in
+    let magical : w ≡ magic = eqb-true w magic c1.0 in
     let at2 : (a : Block) × (block_at file 4 None ≡ Ok a) × (and_then (block_at file a.to (Some a.origin)) (λ (b : Block). ended file a b) ≡ Ok image) =
     and_then-ok (block_at file 4 None) (λ (a : Block). and_then (block_at file a.to (Some a.origin)) (λ (b : Block). ended file a b)) image c1.1 in
     let a : Block = at2.0 in
