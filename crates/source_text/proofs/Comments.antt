@@ -1,18 +1,14 @@
 -- Looking for a comment, place by place.
 use Rattle.std.proofs.Common.{◌≡◌, ℕ, zero, suc, ◌+◌, ◌-◌, ◌<◌, ◌≤◌, true, false, List, [], ◌∷◌, ◌++◌, take, drop, length, refl, ap, ◌∙◌, sym, arith}
-use Rattle.std.proofs.lemmas.List.{take_all, append-nil}
-use Rattle.std.proofs.Common.{length-drop}
+use Rattle.std.proofs.lemmas.List.{append-nil, take_rest}
 use Rattle.source_text.specs.Content.{without_comment, begins_comment}
 
 -- no comment begins before this place
 abbrev pub IsPassed : List ℕ → ℕ → Type 0
 IsPassed line at = without_comment line ≡ take at line ++ without_comment (drop at line)
 
-rest_all : (line : List ℕ) (at : ℕ) → take (length line - at) (drop at line) ≡ drop at line
-rest_all line at = take_all (length line - at) (drop at line) (omega (arith, length-drop at line))
-
 pub pass : (line : List ℕ) (at : ℕ) → at < length line → begins_comment (take (length line - at) (drop at line)) ≡ false → IsPassed line at → IsPassed line (at + 1)
-pass line at lt h so_far = so_far ∙ on line at lt (ap begins_comment (sym (rest_all line at)) ∙ h)
+pass line at lt h so_far = so_far ∙ on line at lt (ap begins_comment (sym (take_rest line at)) ∙ h)
   where
     on : (line : List ℕ) (at : ℕ) → at < length line → begins_comment (drop at line) ≡ false → take at line ++ without_comment (drop at line) ≡ take (at + 1) line ++ without_comment (drop (at + 1) line)
     on [] at lt h = absurd (omega arith)
@@ -20,7 +16,7 @@ pass line at lt h so_far = so_far ∙ on line at lt (ap begins_comment (sym (res
     on (b ∷ rest) (suc at) lt h = let k : suc at + 1 ≡ suc (at + 1) = omega arith in rw k (ap (λ r. b ∷ r) (on rest at (omega arith) h))
 
 pub cut : (line : List ℕ) (at : ℕ) → begins_comment (take (length line - at) (drop at line)) ≡ true → IsPassed line at → take at line ≡ without_comment line
-cut line at h so_far = sym (so_far ∙ (ap (λ r. take at line ++ r) (none (drop at line) (ap begins_comment (sym (rest_all line at)) ∙ h)) ∙ append-nil (take at line)))
+cut line at h so_far = sym (so_far ∙ (ap (λ r. take at line ++ r) (none (drop at line) (ap begins_comment (sym (take_rest line at)) ∙ h)) ∙ append-nil (take at line)))
   where
     none : (rest : List ℕ) → begins_comment rest ≡ true → without_comment rest ≡ []
     none [] h = refl

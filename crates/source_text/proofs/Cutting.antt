@@ -3,7 +3,7 @@ use Rattle.std.proofs.Common.{◌≡◌, ℕ, suc, ◌+◌, ◌-◌, ◌<◌, �
 use Rattle.std.specs.Prelude.{not, ◌==◌}
 use Rattle.std.specs.List.{prefix_len, onto_first, slice_split}
 use Rattle.std.specs.Str.Lines.{lines, lines_of_parts, strip_carriage_return}
-use Rattle.std.proofs.lemmas.List.{take_all}
+use Rattle.std.proofs.lemmas.List.{take_rest}
 use Rattle.std.proofs.lemmas.Bool.Decides.{nat_tests}
 
 -- how many bytes stand before the first newline
@@ -51,13 +51,10 @@ before_more x rest =
     let s = some_part rest in
     ap (λ ps. lines_of_parts (x ∷ ps)) s.2 ∙ ap (λ ps. strip_carriage_return x ∷ lines_of_parts ps) (sym s.2)
 
-rest_all : (xs : List ℕ) (i : ℕ) → take (length xs - i) (drop i xs) ≡ drop i xs
-rest_all xs i = take_all (length xs - i) (drop i xs) (omega (arith, length-drop i xs))
-
 pub line_more : (text : List ℕ) (n : ℕ) → n ≡ len text → n < length text → lines text ≡ strip_carriage_return (take n text) ∷ lines (take (length text - (n + 1)) (drop (n + 1) text))
 line_more text n e lt =
     let s : parts text ≡ take n text ∷ parts (drop (n + 1) text) = rw e (split_more text (rw e at lt)) in
-    ap lines_of_parts s ∙ (before_more (take n text) (drop (n + 1) text) ∙ ap (λ r. strip_carriage_return (take n text) ∷ lines r) (sym (rest_all text (n + 1))))
+    ap lines_of_parts s ∙ (before_more (take n text) (drop (n + 1) text) ∙ ap (λ r. strip_carriage_return (take n text) ∷ lines r) (sym (take_rest text (n + 1))))
 
 one_line : (text : List ℕ) → 0 < length text → lines_of_parts (text ∷ []) ≡ text ∷ []
 one_line [] some = absurd (omega arith)
@@ -69,5 +66,5 @@ none_left (y ∷ ys) h = absurd (omega arith)
 
 pub line_last : (text : List ℕ) (n : ℕ) → n ≡ len text → 0 < length text → length text ≤ n → lines text ≡ text ∷ lines (take (length text - n) (drop n text))
 line_last text n e some le =
-    let none : lines (take (length text - n) (drop n text)) ≡ [] = none_left (take (length text - n) (drop n text)) (rw (rest_all text n) (omega (arith, length-drop n text))) in
+    let none : lines (take (length text - n) (drop n text)) ≡ [] = none_left (take (length text - n) (drop n text)) (rw (take_rest text n) (omega (arith, length-drop n text))) in
     ap lines_of_parts (split_last text (rw e at le)) ∙ (one_line text some ∙ ap (λ r. text ∷ r) (sym none))
