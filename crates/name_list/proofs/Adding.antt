@@ -6,6 +6,7 @@ use Rattle.std.specs.Ordering.{nat_cmp}
 use Rattle.std.specs.Cmp.Lexicographic.{slice_cmp, texts_ties}
 use Rattle.std.specs.BTreeMap.{BTreeMap, get, is_at}
 use Rattle.std.proofs.lemmas.Slice.Eq.{bytes_eq-Decides}
+use Rattle.std.proofs.lemmas.List.{length_push}
 use Rattle.name_list.specs.Places.{ArePlaces, place_of}
 
 -- a name that is not in a list is not its first one, and not behind it
@@ -37,10 +38,6 @@ places_push names name place old new e are fresh h q =
     h q ∙ (ap (λ b. cond b (Some place) (get (slice_cmp nat_cmp) old q)) (sym (texts_ties name q))
     ∙ (ap (λ k. cond (bytes_eq name q) (Some k) (get (slice_cmp nat_cmp) old q)) e
     ∙ (ap (λ o. cond (bytes_eq name q) (Some (length names)) o) (are q) ∙ sym (place_push names name q fresh))))
-
-length_push : (names : List (List ℕ)) (name : List ℕ) → length (names ++ name ∷ []) ≡ length names + 1
-length_push [] name = refl
-length_push (n ∷ names) name = let r = length_push names name in omega (arith, r)
 
 pub few_push : (names : List (List ℕ)) (name : List ℕ) (place : ℕ) → place ≡ length names → place < 4294967295 → length (names ++ name ∷ []) < 4294967296
 few_push names name place e h = let l = length_push names name in omega (arith, l, e, h)
