@@ -28,6 +28,10 @@ get_push (x ∷ xs) y v (suc i) is = elim (get_push xs y v i is) [ inl old ↦ i
 pub method_inside : (image : ImageView) (seen : List (Option Kept)) (e : ℕ) → IsClosed image seen → IsReachedMethod image e → e + 4 < length image.text
 method_inside image seen e closed m = omega (arith, slice_get_within seen (e + 4) (Some (kept_of (Some e) 0)) (closed.starts e m), closed.long)
 
+-- a kept address has one unit
+pub one_unit : (seen : List (Option Kept)) (at : ℕ) (here k : Kept) → slice_get seen at ≡ Some (Some here) → slice_get seen at ≡ Some (Some k) → here.unit ≡ k.unit
+one_unit seen at here k p q = let e : here ≡ k = cc in ap (λ (x : Kept). x.unit) e
+
 pub swept_none : (image : ImageView) → IsSwept image 0 0
 swept_none image = record { apart = λ p q b lp lq cp cq. absurd (omega arith); ends = λ p b l c. absurd (omega arith); last = λ b le lt. absurd (omega arith) }
 

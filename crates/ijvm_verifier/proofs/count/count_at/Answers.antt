@@ -1,13 +1,10 @@
-use Rattle.std.proofs.Common.{◌≡◌, ◌≢◌, ◌∙◌, ℕ, arith, Some, None, Option, ap, List}
+use Rattle.std.proofs.Common.{◌≡◌, ◌≢◌, ◌∙◌, ℕ, arith, Some, None, Option, ap}
 use Rattle.std.specs.Prelude.{slice_get, slice_index_or}
 use Rattle.std.proofs.lemmas.Option.{slice_get-get_or}
-use Rattle.ijvm_reach.specs.declared.kept.Kept.{Kept}
 use Rattle.ijvm_unset.specs.declared.graph.Node.{Node}
+use Rattle.ijvm_verifier.proofs.Swept.{one_unit}
 use Rattle.ijvm_verifier.proofs.Counts.{counted_skip, counted_node}
 use Rattle.ijvm_verifier.proofs.count.count_at.Goals as goal
-
-same_unit : (seen : List (Option Kept)) (at : ℕ) (here k : Kept) → slice_get seen at ≡ Some (Some here) → slice_get seen at ≡ Some (Some k) → here.unit ≡ k.unit
-same_unit seen at here k p q = let e : here ≡ k = cc in ap (λ (x : Kept). x.unit) e
 
 no_unit : (u : Option ℕ) (e : ℕ) → u ≡ Some e → u ≢ None
 no_unit u e p q = cc
@@ -24,7 +21,7 @@ pub returns-in-Some-unit-clause-counted : goal.returns-in-Some-unit-clause-count
 returns-in-Some-unit-clause-counted c =
     let is : slice_get c.args.seen.now c.args.at ≡ Some (Some c.in-Some.here) = slice_get-get_or c.args.seen.now c.args.at None (omega (arith, c.requires.closed.long)) ∙ ap Some c.in-Some.is in
     counted_skip c.args.image.now c.args.seen.now c.args.at c.args.count c.requires.closed c.requires.counted
-    (λ k there unit. no_unit c.in-Some.here.unit _ c.in-Some-unit.is (same_unit c.args.seen.now c.args.at c.in-Some.here k is there ∙ unit))
+    (λ k there unit. no_unit c.in-Some.here.unit _ c.in-Some-unit.is (one_unit c.args.seen.now c.args.at c.in-Some.here k is there ∙ unit))
 
 pub returns-in-None-unit-clause-counted : goal.returns-in-None-unit-clause-counted
 returns-in-None-unit-clause-counted c =

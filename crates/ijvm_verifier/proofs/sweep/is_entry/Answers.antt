@@ -1,17 +1,10 @@
-use Rattle.std.proofs.Common.{◌≡◌, ◌<◌, ◌+◌, ◌∙◌, ℕ, ap, sym, arith, length, List, Option, Some, None, true}
+use Rattle.std.proofs.Common.{◌≡◌, ◌<◌, ◌+◌, ◌∙◌, ap, sym, arith, length, Some, None, true}
 use Rattle.std.specs.Prelude.{slice_get, ◌==◌}
 use Rattle.std.proofs.lemmas.Bool.{eqb-true, eq-eqb}
-use Rattle.std.proofs.lemmas.Option.{slice_get-get_or, slice_get_within}
-use Rattle.ijvm_reach.specs.declared.kept.Kept.{Kept}
+use Rattle.std.proofs.lemmas.Option.{slice_get-get_or, slice_get_within, same_Some}
 use Rattle.ijvm_reach.specs.Search.{kept_of}
-use Rattle.ijvm_verifier.proofs.Swept.{entry_kept, kept_entry}
+use Rattle.ijvm_verifier.proofs.Swept.{entry_kept, kept_entry, one_unit}
 use Rattle.ijvm_verifier.proofs.sweep.is_entry.Goals as goal
-
-one_unit : (seen : List (Option Kept)) (at : ℕ) (here k : Kept) → slice_get seen at ≡ Some (Some here) → slice_get seen at ≡ Some (Some k) → here.unit ≡ k.unit
-one_unit seen at here k p q = let e : here ≡ k = cc in ap (λ (x : Kept). x.unit) e
-
-some_one : (x y : ℕ) → Some x ≡ Some y → x ≡ y
-some_one x y p = cc
 
 pub returns-then-start-seen-clause-no : goal.returns-then-start-seen-clause-no
 returns-then-start-seen-clause-no c = λ none m.
@@ -42,6 +35,6 @@ returns-in-Some-unit-clause-no c = λ test m.
     let is : slice_get c.args.seen.now (c.args.at + 4) ≡ Some (Some (kept_of (Some c.args.at) 0)) = kept_entry c.args.image.now c.args.seen.now c.args.at c.requires m in
     let kept : slice_get c.args.seen.now (c.args.at + 4) ≡ Some (Some c.in-Some.here) = slice_get-get_or c.args.seen.now (c.args.at + 4) None c.if-start-seen.false ∙ ap Some c.in-Some.is in
     let same = one_unit c.args.seen.now (c.args.at + 4) c.in-Some.here (kept_of (Some c.args.at) 0) kept is in
-    let entry : c.in-Some-unit.entry ≡ c.args.at = some_one c.in-Some-unit.entry c.args.at (sym c.in-Some-unit.is ∙ same) in
+    let entry : c.in-Some-unit.entry ≡ c.args.at = same_Some c.in-Some-unit.entry c.args.at (sym c.in-Some-unit.is ∙ same) in
     let yes_ : (c.in-Some-unit.entry == c.args.at) ≡ true = eq-eqb c.in-Some-unit.entry c.args.at entry in
     cc (test, yes_)
