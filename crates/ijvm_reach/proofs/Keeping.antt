@@ -4,7 +4,7 @@ use Rattle.std.specs.Prelude.{slice_get, slice_set, Contains, not, nat_lt, IfNon
 use Rattle.std.specs.Option.{option_eq, option_map}
 use lib.Dec.{eqb}
 use Rattle.std.proofs.lemmas.Bool.{cases_eq, le-ltb, eq-eqb, ltb-true}
-use Rattle.std.proofs.lemmas.Option.{slice_get_within, slice_get-get_or}
+use Rattle.std.proofs.lemmas.Option.{slice_get_within, slice_get-get_or, same_Some}
 use Rattle.std.proofs.lemmas.List.Elements.{Contains-append_left, Contains-push, Contains-push_cases}
 use Rattle.ijvm_instr.specs.declared.instr.Instr.{Instr}
 use Rattle.ijvm_instr.specs.declared.row.Row.{Row}
@@ -256,11 +256,8 @@ start_kept image seen all e a Start unit = cc
 start_kept image seen all e b (Then a to reached (On r need g)) unit = start_kept image seen all e a reached (sym g.unit_is ∙ unit)
 start_kept image seen all e b (Then a to reached (Into r need f g)) unit =
     let kept : slice_get seen to.at ≡ Some (Some (kept_of to.unit to.depth)) = all to (Then a to reached (Into r need f g)) in
-    let at : to.at ≡ e + 4 = g.at_is ∙ ap (λ (x : ℕ). x + 4) (some_one f e (sym g.unit_is ∙ unit)) in
+    let at : to.at ≡ e + 4 = g.at_is ∙ ap (λ (x : ℕ). x + 4) (same_Some f e (sym g.unit_is ∙ unit)) in
     ap (slice_get seen) (sym at) ∙ (kept ∙ ap (λ (k : Kept). Some (Some k)) (λ i. kept_of (unit i) (g.depth_is i)))
-  where
-    some_one : (x y : ℕ) → Some x ≡ Some y → x ≡ y
-    some_one x y p = cc
 
 -- a kept address has one unit and one depth
 pub one_kept : (image : ImageView) (seen : List (Option Kept)) → IsClosed image seen → (a b : Arrival) → Reached image a → Reached image b → a.at ≡ b.at → kept_of a.unit a.depth ≡ kept_of b.unit b.depth
