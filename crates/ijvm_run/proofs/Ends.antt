@@ -1,6 +1,6 @@
 -- A run has one end, at the last boundary that it passes.
-use Rattle.std.proofs.Common.{◌≡◌, ◌<◌, ◌≤◌, ◌↔◌, ℕ, zero, suc, ◌+◌, Bool, true, false, nat_le, Option, Some, None, refl, sym, ap, subst, ◌∙◌, arith}
-use Rattle.std.proofs.lemmas.Bool.Decides.{nat_tests}
+use Rattle.std.proofs.Common.{◌≡◌, ◌<◌, ◌≤◌, ◌↔◌, ℕ, zero, suc, ◌+◌, Bool, true, false, nat_le, Option, Some, None, refl, sym, ap, subst, ◌∙◌}
+use Rattle.std.proofs.lemmas.Bool.{lt-leb, leb-false}
 use Rattle.ijvm_image.specs.Image.{ImageView}
 use Rattle.ijvm_run.specs.Frames.{State}
 use Rattle.ijvm_run.specs.Step.{Outcome, Goes, Halts, Errs, Limits, Stuck, outcome}
@@ -29,12 +29,6 @@ one_end p bound (suc n) (suc m) at f g e k =
 pub ends_once : (p : Program) (bound : ℕ) (at : Point) (f g : Finish) → EndsBy p bound at f → EndsBy p bound at g → f ≡ g
 ends_once p bound at f g e k = one_end p bound e.0 k.0 at f g e.1 k.1
 
-is_under : (bound cycles : ℕ) → cycles < bound → nat_le bound cycles ≡ false
-is_under bound cycles h = grind (arith, nat_tests)
-
-under : (bound cycles : ℕ) → nat_le bound cycles ≡ false → cycles < bound
-under bound cycles h = grind (arith, nat_tests)
-
 -- what a run goes on to, and where it ends
 
 last_by_outcome : (p : Program) (bound n : ℕ) (from at : Point) (o : Outcome) (f : Finish) → ((next : Point) → Passes p bound from next → finish_from p bound n next ≡ Some f → Passes p bound from f.last) →
@@ -49,7 +43,7 @@ last_by_test : (p : Program) (bound n : ℕ) (from at : Point) (t : Bool) (f : F
     Passes p bound from at → nat_le bound at.cycles ≡ t → after_test (finish_from p bound n) p at t ≡ Some f → Passes p bound from f.last
 last_by_test p bound n from at true f more passed test e = let last : at ≡ f.last = cc in subst (Passes p bound from) last passed
 last_by_test p bound n from at false f more passed test e =
-    last_by_outcome p bound n from at (outcome p.image p.stack_end at.state) f more passed (under bound at.cycles test) refl e
+    last_by_outcome p bound n from at (outcome p.image p.stack_end at.state) f more passed (leb-false bound at.cycles test) refl e
 
 last_from : (p : Program) (bound n : ℕ) (from at : Point) (f : Finish) → Passes p bound from at → finish_from p bound n at ≡ Some f → Passes p bound from f.last
 last_from p bound zero from at f passed e = absurd (cc)
@@ -62,7 +56,7 @@ last_passed p bound from f e = last_from p bound e.0 from from f (Start from ref
 -- a step of a run that goes on
 one_on : (p : Program) (bound n : ℕ) (b : Point) (to : State) → b.cycles < bound → outcome p.image p.stack_end b.state ≡ Goes to → finish_from p bound (suc n) b ≡ finish_from p bound n (point_after p b to)
 one_on p bound n b to less goes =
-    ap (after_test (finish_from p bound n) p b) (is_under bound b.cycles less) ∙ ap (after_outcome (finish_from p bound n) p b) goes
+    ap (after_test (finish_from p bound n) p b) (lt-leb bound b.cycles less) ∙ ap (after_outcome (finish_from p bound n) p b) goes
 
 -- the end of a boundary that a run passes is the run's
 pub ends_from : (p : Program) (bound : ℕ) (from at : Point) (f : Finish) → Passes p bound from at → EndsBy p bound at f → EndsBy p bound from f

@@ -5,7 +5,7 @@ use Rattle.std.specs.Int.{w8}
 use Rattle.std.specs.Int.Bits.{and_lt}
 use Rattle.std.proofs.lemmas.Nat.{or_lt}
 use Rattle.std.proofs.lemmas.Bool.Decides.{nat_tests}
-use Rattle.std.proofs.lemmas.List.Elements.{All-nil, All-cons, All-take, All-drop, All-set, All-replicate, All-get_or}
+use Rattle.std.proofs.lemmas.List.Elements.{All-nil, All-cons, All-take, All-drop, All-set, All-replicate, All-head, All-tail}
 use Rattle.machine_words.specs.Arithmetic.{wrap, plus, minus, is_negative}
 use Rattle.console_port.specs.World.{next_byte}
 use Rattle.ijvm_instr.specs.declared.instr.Instr.{Instr}
@@ -17,16 +17,10 @@ use Rattle.ijvm_run.specs.Frames.{Frame, State, frames_of, base, start_of, IsWor
 use Rattle.ijvm_run.specs.Step.{Outcome, Goes, Halts, Errs, Limits, Stuck, limited, moved, pushed, pushed_constant, loaded, is_own, with_local, stored, increased, popped, doubled, swapped, combined, way, branched, compared, returned, onto, called, in_method, entered, called_at, taken, read_in, given_out, step, step_if_any, outcome}
 use Rattle.ijvm_run.specs.Run.{Program, Point, Passes, Start, More}
 
-head : {X : Type 0} (P : X → Type 0) (x : X) (xs : List X) → All P (x ∷ xs) → P x
-head P x xs h = All-get_or P (x ∷ xs) 0 x (omega arith) h
-
-tail : {X : Type 0} (P : X → Type 0) (x : X) (xs : List X) → All P (x ∷ xs) → All P xs
-tail P x xs h = All-drop P 1 (x ∷ xs) h
-
 found : {X : Type 0} (P : X → Type 0) (xs : List X) (i : ℕ) → All P xs → IfSome (slice_get xs i) P
 found P [] i h = tt
-found P (x ∷ xs) zero h = head P x xs h
-found P (x ∷ xs) (suc i) h = found P xs i (tail P x xs h)
+found P (x ∷ xs) zero h = All-head P x xs h
+found P (x ∷ xs) (suc i) h = found P xs i (All-tail P x xs h)
 
 abbrev IsSet : Option ℕ → Type 0
 IsSet v = IfSome v IsWord
@@ -44,10 +38,10 @@ unfolding wrap
 wrapped x = omega arith
 
 running : (s : State) → AreWords s → HasWords s.running
-running s h = head HasWords s.running s.callers h.frames
+running s h = All-head HasWords s.running s.callers h.frames
 
 callers : (s : State) → AreWords s → All HasWords s.callers
-callers s h = tail HasWords s.running s.callers h.frames
+callers s h = All-tail HasWords s.running s.callers h.frames
 
 -- a state with another running frame and address
 with_frame : (s : State) (f : Frame) (to : ℕ) → AreWords s → HasWords f → IsWord to → AreWords (record s { running = f; at = to })
@@ -89,7 +83,7 @@ stored_words : (s : State) (k : ℕ) (operands : List ℕ) (to : ℕ) → AreWor
 stored_words s k [] to h ops there = tt
 stored_words s k (v ∷ rest) to h ops there =
     stored_by (is_own s.running.back k) (nat_lt k (length s.running.locals)) (with_local s k v rest to)
-    (local_words s k v rest to h (head IsWord v rest ops) (tail IsWord v rest ops) there)
+    (local_words s k v rest to h (All-head IsWord v rest ops) (All-tail IsWord v rest ops) there)
 
 increased_words : (s : State) (k : ℕ) (z : ℤ) (v : Option (Option ℕ)) (to : ℕ) → AreWords s → IsWord to → Keeps (increased s k z v to)
 increased_words s k z None to h there = tt
@@ -98,28 +92,28 @@ increased_words s k z (Some (Some v)) to h there = local_words s k (plus v (word
 
 popped_words : (s : State) (operands : List ℕ) → AreWords s → All IsWord operands → IsWord (s.at + 1) → Keeps (popped s operands)
 popped_words s [] h ops there = tt
-popped_words s (y ∷ rest) h ops there = moved_words s rest (s.at + 1) h (tail IsWord y rest ops) there
+popped_words s (y ∷ rest) h ops there = moved_words s rest (s.at + 1) h (All-tail IsWord y rest ops) there
 
 doubled_words : (n : ℕ) (s : State) (operands : List ℕ) → AreWords s → All IsWord operands → IsWord (s.at + 1) → Keeps (doubled n s operands)
 doubled_words n s [] h ops there = tt
-doubled_words n s (y ∷ rest) h ops there = pushed_words n s y (s.at + 1) h (head IsWord y rest ops) there
+doubled_words n s (y ∷ rest) h ops there = pushed_words n s y (s.at + 1) h (All-head IsWord y rest ops) there
 
 swapped_words : (s : State) (operands : List ℕ) → AreWords s → All IsWord operands → IsWord (s.at + 1) → Keeps (swapped s operands)
 swapped_words s [] h ops there = tt
 swapped_words s (y ∷ []) h ops there = tt
 swapped_words s (y ∷ x ∷ rest) h ops there =
-    let below : All IsWord (x ∷ rest) = tail IsWord y (x ∷ rest) ops in
+    let below : All IsWord (x ∷ rest) = All-tail IsWord y (x ∷ rest) ops in
     moved_words s (x ∷ y ∷ rest) (s.at + 1) h
-    (All-cons IsWord x (y ∷ rest) (head IsWord x rest below) (All-cons IsWord y rest (head IsWord y (x ∷ rest) ops) (tail IsWord x rest below))) there
+    (All-cons IsWord x (y ∷ rest) (All-head IsWord x rest below) (All-cons IsWord y rest (All-head IsWord y (x ∷ rest) ops) (All-tail IsWord x rest below))) there
 
 combined_words : (f : ℕ → ℕ → ℕ) (s : State) (operands : List ℕ) → ((x y : ℕ) → IsWord x → IsWord y → IsWord (f x y)) → AreWords s → All IsWord operands → IsWord (s.at + 1) →
     Keeps (combined f s operands)
 combined_words f s [] hf h ops there = tt
 combined_words f s (y ∷ []) hf h ops there = tt
 combined_words f s (y ∷ x ∷ rest) hf h ops there =
-    let below : All IsWord (x ∷ rest) = tail IsWord y (x ∷ rest) ops in
+    let below : All IsWord (x ∷ rest) = All-tail IsWord y (x ∷ rest) ops in
     moved_words s (f x y ∷ rest) (s.at + 1) h
-    (All-cons IsWord (f x y) rest (hf x y (head IsWord x rest below) (head IsWord y (x ∷ rest) ops)) (tail IsWord x rest below)) there
+    (All-cons IsWord (f x y) rest (hf x y (All-head IsWord x rest below) (All-head IsWord y (x ∷ rest) ops)) (All-tail IsWord x rest below)) there
 
 target_word : (at : ℕ) (o : ℤ) → IsWord (target at o)
 target_word at o = wrapped (at + word_of o)
@@ -130,13 +124,13 @@ way_word at o false there = there
 
 branched_words : (test : ℕ → Bool) (s : State) (o : ℤ) (operands : List ℕ) → AreWords s → All IsWord operands → IsWord (s.at + 3) → Keeps (branched test s o operands)
 branched_words test s o [] h ops there = tt
-branched_words test s o (y ∷ rest) h ops there = moved_words s rest (way s.at o (test y)) h (tail IsWord y rest ops) (way_word s.at o (test y) there)
+branched_words test s o (y ∷ rest) h ops there = moved_words s rest (way s.at o (test y)) h (All-tail IsWord y rest ops) (way_word s.at o (test y) there)
 
 compared_words : (s : State) (o : ℤ) (operands : List ℕ) → AreWords s → All IsWord operands → IsWord (s.at + 3) → Keeps (compared s o operands)
 compared_words s o [] h ops there = tt
 compared_words s o (y ∷ []) h ops there = tt
 compared_words s o (y ∷ x ∷ rest) h ops there =
-    moved_words s rest (way s.at o (x == y)) h (tail IsWord x rest (tail IsWord y (x ∷ rest) ops)) (way_word s.at o (x == y) there)
+    moved_words s rest (way s.at o (x == y)) h (All-tail IsWord x rest (All-tail IsWord y (x ∷ rest) ops)) (way_word s.at o (x == y) there)
 
 returned_words : (s : State) (back : Option ℕ) (above : List Frame) (operands : List ℕ) → AreWords s → IfSome back IsWord → All HasWords above → All IsWord operands →
     Keeps (returned s back above operands)
@@ -144,14 +138,14 @@ returned_words s None above operands h hb hf ops = tt
 returned_words s (Some back) [] operands h hb hf ops = tt
 returned_words s (Some back) (f ∷ fs) [] h hb hf ops = tt
 returned_words s (Some back) (f ∷ fs) (y ∷ rest) h hb hf ops =
-    let caller : HasWords f = head HasWords f fs hf in
+    let caller : HasWords f = All-head HasWords f fs hf in
     let pushed_on : HasWords (record f { operands = y ∷ f.operands }) =
-    record { locals = caller.locals; operands = All-cons IsWord y f.operands (head IsWord y rest ops) caller.operands; back = caller.back } in
-    record { frames = All-cons HasWords (record f { operands = y ∷ f.operands }) fs pushed_on (tail HasWords f fs hf); at = hb }
+    record { locals = caller.locals; operands = All-cons IsWord y f.operands (All-head IsWord y rest ops) caller.operands; back = caller.back } in
+    record { frames = All-cons HasWords (record f { operands = y ∷ f.operands }) fs pushed_on (All-tail HasWords f fs hf); at = hb }
 
 onto_words : (ps : List ℕ) (locals : List (Option ℕ)) → All IsWord ps → All IsSet locals → All IsSet (onto ps locals)
 onto_words [] locals hp hl = hl
-onto_words (p ∷ ps) locals hp hl = onto_words ps (Some p ∷ locals) (tail IsWord p ps hp) (All-cons IsSet (Some p) locals (head IsWord p ps hp) hl)
+onto_words (p ∷ ps) locals hp hl = onto_words ps (Some p ∷ locals) (All-tail IsWord p ps hp) (All-cons IsSet (Some p) locals (All-head IsWord p ps hp) hl)
 
 in_method_words : (s : State) (m : Method) (n : ℕ) → AreWords s → IsWord (s.at + 3) → IsWord (m.entry + 4) → AreWords (in_method s m n)
 in_method_words s m n h there entry =
@@ -201,7 +195,7 @@ next_word (b ∷ bytes) = omega arith
 given_words : (s : State) (operands : List ℕ) → AreWords s → All IsWord operands → IsWord (s.at + 1) → Keeps (given_out s operands)
 given_words s [] h ops there = tt
 given_words s (y ∷ rest) h ops there =
-    let next : AreWords (moved s rest (s.at + 1)) = moved_words s rest (s.at + 1) h (tail IsWord y rest ops) there in
+    let next : AreWords (moved s rest (s.at + 1)) = moved_words s rest (s.at + 1) h (All-tail IsWord y rest ops) there in
     record { frames = next.frames; at = there }
 
 byte_word : (z : ℤ) → FitsSigned w8 z → IsWord (word_of z)
