@@ -4,6 +4,7 @@ use Rattle.std.specs.Prelude.{slice_get}
 use Rattle.std.specs.Option.{option_map}
 use Rattle.std.specs.Int.{w8, w16, cast_signed}
 use Rattle.std.proofs.lemmas.Bool.{cases_lt, lt-ltb}
+use Rattle.std.proofs.lemmas.Option.{same_Some}
 use Rattle.machine_words.specs.Arithmetic.{wrap, plus}
 use Rattle.console_port.specs.Map.{IsMap}
 use Rattle.ijvm_instr.specs.declared.instr.Instr.{Instr}
@@ -83,9 +84,6 @@ pub record Spot (l : Layout) (a : Arrival) : Type 0 where
   pub unit_is : a.unit ≡ unit_of (entry l) (chunk_of s)
   pub unset_is : a.unset ≡ None
 
-some_one : {A : Type 0} (x y : A) → Some x ≡ Some y → x ≡ y
-some_one x y e = cc
-
 -- What the instructions have in common.
 
 block_main : (c : Chunk) → IsBlock c → IsMain c
@@ -122,7 +120,7 @@ unit_method e Subtract x h = cc
 unit_method e Call x h = cc
 unit_method e Skip x h = cc
 unit_method e Last x h = cc
-unit_method e Method x h = (sym (some_one e x h), refl)
+unit_method e Method x h = (sym (same_Some e x h), refl)
 
 -- the first instruction of a piece of main
 abbrev head : Chunk → Stop
@@ -155,7 +153,7 @@ leaves z Method4 e h = cc
 leaves z s e h = cc
 
 only_jump : (z : ℤ) (s : Stop) (o : ℤ) → HasJump (row_at z s).flow o → (s ≡ Skip2) × (o ≡ cast_signed w16 6)
-only_jump z Skip2 o h = (refl, sym (some_one _ _ h))
+only_jump z Skip2 o h = (refl, sym (same_Some _ _ h))
 only_jump z s o h = cc
 
 only_call : (z : ℤ) (s : Stop) (k : ℕ) → (row_at z s).flow ≡ flows.Call k → (s ≡ Call3) × (k ≡ 1)
@@ -167,8 +165,8 @@ only_return z Method4 h = refl
 only_return z s h = cc
 
 constant_few : (z : ℤ) (s : Stop) (k : ℕ) → (row_at z s).constant ≡ Some k → k < 2
-constant_few z Call1 k h = let e : 0 ≡ k = some_one 0 k h in omega arith
-constant_few z Call3 k h = let e : 1 ≡ k = some_one 1 k h in omega arith
+constant_few z Call1 k h = let e : 0 ≡ k = same_Some 0 k h in omega arith
+constant_few z Call3 k h = let e : 1 ≡ k = same_Some 1 k h in omega arith
 constant_few z s k h = cc
 
 main_names : (z : ℤ) (s : Stop) (k : ℕ) → IsMain (chunk_of s) → Names (row_at z s) k → k ≡ 0
@@ -297,7 +295,7 @@ row_there : (l : Layout) (a : Arrival) (p : Spot l a) (r : Row) → HasRow l.ima
 row_there l a p r h =
     let c = l.code p.i p.s p.within p.chunk in
     let same : Some h.0 ≡ Some (instr_of c.0 p.s) = sym h.1 ∙ (ap (instr_at l.image.text) p.at_is ∙ c.1) in
-    (c.0, h.2 ∙ ap row_of (some_one h.0 (instr_of c.0 p.s) same))
+    (c.0, h.2 ∙ ap row_of (same_Some h.0 (instr_of c.0 p.s) same))
 
 callee_is : (l : Layout) → callee l.image 1 ≡ Some (record { entry = entry l; params = params l.image.text (entry l); others = others l.image.text (entry l) })
 callee_is l =
@@ -309,8 +307,8 @@ callee_is l =
 need_is : (l : Layout) (z : ℤ) (s : Stop) (need : ℕ) → need_of l.image (row_at z s).needs (row_at z s).flow ≡ Some need → need ≡ need_at s
 need_is l z Call3 need e =
     let two : need_of l.image 0 (flows.Call 1) ≡ Some (params l.image.text (entry l)) = ap (option_map (λ (m : MethodView). m.params)) (callee_is l) in
-    sym (some_one _ need (sym two ∙ e)) ∙ l.params_are
-need_is l z s need e = sym (some_one _ need e)
+    sym (same_Some _ need (sym two ∙ e)) ∙ l.params_are
+need_is l z s need e = sym (same_Some _ need e)
 
 -- a path goes on to the next instruction
 next_spot : (l : Layout) (a b : Arrival) (p : Spot l a) (z : ℤ) (need : ℕ) → HasNext (row_at z p.s).flow → b.at ≡ a.at + size_of (row_at z p.s) → need ≡ need_at p.s →
@@ -396,7 +394,7 @@ called_entry : (l : Layout) (z : ℤ) (s : Stop) (k e : ℕ) → (row_at z s).fl
 called_entry l z s k e call is =
     let one : k ≡ 1 = (only_call z s k call).1 in
     let pool : slice_get l.image.pool 1 ≡ Some (entry l) = ap (λ (p : List ℕ). slice_get p 1) l.pool in
-    some_one e (entry l) (sym is ∙ (ap (slice_get l.image.pool) one ∙ pool))
+    same_Some e (entry l) (sym is ∙ (ap (slice_get l.image.pool) one ∙ pool))
 
 enters_spot : (l : Layout) (a b : Arrival) (p : Spot l a) (z : ℤ) (need e : ℕ) → Enters l.image a b (row_at z p.s) need e → Spot l b
 enters_spot l a b p z need e g =
@@ -549,7 +547,7 @@ same_stop l a b p q e =
     let at = site l p.i q.i (place_of p.s) (place_of q.s) p.within q.within inside_p inside_q (sym p.at_is ∙ (e ∙ q.at_is)) in
     let chunks : chunk_of p.s ≡ chunk_of q.s = p.chunk ∙ (ap l.kind at.0 ∙ sym q.chunk) in
     let first : owner (chunk_of p.s) (place_of p.s) ≡ owner (chunk_of q.s) (place_of q.s) = ap (λ (c : Chunk). owner c (place_of p.s)) chunks ∙ ap (owner (chunk_of q.s)) at.1 in
-    some_one p.s q.s (sym (owned_first p.s) ∙ (first ∙ owned_first q.s))
+    same_Some p.s q.s (sym (owned_first p.s) ∙ (first ∙ owned_first q.s))
 
 -- what takes up a byte, by whose byte it is
 abbrev piece_of : ℕ → ℕ → Option Stop → Piece
