@@ -4,11 +4,9 @@ use Rattle.std.specs.Prelude.{slice_get}
 use Rattle.std.proofs.lemmas.Option.{slice_get_within, get_or_from_slice_get, slice_get-get_or}
 use Rattle.std.proofs.Math.ListN.{get_or-append}
 use Rattle.std.proofs.Math.Seq.{get_or-append_seam}
+use Rattle.std.proofs.lemmas.Bool.{cases_lt}
 use Rattle.ijvm_image.specs.Image.{ImageView}
 use Rattle.cli_profile.specs.Rows.{AreRows, IsRow}
-
-where_is : (k n : ℕ) → k < n + 1 → (k < n) ⊎ (k ≡ n)
-where_is k n h = grind arith
 
 -- a member of a list with one more is of the list, or is the one more
 last_or_before : (xs : List ℕ) (x k y : ℕ) → slice_get (xs ++ x ∷ []) k ≡ Some y → (slice_get xs k ≡ Some y) ⊎ ((k ≡ length xs) × (x ≡ y))
@@ -16,9 +14,9 @@ last_or_before xs x k y h =
     let within : k < length (xs ++ x ∷ []) = slice_get_within (xs ++ x ∷ []) k y h in
     let read : get_or (xs ++ x ∷ []) k y ≡ y = get_or_from_slice_get (xs ++ x ∷ []) k y y h in
     let long : length (xs ++ x ∷ []) ≡ length xs + 1 = length-append xs (x ∷ []) in
-    elim (where_is k (length xs) (omega arith)) [
+    elim (cases_lt k (length xs)) [
       | inl before ↦ inl (slice_get-get_or xs k y before ∙ ap Some (sym (get_or-append xs (x ∷ []) y k before) ∙ read))
-      | inr here ↦ inr (here, sym (get_or-append_seam xs x [] y) ∙ subst (λ (n : ℕ). get_or (xs ++ x ∷ []) n y ≡ y) here read)
+      | inr past ↦ let here : k ≡ length xs = omega arith in inr (here, sym (get_or-append_seam xs x [] y) ∙ subst (λ (n : ℕ). get_or (xs ++ x ∷ []) n y ≡ y) here read)
     ]
 
 -- none
