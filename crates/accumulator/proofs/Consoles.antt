@@ -1,7 +1,6 @@
 -- Why an access of the machine fails: its words read and write the console where the memory ends before it.
-use Rattle.std.proofs.Common.{◌≡◌, ℕ, ◌%◌, ◌≤◌, ◌==◌, true, false, List, length, Option, None, inl, inr, refl, sym, subst, arith}
-use Rattle.std.specs.Prelude.{nat_lt}
-use Rattle.std.proofs.lemmas.Bool.Decides.{nat_tests}
+use Rattle.std.proofs.Common.{◌≡◌, ℕ, ◌%◌, ◌≤◌, ◌==◌, true, false, List, length, Option, None, inl, inr, refl, sym, subst}
+use Rattle.std.proofs.lemmas.Bool.{le-ltb}
 use Rattle.console_port.specs.View.{BusView}
 use Rattle.console_port.specs.World.{World, console_at, untaken_after, given_after, write_refusal}
 use Rattle.console_port.specs.Console.{IsFault}
@@ -16,25 +15,16 @@ module _ (word : ℕ) (s : Cells) where
   module _ (w : World) where
     reading : length w.words ≤ console_at → has_read word ≡ true → ReadsConsole meaning word s w
     unfolding untaken_after
-    reading behind read = record { takes = λ input. rw (read, off) refl }
-      where
-        off : nat_lt console_at (length w.words) ≡ false
-        off = grind (arith, nat_tests)
+    reading behind read = let off = le-ltb console_at (length w.words) behind in record { takes = λ input. rw (read, off) refl }
 
     writing : length w.words ≤ console_at → has_read word ≡ false → has_write word ≡ true → WritesConsole meaning word s w
     unfolding given_after
-    writing behind read write = record { byte = s.acc % 256; gives = rw (read, write, off) refl }
-      where
-        off : nat_lt console_at (length w.words) ≡ false
-        off = grind (arith, nat_tests)
+    writing behind read write = let off = le-ltb console_at (length w.words) behind in record { byte = s.acc % 256; gives = rw (read, write, off) refl }
 
     storing : length w.words ≤ s.acc → has_read word ≡ false → has_write word ≡ false → has_fetch word ≡ false → write_refusal (length w.words) s.acc ≡ None →
         WritesConsole meaning word s w
     unfolding given_after
-    storing behind read write fetch clear = record { byte = s.acc % 256; gives = rw (read, write, fetch, clear, off) refl }
-      where
-        off : nat_lt s.acc (length w.words) ≡ false
-        off = grind (arith, nat_tests)
+    storing behind read write fetch clear = let off = le-ltb s.acc (length w.words) behind in record { byte = s.acc % 256; gives = rw (read, write, fetch, clear, off) refl }
 
   module _ (left held : Option (List ℕ)) (bus : BusView) (e : BusFault) where
     by_writing : ((w : World) → w.words ≡ bus.words → WritesConsole meaning word s w) → e ≡ WriteFault → IsErrOfStep meaning word s left held bus e
