@@ -12,7 +12,7 @@ use Rattle.machine_words.specs.declared.machine.Machine.TheVariants.{Mic1}
 use Rattle.ijvm_instr.specs.declared.instr.Instr.{Instr}
 use Rattle.ijvm_run.specs.Cost.{cost}
 use Rattle.ijvm_paths.specs.Accepted.{VerifiedView}
-use Rattle.ijvm_simulation.specs.Verified.{Loads}
+use Rattle.ijvm_simulation.specs.Verified.{IsNext, Loads}
 use Rattle.mic1_interpreter.proofs.Shipped.{shipped, HasStatements}
 use Rattle.mic1_interpreter.specs.Stands.{Stands}
 use Rattle.mic1_interpreter.proofs.Guided.{clocked, IsSmooth, pass-clocked, outcome_is, step-refused}
@@ -131,6 +131,10 @@ map_of v o loads = elim loads.accepted.map_is [
   | inl e ↦ let long : length o.words ≡ v.map.stack_end = loads.long in record { low = omega (arith, e); high = omega (arith, e); near = omega (arith, e) }
   | inr e ↦ let long : length o.words ≡ v.map.stack_end = loads.long in record { low = omega (arith, e); high = omega (arith, e); near = omega (arith, e) }
 ]
+
+-- and an instruction of it stands in the first 65,536 bytes
+pub next_inside : {v : VerifiedView} {o : Origin} {s : State} {i : Instr} → Loads v o → IsNext v o s i → s.at < 0x10000
+next_inside loads n = omega (arith, n.begins, loads.image.limits.text_fits)
 
 pub begins : (o : Origin) (s : State) (m : Micro) (w : World) → Stands o s m w → HasWord mic1_meaning m
 begins o s m w h =

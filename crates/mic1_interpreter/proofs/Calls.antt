@@ -2,6 +2,7 @@
 use Rattle.std.proofs.Common.{◌≡◌, ℕ, suc, ◌+◌, ◌-◌, ◌*◌, ◌<◌, ◌≤◌, Some, None, Option, List, [], ◌∷◌, ◌++◌, length, take, drop, replicate, refl, arith, sym, ◌∙◌, ap, ap₂, subst, inl, inr, length-set}
 use Rattle.std.specs.Prelude.{slice_index, slice_set, bit_or}
 use Rattle.std.proofs.lemmas.Bool.{cases_lt}
+use Rattle.std.proofs.lemmas.Option.{same_Some}
 use Rattle.machine_words.specs.declared.machine.Machine.TheVariants.{Mic1}
 use Rattle.machine_words.specs.Arithmetic.{wrap, plus, minus, next}
 use Rattle.console_port.specs.World.{World, Refusal, StackLimit, read_value, after_read, byte_in, write_refusal, fetch_refusal}
@@ -24,15 +25,12 @@ use Rattle.ijvm_simulation.specs.Law.{Moves, Overruns, Takes}
 use Rattle.ijvm_simulation.specs.Groups.{IsCall}
 use Rattle.mic1_interpreter.specs.Stands.{Stands}
 use Rattle.mic1_interpreter.proofs.Shipped.{HasStatements}
-use Rattle.mic1_interpreter.proofs.Boundaries.{ReachesBoundary, comes, Counts, counts, at_boundary, at_text, map_of, moves, overruns}
+use Rattle.mic1_interpreter.proofs.Boundaries.{ReachesBoundary, comes, Counts, counts, at_boundary, at_text, map_of, next_inside, moves, overruns}
 use Rattle.mic1_interpreter.proofs.Words.{byte_bound, byte_kept, fetch_ok, minus_is, next_is, pair_is, plus_is}
 
 -- what a method's frame says of the words below its operands
 link_of : (words : List ℕ) (lv many caller r : ℕ) (back : Option ℕ) → back ≡ Some r → IsLinked words lv many caller back → IsLinked words lv many caller (Some r)
 link_of words lv many caller r back e h = subst (λ (b : Option ℕ). IsLinked words lv many caller b) e h
-
-some_same : (x y : ℕ) → Some x ≡ Some y → x ≡ y
-some_same x y e = cc
 
 -- The terms of the words of INVOKEVIRTUAL.
 module _ (stack_end : ℕ) (m : Micro) (w : World) where
@@ -185,22 +183,19 @@ module _ (program : List ℕ) (has : HasStatements program) (o : Origin) (v : Ve
   abbrev map : IsMapEnd (length o.words)
   map = map_of v o loads
 
-  inside : (s : State) (i : Instr) → IsNext v o s i → s.at < 0x10000
-  inside s i n = omega (arith, n.begins, loads.image.limits.text_fits)
-
   entering_at : (s : State) (q : Moment Micro) (k : ℕ) (m : Method) (n : ℕ) → Stands o s q.state q.world → IsNext v o s (Invokevirtual k) → IsMethod v o k m → m.params ≡ suc n → (a : Arguments n s.running.operands) →
       Entering o s q.state q.world k m.entry n m.others (drop (n + 1) s.running.operands)
   entering_at s q k m n h next f params a =
-      entering program has o map law s q.state q.world q.stalls h (inside s (Invokevirtual k) next) k m.entry n m.others (drop (n + 1) s.running.operands)
+      entering program has o map law s q.state q.world q.stalls h (next_inside loads next) k m.entry n m.others (drop (n + 1) s.running.operands)
       next.reads.1 f.constant.small f.constant.there f.whole (omega (arith, f.params_are)) f.others_are a.depth
 
   goes : (s to : State) (q : Moment Micro) (i : Instr) → IsCall i → Fine v s → IsNext v o s i → Stands o s q.state q.world → Went v.image v.map.stack_end s to i →
       Moves mic1_meaning program (Stands o) o.given q (cost v.image Mic1 i s) to
   goes s to q Ireturn is fine n h went =
       let r = n.finds.returns refl in
-      let same : r.0 ≡ went.back = some_same r.0 went.back (sym r.3 ∙ went.back_is) in
+      let same : r.0 ≡ went.back = same_Some r.0 went.back (sym r.3 ∙ went.back_is) in
       moves program o v s to _ q Ireturn 8 h refl (omega arith) went.with_top.leads
-      (ireturn program has o map law s q.state q.world q.stalls h (inside s Ireturn n) went.with_top.top went.back went.with_top.rest went.caller went.above n.reads went.with_top.are went.back_is went.callers_are
+      (ireturn program has o map law s q.state q.world q.stalls h (next_inside loads n) went.with_top.top went.back went.with_top.rest went.caller went.above n.reads went.with_top.are went.back_is went.callers_are
       (omega (arith, same, r.5, loads.image.limits.text_fits)))
   goes s to q (Invokevirtual k) is fine n h went =
       let f : IsMethod v o k went.method = law.method v o loads k went.method went.found in
@@ -212,7 +207,7 @@ module _ (program : List ℕ) (has : HasStatements program) (o : Origin) (v : Ve
       subst (λ (j : ℕ). Entering o s q.state q.world k went.method.entry j went.method.others rest) (sym a.long) en in
       let many : length (onto ps (replicate went.method.others None)) ≡ length ps + went.method.others = law.locals ps went.method.others in
       moves program o v s to _ q (Invokevirtual k) 22 h refl (omega arith) went.leads.goes
-      (invoke program has o map law s q.state q.world q.stalls h (inside s (Invokevirtual k) n) k went.method.entry went.method.others ps a.o rest n.reads.0 en' f.whole a.are
+      (invoke program has o map law s q.state q.world q.stalls h (next_inside loads n) k went.method.entry went.method.others ps a.o rest n.reads.0 en' f.whole a.are
       (omega (arith, went.leads.fits, loads.long)))
   goes s to q i is fine n h went = absurd is
 
@@ -226,7 +221,7 @@ module _ (program : List ℕ) (has : HasStatements program) (o : Origin) (v : Ve
       let ps : List ℕ = take over.others s.running.operands in
       let rest : List ℕ = drop (over.others + 1) s.running.operands in
       let en : Entering o s q.state q.world k over.method.entry over.others over.method.others rest = entering_at s q k over.method over.others h n f over.params args in
-      let c : Counts o s q.state q.world = counts o map s q.state q.world h (inside s (Invokevirtual k) n) in
+      let c : Counts o s q.state q.world = counts o map s q.state q.world h (next_inside loads n) in
       let op : q.state.mbr ≡ 0xB6 = h.ready.mbr ∙ n.reads.0 in
       let bottom : 0x8000 ≤ base s.callers = law.above s.callers in
       let near : length o.words ≤ 0x20000 = map.near in

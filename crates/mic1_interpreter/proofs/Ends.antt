@@ -1,7 +1,6 @@
 -- HALT and ERR.
-use Rattle.std.proofs.Common.{◌≡◌, ℕ, ◌<◌, List, [], ◌∷◌, length, refl, arith, ◌∙◌, ap, inr}
+use Rattle.std.proofs.Common.{◌≡◌, ℕ, List, [], ◌∷◌, length, refl, arith, ◌∙◌, ap, inr}
 use Rattle.machine_words.specs.declared.machine.Machine.TheVariants.{Mic1}
-use Rattle.ijvm_instr.specs.declared.instr.Instr.{Instr}
 use Rattle.ijvm_instr.specs.declared.instr.Instr.TheVariants.{Err, Halt}
 use Rattle.ijvm_run.specs.Frames.{State}
 use Rattle.ijvm_run.specs.Cost.{cost}
@@ -16,18 +15,15 @@ use Rattle.ijvm_simulation.specs.Law.{Stops, HaltsAndErrs}
 use Rattle.mic1_interpreter.specs.Stands.{Stands}
 use Rattle.mic1_interpreter.proofs.Shipped.{HasStatements}
 use Rattle.mic1_interpreter.proofs.Guided.{clocked, pass-clocked}
-use Rattle.mic1_interpreter.proofs.Boundaries.{Counts, counts, at_main, starts, begins, map_of}
+use Rattle.mic1_interpreter.proofs.Boundaries.{Counts, counts, at_main, starts, begins, map_of, next_inside}
 
 module _ (program : List ℕ) (has : HasStatements program) (o : Origin) (v : VerifiedView) (loads : Loads v o) where
   abbrev map : IsMapEnd (length o.words)
   map = map_of v o loads
 
-  inside : (s : State) (i : Instr) → IsNext v o s i → s.at < 0x10000
-  inside s i n = omega (arith, n.begins, loads.image.limits.text_fits)
-
   halts : (s : State) (q : Moment Micro) → Fine v s → IsNext v o s Halt → Stands o s q.state q.world → Stops mic1_meaning program (Stands o) o.given q (cost v.image Mic1 Halt s) 0x0FF
   halts s q fine n h =
-      let c : Counts o s q.state q.world = counts o map s q.state q.world h (inside s Halt n) in
+      let c : Counts o s q.state q.world = counts o map s q.state q.world h (next_inside loads n) in
       let op : q.state.mbr ≡ 0xFF = h.ready.mbr ∙ n.reads in
       inr (record {
         n = 0;
@@ -44,7 +40,7 @@ module _ (program : List ℕ) (has : HasStatements program) (o : Origin) (v : Ve
 
   errs : (s : State) (q : Moment Micro) → Fine v s → IsNext v o s Err → Stands o s q.state q.world → Stops mic1_meaning program (Stands o) o.given q (cost v.image Mic1 Err s) 0x0FE
   errs s q fine n h =
-      let c : Counts o s q.state q.world = counts o map s q.state q.world h (inside s Err n) in
+      let c : Counts o s q.state q.world = counts o map s q.state q.world h (next_inside loads n) in
       let op : q.state.mbr ≡ 0xFE = h.ready.mbr ∙ n.reads in
       inr (record {
         n = 0;
