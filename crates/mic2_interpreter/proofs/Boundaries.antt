@@ -14,7 +14,7 @@ use Rattle.machine_words.specs.declared.machine.Machine.TheVariants.{Mic2}
 use Rattle.ijvm_instr.specs.declared.instr.Instr.{Instr}
 use Rattle.ijvm_run.specs.Cost.{cost}
 use Rattle.ijvm_paths.specs.Accepted.{VerifiedView}
-use Rattle.ijvm_simulation.specs.Verified.{Loads}
+use Rattle.ijvm_simulation.specs.Verified.{IsNext, Loads}
 use Rattle.mic2_interpreter.specs.Stands.{Stands}
 use Rattle.mic2_interpreter.specs.Stalls.{MovesWithStalls}
 use Rattle.mic2_interpreter.proofs.Shipped.{shipped, HasStatements}
@@ -179,6 +179,10 @@ map_of v o loads = elim loads.accepted.map_is [
   | inl e ↦ let long : length o.words ≡ v.map.stack_end = loads.long in record { low = omega (arith, e); high = omega (arith, e); near = omega (arith, e) }
   | inr e ↦ let long : length o.words ≡ v.map.stack_end = loads.long in record { low = omega (arith, e); high = omega (arith, e); near = omega (arith, e) }
 ]
+
+-- and an instruction of it stands in the first 65,536 bytes
+pub next_inside : {v : VerifiedView} {o : Origin} {s : State} {i : Instr} → Loads v o → IsNext v o s i → s.at < 0x10000
+next_inside loads n = omega (arith, n.begins, loads.image.limits.text_fits)
 
 -- no instruction but HALT and ERR begins at an end
 pub begins : (o : Origin) (s : State) (m : Micro) (w : World) (code : ℕ) → Stands o s m w → byte_in o.words s.at ≡ code → (code == 255) ≡ false → (code == 254) ≡ false → HasWord mic2_meaning m

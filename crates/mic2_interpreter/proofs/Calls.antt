@@ -2,6 +2,7 @@
 use Rattle.std.proofs.Common.{◌≡◌, ℕ, suc, ◌+◌, ◌-◌, ◌*◌, ◌<◌, ◌≤◌, Bool, true, false, Some, None, Option, List, [], ◌∷◌, ◌++◌, length, take, drop, replicate, ◌==◌, ◌%◌, refl, arith, sym, ◌∙◌, ap, ap₂, subst, inl, inr, add-zero, length-set}
 use Rattle.std.specs.Prelude.{slice_index, slice_set, if◌then◌else◌}
 use Rattle.std.proofs.lemmas.Bool.{cases_lt, cases_Bool}
+use Rattle.std.proofs.lemmas.Option.{same_Some}
 use Rattle.machine_words.specs.declared.machine.Machine.TheVariants.{Mic2}
 use Rattle.machine_words.specs.Arithmetic.{plus, minus, next}
 use Rattle.console_port.specs.World.{World, StackLimit, read_value, after_read, byte_in, write_refusal}
@@ -25,15 +26,12 @@ use Rattle.mic2_interpreter.specs.Stands.{Stands}
 use Rattle.mic2_interpreter.specs.Stalls.{MovesWithStalls, TakesWithStalls, stalls_of}
 use Rattle.mic2_interpreter.proofs.Shipped.{HasStatements}
 use Rattle.mic2_interpreter.proofs.Queue.{Beat, Goes, Waits, WaitsLate, WaitsOn}
-use Rattle.mic2_interpreter.proofs.Boundaries.{ReachesBoundary, comes, steps, Counts, counts, Place, place_at, place_on, pair_at, at_boundary, map_of, moves, overruns}
+use Rattle.mic2_interpreter.proofs.Boundaries.{ReachesBoundary, comes, steps, Counts, counts, Place, place_at, place_on, pair_at, at_boundary, map_of, next_inside, moves, overruns}
 use Rattle.mic2_interpreter.proofs.Words.{byte_bound, minus_is, next_is, plus_is}
 
 -- what a method's frame says of the words below its operands
 link_of : (words : List ℕ) (lv many caller r : ℕ) (back : Option ℕ) → back ≡ Some r → IsLinked words lv many caller back → IsLinked words lv many caller (Some r)
 link_of words lv many caller r back e h = subst (λ (b : Option ℕ). IsLinked words lv many caller b) e h
-
-some_same : (x y : ℕ) → Some x ≡ Some y → x ≡ y
-some_same x y e = cc
 
 -- The terms of the words of INVOKEVIRTUAL.
 module _ (o : Origin) (m : Micro) (w : World) where
@@ -212,13 +210,10 @@ module _ (program : List ℕ) (has : HasStatements program) (o : Origin) (v : Ve
   abbrev map : IsMapEnd (length o.words)
   map = map_of v o loads
 
-  inside : (s : State) (i : Instr) → IsNext v o s i → s.at < 0x10000
-  inside s i n = omega (arith, n.begins, loads.image.limits.text_fits)
-
   entering_at : (s : State) (q : Moment Micro) (k : ℕ) (m : Method) (n : ℕ) → Stands o s q.state q.world → IsNext v o s (Invokevirtual k) → IsMethod v o k m → m.params ≡ suc n → (a : Arguments n s.running.operands) →
       Entering o s q.state q.world k m.entry n m.others (drop (n + 1) s.running.operands)
   entering_at s q k m n h next f params a =
-      entering program has o map law s q.state q.world q.stalls h (inside s (Invokevirtual k) next) k m.entry n m.others (drop (n + 1) s.running.operands)
+      entering program has o map law s q.state q.world q.stalls h (next_inside loads next) k m.entry n m.others (drop (n + 1) s.running.operands)
       next.reads.1 f.constant.small f.constant.there f.whole (omega (arith, f.params_are)) f.others_are a.depth
 
   -- the cycles of a call by its entry
@@ -237,9 +232,9 @@ module _ (program : List ℕ) (has : HasStatements program) (o : Origin) (v : Ve
       MovesWithStalls program o q (cost v.image Mic2 i s) (stalls_of v.image i) to
   goes s to q Ireturn is fine n h went =
       let r = n.finds.returns refl in
-      let same : r.0 ≡ went.back = some_same r.0 went.back (sym r.3 ∙ went.back_is) in
+      let same : r.0 ≡ went.back = same_Some r.0 went.back (sym r.3 ∙ went.back_is) in
       moves program o v s to _ q Ireturn 7 0 0xAC h n.reads refl refl refl (omega arith) went.with_top.leads
-      (ireturn program has o map law s q.state q.world q.stalls h (inside s Ireturn n) went.with_top.top went.back went.with_top.rest went.caller went.above n.reads went.with_top.are went.back_is went.callers_are
+      (ireturn program has o map law s q.state q.world q.stalls h (next_inside loads n) went.with_top.top went.back went.with_top.rest went.caller went.above n.reads went.with_top.are went.back_is went.callers_are
       (omega (arith, same, r.5, loads.image.limits.text_fits)))
   goes s to q (Invokevirtual k) is fine n h went =
       let f : IsMethod v o k went.method = law.method v o loads k went.method went.found in
@@ -251,7 +246,7 @@ module _ (program : List ℕ) (has : HasStatements program) (o : Origin) (v : Ve
       subst (λ (j : ℕ). Entering o s q.state q.world k went.method.entry j went.method.others rest) (sym a.long) en in
       let many : length (onto ps (replicate went.method.others None)) ≡ length ps + went.method.others = law.locals ps went.method.others in
       invoked s to q k went.method.entry (went.method.entry % 4 == 3) _ h n.reads.0 f.named refl went.leads.goes
-      (invoke program has o map law s q.state q.world q.stalls h (inside s (Invokevirtual k) n) k went.method.entry went.method.others ps a.o rest (went.method.entry % 4 == 3) refl n.reads.0 en' f.whole a.are
+      (invoke program has o map law s q.state q.world q.stalls h (next_inside loads n) k went.method.entry went.method.others ps a.o rest (went.method.entry % 4 == 3) refl n.reads.0 en' f.whole a.are
       (omega (arith, went.leads.fits, loads.long)))
   goes s to q i is fine n h went = absurd is
 
@@ -265,7 +260,7 @@ module _ (program : List ℕ) (has : HasStatements program) (o : Origin) (v : Ve
       let ps : List ℕ = take over.others s.running.operands in
       let rest : List ℕ = drop (over.others + 1) s.running.operands in
       let en : Entering o s q.state q.world k over.method.entry over.others over.method.others rest = entering_at s q k over.method over.others h n f over.params args in
-      let c : Counts o s q.state = counts o s q.state q.world h (inside s (Invokevirtual k) n) in
+      let c : Counts o s q.state = counts o s q.state q.world h (next_inside loads n) in
       let bottom : 0x8000 ≤ base s.callers = law.above s.callers in
       let near : length o.words ≤ 0x20000 = map.near in
       let many : length (onto ps (replicate over.method.others None)) ≡ length ps + over.method.others = law.locals ps over.method.others in

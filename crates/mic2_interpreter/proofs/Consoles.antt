@@ -23,7 +23,7 @@ use Rattle.mic2_interpreter.specs.Stands.{Stands}
 use Rattle.mic2_interpreter.specs.Stalls.{MovesWithStalls, TakesWithStalls, stalls_of}
 use Rattle.mic2_interpreter.proofs.Shipped.{HasStatements}
 use Rattle.mic2_interpreter.proofs.Queue.{Goes}
-use Rattle.mic2_interpreter.proofs.Boundaries.{ReachesBoundary, comes, steps, Counts, counts, at_boundary, map_of, moves, overruns}
+use Rattle.mic2_interpreter.proofs.Boundaries.{ReachesBoundary, comes, steps, Counts, counts, at_boundary, map_of, next_inside, moves, overruns}
 use Rattle.mic2_interpreter.proofs.Words.{console_above}
 
 module _ (program : List ℕ) (has : HasStatements program) (o : Origin) (map : IsMapEnd (length o.words)) (law : StackLaw) (s : State) (m : Micro) (w : World) (k : ℕ) (h : Stands o s m w) (inside : s.at < 0x10000) where
@@ -68,21 +68,18 @@ module _ (program : List ℕ) (has : HasStatements program) (o : Origin) (v : Ve
   abbrev map : IsMapEnd (length o.words)
   map = map_of v o loads
 
-  inside : (s : State) (i : Instr) → IsNext v o s i → s.at < 0x10000
-  inside s i n = omega (arith, n.begins, loads.image.limits.text_fits)
-
   goes : (s to : State) (q : Moment Micro) (i : Instr) → IsOfConsole i → Fine v s → IsNext v o s i → Stands o s q.state q.world → Went v.image v.map.stack_end s to i →
       MovesWithStalls program o q (cost v.image Mic2 i s) (stalls_of v.image i) to
   goes s to q In is fine n h went =
-      moves program o v s to _ q In 4 0 0xFC h n.reads refl refl refl (omega arith) went.goes (inp program has o map law s q.state q.world q.stalls h (inside s In n) n.reads (omega (arith, went.fits, loads.long)))
+      moves program o v s to _ q In 4 0 0xFC h n.reads refl refl refl (omega arith) went.goes (inp program has o map law s q.state q.world q.stalls h (next_inside loads n) n.reads (omega (arith, went.fits, loads.long)))
   goes s to q Out is fine n h went =
-      moves program o v s to _ q Out 6 0 0xFD h n.reads refl refl refl (omega arith) went.leads (out program has o map law s q.state q.world q.stalls h (inside s Out n) went.top went.rest n.reads went.are)
+      moves program o v s to _ q Out 6 0 0xFD h n.reads refl refl refl (omega arith) went.leads (out program has o map law s q.state q.world q.stalls h (next_inside loads n) went.top went.rest n.reads went.are)
   goes s to q i is fine n h went = absurd is
 
   limits : (s left : State) (q : Moment Micro) (i : Instr) → IsOfConsole i → Fine v s → IsNext v o s i → Stands o s q.state q.world → Overran v.image v.map.stack_end s left i →
       Overruns mic2_meaning program (Stands o) o.given q left
   limits s left q In is fine n h over =
-      let c : Counts o s q.state = counts o s q.state q.world h (inside s In n) in
+      let c : Counts o s q.state = counts o s q.state q.world h (next_inside loads n) in
       let p : IsConsoleAccess (length o.words) q.world = law.port (length o.words) q.world map h.holds.memory.long in
       let fault : write_refusal (length o.words) (next q.state.sp) ≡ Some (StackLimit (next q.state.sp)) =
       (law.boundary o s q.state.sp q.state.lv q.state.cpp q.state.tos q.world map h.holds).full (omega (arith, over.over, loads.long)) in

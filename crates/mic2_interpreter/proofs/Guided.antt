@@ -28,7 +28,8 @@ use Rattle.ijvm_simulation.specs.Stands.{IsMemory}
 use Rattle.ijvm_simulation.specs.Passes.{Moment, is_inside, outcome_at, stalls_at, last, onward, pass}
 use Rattle.ijvm_simulation.specs.Guesses.{address_behind, left_of}
 use Rattle.mic2_interpreter.proofs.Shipped.{shipped, HasStatements}
-use Rattle.mic2_interpreter.proofs.Units.{unit_at, have_after, byte_there, length-bytes, Fits, edge_stands, edge_allowed, jump_stands, jump_allowed}
+use Rattle.mic2_interpreter.proofs.Units.{unit_at, have_after, byte_there, Fits, edge_stands, edge_allowed, jump_stands, jump_allowed}
+use Rattle.mic2_interpreter.proofs.Places.{many_there}
 use Rattle.mic2_interpreter.proofs.Queue.{Held, Jumped, IsHeld, is_enough, held_after, held_fits, held_enough, held_edge, Beat, Goes, Waits, WaitsLate, WaitsOn, IsWait, held_waited, wait_short, wait_held}
 use Rattle.mic2_interpreter.proofs.Words.{wrap_small}
 
@@ -55,10 +56,6 @@ front_is : (origin : List ℕ) (pc have k : ℕ) → k < have → slice_index (u
 unfolding unit_at
 front_is origin pc have zero h = let e : pc + 0 ≡ pc = omega arith in byte_there origin pc have 0 h ∙ ap (byte_in origin) e
 front_is origin pc have (suc k) h = byte_there origin pc have (suc k) h
-
-many_is : (origin : List ℕ) (pc have : ℕ) → length (unit_at origin pc have).bytes ≡ have
-unfolding unit_at
-many_is origin pc have = length-bytes origin pc have
 
 -- what a side of the ALU is given, where the queue's bytes are these
 abbrev pub source_of : (ℕ → ℕ) → Option BusSource → Micro → ℕ
@@ -235,10 +232,10 @@ module _ (origin : List ℕ) where
   unit_allowed s m have x false map h few l l2 = edge_allowed top origin m.pc have (demand s) map h few l
 
   not_stalled : (s : Placed) (m : Micro) (have : ℕ) → demand s ≤ have → is_stalled s (standing origin m have) ≡ false
-  not_stalled s m have h = let e : length (unit_at origin m.pc have).bytes ≡ have = many_is origin m.pc have in rw e (grind (arith, nat_tests))
+  not_stalled s m have h = let e : length (unit_at origin m.pc have).bytes ≡ have = many_there origin m.pc have in rw e (grind (arith, nat_tests))
 
   is_short : (s : Placed) (m : Micro) (have : ℕ) → have < demand s → is_stalled s (standing origin m have) ≡ true
-  is_short s m have h = let e : length (unit_at origin m.pc have).bytes ≡ have = many_is origin m.pc have in rw e (grind (arith, nat_tests))
+  is_short s m have h = let e : length (unit_at origin m.pc have).bytes ≡ have = many_there origin m.pc have in rw e (grind (arith, nat_tests))
 
   -- the machine behind a step that does not stall
   abbrev there_of : Placed → List ℕ → Short → ℕ → Moment Micro

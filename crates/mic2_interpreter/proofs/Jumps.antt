@@ -26,7 +26,7 @@ use Rattle.mic2_interpreter.specs.Stands.{Stands}
 use Rattle.mic2_interpreter.specs.Stalls.{MovesWithStalls, TakesWithStalls, stalls_of}
 use Rattle.mic2_interpreter.proofs.Shipped.{HasStatements}
 use Rattle.mic2_interpreter.proofs.Queue.{Goes}
-use Rattle.mic2_interpreter.proofs.Boundaries.{ReachesBoundary, comes, steps, Counts, counts, Place, place_at, place_on, signed_pair_at, at_boundary, map_of, moves}
+use Rattle.mic2_interpreter.proofs.Boundaries.{ReachesBoundary, comes, steps, Counts, counts, Place, place_at, place_on, signed_pair_at, at_boundary, map_of, next_inside, moves}
 use Rattle.mic2_interpreter.proofs.Words.{before_is, plus_comm}
 
 -- where the words of goto come to
@@ -167,9 +167,6 @@ module _ (program : List ℕ) (has : HasStatements program) (o : Origin) (v : Ve
   abbrev map : IsMapEnd (length o.words)
   map = map_of v o loads
 
-  inside : (s : State) (i : Instr) → IsNext v o s i → s.at < 0x10000
-  inside s i n = omega (arith, n.begins, loads.image.limits.text_fits)
-
   -- the target of a jump
   target_is : (s : State) (z : ℤ) → word_of z ≡ signed_pair (byte_in o.words (s.at + 1)) (byte_in o.words (s.at + 2)) → jump o.words s.at ≡ target s.at z
   target_is s z e =
@@ -208,23 +205,23 @@ module _ (program : List ℕ) (has : HasStatements program) (o : Origin) (v : Ve
       let e : jump o.words s.at ≡ target s.at z = target_is s z n.reads.1 in
       let there : jump o.words s.at < 0x10000 = target_inside s z e (n.finds.inside (target s.at z) (inr (z, refl, refl))) in
       moves program o v s to _ q (Goto z) 3 0 0xA7 h n.reads.0 refl refl refl (omega arith) (ap (moved s s.running.operands) e ∙ went)
-      (go program has o map law s q.state q.world q.stalls h (inside s (Goto z) n) n.reads.0 there)
+      (go program has o map law s q.state q.world q.stalls h (next_inside loads n) n.reads.0 there)
   goes s to q (Ifeq z) is fine n h went =
       let e : jump o.words s.at ≡ target s.at z = target_is s z n.reads.1 in
       let there : jump o.words s.at < 0x10000 = target_inside s z e (n.finds.inside (target s.at z) (inr (z, refl, refl))) in
       let taken_is : tests (λ (y : ℕ). y == 0) s.running.operands ≡ (went.top == 0) = ap (tests (λ (y : ℕ). y == 0)) went.are in
       branched s to q (Ifeq z) z (went.top == 0) went.rest 0x99 h n.reads.0 refl refl e went.leads
       (λ t. ap (λ (b : Bool). if b then 8 else 6) (taken_is ∙ t)) (λ t. ap (λ (b : Bool). if b then 8 else 6) (taken_is ∙ t))
-      (λ t. ifeq_taken program has o map law s q.state q.world q.stalls h (inside s (Ifeq z) n) went.top went.rest n.reads.0 went.are t there)
-      (λ t. ifeq_not program has o map law s q.state q.world q.stalls h (inside s (Ifeq z) n) went.top went.rest n.reads.0 went.are t)
+      (λ t. ifeq_taken program has o map law s q.state q.world q.stalls h (next_inside loads n) went.top went.rest n.reads.0 went.are t there)
+      (λ t. ifeq_not program has o map law s q.state q.world q.stalls h (next_inside loads n) went.top went.rest n.reads.0 went.are t)
   goes s to q (Iflt z) is fine n h went =
       let e : jump o.words s.at ≡ target s.at z = target_is s z n.reads.1 in
       let there : jump o.words s.at < 0x10000 = target_inside s z e (n.finds.inside (target s.at z) (inr (z, refl, refl))) in
       let taken_is : tests is_negative s.running.operands ≡ is_negative went.top = ap (tests is_negative) went.are in
       branched s to q (Iflt z) z (is_negative went.top) went.rest 0x9B h n.reads.0 refl refl e went.leads
       (λ t. ap (λ (b : Bool). if b then 8 else 6) (taken_is ∙ t)) (λ t. ap (λ (b : Bool). if b then 8 else 6) (taken_is ∙ t))
-      (λ t. iflt_taken program has o map law s q.state q.world q.stalls h (inside s (Iflt z) n) went.top went.rest n.reads.0 went.are t there)
-      (λ t. iflt_not program has o map law s q.state q.world q.stalls h (inside s (Iflt z) n) went.top went.rest n.reads.0 went.are t)
+      (λ t. iflt_taken program has o map law s q.state q.world q.stalls h (next_inside loads n) went.top went.rest n.reads.0 went.are t there)
+      (λ t. iflt_not program has o map law s q.state q.world q.stalls h (next_inside loads n) went.top went.rest n.reads.0 went.are t)
   goes s to q (IfIcmpeq z) is fine n h went =
       let e : jump o.words s.at ≡ target s.at z = target_is s z n.reads.1 in
       let there : jump o.words s.at < 0x10000 = target_inside s z e (n.finds.inside (target s.at z) (inr (z, refl, refl))) in
@@ -234,8 +231,8 @@ module _ (program : List ℕ) (has : HasStatements program) (o : Origin) (v : Ve
       let lx : IsWord went.second = All-get_or IsWord (went.top ∷ went.second ∷ went.rest) 1 went.second (omega arith) words in
       compared s to q (IfIcmpeq z) z (went.second == went.top) went.rest 0x9F h n.reads.0 refl refl e went.leads
       (λ t. ap (λ (b : Bool). if b then 10 else 8) (taken_is ∙ t)) (λ t. ap (λ (b : Bool). if b then 10 else 8) (taken_is ∙ t))
-      (λ t. icmpeq_taken program has o map law s q.state q.world q.stalls h (inside s (IfIcmpeq z) n) went.top went.second went.rest n.reads.0 went.are ly lx t there)
-      (λ t. icmpeq_not program has o map law s q.state q.world q.stalls h (inside s (IfIcmpeq z) n) went.top went.second went.rest n.reads.0 went.are ly lx t)
+      (λ t. icmpeq_taken program has o map law s q.state q.world q.stalls h (next_inside loads n) went.top went.second went.rest n.reads.0 went.are ly lx t there)
+      (λ t. icmpeq_not program has o map law s q.state q.world q.stalls h (next_inside loads n) went.top went.second went.rest n.reads.0 went.are ly lx t)
   goes s to q i is fine n h went = absurd is
 
   limits : (s left : State) (q : Moment Micro) (i : Instr) → IsJump i → Fine v s → IsNext v o s i → Stands o s q.state q.world → Overran v.image v.map.stack_end s left i →

@@ -24,7 +24,7 @@ use Rattle.mic2_interpreter.specs.Stands.{Stands}
 use Rattle.mic2_interpreter.specs.Stalls.{MovesWithStalls, TakesWithStalls, stalls_of}
 use Rattle.mic2_interpreter.proofs.Shipped.{HasStatements}
 use Rattle.mic2_interpreter.proofs.Queue.{Goes}
-use Rattle.mic2_interpreter.proofs.Boundaries.{ReachesBoundary, comes, steps, Counts, counts, pair_at, signed_pair_at, at_boundary, map_of, moves, overruns}
+use Rattle.mic2_interpreter.proofs.Boundaries.{ReachesBoundary, comes, steps, Counts, counts, pair_at, signed_pair_at, at_boundary, map_of, next_inside, moves, overruns}
 use Rattle.mic2_interpreter.proofs.Words.{plus_is}
 
 module _ (program : List ℕ) (has : HasStatements program) (o : Origin) (map : IsMapEnd (length o.words)) (law : StackLaw) (s : State) (m : Micro) (w : World) (k : ℕ) (h : Stands o s m w) (inside : s.at < 0x10000) where
@@ -165,41 +165,38 @@ module _ (program : List ℕ) (has : HasStatements program) (o : Origin) (v : Ve
   abbrev map : IsMapEnd (length o.words)
   map = map_of v o loads
 
-  inside : (s : State) (i : Instr) → IsNext v o s i → s.at < 0x10000
-  inside s i n = omega (arith, n.begins, loads.image.limits.text_fits)
-
   goes : (s to : State) (q : Moment Micro) (i : Instr) → IsOfLocals i → Fine v s → IsNext v o s i → Stands o s q.state q.world → Went v.image v.map.stack_end s to i →
       MovesWithStalls program o q (cost v.image Mic2 i s) (stalls_of v.image i) to
   goes s to q (LdcW k) is fine n h went =
       let c : IsConstant o k went.value = law.constant v o loads k went.value went.found in
       moves program o v s to _ q (LdcW k) 2 0 0x13 h n.reads.0 refl refl refl (omega arith) went.leads.goes
-      (ldc_w program has o map law s q.state q.world q.stalls h (inside s (LdcW k) n) k went.value n.reads.0 n.reads.1 c.small c.there (omega (arith, went.leads.fits, loads.long)))
+      (ldc_w program has o map law s q.state q.world q.stalls h (next_inside loads n) k went.value n.reads.0 n.reads.1 c.small c.there (omega (arith, went.leads.fits, loads.long)))
   goes s to q (Iload k) is fine n h went =
       moves program o v s to _ q (Iload k) 2 0 0x15 h n.reads.0 refl refl refl (omega arith) went.leads.goes
-      (iload program has o map law s q.state q.world q.stalls h (inside s (Iload k) n) k went.value n.reads.0 n.reads.1 went.set (omega (arith, went.leads.fits, loads.long)))
+      (iload program has o map law s q.state q.world q.stalls h (next_inside loads n) k went.value n.reads.0 n.reads.1 went.set (omega (arith, went.leads.fits, loads.long)))
   goes s to q (Istore k) is fine n h went =
       moves program o v s to _ q (Istore k) 4 0 0x36 h n.reads.0 refl refl refl (omega arith) went.leads.goes
-      (istore program has o map law s q.state q.world q.stalls h (inside s (Istore k) n) k went.top went.rest n.reads.0 n.reads.1 went.are went.leads.inside went.leads.own)
+      (istore program has o map law s q.state q.world q.stalls h (next_inside loads n) k went.top went.rest n.reads.0 n.reads.1 went.are went.leads.inside went.leads.own)
   goes s to q (Iinc k b) is fine n h went =
       moves program o v s to _ q (Iinc k b) 2 0 0x84 h n.reads.0 refl refl refl (omega arith)
       (ap (λ (x : ℕ). with_local s k (plus went.value x) s.running.operands (s.at + 3)) (sym n.reads.2) ∙ went.leads)
-      (iinc program has o map law s q.state q.world q.stalls h (inside s (Iinc k b) n) k went.value n.reads.0 n.reads.1 went.set (n.finds.named k (inl refl)).1)
+      (iinc program has o map law s q.state q.world q.stalls h (next_inside loads n) k went.value n.reads.0 n.reads.1 went.set (n.finds.named k (inl refl)).1)
   goes s to q (WideIload k) is fine n h went =
       moves program o v s to _ q (WideIload k) 3 0 0xC4 h n.reads.0 refl refl refl (omega arith) went.leads.goes
-      (wide_iload program has o map law s q.state q.world q.stalls h (inside s (WideIload k) n) k went.value n.reads.0 n.reads.1 n.reads.2 went.set (omega (arith, went.leads.fits, loads.long)))
+      (wide_iload program has o map law s q.state q.world q.stalls h (next_inside loads n) k went.value n.reads.0 n.reads.1 n.reads.2 went.set (omega (arith, went.leads.fits, loads.long)))
   goes s to q (WideIstore k) is fine n h went =
       moves program o v s to _ q (WideIstore k) 5 0 0xC4 h n.reads.0 refl refl refl (omega arith) went.leads.goes
-      (wide_istore program has o map law s q.state q.world q.stalls h (inside s (WideIstore k) n) k went.top went.rest n.reads.0 n.reads.1 n.reads.2 went.are went.leads.inside went.leads.own)
+      (wide_istore program has o map law s q.state q.world q.stalls h (next_inside loads n) k went.top went.rest n.reads.0 n.reads.1 n.reads.2 went.are went.leads.inside went.leads.own)
   goes s to q (WideIinc k z) is fine n h went =
       moves program o v s to _ q (WideIinc k z) 4 0 0xC4 h n.reads.0 refl refl refl (omega arith)
       (ap (λ (x : ℕ). with_local s k (plus went.value x) s.running.operands (s.at + 6)) (sym n.reads.3) ∙ went.leads)
-      (wide_iinc program has o map law s q.state q.world q.stalls h (inside s (WideIinc k z) n) k went.value n.reads.0 n.reads.1 n.reads.2 went.set (n.finds.named k (inl refl)).1)
+      (wide_iinc program has o map law s q.state q.world q.stalls h (next_inside loads n) k went.value n.reads.0 n.reads.1 n.reads.2 went.set (n.finds.named k (inl refl)).1)
   goes s to q i is fine n h went = absurd is
 
   limits : (s left : State) (q : Moment Micro) (i : Instr) → IsOfLocals i → Fine v s → IsNext v o s i → Stands o s q.state q.world → Overran v.image v.map.stack_end s left i →
       Overruns mic2_meaning program (Stands o) o.given q left
   limits s left q (LdcW k) is fine n h over =
-      let c : Counts o s q.state = counts o s q.state q.world h (inside s (LdcW k) n) in
+      let c : Counts o s q.state = counts o s q.state q.world h (next_inside loads n) in
       let from : ℕ = plus q.state.cpp (256 * byte_in o.words q.state.pc + byte_in o.words (q.state.pc + 1)) in
       let small : k < 0x4000 = (law.constant v o loads k over.value over.found).small in
       let a : IsWordAccess (length o.words) q.world from (0x4000 + k) =
@@ -209,7 +206,7 @@ module _ (program : List ℕ) (has : HasStatements program) (o : Origin) (v : Ve
       overruns program has o map s left q Goes (steps 1) [] 0x13 (next q.state.sp) h n.reads.0 refl refl (omega arith) (assumption) refl refl (refl, fault)
       (a.untaken ∙ (h.holds.untaken ∙ ap (λ (t : State). t.untaken) over.leads.leaves)) (h.holds.given ∙ ap (λ (t : State). o.given ++ t.given) over.leads.leaves)
   limits s left q (Iload k) is fine n h over =
-      let c : Counts o s q.state = counts o s q.state q.world h (inside s (Iload k) n) in
+      let c : Counts o s q.state = counts o s q.state q.world h (next_inside loads n) in
       let from : ℕ = plus q.state.lv (byte_in o.words q.state.pc) in
       let l : k < length s.running.locals = slice_get_within s.running.locals k (Some over.value) over.set in
       let a : IsWordAccess (length o.words) q.world from (base s.callers + k) =
@@ -219,7 +216,7 @@ module _ (program : List ℕ) (has : HasStatements program) (o : Origin) (v : Ve
       overruns program has o map s left q Goes (steps 1) [] 0x15 (next q.state.sp) h n.reads.0 refl refl (omega arith) (assumption) refl refl (refl, fault)
       (a.untaken ∙ (h.holds.untaken ∙ ap (λ (t : State). t.untaken) over.leads.leaves)) (h.holds.given ∙ ap (λ (t : State). o.given ++ t.given) over.leads.leaves)
   limits s left q (WideIload k) is fine n h over =
-      let c : Counts o s q.state = counts o s q.state q.world h (inside s (WideIload k) n) in
+      let c : Counts o s q.state = counts o s q.state q.world h (next_inside loads n) in
       let op2 : byte_in o.words q.state.pc + 256 ≡ 0x115 = omega (arith, c.p0.byte ∙ n.reads.1) in
       let from : ℕ = plus q.state.lv (256 * byte_in o.words (plus q.state.pc 1) + byte_in o.words (plus q.state.pc 1 + 1)) in
       let l : k < length s.running.locals = slice_get_within s.running.locals k (Some over.value) over.set in
