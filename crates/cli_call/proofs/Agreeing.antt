@@ -1,6 +1,7 @@
 -- `run` and `reference` of one program agree.
 use Rattle.std.proofs.Common.{◌≡◌, ◌≢◌, ◌∙◌, ℕ, zero, suc, Bool, true, false, List, ◌++◌, Some, Option, refl, sym, ap, subst, nat_le}
 use Rattle.std.specs.Prelude.{codes, IfSome}
+use Rattle.std.proofs.lemmas.Option.{same_Some}
 use Rattle.mic_base.specs.Causes.{Rose}
 use Rattle.console_port.specs.Console.{Untaken}
 use Rattle.mic_clock.specs.declared.end.End.{End}
@@ -35,22 +36,19 @@ use Rattle.cli_call.specs.Agree.{Agrees, IsQuiet}
 abbrev OfLimit : Finish → Type 0
 OfLimit f = f.end ≡ defined.StackLimit → f.cycles ≡ f.last.cycles
 
-some_is : {A : Type 0} → (x y : A) → Some x ≡ Some y → x ≡ y
-some_is x y e = cc
-
 by_outcome : (p : Program) (bound points : ℕ) (at : Point) (o : Outcome) (f : Finish) →
     ((next : Point) → finish_from p bound points next ≡ Some f → OfLimit f) →
     after_outcome (finish_from p bound points) p at o ≡ Some f → OfLimit f
 by_outcome p bound points at (Goes to) f more e = more (point_after p at to) e
-by_outcome p bound points at Halts f more e = subst OfLimit (some_is _ f e) (λ q. cc)
-by_outcome p bound points at Errs f more e = subst OfLimit (some_is _ f e) (λ q. cc)
-by_outcome p bound points at (Limits left) f more e = subst OfLimit (some_is _ f e) (λ q. refl)
+by_outcome p bound points at Halts f more e = subst OfLimit (same_Some _ f e) (λ q. cc)
+by_outcome p bound points at Errs f more e = subst OfLimit (same_Some _ f e) (λ q. cc)
+by_outcome p bound points at (Limits left) f more e = subst OfLimit (same_Some _ f e) (λ q. refl)
 by_outcome p bound points at Stuck f more e = absurd (cc)
 
 by_test : (p : Program) (bound points : ℕ) (at : Point) (t : Bool) (f : Finish) →
     ((next : Point) → finish_from p bound points next ≡ Some f → OfLimit f) →
     after_test (finish_from p bound points) p at t ≡ Some f → OfLimit f
-by_test p bound points at true f more e = subst OfLimit (some_is _ f e) (λ q. cc)
+by_test p bound points at true f more e = subst OfLimit (same_Some _ f e) (λ q. cc)
 by_test p bound points at false f more e = by_outcome p bound points at (outcome p.image p.stack_end at.state) f more e
 
 of_limit : (p : Program) (bound points : ℕ) (at : Point) (f : Finish) → finish_from p bound points at ≡ Some f → OfLimit f

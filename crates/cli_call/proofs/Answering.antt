@@ -1,5 +1,6 @@
 -- Each end of a call is one of its answers.
 use Rattle.std.proofs.Common.{◌≡◌, ◌≢◌, ◌∙◌, ◌+◌, ◌-◌, ◌⊎◌, ℕ, Bool, List, Option, Some, None, refl, sym, ap, subst, arith, inl, inr}
+use Rattle.std.proofs.lemmas.Option.{same_Some}
 use Rattle.machine_words.specs.declared.machine.Machine.{Machine}
 use Rattle.machine_words.specs.declared.machine.Machine.TheVariants.{Mic1, Mic2}
 use Rattle.console_port.specs.declared.map.MemoryMap.{MemoryMap}
@@ -59,9 +60,6 @@ use Rattle.cli_call.specs.ClockedEnd as clocking
 use Rattle.cli_call.specs.CallEnds.{CallEnds, EndsAs, EndsBy, EndsOn}
 use Rattle.cli_call.specs.CallEnds as calls
 use Rattle.cli_call.specs.Answers.{Adrift, ConsoleFailed, Done, Ended, FileFailed, IsAnswer, IsOnlyTold, IsReference, IsUntouched, Misused, NoMemory, OutOfMap, Reads, Refused, Runs, RunsOwn, ShortOfMemory, SinkFailed, TooLong}
-
-some_is : (x y : List ℕ) → Some x ≡ Some y → y ≡ x
-some_is x y e = cc
 
 -- a sink that failed between these has failed since the one before
 either_of : (a a' b b' c d : ℕ) → a ≡ a' → b ≡ b' → Rose a c ⊎ Rose b d → Rose a' c ⊎ Rose b' d
@@ -308,7 +306,7 @@ module _ (listed : IsListed) (old new : OutsideView) (status : ℕ) where
         over (Some (Run file machine bound map)) old new status _ _ _ file refl h
         (clocked (Some (Run file machine bound map)) old new status state m IsReady IsShipped entry tt bound)
     on_machine (RunOwn file machine bound map own) h =
-        prepared (Some (RunOwn file machine bound map own)) old new status m.machine map _ file (Some own) (inl refl) (λ one is. inr (some_is own one is)) h
+        prepared (Some (RunOwn file machine bound map own)) old new status m.machine map _ file (Some own) (inl refl) (λ one is. inr (sym (same_Some own one is))) h
         (λ micro program accepted chosen. ran_own (Some (RunOwn file machine bound map own)) old new status state m tt bound micro program tt)
     on_machine (Trace file machine bound map own buses) h =
         prepared (Some (Trace file machine bound map own buses)) old new status m.machine map _ file own (inl refl) (λ one is. inr is) h

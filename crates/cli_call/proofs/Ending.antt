@@ -1,5 +1,6 @@
 -- How a run ends, by the end of its board.
 use Rattle.std.proofs.Common.{◌≡◌, ◌≢◌, ◌∙◌, ℕ, List, Some, None, refl, sym, subst}
+use Rattle.std.proofs.lemmas.Option.{same_Some}
 use Rattle.console_port.specs.Console.{StaysFlushed}
 use Rattle.mic_clock.specs.declared.end.End.{End}
 use Rattle.mic_clock.specs.declared.end.End.TheVariants as ends
@@ -13,9 +14,6 @@ use Rattle.cli_outside.specs.Outside.{OutsideView, Says}
 use Rattle.cli_run_texts.specs.Ends.{status_of}
 use Rattle.cli_boards.specs.Runs.{report_on}
 use Rattle.cli_call.specs.ClockedEnd.{ClockedEnd, CutByRead, CutByWrite, Ran}
-
-some_is : {A : Type 0} → (x y : A) → Some x ≡ Some y → x ≡ y
-some_is x y e = cc
 
 module _ {M S : Type 0} (state : M → S) (m : Meaning S) (IsReady : ℕ → List ℕ → ℕ → S → Type 0) (IsShipped : List ℕ → Type 0) (entry : ℕ) where
   module _ (bound : ℕ) (program : VerifiedView) (old new : OutsideView) (board : BoardView M) where
@@ -34,7 +32,7 @@ module _ {M S : Type 0} (state : M → S) (m : Meaning S) (IsReady : ℕ → Lis
     -- the end of the definition's run is the board's
     agrees : (run : HasRun state m IsReady IsShipped entry program bound old.console.left old.out.held new.console.left new.out.held board) →
         (end : End) → board.end ≡ Some end → end ≡ board_end run.begins.finish.end
-    agrees run end e = some_is end (board_end run.begins.finish.end) (sym e ∙ sym run.end ∙ run.agrees.end)
+    agrees run end e = same_Some end (board_end run.begins.finish.end) (sym e ∙ sym run.end ∙ run.agrees.end)
 
     whole : (end : End) (status : ℕ) → IsClocked → board.end ≡ Some end → NoFault None (Some end) → (Some end ≡ Some ends.ReadFault → ⊥) → (Some end ≡ Some ends.WriteFault → ⊥) →
         Says old.err new.err (report_on state m end board) (status_of end) status →

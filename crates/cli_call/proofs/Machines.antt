@@ -1,6 +1,7 @@
 -- `run` of one program on two machines ends alike.
 use Rattle.std.proofs.Common.{◌≡◌, ◌≢◌, ◌∙◌, ℕ, List, Some, Option, sym, ap, subst}
 use Rattle.std.specs.Prelude.{IfSome}
+use Rattle.std.proofs.lemmas.Option.{same_Some}
 use Rattle.mic_clock.specs.declared.end.End.{End}
 use Rattle.mic_clock.specs.declared.end.End.TheVariants as clocked
 use Rattle.mic_clock.specs.Meaning.{Meaning}
@@ -17,9 +18,6 @@ use Rattle.cli_boards.specs.Runs.{report_on}
 use Rattle.cli_call.specs.ClockedEnd.{ClockedEnd, CutByRead, CutByWrite, NoRoom, Ran}
 use Rattle.cli_call.specs.Agree.{EndAlike, IsQuiet}
 use Rattle.cli_call.proofs.Agreeing.{said}
-
-some_is : {A : Type 0} → (x y : A) → Some x ≡ Some y → x ≡ y
-some_is x y e = cc
 
 -- what both sinks tell
 both_tell : (held held' : Option (List ℕ)) (x y : List ℕ) → IfSome held (λ h. IfSome held' (λ h'. h ≡ h')) → held ≡ Some x → held' ≡ Some y → x ≡ y
@@ -56,10 +54,10 @@ module _ {M N S T : Type 0} (state : M → S) (m : Meaning S) (IsReady : ℕ →
         agree program bound bound' input old.out.held one.console.left one.out.held other.console.left other.out.held board board'
         (subst (λ (left : Option (List ℕ)). HasRun state m IsReady IsShipped entry program bound left old.out.held one.console.left one.out.held board) tells run)
         (subst (λ (left : Option (List ℕ)). HasRun state' m' IsReady' IsShipped' entry' program bound' left old.out.held other.console.left other.out.held board') tells run') (
-          λ met. none (one_said.0 ∙ ap status_of (some_is end clocked.Bound (sym ended ∙ met))),
-          λ met. none' (other_said.0 ∙ ap status_of (some_is end' clocked.Bound (sym ended' ∙ met))),
+          λ met. none (one_said.0 ∙ ap status_of (same_Some end clocked.Bound (sym ended ∙ met))),
+          λ met. none' (other_said.0 ∙ ap status_of (same_Some end' clocked.Bound (sym ended' ∙ met))),
         ) in
-        let same : end' ≡ end = some_is end' end (sym ended' ∙ (sym alike.end ∙ ended)) in
+        let same : end' ≡ end = same_Some end' end (sym ended' ∙ (sym alike.end ∙ ended)) in
         record {
           same_status = one_said.0 ∙ (ap status_of (sym same) ∙ sym other_said.0);
           same_out = λ given given'. both_tell one.out.held other.out.held given given' alike.output;
