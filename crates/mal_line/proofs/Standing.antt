@@ -2,8 +2,7 @@
 use Rattle.std.proofs.Common.{◌≡◌, ℕ, ◌<◌, Bool, true, false, List, [], ◌∷◌, Option, Some, None, refl, sym, ap, subst, ◌∙◌, arith, inl, inr, cond}
 use Rattle.std.specs.Prelude.{◌⊎◌, ◌&&◌, not, nat_lt, IsTrue}
 use Rattle.std.specs.List.{list_any, list_all, onto_first}
-use Rattle.std.proofs.lemmas.Bool.Decides.{nat_tests}
-use Rattle.std.proofs.lemmas.Bool.{or_parts}
+use Rattle.std.proofs.lemmas.Bool.{or_parts, lt-ltb}
 use Rattle.machine_words.specs.declared.machine.Machine.{Machine}
 use Rattle.machine_words.specs.declared.machine.Machine.TheVariants.{Mic1, Mic2}
 use Rattle.micro_word.specs.declared.statement.Part.{Part}
@@ -27,6 +26,7 @@ use Rattle.mal_line.specs.Expressions.{fits, part_with}
 use Rattle.mal_line.specs.Chains.{HasCoding, IsAssignment}
 use Rattle.mal_line.specs.Statements.{AreParts, AreTree, assign, assignments, counted, fetch_count, fetches, is_semicolon, jump, Kind, listed, memory, nothing, pieces}
 use Rattle.mal_line.specs.Lines.{content_of, HasPart, is_foreign, IsForm, names_foreign, next_by_jump, part_by, part_of, parts_by, parts_of, SpellsLine, with_access}
+use Rattle.mal_line.proofs.Codings.{six_parts}
 use Rattle.mal_line.proofs.Options.{mapped}
 use Rattle.mal_line.proofs.Destinations.{dest_bits-lt}
 
@@ -95,13 +95,7 @@ some_assign m (x ∷ []) (jump (jumps.Branch f y n) ∷ ps) a are h = absurd are
 some_assign m (x ∷ x2 ∷ xs) (jump (jumps.Branch f y n) ∷ ps) a are h = some_assign m xs ps a are.2 h
 
 together : (u v w x y z u2 z2 : Bool) → (((((u && v) && w) && x) && y) && z) ≡ true → u2 ≡ true → z2 ≡ true → (((((u2 && v) && w) && x) && y) && z2) ≡ true
-together true true true true true true u2 z2 h a b = rw (a, b) refl
-together true true true true true false u2 z2 h a b = absurd (cc)
-together true true true true false z u2 z2 h a b = absurd (cc)
-together true true true false y z u2 z2 h a b = absurd (cc)
-together true true false x y z u2 z2 h a b = absurd (cc)
-together true false w x y z u2 z2 h a b = absurd (cc)
-together false v w x y z u2 z2 h a b = absurd (cc)
+together u v w x y z u2 z2 h a b = let p = six_parts u v w x y z h in rw (a, p.0, p.1, p.2, p.3, b) refl
 
 with_dests : (m : Machine) (o : Operation) (dests : ℕ) (fetch : Bool) → fits m o ≡ true → nat_lt dests 512 ≡ true → may_fetch m fetch ≡ true
     → (((((nat_lt dests 512 && has_operation m o.op) && fits_side (row o.op).uses_a (may_be_a m) o.a) && fits_side (row o.op).uses_b (may_be_b m) o.b) && not (is_mixed o.a o.b)) && may_fetch m fetch) ≡ true
@@ -111,9 +105,6 @@ with_dests m o dests fetch f d g =
 idle_part : (m : Machine) (mem : Mem) (fetch : Bool) → may_fetch m fetch ≡ true → is_part m (record idle { mem = mem; fetch = fetch }) ≡ true
 idle_part Mic1 mem fetch h = refl
 idle_part Mic2 mem fetch h = h
-
-small : (n : ℕ) → n < 512 → nat_lt n 512 ≡ true
-small n lt = grind (arith, nat_tests)
 
 part_is : (m : Machine) (ts : List Token) (t : Tree) (p : Part) → AreTree m ts t → names_foreign m ts ≡ false → part_of t ≡ Some p → is_part m p ≡ true
 part_is m ts t p a own h =
@@ -127,7 +118,7 @@ part_is m ts t p a own h =
         let x = some_assign m (pieces ts) a.parts b a.are e in
         let f = subst (λ o. HasCoding m x.1.body x.1.tail o) s.1 x.1.coded in
         let d : b.dests < 512 = subst (λ n. n < 512) (sym x.1.bits) (dest_bits-lt x.1.dests 0 (omega arith)) in
-        subst (λ q. is_part m (with_access t q) ≡ true) s.2 (with_dests m s.0 b.dests t.fetch f.fitting (small b.dests d) (may m ts t a own))
+        subst (λ q. is_part m (with_access t q) ≡ true) s.2 (with_dests m s.0 b.dests t.fetch f.fitting (lt-ltb b.dests 512 d) (may m ts t a own))
 
 parts_is : (m : Machine) (ts : List Token) (t : Tree) (p : Parts) → AreTree m ts t → names_foreign m ts ≡ false → parts_of t ≡ Some p → IsTrue (is_part m p.part)
 parts_is m ts t p a own h = go (part_of t) (next_by_jump t.next) refl h
