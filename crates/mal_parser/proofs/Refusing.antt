@@ -1,7 +1,7 @@
 -- The refusals of one line behind others.
-use Rattle.std.proofs.Common.{◌≡◌, ℕ, ◌≤◌, ◌<◌, true, List, [], ◌∷◌, Option, Some, None, length, refl, sym, ap, subst, ◌∙◌, arith, inl, inr, cond}
+use Rattle.std.proofs.Common.{◌≡◌, ℕ, ◌<◌, true, List, [], ◌∷◌, Option, Some, None, length, refl, sym, ap, subst, ◌∙◌, arith, inl, inr, cond}
 use Rattle.std.specs.Prelude.{Result, Ok, Err, nat_le, is_some}
-use Rattle.std.proofs.lemmas.Bool.Decides.{nat_tests}
+use Rattle.std.proofs.lemmas.Bool.{le-leb, leb-true}
 use Rattle.machine_words.specs.declared.machine.Machine.{Machine}
 use Rattle.mal_line.specs.declared.content.Content.{Content}
 use Rattle.mal_line.specs.declared.content.Content.TheVariants as said
@@ -15,12 +15,6 @@ use Rattle.mal_parser.specs.Text.{fallbacks, fixes, HasFault, IsBadFix, IsDuplic
 use Rattle.mal_parser.specs.Reading.{add_content, add_fallback, add_fix, add_said, at_line, content_at, first, ReadsLines, sketch_of, step}
 use Rattle.mal_parser.proofs.Adding.{picked, with_fallback, with_fix, with_statement}
 use Rattle.mal_parser.proofs.Saying.{content_says, content_unsaid, says_content, Unsaid, unsaid_content}
-
-full : (n : ℕ) → nat_le 512 n ≡ true → 512 ≤ n
-full n h = grind (arith, nat_tests)
-
-is_full : (n : ℕ) → 512 ≤ n → nat_le 512 n ≡ true
-is_full n h = grind (arith, nat_tests)
 
 some_first : (ds : List Draft) → is_some (first ds) ≡ true → 0 < length ds
 some_first [] h = absurd (cc)
@@ -56,7 +50,7 @@ module _ (laws : ReadsLines) (m : Machine) (cs : List Content) (k : ℕ) (line :
   added_refused (said.Statement label parts) x s h = elim (picked (has_name (statements cs) label) (Err (errors.DuplicateLabel k)) (cond (nat_le 512 (length (statements cs))) (Err (errors.TooMany k)) (Ok (with_statement k (sketch_of m cs) label parts))) (Err x) h) [
     | inl w ↦ let z = w.1 in let q : errors.DuplicateLabel k ≡ x = cc in subst (IsRefusedBehind m cs k line) q (refl, (said.Statement label parts, s, w.0))
     | inr w ↦ elim (picked (nat_le 512 (length (statements cs))) (Err (errors.TooMany k)) (Ok (with_statement k (sketch_of m cs) label parts)) (Err x) w.1) [
-      | inl v ↦ let z = v.1 in let q : errors.TooMany k ≡ x = cc in subst (IsRefusedBehind m cs k line) q (refl, (said.Statement label parts, s, (w.0, full (length (statements cs)) v.0)))
+      | inl v ↦ let z = v.1 in let q : errors.TooMany k ≡ x = cc in subst (IsRefusedBehind m cs k line) q (refl, (said.Statement label parts, s, (w.0, leb-true 512 (length (statements cs)) v.0)))
       | inr v ↦ absurd (let z = v.1 in cc)
     ]
   ]
@@ -108,7 +102,7 @@ module _ (laws : ReadsLines) (m : Machine) (cs : List Content) (k : ℕ) (line :
   one_too_many (said.Fallback parts) b = absurd b
   one_too_many (said.Statement label parts) (f, n) =
       ap (λ b. cond b (Err (errors.DuplicateLabel k)) (cond (nat_le 512 (length (statements cs))) (Err (errors.TooMany k)) (Ok (with_statement k (sketch_of m cs) label parts)))) f
-      ∙ ap (λ b. cond b (Err (errors.TooMany k)) (Ok (with_statement k (sketch_of m cs) label parts))) (is_full (length (statements cs)) n)
+      ∙ ap (λ b. cond b (Err (errors.TooMany k)) (Ok (with_statement k (sketch_of m cs) label parts))) (le-leb 512 (length (statements cs)) n)
 
   pub refused_step : (x : MalError) → IsRefusedBehind m cs k line x → step k (sketch_of m cs) line ≡ Err x
   unfolding Unsaid

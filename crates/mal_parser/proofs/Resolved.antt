@@ -9,6 +9,7 @@ use Rattle.std.proofs.lemmas.List.Quantifiers.{position-Some}
 use Rattle.std.proofs.lemmas.Option.{slice_get-map, slice_get-get_or, slice_get_within, get_or_from_slice_get}
 use Rattle.std.proofs.lemmas.Bool.Decides.{nat_tests}
 use Rattle.std.proofs.lemmas.Slice.Eq.{bytes_eq-Decides}
+use Rattle.std.proofs.lemmas.List.Elements.{All-head, All-tail}
 use Rattle.machine_words.specs.declared.machine.Machine.{Machine}
 use Rattle.mal_line.specs.declared.next.Next.{Next}
 use Rattle.mal_line.specs.declared.next.Next.TheVariants as nexts
@@ -195,18 +196,12 @@ fixed_fits : (fs : List Fix) (o : Option (List ℕ)) → All (λ f. f.address < 
 fixed_fits fs None all = tt
 fixed_fits fs (Some label) all = go fs all
   where
-    here : (f : Fix) (fs : List Fix) → All (λ f. f.address < 512) (f ∷ fs) → f.address < 512
-    here f fs all = all 0 f (omega arith)
-
-    later : (f : Fix) (fs : List Fix) → All (λ f. f.address < 512) (f ∷ fs) → All (λ f. f.address < 512) fs
-    later f fs all = λ k d lt. all (suc k) d (omega (arith, lt))
-
     go : (fs : List Fix) → All (λ f. f.address < 512) fs → IfSome (address_at fs label) (λ address. (address < 512) × IsSome (Some label))
     go [] all = tt
-    go (f ∷ fs) all = step (bytes_eq f.label label) (go fs (later f fs all))
+    go (f ∷ fs) all = step (bytes_eq f.label label) (go fs (All-tail (λ (g : Fix). g.address < 512) f fs all))
       where
         step : (b : Bool) → IfSome (address_at fs label) (λ address. (address < 512) × IsSome (Some label)) → IfSome (option_map (λ (f : Fix). f.address) (cond b (Some f) (find (λ f. bytes_eq f.label label) fs))) (λ address. (address < 512) × IsSome (Some label))
-        step true rec = (here f fs all, refl)
+        step true rec = (All-head (λ (g : Fix). g.address < 512) f fs all, refl)
         step false rec = rec
 
 module _ (s : Sketch) (entry : ℕ) (sound : IsSound s) (no_unknown : first_unknown s ≡ None) (no_falling : first_falling s ≡ None) (has_entry : number_of s.statements main1 ≡ Some entry) where
