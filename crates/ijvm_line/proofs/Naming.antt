@@ -3,13 +3,14 @@ use Rattle.std.proofs.Common.{◌≡◌, ℕ, List, [], ◌∷◌, Option, Some,
 use Rattle.std.specs.Prelude.{find, option_and_then}
 use Rattle.std.specs.Str.{bytes_eq, str_eq_ignore_ascii_case, str_to_ascii_lowercase}
 use Rattle.std.proofs.lemmas.Slice.Eq.{bytes_eq-Decides}
+use Rattle.std.proofs.lemmas.Option.{option_and_then_some}
 use Rattle.ijvm_instr.specs.declared.instr.Instr.{Instr}
 use Rattle.ijvm_instr.specs.declared.instr.Instr.TheVariants as instrs
 use Rattle.ijvm_instr.specs.declared.instr.TheConstants.{INSTRUCTIONS}
 use Rattle.ijvm_instr.specs.Instructions.{name_of}
 use Rattle.ijvm_line.specs.declared.mnemonic.Kind.{Kind}
 use Rattle.ijvm_line.specs.declared.mnemonic.Kind.TheVariants as kinds
-use Rattle.ijvm_line.proofs.Options.{chosen, found}
+use Rattle.ijvm_line.proofs.Options.{chosen}
 use Rattle.ijvm_line.specs.Mnemonics.{find_kind, IsOfKind, IsSpelled, kind_of, spelled_in}
 
 find_passes : {A : Type 0} (p : A → Bool) (xs : List A) (x : A) → find p xs ≡ Some x → p x ≡ true
@@ -43,8 +44,8 @@ kind_is text kind h =
     elim (chosen (str_eq_ignore_ascii_case (codes "WIDE") text) (Some kinds.Wide) (option_and_then kind_of (spelled_in INSTRUCTIONS text)) (Some kind) h) [
       | inl w ↦ inl (spelled_by (codes "WIDE") text w.0, let e = w.1 in cc)
       | inr w ↦
-          let f = found kind_of (spelled_in INSTRUCTIONS text) kind w.1 in
-          inr (f.0, spelled_by (name_of f.0) text (find_passes (λ i. str_eq_ignore_ascii_case (name_of i) text) INSTRUCTIONS f.0 f.1), f.2)
+          option_and_then_some kind_of (spelled_in INSTRUCTIONS text) kind w.1
+          (λ i at is. inr (i, spelled_by (name_of i) text (find_passes (λ i. str_eq_ignore_ascii_case (name_of i) text) INSTRUCTIONS i at), is))
     ]
 
 -- the kind of a word that is not WIDE

@@ -1,6 +1,7 @@
 -- An instruction is read as what its tokens spell.
 use Rattle.std.proofs.Common.{◌≡◌, ℕ, ℤ, Bool, List, [], ◌∷◌, true, false, Option, Some, None, refl, ap, subst, ◌∙◌}
 use Rattle.std.specs.Prelude.{option_map, option_and_then}
+use Rattle.std.proofs.lemmas.Option.{option_and_then_some}
 use Rattle.ijvm_tokens.specs.declared.sign.Sign.{Sign}
 use Rattle.ijvm_tokens.specs.declared.token.Token.{Token}
 use Rattle.ijvm_tokens.specs.declared.token.Token.TheVariants as tokens
@@ -13,7 +14,7 @@ use Rattle.ijvm_line.specs.declared.statement.Statement.TheVariants as statement
 use Rattle.ijvm_line.specs.Mnemonics.{find_kind}
 use Rattle.ijvm_line.specs.Statements.{Begins, IsStatement, operand_token}
 use Rattle.ijvm_line.specs.Reading.{increment, operand_of, statement_by, statement_of, wide, wide_by}
-use Rattle.ijvm_line.proofs.Options.{found, mapped}
+use Rattle.ijvm_line.proofs.Options.{mapped}
 use Rattle.ijvm_line.proofs.Naming.{kind_again, kind_is}
 
 operand_is : (ts : List Token) (o : Operand) → operand_of ts ≡ Some o → ts ≡ operand_token o ∷ []
@@ -77,8 +78,8 @@ statement_is [] st h = absurd (cc)
 statement_is (tokens.Sign s ∷ rest) st h = absurd (cc)
 statement_is (tokens.Number v ∷ rest) st h = absurd (cc)
 statement_is (tokens.Name n ∷ rest) st h =
-    let p = found (λ kind. statement_by kind rest) (find_kind n) st h in
-    alone_is p.0 rest st (tokens.Name n ∷ rest) (begins n p.0 rest p.1) p.2
+    option_and_then_some (λ kind. statement_by kind rest) (find_kind n) st h
+    (λ kind at is. alone_is kind rest st (tokens.Name n ∷ rest) (begins n kind rest at) is)
 
 -- ---- what is spelled is read
 
