@@ -13,8 +13,8 @@ use Rattle.shipped_program.specs.Shipped.{HasShipped}
 use Rattle.cli_words.specs.Words.{Asked, Assemble, ListOf, Verify, Run, RunOwn, Trace, Profile, Debug, Reference, Micro, PrintMicro, Soak}
 use Rattle.cli_outside.specs.Status as exits
 use Rattle.cli_outside.specs.Messages.{out_of_memory}
-use Rattle.cli_outside.specs.Outside.{OutsideView, Prints, Tells}
-use Rattle.cli_outside.specs.Work.{PrintsOf}
+use Rattle.cli_outside.specs.Outside.{OutsideView, PrintsOnOut, TellsOnErr}
+use Rattle.cli_outside.specs.Work.{PrintsTextOf}
 use Rattle.cli_texts.specs.Listing.{Lists}
 use Rattle.cli_texts.specs.Summary.{Summarizes}
 use Rattle.cli_programs.specs.Answers.{Assembles, EndsOver}
@@ -28,7 +28,7 @@ use Rattle.cli_debug.specs.Debugged.{IsDebugged}
 use Rattle.cli_debug.specs.Input.{EndsWithInput}
 use Rattle.cli_soak.specs.SoakEnds.{SoakEnds}
 use Rattle.cli_call.specs.ClockedEnd.{ClockedEnd}
-use Rattle.cli_call.specs.Usage.{usage}
+use Rattle.cli_call.specs.Usage.{usage_text}
 
 -- A machine: its meaning, when its next instruction is ready, its store that ships, and where that begins.
 module _ {M S : Type 0} (state : M → S) (m : Meaning S) (IsReady : ℕ → List ℕ → ℕ → S → Type 0) (IsShipped : List ℕ → Type 0) (entry : ℕ) where
@@ -51,10 +51,10 @@ EndsBy Mic2 = EndsOn micro_of2 mic2_meaning IsReady2 (HasShipped Mic2) 0x002
 
 -- Where the words ask for nothing, the usage text says how `mic` is called.
 abbrev pub EndsAs : Option Asked → OutsideView → OutsideView → ℕ → Type 0
-EndsAs None = Tells usage exits.usage
+EndsAs None = TellsOnErr usage_text exits.usage
 EndsAs (Some (Assemble source image)) = Assembles image source
-EndsAs (Some (ListOf file map)) = EndsOver map (PrintsOf Lists) file
-EndsAs (Some (Verify file map)) = EndsOver map (PrintsOf Summarizes) file
+EndsAs (Some (ListOf file map)) = EndsOver map (PrintsTextOf Lists) file
+EndsAs (Some (Verify file map)) = EndsOver map (PrintsTextOf Summarizes) file
 EndsAs (Some (Run file machine bound map)) = EndsBy machine (Run file machine bound map)
 EndsAs (Some (RunOwn file machine bound map micro)) = EndsBy machine (RunOwn file machine bound map micro)
 EndsAs (Some (Trace file machine bound map micro buses)) = EndsBy machine (Trace file machine bound map micro buses)
@@ -63,10 +63,10 @@ EndsAs (Some (Debug file machine bound map micro input)) = EndsBy machine (Debug
 EndsAs (Some (Reference file machine bound map)) = EndsBy machine (Reference file machine bound map)
 EndsAs (Some (Micro mal store machine)) = MicroAnswers machine store mal
 EndsAs (Some (PrintMicro (Some file) machine)) = PrintMicroAnswers machine file
-EndsAs (Some (PrintMicro None machine)) = Prints (canonical_text (listed_program machine)) exits.done
+EndsAs (Some (PrintMicro None machine)) = PrintsOnOut (canonical_text (listed_program machine)) exits.done
 EndsAs (Some (Soak seed size machine)) = EndsBy machine (Soak seed size machine)
 
 -- memory is wanting before anything is done, or the call ends as its words ask
 pub data CallEnds (asks : Option Asked) (old new : OutsideView) (status : ℕ) : Type 0 where
-  NoRoom : Tells out_of_memory exits.memory old new status → CallEnds asks old new status
+  NoRoom : TellsOnErr out_of_memory exits.memory old new status → CallEnds asks old new status
   Done : EndsAs asks old new status → CallEnds asks old new status

@@ -8,12 +8,12 @@ use Rattle.mic_clock.specs.declared.buses.Drive.{Drive}
 use Rattle.mic_clock.specs.declared.buses.Computed.{Computed}
 use Rattle.mic_clock.specs.State.{state_line}
 use Rattle.watched_run.specs.declared.cycle.Cycle.{Cycle}
-use Rattle.cli_cycle_texts.specs.Naming.{IsInstruction, IsWord, word_text}
+use Rattle.cli_cycle_texts.specs.Naming.{IsInstruction, IsWord, labelled_text}
 
 -- `CYCLE MPC LABEL TEXT`
 abbrev pub cycle_line : Cycle → List ℕ → List ℕ → List ℕ
 cycle_line c label parts =
-    decimal c.counts.cycles ++ codes " " ++ hex_text 3 c.mpc ++ codes " " ++ word_text c.drive.stalled label parts ++ codes "\n"
+    decimal c.counts.cycles ++ codes " " ++ hex_text 3 c.mpc ++ codes " " ++ labelled_text c.drive.stalled label parts ++ codes "\n"
 
 abbrev pub digit_of : Bool → List ℕ
 digit_of true = codes "1"

@@ -20,7 +20,7 @@ use Rattle.mic_debugger.specs.Session.{HasReadCause, IsFrontOf}
 use Rattle.mic_debugger.specs.View.{SessionView}
 use Rattle.mic_base.specs.Causes.{Rose}
 use Rattle.mic_base.specs.Streams.{Holds}
-use Rattle.cli_outside.specs.Outside.{GotFront, OutsideView}
+use Rattle.cli_outside.specs.Outside.{GotInPart, OutsideView}
 use Rattle.cli_debug.specs.Stand.{Begins, Carries, IsBrokenOff, OnlyGives, Shows, Stand, StandsAt, plan_at, shown_at}
 use Rattle.cli_debug.specs.Goes.{BreaksOff, IsCutShort, Place, place}
 use Rattle.cli_debug.proofs.Standing.{leads_on, no_rise, same_plan, shown_same}
@@ -40,7 +40,7 @@ held_front : (held : Option (List ℕ)) (a b : List ℕ) → IsFrontOf held a �
 held_front None a b p q = tt
 held_front (Some h) a b p q = front_then h a b p q
 
-got_front : (said said' : Option (List ℕ)) (a b : List ℕ) → GotFront said a said' → IsFront a b → GotFront said b said'
+got_front : (said said' : Option (List ℕ)) (a b : List ℕ) → GotInPart said a said' → IsFront a b → GotInPart said b said'
 got_front said said' a b p q =
     let k : ℕ = min p.0 (length a) in
     let inside : min p.0 (length a) ≤ length a = omega arith in (
@@ -156,7 +156,7 @@ module _ {State : Type 0} (m : Meaning State) (book : Book) (words : List ℕ) (
   given_first only plans.Quit text whole run last b c = stays run last b.0 c.0
 
   broken_off : (line : List ℕ) (held said said' : Option (List ℕ)) (text : List ℕ) (run : MicroRun State) → Begins m book words memory bound (plan_at m book words memory bound s line) s text run →
-      IsFrontOf held run.world.given → GotFront said text said' → IsBrokenOff m book words memory bound line s held said said'
+      IsFrontOf held run.world.given → GotInPart said text said' → IsBrokenOff m book words memory bound line s held said said'
   broken_off line held said said' text run begun out err =
       record {
         run = run;
@@ -175,11 +175,11 @@ module _ {M State : Type 0} (state : M → State) (m : Meaning State) (book : Bo
   -- it leaves each stand so, where its plan is broken off so
   abbrev Left : Plan → Type 0
   Left plan =
-      (text : List ℕ) × (run : MicroRun State) × Begins m book v.board.store.words v.listing.memory v.bound plan s text run × IsFrontOf held' run.world.given × GotFront said text said'
+      (text : List ℕ) × (run : MicroRun State) × Begins m book v.board.store.words v.listing.memory v.bound plan s text run × IsFrontOf held' run.world.given × GotInPart said text said'
 
   abbrev Stayed : Plan → Type 0
   Stayed plan =
-      (text : List ℕ) × (run : MicroRun State) × Shows m book v.board.store.words v.listing.memory v.bound s plan text run × IsFrontOf held' run.world.given × GotFront said text said'
+      (text : List ℕ) × (run : MicroRun State) × Shows m book v.board.store.words v.listing.memory v.bound s plan text run × IsFrontOf held' run.world.given × GotInPart said text said'
 
   stayed : (plan : Plan) → IsSaidInPart state m book (Some left) held said v (Some left') held' said' board' plan → Stayed plan
   stayed plan part =
@@ -188,7 +188,7 @@ module _ {M State : Type 0} (state : M → State) (m : Meaning State) (book : Bo
         s.run,
         (refl, refl),
         at.1,
-        subst (λ (t : List ℕ). GotFront said t said') (shown_same state m book left left' held held' v board' [] s here plan) part.1,
+        subst (λ (t : List ℕ). GotInPart said t said') (shown_same state m book left left' held held' v board' [] s here plan) part.1,
       )
 
   left_by : (plan : Plan) → IsBrokenIn state m book (Some left) held said v (Some left') held' said' board' plan → Left plan
@@ -198,7 +198,7 @@ module _ {M State : Type 0} (state : M → State) (m : Meaning State) (book : Bo
       let broken = at.1.1 in
       subst (λ (breaks : List ℕ). (text : List ℕ) × (run : MicroRun State)
       × ((k : ℕ) × IsGoing m book v.board.store.words breaks v.bound u times k s.run × (run ≡ after m book v.board.store.words breaks v.bound u k s.run)
-      × (text ≡ printed m book v.board.store.words breaks v.bound u k s.run)) × IsFrontOf held' run.world.given × GotFront said text said') (sym here.breaks)
+      × (text ≡ printed m book v.board.store.words breaks v.bound u k s.run)) × IsFrontOf held' run.world.given × GotInPart said text said') (sym here.breaks)
       (printed m book v.board.store.words v.breaks v.bound u n s.run, after m book v.board.store.words v.breaks v.bound u n s.run, (n, broken.going, refl, refl), broken.out, broken.err)
   left_by (plans.Refuse reply) part = stayed (plans.Refuse reply) part
   left_by plans.Registers part = stayed plans.Registers part

@@ -26,10 +26,10 @@ use Rattle.mic_debugger.specs.Clocking.{IsDone, after, printed}
 use Rattle.mic_debugger.specs.Commands.{command_of}
 use Rattle.mic_debugger.specs.Obeys.{IsSaid, Obeys, plan_in, shown_text}
 use Rattle.mic_debugger.specs.Plans.{breaks_after, clocking, is_full_for, plan_by, plan_of, reply_of, watched_after, watched_now}
-use Rattle.mic_debugger.specs.Session.{HasReadCause, Prints}
+use Rattle.mic_debugger.specs.Session.{HasReadCause}
 use Rattle.mic_debugger.specs.View.{SessionView}
 use Rattle.cli_debug.specs.Stand.{Carries, DoesAll, Shows, Stand, StandsAt, is_quit, is_quit_in, is_quit_verb, plan_at, shown_at}
-use Rattle.cli_outside.specs.Outside.{OutsideView}
+use Rattle.cli_outside.specs.Outside.{Got, OutsideView}
 use Rattle.cli_debug.specs.Goes.{Gone, LeadsOver, Place, is_quit_reply, place}
 
 -- a count that stays did not rise
@@ -176,7 +176,7 @@ quits_by v line (Err e) is = tt
 -- it leads the session over the line
 pub leads_by : {M State T E : Type 0} (state : M → State) (m : Meaning State) (left left' : List ℕ) (o o' : OutsideView) (v v' : SessionView M) (line : List ℕ) (r : Result T E) →
     OnOk r (NoFault v.board.end v'.board.end → (book : Book) → IsBook v.listing.program v.listing.placement v.listing.image book →
-    (text : List ℕ) × Prints o.err.held text o'.err.held × Obeys state m book (Some left) o.out.held v (Some left') o'.out.held v'.board text (plan_in v line)) →
+    (text : List ℕ) × Got o.err.held text o'.err.held × Obeys state m book (Some left) o.out.held v (Some left') o'.out.held v'.board text (plan_in v line)) →
     OnOk r (v.board.end ≡ None → v'.board.end ≢ Some ends.WriteFault) → (v.board.end ≡ None → HasReadCause 0 0 v'.board.end) →
     OnOk r (v'.breaks ≡ breaks_after v.breaks (command_of v.listing.memory line)) → OnOk r (v'.watched ≡ watched_after v.watched (command_of v.listing.memory line)) →
     OnOk r (LeadsOver state m (line ∷ []) (place v left o) (place v' left' o'))

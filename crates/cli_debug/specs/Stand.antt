@@ -18,7 +18,7 @@ use Rattle.mic_debugger.specs.Lines.{stack_text, where_line}
 use Rattle.mic_debugger.specs.Plans.{breaks_after, plan_of, refusal_text, watched_after}
 use Rattle.mic_debugger.specs.Session.{IsFrontOf}
 use Rattle.mic_debugger.specs.View.{SessionView}
-use Rattle.cli_outside.specs.Outside.{GotFront}
+use Rattle.cli_outside.specs.Outside.{GotInPart}
 use Rattle.cli_debug.specs.Told.{behind_line, line_in}
 
 -- a clocked run, the breakpoints and the watched word
@@ -112,9 +112,9 @@ module _ {State : Type 0} (m : Meaning State) (book : Book) (words : List ℕ) (
     pub text : List ℕ
     pub begun : Begins (plan_at s line) s text run
     pub out : IsFrontOf held run.world.given
-    pub err : GotFront said text said'
+    pub err : GotInPart said text said'
     pub whole_out : OnlyGives m → (whole : List ℕ) (s' : Stand State) → Does line s whole s' → IsFrontOf held s'.run.world.given
-    pub whole_err : (whole : List ℕ) (s' : Stand State) → Does line s whole s' → GotFront said whole said'
+    pub whole_err : (whole : List ℕ) (s' : Stand State) → Does line s whole s' → GotInPart said whole said'
 
   -- lines one after the other
   abbrev pub DoesAll : List (List ℕ) → Stand State → List ℕ → Stand State → Type 0

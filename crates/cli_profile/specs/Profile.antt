@@ -54,8 +54,8 @@ reached_at None p c = p
 reached_at (Some at) p c = reached p c
 
 -- the profile after one more cycle
-abbrev pub counted : Profile → Cycle → Profile
-counted p c = reached_at c.boundary p c.counts
+abbrev pub profile_after : Profile → Cycle → Profile
+profile_after p c = reached_at c.boundary p c.counts
 
 -- an end by HALT or ERR completes the last instruction
 abbrev pub tallies_at : Profile → End → ℕ → List RowCount
@@ -88,5 +88,5 @@ abbrev pub Silent : Profile → Cycle → List ℕ → Type 0
 Silent p c text = text ≡ []
 
 -- the profile of these cycles
-abbrev pub profile_of : List ℕ → List Cycle → Profile
-profile_of rows cs = kept_of counted Silent (start_profile rows) cs
+abbrev pub profile_of_cycles : List ℕ → List Cycle → Profile
+profile_of_cycles rows cs = kept_of profile_after Silent (start_profile rows) cs

@@ -37,11 +37,11 @@ pub data IsLineAt (image : ImageView) (at : ℕ) (line : List ℕ) : Type 0 wher
   Byte : IsKind image at kinds.Unreached → line ≡ byte_line image.text at → IsLineAt image at line
 
 -- what is printed of so many addresses, from the first on
-pub record AreLines (image : ImageView) (count : ℕ) (lines : List (List ℕ)) : Type 0 where
+pub record AreListingLines (image : ImageView) (count : ℕ) (lines : List (List ℕ)) : Type 0 where
   pub long : length lines ≡ count
   pub each : (at : ℕ) (line : List ℕ) → slice_get lines at ≡ Some line → IsLineAt image at line
 
 pub record Lists (program : VerifiedView) (listing : List ℕ) : Type 0 where
   pub lines : List (List ℕ)
-  pub each : AreLines program.image (length program.image.text) lines
+  pub each : AreListingLines program.image (length program.image.text) lines
   pub printed : listing ≡ pool_text 0 program.image.pool ++ concat lines

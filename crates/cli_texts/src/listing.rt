@@ -5,7 +5,7 @@ ghost use Rattle.std.specs.List.{concat};
 ghost use Rattle.ijvm_image.specs.Image.{params, others};
 ghost use Rattle.ijvm_instr.specs.Instructions.{instr_at};
 ghost use Rattle.ijvm_paths.specs.Kinds.{IsKind};
-ghost use Rattle.cli_texts.specs.Listing.{AreLines, IsLineAt, Lists, byte_line, constant_line, header_line, instr_line, pool_text};
+ghost use Rattle.cli_texts.specs.Listing.{AreListingLines, IsLineAt, Lists, byte_line, constant_line, header_line, instr_line, pool_text};
 
 use cli_outside::{addressed, number, numbered};
 use ijvm_instr::{Instr, decode_at, print_instr};
@@ -108,7 +108,7 @@ fn push_address(listing: &mut Vec<u8>, program: &VerifiedImage, at: u32) -> Resu
 
 /// Appends what is printed of each address.
 fn push_text(listing: &mut Vec<u8>, program: &VerifiedImage) -> Result<(), AllocError>
-    ensures { OnOk result ((lines : List (List ℕ)) × AreLines program.now.image (length program.now.image.text) lines × (listing.new.items ≡ listing.old.items ++ concat lines)) }
+    ensures { OnOk result ((lines : List (List ℕ)) × AreListingLines program.now.image (length program.now.image.text) lines × (listing.new.items ≡ listing.old.items ++ concat lines)) }
 {
     let len = program.image().text().len() as u32;
     for at in 0..len {

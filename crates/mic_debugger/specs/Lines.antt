@@ -25,8 +25,8 @@ unfoldable pub end_line : End → List ℕ
 end_line e = codes "end " ++ name_of e ++ codes "\n"
 
 -- a clocked cycle: its number, the address of its word, the label, and the text of the statement where it was no stall
-unfoldable pub cycle_line : Book → ℕ → ℕ → Bool → List ℕ
-cycle_line book cycles mpc stalled =
+unfoldable pub clocked_line : Book → ℕ → ℕ → Bool → List ℕ
+clocked_line book cycles mpc stalled =
     decimal cycles ++ codes " " ++ hex_text 3 mpc ++ codes " " ++ book.label mpc ++ codes " " ++ (if stalled then codes "stall" else book.text mpc) ++ codes "\n"
 
 -- the registers behind a cycle

@@ -7,8 +7,8 @@ ghost use Rattle.ijvm_image.specs.Image.{ImageView};
 ghost use Rattle.ijvm_instr.specs.Instructions.{instr_at};
 ghost use Rattle.ijvm_paths.specs.Kinds.{IsKind};
 ghost use Rattle.mic_base.specs.Digits.{hex_text};
-ghost use Rattle.mic_debugger.specs.Book.{Book, IsBookOf, label_text, unused_text};
-ghost use Rattle.mic_debugger.specs.Lines.{cycle_line, end_line, name_of, place_line, place_text, next_line};
+ghost use Rattle.mic_debugger.specs.Book.{Book, IsBookOf, label_or_dash, unused_text};
+ghost use Rattle.mic_debugger.specs.Lines.{clocked_line, place_line, place_text, next_line};
 
 use cli_outside::number;
 use ijvm_instr::{Instr, decode_at, print_instr};
@@ -129,10 +129,10 @@ impl Listing {
     }
 
     /// The line of a clocked cycle.
-    #[tactic(auto, unfolding(crate::specs::Lines::cycle_line))]
-    pub fn cycle_line(&self, cycles: u64, mpc: u16, stalled: bool) -> Line
+    #[tactic(auto, unfolding(crate::specs::Lines::clocked_line))]
+    pub fn clocked_line(&self, cycles: u64, mpc: u16, stalled: bool) -> Line
         requires { mpc < 512 }
-        ensures { (book : Book) → IsBookOf self.now book → result ≡ cycle_line book cycles mpc stalled }
+        ensures { (book : Book) → IsBookOf self.now book → result ≡ clocked_line book cycles mpc stalled }
     {
         let mut line = Line::new();
         number(&mut line, "", cycles);
