@@ -5,24 +5,13 @@ use Rattle.mic_base.specs.Digits.{hex_text}
 use Rattle.mic_clock.specs.declared.counts.Boundary.{Boundary}
 use Rattle.mic_clock.specs.declared.counts.Counts.{Counts}
 use Rattle.mic_clock.specs.declared.end.End.{End}
-use Rattle.mic_clock.specs.declared.end.End.TheVariants as ends
 use Rattle.mic_clock.specs.declared.registers.Registers.{Registers}
 use Rattle.mic_clock.specs.State.{state_line}
+use Rattle.cli_run_texts.specs.Ends.{end_name}
 use Rattle.mic_debugger.specs.Book.{Book}
 
--- the name of an end
-abbrev pub name_of : End → List ℕ
-name_of ends.Halt = codes "halt"
-name_of ends.Err = codes "error"
-name_of ends.Bound = codes "bound"
-name_of ends.StackLimit = codes "stack-limit"
-name_of ends.ReadFault = codes "read-fault"
-name_of ends.WriteFault = codes "write-fault"
-name_of (ends.OutOfMap at) = codes "out-of-map at " ++ hex_text 8 at
-name_of ends.Adrift = codes "adrift"
-
 unfoldable pub end_line : End → List ℕ
-end_line e = codes "end " ++ name_of e ++ codes "\n"
+end_line e = codes "end " ++ end_name e ++ codes "\n"
 
 -- a clocked cycle: its number, the address of its word, the label, and the text of the statement where it was no stall
 unfoldable pub clocked_line : Book → ℕ → ℕ → Bool → List ℕ
