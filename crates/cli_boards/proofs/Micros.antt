@@ -1,5 +1,5 @@
 -- Why there is no microprogram, and where one begins.
-use Rattle.std.proofs.Common.{◌≡◌, ◌<◌, ◌≤◌, ◌∙◌, ℕ, List, [], ◌∷◌, ◌++◌, length, take, get_or, Some, false, refl, sym, ap, subst, arith, inl, inr}
+use Rattle.std.proofs.Common.{◌≡◌, ◌<◌, ◌∙◌, ℕ, List, [], ◌∷◌, ◌++◌, length, take, Some, false, refl, sym, ap, subst, arith, inl, inr}
 use Rattle.machine_words.specs.declared.machine.Machine.{Machine}
 use Rattle.machine_words.specs.declared.machine.Machine.TheVariants.{Mic1, Mic2}
 use Rattle.watched_run.specs.declared.cycle.Cycle.{Cycle}
@@ -22,7 +22,7 @@ use Rattle.mal_parser.specs.Text.{IsRefused, is_memory}
 use Rattle.store_placement.specs.declared.refusal.PlaceError.{PlaceError}
 use Rattle.store_placement.specs.declared.refusal.PlaceError.TheVariants as place
 use Rattle.store_placement.specs.Demands.{Demands}
-use Rattle.store_placement.specs.Placement.{HasPlacement, Places}
+use Rattle.store_placement.specs.Placement.{HasPlacement}
 use Rattle.store_placement.specs.Chosen.{IsChosenList}
 use Rattle.store_placement.specs.Program.{demands_of}
 use Rattle.store_placement.specs.Refusals as placing

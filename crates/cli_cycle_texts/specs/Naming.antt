@@ -1,5 +1,5 @@
 -- The word at an address of a placed microprogram, by label and text; and the instruction at an address of an image.
-use Rattle.std.specs.Prelude.{◌≡◌, ◌≢◌, ◌<◌, ℕ, List, ◌++◌, Bool, true, false, if◌then◌else◌, Option, Some, None, length, slice_index, codes, unwrap_or}
+use Rattle.std.specs.Prelude.{◌≡◌, ◌≢◌, ◌<◌, ℕ, List, ◌++◌, Bool, true, false, Option, Some, None, length, slice_index, codes, unwrap_or}
 use Rattle.ijvm_image.specs.Image.{ImageView}
 use Rattle.ijvm_instr.specs.declared.instr.Instr.{Instr}
 use Rattle.ijvm_instr.specs.Instructions.{instr_at}

@@ -12,7 +12,6 @@ use Rattle.ijvm_simulation.specs.Simulates.{board_end}
 use Rattle.ijvm_simulation.specs.Headline.{HasRun}
 use Rattle.cli_outside.specs.Outside.{LentView, Over, PrintsOnOut}
 use Rattle.cli_run_texts.specs.Ends.{status_of}
-use Rattle.soak_program.specs.Generated.{generated}
 use Rattle.cli_soak.specs.Summary.{soak_summary}
 use Rattle.cli_soak.specs.SoakEnds.{soak_bound, IsGenerated, SoakEnds, Ran}
 

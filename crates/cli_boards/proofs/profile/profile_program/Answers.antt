@@ -1,9 +1,4 @@
-use Rattle.std.proofs.Common.{◌≡◌, ◌∙◌, ap, refl, rules, ℕ, List, [], Option, None, Some}
-use Rattle.std.specs.Option.{option_map}
-use Rattle.std.proofs.lemmas.List.{append-nil}
-use Rattle.mic_base.specs.Streams.{Puts}
-use Rattle.mic_base.specs.Causes.{HasCause}
-use Rattle.mic_clock.specs.declared.counts.Counts.{Counts}
+use Rattle.std.proofs.Common.{◌≡◌, ◌∙◌, ap, refl, rules}
 use Rattle.cli_profile.specs.Profile.{Profile, profile_of_cycles, profile_text, start_profile, Silent, profile_after}
 use Rattle.watched_run.specs.Watched.{kept_of}
 use Rattle.cli_boards.specs.Profiled.{Stopped, Whole}
