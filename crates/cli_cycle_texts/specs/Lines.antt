@@ -33,10 +33,14 @@ abbrev pub state_lines : Bool → Cycle → List ℕ
 state_lines buses c =
     (if buses && not c.drive.stalled then bus_line c.drive c.computed else []) ++ codes "  " ++ state_line c.registers ++ codes "\n"
 
--- where a boundary was reached: `at ADDRESS INSTRUCTION`
+-- `at ADDRESS INSTRUCTION`
+abbrev pub reached_line : ℕ → List ℕ → List ℕ
+reached_line at instruction = codes "at " ++ hex_text 8 at ++ codes " " ++ instruction ++ codes "\n"
+
+-- where a boundary was reached
 abbrev pub IsBoundaryLine : ImageView → Option ℕ → List ℕ → Type 0
 IsBoundaryLine image None text = text ≡ []
-IsBoundaryLine image (Some at) text = (instruction : List ℕ) × IsInstruction image at instruction × (text ≡ codes "at " ++ hex_text 8 at ++ codes " " ++ instruction ++ codes "\n")
+IsBoundaryLine image (Some at) text = (instruction : List ℕ) × IsInstruction image at instruction × (text ≡ reached_line at instruction)
 
 -- what a trace is of: a microprogram at its addresses, the image that it runs, and whether the buses are asked for
 pub record Traced : Type 0 where

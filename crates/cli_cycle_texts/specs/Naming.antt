@@ -27,7 +27,8 @@ default_text p = default_by p p.fallback
 -- the label and the text of the word at an address: those of the statement that is placed there, or of what unused words hold
 pub data IsWord (p : Program) (addresses : List ℕ) (mpc : ℕ) (label parts : List ℕ) : Type 0 where
   Placed : (s : ℕ) → IsOnlyAt addresses mpc s → label ≡ label_text p s → parts ≡ parts_text p s → IsWord p addresses mpc label parts
-  Unused : ((s : ℕ) → s < length addresses → slice_index addresses s ≢ mpc) → label ≡ codes ".default" → parts ≡ default_text p → IsWord p addresses mpc label parts
+  Unused : ((s : ℕ) → s < length addresses → slice_index addresses s ≢ mpc) → label ≡ codes ".default" → parts ≡ default_text p →
+      IsWord p addresses mpc label parts
 
 -- both, with `stall` in place of the text in a stalled cycle
 abbrev pub labelled_text : Bool → List ℕ → List ℕ → List ℕ

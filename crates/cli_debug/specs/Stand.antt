@@ -11,6 +11,7 @@ use Rattle.mic_debugger.specs.declared.reading.Command.{Command}
 use Rattle.mic_debugger.specs.declared.reading.CommandError.{CommandError}
 use Rattle.mic_debugger.specs.declared.table.Verb.{Verb}
 use Rattle.mic_debugger.specs.declared.table.Verb.TheVariants as verbs
+use Rattle.mic_debugger.specs.declared.until.Until.{Until}
 use Rattle.mic_debugger.specs.Book.{Book}
 use Rattle.mic_debugger.specs.Clocking.{IsDone, IsGoing, after, printed}
 use Rattle.mic_debugger.specs.Commands.{command_of}
@@ -75,10 +76,14 @@ module _ {State : Type 0} (m : Meaning State) (book : Book) (words : List ℕ) (
   abbrev pub Shows : Stand State → Plan → List ℕ → MicroRun State → Type 0
   Shows s plan text run = (run ≡ s.run) × (text ≡ shown_at s plan)
 
+  -- turns of a clocking command, of which this holds, lead to this run, and this is printed of them
+  abbrev pub IsAfterTurns : (ℕ → Type 0) → Until → Stand State → List ℕ → MicroRun State → Type 0
+  IsAfterTurns Turns u s text run =
+      (n : ℕ) × Turns n × (run ≡ after m book words s.breaks bound u n s.run) × (text ≡ printed m book words s.breaks bound u n s.run)
+
   -- a plan leads to this run and prints this text
   abbrev pub Carries : Plan → Stand State → List ℕ → MicroRun State → Type 0
-  Carries (plans.Clock u times) s text run =
-      (n : ℕ) × IsDone m book words s.breaks bound u times n s.run × (run ≡ after m book words s.breaks bound u n s.run) × (text ≡ printed m book words s.breaks bound u n s.run)
+  Carries (plans.Clock u times) s text run = IsAfterTurns (λ n. IsDone m book words s.breaks bound u times n s.run) u s text run
   Carries (plans.Refuse reply) s text run = Shows s (plans.Refuse reply) text run
   Carries plans.Registers s text run = Shows s plans.Registers text run
   Carries plans.Stack s text run = Shows s plans.Stack text run
@@ -97,8 +102,7 @@ module _ {State : Type 0} (m : Meaning State) (book : Book) (words : List ℕ) (
 
   -- a plan has come to this run and has printed this text, at a moment of its way
   abbrev pub Begins : Plan → Stand State → List ℕ → MicroRun State → Type 0
-  Begins (plans.Clock u times) s text run =
-      (n : ℕ) × IsGoing m book words s.breaks bound u times n s.run × (run ≡ after m book words s.breaks bound u n s.run) × (text ≡ printed m book words s.breaks bound u n s.run)
+  Begins (plans.Clock u times) s text run = IsAfterTurns (λ n. IsGoing m book words s.breaks bound u times n s.run) u s text run
   Begins (plans.Refuse reply) s text run = Shows s (plans.Refuse reply) text run
   Begins plans.Registers s text run = Shows s plans.Registers text run
   Begins plans.Stack s text run = Shows s plans.Stack text run

@@ -67,7 +67,8 @@ pub record PrintsTextOf {V : Type 0} (Shows : V → List ℕ → Type 0) (value 
 -- Bytes are written to a file, and then a text is printed.
 pub data WritesThenPrints (target bytes text : List ℕ) (old new : OutsideView) (status : ℕ) : Type 0 where
   Written : Tells new.files.contents target bytes → OthersKept old.files.contents new.files.contents target →
-      new.files.faults ≡ old.files.faults → PrintsOnOut text exits.done (with_files old new.files) new status → WritesThenPrints target bytes text old new status
+      new.files.faults ≡ old.files.faults → PrintsOnOut text exits.done (with_files old new.files) new status →
+      WritesThenPrints target bytes text old new status
   -- the files failed, and what the file to be written contains is open
   Unwritten : OthersKept old.files.contents new.files.contents target → Rose old.files.faults new.files.faults →
       TellsOnErr (message target cannot_write) exits.file (with_files old new.files) new status → WritesThenPrints target bytes text old new status

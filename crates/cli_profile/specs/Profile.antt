@@ -7,6 +7,7 @@ use Rattle.mic_clock.specs.declared.end.End.{End}
 use Rattle.mic_clock.specs.Run.{completes}
 use Rattle.watched_run.specs.declared.cycle.Cycle.{Cycle}
 use Rattle.watched_run.specs.Watched.{kept_of}
+use Rattle.cli_profile.specs.declared.profiler.Profiler.{Profiler}
 use Rattle.cli_profile.specs.declared.profiler.RowCount.{RowCount}
 use Rattle.cli_profile.specs.Rows.{other, row_name}
 
@@ -18,6 +19,10 @@ pub record Profile : Type 0 where
   pub last : Option Boundary
   -- how often the instructions of each row were completed, and in how many cycles
   pub tallies : List RowCount
+
+-- what a profiler holds
+abbrev pub profile_in : Profiler → Profile
+profile_in p = record { rows = p.rows.now; boot = p.boot; last = p.last; tallies = p.tallies }
 
 abbrev pub no_tally : RowCount
 no_tally = record { count = 0; cycles = 0 }

@@ -103,11 +103,11 @@ impl<'a> Profiler<'a> {
 }
 
 impl<'a> Watcher for Profiler<'a> {
-    ghost use Rattle.cli_profile.specs.Profile.{Profile, Silent, profile_after};
+    ghost use Rattle.cli_profile.specs.Profile.{Profile, Silent, profile_after, profile_in};
 
     ghost Kept = { Profile };
 
-    ghost kept = { λ p. record { rows = p.rows.now; boot = p.boot; last = p.last; tallies = p.tallies } };
+    ghost kept = { λ p. profile_in p };
 
     ghost keeps = { profile_after };
 

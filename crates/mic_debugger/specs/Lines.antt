@@ -13,10 +13,14 @@ use Rattle.mic_debugger.specs.Book.{Book}
 unfoldable pub end_line : End → List ℕ
 end_line e = codes "end " ++ end_name e ++ codes "\n"
 
+-- the text of a cycle's statement, `stall` where it was one
+abbrev pub cycle_text : Book → ℕ → Bool → List ℕ
+cycle_text book mpc stalled = if stalled then codes "stall" else book.text mpc
+
 -- a clocked cycle: its number, the address of its word, the label, and the text of the statement where it was no stall
 unfoldable pub clocked_line : Book → ℕ → ℕ → Bool → List ℕ
 clocked_line book cycles mpc stalled =
-    decimal cycles ++ codes " " ++ hex_text 3 mpc ++ codes " " ++ book.label mpc ++ codes " " ++ (if stalled then codes "stall" else book.text mpc) ++ codes "\n"
+    decimal cycles ++ codes " " ++ hex_text 3 mpc ++ codes " " ++ book.label mpc ++ codes " " ++ cycle_text book mpc stalled ++ codes "\n"
 
 -- the registers behind a cycle
 unfoldable pub registers_line : Registers → List ℕ

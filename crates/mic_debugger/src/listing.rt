@@ -1,6 +1,6 @@
 //! What names the words of the control store and the instructions of the program.
 
-ghost use Rattle.std.specs.Prelude.{◌≡◌, ◌<◌, ◌≤◌, ◌+◌, ◌++◌, length, Some, None, codes, if◌then◌else◌};
+ghost use Rattle.std.specs.Prelude.{◌≡◌, ◌<◌, ◌≤◌, ◌+◌, ◌++◌, length, Some, None, codes};
 ghost use Rattle.store_placement.specs.Placement.{Places};
 ghost use Rattle.store_placement.specs.Program.{demands_of};
 ghost use Rattle.ijvm_image.specs.Image.{ImageView};
@@ -8,7 +8,7 @@ ghost use Rattle.ijvm_instr.specs.Instructions.{instr_at};
 ghost use Rattle.ijvm_paths.specs.Kinds.{IsKind};
 ghost use Rattle.mic_base.specs.Digits.{hex_text};
 ghost use Rattle.mic_debugger.specs.Book.{Book, IsBookOf, label_or_dash, unused_text};
-ghost use Rattle.mic_debugger.specs.Lines.{clocked_line, place_line, place_text, next_line};
+ghost use Rattle.mic_debugger.specs.Lines.{clocked_line, cycle_text, place_line, place_text, next_line};
 
 use cli_outside::number;
 use ijvm_instr::{Instr, decode_at, print_instr};
@@ -117,8 +117,7 @@ impl Listing {
     /// Appends the text of a cycle's statement, `stall` where it was one.
     fn cycle_text(&self, mpc: u16, stalled: bool, line: &mut Line)
         requires { length line.old + 256 ≤ 512 }
-        ensures text { (book : Book) → IsBookOf self.now book →
-            line.new ≡ line.old ++ (if stalled then codes "stall" else book.text mpc) }
+        ensures text { (book : Book) → IsBookOf self.now book → line.new ≡ line.old ++ cycle_text book mpc stalled }
         ensures len { length line.new ≤ length line.old + 256 }
     {
         if stalled {
