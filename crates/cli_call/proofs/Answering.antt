@@ -56,7 +56,7 @@ use Rattle.cli_soak.specs.SoakEnds.{SoakEnds}
 use Rattle.cli_soak.specs.SoakEnds as soaking
 use Rattle.cli_call.specs.ClockedEnd.{ClockedEnd}
 use Rattle.cli_call.specs.ClockedEnd as clocking
-use Rattle.cli_call.specs.CallEnds.{CallEnds, EndsAs, EndsBy, EndsOn}
+use Rattle.cli_call.specs.CallEnds.{CallEnds, EndsAs, EndsOn, EndsOnMachine}
 use Rattle.cli_call.specs.CallEnds as calls
 use Rattle.cli_call.specs.Answers.{Adrift, ConsoleFailed, Done, Ended, FileFailed, HasFileRead, IsAnswer, IsOnlyTold, IsReference, IsUntouched, Misused, NoMemory, OutOfMap, Refused, Runs, RunsOwn, ShortOfMemory, SinkFailed, TooLong}
 
@@ -333,7 +333,7 @@ module _ (listed : IsListed) (old new : OutsideView) (status : ℕ) where
     on_machine (PrintMicro file machine) h = absurd h
 
 module _ (shipped : ShippedEnd) (old new : OutsideView) (status : ℕ) where
-  by_machine : (machine : Machine) (asked : Asked) → EndsBy machine asked old new status → IsAnswer (Some asked) old new status
+  by_machine : (machine : Machine) (asked : Asked) → EndsOnMachine machine asked old new status → IsAnswer (Some asked) old new status
   by_machine Mic1 asked h = on_machine shipped.listed old new status micro_of1 mic1_meaning IsReady1 (HasShipped Mic1) 0x002 shipped.mic1 asked h
   by_machine Mic2 asked h = on_machine shipped.listed old new status micro_of2 mic2_meaning IsReady2 (HasShipped Mic2) 0x002 shipped.mic2 asked h
 

@@ -45,9 +45,9 @@ module _ {M S : Type 0} (state : M → S) (m : Meaning S) (IsReady : ℕ → Lis
   EndsOn asked = λ old new status. ⊥
 
 -- each machine with the microprogram that ships for it, and Main1 at 0x002
-abbrev pub EndsBy : Machine → Asked → OutsideView → OutsideView → ℕ → Type 0
-EndsBy Mic1 = EndsOn micro_of1 mic1_meaning IsReady1 (HasShipped Mic1) 0x002
-EndsBy Mic2 = EndsOn micro_of2 mic2_meaning IsReady2 (HasShipped Mic2) 0x002
+abbrev pub EndsOnMachine : Machine → Asked → OutsideView → OutsideView → ℕ → Type 0
+EndsOnMachine Mic1 = EndsOn micro_of1 mic1_meaning IsReady1 (HasShipped Mic1) 0x002
+EndsOnMachine Mic2 = EndsOn micro_of2 mic2_meaning IsReady2 (HasShipped Mic2) 0x002
 
 -- Where the words ask for nothing, the usage text says how `mic` is called.
 abbrev pub EndsAs : Option Asked → OutsideView → OutsideView → ℕ → Type 0
@@ -55,16 +55,16 @@ EndsAs None = TellsOnErr usage_text exits.usage
 EndsAs (Some (Assemble source image)) = Assembles image source
 EndsAs (Some (ListOf file map)) = EndsOver map (PrintsTextOf Lists) file
 EndsAs (Some (Verify file map)) = EndsOver map (PrintsTextOf Summarizes) file
-EndsAs (Some (Run file machine bound map)) = EndsBy machine (Run file machine bound map)
-EndsAs (Some (RunOwn file machine bound map micro)) = EndsBy machine (RunOwn file machine bound map micro)
-EndsAs (Some (Trace file machine bound map micro buses)) = EndsBy machine (Trace file machine bound map micro buses)
-EndsAs (Some (Profile file machine bound map micro)) = EndsBy machine (Profile file machine bound map micro)
-EndsAs (Some (Debug file machine bound map micro input)) = EndsBy machine (Debug file machine bound map micro input)
-EndsAs (Some (Reference file machine bound map)) = EndsBy machine (Reference file machine bound map)
+EndsAs (Some (Run file machine bound map)) = EndsOnMachine machine (Run file machine bound map)
+EndsAs (Some (RunOwn file machine bound map micro)) = EndsOnMachine machine (RunOwn file machine bound map micro)
+EndsAs (Some (Trace file machine bound map micro buses)) = EndsOnMachine machine (Trace file machine bound map micro buses)
+EndsAs (Some (Profile file machine bound map micro)) = EndsOnMachine machine (Profile file machine bound map micro)
+EndsAs (Some (Debug file machine bound map micro input)) = EndsOnMachine machine (Debug file machine bound map micro input)
+EndsAs (Some (Reference file machine bound map)) = EndsOnMachine machine (Reference file machine bound map)
 EndsAs (Some (Micro mal store machine)) = MicroAnswers machine store mal
 EndsAs (Some (PrintMicro (Some file) machine)) = PrintMicroAnswers machine file
 EndsAs (Some (PrintMicro None machine)) = PrintsOnOut (canonical_text (listed_program machine)) exits.done
-EndsAs (Some (Soak seed size machine)) = EndsBy machine (Soak seed size machine)
+EndsAs (Some (Soak seed size machine)) = EndsOnMachine machine (Soak seed size machine)
 
 -- memory is wanting before anything is done, or the call ends as its words ask
 pub data CallEnds (asks : Option Asked) (old new : OutsideView) (status : ℕ) : Type 0 where

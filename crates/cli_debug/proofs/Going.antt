@@ -13,7 +13,7 @@ use Rattle.cli_debug.specs.declared.line.Read.{Read}
 use Rattle.cli_debug.specs.declared.line.Read.TheVariants as reads
 use Rattle.cli_debug.specs.declared.lines.Step.{Step}
 use Rattle.cli_debug.specs.declared.lines.Step.TheVariants as steps
-use Rattle.cli_debug.specs.Told.{IsCut, IsFirstLine, ReadsLineOf, behind_line, line_in}
+use Rattle.cli_debug.specs.Told.{IsCutLine, IsFirstLine, ReadsLineOf, behind_line, line_in}
 use Rattle.cli_debug.specs.Stand.{DoesAll, Stand, StandsAt, is_quit, lines_of}
 use Rattle.cli_debug.specs.Goes.{ConsoleFailed, Goes, Gone, IsCutShort, On, Over, Place, SinkFailed, step_behind}
 
@@ -195,7 +195,7 @@ module _ {M State : Type 0} {state : M → State} {m : Meaning State} where
 
   -- the console fails
   pub goes_cut : (n : ℕ) {old new : Place M} (line : List ℕ) → Gone state m [] old new → Rose old.seen.console.faults new.seen.console.faults →
-      IfSome old.seen.console.left (λ told. IsCut told line new.seen.console.left) → Goes state m (suc n) n old new steps.ConsoleFailed
+      IfSome old.seen.console.left (λ told. IsCutLine told line new.seen.console.left) → Goes state m (suc n) n old new steps.ConsoleFailed
   goes_cut n {old = old} {new = new} line done rose told =
       ConsoleFailed [] done rose
       (told_as old.seen.console.left _ _ told

@@ -5,7 +5,7 @@ use Rattle.std.specs.Option.{option_map}
 use Rattle.std.proofs.lemmas.Bool.Decides.{nat_tests}
 use Rattle.std.proofs.lemmas.List.{append-nil, length-append}
 use Rattle.cli_debug.specs.declared.line.Read.TheVariants as reads
-use Rattle.cli_debug.specs.Told.{IsCut, IsFirstLine, ReadsLine, behind_line, line_in}
+use Rattle.cli_debug.specs.Told.{IsCutLine, IsFirstLine, ReadsLine, behind_line, line_in}
 
 -- so many bytes of the line were read, and these are left
 pub record IsUnderway (told line rest : List ℕ) : Type 0 where
@@ -92,7 +92,7 @@ pub none_told : (told line : List ℕ) → line ≡ [] → IsUnderway told line 
 none_told told line none u = u.told_is ∙ append-nil line ∙ none
 
 -- a failing console cuts it
-pub cut_here : (told line rest : List ℕ) → length line < 256 → IsUnderway told line rest → IsCut told line (Some rest)
+pub cut_here : (told line rest : List ℕ) → length line < 256 → IsUnderway told line rest → IsCutLine told line (Some rest)
 cut_here told line rest less u = record { rest = rest; left_is = refl; told_is = u.told_is; short = less; unended = u.line_is }
 
 -- ---- between a source and what it has left
@@ -151,7 +151,7 @@ read_at_end E (Some told) left left' (b ∷ line) same none r =
     rw (not_empty b line)
     (subst (λ (l : Option (List ℕ)). IsFirstLine told (b ∷ line) l) (sym (same ∙ r.1 ∙ ap Some empty)) last.0, last.1)
 
-pub read_cut : (old left left' : Option (List ℕ)) (line : List ℕ) → length line < 256 → left' ≡ left → Reading old line left → IfSome old (λ told. IsCut told line left')
+pub read_cut : (old left left' : Option (List ℕ)) (line : List ℕ) → length line < 256 → left' ≡ left → Reading old line left → IfSome old (λ told. IsCutLine told line left')
 read_cut None left left' line less same r = tt
 read_cut (Some told) left left' line less same r =
-    subst (λ (l : Option (List ℕ)). IsCut told line l) (sym (same ∙ r.1)) (cut_here told line r.0 less r.2)
+    subst (λ (l : Option (List ℕ)). IsCutLine told line l) (sym (same ∙ r.1)) (cut_here told line r.0 less r.2)

@@ -50,8 +50,8 @@ pub record IsCutIn (memory most : ℕ) (bytes : List ℕ) (lines : List (List �
 
 module _ {M State : Type 0} (state : M → State) (m : Meaning State) where
   -- these lines lead a session on, and print what `err` has got
-  abbrev pub LeadsOver : List (List ℕ) → Place M → Place M → Type 0
-  LeadsOver lines old new =
+  abbrev pub LeadOn : List (List ℕ) → Place M → Place M → Type 0
+  LeadOn lines old new =
       (book : Book) → IsBook old.session.listing.program old.session.listing.placement old.session.listing.image book →
       (text : List ℕ) × Got old.seen.err.held text new.seen.err.held ×
       ((s : Stand State) → StandsAt state (Some old.input) old.seen.out.held old.session s →
@@ -67,7 +67,7 @@ module _ {M State : Type 0} (state : M → State) (m : Meaning State) where
 
   -- these lines were done whole: no sink failed, and nothing waits for `out`
   pub record Gone (lines : List (List ℕ)) (old new : Place M) : Type 0 where
-    pub led : LeadsOver lines old new
+    pub led : LeadOn lines old new
     pub listing : new.session.listing ≡ old.session.listing
     pub bound : new.session.bound ≡ old.session.bound
     pub store : new.session.board.store ≡ old.session.board.store

@@ -22,7 +22,7 @@ pub record IsFirstLine (told line : List ℕ) (left : Option (List ℕ)) : Type 
   pub rest : left ≡ Some (behind_line 256 told)
 
 -- a failing console cuts a line behind these bytes of it
-pub record IsCut (told line : List ℕ) (left : Option (List ℕ)) : Type 0 where
+pub record IsCutLine (told line : List ℕ) (left : Option (List ℕ)) : Type 0 where
   pub rest : List ℕ
   pub left_is : left ≡ Some rest
   pub told_is : told ≡ line ++ rest
@@ -33,7 +33,7 @@ abbrev pub ReadsLineOf : {E : Type 0} → List ℕ → List ℕ → Result Read 
 ReadsLineOf told line (Ok reads.Line) left = IsFirstLine told line left
 ReadsLineOf told line (Ok reads.Last) left = IsFirstLine told line left × (behind_line 256 told ≡ [])
 ReadsLineOf told line (Ok reads.Nothing) left = told ≡ []
-ReadsLineOf told line (Err e) left = IsCut told line left
+ReadsLineOf told line (Err e) left = IsCutLine told line left
 
 -- what came of reading a line, where the console tells its bytes
 abbrev pub ReadsLine : {E : Type 0} → Option (List ℕ) → List ℕ → Result Read E → Option (List ℕ) → Type 0
