@@ -36,9 +36,9 @@ use Rattle.cli_outside.specs.Work.{Ends, IsNotHad, IsUnread, PrintsTextOf, Write
 use Rattle.cli_outside.specs.Work as work
 use Rattle.cli_run_texts.specs.Ends.{status_of}
 use Rattle.cli_run_texts.specs.Ends as texts
-use Rattle.cli_programs.specs.Reference.{IsReported, IsRun}
+use Rattle.cli_programs.specs.Reference.{IsReferenceRun, IsReported}
 use Rattle.cli_programs.specs.Reference as reference
-use Rattle.cli_boards.specs.Own.{IsChosen, NoneChosen}
+use Rattle.cli_boards.specs.Own.{IsChosenMicroprogram, NoneChosen}
 use Rattle.cli_boards.specs.Prepared.{EndsPrepared, IsUnprepared}
 use Rattle.cli_boards.specs.Prepared as preparing
 use Rattle.cli_boards.specs.Runs.{IsFirstBoard, RunsThrough}
@@ -231,7 +231,7 @@ module _ (asks : Option Asked) (old new : OutsideView) (status : ℕ) where
 
   prepared : (machine : Machine) (map : MemoryMap) (Ran : Program → VerifiedView → OutsideView → OutsideView → ℕ → Type 0) (file : List ℕ) (own : Option (List ℕ)) →
       HasFileRead asks file → ((one : List ℕ) → own ≡ Some one → HasFileRead asks one) → EndsPrepared machine map Ran file own old new status →
-      ((micro : Program) (program : VerifiedView) → IsAccepted program → IsChosen machine own old micro → Ran micro program old new status → Answer) → Answer
+      ((micro : Program) (program : VerifiedView) → IsAccepted program → IsChosenMicroprogram machine own old micro → Ran micro program old new status → Answer) → Answer
   prepared machine map Ran file own reads owns (preparing.Unprepared h) ran = unprepared machine map file own reads owns h
   prepared machine map Ran file own reads owns (preparing.Clocked micro program both h) ran = ran micro program both.had.is.accepted both.chosen h
 
@@ -282,7 +282,7 @@ module _ (asks : Option Asked) (old new : OutsideView) (status : ℕ) where
   reported machine bound program r runs (reference.CutByRead end cut rose same flushed) is = ConsoleFailed rose (is ∙ ap (λ e. status_of (texts.clocked_end e)) end)
   reported machine bound program r runs (reference.CutByWrite end cut same rose) is = SinkFailed (inl rose) (is ∙ ap (λ e. status_of (texts.clocked_end e)) end)
 
-  defined_run : (machine : Machine) (bound : ℕ) (program : VerifiedView) → Runs asks → IsReference asks → IsRun machine bound program old new status → Answer
+  defined_run : (machine : Machine) (bound : ℕ) (program : VerifiedView) → Runs asks → IsReference asks → IsReferenceRun machine bound program old new status → Answer
   defined_run machine bound program runs refers (reference.Reported r h files says) = on_err _ _ says (reported machine bound program r runs h)
   defined_run machine bound program runs refers (reference.Short short console out flushed files says) = on_err _ _ says (ShortOfMemory refers)
 
@@ -296,7 +296,7 @@ module _ (listed : IsListed) (old new : OutsideView) (status : ℕ) where
   module _ {M S : Type 0} (state : M → S) (m : Meaning S) (IsReady : ℕ → List ℕ → ℕ → S → Type 0) (IsShipped : List ℕ → Type 0) (entry : ℕ)
       (law : EndsAsDefined state m (HasShipped m.machine) 0x002) where
     -- Without a file of its own, a trace or a profile clocks the microprogram that ships.
-    stays : (asks : Option Asked) (bound : ℕ) (own : Option (List ℕ)) (micro : Program) (program : VerifiedView) → IsAccepted program → IsChosen m.machine own old micro →
+    stays : (asks : Option Asked) (bound : ℕ) (own : Option (List ℕ)) (micro : Program) (program : VerifiedView) → IsAccepted program → IsChosenMicroprogram m.machine own old micro →
         ((name : List ℕ) → own ≡ Some name → RunsOwn asks) → Stays asks old new state m bound micro program
     stays asks bound None micro program accepted chosen owns =
         λ l last cycles end run stray.

@@ -18,7 +18,7 @@ use Rattle.cli_outside.specs.Work.{PrintsTextOf}
 use Rattle.cli_texts.specs.Listing.{Lists}
 use Rattle.cli_texts.specs.Summary.{Summarizes}
 use Rattle.cli_programs.specs.Answers.{Assembles, EndsOver}
-use Rattle.cli_programs.specs.Reference.{IsRun}
+use Rattle.cli_programs.specs.Reference.{IsReferenceRun}
 use Rattle.cli_micro.specs.Answers.{MicroAnswers, PrintMicroAnswers}
 use Rattle.cli_boards.specs.OwnRun.{IsOwnRun}
 use Rattle.cli_boards.specs.Prepared.{EndsPrepared}
@@ -40,7 +40,7 @@ module _ {M S : Type 0} (state : M → S) (m : Meaning S) (IsReady : ℕ → Lis
   EndsOn (Profile file machine bound map micro) = EndsPrepared m.machine map (IsProfiled state m bound) file micro
   EndsOn (Debug file machine bound map own input) =
       EndsPrepared m.machine map (λ micro program. EndsWithInput (IsDebugged state m bound micro program) input) file own
-  EndsOn (Reference file machine bound map) = EndsOver map (IsRun machine bound) file
+  EndsOn (Reference file machine bound map) = EndsOver map (IsReferenceRun machine bound) file
   EndsOn (Soak seed size machine) = SoakEnds state m IsReady IsShipped entry seed size
   EndsOn asked = λ old new status. ⊥
 
