@@ -6,12 +6,12 @@ use Rattle.ijvm_paths.specs.Accepted.{VerifiedView}
 use Rattle.mal_parser.specs.Program.{Program}
 use Rattle.cli_outside.specs.Outside.{LentView, OutsideView, Over}
 use Rattle.cli_outside.specs.Work.{IsHad, IsNotHad}
-use Rattle.cli_programs.specs.Program.{IsProgram, IsRefused}
+use Rattle.cli_programs.specs.Program.{IsProgram, IsRefusedProgram}
 use Rattle.cli_boards.specs.Own.{NoneChosen}
 use Rattle.cli_boards.specs.Prepared.{Clocked, EndsPrepared, IsPrepared, IsUnprepared, NoMicroprogram, NoProgram, Unprepared}
 
 module _ {machine : Machine} {map : MemoryMap} {file : List ℕ} {own : Option (List ℕ)} {old new : LentView} {status : ℕ} where
-  pub no_program : Over (IsNotHad (IsRefused map) file) old new status → Over (IsUnprepared machine map file own) old new status
+  pub no_program : Over (IsNotHad (IsRefusedProgram map) file) old new status → Over (IsUnprepared machine map file own) old new status
   no_program over = record { names = over.names; does = NoProgram over.does }
 
   pub no_microprogram : (program : VerifiedView) → IsHad (IsProgram map) file old.seen program → Over (NoneChosen machine own) old new status →

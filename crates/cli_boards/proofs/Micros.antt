@@ -1,12 +1,12 @@
 -- Why there is no microprogram, and where one begins.
-use Rattle.std.proofs.Common.{◌≡◌, ◌<◌, ◌≤◌, ◌∙◌, ℕ, List, [], ◌∷◌, ◌++◌, length, take, get_or, Some, false, refl, sym, ap, subst, arith, inl, inr}
+use Rattle.std.proofs.Common.{◌≡◌, ◌<◌, ◌∙◌, ℕ, List, [], ◌∷◌, ◌++◌, length, take, Some, false, refl, sym, ap, subst, arith, inl, inr}
 use Rattle.machine_words.specs.declared.machine.Machine.{Machine}
 use Rattle.machine_words.specs.declared.machine.Machine.TheVariants.{Mic1, Mic2}
 use Rattle.watched_run.specs.declared.cycle.Cycle.{Cycle}
 use Rattle.watched_run.specs.Watched.{PrintsOf}
-use Rattle.cli_profile.specs.Profile.{Profile, Silent, counted}
+use Rattle.cli_profile.specs.Profile.{Profile, Silent, profile_after}
 use Rattle.cli_outside.specs.declared.refusal.Refusal.{Refusal}
-use Rattle.cli_outside.specs.Outside.{Got, GotFront}
+use Rattle.cli_outside.specs.Outside.{Got, GotInPart}
 use Rattle.cli_outside.specs.Work.{IsRefusal, refusal_by}
 use Rattle.cli_micro.specs.Answers.{IsRefusedText, NoProgram}
 use Rattle.shipped_program.specs.Listing.{program1, program2, listed_program}
@@ -22,7 +22,7 @@ use Rattle.mal_parser.specs.Text.{IsRefused, is_memory}
 use Rattle.store_placement.specs.declared.refusal.PlaceError.{PlaceError}
 use Rattle.store_placement.specs.declared.refusal.PlaceError.TheVariants as place
 use Rattle.store_placement.specs.Demands.{Demands}
-use Rattle.store_placement.specs.Placement.{HasPlacement, Places}
+use Rattle.store_placement.specs.Placement.{HasPlacement}
 use Rattle.store_placement.specs.Chosen.{IsChosenList}
 use Rattle.store_placement.specs.Program.{demands_of}
 use Rattle.store_placement.specs.Refusals as placing
@@ -88,9 +88,9 @@ shipped_machine machine p e = ap (λ (q : Program). q.machine) e ∙ of_machine 
     of_machine Mic2 = refl
 
 -- nothing was said of any cycle
-pub silent_says : (p : Profile) (cs : List Cycle) (text : List ℕ) → PrintsOf counted Silent p cs text → text ≡ []
+pub silent_says : (p : Profile) (cs : List Cycle) (text : List ℕ) → PrintsOf profile_after Silent p cs text → text ≡ []
 silent_says p [] text h = h
-silent_says p (c ∷ cs) text h = h.4 ∙ (λ i. h.2 i ++ silent_says (counted p c) cs h.1 h.3 i)
+silent_says p (c ∷ cs) text h = h.4 ∙ (λ i. h.2 i ++ silent_says (profile_after p c) cs h.1 h.3 i)
 
 -- a sink that got nothing is as it was
 pub nothing_put : (old new : Option (List ℕ)) (text : List ℕ) → text ≡ [] → new ≡ option_map (λ held. held ++ text) old → new ≡ old
@@ -98,6 +98,6 @@ nothing_put None new text none put = put
 nothing_put (Some held) new text none put = put ∙ ap (λ (t : List ℕ). Some (held ++ t)) none ∙ ap Some (append-nil held)
 
 -- nor is one that failed where there was nothing to get
-pub nothing_put_of : (old new : Option (List ℕ)) (text : List ℕ) → text ≡ [] → GotFront old text new → Got old [] new
+pub nothing_put_of : (old new : Option (List ℕ)) (text : List ℕ) → text ≡ [] → GotInPart old text new → Got old [] new
 nothing_put_of old new text none h =
     h.1 ∙ ap (λ (t : List ℕ). option_map (λ (held : List ℕ). held ++ t) old) (ap (take h.0) none ∙ take-nil h.0)

@@ -6,7 +6,7 @@ use Rattle.std.proofs.lemmas.List.{take_min, take-append-le}
 use Rattle.mic_base.specs.Causes.{Rose}
 use Rattle.mic_base.specs.Streams.{Puts}
 use Rattle.cli_outside.specs.Status as exits
-use Rattle.cli_outside.specs.Outside.{GotFront, Said, Says, SinkState, Unsaid}
+use Rattle.cli_outside.specs.Outside.{GotInPart, Said, Says, SinkState, Unsaid}
 
 puts_then : {E : Type 0} (old mid new : Option (List ℕ)) (p q : List ℕ) (result : Result Unit E) →
     mid ≡ option_map (λ held. held ++ p) old → Puts mid q result new → Puts old (p ++ q) result new
@@ -20,7 +20,7 @@ puts_then (Some held) mid new p q (Err x) e h = (
       ∙ ap (λ (more : List ℕ). Some (held ++ more)) (sym (take-append-add p q h.0)),
 )
 
-front_of_more : (old new : Option (List ℕ)) (p q : List ℕ) → GotFront old p new → GotFront old (p ++ q) new
+front_of_more : (old new : Option (List ℕ)) (p q : List ℕ) → GotInPart old p new → GotInPart old (p ++ q) new
 front_of_more old new p q h =
     let m : ℕ = min h.0 (length p) in
     let inside : min h.0 (length p) ≤ length p = omega arith in (

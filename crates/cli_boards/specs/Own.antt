@@ -5,17 +5,17 @@ use Rattle.mal_parser.specs.Program.{Program}
 use Rattle.mal_parser.specs.Text.{SpellsProgram}
 use Rattle.cli_outside.specs.Status as exits
 use Rattle.cli_outside.specs.Messages.{out_of_memory}
-use Rattle.cli_outside.specs.Outside.{OutsideView, Tells}
+use Rattle.cli_outside.specs.Outside.{OutsideView, TellsOnErr}
 use Rattle.cli_outside.specs.Work.{IsHad, IsNotHad}
 use Rattle.shipped_program.specs.Listing.{listed_program}
 use Rattle.cli_micro.specs.Answers.{IsRefusedText}
 
 -- where a file is named it is that file's, and else the one that ships for the machine
-abbrev pub IsChosen : Machine → Option (List ℕ) → OutsideView → Program → Type 0
-IsChosen machine None o micro = micro ≡ listed_program machine
-IsChosen machine (Some name) o micro = IsHad (SpellsProgram machine) name o micro
+abbrev pub IsChosenMicroprogram : Machine → Option (List ℕ) → OutsideView → Program → Type 0
+IsChosenMicroprogram machine None o micro = micro ≡ listed_program machine
+IsChosenMicroprogram machine (Some name) o micro = IsHad (SpellsProgram machine) name o micro
 
 -- nothing is had of the file, or memory is wanting for the one that ships
 abbrev pub NoneChosen : Machine → Option (List ℕ) → OutsideView → OutsideView → ℕ → Type 0
-NoneChosen machine None = Tells out_of_memory exits.memory
+NoneChosen machine None = TellsOnErr out_of_memory exits.memory
 NoneChosen machine (Some name) = IsNotHad (IsRefusedText machine) name

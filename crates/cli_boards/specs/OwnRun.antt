@@ -9,16 +9,16 @@ use Rattle.mal_parser.specs.Program.{Program}
 use Rattle.shipped_program.specs.declared.loaded.Loaded.{Loaded}
 use Rattle.cli_outside.specs.Status as exits
 use Rattle.cli_outside.specs.Messages.{out_of_memory}
-use Rattle.cli_outside.specs.Outside.{OutsideView, Says, Tells}
+use Rattle.cli_outside.specs.Outside.{OutsideView, Says, TellsOnErr}
 use Rattle.cli_run_texts.specs.Ends.{status_of}
-use Rattle.cli_boards.specs.Runs.{IsFirst, IsLeftBy, report_on}
+use Rattle.cli_boards.specs.Runs.{IsFirstBoard, IsLeftBy, report_on}
 
 module _ {M State : Type 0} (state : M → State) (m : Meaning State) where
   pub data IsOwnRun (bound : ℕ) (micro : Program) (program : VerifiedView) (old new : OutsideView) (status : ℕ) : Type 0 where
     -- memory was wanting before the first cycle
-    NoRoom : Tells out_of_memory exits.memory old new status → IsOwnRun bound micro program old new status
+    NoRoom : TellsOnErr out_of_memory exits.memory old new status → IsOwnRun bound micro program old new status
     -- turns from the reset lead to the end, or a fault cuts them
-    Ran : (l : Loaded) (first last : BoardView M) (end : End) → IsFirst state m micro l program first → last.end ≡ Some end →
+    Ran : (l : Loaded) (first last : BoardView M) (end : End) → IsFirstBoard state m micro l program first → last.end ≡ Some end →
         IsRun state m old.console.left old.out.held first new.console.left new.out.held last (Some bound) →
         RunIsCutByRead state m old.console.left old.out.held first new.console.left new.out.held last (Some bound) →
         RunIsCutByWrite state m old.console.left old.out.held first new.console.left new.out.held last (Some bound) →

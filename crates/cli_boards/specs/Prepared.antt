@@ -6,18 +6,18 @@ use Rattle.ijvm_paths.specs.Accepted.{VerifiedView}
 use Rattle.mal_parser.specs.Program.{Program}
 use Rattle.cli_outside.specs.Outside.{OutsideView}
 use Rattle.cli_outside.specs.Work.{IsHad, IsNotHad}
-use Rattle.cli_programs.specs.Program.{IsProgram, IsRefused}
-use Rattle.cli_boards.specs.Own.{IsChosen, NoneChosen}
+use Rattle.cli_programs.specs.Program.{IsProgram, IsRefusedProgram}
+use Rattle.cli_boards.specs.Own.{IsChosenMicroprogram, NoneChosen}
 
 module _ (machine : Machine) (map : MemoryMap) where
   -- both are had
   pub record IsPrepared (file : List ℕ) (own : Option (List ℕ)) (o : OutsideView) (micro : Program) (program : VerifiedView) : Type 0 where
     pub had : IsHad (IsProgram map) file o program
-    pub chosen : IsChosen machine own o micro
+    pub chosen : IsChosenMicroprogram machine own o micro
 
   -- one is not, and it is told why: the program's file is looked at first, then the microprogram's
   pub data IsUnprepared (file : List ℕ) (own : Option (List ℕ)) (old new : OutsideView) (status : ℕ) : Type 0 where
-    NoProgram : IsNotHad (IsRefused map) file old new status → IsUnprepared file own old new status
+    NoProgram : IsNotHad (IsRefusedProgram map) file old new status → IsUnprepared file own old new status
     NoMicroprogram : (program : VerifiedView) → IsHad (IsProgram map) file old program → NoneChosen machine own old new status →
         IsUnprepared file own old new status
 

@@ -8,11 +8,11 @@ use Rattle.ijvm_paths.specs.Accepted.{VerifiedView}
 use Rattle.mal_parser.specs.Program.{Program}
 use Rattle.shipped_program.specs.declared.loaded.Loaded.{Loaded}
 use Rattle.watched_run.specs.declared.cycle.Cycle.{Cycle}
-use Rattle.cli_profile.specs.Rows.{AreRows}
-use Rattle.cli_profile.specs.Profile.{profile_of, profile_text}
+use Rattle.cli_profile.specs.Rows.{AreRowsUpTo}
+use Rattle.cli_profile.specs.Profile.{profile_of_cycles, profile_text}
 use Rattle.cli_outside.specs.Status as exits
 use Rattle.cli_outside.specs.Messages.{out_of_memory}
-use Rattle.cli_outside.specs.Outside.{Got, OutsideView, Says, Tells}
+use Rattle.cli_outside.specs.Outside.{Got, OutsideView, Says, TellsOnErr}
 use Rattle.cli_run_texts.specs.Ends.{status_of}
 use Rattle.cli_boards.specs.Runs.{RunsThrough, report_on}
 
@@ -20,11 +20,11 @@ module _ {M State : Type 0} (state : M → State) (m : Meaning State) where
   -- the run of this microprogram over an accepted program, profiled
   pub data IsProfiled (bound : ℕ) (micro : Program) (program : VerifiedView) (old new : OutsideView) (status : ℕ) : Type 0 where
     -- memory was wanting before the first cycle
-    NoRoom : Tells out_of_memory exits.memory old new status → IsProfiled bound micro program old new status
+    NoRoom : TellsOnErr out_of_memory exits.memory old new status → IsProfiled bound micro program old new status
     -- the run came to its end, or the console or `out` failed and cut it: `err` has got its profile and its report
     Whole : (l : Loaded) (last : BoardView M) (cycles : List Cycle) (end : End) (rows : List ℕ) →
-        RunsThrough state m bound micro l program cycles last (Some end) old new → AreRows program.image (length program.image.text) rows →
-        Says old.err new.err (profile_text (profile_of rows cycles) end last.counts ++ report_on state m end last) (status_of end) status →
+        RunsThrough state m bound micro l program cycles last (Some end) old new → AreRowsUpTo program.image (length program.image.text) rows →
+        Says old.err new.err (profile_text (profile_of_cycles rows cycles) end last.counts ++ report_on state m end last) (status_of end) status →
         IsProfiled bound micro program old new status
     -- `err` failed before the profile was put, and the run was stopped there: `err` has got nothing
     Stopped : (l : Loaded) (last : BoardView M) (cycles : List Cycle) → RunsThrough state m bound micro l program cycles last None old new →

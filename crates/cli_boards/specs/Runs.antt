@@ -28,7 +28,7 @@ module _ {M State : Type 0} (state : M → State) (m : Meaning State) where
   report_on end board = report_of end board.counts (m.registers (state board.machine))
 
   -- the board at its reset from which a microprogram runs an accepted program
-  pub record IsFirst (micro : Program) (l : Loaded) (program : VerifiedView) (board : BoardView M) : Type 0 where
+  pub record IsFirstBoard (micro : Program) (l : Loaded) (program : VerifiedView) (board : BoardView M) : Type 0 where
     pub loaded : IsLoaded micro l
     pub store : board.store ≡ l.store
     pub reset : IsAtReset state m l.entry program board
@@ -37,7 +37,7 @@ module _ {M State : Type 0} (state : M → State) (m : Meaning State) where
   pub record RunsThrough (bound : ℕ) (micro : Program) (l : Loaded) (program : VerifiedView) (cycles : List Cycle) (last : BoardView M) (end : Option End)
       (old new : OutsideView) : Type 0 where
     pub first : BoardView M
-    pub begins : IsFirst micro l program first
+    pub begins : IsFirstBoard micro l program first
     pub shows : ShowsCycles state m bound old.console.left old.out.held first new.console.left new.out.held last cycles end
     pub ends : IfSome end (λ e. e ≢ ends.WriteFault → last.end ≡ Some e)
     pub left : IsLeftBy end old new

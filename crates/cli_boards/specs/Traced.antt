@@ -12,13 +12,13 @@ use Rattle.watched_run.specs.Watched.{PrintsOf}
 use Rattle.cli_cycle_texts.specs.Lines.{AreLinesOf, Traced}
 use Rattle.cli_outside.specs.Status as exits
 use Rattle.cli_outside.specs.Messages.{out_of_memory}
-use Rattle.cli_outside.specs.Outside.{GotFront, OutsideView, Says, Tells}
+use Rattle.cli_outside.specs.Outside.{GotInPart, OutsideView, Says, TellsOnErr}
 use Rattle.cli_run_texts.specs.Ends.{status_of}
 use Rattle.cli_boards.specs.Runs.{RunsThrough, report_on}
 
 -- the lines of these cycles, one after the other
-abbrev pub AreLines : Traced → List Cycle → List ℕ → Type 0
-AreLines = PrintsOf (λ t c. t) AreLinesOf
+abbrev pub AreTraceLines : Traced → List Cycle → List ℕ → Type 0
+AreTraceLines = PrintsOf (λ t c. t) AreLinesOf
 
 -- what is traced of a microprogram at its addresses, over an accepted program
 abbrev pub traced_of : Program → Loaded → VerifiedView → Bool → Traced
@@ -28,13 +28,13 @@ module _ {M State : Type 0} (state : M → State) (m : Meaning State) where
   -- the run of this microprogram over an accepted program, traced
   pub data IsTraced (bound : ℕ) (buses : Bool) (micro : Program) (program : VerifiedView) (old new : OutsideView) (status : ℕ) : Type 0 where
     -- memory was wanting before the first cycle
-    NoRoom : Tells out_of_memory exits.memory old new status → IsTraced bound buses micro program old new status
+    NoRoom : TellsOnErr out_of_memory exits.memory old new status → IsTraced bound buses micro program old new status
     -- the run came to its end, or the console or `out` failed and cut it: `err` has got the lines of its cycles, and its report
     Whole : (l : Loaded) (last : BoardView M) (cycles : List Cycle) (end : End) (lines : List ℕ) →
-        RunsThrough state m bound micro l program cycles last (Some end) old new → AreLines (traced_of micro l program buses) cycles lines →
+        RunsThrough state m bound micro l program cycles last (Some end) old new → AreTraceLines (traced_of micro l program buses) cycles lines →
         Says old.err new.err (lines ++ report_on state m end last) (status_of end) status → IsTraced bound buses micro program old new status
     -- `err` failed, and the run was stopped there: it has a front of the lines of these cycles
     Stopped : (l : Loaded) (last : BoardView M) (cycles : List Cycle) (lines : List ℕ) →
-        RunsThrough state m bound micro l program cycles last None old new → AreLines (traced_of micro l program buses) cycles lines →
-        GotFront old.err.held lines new.err.held → Rose old.err.faults new.err.faults → status ≡ exits.sink →
+        RunsThrough state m bound micro l program cycles last None old new → AreTraceLines (traced_of micro l program buses) cycles lines →
+        GotInPart old.err.held lines new.err.held → Rose old.err.faults new.err.faults → status ≡ exits.sink →
         IsTraced bound buses micro program old new status

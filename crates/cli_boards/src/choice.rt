@@ -5,7 +5,7 @@ ghost use Rattle.mal_parser.specs.Text.{SpellsProgram};
 ghost use Rattle.cli_outside.specs.Outside.{Over};
 ghost use Rattle.cli_outside.specs.Work.{IsHad, IsNotHad};
 ghost use Rattle.cli_micro.specs.Answers.{IsRefusedText};
-ghost use Rattle.cli_boards.specs.Own.{IsChosen, NoneChosen};
+ghost use Rattle.cli_boards.specs.Own.{IsChosenMicroprogram, NoneChosen};
 
 use crate::microprogram::{Microprogram, placed_microprogram, shipped_microprogram};
 use cli_outside::{Outside, Status};
@@ -42,7 +42,7 @@ pub(crate) fn chosen_microprogram<F: Files, S: Source, K: Sink, E: Sink>(
     own: Option<&str>,
     outside: &mut Outside<'_, F, S, K, E>,
 ) -> Result<Microprogram, Status>
-    ensures chosen { IfOk result (λ micro. IsChosen machine (option_map (λ name. name.now) own.entry) outside.old.seen micro.program) }
+    ensures chosen { IfOk result (λ micro. IsChosenMicroprogram machine (option_map (λ name. name.now) own.entry) outside.old.seen micro.program) }
     ensures machine { IfOk result (λ micro. micro.program.machine ≡ machine) }
     ensures same { OnOk result (outside.new ≡ outside.old) }
     ensures none { IfErr result (λ status. Over (NoneChosen machine (option_map (λ name. name.now) own.entry)) outside.old outside.new status.0) }

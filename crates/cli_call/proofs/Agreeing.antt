@@ -25,7 +25,7 @@ use Rattle.cli_run_texts.specs.Ends.{status_of}
 use Rattle.cli_run_texts.specs.Ends as texts
 use Rattle.mic_clock.specs.State.{state_line}
 use Rattle.cli_run_texts.specs.Report.{clocked_head, cycles_of, head, last_boundary, plain_head}
-use Rattle.cli_programs.specs.Reference.{IsRun, Reported}
+use Rattle.cli_programs.specs.Reference.{IsReferenceRun, Reported}
 use Rattle.cli_programs.specs.Reference as reference
 use Rattle.cli_boards.specs.Runs.{report_on}
 use Rattle.cli_call.specs.ClockedEnd.{ClockedEnd, CutByRead, CutByWrite, NoRoom, Ran}
@@ -146,7 +146,7 @@ module _ {M S : Type 0} (state : M → S) (m : Meaning S) (IsReady : ℕ → Lis
     by_reference : OneEnd → old.console.left ≡ Some input →
         (board : BoardView M) (run : HasRun state m IsReady IsShipped entry program bound old.console.left old.out.held ran.console.left ran.out.held board) →
         Says old.err ran.err (report_on state m (board_end run.begins.finish.end) board) (status_of (board_end run.begins.finish.end)) status →
-        IsRun m.machine bound program old told status' →
+        IsReferenceRun m.machine bound program old told status' →
         IsQuiet old ran status → IsQuiet old told status' → Agrees old ran told status status'
     by_reference one tells board run says (Reported r (reference.Ran plainly console out flushed) files says') quiet quiet' =
         both one tells board run says r plainly says' quiet quiet'
@@ -157,7 +157,7 @@ module _ {M S : Type 0} (state : M → S) (m : Meaning S) (IsReady : ℕ → Lis
 
     pub agree : OneEnd → old.console.left ≡ Some input →
         ClockedEnd state m IsReady IsShipped entry bound program old ran status →
-        IsRun m.machine bound program old told status' →
+        IsReferenceRun m.machine bound program old told status' →
         IsQuiet old ran status → IsQuiet old told status' → Agrees old ran told status status'
     agree one tells (NoRoom tells') reference quiet quiet' = absurd (quiet.memory (said old.err ran.err _ _ status quiet.err tells'.says).0)
     agree one tells (Ran board run files console out flushed says) reference quiet quiet' = by_reference one tells board run says reference quiet quiet'

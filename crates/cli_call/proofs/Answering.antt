@@ -32,17 +32,17 @@ use Rattle.mic_base.specs.Causes.{Rose}
 use Rattle.cli_words.specs.Words.{Asked, Assemble, ListOf, Verify, Run, RunOwn, Trace, Profile, Debug, Reference, Micro, PrintMicro, Soak}
 use Rattle.cli_outside.specs.Status as exits
 use Rattle.cli_outside.specs.Messages.{out_of_memory}
-use Rattle.cli_outside.specs.Outside.{FilesState, OutsideView, Said, Says, SinkState, Tells, Unsaid, with_files}
-use Rattle.cli_outside.specs.Work.{Ends, IsNotHad, IsUnread, PrintsOf, Writes}
+use Rattle.cli_outside.specs.Outside.{FilesState, OutsideView, Said, Says, SinkState, TellsOnErr, Unsaid, with_files}
+use Rattle.cli_outside.specs.Work.{Ends, IsNotHad, IsUnread, PrintsTextOf, WritesThenPrints}
 use Rattle.cli_outside.specs.Work as work
 use Rattle.cli_run_texts.specs.Ends.{status_of}
 use Rattle.cli_run_texts.specs.Ends as texts
-use Rattle.cli_programs.specs.Reference.{IsReported, IsRun}
+use Rattle.cli_programs.specs.Reference.{IsReferenceRun, IsReported}
 use Rattle.cli_programs.specs.Reference as reference
-use Rattle.cli_boards.specs.Own.{IsChosen, NoneChosen}
+use Rattle.cli_boards.specs.Own.{IsChosenMicroprogram, NoneChosen}
 use Rattle.cli_boards.specs.Prepared.{EndsPrepared, IsUnprepared}
 use Rattle.cli_boards.specs.Prepared as preparing
-use Rattle.cli_boards.specs.Runs.{IsFirst, RunsThrough}
+use Rattle.cli_boards.specs.Runs.{IsFirstBoard, RunsThrough}
 use Rattle.cli_boards.specs.OwnRun.{IsOwnRun}
 use Rattle.cli_boards.specs.OwnRun as own_run
 use Rattle.cli_boards.specs.Profiled.{IsProfiled}
@@ -57,9 +57,9 @@ use Rattle.cli_soak.specs.SoakEnds.{SoakEnds}
 use Rattle.cli_soak.specs.SoakEnds as soaking
 use Rattle.cli_call.specs.ClockedEnd.{ClockedEnd}
 use Rattle.cli_call.specs.ClockedEnd as clocking
-use Rattle.cli_call.specs.CallEnds.{CallEnds, EndsAs, EndsBy, EndsOn}
+use Rattle.cli_call.specs.CallEnds.{CallEnds, EndsAs, EndsOn, EndsOnMachine}
 use Rattle.cli_call.specs.CallEnds as calls
-use Rattle.cli_call.specs.Answers.{Adrift, ConsoleFailed, Done, Ended, FileFailed, IsAnswer, IsOnlyTold, IsReference, IsUntouched, Misused, NoMemory, OutOfMap, Reads, Refused, Runs, RunsOwn, ShortOfMemory, SinkFailed, TooLong}
+use Rattle.cli_call.specs.Answers.{Adrift, ConsoleFailed, Done, Ended, FileFailed, HasFileRead, IsAnswer, IsOnlyTold, IsReference, IsUntouched, Misused, NoMemory, OutOfMap, Refused, Runs, RunsOwn, ShortOfMemory, SinkFailed, TooLong}
 
 -- a sink that failed between these has failed since the one before
 either_of : (a a' b b' c d : ℕ) → a ≡ a' → b ≡ b' → Rose a c ⊎ Rose b d → Rose a' c ⊎ Rose b' d
@@ -100,7 +100,7 @@ pub record IsListed : Type 0 where
 -- where the microprogram that ships is clocked, no run ends so
 module _ {M S : Type 0} (state : M → S) (m : Meaning S) (machine : Machine) (listed : IsListed) (law : EndsAsDefined state m (HasShipped machine) 0x002) where
   pub shipped_stays : (micro : Program) (program : VerifiedView) (bound : ℕ) (left held left' held' : Option (List ℕ)) (l : Loaded) (first last : BoardView M) (cycles : List Cycle) (end : End) →
-      micro ≡ listed_program machine → IsAccepted program → IsFirst state m micro l program first → ShowsCycles state m bound left held first left' held' last cycles (Some end) →
+      micro ≡ listed_program machine → IsAccepted program → IsFirstBoard state m micro l program first → ShowsCycles state m bound left held first left' held' last cycles (Some end) →
       (end ≢ ends.WriteFault → last.end ≡ Some end) → IsStray end → ⊥
   shipped_stays micro program bound left held left' held' l first last cycles end ships accepted start shows ended stray =
       let loaded : IsLoaded (listed_program machine) l = subst (λ (p : Program). IsLoaded p l) ships start.loaded in
@@ -152,36 +152,36 @@ module _ (asks : Option Asked) (old new : OutsideView) (status : ℕ) where
   on_out text code (Unsaid is front rose) answer = SinkFailed (inl rose) is
 
   -- all that is done is said on `err`, but for what is done to the files
-  told : (text : List ℕ) (code : ℕ) (files : FilesState) → Tells text code (with_files old files) new status → (IsUntouched old new → status ≡ code → Answer) → Answer
+  told : (text : List ℕ) (code : ℕ) (files : FilesState) → TellsOnErr text code (with_files old files) new status → (IsUntouched old new → status ≡ code → Answer) → Answer
   told text code files h answer = on_err text code h.says (answer (record { console = h.console; out = h.out }))
 
-  only_told : (text : List ℕ) (code : ℕ) → Tells text code old new status → (IsOnlyTold old new → status ≡ code → Answer) → Answer
+  only_told : (text : List ℕ) (code : ℕ) → TellsOnErr text code old new status → (IsOnlyTold old new → status ≡ code → Answer) → Answer
   only_told text code h answer = on_err text code h.says (answer (record { files = h.files; untouched = record { console = h.console; out = h.out } }))
 
-  short : Tells out_of_memory exits.memory old new status → Answer
+  short : TellsOnErr out_of_memory exits.memory old new status → Answer
   short h = only_told _ _ h (λ only. NoMemory only.untouched)
 
   -- A file is not had, or this is done over what it holds.
 
-  unread : (file : List ℕ) → Reads asks file → IsUnread file old new status → Answer
+  unread : (file : List ℕ) → HasFileRead asks file → IsUnread file old new status → Answer
   unread file reads (work.Failed same rose h) = told _ _ new.files h (FileFailed rose)
   unread file reads (work.TooLong bytes has long h) = only_told _ _ h (TooLong file bytes reads has long)
   unread file reads (work.NoRoom h) = short h
 
-  not_had : (Refuses : List ℕ → List ℕ → Type 0) (file : List ℕ) → Reads asks file → IsNotHad Refuses file old new status → Answer
+  not_had : (Refuses : List ℕ → List ℕ → Type 0) (file : List ℕ) → HasFileRead asks file → IsNotHad Refuses file old new status → Answer
   not_had Refuses file reads (work.Unread h) = unread file reads h
   not_had Refuses file reads (work.Refused bytes reason read refuses h) = only_told _ _ h Refused
   not_had Refuses file reads (work.Short h) = short h
 
-  over : {V : Type 0} (Refuses : List ℕ → List ℕ → Type 0) (Is : List ℕ → V → Type 0) (Does : V → OutsideView → OutsideView → ℕ → Type 0) (file : List ℕ) → Reads asks file →
+  over : {V : Type 0} (Refuses : List ℕ → List ℕ → Type 0) (Is : List ℕ → V → Type 0) (Does : V → OutsideView → OutsideView → ℕ → Type 0) (file : List ℕ) → HasFileRead asks file →
       Ends Refuses Is Does file old new status → ((value : V) → Does value old new status → Answer) → Answer
   over Refuses Is Does file reads (work.NotHad h) does = not_had Refuses file reads h
   over Refuses Is Does file reads (work.Did value had h) does = does value h
 
-  printed : {V : Type 0} (Shows : V → List ℕ → Type 0) (value : V) → PrintsOf Shows value old new status → Answer
+  printed : {V : Type 0} (Shows : V → List ℕ → Type 0) (value : V) → PrintsTextOf Shows value old new status → Answer
   printed Shows value h = on_out _ _ h.prints.says Done
 
-  written : (target bytes text : List ℕ) → Writes target bytes text old new status → Answer
+  written : (target bytes text : List ℕ) → WritesThenPrints target bytes text old new status → Answer
   written target bytes text (work.Written has others same h) = on_out _ _ h.says Done
   written target bytes text (work.Unwritten others rose h) = told _ _ new.files h (FileFailed rose)
   written target bytes text (work.HalfWritten others same h) = told _ _ new.files h NoMemory
@@ -218,18 +218,18 @@ module _ (asks : Option Asked) (old new : OutsideView) (status : ℕ) where
     soaked seed size (soaking.Ran program is left board run h) = on_out _ _ h.says (defined_end run.begins.finish.end runs)
 
   -- the commands that clock any microprogram
-  none_chosen : (machine : Machine) (name : Option (List ℕ)) → ((one : List ℕ) → name ≡ Some one → Reads asks one) → NoneChosen machine name old new status → Answer
+  none_chosen : (machine : Machine) (name : Option (List ℕ)) → ((one : List ℕ) → name ≡ Some one → HasFileRead asks one) → NoneChosen machine name old new status → Answer
   none_chosen machine None reads h = short h
   none_chosen machine (Some one) reads h = not_had _ one (reads one refl) h
 
-  unprepared : (machine : Machine) (map : MemoryMap) (file : List ℕ) (own : Option (List ℕ)) → Reads asks file → ((one : List ℕ) → own ≡ Some one → Reads asks one) →
+  unprepared : (machine : Machine) (map : MemoryMap) (file : List ℕ) (own : Option (List ℕ)) → HasFileRead asks file → ((one : List ℕ) → own ≡ Some one → HasFileRead asks one) →
       IsUnprepared machine map file own old new status → Answer
   unprepared machine map file own reads owns (preparing.NoProgram h) = not_had _ file reads h
   unprepared machine map file own reads owns (preparing.NoMicroprogram program had h) = none_chosen machine own owns h
 
   prepared : (machine : Machine) (map : MemoryMap) (Ran : Program → VerifiedView → OutsideView → OutsideView → ℕ → Type 0) (file : List ℕ) (own : Option (List ℕ)) →
-      Reads asks file → ((one : List ℕ) → own ≡ Some one → Reads asks one) → EndsPrepared machine map Ran file own old new status →
-      ((micro : Program) (program : VerifiedView) → IsAccepted program → IsChosen machine own old micro → Ran micro program old new status → Answer) → Answer
+      HasFileRead asks file → ((one : List ℕ) → own ≡ Some one → HasFileRead asks one) → EndsPrepared machine map Ran file own old new status →
+      ((micro : Program) (program : VerifiedView) → IsAccepted program → IsChosenMicroprogram machine own old micro → Ran micro program old new status → Answer) → Answer
   prepared machine map Ran file own reads owns (preparing.Unprepared h) ran = unprepared machine map file own reads owns h
   prepared machine map Ran file own reads owns (preparing.Clocked micro program both h) ran = ran micro program both.had.is.accepted both.chosen h
 
@@ -249,11 +249,11 @@ module _ (asks : Option Asked) (old new : OutsideView) (status : ℕ) where
     ran_profiled stays (profiled.Stopped l last cycles run got rose is) = SinkFailed (inr rose) is
 
   -- `debug`
-  no_input : (name : Option (List ℕ)) → ((one : List ℕ) → name ≡ Some one → Reads asks one) → IsNoInput name old new status → Answer
+  no_input : (name : Option (List ℕ)) → ((one : List ℕ) → name ≡ Some one → HasFileRead asks one) → IsNoInput name old new status → Answer
   no_input None reads h = absurd h
   no_input (Some one) reads h = unread one (reads one refl) h
 
-  with_input : (Debugs : List ℕ → OutsideView → OutsideView → ℕ → Type 0) (name : Option (List ℕ)) → ((one : List ℕ) → name ≡ Some one → Reads asks one) →
+  with_input : (Debugs : List ℕ → OutsideView → OutsideView → ℕ → Type 0) (name : Option (List ℕ)) → ((one : List ℕ) → name ≡ Some one → HasFileRead asks one) →
       EndsWithInput Debugs name old new status → ((input : List ℕ) → Debugs input old new status → Answer) → Answer
   with_input Debugs name reads (inputs.NoInput h) debugs = no_input name reads h
   with_input Debugs name reads (inputs.Debugged input is h) debugs = debugs input h
@@ -280,7 +280,7 @@ module _ (asks : Option Asked) (old new : OutsideView) (status : ℕ) where
   reported machine bound program r runs (reference.CutByRead end cut rose same flushed) is = ConsoleFailed rose (is ∙ ap (λ e. status_of (texts.clocked_end e)) end)
   reported machine bound program r runs (reference.CutByWrite end cut same rose) is = SinkFailed (inl rose) (is ∙ ap (λ e. status_of (texts.clocked_end e)) end)
 
-  defined_run : (machine : Machine) (bound : ℕ) (program : VerifiedView) → Runs asks → IsReference asks → IsRun machine bound program old new status → Answer
+  defined_run : (machine : Machine) (bound : ℕ) (program : VerifiedView) → Runs asks → IsReference asks → IsReferenceRun machine bound program old new status → Answer
   defined_run machine bound program runs refers (reference.Reported r h files says) = on_err _ _ says (reported machine bound program r runs h)
   defined_run machine bound program runs refers (reference.Short short console out flushed files says) = on_err _ _ says (ShortOfMemory refers)
 
@@ -294,7 +294,7 @@ module _ (listed : IsListed) (old new : OutsideView) (status : ℕ) where
   module _ {M S : Type 0} (state : M → S) (m : Meaning S) (IsReady : ℕ → List ℕ → ℕ → S → Type 0) (IsShipped : List ℕ → Type 0) (entry : ℕ)
       (law : EndsAsDefined state m (HasShipped m.machine) 0x002) where
     -- Without a file of its own, a trace or a profile clocks the microprogram that ships.
-    stays : (asks : Option Asked) (bound : ℕ) (own : Option (List ℕ)) (micro : Program) (program : VerifiedView) → IsAccepted program → IsChosen m.machine own old micro →
+    stays : (asks : Option Asked) (bound : ℕ) (own : Option (List ℕ)) (micro : Program) (program : VerifiedView) → IsAccepted program → IsChosenMicroprogram m.machine own old micro →
         ((name : List ℕ) → own ≡ Some name → RunsOwn asks) → Stays asks old new state m bound micro program
     stays asks bound None micro program accepted chosen owns =
         λ l last cycles end run stray.
@@ -331,7 +331,7 @@ module _ (listed : IsListed) (old new : OutsideView) (status : ℕ) where
     on_machine (PrintMicro file machine) h = absurd h
 
 module _ (shipped : ShippedEnd) (old new : OutsideView) (status : ℕ) where
-  by_machine : (machine : Machine) (asked : Asked) → EndsBy machine asked old new status → IsAnswer (Some asked) old new status
+  by_machine : (machine : Machine) (asked : Asked) → EndsOnMachine machine asked old new status → IsAnswer (Some asked) old new status
   by_machine Mic1 asked h = on_machine shipped.listed old new status micro_of1 mic1_meaning IsReady1 (HasShipped Mic1) 0x002 shipped.mic1 asked h
   by_machine Mic2 asked h = on_machine shipped.listed old new status micro_of2 mic2_meaning IsReady2 (HasShipped Mic2) 0x002 shipped.mic2 asked h
 

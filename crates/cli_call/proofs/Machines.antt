@@ -16,7 +16,7 @@ use Rattle.cli_outside.specs.Outside.{Got, OutsideView, Says}
 use Rattle.cli_run_texts.specs.Ends.{status_of}
 use Rattle.cli_boards.specs.Runs.{report_on}
 use Rattle.cli_call.specs.ClockedEnd.{ClockedEnd, CutByRead, CutByWrite, NoRoom, Ran}
-use Rattle.cli_call.specs.Agree.{EndAlike, IsQuiet}
+use Rattle.cli_call.specs.Agree.{CallsEndAlike, IsQuiet}
 use Rattle.cli_call.proofs.Agreeing.{said}
 
 -- what both sinks tell
@@ -42,7 +42,7 @@ module _ {M N S T : Type 0} (state : M → S) (m : Meaning S) (IsReady : ℕ →
         Says old.err one.err (report_on state m (board_end run.begins.finish.end) board) (status_of (board_end run.begins.finish.end)) status →
         (board' : BoardView N) (run' : HasRun state' m' IsReady' IsShipped' entry' program bound' old.console.left old.out.held other.console.left other.out.held board') →
         Says old.err other.err (report_on state' m' (board_end run'.begins.finish.end) board') (status_of (board_end run'.begins.finish.end)) status' →
-        IsQuiet old one status → IsQuiet old other status' → status ≢ exits.bound → status' ≢ exits.bound → EndAlike old one other status status'
+        IsQuiet old one status → IsQuiet old other status' → status ≢ exits.bound → status' ≢ exits.bound → CallsEndAlike old one other status status'
     both agree tells board run says board' run' says' quiet quiet' none none' =
         let one_said = said old.err one.err _ _ status quiet.err says in
         let other_said = said old.err other.err _ _ status' quiet'.err says' in
@@ -75,7 +75,7 @@ module _ {M N S T : Type 0} (state : M → S) (m : Meaning S) (IsReady : ℕ →
         (board : BoardView M) (run : HasRun state m IsReady IsShipped entry program bound old.console.left old.out.held one.console.left one.out.held board) →
         Says old.err one.err (report_on state m (board_end run.begins.finish.end) board) (status_of (board_end run.begins.finish.end)) status →
         ClockedEnd state' m' IsReady' IsShipped' entry' bound' program old other status' →
-        IsQuiet old one status → IsQuiet old other status' → status ≢ exits.bound → status' ≢ exits.bound → EndAlike old one other status status'
+        IsQuiet old one status → IsQuiet old other status' → status ≢ exits.bound → status' ≢ exits.bound → CallsEndAlike old one other status status'
     by_other agree tells board run says (Ran board' run' files console out flushed says') quiet quiet' = both agree tells board run says board' run' says' quiet quiet'
     by_other agree tells board run says (NoRoom tells') quiet quiet' = absurd (quiet'.memory (said old.err other.err _ _ status' quiet'.err tells'.says).0)
     by_other agree tells board run says (CutByRead board' cut files rose out flushed says') quiet quiet' = absurd (quiet'.console rose)
@@ -84,7 +84,7 @@ module _ {M N S T : Type 0} (state : M → S) (m : Meaning S) (IsReady : ℕ →
     pub end_alike : BoardsAgree → old.console.left ≡ Some input →
         ClockedEnd state m IsReady IsShipped entry bound program old one status →
         ClockedEnd state' m' IsReady' IsShipped' entry' bound' program old other status' →
-        IsQuiet old one status → IsQuiet old other status' → status ≢ exits.bound → status' ≢ exits.bound → EndAlike old one other status status'
+        IsQuiet old one status → IsQuiet old other status' → status ≢ exits.bound → status' ≢ exits.bound → CallsEndAlike old one other status status'
     end_alike agree tells (Ran board run files console out flushed says) ends quiet quiet' = by_other agree tells board run says ends quiet quiet'
     end_alike agree tells (NoRoom tells') ends quiet quiet' = absurd (quiet.memory (said old.err one.err _ _ status quiet.err tells'.says).0)
     end_alike agree tells (CutByRead board cut files rose out flushed says) ends quiet quiet' = absurd (quiet.console rose)

@@ -28,7 +28,7 @@ pub record Agrees (old ran told : OutsideView) (status status' : ℕ) : Type 0 w
   pub reference_says : Got old.err.held (plain_head report) told.err.held
 
 -- `run` on one machine led to the outside `one`, and on another to `other`
-pub record EndAlike (old one other : OutsideView) (status status' : ℕ) : Type 0 where
+pub record CallsEndAlike (old one other : OutsideView) (status status' : ℕ) : Type 0 where
   pub same_status : status ≡ status'
   pub same_out : (given given' : List ℕ) → one.out.held ≡ Some given → other.out.held ≡ Some given' → given ≡ given'
   -- both report this end, with as many instructions

@@ -1,26 +1,26 @@
 -- The answers of a call of `mic`, one by one: what caused it, and what stands after it.
 use Rattle.std.specs.Prelude.{◌≡◌, ◌<◌, ◌≤◌, ◌⊎◌, ℕ, List, length, Option, Some, None}
 use Rattle.mic_base.specs.Causes.{Rose}
-use Rattle.mic_base.specs.Files.{Tells as Contain, most_bytes}
+use Rattle.mic_base.specs.Files.{Tells, most_bytes}
 use Rattle.cli_words.specs.Words.{Asked, Assemble, ListOf, Verify, Run, RunOwn, Trace, Profile, Debug, Reference, Micro, PrintMicro, Soak}
 use Rattle.cli_outside.specs.Status as exits
 use Rattle.cli_outside.specs.Outside.{OutsideView}
 
 -- the words have this file read
-abbrev pub Reads : Option Asked → List ℕ → Type 0
-Reads None name = ⊥
-Reads (Some (Assemble source image)) name = name ≡ source
-Reads (Some (ListOf file map)) name = name ≡ file
-Reads (Some (Verify file map)) name = name ≡ file
-Reads (Some (Run file machine bound map)) name = name ≡ file
-Reads (Some (RunOwn file machine bound map micro)) name = (name ≡ file) ⊎ (name ≡ micro)
-Reads (Some (Trace file machine bound map micro buses)) name = (name ≡ file) ⊎ (micro ≡ Some name)
-Reads (Some (Profile file machine bound map micro)) name = (name ≡ file) ⊎ (micro ≡ Some name)
-Reads (Some (Debug file machine bound map micro input)) name = (name ≡ file) ⊎ ((micro ≡ Some name) ⊎ (input ≡ Some name))
-Reads (Some (Reference file machine bound map)) name = name ≡ file
-Reads (Some (Micro mal store machine)) name = name ≡ mal
-Reads (Some (PrintMicro file machine)) name = file ≡ Some name
-Reads (Some (Soak seed size machine)) name = ⊥
+abbrev pub HasFileRead : Option Asked → List ℕ → Type 0
+HasFileRead None name = ⊥
+HasFileRead (Some (Assemble source image)) name = name ≡ source
+HasFileRead (Some (ListOf file map)) name = name ≡ file
+HasFileRead (Some (Verify file map)) name = name ≡ file
+HasFileRead (Some (Run file machine bound map)) name = name ≡ file
+HasFileRead (Some (RunOwn file machine bound map micro)) name = (name ≡ file) ⊎ (name ≡ micro)
+HasFileRead (Some (Trace file machine bound map micro buses)) name = (name ≡ file) ⊎ (micro ≡ Some name)
+HasFileRead (Some (Profile file machine bound map micro)) name = (name ≡ file) ⊎ (micro ≡ Some name)
+HasFileRead (Some (Debug file machine bound map micro input)) name = (name ≡ file) ⊎ ((micro ≡ Some name) ⊎ (input ≡ Some name))
+HasFileRead (Some (Reference file machine bound map)) name = name ≡ file
+HasFileRead (Some (Micro mal store machine)) name = name ≡ mal
+HasFileRead (Some (PrintMicro file machine)) name = file ≡ Some name
+HasFileRead (Some (Soak seed size machine)) name = ⊥
 
 -- they have a program run to its end
 abbrev pub Runs : Option Asked → Type 0
@@ -67,7 +67,7 @@ pub data IsAnswer (asks : Option Asked) (old new : OutsideView) (status : ℕ) :
   -- 66
   FileFailed : Rose old.files.faults new.files.faults → IsUntouched old new → status ≡ exits.file → IsAnswer asks old new status
   -- 67
-  TooLong : (name bytes : List ℕ) → Reads asks name → Contain old.files.contents name bytes → most_bytes < length bytes → IsOnlyTold old new →
+  TooLong : (name bytes : List ℕ) → HasFileRead asks name → Tells old.files.contents name bytes → most_bytes < length bytes → IsOnlyTold old new →
       status ≡ exits.too_long → IsAnswer asks old new status
   -- 68, 69: only by a person's own microprogram
   OutOfMap : RunsOwn asks → status ≡ exits.out_of_map → IsAnswer asks old new status

@@ -13,12 +13,12 @@ use Rattle.shipped_program.specs.Shipped.{HasShipped}
 use Rattle.cli_words.specs.Words.{Asked, Assemble, ListOf, Verify, Run, RunOwn, Trace, Profile, Debug, Reference, Micro, PrintMicro, Soak}
 use Rattle.cli_outside.specs.Status as exits
 use Rattle.cli_outside.specs.Messages.{out_of_memory}
-use Rattle.cli_outside.specs.Outside.{OutsideView, Prints, Tells}
-use Rattle.cli_outside.specs.Work.{PrintsOf}
+use Rattle.cli_outside.specs.Outside.{OutsideView, PrintsOnOut, TellsOnErr}
+use Rattle.cli_outside.specs.Work.{PrintsTextOf}
 use Rattle.cli_texts.specs.Listing.{Lists}
 use Rattle.cli_texts.specs.Summary.{Summarizes}
 use Rattle.cli_programs.specs.Answers.{Assembles, EndsOver}
-use Rattle.cli_programs.specs.Reference.{IsRun}
+use Rattle.cli_programs.specs.Reference.{IsReferenceRun}
 use Rattle.cli_micro.specs.Answers.{MicroAnswers, PrintMicroAnswers}
 use Rattle.cli_boards.specs.OwnRun.{IsOwnRun}
 use Rattle.cli_boards.specs.Prepared.{EndsPrepared}
@@ -28,7 +28,7 @@ use Rattle.cli_debug.specs.Debugged.{IsDebugged}
 use Rattle.cli_debug.specs.Input.{EndsWithInput}
 use Rattle.cli_soak.specs.SoakEnds.{SoakEnds}
 use Rattle.cli_call.specs.ClockedEnd.{ClockedEnd}
-use Rattle.cli_call.specs.Usage.{usage}
+use Rattle.cli_call.specs.Usage.{usage_text}
 
 -- A machine: its meaning, when its next instruction is ready, its store that ships, and where that begins.
 module _ {M S : Type 0} (state : M → S) (m : Meaning S) (IsReady : ℕ → List ℕ → ℕ → S → Type 0) (IsShipped : List ℕ → Type 0) (entry : ℕ) where
@@ -40,33 +40,33 @@ module _ {M S : Type 0} (state : M → S) (m : Meaning S) (IsReady : ℕ → Lis
   EndsOn (Profile file machine bound map micro) = EndsPrepared m.machine map (IsProfiled state m bound) file micro
   EndsOn (Debug file machine bound map own input) =
       EndsPrepared m.machine map (λ micro program. EndsWithInput (IsDebugged state m bound micro program) input) file own
-  EndsOn (Reference file machine bound map) = EndsOver map (IsRun machine bound) file
+  EndsOn (Reference file machine bound map) = EndsOver map (IsReferenceRun machine bound) file
   EndsOn (Soak seed size machine) = SoakEnds state m IsReady IsShipped entry seed size
   EndsOn asked = λ old new status. ⊥
 
 -- each machine with the microprogram that ships for it, and Main1 at 0x002
-abbrev pub EndsBy : Machine → Asked → OutsideView → OutsideView → ℕ → Type 0
-EndsBy Mic1 = EndsOn micro_of1 mic1_meaning IsReady1 (HasShipped Mic1) 0x002
-EndsBy Mic2 = EndsOn micro_of2 mic2_meaning IsReady2 (HasShipped Mic2) 0x002
+abbrev pub EndsOnMachine : Machine → Asked → OutsideView → OutsideView → ℕ → Type 0
+EndsOnMachine Mic1 = EndsOn micro_of1 mic1_meaning IsReady1 (HasShipped Mic1) 0x002
+EndsOnMachine Mic2 = EndsOn micro_of2 mic2_meaning IsReady2 (HasShipped Mic2) 0x002
 
 -- Where the words ask for nothing, the usage text says how `mic` is called.
 abbrev pub EndsAs : Option Asked → OutsideView → OutsideView → ℕ → Type 0
-EndsAs None = Tells usage exits.usage
+EndsAs None = TellsOnErr usage_text exits.usage
 EndsAs (Some (Assemble source image)) = Assembles image source
-EndsAs (Some (ListOf file map)) = EndsOver map (PrintsOf Lists) file
-EndsAs (Some (Verify file map)) = EndsOver map (PrintsOf Summarizes) file
-EndsAs (Some (Run file machine bound map)) = EndsBy machine (Run file machine bound map)
-EndsAs (Some (RunOwn file machine bound map micro)) = EndsBy machine (RunOwn file machine bound map micro)
-EndsAs (Some (Trace file machine bound map micro buses)) = EndsBy machine (Trace file machine bound map micro buses)
-EndsAs (Some (Profile file machine bound map micro)) = EndsBy machine (Profile file machine bound map micro)
-EndsAs (Some (Debug file machine bound map micro input)) = EndsBy machine (Debug file machine bound map micro input)
-EndsAs (Some (Reference file machine bound map)) = EndsBy machine (Reference file machine bound map)
+EndsAs (Some (ListOf file map)) = EndsOver map (PrintsTextOf Lists) file
+EndsAs (Some (Verify file map)) = EndsOver map (PrintsTextOf Summarizes) file
+EndsAs (Some (Run file machine bound map)) = EndsOnMachine machine (Run file machine bound map)
+EndsAs (Some (RunOwn file machine bound map micro)) = EndsOnMachine machine (RunOwn file machine bound map micro)
+EndsAs (Some (Trace file machine bound map micro buses)) = EndsOnMachine machine (Trace file machine bound map micro buses)
+EndsAs (Some (Profile file machine bound map micro)) = EndsOnMachine machine (Profile file machine bound map micro)
+EndsAs (Some (Debug file machine bound map micro input)) = EndsOnMachine machine (Debug file machine bound map micro input)
+EndsAs (Some (Reference file machine bound map)) = EndsOnMachine machine (Reference file machine bound map)
 EndsAs (Some (Micro mal store machine)) = MicroAnswers machine store mal
 EndsAs (Some (PrintMicro (Some file) machine)) = PrintMicroAnswers machine file
-EndsAs (Some (PrintMicro None machine)) = Prints (canonical_text (listed_program machine)) exits.done
-EndsAs (Some (Soak seed size machine)) = EndsBy machine (Soak seed size machine)
+EndsAs (Some (PrintMicro None machine)) = PrintsOnOut (canonical_text (listed_program machine)) exits.done
+EndsAs (Some (Soak seed size machine)) = EndsOnMachine machine (Soak seed size machine)
 
 -- memory is wanting before anything is done, or the call ends as its words ask
 pub data CallEnds (asks : Option Asked) (old new : OutsideView) (status : ℕ) : Type 0 where
-  NoRoom : Tells out_of_memory exits.memory old new status → CallEnds asks old new status
+  NoRoom : TellsOnErr out_of_memory exits.memory old new status → CallEnds asks old new status
   Done : EndsAs asks old new status → CallEnds asks old new status

@@ -10,7 +10,7 @@ use Rattle.ijvm_simulation.specs.Simulates.{board_end}
 use Rattle.ijvm_simulation.specs.Headline.{HasRun, IsCutByRead, IsCutByWrite}
 use Rattle.cli_outside.specs.Status as exits
 use Rattle.cli_outside.specs.Messages.{out_of_memory}
-use Rattle.cli_outside.specs.Outside.{OutsideView, Says, Tells}
+use Rattle.cli_outside.specs.Outside.{OutsideView, Says, TellsOnErr}
 use Rattle.cli_run_texts.specs.Ends.{status_of}
 use Rattle.cli_boards.specs.Runs.{report_on}
 
@@ -19,7 +19,7 @@ module _ {M S : Type 0} (state : M → S) (m : Meaning S) (IsReady : ℕ → Lis
   -- `board` is the machine that was clocked over the program from its reset
   pub data ClockedEnd (bound : ℕ) (program : VerifiedView) (old new : OutsideView) (status : ℕ) : Type 0 where
     -- memory was wanting before the first cycle
-    NoRoom : Tells out_of_memory exits.memory old new status → ClockedEnd bound program old new status
+    NoRoom : TellsOnErr out_of_memory exits.memory old new status → ClockedEnd bound program old new status
     -- the clocked run is the definition's, boundary by boundary, and has ended as that does, which the status tells;
     -- `out` has got the definition's output, and has passed on all
     Ran : (board : BoardView M) →

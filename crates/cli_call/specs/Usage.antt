@@ -2,8 +2,8 @@
 use Rattle.std.specs.Prelude.{ℕ, List, ◌++◌, codes}
 
 -- the text that a faulty command line is answered with
-abbrev pub usage : List ℕ
-usage =
+abbrev pub usage_text : List ℕ
+usage_text =
     codes "usage: mic assemble SOURCE IMAGE\n"
     ++ codes "       mic list FILE [--map W]\n"
     ++ codes "       mic verify FILE [--map W]\n"

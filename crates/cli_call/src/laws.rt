@@ -8,12 +8,12 @@ ghost use Rattle.mic2_datapath.specs.Mic2.{mic2_meaning, IsReady as IsReady2};
 ghost use Rattle.mic2_datapath.specs.View.{micro_of as micro_of2};
 ghost use Rattle.shipped_program.specs.Shipped.{HasShipped};
 ghost use Rattle.ijvm_paths.specs.Accepted.{VerifiedView};
-ghost use Rattle.cli_programs.specs.Reference.{IsRun};
+ghost use Rattle.cli_programs.specs.Reference.{IsReferenceRun};
 ghost use Rattle.cli_debug.specs.Stand.{OnlyGives};
 ghost use Rattle.cli_outside.specs.Status as exits;
 ghost use Rattle.cli_outside.specs.Outside.{OutsideView};
 ghost use Rattle.cli_call.specs.ClockedEnd.{ClockedEnd};
-ghost use Rattle.cli_call.specs.Agree.{Agrees, EndAlike, IsQuiet};
+ghost use Rattle.cli_call.specs.Agree.{Agrees, CallsEndAlike, IsQuiet};
 
 use ijvm_run::runs_end_once;
 use ijvm_simulation::interpreters_agree;
@@ -23,11 +23,11 @@ use shipped_microcode::{Mic1Interpreter, Mic2Interpreter};
 pub fn run_agrees_with_reference()
     ensures mic1 { (program : VerifiedView) (bound : ℕ) (input : List ℕ) (old ran told : OutsideView) (status status' : ℕ) → old.console.left ≡ Some input →
         ClockedEnd micro_of1 mic1_meaning IsReady1 (HasShipped Mic1) 0x002 bound program old ran status →
-        IsRun Mic1 bound program old told status' →
+        IsReferenceRun Mic1 bound program old told status' →
         IsQuiet old ran status → IsQuiet old told status' → Agrees old ran told status status' }
     ensures mic2 { (program : VerifiedView) (bound : ℕ) (input : List ℕ) (old ran told : OutsideView) (status status' : ℕ) → old.console.left ≡ Some input →
         ClockedEnd micro_of2 mic2_meaning IsReady2 (HasShipped Mic2) 0x002 bound program old ran status →
-        IsRun Mic2 bound program old told status' →
+        IsReferenceRun Mic2 bound program old told status' →
         IsQuiet old ran status → IsQuiet old told status' → Agrees old ran told status status' }
 {
     runs_end_once();
@@ -38,7 +38,7 @@ pub fn run_agrees_on_both_machines()
     ensures { (program : VerifiedView) (bound bound' : ℕ) (input : List ℕ) (old one other : OutsideView) (status status' : ℕ) → old.console.left ≡ Some input →
         ClockedEnd micro_of1 mic1_meaning IsReady1 (HasShipped Mic1) 0x002 bound program old one status →
         ClockedEnd micro_of2 mic2_meaning IsReady2 (HasShipped Mic2) 0x002 bound' program old other status' →
-        IsQuiet old one status → IsQuiet old other status' → status ≢ exits.bound → status' ≢ exits.bound → EndAlike old one other status status' }
+        IsQuiet old one status → IsQuiet old other status' → status ≢ exits.bound → status' ≢ exits.bound → CallsEndAlike old one other status status' }
 {
     interpreters_agree::<Mic1Interpreter, Mic2Interpreter>();
 }

@@ -1,5 +1,5 @@
 -- The statements of a placed program.
-use Rattle.std.proofs.Common.{◌≡◌, ℕ, List, length, map, ◌∙◌}
+use Rattle.std.proofs.Common.{◌≡◌, ℕ, List, length, ◌∙◌}
 use Rattle.std.proofs.lemmas.List.{length-map}
 use Rattle.mal_parser.specs.Program.{Program}
 use Rattle.store_placement.specs.Placement.{Places}

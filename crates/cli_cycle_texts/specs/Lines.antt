@@ -8,12 +8,12 @@ use Rattle.mic_clock.specs.declared.buses.Drive.{Drive}
 use Rattle.mic_clock.specs.declared.buses.Computed.{Computed}
 use Rattle.mic_clock.specs.State.{state_line}
 use Rattle.watched_run.specs.declared.cycle.Cycle.{Cycle}
-use Rattle.cli_cycle_texts.specs.Naming.{IsInstruction, IsWord, word_text}
+use Rattle.cli_cycle_texts.specs.Naming.{IsInstruction, IsWord, labelled_text}
 
 -- `CYCLE MPC LABEL TEXT`
 abbrev pub cycle_line : Cycle → List ℕ → List ℕ → List ℕ
 cycle_line c label parts =
-    decimal c.counts.cycles ++ codes " " ++ hex_text 3 c.mpc ++ codes " " ++ word_text c.drive.stalled label parts ++ codes "\n"
+    decimal c.counts.cycles ++ codes " " ++ hex_text 3 c.mpc ++ codes " " ++ labelled_text c.drive.stalled label parts ++ codes "\n"
 
 abbrev pub digit_of : Bool → List ℕ
 digit_of true = codes "1"
@@ -33,10 +33,14 @@ abbrev pub state_lines : Bool → Cycle → List ℕ
 state_lines buses c =
     (if buses && not c.drive.stalled then bus_line c.drive c.computed else []) ++ codes "  " ++ state_line c.registers ++ codes "\n"
 
--- where a boundary was reached: `at ADDRESS INSTRUCTION`
+-- `at ADDRESS INSTRUCTION`
+abbrev pub reached_line : ℕ → List ℕ → List ℕ
+reached_line at instruction = codes "at " ++ hex_text 8 at ++ codes " " ++ instruction ++ codes "\n"
+
+-- where a boundary was reached
 abbrev pub IsBoundaryLine : ImageView → Option ℕ → List ℕ → Type 0
 IsBoundaryLine image None text = text ≡ []
-IsBoundaryLine image (Some at) text = (instruction : List ℕ) × IsInstruction image at instruction × (text ≡ codes "at " ++ hex_text 8 at ++ codes " " ++ instruction ++ codes "\n")
+IsBoundaryLine image (Some at) text = (instruction : List ℕ) × IsInstruction image at instruction × (text ≡ reached_line at instruction)
 
 -- what a trace is of: a microprogram at its addresses, the image that it runs, and whether the buses are asked for
 pub record Traced : Type 0 where

@@ -4,7 +4,7 @@ ghost use Rattle.std.specs.Prelude.{◌≡◌, ◌≤◌, ◌<◌, ◌+◌, ◌+
 ghost use Rattle.mal_parser.specs.ProgramText.{parts_text};
 ghost use Rattle.store_placement.specs.Placement.{Places};
 ghost use Rattle.store_placement.specs.Program.{demands_of};
-ghost use Rattle.cli_cycle_texts.specs.Naming.{IsInstruction, IsReached, IsWord, default_text, label_text, word_text};
+ghost use Rattle.cli_cycle_texts.specs.Naming.{IsInstruction, IsReached, IsWord, default_text, label_text, labelled_text};
 
 use ijvm_instr::{Instr, decode_at, print_instr};
 use ijvm_verifier::{Kind, VerifiedImage};
@@ -42,7 +42,7 @@ fn print_default(program: &MalProgram, line: &mut Line)
 fn print_placed_word(program: &MalProgram, s: u16, stalled: bool, line: &mut Line)
     requires below { s < length program.now.statements }
     requires room { length line.old + 321 ≤ 512 }
-    ensures text { line.new ≡ line.old ++ word_text stalled (label_text program.now s) (parts_text program.now s) }
+    ensures text { line.new ≡ line.old ++ labelled_text stalled (label_text program.now s) (parts_text program.now s) }
     ensures len { length line.new ≤ length line.old + 321 }
 {
     print_label(program, s, line);
@@ -57,7 +57,7 @@ fn print_placed_word(program: &MalProgram, s: u16, stalled: bool, line: &mut Lin
 /// The same of an unused word.
 fn print_unused_word(program: &MalProgram, stalled: bool, line: &mut Line)
     requires { length line.old + 321 ≤ 512 }
-    ensures text { line.new ≡ line.old ++ word_text stalled (codes ".default") (default_text program.now) }
+    ensures text { line.new ≡ line.old ++ labelled_text stalled (codes ".default") (default_text program.now) }
     ensures len { length line.new ≤ length line.old + 321 }
 {
     line.text(".default");
@@ -80,7 +80,7 @@ pub fn print_word(
 )
     requires placed { Places (demands_of program.now) placement.now }
     requires room { length line.old + 321 ≤ 512 }
-    ensures text { (label parts : List ℕ) × IsWord program.now placement.now mpc label parts × (line.new ≡ line.old ++ word_text stalled label parts) }
+    ensures text { (label parts : List ℕ) × IsWord program.now placement.now mpc label parts × (line.new ≡ line.old ++ labelled_text stalled label parts) }
     ensures len { length line.new ≤ length line.old + 321 }
 {
     match statement_at(program, placement, mpc) {

@@ -20,8 +20,8 @@ use Rattle.mic_debugger.specs.Session.{HasReadCause, IsFrontOf}
 use Rattle.mic_debugger.specs.View.{SessionView}
 use Rattle.mic_base.specs.Causes.{Rose}
 use Rattle.mic_base.specs.Streams.{Holds}
-use Rattle.cli_outside.specs.Outside.{GotFront, OutsideView}
-use Rattle.cli_debug.specs.Stand.{Begins, Carries, IsBrokenOff, OnlyGives, Shows, Stand, StandsAt, plan_at, shown_at}
+use Rattle.cli_outside.specs.Outside.{GotInPart, OutsideView}
+use Rattle.cli_debug.specs.Stand.{Carries, HasBegun, IsBrokenOff, OnlyGives, OnlyShows, Stand, StandsAt, plan_at, shown_at}
 use Rattle.cli_debug.specs.Goes.{BreaksOff, IsCutShort, Place, place}
 use Rattle.cli_debug.proofs.Standing.{leads_on, no_rise, same_plan, shown_same}
 
@@ -40,7 +40,7 @@ held_front : (held : Option (List ℕ)) (a b : List ℕ) → IsFrontOf held a �
 held_front None a b p q = tt
 held_front (Some h) a b p q = front_then h a b p q
 
-got_front : (said said' : Option (List ℕ)) (a b : List ℕ) → GotFront said a said' → IsFront a b → GotFront said b said'
+got_front : (said said' : Option (List ℕ)) (a b : List ℕ) → GotInPart said a said' → IsFront a b → GotInPart said b said'
 got_front said said' a b p q =
     let k : ℕ = min p.0 (length a) in
     let inside : min p.0 (length a) ≤ length a = omega arith in (
@@ -129,7 +129,7 @@ module _ {State : Type 0} (m : Meaning State) (book : Book) (words breaks : List
 
 module _ {State : Type 0} (m : Meaning State) (book : Book) (words : List ℕ) (memory bound : ℕ) (s : Stand State) where
   -- what a plan has given and printed at a moment is a front of what it gives and prints whole
-  printed_first : (plan : Plan) (text whole : List ℕ) (run last : MicroRun State) → Begins m book words memory bound plan s text run → Carries m book words memory bound plan s whole last → IsFront text whole
+  printed_first : (plan : Plan) (text whole : List ℕ) (run last : MicroRun State) → HasBegun m book words memory bound plan s text run → Carries m book words memory bound plan s whole last → IsFront text whole
   printed_first (plans.Clock u times) text whole run last b c =
       subst (λ (x : List ℕ). IsFront x whole) (sym b.3) (subst (λ (x : List ℕ). IsFront (printed m book words s.breaks bound u b.0 s.run) x) (sym c.3)
       (more_printed m book words s.breaks bound u b.0 c.0 s.run (none_behind m book words s.breaks bound u times b.0 c.0 s.run b.1 c.1)))
@@ -143,7 +143,7 @@ module _ {State : Type 0} (m : Meaning State) (book : Book) (words : List ℕ) (
   stays : (run last : MicroRun State) → run ≡ s.run → last ≡ s.run → IsFront run.world.given last.world.given
   stays run last b c = subst (λ (x : MicroRun State). IsFront run.world.given x.world.given) (b ∙ sym c) (front_same run.world.given)
 
-  given_first : OnlyGives m → (plan : Plan) (text whole : List ℕ) (run last : MicroRun State) → Begins m book words memory bound plan s text run → Carries m book words memory bound plan s whole last →
+  given_first : OnlyGives m → (plan : Plan) (text whole : List ℕ) (run last : MicroRun State) → HasBegun m book words memory bound plan s text run → Carries m book words memory bound plan s whole last →
       IsFront run.world.given last.world.given
   given_first only (plans.Clock u times) text whole run last b c =
       subst (λ (x : MicroRun State). IsFront x.world.given last.world.given) (sym b.2) (subst (λ (x : MicroRun State). IsFront (after m book words s.breaks bound u b.0 s.run).world.given x.world.given) (sym c.2)
@@ -155,8 +155,8 @@ module _ {State : Type 0} (m : Meaning State) (book : Book) (words : List ℕ) (
   given_first only plans.Nothing text whole run last b c = stays run last b.0 c.0
   given_first only plans.Quit text whole run last b c = stays run last b.0 c.0
 
-  broken_off : (line : List ℕ) (held said said' : Option (List ℕ)) (text : List ℕ) (run : MicroRun State) → Begins m book words memory bound (plan_at m book words memory bound s line) s text run →
-      IsFrontOf held run.world.given → GotFront said text said' → IsBrokenOff m book words memory bound line s held said said'
+  broken_off : (line : List ℕ) (held said said' : Option (List ℕ)) (text : List ℕ) (run : MicroRun State) → HasBegun m book words memory bound (plan_at m book words memory bound s line) s text run →
+      IsFrontOf held run.world.given → GotInPart said text said' → IsBrokenOff m book words memory bound line s held said said'
   broken_off line held said said' text run begun out err =
       record {
         run = run;
@@ -175,11 +175,11 @@ module _ {M State : Type 0} (state : M → State) (m : Meaning State) (book : Bo
   -- it leaves each stand so, where its plan is broken off so
   abbrev Left : Plan → Type 0
   Left plan =
-      (text : List ℕ) × (run : MicroRun State) × Begins m book v.board.store.words v.listing.memory v.bound plan s text run × IsFrontOf held' run.world.given × GotFront said text said'
+      (text : List ℕ) × (run : MicroRun State) × HasBegun m book v.board.store.words v.listing.memory v.bound plan s text run × IsFrontOf held' run.world.given × GotInPart said text said'
 
   abbrev Stayed : Plan → Type 0
   Stayed plan =
-      (text : List ℕ) × (run : MicroRun State) × Shows m book v.board.store.words v.listing.memory v.bound s plan text run × IsFrontOf held' run.world.given × GotFront said text said'
+      (text : List ℕ) × (run : MicroRun State) × OnlyShows m book v.board.store.words v.listing.memory v.bound s plan text run × IsFrontOf held' run.world.given × GotInPart said text said'
 
   stayed : (plan : Plan) → IsSaidInPart state m book (Some left) held said v (Some left') held' said' board' plan → Stayed plan
   stayed plan part =
@@ -188,7 +188,7 @@ module _ {M State : Type 0} (state : M → State) (m : Meaning State) (book : Bo
         s.run,
         (refl, refl),
         at.1,
-        subst (λ (t : List ℕ). GotFront said t said') (shown_same state m book left left' held held' v board' [] s here plan) part.1,
+        subst (λ (t : List ℕ). GotInPart said t said') (shown_same state m book left left' held held' v board' [] s here plan) part.1,
       )
 
   left_by : (plan : Plan) → IsBrokenIn state m book (Some left) held said v (Some left') held' said' board' plan → Left plan
@@ -198,7 +198,7 @@ module _ {M State : Type 0} (state : M → State) (m : Meaning State) (book : Bo
       let broken = at.1.1 in
       subst (λ (breaks : List ℕ). (text : List ℕ) × (run : MicroRun State)
       × ((k : ℕ) × IsGoing m book v.board.store.words breaks v.bound u times k s.run × (run ≡ after m book v.board.store.words breaks v.bound u k s.run)
-      × (text ≡ printed m book v.board.store.words breaks v.bound u k s.run)) × IsFrontOf held' run.world.given × GotFront said text said') (sym here.breaks)
+      × (text ≡ printed m book v.board.store.words breaks v.bound u k s.run)) × IsFrontOf held' run.world.given × GotInPart said text said') (sym here.breaks)
       (printed m book v.board.store.words v.breaks v.bound u n s.run, after m book v.board.store.words v.breaks v.bound u n s.run, (n, broken.going, refl, refl), broken.out, broken.err)
   left_by (plans.Refuse reply) part = stayed (plans.Refuse reply) part
   left_by plans.Registers part = stayed plans.Registers part
@@ -216,7 +216,7 @@ breaks_by state m left left' o o' v v' line (Err e) broken input =
     λ book is_book s here.
     let at = left_by state m book left left' o.out.held o'.out.held o.err.held o'.err.held v v'.board s here (plan_in v line) (broken (λ none read. no_rise ((input none).rose read)) book is_book) in
     broken_off m book v.board.store.words v.listing.memory v.bound s line o'.out.held o.err.held o'.err.held at.0 at.1
-    (subst (λ (p : Plan). Begins m book v.board.store.words v.listing.memory v.bound p s at.0 at.1) (same_plan state m book left left' o.out.held o'.out.held v v'.board [] s here line) at.2) at.3 at.4
+    (subst (λ (p : Plan). HasBegun m book v.board.store.words v.listing.memory v.bound p s at.0 at.1) (same_plan state m book left left' o.out.held o'.out.held v v'.board [] s here line) at.2) at.3 at.4
 
 -- so it is cut short
 pub cut_by : {M State T E : Type 0} (state : M → State) (m : Meaning State) (old : Place M) (new : OutsideView) (line : List ℕ) (r : Result T E) →

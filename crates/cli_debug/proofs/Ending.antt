@@ -7,7 +7,7 @@ use Rattle.mal_parser.specs.Program.{Program}
 use Rattle.shipped_program.specs.declared.loaded.Loaded.{Loaded}
 use Rattle.mic_debugger.specs.View.{SessionView}
 use Rattle.cli_outside.specs.Status as exits
-use Rattle.cli_outside.specs.Outside.{OutsideView, Tells}
+use Rattle.cli_outside.specs.Outside.{OutsideView, TellsOnErr}
 use Rattle.cli_debug.specs.declared.lines.Step.{Step}
 use Rattle.cli_debug.specs.declared.lines.Step.TheVariants as steps
 use Rattle.cli_debug.specs.Stand.{lines_of, most_lines}
@@ -19,7 +19,7 @@ module _ {M State : Type 0} {state : M → State} {m : Meaning State} {bound : �
     {first : SessionView M} {old : OutsideView} {last : Place M} (start : IsStart state m bound micro l program first) where
   -- it was left, or its lines are at their end
   pub left_by : {new : OutsideView} {status : ℕ} (step : Step) → step ≢ steps.ConsoleFailed → step ≢ steps.SinkFailed →
-      Goes state m most_lines 0 (place first input old) last step → Tells (report_in state m last.session) exits.done last.seen new status →
+      Goes state m most_lines 0 (place first input old) last step → TellsOnErr (report_in state m last.session) exits.done last.seen new status →
       IsDebugged state m bound micro program input old new status
   left_by _ p q (On lines done quiet told) tells =
       Left l first lines last start done
@@ -34,7 +34,7 @@ module _ {M State : Type 0} {state : M → State} {m : Meaning State} {bound : �
 
   -- the console failed
   pub cut_by : {new : OutsideView} {status : ℕ} (step : Step) → step ≡ steps.ConsoleFailed →
-      Goes state m most_lines 0 (place first input old) last step → Tells (report_in state m last.session) exits.console last.seen new status →
+      Goes state m most_lines 0 (place first input old) last step → TellsOnErr (report_in state m last.session) exits.console last.seen new status →
       IsDebugged state m bound micro program input old new status
   cut_by _ p (On lines done quiet told) tells = absurd (cc)
   cut_by _ p (Over lines done quiet told) tells = absurd (cc)

@@ -1,5 +1,5 @@
 -- Lines that are done one behind the other.
-use Rattle.std.proofs.Common.{◌≡◌, ◌≢◌, ◌⊎◌, ◌<◌, ◌-◌, ◌∙◌, ℕ, zero, suc, Bool, true, false, List, [], ◌∷◌, ◌++◌, length, Option, Some, None, refl, sym, ap, subst, append_assoc, arith}
+use Rattle.std.proofs.Common.{◌≡◌, ◌≢◌, ◌<◌, ◌-◌, ◌∙◌, ℕ, zero, suc, Bool, true, false, List, [], ◌∷◌, ◌++◌, length, Option, Some, None, refl, sym, ap, subst, append_assoc, arith}
 use Rattle.std.specs.Prelude.{if◌then◌else◌, IfSome, Ok}
 use Rattle.std.specs.Option.{option_map}
 use Rattle.std.proofs.lemmas.List.{append-nil}
@@ -7,24 +7,23 @@ use Rattle.mic_base.specs.Causes.{Rose}
 use Rattle.micro_word.specs.ControlStore.{ControlStore}
 use Rattle.mic_clock.specs.Meaning.{Meaning}
 use Rattle.mic_debugger.specs.Book.{Book, IsBook}
-use Rattle.mic_debugger.specs.Session.{Prints}
 use Rattle.mic_debugger.specs.View.{ListingView, SessionView}
-use Rattle.cli_outside.specs.Outside.{SinkState}
+use Rattle.cli_outside.specs.Outside.{Got, SinkState}
 use Rattle.cli_debug.specs.declared.line.Read.{Read}
 use Rattle.cli_debug.specs.declared.line.Read.TheVariants as reads
 use Rattle.cli_debug.specs.declared.lines.Step.{Step}
 use Rattle.cli_debug.specs.declared.lines.Step.TheVariants as steps
-use Rattle.cli_debug.specs.Told.{IsCut, IsFirst, ReadsOf, behind_line, line_in}
+use Rattle.cli_debug.specs.Told.{IsCutLine, IsFirstLine, ReadsLineOf, behind_line, line_in}
 use Rattle.cli_debug.specs.Stand.{DoesAll, Stand, StandsAt, is_quit, lines_of}
 use Rattle.cli_debug.specs.Goes.{ConsoleFailed, Goes, Gone, IsCutShort, On, Over, Place, SinkFailed, step_behind}
 
 -- ---- what is printed
 
-prints_none : (held : Option (List ℕ)) → Prints held [] held
+prints_none : (held : Option (List ℕ)) → Got held [] held
 prints_none None = refl
 prints_none (Some h) = ap Some (sym (append-nil h))
 
-prints_more : (held held' held'' : Option (List ℕ)) (a b : List ℕ) → Prints held a held' → Prints held' b held'' → Prints held (a ++ b) held''
+prints_more : (held held' held'' : Option (List ℕ)) (a b : List ℕ) → Got held a held' → Got held' b held'' → Got held (a ++ b) held''
 prints_more None held' held'' a b p q = q ∙ ap (option_map (λ (h : List ℕ). h ++ b)) p
 prints_more (Some h) held' held'' a b p q = q ∙ ap (option_map (λ (x : List ℕ). x ++ b)) p ∙ ap Some (append_assoc h a b)
 
@@ -77,7 +76,7 @@ module _ {M State : Type 0} {state : M → State} {m : Meaning State} where
       record {
         led = λ book is_book. (
           [],
-          subst (λ (e : SinkState). Prints old.seen.err.held [] e.held) (sym err) (prints_none old.seen.err.held),
+          subst (λ (e : SinkState). Got old.seen.err.held [] e.held) (sym err) (prints_none old.seen.err.held),
           λ s here. (
             s,
             (refl, refl),
@@ -196,7 +195,7 @@ module _ {M State : Type 0} {state : M → State} {m : Meaning State} where
 
   -- the console fails
   pub goes_cut : (n : ℕ) {old new : Place M} (line : List ℕ) → Gone state m [] old new → Rose old.seen.console.faults new.seen.console.faults →
-      IfSome old.seen.console.left (λ told. IsCut told line new.seen.console.left) → Goes state m (suc n) n old new steps.ConsoleFailed
+      IfSome old.seen.console.left (λ told. IsCutLine told line new.seen.console.left) → Goes state m (suc n) n old new steps.ConsoleFailed
   goes_cut n {old = old} {new = new} line done rose told =
       ConsoleFailed [] done rose
       (told_as old.seen.console.left _ _ told
@@ -212,16 +211,16 @@ module _ {M State : Type 0} {state : M → State} {m : Meaning State} where
 
   -- a sink fails
   pub goes_wrong : (E : Type 0) (n : ℕ) {old mid new : Place M} (line : List ℕ) (read : Read) → read ≢ reads.Nothing → Gone state m [] old mid →
-      new.seen.console.faults ≡ old.seen.console.faults → IfSome old.seen.console.left (λ told. ReadsOf {E = E} told line (Ok read) new.seen.console.left) →
+      new.seen.console.faults ≡ old.seen.console.faults → IfSome old.seen.console.left (λ told. ReadsLineOf {E = E} told line (Ok read) new.seen.console.left) →
       IsCutShort state m line mid new.seen → Goes state m (suc n) n old new steps.SinkFailed
   goes_wrong E n {old = old} {mid = mid} {new = new} line read other done quiet told cut =
       SinkFailed [] line mid done quiet (told_as old.seen.console.left _ _ told (λ bytes q. (_, by read other bytes q))) cut
     where
-      first_is : (bytes : List ℕ) → IsFirst bytes line new.seen.console.left →
+      first_is : (bytes : List ℕ) → IsFirstLine bytes line new.seen.console.left →
           lines_of old.session.listing.memory (suc n) bytes ≡ line ∷ (if is_quit old.session.listing.memory line then [] else lines_of old.session.listing.memory n (behind_line 256 bytes))
       first_is bytes first = lines_first old.session.listing.memory n bytes line first.some first.line_is
 
-      by : (one : Read) → one ≢ reads.Nothing → (bytes : List ℕ) → ReadsOf {E = E} bytes line (Ok one) new.seen.console.left →
+      by : (one : Read) → one ≢ reads.Nothing → (bytes : List ℕ) → ReadsLineOf {E = E} bytes line (Ok one) new.seen.console.left →
           lines_of old.session.listing.memory (suc n) bytes ≡ line ∷ (if is_quit old.session.listing.memory line then [] else lines_of old.session.listing.memory n (behind_line 256 bytes))
       by reads.Line well bytes first = first_is bytes first
       by reads.Last well bytes first = first_is bytes first.0
@@ -230,11 +229,11 @@ module _ {M State : Type 0} {state : M → State} {m : Meaning State} where
   -- a line is done
   pub goes_one : (E : Type 0) (n : ℕ) {old new : Place M} (line : List ℕ) (read : Read) (quits : Bool) → quits ≡ is_quit old.session.listing.memory line → read ≢ reads.Nothing →
       Gone state m (line ∷ []) old new → new.seen.console.faults ≡ old.seen.console.faults →
-      IfSome old.seen.console.left (λ told. ReadsOf {E = E} told line (Ok read) new.seen.console.left) → Goes state m (suc n) n old new (step_behind read quits)
+      IfSome old.seen.console.left (λ told. ReadsLineOf {E = E} told line (Ok read) new.seen.console.left) → Goes state m (suc n) n old new (step_behind read quits)
   goes_one E n {old = old} {new = new} line reads.Line true is other done quiet told =
       Over (line ∷ []) done quiet (told_as old.seen.console.left _ _ told (λ bytes first. quits_at n bytes first))
     where
-      quits_at : (k : ℕ) (bytes : List ℕ) → IsFirst bytes line new.seen.console.left → line ∷ [] ≡ lines_of old.session.listing.memory (suc k) bytes
+      quits_at : (k : ℕ) (bytes : List ℕ) → IsFirstLine bytes line new.seen.console.left → line ∷ [] ≡ lines_of old.session.listing.memory (suc k) bytes
       quits_at k bytes first =
           sym (lines_first old.session.listing.memory k bytes line first.some first.line_is
           ∙ ap (λ (q : Bool). line ∷ (if q then [] else lines_of old.session.listing.memory k (behind_line 256 bytes))) (sym is))

@@ -5,7 +5,7 @@ use Rattle.std.specs.Option.{option_map}
 use Rattle.std.proofs.lemmas.Bool.Decides.{nat_tests}
 use Rattle.std.proofs.lemmas.List.{append-nil, length-append}
 use Rattle.cli_debug.specs.declared.line.Read.TheVariants as reads
-use Rattle.cli_debug.specs.Told.{IsCut, IsFirst, Reads, behind_line, line_in}
+use Rattle.cli_debug.specs.Told.{IsCutLine, IsFirstLine, ReadsLine, behind_line, line_in}
 
 -- so many bytes of the line were read, and these are left
 pub record IsUnderway (told line rest : List ℕ) : Type 0 where
@@ -49,7 +49,7 @@ underway_more told line b rest other less u =
     }
 
 -- a newline ends it
-pub first_ended : (told line : List ℕ) (b : ℕ) (rest : List ℕ) → (b == 10) ≡ true → length line < 256 → IsUnderway told line (b ∷ rest) → IsFirst told line (Some rest)
+pub first_ended : (told line : List ℕ) (b : ℕ) (rest : List ℕ) → (b == 10) ≡ true → length line < 256 → IsUnderway told line (b ∷ rest) → IsFirstLine told line (Some rest)
 first_ended told line b rest is less u =
     let n : ℕ = 256 - (length line + 1) in
     record {
@@ -59,7 +59,7 @@ first_ended told line b rest is less u =
     }
 
 -- so does its last byte
-pub first_full : (told line rest : List ℕ) → 256 ≤ length line → IsUnderway told line rest → IsFirst told line (Some rest)
+pub first_full : (told line rest : List ℕ) → 256 ≤ length line → IsUnderway told line rest → IsFirstLine told line (Some rest)
 first_full told line rest full u =
     let none : 256 - length line ≡ 0 = omega (arith, full, u.small) in
     record {
@@ -77,7 +77,7 @@ behind_nothing zero = refl
 behind_nothing (suc n) = refl
 
 -- and the end, where something stands before it
-pub first_last : (told line : List ℕ) → 0 < length line → IsUnderway told line [] → IsFirst told line (Some []) × (behind_line 256 told ≡ [])
+pub first_last : (told line : List ℕ) → 0 < length line → IsUnderway told line [] → IsFirstLine told line (Some []) × (behind_line 256 told ≡ [])
 first_last told line some u =
     let over : behind_line 256 told ≡ [] = u.behind ∙ behind_nothing (256 - length line) in (
       record {
@@ -92,7 +92,7 @@ pub none_told : (told line : List ℕ) → line ≡ [] → IsUnderway told line 
 none_told told line none u = u.told_is ∙ append-nil line ∙ none
 
 -- a failing console cuts it
-pub cut_here : (told line rest : List ℕ) → length line < 256 → IsUnderway told line rest → IsCut told line (Some rest)
+pub cut_here : (told line rest : List ℕ) → length line < 256 → IsUnderway told line rest → IsCutLine told line (Some rest)
 cut_here told line rest less u = record { rest = rest; left_is = refl; told_is = u.told_is; short = less; unended = u.line_is }
 
 -- ---- between a source and what it has left
@@ -124,15 +124,15 @@ reading_more (Some told) left left' line line' b grown other less f r =
     )
 
 pub read_ended : (old left left' : Option (List ℕ)) (line : List ℕ) (b : ℕ) → (b == 10) ≡ true → length line < 256 →
-    left ≡ option_map (λ r. b ∷ r) left' → Reading old line left → IfSome old (λ told. IsFirst told line left')
+    left ≡ option_map (λ r. b ∷ r) left' → Reading old line left → IfSome old (λ told. IsFirstLine told line left')
 read_ended None left left' line b is less f r = tt
 read_ended (Some told) left left' line b is less f r =
     let at = taken left left' r.0 b r.1 f in
-    subst (λ (l : Option (List ℕ)). IsFirst told line l) (sym at.1) (first_ended told line b at.0 is less (subst (λ (x : List ℕ). IsUnderway told line x) at.2 r.2))
+    subst (λ (l : Option (List ℕ)). IsFirstLine told line l) (sym at.1) (first_ended told line b at.0 is less (subst (λ (x : List ℕ). IsUnderway told line x) at.2 r.2))
 
-pub read_full : (old left : Option (List ℕ)) (line : List ℕ) → 256 ≤ length line → Reading old line left → IfSome old (λ told. IsFirst told line left)
+pub read_full : (old left : Option (List ℕ)) (line : List ℕ) → 256 ≤ length line → Reading old line left → IfSome old (λ told. IsFirstLine told line left)
 read_full None left line full r = tt
-read_full (Some told) left line full r = subst (λ (l : Option (List ℕ)). IsFirst told line l) (sym r.1) (first_full told line r.0 full r.2)
+read_full (Some told) left line full r = subst (λ (l : Option (List ℕ)). IsFirstLine told line l) (sym r.1) (first_full told line r.0 full r.2)
 
 nothing_left : (left : Option (List ℕ)) (rest : List ℕ) → left ≡ Some rest → IfSome left (λ l. l ≡ []) → rest ≡ []
 nothing_left left rest e none = subst (λ (l : Option (List ℕ)). IfSome l (λ x. x ≡ [])) e none
@@ -142,16 +142,16 @@ not_empty b line = grind (arith, nat_tests)
 
 -- the end was met
 pub read_at_end : (E : Type 0) (old left left' : Option (List ℕ)) (line : List ℕ) → left' ≡ left → IfSome left (λ l. l ≡ []) → Reading old line left →
-    Reads {E = E} old line (Ok (if length line == 0 then reads.Nothing else reads.Last)) left'
+    ReadsLine {E = E} old line (Ok (if length line == 0 then reads.Nothing else reads.Last)) left'
 read_at_end E None left left' line same none r = tt
 read_at_end E (Some told) left left' [] same none r = none_told told [] refl (subst (λ (x : List ℕ). IsUnderway told [] x) (nothing_left left r.0 r.1 none) r.2)
 read_at_end E (Some told) left left' (b ∷ line) same none r =
     let empty : r.0 ≡ [] = nothing_left left r.0 r.1 none in
     let last = first_last told (b ∷ line) (omega arith) (subst (λ (x : List ℕ). IsUnderway told (b ∷ line) x) empty r.2) in
     rw (not_empty b line)
-    (subst (λ (l : Option (List ℕ)). IsFirst told (b ∷ line) l) (sym (same ∙ r.1 ∙ ap Some empty)) last.0, last.1)
+    (subst (λ (l : Option (List ℕ)). IsFirstLine told (b ∷ line) l) (sym (same ∙ r.1 ∙ ap Some empty)) last.0, last.1)
 
-pub read_cut : (old left left' : Option (List ℕ)) (line : List ℕ) → length line < 256 → left' ≡ left → Reading old line left → IfSome old (λ told. IsCut told line left')
+pub read_cut : (old left left' : Option (List ℕ)) (line : List ℕ) → length line < 256 → left' ≡ left → Reading old line left → IfSome old (λ told. IsCutLine told line left')
 read_cut None left left' line less same r = tt
 read_cut (Some told) left left' line less same r =
-    subst (λ (l : Option (List ℕ)). IsCut told line l) (sym (same ∙ r.1)) (cut_here told line r.0 less r.2)
+    subst (λ (l : Option (List ℕ)). IsCutLine told line l) (sym (same ∙ r.1)) (cut_here told line r.0 less r.2)

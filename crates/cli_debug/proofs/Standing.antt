@@ -26,11 +26,11 @@ use Rattle.mic_debugger.specs.Clocking.{IsDone, after, printed}
 use Rattle.mic_debugger.specs.Commands.{command_of}
 use Rattle.mic_debugger.specs.Obeys.{IsSaid, Obeys, plan_in, shown_text}
 use Rattle.mic_debugger.specs.Plans.{breaks_after, clocking, is_full_for, plan_by, plan_of, reply_of, watched_after, watched_now}
-use Rattle.mic_debugger.specs.Session.{HasReadCause, Prints}
+use Rattle.mic_debugger.specs.Session.{HasReadCause}
 use Rattle.mic_debugger.specs.View.{SessionView}
-use Rattle.cli_debug.specs.Stand.{Carries, DoesAll, Shows, Stand, StandsAt, is_quit, is_quit_in, is_quit_verb, plan_at, shown_at}
-use Rattle.cli_outside.specs.Outside.{OutsideView}
-use Rattle.cli_debug.specs.Goes.{Gone, LeadsOver, Place, is_quit_reply, place}
+use Rattle.cli_debug.specs.Stand.{Carries, DoesAll, OnlyShows, Stand, StandsAt, is_quit, is_quit_in, is_quit_verb, plan_at, shown_at}
+use Rattle.cli_outside.specs.Outside.{Got, OutsideView}
+use Rattle.cli_debug.specs.Goes.{Gone, LeadOn, Place, is_quit_reply, place}
 
 -- a count that stays did not rise
 pub no_rise : Rose 0 0 → ⊥
@@ -84,7 +84,7 @@ module _ {M State : Type 0} (state : M → State) (m : Meaning State) (book : Bo
   Carried plan = (run : MicroRun State) × Carries m book v.board.store.words v.listing.memory v.bound plan s text run × ShowsRun state (Some left') held' board' run
 
   abbrev Showed : Plan → Type 0
-  Showed plan = (run : MicroRun State) × Shows m book v.board.store.words v.listing.memory v.bound s plan text run × ShowsRun state (Some left') held' board' run
+  Showed plan = (run : MicroRun State) × OnlyShows m book v.board.store.words v.listing.memory v.bound s plan text run × ShowsRun state (Some left') held' board' run
 
   showed : (plan : Plan) → IsSaid state m book (Some left) held v (Some left') held' board' text plan → Showed plan
   showed plan said =
@@ -176,10 +176,10 @@ quits_by v line (Err e) is = tt
 -- it leads the session over the line
 pub leads_by : {M State T E : Type 0} (state : M → State) (m : Meaning State) (left left' : List ℕ) (o o' : OutsideView) (v v' : SessionView M) (line : List ℕ) (r : Result T E) →
     OnOk r (NoFault v.board.end v'.board.end → (book : Book) → IsBook v.listing.program v.listing.placement v.listing.image book →
-    (text : List ℕ) × Prints o.err.held text o'.err.held × Obeys state m book (Some left) o.out.held v (Some left') o'.out.held v'.board text (plan_in v line)) →
+    (text : List ℕ) × Got o.err.held text o'.err.held × Obeys state m book (Some left) o.out.held v (Some left') o'.out.held v'.board text (plan_in v line)) →
     OnOk r (v.board.end ≡ None → v'.board.end ≢ Some ends.WriteFault) → (v.board.end ≡ None → HasReadCause 0 0 v'.board.end) →
     OnOk r (v'.breaks ≡ breaks_after v.breaks (command_of v.listing.memory line)) → OnOk r (v'.watched ≡ watched_after v.watched (command_of v.listing.memory line)) →
-    OnOk r (LeadsOver state m (line ∷ []) (place v left o) (place v' left' o'))
+    OnOk r (LeadOn state m (line ∷ []) (place v left o) (place v' left' o'))
 leads_by state m left left' o o' v v' line (Ok reply) obeys fault input breaks watched =
     λ book is_book.
     let read : v.board.end ≡ None → v'.board.end ≢ Some ends.ReadFault = λ none e. no_rise ((input none).rose e) in
@@ -192,7 +192,7 @@ leads_by state m left left' o o' v v' line (Err e) obeys fault input breaks watc
 
 -- so it is done whole
 pub done_by : {M State T E : Type 0} (state : M → State) (m : Meaning State) (old new : Place M) (line : List ℕ) (r : Result T E) →
-    OnOk r (LeadsOver state m (line ∷ []) old new) → OnOk r (new.session.board.bus.console.kept ≡ []) →
+    OnOk r (LeadOn state m (line ∷ []) old new) → OnOk r (new.session.board.bus.console.kept ≡ []) →
     (new.session.listing ≡ old.session.listing) × (new.session.bound ≡ old.session.bound) → new.session.board.store ≡ old.session.board.store →
     new.seen.files ≡ old.seen.files → OnOk r ((new.seen.out.faults ≡ old.seen.out.faults) × (new.seen.err.faults ≡ old.seen.err.faults)) →
     OnOk r (Gone state m (line ∷ []) old new)

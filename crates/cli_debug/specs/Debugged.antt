@@ -8,9 +8,9 @@ use Rattle.shipped_program.specs.declared.loaded.Loaded.{Loaded}
 use Rattle.mic_debugger.specs.View.{SessionView}
 use Rattle.cli_outside.specs.Status as exits
 use Rattle.cli_outside.specs.Messages.{out_of_memory}
-use Rattle.cli_outside.specs.Outside.{OutsideView, Tells}
+use Rattle.cli_outside.specs.Outside.{OutsideView, TellsOnErr}
 use Rattle.cli_run_texts.specs.Report.{left_report}
-use Rattle.cli_boards.specs.Runs.{IsFirst}
+use Rattle.cli_boards.specs.Runs.{IsFirstBoard}
 use Rattle.cli_debug.specs.Stand.{lines_of, most_lines}
 use Rattle.cli_debug.specs.Goes.{Gone, IsCutIn, IsCutShort, Place, place}
 
@@ -31,23 +31,23 @@ module _ {M State : Type 0} (state : M → State) (m : Meaning State) where
 
   -- a session over an accepted program at its reset, before its first line
   pub record IsStart (bound : ℕ) (micro : Program) (l : Loaded) (program : VerifiedView) (v : SessionView M) : Type 0 where
-    pub reset : IsFirst state m micro l program v.board
+    pub reset : IsFirstBoard state m micro l program v.board
     pub begun : IsBegun micro l program bound v
 
   pub data IsDebugged (bound : ℕ) (micro : Program) (program : VerifiedView) (input : List ℕ) (old new : OutsideView) (status : ℕ) : Type 0 where
     -- memory was wanting before the first line
-    NoRoom : Tells out_of_memory exits.memory old new status → IsDebugged bound micro program input old new status
+    NoRoom : TellsOnErr out_of_memory exits.memory old new status → IsDebugged bound micro program input old new status
     -- the lines of the console were done, and then it was reported where the session stands
     Left : (l : Loaded) (first : SessionView M) (lines : List (List ℕ)) (last : Place M) →
         IsStart bound micro l program first → Gone state m lines (place first input old) last →
         IfSome old.console.left (λ bytes. lines ≡ lines_of program.map.stack_end most_lines bytes) → new.console.faults ≡ old.console.faults →
-        Tells (report_in last.session) exits.done last.seen new status → IsDebugged bound micro program input old new status
+        TellsOnErr (report_in last.session) exits.done last.seen new status → IsDebugged bound micro program input old new status
     -- the console failed: so it was reported behind the whole lines before that
     Cut : (l : Loaded) (first : SessionView M) (lines : List (List ℕ)) (last : Place M) →
         IsStart bound micro l program first → Gone state m lines (place first input old) last →
         IfSome old.console.left (λ bytes. IsCutIn program.map.stack_end most_lines bytes lines new.console.left) →
         Rose old.console.faults new.console.faults →
-        Tells (report_in last.session) exits.console last.seen new status → IsDebugged bound micro program input old new status
+        TellsOnErr (report_in last.session) exits.console last.seen new status → IsDebugged bound micro program input old new status
     -- `out` or `err` failed in the line behind these
     Stopped : (l : Loaded) (first : SessionView M) (lines : List (List ℕ)) (line : List ℕ) (mid : Place M) →
         IsStart bound micro l program first → Gone state m lines (place first input old) mid →

@@ -6,9 +6,8 @@ use Rattle.mic_clock.specs.Meaning.{Meaning}
 use Rattle.mic_debugger.specs.declared.reply.Reply.{Reply}
 use Rattle.mic_debugger.specs.declared.reply.Reply.TheVariants as replies
 use Rattle.mic_debugger.specs.Book.{Book, IsBook}
-use Rattle.mic_debugger.specs.Session.{Prints}
 use Rattle.mic_debugger.specs.View.{SessionView}
-use Rattle.cli_outside.specs.Outside.{OutsideView}
+use Rattle.cli_outside.specs.Outside.{Got, OutsideView}
 use Rattle.cli_debug.specs.declared.line.Read.{Read}
 use Rattle.cli_debug.specs.declared.line.Read.TheVariants as reads
 use Rattle.cli_debug.specs.declared.lines.Step.{Step}
@@ -51,10 +50,10 @@ pub record IsCutIn (memory most : ℕ) (bytes : List ℕ) (lines : List (List �
 
 module _ {M State : Type 0} (state : M → State) (m : Meaning State) where
   -- these lines lead a session on, and print what `err` has got
-  abbrev pub LeadsOver : List (List ℕ) → Place M → Place M → Type 0
-  LeadsOver lines old new =
+  abbrev pub LeadOn : List (List ℕ) → Place M → Place M → Type 0
+  LeadOn lines old new =
       (book : Book) → IsBook old.session.listing.program old.session.listing.placement old.session.listing.image book →
-      (text : List ℕ) × Prints old.seen.err.held text new.seen.err.held ×
+      (text : List ℕ) × Got old.seen.err.held text new.seen.err.held ×
       ((s : Stand State) → StandsAt state (Some old.input) old.seen.out.held old.session s →
       (s' : Stand State) × DoesAll m book old.session.board.store.words old.session.listing.memory old.session.bound lines s text s'
       × StandsAt state (Some new.input) new.seen.out.held new.session s')
@@ -68,7 +67,7 @@ module _ {M State : Type 0} (state : M → State) (m : Meaning State) where
 
   -- these lines were done whole: no sink failed, and nothing waits for `out`
   pub record Gone (lines : List (List ℕ)) (old new : Place M) : Type 0 where
-    pub led : LeadsOver lines old new
+    pub led : LeadOn lines old new
     pub listing : new.session.listing ≡ old.session.listing
     pub bound : new.session.bound ≡ old.session.bound
     pub store : new.session.board.store ≡ old.session.board.store

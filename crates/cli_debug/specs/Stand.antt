@@ -11,6 +11,7 @@ use Rattle.mic_debugger.specs.declared.reading.Command.{Command}
 use Rattle.mic_debugger.specs.declared.reading.CommandError.{CommandError}
 use Rattle.mic_debugger.specs.declared.table.Verb.{Verb}
 use Rattle.mic_debugger.specs.declared.table.Verb.TheVariants as verbs
+use Rattle.mic_debugger.specs.declared.until.Until.{Until}
 use Rattle.mic_debugger.specs.Book.{Book}
 use Rattle.mic_debugger.specs.Clocking.{IsDone, IsGoing, after, printed}
 use Rattle.mic_debugger.specs.Commands.{command_of}
@@ -18,7 +19,7 @@ use Rattle.mic_debugger.specs.Lines.{stack_text, where_line}
 use Rattle.mic_debugger.specs.Plans.{breaks_after, plan_of, refusal_text, watched_after}
 use Rattle.mic_debugger.specs.Session.{IsFrontOf}
 use Rattle.mic_debugger.specs.View.{SessionView}
-use Rattle.cli_outside.specs.Outside.{GotFront}
+use Rattle.cli_outside.specs.Outside.{GotInPart}
 use Rattle.cli_debug.specs.Told.{behind_line, line_in}
 
 -- a clocked run, the breakpoints and the watched word
@@ -72,19 +73,23 @@ module _ {State : Type 0} (m : Meaning State) (book : Book) (words : List ℕ) (
   shown_at s plans.Quit = []
 
   -- the run stays, and this is shown
-  abbrev pub Shows : Stand State → Plan → List ℕ → MicroRun State → Type 0
-  Shows s plan text run = (run ≡ s.run) × (text ≡ shown_at s plan)
+  abbrev pub OnlyShows : Stand State → Plan → List ℕ → MicroRun State → Type 0
+  OnlyShows s plan text run = (run ≡ s.run) × (text ≡ shown_at s plan)
+
+  -- turns of a clocking command, of which this holds, lead to this run, and this is printed of them
+  abbrev pub IsAfterTurns : (ℕ → Type 0) → Until → Stand State → List ℕ → MicroRun State → Type 0
+  IsAfterTurns Turns u s text run =
+      (n : ℕ) × Turns n × (run ≡ after m book words s.breaks bound u n s.run) × (text ≡ printed m book words s.breaks bound u n s.run)
 
   -- a plan leads to this run and prints this text
   abbrev pub Carries : Plan → Stand State → List ℕ → MicroRun State → Type 0
-  Carries (plans.Clock u times) s text run =
-      (n : ℕ) × IsDone m book words s.breaks bound u times n s.run × (run ≡ after m book words s.breaks bound u n s.run) × (text ≡ printed m book words s.breaks bound u n s.run)
-  Carries (plans.Refuse reply) s text run = Shows s (plans.Refuse reply) text run
-  Carries plans.Registers s text run = Shows s plans.Registers text run
-  Carries plans.Stack s text run = Shows s plans.Stack text run
-  Carries plans.Where s text run = Shows s plans.Where text run
-  Carries plans.Nothing s text run = Shows s plans.Nothing text run
-  Carries plans.Quit s text run = Shows s plans.Quit text run
+  Carries (plans.Clock u times) s text run = IsAfterTurns (λ n. IsDone m book words s.breaks bound u times n s.run) u s text run
+  Carries (plans.Refuse reply) s text run = OnlyShows s (plans.Refuse reply) text run
+  Carries plans.Registers s text run = OnlyShows s plans.Registers text run
+  Carries plans.Stack s text run = OnlyShows s plans.Stack text run
+  Carries plans.Where s text run = OnlyShows s plans.Where text run
+  Carries plans.Nothing s text run = OnlyShows s plans.Nothing text run
+  Carries plans.Quit s text run = OnlyShows s plans.Quit text run
 
   abbrev pub plan_at : Stand State → List ℕ → Plan
   plan_at s line = plan_of s.run.end s.breaks s.watched s.run.world.words (command_of memory line)
@@ -96,25 +101,24 @@ module _ {State : Type 0} (m : Meaning State) (book : Book) (words : List ℕ) (
     pub watched : s'.watched ≡ watched_after s.watched (command_of memory line)
 
   -- a plan has come to this run and has printed this text, at a moment of its way
-  abbrev pub Begins : Plan → Stand State → List ℕ → MicroRun State → Type 0
-  Begins (plans.Clock u times) s text run =
-      (n : ℕ) × IsGoing m book words s.breaks bound u times n s.run × (run ≡ after m book words s.breaks bound u n s.run) × (text ≡ printed m book words s.breaks bound u n s.run)
-  Begins (plans.Refuse reply) s text run = Shows s (plans.Refuse reply) text run
-  Begins plans.Registers s text run = Shows s plans.Registers text run
-  Begins plans.Stack s text run = Shows s plans.Stack text run
-  Begins plans.Where s text run = Shows s plans.Where text run
-  Begins plans.Nothing s text run = Shows s plans.Nothing text run
-  Begins plans.Quit s text run = Shows s plans.Quit text run
+  abbrev pub HasBegun : Plan → Stand State → List ℕ → MicroRun State → Type 0
+  HasBegun (plans.Clock u times) s text run = IsAfterTurns (λ n. IsGoing m book words s.breaks bound u times n s.run) u s text run
+  HasBegun (plans.Refuse reply) s text run = OnlyShows s (plans.Refuse reply) text run
+  HasBegun plans.Registers s text run = OnlyShows s plans.Registers text run
+  HasBegun plans.Stack s text run = OnlyShows s plans.Stack text run
+  HasBegun plans.Where s text run = OnlyShows s plans.Where text run
+  HasBegun plans.Nothing s text run = OnlyShows s plans.Nothing text run
+  HasBegun plans.Quit s text run = OnlyShows s plans.Quit text run
 
   -- A failing sink broke a line off at a moment: `out` holds a front of what was given by then, and `err` got a front of what was printed. So they are fronts too of what the line gives and prints where it is done whole.
   pub record IsBrokenOff (line : List ℕ) (s : Stand State) (held said said' : Option (List ℕ)) : Type 0 where
     pub run : MicroRun State
     pub text : List ℕ
-    pub begun : Begins (plan_at s line) s text run
+    pub begun : HasBegun (plan_at s line) s text run
     pub out : IsFrontOf held run.world.given
-    pub err : GotFront said text said'
+    pub err : GotInPart said text said'
     pub whole_out : OnlyGives m → (whole : List ℕ) (s' : Stand State) → Does line s whole s' → IsFrontOf held s'.run.world.given
-    pub whole_err : (whole : List ℕ) (s' : Stand State) → Does line s whole s' → GotFront said whole said'
+    pub whole_err : (whole : List ℕ) (s' : Stand State) → Does line s whole s' → GotInPart said whole said'
 
   -- lines one after the other
   abbrev pub DoesAll : List (List ℕ) → Stand State → List ℕ → Stand State → Type 0

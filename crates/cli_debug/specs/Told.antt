@@ -16,25 +16,25 @@ behind_line (suc n) [] = []
 behind_line (suc n) (b ∷ bytes) = if b == 10 then bytes else behind_line n bytes
 
 -- a line was read of these bytes
-pub record IsFirst (told line : List ℕ) (left : Option (List ℕ)) : Type 0 where
+pub record IsFirstLine (told line : List ℕ) (left : Option (List ℕ)) : Type 0 where
   pub some : 0 < length told
   pub line_is : line ≡ line_in 256 told
   pub rest : left ≡ Some (behind_line 256 told)
 
 -- a failing console cuts a line behind these bytes of it
-pub record IsCut (told line : List ℕ) (left : Option (List ℕ)) : Type 0 where
+pub record IsCutLine (told line : List ℕ) (left : Option (List ℕ)) : Type 0 where
   pub rest : List ℕ
   pub left_is : left ≡ Some rest
   pub told_is : told ≡ line ++ rest
   pub short : length line < 256
   pub unended : line_in 256 told ≡ line ++ line_in (256 - length line) rest
 
-abbrev pub ReadsOf : {E : Type 0} → List ℕ → List ℕ → Result Read E → Option (List ℕ) → Type 0
-ReadsOf told line (Ok reads.Line) left = IsFirst told line left
-ReadsOf told line (Ok reads.Last) left = IsFirst told line left × (behind_line 256 told ≡ [])
-ReadsOf told line (Ok reads.Nothing) left = told ≡ []
-ReadsOf told line (Err e) left = IsCut told line left
+abbrev pub ReadsLineOf : {E : Type 0} → List ℕ → List ℕ → Result Read E → Option (List ℕ) → Type 0
+ReadsLineOf told line (Ok reads.Line) left = IsFirstLine told line left
+ReadsLineOf told line (Ok reads.Last) left = IsFirstLine told line left × (behind_line 256 told ≡ [])
+ReadsLineOf told line (Ok reads.Nothing) left = told ≡ []
+ReadsLineOf told line (Err e) left = IsCutLine told line left
 
 -- what came of reading a line, where the console tells its bytes
-abbrev pub Reads : {E : Type 0} → Option (List ℕ) → List ℕ → Result Read E → Option (List ℕ) → Type 0
-Reads old line result new = IfSome old (λ told. ReadsOf told line result new)
+abbrev pub ReadsLine : {E : Type 0} → Option (List ℕ) → List ℕ → Result Read E → Option (List ℕ) → Type 0
+ReadsLine old line result new = IfSome old (λ told. ReadsLineOf told line result new)

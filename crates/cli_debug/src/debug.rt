@@ -1,7 +1,7 @@
 //! A session over an accepted program.
 
 ghost use Rattle.std.specs.Prelude.{◌≡◌, ◌≤◌, ◌^◌, IfOk};
-ghost use Rattle.cli_outside.specs.Outside.{Over, Tells};
+ghost use Rattle.cli_outside.specs.Outside.{Over, TellsOnErr};
 ghost use Rattle.cli_run_texts.specs.Report.{left_report};
 ghost use Rattle.cli_debug.specs.Debugged.{IsDebugged, IsStart};
 
@@ -71,7 +71,7 @@ fn report<M: Clocked, F: Files, S: Source, K: Sink, E: Sink>(
     outside: &mut Outside<'_, F, S, K, E>,
     status: Status,
 ) -> Status
-    ensures { Over (Tells (left_report board.now.end board.now.counts (M.meaning.registers (M.state board.now.machine))) status.0)
+    ensures { Over (TellsOnErr (left_report board.now.end board.now.counts (M.meaning.registers (M.state board.now.machine))) status.0)
         outside.old outside.new result.0 }
 {
     let _next = board.mpc();

@@ -2,7 +2,7 @@
 
 ghost use Rattle.std.specs.Prelude.{◌≡◌, ◌≤◌, ◌==◌, if◌then◌else◌, length};
 ghost use Rattle.mic_base.specs.Causes.{HasCause};
-ghost use Rattle.cli_debug.specs.Told.{Reads};
+ghost use Rattle.cli_debug.specs.Told.{ReadsLine};
 
 use arrayvec::ArrayVec;
 use mic_base::{Source, SourceFailed};
@@ -26,7 +26,7 @@ pub(crate) fn read_line<S: Source>(
     console: &mut S,
     line: &mut ArrayVec<u8, LINE_BYTES>,
 ) -> Result<Read, SourceFailed>
-    ensures reads { Reads (S.left console.old) line.new.items result (S.left console.new) }
+    ensures reads { ReadsLine (S.left console.old) line.new.items result (S.left console.new) }
     ensures cause { HasCause (S.faults console.old) (S.faults console.new) result }
 {
     line.clear();

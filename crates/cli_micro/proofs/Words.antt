@@ -1,5 +1,5 @@
 -- How many digits a canonical word has.
-use Rattle.std.proofs.Common.{◌≡◌, ℕ, Bool, true, false, ◌&&◌, ◌^◌, ◌<◌, nat_lt, IsTrue, refl, arith}
+use Rattle.std.proofs.Common.{ℕ, Bool, true, false, ◌&&◌, ◌^◌, ◌<◌, nat_lt, IsTrue, refl, arith}
 use Rattle.std.proofs.lemmas.Bool.Decides.{nat_tests}
 use Rattle.machine_words.specs.declared.machine.Machine.{Machine}
 use Rattle.machine_words.specs.declared.machine.Machine.TheVariants.{Mic1, Mic2}

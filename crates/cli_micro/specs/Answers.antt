@@ -3,8 +3,8 @@ use Rattle.std.specs.Prelude.{◌≡◌, ℕ, List, Some, None, IsSome}
 use Rattle.machine_words.specs.declared.machine.Machine.{Machine}
 use Rattle.micro_word.specs.ControlStore.{ControlStore, IsStore}
 use Rattle.cli_outside.specs.Status as exits
-use Rattle.cli_outside.specs.Outside.{OutsideView, Prints}
-use Rattle.cli_outside.specs.Work.{Ends, Writes}
+use Rattle.cli_outside.specs.Outside.{OutsideView, PrintsOnOut}
+use Rattle.cli_outside.specs.Work.{Ends, WritesThenPrints}
 use Rattle.mal_parser.specs.declared.error.MalError.{MalError}
 use Rattle.mal_parser.specs.Program.{Program}
 use Rattle.mal_parser.specs.Text.{IsRefused, SpellsProgram}
@@ -56,7 +56,7 @@ pub record IsMade (machine : Machine) (bytes file text : List ℕ) : Type 0 wher
 -- `micro` on this machine: the store of the placed microprogram is written to the target, and then its text is printed
 abbrev pub MicroAnswers : Machine → List ℕ → List ℕ → OutsideView → OutsideView → ℕ → Type 0
 MicroAnswers machine target =
-    Ends (IsRefusedText machine) (IsPlaced machine) (λ p. Writes target (store_file p.store) (placement_text p.program p.addresses p.store))
+    Ends (IsRefusedText machine) (IsPlaced machine) (λ p. WritesThenPrints target (store_file p.store) (placement_text p.program p.addresses p.store))
 
 -- what is printed of a file. One that begins with the magic of a machine is a store file of that machine, which is listed; any other is the
 -- text of a microprogram for this one, which is printed in canonical form
@@ -71,4 +71,4 @@ pub data IsUnprinted (machine : Machine) (bytes reason : List ℕ) : Type 0 wher
 
 -- `print-micro`
 abbrev pub PrintMicroAnswers : Machine → List ℕ → OutsideView → OutsideView → ℕ → Type 0
-PrintMicroAnswers machine = Ends (IsUnprinted machine) (IsPrinted machine) (λ text. Prints text exits.done)
+PrintMicroAnswers machine = Ends (IsUnprinted machine) (IsPrinted machine) (λ text. PrintsOnOut text exits.done)

@@ -3,7 +3,7 @@
 ghost use Rattle.mal_parser.specs.ProgramText.{canonical_text};
 ghost use Rattle.shipped_program.specs.Listing.{listed_program};
 ghost use Rattle.cli_outside.specs.Status as exits;
-ghost use Rattle.cli_outside.specs.Outside.{Over, Prints};
+ghost use Rattle.cli_outside.specs.Outside.{Over, PrintsOnOut};
 ghost use Rattle.cli_micro.specs.Answers.{MicroAnswers, PrintMicroAnswers};
 
 use crate::listing::printed_text;
@@ -58,7 +58,7 @@ pub fn print_shipped<F: Files, S: Source, K: Sink, E: Sink>(
     machine: Machine,
     outside: &mut Outside<'_, F, S, K, E>,
 ) -> Status
-    ensures { Over (Prints (canonical_text (listed_program machine)) exits.done) outside.old outside.new result.0 }
+    ensures { Over (PrintsOnOut (canonical_text (listed_program machine)) exits.done) outside.old outside.new result.0 }
 {
     shipped_texts_are_canonical();
     outside.print(shipped_text(machine).as_bytes(), Status::DONE)

@@ -23,5 +23,5 @@ cannot_read = of_file (codes "cannot read")
 abbrev pub cannot_write : List ℕ
 cannot_write = of_file (codes "cannot write")
 
-abbrev pub too_long : List ℕ
-too_long = of_file (codes "longer than 1048576 bytes")
+abbrev pub too_many_bytes : List ℕ
+too_many_bytes = of_file (codes "longer than 1048576 bytes")

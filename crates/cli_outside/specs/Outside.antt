@@ -58,21 +58,21 @@ abbrev pub with_files : OutsideView → FilesState → OutsideView
 with_files o files = outside_view files o.console o.out o.err
 
 -- which references lend the parts
-pub record Names : Type 0 where
+pub record LenderNames : Type 0 where
   pub files : GName
   pub console : GName
   pub out : GName
   pub err : GName
 
-abbrev pub names_of : GName → GName → GName → GName → Names
-names_of files console out err = record { files = files; console = console; out = out; err = err }
+abbrev pub lender_names : GName → GName → GName → GName → LenderNames
+lender_names files console out err = record { files = files; console = console; out = out; err = err }
 
 -- what is seen of an outside whose parts are lent, and which references lend them
 pub record LentView : Type 0 where
-  pub names : Names
+  pub names : LenderNames
   pub seen : OutsideView
 
-abbrev pub lent_view : Names → OutsideView → LentView
+abbrev pub lent_view : LenderNames → OutsideView → LentView
 lent_view names seen = record { names = names; seen = seen }
 
 -- This is done to what is seen, and the same references lend it.
@@ -85,23 +85,23 @@ pub record Over (Does : OutsideView → OutsideView → ℕ → Type 0) (old new
 abbrev pub Got : Option (List ℕ) → List ℕ → Option (List ℕ) → Type 0
 Got old text new = new ≡ option_map (λ held. held ++ text) old
 
-abbrev pub GotFront : Option (List ℕ) → List ℕ → Option (List ℕ) → Type 0
-GotFront old text new = (n : ℕ) × (new ≡ option_map (λ held. held ++ take n text) old)
+abbrev pub GotInPart : Option (List ℕ) → List ℕ → Option (List ℕ) → Type 0
+GotInPart old text new = (n : ℕ) × (new ≡ option_map (λ held. held ++ take n text) old)
 
 -- The sink got the text and has passed on all that it holds, and the status is the text's. Or the sink failed: it got a front of the text, and the status is a failed sink's.
 pub data Says (old new : SinkState) (text : List ℕ) (code status : ℕ) : Type 0 where
   Said : status ≡ code → Got old.held text new.held → IsFlushed new.held new.passed → new.faults ≡ old.faults → Says old new text code status
-  Unsaid : status ≡ exits.sink → GotFront old.held text new.held → Rose old.faults new.faults → Says old new text code status
+  Unsaid : status ≡ exits.sink → GotInPart old.held text new.held → Rose old.faults new.faults → Says old new text code status
 
 -- The text is put to `out`, or to `err`, and nothing else is done.
 
-pub record Prints (text : List ℕ) (code : ℕ) (old new : OutsideView) (status : ℕ) : Type 0 where
+pub record PrintsOnOut (text : List ℕ) (code : ℕ) (old new : OutsideView) (status : ℕ) : Type 0 where
   pub files : new.files ≡ old.files
   pub console : new.console ≡ old.console
   pub err : new.err ≡ old.err
   pub says : Says old.out new.out text code status
 
-pub record Tells (text : List ℕ) (code : ℕ) (old new : OutsideView) (status : ℕ) : Type 0 where
+pub record TellsOnErr (text : List ℕ) (code : ℕ) (old new : OutsideView) (status : ℕ) : Type 0 where
   pub files : new.files ≡ old.files
   pub console : new.console ≡ old.console
   pub out : new.out ≡ old.out

@@ -2,7 +2,7 @@
 use Rattle.std.proofs.Common.{◌≡◌, ℕ, List, Option, Some, None, refl}
 use Rattle.cli_outside.specs.Status as exits
 use Rattle.cli_outside.specs.Messages.{out_of_memory}
-use Rattle.cli_outside.specs.Outside.{LentView, Over, OutsideView, Tells}
+use Rattle.cli_outside.specs.Outside.{LentView, Over, OutsideView, TellsOnErr}
 use Rattle.cli_outside.specs.Work.{Did, Ends, IsHad, IsNotHad, IsRead, IsRefusal, IsUnread, NotHad, Refused, Short, TellsRefusal, Unread, refusal_by}
 use Rattle.cli_outside.specs.declared.refusal.Refusal.{Refusal}
 use Rattle.cli_outside.specs.declared.refusal.Refusal.TheVariants as refusals
@@ -27,7 +27,7 @@ module _ {Refuses : List ℕ → List ℕ → Type 0} {file : List ℕ} where
   pub unread : {old new : LentView} {status : ℕ} → Over (IsUnread file) old new status → Over (IsNotHad Refuses file) old new status
   unread over = record { names = over.names; does = Unread over.does }
 
-  pub short : {old new : LentView} {status : ℕ} → Over (Tells out_of_memory exits.memory) old new status → Over (IsNotHad Refuses file) old new status
+  pub short : {old new : LentView} {status : ℕ} → Over (TellsOnErr out_of_memory exits.memory) old new status → Over (IsNotHad Refuses file) old new status
   short over = record { names = over.names; does = Short over.does }
 
   module _ {V : Type 0} {Is : List ℕ → V → Type 0} {Does : V → OutsideView → OutsideView → ℕ → Type 0} where

@@ -1,10 +1,10 @@
 -- How a command ends that reads one file: nothing is had of the file, or this is done over what it holds.
 use Rattle.std.specs.Prelude.{◌≡◌, ◌<◌, ◌≤◌, ℕ, List, length, Option, None, Some, MatchOption, IsSomeAnd}
 use Rattle.mic_base.specs.Causes.{Rose}
-use Rattle.mic_base.specs.Files.{Contents, KeepsOthers, Tells as Contain, most_bytes}
+use Rattle.mic_base.specs.Files.{Contents, KeepsOthers, Tells, most_bytes}
 use Rattle.cli_outside.specs.Status as exits
-use Rattle.cli_outside.specs.Outside.{OutsideView, Prints, Tells, with_files}
-use Rattle.cli_outside.specs.Messages.{cannot_read, cannot_write, message, out_of_memory, too_long}
+use Rattle.cli_outside.specs.Outside.{OutsideView, PrintsOnOut, TellsOnErr, with_files}
+use Rattle.cli_outside.specs.Messages.{cannot_read, cannot_write, message, out_of_memory, too_many_bytes}
 use Rattle.cli_outside.specs.declared.refusal.Refusal.{Refusal}
 use Rattle.cli_outside.specs.declared.refusal.Refusal.TheVariants as refusals
 
@@ -14,23 +14,23 @@ OthersKept old new name = MatchOption old (new ≡ None) (λ before. IsSomeAnd n
 
 -- the file has these bytes, and they are few enough
 pub record IsRead (file bytes : List ℕ) (o : OutsideView) : Type 0 where
-  pub has : Contain o.files.contents file bytes
+  pub has : Tells o.files.contents file bytes
   pub short : length bytes ≤ most_bytes
 
 -- The file's bytes are not had: the files failed, it is too long, or there is no memory for it. Nothing else is done.
 pub data IsUnread (file : List ℕ) (old new : OutsideView) (status : ℕ) : Type 0 where
   Failed : new.files.contents ≡ old.files.contents → Rose old.files.faults new.files.faults →
-      Tells (message file cannot_read) exits.file (with_files old new.files) new status → IsUnread file old new status
-  TooLong : (bytes : List ℕ) → Contain old.files.contents file bytes → most_bytes < length bytes →
-      Tells (message file too_long) exits.too_long old new status → IsUnread file old new status
-  NoRoom : Tells out_of_memory exits.memory old new status → IsUnread file old new status
+      TellsOnErr (message file cannot_read) exits.file (with_files old new.files) new status → IsUnread file old new status
+  TooLong : (bytes : List ℕ) → Tells old.files.contents file bytes → most_bytes < length bytes →
+      TellsOnErr (message file too_many_bytes) exits.too_long old new status → IsUnread file old new status
+  NoRoom : TellsOnErr out_of_memory exits.memory old new status → IsUnread file old new status
 
 -- Nothing is had of a file: it is not read, it is refused, or memory is wanting. `Refuses bytes reason` says why a file of these bytes is refused.
 pub data IsNotHad (Refuses : List ℕ → List ℕ → Type 0) (file : List ℕ) (old new : OutsideView) (status : ℕ) : Type 0 where
   Unread : IsUnread file old new status → IsNotHad Refuses file old new status
-  Refused : (bytes reason : List ℕ) → IsRead file bytes old → Refuses bytes reason → Tells (message file reason) exits.refused old new status →
+  Refused : (bytes reason : List ℕ) → IsRead file bytes old → Refuses bytes reason → TellsOnErr (message file reason) exits.refused old new status →
       IsNotHad Refuses file old new status
-  Short : Tells out_of_memory exits.memory old new status → IsNotHad Refuses file old new status
+  Short : TellsOnErr out_of_memory exits.memory old new status → IsNotHad Refuses file old new status
 
 -- for a reason, or for want of memory where there is none
 abbrev pub refusal_by : Option (List ℕ) → Refusal
@@ -43,8 +43,8 @@ IsRefusal Refuses bytes (refusals.Refused reason) = Refuses bytes reason
 IsRefusal Refuses bytes refusals.OutOfMemory = Unit {0}
 
 abbrev pub TellsRefusal : List ℕ → Refusal → OutsideView → OutsideView → ℕ → Type 0
-TellsRefusal file (refusals.Refused reason) = Tells (message file reason) exits.refused
-TellsRefusal file refusals.OutOfMemory = Tells out_of_memory exits.memory
+TellsRefusal file (refusals.Refused reason) = TellsOnErr (message file reason) exits.refused
+TellsRefusal file refusals.OutOfMemory = TellsOnErr out_of_memory exits.memory
 
 -- the file holds this: `Is bytes value` says that a file of these bytes does
 pub record IsHad {V : Type 0} (Is : List ℕ → V → Type 0) (file : List ℕ) (o : OutsideView) (value : V) : Type 0 where
@@ -59,18 +59,19 @@ pub data Ends {V : Type 0} (Refuses : List ℕ → List ℕ → Type 0) (Is : Li
   Did : (value : V) → IsHad Is file old value → Does value old new status → Ends Refuses Is Does file old new status
 
 -- a text of it is printed: `Shows value text` says that this is the text
-pub record PrintsOf {V : Type 0} (Shows : V → List ℕ → Type 0) (value : V) (old new : OutsideView) (status : ℕ) : Type 0 where
+pub record PrintsTextOf {V : Type 0} (Shows : V → List ℕ → Type 0) (value : V) (old new : OutsideView) (status : ℕ) : Type 0 where
   pub text : List ℕ
   pub shows : Shows value text
-  pub prints : Prints text exits.done old new status
+  pub prints : PrintsOnOut text exits.done old new status
 
 -- Bytes are written to a file, and then a text is printed.
-pub data Writes (target bytes text : List ℕ) (old new : OutsideView) (status : ℕ) : Type 0 where
-  Written : Contain new.files.contents target bytes → OthersKept old.files.contents new.files.contents target →
-      new.files.faults ≡ old.files.faults → Prints text exits.done (with_files old new.files) new status → Writes target bytes text old new status
+pub data WritesThenPrints (target bytes text : List ℕ) (old new : OutsideView) (status : ℕ) : Type 0 where
+  Written : Tells new.files.contents target bytes → OthersKept old.files.contents new.files.contents target →
+      new.files.faults ≡ old.files.faults → PrintsOnOut text exits.done (with_files old new.files) new status →
+      WritesThenPrints target bytes text old new status
   -- the files failed, and what the file to be written contains is open
   Unwritten : OthersKept old.files.contents new.files.contents target → Rose old.files.faults new.files.faults →
-      Tells (message target cannot_write) exits.file (with_files old new.files) new status → Writes target bytes text old new status
+      TellsOnErr (message target cannot_write) exits.file (with_files old new.files) new status → WritesThenPrints target bytes text old new status
   -- Memory was wanting for the writing. That answer is free: the file to be written may be whole, in part, or as it was.
   HalfWritten : OthersKept old.files.contents new.files.contents target → new.files.faults ≡ old.files.faults →
-      Tells out_of_memory exits.memory (with_files old new.files) new status → Writes target bytes text old new status
+      TellsOnErr out_of_memory exits.memory (with_files old new.files) new status → WritesThenPrints target bytes text old new status

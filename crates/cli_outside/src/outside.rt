@@ -3,8 +3,8 @@
 ghost use Rattle.std.specs.Prelude.{◌≡◌, OnOk, IfOk, IfErr};
 ghost use Rattle.cli_outside.specs.Status as exits;
 ghost use Rattle.cli_outside.specs.Messages.{message, out_of_memory};
-ghost use Rattle.cli_outside.specs.Outside.{Over, Prints, Tells, files_of, names_of, outside_view, sink_of, source_of};
-ghost use Rattle.cli_outside.specs.Work.{IsRead, IsUnread, TellsRefusal, Writes};
+ghost use Rattle.cli_outside.specs.Outside.{Over, PrintsOnOut, TellsOnErr, files_of, lender_names, outside_view, sink_of, source_of};
+ghost use Rattle.cli_outside.specs.Work.{IsRead, IsUnread, TellsRefusal, WritesThenPrints};
 
 use crate::refusal::Refusal;
 use crate::said::{no_memory, say, say_of};
@@ -23,18 +23,18 @@ pub struct Outside<'a, F: Files, S: Source, K: Sink, E: Sink> {
 }
 
 impl<'a, F: Files, S: Source, K: Sink, E: Sink> Model for Outside<'a, F, S, K, E> {
-    ghost use Rattle.cli_outside.specs.Outside.{LentView, files_of, lent_view, names_of, outside_view, sink_of, source_of};
+    ghost use Rattle.cli_outside.specs.Outside.{LentView, files_of, lender_names, lent_view, outside_view, sink_of, source_of};
 
     ghost Value = { LentView };
 
-    ghost view = { λ o. lent_view (names_of o.files.ghost_name o.console.ghost_name o.out.ghost_name o.err.ghost_name)
+    ghost view = { λ o. lent_view (lender_names o.files.ghost_name o.console.ghost_name o.out.ghost_name o.err.ghost_name)
         (outside_view (files_of F.contents F.faults o.files.now) (source_of S.left S.faults o.console.now)
         (sink_of K.held K.passed K.faults o.out.now) (sink_of E.held E.passed E.faults o.err.now)) };
 }
 
 impl<'a, F: Files, S: Source, K: Sink, E: Sink> Outside<'a, F, S, K, E> {
     pub fn new(files: &'a mut F, console: &'a mut S, out: &'a mut K, err: &'a mut E) -> Self
-        ensures names { result.names ≡ names_of files.entry.ghost_name console.entry.ghost_name out.entry.ghost_name err.entry.ghost_name }
+        ensures names { result.names ≡ lender_names files.entry.ghost_name console.entry.ghost_name out.entry.ghost_name err.entry.ghost_name }
         ensures seen { result.seen ≡ outside_view (files_of F.contents F.faults files.entry.now) (source_of S.left S.faults console.entry.now)
             (sink_of K.held K.passed K.faults out.entry.now) (sink_of E.held E.passed E.faults err.entry.now) }
     {
@@ -48,7 +48,7 @@ impl<'a, F: Files, S: Source, K: Sink, E: Sink> Outside<'a, F, S, K, E> {
 
     /// The parts, which `close` gives back.
     pub fn into_parts(self) -> (&'a mut F, &'a mut S, &'a mut K, &'a mut E)
-        ensures names { self.entry.names ≡ names_of result.0.ghost_name result.1.ghost_name result.2.ghost_name result.3.ghost_name }
+        ensures names { self.entry.names ≡ lender_names result.0.ghost_name result.1.ghost_name result.2.ghost_name result.3.ghost_name }
         ensures seen { self.entry.seen ≡ outside_view (files_of F.contents F.faults result.0.now) (source_of S.left S.faults result.1.now)
             (sink_of K.held K.passed K.faults result.2.now) (sink_of E.held E.passed E.faults result.3.now) }
     {
@@ -63,28 +63,28 @@ impl<'a, F: Files, S: Source, K: Sink, E: Sink> Outside<'a, F, S, K, E> {
 
     /// Puts a text to `out`, with its status.
     pub fn print(&mut self, text: &[u8], status: Status) -> Status
-        ensures { Over (Prints text.now status.0) self.old self.new result.0 }
+        ensures { Over (PrintsOnOut text.now status.0) self.old self.new result.0 }
     {
         say(self.out, text, status)
     }
 
     /// Puts a text to `err`, with its status.
     pub fn tell(&mut self, text: &[u8], status: Status) -> Status
-        ensures { Over (Tells text.now status.0) self.old self.new result.0 }
+        ensures { Over (TellsOnErr text.now status.0) self.old self.new result.0 }
     {
         say(self.err, text, status)
     }
 
     /// Says this of a file on `err`.
     pub fn tell_of(&mut self, file: &str, reason: &[u8], status: Status) -> Status
-        ensures { Over (Tells (message file.now reason.now) status.0) self.old self.new result.0 }
+        ensures { Over (TellsOnErr (message file.now reason.now) status.0) self.old self.new result.0 }
     {
         say_of(self.err, file, reason, status)
     }
 
     /// Says that memory is wanting.
     pub fn no_memory(&mut self) -> Status
-        ensures { Over (Tells out_of_memory exits.memory) self.old self.new result.0 }
+        ensures { Over (TellsOnErr out_of_memory exits.memory) self.old self.new result.0 }
     {
         no_memory(self.err)
     }
@@ -117,7 +117,7 @@ impl<'a, F: Files, S: Source, K: Sink, E: Sink> Outside<'a, F, S, K, E> {
 
     /// Writes bytes to a file, and then prints a text.
     pub fn write(&mut self, alloc: Global, target: &str, bytes: &[u8], text: &[u8]) -> Status
-        ensures { Over (Writes target.now bytes.now text.now) self.old self.new result.0 }
+        ensures { Over (WritesThenPrints target.now bytes.now text.now) self.old self.new result.0 }
     {
         match self.files.write_file(alloc, target, bytes) {
             Ok(()) => self.print(text, Status::DONE),

@@ -2,7 +2,7 @@
 
 ghost use Rattle.std.specs.Prelude.{◌≡◌, ◌++◌, ℕ, List, Option, OnOk};
 ghost use Rattle.mic_base.specs.Causes.{HasCause};
-ghost use Rattle.mic_base.specs.Streams.{IsFlushed, Puts};
+ghost use Rattle.mic_base.specs.Streams.{Holds, IsFlushed, Puts};
 ghost use Rattle.cli_outside.specs.Status as exits;
 ghost use Rattle.cli_outside.specs.Messages.{message, out_of_memory};
 ghost use Rattle.cli_outside.specs.Outside.{Says, sink_of};
@@ -20,6 +20,8 @@ pub fn put_after<E: Sink>(
 ) -> Result<(), SinkFailed>
     ensures puts { (old : Option (List ℕ)) (text : List ℕ) →
         Puts old text said (E.held err.old) → Puts old (text ++ piece.now) result (E.held err.new) }
+    ensures keeps { (front : List ℕ) → Holds front (E.held err.old) → Holds front (E.held err.new) }
+    ensures passed { E.passed err.new ≡ E.passed err.old }
     ensures cause { (before : ℕ) → HasCause before (E.faults err.old) said → HasCause before (E.faults err.new) result }
 {
     match said {

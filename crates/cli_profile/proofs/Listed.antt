@@ -6,7 +6,7 @@ use Rattle.std.proofs.Math.ListN.{get_or-append}
 use Rattle.std.proofs.Math.Seq.{get_or-append_seam}
 use Rattle.std.proofs.lemmas.Bool.{cases_lt}
 use Rattle.ijvm_image.specs.Image.{ImageView}
-use Rattle.cli_profile.specs.Rows.{AreRows, IsRow}
+use Rattle.cli_profile.specs.Rows.{AreRowsUpTo, IsRowAt}
 
 -- a member of a list with one more is of the list, or is the one more
 last_or_before : (xs : List ℕ) (x k y : ℕ) → slice_get (xs ++ x ∷ []) k ≡ Some y → (slice_get xs k ≡ Some y) ⊎ ((k ≡ length xs) × (x ≡ y))
@@ -20,19 +20,19 @@ last_or_before xs x k y h =
     ]
 
 -- none
-pub no_rows : (image : ImageView) → AreRows image 0 []
+pub no_rows : (image : ImageView) → AreRowsUpTo image 0 []
 no_rows image = record { long = refl; each = λ at row h. absurd (cc) }
 
 -- one more address
-pub more_rows : (image : ImageView) (count : ℕ) (rows : List ℕ) (row : ℕ) → AreRows image count rows → IsRow image count row →
-    AreRows image (count + 1) (rows ++ row ∷ [])
+pub more_rows : (image : ImageView) (count : ℕ) (rows : List ℕ) (row : ℕ) → AreRowsUpTo image count rows → IsRowAt image count row →
+    AreRowsUpTo image (count + 1) (rows ++ row ∷ [])
 more_rows image count rows row are is = record {
   long = length-append rows (row ∷ []) ∙ ap (λ (n : ℕ). n + 1) are.long;
   each = λ at other h. one at other (last_or_before rows row at other h);
 }
   where
-    one : (at other : ℕ) → (slice_get rows at ≡ Some other) ⊎ ((at ≡ length rows) × (row ≡ other)) → IsRow image at other
+    one : (at other : ℕ) → (slice_get rows at ≡ Some other) ⊎ ((at ≡ length rows) × (row ≡ other)) → IsRowAt image at other
     one at other (inl before) = are.each at other before
     one at other (inr here) =
         let same : count ≡ at = sym (here.0 ∙ are.long) in
-        subst (λ (a : ℕ). IsRow image a other) same (subst (λ (r : ℕ). IsRow image count r) here.1 is)
+        subst (λ (a : ℕ). IsRowAt image a other) same (subst (λ (r : ℕ). IsRowAt image count r) here.1 is)

@@ -7,6 +7,7 @@ use Rattle.mic_clock.specs.declared.end.End.{End}
 use Rattle.mic_clock.specs.Run.{completes}
 use Rattle.watched_run.specs.declared.cycle.Cycle.{Cycle}
 use Rattle.watched_run.specs.Watched.{kept_of}
+use Rattle.cli_profile.specs.declared.profiler.Profiler.{Profiler}
 use Rattle.cli_profile.specs.declared.profiler.RowCount.{RowCount}
 use Rattle.cli_profile.specs.Rows.{other, row_name}
 
@@ -18,6 +19,10 @@ pub record Profile : Type 0 where
   pub last : Option Boundary
   -- how often the instructions of each row were completed, and in how many cycles
   pub tallies : List RowCount
+
+-- what a profiler holds
+abbrev pub profile_in : Profiler → Profile
+profile_in p = record { rows = p.rows.now; boot = p.boot; last = p.last; tallies = p.tallies }
 
 abbrev pub no_tally : RowCount
 no_tally = record { count = 0; cycles = 0 }
@@ -54,8 +59,8 @@ reached_at None p c = p
 reached_at (Some at) p c = reached p c
 
 -- the profile after one more cycle
-abbrev pub counted : Profile → Cycle → Profile
-counted p c = reached_at c.boundary p c.counts
+abbrev pub profile_after : Profile → Cycle → Profile
+profile_after p c = reached_at c.boundary p c.counts
 
 -- an end by HALT or ERR completes the last instruction
 abbrev pub tallies_at : Profile → End → ℕ → List RowCount
@@ -88,5 +93,5 @@ abbrev pub Silent : Profile → Cycle → List ℕ → Type 0
 Silent p c text = text ≡ []
 
 -- the profile of these cycles
-abbrev pub profile_of : List ℕ → List Cycle → Profile
-profile_of rows cs = kept_of counted Silent (start_profile rows) cs
+abbrev pub profile_of_cycles : List ℕ → List Cycle → Profile
+profile_of_cycles rows cs = kept_of profile_after Silent (start_profile rows) cs

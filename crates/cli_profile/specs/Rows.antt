@@ -29,12 +29,12 @@ row_in (Some i) = row_number i
 row_in None = other
 
 -- the row of the reached instruction that begins at an address
-pub record IsRow (image : ImageView) (at row : ℕ) : Type 0 where
+pub record IsRowAt (image : ImageView) (at row : ℕ) : Type 0 where
   pub instr : Option Instr
   pub reached : IsReached image at instr
   pub is : row ≡ row_in instr
 
 -- the rows of so many addresses, from the first on
-pub record AreRows (image : ImageView) (count : ℕ) (rows : List ℕ) : Type 0 where
+pub record AreRowsUpTo (image : ImageView) (count : ℕ) (rows : List ℕ) : Type 0 where
   pub long : length rows ≡ count
-  pub each : (at row : ℕ) → slice_get rows at ≡ Some row → IsRow image at row
+  pub each : (at row : ℕ) → slice_get rows at ≡ Some row → IsRowAt image at row

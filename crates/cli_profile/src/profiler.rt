@@ -3,7 +3,7 @@
 ghost use Rattle.std.specs.Prelude.{◌≡◌, List, [], ℕ, None, replicate, slice_set, IsTrue};
 ghost use Rattle.mic_base.specs.Causes.{HasCause};
 ghost use Rattle.mic_clock.specs.Run.{completes};
-ghost use Rattle.cli_profile.specs.Profile.{Profile, boot_of, completed, counted, more, no_tally, row_at, tallies_at, tally_at};
+ghost use Rattle.cli_profile.specs.Profile.{Profile, boot_of, completed, more, no_tally, profile_after, row_at, tallies_at, tally_at};
 
 use crate::rows::{OTHER, ROWS};
 use mic_base::{Sink, SinkFailed};
@@ -103,13 +103,13 @@ impl<'a> Profiler<'a> {
 }
 
 impl<'a> Watcher for Profiler<'a> {
-    ghost use Rattle.cli_profile.specs.Profile.{Profile, Silent, counted};
+    ghost use Rattle.cli_profile.specs.Profile.{Profile, Silent, profile_after, profile_in};
 
     ghost Kept = { Profile };
 
-    ghost kept = { λ p. record { rows = p.rows.now; boot = p.boot; last = p.last; tallies = p.tallies } };
+    ghost kept = { λ p. profile_in p };
 
-    ghost keeps = { counted };
+    ghost keeps = { profile_after };
 
     ghost Prints = { Silent };
 

@@ -3,7 +3,7 @@
 ghost use Rattle.std.specs.Prelude.{◌≡◌, ◌≤◌, ◌<◌, length, slice_get, IfOk, IfSome};
 ghost use Rattle.ijvm_instr.specs.declared.instr.Instr.{Instr};
 ghost use Rattle.ijvm_instr.specs.Instructions.{name_of};
-ghost use Rattle.cli_profile.specs.Rows.{AreRows, IsRow, place_in, row_name, row_number};
+ghost use Rattle.cli_profile.specs.Rows.{AreRowsUpTo, IsRowAt, place_in, row_name, row_number};
 
 use cli_cycle_texts::reached_at;
 use ijvm_instr::{INSTRUCTIONS, Instr, name};
@@ -62,7 +62,7 @@ pub fn rows_law()
 
 /// The row of the instruction that begins at an address.
 fn row_at(image: &VerifiedImage, at: u32) -> u8
-    ensures { IsRow image.now.image at result }
+    ensures { IsRowAt image.now.image at result }
 {
     match reached_at(image, at) {
         Some(instr) => row_number(instr),
@@ -72,7 +72,7 @@ fn row_at(image: &VerifiedImage, at: u32) -> u8
 
 /// The row of each address of an image's text.
 pub fn rows_of(alloc: Global, image: &VerifiedImage) -> Result<Vec<u8>, AllocError>
-    ensures { IfOk result (λ rows. AreRows image.now.image (length image.now.image.text) rows.items) }
+    ensures { IfOk result (λ rows. AreRowsUpTo image.now.image (length image.now.image.text) rows.items) }
 {
     let len = image.image().text().len() as u32;
     let mut rows = Vec::new(alloc);

@@ -3,7 +3,7 @@
 ghost use Rattle.std.specs.Prelude.{◌≡◌, ◌≤◌, ◌+◌, ◌++◌, ℕ, List, Option, length};
 ghost use Rattle.mic_base.specs.Causes.{HasCause};
 ghost use Rattle.mic_base.specs.Streams.{Puts};
-ghost use Rattle.cli_profile.specs.Profile.{count_line, profile_text, row_line, rows_text, tallies_at};
+ghost use Rattle.cli_profile.specs.Profile.{count_line, profile_in, profile_text, row_line, rows_text, tallies_at};
 
 use crate::profiler::{Profiler, RowCount, complete};
 use crate::rows::row_name;
@@ -56,7 +56,7 @@ fn put_rows<E: Sink>(
 
 /// The tallies of a run that ended so.
 fn tallies_at(profiler: &Profiler<'_>, end: End, counts: &Counts) -> [RowCount; 27]
-    ensures { result ≡ tallies_at (record { rows = profiler.now.rows.now; boot = profiler.now.boot; last = profiler.now.last; tallies = profiler.now.tallies }) end counts.now.cycles }
+    ensures { result ≡ tallies_at (profile_in profiler.now) end counts.now.cycles }
 {
     let mut tallies = profiler.tallies;
     if matches!(end, End::Halt | End::Err) {
@@ -72,7 +72,7 @@ pub fn put_profile<E: Sink>(
     counts: &Counts,
     err: &mut E,
 ) -> Result<(), SinkFailed>
-    ensures puts { Puts (E.held err.old) (profile_text (record { rows = profiler.now.rows.now; boot = profiler.now.boot; last = profiler.now.last; tallies = profiler.now.tallies }) end counts.now) result (E.held err.new) }
+    ensures puts { Puts (E.held err.old) (profile_text (profile_in profiler.now) end counts.now) result (E.held err.new) }
     ensures cause { HasCause (E.faults err.old) (E.faults err.new) result }
 {
     let said = err.put(count_line("boot", profiler.boot(counts)).bytes());

@@ -14,7 +14,7 @@ use Rattle.cli_outside.specs.declared.refusal.Refusal.{Refusal}
 use Rattle.cli_outside.specs.declared.refusal.Refusal.TheVariants as refusals
 use Rattle.cli_outside.specs.Work.{IsRefusal, refusal_by}
 use Rattle.cli_outside.specs.Ways.{by_reason}
-use Rattle.cli_programs.specs.Program.{IsNoSource, IsOf, IsRefused, IsRefusalByAll, NoImage, NoProgram, NoSource, NotAccepted, NotLinked, begins_image}
+use Rattle.cli_programs.specs.Program.{IsNoSource, IsOf, IsRefusedProgram, IsRefusalByAll, NoImage, NoProgram, NoSource, NotAccepted, NotLinked, begins_image}
 use Rattle.ijvm_program.specs.Program.{ProgramView}
 use Rattle.ijvm_asm.specs.declared.error.AsmError.{AsmError}
 use Rattle.ijvm_asm.specs.declared.error.AsmError.TheVariants as sources
@@ -25,18 +25,18 @@ use Rattle.method_linker.specs.declared.error.LinkError.{LinkError}
 use Rattle.method_linker.specs.Linked as linker
 
 pub no_image : (map : MemoryMap) (bytes : List ℕ) (e : ImageError) (u : Refusal) → begins_image bytes ≡ true → (e ≡ images.OutOfMemory) ⊎ IsRefusedFile bytes e →
-    u ≡ refusal_by (image_reason e) → IsRefusal (IsRefused map) bytes u
+    u ≡ refusal_by (image_reason e) → IsRefusal (IsRefusedProgram map) bytes u
 no_image map bytes e u begins (inl short) is =
-    subst (IsRefusal (IsRefused map) bytes) (sym (is ∙ ap (λ (x : ImageError). refusal_by (image_reason x)) short)) tt
+    subst (IsRefusal (IsRefusedProgram map) bytes) (sym (is ∙ ap (λ (x : ImageError). refusal_by (image_reason x)) short)) tt
 no_image map bytes e u begins (inr read) is =
-    subst (IsRefusal (IsRefused map) bytes) (sym is) (by_reason (IsRefused map) bytes (image_reason e) (λ text said. NoImage e begins read said))
+    subst (IsRefusal (IsRefusedProgram map) bytes) (sym is) (by_reason (IsRefusedProgram map) bytes (image_reason e) (λ text said. NoImage e begins read said))
 
 pub not_accepted : (map : MemoryMap) (bytes : List ℕ) (image : ImageView) (e : VerifyError) (u : Refusal) → IsOf bytes image → (e ≡ facts.OutOfMemory) ⊎ IsTrueOf image map.stack_end e →
-    u ≡ refusal_by (verify_reason e) → IsRefusal (IsRefused map) bytes u
+    u ≡ refusal_by (verify_reason e) → IsRefusal (IsRefusedProgram map) bytes u
 not_accepted map bytes image e u of (inl short) is =
-    subst (IsRefusal (IsRefused map) bytes) (sym (is ∙ ap (λ (x : VerifyError). refusal_by (verify_reason x)) short)) tt
+    subst (IsRefusal (IsRefusedProgram map) bytes) (sym (is ∙ ap (λ (x : VerifyError). refusal_by (verify_reason x)) short)) tt
 not_accepted map bytes image e u of (inr holds) is =
-    subst (IsRefusal (IsRefused map) bytes) (sym is) (by_reason (IsRefused map) bytes (verify_reason e) (λ text said. NotAccepted image e of holds said))
+    subst (IsRefusal (IsRefusedProgram map) bytes) (sym is) (by_reason (IsRefusedProgram map) bytes (verify_reason e) (λ text said. NotAccepted image e of holds said))
 
 -- a refusal that is told is not want of memory
 is_told : (e : AsmError) (said : List ℕ) → source_reason e ≡ Some said → is_memory e ≡ false
@@ -61,7 +61,7 @@ not_linked text source e u spelled refused is =
     subst (IsRefusal IsNoSource text) (sym is) (by_reason IsNoSource text (link_reason e) (λ said h. NotLinked source e spelled refused h))
 
 -- a source that has no image holds no accepted program
-pub no_program : (map : MemoryMap) (bytes : List ℕ) (u : Refusal) → begins_image bytes ≡ false → IsRefusal IsNoSource bytes u → IsRefusal (IsRefused map) bytes u
+pub no_program : (map : MemoryMap) (bytes : List ℕ) (u : Refusal) → begins_image bytes ≡ false → IsRefusal IsNoSource bytes u → IsRefusal (IsRefusedProgram map) bytes u
 no_program map bytes (refusals.Refused reason) begins h = NoProgram begins h
 no_program map bytes refusals.OutOfMemory begins h = tt
 

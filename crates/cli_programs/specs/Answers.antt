@@ -4,14 +4,14 @@ use Rattle.console_port.specs.declared.map.MemoryMap.{MemoryMap}
 use Rattle.ijvm_image.specs.ImageFile.{file_of}
 use Rattle.ijvm_paths.specs.Accepted.{VerifiedView}
 use Rattle.cli_outside.specs.Outside.{OutsideView}
-use Rattle.cli_outside.specs.Work.{Ends, Writes}
+use Rattle.cli_outside.specs.Work.{Ends, WritesThenPrints}
 use Rattle.cli_texts.specs.Summary.{sizes}
-use Rattle.cli_programs.specs.Program.{IsNoSource, IsProgram, IsRefused, IsSource}
+use Rattle.cli_programs.specs.Program.{IsNoSource, IsProgram, IsRefusedProgram, IsSource}
 
 -- over the accepted program that a file holds
 abbrev pub EndsOver : MemoryMap → (VerifiedView → OutsideView → OutsideView → ℕ → Type 0) → List ℕ → OutsideView → OutsideView → ℕ → Type 0
-EndsOver map = Ends (IsRefused map) (IsProgram map)
+EndsOver map = Ends (IsRefusedProgram map) (IsProgram map)
 
 -- the image of a source is written to the target, and then its sizes are printed
 abbrev pub Assembles : List ℕ → List ℕ → OutsideView → OutsideView → ℕ → Type 0
-Assembles target = Ends IsNoSource IsSource (λ image. Writes target (file_of image) (sizes (length image.text) (length image.pool)))
+Assembles target = Ends IsNoSource IsSource (λ image. WritesThenPrints target (file_of image) (sizes (length image.text) (length image.pool)))

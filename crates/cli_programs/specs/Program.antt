@@ -32,7 +32,8 @@ pub record IsSource (text : List ℕ) (image : ImageView) : Type 0 where
 -- the text is no source of an image, for this reason
 pub data IsNoSource (text reason : List ℕ) : Type 0 where
   NoSource : (e : AsmError) → assembler.IsRefused text e → source_reason e ≡ Some reason → IsNoSource text reason
-  NotLinked : (source : ProgramView) (e : LinkError) → SpellsProgram text source → linker.IsRefused source e → link_reason e ≡ Some reason → IsNoSource text reason
+  NotLinked : (source : ProgramView) (e : LinkError) → SpellsProgram text source → linker.IsRefused source e → link_reason e ≡ Some reason →
+      IsNoSource text reason
 
 -- the file is this image's, or a source of it
 pub data IsOf (bytes : List ℕ) (image : ImageView) : Type 0 where
@@ -46,11 +47,12 @@ pub record IsProgram (map : MemoryMap) (bytes : List ℕ) (program : VerifiedVie
   pub accepted : IsAccepted program
 
 -- the file is refused, for this reason
-pub data IsRefused (map : MemoryMap) (bytes reason : List ℕ) : Type 0 where
-  NoImage : (e : ImageError) → begins_image bytes ≡ true → IsRefusedFile bytes e → image_reason e ≡ Some reason → IsRefused map bytes reason
-  NoProgram : begins_image bytes ≡ false → IsNoSource bytes reason → IsRefused map bytes reason
-  NotAccepted : (image : ImageView) (e : VerifyError) → IsOf bytes image → IsTrueOf image map.stack_end e → verify_reason e ≡ Some reason → IsRefused map bytes reason
+pub data IsRefusedProgram (map : MemoryMap) (bytes reason : List ℕ) : Type 0 where
+  NoImage : (e : ImageError) → begins_image bytes ≡ true → IsRefusedFile bytes e → image_reason e ≡ Some reason → IsRefusedProgram map bytes reason
+  NoProgram : begins_image bytes ≡ false → IsNoSource bytes reason → IsRefusedProgram map bytes reason
+  NotAccepted : (image : ImageView) (e : VerifyError) → IsOf bytes image → IsTrueOf image map.stack_end e → verify_reason e ≡ Some reason →
+      IsRefusedProgram map bytes reason
 
 -- what it means that no image is had from these bytes: no map has an accepted program then
 abbrev pub IsRefusalByAll : List ℕ → Refusal → Type 0
-IsRefusalByAll bytes refusal = (map : MemoryMap) → IsRefusal (IsRefused map) bytes refusal
+IsRefusalByAll bytes refusal = (map : MemoryMap) → IsRefusal (IsRefusedProgram map) bytes refusal

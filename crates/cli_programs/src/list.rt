@@ -2,7 +2,7 @@
 
 ghost use Rattle.console_port.specs.Map.{IsMap};
 ghost use Rattle.cli_outside.specs.Outside.{Over};
-ghost use Rattle.cli_outside.specs.Work.{PrintsOf};
+ghost use Rattle.cli_outside.specs.Work.{PrintsTextOf};
 ghost use Rattle.cli_texts.specs.Listing.{Lists};
 ghost use Rattle.cli_programs.specs.Answers.{EndsOver};
 
@@ -21,7 +21,7 @@ pub fn list_file<F: Files, S: Source, K: Sink, E: Sink>(
     outside: &mut Outside<'_, F, S, K, E>,
 ) -> Status
     requires { IsMap map.stack_end }
-    ensures { Over (EndsOver map (PrintsOf Lists) file.now) outside.old outside.new result.0 }
+    ensures { Over (EndsOver map (PrintsTextOf Lists) file.now) outside.old outside.new result.0 }
 {
     let program = match program_in_file(alloc, file, map, outside) {
         Ok(program) => program,

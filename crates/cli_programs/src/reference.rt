@@ -4,7 +4,7 @@ ghost use Rattle.std.specs.Prelude.{◌≤◌, ◌^◌};
 ghost use Rattle.console_port.specs.Map.{IsMap};
 ghost use Rattle.cli_outside.specs.Outside.{Over};
 ghost use Rattle.cli_programs.specs.Answers.{EndsOver};
-ghost use Rattle.cli_programs.specs.Reference.{IsRun};
+ghost use Rattle.cli_programs.specs.Reference.{IsReferenceRun};
 
 use crate::program::program_in_file;
 use cli_outside::{Outside, Status};
@@ -25,7 +25,7 @@ fn run_program<F: Files, S: Source, K: Sink, E: Sink>(
     outside: &mut Outside<'_, F, S, K, E>,
 ) -> Status
     requires { bound ≤ 2 ^ 62 }
-    ensures { Over (IsRun machine bound program.now) outside.old outside.new result.0 }
+    ensures { Over (IsReferenceRun machine bound program.now) outside.old outside.new result.0 }
 {
     let locals = program.main_locals();
     let image = program.image();
@@ -56,7 +56,7 @@ pub fn reference_file<F: Files, S: Source, K: Sink, E: Sink>(
 ) -> Status
     requires bound { bound ≤ 2 ^ 62 }
     requires map { IsMap map.stack_end }
-    ensures { Over (EndsOver map (IsRun machine bound) file.now) outside.old outside.new result.0 }
+    ensures { Over (EndsOver map (IsReferenceRun machine bound) file.now) outside.old outside.new result.0 }
 {
     match program_in_file(alloc, file, map, outside) {
         Ok(program) => run_program(alloc, &program, machine, bound, outside),

@@ -2,7 +2,7 @@
 
 ghost use Rattle.console_port.specs.Map.{IsMap};
 ghost use Rattle.cli_outside.specs.Outside.{Over};
-ghost use Rattle.cli_outside.specs.Work.{PrintsOf};
+ghost use Rattle.cli_outside.specs.Work.{PrintsTextOf};
 ghost use Rattle.cli_texts.specs.Summary.{Summarizes};
 ghost use Rattle.cli_programs.specs.Answers.{EndsOver};
 
@@ -21,7 +21,7 @@ pub fn verify_file<F: Files, S: Source, K: Sink, E: Sink>(
     outside: &mut Outside<'_, F, S, K, E>,
 ) -> Status
     requires { IsMap map.stack_end }
-    ensures { Over (EndsOver map (PrintsOf Summarizes) file.now) outside.old outside.new result.0 }
+    ensures { Over (EndsOver map (PrintsTextOf Summarizes) file.now) outside.old outside.new result.0 }
 {
     match program_in_file(alloc, file, map, outside) {
         Ok(program) => outside.print(summary_of(&program).bytes(), Status::DONE),

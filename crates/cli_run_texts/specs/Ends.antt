@@ -7,15 +7,15 @@ use Rattle.mic_clock.specs.declared.end.End.TheVariants as ends
 use Rattle.plain_machine.specs.declared.plain.PlainEnd.{PlainEnd}
 use Rattle.plain_machine.specs.declared.plain.PlainEnd.TheVariants as plain
 
-abbrev pub name_of : End → List ℕ
-name_of ends.Halt = codes "halt"
-name_of ends.Err = codes "error"
-name_of ends.Bound = codes "bound"
-name_of ends.StackLimit = codes "stack-limit"
-name_of ends.ReadFault = codes "read-fault"
-name_of ends.WriteFault = codes "write-fault"
-name_of (ends.OutOfMap at) = codes "out-of-map at " ++ hex_text 8 at
-name_of ends.Adrift = codes "adrift"
+abbrev pub end_name : End → List ℕ
+end_name ends.Halt = codes "halt"
+end_name ends.Err = codes "error"
+end_name ends.Bound = codes "bound"
+end_name ends.StackLimit = codes "stack-limit"
+end_name ends.ReadFault = codes "read-fault"
+end_name ends.WriteFault = codes "write-fault"
+end_name (ends.OutOfMap at) = codes "out-of-map at " ++ hex_text 8 at
+end_name ends.Adrift = codes "adrift"
 
 abbrev pub status_of : End → ℕ
 status_of ends.Halt = exits.done

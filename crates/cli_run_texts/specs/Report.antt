@@ -9,7 +9,7 @@ use Rattle.mic_clock.specs.declared.counts.Counts.{Counts}
 use Rattle.mic_clock.specs.declared.registers.Registers.{Registers}
 use Rattle.mic_clock.specs.State.{state_line}
 use Rattle.plain_machine.specs.declared.plain.PlainReport.{PlainReport}
-use Rattle.cli_run_texts.specs.Ends.{clocked_end, name_of}
+use Rattle.cli_run_texts.specs.Ends.{clocked_end, end_name}
 
 abbrev pub boundary_line : Option Boundary → List ℕ
 boundary_line None = codes "boundary none\n"
@@ -17,14 +17,14 @@ boundary_line (Some b) =
     codes "boundary " ++ decimal b.cycles ++ codes " at " ++ hex_text 8 b.at ++ codes " sp " ++ hex_text 8 b.sp ++ codes " lv " ++ hex_text 8 b.lv ++ codes "\n"
 
 -- what stands behind the name of the end: the counts, and the last boundary
-abbrev pub counted : ℕ → ℕ → Option Boundary → List ℕ
-counted cycles instructions boundary =
+abbrev pub counts_text : ℕ → ℕ → Option Boundary → List ℕ
+counts_text cycles instructions boundary =
     codes "\ncycles " ++ decimal cycles ++ codes " instructions " ++ decimal instructions ++ codes "\n"
     ++ boundary_line boundary
 
 -- the three lines that begin each report
 abbrev pub head : End → ℕ → ℕ → Option Boundary → List ℕ
-head end cycles instructions boundary = codes "end " ++ name_of end ++ counted cycles instructions boundary
+head end cycles instructions boundary = codes "end " ++ end_name end ++ counts_text cycles instructions boundary
 
 -- at a stack limit the cycles of the last boundary, if there was one
 abbrev pub cycles_of : End → ℕ → Option Boundary → ℕ
@@ -47,7 +47,7 @@ report end c r = clocked_head end c ++ state_line r ++ codes "\n"
 
 -- the report of a clocked run that a debugger left before its end
 abbrev pub quit_report : Counts → Registers → List ℕ
-quit_report c r = codes "end quit" ++ counted c.cycles c.instructions c.boundary ++ state_line r ++ codes "\n"
+quit_report c r = codes "end quit" ++ counts_text c.cycles c.instructions c.boundary ++ state_line r ++ codes "\n"
 
 -- the report of a clocked run that has ended, or that a debugger left
 abbrev pub left_report : Option End → Counts → Registers → List ℕ

@@ -1,7 +1,7 @@
 //! How a run ended: the name that its report gives, and the status.
 
 ghost use Rattle.std.specs.Prelude.{◌≡◌, ◌≤◌, ◌+◌, ◌++◌, length};
-ghost use Rattle.cli_run_texts.specs.Ends.{clocked_end, name_of, status_of};
+ghost use Rattle.cli_run_texts.specs.Ends.{clocked_end, end_name, status_of};
 
 use cli_outside::{Status, word};
 use mic_base::Line;
@@ -9,9 +9,9 @@ use mic_clock::End;
 use plain_machine::PlainEnd;
 
 /// Appends the name of an end.
-pub(crate) fn name_of(line: &mut Line, end: End)
+pub fn end_name(line: &mut Line, end: End)
     requires { length line.old + 32 ≤ 512 }
-    ensures text { line.new ≡ line.old ++ name_of end }
+    ensures text { line.new ≡ line.old ++ end_name end }
     ensures len { length line.new ≤ length line.old + 32 }
 {
     match end {

@@ -4,5 +4,5 @@
 mod ends;
 mod report;
 
-pub use ends::{clocked_end, status_of};
+pub use ends::{clocked_end, end_name, status_of};
 pub use report::{clocked_head, clocked_report, left_report, plain_report};

@@ -1,9 +1,9 @@
 //! The report of a run: its end, its counts, the last boundary, and of a clocked run the registers.
 
 ghost use Rattle.std.specs.Prelude.{◌≡◌, ◌≤◌, ◌<◌, ◌+◌, ◌++◌, length};
-ghost use Rattle.cli_run_texts.specs.Report.{boundary_line, clocked_head, counted, cycles_of, head, left_report, plain_head, quit_report, report};
+ghost use Rattle.cli_run_texts.specs.Report.{boundary_line, clocked_head, counts_text, cycles_of, head, left_report, plain_head, quit_report, report};
 
-use crate::ends::{clocked_end, name_of};
+use crate::ends::{clocked_end, end_name};
 use cli_outside::{number, text_line, word};
 use mic_base::Line;
 use mic_clock::{Boundary, Counts, End, Registers, print_state};
@@ -29,7 +29,7 @@ fn boundary_line(line: &mut Line, boundary: Option<Boundary>)
 /// Appends the counts and the last boundary, behind the name of the end.
 fn add_counts(line: &mut Line, cycles: u64, instructions: u64, boundary: Option<Boundary>)
     requires { length line.old + 130 ≤ 512 }
-    ensures text { line.new ≡ line.old ++ counted cycles instructions boundary }
+    ensures text { line.new ≡ line.old ++ counts_text cycles instructions boundary }
     ensures len { length line.new ≤ length line.old + 130 }
 {
     number(line, "\ncycles ", cycles);
@@ -45,7 +45,7 @@ fn head(line: &mut Line, end: End, cycles: u64, instructions: u64, boundary: Opt
     ensures len { length line.new ≤ length line.old + 166 }
 {
     line.text("end ");
-    name_of(line, end);
+    end_name(line, end);
     add_counts(line, cycles, instructions, boundary);
 }
 

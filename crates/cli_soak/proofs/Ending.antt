@@ -10,10 +10,9 @@ use Rattle.ijvm_image.specs.Image.{ImageView}
 use Rattle.ijvm_paths.specs.Accepted.{VerifiedView}
 use Rattle.ijvm_simulation.specs.Simulates.{board_end}
 use Rattle.ijvm_simulation.specs.Headline.{HasRun}
-use Rattle.cli_outside.specs.Outside.{LentView, Over, Prints}
+use Rattle.cli_outside.specs.Outside.{LentView, Over, PrintsOnOut}
 use Rattle.cli_run_texts.specs.Ends.{status_of}
-use Rattle.soak_program.specs.Generated.{generated}
-use Rattle.cli_soak.specs.Summary.{summary}
+use Rattle.cli_soak.specs.Summary.{soak_summary}
 use Rattle.cli_soak.specs.SoakEnds.{soak_bound, IsGenerated, SoakEnds, Ran}
 
 some_is : {A : Type 0} → (x y : A) → Some x ≡ Some y → x ≡ y
@@ -39,18 +38,18 @@ module _ {M S : Type 0} (state : M → S) (m : Meaning S) (IsReady : ℕ → Lis
       IsGenerated seed size program → begun ≡ Some [] →
       (NoFault None board.end → HasRun state m IsReady IsShipped entry program soak_bound begun None left None board) →
       HasEndCause 0 0 0 0 None board.end → board.end ≡ Some end →
-      Over (Prints (summary (length program.image.text) end board.counts (m.registers (state board.machine)).tos) (status_of end)) old new status →
+      Over (PrintsOnOut (soak_summary (length program.image.text) end board.counts (m.registers (state board.machine)).tos) (status_of end)) old new status →
       Over (SoakEnds state m IsReady IsShipped entry seed size) old new status
   ends_by seed size program begun left board end old new status is none run cause ended prints =
       let tos : ℕ = (m.registers (state board.machine)).tos in
       let r : HasRun state m IsReady IsShipped entry program soak_bound (Some []) None left None board =
       subst (λ (x : Option (List ℕ)). HasRun state m IsReady IsShipped entry program soak_bound x None left None board) none (run (unfailed board.end cause)) in
       let agrees : end ≡ board_end r.begins.finish.end = some_is end (board_end r.begins.finish.end) (sym ended ∙ (sym r.end ∙ r.agrees.end)) in
-      let by_end : Prints (summary (length program.image.text) (board_end r.begins.finish.end) board.counts tos) (status_of (board_end r.begins.finish.end)) old.seen new.seen status =
-      subst (λ (x : End). Prints (summary (length program.image.text) x board.counts tos) (status_of x) old.seen new.seen status) agrees prints.does in
+      let by_end : PrintsOnOut (soak_summary (length program.image.text) (board_end r.begins.finish.end) board.counts tos) (status_of (board_end r.begins.finish.end)) old.seen new.seen status =
+      subst (λ (x : End). PrintsOnOut (soak_summary (length program.image.text) x board.counts tos) (status_of x) old.seen new.seen status) agrees prints.does in
       record {
         names = prints.names;
         does = Ran program is left board r
-            (subst (λ (x : ImageView). Prints (summary (length x.text) (board_end r.begins.finish.end) board.counts tos) (status_of (board_end r.begins.finish.end)) old.seen new.seen status)
+            (subst (λ (x : ImageView). PrintsOnOut (soak_summary (length x.text) (board_end r.begins.finish.end) board.counts tos) (status_of (board_end r.begins.finish.end)) old.seen new.seen status)
             is.image_is by_end);
       }

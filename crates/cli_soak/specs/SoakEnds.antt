@@ -9,9 +9,9 @@ use Rattle.ijvm_simulation.specs.Headline.{HasRun}
 use Rattle.soak_program.specs.Generated.{generated}
 use Rattle.cli_outside.specs.Status as exits
 use Rattle.cli_outside.specs.Messages.{out_of_memory}
-use Rattle.cli_outside.specs.Outside.{OutsideView, Prints, Tells}
+use Rattle.cli_outside.specs.Outside.{OutsideView, PrintsOnOut, TellsOnErr}
 use Rattle.cli_run_texts.specs.Ends.{status_of}
-use Rattle.cli_soak.specs.Summary.{summary}
+use Rattle.cli_soak.specs.Summary.{soak_summary}
 
 -- the cycles after which a run ends at the next boundary
 abbrev pub soak_bound : ℕ
@@ -26,9 +26,9 @@ pub record IsGenerated (seed size : ℕ) (program : VerifiedView) : Type 0 where
 -- A machine: its meaning, when its next instruction is ready, its store that ships, and where that begins.
 module _ {M S : Type 0} (state : M → S) (m : Meaning S) (IsReady : ℕ → List ℕ → ℕ → S → Type 0) (IsShipped : List ℕ → Type 0) (entry : ℕ) where
   pub data SoakEnds (seed size : ℕ) (old new : OutsideView) (status : ℕ) : Type 0 where
-    NoRoom : Tells out_of_memory exits.memory old new status → SoakEnds seed size old new status
+    NoRoom : TellsOnErr out_of_memory exits.memory old new status → SoakEnds seed size old new status
     -- the clocked run is the definition's, boundary by boundary, and has ended as that does; `board` is the machine that was clocked
     Ran : (program : VerifiedView) → IsGenerated seed size program → (left : Option (List ℕ)) (board : BoardView M) →
         (run : HasRun state m IsReady IsShipped entry program soak_bound (Some []) None left None board) →
-        Prints (summary (length (generated seed size).text) (board_end run.begins.finish.end) board.counts (m.registers (state board.machine)).tos)
+        PrintsOnOut (soak_summary (length (generated seed size).text) (board_end run.begins.finish.end) board.counts (m.registers (state board.machine)).tos)
         (status_of (board_end run.begins.finish.end)) old new status → SoakEnds seed size old new status

@@ -6,6 +6,6 @@ use Rattle.mic_clock.specs.declared.end.End.{End}
 use Rattle.mic_clock.specs.declared.counts.Counts.{Counts}
 use Rattle.cli_run_texts.specs.Report.{clocked_head}
 
-abbrev pub summary : ℕ → End → Counts → ℕ → List ℕ
-summary size end counts tos =
+abbrev pub soak_summary : ℕ → End → Counts → ℕ → List ℕ
+soak_summary size end counts tos =
     codes "text " ++ decimal size ++ codes "\n" ++ clocked_head end counts ++ codes "tos " ++ signed_decimal (cast_signed w32 tos) ++ codes "\n"

@@ -1,7 +1,7 @@
 //! The summary of a generated program's run.
 
 ghost use Rattle.std.specs.Prelude.{◌≡◌, length};
-ghost use Rattle.cli_soak.specs.Summary.{summary};
+ghost use Rattle.cli_soak.specs.Summary.{soak_summary};
 
 use cli_outside::{numbered, signed};
 use cli_run_texts::clocked_head;
@@ -10,7 +10,7 @@ use mic_clock::{Counts, End};
 
 /// The size of the text, the report's first three lines, and TOS as a signed number.
 pub(crate) fn summary(size: usize, end: End, counts: &Counts, tos: u32) -> Line
-    ensures { result ≡ summary size end counts.now tos }
+    ensures { result ≡ soak_summary size end counts.now tos }
 {
     let mut line = numbered("text ", size as u64);
     line.text("\n");

@@ -11,7 +11,7 @@ use Rattle.ijvm_image.specs.Image.{ImageView}
 use Rattle.ijvm_paths.specs.declared.kind.Kind.TheVariants as kinds
 use Rattle.ijvm_paths.specs.Kinds.{IsKind}
 use Rattle.ijvm_instr.specs.Instructions.{instr_at}
-use Rattle.cli_texts.specs.Listing.{AreLines, IsLineAt, constant_line, pool_text}
+use Rattle.cli_texts.specs.Listing.{AreListingLines, IsLineAt, constant_line, pool_text}
 
 -- the lines of the constants from this one on
 pub pool_rest : (index : ℕ) (pool : List ℕ) → index < length pool →
@@ -49,8 +49,8 @@ last_or_before xs x k y h =
     ]
 
 -- one more address
-pub more_lines : (image : ImageView) (count : ℕ) (lines : List (List ℕ)) (line : List ℕ) → AreLines image count lines → IsLineAt image count line →
-    AreLines image (count + 1) (lines ++ line ∷ [])
+pub more_lines : (image : ImageView) (count : ℕ) (lines : List (List ℕ)) (line : List ℕ) → AreListingLines image count lines → IsLineAt image count line →
+    AreListingLines image (count + 1) (lines ++ line ∷ [])
 more_lines image count lines line are is = record {
   long = length-append lines (line ∷ []) ∙ ap (λ (n : ℕ). n + 1) are.long;
   each = λ at other h. one at other (last_or_before lines line at other h);
@@ -67,7 +67,7 @@ concat_step before lines line =
     append_assoc before (concat lines) line ∙ ap (λ (l : List ℕ). before ++ l) (sym (concat-append lines (line ∷ []) ∙ ap (λ (l : List ℕ). concat lines ++ l) (append-nil line)))
 
 -- no lines yet
-pub no_lines : (image : ImageView) → AreLines image 0 []
+pub no_lines : (image : ImageView) → AreListingLines image 0 []
 no_lines image = record { long = refl; each = λ at line h. cc }
 
 -- at a reached start there is an instruction

@@ -1,11 +1,10 @@
 //! The listing of an accepted program.
 
-ghost use Rattle.std.specs.Prelude.{◌≡◌, ◌<◌, ◌+◌, ◌*◌, ◌++◌, ℕ, List, Some, OnOk, IfOk, length, slice_index};
-ghost use Rattle.std.specs.List.{concat};
+ghost use Rattle.std.specs.Prelude.{◌≡◌, ◌<◌, ◌+◌, ◌*◌, ◌++◌, Some, OnOk, IfOk, slice_index};
 ghost use Rattle.ijvm_image.specs.Image.{params, others};
 ghost use Rattle.ijvm_instr.specs.Instructions.{instr_at};
 ghost use Rattle.ijvm_paths.specs.Kinds.{IsKind};
-ghost use Rattle.cli_texts.specs.Listing.{AreLines, IsLineAt, Lists, byte_line, constant_line, header_line, instr_line, pool_text};
+ghost use Rattle.cli_texts.specs.Listing.{AddsLineAt, AddsLines, Lists, byte_line, constant_line, header_line, instr_line, pool_text};
 
 use cli_outside::{addressed, number, numbered};
 use ijvm_instr::{Instr, decode_at, print_instr};
@@ -95,7 +94,7 @@ fn start_instr(program: &VerifiedImage, at: u32) -> Instr
 /// Appends what is printed of an address.
 fn push_address(listing: &mut Vec<u8>, program: &VerifiedImage, at: u32) -> Result<(), AllocError>
     requires { at < 65536 }
-    ensures { OnOk result ((line : List ℕ) × IsLineAt program.now.image at line × (listing.new.items ≡ listing.old.items ++ line)) }
+    ensures { OnOk result (AddsLineAt program.now.image at listing.old.items listing.new.items) }
 {
     let text = program.image().text();
     match program.kind_at(at) {
@@ -108,7 +107,7 @@ fn push_address(listing: &mut Vec<u8>, program: &VerifiedImage, at: u32) -> Resu
 
 /// Appends what is printed of each address.
 fn push_text(listing: &mut Vec<u8>, program: &VerifiedImage) -> Result<(), AllocError>
-    ensures { OnOk result ((lines : List (List ℕ)) × AreLines program.now.image (length program.now.image.text) lines × (listing.new.items ≡ listing.old.items ++ concat lines)) }
+    ensures { OnOk result (AddsLines program.now.image listing.old.items listing.new.items) }
 {
     let len = program.image().text().len() as u32;
     for at in 0..len {

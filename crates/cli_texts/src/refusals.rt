@@ -1,9 +1,10 @@
 //! Why a file holds no accepted program.
 
-ghost use Rattle.std.specs.Prelude.{◌≡◌};
-ghost use Rattle.cli_texts.specs.Refusals.{image_reason, link_reason, source_reason, verify_reason};
+ghost use Rattle.std.specs.Prelude.{◌≡◌, ◌++◌, codes};
+ghost use Rattle.std.specs.Fmt.{decimal};
+ghost use Rattle.cli_texts.specs.Refusals.{image_reason, link_reason, of_byte, source_reason, verify_reason};
 
-use crate::parts::at_byte;
+use crate::parts::{at_byte, number_between, numbered_at};
 use cli_outside::{addressed, number, numbered, of_line, signed, text_line};
 use ijvm_asm::AsmError;
 use ijvm_image::ImageError;
@@ -48,15 +49,9 @@ pub fn link_reason(error: LinkError) -> Option<Line>
     ensures { result ≡ link_reason error }
 {
     match error {
-        LinkError::PoolTooLong(count) => {
-            let mut line = numbered(": ", u64::from(count));
-            line.text(" constants");
-            Some(line)
-        }
+        LinkError::PoolTooLong(count) => Some(number_between(": ", u64::from(count), " constants")),
         LinkError::TextTooLong(size) => {
-            let mut line = numbered(": ", u64::from(size));
-            line.text(" bytes of text");
-            Some(line)
+            Some(number_between(": ", u64::from(size), " bytes of text"))
         }
         LinkError::JumpTooFar(line, far) => {
             let mut line = of_line(line, "jump of ");
@@ -66,6 +61,31 @@ pub fn link_reason(error: LinkError) -> Option<Line>
         }
         LinkError::OutOfMemory => None,
     }
+}
+
+fn unset_local(at: u32, index: u16) -> Line
+    ensures { result ≡ of_byte at ++ codes " local " ++ decimal index ++ codes " unset" }
+{
+    let mut line = numbered_at(at, " local ", u64::from(index));
+    line.text(" unset");
+    line
+}
+
+fn too_few_arguments(at: u32, have: u32, need: u32) -> Line
+    ensures { result ≡ of_byte at ++ codes " has " ++ decimal have ++ codes " of " ++ decimal need ++ codes " arguments" }
+{
+    let mut line = numbered_at(at, " has ", u64::from(have));
+    number(&mut line, " of ", u64::from(need));
+    line.text(" arguments");
+    line
+}
+
+fn depth_differs(at: u32, less: u32, more: u32) -> Line
+    ensures { result ≡ of_byte at ++ codes " depth " ++ decimal less ++ codes " and " ++ decimal more }
+{
+    let mut line = numbered_at(at, " depth ", u64::from(less));
+    number(&mut line, " and ", u64::from(more));
+    line
 }
 
 /// Why an image is not accepted, unless memory was wanting.
@@ -78,47 +98,23 @@ pub fn verify_reason(error: VerifyError) -> Option<Line>
         VerifyError::BadTarget(at) => Some(at_byte(at, " bad target")),
         VerifyError::Overlap(at) => Some(at_byte(at, " overlap")),
         VerifyError::BadConstant(at, index) => {
-            let mut line = addressed(": ", at);
-            number(&mut line, " no constant ", u64::from(index));
-            Some(line)
+            Some(numbered_at(at, " no constant ", u64::from(index)))
         }
-        VerifyError::BadEntry(index) => {
-            let mut line = numbered(": constant ", u64::from(index));
-            line.text(" is no method");
-            Some(line)
-        }
+        VerifyError::BadEntry(index) => Some(number_between(
+            ": constant ",
+            u64::from(index),
+            " is no method",
+        )),
         VerifyError::BadHeader(at) => Some(at_byte(at, " bad header")),
         VerifyError::LinkSlot(at) => Some(at_byte(at, " link word")),
-        VerifyError::BadLocal(at, index) => {
-            let mut line = addressed(": ", at);
-            number(&mut line, " no local ", u64::from(index));
-            Some(line)
-        }
-        VerifyError::UnsetLocal(at, index) => {
-            let mut line = addressed(": ", at);
-            number(&mut line, " local ", u64::from(index));
-            line.text(" unset");
-            Some(line)
-        }
-        VerifyError::TooFewArguments(at, have, need) => {
-            let mut line = addressed(": ", at);
-            number(&mut line, " has ", u64::from(have));
-            number(&mut line, " of ", u64::from(need));
-            line.text(" arguments");
-            Some(line)
-        }
+        VerifyError::BadLocal(at, index) => Some(numbered_at(at, " no local ", u64::from(index))),
+        VerifyError::UnsetLocal(at, index) => Some(unset_local(at, index)),
+        VerifyError::TooFewArguments(at, have, need) => Some(too_few_arguments(at, have, need)),
         VerifyError::Underflow(at) => Some(at_byte(at, " underflow")),
-        VerifyError::DepthDiffers(at, less, more) => {
-            let mut line = addressed(": ", at);
-            number(&mut line, " depth ", u64::from(less));
-            number(&mut line, " and ", u64::from(more));
-            Some(line)
-        }
+        VerifyError::DepthDiffers(at, less, more) => Some(depth_differs(at, less, more)),
         VerifyError::ReturnInMain(at) => Some(at_byte(at, " return in main")),
         VerifyError::MainFrame(count) => {
-            let mut line = numbered(": ", u64::from(count));
-            line.text(" locals in main");
-            Some(line)
+            Some(number_between(": ", u64::from(count), " locals in main"))
         }
         VerifyError::OutOfMemory => None,
     }

@@ -5,3 +5,4 @@ pub mod Walks
 pub mod Ends
 pub mod Getting
 pub mod Naming
+pub mod Jobs

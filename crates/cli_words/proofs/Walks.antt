@@ -8,7 +8,7 @@ use Rattle.clap.specs.Kinds.{Kinds, or_else}
 use Rattle.clap.specs.Faults.{flags_fault, positional_fault, settle_fault, step_fault, turn_fault, use_fault, walk_fault}
 use Rattle.clap.specs.Walk.{Held, Row, Rule, Walk, arg_by_index, arg_by_long, arg_by_short, idle, option, positional_held, pushed, settled, to_positional, used, value, walked}
 use Rattle.clap.specs.declared.error.kind.ErrorKind.TheVariants as kind
-use Rattle.cli_words.specs.Reading.{Entry, Form, Look, Place, Rest, Text, add, any, dashes, is_in, is_value, long, look, name_of, only_plain, plain, read, read_any, read_long, read_plain, short, value_of}
+use Rattle.cli_words.specs.Reading.{Entry, Form, Look, NextWord, Rest, Text, add, any, dashes, is_in, is_value, long, look, only_plain, option_name, option_value, plain, read, read_any, read_long, read_plain, short}
 use Rattle.cli_words.specs.Reading.{value as awaiting}
 use Rattle.cli_words.proofs.Rules.{Fits, TakesOne, own_text, flag_rule, long_found, next, option_rule, plain_rule, shape_with}
 use Rattle.cli_words.proofs.Looks.{IsShort, LooksAs, Tests, looks_as}
@@ -71,7 +71,7 @@ positional_is c required i n x g (Some q) = go (bytes_eq q.0 n) refl
     go false e = (rw e refl, rw e refl)
 
 -- a plain word
-plain_goes : (name : Text) (c : List Rule) (required : Bool) (x : Text) (xs : List Text) (t : Bool) (place : Place) (next_read : Rest)
+plain_goes : (name : Text) (c : List Rule) (required : Bool) (x : Text) (xs : List Text) (t : Bool) (place : NextWord) (next_read : Rest)
     → (t || false) ≡ t
     → ((g : List Entry) (p : Pending) (i : ℕ) (left : List Text) → Fits required c i left → Known c left → IsPending c p
     → rest name c (walk_at g p i t) xs ≡ option_map rows (add_pending p g (next_read left place)))
@@ -259,7 +259,7 @@ any_goes name f c suits x xs utf8 ih_any ih_value g p i left fit known pend = go
         let fault : turn_fault (shape_with name c) [] (walk_at g p i false) x ≡ [] = rw h refl in
         let after : walked c [] (walk_at g p i false) x ≡ walk_at g p i true = rw h refl in
         passes _ _ _ fault (ap (λ (w : Walk). rest name c w xs) after ∙ all_plain name f c xs g p i left fit known pend)
-    go (long text) h = long_goes name f c x xs i left (name_of text) (value_of text) (read f xs) h suits.by_long
+    go (long text) h = long_goes name f c x xs i left (option_name text) (option_value text) (read f xs) h suits.by_long
         (λ g2. ih_any g2 None i left fit known tt) (λ g2 n e. ih_value g2 n i left fit known e) g p pend
     go short h = stops _ _ _ (short_fails name c x g p i h suits.by_short) (ap (option_map rows) (none_added c p g pend))
 
@@ -280,7 +280,7 @@ value_goes name f c suits x xs utf8 ih_any g n i left fit known e = go (look x) 
         let fault : turn_fault (shape_with name c) [] (wait_at g n i false) x ≡ [] = rw h refl in
         let after : walked c [] (wait_at g n i false) x ≡ wait_at g n i true = rw h refl in
         passes _ _ _ fault (ap (λ (w : Walk). rest name c w xs) after ∙ dead name f c xs g n i left fit (suits.known n e))
-    go (long text) h = stops _ _ _ (long_is_no_value name f c x g n i (name_of text) (value_of text) h suits.by_long (suits.known n e)) refl
+    go (long text) h = stops _ _ _ (long_is_no_value name f c x g n i (option_name text) (option_value text) h suits.by_long (suits.known n e)) refl
     go short h = stops _ _ _ (short_is_no_value name c x g n i h suits.by_short) refl
 
 pub walks : (name : Text) (f : Form) (c : List Rule) → Suits f c → (words : List Text) → All IsUtf8 words → FromAny name f c words × FromValue name f c words

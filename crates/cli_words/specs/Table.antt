@@ -50,14 +50,14 @@ abbrev pub form_for : CommandName → Form
 form_for command = (row_for command).form
 
 -- the row has the name of its command, and takes its words
-abbrev pub IsRow : Row → Type 0
-IsRow row = (row.name.now ≡ (row_for row.command).name) × (form_of row ≡ form_for row.command)
+abbrev pub IsTableRow : Row → Type 0
+IsTableRow row = (row.name.now ≡ (row_for row.command).name) × (form_of row ≡ form_for row.command)
 
-abbrev pub AreRows : List Row → Type 0
-AreRows [] = Unit {0}
-AreRows (row ∷ rows) = IsRow row × AreRows rows
+abbrev pub AreTableRows : List Row → Type 0
+AreTableRows [] = Unit {0}
+AreTableRows (row ∷ rows) = IsTableRow row × AreTableRows rows
 
 -- it is the row of the command that is named, and there is none where none is
 abbrev pub IsRowOf : Option CommandName → Option Row → Type 0
 IsRowOf named None = named ≡ None
-IsRowOf named (Some row) = (named ≡ Some row.command) × IsRow row
+IsRowOf named (Some row) = (named ≡ Some row.command) × IsTableRow row

@@ -8,6 +8,8 @@ use Rattle.machine_words.specs.declared.machine.Machine.TheVariants.{Mic1, Mic2}
 use Rattle.console_port.specs.declared.map.MemoryMap.{MemoryMap}
 use Rattle.console_port.specs.declared.map.TheConstants.MemoryMap.{LARGE, STANDARD}
 use Rattle.console_port.specs.Map.{IsMap}
+use Rattle.clap.specs.Matches.{first_value, found_of}
+use Rattle.clap.specs.declared.parser.matches.ArgMatches.{ArgMatches}
 use Rattle.cli_words.specs.Reading.{Entry, Text, reads, text_in}
 use Rattle.cli_words.specs.Table.{form_for, name_for}
 use Rattle.cli_words.specs.declared.options.TheConstants.{DEFAULT_BOUND, MOST_BLOCKS, MOST_CYCLES, MOST_SEED}
@@ -62,11 +64,14 @@ asked (requests.Soak seed size machine) = Soak seed size machine
 abbrev pub HasMap : MemoryMap → Type 0
 HasMap map = IsMap map.stack_end
 
+abbrev pub HasJobLimits : Job → Type 0
+HasJobLimits job = (job.bound ≤ MOST_CYCLES) × HasMap job.map
+
 -- the map of a request is one of the two, and its bound or its size at most the greatest
 abbrev pub HasLimits : Request → Type 0
 HasLimits (requests.List file map) = HasMap map
 HasLimits (requests.Verify file map) = HasMap map
-HasLimits (requests.Run job mode) = (job.bound ≤ MOST_CYCLES) × HasMap job.map
+HasLimits (requests.Run job mode) = HasJobLimits job
 HasLimits (requests.Soak seed size machine) = size ≤ MOST_BLOCKS
 HasLimits request = Unit {0}
 
@@ -92,9 +97,6 @@ bound_in (Some word) = number_within 0 MOST_CYCLES (number_of word)
 abbrev pub machine_of : List Entry → Option Machine
 machine_of given = machine_in (text_in (codes "machine") given)
 
-abbrev pub bound_from : List Entry → Option ℕ
-bound_from given = bound_in (text_in (codes "bound") given)
-
 abbrev pub map_of : List Entry → Option MemoryMap
 map_of given = map_in (text_in (codes "map") given)
 
@@ -115,6 +117,36 @@ is_true (Some word) = bytes_eq word (codes "true")
 abbrev pub is_set : Text → List Entry → Bool
 is_set flag given = is_true (Some (unwrap_or (text_in flag given) (codes "false")))
 
+-- A program that is to be run: on which machine, to which bound, and with which map.
+
+pub record AskedJob : Type 0 where
+  pub file : Text
+  pub machine : Machine
+  pub bound : ℕ
+  pub map : MemoryMap
+
+abbrev pub asked_job : Text → Machine → ℕ → MemoryMap → AskedJob
+asked_job file machine bound map = record { file = file; machine = machine; bound = bound; map = map }
+
+-- by these values of its four words
+abbrev pub job_by : Option Text → Option Text → Option Text → Option Text → Option AskedJob
+job_by file machine bound map = option_and_then (λ f. option_and_then (λ m. option_and_then (λ b.
+    option_map (asked_job f m b)
+    (map_in map)) (bound_in bound)) (machine_in machine)) file
+
+abbrev pub job_of : List Entry → Option AskedJob
+job_of given =
+    job_by (text_in (codes "FILE") given) (text_in (codes "machine") given) (text_in (codes "bound") given) (text_in (codes "map") given)
+
+-- of the matches of a parse
+abbrev pub job_in : ArgMatches → Option AskedJob
+job_in m =
+    job_by (first_value (found_of m) (codes "FILE")) (first_value (found_of m) (codes "machine"))
+        (first_value (found_of m) (codes "bound")) (first_value (found_of m) (codes "map"))
+
+abbrev pub job_asked : Job → AskedJob
+job_asked job = asked_job job.file.now job.machine job.bound job.map
+
 -- What the entries of a command ask for.
 
 abbrev pub assemble_of : List Entry → Option Asked
@@ -127,34 +159,26 @@ abbrev pub verify_of : List Entry → Option Asked
 verify_of given = option_and_then (λ file. option_map (λ map. Verify file map) (map_of given)) (text_in (codes "FILE") given)
 
 abbrev pub run_of : List Entry → Option Asked
-run_of given = option_and_then (λ file. option_and_then (λ machine. option_and_then (λ bound.
-    option_map (λ map. Run file machine bound map)
-    (map_of given)) (bound_from given)) (machine_of given)) (text_in (codes "FILE") given)
+run_of given = option_map (λ (job : AskedJob). Run job.file job.machine job.bound job.map) (job_of given)
 
 abbrev pub run_own_of : List Entry → Option Asked
-run_own_of given = option_and_then (λ file. option_and_then (λ machine. option_and_then (λ bound. option_and_then (λ map.
-    option_map (λ micro. RunOwn file machine bound map micro)
-    (text_in (codes "micro") given)) (map_of given)) (bound_from given)) (machine_of given)) (text_in (codes "FILE") given)
+run_own_of given = option_and_then (λ (job : AskedJob).
+    option_map (λ micro. RunOwn job.file job.machine job.bound job.map micro) (text_in (codes "micro") given)) (job_of given)
 
 abbrev pub trace_of : List Entry → Option Asked
-trace_of given = option_and_then (λ file. option_and_then (λ machine. option_and_then (λ bound.
-    option_map (λ map. Trace file machine bound map (text_in (codes "micro") given) (is_set (codes "buses") given))
-    (map_of given)) (bound_from given)) (machine_of given)) (text_in (codes "FILE") given)
+trace_of given = option_map (λ (job : AskedJob).
+    Trace job.file job.machine job.bound job.map (text_in (codes "micro") given) (is_set (codes "buses") given)) (job_of given)
 
 abbrev pub profile_of : List Entry → Option Asked
-profile_of given = option_and_then (λ file. option_and_then (λ machine. option_and_then (λ bound.
-    option_map (λ map. Profile file machine bound map (text_in (codes "micro") given))
-    (map_of given)) (bound_from given)) (machine_of given)) (text_in (codes "FILE") given)
+profile_of given = option_map (λ (job : AskedJob).
+    Profile job.file job.machine job.bound job.map (text_in (codes "micro") given)) (job_of given)
 
 abbrev pub debug_of : List Entry → Option Asked
-debug_of given = option_and_then (λ file. option_and_then (λ machine. option_and_then (λ bound.
-    option_map (λ map. Debug file machine bound map (text_in (codes "micro") given) (text_in (codes "input") given))
-    (map_of given)) (bound_from given)) (machine_of given)) (text_in (codes "FILE") given)
+debug_of given = option_map (λ (job : AskedJob).
+    Debug job.file job.machine job.bound job.map (text_in (codes "micro") given) (text_in (codes "input") given)) (job_of given)
 
 abbrev pub reference_of : List Entry → Option Asked
-reference_of given = option_and_then (λ file. option_and_then (λ machine. option_and_then (λ bound.
-    option_map (λ map. Reference file machine bound map)
-    (map_of given)) (bound_from given)) (machine_of given)) (text_in (codes "FILE") given)
+reference_of given = option_map (λ (job : AskedJob). Reference job.file job.machine job.bound job.map) (job_of given)
 
 abbrev pub micro_of : List Entry → Option Asked
 micro_of given = option_and_then (λ mal. option_and_then (λ store. option_map (λ machine. Micro mal store machine)
@@ -170,7 +194,7 @@ soak_of given = option_and_then (λ seed. option_and_then (λ size. option_map (
 abbrev pub is_given : Text → List Entry → Bool
 is_given option given = is_some (text_in option given)
 
--- What a command with these entries asks for. What is not built yet asks for nothing: such a line goes when its work is there.
+-- what a command with these entries asks for
 abbrev pub asked_of : CommandName → List Entry → Option Asked
 asked_of name.Assemble given = assemble_of given
 asked_of name.List given = list_of given

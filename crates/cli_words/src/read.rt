@@ -5,7 +5,7 @@ ghost use Rattle.std.specs.Option.{option_map};
 ghost use Rattle.cli_words.specs.Reading.{Entry};
 ghost use Rattle.cli_words.specs.Table.{form_for};
 ghost use Rattle.cli_words.specs.Taking.{HoldsGiven};
-ghost use Rattle.cli_words.specs.Words.{AnswersAs, HasLimits, asked, asked_of, assemble_of, debug_of, list_of, micro_of, print_micro_of, profile_of, reference_of, request_of, run_of, run_own_of, soak_of, trace_of, verify_of};
+ghost use Rattle.cli_words.specs.Words.{AnswersAs, HasJobLimits, HasLimits, asked, asked_of, assemble_of, debug_of, job_asked, job_in, list_of, micro_of, print_micro_of, profile_of, reference_of, request_of, run_of, run_own_of, soak_of, trace_of, verify_of};
 
 use crate::error::WordsError;
 use crate::options::{bound_in, is_true, machine_in, map_in, seed_in, size_in};
@@ -42,20 +42,28 @@ fn verify<'a>(matches: &ArgMatches<'a>) -> Option<Request<'a>>
     Some(Request::Verify { file, map })
 }
 
-fn run<'a>(matches: &ArgMatches<'a>) -> Option<Request<'a>>
-    ensures limits { IfSome result HasLimits }
-    ensures asks { (g : List Entry) → HoldsGiven (form_for CommandName.Run) g matches.now → option_map asked result ≡ run_of g }
+/// The program that is to be run, on which machine, how far and with which map.
+fn job_in<'a>(matches: &ArgMatches<'a>) -> Option<Job<'a>>
+    ensures limits { IfSome result HasJobLimits }
+    ensures asks { option_map job_asked result ≡ job_in matches.now }
 {
     let file = matches.get_str("FILE")?;
     let machine = machine_in(matches.get_str("machine"))?;
     let bound = bound_in(matches.get_str("bound"))?;
     let map = map_in(matches.get_str("map"))?;
-    let job = Job {
+    Some(Job {
         file,
         machine,
         bound,
         map,
-    };
+    })
+}
+
+fn run<'a>(matches: &ArgMatches<'a>) -> Option<Request<'a>>
+    ensures limits { IfSome result HasLimits }
+    ensures asks { (g : List Entry) → HoldsGiven (form_for CommandName.Run) g matches.now → option_map asked result ≡ run_of g }
+{
+    let job = job_in(matches)?;
     let mode = Mode::Shipped;
     Some(Request::Run { job, mode })
 }
@@ -64,17 +72,8 @@ fn run_own<'a>(matches: &ArgMatches<'a>) -> Option<Request<'a>>
     ensures limits { IfSome result HasLimits }
     ensures asks { (g : List Entry) → HoldsGiven (form_for CommandName.Run) g matches.now → option_map asked result ≡ run_own_of g }
 {
-    let file = matches.get_str("FILE")?;
-    let machine = machine_in(matches.get_str("machine"))?;
-    let bound = bound_in(matches.get_str("bound"))?;
-    let map = map_in(matches.get_str("map"))?;
+    let job = job_in(matches)?;
     let micro = matches.get_str("micro")?;
-    let job = Job {
-        file,
-        machine,
-        bound,
-        map,
-    };
     let mode = Mode::Own { micro };
     Some(Request::Run { job, mode })
 }
@@ -83,18 +82,9 @@ fn trace<'a>(matches: &ArgMatches<'a>) -> Option<Request<'a>>
     ensures limits { IfSome result HasLimits }
     ensures asks { (g : List Entry) → HoldsGiven (form_for CommandName.Trace) g matches.now → option_map asked result ≡ trace_of g }
 {
-    let file = matches.get_str("FILE")?;
-    let machine = machine_in(matches.get_str("machine"))?;
-    let bound = bound_in(matches.get_str("bound"))?;
-    let map = map_in(matches.get_str("map"))?;
+    let job = job_in(matches)?;
     let micro = matches.get_str("micro");
     let buses = is_true(matches.get_str("buses"));
-    let job = Job {
-        file,
-        machine,
-        bound,
-        map,
-    };
     let mode = Mode::Trace { micro, buses };
     Some(Request::Run { job, mode })
 }
@@ -103,17 +93,8 @@ fn profile<'a>(matches: &ArgMatches<'a>) -> Option<Request<'a>>
     ensures limits { IfSome result HasLimits }
     ensures asks { (g : List Entry) → HoldsGiven (form_for CommandName.Profile) g matches.now → option_map asked result ≡ profile_of g }
 {
-    let file = matches.get_str("FILE")?;
-    let machine = machine_in(matches.get_str("machine"))?;
-    let bound = bound_in(matches.get_str("bound"))?;
-    let map = map_in(matches.get_str("map"))?;
+    let job = job_in(matches)?;
     let micro = matches.get_str("micro");
-    let job = Job {
-        file,
-        machine,
-        bound,
-        map,
-    };
     let mode = Mode::Profile { micro };
     Some(Request::Run { job, mode })
 }
@@ -122,18 +103,9 @@ fn debug<'a>(matches: &ArgMatches<'a>) -> Option<Request<'a>>
     ensures limits { IfSome result HasLimits }
     ensures asks { (g : List Entry) → HoldsGiven (form_for CommandName.Debug) g matches.now → option_map asked result ≡ debug_of g }
 {
-    let file = matches.get_str("FILE")?;
-    let machine = machine_in(matches.get_str("machine"))?;
-    let bound = bound_in(matches.get_str("bound"))?;
-    let map = map_in(matches.get_str("map"))?;
+    let job = job_in(matches)?;
     let micro = matches.get_str("micro");
     let input = matches.get_str("input");
-    let job = Job {
-        file,
-        machine,
-        bound,
-        map,
-    };
     let mode = Mode::Debug { micro, input };
     Some(Request::Run { job, mode })
 }
@@ -142,16 +114,7 @@ fn reference<'a>(matches: &ArgMatches<'a>) -> Option<Request<'a>>
     ensures limits { IfSome result HasLimits }
     ensures asks { (g : List Entry) → HoldsGiven (form_for CommandName.Reference) g matches.now → option_map asked result ≡ reference_of g }
 {
-    let file = matches.get_str("FILE")?;
-    let machine = machine_in(matches.get_str("machine"))?;
-    let bound = bound_in(matches.get_str("bound"))?;
-    let map = map_in(matches.get_str("map"))?;
-    let job = Job {
-        file,
-        machine,
-        bound,
-        map,
-    };
+    let job = job_in(matches)?;
     let mode = Mode::Reference;
     Some(Request::Run { job, mode })
 }
@@ -193,7 +156,7 @@ fn soak<'a>(matches: &ArgMatches<'a>) -> Option<Request<'a>>
     })
 }
 
-/// What a command asks for; nothing where its work is not built yet.
+/// What a command asks for, or nothing where a value is none of its option's.
 fn request_in<'a>(command: CommandName, matches: &ArgMatches<'a>) -> Option<Request<'a>>
     ensures limits { IfSome result HasLimits }
     ensures asks { (g : List Entry) → HoldsGiven (form_for command) g matches.now → option_map asked result ≡ asked_of command g }

@@ -2,7 +2,7 @@
 
 ghost use Rattle.std.specs.Prelude.{◌≡◌, find, map};
 ghost use Rattle.std.specs.Str.{bytes_eq};
-ghost use Rattle.cli_words.specs.Table.{AreRows, IsRowOf, name_for, named_in};
+ghost use Rattle.cli_words.specs.Table.{AreTableRows, IsRowOf, name_for, named_in};
 
 /// The commands, each by its name.
 #[derive(Clone, Copy, Debug, PartialEq, Eq)]
@@ -68,7 +68,7 @@ fn first_named(rows: &[Row], word: &str) -> Option<Row>
 
 #[tactic(auto, using(crate::proofs::Naming::first_is_row))]
 fn row_in(rows: &[Row], word: &str) -> Option<Row>
-    requires { AreRows rows.now }
+    requires { AreTableRows rows.now }
     ensures { IsRowOf (named_in word.now (map (λ row. row.command) rows.now)) result }
 {
     first_named(rows, word)

@@ -5,7 +5,7 @@ ghost use Rattle.std.specs.List.{All};
 ghost use Rattle.std.specs.Str.{IsUtf8};
 ghost use Rattle.clap.specs.Words.{app_of, rule_of};
 ghost use Rattle.cli_words.specs.Reading.{is_distinct, names_of, reads};
-ghost use Rattle.cli_words.specs.Table.{IsRow, form_for};
+ghost use Rattle.cli_words.specs.Table.{IsTableRow, form_for};
 ghost use Rattle.cli_words.specs.Taking.{TakesAs, app_for, bytes_of, form_of, rule_in, rules_in, texts_of, with_rules};
 
 use crate::error::WordsError;
@@ -114,7 +114,7 @@ pub(crate) fn take_command<'a>(
     row: &Row,
     words: &'a [String],
 ) -> Result<ArgMatches<'a>, WordsError>
-    requires { IsRow row.now }
+    requires { IsTableRow row.now }
     ensures { TakesAs (form_for row.now.command) (reads (form_for row.now.command) (bytes_of words.entry.now)) result }
 {
     take_words(alloc, row, words)

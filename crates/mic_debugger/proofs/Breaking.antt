@@ -13,14 +13,14 @@ use Rattle.mic_clock.specs.Meaning.{Meaning}
 use Rattle.mic_clock.specs.Run.{MicroRun, number_of, turns}
 use Rattle.mic_clock.specs.View.{BoardView}
 use Rattle.mic_clock.specs.Board.{ShowsRun, ShowsAs, IsLedTo, IsTurned, RunIsCutByWrite, NoFault, EndsUncounted}
-use Rattle.cli_outside.specs.Outside.{GotFront}
+use Rattle.cli_outside.specs.Outside.{Got, GotInPart}
 use Rattle.mic_debugger.specs.declared.plan.Plan.{Plan}
 use Rattle.mic_debugger.specs.declared.plan.Plan.TheVariants as plans
 use Rattle.mic_debugger.specs.declared.until.Until.{Until}
 use Rattle.mic_debugger.specs.Book.{Book}
-use Rattle.mic_debugger.specs.Clocking.{after, comes, counted, passed, printed, turn_lines}
+use Rattle.mic_debugger.specs.Clocking.{after, comes, counted_turn, passed, printed, turn_lines}
 use Rattle.mic_debugger.specs.Obeys.{IsBrokenIn, IsSaid, IsSaidInPart, Obeys}
-use Rattle.mic_debugger.specs.Session.{IsBroken, IsFrontOf, IsUnderway, Prints, text_between}
+use Rattle.mic_debugger.specs.Session.{IsBroken, IsFrontOf, IsUnderway, text_between}
 use Rattle.mic_debugger.specs.View.{SessionView}
 use Rattle.mic_debugger.proofs.Flushing.{led_on}
 use Rattle.mic_debugger.proofs.Putting.{puts_first, puts_passed, puts_then}
@@ -53,7 +53,7 @@ write_or_not (Some ends.WriteFault) = inl refl
 write_or_not (Some (ends.OutOfMap at)) = inr (λ p. cc)
 write_or_not (Some ends.Adrift) = inr (λ p. cc)
 
-one_at_most : (breaks : List ℕ) (u : Until) (c : Counts) (memory : List ℕ) (e : Option End) → counted breaks u c memory e ≤ 1
+one_at_most : (breaks : List ℕ) (u : Until) (c : Counts) (memory : List ℕ) (e : Option End) → counted_turn breaks u c memory e ≤ 1
 one_at_most breaks u c memory (Some e) = omega arith
 one_at_most breaks u c memory None = by (comes breaks u c memory)
   where
@@ -78,19 +78,19 @@ front_lost (Some h) held' kept kept' given lost told =
     (drop lost.prefix.0 kept, told ∙ ap (λ (k : List ℕ). h ++ k) (sym (take-append-drop lost.prefix.0 kept)) ∙ sym (append_assoc h (take lost.prefix.0 kept) (drop lost.prefix.0 kept)))
 
 -- a text that was put whole was put in part
-pub in_part : (said said' : Option (List ℕ)) (text : List ℕ) → Prints said text said' → GotFront said text said'
+pub in_part : (said said' : Option (List ℕ)) (text : List ℕ) → Got said text said' → GotInPart said text said'
 in_part said said' text prints = puts_passed {E = ℕ} said said' said' text (Err 0) prints refl
 
 module _ {M State : Type 0} (state : M → State) (m : Meaning State) (book : Book) (words breaks : List ℕ) (bound : ℕ) (u : Until) (times : ℕ) where
   module _ (left0 held0 : Option (List ℕ)) (board0 : BoardView M) (left held : Option (List ℕ)) (board : BoardView M) (left' held' : Option (List ℕ)) (board' : BoardView M)
       (text : List ℕ) (w : ℕ) (program : board.store.words ≡ words) (live : board.end ≡ None) (some : 0 < w)
       (led : IsLedTo state left0 held0 board0 left board (λ r rest. (n : ℕ) × IsUnderway state m book words breaks bound u times left held board rest text w n r))
-      (said0 said said' : Option (List ℕ)) (prints : Prints said0 text said) where
+      (said0 said said' : Option (List ℕ)) (prints : Got said0 text said) where
     -- behind the turn, where a text is put
-    broken_behind : NoFault board.end board'.end → IsTurned state m left held board left' held' board' (Some bound) → GotFront said (text_between state m book breaks u board board') said' →
+    broken_behind : NoFault board.end board'.end → IsTurned state m left held board left' held' board' (Some bound) → GotInPart said (text_between state m book breaks u board board') said' →
         IsLedTo state left0 held0 board0 left' board' (λ r rest. (n : ℕ) × IsBroken state m book words breaks bound u times held' said0 said' n r)
     broken_behind well turned front rest fits =
-        let c : ℕ = counted breaks u board'.counts board'.bus.words board'.end in
+        let c : ℕ = counted_turn breaks u board'.counts board'.bus.words board'.end in
         let most : c ≤ 1 = one_at_most breaks u board'.counts board'.bus.words board'.end in
         let count : c + (w - c) ≡ w = omega arith in
         let far = underway_more state m book words breaks bound u times left0 held0 board0 left held board left' held' board' text w program live some led (w - c) count (turned well) rest fits in (
@@ -102,7 +102,7 @@ module _ {M State : Type 0} (state : M → State) (m : Meaning State) (book : Bo
                 record {
                   going = at.1.going;
                   out = front_shown left' held' state board' _ at.1.here;
-                  err = subst (λ (t : List ℕ). GotFront said0 t said') at.1.lines (puts_then {E = ℕ} said0 said said' text (text_between state m book breaks u board board') (Err 0) prints front);
+                  err = subst (λ (t : List ℕ). GotInPart said0 t said') at.1.lines (puts_then {E = ℕ} said0 said said' text (text_between state m book breaks u board board') (Err 0) prints front);
                 },
               ),
         )
@@ -117,7 +117,7 @@ module _ {M State : Type 0} (state : M → State) (m : Meaning State) (book : Bo
       record {
         going = at.going;
         out = front;
-        err = subst (λ (t : List ℕ). GotFront said0 t said') at.lines (puts_passed {E = ℕ} said0 said said' text (Err 0) prints silent);
+        err = subst (λ (t : List ℕ). GotInPart said0 t said') at.lines (puts_passed {E = ℕ} said0 said said' text (Err 0) prints silent);
       },
     )
     broken_at r rest n (suc k) at silent front same =
@@ -130,7 +130,7 @@ module _ {M State : Type 0} (state : M → State) (m : Meaning State) (book : Bo
             going = going_more state m book words breaks bound u times n r at.going (at.here.its_end ∙ live) (omega arith);
             out = subst (λ (x : MicroRun State). IsFrontOf held' x.world.given) is front;
             err = puts_first {E = ℕ} said0 said' (printed m book words breaks bound u n r) (turn_lines m book words breaks bound u before (after m book words breaks bound u (suc n) r)) 0
-                (subst (λ (t : List ℕ). GotFront said0 t said') at.lines (puts_passed {E = ℕ} said0 said said' text (Err 0) prints silent));
+                (subst (λ (t : List ℕ). GotInPart said0 t said') at.lines (puts_passed {E = ℕ} said0 said said' text (Err 0) prints silent));
           },
         )
 
@@ -156,7 +156,7 @@ module _ {M State : Type 0} (state : M → State) (m : Meaning State) (book : Bo
     -- in a turn more
     pub broken_more : EndsUncounted board board' → board'.end ≢ Some ends.ReadFault →
         IsTurned state m left held board left' held' board' (Some bound) → RunIsCutByWrite state m left held board left' held' board' (Some bound) →
-        (board'.end ≢ Some ends.WriteFault → GotFront said (text_between state m book breaks u board board') said') → (board'.end ≡ Some ends.WriteFault → said' ≡ said) →
+        (board'.end ≢ Some ends.WriteFault → GotInPart said (text_between state m book breaks u board board') said') → (board'.end ≡ Some ends.WriteFault → said' ≡ said) →
         IsLedTo state left0 held0 board0 left' board' (λ r rest. (n : ℕ) × IsBroken state m book words breaks bound u times held' said0 said' n r)
     broken_more still unread turned write front silent =
         elim (write_or_not board'.end) [
@@ -168,13 +168,13 @@ module _ {M State : Type 0} (state : M → State) (m : Meaning State) (book : Bo
 
 -- a plan that was carried out, and then the flush failed
 module _ {M State : Type 0} (state : M → State) (m : Meaning State) (book : Book) (left held said : Option (List ℕ)) (old : SessionView M) (left' held' held'' said' : Option (List ℕ)) (board' board'' : BoardView M)
-    (text : List ℕ) (prints : Prints said text said') (same : board''.bus.console.ended ≡ board'.bus.console.ended)
+    (text : List ℕ) (prints : Got said text said') (same : board''.bus.console.ended ≡ board'.bus.console.ended)
     (front : (r : MicroRun State) → ShowsRun state left' held' board' r → IsFrontOf held'' r.world.given) where
   said_broken : (plan : Plan) → IsSaid state m book left held old left' held' board' text plan → IsSaidInPart state m book left held said old left' held'' said' board'' plan
   said_broken plan is = (
     led_on state left held old.board left' board' board'' (λ r rest. ShowsRun state left' held' board' r × (r.world.untaken ≡ rest)) (λ r rest. IsFrontOf held'' r.world.given) same
         (λ r rest at. front r at.0) is.0,
-    subst (λ (t : List ℕ). GotFront said t said') is.1 (in_part said said' text prints),
+    subst (λ (t : List ℕ). GotInPart said t said') is.1 (in_part said said' text prints),
   )
 
   pub obeys_broken : (plan : Plan) → Obeys state m book left held old left' held' board' text plan → IsBrokenIn state m book left held said old left' held'' said' board'' plan
@@ -185,7 +185,7 @@ module _ {M State : Type 0} (state : M → State) (m : Meaning State) (book : Bo
         record {
           going = at.1.done.going;
           out = front _ at.1.here;
-          err = subst (λ (t : List ℕ). GotFront said t said') at.1.lines (in_part said said' text prints);
+          err = subst (λ (t : List ℕ). GotInPart said t said') at.1.lines (in_part said said' text prints);
         },
       )) led
   obeys_broken (plans.Refuse reply) is = said_broken (plans.Refuse reply) is

@@ -1,3 +1,4 @@
+pub mod Finding
 pub mod Starting
 pub mod Placing
 pub mod Putting

@@ -8,7 +8,7 @@ use Rattle.mic_clock.specs.View.{BoardView}
 use Rattle.mic_clock.specs.Board.{ShowsRun, IsLedTo, IsCutByRead, Leads}
 use Rattle.mic_debugger.specs.declared.until.Until.{Until}
 use Rattle.mic_debugger.specs.Book.{Book}
-use Rattle.mic_debugger.specs.Clocking.{turn_text, counted, after, turn_lines, passed, IsGoing}
+use Rattle.mic_debugger.specs.Clocking.{turn_text, counted_turn, after, turn_lines, passed, IsGoing}
 use Rattle.mic_debugger.specs.Session.{text_between, IsUnderway, IsClocked, IsStopped}
 
 module _ {M State : Type 0} (state : M → State) (m : Meaning State) (book : Book) (words breaks : List ℕ) (bound : ℕ) (u : Until) (times : ℕ) where
@@ -52,7 +52,7 @@ module _ {M State : Type 0} (state : M → State) (m : Meaning State) (book : Bo
   module _ (left0 held0 : Option (List ℕ)) (board0 : BoardView M) (left held : Option (List ℕ)) (board : BoardView M) (left' held' : Option (List ℕ)) (board' : BoardView M)
       (text : List ℕ) (w : ℕ) (program : board.store.words ≡ words) (live : board.end ≡ None) (some : 0 < w)
       (led : IsLedTo state left0 held0 board0 left board (λ r rest. (n : ℕ) × IsUnderway state m book words breaks bound u times left held board rest text w n r)) where
-    pub underway_more : (w' : ℕ) → counted breaks u board'.counts board'.bus.words board'.end + w' ≡ w →
+    pub underway_more : (w' : ℕ) → counted_turn breaks u board'.counts board'.bus.words board'.end + w' ≡ w →
         IsLedTo state left held board left' board'
         (λ r rest. ShowsRun state left' held' board' (turn m board.store.words (bounded m (Some bound) r)) × ((turn m board.store.words (bounded m (Some bound) r)).world.untaken ≡ rest)) →
         IsLedTo state left0 held0 board0 left' board'
@@ -74,8 +74,8 @@ module _ {M State : Type 0} (state : M → State) (m : Meaning State) (book : Bo
               let shows : ShowsRun state left' held' board' behind = subst (λ (x : MicroRun State). ShowsRun state left' held' board' x) is next.0 in
               let same_lines : turn_lines m book words breaks bound u before behind ≡ text_between state m book breaks u board board' =
               λ i. turn_text book breaks u (m.registers (here.its_state i)).mpc (m.drives (word_at m (sym program i) (here.its_state i)) (here.its_state i)).stalled (shows.counts i) (m.registers (shows.its_state i)) (shows.world.words i) (shows.its_end i) in
-              let same_count : counted breaks u behind.counts behind.world.words behind.end ≡ counted breaks u board'.counts board'.bus.words board'.end =
-              λ i. counted breaks u (shows.counts i) (shows.world.words i) (shows.its_end i) in
+              let same_count : counted_turn breaks u behind.counts behind.world.words behind.end ≡ counted_turn breaks u board'.counts board'.bus.words board'.end =
+              λ i. counted_turn breaks u (shows.counts i) (shows.world.words i) (shows.its_end i) in
               let so_far : passed m book words breaks bound u n r + w ≡ times = at.1.count in (
                 suc n,
                 record {

@@ -17,8 +17,8 @@ pub record Book : Type 0 where
   pub instruction : ℕ → List ℕ
 
 -- the label of a statement, a dash where it has none
-abbrev pub label_text : Program → ℕ → List ℕ
-label_text program s = unwrap_or (label_at program.statements s) (codes "-")
+abbrev pub label_or_dash : Program → ℕ → List ℕ
+label_or_dash program s = unwrap_or (label_at program.statements s) (codes "-")
 
 -- the text of an unused word
 abbrev pub unused_text : Program → List ℕ
@@ -26,7 +26,7 @@ unused_text program = unwrap_or (option_map (fallback_of program) program.fallba
 
 -- the book of a placed program and of an image
 pub record IsBook (program : Program) (placement : List ℕ) (image : ImageView) (book : Book) : Type 0 where
-  pub labels : (s : ℕ) → s < length placement → book.label (slice_index placement s) ≡ label_text program s
+  pub labels : (s : ℕ) → s < length placement → book.label (slice_index placement s) ≡ label_or_dash program s
   pub texts : (s : ℕ) → s < length placement → book.text (slice_index placement s) ≡ parts_text program s
   pub unused_label : (a : ℕ) → ((s : ℕ) → s < length placement → slice_index placement s ≢ a) → book.label a ≡ codes ".default"
   pub unused_text : (a : ℕ) → ((s : ℕ) → s < length placement → slice_index placement s ≢ a) → book.text a ≡ unused_text program

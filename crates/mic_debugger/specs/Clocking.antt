@@ -11,7 +11,7 @@ use Rattle.mic_debugger.specs.declared.until.Until.{Until}
 use Rattle.mic_debugger.specs.declared.until.Until.TheVariants as until
 use Rattle.mic_debugger.specs.declared.until.Watched.{Watched}
 use Rattle.mic_debugger.specs.Book.{Book}
-use Rattle.mic_debugger.specs.Lines.{cycle_line, end_line, registers_line, place_line, next_line}
+use Rattle.mic_debugger.specs.Lines.{clocked_line, end_line, registers_line, place_line, next_line}
 
 -- ---- what is waited for
 
@@ -43,9 +43,9 @@ comes breaks until.Boundary c memory = is_at_boundary c
 comes breaks (until.Cause watched) c memory = is_at_boundary c && (has_break breaks c || has_changed watched memory)
 
 -- 1 where it is, and its end is none
-abbrev pub counted : List ℕ → Until → Counts → List ℕ → Option End → ℕ
-counted breaks u c memory (Some e) = 0
-counted breaks u c memory None = number_of (comes breaks u c memory)
+abbrev pub counted_turn : List ℕ → Until → Counts → List ℕ → Option End → ℕ
+counted_turn breaks u c memory (Some e) = 0
+counted_turn breaks u c memory None = number_of (comes breaks u c memory)
 
 -- ---- what is printed of a turn
 
@@ -55,7 +55,7 @@ cause_line breaks c = if has_break breaks c then codes "break\n" else codes "wat
 module _ (book : Book) (breaks : List ℕ) where
   -- of one that is waited for, which began at the word at `mpc`: two pieces
   abbrev pub first_piece : Until → ℕ → Bool → Counts → List ℕ
-  first_piece until.Cycle mpc stalled c = cycle_line book c.cycles mpc stalled
+  first_piece until.Cycle mpc stalled c = clocked_line book c.cycles mpc stalled
   first_piece until.Boundary mpc stalled c = place_line book c
   first_piece (until.Cause watched) mpc stalled c = cause_line breaks c ++ place_line book c
 
@@ -89,7 +89,7 @@ module _ {State : Type 0} (m : Meaning State) (book : Book) (words : List ℕ) (
   -- how many of them were waited for
   abbrev pub passed : ℕ → MicroRun State → ℕ
   passed zero r = 0
-  passed (suc n) r = passed n r + counted breaks u (after (suc n) r).counts (after (suc n) r).world.words (after (suc n) r).end
+  passed (suc n) r = passed n r + counted_turn breaks u (after (suc n) r).counts (after (suc n) r).world.words (after (suc n) r).end
 
   -- a command that waits so often is not done before so many turns
   pub record IsGoing (times n : ℕ) (r : MicroRun State) : Type 0 where

@@ -1,5 +1,6 @@
 -- The commands of a session: their table, and how a line is read by it.
-use Rattle.std.specs.Prelude.{ℕ, ℤ, pos, negsuc, ◌-◌, ◌==◌, ◌&&◌, ◌||◌, Bool, not, List, [], ◌∷◌, length, take, drop, nat_le, nat_lt, if◌then◌else◌, Option, Some, None, Result, Ok, Err, codes, find}
+use Prim.Native.String.{String as Literal}
+use Rattle.std.specs.Prelude.{◌≡◌, ℕ, ℤ, pos, negsuc, ◌-◌, ◌==◌, ◌&&◌, ◌||◌, Bool, not, List, [], ◌∷◌, length, take, drop, nat_le, nat_lt, if◌then◌else◌, Option, Some, None, Result, Ok, Err, codes, find}
 use Rattle.std.specs.List.{prefix_len}
 use Rattle.std.specs.Str.{bytes_eq}
 use Rattle.mic_base.specs.Number.{number_of}
@@ -8,42 +9,55 @@ use Rattle.mic_debugger.specs.declared.table.Verb.{Verb}
 use Rattle.mic_debugger.specs.declared.table.Verb.TheVariants as verbs
 use Rattle.mic_debugger.specs.declared.table.Argument.{Argument}
 use Rattle.mic_debugger.specs.declared.table.Argument.TheVariants as arguments
+use Rattle.mic_debugger.specs.declared.table.VerbRow.{VerbRow}
 use Rattle.mic_debugger.specs.declared.reading.Command.{Command}
 use Rattle.mic_debugger.specs.declared.reading.CommandError.{CommandError}
 use Rattle.mic_debugger.specs.declared.reading.CommandError.TheVariants.{BadCommand, BadNumber}
 
 -- ---- the table: the word of each command, and what stands behind it
 
-abbrev pub word_of : Verb → List ℕ
-word_of verbs.Micro = codes "micro"
-word_of verbs.Step = codes "step"
-word_of verbs.Go = codes "go"
-word_of verbs.Break = codes "break"
-word_of verbs.Clear = codes "clear"
-word_of verbs.Watch = codes "watch"
-word_of verbs.Regs = codes "regs"
-word_of verbs.Stack = codes "stack"
-word_of verbs.Where = codes "where"
-word_of verbs.Quit = codes "quit"
+pub record VerbForm : Type 0 where
+  pub word : List ℕ
+  pub argument : Argument
 
-abbrev pub argument_of : Verb → Argument
-argument_of verbs.Micro = arguments.Count
-argument_of verbs.Step = arguments.Count
-argument_of verbs.Go = arguments.Nothing
-argument_of verbs.Break = arguments.TextAddress
-argument_of verbs.Clear = arguments.TextAddress
-argument_of verbs.Watch = arguments.MemoryWord
-argument_of verbs.Regs = arguments.Nothing
-argument_of verbs.Stack = arguments.Nothing
-argument_of verbs.Where = arguments.Nothing
-argument_of verbs.Quit = arguments.Nothing
+abbrev verb_form : Literal → Argument → VerbForm
+verb_form word argument = record { word = codes word; argument = argument }
+
+abbrev pub form_of_verb : Verb → VerbForm
+form_of_verb verbs.Micro = verb_form "micro" arguments.Count
+form_of_verb verbs.Step = verb_form "step" arguments.Count
+form_of_verb verbs.Go = verb_form "go" arguments.Nothing
+form_of_verb verbs.Break = verb_form "break" arguments.TextAddress
+form_of_verb verbs.Clear = verb_form "clear" arguments.TextAddress
+form_of_verb verbs.Watch = verb_form "watch" arguments.MemoryWord
+form_of_verb verbs.Regs = verb_form "regs" arguments.Nothing
+form_of_verb verbs.Stack = verb_form "stack" arguments.Nothing
+form_of_verb verbs.Where = verb_form "where" arguments.Nothing
+form_of_verb verbs.Quit = verb_form "quit" arguments.Nothing
 
 abbrev pub all_verbs : List Verb
 all_verbs = verbs.Micro ∷ verbs.Step ∷ verbs.Go ∷ verbs.Break ∷ verbs.Clear ∷ verbs.Watch ∷ verbs.Regs ∷ verbs.Stack ∷ verbs.Where ∷ verbs.Quit ∷ []
 
+-- the command of a list with that word
+abbrev pub verb_in : List ℕ → List Verb → Option Verb
+verb_in word = find (λ v. bytes_eq (form_of_verb v).word word)
+
 -- the command with that word
 abbrev pub verb_of : List ℕ → Option Verb
-verb_of word = find (λ v. bytes_eq (word_of v) word) all_verbs
+verb_of word = verb_in word all_verbs
+
+-- the row has the word of its command, and what stands behind it
+abbrev pub IsVerbRow : VerbRow → Type 0
+IsVerbRow row = (row.word.now ≡ (form_of_verb row.verb).word) × (row.argument ≡ (form_of_verb row.verb).argument)
+
+abbrev pub AreVerbRows : List VerbRow → Type 0
+AreVerbRows [] = Unit {0}
+AreVerbRows (row ∷ rows) = IsVerbRow row × AreVerbRows rows
+
+-- it is the row of that command, and there is none where there is no command
+abbrev pub IsVerbRowOf : Option Verb → Option VerbRow → Type 0
+IsVerbRowOf verb None = verb ≡ None
+IsVerbRowOf verb (Some row) = (verb ≡ Some row.verb) × IsVerbRow row
 
 -- ---- the range of each argument, over a memory of so many words, and what it is where it is left out
 
@@ -109,7 +123,7 @@ with_word words v argument word = numbered v (ranged (least_of argument) (most_o
 
 abbrev pub with_argument : ℕ → Verb → List ℕ → Result (Option Command) CommandError
 with_argument words v word =
-    if is_empty word then numbered v (default_of (argument_of v)) BadCommand else with_word words v (argument_of v) word
+    if is_empty word then numbered v (default_of (form_of_verb v).argument) BadCommand else with_word words v (form_of_verb v).argument word
 
 abbrev pub with_verb : ℕ → Option Verb → List ℕ → Result (Option Command) CommandError
 with_verb words None word = Err BadCommand

@@ -5,29 +5,22 @@ use Rattle.mic_base.specs.Digits.{hex_text}
 use Rattle.mic_clock.specs.declared.counts.Boundary.{Boundary}
 use Rattle.mic_clock.specs.declared.counts.Counts.{Counts}
 use Rattle.mic_clock.specs.declared.end.End.{End}
-use Rattle.mic_clock.specs.declared.end.End.TheVariants as ends
 use Rattle.mic_clock.specs.declared.registers.Registers.{Registers}
 use Rattle.mic_clock.specs.State.{state_line}
+use Rattle.cli_run_texts.specs.Ends.{end_name}
 use Rattle.mic_debugger.specs.Book.{Book}
 
--- the name of an end
-abbrev pub name_of : End → List ℕ
-name_of ends.Halt = codes "halt"
-name_of ends.Err = codes "error"
-name_of ends.Bound = codes "bound"
-name_of ends.StackLimit = codes "stack-limit"
-name_of ends.ReadFault = codes "read-fault"
-name_of ends.WriteFault = codes "write-fault"
-name_of (ends.OutOfMap at) = codes "out-of-map at " ++ hex_text 8 at
-name_of ends.Adrift = codes "adrift"
-
 unfoldable pub end_line : End → List ℕ
-end_line e = codes "end " ++ name_of e ++ codes "\n"
+end_line e = codes "end " ++ end_name e ++ codes "\n"
+
+-- the text of a cycle's statement, `stall` where it was one
+abbrev pub cycle_text : Book → ℕ → Bool → List ℕ
+cycle_text book mpc stalled = if stalled then codes "stall" else book.text mpc
 
 -- a clocked cycle: its number, the address of its word, the label, and the text of the statement where it was no stall
-unfoldable pub cycle_line : Book → ℕ → ℕ → Bool → List ℕ
-cycle_line book cycles mpc stalled =
-    decimal cycles ++ codes " " ++ hex_text 3 mpc ++ codes " " ++ book.label mpc ++ codes " " ++ (if stalled then codes "stall" else book.text mpc) ++ codes "\n"
+unfoldable pub clocked_line : Book → ℕ → ℕ → Bool → List ℕ
+clocked_line book cycles mpc stalled =
+    decimal cycles ++ codes " " ++ hex_text 3 mpc ++ codes " " ++ book.label mpc ++ codes " " ++ cycle_text book mpc stalled ++ codes "\n"
 
 -- the registers behind a cycle
 unfoldable pub registers_line : Registers → List ℕ

@@ -4,7 +4,7 @@ use Rattle.mic_clock.specs.Meaning.{Meaning}
 use Rattle.mic_clock.specs.State.{state_line}
 use Rattle.mic_clock.specs.View.{BoardView}
 use Rattle.mic_clock.specs.Board.{ShowsRun, IsLedTo}
-use Rattle.cli_outside.specs.Outside.{GotFront}
+use Rattle.cli_outside.specs.Outside.{GotInPart}
 use Rattle.mic_debugger.specs.declared.plan.Plan.{Plan}
 use Rattle.mic_debugger.specs.declared.plan.Plan.TheVariants as plans
 use Rattle.mic_debugger.specs.Book.{Book}
@@ -62,7 +62,7 @@ module _ {M State : Type 0} (state : M → State) (m : Meaning State) (book : Bo
   module _ (left held said : Option (List ℕ)) (old : SessionView M) (left' held' said' : Option (List ℕ)) (board' : BoardView M) where
     -- `out` holds a front of what each run that the board shows has given, and `err` got a front of what is shown
     abbrev pub IsSaidInPart : Plan → Type 0
-    IsSaidInPart plan = IsLedTo state left held old.board left' board' (λ r rest. IsFrontOf held' r.world.given) × GotFront said (shown_text old plan) said'
+    IsSaidInPart plan = IsLedTo state left held old.board left' board' (λ r rest. IsFrontOf held' r.world.given) × GotInPart said (shown_text old plan) said'
 
     -- a failing sink breaks the plan off
     abbrev pub IsBrokenIn : Plan → Type 0

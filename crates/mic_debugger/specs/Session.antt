@@ -1,6 +1,5 @@
 -- Where a session leads a board, and what it prints.
 use Rattle.std.specs.Prelude.{◌≡◌, ◌≢◌, ℕ, ◌+◌, ◌<◌, List, ◌++◌, Option, Some, IfSome}
-use Rattle.std.specs.Option.{option_map}
 use Rattle.mic_base.specs.Causes.{Rose}
 use Rattle.mic_clock.specs.declared.end.End.{End}
 use Rattle.mic_clock.specs.Meaning.{Meaning}
@@ -8,7 +7,7 @@ use Rattle.mic_clock.specs.Run.{MicroRun, word_at, turns}
 use Rattle.mic_clock.specs.View.{BoardView}
 use Rattle.mic_clock.specs.Board.{ShowsRun, IsCutByRead}
 use Rattle.mic_clock.specs.declared.end.End.TheVariants as ends
-use Rattle.cli_outside.specs.Outside.{GotFront}
+use Rattle.cli_outside.specs.Outside.{GotInPart}
 use Rattle.mic_debugger.specs.declared.until.Until.{Until}
 use Rattle.mic_debugger.specs.Book.{Book}
 use Rattle.mic_debugger.specs.Lines.{end_line}
@@ -18,10 +17,6 @@ use Rattle.mic_debugger.specs.Clocking.{turn_text, after, printed, passed, IsGoi
 pub record HasReadCause (before now : ℕ) (end : Option End) : Type 0 where
   pub rose : end ≡ Some ends.ReadFault → Rose before now
   pub same : end ≢ Some ends.ReadFault → now ≡ before
-
--- a sink that tells what it holds has taken this text
-abbrev pub Prints : Option (List ℕ) → List ℕ → Option (List ℕ) → Type 0
-Prints held text held' = held' ≡ option_map (λ h. h ++ text) held
 
 -- what a sink that tells it holds is a front of these bytes
 abbrev pub IsFrontOf : Option (List ℕ) → List ℕ → Type 0
@@ -61,4 +56,4 @@ module _ {M State : Type 0} (state : M → State) (m : Meaning State) (book : Bo
   pub record IsBroken (held said said' : Option (List ℕ)) (n : ℕ) (r : MicroRun State) : Type 0 where
     pub going : IsGoing m book words breaks bound u times n r
     pub out : IsFrontOf held (after m book words breaks bound u n r).world.given
-    pub err : GotFront said (printed m book words breaks bound u n r) said'
+    pub err : GotInPart said (printed m book words breaks bound u n r) said'

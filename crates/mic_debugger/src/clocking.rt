@@ -9,9 +9,9 @@ ghost use Rattle.mic_clock.specs.Board.{IsTurned, RunIsCutByRead, RunIsCutByWrit
 ghost use Rattle.mic_debugger.specs.Book.{Book, IsBookOf};
 ghost use Rattle.mic_debugger.specs.InTime.{InTime};
 ghost use Rattle.mic_debugger.specs.Lines.{end_line};
-ghost use Rattle.mic_debugger.specs.Clocking.{cause_line, comes, counted, first_piece, has_break, has_changed, is_at_boundary, second_piece, turn_text};
-ghost use Rattle.mic_debugger.specs.Session.{HasReadCause, IsBroken, IsClocked, IsStopped, Prints, text_between};
-ghost use Rattle.cli_outside.specs.Outside.{GotFront};
+ghost use Rattle.mic_debugger.specs.Clocking.{cause_line, comes, counted_turn, first_piece, has_break, has_changed, is_at_boundary, second_piece, turn_text};
+ghost use Rattle.mic_debugger.specs.Session.{HasReadCause, IsBroken, IsClocked, IsStopped, text_between};
+ghost use Rattle.cli_outside.specs.Outside.{Got, GotInPart};
 
 use crate::fault::SessionFault;
 use crate::listing::Listing;
@@ -89,7 +89,7 @@ impl Clocking<'_> {
     {
         let mut line = Line::new();
         match self.until {
-            Until::Cycle => return self.listing.cycle_line(counts.cycles, mpc, stalled),
+            Until::Cycle => return self.listing.clocked_line(counts.cycles, mpc, stalled),
             Until::Boundary => {}
             Until::Cause(_) => {
                 if has_break(self.breaks, counts) {
@@ -156,12 +156,12 @@ impl Clocking<'_> {
         ensures read { RunIsCutByRead M.state M.meaning (S.left input.old) (K.held out.old) board.old (S.left input.new) (K.held out.new) board.new (Some self.now.bound) }
         ensures write { RunIsCutByWrite M.state M.meaning (S.left input.old) (K.held out.old) board.old (S.left input.new) (K.held out.new) board.new (Some self.now.bound) }
         ensures text { OnOk result ((book : Book) → IsBookOf self.now.listing.now book →
-            Prints (E.held err.old) (text_between M.state M.meaning book self.now.breaks.now self.now.until board.old board.new) (E.held err.new)) }
+            Got (E.held err.old) (text_between M.state M.meaning book self.now.breaks.now self.now.until board.old board.new) (E.held err.new)) }
         ensures front { OnErr result (board.new.end ≢ Some End.WriteFault → (book : Book) →
             IsBookOf self.now.listing.now book →
-            GotFront (E.held err.old) (text_between M.state M.meaning book self.now.breaks.now self.now.until board.old board.new) (E.held err.new)) }
+            GotInPart (E.held err.old) (text_between M.state M.meaning book self.now.breaks.now self.now.until board.old board.new) (E.held err.new)) }
         ensures silent { board.new.end ≡ Some End.WriteFault → E.held err.new ≡ E.held err.old }
-        ensures came { IfOk result (λ came. number_of came ≡ counted self.now.breaks.now self.now.until board.new.counts board.new.bus.words board.new.end) }
+        ensures came { IfOk result (λ came. number_of came ≡ counted_turn self.now.breaks.now self.now.until board.new.counts board.new.bus.words board.new.end) }
         ensures fault { OnOk result (board.new.end ≢ Some End.WriteFault) }
         ensures input { HasReadCause (S.faults input.old) (S.faults input.new) board.new.end }
         ensures store { board.new.store ≡ board.old.store }
@@ -199,12 +199,12 @@ impl Clocking<'_> {
         requires bound { self.now.bound ≤ 2 ^ 62 }
         requires in_time { InTime (2 ^ 62) board.old.counts (M.meaning.is_boundary (M.state board.old.machine)) board.old.end }
         ensures done { OnOk result (NoFault None board.new.end → (book : Book) → IsBookOf self.now.listing.now book →
-            (text : List ℕ) × Prints (E.held err.old) text (E.held err.new) ×
+            (text : List ℕ) × Got (E.held err.old) text (E.held err.new) ×
             IsLedTo M.state (S.left input.old) (K.held out.old) board.old (S.left input.new) board.new
             (λ r rest. (n : ℕ) × IsClocked M.state M.meaning book board.old.store.words self.now.breaks.now self.now.bound self.now.until times
             (S.left input.new) (K.held out.new) board.new rest text n r)) }
         ensures read { OnOk result (board.new.end ≡ Some End.ReadFault → (book : Book) → IsBookOf self.now.listing.now book →
-            (text : List ℕ) × Prints (E.held err.old) text (E.held err.new) ×
+            (text : List ℕ) × Got (E.held err.old) text (E.held err.new) ×
             IsLedTo M.state (S.left input.old) (K.held out.old) board.old (S.left input.new) board.new
             (λ r rest. (n : ℕ) × (k : ℕ) × IsStopped M.state M.meaning book board.old.store.words self.now.breaks.now self.now.bound self.now.until times
             (S.left input.new) (K.held out.new) board.new rest text n k r)) }

@@ -1,14 +1,14 @@
 //! What names the words of the control store and the instructions of the program.
 
-ghost use Rattle.std.specs.Prelude.{◌≡◌, ◌<◌, ◌≤◌, ◌+◌, ◌++◌, length, Some, None, codes, if◌then◌else◌};
+ghost use Rattle.std.specs.Prelude.{◌≡◌, ◌<◌, ◌≤◌, ◌+◌, ◌++◌, length, Some, None, codes};
 ghost use Rattle.store_placement.specs.Placement.{Places};
 ghost use Rattle.store_placement.specs.Program.{demands_of};
 ghost use Rattle.ijvm_image.specs.Image.{ImageView};
 ghost use Rattle.ijvm_instr.specs.Instructions.{instr_at};
 ghost use Rattle.ijvm_paths.specs.Kinds.{IsKind};
 ghost use Rattle.mic_base.specs.Digits.{hex_text};
-ghost use Rattle.mic_debugger.specs.Book.{Book, IsBookOf, label_text, unused_text};
-ghost use Rattle.mic_debugger.specs.Lines.{cycle_line, end_line, name_of, place_line, place_text, next_line};
+ghost use Rattle.mic_debugger.specs.Book.{Book, IsBookOf, label_or_dash, unused_text};
+ghost use Rattle.mic_debugger.specs.Lines.{clocked_line, cycle_text, place_line, place_text, next_line};
 
 use cli_outside::number;
 use ijvm_instr::{Instr, decode_at, print_instr};
@@ -117,8 +117,7 @@ impl Listing {
     /// Appends the text of a cycle's statement, `stall` where it was one.
     fn cycle_text(&self, mpc: u16, stalled: bool, line: &mut Line)
         requires { length line.old + 256 ≤ 512 }
-        ensures text { (book : Book) → IsBookOf self.now book →
-            line.new ≡ line.old ++ (if stalled then codes "stall" else book.text mpc) }
+        ensures text { (book : Book) → IsBookOf self.now book → line.new ≡ line.old ++ cycle_text book mpc stalled }
         ensures len { length line.new ≤ length line.old + 256 }
     {
         if stalled {
@@ -129,10 +128,10 @@ impl Listing {
     }
 
     /// The line of a clocked cycle.
-    #[tactic(auto, unfolding(crate::specs::Lines::cycle_line))]
-    pub fn cycle_line(&self, cycles: u64, mpc: u16, stalled: bool) -> Line
+    #[tactic(auto, unfolding(crate::specs::Lines::clocked_line))]
+    pub fn clocked_line(&self, cycles: u64, mpc: u16, stalled: bool) -> Line
         requires { mpc < 512 }
-        ensures { (book : Book) → IsBookOf self.now book → result ≡ cycle_line book cycles mpc stalled }
+        ensures { (book : Book) → IsBookOf self.now book → result ≡ clocked_line book cycles mpc stalled }
     {
         let mut line = Line::new();
         number(&mut line, "", cycles);

@@ -1,32 +1,15 @@
 //! Lines of a session that are put to a sink.
 
-ghost use Rattle.std.specs.Prelude.{◌≡◌, ◌++◌, ◌<◌, ◌≤◌, ◌+◌, ◌^◌, ℕ, List, [], Option, length};
+ghost use Rattle.std.specs.Prelude.{◌≡◌, ◌++◌, ◌<◌, ◌≤◌, ◌+◌, ◌^◌, ℕ, List, length};
 ghost use Rattle.mic_base.specs.Causes.{HasCause};
 ghost use Rattle.mic_base.specs.Streams.{Holds, Puts};
-ghost use Rattle.mic_debugger.specs.Lines.{end_line, name_of, registers_line, word_line, word_lines};
+ghost use Rattle.mic_debugger.specs.Lines.{end_line, registers_line, word_line, word_lines};
 
-use cli_outside::word;
+use cli_outside::{put_after, word};
+use cli_run_texts::end_name;
 use console_port::Bus;
 use mic_base::{Line, Sink, SinkFailed};
 use mic_clock::{End, Registers, print_state};
-
-/// Puts a piece behind what was put, unless that failed.
-fn put_after<E: Sink>(
-    said: Result<(), SinkFailed>,
-    err: &mut E,
-    piece: &[u8],
-) -> Result<(), SinkFailed>
-    ensures puts { (old : Option (List ℕ)) (text : List ℕ) →
-        Puts old text said (E.held err.old) → Puts old (text ++ piece.now) result (E.held err.new) }
-    ensures keeps { (front : List ℕ) → Holds front (E.held err.old) → Holds front (E.held err.new) }
-    ensures passed { E.passed err.new ≡ E.passed err.old }
-    ensures cause { (before : ℕ) → HasCause before (E.faults err.old) said → HasCause before (E.faults err.new) result }
-{
-    match said {
-        Ok(()) => err.put(piece),
-        Err(failed) => Err(failed),
-    }
-}
 
 /// Puts one piece behind another.
 pub(crate) fn put_two<E: Sink>(err: &mut E, first: &[u8], second: &[u8]) -> Result<(), SinkFailed>
@@ -39,24 +22,6 @@ pub(crate) fn put_two<E: Sink>(err: &mut E, first: &[u8], second: &[u8]) -> Resu
     put_after(said, err, second)
 }
 
-/// Appends the name of an end.
-fn name_of(line: &mut Line, end: End)
-    requires { length line.old + 32 ≤ 512 }
-    ensures text { line.new ≡ line.old ++ name_of end }
-    ensures len { length line.new ≤ length line.old + 32 }
-{
-    match end {
-        End::Halt => line.text("halt"),
-        End::Err => line.text("error"),
-        End::Bound => line.text("bound"),
-        End::StackLimit => line.text("stack-limit"),
-        End::ReadFault => line.text("read-fault"),
-        End::WriteFault => line.text("write-fault"),
-        End::OutOfMap(at) => word(line, "out-of-map at ", at),
-        End::Adrift => line.text("adrift"),
-    }
-}
-
 /// The line of an end.
 #[tactic(auto, unfolding(crate::specs::Lines::end_line))]
 pub(crate) fn end_line(end: End) -> Line
@@ -64,7 +29,7 @@ pub(crate) fn end_line(end: End) -> Line
 {
     let mut line = Line::new();
     line.text("end ");
-    name_of(&mut line, end);
+    end_name(&mut line, end);
     line.text("\n");
     line
 }

@@ -3,9 +3,9 @@
 ghost use Rattle.std.specs.Prelude.{◌≡◌, ◌≤◌, ◌<◌, ◌+◌, ◌^◌, ◌==◌, ◌&&◌, false, length, not};
 ghost use Rattle.std.specs.List.{prefix_len};
 ghost use Rattle.mic_base.specs.Number.{number_of};
-ghost use Rattle.mic_debugger.specs.Commands.{command_of, default_of, first_word, is_blank, is_word_byte, most_of, least_of, ranged, unindented, behind_word, with_argument};
+ghost use Rattle.mic_debugger.specs.Commands.{IsVerbRow, command_of, default_of, first_word, is_blank, is_word_byte, most_of, least_of, ranged, unindented, behind_word, with_argument};
 
-use crate::table::{Argument, Verb};
+use crate::table::{Argument, Verb, VerbRow, row_of};
 use mic_base::Number;
 
 /// A command of a session.
@@ -93,11 +93,12 @@ fn ranged(word: &[u8], least: u32, most: u32) -> Option<u32>
 }
 
 /// The command with the argument that this word is, where it is one.
-fn with_argument(verb: Verb, word: &[u8], words: u32) -> Result<Option<Command>, CommandError>
-    requires { 0 < words }
-    ensures { result ≡ with_argument words verb word.now }
+fn with_argument(row: VerbRow, word: &[u8], words: u32) -> Result<Option<Command>, CommandError>
+    requires row { IsVerbRow row }
+    requires words { 0 < words }
+    ensures { result ≡ with_argument words row.verb word.now }
 {
-    let argument = verb.argument();
+    let VerbRow { verb, argument, .. } = row;
     if word.is_empty() {
         return match argument.default() {
             Some(number) => Ok(Some(Command { verb, number })),
@@ -131,8 +132,8 @@ pub fn read_command(line: &[u8], words: u32) -> Result<Option<Command>, CommandE
     if !surplus.is_empty() {
         return Err(CommandError::BadCommand);
     }
-    match Verb::find(name) {
-        Some(verb) => with_argument(verb, first_word(rest), words),
+    match row_of(name) {
+        Some(row) => with_argument(row, first_word(rest), words),
         None => Err(CommandError::BadCommand),
     }
 }

@@ -8,11 +8,12 @@ ghost use Rattle.store_placement.specs.Program.{demands_of, IsFilled};
 ghost use Rattle.mic_clock.specs.Board.{AreCounts, NoFault, ShowsAs, ShowsRun};
 ghost use Rattle.mic_clock.specs.Run.{MicroRun};
 ghost use Rattle.mic_clock.specs.State.{state_line};
+ghost use Rattle.cli_outside.specs.Outside.{Got};
 ghost use Rattle.mic_debugger.specs.Book.{Book, IsBookOf};
 ghost use Rattle.mic_debugger.specs.Commands.{command_of};
 ghost use Rattle.mic_debugger.specs.Lines.{stack_text, where_line};
 ghost use Rattle.mic_debugger.specs.Obeys.{Obeys, IsBrokenIn, IsStoppedIn, plan_in, shown_text};
-ghost use Rattle.mic_debugger.specs.Session.{HasReadCause, IsFrontOf, Prints};
+ghost use Rattle.mic_debugger.specs.Session.{HasReadCause, IsFrontOf};
 ghost use Rattle.mic_debugger.specs.Plans.{breaks_after, clocking, plan_by, plan_of, refusal_text, reply_of, watched_after, watched_now};
 
 use crate::breakpoints::Breakpoints;
@@ -243,10 +244,10 @@ impl<M: Clocked> Session<M> {
     ) -> Result<(), SessionFault>
         requires { self.old.board.end ≡ None }
         ensures done { OnOk result (NoFault None self.new.board.end → (book : Book) → IsBookOf self.old.listing book →
-            (text : List ℕ) × Prints (E.held err.old) text (E.held err.new) ×
+            (text : List ℕ) × Got (E.held err.old) text (E.held err.new) ×
             Obeys M.state M.meaning book (S.left input.old) (K.held out.old) self.old (S.left input.new) (K.held out.new) self.new.board text (Plan.Clock until times)) }
         ensures read { OnOk result (self.new.board.end ≡ Some End.ReadFault → (book : Book) → IsBookOf self.old.listing book →
-            (text : List ℕ) × Prints (E.held err.old) text (E.held err.new) ×
+            (text : List ℕ) × Got (E.held err.old) text (E.held err.new) ×
             IsStoppedIn M.state M.meaning book (S.left input.old) (K.held out.old) self.old (S.left input.new) (K.held out.new) self.new.board text (Plan.Clock until times)) }
         ensures broken { OnErr result (self.new.board.end ≢ Some End.ReadFault → (book : Book) → IsBookOf self.old.listing book →
             IsBrokenIn M.state M.meaning book (S.left input.old) (K.held out.old) (E.held err.old) self.old
@@ -280,11 +281,11 @@ impl<M: Clocked> Session<M> {
         requires { (u : Until) (times : ℕ) → plan ≡ Plan.Clock u times → self.old.board.end ≡ None }
         ensures obeys { OnOk result (NoFault self.old.board.end self.new.board.end → (book : Book) →
             IsBookOf self.old.listing book →
-            (text : List ℕ) × Prints (E.held err.old) text (E.held err.new) ×
+            (text : List ℕ) × Got (E.held err.old) text (E.held err.new) ×
             Obeys M.state M.meaning book (S.left input.old) (K.held out.old) self.old (S.left input.new) (K.held out.new) self.new.board text plan) }
         ensures read { OnOk result (self.old.board.end ≡ None → self.new.board.end ≡ Some End.ReadFault → (book : Book) →
             IsBookOf self.old.listing book →
-            (text : List ℕ) × Prints (E.held err.old) text (E.held err.new) ×
+            (text : List ℕ) × Got (E.held err.old) text (E.held err.new) ×
             IsStoppedIn M.state M.meaning book (S.left input.old) (K.held out.old) self.old (S.left input.new) (K.held out.new) self.new.board text plan) }
         ensures broken { OnErr result ((self.old.board.end ≡ None → self.new.board.end ≢ Some End.ReadFault) → (book : Book) →
             IsBookOf self.old.listing book →
@@ -342,11 +343,11 @@ impl<M: Clocked> Session<M> {
         ensures reply { IfOk result (λ reply. reply ≡ reply_of (plan_in self.old line.now)) }
         ensures obeys { OnOk result (NoFault self.old.board.end self.new.board.end → (book : Book) →
             IsBookOf self.old.listing book →
-            (text : List ℕ) × Prints (E.held err.old) text (E.held err.new) ×
+            (text : List ℕ) × Got (E.held err.old) text (E.held err.new) ×
             Obeys M.state M.meaning book (S.left input.old) (K.held out.old) self.old (S.left input.new) (K.held out.new) self.new.board text (plan_in self.old line.now)) }
         ensures read { OnOk result (self.old.board.end ≡ None → self.new.board.end ≡ Some End.ReadFault → (book : Book) →
             IsBookOf self.old.listing book →
-            (text : List ℕ) × Prints (E.held err.old) text (E.held err.new) ×
+            (text : List ℕ) × Got (E.held err.old) text (E.held err.new) ×
             IsStoppedIn M.state M.meaning book (S.left input.old) (K.held out.old) self.old (S.left input.new) (K.held out.new) self.new.board text (plan_in self.old line.now)) }
         ensures broken { OnErr result ((self.old.board.end ≡ None → self.new.board.end ≢ Some End.ReadFault) → (book : Book) →
             IsBookOf self.old.listing book →

@@ -1,7 +1,8 @@
 //! The table of a session's commands: the word of each, and what stands behind it.
 
-ghost use Rattle.std.specs.Prelude.{◌≡◌, ◌≤◌, ◌<◌, ◌^◌};
-ghost use Rattle.mic_debugger.specs.Commands.{argument_of, default_of, least_of, most_of, verb_of, word_of};
+ghost use Rattle.std.specs.Prelude.{◌≡◌, ◌≤◌, ◌<◌, ◌^◌, find, map};
+ghost use Rattle.std.specs.Str.{bytes_eq};
+ghost use Rattle.mic_debugger.specs.Commands.{AreVerbRows, IsVerbRowOf, default_of, least_of, most_of, verb_in, verb_of};
 
 /// The commands, each by its word.
 #[derive(Clone, Copy, Debug, PartialEq, Eq)]
@@ -30,67 +31,61 @@ pub enum Argument {
     MemoryWord,
 }
 
-const VERBS: [Verb; 10] = [
-    Verb::Micro,
-    Verb::Step,
-    Verb::Go,
-    Verb::Break,
-    Verb::Clear,
-    Verb::Watch,
-    Verb::Regs,
-    Verb::Stack,
-    Verb::Where,
-    Verb::Quit,
-];
+/// A row of the table.
+#[derive(Clone, Copy)]
+pub struct VerbRow {
+    pub verb: Verb,
+    pub word: &'static str,
+    pub argument: Argument,
+}
+
+macro_rules! rows {
+    ($($verb:ident $word:literal $argument:ident)*) => {
+        [$(VerbRow {
+            verb: Verb::$verb,
+            word: $word,
+            argument: Argument::$argument,
+        }),*]
+    };
+}
+
+const COMMANDS: [VerbRow; 10] = rows! {
+    // verb  word     argument
+    Micro    "micro"  Count
+    Step     "step"   Count
+    Go       "go"     Nothing
+    Break    "break"  TextAddress
+    Clear    "clear"  TextAddress
+    Watch    "watch"  MemoryWord
+    Regs     "regs"   Nothing
+    Stack    "stack"  Nothing
+    Where    "where"  Nothing
+    Quit     "quit"   Nothing
+};
 
 const MOST_COUNT: u32 = 1_000_000;
 
 const LAST_TEXT_ADDRESS: u32 = 65_535;
 
-impl Verb {
-    pub fn word(self) -> &'static str
-        ensures { result.now ≡ word_of self }
-    {
-        match self {
-            Verb::Micro => "micro",
-            Verb::Step => "step",
-            Verb::Go => "go",
-            Verb::Break => "break",
-            Verb::Clear => "clear",
-            Verb::Watch => "watch",
-            Verb::Regs => "regs",
-            Verb::Stack => "stack",
-            Verb::Where => "where",
-            Verb::Quit => "quit",
-        }
-    }
+fn first_with(rows: &[VerbRow], word: &[u8]) -> Option<VerbRow>
+    ensures { result ≡ find (λ row. bytes_eq row.word.now word.now) rows.now }
+{
+    rows.iter().copied().find(|row| row.word.as_bytes() == word)
+}
 
-    pub fn argument(self) -> Argument
-        ensures { result ≡ argument_of self }
-    {
-        match self {
-            Verb::Micro => Argument::Count,
-            Verb::Step => Argument::Count,
-            Verb::Go => Argument::Nothing,
-            Verb::Break => Argument::TextAddress,
-            Verb::Clear => Argument::TextAddress,
-            Verb::Watch => Argument::MemoryWord,
-            Verb::Regs => Argument::Nothing,
-            Verb::Stack => Argument::Nothing,
-            Verb::Where => Argument::Nothing,
-            Verb::Quit => Argument::Nothing,
-        }
-    }
+#[tactic(auto, using(crate::proofs::Finding::first_is_row))]
+fn row_in(rows: &[VerbRow], word: &[u8]) -> Option<VerbRow>
+    requires { AreVerbRows rows.now }
+    ensures { IsVerbRowOf (verb_in word.now (map (λ row. row.verb) rows.now)) result }
+{
+    first_with(rows, word)
+}
 
-    /// The command with that word.
-    pub fn find(word: &[u8]) -> Option<Verb>
-        ensures { result ≡ verb_of word.now }
-    {
-        VERBS
-            .iter()
-            .copied()
-            .find(|verb| verb.word().as_bytes() == word)
-    }
+/// The row of the command with that word.
+pub fn row_of(word: &[u8]) -> Option<VerbRow>
+    ensures { IsVerbRowOf (verb_of word.now) result }
+{
+    row_in(&COMMANDS, word)
 }
 
 impl Argument {

@@ -1,10 +1,5 @@
-use Rattle.std.proofs.Common.{◌≡◌, ◌∙◌, ap, refl, rules, ℕ, List, [], Option, None, Some}
-use Rattle.std.specs.Option.{option_map}
-use Rattle.std.proofs.lemmas.List.{append-nil}
-use Rattle.mic_base.specs.Streams.{Puts}
-use Rattle.mic_base.specs.Causes.{HasCause}
-use Rattle.mic_clock.specs.declared.counts.Counts.{Counts}
-use Rattle.cli_profile.specs.Profile.{Profile, profile_of, profile_text, start_profile, Silent, counted}
+use Rattle.std.proofs.Common.{◌≡◌, ◌∙◌, ap, refl, rules}
+use Rattle.cli_profile.specs.Profile.{Profile, profile_of_cycles, profile_text, start_profile, Silent, profile_after}
 use Rattle.watched_run.specs.Watched.{kept_of}
 use Rattle.cli_boards.specs.Profiled.{Stopped, Whole}
 use Rattle.cli_boards.proofs.Micros.{nothing_put, nothing_put_of, silent_says}
@@ -19,11 +14,11 @@ returns-in-Ok-run_watched g c =
     let rows = c.in-Ok.rows.items in
     let begun : record { rows = c.new-profiler.result.rows.now; boot = c.new-profiler.result.boot; last = c.new-profiler.result.last; tallies = c.new-profiler.result.tallies } ≡ start_profile rows =
     λ i. record { rows = (c.new-profiler.ensures.rows ∙ c.deref.ensures.value) i; boot = c.new-profiler.ensures.boot i; last = c.new-profiler.ensures.last i; tallies = c.new-profiler.ensures.tallies i } in
-    let counted_all = watched.saw.kept ∙ ap (λ (p : Profile). kept_of counted Silent p watched.cycles) begun in
+    let counted_all = watched.saw.kept ∙ ap (λ (p : Profile). kept_of profile_after Silent p watched.cycles) begun in
     let held = nothing_put _ _ watched.saw.text (silent_says _ watched.cycles watched.saw.text watched.saw.says) watched.saw.said in
     let profiler = c.run_watched.new.watcher in
     let now : Profile = record { rows = profiler.rows.now; boot = profiler.boot; last = profiler.last; tallies = profiler.tallies } in
-    let text : profile_text now end c.counts.result ≡ profile_text (profile_of rows watched.cycles) end last.counts =
+    let text : profile_text now end c.counts.result ≡ profile_text (profile_of_cycles rows watched.cycles) end last.counts =
     λ i. profile_text (counted_all i) end (c.counts.ensures i) in
     let put = rw (text, held) at c.put_profile-said.ensures.puts in
     let cause = rw said.quiet at c.put_profile-said.ensures.cause in
@@ -39,7 +34,7 @@ returns-in-Ok-run_watched g c =
             ends = c.in-Ok-run_watched.ensures.end;
             left = record { files = refl; cause = c.in-Ok-run_watched.ensures.cause; flushed = c.in-Ok-run_watched.ensures.flushed };
           })
-          c.in-Ok.ensures (c.report_behind.ensures _ (profile_text (profile_of rows watched.cycles) end last.counts) put cause));
+          c.in-Ok.ensures (c.report_behind.ensures _ (profile_text (profile_of_cycles rows watched.cycles) end last.counts) put cause));
     }
 
 pub returns : goal.returns

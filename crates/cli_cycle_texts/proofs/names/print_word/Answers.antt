@@ -1,6 +1,6 @@
 use Rattle.std.proofs.Common.{codes, refl, arith}
 use Rattle.mal_parser.specs.ProgramText.{parts_text}
-use Rattle.cli_cycle_texts.specs.Naming.{IsWord, Placed, Unused, default_text, label_text}
+use Rattle.cli_cycle_texts.specs.Naming.{Placed, Unused, default_text, label_text}
 use Rattle.cli_cycle_texts.proofs.Placed.{placed_count}
 use Rattle.cli_cycle_texts.proofs.names.print_word.Goals as goal
 

@@ -1,6 +1,3 @@
-use Rattle.std.proofs.Common.{IfErr, option_map, ℕ, List, Bor}
-use Rattle.cli_outside.specs.Outside.{Over}
-use Rattle.cli_debug.specs.Input.{IsNoInput}
 use Rattle.cli_debug.proofs.commands.chosen_input.Goals as goal
 
 pub returns-in-Some-clause-err : goal.returns-in-Some-clause-err

@@ -1,4 +1,3 @@
-use Rattle.std.proofs.Common.{refl}
 use Rattle.cli_debug.proofs.debug.begun.Goals as goal
 
 pub returns : goal.returns

@@ -1,7 +1,7 @@
 use Rattle.std.proofs.Common.{Ok, subst, sym, ◌∙◌, rules}
 use Rattle.mic_base.specs.declared.source.SourceFailed.{SourceFailed}
 use Rattle.cli_debug.specs.declared.line.Read.{Read}
-use Rattle.cli_debug.specs.Told.{Reads}
+use Rattle.cli_debug.specs.Told.{ReadsLine}
 use Rattle.cli_debug.proofs.LineLemmas.{read_at_end, read_ended, read_full, reading_more}
 use Rattle.cli_debug.proofs.line.read_line.Goals as goal
 
@@ -21,7 +21,7 @@ bytes-preserved g c =
 
 pub returns-in-Ok-None-clause-reads : goal.returns-in-Ok-None-clause-reads
 returns-in-Ok-None-clause-reads g c =
-    subst (λ (r : Read). Reads {E = SourceFailed} (g.S.Source.left c.args.console.now) c.bytes.line.items (Ok r) (g.S.Source.left c.get.new.self)) (sym (search rules))
+    subst (λ (r : Read). ReadsLine {E = SourceFailed} (g.S.Source.left c.args.console.now) c.bytes.line.items (Ok r) (g.S.Source.left c.get.new.self)) (sym (search rules))
     (read_at_end SourceFailed (g.S.Source.left c.args.console.now) (g.S.Source.left c.bytes.console) (g.S.Source.left c.get.new.self) c.bytes.line.items (rw c.in-Ok-None.field-0-is at c.in-Ok-None.ensures.takes).0 (rw c.in-Ok-None.field-0-is at c.in-Ok-None.ensures.takes).1
     c.bytes.invariant.reading)
 

@@ -1,4 +1,4 @@
-use Rattle.std.proofs.Common.{◌≡◌, ◌≢◌, ◌<◌, ◌-◌, ◌∙◌, ℕ, suc, arith, refl, rules}
+use Rattle.std.proofs.Common.{◌≡◌, ◌≢◌, ◌<◌, ◌-◌, ◌∙◌, suc, arith, refl, rules}
 use Rattle.cli_debug.specs.declared.lines.Step.TheVariants as steps
 use Rattle.cli_debug.specs.Stand.{most_lines}
 use Rattle.cli_debug.proofs.Going.{goes_more, goes_over, goes_start}

@@ -1,4 +1,4 @@
-use Rattle.std.proofs.Common.{Some, codes, ap, ◌∙◌}
+use Rattle.std.proofs.Common.{codes, ap, ◌∙◌}
 use Rattle.std.specs.Prelude.{Option, unwrap_or, option_map}
 use Rattle.ijvm_instr.specs.declared.instr.Instr.{Instr}
 use Rattle.ijvm_instr.specs.Instructions.{name_of}

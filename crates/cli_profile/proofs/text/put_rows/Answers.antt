@@ -1,4 +1,4 @@
-use Rattle.std.proofs.Common.{◌≡◌, ◌++◌, ◌∙◌, ℕ, List, [], refl, subst, append_assoc, rules, arith}
+use Rattle.std.proofs.Common.{◌++◌, ◌∙◌, [], refl, append_assoc, arith}
 use Rattle.std.proofs.lemmas.List.{append-nil}
 use Rattle.cli_profile.specs.Profile.{no_tally}
 use Rattle.cli_profile.proofs.Printed.{rows_end, rows_step}

@@ -1,12 +1,12 @@
 use Rattle.std.proofs.Common.{rules, ◌∙◌, ap}
 use Rattle.cli_outside.specs.Work.{IsRefusal, refusal_by}
-use Rattle.cli_programs.specs.Program.{IsRefused}
+use Rattle.cli_programs.specs.Program.{IsRefusedProgram}
 use Rattle.cli_programs.proofs.Reasons.{not_accepted}
 use Rattle.cli_programs.proofs.program.accepted_program.Goals as goal
 
 pub returns-in_err-image-clause-err : goal.returns-in_err-image-clause-err
 returns-in_err-image-clause-err c =
-    let at_map : IsRefusal (IsRefused c.args.map) c.args.bytes.now c.in_err-image.field-0.0 = c.in_err-image.ensures.err c.args.map in search (rules, at_map)
+    let at_map : IsRefusal (IsRefusedProgram c.args.map) c.args.bytes.now c.in_err-image.field-0.0 = c.in_err-image.ensures.err c.args.map in search (rules, at_map)
 
 pub returns-in-Err-clause-err : goal.returns-in-Err-clause-err
 returns-in-Err-clause-err c =

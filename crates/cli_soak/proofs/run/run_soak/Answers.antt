@@ -2,7 +2,7 @@ use Rattle.std.proofs.Common.{◌≡◌, ◌∙◌, ℕ, List, Some, length, sym
 use Rattle.mic_clock.specs.declared.end.End.{End}
 use Rattle.mic_clock.specs.declared.counts.Counts.{Counts}
 use Rattle.mic_clock.specs.declared.registers.Registers.{Registers}
-use Rattle.cli_soak.specs.Summary.{summary}
+use Rattle.cli_soak.specs.Summary.{soak_summary}
 use Rattle.cli_soak.specs.SoakEnds.{NoRoom}
 use Rattle.cli_soak.proofs.Ending.{ends_by}
 use Rattle.cli_soak.proofs.run.run_soak.Goals as goal
@@ -13,11 +13,11 @@ returns-in-Ok g c = λ seed size is.
     let ended : c.in-Ok.board.end ≡ Some end = sym c.ended.ensures ∙ c.unwrap-end.ensures in
     let long : length c.text-size_of_text.result.now ≡ length c.args.program.now.image.text =
     ap (λ (xs : List ℕ). length xs) (c.text-size_of_text.ensures.is ∙ ap (λ image. image.text) c.image.ensures.is) in
-    let printed : c.bytes.result.now ≡ summary (length c.args.program.now.image.text) end c.in-Ok.board.counts (g.I.Machine.Clocked.meaning.registers (g.I.Machine.Clocked.state c.in-Ok.board.machine)).tos =
+    let printed : c.bytes.result.now ≡ soak_summary (length c.args.program.now.image.text) end c.in-Ok.board.counts (g.I.Machine.Clocked.meaning.registers (g.I.Machine.Clocked.state c.in-Ok.board.machine)).tos =
     c.bytes.ensures.value ∙ c.summary-line.ensures
-    ∙ (ap (λ (x : ℕ). summary x end c.counts.result c.registers.result.tos) long
-    ∙ (ap (λ (k : Counts). summary (length c.args.program.now.image.text) end k c.registers.result.tos) c.counts.ensures
-    ∙ ap (λ (r : Registers). summary (length c.args.program.now.image.text) end c.in-Ok.board.counts r.tos) c.registers.ensures)) in
+    ∙ (ap (λ (x : ℕ). soak_summary x end c.counts.result c.registers.result.tos) long
+    ∙ (ap (λ (k : Counts). soak_summary (length c.args.program.now.image.text) end k c.registers.result.tos) c.counts.ensures
+    ∙ ap (λ (r : Registers). soak_summary (length c.args.program.now.image.text) end c.in-Ok.board.counts r.tos) c.registers.ensures)) in
     ends_by g.I.Machine.Clocked.state g.I.Machine.Clocked.meaning g.I.Machine.Clocked.IsReady g.I.Interpreter.IsShipped g.I.Interpreter.entry
     seed size c.args.program.now _ _ c.in-Ok.board end _ _ c.print.result.0 is
     (ap (λ (xs : List ℕ). Some xs) (c.new-source.ensures ∙ c.new.ensures.items))

@@ -1,6 +1,6 @@
 use Rattle.std.proofs.Common.{◌∙◌, ◌≡◌, ◌++◌, ℕ, List, [], ◌∷◌, ap, sym, subst, length, arith}
 use Rattle.ijvm_image.specs.Image.{ImageView}
-use Rattle.cli_texts.specs.Listing.{AreLines}
+use Rattle.cli_texts.specs.Listing.{AreListingLines}
 use Rattle.std.proofs.lemmas.List.{append-nil}
 use Rattle.cli_texts.proofs.Lines.{concat_step, more_lines, no_lines}
 use Rattle.cli_texts.proofs.listing.push_text.Goals as goal
@@ -21,4 +21,4 @@ pub returns : goal.returns
 returns c =
     let is : c.text.result.now ≡ c.args.program.now.image.text = c.text.ensures.is ∙ ap (λ (i : ImageView). i.text) c.image.ensures.is in
     let same : c.loop-at.at ≡ length c.args.program.now.image.text = omega (arith, ap length is) in
-    (c.loop-at.invariant.0, subst (λ (n : ℕ). AreLines c.args.program.now.image n c.loop-at.invariant.0) same c.loop-at.invariant.1, c.loop-at.invariant.2)
+    (c.loop-at.invariant.0, subst (λ (n : ℕ). AreListingLines c.args.program.now.image n c.loop-at.invariant.0) same c.loop-at.invariant.1, c.loop-at.invariant.2)

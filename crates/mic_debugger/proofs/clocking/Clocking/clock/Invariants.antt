@@ -2,8 +2,9 @@ use Rattle.std.proofs.Common.{◌≡◌, ◌≢◌, List, ℕ, ◌+◌, ◌-◌,
 use Rattle.mic_clock.specs.declared.end.End.TheVariants as ends
 use Rattle.mic_base.specs.Streams.{Holds}
 use Rattle.mic_clock.specs.Board.{IsLedTo, NoFault}
+use Rattle.cli_outside.specs.Outside.{Got}
 use Rattle.mic_debugger.specs.Book.{Book, IsBookOf}
-use Rattle.mic_debugger.specs.Session.{HasReadCause, Prints, IsUnderway, IsStopped}
+use Rattle.mic_debugger.specs.Session.{HasReadCause, IsUnderway, IsStopped}
 use Rattle.mic_debugger.specs.InTime.{InTime}
 use Rattle.mic_debugger.proofs.clocking.Clocking.clock.Given as goal
 
@@ -19,10 +20,10 @@ invariant-turns g l =
     let words = l.fn.board.store.words in
     record {
       run : NoFault None l.board.end → (book : Book) → IsBookOf l.self.listing.now book →
-          (text : List ℕ) × Prints (g.E.Sink.held l.fn.err) text (g.E.Sink.held l.err) ×
+          (text : List ℕ) × Got (g.E.Sink.held l.fn.err) text (g.E.Sink.held l.err) ×
           IsLedTo state left0 held0 l.fn.board left l.board (λ r rest. (n : ℕ) × IsUnderway state m book words l.self.breaks.now l.self.bound l.self.until l.times left held l.board rest text l.left n r);
       read : l.board.end ≡ Some ends.ReadFault → (book : Book) → IsBookOf l.self.listing.now book →
-          (text : List ℕ) × Prints (g.E.Sink.held l.fn.err) text (g.E.Sink.held l.err) ×
+          (text : List ℕ) × Got (g.E.Sink.held l.fn.err) text (g.E.Sink.held l.err) ×
           IsLedTo state left0 held0 l.fn.board left l.board (λ r rest. (n : ℕ) × (k : ℕ) × IsStopped state m book words l.self.breaks.now l.self.bound l.self.until l.times left held l.board rest text n k r);
       fault : l.board.end ≢ Some ends.WriteFault;
       input : HasReadCause (g.S.Source.faults l.fn.input) (g.S.Source.faults l.input) l.board.end;

@@ -1,6 +1,6 @@
 use Rattle.std.proofs.Common.{codes, ◌∙◌, append_assoc}
 use Rattle.mic_base.specs.Digits.{hex_text}
-use Rattle.cli_run_texts.proofs.ends.name_of.Goals as goal
+use Rattle.cli_run_texts.proofs.ends.end_name.Goals as goal
 
 pub returns-in-OutOfMap-clause-text : goal.returns-in-OutOfMap-clause-text
 returns-in-OutOfMap-clause-text c =
