@@ -1,28 +1,35 @@
 //! What Mic-2 keeps between cycles.
 
-ghost use Rattle.std.specs.Prelude.{◌≡◌, ◌≢◌, ◌≤◌, ◌<◌, ◌*◌, ◌+◌, ℕ, None, OnOk, OnErr, IfErr, IsTrue, length, nat_lt, slice_index, zero};
+ghost use Rattle.std.specs.Prelude.{◌≡◌, ◌≢◌, ◌≤◌, ◌<◌, ◌*◌, ◌+◌, ℕ, None, OnOk, OnErr, IfErr, IsTrue, false, length, nat_lt, slice_index, true, zero};
 ghost use Rattle.machine_words.specs.Arithmetic.{signed_byte, signed_pair};
 ghost use Rattle.micro_word.specs.declared.statement.PlacedNext.{PlacedNext};
-ghost use Rattle.micro_word.specs.Coding.{addr_bits, jam_bits, statement_of};
+ghost use Rattle.micro_word.specs.Coding.{addr_bits, jam_bits, mem_of, statement_of};
 ghost use Rattle.micro_word.specs.Words.{is_next};
-ghost use Rattle.micro_word.specs.Lines.{AreSlots};
+ghost use Rattle.micro_word.specs.Layout.{fields_of};
+ghost use Rattle.micro_word.specs.Lines.{AreSlots, names};
 ghost use Rattle.micro_word.specs.Operation.{shifted};
 ghost use Rattle.machine_words.specs.declared.machine.Machine.TheVariants.{Mic2};
-ghost use Rattle.console_port.specs.Bus.{refused_by};
+ghost use Rattle.console_port.specs.Bus.{ChangesOnly, refused_by};
+ghost use Rattle.console_port.specs.World.{World};
+ghost use Rattle.datapath.specs.Access.{IsTransfer};
+ghost use Rattle.datapath.specs.Memory.{memory_refusal};
 ghost use Rattle.datapath.specs.Next.{target};
 ghost use Rattle.datapath.specs.Places.{registers_at};
 ghost use Rattle.datapath.specs.Registers.{loaded, ports_given};
 ghost use Rattle.mic2_fetch_unit.specs.FetchUnit.{edge_refusal, sample_refusal};
 ghost use Rattle.mic2_datapath.specs.Mic2.{initial as initial_of};
 ghost use Rattle.mic2_datapath.specs.Microstep.{advanced, byte_at, demand, dispatch_bytes, fetched, is_to_instruction, jumps, moved, operand_bytes, result_of, settled, stalled, unit_after, unit_refusal, unit_samples};
-ghost use Rattle.mic2_datapath.specs.Latches.{AreLatches, HasFront, micro_in};
+ghost use Rattle.mic2_datapath.specs.Latches.{AreLatches, HasFront, access_by, micro_in};
 
-use crate::control::{Control, JMPC};
+use crate::access::is_there;
+use crate::control::{Control, JMPC, is_write};
 use console_port::{Bus, BusFault};
-use datapath::{Places, Ports, arrived, next_address, port, settle, sign_extended};
+use datapath::{
+    Places, Ports, arrived, next_address, port, read_alone, settle, sign_extended, write_alone,
+};
 use mic_clock::Start;
 use mic2_fetch_unit::FetchUnit;
-use micro_word::{Machine, bits, is_named, statement_law, word_law};
+use micro_word::{Machine, Mem, bits, is_named, statement_law, word_law};
 
 /// The places of the registers that the memory's ports are given, and of the front of the queue in its four forms.
 const MAR: u8 = 0;
@@ -218,6 +225,62 @@ impl Latches {
         } else {
             self.unit.will_fetch(taken)
         }
+    }
+
+    /// Whether a read, or a write with what the unit samples behind it, is in memory.
+    #[inline(always)]
+    pub fn is_inside(
+        &self,
+        word: u64,
+        reads: bool,
+        mar: u32,
+        c: u32,
+        taken: u8,
+        bus: &Bus,
+    ) -> bool
+        requires there { taken ≤ length self.now.unit.bytes }
+        requires reads { reads ≡ true → mem_of (fields_of Mic2 word).mem ≡ Mem.Read }
+        ensures memory { result ≡ true → mar < length bus.now.words }
+        ensures accesses { result ≡ true → mem_of (fields_of Mic2 word).mem ≡ access_by reads }
+        ensures samples { result ≡ true → reads ≡ false →
+            sample_refusal (length bus.now.words) (unit_samples (names (fields_of Mic2 word).c 2) c taken self.now.unit) ≡ None }
+    {
+        if !bus.has(mar) {
+            return false;
+        }
+        if reads {
+            return true;
+        }
+        let jumps = is_named(bits::destinations(Machine::Mic2, word), PC);
+        let at = self.will_fetch(jumps, c, taken);
+        is_write(word) && is_there(at, bus)
+    }
+
+    /// The read or the write of a word in memory, and what a read samples.
+    #[inline(always)]
+    pub fn transfer_inside(
+        &self,
+        reads: bool,
+        destinations: u16,
+        c: u32,
+        mar: u32,
+        bus: &mut Bus,
+    ) -> Option<u32>
+        requires { mar < length bus.old.words }
+        ensures clear { memory_refusal (length bus.old.words) (access_by reads) mar ≡ None }
+        ensures transfer { (p : Ports) → p.mar ≡ mar → p.mdr ≡ (loaded destinations c self.now.word (registers_at self.now.places)).mdr →
+            (w : World) → w.words ≡ bus.old.words → IsTransfer (length bus.old.words) (access_by reads) p w result (record w { words = bus.new.words }) }
+        ensures others { ChangesOnly mar bus.old.words bus.new.words }
+        ensures size { length bus.new.words ≡ length bus.old.words }
+        ensures console { bus.new.console ≡ bus.old.console }
+        ensures read { reads ≡ true → bus.new ≡ bus.old }
+    {
+        if reads {
+            return read_alone(mar, bus).word;
+        }
+        let mdr = self.mdr_port(destinations, c);
+        write_alone(mar, mdr, bus);
+        None
     }
 
     /// A cycle in which the machine waits for bytes. An Err leaves all.
