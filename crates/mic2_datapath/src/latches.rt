@@ -1,6 +1,6 @@
 //! What Mic-2 keeps between cycles.
 
-ghost use Rattle.std.specs.Prelude.{◌≡◌, ◌≢◌, ◌≤◌, ◌<◌, ◌*◌, ◌+◌, ℕ, None, OnOk, OnErr, IfErr, IsTrue, false, length, nat_lt, slice_index, true, zero};
+ghost use Rattle.std.specs.Prelude.{◌≡◌, ◌≢◌, ◌≤◌, ◌<◌, ◌*◌, ◌+◌, ℕ, None, OnOk, OnErr, IfErr, IfNone, IfSome, IsTrue, false, is_some, length, nat_lt, slice_index, true, zero};
 ghost use Rattle.machine_words.specs.Arithmetic.{signed_byte, signed_pair};
 ghost use Rattle.micro_word.specs.declared.statement.PlacedNext.{PlacedNext};
 ghost use Rattle.micro_word.specs.Coding.{addr_bits, jam_bits, mem_of, statement_of};
@@ -22,7 +22,7 @@ ghost use Rattle.mic2_datapath.specs.Microstep.{advanced, byte_at, demand, dispa
 ghost use Rattle.mic2_datapath.specs.Latches.{AreLatches, HasFront, access_by, micro_in};
 
 use crate::access::is_there;
-use crate::control::{Control, JMPC, is_write};
+use crate::control::{Control, JMPC, is_read, is_write};
 use console_port::{Bus, BusFault};
 use datapath::{
     Places, Ports, arrived, next_address, port, read_alone, settle, sign_extended, write_alone,
@@ -227,60 +227,60 @@ impl Latches {
         }
     }
 
-    /// Whether a read, or a write with what the unit samples behind it, is in memory.
+    /// Whether what the unit samples is in memory, if it samples something.
     #[inline(always)]
-    pub fn is_inside(
-        &self,
-        word: u64,
-        reads: bool,
-        mar: u32,
-        c: u32,
-        taken: u8,
-        bus: &Bus,
-    ) -> bool
-        requires there { taken ≤ length self.now.unit.bytes }
-        requires reads { reads ≡ true → mem_of (fields_of Mic2 word).mem ≡ Mem.Read }
-        ensures memory { result ≡ true → mar < length bus.now.words }
-        ensures accesses { result ≡ true → mem_of (fields_of Mic2 word).mem ≡ access_by reads }
-        ensures samples { result ≡ true → reads ≡ false →
-            sample_refusal (length bus.now.words) (unit_samples (names (fields_of Mic2 word).c 2) c taken self.now.unit) ≡ None }
+    fn samples_memory(&self, jumps: bool, pc: u32, taken: u8, bus: &Bus) -> bool
+        requires { taken ≤ length self.now.unit.bytes }
+        ensures { result ≡ true → sample_refusal (length bus.now.words) (unit_samples jumps pc taken self.now.unit) ≡ None }
     {
-        if !bus.has(mar) {
-            return false;
+        if jumps {
+            return is_there(Some(pc / 4), bus);
         }
-        if reads {
-            return true;
-        }
-        let jumps = is_named(bits::destinations(Machine::Mic2, word), PC);
-        let at = self.will_fetch(jumps, c, taken);
-        is_write(word) && is_there(at, bus)
+        // Most edges sample nothing.
+        self.unit.is_full(taken) || is_there(self.unit.will_fetch(taken), bus)
     }
 
-    /// The read or the write of a word in memory, and what a read samples.
+    /// The read or the write of a word where it reaches memory alone, and what a read samples. Where it does not, nothing is done.
     #[inline(always)]
-    pub fn transfer_inside(
+    pub fn access_inside(
         &self,
-        reads: bool,
-        destinations: u16,
+        word: u64,
         c: u32,
-        mar: u32,
+        taken: u8,
         bus: &mut Bus,
-    ) -> Option<u32>
-        requires { mar < length bus.old.words }
-        ensures clear { memory_refusal (length bus.old.words) (access_by reads) mar ≡ None }
-        ensures transfer { (p : Ports) → p.mar ≡ mar → p.mdr ≡ (loaded destinations c self.now.word (registers_at self.now.places)).mdr →
-            (w : World) → w.words ≡ bus.old.words → IsTransfer (length bus.old.words) (access_by reads) p w result (record w { words = bus.new.words }) }
-        ensures others { ChangesOnly mar bus.old.words bus.new.words }
+    ) -> Option<Option<u32>>
+        requires { taken ≤ length self.now.unit.bytes }
+        ensures accesses { IfSome result (λ read. mem_of (fields_of Mic2 word).mem ≡ access_by (is_some read)) }
+        ensures clear { IfSome result (λ read.
+            memory_refusal (length bus.old.words) (access_by (is_some read)) (loaded (fields_of Mic2 word).c c self.now.word (registers_at self.now.places)).mar ≡ None) }
+        ensures transfer { IfSome result (λ read. (p : Ports) → p.mar ≡ (loaded (fields_of Mic2 word).c c self.now.word (registers_at self.now.places)).mar →
+            p.mdr ≡ (loaded (fields_of Mic2 word).c c self.now.word (registers_at self.now.places)).mdr → (w : World) → w.words ≡ bus.old.words →
+            IsTransfer (length bus.old.words) (access_by (is_some read)) p w read (record w { words = bus.new.words })) }
+        ensures samples { IfSome result (λ read. is_some read ≡ false →
+            sample_refusal (length bus.old.words) (unit_samples (names (fields_of Mic2 word).c 2) c taken self.now.unit) ≡ None) }
+        ensures read { IfSome result (λ read. is_some read ≡ true → bus.new ≡ bus.old) }
+        ensures none { IfNone result (bus.new ≡ bus.old) }
+        ensures others { ChangesOnly (loaded (fields_of Mic2 word).c c self.now.word (registers_at self.now.places)).mar bus.old.words bus.new.words }
         ensures size { length bus.new.words ≡ length bus.old.words }
         ensures console { bus.new.console ≡ bus.old.console }
-        ensures read { reads ≡ true → bus.new ≡ bus.old }
     {
-        if reads {
-            return read_alone(mar, bus).word;
+        let destinations = bits::destinations(Machine::Mic2, word);
+        let mar = self.mar_port(destinations, c);
+        if !bus.has(mar) {
+            return None;
+        }
+        if is_read(word) {
+            let sampled = read_alone(mar, bus);
+            return Some(sampled.word);
+        }
+        let jumps = is_named(destinations, PC);
+        let inside = is_write(word) && self.samples_memory(jumps, c, taken, bus);
+        if !inside {
+            return None;
         }
         let mdr = self.mdr_port(destinations, c);
         write_alone(mar, mdr, bus);
-        None
+        Some(None)
     }
 
     /// A cycle in which the machine waits for bytes. An Err leaves all.

@@ -8,7 +8,7 @@ ghost use Rattle.datapath.specs.Stage.{phase_of};
 ghost use Rattle.mic2_datapath.specs.Latches.{AreLatches, HasDriven, HasComputed, micro_in};
 
 use crate::access::access;
-use crate::control::{Control, is_quiet, is_read};
+use crate::control::{Control, is_quiet};
 use crate::latches::{Latches, PC};
 use console_port::{Bus, BusFault};
 use datapath::{Stage, console_law, operate, shift_by, side_law};
@@ -230,23 +230,16 @@ impl Clocked for Mic2 {
             };
         }
         let takes = self.control.lines.takes;
-        let destinations = bits::destinations(Machine::Mic2, word);
-        let reads = is_read(word);
-        let mar = self.latches.mar_port(destinations, c);
-        let inside = self.latches.is_inside(word, reads, mar, c, takes, bus);
-        if inside {
-            let sampled = self
-                .latches
-                .transfer_inside(reads, destinations, c, mar, bus);
-            return match self
+        match self.latches.access_inside(word, c, takes, bus) {
+            Some(sampled) => match self
                 .latches
                 .advance(&self.control, value, c, sampled, bus)
             {
                 Ok(()) => Ok(()),
                 Err(fault) => Err(fault),
-            };
+            },
+            None => self.edge_elsewhere(bus, source, sink),
         }
-        self.edge_elsewhere(bus, source, sink)
     }
 
     #[inline(always)]

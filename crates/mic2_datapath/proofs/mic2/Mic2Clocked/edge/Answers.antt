@@ -1,18 +1,19 @@
 use Rattle.std.proofs.Common.{◌≡◌, length, List, ℕ, true, None, Option, refl, sym, ◌∙◌, ap, subst, arith}
+use Rattle.std.specs.Prelude.{is_some}
 use Rattle.console_port.specs.Bus.{refused_by, ChangesOnly, Stands}
 use Rattle.console_port.specs.Console.{IsFault}
 use Rattle.console_port.specs.View.{BusView}
 use Rattle.console_port.specs.declared.fault.BusFault.TheVariants as faults
-use Rattle.mic2_datapath.proofs.Demands.{are_there}
 use Rattle.micro_word.specs.Coding.{statement_of}
 use Rattle.micro_word.specs.Operation.{shifted}
 use Rattle.micro_word.specs.declared.statement.Mem.TheVariants as mems
+use Rattle.mic_clock.specs.Edge.{AnswersRefusal}
 use Rattle.machine_words.specs.declared.machine.Machine.TheVariants as machines
 use Rattle.datapath.specs.Memory.{memory_refusal}
 use Rattle.mic2_fetch_unit.specs.FetchUnit.{edge_refusal, sample_refusal}
 use Rattle.mic2_datapath.specs.Micro.{Micro}
 use Rattle.mic2_datapath.specs.Microstep.{is_stalled, jumps}
-use Rattle.mic2_datapath.specs.Mic2.{step_of_word}
+use Rattle.mic2_datapath.specs.Mic2.{mic2_meaning, step_of_word}
 use Rattle.mic2_datapath.specs.Latches.{access_by, micro_in}
 use Rattle.mic2_datapath.proofs.Inside.{led_inside}
 use Rattle.mic2_datapath.proofs.Steps.{IsAsked, asked_for, is_done, is_for, it_reads, mar_there, mdr_there, moved_on, refusal_left, refusal_on, refused_no_fault, sampled_there, stall_done, stall_refusal, step_refusal}
@@ -160,44 +161,31 @@ returns-in-Err-advance-clause-cause g c =
 
 -- a cycle that reads or writes what is in memory
 
-pub is_inside-inside-requires-clause-there : goal.is_inside-inside-requires-clause-there
-is_inside-inside-requires-clause-there g c =
-    let old = c.args.self.now in
-    are_there _ _ _ (sym (old.computed c.requires).waits ∙ c.if-self.false) old.control.demands
-
-pub edge_elsewhere-requires-clause-computed : goal.edge_elsewhere-requires-clause-computed
-edge_elsewhere-requires-clause-computed g c = c.args.self.now.computed c.requires
-
 pub returns-in-Ok-advance-2-clause-ok : goal.returns-in-Ok-advance-2-clause-ok
 unfolding step_of_word statement_of
 returns-in-Ok-advance-2-clause-ok g c =
     let old = c.args.self.now in
     let s = statement_of machines.Mic2 old.control.word in
     let m = micro_in old.latches in
-    let kind = access_by c.is_read-reads.result in
-    let is : IsAsked s m (asked_for s m kind) =
-    is_for s m kind (sym (old.computed c.requires).waits ∙ c.if-self.false) (sym (c.is_inside-inside.ensures.accesses c.if-inside.true)) in
-    let here = sym (c.mar_port-mar.ensures ∙ mar_there old.control.word m old.stalled old.value old.c c.destinations-destinations.result (old.computed c.requires) c.if-self.false c.destinations-destinations.ensures.value) in
-    let clear = subst (λ (at : ℕ). memory_refusal (length c.args.bus.now.words) kind at ≡ None) (sym here) c.transfer_inside-sampled.ensures.clear in
-    let left = refusal_left (length c.args.bus.now.words) (asked_for s m kind) clear
-        ∙ ap (λ (n : ℕ). sample_refusal n (asked_for s m kind).at) (sym c.transfer_inside-sampled.ensures.size) ∙ c.in-Ok-advance-2.ensures.allowed in
-    let mdr = sym (mdr_there old.control.word m old.stalled old.value old.c c.destinations-destinations.result (old.computed c.requires) c.if-self.false c.destinations-destinations.ensures.value) in
-    let moves = c.in-Ok-advance-2.ensures.ok ∙ ap (λ (x : ℕ). moved_on s m x c.transfer_inside-sampled.new.bus.words c.transfer_inside-sampled.result) ((old.computed c.requires).alu c.if-self.false) in
-    led_inside (g.S.Source.left c.args.source.now) (g.K.Sink.held c.args.sink.now) c.args.bus.now c.transfer_inside-sampled.new.bus c.transfer_inside-sampled.ensures.console _
+    let asked = asked_for s m (access_by (is_some c.in-Some.sampled)) in
+    let is : IsAsked s m asked = is_for s m asked.mem (sym (old.computed c.requires).waits ∙ c.if-self.false) (sym c.in-Some.ensures.accesses) in
+    let here = sym (mar_there old.control.word m old.stalled old.value old.c _ (old.computed c.requires) c.if-self.false refl) in
+    let clear = subst (λ (at : ℕ). memory_refusal (length c.args.bus.now.words) asked.mem at ≡ None) (sym here) c.in-Some.ensures.clear in
+    let left = refusal_left (length c.args.bus.now.words) asked clear ∙ ap (λ (n : ℕ). sample_refusal n asked.at) (sym c.access_inside.ensures.size) in
+    let mdr = sym (mdr_there old.control.word m old.stalled old.value old.c _ (old.computed c.requires) c.if-self.false refl) in
+    led_inside (g.S.Source.left c.args.source.now) (g.K.Sink.held c.args.sink.now) c.args.bus.now c.access_inside.new.bus c.access_inside.ensures.console _
     (λ w shows.
-    is_done s m (asked_for s m kind) is w (record w { words = c.transfer_inside-sampled.new.bus.words }) _ (ap (λ (ws : List ℕ). length ws) shows.words) _ _ left
-    (c.transfer_inside-sampled.ensures.transfer (asked_for s m kind).ports here mdr w shows.words) refl _ moves)
+    is_done s m asked is w (record w { words = c.access_inside.new.bus.words }) _ (ap (λ (ws : List ℕ). length ws) shows.words) c.in-Some.sampled c.access_inside.new.bus.words
+        (left ∙ c.in-Ok-advance-2.ensures.allowed) (c.in-Some.ensures.transfer asked.ports here mdr w shows.words) refl _
+        (c.in-Ok-advance-2.ensures.ok ∙ ap (λ (x : ℕ). moved_on s m x c.access_inside.new.bus.words c.in-Some.sampled) ((old.computed c.requires).alu c.if-self.false)))
 
 pub returns-in-Ok-advance-2-clause-others : goal.returns-in-Ok-advance-2-clause-others
 unfolding statement_of
 returns-in-Ok-advance-2-clause-others g c =
     let old = c.args.self.now in
-    let s = statement_of machines.Mic2 old.control.word in
     let m = micro_in old.latches in
-    let here = sym (c.mar_port-mar.ensures ∙ mar_there old.control.word m old.stalled old.value old.c c.destinations-destinations.result (old.computed c.requires) c.if-self.false c.destinations-destinations.ensures.value) in
-    let moves = c.in-Ok-advance-2.ensures.ok ∙ ap (λ (x : ℕ). moved_on s m x c.transfer_inside-sampled.new.bus.words c.transfer_inside-sampled.result) ((old.computed c.requires).alu c.if-self.false) in
-    let mar = sym here ∙ sym (ap (λ (n : Micro). n.mar) moves) in
-    subst (λ (at : ℕ). ChangesOnly at c.args.bus.now.words c.transfer_inside-sampled.new.bus.words) mar c.transfer_inside-sampled.ensures.others
+    let mar = mar_there old.control.word m old.stalled old.value old.c _ (old.computed c.requires) c.if-self.false refl ∙ sym (ap (λ (n : Micro). n.mar) c.in-Ok-advance-2.ensures.ok) in
+    subst (λ (at : ℕ). ChangesOnly at c.args.bus.now.words c.access_inside.new.bus.words) mar c.access_inside.ensures.others
 
 pub returns-in-Ok-advance-2-clause-refusal : goal.returns-in-Ok-advance-2-clause-refusal
 unfolding step_of_word statement_of
@@ -205,16 +193,14 @@ returns-in-Ok-advance-2-clause-refusal g c =
     let old = c.args.self.now in
     let s = statement_of machines.Mic2 old.control.word in
     let m = micro_in old.latches in
-    let kind = access_by c.is_read-reads.result in
-    let is : IsAsked s m (asked_for s m kind) =
-    is_for s m kind (sym (old.computed c.requires).waits ∙ c.if-self.false) (sym (c.is_inside-inside.ensures.accesses c.if-inside.true)) in
-    let here = sym (c.mar_port-mar.ensures ∙ mar_there old.control.word m old.stalled old.value old.c c.destinations-destinations.result (old.computed c.requires) c.if-self.false c.destinations-destinations.ensures.value) in
-    let clear = subst (λ (at : ℕ). memory_refusal (length c.args.bus.now.words) kind at ≡ None) (sym here) c.transfer_inside-sampled.ensures.clear in
-    let left = refusal_left (length c.args.bus.now.words) (asked_for s m kind) clear
-        ∙ ap (λ (n : ℕ). sample_refusal n (asked_for s m kind).at) (sym c.transfer_inside-sampled.ensures.size) ∙ c.in-Ok-advance-2.ensures.allowed in
+    let asked = asked_for s m (access_by (is_some c.in-Some.sampled)) in
+    let is : IsAsked s m asked = is_for s m asked.mem (sym (old.computed c.requires).waits ∙ c.if-self.false) (sym c.in-Some.ensures.accesses) in
+    let here = sym (mar_there old.control.word m old.stalled old.value old.c _ (old.computed c.requires) c.if-self.false refl) in
+    let clear = subst (λ (at : ℕ). memory_refusal (length c.args.bus.now.words) asked.mem at ≡ None) (sym here) c.in-Some.ensures.clear in
+    let left = refusal_left (length c.args.bus.now.words) asked clear ∙ ap (λ (n : ℕ). sample_refusal n asked.at) (sym c.access_inside.ensures.size) in
     λ w e shows refused.
-    let why = step_refusal s m (asked_for s m kind) is _ w (ap (λ (ws : List ℕ). length ws) shows.words) in
-    let none = sym refused ∙ why ∙ ap refused_by left in
+    let why = step_refusal s m asked is _ w (ap (λ (ws : List ℕ). length ws) shows.words) in
+    let none = sym refused ∙ why ∙ ap refused_by (left ∙ c.in-Ok-advance-2.ensures.allowed) in
     absurd (cc)
 
 pub returns-in-Err-advance-2-clause-refusal : goal.returns-in-Err-advance-2-clause-refusal
@@ -223,17 +209,14 @@ returns-in-Err-advance-2-clause-refusal g c =
     let old = c.args.self.now in
     let s = statement_of machines.Mic2 old.control.word in
     let m = micro_in old.latches in
-    let kind = access_by c.is_read-reads.result in
-    let is : IsAsked s m (asked_for s m kind) =
-    is_for s m kind (sym (old.computed c.requires).waits ∙ c.if-self.false) (sym (c.is_inside-inside.ensures.accesses c.if-inside.true)) in
-    let here = sym (c.mar_port-mar.ensures ∙ mar_there old.control.word m old.stalled old.value old.c c.destinations-destinations.result (old.computed c.requires) c.if-self.false c.destinations-destinations.ensures.value) in
-    let clear = subst (λ (at : ℕ). memory_refusal (length c.args.bus.now.words) kind at ≡ None) (sym here) c.transfer_inside-sampled.ensures.clear in
-    let fails = ap refused_by
-        (refusal_left (length c.args.bus.now.words) (asked_for s m kind) clear
-        ∙ ap (λ (n : ℕ). sample_refusal n (asked_for s m kind).at) (sym c.transfer_inside-sampled.ensures.size)) ∙ c.in-Err-advance-2.ensures.err in
+    let asked = asked_for s m (access_by (is_some c.in-Some.sampled)) in
+    let is : IsAsked s m asked = is_for s m asked.mem (sym (old.computed c.requires).waits ∙ c.if-self.false) (sym c.in-Some.ensures.accesses) in
+    let here = sym (mar_there old.control.word m old.stalled old.value old.c _ (old.computed c.requires) c.if-self.false refl) in
+    let clear = subst (λ (at : ℕ). memory_refusal (length c.args.bus.now.words) asked.mem at ≡ None) (sym here) c.in-Some.ensures.clear in
+    let left = refusal_left (length c.args.bus.now.words) asked clear ∙ ap (λ (n : ℕ). sample_refusal n asked.at) (sym c.access_inside.ensures.size) in
     λ w e shows refused.
-    let why = step_refusal s m (asked_for s m kind) is _ w (ap (λ (ws : List ℕ). length ws) shows.words) in
-    let same = sym fails ∙ (sym why ∙ refused) in
+    let why = step_refusal s m asked is _ w (ap (λ (ws : List ℕ). length ws) shows.words) in
+    let same = sym (ap refused_by left ∙ c.in-Err-advance-2.ensures.err) ∙ (sym why ∙ refused) in
     cc
 
 pub returns-in-Err-advance-2-clause-err : goal.returns-in-Err-advance-2-clause-err
@@ -242,22 +225,20 @@ returns-in-Err-advance-2-clause-err g c =
     let old = c.args.self.now in
     let s = statement_of machines.Mic2 old.control.word in
     let m = micro_in old.latches in
-    let kind = access_by c.is_read-reads.result in
-    let is : IsAsked s m (asked_for s m kind) =
-    is_for s m kind (sym (old.computed c.requires).waits ∙ c.if-self.false) (sym (c.is_inside-inside.ensures.accesses c.if-inside.true)) in
-    let here = sym (c.mar_port-mar.ensures ∙ mar_there old.control.word m old.stalled old.value old.c c.destinations-destinations.result (old.computed c.requires) c.if-self.false c.destinations-destinations.ensures.value) in
-    let clear = subst (λ (at : ℕ). memory_refusal (length c.args.bus.now.words) kind at ≡ None) (sym here) c.transfer_inside-sampled.ensures.clear in
-    let fails = ap refused_by
-        (refusal_left (length c.args.bus.now.words) (asked_for s m kind) clear
-        ∙ ap (λ (n : ℕ). sample_refusal n (asked_for s m kind).at) (sym c.transfer_inside-sampled.ensures.size)) ∙ c.in-Err-advance-2.ensures.err in
-    let never = refused_no_fault (refusal_on (length c.args.bus.now.words) (asked_for s m kind)) c.in-Err-advance-2.fault fails in
+    let asked = asked_for s m (access_by (is_some c.in-Some.sampled)) in
+    let is : IsAsked s m asked = is_for s m asked.mem (sym (old.computed c.requires).waits ∙ c.if-self.false) (sym c.in-Some.ensures.accesses) in
+    let here = sym (mar_there old.control.word m old.stalled old.value old.c _ (old.computed c.requires) c.if-self.false refl) in
+    let clear = subst (λ (at : ℕ). memory_refusal (length c.args.bus.now.words) asked.mem at ≡ None) (sym here) c.in-Some.ensures.clear in
+    let left = refusal_left (length c.args.bus.now.words) asked clear ∙ ap (λ (n : ℕ). sample_refusal n asked.at) (sym c.access_inside.ensures.size) in
+    let fails = ap refused_by left ∙ c.in-Err-advance-2.ensures.err in
+    let never = refused_no_fault (refusal_on (length c.args.bus.now.words) asked) c.in-Err-advance-2.fault fails in
     record {
-      refused = λ no_fault w shows. step_refusal s m (asked_for s m kind) is _ w (ap (λ (ws : List ℕ). length ws) shows.words) ∙ fails;
+      refused = λ no_fault w shows. step_refusal s m asked is _ w (ap (λ (ws : List ℕ). length ws) shows.words) ∙ fails;
       reads = λ e w shows. absurd (never (subst IsFault (sym e) tt));
       uses = λ e w shows. absurd (never (subst IsFault (sym e) tt));
     }
 
--- behind a write the unit's fetch is not refused, so that a word was read, which changes nothing
+-- what the unit samples is tested before a write, so that a word was read where it is refused, and nothing is changed
 
 pub returns-in-Err-advance-2-clause-stands : goal.returns-in-Err-advance-2-clause-stands
 unfolding statement_of
@@ -266,14 +247,17 @@ returns-in-Err-advance-2-clause-stands g c =
     let s = statement_of machines.Mic2 old.control.word in
     let m = micro_in old.latches in
     let n = length c.args.bus.now.words in
-    let fails = ap (λ (k : ℕ). refused_by (sample_refusal k (asked_for s m mems.Write).at)) (sym c.transfer_inside-sampled.ensures.size) ∙ c.in-Err-advance-2.ensures.err in
-    let never = refused_no_fault _ c.in-Err-advance-2.fault fails in
+    let asked = asked_for s m (access_by (is_some c.in-Some.sampled)) in
+    let fails = ap (λ (k : ℕ). refused_by (sample_refusal k asked.at)) (sym c.access_inside.ensures.size) ∙ c.in-Err-advance-2.ensures.err in
+    let never = refused_no_fault (sample_refusal n asked.at) c.in-Err-advance-2.fault fails in
     let there = sampled_there s m old.c old.control.lines.takes (jumps s.part) refl old.control.demands
         ((old.computed c.requires).shifter c.if-self.false ∙ ap (λ (x : ℕ). shifted s.part.shift x) ((old.computed c.requires).alu c.if-self.false)) in
-    let reads = it_reads c.is_read-reads.result (sample_refusal n (asked_for s m mems.Write).at) c.in-Err-advance-2.fault
-        (λ no. ap (λ (at : Option ℕ). sample_refusal n at) (sym there) ∙ c.is_inside-inside.ensures.samples c.if-inside.true no) fails in
-    subst (λ (b : BusView). Stands (g.S.Source.left c.args.source.now) (g.K.Sink.held c.args.sink.now) c.args.bus.now (g.S.Source.left c.args.source.now) (g.K.Sink.held c.args.sink.now) b c.in-Err-advance-2.fault)
-    (sym (c.transfer_inside-sampled.ensures.read reads))
+    let reads = it_reads (is_some c.in-Some.sampled) (sample_refusal n asked.at) c.in-Err-advance-2.fault
+        (λ no. ap (λ (at : Option ℕ). sample_refusal n at) (sym there) ∙ c.in-Some.ensures.samples no) fails in
+    subst
+    (λ (b : BusView).
+    Stands (g.S.Source.left c.args.source.now) (g.K.Sink.held c.args.sink.now) c.args.bus.now (g.S.Source.left c.args.source.now) (g.K.Sink.held c.args.sink.now) b c.in-Err-advance-2.fault)
+    (sym (c.in-Some.ensures.read reads))
     (record {
       words = refl;
       same = λ no_fault w shows. shows;
@@ -294,3 +278,16 @@ returns-in-Err-advance-2-clause-cause g c =
       source_same = λ q. refl;
       sink_same = λ q. refl;
     }
+
+-- a cycle that accesses something else, or is refused
+
+pub edge_elsewhere-requires-clause-computed : goal.edge_elsewhere-requires-clause-computed
+edge_elsewhere-requires-clause-computed g c = c.args.self.now.computed c.requires
+
+pub returns-in-None-clause-refusal : goal.returns-in-None-clause-refusal
+returns-in-None-clause-refusal g c =
+    let old = c.args.self.now in
+    subst
+    (λ (b : BusView).
+    AnswersRefusal mic2_meaning old.control.word (micro_in old.latches) (g.S.Source.left c.args.source.now) (g.K.Sink.held c.args.sink.now) b c.edge_elsewhere.result)
+    c.in-None.ensures.none c.edge_elsewhere.ensures.refusal
