@@ -70,6 +70,16 @@ mar_there word m stalled value c dests computed goes dests_are =
     let v : c ≡ shifted s.part.shift (result_of s.part m) = computed.shifter goes ∙ ap (λ (x : ℕ). shifted s.part.shift x) (computed.alu goes) in
     λ i. (loaded (dests_are i) (v i) m.word (registers_in m)).mar
 
+-- and the word
+pub mdr_there : (word : ℕ) (m : Micro) (stalled : Bool) (value c dests : ℕ) →
+    let s = statement_of machines.Mic2 word in
+    HasComputed s m stalled value c → stalled ≡ false → dests ≡ (fields_of machines.Mic2 word).c → (loaded dests c m.word (registers_in m)).mdr ≡ (settled s m).mdr
+unfolding statement_of
+mdr_there word m stalled value c dests computed goes dests_are =
+    let s = statement_of machines.Mic2 word in
+    let v : c ≡ shifted s.part.shift (result_of s.part m) = computed.shifter goes ∙ ap (λ (x : ℕ). shifted s.part.shift x) (computed.alu goes) in
+    λ i. (loaded (dests_are i) (v i) m.word (registers_in m)).mdr
+
 -- what the fetch unit samples, by the bits of the word and what is on the C bus
 pub sampled_there : (s : Placed) (m : Micro) (c taken : ℕ) (named : Bool) → named ≡ jumps s.part → taken ≡ demand s → c ≡ shifted s.part.shift (result_of s.part m) →
     unit_samples named c taken m.unit ≡ unit_samples (jumps s.part) (settled s m).pc (demand s) m.unit
@@ -179,6 +189,11 @@ pub refused_no_fault : (r : Option Refusal) (e : BusFault) → refused_by r ≡ 
 refused_no_fault None e is fault = absurd (cc)
 refused_no_fault (Some (StackLimit at)) e is fault = let same : e ≡ fault_of (StackLimit at) = cc in subst IsFault same fault
 refused_no_fault (Some (OutOfMap at)) e is fault = let same : e ≡ fault_of (OutOfMap at) = cc in subst IsFault same fault
+
+-- what is refused was not tested, as a read is not
+pub it_reads : (reads : Bool) (r : Option Refusal) (e : BusFault) → (reads ≡ false → r ≡ None) → refused_by r ≡ Some e → reads ≡ true
+it_reads true r e clear fails = refl
+it_reads false r e clear fails = let none : None ≡ Some e = sym (ap refused_by (clear refl)) ∙ fails in absurd (cc)
 
 -- what is not refused is done
 pub unrefused : {P : Type 0} (r : Result ⊤ BusFault) (why : Option Refusal) → IfErr r (λ e. refused_by why ≡ Some e) → why ≡ None → OnOk r P → P

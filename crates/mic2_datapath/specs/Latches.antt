@@ -1,8 +1,10 @@
 -- What the latches of Mic-2 mean: the microstep's state, and what its buses carry between its calls.
-use Rattle.std.specs.Prelude.{◌≡◌, ℕ, ◌*◌, ◌+◌, ◌<◌, ◌≤◌, Bool, false, slice_index}
+use Rattle.std.specs.Prelude.{◌≡◌, ℕ, ◌*◌, ◌+◌, ◌<◌, ◌≤◌, Bool, true, false, slice_index}
 use Rattle.machine_words.specs.Arithmetic.{signed_byte, signed_pair}
 use Rattle.micro_word.specs.Operation.{shifted}
 use Rattle.micro_word.specs.declared.lines.TheConstants.{NOTHING}
+use Rattle.micro_word.specs.declared.statement.Mem.{Mem}
+use Rattle.micro_word.specs.declared.statement.Mem.TheVariants as mems
 use Rattle.micro_word.specs.declared.statement.Placed.{Placed}
 use Rattle.mic2_datapath.specs.Micro.{Micro}
 use Rattle.mic2_datapath.specs.Microstep.{is_stalled, result_of, source}
@@ -49,3 +51,8 @@ pub record HasComputed (s : Placed) (m : Micro) (stalled : Bool) (value c : ℕ)
   pub waits : stalled ≡ is_stalled s m
   pub alu : stalled ≡ false → value ≡ result_of s.part m
   pub shifter : stalled ≡ false → c ≡ shifted s.part.shift value
+
+-- what a word does that reads, or else writes
+abbrev pub access_by : Bool → Mem
+access_by true = mems.Read
+access_by false = mems.Write

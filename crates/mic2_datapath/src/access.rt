@@ -1,17 +1,17 @@
 //! The accesses of a cycle: their addresses are tested before anything is changed.
 
-ghost use Rattle.std.specs.Prelude.{◌≡◌, ◌≢◌, IsSome, ◌==◌, ◌&&◌, ◌≤◌, ℕ, List, Some, None, Err, length, OnOk, IfOk, IfErr, IsErrOf, IsTrue, false, true};
+ghost use Rattle.std.specs.Prelude.{◌≡◌, ◌≢◌, IsSome, ◌==◌, ◌&&◌, ◌≤◌, ℕ, List, Some, None, Err, length, OnOk, IfOk, IfErr, IsErrOf, IsTrue, true};
 ghost use Rattle.mic_base.specs.Streams.{Holds};
-ghost use Rattle.console_port.specs.World.{World, console_at};
+ghost use Rattle.console_port.specs.World.{console_at};
 ghost use Rattle.console_port.specs.Bus.{Stands, IsLed, ChangesOnly, refused_by};
 ghost use Rattle.console_port.specs.Console.{IsFault, HasFaultCause, StaysFlushed};
 ghost use Rattle.mic_clock.specs.Edge.{AsksNoMore};
-ghost use Rattle.datapath.specs.Memory.{first_refusal, memory_refusal, ports_with};
-ghost use Rattle.datapath.specs.Access.{AreInMemory, IsTransfer, is_read, is_access};
+ghost use Rattle.datapath.specs.Memory.{first_refusal, memory_refusal};
+ghost use Rattle.datapath.specs.Access.{IsTransfer, is_read, is_access};
 ghost use Rattle.mic2_fetch_unit.specs.FetchUnit.{sample_refusal};
 
 use console_port::{Bus, BusFault};
-use datapath::{Ports, access_memory, check_memory, is_in_memory, transfer};
+use datapath::{Ports, check_memory, transfer};
 use mic_base::{Sink, Source};
 use mic2_fetch_unit::check_sample;
 use micro_word::Mem;
@@ -27,17 +27,9 @@ fn check(bus: &Bus, mem: Mem, mar: u32, at: Option<u32>) -> Result<(), BusFault>
     check_sample(at, bus)
 }
 
-/// Whether all that a cycle reaches is memory.
-fn is_inside(mem: Mem, at: Option<u32>, ports: &Ports, bus: &Bus) -> bool
-    ensures memory { result ≡ true → AreInMemory (length bus.now.words) mem false ports.now.mar ports.now.pc }
-    ensures sample { result ≡ true → sample_refusal (length bus.now.words) at ≡ None }
-{
-    is_there(at, bus) && is_in_memory(mem, false, ports.mar, ports.pc, bus)
-}
-
 /// Whether the word that is sampled is there, if one is.
 #[tactic(auto, unfolding(console_port::specs::World::word_refusal))]
-fn is_there(at: Option<u32>, bus: &Bus) -> bool
+pub fn is_there(at: Option<u32>, bus: &Bus) -> bool
     ensures { result ≡ true → sample_refusal (length bus.now.words) at ≡ None }
 {
     match at {
@@ -46,56 +38,7 @@ fn is_there(at: Option<u32>, bus: &Bus) -> bool
     }
 }
 
-/// Stores MDR at MAR, or takes the word there.
-fn transfer_inside(mem: Mem, ports: &Ports, bus: &mut Bus) -> Option<u32>
-    requires { AreInMemory (length bus.old.words) mem false ports.now.mar ports.now.pc }
-    ensures clear { memory_refusal (length bus.old.words) mem ports.now.mar ≡ None }
-    ensures transfer { (w : World) → w.words ≡ bus.old.words →
-        IsTransfer (length bus.old.words) mem ports.now w result (record w { words = bus.new.words }) }
-    ensures others { ChangesOnly ports.now.mar bus.old.words bus.new.words }
-    ensures size { length bus.new.words ≡ length bus.old.words }
-    ensures console { bus.new.console ≡ bus.old.console }
-{
-    let sampled = access_memory(mem, false, ports, bus);
-    sampled.word
-}
-
 /// Tests the addresses, and then does the write or the read.
-fn access_tested<S: Source, K: Sink>(
-    mem: Mem,
-    at: Option<u32>,
-    mar: u32,
-    mdr: u32,
-    pc: u32,
-    bus: &mut Bus,
-    source: &mut S,
-    sink: &mut K,
-) -> Result<Option<u32>, BusFault>
-    ensures allowed { OnOk result (first_refusal (memory_refusal (length bus.old.words) mem mar) (sample_refusal (length bus.old.words) at) ≡ None) }
-    ensures ok { IfOk result (λ word. IsLed (S.left source.old) (K.held sink.old) bus.old (S.left source.new) (K.held sink.new) bus.new
-        (λ w v. IsTransfer (length bus.old.words) mem (ports_with mar mdr pc) w word v)) }
-    ensures others { OnOk result (ChangesOnly mar bus.old.words bus.new.words) }
-    ensures size { length bus.new.words ≡ length bus.old.words }
-    ensures refusal { (e : BusFault) →
-        refused_by (first_refusal (memory_refusal (length bus.old.words) mem mar) (sample_refusal (length bus.old.words) at)) ≡ Some e → result ≡ Err e }
-    ensures behind { IfErr result (λ e. IsFault e → length bus.old.words ≤ mar) }
-    ensures refused { IfErr result (λ e. (IsFault e → ⊥) →
-        refused_by (first_refusal (memory_refusal (length bus.old.words) mem mar) (sample_refusal (length bus.old.words) at)) ≡ Some e) }
-    ensures stands { IfErr result (Stands (S.left source.old) (K.held sink.old) bus.old (S.left source.new) (K.held sink.new) bus.new) }
-    ensures reads { IsErrOf result BusFault.ReadFault → IsTrue (is_read mem && mar == console_at) }
-    ensures uses { IsErrOf result BusFault.WriteFault → IsTrue (is_access mem && mar == console_at) }
-    ensures keeps { (front : List ℕ) → Holds front (K.held sink.old) → Holds front (K.held sink.new) }
-    ensures asked_no_more { AsksNoMore bus.old.console.ended source.old bus.new.console.ended source.new }
-    ensures tells { IsSome (K.held sink.old) → IsSome (K.held sink.new) }
-    ensures flushed { result ≢ Err BusFault.WriteFault → StaysFlushed (K.held sink.old) (K.passed sink.old) (K.held sink.new) (K.passed sink.new) }
-    ensures cause { HasFaultCause (S.faults source.old) (S.faults source.new) (K.faults sink.old) (K.faults sink.new) result }
-{
-    check(bus, mem, mar, at)?;
-    transfer(mem, &Ports { mar, mdr, pc }, bus, source, sink)
-}
-
-/// Does what a cycle does on the bus. Most cycles reach memory alone.
-#[inline(always)]
 pub fn access<S: Source, K: Sink>(
     mem: Mem,
     at: Option<u32>,
@@ -123,8 +66,6 @@ pub fn access<S: Source, K: Sink>(
     ensures flushed { result ≢ Err BusFault.WriteFault → StaysFlushed (K.held sink.old) (K.passed sink.old) (K.held sink.new) (K.passed sink.new) }
     ensures cause { HasFaultCause (S.faults source.old) (S.faults source.new) (K.faults sink.old) (K.faults sink.new) result }
 {
-    if is_inside(mem, at, ports, bus) {
-        return Ok(transfer_inside(mem, ports, bus));
-    }
-    access_tested(mem, at, ports.mar, ports.mdr, ports.pc, bus, source, sink)
+    check(bus, mem, ports.mar, at)?;
+    transfer(mem, ports, bus, source, sink)
 }

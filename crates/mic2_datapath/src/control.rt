@@ -1,14 +1,14 @@
 //! The word that is clocked.
 
-ghost use Rattle.std.specs.Prelude.{◌≡◌, ◌<◌, IsTrue, slice_index};
+ghost use Rattle.std.specs.Prelude.{◌≡◌, ◌<◌, IsTrue, slice_index, true};
 ghost use Rattle.machine_words.specs.declared.machine.Machine.TheVariants.{Mic2};
 ghost use Rattle.micro_word.specs.Words.{is_canonical};
-ghost use Rattle.micro_word.specs.Coding.{statement_of};
+ghost use Rattle.micro_word.specs.Coding.{mem_of, statement_of};
 ghost use Rattle.micro_word.specs.Layout.{fields_of};
 ghost use Rattle.micro_word.specs.Lines.{AreLines};
 ghost use Rattle.mic2_datapath.specs.Microstep.{demand};
 
-use micro_word::{Lines, Machine, Store, fields2, statement_law, word_law};
+use micro_word::{Lines, Machine, Mem, Store, bits, fields2, statement_law, word_law};
 
 /// JMPC.
 pub const JMPC: u8 = 4;
@@ -24,6 +24,27 @@ pub struct Control {
     ghost canonical: { IsTrue (is_canonical Mic2 word) },
     ghost decoded: { AreLines Mic2 (fields_of Mic2 word) lines },
     ghost demands: { lines.takes ≡ demand (statement_of Mic2 word) },
+}
+
+/// Whether a word accesses nothing.
+pub fn is_quiet(word: u64) -> bool
+    ensures { result ≡ true → mem_of (fields_of Mic2 word).mem ≡ Mem.None }
+{
+    bits::mem(Machine::Mic2, word) == 0
+}
+
+/// Whether a word reads.
+pub fn is_read(word: u64) -> bool
+    ensures { result ≡ true → mem_of (fields_of Mic2 word).mem ≡ Mem.Read }
+{
+    bits::mem(Machine::Mic2, word) == 1
+}
+
+/// Whether a word writes.
+pub fn is_write(word: u64) -> bool
+    ensures { result ≡ true → mem_of (fields_of Mic2 word).mem ≡ Mem.Write }
+{
+    bits::mem(Machine::Mic2, word) == 2
 }
 
 impl Control {

@@ -1,28 +1,35 @@
 //! What Mic-2 keeps between cycles.
 
-ghost use Rattle.std.specs.Prelude.{◌≡◌, ◌≢◌, ◌≤◌, ◌<◌, ◌*◌, ◌+◌, ℕ, None, OnOk, OnErr, IfErr, IsTrue, length, nat_lt, slice_index, zero};
+ghost use Rattle.std.specs.Prelude.{◌≡◌, ◌≢◌, ◌≤◌, ◌<◌, ◌*◌, ◌+◌, ℕ, None, OnOk, OnErr, IfErr, IfNone, IfSome, IsTrue, false, is_some, length, nat_lt, slice_index, true, zero};
 ghost use Rattle.machine_words.specs.Arithmetic.{signed_byte, signed_pair};
 ghost use Rattle.micro_word.specs.declared.statement.PlacedNext.{PlacedNext};
-ghost use Rattle.micro_word.specs.Coding.{addr_bits, jam_bits, statement_of};
+ghost use Rattle.micro_word.specs.Coding.{addr_bits, jam_bits, mem_of, statement_of};
 ghost use Rattle.micro_word.specs.Words.{is_next};
-ghost use Rattle.micro_word.specs.Lines.{AreSlots};
+ghost use Rattle.micro_word.specs.Layout.{fields_of};
+ghost use Rattle.micro_word.specs.Lines.{AreSlots, names};
 ghost use Rattle.micro_word.specs.Operation.{shifted};
 ghost use Rattle.machine_words.specs.declared.machine.Machine.TheVariants.{Mic2};
-ghost use Rattle.console_port.specs.Bus.{refused_by};
+ghost use Rattle.console_port.specs.Bus.{ChangesOnly, refused_by};
+ghost use Rattle.console_port.specs.World.{World};
+ghost use Rattle.datapath.specs.Access.{IsTransfer};
+ghost use Rattle.datapath.specs.Memory.{memory_refusal};
 ghost use Rattle.datapath.specs.Next.{target};
 ghost use Rattle.datapath.specs.Places.{registers_at};
 ghost use Rattle.datapath.specs.Registers.{loaded, ports_given};
 ghost use Rattle.mic2_fetch_unit.specs.FetchUnit.{edge_refusal, sample_refusal};
 ghost use Rattle.mic2_datapath.specs.Mic2.{initial as initial_of};
 ghost use Rattle.mic2_datapath.specs.Microstep.{advanced, byte_at, demand, dispatch_bytes, fetched, is_to_instruction, jumps, moved, operand_bytes, result_of, settled, stalled, unit_after, unit_refusal, unit_samples};
-ghost use Rattle.mic2_datapath.specs.Latches.{AreLatches, HasFront, micro_in};
+ghost use Rattle.mic2_datapath.specs.Latches.{AreLatches, HasFront, access_by, micro_in};
 
-use crate::control::{Control, JMPC};
+use crate::access::is_there;
+use crate::control::{Control, JMPC, is_read, is_write};
 use console_port::{Bus, BusFault};
-use datapath::{Places, Ports, arrived, next_address, port, settle, sign_extended};
+use datapath::{
+    Places, Ports, arrived, next_address, port, read_alone, settle, sign_extended, write_alone,
+};
 use mic_clock::Start;
 use mic2_fetch_unit::FetchUnit;
-use micro_word::{Machine, bits, is_named, statement_law, word_law};
+use micro_word::{Machine, Mem, bits, is_named, statement_law, word_law};
 
 /// The places of the registers that the memory's ports are given, and of the front of the queue in its four forms.
 const MAR: u8 = 0;
@@ -218,6 +225,62 @@ impl Latches {
         } else {
             self.unit.will_fetch(taken)
         }
+    }
+
+    /// Whether what the unit samples is in memory, if it samples something.
+    #[inline(always)]
+    fn samples_memory(&self, jumps: bool, pc: u32, taken: u8, bus: &Bus) -> bool
+        requires { taken ≤ length self.now.unit.bytes }
+        ensures { result ≡ true → sample_refusal (length bus.now.words) (unit_samples jumps pc taken self.now.unit) ≡ None }
+    {
+        if jumps {
+            return is_there(Some(pc / 4), bus);
+        }
+        // Most edges sample nothing.
+        self.unit.is_full(taken) || is_there(self.unit.will_fetch(taken), bus)
+    }
+
+    /// The read or the write of a word where it reaches memory alone, and what a read samples. Where it does not, nothing is done.
+    #[inline(always)]
+    pub fn access_inside(
+        &self,
+        word: u64,
+        c: u32,
+        taken: u8,
+        bus: &mut Bus,
+    ) -> Option<Option<u32>>
+        requires { taken ≤ length self.now.unit.bytes }
+        ensures accesses { IfSome result (λ read. mem_of (fields_of Mic2 word).mem ≡ access_by (is_some read)) }
+        ensures clear { IfSome result (λ read.
+            memory_refusal (length bus.old.words) (access_by (is_some read)) (loaded (fields_of Mic2 word).c c self.now.word (registers_at self.now.places)).mar ≡ None) }
+        ensures transfer { IfSome result (λ read. (p : Ports) → p.mar ≡ (loaded (fields_of Mic2 word).c c self.now.word (registers_at self.now.places)).mar →
+            p.mdr ≡ (loaded (fields_of Mic2 word).c c self.now.word (registers_at self.now.places)).mdr → (w : World) → w.words ≡ bus.old.words →
+            IsTransfer (length bus.old.words) (access_by (is_some read)) p w read (record w { words = bus.new.words })) }
+        ensures samples { IfSome result (λ read. is_some read ≡ false →
+            sample_refusal (length bus.old.words) (unit_samples (names (fields_of Mic2 word).c 2) c taken self.now.unit) ≡ None) }
+        ensures read { IfSome result (λ read. is_some read ≡ true → bus.new ≡ bus.old) }
+        ensures none { IfNone result (bus.new ≡ bus.old) }
+        ensures others { ChangesOnly (loaded (fields_of Mic2 word).c c self.now.word (registers_at self.now.places)).mar bus.old.words bus.new.words }
+        ensures size { length bus.new.words ≡ length bus.old.words }
+        ensures console { bus.new.console ≡ bus.old.console }
+    {
+        let destinations = bits::destinations(Machine::Mic2, word);
+        let mar = self.mar_port(destinations, c);
+        if !bus.has(mar) {
+            return None;
+        }
+        if is_read(word) {
+            let sampled = read_alone(mar, bus);
+            return Some(sampled.word);
+        }
+        let jumps = is_named(destinations, PC);
+        let inside = is_write(word) && self.samples_memory(jumps, c, taken, bus);
+        if !inside {
+            return None;
+        }
+        let mdr = self.mdr_port(destinations, c);
+        write_alone(mar, mdr, bus);
+        Some(None)
     }
 
     /// A cycle in which the machine waits for bytes. An Err leaves all.

@@ -1,18 +1,17 @@
 //! The machine: its four calls, which are the book's subcycles.
 
-ghost use Rattle.std.specs.Prelude.{◌≡◌, true, refl};
+ghost use Rattle.std.specs.Prelude.{◌≡◌, ◌≢◌, Err, IfErr, IsSome, List, OnErr, OnOk, false, refl, ℕ};
 ghost use Rattle.machine_words.specs.declared.machine.Machine.TheVariants.{Mic2 as Mic2Machine};
-ghost use Rattle.micro_word.specs.Coding.{mem_of, statement_of};
-ghost use Rattle.micro_word.specs.Layout.{fields_of};
+ghost use Rattle.micro_word.specs.Coding.{statement_of};
 ghost use Rattle.mic_clock.specs.Meaning.{Driven, AtEdge};
 ghost use Rattle.datapath.specs.Stage.{phase_of};
 ghost use Rattle.mic2_datapath.specs.Latches.{AreLatches, HasDriven, HasComputed, micro_in};
 
 use crate::access::access;
-use crate::control::Control;
+use crate::control::{Control, is_quiet};
 use crate::latches::{Latches, PC};
 use console_port::{Bus, BusFault};
-use datapath::{Stage, console_law, operate, read_alone, shift_by, side_law};
+use datapath::{Stage, console_law, operate, shift_by, side_law};
 use mic_base::{Sink, Source};
 use mic_clock::{Clocked, Computed, Drive, Registers, Start, Tail};
 use mic1_alu::AluOut;
@@ -39,24 +38,14 @@ pub struct Mic2 {
     ghost computed: { phase_of stage ≡ AtEdge → HasComputed (statement_of Mic2Machine control.word) (micro_in latches) stalled value c },
 }
 
-/// Whether a word accesses nothing.
-fn is_quiet(word: u64) -> bool
-    ensures { result ≡ true → mem_of (fields_of Mic2Machine word).mem ≡ Mem.None }
-{
-    bits::mem(Machine::Mic2, word) == 0
-}
-
-/// Whether a word reads.
-fn is_read(word: u64) -> bool
-    ensures { result ≡ true → mem_of (fields_of Mic2Machine word).mem ≡ Mem.Read }
-{
-    bits::mem(Machine::Mic2, word) == 1
-}
-
 impl Mic2 {
+    ghost use Rattle.mic_base.specs.Streams.{Holds};
+    ghost use Rattle.console_port.specs.Bus.{ChangesOnly, Stands};
+    ghost use Rattle.console_port.specs.Console.{HasFaultCause, StaysFlushed};
+    ghost use Rattle.mic_clock.specs.Edge.{AnswersRefusal, AsksNoMore, IsErrOfStep, IsStep};
     ghost use Rattle.mic_clock.specs.Meaning.{AtRest};
-    ghost use Rattle.mic2_datapath.specs.Mic2.{at_zero, initial as initial_of};
-    ghost use Rattle.mic2_datapath.specs.View.{micro_of, phase};
+    ghost use Rattle.mic2_datapath.specs.Mic2.{at_zero, initial as initial_of, mic2_meaning};
+    ghost use Rattle.mic2_datapath.specs.View.{micro_of, microinstruction_of, phase};
 
     /// As a reset at entry 0 with SP 0 leaves it, where the memory's first word is 0.
     pub fn new() -> Mic2
@@ -76,6 +65,49 @@ impl Mic2 {
             b: 0,
             value: 0,
             c: 0,
+        }
+    }
+
+    /// The edge of a cycle that does not stall, whatever it accesses. Few cycles access anything else than memory.
+    fn edge_elsewhere<S: Source, K: Sink>(
+        &mut self,
+        bus: &mut Bus,
+        source: &mut S,
+        sink: &mut K,
+    ) -> Result<(), BusFault>
+        requires phase { phase self.old ≡ AtRest }
+        requires goes { self.old.stalled ≡ false }
+        requires computed { HasComputed (statement_of Mic2Machine self.old.control.word) (micro_in self.old.latches) self.old.stalled self.old.value self.old.c }
+        ensures phase { phase self.new ≡ AtRest }
+        ensures ok { OnOk result (IsStep mic2_meaning (microinstruction_of self.old) (micro_of self.old) (S.left source.old) (K.held sink.old) bus.old
+            (micro_of self.new) (S.left source.new) (K.held sink.new) bus.new) }
+        ensures others { OnOk result (ChangesOnly (micro_of self.new).mar bus.old.words bus.new.words) }
+        ensures refusal { AnswersRefusal mic2_meaning (microinstruction_of self.old) (micro_of self.old) (S.left source.old) (K.held sink.old) bus.old result }
+        ensures err { IfErr result (IsErrOfStep mic2_meaning (microinstruction_of self.old) (micro_of self.old) (S.left source.old) (K.held sink.old) bus.old) }
+        ensures state { OnErr result (micro_of self.new ≡ micro_of self.old) }
+        ensures stands { IfErr result (Stands (S.left source.old) (K.held sink.old) bus.old (S.left source.new) (K.held sink.new) bus.new) }
+        ensures keeps { (front : List ℕ) → Holds front (K.held sink.old) → Holds front (K.held sink.new) }
+        ensures asked_no_more { AsksNoMore bus.old.console.ended source.old bus.new.console.ended source.new }
+        ensures tells { IsSome (K.held sink.old) → IsSome (K.held sink.new) }
+        ensures flushed { result ≢ Err BusFault.WriteFault → StaysFlushed (K.held sink.old) (K.passed sink.old) (K.held sink.new) (K.passed sink.new) }
+        ensures cause { HasFaultCause (S.faults source.old) (S.faults source.new) (K.faults sink.old) (K.faults sink.new) result }
+    {
+        console_law();
+        let (word, value, c) = (self.control.word, self.value, self.c);
+        let takes = self.control.lines.takes;
+        let destinations = bits::destinations(Machine::Mic2, word);
+        let mem = Mem::of_bits(bits::mem(Machine::Mic2, word));
+        let ports = self.latches.ports(destinations, c, takes);
+        let at = self
+            .latches
+            .will_fetch(is_named(destinations, PC), ports.pc, takes);
+        match access(mem, at, &ports, bus, source, sink) {
+            Ok(word) => {
+                // What the fetch unit samples was tested before the access.
+                let _ = self.latches.advance(&self.control, value, c, word, bus);
+                Ok(())
+            }
+            Err(fault) => Err(fault),
         }
     }
 }
@@ -181,7 +213,6 @@ impl Clocked for Mic2 {
         source: &mut S,
         sink: &mut K,
     ) -> Result<(), BusFault> {
-        console_law();
         self.stage = Stage::Setup;
         if self.stalled {
             return match self.latches.stall(bus) {
@@ -191,43 +222,23 @@ impl Clocked for Mic2 {
         }
         // Loaded before an access, behind which they would be loaded again.
         let (word, value, c) = (self.control.word, self.value, self.c);
-        // Most words access nothing, and most others read what is in memory.
+        // Most words access nothing, and most others what is in memory.
         if is_quiet(word) {
             return match self.latches.advance(&self.control, value, c, None, bus) {
                 Ok(()) => Ok(()),
                 Err(fault) => Err(fault),
             };
         }
-        let destinations = bits::destinations(Machine::Mic2, word);
-        if is_read(word) {
-            let mar = self.latches.mar_port(destinations, c);
-            if bus.has(mar) {
-                let sampled = read_alone(mar, bus);
-                return match self
-                    .latches
-                    .advance(&self.control, value, c, sampled.word, bus)
-                {
-                    Ok(()) => Ok(()),
-                    Err(fault) => Err(fault),
-                };
-            }
-        }
-        let mem = Mem::of_bits(bits::mem(Machine::Mic2, word));
-        let ports = self
-            .latches
-            .ports(destinations, c, self.control.lines.takes);
-        let at = self.latches.will_fetch(
-            is_named(destinations, PC),
-            ports.pc,
-            self.control.lines.takes,
-        );
-        match access(mem, at, &ports, bus, source, sink) {
-            Ok(word) => {
-                // What the fetch unit samples was tested before the access.
-                let _ = self.latches.advance(&self.control, value, c, word, bus);
-                Ok(())
-            }
-            Err(fault) => Err(fault),
+        let takes = self.control.lines.takes;
+        match self.latches.access_inside(word, c, takes, bus) {
+            Some(sampled) => match self
+                .latches
+                .advance(&self.control, value, c, sampled, bus)
+            {
+                Ok(()) => Ok(()),
+                Err(fault) => Err(fault),
+            },
+            None => self.edge_elsewhere(bus, source, sink),
         }
     }
 

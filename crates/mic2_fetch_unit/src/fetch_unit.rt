@@ -99,7 +99,7 @@ impl FetchUnit {
 
     /// Whether more than two bytes stay behind an edge that takes so many. It samples nothing then.
     #[inline(always)]
-    fn is_full(&self, taken: u8) -> bool
+    pub fn is_full(&self, taken: u8) -> bool
         requires { taken ≤ length self.now.bytes }
         ensures more { result ≡ true → taken + 2 < length self.now.bytes }
         ensures samples { result ≡ true → sampled_at taken self.now ≡ None }

@@ -1,19 +1,22 @@
-use Rattle.std.proofs.Common.{◌≡◌, length, List, ℕ, true, None, Err, refl, sym, ◌∙◌, ap, subst, arith}
-use Rattle.console_port.specs.Bus.{refused_by, ChangesOnly}
+use Rattle.std.proofs.Common.{◌≡◌, length, List, ℕ, true, None, Option, refl, sym, ◌∙◌, ap, subst, arith}
+use Rattle.std.specs.Prelude.{is_some}
+use Rattle.console_port.specs.Bus.{refused_by, ChangesOnly, Stands}
 use Rattle.console_port.specs.Console.{IsFault}
+use Rattle.console_port.specs.View.{BusView}
 use Rattle.console_port.specs.declared.fault.BusFault.TheVariants as faults
-use Rattle.mic2_datapath.proofs.Demands.{are_there}
-use Rattle.micro_word.specs.Coding.{statement_of, mem_of}
+use Rattle.micro_word.specs.Coding.{statement_of}
+use Rattle.micro_word.specs.Operation.{shifted}
 use Rattle.micro_word.specs.declared.statement.Mem.TheVariants as mems
+use Rattle.mic_clock.specs.Edge.{AnswersRefusal}
 use Rattle.machine_words.specs.declared.machine.Machine.TheVariants as machines
-use Rattle.datapath.specs.declared.ports.Ports.{Ports}
-use Rattle.mic2_fetch_unit.specs.FetchUnit.{edge_refusal}
+use Rattle.datapath.specs.Memory.{memory_refusal}
+use Rattle.mic2_fetch_unit.specs.FetchUnit.{edge_refusal, sample_refusal}
 use Rattle.mic2_datapath.specs.Micro.{Micro}
-use Rattle.mic2_datapath.specs.Microstep.{is_stalled}
-use Rattle.mic2_datapath.specs.Mic2.{step_of_word}
-use Rattle.mic2_datapath.specs.Latches.{micro_in}
-use Rattle.mic2_datapath.proofs.Inside.{first_clear, is_transfer}
-use Rattle.mic2_datapath.proofs.Steps.{Asked, AtConsole, IsAsked, asked_for, is_asked, is_done, is_for, mar_there, moved_on, not_refused, reads_console, refusal_left, refusal_on, refused_no_fault, samples_clear, stall_done, stall_refusal, step_refusal, unrefused, uses_console}
+use Rattle.mic2_datapath.specs.Microstep.{is_stalled, jumps}
+use Rattle.mic2_datapath.specs.Mic2.{mic2_meaning, step_of_word}
+use Rattle.mic2_datapath.specs.Latches.{access_by, micro_in}
+use Rattle.mic2_datapath.proofs.Inside.{led_inside}
+use Rattle.mic2_datapath.proofs.Steps.{IsAsked, asked_for, is_done, is_for, it_reads, mar_there, mdr_there, moved_on, refusal_left, refusal_on, refused_no_fault, sampled_there, stall_done, stall_refusal, step_refusal}
 use Rattle.mic2_datapath.proofs.mic2.Mic2Clocked.edge.Goals as goal
 
 pub returns-in-Ok-clause-ok : goal.returns-in-Ok-clause-ok
@@ -156,7 +159,7 @@ returns-in-Err-advance-clause-cause g c =
       sink_same = λ q. refl;
     }
 
--- a cycle that reads what is in memory
+-- a cycle that reads or writes what is in memory
 
 pub returns-in-Ok-advance-2-clause-ok : goal.returns-in-Ok-advance-2-clause-ok
 unfolding step_of_word statement_of
@@ -164,21 +167,25 @@ returns-in-Ok-advance-2-clause-ok g c =
     let old = c.args.self.now in
     let s = statement_of machines.Mic2 old.control.word in
     let m = micro_in old.latches in
-    let is : IsAsked s m (asked_for s m mems.Read) =
-    is_for s m mems.Read (sym (old.computed c.requires).waits ∙ c.if-self.false) (sym (c.is_read.ensures c.if-is_read.true)) in
-    let here = sym (c.mar_port-mar.ensures ∙ mar_there old.control.word m old.stalled old.value old.c c.destinations-destinations.result (old.computed c.requires) c.if-self.false c.destinations-destinations.ensures.value) in
-    let left = refusal_left (length c.args.bus.now.words) (asked_for s m mems.Read) (first_clear _ _ (c.read_alone-sampled.ensures.clear (asked_for s m mems.Read).ports here)) in
-    λ rest fits. (
-      rest,
-      fits,
-      λ w shows same. (
-        w,
-        is_done s m (asked_for s m mems.Read) is w w _ (ap (λ (ws : List ℕ). length ws) shows.words) _ _ (left ∙ c.in-Ok-advance-2.ensures.allowed) (is_transfer _ _ _ w _ _ w.words (c.read_alone-sampled.ensures.access (asked_for s m mems.Read).ports here w shows.words)) shows.words _
-            (c.in-Ok-advance-2.ensures.ok ∙ ap (λ (x : ℕ). moved_on s m x c.args.bus.now.words c.read_alone-sampled.result.word) ((old.computed c.requires).alu c.if-self.false)),
-        shows,
-        same,
-      ),
-    )
+    let asked = asked_for s m (access_by (is_some c.in-Some.sampled)) in
+    let is : IsAsked s m asked = is_for s m asked.mem (sym (old.computed c.requires).waits ∙ c.if-self.false) (sym c.in-Some.ensures.accesses) in
+    let here = sym (mar_there old.control.word m old.stalled old.value old.c _ (old.computed c.requires) c.if-self.false refl) in
+    let clear = subst (λ (at : ℕ). memory_refusal (length c.args.bus.now.words) asked.mem at ≡ None) (sym here) c.in-Some.ensures.clear in
+    let left = refusal_left (length c.args.bus.now.words) asked clear ∙ ap (λ (n : ℕ). sample_refusal n asked.at) (sym c.access_inside.ensures.size) in
+    let mdr = sym (mdr_there old.control.word m old.stalled old.value old.c _ (old.computed c.requires) c.if-self.false refl) in
+    led_inside (g.S.Source.left c.args.source.now) (g.K.Sink.held c.args.sink.now) c.args.bus.now c.access_inside.new.bus c.access_inside.ensures.console _
+    (λ w shows.
+    is_done s m asked is w (record w { words = c.access_inside.new.bus.words }) _ (ap (λ (ws : List ℕ). length ws) shows.words) c.in-Some.sampled c.access_inside.new.bus.words
+        (left ∙ c.in-Ok-advance-2.ensures.allowed) (c.in-Some.ensures.transfer asked.ports here mdr w shows.words) refl _
+        (c.in-Ok-advance-2.ensures.ok ∙ ap (λ (x : ℕ). moved_on s m x c.access_inside.new.bus.words c.in-Some.sampled) ((old.computed c.requires).alu c.if-self.false)))
+
+pub returns-in-Ok-advance-2-clause-others : goal.returns-in-Ok-advance-2-clause-others
+unfolding statement_of
+returns-in-Ok-advance-2-clause-others g c =
+    let old = c.args.self.now in
+    let m = micro_in old.latches in
+    let mar = mar_there old.control.word m old.stalled old.value old.c _ (old.computed c.requires) c.if-self.false refl ∙ sym (ap (λ (n : Micro). n.mar) c.in-Ok-advance-2.ensures.ok) in
+    subst (λ (at : ℕ). ChangesOnly at c.args.bus.now.words c.access_inside.new.bus.words) mar c.access_inside.ensures.others
 
 pub returns-in-Ok-advance-2-clause-refusal : goal.returns-in-Ok-advance-2-clause-refusal
 unfolding step_of_word statement_of
@@ -186,14 +193,14 @@ returns-in-Ok-advance-2-clause-refusal g c =
     let old = c.args.self.now in
     let s = statement_of machines.Mic2 old.control.word in
     let m = micro_in old.latches in
-    let is : IsAsked s m (asked_for s m mems.Read) =
-    is_for s m mems.Read (sym (old.computed c.requires).waits ∙ c.if-self.false) (sym (c.is_read.ensures c.if-is_read.true)) in
-    let here = sym (c.mar_port-mar.ensures ∙ mar_there old.control.word m old.stalled old.value old.c c.destinations-destinations.result (old.computed c.requires) c.if-self.false c.destinations-destinations.ensures.value) in
-    let left = refusal_left (length c.args.bus.now.words) (asked_for s m mems.Read) (first_clear _ _ (c.read_alone-sampled.ensures.clear (asked_for s m mems.Read).ports here)) in
+    let asked = asked_for s m (access_by (is_some c.in-Some.sampled)) in
+    let is : IsAsked s m asked = is_for s m asked.mem (sym (old.computed c.requires).waits ∙ c.if-self.false) (sym c.in-Some.ensures.accesses) in
+    let here = sym (mar_there old.control.word m old.stalled old.value old.c _ (old.computed c.requires) c.if-self.false refl) in
+    let clear = subst (λ (at : ℕ). memory_refusal (length c.args.bus.now.words) asked.mem at ≡ None) (sym here) c.in-Some.ensures.clear in
+    let left = refusal_left (length c.args.bus.now.words) asked clear ∙ ap (λ (n : ℕ). sample_refusal n asked.at) (sym c.access_inside.ensures.size) in
     λ w e shows refused.
-    let why = step_refusal s m (asked_for s m mems.Read) is _ w (ap (λ (ws : List ℕ). length ws) shows.words) in
-    let clear = ap refused_by (left ∙ c.in-Ok-advance-2.ensures.allowed) in
-    let none = sym refused ∙ why ∙ clear in
+    let why = step_refusal s m asked is _ w (ap (λ (ws : List ℕ). length ws) shows.words) in
+    let none = sym refused ∙ why ∙ ap refused_by (left ∙ c.in-Ok-advance-2.ensures.allowed) in
     absurd (cc)
 
 pub returns-in-Err-advance-2-clause-refusal : goal.returns-in-Err-advance-2-clause-refusal
@@ -202,12 +209,13 @@ returns-in-Err-advance-2-clause-refusal g c =
     let old = c.args.self.now in
     let s = statement_of machines.Mic2 old.control.word in
     let m = micro_in old.latches in
-    let is : IsAsked s m (asked_for s m mems.Read) =
-    is_for s m mems.Read (sym (old.computed c.requires).waits ∙ c.if-self.false) (sym (c.is_read.ensures c.if-is_read.true)) in
-    let here = sym (c.mar_port-mar.ensures ∙ mar_there old.control.word m old.stalled old.value old.c c.destinations-destinations.result (old.computed c.requires) c.if-self.false c.destinations-destinations.ensures.value) in
-    let left = refusal_left (length c.args.bus.now.words) (asked_for s m mems.Read) (first_clear _ _ (c.read_alone-sampled.ensures.clear (asked_for s m mems.Read).ports here)) in
+    let asked = asked_for s m (access_by (is_some c.in-Some.sampled)) in
+    let is : IsAsked s m asked = is_for s m asked.mem (sym (old.computed c.requires).waits ∙ c.if-self.false) (sym c.in-Some.ensures.accesses) in
+    let here = sym (mar_there old.control.word m old.stalled old.value old.c _ (old.computed c.requires) c.if-self.false refl) in
+    let clear = subst (λ (at : ℕ). memory_refusal (length c.args.bus.now.words) asked.mem at ≡ None) (sym here) c.in-Some.ensures.clear in
+    let left = refusal_left (length c.args.bus.now.words) asked clear ∙ ap (λ (n : ℕ). sample_refusal n asked.at) (sym c.access_inside.ensures.size) in
     λ w e shows refused.
-    let why = step_refusal s m (asked_for s m mems.Read) is _ w (ap (λ (ws : List ℕ). length ws) shows.words) in
+    let why = step_refusal s m asked is _ w (ap (λ (ws : List ℕ). length ws) shows.words) in
     let same = sym (ap refused_by left ∙ c.in-Err-advance-2.ensures.err) ∙ (sym why ∙ refused) in
     cc
 
@@ -217,28 +225,47 @@ returns-in-Err-advance-2-clause-err g c =
     let old = c.args.self.now in
     let s = statement_of machines.Mic2 old.control.word in
     let m = micro_in old.latches in
-    let is : IsAsked s m (asked_for s m mems.Read) =
-    is_for s m mems.Read (sym (old.computed c.requires).waits ∙ c.if-self.false) (sym (c.is_read.ensures c.if-is_read.true)) in
-    let here = sym (c.mar_port-mar.ensures ∙ mar_there old.control.word m old.stalled old.value old.c c.destinations-destinations.result (old.computed c.requires) c.if-self.false c.destinations-destinations.ensures.value) in
-    let left = refusal_left (length c.args.bus.now.words) (asked_for s m mems.Read) (first_clear _ _ (c.read_alone-sampled.ensures.clear (asked_for s m mems.Read).ports here)) in
-    let never = refused_no_fault (refusal_on (length c.args.bus.now.words) (asked_for s m mems.Read)) c.in-Err-advance-2.fault (ap refused_by left ∙ c.in-Err-advance-2.ensures.err) in
+    let asked = asked_for s m (access_by (is_some c.in-Some.sampled)) in
+    let is : IsAsked s m asked = is_for s m asked.mem (sym (old.computed c.requires).waits ∙ c.if-self.false) (sym c.in-Some.ensures.accesses) in
+    let here = sym (mar_there old.control.word m old.stalled old.value old.c _ (old.computed c.requires) c.if-self.false refl) in
+    let clear = subst (λ (at : ℕ). memory_refusal (length c.args.bus.now.words) asked.mem at ≡ None) (sym here) c.in-Some.ensures.clear in
+    let left = refusal_left (length c.args.bus.now.words) asked clear ∙ ap (λ (n : ℕ). sample_refusal n asked.at) (sym c.access_inside.ensures.size) in
+    let fails = ap refused_by left ∙ c.in-Err-advance-2.ensures.err in
+    let never = refused_no_fault (refusal_on (length c.args.bus.now.words) asked) c.in-Err-advance-2.fault fails in
     record {
-      refused = λ no_fault w shows. step_refusal s m (asked_for s m mems.Read) is _ w (ap (λ (ws : List ℕ). length ws) shows.words) ∙ (ap refused_by left ∙ c.in-Err-advance-2.ensures.err);
+      refused = λ no_fault w shows. step_refusal s m asked is _ w (ap (λ (ws : List ℕ). length ws) shows.words) ∙ fails;
       reads = λ e w shows. absurd (never (subst IsFault (sym e) tt));
       uses = λ e w shows. absurd (never (subst IsFault (sym e) tt));
     }
 
+-- what the unit samples is tested before a write, so that a word was read where it is refused, and nothing is changed
+
 pub returns-in-Err-advance-2-clause-stands : goal.returns-in-Err-advance-2-clause-stands
+unfolding statement_of
 returns-in-Err-advance-2-clause-stands g c =
-    let never = refused_no_fault _ c.in-Err-advance-2.fault c.in-Err-advance-2.ensures.err in
-    record {
+    let old = c.args.self.now in
+    let s = statement_of machines.Mic2 old.control.word in
+    let m = micro_in old.latches in
+    let n = length c.args.bus.now.words in
+    let asked = asked_for s m (access_by (is_some c.in-Some.sampled)) in
+    let fails = ap (λ (k : ℕ). refused_by (sample_refusal k asked.at)) (sym c.access_inside.ensures.size) ∙ c.in-Err-advance-2.ensures.err in
+    let never = refused_no_fault (sample_refusal n asked.at) c.in-Err-advance-2.fault fails in
+    let there = sampled_there s m old.c old.control.lines.takes (jumps s.part) refl old.control.demands
+        ((old.computed c.requires).shifter c.if-self.false ∙ ap (λ (x : ℕ). shifted s.part.shift x) ((old.computed c.requires).alu c.if-self.false)) in
+    let reads = it_reads (is_some c.in-Some.sampled) (sample_refusal n asked.at) c.in-Err-advance-2.fault
+        (λ no. ap (λ (at : Option ℕ). sample_refusal n at) (sym there) ∙ c.in-Some.ensures.samples no) fails in
+    subst
+    (λ (b : BusView).
+    Stands (g.S.Source.left c.args.source.now) (g.K.Sink.held c.args.sink.now) c.args.bus.now (g.S.Source.left c.args.source.now) (g.K.Sink.held c.args.sink.now) b c.in-Err-advance-2.fault)
+    (sym (c.in-Some.ensures.read reads))
+    (record {
       words = refl;
       same = λ no_fault w shows. shows;
       untaken = refl;
       ended = refl;
       emptied = λ fault. absurd (never fault);
       lost = λ e. absurd (never (subst IsFault (sym e) tt));
-    }
+    })
 
 pub returns-in-Err-advance-2-clause-cause : goal.returns-in-Err-advance-2-clause-cause
 returns-in-Err-advance-2-clause-cause g c =
@@ -252,119 +279,15 @@ returns-in-Err-advance-2-clause-cause g c =
       sink_same = λ q. refl;
     }
 
--- a write or a read
+-- a cycle that accesses something else, or is refused
 
-pub will_fetch-at-requires : goal.will_fetch-at-requires
-will_fetch-at-requires g c =
+pub edge_elsewhere-requires-clause-computed : goal.edge_elsewhere-requires-clause-computed
+edge_elsewhere-requires-clause-computed g c = c.args.self.now.computed c.requires
+
+pub returns-in-None-clause-refusal : goal.returns-in-None-clause-refusal
+returns-in-None-clause-refusal g c =
     let old = c.args.self.now in
-    are_there _ _ _ (sym (old.computed c.requires).waits ∙ c.if-self.false) old.control.demands
-
-pub returns-in-Ok-access-clause-ok : goal.returns-in-Ok-access-clause-ok
-unfolding step_of_word
-returns-in-Ok-access-clause-ok g c =
-    let old = c.args.self.now in
-    let s = statement_of machines.Mic2 old.control.word in
-    let m = micro_in old.latches in
-    let asked : Asked = record { ports = c.ports-ports.result; mem = c.of_bits-mem.result; at = c.will_fetch-at.result } in
-    let is : IsAsked s m asked =
-    is_asked old.control.word m old.stalled old.value old.c c.destinations-destinations.result old.control.lines.takes c.is_named.result c.ports-ports.result c.of_bits-mem.result
-    c.will_fetch-at.result (old.computed c.requires) c.if-self.false c.destinations-destinations.ensures.value old.control.demands c.is_named.ensures c.ports-ports.ensures
-    (c.of_bits-mem.ensures ∙ ap mem_of c.mem.ensures) c.will_fetch-at.ensures.refusal c.will_fetch-at.ensures.value in
-    let moves = unrefused _ _ c.advance-in-Ok-access.ensures.err (samples_clear s m asked is _ _ c.in-Ok-access.ensures.size c.in-Ok-access.ensures.allowed) c.advance-in-Ok-access.ensures.ok in
-    λ rest fits.
-    let led = c.in-Ok-access.ensures.ok rest fits in (
-      led.0,
-      led.1,
-      λ w shows same.
-          let to = led.2 w shows same in (
-            to.0,
-            is_done s m asked is w to.0 _ (ap (λ (ws : List ℕ). length ws) shows.words) _ _ c.in-Ok-access.ensures.allowed to.1 to.2.words _
-                (moves ∙ ap (λ (x : ℕ). moved_on s m x c.access.new.bus.words c.in-Ok-access.word) ((old.computed c.requires).alu c.if-self.false)),
-            to.2,
-            to.3,
-          ),
-    )
-
-pub returns-in-Ok-access-clause-others : goal.returns-in-Ok-access-clause-others
-returns-in-Ok-access-clause-others g c =
-    let old = c.args.self.now in
-    let s = statement_of machines.Mic2 old.control.word in
-    let m = micro_in old.latches in
-    let asked : Asked = record { ports = c.ports-ports.result; mem = c.of_bits-mem.result; at = c.will_fetch-at.result } in
-    let is : IsAsked s m asked =
-    is_asked old.control.word m old.stalled old.value old.c c.destinations-destinations.result old.control.lines.takes c.is_named.result c.ports-ports.result c.of_bits-mem.result
-    c.will_fetch-at.result (old.computed c.requires) c.if-self.false c.destinations-destinations.ensures.value old.control.demands c.is_named.ensures c.ports-ports.ensures
-    (c.of_bits-mem.ensures ∙ ap mem_of c.mem.ensures) c.will_fetch-at.ensures.refusal c.will_fetch-at.ensures.value in
-    let moves = unrefused _ _ c.advance-in-Ok-access.ensures.err (samples_clear s m asked is _ _ c.in-Ok-access.ensures.size c.in-Ok-access.ensures.allowed) c.advance-in-Ok-access.ensures.ok in
-    let mar = ap (λ (p : Ports). p.mar) is.given ∙ sym (ap (λ (n : Micro). n.mar) moves) in
-    subst (λ (at : ℕ). ChangesOnly at c.args.bus.now.words c.access.new.bus.words) mar c.in-Ok-access.ensures.others
-
-pub returns-in-Ok-access-clause-refusal : goal.returns-in-Ok-access-clause-refusal
-unfolding step_of_word
-returns-in-Ok-access-clause-refusal g c =
-    let old = c.args.self.now in
-    let s = statement_of machines.Mic2 old.control.word in
-    let m = micro_in old.latches in
-    let asked : Asked = record { ports = c.ports-ports.result; mem = c.of_bits-mem.result; at = c.will_fetch-at.result } in
-    let is : IsAsked s m asked =
-    is_asked old.control.word m old.stalled old.value old.c c.destinations-destinations.result old.control.lines.takes c.is_named.result c.ports-ports.result c.of_bits-mem.result
-    c.will_fetch-at.result (old.computed c.requires) c.if-self.false c.destinations-destinations.ensures.value old.control.demands c.is_named.ensures c.ports-ports.ensures
-    (c.of_bits-mem.ensures ∙ ap mem_of c.mem.ensures) c.will_fetch-at.ensures.refusal c.will_fetch-at.ensures.value in
-    λ w e shows refused.
-    let why = step_refusal s m asked is _ w (ap (λ (ws : List ℕ). length ws) shows.words) in
-    let clear = ap refused_by c.in-Ok-access.ensures.allowed in
-    let none = sym refused ∙ why ∙ clear in
-    absurd (cc)
-
-pub returns-in-Err-access-clause-refusal : goal.returns-in-Err-access-clause-refusal
-unfolding step_of_word
-returns-in-Err-access-clause-refusal g c =
-    let old = c.args.self.now in
-    let s = statement_of machines.Mic2 old.control.word in
-    let m = micro_in old.latches in
-    let asked : Asked = record { ports = c.ports-ports.result; mem = c.of_bits-mem.result; at = c.will_fetch-at.result } in
-    let is : IsAsked s m asked =
-    is_asked old.control.word m old.stalled old.value old.c c.destinations-destinations.result old.control.lines.takes c.is_named.result c.ports-ports.result c.of_bits-mem.result
-    c.will_fetch-at.result (old.computed c.requires) c.if-self.false c.destinations-destinations.ensures.value old.control.demands c.is_named.ensures c.ports-ports.ensures
-    (c.of_bits-mem.ensures ∙ ap mem_of c.mem.ensures) c.will_fetch-at.ensures.refusal c.will_fetch-at.ensures.value in
-    λ w e shows refused.
-    let why = step_refusal s m asked is _ w (ap (λ (ws : List ℕ). length ws) shows.words) in
-    let answer = c.in-Err-access.ensures.refusal e (sym why ∙ refused) in
-    cc
-
-pub returns-in-Err-access-clause-err : goal.returns-in-Err-access-clause-err
-unfolding step_of_word
-returns-in-Err-access-clause-err g c =
-    let old = c.args.self.now in
-    let s = statement_of machines.Mic2 old.control.word in
-    let m = micro_in old.latches in
-    let asked : Asked = record { ports = c.ports-ports.result; mem = c.of_bits-mem.result; at = c.will_fetch-at.result } in
-    let is : IsAsked s m asked =
-    is_asked old.control.word m old.stalled old.value old.c c.destinations-destinations.result old.control.lines.takes c.is_named.result c.ports-ports.result c.of_bits-mem.result
-    c.will_fetch-at.result (old.computed c.requires) c.if-self.false c.destinations-destinations.ensures.value old.control.demands c.is_named.ensures c.ports-ports.ensures
-    (c.of_bits-mem.ensures ∙ ap mem_of c.mem.ensures) c.will_fetch-at.ensures.refusal c.will_fetch-at.ensures.value in
-    let law : AtConsole = record { takes = c.console_law.ensures.takes; gives = c.console_law.ensures.gives } in
-    let clear = λ (fault : IsFault c.in-Err-access.fault). not_refused (refusal_on (length c.args.bus.now.words) asked) (Err c.in-Err-access.fault) c.in-Err-access.fault refl fault c.in-Err-access.ensures.refusal in
-    record {
-      refused = λ no_fault w shows.
-          step_refusal s m asked is _ w (ap (λ (ws : List ℕ). length ws) shows.words)
-          ∙ c.in-Err-access.ensures.refused no_fault;
-      reads = λ e w shows.
-          let fault : IsFault c.in-Err-access.fault = subst IsFault (sym e) tt in
-          reads_console law old.control.word m asked is _ w (ap (λ (ws : List ℕ). length ws) shows.words) (clear fault) (c.in-Err-access.ensures.behind fault) (c.in-Err-access.ensures.reads (cc));
-      uses = λ e w shows.
-          let fault : IsFault c.in-Err-access.fault = subst IsFault (sym e) tt in
-          uses_console law old.control.word m asked is _ w (ap (λ (ws : List ℕ). length ws) shows.words) (clear fault) (c.in-Err-access.ensures.behind fault) (c.in-Err-access.ensures.uses (cc));
-    }
-
-pub returns-in-Err-access-clause-cause : goal.returns-in-Err-access-clause-cause
-returns-in-Err-access-clause-cause g c =
-    let h = c.in-Err-access.ensures.cause in
-    record {
-      source_later = h.source_later;
-      sink_later = h.sink_later;
-      read = λ q. h.read (let f : c.in-Err-access.fault ≡ faults.ReadFault = cc in cc);
-      write = λ q. h.write (let f : c.in-Err-access.fault ≡ faults.WriteFault = cc in cc);
-      source_same = λ q. h.source_same (λ e. let f : c.in-Err-access.fault ≡ faults.ReadFault = cc in q (cc));
-      sink_same = λ q. h.sink_same (λ e. let f : c.in-Err-access.fault ≡ faults.WriteFault = cc in q (cc));
-    }
+    subst
+    (λ (b : BusView).
+    AnswersRefusal mic2_meaning old.control.word (micro_in old.latches) (g.S.Source.left c.args.source.now) (g.K.Sink.held c.args.sink.now) b c.edge_elsewhere.result)
+    c.in-None.ensures.none c.edge_elsewhere.ensures.refusal
