@@ -3,11 +3,13 @@
 ghost use Rattle.std.specs.Prelude.{◌≡◌, ◌<◌, IsTrue, slice_index, true};
 ghost use Rattle.machine_words.specs.declared.machine.Machine.TheVariants.{Mic2};
 ghost use Rattle.micro_word.specs.Words.{is_canonical};
-ghost use Rattle.micro_word.specs.Coding.{mem_of, statement_of};
+ghost use Rattle.micro_word.specs.Coding.{mem_of, shift_of, statement_of};
 ghost use Rattle.micro_word.specs.Layout.{fields_of};
 ghost use Rattle.micro_word.specs.Lines.{AreLines};
+ghost use Rattle.micro_word.specs.Operation.{shifted};
 ghost use Rattle.mic2_datapath.specs.Microstep.{demand};
 
+use datapath::shift_by;
 use micro_word::{Lines, Machine, Mem, Store, bits, fields2, statement_law, word_law};
 
 /// JMPC.
@@ -24,6 +26,22 @@ pub struct Control {
     ghost canonical: { IsTrue (is_canonical Mic2 word) },
     ghost decoded: { AreLines Mic2 (fields_of Mic2 word) lines },
     ghost demands: { lines.takes ≡ demand (statement_of Mic2 word) },
+}
+
+/// The lower bit of the field SLL8 SRA1.
+const SHIFT: u64 = 0x200_0000;
+
+/// What the shifter puts on the C bus for a word.
+#[inline(always)]
+pub fn shift_for(word: u64, value: u32) -> u32
+    ensures { result ≡ shifted (shift_of (fields_of Mic2 word).shift) value }
+{
+    // Most words do not shift, and the word tells it faster than its field.
+    let still = word / SHIFT % 4 == 0;
+    if still {
+        return value;
+    }
+    shift_by(bits::shift(Machine::Mic2, word), value)
 }
 
 /// Whether a word accesses nothing.

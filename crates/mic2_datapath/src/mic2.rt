@@ -8,10 +8,10 @@ ghost use Rattle.datapath.specs.Stage.{phase_of};
 ghost use Rattle.mic2_datapath.specs.Latches.{AreLatches, HasDriven, HasComputed, micro_in};
 
 use crate::access::access;
-use crate::control::{Control, is_quiet};
+use crate::control::{Control, is_quiet, shift_for};
 use crate::latches::{Latches, PC};
 use console_port::{Bus, BusFault};
-use datapath::{Stage, console_law, operate, shift_by, side_law};
+use datapath::{Stage, console_law, operate, side_law};
 use mic_base::{Sink, Source};
 use mic_clock::{Clocked, Computed, Drive, Registers, Start, Tail};
 use mic1_alu::AluOut;
@@ -192,7 +192,7 @@ impl Clocked for Mic2 {
         let word = self.control.word;
         let gates = bits::gates(Machine::Mic2, word);
         let value = operate(gates, &self.control.lines, self.a, self.b);
-        let c = shift_by(bits::shift(Machine::Mic2, word), value);
+        let c = shift_for(word, value);
         self.value = value;
         self.c = c;
         self.stage = Stage::Edge;

@@ -3,6 +3,7 @@ use Rattle.machine_words.specs.Arithmetic.{is_negative}
 use Rattle.machine_words.specs.declared.machine.Machine.TheVariants as machines
 use Rattle.micro_word.specs.Words.{may_be_b}
 use Rattle.micro_word.specs.Coding.{statement_of, shift_of}
+use Rattle.micro_word.specs.Layout.{fields_of}
 use Rattle.micro_word.specs.Operation.{alu, shifted}
 use Rattle.micro_word.specs.declared.layout.Fields.{Fields}
 use Rattle.micro_word.specs.declared.statement.BusSource.{BusSource}
@@ -46,7 +47,7 @@ invariant_of-self-2-clause-computed c =
     λ e. record {
       waits = driven.waits;
       alu = λ goes. c.operate-value.ensures s.part.op (sym gates) ∙ (λ i. alu s.part.op (driven.a_side goes i) (driven.b_side goes i));
-      shifter = λ goes. c.shift_by-c.ensures ∙ ap (λ (bits : ℕ). shifted (shift_of bits) c.operate-value.result) c.shift.ensures;
+      shifter = λ goes. c.shift_for-c.ensures;
     }
 
 pub returns-clause-value : goal.returns-clause-value
@@ -61,6 +62,6 @@ returns-clause-value c =
     let goes : is_stalled s m ≡ false = sym driven.waits ∙ c.if-self.false in
     let x : c.operate-value.result ≡ result_of s.part m =
     c.operate-value.ensures s.part.op (sym gates) ∙ (λ i. alu s.part.op (driven.a_side c.if-self.false i) (driven.b_side c.if-self.false i)) in
-    let shift = c.shift_by-c.ensures ∙ (λ i. shifted (shift_of (c.shift.ensures i)) (x i)) in
+    let shift = c.shift_for-c.ensures ∙ (λ i. shifted (shift_of (fields_of machines.Mic2 c.args.self.now.control.word).shift) (x i)) in
     (λ i. record { alu = record { value = x i; n = is_negative (x i); z = x i == 0 }; c = shift i })
     ∙ sym (ap (λ (b : Bool). if b then stalled_value else value_of s (result_of s.part m)) goes)
