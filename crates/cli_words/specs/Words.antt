@@ -142,7 +142,7 @@ job_of given =
 abbrev pub job_in : ArgMatches → Option AskedJob
 job_in m =
     job_by (first_value (found_of m) (codes "FILE")) (first_value (found_of m) (codes "machine"))
-        (first_value (found_of m) (codes "bound")) (first_value (found_of m) (codes "map"))
+    (first_value (found_of m) (codes "bound")) (first_value (found_of m) (codes "map"))
 
 abbrev pub job_asked : Job → AskedJob
 job_asked job = asked_job job.file.now job.machine job.bound job.map

@@ -242,13 +242,7 @@ impl Latches {
 
     /// The read or the write of a word where it reaches memory alone, and what a read samples. Where it does not, nothing is done.
     #[inline(always)]
-    pub fn access_inside(
-        &self,
-        word: u64,
-        c: u32,
-        taken: u8,
-        bus: &mut Bus,
-    ) -> Option<Option<u32>>
+    pub fn access_inside(&self, word: u64, c: u32, taken: u8, bus: &mut Bus) -> Option<Option<u32>>
         requires { taken ≤ length self.now.unit.bytes }
         ensures accesses { IfSome result (λ read. mem_of (fields_of Mic2 word).mem ≡ access_by (is_some read)) }
         ensures clear { IfSome result (λ read.

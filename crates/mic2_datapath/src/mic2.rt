@@ -231,10 +231,7 @@ impl Clocked for Mic2 {
         }
         let takes = self.control.lines.takes;
         match self.latches.access_inside(word, c, takes, bus) {
-            Some(sampled) => match self
-                .latches
-                .advance(&self.control, value, c, sampled, bus)
-            {
+            Some(sampled) => match self.latches.advance(&self.control, value, c, sampled, bus) {
                 Ok(()) => Ok(()),
                 Err(fault) => Err(fault),
             },

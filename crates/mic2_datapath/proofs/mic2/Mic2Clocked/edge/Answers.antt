@@ -176,8 +176,8 @@ returns-in-Ok-advance-2-clause-ok g c =
     led_inside (g.S.Source.left c.args.source.now) (g.K.Sink.held c.args.sink.now) c.args.bus.now c.access_inside.new.bus c.access_inside.ensures.console _
     (λ w shows.
     is_done s m asked is w (record w { words = c.access_inside.new.bus.words }) _ (ap (λ (ws : List ℕ). length ws) shows.words) c.in-Some.sampled c.access_inside.new.bus.words
-        (left ∙ c.in-Ok-advance-2.ensures.allowed) (c.in-Some.ensures.transfer asked.ports here mdr w shows.words) refl _
-        (c.in-Ok-advance-2.ensures.ok ∙ ap (λ (x : ℕ). moved_on s m x c.access_inside.new.bus.words c.in-Some.sampled) ((old.computed c.requires).alu c.if-self.false)))
+    (left ∙ c.in-Ok-advance-2.ensures.allowed) (c.in-Some.ensures.transfer asked.ports here mdr w shows.words) refl _
+    (c.in-Ok-advance-2.ensures.ok ∙ ap (λ (x : ℕ). moved_on s m x c.access_inside.new.bus.words c.in-Some.sampled) ((old.computed c.requires).alu c.if-self.false)))
 
 pub returns-in-Ok-advance-2-clause-others : goal.returns-in-Ok-advance-2-clause-others
 unfolding statement_of
@@ -251,9 +251,9 @@ returns-in-Err-advance-2-clause-stands g c =
     let fails = ap (λ (k : ℕ). refused_by (sample_refusal k asked.at)) (sym c.access_inside.ensures.size) ∙ c.in-Err-advance-2.ensures.err in
     let never = refused_no_fault (sample_refusal n asked.at) c.in-Err-advance-2.fault fails in
     let there = sampled_there s m old.c old.control.lines.takes (jumps s.part) refl old.control.demands
-        ((old.computed c.requires).shifter c.if-self.false ∙ ap (λ (x : ℕ). shifted s.part.shift x) ((old.computed c.requires).alu c.if-self.false)) in
+    ((old.computed c.requires).shifter c.if-self.false ∙ ap (λ (x : ℕ). shifted s.part.shift x) ((old.computed c.requires).alu c.if-self.false)) in
     let reads = it_reads (is_some c.in-Some.sampled) (sample_refusal n asked.at) c.in-Err-advance-2.fault
-        (λ no. ap (λ (at : Option ℕ). sample_refusal n at) (sym there) ∙ c.in-Some.ensures.samples no) fails in
+    (λ no. ap (λ (at : Option ℕ). sample_refusal n at) (sym there) ∙ c.in-Some.ensures.samples no) fails in
     subst
     (λ (b : BusView).
     Stands (g.S.Source.left c.args.source.now) (g.K.Sink.held c.args.sink.now) c.args.bus.now (g.S.Source.left c.args.source.now) (g.K.Sink.held c.args.sink.now) b c.in-Err-advance-2.fault)
