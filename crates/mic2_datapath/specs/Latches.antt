@@ -1,11 +1,15 @@
 -- What the latches of Mic-2 mean: the microstep's state, and what its buses carry between its calls.
 use Rattle.std.specs.Prelude.{◌≡◌, ℕ, ◌*◌, ◌+◌, ◌<◌, ◌≤◌, Bool, true, false, slice_index}
 use Rattle.machine_words.specs.Arithmetic.{signed_byte, signed_pair}
+use Rattle.machine_words.specs.declared.machine.Machine.TheVariants.{Mic2}
+use Rattle.micro_word.specs.Layout.{fields_of}
 use Rattle.micro_word.specs.Operation.{shifted}
 use Rattle.micro_word.specs.declared.lines.TheConstants.{NOTHING}
 use Rattle.micro_word.specs.declared.statement.Mem.{Mem}
 use Rattle.micro_word.specs.declared.statement.Mem.TheVariants as mems
 use Rattle.micro_word.specs.declared.statement.Placed.{Placed}
+use Rattle.datapath.specs.Places.{registers_at}
+use Rattle.datapath.specs.Registers.{NineRegisters, loaded}
 use Rattle.mic2_datapath.specs.Micro.{Micro}
 use Rattle.mic2_datapath.specs.Microstep.{is_stalled, result_of, source}
 use Rattle.mic2_datapath.specs.declared.latches.Latches.{Latches}
@@ -56,3 +60,7 @@ pub record HasComputed (s : Placed) (m : Micro) (stalled : Bool) (value c : ℕ)
 abbrev pub access_by : Bool → Mem
 access_by true = mems.Read
 access_by false = mems.Write
+
+-- the registers, where the C bus went to those that a word names and a word that was read arrived
+abbrev pub loaded_in : ℕ → ℕ → Latches → NineRegisters
+loaded_in word c l = loaded (fields_of Mic2 word).c c l.word (registers_at l.places)

@@ -19,7 +19,7 @@ ghost use Rattle.datapath.specs.Registers.{loaded, ports_given};
 ghost use Rattle.mic2_fetch_unit.specs.FetchUnit.{edge_refusal, sample_refusal};
 ghost use Rattle.mic2_datapath.specs.Mic2.{initial as initial_of};
 ghost use Rattle.mic2_datapath.specs.Microstep.{advanced, byte_at, demand, dispatch_bytes, fetched, is_to_instruction, jumps, moved, operand_bytes, result_of, settled, stalled, unit_after, unit_refusal, unit_samples};
-ghost use Rattle.mic2_datapath.specs.Latches.{AreLatches, HasFront, access_by, micro_in};
+ghost use Rattle.mic2_datapath.specs.Latches.{AreLatches, HasFront, access_by, loaded_in, micro_in};
 
 use crate::access::is_there;
 use crate::control::{Control, JMPC, is_read, is_write};
@@ -245,16 +245,15 @@ impl Latches {
     pub fn access_inside(&self, word: u64, c: u32, taken: u8, bus: &mut Bus) -> Option<Option<u32>>
         requires { taken ≤ length self.now.unit.bytes }
         ensures accesses { IfSome result (λ read. mem_of (fields_of Mic2 word).mem ≡ access_by (is_some read)) }
-        ensures clear { IfSome result (λ read.
-            memory_refusal (length bus.old.words) (access_by (is_some read)) (loaded (fields_of Mic2 word).c c self.now.word (registers_at self.now.places)).mar ≡ None) }
-        ensures transfer { IfSome result (λ read. (p : Ports) → p.mar ≡ (loaded (fields_of Mic2 word).c c self.now.word (registers_at self.now.places)).mar →
-            p.mdr ≡ (loaded (fields_of Mic2 word).c c self.now.word (registers_at self.now.places)).mdr → (w : World) → w.words ≡ bus.old.words →
+        ensures clear { IfSome result (λ read. memory_refusal (length bus.old.words) (access_by (is_some read)) (loaded_in word c self.now).mar ≡ None) }
+        ensures transfer { IfSome result (λ read. (p : Ports) (w : World) →
+            p.mar ≡ (loaded_in word c self.now).mar → p.mdr ≡ (loaded_in word c self.now).mdr → w.words ≡ bus.old.words →
             IsTransfer (length bus.old.words) (access_by (is_some read)) p w read (record w { words = bus.new.words })) }
         ensures samples { IfSome result (λ read. is_some read ≡ false →
             sample_refusal (length bus.old.words) (unit_samples (names (fields_of Mic2 word).c 2) c taken self.now.unit) ≡ None) }
         ensures read { IfSome result (λ read. is_some read ≡ true → bus.new ≡ bus.old) }
         ensures none { IfNone result (bus.new ≡ bus.old) }
-        ensures others { ChangesOnly (loaded (fields_of Mic2 word).c c self.now.word (registers_at self.now.places)).mar bus.old.words bus.new.words }
+        ensures others { ChangesOnly (loaded_in word c self.now).mar bus.old.words bus.new.words }
         ensures size { length bus.new.words ≡ length bus.old.words }
         ensures console { bus.new.console ≡ bus.old.console }
     {

@@ -176,7 +176,7 @@ returns-in-Ok-advance-2-clause-ok g c =
     led_inside (g.S.Source.left c.args.source.now) (g.K.Sink.held c.args.sink.now) c.args.bus.now c.access_inside.new.bus c.access_inside.ensures.console _
     (λ w shows.
     is_done s m asked is w (record w { words = c.access_inside.new.bus.words }) _ (ap (λ (ws : List ℕ). length ws) shows.words) c.in-Some.sampled c.access_inside.new.bus.words
-    (left ∙ c.in-Ok-advance-2.ensures.allowed) (c.in-Some.ensures.transfer asked.ports here mdr w shows.words) refl _
+    (left ∙ c.in-Ok-advance-2.ensures.allowed) (c.in-Some.ensures.transfer asked.ports w here mdr shows.words) refl _
     (c.in-Ok-advance-2.ensures.ok ∙ ap (λ (x : ℕ). moved_on s m x c.access_inside.new.bus.words c.in-Some.sampled) ((old.computed c.requires).alu c.if-self.false)))
 
 pub returns-in-Ok-advance-2-clause-others : goal.returns-in-Ok-advance-2-clause-others
