@@ -1,6 +1,6 @@
 //! The machine: its four calls, which are the book's subcycles.
 
-ghost use Rattle.std.specs.Prelude.{◌≡◌, ◌≢◌, Err, IfErr, IsSome, List, OnErr, OnOk, false, refl, ℕ};
+ghost use Rattle.std.specs.Prelude.{◌≡◌, ◌≢◌, Err, IfErr, IsSome, List, OnErr, OnOk, refl, ℕ};
 ghost use Rattle.machine_words.specs.declared.machine.Machine.TheVariants.{Mic2 as Mic2Machine};
 ghost use Rattle.micro_word.specs.Coding.{statement_of};
 ghost use Rattle.mic_clock.specs.Meaning.{Driven, AtEdge};
@@ -68,15 +68,15 @@ impl Mic2 {
         }
     }
 
-    /// The edge of a cycle that does not stall, whatever it accesses. Few cycles access anything else than memory.
-    fn edge_elsewhere<S: Source, K: Sink>(
+    /// The edge of any cycle. Few cycles stall, or access something else than memory.
+    #[cold]
+    fn any_edge<S: Source, K: Sink>(
         &mut self,
         bus: &mut Bus,
         source: &mut S,
         sink: &mut K,
     ) -> Result<(), BusFault>
         requires phase { phase self.old ≡ AtRest }
-        requires goes { self.old.stalled ≡ false }
         requires computed { HasComputed (statement_of Mic2Machine self.old.control.word) (micro_in self.old.latches) self.old.stalled self.old.value self.old.c }
         ensures phase { phase self.new ≡ AtRest }
         ensures ok { OnOk result (IsStep mic2_meaning (microinstruction_of self.old) (micro_of self.old) (S.left source.old) (K.held sink.old) bus.old
@@ -93,6 +93,12 @@ impl Mic2 {
         ensures cause { HasFaultCause (S.faults source.old) (S.faults source.new) (K.faults sink.old) (K.faults sink.new) result }
     {
         console_law();
+        if self.stalled {
+            return match self.latches.stall(bus) {
+                Ok(()) => Ok(()),
+                Err(fault) => Err(fault),
+            };
+        }
         let (word, value, c) = (self.control.word, self.value, self.c);
         let takes = self.control.lines.takes;
         let destinations = bits::destinations(Machine::Mic2, word);
@@ -215,10 +221,7 @@ impl Clocked for Mic2 {
     ) -> Result<(), BusFault> {
         self.stage = Stage::Setup;
         if self.stalled {
-            return match self.latches.stall(bus) {
-                Ok(()) => Ok(()),
-                Err(fault) => Err(fault),
-            };
+            return self.any_edge(bus, source, sink);
         }
         // Loaded before an access, behind which they would be loaded again.
         let (word, value, c) = (self.control.word, self.value, self.c);
@@ -235,7 +238,7 @@ impl Clocked for Mic2 {
                 Ok(()) => Ok(()),
                 Err(fault) => Err(fault),
             },
-            None => self.edge_elsewhere(bus, source, sink),
+            None => self.any_edge(bus, source, sink),
         }
     }
 
