@@ -221,7 +221,10 @@ impl Clocked for Mic2 {
     ) -> Result<(), BusFault> {
         self.stage = Stage::Setup;
         if self.stalled {
-            return self.any_edge(bus, source, sink);
+            return match self.any_edge(bus, source, sink) {
+                Ok(()) => Ok(()),
+                Err(fault) => Err(fault),
+            };
         }
         // Loaded before an access, behind which they would be loaded again.
         let (word, value, c) = (self.control.word, self.value, self.c);
@@ -238,7 +241,10 @@ impl Clocked for Mic2 {
                 Ok(()) => Ok(()),
                 Err(fault) => Err(fault),
             },
-            None => self.any_edge(bus, source, sink),
+            None => match self.any_edge(bus, source, sink) {
+                Ok(()) => Ok(()),
+                Err(fault) => Err(fault),
+            },
         }
     }
 
