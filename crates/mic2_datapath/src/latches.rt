@@ -48,13 +48,14 @@ const MBR2U: usize = 12;
 
 #[derive(Drop)]
 pub struct Latches {
-    pub places: Places,
     pub unit: FetchUnit,
     /// The memory word that the next edge loads into MDR.
     pub word: Option<u32>,
     pub mpc: u16,
     /// Whether the cycle before went to an instruction's first word.
     pub begins: bool,
+    /// Behind all else, so that what is reached by index stands apart from it.
+    pub places: Places,
 }
 
 #[tactic(auto, unfolding(machine_words::specs::Arithmetic::signed_pair))]

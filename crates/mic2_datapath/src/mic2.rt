@@ -20,7 +20,6 @@ use micro_word::{Machine, Mem, Store, Word2, bits, is_named, statement_law, word
 /// Mic-2.
 #[derive(Drop)]
 pub struct Mic2 {
-    latches: Latches,
     stage: Stage,
     /// The word that was set up last.
     control: Control,
@@ -33,6 +32,7 @@ pub struct Mic2 {
     value: u32,
     /// What is on the C bus.
     c: u32,
+    latches: Latches,
     ghost kept: { AreLatches latches },
     ghost drove: { phase_of stage ≡ Driven → HasDriven (statement_of Mic2Machine control.word) (micro_in latches) stalled a b },
     ghost computed: { phase_of stage ≡ AtEdge → HasComputed (statement_of Mic2Machine control.word) (micro_in latches) stalled value c },
