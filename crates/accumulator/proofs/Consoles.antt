@@ -1,5 +1,5 @@
 -- Why an access of the machine fails: its words read and write the console where the memory ends before it.
-use Rattle.std.proofs.Common.{◌≡◌, ℕ, ◌%◌, ◌≤◌, ◌==◌, true, false, List, length, Option, None, inl, inr, refl, sym, subst}
+use Rattle.std.proofs.Common.{◌≡◌, ℕ, ◌%◌, ◌≤◌, true, false, List, length, Option, None, inl, inr, refl, sym, subst}
 use Rattle.std.proofs.lemmas.Bool.{le-ltb}
 use Rattle.console_port.specs.View.{BusView}
 use Rattle.console_port.specs.World.{World, console_at, untaken_after, given_after, write_refusal}
@@ -8,7 +8,7 @@ use Rattle.console_port.specs.declared.fault.BusFault.{BusFault}
 use Rattle.console_port.specs.declared.fault.BusFault.TheVariants.{WriteFault}
 use Rattle.mic_clock.specs.Meaning.{ReadsConsole, WritesConsole}
 use Rattle.mic_clock.specs.Edge.{IsErrOfStep}
-use Rattle.accumulator.specs.Accumulator.{has_read, has_write, has_fetch, stored, meaning}
+use Rattle.accumulator.specs.Accumulator.{has_read, has_write, has_fetch, meaning}
 use Rattle.accumulator.specs.declared.machine.Cells.{Cells}
 
 module _ (word : ℕ) (s : Cells) where

@@ -1,5 +1,5 @@
 -- Why there is no microprogram, and where one begins.
-use Rattle.std.proofs.Common.{◌≡◌, ◌<◌, ◌∙◌, ℕ, List, [], ◌∷◌, ◌++◌, length, take, Some, false, refl, sym, ap, subst, arith, inl, inr}
+use Rattle.std.proofs.Common.{◌≡◌, ◌∙◌, ℕ, List, [], ◌∷◌, ◌++◌, length, take, Some, false, refl, sym, ap, subst, arith}
 use Rattle.machine_words.specs.declared.machine.Machine.{Machine}
 use Rattle.machine_words.specs.declared.machine.Machine.TheVariants.{Mic1, Mic2}
 use Rattle.watched_run.specs.declared.cycle.Cycle.{Cycle}
@@ -11,9 +11,8 @@ use Rattle.cli_outside.specs.Work.{IsRefusal, refusal_by}
 use Rattle.cli_micro.specs.Answers.{IsRefusedText, NoProgram}
 use Rattle.shipped_program.specs.Listing.{program1, program2, listed_program}
 use Rattle.std.proofs.Math.Seq.{take-nil}
-use Rattle.std.proofs.lemmas.Bool.{cases_lt}
-use Rattle.std.proofs.lemmas.List.{append-nil, get_or_past, length-map}
-use Rattle.std.specs.Prelude.{Option, None, option_map, slice_index}
+use Rattle.std.proofs.lemmas.List.{append-nil, length-map}
+use Rattle.std.specs.Prelude.{Option, None, option_map}
 use Rattle.mal_parser.specs.declared.error.MalError.{MalError}
 use Rattle.mal_parser.specs.declared.error.MalError.TheVariants as mal
 use Rattle.mal_parser.specs.declared.statement.Statement.{Statement}
@@ -21,13 +20,8 @@ use Rattle.mal_parser.specs.Program.{Program}
 use Rattle.mal_parser.specs.Text.{IsRefused, is_memory}
 use Rattle.store_placement.specs.declared.refusal.PlaceError.{PlaceError}
 use Rattle.store_placement.specs.declared.refusal.PlaceError.TheVariants as place
-use Rattle.store_placement.specs.Demands.{Demands}
-use Rattle.store_placement.specs.Placement.{HasPlacement}
-use Rattle.store_placement.specs.Chosen.{IsChosenList}
 use Rattle.store_placement.specs.Program.{demands_of}
 use Rattle.store_placement.specs.Refusals as placing
-use Rattle.shipped_program.specs.declared.loaded.Loaded.{Loaded}
-use Rattle.shipped_program.specs.Loaded.{IsLoaded}
 use Rattle.cli_micro.specs.Reasons.{mal_reason, NamesStatements}
 
 -- what has a reason is a refusal
@@ -67,16 +61,6 @@ refused_inside program place.NoRoom h = tt
 -- the statements that a refusal names are those of the program
 pub names_inside : (program : Program) (e : PlaceError) → placing.Refuses (demands_of program) e → NamesStatements (length program.statements) e
 names_inside program e h = let P : ℕ → Type 0 = λ n. NamesStatements n e in subst P (length_fixed program) (refused_inside program e h)
-
-pub has_placement : (d : Demands) (addresses : List ℕ) → IsChosenList d addresses → HasPlacement d
-has_placement d addresses h = (slice_index addresses, h.places.places)
-
--- a microprogram begins in its control store
-pub entry_inside : (p : Program) (l : Loaded) → IsLoaded p l → l.entry < 512
-entry_inside p l h = elim (cases_lt p.entry (length (demands_of p).fixed)) [
-  | inl inside ↦ (let low = h.chosen.places.places.in_store p.entry inside in omega (arith, low, h.entry))
-  | inr past ↦ (let none = get_or_past l.placement p.entry 0 (omega (arith, h.chosen.places.count, past)) in omega (arith, none, h.entry))
-]
 
 -- each shipped microprogram is its machine's
 pub shipped_machine : (machine : Machine) (p : Program) → p ≡ listed_program machine → p.machine ≡ machine

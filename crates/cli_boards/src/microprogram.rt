@@ -1,6 +1,6 @@
 //! The microprogram that a board is clocked with: a person's own, from its text, or the one that ships.
 
-ghost use Rattle.std.specs.Prelude.{◌≡◌, ◌<◌, ◌^◌, length, IfOk, IfErr, IfSome};
+ghost use Rattle.std.specs.Prelude.{◌≡◌, ◌<◌, ◌^◌, length, IfOk, IfErr};
 ghost use Rattle.mal_parser.specs.Text.{SpellsProgram};
 ghost use Rattle.shipped_program.specs.Loaded.{IsLoaded};
 ghost use Rattle.shipped_program.specs.Listing.{listed_program};

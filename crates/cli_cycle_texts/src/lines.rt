@@ -1,10 +1,10 @@
 //! The lines of a cycle.
 
-ghost use Rattle.std.specs.Prelude.{◌≡◌, ◌≤◌, ◌<◌, ◌+◌, ◌++◌, ℕ, List, codes, length};
+ghost use Rattle.std.specs.Prelude.{◌≡◌, ◌≤◌, ◌<◌, ◌+◌, ◌++◌, ℕ, List, length};
 ghost use Rattle.store_placement.specs.Placement.{Places};
 ghost use Rattle.store_placement.specs.Program.{demands_of};
 ghost use Rattle.cli_cycle_texts.specs.Naming.{IsWord};
-ghost use Rattle.cli_cycle_texts.specs.Lines.{bus_line, cycle_line, digit_of, flag_text, state_lines};
+ghost use Rattle.cli_cycle_texts.specs.Lines.{bus_line, cycle_line, flag_text, state_lines};
 
 use crate::names::print_word;
 use cli_outside::{numbered, word};

@@ -1,6 +1,6 @@
 //! The trace of a run: the lines of each cycle, put to `err` as it is clocked.
 
-ghost use Rattle.std.specs.Prelude.{◌≡◌, ◌++◌, ℕ, List, Option};
+ghost use Rattle.std.specs.Prelude.{◌++◌, ℕ, List, Option};
 ghost use Rattle.mic_base.specs.Causes.{HasCause};
 ghost use Rattle.mic_base.specs.Streams.{Puts};
 ghost use Rattle.store_placement.specs.Placement.{Places};

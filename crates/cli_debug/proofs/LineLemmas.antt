@@ -5,7 +5,7 @@ use Rattle.std.specs.Option.{option_map}
 use Rattle.std.proofs.lemmas.Bool.Decides.{nat_tests}
 use Rattle.std.proofs.lemmas.List.{append-nil, length-append}
 use Rattle.cli_debug.specs.declared.line.Read.TheVariants as reads
-use Rattle.cli_debug.specs.Told.{IsCutLine, IsFirstLine, ReadsLine, behind_line, line_in}
+use Rattle.cli_debug.specs.Told.{IsFirstLine, ReadsLine, behind_line, line_in}
 
 -- so many bytes of the line were read, and these are left
 pub record IsUnderway (told line rest : List ℕ) : Type 0 where
@@ -13,10 +13,6 @@ pub record IsUnderway (told line rest : List ℕ) : Type 0 where
   pub small : length line ≤ 256
   pub line_is : line_in 256 told ≡ line ++ line_in (256 - length line) rest
   pub behind : behind_line 256 told ≡ behind_line (256 - length line) rest
-
-pub underway_start : (told line : List ℕ) → line ≡ [] → IsUnderway told line told
-underway_start told line none =
-    subst (λ (l : List ℕ). IsUnderway told l told) (sym none) (record { told_is = refl; small = omega arith; line_is = refl; behind = refl })
 
 -- the first byte of what is left goes to the line
 line_more : (n b : ℕ) (rest : List ℕ) → (b == 10) ≡ false → line_in (suc n) (b ∷ rest) ≡ b ∷ line_in n rest
@@ -91,19 +87,11 @@ first_last told line some u =
 pub none_told : (told line : List ℕ) → line ≡ [] → IsUnderway told line [] → told ≡ []
 none_told told line none u = u.told_is ∙ append-nil line ∙ none
 
--- a failing console cuts it
-pub cut_here : (told line rest : List ℕ) → length line < 256 → IsUnderway told line rest → IsCutLine told line (Some rest)
-cut_here told line rest less u = record { rest = rest; left_is = refl; told_is = u.told_is; short = less; unended = u.line_is }
-
 -- ---- between a source and what it has left
 
 -- where the console tells, so far the line was read
 abbrev pub Reading : Option (List ℕ) → List ℕ → Option (List ℕ) → Type 0
 Reading old line left = IfSome old (λ told. (rest : List ℕ) × (left ≡ Some rest) × IsUnderway told line rest)
-
-pub reading_start : (old : Option (List ℕ)) (line : List ℕ) → line ≡ [] → Reading old line old
-reading_start None line none = tt
-reading_start (Some told) line none = (told, refl, underway_start told line none)
 
 some_same : {A : Type 0} → (x y : A) → Some x ≡ Some y → x ≡ y
 some_same x y e = cc
@@ -150,8 +138,3 @@ read_at_end E (Some told) left left' (b ∷ line) same none r =
     let last = first_last told (b ∷ line) (omega arith) (subst (λ (x : List ℕ). IsUnderway told (b ∷ line) x) empty r.2) in
     rw (not_empty b line)
     (subst (λ (l : Option (List ℕ)). IsFirstLine told (b ∷ line) l) (sym (same ∙ r.1 ∙ ap Some empty)) last.0, last.1)
-
-pub read_cut : (old left left' : Option (List ℕ)) (line : List ℕ) → length line < 256 → left' ≡ left → Reading old line left → IfSome old (λ told. IsCutLine told line left')
-read_cut None left left' line less same r = tt
-read_cut (Some told) left left' line less same r =
-    subst (λ (l : Option (List ℕ)). IsCutLine told line l) (sym (same ∙ r.1)) (cut_here told line r.0 less r.2)

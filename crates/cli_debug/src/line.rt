@@ -1,6 +1,6 @@
 //! One line of the console.
 
-ghost use Rattle.std.specs.Prelude.{◌≡◌, ◌≤◌, ◌==◌, if◌then◌else◌, length};
+ghost use Rattle.std.specs.Prelude.{◌≡◌, ◌==◌, if◌then◌else◌};
 ghost use Rattle.mic_base.specs.Causes.{HasCause};
 ghost use Rattle.cli_debug.specs.Told.{ReadsLine};
 

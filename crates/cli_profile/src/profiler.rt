@@ -1,9 +1,7 @@
 //! Counts instructions at their boundaries.
 
-ghost use Rattle.std.specs.Prelude.{◌≡◌, List, [], ℕ, None, replicate, slice_set, IsTrue};
-ghost use Rattle.mic_base.specs.Causes.{HasCause};
-ghost use Rattle.mic_clock.specs.Run.{completes};
-ghost use Rattle.cli_profile.specs.Profile.{Profile, boot_of, completed, more, no_tally, profile_after, row_at, tallies_at, tally_at};
+ghost use Rattle.std.specs.Prelude.{◌≡◌, None, replicate, slice_set};
+ghost use Rattle.cli_profile.specs.Profile.{Profile, boot_of, completed, more, no_tally, profile_after, row_at, tally_at};
 
 use crate::rows::{OTHER, ROWS};
 use mic_base::{Sink, SinkFailed};

@@ -1,6 +1,6 @@
 //! The summary of a generated program's run.
 
-ghost use Rattle.std.specs.Prelude.{◌≡◌, length};
+ghost use Rattle.std.specs.Prelude.{◌≡◌};
 ghost use Rattle.cli_soak.specs.Summary.{soak_summary};
 
 use cli_outside::{numbered, signed};

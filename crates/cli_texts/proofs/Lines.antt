@@ -1,5 +1,5 @@
 -- Lines of the listing, one after another.
-use Rattle.std.proofs.Common.{◌≡◌, ℕ, ◌+◌, ◌<◌, ◌≤◌, ◌⊎◌, inl, inr, List, [], ◌∷◌, ◌++◌, length, get_or, drop, refl, ap, sym, ◌∙◌, subst, add-one, arith, length-append, drop-cons, Some, None, append_assoc}
+use Rattle.std.proofs.Common.{◌≡◌, ℕ, ◌+◌, ◌<◌, ◌≤◌, ◌⊎◌, inl, inr, List, [], ◌∷◌, ◌++◌, length, get_or, drop, refl, ap, sym, ◌∙◌, subst, add-one, arith, length-append, drop-cons, Some, append_assoc}
 use Rattle.std.specs.Prelude.{slice_get}
 use Rattle.std.proofs.lemmas.Option.{slice_get_within, get_or_from_slice_get, slice_get-get_or}
 use Rattle.std.proofs.lemmas.List.{append-nil, drop_all}
@@ -8,9 +8,6 @@ use Rattle.std.specs.List.{concat}
 use Rattle.std.proofs.Math.ListN.{get_or-append}
 use Rattle.std.proofs.Math.Seq.{get_or-append_seam}
 use Rattle.ijvm_image.specs.Image.{ImageView}
-use Rattle.ijvm_paths.specs.declared.kind.Kind.TheVariants as kinds
-use Rattle.ijvm_paths.specs.Kinds.{IsKind}
-use Rattle.ijvm_instr.specs.Instructions.{instr_at}
 use Rattle.cli_texts.specs.Listing.{AreListingLines, IsLineAt, constant_line, pool_text}
 
 -- the lines of the constants from this one on
@@ -69,7 +66,3 @@ concat_step before lines line =
 -- no lines yet
 pub no_lines : (image : ImageView) → AreListingLines image 0 []
 no_lines image = record { long = refl; each = λ at line h. cc }
-
--- at a reached start there is an instruction
-pub started : (image : ImageView) (at : ℕ) → IsKind image at kinds.Start → instr_at image.text at ≡ None → ⊥
-started image at h none = let some = h.1.5.1 in cc

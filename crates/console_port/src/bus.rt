@@ -1,12 +1,12 @@
 //! Memory and console behind one address: what the wires of a machine reach.
 
 ghost use Rattle.mic_base.specs.Streams.{Holds, IsFlushed};
-ghost use Rattle.std.specs.Prelude.{◌/◌, ◌==◌, ◌≡◌, ◌≢◌, ◌≤◌, ◌<◌, ◌+◌, [], ℕ, List, Option, Some, None, Ok, Err, true, false, length, replicate, IsTrue, ◌↔◌, IsSome, slice_get, slice_index, slice_set, IsOk, IfOk, OnOk, OnErr, IfErr, IsErrOf};
+ghost use Rattle.std.specs.Prelude.{◌/◌, ◌==◌, ◌≡◌, ◌≢◌, ◌≤◌, ◌<◌, [], ℕ, List, Option, Some, None, Ok, Err, true, false, length, replicate, IsTrue, ◌↔◌, IsSome, slice_get, slice_index, slice_set, IsOk, IfOk, OnOk, OnErr, IfErr};
 ghost use Rattle.console_port.specs.Access.{IsAccess};
 ghost use Rattle.console_port.specs.Bus.{Shows, Stands, IsLed, ChangesOnly, refused_by, IsRead};
 ghost use Rattle.console_port.specs.Console.{IsLost, IsFault, HasFaultCause, StaysFlushed};
 ghost use Rattle.console_port.specs.Loading.{IsLoaded};
-ghost use Rattle.console_port.specs.World.{World, Refusal, fault_of, console_at, read_refusal, write_refusal, word_refusal, fetch_refusal, byte_in, read_value, after_read, after_write};
+ghost use Rattle.console_port.specs.World.{World, Refusal, fault_of, console_at, read_refusal, write_refusal, word_refusal, fetch_refusal, byte_in, read_value, after_write};
 
 use crate::console::{Console, MOST_KEPT};
 use crate::fault::BusFault;

@@ -2,7 +2,7 @@
 
 ghost use Rattle.mic_base.specs.Causes.{HasCause};
 ghost use Rattle.mic_base.specs.Streams.{Holds, IsFlushed, PutsAndFlushes};
-ghost use Rattle.std.specs.Prelude.{◌≡◌, ◌≢◌, ◌≤◌, ◌<◌, ◌+◌, [], ◌∷◌, ◌++◌, ℕ, List, false, true, drop, length, Ok, IsOk, IfOk, OnOk, OnErr, IfErr, IsErrOf, IsSome, Option, Some, Err};
+ghost use Rattle.std.specs.Prelude.{◌≡◌, ◌≢◌, ◌<◌, ◌+◌, [], ◌∷◌, ◌++◌, ℕ, List, false, true, drop, length, Ok, IsOk, IfOk, OnOk, OnErr, IfErr, IsErrOf, IsSome, Some, Err};
 ghost use Rattle.console_port.specs.Console.{Asks, Untaken, Given, IsLost, IsFault, HasFaultCause, StaysFlushed};
 ghost use Rattle.console_port.specs.World.{next_byte};
 

@@ -1,6 +1,6 @@
 //! An image's text and pool, written into memory.
 
-ghost use Rattle.std.specs.Prelude.{◌≡◌, ◌⊎◌, ◌+◌, ◌*◌, ◌/◌, ◌<◌, ◌≤◌, ℕ, length, slice_index};
+ghost use Rattle.std.specs.Prelude.{◌≡◌, ◌⊎◌, ◌+◌, ◌*◌, ◌<◌, ◌≤◌, ℕ, length, slice_index};
 ghost use Rattle.console_port.specs.Loading.{text_word, IsLoaded};
 
 use crate::map::{FRAME, MOST_POOL, MOST_TEXT, POOL};

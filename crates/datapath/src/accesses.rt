@@ -3,7 +3,7 @@
 ghost use Rattle.std.specs.Prelude.{◌≡◌, ◌≢◌, IsSome, ◌==◌, ◌&&◌, ◌≤◌, ℕ, List, Some, None, Err, is_some, length, OnOk, IfOk, OnErr, IfErr, IsErrOf, IsTrue};
 ghost use Rattle.mic_base.specs.Streams.{Holds};
 ghost use Rattle.console_port.specs.World.{World, console_at};
-ghost use Rattle.console_port.specs.Bus.{Shows, Stands, IsLed, ChangesOnly, refused_by};
+ghost use Rattle.console_port.specs.Bus.{Stands, IsLed, ChangesOnly, refused_by};
 ghost use Rattle.console_port.specs.Console.{IsFault, HasFaultCause, StaysFlushed};
 ghost use Rattle.mic_clock.specs.Edge.{AsksNoMore};
 ghost use Rattle.datapath.specs.Memory.{memory_refusal, byte_refusal, access_refusal, byte_under_way, ports_with};

@@ -6,7 +6,7 @@ ghost use Rattle.micro_word.specs.declared.statement.PlacedNext.{PlacedNext};
 ghost use Rattle.micro_word.specs.Words.{is_next};
 ghost use Rattle.micro_word.specs.Coding.{addr_bits, jam_bits};
 ghost use Rattle.datapath.specs.Next.{target};
-ghost use Rattle.datapath.specs.Jam.{low_bits, high_bit, jammed};
+ghost use Rattle.datapath.specs.Jam.{low_bits, jammed};
 
 /// With JMPC the low bits are those of Addr OR the byte.
 fn low_part(addr: u16, jam: u8, byte: u8) -> u16

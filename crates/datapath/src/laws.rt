@@ -1,6 +1,6 @@
 //! What holds of every datapath's cycles.
 
-ghost use Rattle.std.specs.Prelude.{◌≡◌, ◌≤◌, ◌/◌, ◌%◌, ◌==◌, ◌∷◌, ◌++◌, ℕ, Bool, List, [], Option, None, true, IsTrue, drop};
+ghost use Rattle.std.specs.Prelude.{◌≡◌, ◌≤◌, ◌/◌, ◌%◌, ◌==◌, ◌∷◌, ◌++◌, ℕ, Bool, [], Option, None, true, IsTrue, drop};
 ghost use Rattle.console_port.specs.World.{World};
 ghost use Rattle.mic1_alu.specs.Gates.{enabled};
 ghost use Rattle.micro_word.specs.declared.statement.AluOp.{AluOp};

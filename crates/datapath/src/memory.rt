@@ -1,6 +1,6 @@
 //! The accesses of a cycle that reach memory alone, which none refuses and no fault stops.
 
-ghost use Rattle.std.specs.Prelude.{◌≡◌, ◌<◌, ◌/◌, ℕ, None, is_some, length, true, false};
+ghost use Rattle.std.specs.Prelude.{◌≡◌, ◌<◌, ◌/◌, None, is_some, length, true, false};
 ghost use Rattle.console_port.specs.Bus.{ChangesOnly};
 ghost use Rattle.console_port.specs.World.{World};
 ghost use Rattle.datapath.specs.Memory.{access_refusal, memory_refusal};

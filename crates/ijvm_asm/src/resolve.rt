@@ -1,6 +1,6 @@
 //! Names looked up: what a unit of the source stands for.
 
-ghost use Rattle.std.specs.Prelude.{◌≡◌, ◌≤◌, [], None, Some, IfOk, IsSome, take, drop};
+ghost use Rattle.std.specs.Prelude.{◌≡◌, ◌≤◌, [], Some, IfOk, IsSome, take, drop};
 ghost use Rattle.ijvm_asm.specs.Names.{first_index, labels_of};
 ghost use Rattle.ijvm_asm.specs.ReadingNames.{index_of, label_of, lines_from, lower, operation_of, unit_of, units_from, unknown_lines, unknown_units};
 

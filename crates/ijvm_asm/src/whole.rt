@@ -1,6 +1,6 @@
 //! The whole source: the program that its lines make, or its first refusal.
 
-ghost use Rattle.std.specs.Prelude.{◌≡◌, Ok, None, Some, IfOk, IfErr, IsSome};
+ghost use Rattle.std.specs.Prelude.{◌≡◌, Ok, None, Some, IfOk, IfErr};
 ghost use Rattle.ijvm_asm.specs.Drafts.{RefusesBy};
 ghost use Rattle.ijvm_asm.specs.Names.{constants_of};
 ghost use Rattle.ijvm_asm.specs.ReadingNames.{missing, whole_program, unknown};

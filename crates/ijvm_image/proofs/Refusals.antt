@@ -4,8 +4,8 @@ use Rattle.ijvm_image.specs.declared.reader.Block.{Block}
 use Rattle.ijvm_image.specs.declared.image.ImageError.{ImageError}
 use Rattle.ijvm_image.specs.declared.image.ImageError.TheVariants as errors
 use Rattle.ijvm_image.specs.Image.{ImageView}
-use Rattle.ijvm_image.specs.ImageFile.{magic, word_at, is_origin, is_size, block_rows, block_end, refusals, first_refusal, IsRefused}
-use Rattle.ijvm_image.specs.Reading.{and_then, field, block_from, block_at, joined, ended, image_read}
+use Rattle.ijvm_image.specs.ImageFile.{magic, word_at, is_origin, is_size, block_rows, block_end, first_refusal, IsRefused}
+use Rattle.ijvm_image.specs.Reading.{and_then, block_at, joined, image_read}
 
 abbrev Rows : Type 0
 Rows = List (Bool × ImageError)

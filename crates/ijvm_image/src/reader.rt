@@ -1,6 +1,6 @@
 //! Reading an image file.
 
-ghost use Rattle.std.specs.Prelude.{◌≡◌, ◌⊎◌, ◌+◌, ◌*◌, ◌≤◌, ◌<◌, ℕ, List, length, slice_index, IfOk, IfErr, Ok, Err, Some, None, IsNone};
+ghost use Rattle.std.specs.Prelude.{◌≡◌, ◌⊎◌, ◌+◌, ◌*◌, ◌≤◌, ◌<◌, length, IfOk, IfErr, Ok, Err, Some, None};
 ghost use Rattle.ijvm_image.specs.Image.{ImageView, IsWithinLimits};
 ghost use Rattle.ijvm_image.specs.ImageFile.{half_at, word_at, is_origin, is_size, IsFileOf, IsRefused};
 ghost use Rattle.ijvm_image.specs.Reading.{field, block_from, block_at, words_at, image_of, image_read, IsWithin};

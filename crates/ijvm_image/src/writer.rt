@@ -1,9 +1,9 @@
 //! Writing an image file.
 
-ghost use Rattle.std.specs.Prelude.{◌≡◌, ◌+◌, ◌≤◌, ◌<◌, ◌^◌, ◌++◌, length, take, OnOk, IfOk, ◌*◌};
+ghost use Rattle.std.specs.Prelude.{◌≡◌, ◌+◌, ◌≤◌, ◌<◌, ◌++◌, length, OnOk, IfOk, ◌*◌};
 ghost use Rattle.std.specs.List.{flat_map};
 ghost use Rattle.ijvm_instr.specs.Instructions.{two_bytes};
-ghost use Rattle.ijvm_image.specs.ImageFile.{word_bytes, block_of, file_of, IsFileOf};
+ghost use Rattle.ijvm_image.specs.ImageFile.{word_bytes, block_of, file_of};
 
 use crate::image::Image;
 use std::alloc::{AllocError, Global};

@@ -1,7 +1,7 @@
 //! The text of an instruction in lists and traces.
 
 ghost use Rattle.std.specs.Prelude.{◌≡◌, ◌+◌, ◌≤◌, ◌<◌, ◌++◌, length, unsigned_abs};
-ghost use Rattle.ijvm_instr.specs.Instructions.{name_of, row_of, target};
+ghost use Rattle.ijvm_instr.specs.Instructions.{name_of, target};
 ghost use Rattle.ijvm_instr.specs.Text.{number_text, operand_text, instr_text};
 
 use crate::instr::Instr;

@@ -1,11 +1,11 @@
 -- The list of a method's parameters is read as what it spells.
-use Rattle.std.proofs.Common.{◌≡◌, ℕ, ◌≤◌, List, [], ◌∷◌, true, false, drop, length, refl, ap, arith}
+use Rattle.std.proofs.Common.{◌≡◌, ℕ, List, [], ◌∷◌, true, refl, ap}
 use Rattle.std.specs.List.{filter_map}
 use Rattle.ijvm_tokens.specs.declared.sign.Sign.TheVariants as signs
 use Rattle.ijvm_tokens.specs.declared.token.Token.{Token}
 use Rattle.ijvm_tokens.specs.declared.token.Token.TheVariants as tokens
 use Rattle.ijvm_line.specs.Parameters.{list_tokens, method_tokens, more_tokens, name_of, parameters}
-use Rattle.ijvm_line.specs.Reading.{begins_comma, is_close, is_list, is_more}
+use Rattle.ijvm_line.specs.Reading.{is_close, is_list, is_more}
 
 more_names : (ps : List (List ℕ)) → filter_map name_of (more_tokens ps) ≡ ps
 more_names [] = refl
@@ -39,16 +39,3 @@ list_is (tokens.Sign s ∷ rest) h = ([], close_is (tokens.Sign s ∷ rest) h)
 list_is (tokens.Number v ∷ rest) h = absurd (cc)
 
 -- ---- the loop
-
-pub more_on : (ts : List Token) → begins_comma ts ≡ true → is_more ts ≡ is_more (drop 2 ts)
-more_on (tokens.Sign signs.Comma ∷ tokens.Name p ∷ rest) h = refl
-more_on _ h = absurd (cc)
-
-pub more_end : (ts : List Token) → begins_comma ts ≡ false → is_more ts ≡ is_close ts
-more_end (tokens.Sign signs.Comma ∷ tokens.Name p ∷ rest) h = absurd (cc)
-more_end _ h = refl
-
-pub comma_long : (ts : List Token) → begins_comma ts ≡ true → 2 ≤ length ts
-comma_long (a ∷ b ∷ rest) h = omega arith
-comma_long (tokens.Sign signs.Comma ∷ []) h = absurd (cc)
-comma_long _ h = absurd (cc)

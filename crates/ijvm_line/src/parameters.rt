@@ -1,6 +1,6 @@
 //! The list of a method's parameters.
 
-ghost use Rattle.std.specs.Prelude.{◌≡◌, ◌<◌, ◌≤◌, length, IfOk};
+ghost use Rattle.std.specs.Prelude.{◌≡◌, ◌<◌, IfOk};
 ghost use Rattle.std.specs.List.{filter_map};
 ghost use Rattle.ijvm_line.specs.Parameters.{name_of, parameters};
 ghost use Rattle.ijvm_line.specs.Reading.{begins_comma, is_close, is_list, is_more};

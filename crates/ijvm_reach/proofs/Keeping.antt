@@ -1,6 +1,6 @@
 -- What the search for reached addresses keeps, and what follows when it is over.
 use Rattle.std.proofs.Common.{◌≡◌, ◌≢◌, ℕ, zero, suc, ◌+◌, ◌-◌, ◌*◌, ◌<◌, ◌≤◌, inl, inr, Bool, true, false, cond, Option, Some, None, List, [], ◌∷◌, ◌++◌, length, refl, arith, ◌∙◌, ap, sym, subst, length-set, length-append, replicate}
-use Rattle.std.specs.Prelude.{slice_get, slice_set, Contains, not, nat_lt, IfNone}
+use Rattle.std.specs.Prelude.{slice_get, slice_set, Contains, not, nat_lt}
 use Rattle.std.specs.Option.{option_eq, option_map}
 use lib.Dec.{eqb}
 use Rattle.std.proofs.lemmas.Bool.{cases_eq, le-ltb, eq-eqb, ltb-true}
@@ -19,7 +19,7 @@ use Rattle.ijvm_paths.specs.declared.error.VerifyError.{VerifyError}
 use Rattle.ijvm_paths.specs.declared.error.VerifyError.TheVariants.{BadCode, FallsOff, BadTarget, Overlap, BadConstant, BadEntry, BadHeader, LinkSlot, BadLocal, UnsetLocal, TooFewArguments, Underflow, DepthDiffers, ReturnInMain, MainFrame, OutOfMemory}
 use Rattle.ijvm_paths.specs.Paths.{Arrival, arrival, HasRow, HasConstant, callee, need_by, need_of, GoesOn, left_unset, On, Into, Reached, Start, Then, HasNext, HasJump}
 use Rattle.ijvm_paths.specs.Facts.{Names, IsWrongAt, IsTrueOf, Code}
-use Rattle.ijvm_reach.specs.Search.{kept_at, kept_of, IsChecked, empties, IsKept, AllFollow, IsDone, IsSearch, Grows, IsRunning, IsClosed, IsDecided}
+use Rattle.ijvm_reach.specs.Search.{kept_at, kept_of, IsChecked, empties, IsKept, IsDone, IsSearch, Grows, IsRunning, IsClosed, IsDecided}
 
 pub get_set_same : {X : Type 0} (xs : List X) (i : ℕ) (v : X) → i < length xs → slice_get (slice_set xs i v) i ≡ Some v
 get_set_same [] i v lt = absurd (omega arith)
@@ -44,15 +44,6 @@ pub empties_few : (xs : List (Option Kept)) → empties xs ≤ length xs
 empties_few [] = omega arith
 empties_few (None ∷ xs) = let h : empties xs ≤ length xs = empties_few xs in omega arith
 empties_few (Some k ∷ xs) = let h : empties xs ≤ length xs = empties_few xs in omega arith
-
-pub grows_none : (seen : List (Option Kept)) (todo : List ℕ) → Grows seen seen todo todo
-grows_none seen todo = record {
-  keeps = λ at k is. is;
-  fresh = λ at k is. inl is;
-  todo_stays = λ at has. has;
-  fewer = omega arith;
-  measure = refl;
-}
 
 pub grows_on : (a b c : List (Option Kept)) (x y z : List ℕ) → Grows a b x y → Grows b c y z → Grows a c x z
 grows_on a b c x y z g h = record {
@@ -156,30 +147,6 @@ pub on_way : (image : ImageView) (here : Kept) (at : ℕ) (r : Row) (need to : �
 on_way image here at r need to f reached checked flow way inside =
     reach_on image (kept_at here at) r need to (here.depth - need + r.gives) reached refl checked
     (subst (λ (g : Flow). GoesOn g at (at + size_of r) to) (sym flow) way) inside (omega (arith, checked.enough))
-
--- what follows is kept, if the addresses on the unit's way and the called method's start are
-pub follow_kept : (image : ImageView) (seen : List (Option Kept)) (here : Kept) (at : ℕ) (r : Row) (need d : ℕ) → IsChecked image (kept_at here at) r need → d + need ≡ here.depth + r.gives →
-    ((to : ℕ) → GoesOn r.flow at (at + size_of r) to → slice_get seen to ≡ Some (Some (record { unit = here.unit; depth = d }))) →
-    ((k e : ℕ) → r.flow ≡ Call k → slice_get image.pool k ≡ Some e → slice_get seen (e + 4) ≡ Some (Some (record { unit = Some e; depth = 0 }))) →
-    AllFollow image seen here at
-follow_kept image seen here at r need d checked depth next enter c b (On q n g) =
-    let same : q ≡ r = checked.alone q g.works.has_row in
-    let needs : n ≡ need = one n need (need_of image q.needs q.flow) (need_of image r.needs r.flow) (ap (λ (x : Row). need_of image x.needs x.flow) same) g.works.needs checked.needs in
-    let way : GoesOn r.flow at (at + size_of r) b.at = subst (λ (x : Row). GoesOn x.flow at (at + size_of x) b.at) same g.way in
-    let gives : q.gives ≡ r.gives = ap (λ (x : Row). x.gives) same in
-    let deep : b.depth ≡ d = omega (arith, g.depth_is) in
-    let this : slice_get seen b.at ≡ Some (Some (record { unit = here.unit; depth = d })) = next b.at way in
-    let target : kept_of here.unit d ≡ kept_of b.unit b.depth = λ i. kept_of (sym g.unit_is i) (sym deep i) in
-    this ∙ ap (λ (k : Kept). Some (Some k)) target
-  where
-    one : (x y : ℕ) (o p : Option ℕ) → o ≡ p → o ≡ Some x → p ≡ Some y → x ≡ y
-    one x y o p e f g = cc
-follow_kept image seen here at r need d checked depth next enter c b (Into q n e g) =
-    let same : q ≡ r = checked.alone q g.works.has_row in
-    let call : r.flow ≡ Call g.calls.0 = sym (ap (λ (x : Row). x.flow) same) ∙ g.calls.1 in
-    let this : slice_get seen (e + 4) ≡ Some (Some (record { unit = Some e; depth = 0 })) = enter g.calls.0 e call g.calls.2 in
-    let target : kept_of (Some e) 0 ≡ kept_of b.unit b.depth = λ i. kept_of (sym g.unit_is i) (sym g.depth_is i) in
-    ap (slice_get seen) g.at_is ∙ (this ∙ ap (λ (k : Kept). Some (Some k)) target)
 
 -- the one fact that this search does not decide of an arrival
 abbrev IsCarried : VerifyError → Type 0
@@ -428,7 +395,3 @@ pub empty_text : (text : List ℕ) → length text ≡ 0 → instr_at text 0 ≡
 unfolding instr_at of_bytes
 empty_text [] none = refl
 empty_text (x ∷ xs) none = absurd (omega arith)
-
-pub if_none : {X : Type 0} (o : Option X) (P : Type 0) → ((x : X) → o ≡ Some x → ⊥) → IfNone o P → P
-if_none None P other h = h
-if_none (Some x) P other h = absurd (other x refl)

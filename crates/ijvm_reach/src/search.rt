@@ -1,11 +1,10 @@
 //! The search for the reached addresses, with their units and depths.
 
-ghost use Rattle.std.specs.Prelude.{◌≡◌, ◌≢◌, ◌+◌, ◌*◌, ◌<◌, ◌≤◌, ℕ, [], ◌∷◌, ◌++◌, length, slice_get, Contains, replicate, Some, None, IfOk, IfErr, OnOk, IfSome, IfNone};
-ghost use Rattle.ijvm_instr.specs.Instructions.{target};
+ghost use Rattle.std.specs.Prelude.{◌≡◌, ◌+◌, ◌*◌, ◌<◌, ◌≤◌, ℕ, [], length, slice_get, Contains, replicate, Some, None, IfOk, IfErr, OnOk, IfSome, IfNone};
 ghost use Rattle.ijvm_paths.specs.declared.error.VerifyError.{VerifyError};
-ghost use Rattle.ijvm_paths.specs.Paths.{arrival, Reached, HasJump};
+ghost use Rattle.ijvm_paths.specs.Paths.{arrival, Reached};
 ghost use Rattle.ijvm_paths.specs.Facts.{IsTrueOf};
-ghost use Rattle.ijvm_reach.specs.Search.{kept_at, kept_of, States, IsChecked, IsKept, IsTaken, IsDone, AllFollow, IsSearch, Grows, IsRunning, IsClosed, IsDecided, empties};
+ghost use Rattle.ijvm_reach.specs.Search.{kept_at, States, IsChecked, IsKept, IsTaken, IsDone, AllFollow, IsSearch, Grows, IsRunning, IsClosed, IsDecided, empties};
 
 use crate::checks::{Found, check_at};
 use crate::code::{constant_at, decode, text_len};

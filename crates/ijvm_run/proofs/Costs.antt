@@ -1,5 +1,5 @@
 -- The cost columns, computed: each instruction, each outcome of a branch and each kind of entry, on both machines.
-use Rattle.std.specs.Prelude.{◌≡◌, ℕ, ◌+◌, List, [], ◌∷◌, ℤ}
+use Rattle.std.specs.Prelude.{◌≡◌, ℕ, List, [], ◌∷◌, ℤ}
 use Rattle.std.proofs.Common.{refl}
 use Rattle.machine_words.specs.declared.machine.Machine.TheVariants.{Mic1, Mic2}
 use Rattle.ijvm_instr.specs.declared.instr.Instr.{Instr}

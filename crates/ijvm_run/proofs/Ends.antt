@@ -1,5 +1,5 @@
 -- A run has one end, at the last boundary that it passes.
-use Rattle.std.proofs.Common.{◌≡◌, ◌<◌, ◌≤◌, ◌↔◌, ℕ, zero, suc, ◌+◌, Bool, true, false, nat_le, Option, Some, None, refl, sym, ap, subst, ◌∙◌}
+use Rattle.std.proofs.Common.{◌≡◌, ◌<◌, ℕ, zero, suc, Bool, true, false, nat_le, Option, Some, refl, sym, ap, subst, ◌∙◌}
 use Rattle.std.proofs.lemmas.Bool.{lt-leb, leb-false}
 use Rattle.ijvm_image.specs.Image.{ImageView}
 use Rattle.ijvm_run.specs.Frames.{State}

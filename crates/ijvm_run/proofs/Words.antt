@@ -1,5 +1,5 @@
 -- Steps keep words: what is pushed, stored, added and returned is a word.
-use Rattle.std.proofs.Common.{◌≡◌, ◌<◌, ◌≤◌, ◌^◌, ℕ, zero, suc, ◌+◌, ◌-◌, ◌==◌, ℤ, pos, negsuc, FitsSigned, Bool, true, false, nat_lt, nat_le, if◌then◌else◌, List, [], ◌∷◌, ◌++◌, All, length, take, drop, replicate, Option, Some, None, IfSome, refl, sym, subst, arith}
+use Rattle.std.proofs.Common.{◌≡◌, ◌<◌, ◌≤◌, ◌^◌, ℕ, zero, suc, ◌+◌, ◌-◌, ◌==◌, ℤ, pos, negsuc, FitsSigned, Bool, true, false, nat_lt, nat_le, if◌then◌else◌, List, [], ◌∷◌, All, length, take, drop, replicate, Option, Some, None, IfSome, refl, sym, subst, arith}
 use Rattle.std.specs.Prelude.{slice_get, bit_and, bit_or}
 use Rattle.std.specs.Int.{w8}
 use Rattle.std.specs.Int.Bits.{and_lt}
@@ -14,7 +14,7 @@ use Rattle.ijvm_instr.specs.Instructions.{IsInstr, instr_at, word_of, target}
 use Rattle.ijvm_image.specs.declared.method.Method.{Method}
 use Rattle.ijvm_image.specs.Image.{ImageView, IsImage, method_at, params, others}
 use Rattle.ijvm_run.specs.Frames.{Frame, State, frames_of, base, start_of, IsWord, HasWords, AreWords}
-use Rattle.ijvm_run.specs.Step.{Outcome, Goes, Halts, Errs, Limits, Stuck, limited, moved, pushed, pushed_constant, loaded, is_own, with_local, stored, increased, popped, doubled, swapped, combined, way, branched, compared, returned, onto, called, in_method, entered, called_at, taken, read_in, given_out, step, step_if_any, outcome}
+use Rattle.ijvm_run.specs.Step.{Outcome, Goes, Halts, Errs, Limits, Stuck, moved, pushed, pushed_constant, loaded, is_own, with_local, stored, increased, popped, doubled, swapped, combined, way, branched, compared, returned, onto, called, in_method, entered, called_at, taken, given_out, step, step_if_any, outcome}
 use Rattle.ijvm_run.specs.Run.{Program, Point, Passes, Start, More}
 
 found : {X : Type 0} (P : X → Type 0) (xs : List X) (i : ℕ) → All P xs → IfSome (slice_get xs i) P

@@ -3,7 +3,6 @@ use Rattle.std.proofs.Common.{◌≡◌, ◌≢◌, ℕ, zero, suc, ◌+◌, ◌
 use Rattle.std.specs.Prelude.{nat_le, IfSome}
 use Rattle.std.proofs.lemmas.Option.{same_Some}
 use Rattle.mic_clock.specs.declared.counts.Counts.{Counts}
-use Rattle.mic_clock.specs.declared.end.End.TheVariants as clocked
 use Rattle.mic_clock.specs.Meaning.{Meaning}
 use Rattle.mic_clock.specs.View.{BoardView}
 use Rattle.ijvm_run.specs.declared.run.RunEnd.{RunEnd}
@@ -71,9 +70,6 @@ module _ (p q : Program) (image : q.image ≡ p.image) (stack_end : q.stack_end 
   alike (suc n) zero at to f g same many ef eg nf ng = absurd (cc)
   alike (suc n) (suc k) at to f g same many ef eg nf ng =
       by_tests n k (alike n k) at to f g same many (nat_le b at.cycles) (nat_le c to.cycles) ef eg nf ng
-
-end_bound : (e : RunEnd) → e ≡ defined.Bound → board_end e ≡ clocked.Bound
-end_bound e is = ap board_end is
 
 both_told : (held held' : Option (List ℕ)) (x y : List ℕ) → x ≡ y → IfSome held (λ h. h ≡ x) → IfSome held' (λ h. h ≡ y) → IfSome held (λ h. IfSome held' (λ h'. h ≡ h'))
 both_told None held' x y e a b = tt

@@ -1,6 +1,6 @@
 //! The tokens of a line.
 
-ghost use Rattle.std.specs.Prelude.{◌≡◌, ◌+◌, ◌<◌, ◌≤◌, ◌∷◌, ◌↔◌, Some, length, IfOk, IsErrOf, List, ℕ};
+ghost use Rattle.std.specs.Prelude.{◌≡◌, ◌+◌, ◌<◌, ◌≤◌, ◌↔◌, Some, length, IfOk, IsErrOf, List, ℕ};
 ghost use Rattle.std.specs.List.{prefix_len};
 ghost use Rattle.ijvm_tokens.specs.declared.token.Token.{Token};
 ghost use Rattle.ijvm_tokens.specs.Tokens.{begins_number, is_word_byte, number_value, SpellsTokens};

@@ -1,9 +1,8 @@
 //! Where the reached instructions lead in their units, and which locals they name.
 
-ghost use Rattle.std.specs.Prelude.{◌≡◌, ◌<◌, ◌≤◌, ◌+◌, ℕ, length, slice_get, Some, None, IfOk, IfErr};
+ghost use Rattle.std.specs.Prelude.{◌≡◌, ◌<◌, ◌≤◌, ◌+◌, length, Some, None, IfOk, IfErr};
 ghost use Rattle.ijvm_instr.specs.Instructions.{size_of};
-ghost use Rattle.ijvm_paths.specs.Paths.{HasRow};
-ghost use Rattle.ijvm_reach.specs.Search.{IsClosed, kept_at, IsChecked};
+ghost use Rattle.ijvm_reach.specs.Search.{IsClosed};
 ghost use Rattle.ijvm_unset.specs.Graph.{IsNodeOf, IsNodeAt, IsGraph};
 
 use ijvm_image::Image;

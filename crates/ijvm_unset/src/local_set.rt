@@ -1,6 +1,6 @@
 //! Sets of locals, in groups of 64: the group g has the locals from 64 g to 64 g + 63, each with its place in the group.
 
-ghost use Rattle.std.specs.Prelude.{◌≡◌, ◌≢◌, ◌⊎◌, ◌<◌, ◌≤◌, ◌↔◌, ℕ, IsTrue};
+ghost use Rattle.std.specs.Prelude.{◌≢◌, ◌⊎◌, ◌<◌, ◌≤◌, ◌↔◌, ℕ, IsTrue};
 ghost use Rattle.ijvm_unset.specs.LocalSet.{Has};
 
 /// Locals of one group.

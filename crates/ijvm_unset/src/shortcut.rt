@@ -1,6 +1,6 @@
 //! Shortcuts past the instructions that name no local and lead to one address alone, so that no search comes to them again and again. Ways to instructions that read no local and lead nowhere are left out.
 
-ghost use Rattle.std.specs.Prelude.{◌≡◌, ◌<◌, ◌≤◌, length, Option, ℕ, IsTrue, IfOk, IfSome};
+ghost use Rattle.std.specs.Prelude.{◌≡◌, ◌<◌, length, Option, ℕ, IsTrue, IfOk, IfSome};
 ghost use Rattle.ijvm_unset.specs.declared.graph.Node.{Node};
 ghost use Rattle.ijvm_unset.specs.Graph.{LeadsTo, IsInside};
 ghost use Rattle.ijvm_unset.specs.Shortcut.{IsPlain, first_way, IsEnd, IsPast, IsShort};

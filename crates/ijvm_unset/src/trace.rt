@@ -1,11 +1,11 @@
 //! The search of a graph for reads of locals that no store comes before, 64 locals at a time.
 
-ghost use Rattle.std.specs.Prelude.{◌≡◌, ◌≢◌, ◌+◌, ◌/◌, ◌%◌, ◌<◌, ◌≤◌, ◌⊎◌, ◌↔◌, ℕ, [], ◌∷◌, ◌++◌, length, slice_get, replicate, Some, None, Ok, IfOk, OnOk, IfSome, IfNone};
+ghost use Rattle.std.specs.Prelude.{◌≡◌, ◌≢◌, ◌+◌, ◌/◌, ◌%◌, ◌<◌, ◌↔◌, ℕ, length, Some, None, Ok, IfOk, OnOk, IfSome, IfNone};
 ghost use Rattle.ijvm_unset.specs.declared.graph.Node.{Node};
 ghost use Rattle.ijvm_unset.specs.declared.trace.Mark.{Mark};
 ghost use Rattle.ijvm_unset.specs.LocalSet.{Has, IsIn};
-ghost use Rattle.ijvm_unset.specs.Graph.{LeadsTo, IsInside, Carries};
-ghost use Rattle.ijvm_unset.specs.Trace.{HoldsMore, AllPass, OnlyPass, ReadsMarked, IsHeld, IsMarked, MarksMore, IsPassed, Passes, IsTracing, IsReady, ReadsUnset, ReadsNone, blanks, held_at};
+ghost use Rattle.ijvm_unset.specs.Graph.{LeadsTo, IsInside};
+ghost use Rattle.ijvm_unset.specs.Trace.{HoldsMore, AllPass, OnlyPass, ReadsMarked, IsHeld, MarksMore, IsReady, ReadsUnset, ReadsNone, held_at};
 
 use crate::graph::Node;
 use crate::local_set::LocalSet;

@@ -1,7 +1,6 @@
 //! Whether each read of a method's own local comes behind a store to it.
 
-ghost use Rattle.std.specs.Prelude.{◌≡◌, ◌≢◌, ◌+◌, ◌*◌, ◌/◌, ◌<◌, ◌≤◌, ◌↔◌, ℕ, length, slice_get, Contains, Some, false, IfOk, IfErr, OnOk, IfSome};
-ghost use Rattle.ijvm_image.specs.Image.{params};
+ghost use Rattle.std.specs.Prelude.{◌≡◌, ◌+◌, ◌*◌, ◌/◌, ◌<◌, ◌≤◌, ◌↔◌, ℕ, length, slice_get, Some, false, IfOk, IfErr, OnOk, IfSome};
 ghost use Rattle.ijvm_paths.specs.declared.error.VerifyError.{VerifyError};
 ghost use Rattle.ijvm_unset.specs.declared.graph.Node.{Node};
 ghost use Rattle.ijvm_reach.specs.declared.kept.Kept.{Kept};
@@ -11,7 +10,7 @@ ghost use Rattle.ijvm_paths.specs.Facts.{IsTrueOf};
 ghost use Rattle.ijvm_reach.specs.Search.{IsClosed, States};
 ghost use Rattle.ijvm_unset.specs.Graph.{IsGraph};
 ghost use Rattle.ijvm_unset.specs.Shortcut.{IsShortGraph};
-ghost use Rattle.ijvm_unset.specs.LocalSet.{Has, IsIn};
+ghost use Rattle.ijvm_unset.specs.LocalSet.{IsIn};
 ghost use Rattle.ijvm_unset.specs.Trace.{IsReady};
 ghost use Rattle.ijvm_unset.specs.Unset.{AreSet, Wants, AreWanted};
 

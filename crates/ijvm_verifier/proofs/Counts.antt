@@ -1,5 +1,5 @@
 -- The count of main's locals.
-use Rattle.std.proofs.Common.{◌≡◌, ◌≢◌, ℕ, ◌+◌, ◌<◌, ◌≤◌, ◌⊎◌, inl, inr, Option, Some, None, List, length, refl, arith, ◌∙◌, ap, sym, subst}
+use Rattle.std.proofs.Common.{◌≡◌, ◌≢◌, ℕ, ◌+◌, ◌<◌, ◌≤◌, ◌⊎◌, inl, inr, Option, Some, None, List, length, arith, ◌∙◌, ap, sym, subst}
 use Rattle.std.specs.Prelude.{slice_get}
 use Rattle.std.proofs.lemmas.Bool.{cases_lt}
 use Rattle.std.proofs.lemmas.Option.{slice_get_within}
@@ -20,9 +20,6 @@ use Rattle.ijvm_verifier.specs.Counted.{NodeNames, IsCounted}
 use Rattle.ijvm_verifier.specs.Survey.{IsSurvey}
 use Rattle.ijvm_paths.specs.Sound.{KeepsSound}
 use Rattle.ijvm_paths.specs.Accepted.{IsVerified}
-
-pub counted_none : (image : ImageView) → IsCounted image 0 0
-counted_none image = record { above = λ a r k h lt row unit names. absurd (omega arith); least = inl refl }
 
 pub counted_skip : (image : ImageView) (seen : List (Option Kept)) (n count : ℕ) → IsClosed image seen → IsCounted image n count → ((k : Kept) → slice_get seen n ≡ Some (Some k) → k.unit ≢ None) → IsCounted image (n + 1) count
 counted_skip image seen n count closed s other = record {

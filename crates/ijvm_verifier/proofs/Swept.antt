@@ -32,9 +32,6 @@ method_inside image seen e closed m = omega (arith, slice_get_within seen (e + 4
 pub one_unit : (seen : List (Option Kept)) (at : ℕ) (here k : Kept) → slice_get seen at ≡ Some (Some here) → slice_get seen at ≡ Some (Some k) → here.unit ≡ k.unit
 one_unit seen at here k p q = let e : here ≡ k = cc in ap (λ (x : Kept). x.unit) e
 
-pub swept_none : (image : ImageView) → IsSwept image 0 0
-swept_none image = record { apart = λ p q b lp lq cp cq. absurd (omega arith); ends = λ p b l c. absurd (omega arith); last = λ b le lt. absurd (omega arith) }
-
 -- no piece of this rank
 pub swept_skip : (image : ImageView) (n end : ℕ) → IsSwept image n end → ((p : Piece) (b : ℕ) → rank p ≡ n → Covers image p b → ⊥) → IsSwept image (n + 1) end
 swept_skip image n end s free = record {

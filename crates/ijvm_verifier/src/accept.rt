@@ -1,6 +1,6 @@
 //! Verifying an image.
 
-ghost use Rattle.std.specs.Prelude.{◌≡◌, ◌≢◌, ◌⊎◌, ◌≤◌, ℕ, IfOk, IfErr};
+ghost use Rattle.std.specs.Prelude.{◌≡◌, ◌≢◌, ◌⊎◌, ℕ, IfOk, IfErr};
 ghost use Rattle.console_port.specs.Map.{IsMap};
 ghost use Rattle.ijvm_paths.specs.Facts.{IsTrueOf};
 ghost use Rattle.ijvm_reach.specs.Search.{States};

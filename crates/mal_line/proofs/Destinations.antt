@@ -1,5 +1,5 @@
 -- C loads exactly the registers whose words are named.
-use Rattle.std.proofs.Common.{◌≡◌, ℕ, zero, suc, ◌<◌, List, [], ◌∷◌, Some, IsTrue, Contains, refl, sym, ap, subst, ◌∙◌, arith, inl, inr}
+use Rattle.std.proofs.Common.{◌≡◌, ℕ, zero, suc, ◌<◌, List, [], ◌∷◌, IsTrue, Contains, refl, sym, ap, subst, ◌∙◌, arith, inl, inr}
 use Rattle.std.specs.Prelude.{◌⊎◌, bit_or, max}
 use Rattle.std.specs.Int.{bit_at}
 use Rattle.std.proofs.lemmas.Nat.Bits.{bit_at_or, bit_at-lt}
@@ -10,7 +10,7 @@ use Rattle.micro_word.specs.declared.destination.Destination.TheVariants as regi
 use Rattle.micro_word.specs.Destinations.{loads, register_bit}
 use Rattle.mal_tokens.specs.declared.word.Word.{Word}
 use Rattle.mal_tokens.specs.declared.word.Word.TheVariants as words
-use Rattle.mal_line.specs.Chains.{bit, dest_bits, LoadsNamed, register_of, register_word}
+use Rattle.mal_line.specs.Chains.{bit, dest_bits, LoadsNamed, register_word}
 
 -- ---- the number of a register's bit
 
@@ -102,10 +102,6 @@ own_bit registers.Sp = refl
 own_bit registers.Pc = refl
 own_bit registers.Mdr = refl
 own_bit registers.Mar = refl
-
--- which word a register's is
-Worded : Word → Type 0
-Worded w = (q : Destination) → register_of w ≡ Some q → w ≡ register_word q
 
 no_bit : (r : Destination) → IsTrue (loads 0 r) → ⊥
 no_bit registers.H h = cc

@@ -1,7 +1,7 @@
 //! The coding of an expression, looked up by its tokens.
 ghost use Rattle.std.specs.Prelude.{◌≡◌};
 ghost use Rattle.micro_word.specs.Words.{is_h};
-ghost use Rattle.mal_line.specs.Lookup.{added, both, checked, coding_of, form_of, is_number, is_plus, joined, from_one_source, negated, sum_and_one, on_a, on_b, operand_of, opposite, paired, prefixed, shift_of, single, source_of, taken, with_shift, work};
+ghost use Rattle.mal_line.specs.Lookup.{added, both, checked, coding_of, form_of, is_plus, joined, from_one_source, negated, sum_and_one, operand_of, opposite, paired, prefixed, shift_of, single, source_of, taken, work};
 
 use crate::chain::Tail;
 use crate::operation::Operation;

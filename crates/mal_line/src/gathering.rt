@@ -1,7 +1,7 @@
 //! The parts of a statement, gathered one by one.
 ghost use Rattle.std.specs.Prelude.{◌≡◌, ◌≤◌, length, not, None, Some};
 ghost use Rattle.std.specs.List.{prefix_len};
-ghost use Rattle.mal_line.specs.Reading.{add, add_behind, add_else, add_free, add_tokens, empty, ended, gathered_jump, is_access, tree_of};
+ghost use Rattle.mal_line.specs.Reading.{add, add_behind, add_else, add_free, add_tokens, ended, gathered_jump, tree_of};
 ghost use Rattle.mal_line.specs.Statements.{is_semicolon};
 
 use crate::piece::{Piece, piece_of};

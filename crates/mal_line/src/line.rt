@@ -1,5 +1,5 @@
 //! A line, by its form.
-ghost use Rattle.std.specs.Prelude.{◌≡◌, ◌∷◌, IfOk, IfErr};
+ghost use Rattle.std.specs.Prelude.{◌≡◌, IfOk, IfErr};
 ghost use Rattle.mal_line.specs.Lines.{HasPart, is_foreign, IsRefused, names_foreign, SpellsLine};
 ghost use Rattle.mal_line.specs.Reading.{behind_colon, fix_of, form_of, labelled, line_from};
 

@@ -1,6 +1,6 @@
 //! What stands between two semicolons.
-ghost use Rattle.std.specs.Prelude.{◌≡◌, ◌∷◌};
-ghost use Rattle.mal_line.specs.Reading.{alone, branch_on, else_of, goto_of, head_of, if_of, is_byte_in, is_goto, is_or, is_test_in, name_of, offset_of, piece_by, piece_of, test_of};
+ghost use Rattle.std.specs.Prelude.{◌≡◌};
+ghost use Rattle.mal_line.specs.Reading.{alone, branch_on, else_of, goto_of, head_of, if_of, is_byte_in, is_goto, is_or, is_test_in, name_of, offset_of, piece_of, test_of};
 ghost use Rattle.mal_line.specs.Statements.{is_byte_word};
 
 use crate::chain::{Assignment, chain_of};

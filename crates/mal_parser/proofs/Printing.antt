@@ -1,6 +1,6 @@
 -- What printing a program needs to know of it, and the lines that are printed so far.
 use Rattle.std.proofs.Common.{◌≡◌, ℕ, zero, suc, ◌+◌, ◌<◌, List, [], ◌∷◌, ◌++◌, Option, Some, None, length, get_or, take, refl, sym, ap, subst, ◌∙◌, arith, append_assoc}
-use Rattle.std.specs.Prelude.{IfSome, IsSome, IsTrue, map, slice_get, option_map, option_and_then, option_to_list}
+use Rattle.std.specs.Prelude.{IsTrue, map, slice_get, option_map, option_and_then, option_to_list}
 use Rattle.std.specs.List.{cons_option, filter_map}
 use Rattle.std.proofs.lemmas.Bool.Decides.{nat_tests}
 use Rattle.std.proofs.lemmas.Option.{get_or_from_slice_get}
@@ -10,43 +10,20 @@ use Rattle.micro_word.specs.declared.statement.PlacedNext.TheVariants as placed
 use Rattle.machine_words.specs.declared.machine.Machine.{Machine}
 use Rattle.micro_word.specs.declared.statement.Placed.{Placed}
 use Rattle.micro_word.specs.Words.{is_next, is_part, is_valid}
-use Rattle.mal_line.specs.declared.next.Next.{Next}
-use Rattle.mal_line.specs.declared.next.Next.TheVariants as nexts
 use Rattle.mal_print.specs.StatementText.{FitTargets}
 use Rattle.mal_parser.specs.declared.statement.Statement.{Statement}
-use Rattle.mal_parser.specs.Program.{HasTargets, IsFallback, IsLabelled, IsStatement, Program}
-use Rattle.mal_parser.specs.ProgramText.{by_addresses, by_labels, canonical_text, default_line, fallback_of, fallback_text, fix_line, labelled_line, parts_of, parts_text, statement_text, text_of}
+use Rattle.mal_parser.specs.Program.{IsStatement, Program}
+use Rattle.mal_parser.specs.ProgramText.{by_addresses, canonical_text, default_line, fix_line, labelled_line, statement_text, text_of}
 
 -- ---- targets
-
-pub labelled_within : (ss : List Statement) (s : ℕ) → IsLabelled ss s → s < length ss
-labelled_within [] s h = absurd (cc)
-labelled_within (t ∷ ss) zero h = omega arith
-labelled_within (t ∷ ss) (suc s) h = let r = labelled_within ss s h in omega (arith, r)
-
-pub fit_labels : (ss : List Statement) (next : Next ℕ) → FitTargets (by_labels ss next)
-fit_labels ss nexts.Following = tt
-fit_labels ss (nexts.Goto to) = tt
-fit_labels ss (nexts.Dispatch high) = tt
-fit_labels ss (nexts.Branch test high low) = (tt, tt)
 
 pub fit_addresses : (next : PlacedNext) → IsTrue (is_next next) → FitTargets (by_addresses next)
 fit_addresses (placed.Goto to) h = grind (arith, nat_tests)
 fit_addresses (placed.Dispatch high) h = tt
 fit_addresses (placed.Branch test low) h = let b : low < 256 = grind (arith, nat_tests) in (omega arith, omega arith)
 
-pub targets_unused : (p : Program) (t : Statement) → IfSome p.fallback (IsFallback p) → p.fallback ≡ Some t → HasTargets p.statements t.next
-targets_unused p t h e = go p.fallback e h
-  where
-    go : (o : Option Statement) → o ≡ Some t → IfSome o (IsFallback p) → HasTargets p.statements t.next
-    go None f g = absurd (cc)
-    go (Some u) f g = let q : u ≡ t = cc in subst (λ (v : Statement). HasTargets p.statements v.next) q g.targets
-
 pub next_valid : (machine : Machine) (p : Placed) → IsTrue (is_valid machine p) → IsTrue (is_next p.next)
 next_valid machine p h = (and_parts (is_part machine p.part) (is_next p.next) h).1
-
-pub fixed_below : (p : Program) (i : ℕ) (s : Statement) (address : ℕ) → IsStatement p i s → s.fixed ≡ Some address → address < 512
-fixed_below p i s address h e = (subst (λ o. IfSome o (λ address. (address < 512) × IsSome s.label)) e h.fixed).0
 
 some_at : (ss : List Statement) (s : ℕ) → s < length ss → (t : Statement) × (slice_get ss s ≡ Some t)
 some_at [] s lt = absurd (omega arith)
@@ -62,14 +39,8 @@ stands_at p q s t e h lt g =
 
 -- ---- texts of one statement
 
-pub parts_here : (p : Program) (s : ℕ) (t : Statement) → slice_get p.statements s ≡ Some t → parts_text p s ≡ parts_of p t
-parts_here p s t e = rw e refl
-
 pub line_here : (p : Program) (s : ℕ) (t : Statement) → slice_get p.statements s ≡ Some t → statement_text p s ≡ labelled_line p t
 line_here p s t e = rw e refl
-
-pub fallback_here : (p : Program) (t : Statement) → p.fallback ≡ Some t → fallback_text p ≡ fallback_of p t
-fallback_here p t e = rw e refl
 
 -- ---- lines one after the other
 

@@ -1,8 +1,7 @@
 //! Labels become the numbers of their statements.
 
-ghost use Rattle.std.specs.Prelude.{◌≡◌, ◌≤◌, ◌<◌, ◌-◌, length, not, option_map, map, slice_get, find, min, IfOk, IfErr, Ok, Some};
+ghost use Rattle.std.specs.Prelude.{◌≡◌, ◌≤◌, ◌<◌, ◌-◌, length, option_map, map, slice_get, find, min, IfOk, IfErr, Ok, Some};
 ghost use Rattle.std.specs.List.{position};
-ghost use Rattle.std.specs.Str.{bytes_eq};
 ghost use Rattle.mal_parser.specs.Labels.{has_label, is_labelled};
 ghost use Rattle.mal_parser.specs.Text.{falls};
 ghost use Rattle.mal_parser.specs.Reading.{address_at, earlier, FailsBy, falling, first_falling, first_unknown, fixed_of, IsSound, knows, main1, resolved_next, number_of, resolved_program, resolved, target, unknown_draft, unknown_fix, unknown_in};

@@ -1,10 +1,8 @@
 //! The lines of a source, kept as drafts.
 
-ghost use Rattle.std.specs.Prelude.{◌≡◌, ◌≤◌, ◌<◌, false, length, List, ℕ, Ok, Err, OnOk, OnErr, IfOk, IfErr, is_some};
-ghost use Rattle.mal_tokens.specs.Reading.{read};
-ghost use Rattle.mal_line.specs.Lines.{HasPart};
+ghost use Rattle.std.specs.Prelude.{◌≡◌, ◌<◌, false, Ok, Err, OnOk, OnErr, IfOk, IfErr, is_some};
 ghost use Rattle.mal_parser.specs.declared.error.MalError.TheVariants.{OutOfMemory};
-ghost use Rattle.mal_parser.specs.Labels.{address_of, has_fix, has_label, has_name, is_labelled};
+ghost use Rattle.mal_parser.specs.Labels.{address_of, has_label, has_name, is_labelled};
 ghost use Rattle.mal_parser.specs.Reading.{at_line, content_at, FailsBy};
 
 use crate::error::MalError;

@@ -1,61 +1,19 @@
 -- The texts of pieces one behind the other, and how long they are.
-use Rattle.std.proofs.Common.{◌≡◌, ℕ, ◌≤◌, Bool, true, false, List, [], ◌∷◌, ◌++◌, length, refl, sym, ap, ◌∙◌, arith, append_assoc, cond}
-use Rattle.std.proofs.lemmas.Bool.Decides.{nat_tests}
+use Rattle.std.proofs.Common.{◌≡◌, ℕ, Bool, true, false, List, [], ◌∷◌, ◌++◌, refl, sym, ap, ◌∙◌, append_assoc, cond}
 use Rattle.std.proofs.lemmas.List.{append-nil}
 use Rattle.machine_words.specs.declared.machine.Machine.{Machine}
 use Rattle.micro_word.specs.declared.statement.Test.{Test}
 use Rattle.micro_word.specs.declared.statement.Part.{Part}
-use Rattle.mic_base.specs.Name.{is_name}
-use Rattle.mal_tokens.specs.declared.word.Word.{Word}
-use Rattle.mal_tokens.specs.declared.word.Word.TheVariants as words
-use Rattle.mal_tokens.specs.Words.{word_text}
 use Rattle.mal_line.specs.declared.next.Next.{Next}
 use Rattle.mal_print.specs.declared.target.Target.{Target}
-use Rattle.mal_print.specs.Pieces.{Piece, printed, word}
+use Rattle.mal_print.specs.Pieces.{Piece, printed}
 use Rattle.mal_print.specs.StatementText.{are_before, chain, chain_part, dest_pieces, dests_of, dispatch_part, divided, else_part, expression, fetch_part, goto_part, heads, if_part, is_absent, joined_behind, memory_part, next_parts, pieces, shifted, side, value}
-use Rattle.mal_print.proofs.NameBytes.{name_parts}
 
 pub printed_append : (ps qs : List Piece) → printed (ps ++ qs) ≡ printed ps ++ printed qs
 printed_append [] qs = refl
 printed_append (p ∷ ps) qs =
     ap (λ rest. cond p.spaced (32 ∷ []) [] ++ (p.text ++ rest)) (printed_append ps qs)
     ∙ (ap (λ rest. cond p.spaced (32 ∷ []) [] ++ rest) (sym (append_assoc p.text (printed ps) (printed qs))) ∙ sym (append_assoc (cond p.spaced (32 ∷ []) []) (p.text ++ printed ps) (printed qs)))
-
-pub word_short : (w : Word) → length (word_text w) ≤ 5
-word_short words.Mar = omega arith
-word_short words.Mdr = omega arith
-word_short words.Pc = omega arith
-word_short words.Sp = omega arith
-word_short words.Lv = omega arith
-word_short words.Cpp = omega arith
-word_short words.Tos = omega arith
-word_short words.Opc = omega arith
-word_short words.H = omega arith
-word_short words.Mbr = omega arith
-word_short words.Mbru = omega arith
-word_short words.Mbr1 = omega arith
-word_short words.Mbr1u = omega arith
-word_short words.Mbr2 = omega arith
-word_short words.Mbr2u = omega arith
-word_short words.N = omega arith
-word_short words.Z = omega arith
-word_short words.And = omega arith
-word_short words.Or = omega arith
-word_short words.Not = omega arith
-word_short words.Rd = omega arith
-word_short words.Wr = omega arith
-word_short words.Fetch = omega arith
-word_short words.Goto = omega arith
-word_short words.If = omega arith
-word_short words.Else = omega arith
-
-pub name_short : (n : List ℕ) → is_name n ≡ true → length n ≤ 64
-name_short n h = let s = (name_parts n h).short in grind (arith, nat_tests)
-
--- a part behind others
-pub divided_prints : (others : Bool) (w : Word) (ps : List Piece) → printed (divided others (word w ∷ ps)) ≡ cond others (59 ∷ 32 ∷ []) [] ++ printed (word w ∷ ps)
-divided_prints true w ps = refl
-divided_prints false w ps = refl
 
 pub goto_prints : (others : Bool) (to : Target) → printed (joined_behind others (goto_part to ∷ [])) ≡ cond others (59 ∷ 32 ∷ []) [] ++ printed (goto_part to)
 goto_prints true to = refl

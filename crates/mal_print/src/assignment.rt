@@ -5,7 +5,7 @@ ghost use Rattle.mal_line.specs.Expressions.{source_word};
 ghost use Rattle.mal_tokens.specs.declared.word.Word.TheVariants as words;
 ghost use Rattle.mal_tokens.specs.Words.{sign_text};
 ghost use Rattle.mal_print.specs.Pieces.{behind_space, printed, sign, spaced, word};
-ghost use Rattle.mal_print.specs.StatementText.{all_dests, are_before, chain_part, dest_pieces, dests_among, dests_of, expression, has_dest, heads, is_absent, is_idle, is_nothing, joined_behind, shifted, side, tested};
+ghost use Rattle.mal_print.specs.StatementText.{are_before, chain_part, dest_pieces, dests_among, dests_of, expression, has_dest, heads, is_absent, is_idle, is_nothing, joined_behind, shifted, side, tested};
 
 use crate::target::Target;
 use mal_line::{Next, bit};

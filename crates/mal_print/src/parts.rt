@@ -1,8 +1,8 @@
 //! The text of a statement's parts.
 
-ghost use Rattle.std.specs.Prelude.{◌≡◌, ◌≤◌, ◌<◌, ◌+◌, ◌++◌, ◌∷◌, [], length, codes, if◌then◌else◌, false};
+ghost use Rattle.std.specs.Prelude.{◌≡◌, ◌≤◌, ◌<◌, ◌+◌, ◌++◌, ◌∷◌, [], length, codes, if◌then◌else◌};
 ghost use Rattle.mal_print.specs.Pieces.{printed};
-ghost use Rattle.mal_print.specs.StatementText.{are_before, byte_word, dispatch_part, else_part, fetch_part, FitsTarget, FitTargets, goto_part, if_part, joined_behind, memory_part, next_parts, parts, pieces, target};
+ghost use Rattle.mal_print.specs.StatementText.{are_before, byte_word, dispatch_part, else_part, fetch_part, FitsTarget, FitTargets, goto_part, if_part, joined_behind, memory_part, next_parts, pieces, target};
 
 use crate::assignment::print_chain;
 use crate::target::Target;

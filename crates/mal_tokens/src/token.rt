@@ -1,9 +1,8 @@
 //! Tokens, and how the first of a line is read.
 
-ghost use Rattle.std.specs.Prelude.{◌≡◌, ◌+◌, ◌<◌, ◌≤◌, ◌∷◌, ◌↔◌, Some, length, IfOk, IsErrOf, List, ℕ};
+ghost use Rattle.std.specs.Prelude.{◌≡◌, ◌+◌, ◌<◌, ◌↔◌, Some, IfOk, IsErrOf, List, ℕ};
 ghost use Rattle.mic_base.specs.Name.{begins_digit};
 ghost use Rattle.mic_base.specs.Number.{number_of};
-ghost use Rattle.source_text.specs.Runs.{begins_with};
 ghost use Rattle.mal_tokens.specs.Words.{find_word};
 ghost use Rattle.mal_tokens.specs.declared.token.Token.{Token};
 ghost use Rattle.mal_tokens.specs.Reading.{begins, number_token, read, word_or_name};

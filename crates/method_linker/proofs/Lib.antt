@@ -1,6 +1,5 @@
 pub mod Places
 pub mod Pushed
 pub mod Texts
-pub mod Linkable
 pub mod Images
 mod Examples

@@ -1,5 +1,5 @@
 -- Appending to a text piece by piece, up to the first line that jumps too far.
-use Rattle.std.proofs.Common.{◌≡◌, ℕ, ◌+◌, ◌<◌, ◌≤◌, ℤ, List, [], ◌∷◌, ◌++◌, length, take, drop, get_or, Some, None, Result, Ok, Err, refl, sym, ap, ◌∙◌, append_assoc, zero-add, subst, arith}
+use Rattle.std.proofs.Common.{◌≡◌, ℕ, ◌+◌, ◌<◌, ◌≤◌, ℤ, List, [], ◌∷◌, ◌++◌, length, take, drop, get_or, Some, None, sym, ap, ◌∙◌, append_assoc, zero-add, subst, arith}
 use Rattle.std.specs.List.{flat_map, enumerate_from}
 use Rattle.std.specs.Option.{option_or}
 use Rattle.std.proofs.lemmas.List.{take_more, take_all, take-append-drop, append-nil, get_or_default}
@@ -12,7 +12,7 @@ use Rattle.ijvm_program.specs.Layout.{instr_of}
 use Rattle.method_linker.specs.declared.error.LinkError.{LinkError}
 use Rattle.method_linker.specs.declared.error.LinkError.TheVariants.{PoolTooLong, TextTooLong, JumpTooFar, OutOfMemory}
 use Rattle.method_linker.specs.Linked.{distance, line_bytes, code_bytes, code_distances, first_far, is_far}
-use Rattle.method_linker.specs.Steps.{IsStopped, IsPushed, IsPushedUpTo, line_jump}
+use Rattle.method_linker.specs.Steps.{IsStopped, IsPushedUpTo, line_jump}
 use Rattle.method_linker.proofs.Texts.{bytes_of_lines, distances_of_lines}
 
 -- ---- the first line that jumps too far, in one list behind another
@@ -37,18 +37,6 @@ stopped_behind xs ys OutOfMemory none h = h
 
 -- ---- one piece behind another
 
--- bytes of no line, and then those of lines
-pub pushed_behind : (old middle new a b : List ℕ) (lines : List (ℕ × ℤ)) (r : Result (Unit {0}) LinkError) → middle ≡ old ++ a →
-    IsPushed middle new b lines r → IsPushed old new (a ++ b) lines r
-pushed_behind old middle new a b lines (Ok u) e h = (h.0 ∙ ap (λ t. t ++ b) e ∙ append_assoc old a b, h.1)
-pushed_behind old middle new a b lines (Err x) e h = h
-
--- the lines of the first piece are near, and then those of the second
-pub pushed_after : (old middle new a b : List ℕ) (xs ys : List (ℕ × ℤ)) (r : Result (Unit {0}) LinkError) → middle ≡ old ++ a → first_far xs ≡ None →
-    IsPushed middle new b ys r → IsPushed old new (a ++ b) (xs ++ ys) r
-pushed_after old middle new a b xs ys (Ok u) e none h = (h.0 ∙ ap (λ t. t ++ b) e ∙ append_assoc old a b, far_behind xs ys none ∙ h.1)
-pushed_after old middle new a b xs ys (Err x) e none h = stopped_behind xs ys x none h
-
 -- ---- a loop over elements
 
 pub flat_map_upto : {X Y : Type 0} (f : X → List Y) (xs : List X) (i : ℕ) (x : X) → i < length xs → x ≡ get_or xs i x →
@@ -56,9 +44,6 @@ pub flat_map_upto : {X Y : Type 0} (f : X → List Y) (xs : List X) (i : ℕ) (x
 flat_map_upto f xs i x h e =
     ap (flat_map f) (take_more xs i x h) ∙ flat_map-append f (take i xs) (get_or xs i x ∷ [])
     ∙ ap (λ y. flat_map f (take i xs) ++ (f y ++ [])) (sym e) ∙ ap (λ ys. flat_map f (take i xs) ++ ys) (append-nil (f x))
-
-pub pushed_none : {X : Type 0} (bytes : X → List ℕ) (lines : X → List (ℕ × ℤ)) (xs : List X) (old : List ℕ) → IsPushedUpTo bytes lines xs 0 old old
-pushed_none bytes lines xs old = record { text = sym (append-nil old); near = refl }
 
 pub pushed_more : {X : Type 0} (bytes : X → List ℕ) (lines : X → List (ℕ × ℤ)) (xs : List X) (i : ℕ) (x : X) (old new newer : List ℕ) →
     i < length xs → x ≡ get_or xs i x → IsPushedUpTo bytes lines xs i old new → newer ≡ new ++ bytes x → first_far (lines x) ≡ None →

@@ -1,7 +1,6 @@
 //! The instruction of a line.
 
-ghost use Rattle.std.specs.Prelude.{◌≡◌, ◌≤◌, ◌<◌, FitsSigned, false, length};
-ghost use Rattle.std.specs.Int.{w16};
+ghost use Rattle.std.specs.Prelude.{◌≡◌, ◌≤◌, ◌<◌, false, length};
 ghost use Rattle.ijvm_program.specs.Layout.{code_size, jump_by, instr_of};
 ghost use Rattle.method_linker.specs.Linked.{distance, is_far};
 ghost use Rattle.method_linker.specs.Steps.{line_places, HasIndex, HasTarget};

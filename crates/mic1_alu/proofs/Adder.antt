@@ -20,10 +20,6 @@ ripple-suc x y c (suc i) =
     ∙ (ap (λ (n : ℕ). (bit_at (x / 2) i + n + ripple x y c (suc i)) / 2) b
     ∙ ap (λ (n : ℕ). (bit_at (x / 2) i + bit_at (y / 2) i + n) / 2) e)
 
-pub ripple-lt : (x y c i : ℕ) → c < 2 → ripple x y c i < 2
-ripple-lt x y c zero h = h
-ripple-lt x y c (suc i) h = omega (arith, ripple-lt x y c i h, bit_at-lt x i, bit_at-lt y i)
-
 halves : (x y c : ℕ) → c < 2 → (x + y + c) / 2 ≡ x / 2 + y / 2 + (x % 2 + y % 2 + c) / 2
 halves x y c h = omega arith
 

@@ -1,5 +1,5 @@
 //! The gates of the ALU.
-ghost use Rattle.std.specs.Prelude.{◌≡◌, ◌/◌, ◌%◌, ◌==◌, if◌then◌else◌};
+ghost use Rattle.std.specs.Prelude.{◌≡◌, ◌/◌, ◌%◌, ◌==◌};
 ghost use Rattle.machine_words.specs.Arithmetic.{is_negative};
 ghost use Rattle.mic1_alu.specs.Gates.{enabled, gates, controls_of};
 

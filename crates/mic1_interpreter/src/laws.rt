@@ -1,6 +1,6 @@
 //! What each group of instructions takes of Mic-1.
 
-ghost use Rattle.std.specs.Prelude.{◌≡◌, ℕ, List};
+ghost use Rattle.std.specs.Prelude.{ℕ, List};
 ghost use Rattle.machine_words.specs.declared.machine.Machine.TheVariants.{Mic1};
 ghost use Rattle.mic1_datapath.specs.Mic1.{mic1_meaning};
 ghost use Rattle.ijvm_paths.specs.Accepted.{VerifiedView};

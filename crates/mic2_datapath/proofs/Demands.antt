@@ -5,7 +5,7 @@ use Rattle.std.proofs.lemmas.Bool.Decides.{nat_tests}
 use Rattle.machine_words.specs.Arithmetic.{wrap}
 use Rattle.machine_words.specs.declared.machine.Machine.TheVariants.{Mic2}
 use Rattle.micro_word.specs.Words.{Valid, fits_side, is_byte, is_pair, may_be_b}
-use Rattle.micro_word.specs.Coding.{addr_bits, jam_bits, row}
+use Rattle.micro_word.specs.Coding.{jam_bits, row}
 use Rattle.micro_word.specs.Lines.{bytes_shown, bytes_taken, place_on_bus}
 use Rattle.micro_word.specs.declared.statement.BusSource.{BusSource}
 use Rattle.micro_word.specs.declared.statement.BusSource.TheVariants as sources
@@ -14,7 +14,7 @@ use Rattle.micro_word.specs.declared.statement.PlacedNext.TheVariants as nexts
 use Rattle.micro_word.specs.declared.statement.Test.TheVariants as tests
 use Rattle.datapath.specs.Next.{target}
 use Rattle.micro_word.specs.declared.statement.Placed.{Placed}
-use Rattle.mic2_datapath.specs.Microstep.{advanced, demand, dispatch_bytes, is_to_instruction, unit_after, unit_samples}
+use Rattle.mic2_datapath.specs.Microstep.{advanced, demand, dispatch_bytes, unit_after, unit_samples}
 use Rattle.mic2_fetch_unit.specs.FetchUnit.{Prefetch, jump}
 
 pub not_here : (used : Bool) → IsTrue (used && false) → ⊥
@@ -47,13 +47,6 @@ dispatch_bits (nexts.Goto to) = refl
 dispatch_bits (nexts.Dispatch high) = refl
 dispatch_bits (nexts.Branch tests.N low) = refl
 dispatch_bits (nexts.Branch tests.Z low) = refl
-
-pub first_bits : (n : PlacedNext) → (jam_bits n == 4 && addr_bits n == 0) ≡ is_to_instruction n
-first_bits (nexts.Goto to) = refl
-first_bits (nexts.Dispatch true) = refl
-first_bits (nexts.Dispatch false) = refl
-first_bits (nexts.Branch tests.N low) = refl
-first_bits (nexts.Branch tests.Z low) = refl
 
 pub goes_behind : (taken pc : ℕ) → pc < 2 ^ 32 → (pc + taken) % 4294967296 ≡ advanced taken pc
 unfolding wrap

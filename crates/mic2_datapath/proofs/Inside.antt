@@ -7,7 +7,7 @@ use Rattle.console_port.specs.Console.{Untaken, Given}
 use Rattle.console_port.specs.Bus.{Shows, IsLed}
 use Rattle.micro_word.specs.declared.statement.Mem.{Mem}
 use Rattle.micro_word.specs.declared.statement.Mem.TheVariants as mems
-use Rattle.datapath.specs.Access.{IsAccess, IsTransfer}
+use Rattle.datapath.specs.Access.{IsAccess}
 use Rattle.datapath.specs.Memory.{first_refusal, sampled, written}
 use Rattle.datapath.specs.declared.ports.Ports.{Ports}
 
@@ -30,9 +30,6 @@ same_size n mems.None p w = refl
 module _ (n : ℕ) (mem : Mem) (p : Ports) (w : World) (word byte : Option ℕ) (words : List ℕ) (a : IsAccess n mem false p w word byte (record w { words = words })) where
   stored : words ≡ (written n mem p w).words
   stored = ap (λ (v : World). v.words) a.after ∙ same_words n mem p (written n mem p w)
-
-  pub is_transfer : IsTransfer n mem p w word (record w { words = words })
-  is_transfer = record { its_word = a.its_word; after = a.after; words = stored }
 
   pub size_is : length words ≡ length w.words
   size_is = ap (λ (ws : List ℕ). length ws) stored ∙ same_size n mem p w

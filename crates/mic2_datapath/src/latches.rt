@@ -1,6 +1,6 @@
 //! What Mic-2 keeps between cycles.
 
-ghost use Rattle.std.specs.Prelude.{◌≡◌, ◌≢◌, ◌≤◌, ◌<◌, ◌*◌, ◌+◌, ℕ, None, OnOk, OnErr, IfErr, IfNone, IfSome, IsTrue, false, is_some, length, nat_lt, slice_index, true, zero};
+ghost use Rattle.std.specs.Prelude.{◌≡◌, ◌≢◌, ◌≤◌, ◌<◌, ◌*◌, ◌+◌, ℕ, None, OnOk, OnErr, IfErr, IfNone, IfSome, IsTrue, false, is_some, length, slice_index, true};
 ghost use Rattle.machine_words.specs.Arithmetic.{signed_byte, signed_pair};
 ghost use Rattle.micro_word.specs.declared.statement.PlacedNext.{PlacedNext};
 ghost use Rattle.micro_word.specs.Coding.{addr_bits, jam_bits, mem_of, statement_of};
@@ -18,7 +18,7 @@ ghost use Rattle.datapath.specs.Places.{registers_at};
 ghost use Rattle.datapath.specs.Registers.{loaded, ports_given};
 ghost use Rattle.mic2_fetch_unit.specs.FetchUnit.{edge_refusal, sample_refusal};
 ghost use Rattle.mic2_datapath.specs.Mic2.{initial as initial_of};
-ghost use Rattle.mic2_datapath.specs.Microstep.{advanced, byte_at, demand, dispatch_bytes, fetched, is_to_instruction, jumps, moved, operand_bytes, result_of, settled, stalled, unit_after, unit_refusal, unit_samples};
+ghost use Rattle.mic2_datapath.specs.Microstep.{advanced, byte_at, demand, dispatch_bytes, is_to_instruction, jumps, moved, operand_bytes, result_of, settled, stalled, unit_after, unit_refusal, unit_samples};
 ghost use Rattle.mic2_datapath.specs.Latches.{AreLatches, HasFront, access_by, loaded_in, micro_in};
 
 use crate::access::is_there;

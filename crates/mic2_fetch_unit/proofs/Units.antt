@@ -123,9 +123,6 @@ unit_behind words t imar skip bytes within (Some word) h =
       asks = asked (slice_index words) (next imar) (nat_le (length (drop t bytes ++ drop skip (bytes_of_word word))) 2);
     }
 
-pub edge_unit : (words : List ℕ) (t : ℕ) (u : Prefetch) → t ≤ length u.bytes → IsUnit u → IsUnit (edge words t u)
-edge_unit words t u within h = unit_behind words t u.imar u.skip u.bytes within u.pending h
-
 module _ (words words' : List ℕ) (p t imar skip : ℕ) (bytes : List ℕ) (low : p < 2 ^ 32) (within : t ≤ length bytes) where
   -- the bytes that stay
   kept : (pending : Option ℕ) → StandsAt words p (unit bytes imar skip pending) → HoldsSame words words' p (unit bytes imar skip pending) →

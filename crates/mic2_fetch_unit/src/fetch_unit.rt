@@ -1,6 +1,6 @@
 //! The queue, its edge and its jump.
 
-ghost use Rattle.std.specs.Prelude.{◌≡◌, ◌+◌, ◌*◌, ◌≤◌, ◌<◌, ℕ, List, true, Some, None, OnOk, OnErr, IfErr, if◌then◌else◌, length, nat_le, slice_index};
+ghost use Rattle.std.specs.Prelude.{◌≡◌, ◌+◌, ◌*◌, ◌≤◌, ◌<◌, ℕ, List, true, Some, None, OnOk, OnErr, IfErr, if◌then◌else◌, length, slice_index};
 ghost use Rattle.console_port.specs.Bus.{refused_by};
 ghost use Rattle.mic2_fetch_unit.specs.FetchUnit.{at_start, sampled_at, edge as edge_of, jump as jump_of, edge_refusal, jump_refusal, sample_refusal};
 

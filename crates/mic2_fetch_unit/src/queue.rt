@@ -1,6 +1,6 @@
 //! The bytes that wait, in a register of 48 bits.
 
-ghost use Rattle.std.specs.Prelude.{◌≡◌, ◌+◌, ◌*◌, ◌/◌, ◌<◌, ◌≤◌, ◌^◌, [], ◌++◌, drop, length, slice_index};
+ghost use Rattle.std.specs.Prelude.{◌≡◌, ◌+◌, ◌*◌, ◌<◌, ◌≤◌, ◌^◌, [], ◌++◌, drop, length, slice_index};
 ghost use Rattle.mic2_fetch_unit.specs.FetchUnit.{bytes_of_word};
 ghost use Rattle.mic2_fetch_unit.specs.Packed.{turned_word};
 

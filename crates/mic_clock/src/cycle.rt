@@ -5,7 +5,7 @@ ghost use Rattle.std.specs.Prelude.{◌≡◌, ◌≢◌, IsSome, Err, ℕ, List
 ghost use Rattle.console_port.specs.Bus.{Stands};
 ghost use Rattle.console_port.specs.Console.{HasFaultCause, StaysFlushed};
 ghost use Rattle.mic_clock.specs.Edge.{IsStep, AnswersRefusal, IsErrOfStep, AsksNoMore};
-ghost use Rattle.mic_clock.specs.Meaning.{Meaning, Phase, AtRest};
+ghost use Rattle.mic_clock.specs.Meaning.{AtRest};
 ghost use Rattle.mic_clock.specs.Run.{word_at};
 
 use crate::buses::{Computed, Drive};

@@ -8,10 +8,9 @@ use Rattle.mic_clock.specs.View.{BoardView}
 use Rattle.mic_clock.specs.Board.{ShowsRun, ShowsAs, IsLedTo, IsCutByRead}
 use Rattle.mic_debugger.specs.declared.plan.Plan.{Plan}
 use Rattle.mic_debugger.specs.declared.plan.Plan.TheVariants as plans
-use Rattle.mic_debugger.specs.declared.until.Until.{Until}
 use Rattle.mic_debugger.specs.Book.{Book}
 use Rattle.mic_debugger.specs.View.{SessionView}
-use Rattle.mic_debugger.specs.Obeys.{IsSaid, Obeys, IsStoppedIn, shown_text}
+use Rattle.mic_debugger.specs.Obeys.{IsSaid, Obeys, IsStoppedIn}
 
 module _ {M State : Type 0} (state : M → State) where
   -- what is known of each run that is led to a board holds where another is shown alike
@@ -76,32 +75,6 @@ module _ {M State : Type 0} (state : M → State) where
     stopped_flushed kept same_state same_counts plans.Where said = said_flushed plans.Where said
     stopped_flushed kept same_state same_counts plans.Nothing said = said_flushed plans.Nothing said
     stopped_flushed kept same_state same_counts plans.Quit said = said_flushed plans.Quit said
-
--- a plan that clocks nothing leaves the board as it was, and prints what it shows
-pub obeys_said : {M State : Type 0} (state : M → State) (m : Meaning State) (book : Book) (left held : Option (List ℕ)) (old : SessionView M) (text : List ℕ) (plan : Plan) →
-    ((u : Until) (times : ℕ) → plan ≡ plans.Clock u times → ⊥) → IsSaid state m book left held old left held old.board text plan → Obeys state m book left held old left held old.board text plan
-obeys_said state m book left held old text (plans.Clock u times) other said = absurd (other u times refl)
-obeys_said state m book left held old text (plans.Refuse reply) other said = said
-obeys_said state m book left held old text plans.Registers other said = said
-obeys_said state m book left held old text plans.Stack other said = said
-obeys_said state m book left held old text plans.Where other said = said
-obeys_said state m book left held old text plans.Nothing other said = said
-obeys_said state m book left held old text plans.Quit other said = said
-
-pub stopped_said : {M State : Type 0} (state : M → State) (m : Meaning State) (book : Book) (left held : Option (List ℕ)) (old : SessionView M) (text : List ℕ) (plan : Plan) →
-    ((u : Until) (times : ℕ) → plan ≡ plans.Clock u times → ⊥) → IsSaid state m book left held old left held old.board text plan → IsStoppedIn state m book left held old left held old.board text plan
-stopped_said state m book left held old text (plans.Clock u times) other said = absurd (other u times refl)
-stopped_said state m book left held old text (plans.Refuse reply) other said = said
-stopped_said state m book left held old text plans.Registers other said = said
-stopped_said state m book left held old text plans.Stack other said = said
-stopped_said state m book left held old text plans.Where other said = said
-stopped_said state m book left held old text plans.Nothing other said = said
-stopped_said state m book left held old text plans.Quit other said = said
-
--- where it clocks nothing, each run stays
-pub said_here : {M State : Type 0} (state : M → State) (m : Meaning State) (book : Book) (left held : Option (List ℕ)) (old : SessionView M) (text : List ℕ) (plan : Plan) →
-    text ≡ shown_text state m book old plan → IsSaid state m book left held old left held old.board text plan
-said_here state m book left held old text plan is = ((λ rest fits. (rest, fits, λ r s e. (s, e))), is)
 
 -- what an Ok says behind a premise holds behind one from which that follows
 pub on_ok_given : {T E : Type 0} (P A B : Type 0) (r : Result T E) → (B → A) → OnOk r (A → P) → OnOk r (B → P)

@@ -2,7 +2,6 @@
 use Rattle.std.proofs.Common.{◌≡◌, ℕ, Option, None, refl, subst, ◌∙◌}
 use Rattle.mic_base.specs.Causes.{Rose}
 use Rattle.mic_clock.specs.declared.end.End.{End}
-use Rattle.mic_clock.specs.Board.{HasEndCause}
 use Rattle.mic_debugger.specs.Session.{HasReadCause}
 
 -- nothing was read yet
@@ -14,7 +13,3 @@ pub cause_more : (a b c : ℕ) (end end' : Option End) → end ≡ None → HasR
 cause_more a b c end end' live before now =
     let still : b ≡ a = before.same (λ p. cc) in
     record { rose = λ p. subst (λ (n : ℕ). Rose n c) still (now.rose p); same = λ q. now.same q ∙ still }
-
--- a turn of a board
-pub cause_of_turn : (a b k l : ℕ) (end end' : Option End) → end ≡ None → HasEndCause a b k l end end' → HasReadCause a b end'
-cause_of_turn a b k l end end' live cause = record { rose = cause.read live; same = λ q. cause.source_same (λ _. q) }

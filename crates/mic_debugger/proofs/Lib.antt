@@ -5,7 +5,6 @@ pub mod Putting
 pub mod Timing
 pub mod Underway
 pub mod Flushing
-pub mod Planning
 pub mod InputCauses
 pub mod Uncounted
 pub mod Breaking

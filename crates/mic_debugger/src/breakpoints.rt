@@ -1,6 +1,6 @@
 //! The byte addresses at which a session stops.
 
-ghost use Rattle.std.specs.Prelude.{◌≡◌, ◌≤◌, ◌<◌, ◌==◌, ◌&&◌, ◌++◌, ◌∷◌, [], length, not, filter, if◌then◌else◌, true, false};
+ghost use Rattle.std.specs.Prelude.{◌≡◌, ◌<◌, ◌==◌, ◌&&◌, []};
 ghost use Rattle.std.specs.List.{list_any};
 ghost use Rattle.mic_debugger.specs.Plans.{is_full_for, with_break, without_break};
 

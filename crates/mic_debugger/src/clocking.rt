@@ -1,15 +1,15 @@
 //! The clocking commands, turn by turn.
 
-ghost use Rattle.std.specs.Prelude.{◌≡◌, ◌≢◌, ◌⊎◌, ◌++◌, ◌<◌, ◌≤◌, ◌+◌, ◌^◌, ◌==◌, ◌-◌, ℕ, List, [], Option, Some, None, length, OnOk, OnErr, IfOk, IsSome, false, true};
+ghost use Rattle.std.specs.Prelude.{◌≡◌, ◌≢◌, ◌⊎◌, ◌<◌, ◌≤◌, ◌+◌, ◌^◌, ◌==◌, ◌-◌, ℕ, List, Option, Some, None, OnOk, OnErr, IfOk, IsSome, false, true};
 ghost use Rattle.std.specs.List.{list_any};
 ghost use Rattle.mic_base.specs.Causes.{HasCause, Rose};
 ghost use Rattle.mic_base.specs.Streams.{Holds, Puts};
-ghost use Rattle.mic_clock.specs.Run.{number_of, word_at};
-ghost use Rattle.mic_clock.specs.Board.{IsTurned, RunIsCutByRead, RunIsCutByWrite, IsCounted, EndsUncounted, HasRoom, HasEndCause, NoFault, IsLedTo};
+ghost use Rattle.mic_clock.specs.Run.{number_of};
+ghost use Rattle.mic_clock.specs.Board.{IsTurned, RunIsCutByRead, RunIsCutByWrite, IsCounted, EndsUncounted, HasRoom, NoFault, IsLedTo};
 ghost use Rattle.mic_debugger.specs.Book.{Book, IsBookOf};
 ghost use Rattle.mic_debugger.specs.InTime.{InTime};
 ghost use Rattle.mic_debugger.specs.Lines.{end_line};
-ghost use Rattle.mic_debugger.specs.Clocking.{cause_line, comes, counted_turn, first_piece, has_break, has_changed, is_at_boundary, second_piece, turn_text};
+ghost use Rattle.mic_debugger.specs.Clocking.{comes, counted_turn, first_piece, has_break, has_changed, is_at_boundary, second_piece, turn_text};
 ghost use Rattle.mic_debugger.specs.Session.{HasReadCause, IsBroken, IsClocked, IsStopped, text_between};
 ghost use Rattle.cli_outside.specs.Outside.{Got, GotInPart};
 

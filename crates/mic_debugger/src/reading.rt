@@ -1,9 +1,9 @@
 //! How a line of a session is read as a command.
 
-ghost use Rattle.std.specs.Prelude.{◌≡◌, ◌≤◌, ◌<◌, ◌+◌, ◌^◌, ◌==◌, ◌&&◌, false, length, not};
+ghost use Rattle.std.specs.Prelude.{◌≡◌, ◌≤◌, ◌<◌, ◌==◌, ◌&&◌, length};
 ghost use Rattle.std.specs.List.{prefix_len};
 ghost use Rattle.mic_base.specs.Number.{number_of};
-ghost use Rattle.mic_debugger.specs.Commands.{IsVerbRow, command_of, default_of, first_word, is_blank, is_word_byte, most_of, least_of, ranged, unindented, behind_word, with_argument};
+ghost use Rattle.mic_debugger.specs.Commands.{IsVerbRow, command_of, first_word, is_blank, is_word_byte, ranged, unindented, behind_word, with_argument};
 
 use crate::table::{Argument, Verb, VerbRow, row_of};
 use mic_base::Number;

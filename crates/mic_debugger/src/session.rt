@@ -1,6 +1,6 @@
 //! A session: a board, what names its words and instructions, and what the student has set.
 
-ghost use Rattle.std.specs.Prelude.{◌≡◌, ◌≢◌, ◌⊎◌, ◌≤◌, ◌<◌, ◌+◌, ◌^◌, ◌++◌, ℕ, List, [], Option, Some, None, OnOk, OnErr, IfOk, length, min, codes};
+ghost use Rattle.std.specs.Prelude.{◌≡◌, ◌≢◌, ◌⊎◌, ◌≤◌, ◌<◌, ◌+◌, ◌^◌, ◌++◌, ℕ, List, [], Option, Some, None, OnOk, OnErr, IfOk, min, codes};
 ghost use Rattle.mic_base.specs.Causes.{HasCause, Rose};
 ghost use Rattle.mic_base.specs.Streams.{Holds, IsFlushed, Puts};
 ghost use Rattle.store_placement.specs.Placement.{Places};

@@ -1,6 +1,6 @@
 //! The table of a session's commands: the word of each, and what stands behind it.
 
-ghost use Rattle.std.specs.Prelude.{◌≡◌, ◌≤◌, ◌<◌, ◌^◌, find, map};
+ghost use Rattle.std.specs.Prelude.{◌≡◌, ◌<◌, find, map};
 ghost use Rattle.std.specs.Str.{bytes_eq};
 ghost use Rattle.mic_debugger.specs.Commands.{AreVerbRows, IsVerbRowOf, default_of, least_of, most_of, verb_in, verb_of};
 

@@ -1,5 +1,5 @@
 -- The lines of a control store stay those of its words.
-use Rattle.std.proofs.Common.{◌≡◌, ◌≢◌, ℕ, ◌<◌, IsTrue, List, length, replicate, slice_index, slice_set, get_or, subst, sym, inl, inr, get_or-set_same, get_or-set_other}
+use Rattle.std.proofs.Common.{◌≡◌, ℕ, ◌<◌, IsTrue, List, length, replicate, slice_index, slice_set, get_or, subst, sym, inl, inr, get_or-set_same, get_or-set_other}
 use Rattle.std.proofs.lemmas.List.{get_or-replicate}
 use Rattle.std.proofs.lemmas.Bool.{cases_eq}
 use Rattle.machine_words.specs.declared.machine.Machine.{Machine}

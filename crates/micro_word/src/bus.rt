@@ -1,5 +1,5 @@
 //! The codes of what drives a bus.
-ghost use Rattle.std.specs.Prelude.{◌≡◌, ◌==◌, find, if◌then◌else◌};
+ghost use Rattle.std.specs.Prelude.{◌≡◌, ◌==◌, find};
 ghost use Rattle.machine_words.specs.declared.machine.Machine.TheVariants.{Mic1, Mic2};
 ghost use Rattle.micro_word.specs.Coding.{source_code, is_code, bus_code, idle_code, source_of, a_code, a_of};
 

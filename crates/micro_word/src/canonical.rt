@@ -1,6 +1,6 @@
 //! Which numbers are words of statements, told by their fields.
 ghost use Rattle.std.specs.Prelude.{◌≡◌};
-ghost use Rattle.micro_word.specs.Words.{is_row, is_side, is_side_a, are_apart, is_target, is_one_at_most, are_canonical};
+ghost use Rattle.micro_word.specs.Words.{is_row, is_side, is_side_a, are_apart, is_target, are_canonical};
 
 use crate::bus::code_for_nothing;
 use crate::layout::Fields;

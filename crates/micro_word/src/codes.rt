@@ -1,5 +1,5 @@
 //! The fields that spell a statement, and the statement that fields name.
-ghost use Rattle.std.specs.Prelude.{◌≡◌, ◌==◌, if◌then◌else◌};
+ghost use Rattle.std.specs.Prelude.{◌≡◌, ◌==◌};
 ghost use Rattle.micro_word.specs.Coding.{shift_bits, shift_of, mem_bits, mem_of, fetch_bit, jam_bits, addr_bits, decoded_next, codes, named};
 
 use crate::bus::{code_of_a, code_on_bus, side_a};

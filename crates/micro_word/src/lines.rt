@@ -1,6 +1,6 @@
 //! The control lines of a word, decoded before it is clocked.
 ghost use Rattle.std.specs.Prelude.{◌≡◌, ◌<◌, ◌≤◌, ◌==◌, ℕ, true, false, if◌then◌else◌, nat_lt};
-ghost use Rattle.micro_word.specs.Lines.{AreLines, AreSlots, IsSlot, bytes_shown, bytes_taken, names, on_each_bit, place_of, place_on_bus};
+ghost use Rattle.micro_word.specs.Lines.{AreLines, IsSlot, bytes_shown, bytes_taken, names, on_each_bit, place_of, place_on_bus};
 
 use crate::bus::side_a;
 use crate::layout::Fields;

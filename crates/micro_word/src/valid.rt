@@ -1,7 +1,7 @@
 //! Which statements have a word on a machine.
 ghost use Rattle.std.specs.Prelude.{◌≡◌};
 ghost use Rattle.micro_word.specs.Coding.{row};
-ghost use Rattle.micro_word.specs.Words.{has_operation, is_h, may_be_a, may_be_b, fits_side, is_byte, is_pair, is_mixed, may_fetch, is_part, is_next, is_valid};
+ghost use Rattle.micro_word.specs.Words.{has_operation, may_be_a, may_be_b, fits_side, is_byte, is_pair, is_mixed, may_fetch, is_part, is_next, is_valid};
 
 use crate::statement::{AluOp, BusSource, Part, Placed, PlacedNext};
 use machine_words::Machine;

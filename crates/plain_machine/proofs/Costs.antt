@@ -14,7 +14,7 @@ use Rattle.ijvm_instr.specs.Instructions.{row_of, instr_at}
 use Rattle.ijvm_image.specs.Image.{ImageView}
 use Rattle.ijvm_run.specs.Frames.{State}
 use Rattle.ijvm_run.specs.Step.{Goes, step, step_if_any, outcome}
-use Rattle.ijvm_run.specs.Cost.{column, cycles_of, is_taken, entry_of, cost, cost_at, next_cost}
+use Rattle.ijvm_run.specs.Cost.{column, cycles_of, is_taken, entry_of, cost_at, next_cost}
 
 pub index-none : (xs : List ℕ) (i : ℕ) → slice_get xs i ≡ None → slice_index xs i ≡ 0
 index-none [] i e = refl

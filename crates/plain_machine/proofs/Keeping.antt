@@ -5,7 +5,7 @@ use Rattle.console_port.specs.View.{ConsoleView}
 use Rattle.console_port.specs.Console.{Untaken, Asks}
 use Rattle.ijvm_instr.specs.declared.instr.Instr.{Instr}
 use Rattle.ijvm_instr.specs.declared.instr.Instr.TheVariants.{In, Out}
-use Rattle.plain_machine.specs.Kept.{TellsLeft, is_empty, ReadsIn, WritesOut, Keeps, HasRead, HasKept}
+use Rattle.plain_machine.specs.Kept.{TellsLeft, is_empty, WritesOut, HasRead, HasKept}
 
 -- the source, asked for a byte
 abbrev pub AsksOf : Option (List ℕ) → Option (List ℕ) → ConsoleView → ConsoleView → Type 0

@@ -1,5 +1,5 @@
 -- Frames keep their places.
-use Rattle.std.proofs.Common.{◌≡◌, ◌≢◌, ◌≤◌, ◌<◌, ◌^◌, ◌++◌, reverse, refl, ℕ, ◌+◌, ◌-◌, take, drop, replicate, Bool, true, false, List, [], ◌∷◌, length, Option, Some, None, slice_set, sym, ap, ◌∙◌, subst, arith}
+use Rattle.std.proofs.Common.{◌≡◌, ◌≤◌, ◌<◌, ◌^◌, ◌++◌, reverse, ℕ, ◌+◌, ◌-◌, take, drop, replicate, Bool, true, false, List, [], ◌∷◌, length, Option, Some, None, slice_set, sym, ap, ◌∙◌, subst, arith}
 use Rattle.std.proofs.lemmas.List.{reverse-append, length-set, length-drop, length-take-le, length-replicate}
 use Rattle.ijvm_run.specs.Frames.{Frame, base, kept_words}
 use Rattle.ijvm_run.specs.Step.{called, onto}
@@ -82,23 +82,6 @@ caller_words stack_end lv running f callers fs e h =
     let word : stack_end < 2 ^ 32 = h.word in
     let same : base callers ≡ base fs + length f.locals + kept_words f.back + length f.operands = ap base e in
     (omega arith, omega arith)
-
--- a caller's frame has the place that it had, and a word more
-pub placed_leave : (stack_end lv lv' v : ℕ) (running f new : Frame) (callers fs : List Frame) → callers ≡ f ∷ fs → running.back ≢ None → new ≡ record f { operands = v ∷ f.operands } →
-    lv' + (length f.locals + kept_words f.back + length f.operands) ≡ lv → ArePlaced stack_end lv running callers → ArePlaced stack_end lv' new fs
-placed_leave stack_end lv lv' v running f new callers fs e method is_new sum h =
-    let begins : lv ≡ base fs + length f.locals + kept_words f.back + length f.operands = h.begins ∙ ap base e in
-    let all : base callers + length running.locals + kept_words running.back + length running.operands ≤ stack_end = h.fits in
-    let same : base callers ≡ base fs + length f.locals + kept_words f.back + length f.operands = ap base e in
-    let kept : kept_words running.back ≡ 2 = two_kept running.back method in
-    let locals : length new.locals ≡ length f.locals = ap (λ (g : Frame). length g.locals) is_new in
-    let back : kept_words new.back ≡ kept_words f.back = ap (λ (g : Frame). kept_words g.back) is_new in
-    let more : length new.operands ≡ length (v ∷ f.operands) = ap (λ (g : Frame). length g.operands) is_new in
-    record { begins = omega arith; fits = omega arith; word = h.word }
-  where
-    two_kept : (back : Option ℕ) → back ≢ None → kept_words back ≡ 2
-    two_kept None n = absurd (n refl)
-    two_kept (Some r) n = refl
 
 pub placed_swap : (stack_end lv : ℕ) (r : Bool) (old new : Frame) (callers : List Frame) → Swaps r old new → ArePlaced stack_end lv old callers → ArePlaced stack_end lv new callers
 placed_swap stack_end lv false old new callers p h = subst (λ (f : Frame). ArePlaced stack_end lv f callers) (sym p.1) h

@@ -1,9 +1,7 @@
 //! What the next instruction costs.
 
 ghost use Rattle.std.specs.Prelude.{◌≡◌, ◌≤◌, []};
-ghost use Rattle.machine_words.specs.Arithmetic.{is_negative};
 ghost use Rattle.ijvm_run.specs.Cost.{column, is_taken, entry_of, next_cost};
-ghost use Rattle.ijvm_instr.specs.Instructions.{row_of};
 ghost use Rattle.plain_machine.specs.Machine.{state_of};
 
 use crate::machine::PlainMachine;

@@ -1,6 +1,6 @@
 //! A frame of the plain machine.
 
-ghost use Rattle.std.specs.Prelude.{◌≡◌, ◌≢◌, ◌+◌, ◌<◌, ◌≤◌, ◌^◌, [], ◌∷◌, ◌++◌, ℕ, List, length, reverse, replicate, map, take, slice_get, slice_set, drop, Some, None, IfOk, OnOk, OnErr, IfSome, vec_len};
+ghost use Rattle.std.specs.Prelude.{◌≡◌, ◌≢◌, ◌+◌, ◌<◌, ◌≤◌, ◌^◌, [], ◌∷◌, ◌++◌, length, reverse, replicate, map, take, slice_get, slice_set, drop, Some, None, IfOk, OnOk, OnErr, IfSome, vec_len};
 ghost use Rattle.ijvm_run.specs.Frames.{Frame as FrameView, kept_words, top_of};
 ghost use Rattle.std.specs.Option.{option_flatten};
 ghost use Rattle.ijvm_run.specs.Cost.{are_equal};

@@ -1,6 +1,6 @@
 //! A run of the plain machine over a source and a sink.
 
-ghost use Rattle.std.specs.Prelude.{◌≡◌, ◌≢◌, ◌≤◌, ◌<◌, ◌+◌, ◌^◌, [], ℕ, List, Some, Ok, IfNone, IfOk, OnErr};
+ghost use Rattle.std.specs.Prelude.{◌≡◌, ◌≢◌, ◌≤◌, ◌<◌, ◌+◌, ◌^◌, ℕ, List, Some, Ok, IfNone, IfOk, OnErr};
 ghost use Rattle.mic_base.specs.Streams.{Holds};
 ghost use Rattle.console_port.specs.Console.{StaysFlushed};
 ghost use Rattle.plain_machine.specs.Machine.{KeepsProgram};

@@ -1,23 +1,22 @@
 -- A text that is laid out in pieces is accepted: every path stands at one of their instructions, with the operands that it has there.
-use Rattle.std.proofs.Common.{◌≡◌, ◌≢◌, ℕ, ℤ, zero, suc, ◌+◌, ◌-◌, ◌*◌, ◌%◌, ◌<◌, ◌≤◌, ◌⊎◌, inl, inr, Bool, if◌then◌else◌, List, [], ◌∷◌, length, Option, Some, None, refl, sym, ap, ◌∙◌, subst, arith}
+use Rattle.std.proofs.Common.{◌≡◌, ℕ, ℤ, zero, suc, ◌+◌, ◌-◌, ◌%◌, ◌<◌, ◌≤◌, ◌⊎◌, inl, inr, Bool, if◌then◌else◌, List, [], ◌∷◌, length, Option, Some, None, refl, sym, ap, ◌∙◌, subst, arith}
 use Rattle.std.specs.Prelude.{slice_get}
 use Rattle.std.specs.Option.{option_map}
-use Rattle.std.specs.Int.{w8, w16, cast_signed}
+use Rattle.std.specs.Int.{w16, cast_signed}
 use Rattle.std.proofs.lemmas.Bool.{cases_lt, lt-ltb}
 use Rattle.std.proofs.lemmas.Option.{same_Some}
-use Rattle.machine_words.specs.Arithmetic.{wrap, plus}
+use Rattle.machine_words.specs.Arithmetic.{wrap}
 use Rattle.console_port.specs.Map.{IsMap}
-use Rattle.ijvm_instr.specs.declared.instr.Instr.{Instr}
 use Rattle.ijvm_instr.specs.declared.row.Row.{Row}
 use Rattle.ijvm_instr.specs.declared.row.Flow.TheVariants as flows
-use Rattle.ijvm_instr.specs.Instructions.{row_of, size_of, instr_at, target, word_of}
+use Rattle.ijvm_instr.specs.Instructions.{row_of, size_of, instr_at, target}
 use Rattle.ijvm_image.specs.declared.method.Method.{Method as MethodView}
 use Rattle.ijvm_image.specs.Image.{ImageView, params, others, method_at}
 use Rattle.ijvm_paths.specs.declared.error.VerifyError.{VerifyError}
 use Rattle.ijvm_paths.specs.declared.error.VerifyError.TheVariants as errors
-use Rattle.ijvm_paths.specs.Paths.{Arrival, arrival, HasRow, HasNext, HasJump, IsNoCall, need_by, need_of, callee, GoesOn, left_unset, MayCarry, Goes, Enters, Follows, On, Into, Reached, Start, Then, IsReachedMethod}
-use Rattle.ijvm_paths.specs.Facts.{Names, IsWrongAt, MainNames, IsMainCount, Piece, Code, Header, Covers, IsTrueOf, Accepts}
-use Rattle.soak_program.proofs.Stops.{Chunk, Add, Increment, Subtract, Call, Skip, Last, Method, Stop, Add1, Add2, Add3, Add4, Increment1, Subtract1, Subtract2, Subtract3, Subtract4, Call1, Call2, Call3, Call4, Skip1, Skip2, Skip3, Last1, Last2, Method1, Method2, Method3, Method4, chunk_size, chunk_of, place_of, depth_of, instr_of, after, need_at, Joins, joins, owner, owned, unowned, ends_inside}
+use Rattle.ijvm_paths.specs.Paths.{Arrival, HasRow, HasNext, HasJump, need_of, callee, GoesOn, left_unset, MayCarry, Goes, Enters, Follows, On, Into, Reached, Start, Then}
+use Rattle.ijvm_paths.specs.Facts.{Names, IsWrongAt, MainNames, IsMainCount, Piece, Code, Header, Covers, Accepts}
+use Rattle.soak_program.proofs.Stops.{Chunk, Add, Increment, Subtract, Call, Skip, Last, Method, Stop, Add1, Add4, Increment1, Subtract1, Subtract4, Call1, Call3, Call4, Skip1, Skip2, Skip3, Last1, Last2, Method1, Method2, Method3, Method4, chunk_size, chunk_of, place_of, depth_of, instr_of, after, need_at, Joins, joins, owner, owned, unowned, ends_inside}
 
 -- the row of an instruction
 abbrev pub row_at : ℤ → Stop → Row
@@ -198,10 +197,6 @@ enough s = omega arith
 needs_few : (z : ℤ) (s : Stop) → (row_at z s).needs ≤ depth_of s
 needs_few z Add1 = omega arith
 needs_few z s = omega arith
-
-has_byte : (z : ℤ) (s : Stop) → 0 < size_of (row_at z s)
-has_byte z Add1 = omega arith
-has_byte z s = omega arith
 
 place_inside : (s : Stop) → place_of s < chunk_size (chunk_of s)
 place_inside Add1 = omega arith

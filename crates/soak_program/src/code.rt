@@ -1,6 +1,6 @@
 //! The bytes of a generated program, block by block.
 
-ghost use Rattle.std.specs.Prelude.{◌≡◌, ◌+◌, ◌*◌, ◌%◌, ◌<◌, ◌≤◌, ◌++◌, OnOk};
+ghost use Rattle.std.specs.Prelude.{◌≡◌, ◌+◌, ◌*◌, ◌%◌, ◌<◌, ◌++◌, OnOk};
 ghost use Rattle.std.specs.List.{flat_map};
 ghost use Rattle.ijvm_instr.specs.Instructions.{spelling};
 ghost use Rattle.soak_program.specs.Generated.{block, block_at, main_text, method_text};

@@ -1,6 +1,6 @@
 -- Looking for a comment, place by place.
-use Rattle.std.proofs.Common.{◌≡◌, ℕ, zero, suc, ◌+◌, ◌-◌, ◌<◌, ◌≤◌, true, false, List, [], ◌∷◌, ◌++◌, take, drop, length, refl, ap, ◌∙◌, sym, arith}
-use Rattle.std.proofs.lemmas.List.{append-nil, take_rest}
+use Rattle.std.proofs.Common.{◌≡◌, ℕ, zero, suc, ◌+◌, ◌-◌, ◌<◌, ◌≤◌, false, List, [], ◌∷◌, ◌++◌, take, drop, length, refl, ap, ◌∙◌, sym, arith}
+use Rattle.std.proofs.lemmas.List.{take_rest}
 use Rattle.source_text.specs.Content.{without_comment, begins_comment}
 
 -- no comment begins before this place
@@ -14,13 +14,6 @@ pass line at lt h so_far = so_far ∙ on line at lt (ap begins_comment (sym (tak
     on [] at lt h = absurd (omega arith)
     on (b ∷ rest) zero lt h = rw h refl
     on (b ∷ rest) (suc at) lt h = let k : suc at + 1 ≡ suc (at + 1) = omega arith in rw k (ap (λ r. b ∷ r) (on rest at (omega arith) h))
-
-pub cut : (line : List ℕ) (at : ℕ) → begins_comment (take (length line - at) (drop at line)) ≡ true → IsPassed line at → take at line ≡ without_comment line
-cut line at h so_far = sym (so_far ∙ (ap (λ r. take at line ++ r) (none (drop at line) (ap begins_comment (sym (take_rest line at)) ∙ h)) ∙ append-nil (take at line)))
-  where
-    none : (rest : List ℕ) → begins_comment rest ≡ true → without_comment rest ≡ []
-    none [] h = refl
-    none (b ∷ rest) h = rw h refl
 
 pub whole : (line : List ℕ) (at : ℕ) → length line ≤ at → IsPassed line at → line ≡ without_comment line
 whole line at le so_far = sym (so_far ∙ all line at le)

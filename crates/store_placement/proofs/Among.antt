@@ -29,10 +29,6 @@ none_of test [] x h among = absurd among
 none_of test (y ∷ ys) x h (inl e) = ap test e ∙ (or_parts (test y) (list_any test ys) h).0
 none_of test (y ∷ ys) x h (inr rest) = none_of test ys x (or_parts (test y) (list_any test ys) h).1 rest
 
-pub any_none : {X : Type 0} (test : X → Bool) (xs : List X) → ((x : X) → Among x xs → test x ≡ false) → list_any test xs ≡ false
-any_none test [] h = refl
-any_none test (y ∷ ys) h = rw (h y (inl refl)) (any_none test ys (λ x rest. h x (inr rest)))
-
 pub All-among : {X : Type 0} (P : X → Type 0) (xs : List X) (x : X) → All P xs → Among x xs → P x
 All-among P [] x h among = absurd among
 All-among P (y ∷ ys) x h (inl e) = subst P (sym e) (h 0 y (omega arith))

@@ -1,6 +1,6 @@
 //! The chosen placement.
 
-ghost use Rattle.std.specs.Prelude.{◌≡◌, ◌≤◌, ◌<◌, ◌↔◌, IsOk, IfOk, MatchResult, length};
+ghost use Rattle.std.specs.Prelude.{◌≡◌, ◌<◌, ◌↔◌, IsOk, IfOk, MatchResult};
 ghost use Rattle.store_placement.specs.declared.refusal.PlaceError.{PlaceError};
 ghost use Rattle.store_placement.specs.Chosen.{IsChosenList};
 ghost use Rattle.store_placement.specs.Demands.{AreWithin};

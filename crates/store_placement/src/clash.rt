@@ -1,8 +1,7 @@
 //! The tests of the refusals, statement by statement.
-ghost use Rattle.std.specs.Prelude.{◌≡◌, ◌≤◌, ◌<◌, ℕ, length, MatchOption};
-ghost use Rattle.store_placement.specs.First.{Never, IsFirst, NeverTwo, IsFirstTwo};
-ghost use Rattle.store_placement.specs.Demands.{AreWithin, fixed_at};
-ghost use Rattle.store_placement.specs.Refusals.{clashes, in_wrong_half, is_false_target, is_true_target, stands_in, stands_beside, stands_twice, are_split, is_pair_of, collide};
+ghost use Rattle.std.specs.Prelude.{◌≡◌, ◌≤◌, ◌<◌, length, MatchOption};
+ghost use Rattle.store_placement.specs.First.{Never, IsFirst};
+ghost use Rattle.store_placement.specs.Refusals.{clashes, in_wrong_half, is_false_target, is_true_target, stands_in, stands_beside, stands_twice};
 
 use crate::pair::Pair;
 

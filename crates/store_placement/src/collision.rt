@@ -1,6 +1,6 @@
 //! Whether two statements are forced to one address.
-ghost use Rattle.std.specs.Prelude.{◌≡◌, ◌≤◌, ◌<◌, length, IfSome, MatchOption, All, EachIndex, slice_index_or, None};
-ghost use Rattle.store_placement.specs.Demands.{AreWithin, IsOfStatements, fixed_at};
+ghost use Rattle.std.specs.Prelude.{◌≡◌, ◌<◌, length, IfSome, MatchOption, None};
+ghost use Rattle.store_placement.specs.Demands.{AreWithin};
 ghost use Rattle.store_placement.specs.First.{NeverWith, IsFirstWith, NeverTwo, IsFirstTwo};
 ghost use Rattle.store_placement.specs.Forced.{all_forced, forced};
 ghost use Rattle.store_placement.specs.Refusals.{are_split, collide, is_pair_of, split_apart};

@@ -1,6 +1,6 @@
 //! The addresses that fixed statements force.
-ghost use Rattle.std.specs.Prelude.{◌≡◌, ◌≤◌, ◌<◌, All, IfSome, length};
-ghost use Rattle.store_placement.specs.Demands.{AreFixedInside, AreWithin, IsOfStatements, fixed_at};
+ghost use Rattle.std.specs.Prelude.{◌≡◌, ◌<◌, All, IfSome, length};
+ghost use Rattle.store_placement.specs.Demands.{AreFixedInside, AreWithin, IsOfStatements};
 ghost use Rattle.store_placement.specs.Forced.{given_by, given, forced, all_forced, same_address};
 
 use crate::pair::Pair;

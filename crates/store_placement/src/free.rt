@@ -1,6 +1,6 @@
 //! Free addresses of the store.
-ghost use Rattle.std.specs.Prelude.{◌≡◌, ◌≤◌, ◌<◌, All, length};
-ghost use Rattle.store_placement.specs.Chosen.{is_taken, is_free, is_free_low, free_lows, free_addresses};
+ghost use Rattle.std.specs.Prelude.{◌≡◌, ◌<◌};
+ghost use Rattle.store_placement.specs.Chosen.{is_taken, is_free_low, free_lows, free_addresses};
 
 use crate::forced::same_address;
 use arrayvec::ArrayVec;

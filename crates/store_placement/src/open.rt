@@ -1,5 +1,5 @@
 //! The pairs that no fixed statement places.
-ghost use Rattle.std.specs.Prelude.{◌≡◌, ◌≤◌, ◌<◌, All, length};
+ghost use Rattle.std.specs.Prelude.{◌≡◌, ◌<◌, length};
 ghost use Rattle.store_placement.specs.Demands.{AreWithin, IsOfStatements};
 ghost use Rattle.store_placement.specs.Chosen.{is_opened_by, opened_by, open_pairs};
 

@@ -1,5 +1,5 @@
 //! Addresses for the statements that no fixed address forces.
-ghost use Rattle.std.specs.Prelude.{◌≡◌, ◌≤◌, ◌<◌, All, IfSome, is_none, length, count_by};
+ghost use Rattle.std.specs.Prelude.{◌≡◌, ◌≤◌, ◌<◌, All, is_none, length, count_by};
 ghost use Rattle.store_placement.specs.Reading.{pair_address, with_pairs, with_free};
 
 use crate::pair::Pair;

@@ -1,5 +1,5 @@
 //! The store file, written and read.
-ghost use Rattle.std.specs.Prelude.{◌≡◌, ◌+◌, ◌≤◌, ◌<◌, ◌^◌, ◌⊎◌, false, length, IsTrue, IfOk, IfErr, MatchOption, MatchResult, Err};
+ghost use Rattle.std.specs.Prelude.{◌≡◌, ◌+◌, ◌≤◌, ◌<◌, ◌⊎◌, false, length, IsTrue, IfOk, IfErr, MatchOption, MatchResult, Err};
 ghost use Rattle.micro_word.specs.Coding.{word_of};
 ghost use Rattle.micro_word.specs.Words.{is_valid, is_canonical};
 ghost use Rattle.micro_word.specs.ControlStore.{ControlStore, IsStore};

@@ -1,5 +1,4 @@
-use Rattle.std.proofs.Common.{◌≡◌, ◌+◌, arith, ap}
-use Rattle.console_port.specs.declared.map.MemoryMap.{MemoryMap}
+use Rattle.std.proofs.Common.{◌+◌, arith}
 use Rattle.ijvm_verifier.proofs.Counts.{verified, no_frame}
 use Rattle.ijvm_verifier.proofs.accept.verify.Goals as goal
 

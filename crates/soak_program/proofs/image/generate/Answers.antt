@@ -1,5 +1,4 @@
 use Rattle.std.proofs.Common.{◌≡◌, ◌∙◌, ◌≤◌, ◌+◌, ℕ, List, [], ◌∷◌, ◌++◌, length, length-append, ap, arith}
-use Rattle.ijvm_image.specs.Image.{ImageView}
 use Rattle.soak_program.specs.Generated.{generated, main_text, method_text}
 use Rattle.soak_program.proofs.image.generate.Goals as goal
 
