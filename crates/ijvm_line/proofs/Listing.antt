@@ -37,5 +37,3 @@ list_is [] h = absurd (cc)
 list_is (tokens.Name p ∷ rest) h = let r = more_is rest h in (p ∷ r.0, ap (λ z. tokens.Name p ∷ z) r.1)
 list_is (tokens.Sign s ∷ rest) h = ([], close_is (tokens.Sign s ∷ rest) h)
 list_is (tokens.Number v ∷ rest) h = absurd (cc)
-
--- ---- the loop

@@ -35,8 +35,6 @@ stopped_behind xs ys (TextTooLong size) none h = h
 stopped_behind xs ys (JumpTooFar line far) none h = far_behind xs ys none ∙ h
 stopped_behind xs ys OutOfMemory none h = h
 
--- ---- one piece behind another
-
 -- ---- a loop over elements
 
 pub flat_map_upto : {X Y : Type 0} (f : X → List Y) (xs : List X) (i : ℕ) (x : X) → i < length xs → x ≡ get_or xs i x →
