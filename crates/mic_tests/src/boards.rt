@@ -43,7 +43,7 @@ const CALLS: [(&[u8], u32, MemoryMap, Taken); 3] = [
         11,
         MemoryMap::STANDARD,
         Taken {
-            mic1: 73,
+            mic1: 69,
             mic2: 44,
             stalls: 3,
         },
