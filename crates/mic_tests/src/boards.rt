@@ -78,15 +78,20 @@ fn image_of(alloc: Global, text: &[u8], entry: u32, map: MemoryMap) -> Result<Ve
 
 /// How a run ended, its cycles and stalls, and what it printed.
 #[derive(Debug, PartialEq, Eq, Drop)]
-struct Ran {
+struct Outcome {
     end: Option<End>,
     cycles: u64,
     stalls: u64,
     out: Vec<u8>,
 }
 
-fn ran(alloc: Global, end: Option<End>, counts: Counts, out: &[u8]) -> Result<Ran, AllocError> {
-    Ok(Ran {
+fn outcome_of(
+    alloc: Global,
+    end: Option<End>,
+    counts: Counts,
+    out: &[u8],
+) -> Result<Outcome, AllocError> {
+    Ok(Outcome {
         end,
         cycles: counts.cycles,
         stalls: counts.stalls,
@@ -95,8 +100,8 @@ fn ran(alloc: Global, end: Option<End>, counts: Counts, out: &[u8]) -> Result<Ra
 }
 
 /// A run that halted, and printed what the calls print.
-fn halted(alloc: Global, cycles: u64, stalls: u64) -> Result<Ran, AllocError> {
-    Ok(Ran {
+fn halted(alloc: Global, cycles: u64, stalls: u64) -> Result<Outcome, AllocError> {
+    Ok(Outcome {
         end: Some(End::Halt),
         cycles,
         stalls,
@@ -119,7 +124,7 @@ fn images_run_on_mic1(rt: HostRuntime) -> Result<(), Fail> {
         let image = image_of(alloc, text, entry, map)?;
         let mut sink = empty_sink(alloc)?;
         let board = run_image1(alloc, &image, 1000, &mut no_input(alloc), &mut sink)?;
-        let run = ran(alloc, board.ended(), board.counts(), sink.bytes())?;
+        let run = outcome_of(alloc, board.ended(), board.counts(), sink.bytes())?;
         assert_eq!(rt; run, halted(alloc, taken.mic1, 0)?);
     }
     Ok(())
@@ -132,7 +137,7 @@ fn images_run_on_mic2(rt: HostRuntime) -> Result<(), Fail> {
         let image = image_of(alloc, text, entry, map)?;
         let mut sink = empty_sink(alloc)?;
         let board = run_image2(alloc, &image, 1000, &mut no_input(alloc), &mut sink)?;
-        let run = ran(alloc, board.ended(), board.counts(), sink.bytes())?;
+        let run = outcome_of(alloc, board.ended(), board.counts(), sink.bytes())?;
         assert_eq!(rt; run, halted(alloc, taken.mic2, taken.stalls)?);
     }
     Ok(())
@@ -153,7 +158,7 @@ fn a_board_of_mic1_runs(rt: HostRuntime) -> Result<(), Fail> {
     let mut board = board1(alloc, &image, store, entry)?;
     let mut sink = empty_sink(alloc)?;
     board.run(1000, &mut no_input(alloc), &mut sink);
-    let run = ran(alloc, board.ended(), board.counts(), sink.bytes())?;
+    let run = outcome_of(alloc, board.ended(), board.counts(), sink.bytes())?;
     assert_eq!(rt; run, halted(alloc, 65, 0)?);
     Ok(())
 }
@@ -167,7 +172,7 @@ fn a_board_of_mic2_runs(rt: HostRuntime) -> Result<(), Fail> {
     let mut board = board2(alloc, &image, store, entry)?;
     let mut sink = empty_sink(alloc)?;
     board.run(1000, &mut no_input(alloc), &mut sink);
-    let run = ran(alloc, board.ended(), board.counts(), sink.bytes())?;
+    let run = outcome_of(alloc, board.ended(), board.counts(), sink.bytes())?;
     assert_eq!(rt; run, halted(alloc, 41, 2)?);
     Ok(())
 }
