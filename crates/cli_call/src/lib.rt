@@ -7,8 +7,6 @@ mod job;
 mod laws;
 mod run;
 mod soak;
-#[cfg(test)]
-mod tests;
 mod top_call;
 mod usage;
 

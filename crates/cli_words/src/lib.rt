@@ -7,8 +7,6 @@ mod read;
 mod request;
 mod table;
 mod taking;
-#[cfg(test)]
-mod tests;
 
 pub use error::WordsError;
 pub use options::{DEFAULT_BOUND, MOST_BLOCKS, MOST_CYCLES, MOST_SEED};

@@ -12,6 +12,3 @@ pub use bus::Bus;
 pub use console::{Console, MOST_KEPT};
 pub use fault::BusFault;
 pub use map::{CONSOLE, FRAME, MOST_POOL, MOST_TEXT, MemoryMap, POOL};
-
-#[cfg(test)]
-mod tests;

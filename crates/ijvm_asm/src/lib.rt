@@ -7,8 +7,6 @@ mod laws;
 mod parse;
 mod resolve;
 mod source;
-#[cfg(test)]
-mod tests;
 mod whole;
 
 pub use error::AsmError;

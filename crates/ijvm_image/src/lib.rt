@@ -10,6 +10,3 @@ pub use image::{Image, ImageError};
 pub use method::Method;
 pub use reader::read_image;
 pub use writer::write_image;
-
-#[cfg(test)]
-mod tests;

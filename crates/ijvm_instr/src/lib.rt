@@ -14,6 +14,3 @@ pub use instr::{INSTRUCTIONS, Instr};
 pub use laws::read_instructions_are_whole;
 pub use print::{print_instr, print_name, target_of};
 pub use row::{Cost, Flow, Operands, Row, name};
-
-#[cfg(test)]
-mod tests;

@@ -4,8 +4,6 @@
 pub mod accept;
 mod count;
 mod sweep;
-#[cfg(test)]
-mod tests;
 pub mod verified;
 
 pub use accept::verify;

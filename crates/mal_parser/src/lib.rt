@@ -16,6 +16,3 @@ pub use parse::parse_mal;
 pub use print::{print_fallback, print_labelled, print_mal, print_placed, print_statement};
 pub use program::MalProgram;
 pub use statement::{MalNext, Statement};
-
-#[cfg(test)]
-mod tests;

@@ -6,8 +6,6 @@ mod gates;
 mod shifter;
 mod slices;
 mod table;
-#[cfg(test)]
-mod tests;
 mod wires;
 
 pub use controls::Controls;

@@ -4,8 +4,6 @@
 pub mod latches;
 pub mod laws;
 pub mod mic1;
-#[cfg(test)]
-mod tests;
 
 pub use laws::step_law;
 pub use mic1::Mic1;

@@ -5,6 +5,3 @@ mod interpreter;
 mod laws;
 
 pub use interpreter::{Mic1Interpreter, run_image1};
-
-#[cfg(test)]
-mod tests;

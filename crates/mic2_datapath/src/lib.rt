@@ -6,10 +6,6 @@ mod control;
 mod latches;
 mod laws;
 mod mic2;
-#[cfg(test)]
-mod soak;
-#[cfg(test)]
-mod tests;
 
 pub use laws::step_law;
 pub use mic2::Mic2;

@@ -5,8 +5,6 @@ mod fetch_unit;
 mod laws;
 mod queue;
 mod sampling;
-#[cfg(test)]
-mod tests;
 
 pub use fetch_unit::FetchUnit;
 pub use laws::standing_law;

@@ -6,6 +6,3 @@ mod laws;
 
 pub use interpreter::{Mic2Interpreter, run_image2};
 pub use laws::{runs_stall_at_calls, stalls_law};
-
-#[cfg(test)]
-mod tests;

@@ -20,6 +20,3 @@ pub use plain::{PlainSink, PlainSource};
 pub use sink::{Sink, SinkFailed};
 pub use source::{Source, SourceFailed};
 pub use standard::{StdFiles, StdSink, StdSource};
-
-#[cfg(test)]
-mod tests;

@@ -20,6 +20,3 @@ pub use reading::{Command, CommandError, read_command};
 pub use reply::Reply;
 pub use session::Session;
 pub use table::{Argument, Verb};
-
-#[cfg(test)]
-mod tests;

@@ -24,6 +24,3 @@ pub use operation::Row;
 pub use statement::{AluOp, BusSource, Mem, Part, Placed, PlacedNext, Shift, Test};
 pub use store::Store;
 pub use word::{Word1, Word2, decode1, decode2, encode1, encode2};
-
-#[cfg(test)]
-mod tests;

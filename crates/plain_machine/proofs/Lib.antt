@@ -9,4 +9,3 @@ pub mod Keeping
 pub mod Running
 pub mod Behind
 pub mod Told
-pub mod Hello

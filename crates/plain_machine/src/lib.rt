@@ -11,6 +11,3 @@ mod port;
 
 pub use frames::{Frames, StepEnd, StepError};
 pub use plain::{PlainEnd, PlainReport, run_plain};
-
-#[cfg(test)]
-mod tests;

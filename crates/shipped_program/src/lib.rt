@@ -14,6 +14,3 @@ pub use loaded::{Loaded, load_micro};
 pub use mic1::MIC1;
 pub use mic2::MIC2;
 pub use program::{shipped_program, shipped_text};
-
-#[cfg(test)]
-mod tests;

@@ -27,6 +27,3 @@ pub use placement::Placement;
 pub use refusal::PlaceError;
 pub use store_error::StoreError;
 pub use store_file::{machine_of, read_store, store_bytes};
-
-#[cfg(test)]
-mod tests;

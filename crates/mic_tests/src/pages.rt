@@ -1,0 +1,29 @@
+//! The memory, which takes a page where a word of it is written for the first time.
+
+use console_port::{Bus, MemoryMap};
+use mic_base::PlainSink;
+use std::test::Fail;
+
+/// Writes the first word of each page, the last page first.
+#[test]
+fn every_page_has_words_of_its_own(rt: HostRuntime) -> Result<(), Fail> {
+    let mut sink = PlainSink::new();
+    for map in [MemoryMap::STANDARD, MemoryMap::LARGE] {
+        let mut bus = Bus::new(rt.alloc(), map)?;
+        let pages = map.stack_end / 1024;
+        for page in (0..pages).rev() {
+            assert_eq!(rt; bus.peek(1024 * page), Some(0), "page {page} before");
+            assert_eq!(rt; bus.write_word(1024 * page, page + 7, &mut sink), Ok(()));
+        }
+        for page in 0..pages {
+            for (at, word) in [(0, page + 7), (1, 0), (1023, 0)] {
+                assert_eq!(rt;
+                    bus.peek(1024 * page + at),
+                    Some(word),
+                    "word {at} of page {page}"
+                );
+            }
+        }
+    }
+    Ok(())
+}
