@@ -4,11 +4,11 @@ ghost use Rattle.mic_base.specs.Causes.{Rose};
 ghost use Rattle.mic_base.specs.Streams.{Holds, IsFlushed};
 ghost use Rattle.std.specs.Prelude.{◌≡◌, ◌≢◌, [], ◌<◌, ◌≤◌, ◌+◌, ◌^◌, ℕ, List, Option, None, Some, IsOk, OnOk, IfErr, IsSome, true, false, length, max};
 ghost use Rattle.console_port.specs.Bus.{Stands};
-ghost use Rattle.console_port.specs.Console.{IsFault, IsLost, HasFaultCause, StaysFlushed};
-ghost use Rattle.mic_clock.specs.Edge.{AsksNoMore};
+ghost use Rattle.console_port.specs.Console.{IsFault, IsLost, HasFaultCause, StaysFlushed, StillTells};
+ghost use Rattle.mic_clock.specs.Edge.{AsksNoMore, LetsBytesWait};
 ghost use Rattle.mic_clock.specs.Run.{MicroRun, start_counts, start_buses, bounded, word_at, last_cycles, end_by};
 ghost use Rattle.mic_clock.specs.Board.{ShowsAs, IsReset, NoFault, HasEndCause, tick_of, IsTurned, IsCutByFault, IsReached, IsRun, RunIsCutByRead, RunIsCutByWrite, BoundIsCutByWrite, IsLegRun, LegIsCutByRead, LegIsCutByWrite};
-ghost use Rattle.mic_clock.specs.Board.{EndsInTime, IsCounted, ShowsBuses, EndsUncounted, HasRoom};
+ghost use Rattle.mic_clock.specs.Board.{EndsInTime, IsCounted, ShowsBuses, EndsUncounted, HasRoom, ChangesAtMar, EndsUnwritten};
 
 use crate::buses::{Computed, Drive};
 use crate::clocked::Clocked;
@@ -96,6 +96,7 @@ impl<M: Clocked> Board<M> {
         ensures store { self.new.store ≡ self.old.store }
         ensures keeps { (front : List ℕ) → Holds front (K.held sink.old) → Holds front (K.held sink.new) }
         ensures asked_no_more { AsksNoMore self.old.bus.console.ended source.old self.new.bus.console.ended source.new }
+        ensures tells_left { StillTells (S.left source.old) self.old.bus.console.ended (S.left source.new) self.new.bus.console.ended }
         ensures tells { IsSome (K.held sink.old) → IsSome (K.held sink.new) }
         ensures flushed { self.new.end ≢ Some End.WriteFault → StaysFlushed (K.held sink.old) (K.passed sink.old) (K.held sink.new) (K.passed sink.new) }
         ensures cause { HasEndCause (S.faults source.old) (S.faults source.new) (K.faults sink.old) (K.faults sink.new) self.old.end self.new.end }
@@ -105,6 +106,10 @@ impl<M: Clocked> Board<M> {
         ensures clocked { IsCounted M.state M.meaning self.old self.new }
         ensures room { HasRoom self.old self.new }
         ensures still { EndsUncounted self.old self.new }
+        ensures writes { ChangesAtMar M.state M.meaning self.old self.new }
+        ensures memory { EndsUnwritten self.old self.new }
+        ensures waits { LetsBytesWait M.meaning (word_at M.meaning self.old.store.words (M.state self.old.machine)) (M.state self.old.machine)
+            (S.left source.old) (K.held sink.old) self.old.bus sink.old sink.new }
         ensures buses { ShowsBuses M.state M.meaning self.old self.new }
     {
         if let Some(end) = self.end {
@@ -164,6 +169,7 @@ impl<M: Clocked> Board<M> {
         ensures store { self.new.store ≡ self.old.store }
         ensures keeps { (front : List ℕ) → Holds front (K.held sink.old) → Holds front (K.held sink.new) }
         ensures asked_no_more { AsksNoMore self.old.bus.console.ended source.old self.new.bus.console.ended source.new }
+        ensures tells_left { StillTells (S.left source.old) self.old.bus.console.ended (S.left source.new) self.new.bus.console.ended }
         ensures tells { IsSome (K.held sink.old) → IsSome (K.held sink.new) }
         ensures flushed { self.new.end ≢ Some End.WriteFault → StaysFlushed (K.held sink.old) (K.passed sink.old) (K.held sink.new) (K.passed sink.new) }
         ensures cause { HasEndCause (S.faults source.old) (S.faults source.new) (K.faults sink.old) (K.faults sink.new) self.old.end self.new.end }
@@ -270,6 +276,7 @@ impl<M: Clocked> Board<M> {
         ensures store { self.new.store ≡ self.old.store }
         ensures keeps { (front : List ℕ) → Holds front (K.held sink.old) → Holds front (K.held sink.new) }
         ensures asked_no_more { AsksNoMore self.old.bus.console.ended source.old self.new.bus.console.ended source.new }
+        ensures tells_left { StillTells (S.left source.old) self.old.bus.console.ended (S.left source.new) self.new.bus.console.ended }
         ensures tells { IsSome (K.held sink.old) → IsSome (K.held sink.new) }
         ensures flushed { self.new.end ≢ Some End.WriteFault → StaysFlushed (K.held sink.old) (K.passed sink.old) (K.held sink.new) (K.passed sink.new) }
         ensures cause { HasEndCause (S.faults source.old) (S.faults source.new) (K.faults sink.old) (K.faults sink.new) self.old.end self.new.end }
@@ -305,6 +312,7 @@ impl<M: Clocked> Board<M> {
         ensures store { self.new.store ≡ self.old.store }
         ensures keeps { (front : List ℕ) → Holds front (K.held sink.old) → Holds front (K.held sink.new) }
         ensures asked_no_more { AsksNoMore self.old.bus.console.ended source.old self.new.bus.console.ended source.new }
+        ensures tells_left { StillTells (S.left source.old) self.old.bus.console.ended (S.left source.new) self.new.bus.console.ended }
         ensures tells { IsSome (K.held sink.old) → IsSome (K.held sink.new) }
         ensures flushed { self.new.end ≢ Some End.WriteFault → StaysFlushed (K.held sink.old) (K.passed sink.old) (K.held sink.new) (K.passed sink.new) }
         ensures cause { HasEndCause (S.faults source.old) (S.faults source.new) (K.faults sink.old) (K.faults sink.new) None self.new.end }
@@ -330,6 +338,7 @@ impl<M: Clocked> Board<M> {
         ensures store { self.new.store ≡ self.old.store }
         ensures keeps { (front : List ℕ) → Holds front (K.held sink.old) → Holds front (K.held sink.new) }
         ensures asked_no_more { AsksNoMore self.old.bus.console.ended source.old self.new.bus.console.ended source.new }
+        ensures tells_left { StillTells (S.left source.old) self.old.bus.console.ended (S.left source.new) self.new.bus.console.ended }
         ensures tells { IsSome (K.held sink.old) → IsSome (K.held sink.new) }
         ensures flushed { self.new.end ≢ Some End.WriteFault → StaysFlushed (K.held sink.old) (K.passed sink.old) (K.held sink.new) (K.passed sink.new) }
         ensures cause { HasEndCause (S.faults source.old) (S.faults source.new) (K.faults sink.old) (K.faults sink.new) self.old.end self.new.end }
@@ -364,7 +373,8 @@ impl<M: Clocked> Board<M> {
     }
 
     pub fn registers(&self) -> Registers
-        ensures { result ≡ M.meaning.registers (M.state self.now.machine) }
+        ensures value { result ≡ M.meaning.registers (M.state self.now.machine) }
+        ensures mpc { result.mpc < 512 }
     {
         self.machine.registers()
     }
