@@ -20,7 +20,7 @@ use Rattle.mic_debugger.specs.declared.until.Until.{Until}
 use Rattle.mic_debugger.specs.Book.{Book}
 use Rattle.mic_debugger.specs.Clocking.{after, comes, counted_turn, passed, printed, turn_lines}
 use Rattle.mic_debugger.specs.Obeys.{IsBrokenIn, IsSaid, IsSaidInPart, Obeys}
-use Rattle.mic_debugger.specs.Session.{IsBroken, IsFrontOf, IsUnderway, text_between}
+use Rattle.mic_debugger.specs.Session.{IsBroken, IsFrontOf, IsUnderway, StandsAfter, text_between}
 use Rattle.mic_debugger.specs.View.{SessionView}
 use Rattle.mic_debugger.proofs.Flushing.{led_on}
 use Rattle.mic_debugger.proofs.Putting.{puts_first, puts_passed, puts_then}
@@ -71,6 +71,11 @@ front_given (Some h) kept given told = (kept, told)
 front_shown : (left held : Option (List ℕ)) {M State : Type 0} (state : M → State) (board : BoardView M) (r : MicroRun State) → ShowsRun state left held board r → IsFrontOf held r.world.given
 front_shown left held state board r shows = front_given held board.bus.console.kept r.world.given shows.world.given
 
+-- a board stands where it shows a run
+pub stands_shown : (left held : Option (List ℕ)) {M State : Type 0} (state : M → State) (board : BoardView M) (r : MicroRun State) → ShowsRun state left held board r → StandsAfter state board r
+stands_shown left held state board r shows =
+    record { its_state = shows.its_state; memory = shows.world.words; counts = shows.counts; its_end = inl shows.its_end }
+
 front_lost : (held held' : Option (List ℕ)) (kept kept' given : List ℕ) → IsLost held kept held' kept' → Given held kept given → IsFrontOf held' given
 front_lost None held' kept kept' given lost told = subst (λ (o : Option (List ℕ)). IsFrontOf o given) (sym lost.prefix.1) tt
 front_lost (Some h) held' kept kept' given lost told =
@@ -88,7 +93,7 @@ module _ {M State : Type 0} (state : M → State) (m : Meaning State) (book : Bo
       (said0 said said' : Option (List ℕ)) (prints : Got said0 text said) where
     -- behind the turn, where a text is put
     broken_behind : NoFault board.end board'.end → IsTurned state m left held board left' held' board' (Some bound) → GotInPart said (text_between state m book breaks u board board') said' →
-        IsLedTo state left0 held0 board0 left' board' (λ r rest. (n : ℕ) × IsBroken state m book words breaks bound u times held' said0 said' n r)
+        IsLedTo state left0 held0 board0 left' board' (λ r rest. (n : ℕ) × IsBroken state m book words breaks bound u times held' board' said0 said' n r)
     broken_behind well turned front rest fits =
         let c : ℕ = counted_turn breaks u board'.counts board'.bus.words board'.end in
         let most : c ≤ 1 = one_at_most breaks u board'.counts board'.bus.words board'.end in
@@ -100,6 +105,7 @@ module _ {M State : Type 0} (state : M → State) (m : Meaning State) (book : Bo
               let at = far.2 r s e in (
                 at.0,
                 record {
+                  here = stands_shown left' held' state board' _ at.1.here;
                   going = at.1.going;
                   out = front_shown left' held' state board' _ at.1.here;
                   err = subst (λ (t : List ℕ). GotInPart said0 t said') at.1.lines (puts_then {E = ℕ} said0 said said' text (text_between state m book breaks u board board') (Err 0) prints front);
@@ -109,24 +115,27 @@ module _ {M State : Type 0} (state : M → State) (m : Meaning State) (book : Bo
 
     -- in the turn, behind k turns that count no cycle
     broken_at : (r : MicroRun State) (rest : List ℕ) (n k : ℕ) → IsUnderway state m book words breaks bound u times left held board rest text w n r → said' ≡ said →
+        StandsAfter state board' (turns m words (Some bound) k (after m book words breaks bound u n r)) →
         IsFrontOf held' (turns m words (Some bound) k (after m book words breaks bound u n r)).world.given →
         (turns m words (Some bound) k (after m book words breaks bound u n r)).counts.cycles ≡ (after m book words breaks bound u n r).counts.cycles →
-        (j : ℕ) × IsBroken state m book words breaks bound u times held' said0 said' j r
-    broken_at r rest n zero at silent front same = (
+        (j : ℕ) × IsBroken state m book words breaks bound u times held' board' said0 said' j r
+    broken_at r rest n zero at silent stands front same = (
       n,
       record {
+        here = stands;
         going = at.going;
         out = front;
         err = subst (λ (t : List ℕ). GotInPart said0 t said') at.lines (puts_passed {E = ℕ} said0 said said' text (Err 0) prints silent);
       },
     )
-    broken_at r rest n (suc k) at silent front same =
+    broken_at r rest n (suc k) at silent stands front same =
         let before = after m book words breaks bound u n r in
         let so_far : passed m book words breaks bound u n r + w ≡ times = at.count in
         let is : turns m words (Some bound) (suc k) before ≡ after m book words breaks bound u (suc n) r =
         uncounted m words bound k before same ∙ sym (after-suc state m book words breaks bound u times n r) in (
           suc n,
           record {
+            here = subst (λ (x : MicroRun State). StandsAfter state board' x) is stands;
             going = going_more state m book words breaks bound u times n r at.going (at.here.its_end ∙ live) (omega arith);
             out = subst (λ (x : MicroRun State). IsFrontOf held' x.world.given) is front;
             err = puts_first {E = ℕ} said0 said' (printed m book words breaks bound u n r) (turn_lines m book words breaks bound u before (after m book words breaks bound u (suc n) r)) 0
@@ -135,7 +144,7 @@ module _ {M State : Type 0} (state : M → State) (m : Meaning State) (book : Bo
         )
 
     broken_in : EndsUncounted board board' → board'.end ≡ Some ends.WriteFault → RunIsCutByWrite state m left held board left' held' board' (Some bound) → said' ≡ said →
-        IsLedTo state left0 held0 board0 left' board' (λ r rest. (n : ℕ) × IsBroken state m book words breaks bound u times held' said0 said' n r)
+        IsLedTo state left0 held0 board0 left' board' (λ r rest. (n : ℕ) × IsBroken state m book words breaks bound u times held' board' said0 said' n r)
     broken_in still ended write silent rest fits =
         let one = write live ended rest fits in
         let far = led one.0 one.1 in (
@@ -149,7 +158,10 @@ module _ {M State : Type 0} (state : M → State) (m : Meaning State) (book : Bo
               ap (λ (ws : List ℕ). turns m ws (Some bound) cut.0 before) program in
               let cycles : board'.counts.cycles ≡ before.counts.cycles =
               (still (subst IsSome (sym ended) refl)).0 ∙ ap (λ (c : Counts). c.cycles) (sym at.1.here.counts) in
-              broken_at r one.0 at.0 cut.0 at.1 silent (subst (λ (x : MicroRun State). IsFrontOf held' x.world.given) here cut.1.here.front)
+              let stands : StandsAfter state board' (turns m words (Some bound) cut.0 before) =
+              subst (λ (x : MicroRun State). StandsAfter state board' x) here
+              (record { its_state = cut.1.here.its_state; memory = cut.1.here.memory; counts = cut.1.here.counts; its_end = inr ended }) in
+              broken_at r one.0 at.0 cut.0 at.1 silent stands (subst (λ (x : MicroRun State). IsFrontOf held' x.world.given) here cut.1.here.front)
               (ap (λ (x : MicroRun State). x.counts.cycles) (sym here) ∙ ap (λ (c : Counts). c.cycles) cut.1.here.counts ∙ cycles),
         )
 
@@ -157,7 +169,7 @@ module _ {M State : Type 0} (state : M → State) (m : Meaning State) (book : Bo
     pub broken_more : EndsUncounted board board' → board'.end ≢ Some ends.ReadFault →
         IsTurned state m left held board left' held' board' (Some bound) → RunIsCutByWrite state m left held board left' held' board' (Some bound) →
         (board'.end ≢ Some ends.WriteFault → GotInPart said (text_between state m book breaks u board board') said') → (board'.end ≡ Some ends.WriteFault → said' ≡ said) →
-        IsLedTo state left0 held0 board0 left' board' (λ r rest. (n : ℕ) × IsBroken state m book words breaks bound u times held' said0 said' n r)
+        IsLedTo state left0 held0 board0 left' board' (λ r rest. (n : ℕ) × IsBroken state m book words breaks bound u times held' board' said0 said' n r)
     broken_more still unread turned write front silent =
         elim (write_or_not board'.end) [
           | inl ended ↦ broken_in still ended write (silent ended)
@@ -169,11 +181,12 @@ module _ {M State : Type 0} (state : M → State) (m : Meaning State) (book : Bo
 -- a plan that was carried out, and then the flush failed
 module _ {M State : Type 0} (state : M → State) (m : Meaning State) (book : Book) (left held said : Option (List ℕ)) (old : SessionView M) (left' held' held'' said' : Option (List ℕ)) (board' board'' : BoardView M)
     (text : List ℕ) (prints : Got said text said') (same : board''.bus.console.ended ≡ board'.bus.console.ended)
+    (stands : (r : MicroRun State) → ShowsRun state left' held' board' r → StandsAfter state board'' r)
     (front : (r : MicroRun State) → ShowsRun state left' held' board' r → IsFrontOf held'' r.world.given) where
   said_broken : (plan : Plan) → IsSaid state m book left held old left' held' board' text plan → IsSaidInPart state m book left held said old left' held'' said' board'' plan
   said_broken plan is = (
-    led_on state left held old.board left' board' board'' (λ r rest. ShowsRun state left' held' board' r × (r.world.untaken ≡ rest)) (λ r rest. IsFrontOf held'' r.world.given) same
-        (λ r rest at. front r at.0) is.0,
+    led_on state left held old.board left' board' board'' (λ r rest. ShowsRun state left' held' board' r × (r.world.untaken ≡ rest)) (λ r rest. StandsAfter state board'' r × IsFrontOf held'' r.world.given) same
+        (λ r rest at. (stands r at.0, front r at.0)) is.0,
     subst (λ (t : List ℕ). GotInPart said t said') is.1 (in_part said said' text prints),
   )
 
@@ -183,6 +196,7 @@ module _ {M State : Type 0} (state : M → State) (m : Meaning State) (book : Bo
       (λ r rest at. (
         at.0,
         record {
+          here = stands _ at.1.here;
           going = at.1.done.going;
           out = front _ at.1.here;
           err = subst (λ (t : List ℕ). GotInPart said t said') at.1.lines (in_part said said' text prints);
@@ -199,6 +213,17 @@ module _ {M State : Type 0} (state : M → State) (m : Meaning State) (book : Bo
 pub on_err_given : {T E : Type 0} (P A B : Type 0) (r : Result T E) → (B → A) → OnErr r (A → P) → OnErr r (B → P)
 on_err_given P A B (Ok v) f h = tt
 on_err_given P A B (Err e) f h = λ x. h (f x)
+
+-- a flush leaves a board where it stood
+pub stands_flushed : {M State : Type 0} (state : M → State) (left held : Option (List ℕ)) (board board' : BoardView M) → state board'.machine ≡ state board.machine → board'.bus.words ≡ board.bus.words →
+    board'.counts ≡ board.counts → board'.end ≡ board.end → (r : MicroRun State) → ShowsRun state left held board r → StandsAfter state board' r
+stands_flushed state left held board board' machine words counts end r shows =
+    record {
+      its_state = shows.its_state ∙ sym machine;
+      memory = shows.world.words ∙ sym words;
+      counts = shows.counts ∙ sym counts;
+      its_end = inl (shows.its_end ∙ sym end);
+    }
 
 -- a flush leaves a front of what was given
 pub front_flushed : {M State : Type 0} (state : M → State) (held held' : Option (List ℕ)) (board board' : BoardView M) (result : Result Unit BusFault) →

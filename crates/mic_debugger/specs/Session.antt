@@ -1,5 +1,5 @@
 -- Where a session leads a board, and what it prints.
-use Rattle.std.specs.Prelude.{◌≡◌, ◌≢◌, ℕ, ◌+◌, ◌<◌, List, ◌++◌, Option, Some, IfSome}
+use Rattle.std.specs.Prelude.{◌≡◌, ◌≢◌, ◌⊎◌, ℕ, ◌+◌, ◌<◌, List, ◌++◌, Option, Some, IfSome}
 use Rattle.mic_base.specs.Causes.{Rose}
 use Rattle.mic_clock.specs.declared.end.End.{End}
 use Rattle.mic_clock.specs.Meaning.{Meaning}
@@ -28,6 +28,13 @@ text_between state m book breaks u board board' =
     turn_text book breaks u (m.registers (state board.machine)).mpc (m.drives (word_at m board.store.words (state board.machine)) (state board.machine)).stalled
     board'.counts (m.registers (state board'.machine)) board'.bus.words board'.end
 
+-- A board stands where a run stands. If a failing sink ended the board in its last turn, the board has that end.
+pub record StandsAfter {M State : Type 0} (state : M → State) (board : BoardView M) (r : MicroRun State) : Type 0 where
+  pub its_state : r.state ≡ state board.machine
+  pub memory : r.world.words ≡ board.bus.words
+  pub counts : r.counts ≡ board.counts
+  pub its_end : (r.end ≡ board.end) ⊎ (board.end ≡ Some ends.WriteFault)
+
 module _ {M State : Type 0} (state : M → State) (m : Meaning State) (book : Book) (words breaks : List ℕ) (bound : ℕ) (u : Until) (times : ℕ) where
   -- A clocking command under way: so many turns of the run r were made, which led to this board; `left_over` more are waited for.
   pub record IsUnderway (left held : Option (List ℕ)) (board : BoardView M) (rest text : List ℕ) (left_over n : ℕ) (r : MicroRun State) : Type 0 where
@@ -52,8 +59,9 @@ module _ {M State : Type 0} (state : M → State) (m : Meaning State) (book : Bo
     pub waiting : passed m book words breaks bound u n r < times
     pub lines : text ≡ printed m book words breaks bound u n r ++ end_line ends.ReadFault
 
-  -- A failing sink broke it off at a moment of its way: `out` holds a front of what was given by then, and `err` got a front of what is printed by then.
-  pub record IsBroken (held said said' : Option (List ℕ)) (n : ℕ) (r : MicroRun State) : Type 0 where
+  -- A failing sink broke it off at a moment of its way: the turns that were made stay, `out` holds a front of what was given by then, and `err` got a front of what is printed by then.
+  pub record IsBroken (held : Option (List ℕ)) (board : BoardView M) (said said' : Option (List ℕ)) (n : ℕ) (r : MicroRun State) : Type 0 where
+    pub here : StandsAfter state board (after m book words breaks bound u n r)
     pub going : IsGoing m book words breaks bound u times n r
     pub out : IsFrontOf held (after m book words breaks bound u n r).world.given
     pub err : GotInPart said (printed m book words breaks bound u n r) said'

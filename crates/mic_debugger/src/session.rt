@@ -317,6 +317,8 @@ impl<M: Clocked> Session<M> {
         ensures kept { self.new.board.bus.console.kept ≡ [] }
         ensures same { self.new ≡ record self.old { board = record self.old.board { bus = self.new.board.bus } } }
         ensures input { self.new.board.bus.console.ended ≡ self.old.board.bus.console.ended }
+        ensures memory { self.new.board.bus.words ≡ self.old.board.bus.words }
+        ensures flushed { OnOk result (IsPassedOn (K.held out.old) (K.passed out.old) (K.held out.new) (K.passed out.new) self.old.board.bus.console.kept) }
         ensures held { E.held err.new ≡ E.held err.old }
         ensures passed { OnOk result (IsFlushed (E.held err.new) (E.passed err.new)) }
         ensures keeps_out { (front : List ℕ) → Holds front (K.held out.old) → Holds front (K.held out.new) }
