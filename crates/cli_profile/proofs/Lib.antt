@@ -1,3 +1,4 @@
 pub mod Names
+pub mod Ordered
 pub mod Listed
 pub mod Printed
