@@ -236,7 +236,7 @@ module _ (asks : Option Asked) (old new : OutsideView) (status : ℕ) where
   module _ {M S : Type 0} (state : M → S) (m : Meaning S) (runs : Runs asks) (bound : ℕ) (micro : Program) (program : VerifiedView) where
     ran_own : RunsOwn asks → IsOwnRun state m bound micro program old new status → Answer
     ran_own owns (own_run.NoRoom h) = short h
-    ran_own owns (own_run.Ran l first last end start ended run read write left says) = on_err _ _ says (run_end end runs (λ stray. owns) left.cause)
+    ran_own owns (own_run.Ran l first last end start ended kept run read write left says) = on_err _ _ says (run_end end runs (λ stray. owns) left.cause)
 
     ran_traced : Stays asks old new state m bound micro program → (buses : Bool) → IsTraced state m bound buses micro program old new status → Answer
     ran_traced stays buses (traced.NoRoom h) = short h
