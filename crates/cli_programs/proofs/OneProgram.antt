@@ -48,7 +48,7 @@ linked_unrefused source image (limits.TextTooLong size) reason linked refused sa
     let above = refused.2 in
     let fits = linked.text_fits in
     absurd (omega (arith, is, above, fits))
-linked_unrefused source image (limits.JumpTooFar line far) reason linked refused said = let none : None ≡ Some (line, far) = sym linked.jumps_fit ∙ refused.2 in cc
+linked_unrefused source image (limits.JumpTooFar line far) reason linked refused said = let none = sym linked.jumps_fit ∙ refused.2 in cc
 linked_unrefused source image limits.OutOfMemory reason linked refused said = cc
 
 -- ---- files and sources, by what holds of each
@@ -90,7 +90,7 @@ module _
 
   pub program_unrefused : (map : MemoryMap) (bytes reason : List ℕ) (p : VerifiedView) → IsProgram map bytes p → IsRefusedProgram map bytes reason → ⊥
   program_unrefused map bytes reason p program (NoImage e begins refused said) = of_file bytes p.image e begins refused program.is
-  program_unrefused map bytes reason p program (NoProgram begins no) = of_source bytes reason p.image begins no program.is
+  program_unrefused map bytes reason p program (NoProgram begins unspelled) = of_source bytes reason p.image begins unspelled program.is
   program_unrefused map bytes reason p program (NotAccepted image e of holds said) =
       program.accepted.accepts e
       (subst (λ (m : MemoryMap). IsTrueOf p.image m.stack_end e) (sym program.map_is)
