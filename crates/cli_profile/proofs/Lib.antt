@@ -2,3 +2,4 @@ pub mod Names
 pub mod Ordered
 pub mod Listed
 pub mod Printed
+pub mod Counting
