@@ -1,5 +1,5 @@
 -- A bus between a source and a sink shows a world; what an access leads to, and what stands after an Err.
-use Rattle.std.specs.Prelude.{◌≡◌, ◌≢◌, ℕ, List, [], slice_get, Option}
+use Rattle.std.specs.Prelude.{◌≡◌, ◌≢◌, ℕ, List, [], length, slice_get, Option}
 use Rattle.std.specs.Option.{option_map}
 use Rattle.console_port.specs.View.{BusView}
 use Rattle.console_port.specs.World.{World, Refusal, fault_of, read_value, after_read}
@@ -32,9 +32,9 @@ pub record Stands (left held : Option (List ℕ)) (bus : BusView) (left' held' :
   pub emptied : IsFault e → bus'.console.kept ≡ []
   pub lost : e ≡ WriteFault → IsLost held bus.console.kept held' bus'.console.kept
 
--- no word but the one there is changed
+-- no word but the one there is changed, and no word is more or less
 abbrev pub ChangesOnly : ℕ → List ℕ → List ℕ → Type 0
-ChangesOnly at old new = (a : ℕ) → a ≢ at → slice_get new a ≡ slice_get old a
+ChangesOnly at old new = (length new ≡ length old) × ((a : ℕ) → a ≢ at → slice_get new a ≡ slice_get old a)
 
 -- what a refused access answers, where it is refused
 abbrev pub refused_by : Option Refusal → Option BusFault

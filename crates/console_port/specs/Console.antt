@@ -11,6 +11,10 @@ abbrev pub Untaken : Option (List ℕ) → Bool → List ℕ → Type 0
 Untaken left true untaken = untaken ≡ []
 Untaken left false untaken = IfSome left (λ l. untaken ≡ l)
 
+-- the most bytes that a console keeps
+abbrev pub most_kept : ℕ
+most_kept = 4096
+
 -- A source that had these bytes left was asked for a byte: it gave the first, or the end was met where there was none.
 abbrev pub Asks : List ℕ → Option (List ℕ) → Bool → Type 0
 Asks [] left ended = (left ≡ Some []) × (ended ≡ true)
@@ -28,6 +32,10 @@ StaysFlushed held passed held' passed' = IsFlushed held passed → IsFlushed hel
 pub record IsLost (held : Option (List ℕ)) (kept : List ℕ) (held' : Option (List ℕ)) (kept' : List ℕ) : Type 0 where
   pub emptied : kept' ≡ []
   pub prefix : (n : ℕ) × (held' ≡ option_map (λ h. h ++ take n kept) held)
+
+-- The last bytes that were given waited, and were lost in part: the sink has taken a front of them.
+abbrev pub LosesLast : Option (List ℕ) → List ℕ → Type 0
+LosesLast held given = IfSome held (λ h. (before kept : List ℕ) × (n : ℕ) × (kept ≢ []) × (given ≡ before ++ kept) × (h ≡ before ++ take n kept))
 
 -- a fault of the source or the sink
 abbrev pub IsFault : BusFault → Type 0

@@ -4,15 +4,16 @@ ghost use Rattle.mic_base.specs.Streams.{Holds, IsFlushed};
 ghost use Rattle.std.specs.Prelude.{◌/◌, ◌==◌, ◌≡◌, ◌≢◌, ◌≤◌, ◌<◌, [], ℕ, List, Option, Some, None, Ok, Err, true, false, length, replicate, IsTrue, ◌↔◌, IsSome, slice_get, slice_index, slice_set, IsOk, IfOk, OnOk, OnErr, IfErr};
 ghost use Rattle.console_port.specs.Access.{IsAccess};
 ghost use Rattle.console_port.specs.Bus.{Shows, Stands, IsLed, ChangesOnly, refused_by, IsRead};
-ghost use Rattle.console_port.specs.Console.{IsLost, IsFault, HasFaultCause, StaysFlushed};
+ghost use Rattle.console_port.specs.Console.{IsLost, IsFault, HasFaultCause, StaysFlushed, most_kept};
 ghost use Rattle.console_port.specs.Loading.{IsLoaded};
 ghost use Rattle.console_port.specs.World.{World, Refusal, fault_of, console_at, read_refusal, write_refusal, word_refusal, fetch_refusal, byte_in, read_value, after_write};
 
-use crate::console::{Console, MOST_KEPT};
+use crate::console::Console;
 use crate::fault::BusFault;
 use crate::loading::write_image;
 use crate::map::{CONSOLE, FRAME, MOST_POOL, MOST_TEXT, MemoryMap, STACK_SIDE};
 use crate::pages::Pages;
+use crate::word::byte_of;
 use mic_base::{Sink, Source};
 use std::alloc::{AllocError, Global};
 use std::marker::Model;
@@ -125,6 +126,7 @@ impl Bus {
             (at == console_at) (at == console_at) source.old source.new sink.old sink.new self.old self.new result }
         ensures fault { IfErr result (λ e. read_refusal (length self.old.words) at ≡ None → (at ≡ console_at) × IsFault e) }
         ensures ended { self.old.console.ended ≡ true → self.new.console.ended ≡ true }
+        ensures empty { self.old.console.kept ≡ [] → sink.new ≡ sink.old }
         ensures words { self.new.words ≡ self.old.words }
         ensures memory { at < length self.old.words →
             (result ≡ Ok (slice_index self.old.words at)) × (self.new ≡ self.old) × (source.new ≡ source.old) × (sink.new ≡ sink.old) }
@@ -153,7 +155,7 @@ impl Bus {
         ensures size { length self.new.words ≡ length self.old.words }
         ensures others { ChangesOnly at self.old.words self.new.words }
         ensures memory { at < length self.old.words → IsOk result × (self.new.console ≡ self.old.console) × (sink.new ≡ sink.old) }
-        ensures waits { length self.old.console.kept < MOST_KEPT → sink.new ≡ sink.old }
+        ensures waits { length self.old.console.kept < most_kept → sink.new ≡ sink.old }
         ensures keeps { (front : List ℕ) → Holds front (K.held sink.old) → Holds front (K.held sink.new) }
         ensures tells { IsSome (K.held sink.old) → IsSome (K.held sink.new) }
         ensures flushed { result ≢ Err BusFault.WriteFault → StaysFlushed (K.held sink.old) (K.passed sink.old) (K.held sink.new) (K.passed sink.new) }
@@ -218,13 +220,12 @@ impl Bus {
     }
 
     /// The byte at a byte address of the memory.
-    #[tactic(auto, using(crate::proofs::Bytes::shifted_byte))]
+    #[tactic(auto, unfolding(crate::specs::World::byte_in))]
     pub fn byte(&self, byte: u32) -> u8
         requires { byte / 4 < length self.now.words }
         ensures { result ≡ byte_in self.now.words byte }
     {
-        let word = self.word(byte / 4);
-        ((word >> (8 * (3 - byte % 4))) % 256) as u8
+        byte_of(self.word(byte / 4), byte % 4)
     }
 
     /// Puts the console's kept bytes to the sink.

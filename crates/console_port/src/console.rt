@@ -3,7 +3,7 @@
 ghost use Rattle.mic_base.specs.Causes.{HasCause};
 ghost use Rattle.mic_base.specs.Streams.{Holds, IsFlushed, PutsAndFlushes};
 ghost use Rattle.std.specs.Prelude.{◌≡◌, ◌≢◌, ◌<◌, ◌+◌, [], ◌∷◌, ◌++◌, ℕ, List, false, true, drop, length, Ok, IsOk, IfOk, OnOk, OnErr, IfErr, IsErrOf, IsSome, Some, Err};
-ghost use Rattle.console_port.specs.Console.{Asks, Untaken, Given, IsLost, IsFault, HasFaultCause, StaysFlushed};
+ghost use Rattle.console_port.specs.Console.{Asks, Untaken, Given, IsLost, IsFault, HasFaultCause, StaysFlushed, most_kept};
 ghost use Rattle.console_port.specs.World.{next_byte};
 
 use crate::fault::BusFault;
@@ -57,6 +57,7 @@ impl Console {
             OnOk result (Asks bytes (S.left source.new) self.new.ended) }
         ensures asked_no_more { self.old.ended ≡ true → (result ≡ Ok 0) × (self.new ≡ self.old) × (source.new ≡ source.old) × (sink.new ≡ sink.old) }
         ensures nothing_kept { self.old.kept ≡ [] → sink.new ≡ sink.old }
+        ensures empty { self.old.kept ≡ [] → sink.new ≡ sink.old }
         ensures put { result ≡ Err BusFault.WriteFault → self.old.kept ≢ [] }
         ensures keeps { (front : List ℕ) → Holds front (K.held sink.old) → Holds front (K.held sink.new) }
         ensures tells { IsSome (K.held sink.old) → IsSome (K.held sink.new) }
@@ -84,8 +85,8 @@ impl Console {
         ensures lost { OnErr result (IsLost (K.held sink.old) self.old.kept (K.held sink.new) self.new.kept) }
         ensures fault { IfErr result (λ e. e ≡ BusFault.WriteFault) }
 
-        ensures roomy { length self.old.kept < MOST_KEPT → IsOk result × (self.new.kept ≡ self.old.kept ++ byte ∷ []) × (sink.new ≡ sink.old) }
-        ensures full { length self.old.kept ≡ MOST_KEPT → OnOk result (self.new.kept ≡ byte ∷ []) }
+        ensures roomy { length self.old.kept < most_kept → IsOk result × (self.new.kept ≡ self.old.kept ++ byte ∷ []) × (sink.new ≡ sink.old) }
+        ensures full { length self.old.kept ≡ most_kept → OnOk result (self.new.kept ≡ byte ∷ []) }
         ensures keeps { (front : List ℕ) → Holds front (K.held sink.old) → Holds front (K.held sink.new) }
         ensures tells { IsSome (K.held sink.old) → IsSome (K.held sink.new) }
         ensures flushed { result ≢ Err BusFault.WriteFault → StaysFlushed (K.held sink.old) (K.passed sink.old) (K.held sink.new) (K.passed sink.new) }

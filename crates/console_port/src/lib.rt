@@ -7,11 +7,13 @@ pub mod fault;
 mod loading;
 pub mod map;
 mod pages;
+pub mod word;
 
 pub use bus::Bus;
 pub use console::{Console, MOST_KEPT};
 pub use fault::BusFault;
 pub use map::{CONSOLE, FRAME, MOST_POOL, MOST_TEXT, MemoryMap, POOL};
+pub use word::byte_of;
 
 #[cfg(test)]
 mod tests;

@@ -3,3 +3,4 @@ pub mod Slots
 pub mod Quiet
 pub mod Sides
 pub mod Consoles
+pub mod Waiting

@@ -1,6 +1,7 @@
 -- What the accesses of a cycle come to, by what the ports are given.
-use Rattle.std.specs.Prelude.{◌≡◌, ◌<◌, ◌/◌, ℕ, Bool, true, false, Option}
-use Rattle.console_port.specs.World.{World}
+use Rattle.std.specs.Prelude.{◌≡◌, ◌≢◌, ◌⊎◌, ◌<◌, ◌≤◌, ◌/◌, ◌==◌, ◌&&◌, ℕ, Bool, true, false, List, [], length, Option, None, IsTrue}
+use Rattle.console_port.specs.Console.{most_kept}
+use Rattle.console_port.specs.World.{World, Refusal, console_at}
 use Rattle.micro_word.specs.declared.statement.Mem.{Mem}
 use Rattle.micro_word.specs.declared.statement.Mem.TheVariants as mems
 use Rattle.datapath.specs.Memory.{written, sampled, word_under_way, byte_under_way}
@@ -28,6 +29,17 @@ abbrev pub is_access : Mem → Bool
 is_access mems.Read = true
 is_access mems.Write = true
 is_access mems.None = false
+
+-- a read of the console that is not refused, where bytes wait
+pub record ReadsWaiting (stack_end : ℕ) (mem : Mem) (mar : ℕ) (refusal : Option Refusal) (kept : List ℕ) : Type 0 where
+  pub some : kept ≢ []
+  pub reads : IsTrue (is_read mem && mar == console_at)
+  pub behind : stack_end ≤ mar
+  pub clear : refusal ≡ None
+
+-- while the console has room for one byte more, the sink is left as it is by all but such a read
+abbrev pub LetsBytesWait : {K : Type 0} → ℕ → Mem → ℕ → Option Refusal → List ℕ → K → K → Type 0
+LetsBytesWait stack_end mem mar refusal kept sink sink' = length kept < most_kept → (sink' ≡ sink) ⊎ ReadsWaiting stack_end mem mar refusal kept
 
 -- no access of the cycle reaches past the memory's words
 pub record AreInMemory (stack_end : ℕ) (mem : Mem) (fetch : Bool) (mar pc : ℕ) : Type 0 where

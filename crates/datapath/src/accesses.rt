@@ -7,7 +7,7 @@ ghost use Rattle.console_port.specs.Bus.{Stands, IsLed, ChangesOnly, refused_by}
 ghost use Rattle.console_port.specs.Console.{IsFault, HasFaultCause, StaysFlushed};
 ghost use Rattle.mic_clock.specs.Edge.{AsksNoMore};
 ghost use Rattle.datapath.specs.Memory.{memory_refusal, byte_refusal, access_refusal, byte_under_way, ports_with};
-ghost use Rattle.datapath.specs.Access.{IsAccess, IsTransfer, is_read, is_access};
+ghost use Rattle.datapath.specs.Access.{IsAccess, IsTransfer, LetsBytesWait, is_read, is_access};
 
 use crate::memory::{access_memory, is_in_memory, is_quiet, no_access};
 use crate::ports::Ports;
@@ -70,6 +70,7 @@ pub fn transfer<S: Source, K: Sink>(
     ensures stands { IfErr result (Stands (S.left source.old) (K.held sink.old) bus.old (S.left source.new) (K.held sink.new) bus.new) }
     ensures reads { IsErrOf result BusFault.ReadFault → IsTrue (is_read mem && ports.now.mar == console_at) }
     ensures uses { IsErrOf result BusFault.WriteFault → IsTrue (is_access mem && ports.now.mar == console_at) }
+    ensures waits { LetsBytesWait (length bus.old.words) mem ports.now.mar (memory_refusal (length bus.old.words) mem ports.now.mar) bus.old.console.kept sink.old sink.new }
     ensures keeps { (front : List ℕ) → Holds front (K.held sink.old) → Holds front (K.held sink.new) }
     ensures asked_no_more { AsksNoMore bus.old.console.ended source.old bus.new.console.ended source.new }
     ensures tells { IsSome (K.held sink.old) → IsSome (K.held sink.new) }
@@ -125,6 +126,7 @@ fn access_tested<S: Source, K: Sink>(
     ensures stands { IfErr result (Stands (S.left source.old) (K.held sink.old) bus.old (S.left source.new) (K.held sink.new) bus.new) }
     ensures reads { IsErrOf result BusFault.ReadFault → IsTrue (is_read mem && mar == console_at) }
     ensures uses { IsErrOf result BusFault.WriteFault → IsTrue (is_access mem && mar == console_at) }
+    ensures waits { LetsBytesWait (length bus.old.words) mem mar (access_refusal (length bus.old.words) mem fetch (ports_with mar mdr pc)) bus.old.console.kept sink.old sink.new }
     ensures keeps { (front : List ℕ) → Holds front (K.held sink.old) → Holds front (K.held sink.new) }
     ensures asked_no_more { AsksNoMore bus.old.console.ended source.old bus.new.console.ended source.new }
     ensures tells { IsSome (K.held sink.old) → IsSome (K.held sink.new) }
@@ -160,6 +162,7 @@ pub fn access<S: Source, K: Sink>(
     ensures stands { IfErr result (Stands (S.left source.old) (K.held sink.old) bus.old (S.left source.new) (K.held sink.new) bus.new) }
     ensures reads { IsErrOf result BusFault.ReadFault → IsTrue (is_read mem && ports.now.mar == console_at) }
     ensures uses { IsErrOf result BusFault.WriteFault → IsTrue (is_access mem && ports.now.mar == console_at) }
+    ensures waits { LetsBytesWait (length bus.old.words) mem ports.now.mar (access_refusal (length bus.old.words) mem fetch ports.now) bus.old.console.kept sink.old sink.new }
     ensures keeps { (front : List ℕ) → Holds front (K.held sink.old) → Holds front (K.held sink.new) }
     ensures asked_no_more { AsksNoMore bus.old.console.ended source.old bus.new.console.ended source.new }
     ensures tells { IsSome (K.held sink.old) → IsSome (K.held sink.new) }

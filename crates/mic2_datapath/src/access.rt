@@ -7,7 +7,7 @@ ghost use Rattle.console_port.specs.Bus.{Stands, IsLed, ChangesOnly, refused_by}
 ghost use Rattle.console_port.specs.Console.{IsFault, HasFaultCause, StaysFlushed};
 ghost use Rattle.mic_clock.specs.Edge.{AsksNoMore};
 ghost use Rattle.datapath.specs.Memory.{first_refusal, memory_refusal};
-ghost use Rattle.datapath.specs.Access.{IsTransfer, is_read, is_access};
+ghost use Rattle.datapath.specs.Access.{IsTransfer, LetsBytesWait, is_read, is_access};
 ghost use Rattle.mic2_fetch_unit.specs.FetchUnit.{sample_refusal};
 
 use console_port::{Bus, BusFault};
@@ -60,6 +60,8 @@ pub fn access<S: Source, K: Sink>(
     ensures stands { IfErr result (Stands (S.left source.old) (K.held sink.old) bus.old (S.left source.new) (K.held sink.new) bus.new) }
     ensures reads { IsErrOf result BusFault.ReadFault → IsTrue (is_read mem && ports.now.mar == console_at) }
     ensures uses { IsErrOf result BusFault.WriteFault → IsTrue (is_access mem && ports.now.mar == console_at) }
+    ensures waits { LetsBytesWait (length bus.old.words) mem ports.now.mar
+        (first_refusal (memory_refusal (length bus.old.words) mem ports.now.mar) (sample_refusal (length bus.old.words) at)) bus.old.console.kept sink.old sink.new }
     ensures keeps { (front : List ℕ) → Holds front (K.held sink.old) → Holds front (K.held sink.new) }
     ensures asked_no_more { AsksNoMore bus.old.console.ended source.old bus.new.console.ended source.new }
     ensures tells { IsSome (K.held sink.old) → IsSome (K.held sink.new) }

@@ -42,7 +42,7 @@ impl Mic2 {
     ghost use Rattle.mic_base.specs.Streams.{Holds};
     ghost use Rattle.console_port.specs.Bus.{ChangesOnly, Stands};
     ghost use Rattle.console_port.specs.Console.{HasFaultCause, StaysFlushed};
-    ghost use Rattle.mic_clock.specs.Edge.{AnswersRefusal, AsksNoMore, IsErrOfStep, IsStep};
+    ghost use Rattle.mic_clock.specs.Edge.{AnswersRefusal, AsksNoMore, IsErrOfStep, IsStep, LetsBytesWait};
     ghost use Rattle.mic_clock.specs.Meaning.{AtRest};
     ghost use Rattle.mic2_datapath.specs.Mic2.{at_zero, initial as initial_of, mic2_meaning};
     ghost use Rattle.mic2_datapath.specs.View.{micro_of, microinstruction_of, phase};
@@ -86,6 +86,7 @@ impl Mic2 {
         ensures err { IfErr result (IsErrOfStep mic2_meaning (microinstruction_of self.old) (micro_of self.old) (S.left source.old) (K.held sink.old) bus.old) }
         ensures state { OnErr result (micro_of self.new ≡ micro_of self.old) }
         ensures stands { IfErr result (Stands (S.left source.old) (K.held sink.old) bus.old (S.left source.new) (K.held sink.new) bus.new) }
+        ensures waits { LetsBytesWait mic2_meaning (microinstruction_of self.old) (micro_of self.old) (S.left source.old) (K.held sink.old) bus.old sink.old sink.new }
         ensures keeps { (front : List ℕ) → Holds front (K.held sink.old) → Holds front (K.held sink.new) }
         ensures asked_no_more { AsksNoMore bus.old.console.ended source.old bus.new.console.ended source.new }
         ensures tells { IsSome (K.held sink.old) → IsSome (K.held sink.new) }

@@ -4,7 +4,6 @@ use Rattle.std.specs.FinMap.{find}
 use Rattle.std.specs.Ordering.{nat_cmp}
 use Rattle.std.specs.Cmp.Lexicographic.{slice_cmp}
 use Rattle.std.specs.declared.alloc.Global.{Global}
-use Rattle.mic_base.specs.declared.files.TheConstants.{MOST_BYTES}
 use Rattle.mic_base.specs.declared.files.FileError.{FileError}
 use Rattle.mic_base.specs.declared.files.FileError.TheVariants.{Failed, TooLong}
 use Rattle.mic_base.specs.Causes.{Rose}
@@ -19,7 +18,7 @@ file_in contents name = find (slice_cmp nat_cmp) name contents
 
 -- the most bytes of a file that is read
 abbrev pub most_bytes : ℕ
-most_bytes = MOST_BYTES
+most_bytes = 1_048_576
 
 -- the file of this name has these bytes, where they tell it
 abbrev pub Tells : Option Contents → List ℕ → List ℕ → Type 0

@@ -1,5 +1,5 @@
 -- How a run goes on on a board, and where a fault cuts it.
-use Rattle.std.proofs.Common.{◌≡◌, ◌⊎◌, inl, inr, zero, suc, ℕ, ◌+◌, List, Bool, Option, Some, None, IsSome, refl, sym, ◌∙◌, ap, subst}
+use Rattle.std.proofs.Common.{◌≡◌, ◌≢◌, ◌⊎◌, inl, inr, zero, suc, ℕ, ◌+◌, List, [], Bool, Option, Some, None, IsSome, refl, sym, ◌∙◌, ap, subst}
 use Rattle.console_port.specs.Console.{IsLost, Untaken}
 use Rattle.console_port.specs.declared.fault.BusFault.TheVariants as faults
 use Rattle.mic_clock.specs.declared.end.End.{End}
@@ -8,7 +8,7 @@ use Rattle.mic_clock.specs.Meaning.{Meaning, ReadsConsole, UsesConsole}
 use Rattle.mic_clock.specs.View.{BoardView}
 use Rattle.mic_clock.specs.Run.{MicroRun, Buses, end_before, word_at, turn, turns, buses, bounded, buses_of}
 use Rattle.mic_clock.specs.Board.{ShowsRun, IsLedTo, IsCut, IsCutByRead, IsCutByWrite, Leads, NoFault, IsReached, IsTurned, ShowsAs, BoundIsCutByWrite}
-use Rattle.mic_clock.proofs.Front.{front_lost}
+use Rattle.mic_clock.proofs.Front.{front_lost, last_lost}
 use Rattle.mic_clock.proofs.Turns.{turns-suc, turns-plus, buses-plus, turn_by_ended, bounded-world}
 
 module _ {M State : Type 0} (state : M → State) (left0 held0 : Option (List ℕ)) (board0 : BoardView M) where
@@ -32,10 +32,10 @@ same_step m P words words' s s' program same h =
 
 pub IsCutByWrite-lost : {M State : Type 0} (state : M → State) (m : Meaning State) (words : List ℕ) (bound : Option ℕ)
     (left left' held held' : Option (List ℕ)) (board board' : BoardView M) (r : MicroRun State) →
-    ShowsRun state left held board r → IsSome board.end → left' ≡ left → state board'.machine ≡ state board.machine → board'.counts ≡ board.counts →
+    ShowsRun state left held board r → IsSome board.end → board.bus.console.kept ≢ [] → left' ≡ left → state board'.machine ≡ state board.machine → board'.counts ≡ board.counts →
     board'.bus.words ≡ board.bus.words → board'.bus.console.ended ≡ board.bus.console.ended →
     IsLost held board.bus.console.kept held' board'.bus.console.kept → IsCutByWrite state m words bound left' held' board' r
-IsCutByWrite-lost state m words bound left left' held held' board board' r s over same_left same_state same_counts same_words same_ended lost =
+IsCutByWrite-lost state m words bound left left' held held' board board' r s over some same_left same_state same_counts same_words same_ended lost =
     record {
       its_state = s.its_state ∙ sym same_state;
       memory = s.world.words ∙ sym same_words;
@@ -44,7 +44,7 @@ IsCutByWrite-lost state m words bound left left' held held' board board' r s ove
       counts = s.counts ∙ sym same_counts;
       kept = lost.emptied;
       front = front_lost held held' board.bus.console.kept board'.bus.console.kept r.world.given lost s.world.given;
-      next = inr (subst IsSome (sym s.its_end) over);
+      next = inr (subst IsSome (sym s.its_end) over, last_lost held held' board.bus.console.kept board'.bus.console.kept r.world.given some lost s.world.given);
     }
 
 pub fault_cases : (end : Option End) → NoFault None end ⊎ ((end ≡ Some ends.ReadFault) ⊎ (end ≡ Some ends.WriteFault))
@@ -155,18 +155,18 @@ module _ {M State : Type 0} (state : M → State) (m : Meaning State) (words : L
       led)
 
   -- a last flush that fails cuts an ended run
-  pub Leads-lost : IsSome board.end → left' ≡ left → state board'.machine ≡ state board.machine → board'.counts ≡ board.counts →
+  pub Leads-lost : IsSome board.end → board.bus.console.kept ≢ [] → left' ≡ left → state board'.machine ≡ state board.machine → board'.counts ≡ board.counts →
       board'.bus.words ≡ board.bus.words → board'.bus.console.ended ≡ board.bus.console.ended → board'.buses ≡ board.buses →
       IsLost held board.bus.console.kept held' board'.bus.console.kept →
       IsLedTo state left0 held0 board0 left' board' (λ r rest. (n : ℕ) × Along n r × Leads state m words bound board' board0.buses rest n r (IsCutByWrite state m words bound left' held' board'))
-  Leads-lost over same_left same_state same_counts same_words same_ended same_buses lost =
+  Leads-lost over some same_left same_state same_counts same_words same_ended same_buses lost =
       IsLedTo-stays state left0 held0 board0 left left' board board' _ same_left same_ended
       (IsLedTo-map state left0 held0 board0 left board _ _
       (λ r rest at. (
         at.0,
         at.1,
         record {
-          here = IsCutByWrite-lost state m words bound left left' held held' board board' (turns m words bound at.0 r) at.2.here over same_left same_state same_counts same_words same_ended lost;
+          here = IsCutByWrite-lost state m words bound left left' held held' board board' (turns m words bound at.0 r) at.2.here over some same_left same_state same_counts same_words same_ended lost;
           untaken = at.2.untaken;
           buses = same_buses ∙ at.2.buses;
         },

@@ -1,8 +1,8 @@
 -- A board between a source and a sink shows where a run stands; how the run goes on, and where a fault cuts it.
 use Rattle.std.specs.Prelude.{◌≡◌, ◌≢◌, ◌⊎◌, ℕ, suc, ◌+◌, ◌<◌, ◌≤◌, ◌==◌, if◌then◌else◌, List, [], ◌++◌, Option, Some, None, IfSome, IsSome, is_some}
 use Rattle.console_port.specs.View.{BusView}
-use Rattle.console_port.specs.Bus.{Shows, Stands}
-use Rattle.console_port.specs.Console.{Untaken, IsFault}
+use Rattle.console_port.specs.Bus.{Shows, Stands, ChangesOnly}
+use Rattle.console_port.specs.Console.{Untaken, LosesLast, IsFault}
 use Rattle.console_port.specs.World.{World}
 use Rattle.console_port.specs.declared.fault.BusFault.{BusFault}
 use Rattle.console_port.specs.declared.fault.BusFault.TheVariants.{ReadFault, WriteFault}
@@ -80,7 +80,7 @@ module _ {M State : Type 0} (state : M → State) where
         pub next : IsClocking m words bound r
         pub reads : ReadsConsole m (word_at m words r.state) r.state r.world
 
-      -- A failing sink cut the run: its next step is not refused, and reads or writes the console; or it has ended. The sink has a front of what was given.
+      -- A failing sink cut the run: its next step is not refused, and reads or writes the console; or it has ended, and the last bytes that were given waited. The sink has a front of what was given.
       pub record IsCutByWrite (left held : Option (List ℕ)) (board : BoardView M) (r : MicroRun State) : Type 0 where
         pub its_state : r.state ≡ state board.machine
         pub memory : r.world.words ≡ board.bus.words
@@ -88,7 +88,7 @@ module _ {M State : Type 0} (state : M → State) where
         pub counts : r.counts ≡ board.counts
         pub kept : board.bus.console.kept ≡ []
         pub front : IfSome held (λ h. (more : List ℕ) × (r.world.given ≡ h ++ more))
-        pub next : (IsClocking m words bound r × UsesConsole m (word_at m words r.state) r.state r.world) ⊎ IsSome r.end
+        pub next : (IsClocking m words bound r × UsesConsole m (word_at m words r.state) r.state r.world) ⊎ (IsSome r.end × LosesLast held r.world.given)
 
       -- n turns lead here, with these bytes untaken
       pub record Leads (board : BoardView M) (old : Buses) (rest : List ℕ) (n : ℕ) (r : MicroRun State) (IsHere : MicroRun State → Type 0) : Type 0 where
@@ -168,6 +168,10 @@ module _ {M State : Type 0} (state : M → State) where
           board'.end ≡ None → (end_before m (state board.machine) board.counts ≡ None)
           × (board'.counts ≡ counts_after m board.counts (m.drives (word_at m board.store.words (state board.machine)) (state board.machine)).stalled (state board'.machine))
 
+      -- a clocked cycle changes no memory word but the one at MAR as it is after its edge
+      abbrev pub ChangesAtMar : Type 0
+      ChangesAtMar = board'.end ≡ None → ChangesOnly (m.registers (state board'.machine)).mar board.bus.words board'.bus.words
+
       -- the bus values are those of the last clocked cycle
       abbrev pub ShowsBuses : Type 0
       ShowsBuses = board'.buses ≡ buses_of m board.store.words (state board.machine) board.buses board'.end
@@ -175,6 +179,10 @@ module _ {M State : Type 0} (state : M → State) where
 -- an end counts no cycle and no boundary
 abbrev pub EndsUncounted : {M : Type 0} → BoardView M → BoardView M → Type 0
 EndsUncounted board board' = IsSome board'.end → (board'.counts.cycles ≡ board.counts.cycles) × (board'.counts.boundary ≡ board.counts.boundary)
+
+-- an end changes no memory word
+abbrev pub EndsUnwritten : {M : Type 0} → BoardView M → BoardView M → Type 0
+EndsUnwritten board board' = IsSome board'.end → board'.bus.words ≡ board.bus.words
 
 -- a cycle is clocked at most 1,024 cycles past the last boundary
 abbrev pub HasRoom : {M : Type 0} → BoardView M → BoardView M → Type 0

@@ -1,9 +1,9 @@
 -- What a clock edge comes to between a source and a sink, by the step of the word that was set up.
-use Rattle.std.specs.Prelude.{◌≡◌, ℕ, List, Option, Some, Result, Err, Bool, true}
+use Rattle.std.specs.Prelude.{◌≡◌, ◌≢◌, ◌⊎◌, ◌<◌, ℕ, List, [], length, Option, Some, Result, Err, Bool, true}
 use Rattle.console_port.specs.View.{BusView}
 use Rattle.console_port.specs.World.{World}
 use Rattle.console_port.specs.Bus.{Shows, IsLed}
-use Rattle.console_port.specs.Console.{IsFault}
+use Rattle.console_port.specs.Console.{IsFault, most_kept}
 use Rattle.console_port.specs.declared.fault.BusFault.{BusFault}
 use Rattle.console_port.specs.declared.fault.BusFault.TheVariants.{ReadFault, WriteFault}
 use Rattle.mic_clock.specs.Meaning.{Meaning, Done, refusal_in, ReadsConsole, UsesConsole}
@@ -22,6 +22,11 @@ module _ {State : Type 0} (m : Meaning State) (word : ℕ) (s : State) (left hel
     pub refused : (IsFault e → ⊥) → (w : World) → Shows left held bus w → refusal_in (m.step word s w) ≡ Some e
     pub reads : e ≡ ReadFault → (w : World) → Shows left held bus w → ReadsConsole m word s w
     pub uses : e ≡ WriteFault → (w : World) → Shows left held bus w → UsesConsole m word s w
+
+  -- While the console has room for one byte more, the sink is left as it is, unless bytes wait and the step reads the console.
+  abbrev pub LetsBytesWait : {K : Type 0} → K → K → Type 0
+  LetsBytesWait sink sink' =
+      length bus.console.kept < most_kept → (sink' ≡ sink) ⊎ ((bus.console.kept ≢ []) × ((w : World) → Shows left held bus w → ReadsConsole m word s w))
 
 -- the end of input, once met, stays met, and the source is asked no more
 abbrev pub AsksNoMore : {S : Type 0} → Bool → S → Bool → S → Type 0

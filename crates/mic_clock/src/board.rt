@@ -5,10 +5,10 @@ ghost use Rattle.mic_base.specs.Streams.{Holds, IsFlushed};
 ghost use Rattle.std.specs.Prelude.{◌≡◌, ◌≢◌, [], ◌<◌, ◌≤◌, ◌+◌, ◌^◌, ℕ, List, Option, None, Some, IsOk, OnOk, IfErr, IsSome, true, false, length, max};
 ghost use Rattle.console_port.specs.Bus.{Stands};
 ghost use Rattle.console_port.specs.Console.{IsFault, IsLost, HasFaultCause, StaysFlushed};
-ghost use Rattle.mic_clock.specs.Edge.{AsksNoMore};
+ghost use Rattle.mic_clock.specs.Edge.{AsksNoMore, LetsBytesWait};
 ghost use Rattle.mic_clock.specs.Run.{MicroRun, start_counts, start_buses, bounded, word_at, last_cycles, end_by};
 ghost use Rattle.mic_clock.specs.Board.{ShowsAs, IsReset, NoFault, HasEndCause, tick_of, IsTurned, IsCutByFault, IsReached, IsRun, RunIsCutByRead, RunIsCutByWrite, BoundIsCutByWrite, IsLegRun, LegIsCutByRead, LegIsCutByWrite};
-ghost use Rattle.mic_clock.specs.Board.{EndsInTime, IsCounted, ShowsBuses, EndsUncounted, HasRoom};
+ghost use Rattle.mic_clock.specs.Board.{EndsInTime, IsCounted, ShowsBuses, EndsUncounted, HasRoom, ChangesAtMar, EndsUnwritten};
 
 use crate::buses::{Computed, Drive};
 use crate::clocked::Clocked;
@@ -105,6 +105,10 @@ impl<M: Clocked> Board<M> {
         ensures clocked { IsCounted M.state M.meaning self.old self.new }
         ensures room { HasRoom self.old self.new }
         ensures still { EndsUncounted self.old self.new }
+        ensures writes { ChangesAtMar M.state M.meaning self.old self.new }
+        ensures memory { EndsUnwritten self.old self.new }
+        ensures waits { LetsBytesWait M.meaning (word_at M.meaning self.old.store.words (M.state self.old.machine)) (M.state self.old.machine)
+            (S.left source.old) (K.held sink.old) self.old.bus sink.old sink.new }
         ensures buses { ShowsBuses M.state M.meaning self.old self.new }
     {
         if let Some(end) = self.end {
@@ -364,7 +368,8 @@ impl<M: Clocked> Board<M> {
     }
 
     pub fn registers(&self) -> Registers
-        ensures { result ≡ M.meaning.registers (M.state self.now.machine) }
+        ensures value { result ≡ M.meaning.registers (M.state self.now.machine) }
+        ensures mpc { result.mpc < 512 }
     {
         self.machine.registers()
     }

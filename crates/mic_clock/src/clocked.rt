@@ -4,7 +4,7 @@ ghost use Rattle.mic_base.specs.Streams.{Holds};
 ghost use Rattle.std.specs.Prelude.{◌≡◌, ◌≢◌, IsSome, Err, ◌<◌, ℕ, List, slice_index, OnOk, OnErr, IfErr};
 ghost use Rattle.console_port.specs.Bus.{Stands, ChangesOnly};
 ghost use Rattle.console_port.specs.Console.{HasFaultCause, StaysFlushed};
-ghost use Rattle.mic_clock.specs.Edge.{IsStep, AnswersRefusal, IsErrOfStep, AsksNoMore};
+ghost use Rattle.mic_clock.specs.Edge.{IsStep, AnswersRefusal, IsErrOfStep, LetsBytesWait, AsksNoMore};
 ghost use Rattle.mic_clock.specs.Meaning.{Meaning, Phase, AtRest, SetUp, Driven, AtEdge};
 
 use crate::buses::{Computed, Drive};
@@ -83,6 +83,7 @@ pub trait Clocked {
         ensures err { IfErr result (IsErrOfStep meaning (word self.old) (state self.old) (S.left source.old) (K.held sink.old) bus.old) }
         ensures state { OnErr result (state self.new ≡ state self.old) }
         ensures stands { IfErr result (Stands (S.left source.old) (K.held sink.old) bus.old (S.left source.new) (K.held sink.new) bus.new) }
+        ensures waits { LetsBytesWait meaning (word self.old) (state self.old) (S.left source.old) (K.held sink.old) bus.old sink.old sink.new }
         ensures keeps { (front : List ℕ) → Holds front (K.held sink.old) → Holds front (K.held sink.new) }
         ensures asked_no_more { AsksNoMore bus.old.console.ended source.old bus.new.console.ended source.new }
         ensures tells { IsSome (K.held sink.old) → IsSome (K.held sink.new) }

@@ -2,9 +2,9 @@
 
 ghost use Rattle.mic_base.specs.Streams.{Holds};
 ghost use Rattle.std.specs.Prelude.{◌≡◌, ◌≢◌, IsSome, Err, ℕ, List, OnOk, OnErr, IfOk, IfErr};
-ghost use Rattle.console_port.specs.Bus.{Stands};
+ghost use Rattle.console_port.specs.Bus.{Stands, ChangesOnly};
 ghost use Rattle.console_port.specs.Console.{HasFaultCause, StaysFlushed};
-ghost use Rattle.mic_clock.specs.Edge.{IsStep, AnswersRefusal, IsErrOfStep, AsksNoMore};
+ghost use Rattle.mic_clock.specs.Edge.{IsStep, AnswersRefusal, IsErrOfStep, LetsBytesWait, AsksNoMore};
 ghost use Rattle.mic_clock.specs.Meaning.{AtRest};
 ghost use Rattle.mic_clock.specs.Run.{word_at};
 
@@ -30,12 +30,15 @@ pub fn clock_once<M: Clocked, S: Source, K: Sink>(
     ensures computed { IfOk result (λ seen. seen.1 ≡ M.meaning.computes (word_at M.meaning store.now.words (M.state machine.old)) (M.state machine.old)) }
     ensures ok { OnOk result (IsStep M.meaning (word_at M.meaning store.now.words (M.state machine.old)) (M.state machine.old)
         (S.left source.old) (K.held sink.old) bus.old (M.state machine.new) (S.left source.new) (K.held sink.new) bus.new) }
+    ensures others { OnOk result (ChangesOnly (M.meaning.registers (M.state machine.new)).mar bus.old.words bus.new.words) }
     ensures refusal { AnswersRefusal M.meaning (word_at M.meaning store.now.words (M.state machine.old)) (M.state machine.old)
         (S.left source.old) (K.held sink.old) bus.old result }
     ensures err { IfErr result (IsErrOfStep M.meaning (word_at M.meaning store.now.words (M.state machine.old)) (M.state machine.old)
         (S.left source.old) (K.held sink.old) bus.old) }
     ensures state { OnErr result (M.state machine.new ≡ M.state machine.old) }
     ensures stands { IfErr result (Stands (S.left source.old) (K.held sink.old) bus.old (S.left source.new) (K.held sink.new) bus.new) }
+    ensures waits { LetsBytesWait M.meaning (word_at M.meaning store.now.words (M.state machine.old)) (M.state machine.old)
+        (S.left source.old) (K.held sink.old) bus.old sink.old sink.new }
     ensures keeps { (front : List ℕ) → Holds front (K.held sink.old) → Holds front (K.held sink.new) }
     ensures asked_no_more { AsksNoMore bus.old.console.ended source.old bus.new.console.ended source.new }
     ensures tells { IsSome (K.held sink.old) → IsSome (K.held sink.new) }

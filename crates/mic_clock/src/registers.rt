@@ -1,5 +1,7 @@
 //! The registers of a machine, and where it starts.
 
+ghost use Rattle.std.specs.Prelude.{◌≡◌};
+
 use arrayvec::ArrayVec;
 
 /// Where fetched bytes wait.
@@ -24,6 +26,42 @@ pub struct Registers {
     pub h: u32,
     pub mpc: u16,
     pub tail: Tail,
+}
+
+impl Tail {
+    /// The same once more.
+    pub fn again(&self) -> Tail
+        ensures { result ≡ self.now }
+    {
+        match self {
+            Tail::Mbr(byte) => Tail::Mbr(*byte),
+            Tail::Queue { bytes, imar } => Tail::Queue {
+                bytes: ArrayVec::try_from(bytes.as_slice()).unwrap(),
+                imar: *imar,
+            },
+        }
+    }
+}
+
+impl Registers {
+    /// The same once more, which takes no memory.
+    pub fn again(&self) -> Registers
+        ensures { result ≡ self.now }
+    {
+        Registers {
+            mar: self.mar,
+            mdr: self.mdr,
+            pc: self.pc,
+            sp: self.sp,
+            lv: self.lv,
+            cpp: self.cpp,
+            tos: self.tos,
+            opc: self.opc,
+            h: self.h,
+            mpc: self.mpc,
+            tail: self.tail.again(),
+        }
+    }
 }
 
 /// What a reset takes over.

@@ -2,7 +2,7 @@
 use Rattle.std.proofs.Common.{◌≡◌, ◌≢◌, ◌≤◌, inr, ℕ, zero, suc, ◌+◌, List, [], ◌∷◌, ◌++◌, Bool, Option, Some, None, IsSome, refl, sym, ◌∙◌, ap, subst, take, drop, append_assoc}
 use Rattle.std.proofs.Math.ListN.{take-append-drop}
 use Rattle.std.specs.Prelude.{IfSome}
-use Rattle.console_port.specs.Console.{IsLost, Given, Untaken}
+use Rattle.console_port.specs.Console.{IsLost, Given, LosesLast, Untaken}
 use Rattle.mic_clock.specs.declared.counts.Counts.{Counts}
 use Rattle.mic_clock.specs.declared.end.End.{End}
 use Rattle.mic_clock.specs.declared.end.End.TheVariants as ends
@@ -161,6 +161,11 @@ front_lost (Some h) held' kept kept' given lost told =
     subst (λ o. IfSome o (λ h. (more : List ℕ) × (given ≡ h ++ more))) (sym lost.prefix.1)
     (drop lost.prefix.0 kept, told ∙ ap (λ (k : List ℕ). h ++ k) (sym (take-append-drop lost.prefix.0 kept)) ∙ sym (append_assoc h (take lost.prefix.0 kept) (drop lost.prefix.0 kept)))
 
+-- where something was kept, it is the last that was given
+last_lost : (held held' : Option (List ℕ)) (kept kept' given : List ℕ) → kept ≢ [] → IsLost held kept held' kept' → Given held kept given → LosesLast held' given
+last_lost None held' kept kept' given some lost told = subst (λ o. LosesLast o given) (sym lost.prefix.1) tt
+last_lost (Some h) held' kept kept' given some lost told = subst (λ o. LosesLast o given) (sym lost.prefix.1) (h, kept, lost.prefix.0, some, told, refl)
+
 module _ {M State : Type 0} (state : M → State) (m : Meaning State) (bound : ℕ) (left0 held0 : Option (List ℕ)) (board0 : BoardView M)
     (left held : Option (List ℕ)) (board : BoardView M) (held' : Option (List ℕ)) (board' : BoardView M) (cs : List Cycle)
     (same : board' ≡ record board { bus = board'.bus }) (input : board'.bus.console.ended ≡ board.bus.console.ended) where
@@ -192,9 +197,9 @@ module _ {M State : Type 0} (state : M → State) (m : Meaning State) (bound : �
       }
 
   -- where it fails, it cuts the ended run
-  pub flush-lost : IsSome board.end → NoFault None board.end → board'.bus.words ≡ board.bus.words → IsLost held board.bus.console.kept held' board'.bus.console.kept →
+  pub flush-lost : IsSome board.end → board.bus.console.kept ≢ [] → NoFault None board.end → board'.bus.words ≡ board.bus.words → IsLost held board.bus.console.kept held' board'.bus.console.kept →
       ShowsCycles state m bound left0 held0 board0 left held board cs board.end → ShowsCycles state m bound left0 held0 board0 left held' board' cs (Some ends.WriteFault)
-  flush-lost over plain memory lost first =
+  flush-lost over some plain memory lost first =
       let its : (A : Type 0) (f : BoardView M → A) → f board' ≡ f (record board { bus = board'.bus }) = λ A f. ap f same in
       record {
         run = λ q. absurd q;
@@ -207,7 +212,7 @@ module _ {M State : Type 0} (state : M → State) (m : Meaning State) (bound : �
               counts = s.counts ∙ sym (its Counts (λ b. b.counts));
               kept = lost.emptied;
               front = front_lost held held' board.bus.console.kept board'.bus.console.kept r.world.given lost s.world.given;
-              next = inr (subst IsSome (sym s.its_end) over);
+              next = inr (subst IsSome (sym s.its_end) over, last_lost held held' board.bus.console.kept board'.bus.console.kept r.world.given some lost s.world.given);
             }) (first.run plain);
       }
 

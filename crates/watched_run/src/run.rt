@@ -1,6 +1,6 @@
 //! A board is clocked to its end, and a watcher sees each cycle.
 
-ghost use Rattle.std.specs.Prelude.{◌≡◌, ◌≢◌, ◌≤◌, ◌<◌, ◌+◌, ◌^◌, ℕ, List, [], Some, None, IsSome, IfOk, OnOk, OnErr};
+ghost use Rattle.std.specs.Prelude.{◌≡◌, ◌≢◌, ◌≤◌, ◌<◌, ◌+◌, ◌^◌, max, ℕ, List, [], Some, None, IsSome, IfOk, OnOk, OnErr};
 ghost use Rattle.mic_base.specs.Causes.{HasCause};
 ghost use Rattle.mic_base.specs.Streams.{Holds};
 ghost use Rattle.console_port.specs.Console.{IsFault, StaysFlushed};
@@ -54,6 +54,7 @@ fn watch_turns<M: Clocked, W: Watcher, S: Source, K: Sink, E: Sink>(
     ensures watched { IsWatched M.state M.meaning bound W.keeps W.Prints (S.left source.old) (K.held sink.old) board.old (S.left source.new) (K.held sink.new) board.new
         (W.kept watcher.old) (W.kept watcher.new) (E.held err.old) (E.held err.new) board.new.end result }
     ensures ended { OnOk result (IsSome board.new.end) }
+    ensures growth { board.new.counts.cycles ≤ max bound board.old.counts.cycles + 1024 }
     ensures not_ended { OnErr result (board.new.end ≡ None) }
     ensures store { board.new.store ≡ board.old.store }
     ensures kept { (e : BusFault) → IsFault e → board.new.end ≡ Some (end_by e) → board.new.bus.console.kept ≡ [] }
@@ -90,6 +91,8 @@ pub fn run_watched<M: Clocked, W: Watcher, S: Source, K: Sink, E: Sink>(
     ensures watched { IsWatched M.state M.meaning bound W.keeps W.Prints (S.left source.old) (K.held sink.old) board.old (S.left source.new) (K.held sink.new) board.new
         (W.kept watcher.old) (W.kept watcher.new) (E.held err.old) (E.held err.new) (end_in result) (done result) }
     ensures end { IfOk result (λ e. e ≢ End.WriteFault → board.new.end ≡ Some e) }
+    ensures kept { IfOk result (λ e. board.new.bus.console.kept ≡ []) }
+    ensures growth { board.new.counts.cycles ≤ max bound board.old.counts.cycles + 1024 }
     ensures store { board.new.store ≡ board.old.store }
     ensures keeps { (front : List ℕ) → Holds front (K.held sink.old) → Holds front (K.held sink.new) }
     ensures flushed { IfOk result (λ e. e ≢ End.WriteFault → StaysFlushed (K.held sink.old) (K.passed sink.old) (K.held sink.new) (K.passed sink.new)) }

@@ -3,7 +3,7 @@
 ghost use Rattle.std.specs.Prelude.{◌≡◌, ◌≢◌, ◌≤◌, ◌<◌, ◌↔◌, length, Some, None, Ok, Err, IsOk, IsErr, IfOk, IfErr};
 ghost use Rattle.std.specs.IoError.{error_kind};
 ghost use Rattle.mic_base.specs.Causes.{HasCause};
-ghost use Rattle.mic_base.specs.Files.{HasFileCause};
+ghost use Rattle.mic_base.specs.Files.{HasFileCause, most_bytes};
 
 use crate::files::{FileError, MOST_BYTES};
 use crate::sink::SinkFailed;
@@ -48,8 +48,8 @@ pub(super) fn written(answer: io::Result<()>, faults: &mut u64) -> Result<(), Si
 
 /// The bytes of a file, of which the runtime reads no more than one too many.
 pub(super) fn file_read(answer: io::Result<Vec<u8>>) -> Result<Vec<u8>, FileError>
-    ensures short { IfOk answer (λ bytes. length bytes.items ≤ MOST_BYTES → result ≡ Ok bytes) }
-    ensures long { IfOk answer (λ bytes. MOST_BYTES < length bytes.items → result ≡ Err FileError.TooLong) }
+    ensures short { IfOk answer (λ bytes. length bytes.items ≤ most_bytes → result ≡ Ok bytes) }
+    ensures long { IfOk answer (λ bytes. most_bytes < length bytes.items → result ≡ Err FileError.TooLong) }
     ensures memory { IfErr answer (λ e. error_kind e ≡ ErrorKind.OutOfMemory → result ≡ Err FileError.OutOfMemory) }
     ensures failed { IfErr answer (λ e. error_kind e ≢ ErrorKind.OutOfMemory → result ≡ Err FileError.Failed) }
 {

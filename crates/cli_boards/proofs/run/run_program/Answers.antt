@@ -15,7 +15,7 @@ returns g c =
     let told = c.tell.ensures.does in
     let printed : c.bytes.result.now ≡ report_on g.M.Clocked.state g.M.Clocked.meaning end last =
     c.bytes.ensures.value ∙ c.clocked_report-line.ensures
-    ∙ (ap (λ (k : Counts). report_of end k c.registers.result) c.counts.ensures ∙ ap (λ (r : Registers). report_of end last.counts r) c.registers.ensures) in
+    ∙ (ap (λ (k : Counts). report_of end k c.registers.result) c.counts.ensures ∙ ap (λ (r : Registers). report_of end last.counts r) c.registers.ensures.value) in
     record {
       names = search rules;
       does =

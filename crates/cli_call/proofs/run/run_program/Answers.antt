@@ -16,7 +16,7 @@ returns-in-Ok g c =
     let ended : c.in-Ok.board.end ≡ Some end = sym c.ended.ensures ∙ c.unwrap-end.ensures in
     let printed : c.bytes.result.now ≡ report_on g.I.Machine.Clocked.state g.I.Machine.Clocked.meaning end c.in-Ok.board =
     c.bytes.ensures.value ∙ c.clocked_report-line.ensures
-    ∙ (ap (λ (k : Counts). report_of end k c.registers.result) c.counts.ensures ∙ ap (λ (r : Registers). report_of end c.in-Ok.board.counts r) c.registers.ensures) in
+    ∙ (ap (λ (k : Counts). report_of end k c.registers.result) c.counts.ensures ∙ ap (λ (r : Registers). report_of end c.in-Ok.board.counts r) c.registers.ensures.value) in
     record {
       names = search rules;
       does =

@@ -47,7 +47,7 @@ returns-in-Err-flush-clause-watched g c =
     record {
       cycles = w.cycles;
       run = flush-lost state m c.args.bound left0 held0 c.args.board.now left held mid held' new w.cycles c.flush.ensures.same c.flush.ensures.input
-          c.in_default.ensures.ended plain c.flush.ensures.memory ((c.in-Err-flush.ensures.err left).lost c.in-Err-flush.ensures.fault) w.run;
+          c.in_default.ensures.ended kept plain c.flush.ensures.memory ((c.in-Err-flush.ensures.err left).lost c.in-Err-flush.ensures.fault) w.run;
       saw = w.saw;
     }
 

@@ -1,4 +1,4 @@
-use Rattle.std.proofs.Common.{◌≡◌, length, List, ℕ, true, false, None, Err, refl, sym, ◌∙◌, ap, subst}
+use Rattle.std.proofs.Common.{◌≡◌, inl, inr, length, List, ℕ, true, false, None, Err, refl, sym, ◌∙◌, ap, subst}
 use Rattle.console_port.specs.Bus.{refused_by, ChangesOnly}
 use Rattle.console_port.specs.Console.{IsFault}
 use Rattle.console_port.specs.declared.fault.BusFault.TheVariants as faults
@@ -307,6 +307,22 @@ returns-in-Ok-clause-refusal g c =
     let none = sym refused ∙ why ∙ clear in
     absurd (cc)
 
+pub returns-in-Ok-clause-waits : goal.returns-in-Ok-clause-waits
+unfolding step_of_word
+returns-in-Ok-clause-waits g c =
+    let old = c.args.self.now in
+    let s = statement_of machines.Mic1 old.word in
+    let m = micro_in old.latches in
+    let asked : Asked = record { ports = c.ports-ports.result; mem = c.of_bits-mem.result; fetch = c.fetch-fetch.result } in
+    let is : IsAsked s m asked =
+    is_asked old.word m old.value old.c c.destinations-destinations.result c.ports-ports.result c.of_bits-mem.result c.fetch-fetch.result
+    (old.computed c.requires) (old.shifted_by c.requires) c.destinations-destinations.ensures.value c.ports-ports.ensures
+    (c.of_bits-mem.ensures ∙ ap mem_of c.mem.ensures) c.fetch-fetch.ensures in
+    λ room. elim (c.in-Ok.ensures.waits room) [
+      | inl same ↦ inl same
+      | inr asks ↦ inr (asks.some, λ w shows. reads_console old.word m asked is _ w (ap (λ (ws : List ℕ). length ws) shows.words) asks.clear asks.behind asks.reads)
+    ]
+
 pub returns-in-Err-clause-refusal : goal.returns-in-Err-clause-refusal
 unfolding step_of_word
 returns-in-Err-clause-refusal g c =
@@ -346,6 +362,22 @@ returns-in-Err-clause-err g c =
           let fault : IsFault c.in-Err.fault = subst IsFault (sym e) tt in
           uses_console old.word m asked is _ w (ap (λ (ws : List ℕ). length ws) shows.words) (clear fault) (c.in-Err.ensures.behind fault) (c.in-Err.ensures.uses (cc));
     }
+
+pub returns-in-Err-clause-waits : goal.returns-in-Err-clause-waits
+unfolding step_of_word
+returns-in-Err-clause-waits g c =
+    let old = c.args.self.now in
+    let s = statement_of machines.Mic1 old.word in
+    let m = micro_in old.latches in
+    let asked : Asked = record { ports = c.ports-ports.result; mem = c.of_bits-mem.result; fetch = c.fetch-fetch.result } in
+    let is : IsAsked s m asked =
+    is_asked old.word m old.value old.c c.destinations-destinations.result c.ports-ports.result c.of_bits-mem.result c.fetch-fetch.result
+    (old.computed c.requires) (old.shifted_by c.requires) c.destinations-destinations.ensures.value c.ports-ports.ensures
+    (c.of_bits-mem.ensures ∙ ap mem_of c.mem.ensures) c.fetch-fetch.ensures in
+    λ room. elim (c.in-Err.ensures.waits room) [
+      | inl same ↦ inl same
+      | inr asks ↦ inr (asks.some, λ w shows. reads_console old.word m asked is _ w (ap (λ (ws : List ℕ). length ws) shows.words) asks.clear asks.behind asks.reads)
+    ]
 
 pub returns-in-Err-clause-flushed : goal.returns-in-Err-clause-flushed
 returns-in-Err-clause-flushed g c = λ q. c.in-Err.ensures.flushed (λ e. let f : c.in-Err.fault ≡ faults.WriteFault = cc in q (cc))

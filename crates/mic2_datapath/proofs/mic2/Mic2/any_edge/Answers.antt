@@ -1,4 +1,4 @@
-use Rattle.std.proofs.Common.{◌≡◌, length, List, ℕ, true, Err, refl, sym, ◌∙◌, ap, subst}
+use Rattle.std.proofs.Common.{◌≡◌, inl, inr, length, List, ℕ, true, Err, refl, sym, ◌∙◌, ap, subst}
 use Rattle.console_port.specs.Bus.{refused_by, ChangesOnly}
 use Rattle.console_port.specs.Console.{IsFault}
 use Rattle.console_port.specs.declared.fault.BusFault.TheVariants as faults
@@ -132,6 +132,23 @@ returns-in-Ok-access-clause-refusal g c =
     let none = sym refused ∙ why ∙ clear in
     absurd (cc)
 
+pub returns-in-Ok-access-clause-waits : goal.returns-in-Ok-access-clause-waits
+unfolding step_of_word
+returns-in-Ok-access-clause-waits g c =
+    let old = c.args.self.now in
+    let s = statement_of machines.Mic2 old.control.word in
+    let m = micro_in old.latches in
+    let asked : Asked = record { ports = c.ports-ports.result; mem = c.of_bits-mem.result; at = c.will_fetch-at.result } in
+    let is : IsAsked s m asked =
+    is_asked old.control.word m old.stalled old.value old.c c.destinations-destinations.result old.control.lines.takes c.is_named.result c.ports-ports.result c.of_bits-mem.result
+    c.will_fetch-at.result c.requires.computed c.if-self.false c.destinations-destinations.ensures.value old.control.demands c.is_named.ensures c.ports-ports.ensures
+    (c.of_bits-mem.ensures ∙ ap mem_of c.mem.ensures) c.will_fetch-at.ensures.refusal c.will_fetch-at.ensures.value in
+    let law : AtConsole = record { takes = c.console_law.ensures.takes; gives = c.console_law.ensures.gives } in
+    λ room. elim (c.in-Ok-access.ensures.waits room) [
+      | inl same ↦ inl same
+      | inr asks ↦ inr (asks.some, λ w shows. reads_console law old.control.word m asked is _ w (ap (λ (ws : List ℕ). length ws) shows.words) asks.clear asks.behind asks.reads)
+    ]
+
 pub returns-in-Err-access-clause-refusal : goal.returns-in-Err-access-clause-refusal
 unfolding step_of_word
 returns-in-Err-access-clause-refusal g c =
@@ -172,6 +189,23 @@ returns-in-Err-access-clause-err g c =
           let fault : IsFault c.in-Err-access.fault = subst IsFault (sym e) tt in
           uses_console law old.control.word m asked is _ w (ap (λ (ws : List ℕ). length ws) shows.words) (clear fault) (c.in-Err-access.ensures.behind fault) (c.in-Err-access.ensures.uses (cc));
     }
+
+pub returns-in-Err-access-clause-waits : goal.returns-in-Err-access-clause-waits
+unfolding step_of_word
+returns-in-Err-access-clause-waits g c =
+    let old = c.args.self.now in
+    let s = statement_of machines.Mic2 old.control.word in
+    let m = micro_in old.latches in
+    let asked : Asked = record { ports = c.ports-ports.result; mem = c.of_bits-mem.result; at = c.will_fetch-at.result } in
+    let is : IsAsked s m asked =
+    is_asked old.control.word m old.stalled old.value old.c c.destinations-destinations.result old.control.lines.takes c.is_named.result c.ports-ports.result c.of_bits-mem.result
+    c.will_fetch-at.result c.requires.computed c.if-self.false c.destinations-destinations.ensures.value old.control.demands c.is_named.ensures c.ports-ports.ensures
+    (c.of_bits-mem.ensures ∙ ap mem_of c.mem.ensures) c.will_fetch-at.ensures.refusal c.will_fetch-at.ensures.value in
+    let law : AtConsole = record { takes = c.console_law.ensures.takes; gives = c.console_law.ensures.gives } in
+    λ room. elim (c.in-Err-access.ensures.waits room) [
+      | inl same ↦ inl same
+      | inr asks ↦ inr (asks.some, λ w shows. reads_console law old.control.word m asked is _ w (ap (λ (ws : List ℕ). length ws) shows.words) asks.clear asks.behind asks.reads)
+    ]
 
 pub returns-in-Err-access-clause-cause : goal.returns-in-Err-access-clause-cause
 returns-in-Err-access-clause-cause g c =

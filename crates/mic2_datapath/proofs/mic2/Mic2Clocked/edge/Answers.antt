@@ -1,4 +1,4 @@
-use Rattle.std.proofs.Common.{◌≡◌, length, List, ℕ, true, None, Option, refl, sym, ◌∙◌, ap, subst, arith}
+use Rattle.std.proofs.Common.{◌≡◌, length, List, ℕ, None, Option, refl, sym, ◌∙◌, ap, subst, arith}
 use Rattle.std.specs.Prelude.{Err, Ok, is_some}
 use Rattle.console_port.specs.Bus.{refused_by, ChangesOnly, Stands}
 use Rattle.console_port.specs.Console.{IsFault}
@@ -7,7 +7,7 @@ use Rattle.console_port.specs.declared.fault.BusFault.TheVariants as faults
 use Rattle.micro_word.specs.Coding.{statement_of}
 use Rattle.micro_word.specs.Operation.{shifted}
 use Rattle.micro_word.specs.declared.statement.Mem.TheVariants as mems
-use Rattle.mic_clock.specs.Edge.{AnswersRefusal}
+use Rattle.mic_clock.specs.Edge.{AnswersRefusal, LetsBytesWait}
 use Rattle.machine_words.specs.declared.machine.Machine.TheVariants as machines
 use Rattle.datapath.specs.Memory.{memory_refusal}
 use Rattle.mic2_fetch_unit.specs.FetchUnit.{sample_refusal}
@@ -247,3 +247,19 @@ returns-in-Err-any_edge-clause-refusal g c =
     (λ (b : BusView).
     AnswersRefusal mic2_meaning old.control.word (micro_in old.latches) (g.S.Source.left c.args.source.now) (g.K.Sink.held c.args.sink.now) b (Err c.in-Err-any_edge.fault))
     c.in-None.ensures.none c.in-Err-any_edge.ensures.refusal
+
+pub returns-in-Ok-any_edge-clause-waits : goal.returns-in-Ok-any_edge-clause-waits
+returns-in-Ok-any_edge-clause-waits g c =
+    let old = c.args.self.now in
+    subst
+    (λ (b : BusView).
+    LetsBytesWait mic2_meaning old.control.word (micro_in old.latches) (g.S.Source.left c.args.source.now) (g.K.Sink.held c.args.sink.now) b c.args.sink.now c.any_edge-in-None.new.sink)
+    c.in-None.ensures.none c.in-Ok-any_edge.ensures.waits
+
+pub returns-in-Err-any_edge-clause-waits : goal.returns-in-Err-any_edge-clause-waits
+returns-in-Err-any_edge-clause-waits g c =
+    let old = c.args.self.now in
+    subst
+    (λ (b : BusView).
+    LetsBytesWait mic2_meaning old.control.word (micro_in old.latches) (g.S.Source.left c.args.source.now) (g.K.Sink.held c.args.sink.now) b c.args.sink.now c.any_edge-in-None.new.sink)
+    c.in-None.ensures.none c.in-Err-any_edge.ensures.waits

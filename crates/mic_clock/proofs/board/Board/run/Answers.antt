@@ -112,7 +112,7 @@ returns-clause-write g c =
                 let led = IsLedTo-map state left0 held0 first left old _ _ (λ r rest at. (at.0, tt, at.1)) (c.strides.invariant.run plain) in
                 IsLedTo-map state left0 held0 first left new _ _ (λ r rest at. (at.0, at.2))
                 (Leads-lost state m first.store.words (Some c.args.bound) left0 held0 first Along left held old left held' new program led
-                over refl (view _ (λ b. state b.machine)) (view _ (λ b. b.counts)) c.finish.ensures.memory c.finish.ensures.input (view _ (λ b. b.buses)) lost))
+                over kept refl (view _ (λ b. state b.machine)) (view _ (λ b. b.counts)) c.finish.ensures.memory c.finish.ensures.input (view _ (λ b. b.buses)) lost))
             | inr fault ↦ elim fault [
               | inl read ↦ absurd (kept (c.strides.invariant.empty_read read))
               | inr write ↦ absurd (kept (c.strides.invariant.empty_write write))

@@ -19,6 +19,6 @@ returns-clause-write g c =
           let shows = c.goes_on.ensures.bounded _ left r s in (
             shows.its_end ∙ bound_end,
             IsCutByWrite-lost g.M.Clocked.state m c.args.self.now.store.words (Some c.args.bound) left left _ _ c.goes_on.new.self c.finish.new.self (bounded m (Some c.args.bound) r)
-                shows over refl (view _ (λ b. g.M.Clocked.state b.machine)) (view _ (λ b. b.counts)) c.finish.ensures.memory c.finish.ensures.input (c.finish.ensures.lost f),
+                shows over (λ e. let t = (c.finish.ensures.empty e).0 in cc) refl (view _ (λ b. g.M.Clocked.state b.machine)) (view _ (λ b. b.counts)) c.finish.ensures.memory c.finish.ensures.input (c.finish.ensures.lost f),
           ))
     ]
