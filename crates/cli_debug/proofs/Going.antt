@@ -207,11 +207,11 @@ module _ {M State : Type 0} {state : M → State} {m : Meaning State} where
         q.0,
         q.1,
         let then : IsReadOn memory (suc n) n rest more q.0 = subst (λ (k : ℕ). IsReadOn k (suc n) n rest more q.0) same q.2 in
-        record {
-          open_end = open_then memory most (suc n) n lines more e.open_end then.open_end;
-          whole = e.whole ∙ ap (λ (x : List (List ℕ)). lines ++ x) then.whole ∙ sym (append_assoc lines more (lines_of memory n q.0));
-          rest_is = e.rest_is ∙ then.rest_is;
-        },
+            record {
+              open_end = open_then memory most (suc n) n lines more e.open_end then.open_end;
+              whole = e.whole ∙ ap (λ (x : List (List ℕ)). lines ++ x) then.whole ∙ sym (append_assoc lines more (lines_of memory n q.0));
+              rest_is = e.rest_is ∙ then.rest_is;
+            },
       )))
   go_on most n old mid new step lines done quiet told (Over more done' quiet' told') =
       let memory = old.session.listing.memory in
