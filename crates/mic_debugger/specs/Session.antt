@@ -1,5 +1,5 @@
 -- Where a session leads a board, and what it prints.
-use Rattle.std.specs.Prelude.{◌≡◌, ◌≢◌, ◌⊎◌, ℕ, ◌+◌, ◌<◌, List, ◌++◌, Option, Some, IfSome}
+use Rattle.std.specs.Prelude.{◌≡◌, ◌≢◌, ◌⊎◌, ℕ, suc, ◌+◌, ◌<◌, List, ◌++◌, Option, Some, IfSome}
 use Rattle.mic_base.specs.Causes.{Rose}
 use Rattle.mic_clock.specs.declared.end.End.{End}
 use Rattle.mic_clock.specs.Meaning.{Meaning}
@@ -7,11 +7,11 @@ use Rattle.mic_clock.specs.Run.{MicroRun, word_at, turns}
 use Rattle.mic_clock.specs.View.{BoardView}
 use Rattle.mic_clock.specs.Board.{ShowsRun, IsCutByRead}
 use Rattle.mic_clock.specs.declared.end.End.TheVariants as ends
-use Rattle.cli_outside.specs.Outside.{GotInPart}
+use Rattle.cli_outside.specs.Outside.{Got, GotInPart}
 use Rattle.mic_debugger.specs.declared.until.Until.{Until}
 use Rattle.mic_debugger.specs.Book.{Book}
 use Rattle.mic_debugger.specs.Lines.{end_line}
-use Rattle.mic_debugger.specs.Clocking.{turn_text, after, printed, passed, IsGoing, IsDone}
+use Rattle.mic_debugger.specs.Clocking.{turn_lines, turn_text, after, printed, passed, IsGoing, IsDone}
 
 -- a failing source ends a board, and only that raises its count
 pub record HasReadCause (before now : ℕ) (end : Option End) : Type 0 where
@@ -65,3 +65,6 @@ module _ {M State : Type 0} (state : M → State) (m : Meaning State) (book : Bo
     pub going : IsGoing m book words breaks bound u times n r
     pub out : IsFrontOf held (after m book words breaks bound u n r).world.given
     pub err : GotInPart said (printed m book words breaks bound u n r) said'
+    -- all but the lines of the last turn it got whole, so no turn was made after those of which it got less
+    pub told : (k : ℕ) → suc k ≡ n → (mid : Option (List ℕ)) × Got said (printed m book words breaks bound u k r) mid
+        × GotInPart mid (turn_lines m book words breaks bound u (after m book words breaks bound u k r) (after m book words breaks bound u n r)) said'
