@@ -206,11 +206,11 @@ module _ {M State : Type 0} {state : M → State} {m : Meaning State} where
       (λ bytes rest e q. (
         q.0,
         q.1,
-        let then : IsReadOn memory (suc n) n rest more q.0 = subst (λ (k : ℕ). IsReadOn k (suc n) n rest more q.0) same q.2 in
+        let later : IsReadOn memory (suc n) n rest more q.0 = subst (λ (k : ℕ). IsReadOn k (suc n) n rest more q.0) same q.2 in
             record {
-              open_end = open_then memory most (suc n) n lines more e.open_end then.open_end;
-              whole = e.whole ∙ ap (λ (x : List (List ℕ)). lines ++ x) then.whole ∙ sym (append_assoc lines more (lines_of memory n q.0));
-              rest_is = e.rest_is ∙ then.rest_is;
+              open_end = open_then memory most (suc n) n lines more e.open_end later.open_end;
+              whole = e.whole ∙ ap (λ (x : List (List ℕ)). lines ++ x) later.whole ∙ sym (append_assoc lines more (lines_of memory n q.0));
+              rest_is = e.rest_is ∙ later.rest_is;
             },
       )))
   go_on most n old mid new step lines done quiet told (Over more done' quiet' told') =
@@ -219,8 +219,8 @@ module _ {M State : Type 0} {state : M → State} {m : Meaning State} where
       Over (lines ++ more) (gone_more lines more old mid new done done') (quiet' ∙ quiet)
       (then_told old.seen.console.left mid.seen.console.left (λ bytes rest. IsReadOn memory most (suc n) bytes lines rest) _ _ told told'
       (λ bytes rest e q.
-      let then : IsReadOut memory (suc n) rest more new.seen.console.left = subst (λ (k : ℕ). IsReadOut k (suc n) rest more new.seen.console.left) same q in
-      record { whole = ap (λ (x : List (List ℕ)). lines ++ x) then.whole ∙ sym e.whole; left_is = then.left_is ∙ ap Some (sym e.rest_is) }))
+      let later : IsReadOut memory (suc n) rest more new.seen.console.left = subst (λ (k : ℕ). IsReadOut k (suc n) rest more new.seen.console.left) same q in
+      record { whole = ap (λ (x : List (List ℕ)). lines ++ x) later.whole ∙ sym e.whole; left_is = later.left_is ∙ ap Some (sym e.rest_is) }))
   go_on most n old mid new step lines done quiet told (ConsoleFailed more done' rose told') =
       let memory = old.session.listing.memory in
       let same : mid.session.listing.memory ≡ memory = ap (λ (l : ListingView). l.memory) done.listing in
