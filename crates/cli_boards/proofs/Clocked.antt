@@ -1,18 +1,15 @@
 -- The cycles that a run from its reset shows.
-use Rattle.std.proofs.Common.{◌≡◌, ◌≢◌, ◌⊎◌, ◌∙◌, ℕ, zero, suc, ◌+◌, ◌-◌, Bool, true, false, if◌then◌else◌, List, [], ◌∷◌, ◌++◌, length, Option, Some, None, refl, sym, ap, subst, arith, append-nil}
-use Rattle.std.specs.Prelude.{IfSome, nat_le}
+use Rattle.std.proofs.Common.{◌≡◌, ◌∙◌, ℕ, zero, suc, ◌+◌, ◌-◌, Bool, true, false, if◌then◌else◌, List, [], ◌∷◌, ◌++◌, length, Option, Some, None, refl, sym, ap, subst, arith}
+use Rattle.std.specs.Prelude.{nat_le}
 use Rattle.std.proofs.lemmas.List.{length-append}
 use Rattle.console_port.specs.Console.{Given, Untaken}
-use Rattle.console_port.specs.View.{BusView}
 use Rattle.console_port.specs.World.{World}
-use Rattle.console_port.specs.Bus.{Shows}
-use Rattle.mic_clock.specs.declared.counts.Boundary.{Boundary}
 use Rattle.mic_clock.specs.declared.counts.Counts.{Counts}
 use Rattle.mic_clock.specs.declared.end.End.{End}
 use Rattle.mic_clock.specs.declared.end.End.TheVariants as ends
 use Rattle.mic_clock.specs.Meaning.{Meaning, Outcome, Done, Refused}
 use Rattle.mic_clock.specs.View.{BoardView}
-use Rattle.mic_clock.specs.Run.{start_run, MicroRun, after_end_or_step, after_step, bounded, counts_after, counts_at, counts_between, end_before, turn, turns, word_at}
+use Rattle.mic_clock.specs.Run.{start_run, MicroRun, after_end_or_step, after_step, bounded, counts_at, counts_between, end_before, turn, turns, word_at}
 use Rattle.watched_run.specs.declared.cycle.Cycle.{Cycle}
 use Rattle.watched_run.specs.Cycles.{cycle_between, cycles_of, shown, shown_where}
 use Rattle.watched_run.specs.Watched.{LeadsOver, ShowsCycles}

@@ -1,5 +1,5 @@
 -- Two calls over one file work over the same program.
-use Rattle.std.proofs.Common.{◌≡◌, ◌≢◌, ◌⊎◌, inl, inr, ◌∙◌, ◌<◌, ◌≤◌, ℕ, List, length, Option, Some, sym, subst, arith}
+use Rattle.std.proofs.Common.{◌≡◌, ◌⊎◌, inl, inr, ◌∙◌, ◌<◌, ◌≤◌, ℕ, List, length, Option, Some, sym, subst, arith}
 use Rattle.std.proofs.lemmas.Option.{same_Some}
 use Rattle.mic_base.specs.Files.{Contents, Tells, file_in, most_bytes}
 use Rattle.cli_outside.specs.Status as exits

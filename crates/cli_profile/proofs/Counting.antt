@@ -1,19 +1,18 @@
 -- What the profiler counts step by step is what the run completed.
-use Rattle.std.proofs.Common.{◌≡◌, ◌∙◌, ℕ, zero, suc, ◌+◌, ◌-◌, ◌<◌, ◌≤◌, ◌^◌, ◌==◌, ◌≢◌, min, get_or, Bool, true, false, if◌then◌else◌, List, [], ◌∷◌, ◌++◌, length, Option, Some, None, refl, sym, ap, subst, arith}
-use Rattle.std.specs.Prelude.{slice_set, slice_get, unwrap_or, filter, replicate}
+use Rattle.std.proofs.Common.{◌≡◌, ◌∙◌, ℕ, zero, suc, ◌+◌, ◌-◌, ◌<◌, ◌≤◌, ◌^◌, ◌==◌, ◌≢◌, get_or, Bool, true, false, if◌then◌else◌, List, [], ◌∷◌, ◌++◌, length, Option, Some, None, refl, sym, ap, subst, arith}
+use Rattle.std.specs.Prelude.{slice_set, slice_get, unwrap_or, replicate}
 use Rattle.std.proofs.lemmas.Bool.{eqb-false, eqb-true}
 use Rattle.std.proofs.lemmas.Grind.{get_or-set_at}
 use Rattle.std.proofs.lemmas.List.{get_or-set_other, length-set}
 use Rattle.std.proofs.lemmas.Option.{unwrap_or-slice_get}
 use Rattle.mic_clock.specs.declared.counts.Boundary.{Boundary}
-use Rattle.mic_clock.specs.declared.counts.Counts.{Counts}
 use Rattle.mic_clock.specs.declared.end.End.{End}
 use Rattle.mic_clock.specs.Run.{completes}
 use Rattle.watched_run.specs.declared.cycle.Cycle.{Cycle}
 use Rattle.watched_run.specs.Watched.{kept_of}
 use Rattle.cli_profile.specs.declared.profiler.RowCount.{RowCount}
 use Rattle.cli_profile.specs.Profile.{Profile, Silent, boot_of, completed, more, no_tally, plus, profile_after, reached_at, row_at, start_profile, tallies_at, tally_at}
-use Rattle.cli_profile.specs.Counted.{AreClockedAfter, Completed, IsClockedAfter, Reached, boot_cycles, boundaries_of, completed_from, completed_in, cut_cycles, cut_from, cycles_of, end_after, of_row, reached_by, tally_of}
+use Rattle.cli_profile.specs.Counted.{AreClockedAfter, Completed, Reached, boot_cycles, boundaries_of, completed_from, completed_in, cut_cycles, cut_from, cycles_of, end_after, of_row, reached_by, tally_of}
 
 -- ---- the steps, as a list of completed instructions
 

@@ -1,6 +1,5 @@
 -- A file holds one program at most, and is not refused beside.
-use Rattle.std.proofs.Common.{◌≡◌, ◌⊎◌, inl, inr, ◌≤◌, ◌+◌, ◌∙◌, ℕ, List, Some, None, refl, sym, ap, subst, true, false, arith}
-use Rattle.std.specs.Prelude.{Bool, Option, ℤ}
+use Rattle.std.proofs.Common.{◌≡◌, inl, inr, ◌≤◌, ◌+◌, ◌∙◌, ℕ, List, Some, sym, subst, true, false, arith}
 use Rattle.console_port.specs.declared.map.MemoryMap.{MemoryMap}
 use Rattle.ijvm_image.specs.declared.image.ImageError.{ImageError}
 use Rattle.ijvm_image.specs.Image.{ImageView, IsWithinLimits}
@@ -12,8 +11,8 @@ use Rattle.ijvm_asm.specs.Text as assembler
 use Rattle.method_linker.specs.declared.error.LinkError.{LinkError}
 use Rattle.method_linker.specs.declared.error.LinkError.TheVariants as limits
 use Rattle.method_linker.specs.Linked as linker
-use Rattle.ijvm_paths.specs.Accepted.{IsAccepted, VerifiedView}
-use Rattle.ijvm_paths.specs.Facts.{IsMainCount, IsTrueOf, MainNames}
+use Rattle.ijvm_paths.specs.Accepted.{VerifiedView}
+use Rattle.ijvm_paths.specs.Facts.{IsMainCount, IsTrueOf}
 use Rattle.cli_texts.specs.Refusals.{link_reason}
 use Rattle.cli_programs.specs.Program.{AsFile, AsSource, IsNoSource, IsOf, IsProgram, IsRefusedProgram, IsSource, NoImage, NoProgram, NoSource, NotAccepted, NotLinked, begins_image}
 

@@ -1,6 +1,5 @@
 use Rattle.std.proofs.Common.{codes, ap, ◌∙◌, List, ℕ}
 use Rattle.std.specs.Prelude.{Option, unwrap_or, option_map}
-use Rattle.ijvm_instr.specs.declared.instr.Instr.{Instr}
 use Rattle.ijvm_instr.specs.Instructions.{name_of}
 use Rattle.cli_profile.proofs.Ordered.{name_at}
 use Rattle.cli_profile.proofs.rows.row_name.Goals as goal

@@ -1,5 +1,4 @@
-use Rattle.std.proofs.Common.{◌≡◌, ◌∙◌, sym, Ok}
-use Rattle.std.specs.Prelude.{Result}
+use Rattle.std.proofs.Common.{◌≡◌, Ok}
 use Rattle.ijvm_image.specs.Reading.{image_read}
 use Rattle.ijvm_image.proofs.Files.{file-read}
 use Rattle.ijvm_image.proofs.Refusals.{not_refused}
