@@ -1,5 +1,5 @@
 -- How the run of an accepted program by a microprogram ends: it has come to its end, or a fault cut it, and its report is said.
-use Rattle.std.specs.Prelude.{◌≡◌, ℕ, Some}
+use Rattle.std.specs.Prelude.{◌≡◌, ℕ, [], Some}
 use Rattle.mic_clock.specs.declared.end.End.{End}
 use Rattle.mic_clock.specs.Meaning.{Meaning}
 use Rattle.mic_clock.specs.View.{BoardView}
@@ -17,8 +17,8 @@ module _ {M State : Type 0} (state : M → State) (m : Meaning State) where
   pub data IsOwnRun (bound : ℕ) (micro : Program) (program : VerifiedView) (old new : OutsideView) (status : ℕ) : Type 0 where
     -- memory was wanting before the first cycle
     NoRoom : TellsOnErr out_of_memory exits.memory old new status → IsOwnRun bound micro program old new status
-    -- turns from the reset lead to the end, or a fault cuts them
-    Ran : (l : Loaded) (first last : BoardView M) (end : End) → IsFirstBoard state m micro l program first → last.end ≡ Some end →
+    -- turns from the reset lead to the end, or a fault cuts them; then nothing waits for `out`
+    Ran : (l : Loaded) (first last : BoardView M) (end : End) → IsFirstBoard state m micro l program first → last.end ≡ Some end → last.bus.console.kept ≡ [] →
         IsRun state m old.console.left old.out.held first new.console.left new.out.held last (Some bound) →
         RunIsCutByRead state m old.console.left old.out.held first new.console.left new.out.held last (Some bound) →
         RunIsCutByWrite state m old.console.left old.out.held first new.console.left new.out.held last (Some bound) →

@@ -1,5 +1,5 @@
 -- The run of an accepted program by a microprogram: where it begins, what it leaves of the outside, and its report.
-use Rattle.std.specs.Prelude.{◌≡◌, ◌≢◌, ℕ, List, Option, Some, None, IfSome}
+use Rattle.std.specs.Prelude.{◌≡◌, ◌≢◌, ℕ, List, [], Option, Some, None, IfSome}
 use Rattle.console_port.specs.Console.{StaysFlushed}
 use Rattle.mic_clock.specs.declared.end.End.{End}
 use Rattle.mic_clock.specs.declared.end.End.TheVariants as ends
@@ -40,4 +40,6 @@ module _ {M State : Type 0} (state : M → State) (m : Meaning State) where
     pub begins : IsFirstBoard micro l program first
     pub shows : ShowsCycles state m bound old.console.left old.out.held first new.console.left new.out.held last cycles end
     pub ends : IfSome end (λ e. e ≢ ends.WriteFault → last.end ≡ Some e)
+    -- at the end nothing waits for `out`: it has got all the output, unless it failed
+    pub kept : IfSome end (λ e. last.bus.console.kept ≡ [])
     pub left : IsLeftBy end old new

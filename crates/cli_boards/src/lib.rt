@@ -3,6 +3,7 @@
 
 mod choice;
 mod commands;
+mod laws;
 mod microprogram;
 mod preparing;
 mod profile;
@@ -12,6 +13,7 @@ mod run;
 mod trace;
 
 pub use commands::{profile_file, run_own_file, trace_file};
+pub use laws::runs_are_clocked_from_reset;
 pub use microprogram::{Microprogram, placed_microprogram, shipped_microprogram};
 pub use preparing::{Prepared, prepare};
 pub use profile::profile_program;

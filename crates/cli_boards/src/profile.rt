@@ -49,7 +49,9 @@ pub fn profile_program<M: Clocked + Drop, F: Files, S: Source, K: Sink, E: Sink>
         outside.err,
     ) {
         Ok(end) => {
-            let said = put_profile(&profiler, end, &board.counts(), outside.err);
+            // Where the last flush failed, the board stands at the end that it came to before.
+            let stood = board.ended().unwrap_or(end);
+            let said = put_profile(&profiler, stood, &board.counts(), outside.err);
             report_behind(said, end, &board, outside.err)
         }
         Err(_) => Status::SINK,

@@ -32,7 +32,7 @@ use Rattle.mic_base.specs.Causes.{Rose}
 use Rattle.cli_words.specs.Words.{Asked, Assemble, ListOf, Verify, Run, RunOwn, Trace, Profile, Debug, Reference, Micro, PrintMicro, Soak}
 use Rattle.cli_outside.specs.Status as exits
 use Rattle.cli_outside.specs.Messages.{out_of_memory}
-use Rattle.cli_outside.specs.Outside.{FilesState, OutsideView, Said, Says, SinkState, TellsOnErr, Unsaid, with_files}
+use Rattle.cli_outside.specs.Outside.{FilesState, OutsideView, PrintsOnOut, Said, Says, SinkState, SourceState, TellsOnErr, Unsaid, with_files}
 use Rattle.cli_outside.specs.Work.{Ends, IsNotHad, IsUnread, PrintsTextOf, WritesThenPrints}
 use Rattle.cli_outside.specs.Work as work
 use Rattle.cli_run_texts.specs.Ends.{status_of}
@@ -59,7 +59,7 @@ use Rattle.cli_call.specs.ClockedEnd.{ClockedEnd}
 use Rattle.cli_call.specs.ClockedEnd as clocking
 use Rattle.cli_call.specs.CallEnds.{CallEnds, EndsAs, EndsOn, EndsOnMachine}
 use Rattle.cli_call.specs.CallEnds as calls
-use Rattle.cli_call.specs.Answers.{Adrift, ConsoleFailed, Done, Ended, FileFailed, HasFileRead, IsAnswer, IsOnlyTold, IsReference, IsUntouched, Misused, NoMemory, OutOfMap, Refused, Runs, RunsOwn, ShortOfMemory, SinkFailed, TooLong}
+use Rattle.cli_call.specs.Answers.{Adrift, ConsoleFailed, Done, Ended, FileFailed, HasFileRead, IsAnswer, IsFaultless, IsOnlyTold, IsReference, IsUntouched, Misused, NoMemory, OutOfMap, Refused, Runs, RunsOwn, ShortOfMemory, SinkFailed, TooLong}
 
 -- a sink that failed between these has failed since the one before
 either_of : (a a' b b' c d : ℕ) → a ≡ a' → b ≡ b' → Rose a c ⊎ Rose b d → Rose a' c ⊎ Rose b' d
@@ -142,14 +142,34 @@ module _ (asks : Option Asked) (old new : OutsideView) (status : ℕ) where
   on_err text code (Said is got flushed same) answer = answer is
   on_err text code (Unsaid is front rose) answer = SinkFailed (inr rose) is
 
+  -- and where it did not, its count stays
+  on_err_well : (text : List ℕ) (code : ℕ) → Says old.err new.err text code status → (new.err.faults ≡ old.err.faults → status ≡ code → Answer) → Answer
+  on_err_well text code (Said is got flushed same) answer = answer same is
+  on_err_well text code (Unsaid is front rose) answer = SinkFailed (inr rose) is
+
   -- behind what it holds already
+  behind_err_well : (err : SinkState) (text : List ℕ) (code : ℕ) → err.faults ≡ old.err.faults → Says err new.err text code status → (new.err.faults ≡ old.err.faults → status ≡ code → Answer) → Answer
+  behind_err_well err text code quiet (Said is got flushed same) answer = answer (same ∙ quiet) is
+  behind_err_well err text code quiet (Unsaid is front rose) answer = SinkFailed (inr (subst (λ faults. Rose faults new.err.faults) quiet rose)) is
+
   behind_err : (err : SinkState) (text : List ℕ) (code : ℕ) → err.faults ≡ old.err.faults → Says err new.err text code status → (status ≡ code → Answer) → Answer
   behind_err err text code quiet (Said is got flushed same) answer = answer is
   behind_err err text code quiet (Unsaid is front rose) answer = SinkFailed (inr (subst (λ faults. Rose faults new.err.faults) quiet rose)) is
 
-  on_out : (text : List ℕ) (code : ℕ) → Says old.out new.out text code status → (status ≡ code → Answer) → Answer
-  on_out text code (Said is got flushed same) answer = answer is
-  on_out text code (Unsaid is front rose) answer = SinkFailed (inl rose) is
+  -- a text is printed on `out`, and nothing else is done
+  prints_on : (text : List ℕ) (code : ℕ) (files : FilesState) → files.faults ≡ old.files.faults → PrintsOnOut text code (with_files old files) new status →
+      (IsFaultless old new → status ≡ code → Answer) → Answer
+  prints_on text code files quiet h answer = by h.says
+    where
+      by : Says old.out new.out text code status → Answer
+      by (Said is got flushed same) =
+          answer (record {
+            files = ap (λ (f : FilesState). f.faults) h.files ∙ quiet;
+            console = ap (λ (c : SourceState). c.faults) h.console;
+            out = same;
+            err = ap (λ (e : SinkState). e.faults) h.err;
+          }) is
+      by (Unsaid is front rose) = SinkFailed (inl rose) is
 
   -- all that is done is said on `err`, but for what is done to the files
   told : (text : List ℕ) (code : ℕ) (files : FilesState) → TellsOnErr text code (with_files old files) new status → (IsUntouched old new → status ≡ code → Answer) → Answer
@@ -170,7 +190,7 @@ module _ (asks : Option Asked) (old new : OutsideView) (status : ℕ) where
 
   not_had : (Refuses : List ℕ → List ℕ → Type 0) (file : List ℕ) → HasFileRead asks file → IsNotHad Refuses file old new status → Answer
   not_had Refuses file reads (work.Unread h) = unread file reads h
-  not_had Refuses file reads (work.Refused bytes reason read refuses h) = only_told _ _ h Refused
+  not_had Refuses file reads (work.Refused bytes reason read refuses h) = only_told _ _ h (Refused file bytes reads read)
   not_had Refuses file reads (work.Short h) = short h
 
   over : {V : Type 0} (Refuses : List ℕ → List ℕ → Type 0) (Is : List ℕ → V → Type 0) (Does : V → OutsideView → OutsideView → ℕ → Type 0) (file : List ℕ) → HasFileRead asks file →
@@ -179,43 +199,46 @@ module _ (asks : Option Asked) (old new : OutsideView) (status : ℕ) where
   over Refuses Is Does file reads (work.Did value had h) does = does value h
 
   printed : {V : Type 0} (Shows : V → List ℕ → Type 0) (value : V) → PrintsTextOf Shows value old new status → Answer
-  printed Shows value h = on_out _ _ h.prints.says Done
+  printed Shows value h = prints_on _ _ old.files refl h.prints Done
 
   written : (target bytes text : List ℕ) → WritesThenPrints target bytes text old new status → Answer
-  written target bytes text (work.Written has others same h) = on_out _ _ h.says Done
+  written target bytes text (work.Written has others same h) = prints_on _ _ new.files same h Done
   written target bytes text (work.Unwritten others rose h) = told _ _ new.files h (FileFailed rose)
   written target bytes text (work.HalfWritten others same h) = told _ _ new.files h NoMemory
 
   -- the status of a run that came to an end of the definition's
-  defined_end : (end : RunEnd) → Runs asks → status ≡ status_of (board_end end) → Answer
-  defined_end defined.Halt runs is = Done is
-  defined_end defined.Err runs is = Ended runs (omega (arith, is)) (omega (arith, is))
-  defined_end defined.Bound runs is = Ended runs (omega (arith, is)) (omega (arith, is))
-  defined_end defined.StackLimit runs is = Ended runs (omega (arith, is)) (omega (arith, is))
+  defined_end : (end : RunEnd) → Runs asks → IsFaultless old new → status ≡ status_of (board_end end) → Answer
+  defined_end defined.Halt runs well is = Done well is
+  defined_end defined.Err runs well is = Ended runs (omega (arith, is)) (omega (arith, is))
+  defined_end defined.Bound runs well is = Ended runs (omega (arith, is)) (omega (arith, is))
+  defined_end defined.StackLimit runs well is = Ended runs (omega (arith, is)) (omega (arith, is))
 
   -- the status of a run that came to any end, or was cut
   run_end : (end : End) → Runs asks → (IsStray end → RunsOwn asks) →
-      HasEndCause old.console.faults new.console.faults old.out.faults new.out.faults None (Some end) → status ≡ status_of end → Answer
-  run_end ends.Halt runs stray cause is = Done is
-  run_end ends.Err runs stray cause is = Ended runs (omega (arith, is)) (omega (arith, is))
-  run_end ends.Bound runs stray cause is = Ended runs (omega (arith, is)) (omega (arith, is))
-  run_end ends.StackLimit runs stray cause is = Ended runs (omega (arith, is)) (omega (arith, is))
-  run_end ends.ReadFault runs stray cause is = ConsoleFailed (cause.read refl refl) is
-  run_end ends.WriteFault runs stray cause is = SinkFailed (inl (cause.write refl refl)) is
-  run_end (ends.OutOfMap at) runs stray cause is = OutOfMap (stray tt) is
-  run_end ends.Adrift runs stray cause is = Adrift (stray tt) is
+      HasEndCause old.console.faults new.console.faults old.out.faults new.out.faults None (Some end) → new.files ≡ old.files →
+      new.err.faults ≡ old.err.faults → status ≡ status_of end → Answer
+  run_end ends.Halt runs stray cause files err is =
+      Done (record { files = ap (λ (f : FilesState). f.faults) files; console = cause.source_same (λ none q. cc); out = cause.sink_same (λ none q. cc); err = err }) is
+  run_end ends.Err runs stray cause files err is = Ended runs (omega (arith, is)) (omega (arith, is))
+  run_end ends.Bound runs stray cause files err is = Ended runs (omega (arith, is)) (omega (arith, is))
+  run_end ends.StackLimit runs stray cause files err is = Ended runs (omega (arith, is)) (omega (arith, is))
+  run_end ends.ReadFault runs stray cause files err is = ConsoleFailed (cause.read refl refl) is
+  run_end ends.WriteFault runs stray cause files err is = SinkFailed (inl (cause.write refl refl)) is
+  run_end (ends.OutOfMap at) runs stray cause files err is = OutOfMap (stray tt) is
+  run_end ends.Adrift runs stray cause files err is = Adrift (stray tt) is
 
   -- `run` and `soak` with the microprogram that ships
   module _ {M S : Type 0} (state : M → S) (m : Meaning S) (IsReady : ℕ → List ℕ → ℕ → S → Type 0) (IsShipped : List ℕ → Type 0) (entry : ℕ) (runs : Runs asks) where
     clocked : (bound : ℕ) (program : VerifiedView) → ClockedEnd state m IsReady IsShipped entry bound program old new status → Answer
     clocked bound program (clocking.NoRoom h) = short h
-    clocked bound program (clocking.Ran board run files console out flushed says) = on_err _ _ says (defined_end run.begins.finish.end runs)
+    clocked bound program (clocking.Ran board run files console out flushed says) =
+        on_err_well _ _ says (λ err. defined_end run.begins.finish.end runs (record { files = ap (λ (f : FilesState). f.faults) files; console = console; out = out; err = err }))
     clocked bound program (clocking.CutByRead board cut files rose same flushed says) = on_err _ _ says (ConsoleFailed rose)
     clocked bound program (clocking.CutByWrite board cut files same rose says) = on_err _ _ says (SinkFailed (inl rose))
 
     soaked : (seed size : ℕ) → SoakEnds state m IsReady IsShipped entry seed size old new status → Answer
     soaked seed size (soaking.NoRoom h) = short h
-    soaked seed size (soaking.Ran program is left board run h) = on_out _ _ h.says (defined_end run.begins.finish.end runs)
+    soaked seed size (soaking.Ran program is left board run h) = prints_on _ _ old.files refl h (defined_end run.begins.finish.end runs)
 
   -- the commands that clock any microprogram
   none_chosen : (machine : Machine) (name : Option (List ℕ)) → ((one : List ℕ) → name ≡ Some one → HasFileRead asks one) → NoneChosen machine name old new status → Answer
@@ -236,16 +259,16 @@ module _ (asks : Option Asked) (old new : OutsideView) (status : ℕ) where
   module _ {M S : Type 0} (state : M → S) (m : Meaning S) (runs : Runs asks) (bound : ℕ) (micro : Program) (program : VerifiedView) where
     ran_own : RunsOwn asks → IsOwnRun state m bound micro program old new status → Answer
     ran_own owns (own_run.NoRoom h) = short h
-    ran_own owns (own_run.Ran l first last end start ended run read write left says) = on_err _ _ says (run_end end runs (λ stray. owns) left.cause)
+    ran_own owns (own_run.Ran l first last end start ended kept run read write left says) = on_err_well _ _ says (run_end end runs (λ stray. owns) left.cause left.files)
 
     ran_traced : Stays asks old new state m bound micro program → (buses : Bool) → IsTraced state m bound buses micro program old new status → Answer
     ran_traced stays buses (traced.NoRoom h) = short h
-    ran_traced stays buses (traced.Whole l last cycles end lines run are says) = on_err _ _ says (run_end end runs (stays l last cycles end run) run.left.cause)
+    ran_traced stays buses (traced.Whole l last cycles end lines run are says) = on_err_well _ _ says (run_end end runs (stays l last cycles end run) run.left.cause run.left.files)
     ran_traced stays buses (traced.Stopped l last cycles lines run are front rose is) = SinkFailed (inr rose) is
 
     ran_profiled : Stays asks old new state m bound micro program → IsProfiled state m bound micro program old new status → Answer
     ran_profiled stays (profiled.NoRoom h) = short h
-    ran_profiled stays (profiled.Whole l last cycles end rows run are says) = on_err _ _ says (run_end end runs (stays l last cycles end run) run.left.cause)
+    ran_profiled stays (profiled.Whole l last cycles end rows run are says) = on_err_well _ _ says (run_end end runs (stays l last cycles end run) run.left.cause run.left.files)
     ran_profiled stays (profiled.Stopped l last cycles run got rose is) = SinkFailed (inr rose) is
 
   -- `debug`
@@ -261,27 +284,34 @@ module _ (asks : Option Asked) (old new : OutsideView) (status : ℕ) where
   debugged : {M S : Type 0} (state : M → S) (m : Meaning S) (bound : ℕ) (micro : Program) (program : VerifiedView) (input : List ℕ) →
       IsDebugged state m bound micro program input old new status → Answer
   debugged state m bound micro program input (debugging.NoRoom h) = short h
-  debugged state m bound micro program input (debugging.Left l first lines last start gone all same h) = behind_err last.seen.err _ _ gone.err h.says Done
+  debugged state m bound micro program input (debugging.Left l first lines last start gone all same h) =
+      behind_err_well last.seen.err _ _ gone.err h.says
+      (λ err. Done (record {
+        files = ap (λ (f : FilesState). f.faults) (h.files ∙ gone.files);
+        console = same;
+        out = ap (λ (o : SinkState). o.faults) h.out ∙ gone.out;
+        err = err;
+      }))
   debugged state m bound micro program input (debugging.Cut l first lines last start gone cut rose h) = behind_err last.seen.err _ _ gone.err h.says (ConsoleFailed rose)
   debugged state m bound micro program input (debugging.Stopped l first lines line mid start gone front cut same is) =
       SinkFailed (either_of mid.seen.out.faults old.out.faults mid.seen.err.faults old.err.faults new.out.faults new.err.faults gone.out gone.err cut.rose) is
 
   -- `reference`
   reported : (machine : Machine) (bound : ℕ) (program : VerifiedView) (r : PlainReport) → Runs asks →
-      IsReported machine bound program old new r → status ≡ status_of (texts.clocked_end r.end) → Answer
-  reported machine bound program r runs (reference.Ran h console out flushed) is =
-      defined_end h.run.finish.end runs (is ∙ ap (λ e. status_of (texts.clocked_end e)) h.end ∙ same_status h.run.finish.end)
+      IsReported machine bound program old new r → new.files ≡ old.files → new.err.faults ≡ old.err.faults → status ≡ status_of (texts.clocked_end r.end) → Answer
+  reported machine bound program r runs (reference.Ran h console out flushed) files err is =
+      defined_end h.run.finish.end runs (record { files = ap (λ (f : FilesState). f.faults) files; console = console; out = out; err = err }) (is ∙ ap (λ e. status_of (texts.clocked_end e)) h.end ∙ same_status h.run.finish.end)
     where
       same_status : (end : RunEnd) → status_of (texts.clocked_end (plain.reported_end end)) ≡ status_of (board_end end)
       same_status defined.Halt = refl
       same_status defined.Err = refl
       same_status defined.Bound = refl
       same_status defined.StackLimit = refl
-  reported machine bound program r runs (reference.CutByRead end cut rose same flushed) is = ConsoleFailed rose (is ∙ ap (λ e. status_of (texts.clocked_end e)) end)
-  reported machine bound program r runs (reference.CutByWrite end cut same rose) is = SinkFailed (inl rose) (is ∙ ap (λ e. status_of (texts.clocked_end e)) end)
+  reported machine bound program r runs (reference.CutByRead end cut rose same flushed) files err is = ConsoleFailed rose (is ∙ ap (λ e. status_of (texts.clocked_end e)) end)
+  reported machine bound program r runs (reference.CutByWrite end cut same rose) files err is = SinkFailed (inl rose) (is ∙ ap (λ e. status_of (texts.clocked_end e)) end)
 
   defined_run : (machine : Machine) (bound : ℕ) (program : VerifiedView) → Runs asks → IsReference asks → IsReferenceRun machine bound program old new status → Answer
-  defined_run machine bound program runs refers (reference.Reported r h files says) = on_err _ _ says (reported machine bound program r runs h)
+  defined_run machine bound program runs refers (reference.Reported r h files says) = on_err_well _ _ says (reported machine bound program r runs h files)
   defined_run machine bound program runs refers (reference.Short short console out flushed files says) = on_err _ _ says (ShortOfMemory refers)
 
 -- both machines end a run by the microprogram that ships as the definition does
@@ -350,8 +380,8 @@ module _ (shipped : ShippedEnd) (old new : OutsideView) (status : ℕ) where
   by_words (Some (Micro mal store machine)) h =
       over (Some (Micro mal store machine)) old new status _ _ _ mal refl h (λ value. written (Some (Micro mal store machine)) old new status _ _ _)
   by_words (Some (PrintMicro (Some file) machine)) h =
-      over (Some (PrintMicro (Some file) machine)) old new status _ _ _ file refl h (λ text h. on_out (Some (PrintMicro (Some file) machine)) old new status _ _ h.says Done)
-  by_words (Some (PrintMicro None machine)) h = on_out (Some (PrintMicro None machine)) old new status _ _ h.says Done
+      over (Some (PrintMicro (Some file) machine)) old new status _ _ _ file refl h (λ text h. prints_on (Some (PrintMicro (Some file) machine)) old new status _ _ old.files refl h Done)
+  by_words (Some (PrintMicro None machine)) h = prints_on (Some (PrintMicro None machine)) old new status _ _ old.files refl h Done
   by_words (Some (Soak seed size machine)) h = by_machine machine (Soak seed size machine) h
 
   pub answered : (asks : Option Asked) → CallEnds asks old new status → IsAnswer asks old new status

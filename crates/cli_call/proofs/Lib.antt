@@ -4,3 +4,4 @@ pub mod Agreeing
 pub mod Machines
 pub mod Answering
 pub mod Giving
+pub mod TwoCalls

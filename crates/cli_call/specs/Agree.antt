@@ -1,5 +1,5 @@
 -- That `run` and `reference` of one program agree: the same output, the same status, and the same first three lines of their reports. That `run` agrees on two machines: the same output, status, end and number of instructions.
-use Rattle.std.specs.Prelude.{◌≡◌, ◌≢◌, ℕ, List, ◌++◌, Some, codes}
+use Rattle.std.specs.Prelude.{◌≡◌, ◌≢◌, ◌⊎◌, ℕ, List, ◌++◌, Some, codes}
 use Rattle.mic_base.specs.Causes.{Rose}
 use Rattle.mic_clock.specs.declared.counts.Counts.{Counts}
 use Rattle.mic_clock.specs.declared.end.End.{End}
@@ -10,8 +10,9 @@ use Rattle.cli_outside.specs.Outside.{Got, OutsideView}
 use Rattle.mic_clock.specs.State.{state_line}
 use Rattle.cli_run_texts.specs.Report.{plain_head, report as report_of}
 
--- a run met no fault of its streams, and memory was not wanting
+-- a call met no fault of its files and its streams, and memory was not wanting
 pub record IsQuiet (old new : OutsideView) (status : ℕ) : Type 0 where
+  pub files : Rose old.files.faults new.files.faults → ⊥
   pub console : Rose old.console.faults new.console.faults → ⊥
   pub out : Rose old.out.faults new.out.faults → ⊥
   pub err : Rose old.err.faults new.err.faults → ⊥
@@ -40,3 +41,8 @@ pub record CallsEndAlike (old one other : OutsideView) (status status' : ℕ) : 
   pub registers' : Registers
   pub one_says : Got old.err.held (report_of end counts registers) one.err.held
   pub other_says : Got old.err.held (report_of end counts' registers') other.err.held
+
+-- Two calls over one file end alike: neither has a program, for the same cause, or both run one, of which this holds.
+pub data CallsAgree (Agree : Type 0) (status status' : ℕ) : Type 0 where
+  NoneHad : status ≡ status' → (status ≡ exits.refused) ⊎ (status ≡ exits.too_long) → CallsAgree Agree status status'
+  BothRan : Agree → CallsAgree Agree status status'

@@ -5,6 +5,7 @@ use Rattle.mic_base.specs.Files.{Tells, most_bytes}
 use Rattle.cli_words.specs.Words.{Asked, Assemble, ListOf, Verify, Run, RunOwn, Trace, Profile, Debug, Reference, Micro, PrintMicro, Soak}
 use Rattle.cli_outside.specs.Status as exits
 use Rattle.cli_outside.specs.Outside.{OutsideView}
+use Rattle.cli_outside.specs.Work.{IsRead}
 
 -- the words have this file read
 abbrev pub HasFileRead : Option Asked → List ℕ → Type 0
@@ -54,16 +55,23 @@ pub record IsOnlyTold (old new : OutsideView) : Type 0 where
   pub files : new.files ≡ old.files
   pub untouched : IsUntouched old new
 
+-- no count of faults rose
+pub record IsFaultless (old new : OutsideView) : Type 0 where
+  pub files : new.files.faults ≡ old.files.faults
+  pub console : new.console.faults ≡ old.console.faults
+  pub out : new.out.faults ≡ old.out.faults
+  pub err : new.err.faults ≡ old.err.faults
+
 -- A status is one of these, each with its cause. None but these comes.
 pub data IsAnswer (asks : Option Asked) (old new : OutsideView) (status : ℕ) : Type 0 where
-  -- 0: the command is done, or a run came to HALT
-  Done : status ≡ exits.done → IsAnswer asks old new status
+  -- 0: the command is done, or a run came to HALT, and nothing failed
+  Done : IsFaultless old new → status ≡ exits.done → IsAnswer asks old new status
   -- 1, 2, 3: a run came to ERR, to its bound, to the end of the stack
   Ended : Runs asks → exits.error ≤ status → status ≤ exits.stack_limit → IsAnswer asks old new status
   -- 64
   Misused : asks ≡ None → IsOnlyTold old new → status ≡ exits.usage → IsAnswer asks old new status
-  -- 65
-  Refused : IsOnlyTold old new → status ≡ exits.refused → IsAnswer asks old new status
+  -- 65: a file that the words have read has these bytes, and is refused for a reason
+  Refused : (name bytes : List ℕ) → HasFileRead asks name → IsRead name bytes old → IsOnlyTold old new → status ≡ exits.refused → IsAnswer asks old new status
   -- 66
   FileFailed : Rose old.files.faults new.files.faults → IsUntouched old new → status ≡ exits.file → IsAnswer asks old new status
   -- 67

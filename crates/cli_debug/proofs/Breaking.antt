@@ -16,7 +16,7 @@ use Rattle.mic_debugger.specs.declared.until.Until.{Until}
 use Rattle.mic_debugger.specs.Book.{Book, IsBook}
 use Rattle.mic_debugger.specs.Clocking.{IsDone, IsGoing, after, printed, turn_lines}
 use Rattle.mic_debugger.specs.Obeys.{IsBrokenIn, IsSaidInPart, plan_in}
-use Rattle.mic_debugger.specs.Session.{HasReadCause, IsFrontOf}
+use Rattle.mic_debugger.specs.Session.{HasReadCause, IsFrontOf, StandsAfter}
 use Rattle.mic_debugger.specs.View.{SessionView}
 use Rattle.mic_base.specs.Causes.{Rose}
 use Rattle.mic_base.specs.Streams.{Holds}
@@ -183,11 +183,11 @@ module _ {M State : Type 0} (state : M → State) (m : Meaning State) (book : Bo
 
   stayed : (plan : Plan) → IsSaidInPart state m book (Some left) held said v (Some left') held' said' board' plan → Stayed plan
   stayed plan part =
-      let at = leads_on state m book left left' held held' v board' [] s here (λ r rest. IsFrontOf held' r.world.given) part.0 in (
+      let at = leads_on state m book left left' held held' v board' [] s here (λ r rest. StandsAfter state board' r × IsFrontOf held' r.world.given) part.0 in (
         shown_at m book v.board.store.words v.listing.memory v.bound s plan,
         s.run,
         (refl, refl),
-        at.1,
+        at.1.1,
         subst (λ (t : List ℕ). GotInPart said t said') (shown_same state m book left left' held held' v board' [] s here plan) part.1,
       )
 

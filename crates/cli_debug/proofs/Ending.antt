@@ -1,5 +1,5 @@
 -- How a session that is over ends its command.
-use Rattle.std.proofs.Common.{◌≡◌, ◌≢◌, ◌∙◌, ◌∷◌, ◌++◌, ℕ, List, refl, sym, subst}
+use Rattle.std.proofs.Common.{◌≡◌, ◌≢◌, ◌∙◌, ◌∷◌, ◌++◌, ℕ, List, Some, refl, sym, ap, subst}
 use Rattle.std.proofs.lemmas.List.{append-nil}
 use Rattle.mic_clock.specs.Meaning.{Meaning}
 use Rattle.ijvm_paths.specs.Accepted.{VerifiedView}
@@ -11,7 +11,7 @@ use Rattle.cli_outside.specs.Outside.{OutsideView, TellsOnErr}
 use Rattle.cli_debug.specs.declared.lines.Step.{Step}
 use Rattle.cli_debug.specs.declared.lines.Step.TheVariants as steps
 use Rattle.cli_debug.specs.Stand.{lines_of, most_lines}
-use Rattle.cli_debug.specs.Goes.{ConsoleFailed, Goes, IsCutIn, On, Over, Place, SinkFailed, place}
+use Rattle.cli_debug.specs.Goes.{ConsoleFailed, Goes, IsCutIn, IsReadOut, On, Over, Place, SinkFailed, place}
 use Rattle.cli_debug.specs.Debugged.{Cut, IsDebugged, IsStart, Left, Stopped, report_in}
 use Rattle.cli_debug.proofs.Going.{told_as}
 
@@ -23,11 +23,13 @@ module _ {M State : Type 0} {state : M → State} {m : Meaning State} {bound : �
       IsDebugged state m bound micro program input old new status
   left_by _ p q (On lines done quiet told) tells =
       Left l first lines last start done
-      (told_as old.console.left _ _ told (λ bytes t. subst (λ (k : ℕ). lines ≡ lines_of k most_lines bytes) start.begun.memory (sym (t.2 ∙ append-nil lines))))
+      (rw tells.console (told_as old.console.left _ _ told
+      (λ bytes t. subst (λ (k : ℕ). IsReadOut k most_lines bytes lines last.seen.console.left) start.begun.memory
+      (record { whole = sym (t.2.whole ∙ append-nil lines); left_is = t.1 ∙ ap Some (sym t.2.rest_is) }))))
       (rw tells.console quiet) tells
   left_by _ p q (Over lines done quiet told) tells =
       Left l first lines last start done
-      (told_as old.console.left _ _ told (λ bytes t. subst (λ (k : ℕ). lines ≡ lines_of k most_lines bytes) start.begun.memory t))
+      (rw tells.console (told_as old.console.left _ _ told (λ bytes t. subst (λ (k : ℕ). IsReadOut k most_lines bytes lines last.seen.console.left) start.begun.memory t)))
       (rw tells.console quiet) tells
   left_by _ p q (ConsoleFailed lines done rose told) tells = absurd (p refl)
   left_by _ p q (SinkFailed lines line mid done quiet told cut) tells = absurd (q refl)

@@ -132,7 +132,9 @@ not_empty b line = grind (arith, nat_tests)
 pub read_at_end : (E : Type 0) (old left left' : Option (List ℕ)) (line : List ℕ) → left' ≡ left → IfSome left (λ l. l ≡ []) → Reading old line left →
     ReadsLine {E = E} old line (Ok (if length line == 0 then reads.Nothing else reads.Last)) left'
 read_at_end E None left left' line same none r = tt
-read_at_end E (Some told) left left' [] same none r = none_told told [] refl (subst (λ (x : List ℕ). IsUnderway told [] x) (nothing_left left r.0 r.1 none) r.2)
+read_at_end E (Some told) left left' [] same none r =
+    let empty : r.0 ≡ [] = nothing_left left r.0 r.1 none in
+    (none_told told [] refl (subst (λ (x : List ℕ). IsUnderway told [] x) empty r.2), same ∙ r.1 ∙ ap Some empty)
 read_at_end E (Some told) left left' (b ∷ line) same none r =
     let empty : r.0 ≡ [] = nothing_left left r.0 r.1 none in
     let last = first_last told (b ∷ line) (omega arith) (subst (λ (x : List ℕ). IsUnderway told (b ∷ line) x) empty r.2) in

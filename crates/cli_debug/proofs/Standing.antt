@@ -6,6 +6,8 @@ use Rattle.mic_base.specs.Causes.{Rose}
 use Rattle.console_port.specs.Console.{Untaken}
 use Rattle.mic_clock.specs.declared.end.End.{End}
 use Rattle.mic_clock.specs.declared.end.End.TheVariants as ends
+use Rattle.mic_base.specs.Streams.{IsFlushed}
+use Rattle.console_port.specs.Console.{StaysFlushed}
 use Rattle.mic_clock.specs.Meaning.{Meaning}
 use Rattle.mic_clock.specs.Run.{MicroRun}
 use Rattle.mic_clock.specs.View.{BoardView}
@@ -193,9 +195,10 @@ leads_by state m left left' o o' v v' line (Err e) obeys fault input breaks watc
 -- so it is done whole
 pub done_by : {M State T E : Type 0} (state : M → State) (m : Meaning State) (old new : Place M) (line : List ℕ) (r : Result T E) →
     OnOk r (LeadOn state m (line ∷ []) old new) → OnOk r (new.session.board.bus.console.kept ≡ []) →
+    OnOk r (StaysFlushed old.seen.out.held old.seen.out.passed new.seen.out.held new.seen.out.passed) → OnOk r (IsFlushed new.seen.err.held new.seen.err.passed) →
     (new.session.listing ≡ old.session.listing) × (new.session.bound ≡ old.session.bound) → new.session.board.store ≡ old.session.board.store →
     new.seen.files ≡ old.seen.files → OnOk r ((new.seen.out.faults ≡ old.seen.out.faults) × (new.seen.err.faults ≡ old.seen.err.faults)) →
     OnOk r (Gone state m (line ∷ []) old new)
-done_by state m old new line (Ok reply) led kept same store files quiet =
-    record { led = led; listing = same.0; bound = same.1; store = store; kept = kept; files = files; out = quiet.0; err = quiet.1 }
-done_by state m old new line (Err e) led kept same store files quiet = tt
+done_by state m old new line (Ok reply) led kept flushed passed same store files quiet =
+    record { led = led; listing = same.0; bound = same.1; store = store; kept = kept; flushed_out = flushed; flushed_err = λ h. passed; files = files; out = quiet.0; err = quiet.1 }
+done_by state m old new line (Err e) led kept flushed passed same store files quiet = tt

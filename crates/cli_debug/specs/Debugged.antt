@@ -12,7 +12,7 @@ use Rattle.cli_outside.specs.Outside.{OutsideView, TellsOnErr}
 use Rattle.cli_run_texts.specs.Report.{left_report}
 use Rattle.cli_boards.specs.Runs.{IsFirstBoard}
 use Rattle.cli_debug.specs.Stand.{lines_of, most_lines}
-use Rattle.cli_debug.specs.Goes.{Gone, IsCutIn, IsCutShort, Place, place}
+use Rattle.cli_debug.specs.Goes.{Gone, IsCutIn, IsCutShort, IsReadOut, Place, place}
 
 -- what a session has before its first line
 pub record IsBegun {M : Type 0} (micro : Program) (l : Loaded) (program : VerifiedView) (bound : ℕ) (v : SessionView M) : Type 0 where
@@ -37,10 +37,10 @@ module _ {M State : Type 0} (state : M → State) (m : Meaning State) where
   pub data IsDebugged (bound : ℕ) (micro : Program) (program : VerifiedView) (input : List ℕ) (old new : OutsideView) (status : ℕ) : Type 0 where
     -- memory was wanting before the first line
     NoRoom : TellsOnErr out_of_memory exits.memory old new status → IsDebugged bound micro program input old new status
-    -- the lines of the console were done, and then it was reported where the session stands
+    -- the lines of the console were done, none after them was asked for, and then it was reported where the session stands
     Left : (l : Loaded) (first : SessionView M) (lines : List (List ℕ)) (last : Place M) →
         IsStart bound micro l program first → Gone state m lines (place first input old) last →
-        IfSome old.console.left (λ bytes. lines ≡ lines_of program.map.stack_end most_lines bytes) → new.console.faults ≡ old.console.faults →
+        IfSome old.console.left (λ bytes. IsReadOut program.map.stack_end most_lines bytes lines new.console.left) → new.console.faults ≡ old.console.faults →
         TellsOnErr (report_in last.session) exits.done last.seen new status → IsDebugged bound micro program input old new status
     -- the console failed: so it was reported behind the whole lines before that
     Cut : (l : Loaded) (first : SessionView M) (lines : List (List ℕ)) (last : Place M) →

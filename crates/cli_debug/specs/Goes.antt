@@ -1,7 +1,8 @@
 -- How a session goes on line by line, between the console, the input and the two sinks.
-use Rattle.std.specs.Prelude.{◌≡◌, ◌⊎◌, ◌<◌, ◌-◌, ℕ, Bool, true, false, List, [], ◌∷◌, ◌++◌, length, Option, Some, IfSome}
+use Rattle.std.specs.Prelude.{◌≡◌, ◌⊎◌, ◌<◌, ◌+◌, ◌-◌, All, ℕ, Bool, true, false, List, [], ◌∷◌, ◌++◌, length, Option, Some, IfSome}
 use Rattle.mic_base.specs.Causes.{Rose}
 use Rattle.mic_base.specs.Streams.{Holds}
+use Rattle.console_port.specs.Console.{StaysFlushed}
 use Rattle.mic_clock.specs.Meaning.{Meaning}
 use Rattle.mic_debugger.specs.declared.reply.Reply.{Reply}
 use Rattle.mic_debugger.specs.declared.reply.Reply.TheVariants as replies
@@ -13,7 +14,7 @@ use Rattle.cli_debug.specs.declared.line.Read.TheVariants as reads
 use Rattle.cli_debug.specs.declared.lines.Step.{Step}
 use Rattle.cli_debug.specs.declared.lines.Step.TheVariants as steps
 use Rattle.cli_debug.specs.Told.{line_in}
-use Rattle.cli_debug.specs.Stand.{DoesAll, IsBrokenOff, Stand, StandsAt, lines_of}
+use Rattle.cli_debug.specs.Stand.{DoesAll, IsBrokenOff, Stand, StandsAt, is_quit, left_after, lines_of}
 
 -- a session, and what it stands between: what the input has left, and what is seen of the outside
 pub record Place (M : Type 0) : Type 0 where
@@ -38,9 +39,27 @@ abbrev pub step_behind : Read → Bool → Step
 step_behind read true = steps.Over
 step_behind read false = step_of read
 
--- a failing console cuts the line behind these bytes of it; before it, these lines are whole
+-- none of these lines quits, and so many more may follow of at most `most`
+pub record MayGoOn (memory most more : ℕ) (lines : List (List ℕ)) : Type 0 where
+  pub count : length lines + more ≡ most
+  pub unquit : All (λ line. is_quit memory line ≡ false) lines
+
+-- these lines were read of some bytes, and more may follow of the rest
+pub record IsReadOn (memory most more : ℕ) (bytes : List ℕ) (lines : List (List ℕ)) (rest : List ℕ) : Type 0 where
+  pub open_end : MayGoOn memory most more lines
+  pub whole : lines_of memory most bytes ≡ lines ++ lines_of memory more rest
+  pub rest_is : left_after memory most bytes ≡ left_after memory more rest
+
+-- these lines are all that are done of some bytes, and nothing after them was taken
+pub record IsReadOut (memory most : ℕ) (bytes : List ℕ) (lines : List (List ℕ)) (left : Option (List ℕ)) : Type 0 where
+  pub whole : lines ≡ lines_of memory most bytes
+  pub left_is : left ≡ Some (left_after memory most bytes)
+
+-- a failing console cuts the line behind these bytes of it; before it, these lines are whole, and a line may follow them
 pub record IsCutIn (memory most : ℕ) (bytes : List ℕ) (lines : List (List ℕ)) (left : Option (List ℕ)) : Type 0 where
   pub before : ℕ
+  pub some : 0 < before
+  pub open_end : MayGoOn memory most before lines
   pub cut : List ℕ
   pub rest : List ℕ
   pub left_is : left ≡ Some rest
@@ -65,13 +84,15 @@ module _ {M State : Type 0} (state : M → State) (m : Meaning State) where
       (s : Stand State) → StandsAt state (Some old.input) old.seen.out.held old.session s →
       IsBrokenOff m book old.session.board.store.words old.session.listing.memory old.session.bound line s new.out.held old.seen.err.held new.err.held
 
-  -- these lines were done whole: no sink failed, and nothing waits for `out`
+  -- these lines were done whole: no sink failed, nothing waits for `out`, and both sinks have passed on all that they hold
   pub record Gone (lines : List (List ℕ)) (old new : Place M) : Type 0 where
     pub led : LeadOn lines old new
     pub listing : new.session.listing ≡ old.session.listing
     pub bound : new.session.bound ≡ old.session.bound
     pub store : new.session.board.store ≡ old.session.board.store
     pub kept : new.session.board.bus.console.kept ≡ []
+    pub flushed_out : StaysFlushed old.seen.out.held old.seen.out.passed new.seen.out.held new.seen.out.passed
+    pub flushed_err : StaysFlushed old.seen.err.held old.seen.err.passed new.seen.err.held new.seen.err.passed
     pub files : new.seen.files ≡ old.seen.files
     pub out : new.seen.out.faults ≡ old.seen.out.faults
     pub err : new.seen.err.faults ≡ old.seen.err.faults
@@ -88,9 +109,9 @@ module _ {M State : Type 0} (state : M → State) (m : Meaning State) where
   pub data Goes (most more : ℕ) (old new : Place M) : Step → Type 0 where
     On : (lines : List (List ℕ)) → Gone lines old new → new.seen.console.faults ≡ old.seen.console.faults →
         IfSome old.seen.console.left (λ bytes. (rest : List ℕ) × (new.seen.console.left ≡ Some rest)
-        × (lines_of old.session.listing.memory most bytes ≡ lines ++ lines_of old.session.listing.memory more rest)) → Goes most more old new steps.On
+        × IsReadOn old.session.listing.memory most more bytes lines rest) → Goes most more old new steps.On
     Over : (lines : List (List ℕ)) → Gone lines old new → new.seen.console.faults ≡ old.seen.console.faults →
-        IfSome old.seen.console.left (λ bytes. lines ≡ lines_of old.session.listing.memory most bytes) → Goes most more old new steps.Over
+        IfSome old.seen.console.left (λ bytes. IsReadOut old.session.listing.memory most bytes lines new.seen.console.left) → Goes most more old new steps.Over
     ConsoleFailed : (lines : List (List ℕ)) → Gone lines old new → Rose old.seen.console.faults new.seen.console.faults →
         IfSome old.seen.console.left (λ bytes. IsCutIn old.session.listing.memory most bytes lines new.seen.console.left) →
         Goes most more old new steps.ConsoleFailed

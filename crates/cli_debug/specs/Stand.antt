@@ -51,6 +51,13 @@ lines_of memory (suc n) (b ∷ bytes) =
     line_in 256 (b ∷ bytes)
     ∷ (if is_quit memory (line_in 256 (b ∷ bytes)) then [] else lines_of memory n (behind_line 256 (b ∷ bytes)))
 
+-- what is left of these bytes after those lines
+abbrev pub left_after : ℕ → ℕ → List ℕ → List ℕ
+left_after memory zero bytes = bytes
+left_after memory (suc n) [] = []
+left_after memory (suc n) (b ∷ bytes) =
+    if is_quit memory (line_in 256 (b ∷ bytes)) then behind_line 256 (b ∷ bytes) else left_after memory n (behind_line 256 (b ∷ bytes))
+
 -- the most lines of a session
 abbrev pub most_lines : ℕ
 most_lines = 65536

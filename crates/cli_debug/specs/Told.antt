@@ -32,7 +32,7 @@ pub record IsCutLine (told line : List ℕ) (left : Option (List ℕ)) : Type 0 
 abbrev pub ReadsLineOf : {E : Type 0} → List ℕ → List ℕ → Result Read E → Option (List ℕ) → Type 0
 ReadsLineOf told line (Ok reads.Line) left = IsFirstLine told line left
 ReadsLineOf told line (Ok reads.Last) left = IsFirstLine told line left × (behind_line 256 told ≡ [])
-ReadsLineOf told line (Ok reads.Nothing) left = told ≡ []
+ReadsLineOf told line (Ok reads.Nothing) left = (told ≡ []) × (left ≡ Some [])
 ReadsLineOf told line (Err e) left = IsCutLine told line left
 
 -- what came of reading a line, where the console tells its bytes

@@ -1,3 +1,5 @@
 pub mod Names
+pub mod Ordered
 pub mod Listed
 pub mod Printed
+pub mod Counting

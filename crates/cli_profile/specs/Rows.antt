@@ -1,10 +1,10 @@
 -- The rows of a profile: one for each instruction, in the table's order, and one for what is none.
-use Rattle.std.specs.Prelude.{◌≡◌, ℕ, List, Option, Some, None, codes, length, option_map, slice_get, unwrap_or}
+use Prim.Native.String.{String as Literal}
+use Rattle.std.specs.Prelude.{◌≡◌, ℕ, List, [], ◌∷◌, Option, Some, None, codes, length, map, slice_get, unwrap_or}
 use Rattle.std.specs.List.{position}
 use Rattle.std.specs.Str.{bytes_eq}
 use Rattle.ijvm_image.specs.Image.{ImageView}
 use Rattle.ijvm_instr.specs.declared.instr.Instr.{Instr}
-use Rattle.ijvm_instr.specs.declared.instr.TheConstants.{INSTRUCTIONS}
 use Rattle.ijvm_instr.specs.Instructions.{name_of}
 use Rattle.cli_cycle_texts.specs.Naming.{IsReached}
 
@@ -12,17 +12,26 @@ use Rattle.cli_cycle_texts.specs.Naming.{IsReached}
 abbrev pub other : ℕ
 other = 26
 
--- the place of the first instruction with that name
-abbrev pub place_in : List Instr → List ℕ → Option ℕ
-place_in table text = position (λ i. bytes_eq (name_of i) text) table
+-- the names of the rows, in the order of their lines
+abbrev row_literals : List Literal
+row_literals =
+    "NOP" ∷ "BIPUSH" ∷ "LDC_W" ∷ "ILOAD" ∷ "ISTORE" ∷ "POP" ∷ "DUP" ∷ "SWAP" ∷ "IADD" ∷ "ISUB" ∷ "IAND" ∷ "IINC" ∷ "IFEQ" ∷ "IFLT" ∷ "IF_ICMPEQ" ∷ "GOTO"
+    ∷ "IRETURN" ∷ "IOR" ∷ "INVOKEVIRTUAL" ∷ "WIDE ILOAD" ∷ "WIDE ISTORE" ∷ "WIDE IINC" ∷ "IN" ∷ "OUT" ∷ "ERR" ∷ "HALT" ∷ []
+
+abbrev pub row_names : List (List ℕ)
+row_names = map codes row_literals
+
+-- the place of a name among them
+abbrev pub place_of : List ℕ → Option ℕ
+place_of text = position (λ name. bytes_eq name text) row_names
 
 -- the place of an instruction's row
 abbrev pub row_number : Instr → ℕ
-row_number i = unwrap_or (place_in INSTRUCTIONS (name_of i)) other
+row_number i = unwrap_or (place_of (name_of i)) other
 
 -- the name of a row
 abbrev pub row_name : ℕ → List ℕ
-row_name row = unwrap_or (option_map name_of (slice_get INSTRUCTIONS row)) (codes "?")
+row_name row = unwrap_or (slice_get row_names row) (codes "?")
 
 abbrev pub row_in : Option Instr → ℕ
 row_in (Some i) = row_number i

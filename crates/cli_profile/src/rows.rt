@@ -1,9 +1,11 @@
 //! The rows of a profile: one for each instruction, in the table's order, and one for what is none.
 
 ghost use Rattle.std.specs.Prelude.{◌≡◌, ◌≤◌, ◌<◌, length, slice_get, IfOk, IfSome};
+ghost use Rattle.std.specs.List.{position};
+ghost use Rattle.std.specs.Str.{bytes_eq};
 ghost use Rattle.ijvm_instr.specs.declared.instr.Instr.{Instr};
 ghost use Rattle.ijvm_instr.specs.Instructions.{name_of};
-ghost use Rattle.cli_profile.specs.Rows.{AreRowsUpTo, IsRowAt, place_in, row_name, row_number};
+ghost use Rattle.cli_profile.specs.Rows.{AreRowsUpTo, IsRowAt, row_name, row_number};
 
 use cli_cycle_texts::reached_at;
 use ijvm_instr::{INSTRUCTIONS, Instr, name};
@@ -18,7 +20,7 @@ pub const OTHER: u8 = 26;
 
 /// The place of the first instruction with that name, from 0.
 fn place_in(table: &[Instr], text: &str) -> Option<usize>
-    ensures is { result ≡ place_in table.now text.now }
+    ensures is { result ≡ position (λ i. bytes_eq (name_of i) text.now) table.now }
     ensures inside { IfSome result (λ place. place < length table.now) }
 {
     table.iter().position(|instr| name(*instr) == text)

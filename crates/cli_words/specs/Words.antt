@@ -12,7 +12,6 @@ use Rattle.clap.specs.Matches.{first_value, found_of}
 use Rattle.clap.specs.declared.parser.matches.ArgMatches.{ArgMatches}
 use Rattle.cli_words.specs.Reading.{Entry, Text, reads, text_in}
 use Rattle.cli_words.specs.Table.{form_for, name_for}
-use Rattle.cli_words.specs.declared.options.TheConstants.{DEFAULT_BOUND, MOST_BLOCKS, MOST_CYCLES, MOST_SEED}
 use Rattle.cli_words.specs.declared.error.WordsError.{WordsError}
 use Rattle.cli_words.specs.declared.error.WordsError.TheVariants as error
 use Rattle.cli_words.specs.declared.table.CommandName.{CommandName}
@@ -60,19 +59,37 @@ asked (requests.Micro mal store machine) = Micro mal.now store.now machine
 asked (requests.PrintMicro file machine) = PrintMicro (option_map (λ file. file.now) file) machine
 asked (requests.Soak seed size machine) = Soak seed size machine
 
+-- The numbers of the command line.
+
+-- the bound of a run, in cycles, where none is given
+abbrev pub default_bound : ℕ
+default_bound = 10000000
+
+-- the greatest bound that may be given
+abbrev pub most_cycles : ℕ
+most_cycles = 1000000000
+
+-- the greatest seed of a generated program
+abbrev pub most_seed : ℕ
+most_seed = 4294967295
+
+-- the most blocks of a generated program
+abbrev pub most_blocks : ℕ
+most_blocks = 9000
+
 -- one of the two maps
 abbrev pub HasMap : MemoryMap → Type 0
 HasMap map = IsMap map.stack_end
 
 abbrev pub HasJobLimits : Job → Type 0
-HasJobLimits job = (job.bound ≤ MOST_CYCLES) × HasMap job.map
+HasJobLimits job = (job.bound ≤ most_cycles) × HasMap job.map
 
 -- the map of a request is one of the two, and its bound or its size at most the greatest
 abbrev pub HasLimits : Request → Type 0
 HasLimits (requests.List file map) = HasMap map
 HasLimits (requests.Verify file map) = HasMap map
 HasLimits (requests.Run job mode) = HasJobLimits job
-HasLimits (requests.Soak seed size machine) = size ≤ MOST_BLOCKS
+HasLimits (requests.Soak seed size machine) = size ≤ most_blocks
 HasLimits request = Unit {0}
 
 -- The value of an option, where it is given, and what holds where it is not.
@@ -91,8 +108,8 @@ number_within least greatest (Ok (pos n)) = if nat_le least n && nat_le n greate
 number_within least greatest _ = None
 
 abbrev pub bound_in : Option Text → Option ℕ
-bound_in None = Some DEFAULT_BOUND
-bound_in (Some word) = number_within 0 MOST_CYCLES (number_of word)
+bound_in None = Some default_bound
+bound_in (Some word) = number_within 0 most_cycles (number_of word)
 
 abbrev pub machine_of : List Entry → Option Machine
 machine_of given = machine_in (text_in (codes "machine") given)
@@ -103,10 +120,10 @@ map_of given = map_in (text_in (codes "map") given)
 -- The numbers among the plain words.
 
 abbrev pub seed_in : Text → Option ℕ
-seed_in word = number_within 0 MOST_SEED (number_of word)
+seed_in word = number_within 0 most_seed (number_of word)
 
 abbrev pub size_in : Text → Option ℕ
-size_in word = number_within 1 MOST_BLOCKS (number_of word)
+size_in word = number_within 1 most_blocks (number_of word)
 
 -- A flag reads as `true` where it is given, and as `false` where it is not.
 

@@ -3,7 +3,7 @@
 ghost use Rattle.std.specs.Prelude.{◌≡◌, ◌≤◌, IfSome};
 ghost use Rattle.std.specs.Option.{option_map};
 ghost use Rattle.mic_base.specs.Number.{number_of};
-ghost use Rattle.cli_words.specs.Words.{HasMap, bound_in, is_true, machine_in, map_in, number_within, seed_in, size_in};
+ghost use Rattle.cli_words.specs.Words.{HasMap, bound_in, is_true, machine_in, map_in, most_blocks, most_cycles, number_within, seed_in, size_in};
 
 use console_port::MemoryMap;
 use machine_words::Machine;
@@ -47,7 +47,7 @@ fn number_within(word: &str, least: u64, greatest: u64) -> Option<u64>
 
 pub(crate) fn bound_in(value: Option<&str>) -> Option<u64>
     ensures value { result ≡ bound_in (option_map (λ value. value.now) value.entry) }
-    ensures small { IfSome result (λ n. n ≤ MOST_CYCLES) }
+    ensures small { IfSome result (λ n. n ≤ most_cycles) }
 {
     let Some(word) = value else {
         return Some(DEFAULT_BOUND);
@@ -64,7 +64,7 @@ pub(crate) fn seed_in(word: &str) -> Option<u32>
 
 pub(crate) fn size_in(word: &str) -> Option<u16>
     ensures value { result ≡ size_in word.now }
-    ensures small { IfSome result (λ n. n ≤ MOST_BLOCKS) }
+    ensures small { IfSome result (λ n. n ≤ most_blocks) }
 {
     let size = number_within(word, 1, u64::from(MOST_BLOCKS))?;
     Some(size as u16)

@@ -2,11 +2,13 @@
 #![tactic(auto)]
 
 pub mod image;
+pub mod laws;
 pub mod method;
 pub mod reader;
 pub mod writer;
 
 pub use image::{Image, ImageError};
+pub use laws::a_file_says_one_thing;
 pub use method::Method;
 pub use reader::read_image;
 pub use writer::write_image;

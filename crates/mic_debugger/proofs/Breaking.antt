@@ -1,5 +1,5 @@
 -- Where a failing sink breaks a line off.
-use Rattle.std.proofs.Common.{◌≡◌, ◌≢◌, ◌⊎◌, inl, inr, zero, suc, ℕ, ◌+◌, ◌-◌, ◌<◌, ◌≤◌, List, ◌++◌, take, drop, append_assoc, Bool, true, false, Option, Some, None, IsSome, refl, sym, ◌∙◌, ap, subst, arith, Result, Ok, Err}
+use Rattle.std.proofs.Common.{◌≡◌, ◌≢◌, ◌⊎◌, inl, inr, zero, suc, ℕ, ◌+◌, ◌-◌, ◌<◌, List, ◌++◌, take, drop, append_assoc, Option, Some, None, IsSome, refl, sym, ◌∙◌, ap, subst, arith, Result, Ok, Err}
 use Rattle.std.specs.Prelude.{OnOk, OnErr, IfErr}
 use Rattle.std.proofs.Math.ListN.{take-append-drop}
 use Rattle.console_port.specs.Console.{Given, IsLost}
@@ -10,7 +10,7 @@ use Rattle.mic_clock.specs.declared.counts.Counts.{Counts}
 use Rattle.mic_clock.specs.declared.end.End.{End}
 use Rattle.mic_clock.specs.declared.end.End.TheVariants as ends
 use Rattle.mic_clock.specs.Meaning.{Meaning}
-use Rattle.mic_clock.specs.Run.{MicroRun, number_of, turns}
+use Rattle.mic_clock.specs.Run.{MicroRun, bounded, turn, turns, word_at}
 use Rattle.mic_clock.specs.View.{BoardView}
 use Rattle.mic_clock.specs.Board.{ShowsRun, ShowsAs, IsLedTo, IsTurned, RunIsCutByWrite, NoFault, EndsUncounted}
 use Rattle.cli_outside.specs.Outside.{Got, GotInPart}
@@ -18,14 +18,14 @@ use Rattle.mic_debugger.specs.declared.plan.Plan.{Plan}
 use Rattle.mic_debugger.specs.declared.plan.Plan.TheVariants as plans
 use Rattle.mic_debugger.specs.declared.until.Until.{Until}
 use Rattle.mic_debugger.specs.Book.{Book}
-use Rattle.mic_debugger.specs.Clocking.{after, comes, counted_turn, passed, printed, turn_lines}
+use Rattle.mic_debugger.specs.Clocking.{after, passed, printed, turn_lines, turn_text}
 use Rattle.mic_debugger.specs.Obeys.{IsBrokenIn, IsSaid, IsSaidInPart, Obeys}
-use Rattle.mic_debugger.specs.Session.{IsBroken, IsFrontOf, IsUnderway, text_between}
+use Rattle.mic_debugger.specs.Session.{IsBroken, IsFrontOf, IsUnderway, StandsAfter, text_between}
 use Rattle.mic_debugger.specs.View.{SessionView}
 use Rattle.mic_debugger.proofs.Flushing.{led_on}
-use Rattle.mic_debugger.proofs.Putting.{puts_first, puts_passed, puts_then}
+use Rattle.mic_debugger.proofs.Putting.{puts_first, puts_nothing, puts_passed, puts_then}
 use Rattle.mic_debugger.proofs.Uncounted.{uncounted}
-use Rattle.mic_debugger.proofs.Underway.{after-suc, going_more, underway_more}
+use Rattle.mic_debugger.proofs.Underway.{after-suc, going_more}
 
 -- ---- ends
 
@@ -53,14 +53,6 @@ write_or_not (Some ends.WriteFault) = inl refl
 write_or_not (Some (ends.OutOfMap at)) = inr (λ p. cc)
 write_or_not (Some ends.Adrift) = inr (λ p. cc)
 
-one_at_most : (breaks : List ℕ) (u : Until) (c : Counts) (memory : List ℕ) (e : Option End) → counted_turn breaks u c memory e ≤ 1
-one_at_most breaks u c memory (Some e) = omega arith
-one_at_most breaks u c memory None = by (comes breaks u c memory)
-  where
-    by : (b : Bool) → number_of b ≤ 1
-    by true = omega arith
-    by false = omega arith
-
 -- ---- fronts
 
 -- what a sink holds that shows a run is a front of what was given
@@ -70,6 +62,11 @@ front_given (Some h) kept given told = (kept, told)
 
 front_shown : (left held : Option (List ℕ)) {M State : Type 0} (state : M → State) (board : BoardView M) (r : MicroRun State) → ShowsRun state left held board r → IsFrontOf held r.world.given
 front_shown left held state board r shows = front_given held board.bus.console.kept r.world.given shows.world.given
+
+-- a board stands where it shows a run
+pub stands_shown : (left held : Option (List ℕ)) {M State : Type 0} (state : M → State) (board : BoardView M) (r : MicroRun State) → ShowsRun state left held board r → StandsAfter state board r
+stands_shown left held state board r shows =
+    record { its_state = shows.its_state; memory = shows.world.words; counts = shows.counts; its_end = inl shows.its_end }
 
 front_lost : (held held' : Option (List ℕ)) (kept kept' given : List ℕ) → IsLost held kept held' kept' → Given held kept given → IsFrontOf held' given
 front_lost None held' kept kept' given lost told = subst (λ (o : Option (List ℕ)). IsFrontOf o given) (sym lost.prefix.1) tt
@@ -81,6 +78,36 @@ front_lost (Some h) held' kept kept' given lost told =
 pub in_part : (said said' : Option (List ℕ)) (text : List ℕ) → Got said text said' → GotInPart said text said'
 in_part said said' text prints = puts_passed {E = ℕ} said said' said' text (Err 0) prints refl
 
+-- what was put whole is one part and then another
+got_split : (said said' : Option (List ℕ)) (a b : List ℕ) → Got said (a ++ b) said' → (mid : Option (List ℕ)) × Got said a mid × Got mid b said'
+got_split None said' a b got = (None, refl, got)
+got_split (Some h) said' a b got = (Some (h ++ a), refl, got ∙ ap Some (sym (append_assoc h a b)))
+
+-- a sink that stays got none of a text
+got_none : (said said' : Option (List ℕ)) (text : List ℕ) → said' ≡ said → GotInPart said text said'
+got_none said said' text same = (0, same ∙ puts_nothing said)
+
+module _ {State : Type 0} (m : Meaning State) (book : Book) (words breaks : List ℕ) (bound : ℕ) (u : Until) (r : MicroRun State) (said said' : Option (List ℕ)) where
+  -- `err` got the lines of k turns, and of those to n what it got
+  abbrev Told : ℕ → ℕ → Type 0
+  Told k n = (mid : Option (List ℕ)) × Got said (printed m book words breaks bound u k r) mid
+      × GotInPart mid (turn_lines m book words breaks bound u (after m book words breaks bound u k r) (after m book words breaks bound u n r)) said'
+
+  -- it got all
+  told_all : (k n : ℕ) → suc k ≡ n → Got said (printed m book words breaks bound u n r) said' → Told k n
+  told_all k n e got = subst (λ (j : ℕ). Got said (printed m book words breaks bound u j r) said' → Told k j) e told_suc got
+    where
+      told_suc : Got said (printed m book words breaks bound u (suc k) r) said' → Told k (suc k)
+      told_suc all =
+          let lines : List ℕ = turn_lines m book words breaks bound u (after m book words breaks bound u k r) (after m book words breaks bound u (suc k) r) in
+          let parts = got_split said said' (printed m book words breaks bound u k r) lines all in
+          (parts.0, parts.1, in_part parts.0 said' lines parts.2)
+
+  -- it got all but those of the last turn
+  told_last : (mid : Option (List ℕ)) (n k : ℕ) → suc k ≡ suc n → Got said (printed m book words breaks bound u n r) mid →
+      GotInPart mid (turn_lines m book words breaks bound u (after m book words breaks bound u n r) (after m book words breaks bound u (suc n) r)) said' → Told k (suc n)
+  told_last mid n k e got part = let same : n ≡ k = omega arith in subst (λ (j : ℕ). Told j (suc n)) same (mid, got, part)
+
 module _ {M State : Type 0} (state : M → State) (m : Meaning State) (book : Book) (words breaks : List ℕ) (bound : ℕ) (u : Until) (times : ℕ) where
   module _ (left0 held0 : Option (List ℕ)) (board0 : BoardView M) (left held : Option (List ℕ)) (board : BoardView M) (left' held' : Option (List ℕ)) (board' : BoardView M)
       (text : List ℕ) (w : ℕ) (program : board.store.words ≡ words) (live : board.end ≡ None) (some : 0 < w)
@@ -88,54 +115,75 @@ module _ {M State : Type 0} (state : M → State) (m : Meaning State) (book : Bo
       (said0 said said' : Option (List ℕ)) (prints : Got said0 text said) where
     -- behind the turn, where a text is put
     broken_behind : NoFault board.end board'.end → IsTurned state m left held board left' held' board' (Some bound) → GotInPart said (text_between state m book breaks u board board') said' →
-        IsLedTo state left0 held0 board0 left' board' (λ r rest. (n : ℕ) × IsBroken state m book words breaks bound u times held' said0 said' n r)
+        IsLedTo state left0 held0 board0 left' board' (λ r rest. (n : ℕ) × IsBroken state m book words breaks bound u times held' board' said0 said' n r)
     broken_behind well turned front rest fits =
-        let c : ℕ = counted_turn breaks u board'.counts board'.bus.words board'.end in
-        let most : c ≤ 1 = one_at_most breaks u board'.counts board'.bus.words board'.end in
-        let count : c + (w - c) ≡ w = omega arith in
-        let far = underway_more state m book words breaks bound u times left0 held0 board0 left held board left' held' board' text w program live some led (w - c) count (turned well) rest fits in (
+        let one = turned well rest fits in
+        let far = led one.0 one.1 in (
           far.0,
           far.1,
           λ r s e.
-              let at = far.2 r s e in (
-                at.0,
+              let at = far.2 r s e in
+              let n = at.0 in
+              let before = after m book words breaks bound u n r in
+              let behind = after m book words breaks bound u (suc n) r in
+              let here = at.1.here in
+              let next = one.2 before here at.1.untaken in
+              let is : turn m board.store.words (bounded m (Some bound) before) ≡ behind =
+              ap (λ (ws : List ℕ). turn m ws (bounded m (Some bound) before)) program ∙ sym (after-suc state m book words breaks bound u times n r) in
+              let shows : ShowsRun state left' held' board' behind = subst (λ (x : MicroRun State). ShowsRun state left' held' board' x) is next.0 in
+              let same_lines : turn_lines m book words breaks bound u before behind ≡ text_between state m book breaks u board board' =
+              λ i. turn_text book breaks u (m.registers (here.its_state i)).mpc (m.drives (word_at m (sym program i) (here.its_state i)) (here.its_state i)).stalled (shows.counts i) (m.registers (shows.its_state i)) (shows.world.words i) (shows.its_end i) in
+              let so_far : passed m book words breaks bound u n r + w ≡ times = at.1.count in
+              let all : text ++ text_between state m book breaks u board board' ≡ printed m book words breaks bound u (suc n) r = λ i. at.1.lines i ++ sym same_lines i in (
+                suc n,
                 record {
-                  going = at.1.going;
-                  out = front_shown left' held' state board' _ at.1.here;
-                  err = subst (λ (t : List ℕ). GotInPart said0 t said') at.1.lines (puts_then {E = ℕ} said0 said said' text (text_between state m book breaks u board board') (Err 0) prints front);
+                  here = stands_shown left' held' state board' behind shows;
+                  going = going_more state m book words breaks bound u times n r at.1.going (here.its_end ∙ live) (omega arith);
+                  out = front_shown left' held' state board' behind shows;
+                  err = subst (λ (t : List ℕ). GotInPart said0 t said') all (puts_then {E = ℕ} said0 said said' text (text_between state m book breaks u board board') (Err 0) prints front);
+                  told = λ k same.
+                      told_last m book words breaks bound u r said0 said' said n k same (subst (λ (t : List ℕ). Got said0 t said) at.1.lines prints)
+                      (subst (λ (t : List ℕ). GotInPart said t said') (sym same_lines) front);
                 },
               ),
         )
 
     -- in the turn, behind k turns that count no cycle
     broken_at : (r : MicroRun State) (rest : List ℕ) (n k : ℕ) → IsUnderway state m book words breaks bound u times left held board rest text w n r → said' ≡ said →
+        StandsAfter state board' (turns m words (Some bound) k (after m book words breaks bound u n r)) →
         IsFrontOf held' (turns m words (Some bound) k (after m book words breaks bound u n r)).world.given →
         (turns m words (Some bound) k (after m book words breaks bound u n r)).counts.cycles ≡ (after m book words breaks bound u n r).counts.cycles →
-        (j : ℕ) × IsBroken state m book words breaks bound u times held' said0 said' j r
-    broken_at r rest n zero at silent front same = (
+        (j : ℕ) × IsBroken state m book words breaks bound u times held' board' said0 said' j r
+    broken_at r rest n zero at silent stands front same = (
       n,
       record {
+        here = stands;
         going = at.going;
         out = front;
         err = subst (λ (t : List ℕ). GotInPart said0 t said') at.lines (puts_passed {E = ℕ} said0 said said' text (Err 0) prints silent);
+        told = λ k e. told_all m book words breaks bound u r said0 said' k n e (subst (λ (t : List ℕ). Got said0 t said') at.lines (silent ∙ prints));
       },
     )
-    broken_at r rest n (suc k) at silent front same =
+    broken_at r rest n (suc k) at silent stands front same =
         let before = after m book words breaks bound u n r in
         let so_far : passed m book words breaks bound u n r + w ≡ times = at.count in
         let is : turns m words (Some bound) (suc k) before ≡ after m book words breaks bound u (suc n) r =
         uncounted m words bound k before same ∙ sym (after-suc state m book words breaks bound u times n r) in (
           suc n,
           record {
+            here = subst (λ (x : MicroRun State). StandsAfter state board' x) is stands;
             going = going_more state m book words breaks bound u times n r at.going (at.here.its_end ∙ live) (omega arith);
             out = subst (λ (x : MicroRun State). IsFrontOf held' x.world.given) is front;
             err = puts_first {E = ℕ} said0 said' (printed m book words breaks bound u n r) (turn_lines m book words breaks bound u before (after m book words breaks bound u (suc n) r)) 0
                 (subst (λ (t : List ℕ). GotInPart said0 t said') at.lines (puts_passed {E = ℕ} said0 said said' text (Err 0) prints silent));
+            told = λ j e.
+                told_last m book words breaks bound u r said0 said' said n j e (subst (λ (t : List ℕ). Got said0 t said) at.lines prints)
+                (got_none said said' (turn_lines m book words breaks bound u before (after m book words breaks bound u (suc n) r)) silent);
           },
         )
 
     broken_in : EndsUncounted board board' → board'.end ≡ Some ends.WriteFault → RunIsCutByWrite state m left held board left' held' board' (Some bound) → said' ≡ said →
-        IsLedTo state left0 held0 board0 left' board' (λ r rest. (n : ℕ) × IsBroken state m book words breaks bound u times held' said0 said' n r)
+        IsLedTo state left0 held0 board0 left' board' (λ r rest. (n : ℕ) × IsBroken state m book words breaks bound u times held' board' said0 said' n r)
     broken_in still ended write silent rest fits =
         let one = write live ended rest fits in
         let far = led one.0 one.1 in (
@@ -149,7 +197,10 @@ module _ {M State : Type 0} (state : M → State) (m : Meaning State) (book : Bo
               ap (λ (ws : List ℕ). turns m ws (Some bound) cut.0 before) program in
               let cycles : board'.counts.cycles ≡ before.counts.cycles =
               (still (subst IsSome (sym ended) refl)).0 ∙ ap (λ (c : Counts). c.cycles) (sym at.1.here.counts) in
-              broken_at r one.0 at.0 cut.0 at.1 silent (subst (λ (x : MicroRun State). IsFrontOf held' x.world.given) here cut.1.here.front)
+              let stands : StandsAfter state board' (turns m words (Some bound) cut.0 before) =
+              subst (λ (x : MicroRun State). StandsAfter state board' x) here
+              (record { its_state = cut.1.here.its_state; memory = cut.1.here.memory; counts = cut.1.here.counts; its_end = inr ended }) in
+              broken_at r one.0 at.0 cut.0 at.1 silent stands (subst (λ (x : MicroRun State). IsFrontOf held' x.world.given) here cut.1.here.front)
               (ap (λ (x : MicroRun State). x.counts.cycles) (sym here) ∙ ap (λ (c : Counts). c.cycles) cut.1.here.counts ∙ cycles),
         )
 
@@ -157,7 +208,7 @@ module _ {M State : Type 0} (state : M → State) (m : Meaning State) (book : Bo
     pub broken_more : EndsUncounted board board' → board'.end ≢ Some ends.ReadFault →
         IsTurned state m left held board left' held' board' (Some bound) → RunIsCutByWrite state m left held board left' held' board' (Some bound) →
         (board'.end ≢ Some ends.WriteFault → GotInPart said (text_between state m book breaks u board board') said') → (board'.end ≡ Some ends.WriteFault → said' ≡ said) →
-        IsLedTo state left0 held0 board0 left' board' (λ r rest. (n : ℕ) × IsBroken state m book words breaks bound u times held' said0 said' n r)
+        IsLedTo state left0 held0 board0 left' board' (λ r rest. (n : ℕ) × IsBroken state m book words breaks bound u times held' board' said0 said' n r)
     broken_more still unread turned write front silent =
         elim (write_or_not board'.end) [
           | inl ended ↦ broken_in still ended write (silent ended)
@@ -169,11 +220,12 @@ module _ {M State : Type 0} (state : M → State) (m : Meaning State) (book : Bo
 -- a plan that was carried out, and then the flush failed
 module _ {M State : Type 0} (state : M → State) (m : Meaning State) (book : Book) (left held said : Option (List ℕ)) (old : SessionView M) (left' held' held'' said' : Option (List ℕ)) (board' board'' : BoardView M)
     (text : List ℕ) (prints : Got said text said') (same : board''.bus.console.ended ≡ board'.bus.console.ended)
+    (stands : (r : MicroRun State) → ShowsRun state left' held' board' r → StandsAfter state board'' r)
     (front : (r : MicroRun State) → ShowsRun state left' held' board' r → IsFrontOf held'' r.world.given) where
   said_broken : (plan : Plan) → IsSaid state m book left held old left' held' board' text plan → IsSaidInPart state m book left held said old left' held'' said' board'' plan
   said_broken plan is = (
-    led_on state left held old.board left' board' board'' (λ r rest. ShowsRun state left' held' board' r × (r.world.untaken ≡ rest)) (λ r rest. IsFrontOf held'' r.world.given) same
-        (λ r rest at. front r at.0) is.0,
+    led_on state left held old.board left' board' board'' (λ r rest. ShowsRun state left' held' board' r × (r.world.untaken ≡ rest)) (λ r rest. StandsAfter state board'' r × IsFrontOf held'' r.world.given) same
+        (λ r rest at. (stands r at.0, front r at.0)) is.0,
     subst (λ (t : List ℕ). GotInPart said t said') is.1 (in_part said said' text prints),
   )
 
@@ -183,9 +235,11 @@ module _ {M State : Type 0} (state : M → State) (m : Meaning State) (book : Bo
       (λ r rest at. (
         at.0,
         record {
+          here = stands _ at.1.here;
           going = at.1.done.going;
           out = front _ at.1.here;
           err = subst (λ (t : List ℕ). GotInPart said t said') at.1.lines (in_part said said' text prints);
+          told = λ k e. told_all m book old.board.store.words old.breaks old.bound u r said said' k at.0 e (subst (λ (t : List ℕ). Got said t said') at.1.lines prints);
         },
       )) led
   obeys_broken (plans.Refuse reply) is = said_broken (plans.Refuse reply) is
@@ -199,6 +253,17 @@ module _ {M State : Type 0} (state : M → State) (m : Meaning State) (book : Bo
 pub on_err_given : {T E : Type 0} (P A B : Type 0) (r : Result T E) → (B → A) → OnErr r (A → P) → OnErr r (B → P)
 on_err_given P A B (Ok v) f h = tt
 on_err_given P A B (Err e) f h = λ x. h (f x)
+
+-- a flush leaves a board where it stood
+pub stands_flushed : {M State : Type 0} (state : M → State) (left held : Option (List ℕ)) (board board' : BoardView M) → state board'.machine ≡ state board.machine → board'.bus.words ≡ board.bus.words →
+    board'.counts ≡ board.counts → board'.end ≡ board.end → (r : MicroRun State) → ShowsRun state left held board r → StandsAfter state board' r
+stands_flushed state left held board board' machine words counts end r shows =
+    record {
+      its_state = shows.its_state ∙ sym machine;
+      memory = shows.world.words ∙ sym words;
+      counts = shows.counts ∙ sym counts;
+      its_end = inl (shows.its_end ∙ sym end);
+    }
 
 -- a flush leaves a front of what was given
 pub front_flushed : {M State : Type 0} (state : M → State) (held held' : Option (List ℕ)) (board board' : BoardView M) (result : Result Unit BusFault) →

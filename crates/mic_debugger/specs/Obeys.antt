@@ -11,7 +11,7 @@ use Rattle.mic_debugger.specs.Book.{Book}
 use Rattle.mic_debugger.specs.Commands.{command_of}
 use Rattle.mic_debugger.specs.Lines.{stack_text, where_line}
 use Rattle.mic_debugger.specs.Plans.{plan_of, refusal_text}
-use Rattle.mic_debugger.specs.Session.{IsBroken, IsClocked, IsFrontOf, IsStopped}
+use Rattle.mic_debugger.specs.Session.{IsBroken, IsClocked, IsFrontOf, IsStopped, StandsAfter}
 use Rattle.mic_debugger.specs.View.{SessionView}
 
 -- what a line comes to in a session
@@ -60,15 +60,16 @@ module _ {M State : Type 0} (state : M → State) (m : Meaning State) (book : Bo
     IsStoppedIn plans.Quit = IsSaid plans.Quit
 
   module _ (left held said : Option (List ℕ)) (old : SessionView M) (left' held' said' : Option (List ℕ)) (board' : BoardView M) where
-    -- `out` holds a front of what each run that the board shows has given, and `err` got a front of what is shown
+    -- each run that the board shows is where it was, `out` holds a front of what it has given, and `err` got a front of what is shown
     abbrev pub IsSaidInPart : Plan → Type 0
-    IsSaidInPart plan = IsLedTo state left held old.board left' board' (λ r rest. IsFrontOf held' r.world.given) × GotInPart said (shown_text old plan) said'
+    IsSaidInPart plan =
+        IsLedTo state left held old.board left' board' (λ r rest. StandsAfter state board' r × IsFrontOf held' r.world.given) × GotInPart said (shown_text old plan) said'
 
     -- a failing sink breaks the plan off
     abbrev pub IsBrokenIn : Plan → Type 0
     IsBrokenIn (plans.Clock u times) =
         IsLedTo state left held old.board left' board'
-        (λ r rest. (n : ℕ) × IsBroken state m book old.board.store.words old.breaks old.bound u times held' said said' n r)
+        (λ r rest. (n : ℕ) × IsBroken state m book old.board.store.words old.breaks old.bound u times held' board' said said' n r)
     IsBrokenIn (plans.Refuse reply) = IsSaidInPart (plans.Refuse reply)
     IsBrokenIn plans.Registers = IsSaidInPart plans.Registers
     IsBrokenIn plans.Stack = IsSaidInPart plans.Stack

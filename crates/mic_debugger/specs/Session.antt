@@ -1,5 +1,5 @@
 -- Where a session leads a board, and what it prints.
-use Rattle.std.specs.Prelude.{◌≡◌, ◌≢◌, ℕ, ◌+◌, ◌<◌, List, ◌++◌, Option, Some, IfSome}
+use Rattle.std.specs.Prelude.{◌≡◌, ◌≢◌, ◌⊎◌, ℕ, suc, ◌+◌, ◌<◌, List, ◌++◌, Option, Some, IfSome}
 use Rattle.mic_base.specs.Causes.{Rose}
 use Rattle.mic_clock.specs.declared.end.End.{End}
 use Rattle.mic_clock.specs.Meaning.{Meaning}
@@ -7,11 +7,11 @@ use Rattle.mic_clock.specs.Run.{MicroRun, word_at, turns}
 use Rattle.mic_clock.specs.View.{BoardView}
 use Rattle.mic_clock.specs.Board.{ShowsRun, IsCutByRead}
 use Rattle.mic_clock.specs.declared.end.End.TheVariants as ends
-use Rattle.cli_outside.specs.Outside.{GotInPart}
+use Rattle.cli_outside.specs.Outside.{Got, GotInPart}
 use Rattle.mic_debugger.specs.declared.until.Until.{Until}
 use Rattle.mic_debugger.specs.Book.{Book}
 use Rattle.mic_debugger.specs.Lines.{end_line}
-use Rattle.mic_debugger.specs.Clocking.{turn_text, after, printed, passed, IsGoing, IsDone}
+use Rattle.mic_debugger.specs.Clocking.{turn_lines, turn_text, after, printed, passed, IsGoing, IsDone}
 
 -- a failing source ends a board, and only that raises its count
 pub record HasReadCause (before now : ℕ) (end : Option End) : Type 0 where
@@ -27,6 +27,13 @@ abbrev pub text_between : {M State : Type 0} → (M → State) → Meaning State
 text_between state m book breaks u board board' =
     turn_text book breaks u (m.registers (state board.machine)).mpc (m.drives (word_at m board.store.words (state board.machine)) (state board.machine)).stalled
     board'.counts (m.registers (state board'.machine)) board'.bus.words board'.end
+
+-- A board stands where a run stands. If a failing sink ended the board in its last turn, the board has that end.
+pub record StandsAfter {M State : Type 0} (state : M → State) (board : BoardView M) (r : MicroRun State) : Type 0 where
+  pub its_state : r.state ≡ state board.machine
+  pub memory : r.world.words ≡ board.bus.words
+  pub counts : r.counts ≡ board.counts
+  pub its_end : (r.end ≡ board.end) ⊎ (board.end ≡ Some ends.WriteFault)
 
 module _ {M State : Type 0} (state : M → State) (m : Meaning State) (book : Book) (words breaks : List ℕ) (bound : ℕ) (u : Until) (times : ℕ) where
   -- A clocking command under way: so many turns of the run r were made, which led to this board; `left_over` more are waited for.
@@ -52,8 +59,12 @@ module _ {M State : Type 0} (state : M → State) (m : Meaning State) (book : Bo
     pub waiting : passed m book words breaks bound u n r < times
     pub lines : text ≡ printed m book words breaks bound u n r ++ end_line ends.ReadFault
 
-  -- A failing sink broke it off at a moment of its way: `out` holds a front of what was given by then, and `err` got a front of what is printed by then.
-  pub record IsBroken (held said said' : Option (List ℕ)) (n : ℕ) (r : MicroRun State) : Type 0 where
+  -- A failing sink broke it off at a moment of its way: the turns that were made stay, `out` holds a front of what was given by then, and `err` got a front of what is printed by then.
+  pub record IsBroken (held : Option (List ℕ)) (board : BoardView M) (said said' : Option (List ℕ)) (n : ℕ) (r : MicroRun State) : Type 0 where
+    pub here : StandsAfter state board (after m book words breaks bound u n r)
     pub going : IsGoing m book words breaks bound u times n r
     pub out : IsFrontOf held (after m book words breaks bound u n r).world.given
     pub err : GotInPart said (printed m book words breaks bound u n r) said'
+    -- all but the lines of the last turn it got whole, so no turn was made after those of which it got less
+    pub told : (k : ℕ) → suc k ≡ n → (mid : Option (List ℕ)) × Got said (printed m book words breaks bound u k r) mid
+        × GotInPart mid (turn_lines m book words breaks bound u (after m book words breaks bound u k r) (after m book words breaks bound u n r)) said'

@@ -4,6 +4,7 @@ ghost use Rattle.std.specs.Prelude.{◌≡◌, ◌≢◌, ◌⊎◌, ◌<◌, �
 ghost use Rattle.std.specs.List.{list_any};
 ghost use Rattle.mic_base.specs.Causes.{HasCause, Rose};
 ghost use Rattle.mic_base.specs.Streams.{Holds, Puts};
+ghost use Rattle.console_port.specs.Console.{StaysFlushed};
 ghost use Rattle.mic_clock.specs.Run.{number_of};
 ghost use Rattle.mic_clock.specs.Board.{IsTurned, RunIsCutByRead, RunIsCutByWrite, IsCounted, EndsUncounted, HasRoom, NoFault, IsLedTo};
 ghost use Rattle.mic_debugger.specs.Book.{Book, IsBookOf};
@@ -169,6 +170,7 @@ impl Clocking<'_> {
         ensures clocked { IsCounted M.state M.meaning board.old board.new }
         ensures room { HasRoom board.old board.new }
         ensures still { EndsUncounted board.old board.new }
+        ensures flushed { OnOk result (StaysFlushed (K.held out.old) (K.passed out.old) (K.held out.new) (K.passed out.new)) }
         ensures keeps_out { (front : List ℕ) → Holds front (K.held out.old) → Holds front (K.held out.new) }
         ensures keeps_err { (front : List ℕ) → Holds front (E.held err.old) → Holds front (E.held err.new) }
         ensures quiet { OnOk result ((K.faults out.new ≡ K.faults out.old) × (E.faults err.new ≡ E.faults err.old)) }
@@ -211,11 +213,12 @@ impl Clocking<'_> {
         ensures broken { OnErr result (board.new.end ≢ Some End.ReadFault → (book : Book) → IsBookOf self.now.listing.now book →
             IsLedTo M.state (S.left input.old) (K.held out.old) board.old (S.left input.new) board.new
             (λ r rest. (n : ℕ) × IsBroken M.state M.meaning book board.old.store.words self.now.breaks.now self.now.bound self.now.until times
-            (K.held out.new) (E.held err.old) (E.held err.new) n r)) }
+            (K.held out.new) board.new (E.held err.old) (E.held err.new) n r)) }
         ensures fault { OnOk result (board.new.end ≢ Some End.WriteFault) }
         ensures input { HasReadCause (S.faults input.old) (S.faults input.new) board.new.end }
         ensures store { board.new.store ≡ board.old.store }
         ensures in_time { InTime (2 ^ 62) board.new.counts (M.meaning.is_boundary (M.state board.new.machine)) board.new.end }
+        ensures flushed { OnOk result (StaysFlushed (K.held out.old) (K.passed out.old) (K.held out.new) (K.passed out.new)) }
         ensures keeps_out { (front : List ℕ) → Holds front (K.held out.old) → Holds front (K.held out.new) }
         ensures keeps_err { (front : List ℕ) → Holds front (E.held err.old) → Holds front (E.held err.new) }
         ensures quiet { OnOk result ((K.faults out.new ≡ K.faults out.old) × (E.faults err.new ≡ E.faults err.old)) }

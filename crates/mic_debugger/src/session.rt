@@ -5,6 +5,7 @@ ghost use Rattle.mic_base.specs.Causes.{HasCause, Rose};
 ghost use Rattle.mic_base.specs.Streams.{Holds, IsFlushed, Puts};
 ghost use Rattle.store_placement.specs.Placement.{Places};
 ghost use Rattle.store_placement.specs.Program.{demands_of, IsFilled};
+ghost use Rattle.console_port.specs.Console.{StaysFlushed};
 ghost use Rattle.mic_clock.specs.Board.{AreCounts, NoFault, ShowsAs, ShowsRun};
 ghost use Rattle.mic_clock.specs.Run.{MicroRun};
 ghost use Rattle.mic_clock.specs.State.{state_line};
@@ -256,6 +257,7 @@ impl<M: Clocked> Session<M> {
         ensures input { HasReadCause (S.faults input.old) (S.faults input.new) self.new.board.end }
         ensures same { self.new ≡ record self.old { board = self.new.board } }
         ensures store { self.new.board.store ≡ self.old.board.store }
+        ensures flushed { OnOk result (StaysFlushed (K.held out.old) (K.passed out.old) (K.held out.new) (K.passed out.new)) }
         ensures keeps_out { (front : List ℕ) → Holds front (K.held out.old) → Holds front (K.held out.new) }
         ensures keeps_err { (front : List ℕ) → Holds front (E.held err.old) → Holds front (E.held err.new) }
         ensures quiet { OnOk result ((K.faults out.new ≡ K.faults out.old) × (E.faults err.new ≡ E.faults err.old)) }
@@ -295,6 +297,7 @@ impl<M: Clocked> Session<M> {
         ensures input { self.old.board.end ≡ None → HasReadCause (S.faults input.old) (S.faults input.new) self.new.board.end }
         ensures same { self.new ≡ record self.old { board = self.new.board } }
         ensures store { self.new.board.store ≡ self.old.board.store }
+        ensures flushed { OnOk result (StaysFlushed (K.held out.old) (K.passed out.old) (K.held out.new) (K.passed out.new)) }
         ensures keeps_out { (front : List ℕ) → Holds front (K.held out.old) → Holds front (K.held out.new) }
         ensures keeps_err { (front : List ℕ) → Holds front (E.held err.old) → Holds front (E.held err.new) }
         ensures quiet { OnOk result ((K.faults out.new ≡ K.faults out.old) × (E.faults err.new ≡ E.faults err.old)) }
@@ -317,6 +320,8 @@ impl<M: Clocked> Session<M> {
         ensures kept { self.new.board.bus.console.kept ≡ [] }
         ensures same { self.new ≡ record self.old { board = record self.old.board { bus = self.new.board.bus } } }
         ensures input { self.new.board.bus.console.ended ≡ self.old.board.bus.console.ended }
+        ensures memory { self.new.board.bus.words ≡ self.old.board.bus.words }
+        ensures flushed { OnOk result (StaysFlushed (K.held out.old) (K.passed out.old) (K.held out.new) (K.passed out.new)) }
         ensures held { E.held err.new ≡ E.held err.old }
         ensures passed { OnOk result (IsFlushed (E.held err.new) (E.passed err.new)) }
         ensures keeps_out { (front : List ℕ) → Holds front (K.held out.old) → Holds front (K.held out.new) }
@@ -357,6 +362,7 @@ impl<M: Clocked> Session<M> {
         ensures input { self.old.board.end ≡ None → HasReadCause (S.faults input.old) (S.faults input.new) self.new.board.end }
         ensures kept { OnOk result (self.new.board.bus.console.kept ≡ []) }
         ensures passed { OnOk result (IsFlushed (E.held err.new) (E.passed err.new)) }
+        ensures flushed { OnOk result (StaysFlushed (K.held out.old) (K.passed out.old) (K.held out.new) (K.passed out.new)) }
         ensures breaks { OnOk result (self.new.breaks ≡ breaks_after self.old.breaks (command_of self.old.listing.memory line.now)) }
         ensures watched { OnOk result (self.new.watched ≡ watched_after self.old.watched (command_of self.old.listing.memory line.now)) }
         ensures err { OnErr result ((self.new.breaks ≡ self.old.breaks) × (self.new.watched ≡ self.old.watched)) }

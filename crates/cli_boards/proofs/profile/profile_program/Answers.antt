@@ -1,4 +1,6 @@
-use Rattle.std.proofs.Common.{◌≡◌, ◌∙◌, ap, refl, rules}
+use Rattle.std.proofs.Common.{◌≡◌, ◌∙◌, Option, ap, refl, rules}
+use Rattle.std.specs.Prelude.{unwrap_or}
+use Rattle.mic_clock.specs.declared.end.End.{End}
 use Rattle.cli_profile.specs.Profile.{Profile, profile_of_cycles, profile_text, start_profile, Silent, profile_after}
 use Rattle.watched_run.specs.Watched.{kept_of}
 use Rattle.cli_boards.specs.Profiled.{Stopped, Whole}
@@ -18,8 +20,9 @@ returns-in-Ok-run_watched g c =
     let held = nothing_put _ _ watched.saw.text (silent_says _ watched.cycles watched.saw.text watched.saw.says) watched.saw.said in
     let profiler = c.run_watched.new.watcher in
     let now : Profile = record { rows = profiler.rows.now; boot = profiler.boot; last = profiler.last; tallies = profiler.tallies } in
-    let text : profile_text now end c.counts.result ≡ profile_text (profile_of_cycles rows watched.cycles) end last.counts =
-    λ i. profile_text (counted_all i) end (c.counts.ensures i) in
+    let stood : c.unwrap_or-stood.result ≡ unwrap_or last.end end = c.unwrap_or-stood.ensures ∙ ap (λ (e : Option End). unwrap_or e end) c.ended.ensures in
+    let text : profile_text now c.unwrap_or-stood.result c.counts.result ≡ profile_text (profile_of_cycles rows watched.cycles) (unwrap_or last.end end) last.counts =
+    λ i. profile_text (counted_all i) (stood i) (c.counts.ensures i) in
     let put = rw (text, held) at c.put_profile-said.ensures.puts in
     let cause = rw said.quiet at c.put_profile-said.ensures.cause in
     record {
@@ -32,9 +35,10 @@ returns-in-Ok-run_watched g c =
             begins = record { loaded = c.args.prepared.micro.is_loaded; store = c.in-Ok-reset_board.ensures.store; reset = c.in-Ok-reset_board.ensures.reset };
             shows = watched.run;
             ends = c.in-Ok-run_watched.ensures.end;
+            kept = c.in-Ok-run_watched.ensures.kept;
             left = record { files = refl; cause = c.in-Ok-run_watched.ensures.cause; flushed = c.in-Ok-run_watched.ensures.flushed };
           })
-          c.in-Ok.ensures (c.report_behind.ensures _ (profile_text (profile_of_cycles rows watched.cycles) end last.counts) put cause));
+          c.in-Ok.ensures (c.report_behind.ensures _ (profile_text (profile_of_cycles rows watched.cycles) (unwrap_or last.end end) last.counts) put cause));
     }
 
 pub returns : goal.returns
@@ -51,6 +55,7 @@ returns g c =
             begins = record { loaded = c.args.prepared.micro.is_loaded; store = c.in-Ok-reset_board.ensures.store; reset = c.in-Ok-reset_board.ensures.reset };
             shows = watched.run;
             ends = tt;
+            kept = tt;
             left = record { files = refl; cause = c.in-Err-run_watched.ensures.cause; flushed = tt };
           })
           held c.in-Err-run_watched.ensures.said.failed refl);

@@ -22,7 +22,7 @@ returns g c =
           rw (← c.outside.view_is)
           (Ran c.args.prepared.micro.loaded c.in-Ok.board last end
           (record { loaded = c.args.prepared.micro.is_loaded; store = c.in-Ok.ensures.store; reset = c.in-Ok.ensures.reset })
-          c.run-end.ensures.end (rw (told.console, told.out) c.run-end.ensures.run) (rw (told.console, told.out) c.run-end.ensures.read) (rw (told.console, told.out) c.run-end.ensures.write)
+          c.run-end.ensures.end (c.run-end.ensures.kept c.in-Ok.ensures.reset.end) (rw (told.console, told.out) c.run-end.ensures.run) (rw (told.console, told.out) c.run-end.ensures.read) (rw (told.console, told.out) c.run-end.ensures.write)
           (record {
             files = told.files;
             cause = rw (told.console, told.out) (rw (c.in-Ok.ensures.reset.end, c.run-end.ensures.end) at c.run-end.ensures.cause);

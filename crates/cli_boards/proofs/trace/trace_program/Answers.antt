@@ -16,6 +16,7 @@ returns-in-Ok-run_watched g c =
             begins = record { loaded = c.args.prepared.micro.is_loaded; store = c.in-Ok.ensures.store; reset = c.in-Ok.ensures.reset };
             shows = watched.run;
             ends = c.in-Ok-run_watched.ensures.end;
+            kept = c.in-Ok-run_watched.ensures.kept;
             left = record { files = refl; cause = c.in-Ok-run_watched.ensures.cause; flushed = c.in-Ok-run_watched.ensures.flushed };
           })
           watched.saw.says
@@ -35,6 +36,7 @@ returns g c =
             begins = record { loaded = c.args.prepared.micro.is_loaded; store = c.in-Ok.ensures.store; reset = c.in-Ok.ensures.reset };
             shows = watched.run;
             ends = tt;
+            kept = tt;
             left = record { files = refl; cause = c.in-Err-run_watched.ensures.cause; flushed = tt };
           })
           watched.saw.says watched.saw.said c.in-Err-run_watched.ensures.said.failed refl);

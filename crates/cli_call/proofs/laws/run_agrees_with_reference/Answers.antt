@@ -1,18 +1,44 @@
+use Rattle.std.proofs.Common.{◌≡◌, ℕ, List, Some}
+use Rattle.mic_base.specs.Files.{Contents}
+use Rattle.machine_words.specs.declared.machine.Machine.{Machine}
 use Rattle.machine_words.specs.declared.machine.Machine.TheVariants.{Mic1, Mic2}
+use Rattle.console_port.specs.declared.map.MemoryMap.{MemoryMap}
 use Rattle.mic1_datapath.specs.Mic1.{mic1_meaning, IsReady as IsReady1}
 use Rattle.mic1_datapath.specs.View.{micro_of as micro_of1}
 use Rattle.mic2_datapath.specs.Mic2.{mic2_meaning, IsReady as IsReady2}
 use Rattle.mic2_datapath.specs.View.{micro_of as micro_of2}
 use Rattle.shipped_program.specs.Shipped.{HasShipped}
-use Rattle.cli_call.proofs.Agreeing.{agree}
+use Rattle.ijvm_paths.specs.Accepted.{VerifiedView}
+use Rattle.cli_outside.specs.Outside.{OutsideView}
+use Rattle.cli_words.specs.Words.{Reference, Run}
+use Rattle.cli_programs.specs.Program.{IsProgram, IsRefusedProgram}
+use Rattle.cli_call.specs.Agree.{Agrees, CallsAgree, IsQuiet}
+use Rattle.cli_call.specs.CallEnds.{CallEnds, Done, EndsAs, NoRoom}
+use Rattle.cli_call.proofs.Agreeing.{OneEnd, agree, said}
+use Rattle.cli_call.proofs.TwoCalls.{both_end}
 use Rattle.cli_call.proofs.laws.run_agrees_with_reference.Goals as goal
 
-pub returns-clause-mic1 : goal.returns-clause-mic1
-returns-clause-mic1 c =
-    λ program bound input old ran told status status' tells.
-    agree micro_of1 mic1_meaning IsReady1 (HasShipped Mic1) 0x002 program bound input old ran told status status' c.runs_end_once.ensures.one tells
+module _ (one_end : OneEnd) (one_program : (map : MemoryMap) (bytes : List ℕ) (p q : VerifiedView) → IsProgram map bytes p → IsProgram map bytes q → p ≡ q)
+    (not_both : (map : MemoryMap) (bytes reason : List ℕ) (p : VerifiedView) → IsProgram map bytes p → IsRefusedProgram map bytes reason → ⊥)
+    (file : List ℕ) (map : MemoryMap) (bound : ℕ) (input : List ℕ) (contents : Contents) (old ran told : OutsideView) (status status' : ℕ)
+    (left : old.console.left ≡ Some input) (tells : old.files.contents ≡ Some contents) (quiet : IsQuiet old ran status) (quiet' : IsQuiet old told status') where
+  both_agree : (machine : Machine) → EndsAs (Some (Run file machine bound map)) old ran status → EndsAs (Some (Reference file machine bound map)) old told status' →
+      CallsAgree (Agrees old ran told status status') status status'
+  both_agree Mic1 one other =
+      both_end (IsRefusedProgram map) (IsProgram map) file old contents tells (one_program map) (not_both map) _ _ ran told status status' _
+      (λ program does does'. agree micro_of1 mic1_meaning IsReady1 (HasShipped Mic1) 0x002 program bound input old ran told status status' one_end left does does' quiet quiet') quiet quiet' one other
+  both_agree Mic2 one other =
+      both_end (IsRefusedProgram map) (IsProgram map) file old contents tells (one_program map) (not_both map) _ _ ran told status status' _
+      (λ program does does'. agree micro_of2 mic2_meaning IsReady2 (HasShipped Mic2) 0x002 program bound input old ran told status status' one_end left does does' quiet quiet') quiet quiet' one other
 
-pub returns-clause-mic2 : goal.returns-clause-mic2
-returns-clause-mic2 c =
-    λ program bound input old ran told status status' tells.
-    agree micro_of2 mic2_meaning IsReady2 (HasShipped Mic2) 0x002 program bound input old ran told status status' c.runs_end_once.ensures.one tells
+  calls_agree : (machine : Machine) → CallEnds (Some (Run file machine bound map)) old ran status → CallEnds (Some (Reference file machine bound map)) old told status' →
+      CallsAgree (Agrees old ran told status status') status status'
+  calls_agree machine (NoRoom short) other = absurd (quiet.memory (said old.err ran.err _ _ status quiet.err short.says).0)
+  calls_agree machine (Done one) (NoRoom short) = absurd (quiet'.memory (said old.err told.err _ _ status' quiet'.err short.says).0)
+  calls_agree machine (Done one) (Done other) = both_agree machine one other
+
+pub returns : goal.returns
+returns c =
+    λ machine file map bound input contents old ran told status status' left tells one other quiet quiet'.
+    calls_agree c.runs_end_once.ensures.one c.a_file_has_one_program.ensures.one_program c.a_file_has_one_program.ensures.not_both
+    file map bound input contents old ran told status status' left tells quiet quiet' machine one other

@@ -33,7 +33,7 @@ returns-clause-done g c =
     (done_by g.M.Clocked.state g.M.Clocked.meaning (place v left (seen g c)) (place v' left' (seen_behind g c)) c.args.line.now c.command.result
     (leads_by g.M.Clocked.state g.M.Clocked.meaning left left' (seen g c) (seen_behind g c) v v' c.args.line.now c.command.result
     done.obeys done.fault done.input done.breaks done.watched)
-    done.kept done.same done.store refl done.quiet)
+    done.kept done.flushed done.passed done.same done.store refl done.quiet)
 
 pub returns-clause-broken : goal.returns-clause-broken
 returns-clause-broken g c =

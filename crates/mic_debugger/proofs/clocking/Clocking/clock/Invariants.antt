@@ -1,6 +1,7 @@
 use Rattle.std.proofs.Common.{◌≡◌, ◌≢◌, List, ℕ, ◌+◌, ◌-◌, ◌^◌, None, Some, is_some, if◌then◌else◌}
 use Rattle.mic_clock.specs.declared.end.End.TheVariants as ends
 use Rattle.mic_base.specs.Streams.{Holds}
+use Rattle.console_port.specs.Console.{StaysFlushed}
 use Rattle.mic_clock.specs.Board.{IsLedTo, NoFault}
 use Rattle.cli_outside.specs.Outside.{Got}
 use Rattle.mic_debugger.specs.Book.{Book, IsBookOf}
@@ -28,6 +29,7 @@ invariant-turns g l =
       fault : l.board.end ≢ Some ends.WriteFault;
       input : HasReadCause (g.S.Source.faults l.fn.input) (g.S.Source.faults l.input) l.board.end;
       store : l.board.store ≡ l.fn.board.store;
+      flushed : StaysFlushed held0 (g.K.Sink.passed l.fn.out) held (g.K.Sink.passed l.out);
       keeps_out : (front : List ℕ) → Holds front held0 → Holds front held;
       keeps_err : (front : List ℕ) → Holds front (g.E.Sink.held l.fn.err) → Holds front (g.E.Sink.held l.err);
       quiet_out : g.K.Sink.faults l.out ≡ g.K.Sink.faults l.fn.out;

@@ -9,7 +9,7 @@ use Rattle.mic_debugger.specs.Commands.{command_of}
 use Rattle.mic_debugger.specs.Plans.{plan_of}
 use Rattle.mic_debugger.specs.View.{SessionView}
 use Rattle.mic_debugger.specs.Obeys.{Obeys, IsBrokenIn, IsStoppedIn, plan_in}
-use Rattle.mic_debugger.proofs.Breaking.{no_fault, obeys_broken, on_err_of}
+use Rattle.mic_debugger.proofs.Breaking.{no_fault, obeys_broken, on_err_of, stands_flushed}
 use Rattle.mic_debugger.proofs.Flushing.{obeys_flushed, stopped_flushed}
 use Rattle.mic_debugger.proofs.session.Session.command.Goals as goal
 
@@ -110,4 +110,6 @@ returns-in_err-flush-clause-broken g c =
     let at = c.in_ok-carry_out.ensures.obeys well book is_book in
     subst (λ (p : Plan). IsBrokenIn state m book left0 held0 said0 v left held' said' c.flush.new.self.board p) plan_is
     (obeys_broken state m book left0 held0 said0 v left held held' said' c.carry_out.new.self.board c.flush.new.self.board at.0 (flushed.held ∙ at.1) flushed.input
+    (stands_flushed state left held c.carry_out.new.self.board c.flush.new.self.board (ap (λ (s : SessionView g.row.M.Denot). state s.board.machine) flushed.same) flushed.memory
+    (ap (λ (s : SessionView g.row.M.Denot). s.board.counts) flushed.same) end_is)
     (λ r here. flushed.front left r here) c.plan-plan.result at.2))
