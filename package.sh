@@ -66,7 +66,7 @@ cat >"$deb/DEBIAN/control" <<END
 Package: mic
 Version: $version
 Architecture: amd64
-Maintainer: The Hepnayog project <hepnayog@localhost>
+Maintainer: Hepnayog maintainers <maintainers@users.noreply.hepnayog.example>
 Section: education
 Priority: optional
 Depends: libc6 (>= $glibc)
