@@ -5,9 +5,20 @@ _mic() {
         COMPREPLY=($(compgen -W "assemble list verify run trace profile debug reference micro print-micro soak" -- "$word"))
         return
     fi
-    case $before in
-    --machine) COMPREPLY=($(compgen -W "mic1 mic2" -- "$word")); return ;;
-    --map) COMPREPLY=($(compgen -W "standard large" -- "$word")); return ;;
+    # Where bash divides words at =, as it does unless COMP_WORDBREAKS was changed, --machine=mic1 is three words.
+    if [ "$word" = = ]; then
+        word=
+    elif [ "$before" = = ]; then
+        before=${COMP_WORDS[COMP_CWORD-2]}
+    fi
+    local option=$before front=
+    case $word in
+    --*=*) option=${word%%=*} front=${word%%=*}= word=${word#*=} ;;
+    esac
+    case $option in
+    --machine) COMPREPLY=($(compgen -P "$front" -W "mic1 mic2" -- "$word")); return ;;
+    --map) COMPREPLY=($(compgen -P "$front" -W "standard large" -- "$word")); return ;;
+    --micro | --input) COMPREPLY=($(compgen -P "$front" -f -- "$word")); return ;;
     --bound) COMPREPLY=(); return ;;
     esac
     local options

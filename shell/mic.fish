@@ -2,11 +2,11 @@
 set -l commands assemble list verify run trace profile debug reference micro print-micro soak
 complete -c mic -f -n "not __fish_seen_subcommand_from $commands" -a assemble -d 'write the linked image of a source'
 complete -c mic -f -n "not __fish_seen_subcommand_from $commands" -a list -d 'print pool and text of an accepted program'
-complete -c mic -f -n "not __fish_seen_subcommand_from $commands" -a verify -d 'say whether a program is accepted'
+complete -c mic -f -n "not __fish_seen_subcommand_from $commands" -a verify -d 'print whether a program is accepted'
 complete -c mic -f -n "not __fish_seen_subcommand_from $commands" -a run -d 'run a program on the clocked machine'
 complete -c mic -f -n "not __fish_seen_subcommand_from $commands" -a trace -d 'run it, and print every cycle'
 complete -c mic -f -n "not __fish_seen_subcommand_from $commands" -a profile -d 'run it, and count by instruction'
-complete -c mic -f -n "not __fish_seen_subcommand_from $commands" -a debug -d 'run it as the lines of a session say'
+complete -c mic -f -n "not __fish_seen_subcommand_from $commands" -a debug -d 'run it step by step'
 complete -c mic -f -n "not __fish_seen_subcommand_from $commands" -a reference -d 'run it by the definition of IJVM'
 complete -c mic -f -n "not __fish_seen_subcommand_from $commands" -a micro -d 'place a microprogram, and write its control store'
 complete -c mic -f -n "not __fish_seen_subcommand_from $commands" -a print-micro -d 'print a microprogram, or list a control store'
