@@ -1,0 +1,19 @@
+use Rattle.std.proofs.Common.{◌≡◌, ◌∙◌, sym, ap, subst, ℕ, List, length, map, rules, Some, None}
+use Rattle.console_port.specs.View.{BusView}
+use Rattle.console_port.specs.World.{write_refusal}
+use Rattle.mem_cache.specs.Lines.{AreLines, block_in}
+use Rattle.mem_cache.specs.View.{CacheView}
+use Rattle.mem_cache.proofs.cached_bus.CachedBus.write_word.Goals as goal
+
+pub invariant_of-self : goal.invariant_of-self
+invariant_of-self g c =
+    let same = (c.in_err-write_word.ensures.err None).words in
+    subst (λ (ws : List ℕ). AreLines ws c.self.inside.lines.items) (sym same) c.self.invariant
+
+pub returns-in_err-write_word-clause-refused : goal.returns-in_err-write_word-clause-refused
+returns-in_err-write_word-clause-refused g c =
+    let h = c.self.inside in
+    let bus = ap (λ (v : CacheView). v.bus) c.self.view_is in
+    λ r e.
+    let x = c.write_word.ensures.refused r (subst (λ (b : BusView). write_refusal (length b.words) c.args.at ≡ Some r) (sym bus) e) in
+    (search rules, ap (λ (b : BusView). record { bus = b; tally = record { held = map block_in h.lines.items; counts = h.counts } }) x.1 ∙ c.self.view_is, x.2)

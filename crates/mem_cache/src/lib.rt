@@ -1,0 +1,12 @@
+//! A direct-mapped cache between a machine and its bus. Each call answers as the bus does, and the cache counts which
+//! reads and fetches its lines answer.
+#![tactic(auto)]
+
+pub mod cached_bus;
+pub mod counts;
+mod laws;
+mod lines;
+
+pub use cached_bus::{CachedBus, MOST_LINES};
+pub use counts::CacheCounts;
+pub use laws::counts_are_those_of_the_accesses;

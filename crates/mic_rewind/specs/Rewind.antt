@@ -1,0 +1,48 @@
+-- What clauses see of a rewind, and how its calls change that.
+use Rattle.std.specs.Prelude.{◌≡◌, List, [], ◌∷◌, None, IsSome}
+use Rattle.mic_clock.specs.Meaning.{Meaning}
+use Rattle.mic_clock.specs.Run.{MicroRun}
+use Rattle.mic_clock.specs.View.{BoardView}
+use Rattle.mic_rewind.specs.declared.moment.Moment.{Moment}
+use Rattle.mic_rewind.specs.States.{Snapshot}
+use Rattle.mic_rewind.specs.View.{HistoryView, GoesBack, appended}
+
+pub record RewindView (M : Type 0) : Type 0 where
+  pub board : BoardView M
+  pub history : HistoryView
+
+-- the last of some states behind one
+abbrev pub last_of : Snapshot → List Snapshot → Snapshot
+last_of s [] = s
+last_of s (t ∷ ts) = last_of t ts
+
+-- the newest state that is kept
+abbrev pub newest : HistoryView → Snapshot
+newest h = last_of h.here h.after
+
+module _ {M State : Type 0} (state : M → State) (m : Meaning State) where
+  -- where a board stands
+  abbrev pub moment_of : BoardView M → Moment
+  moment_of board = record { registers = m.registers (state board.machine); counts = board.counts }
+
+  abbrev pub state_of : BoardView M → Snapshot
+  state_of board = record { moment = moment_of board; words = board.bus.words }
+
+  -- where a run stands between two turns
+  abbrev pub snapshot_of : MicroRun State → Snapshot
+  snapshot_of r = record { moment = record { registers = m.registers r.state; counts = r.counts }; words = r.world.words }
+
+  -- the cursor went on by one kept state, and the board stays
+  pub record MovesOn (old new : RewindView M) : Type 0 where
+    pub went : GoesBack new.history old.history
+    pub board : new.board ≡ old.board
+
+  -- A board that was clocked appends the state where it stands now; one that ended keeps what there was.
+  pub record Keeps (old new : RewindView M) : Type 0 where
+    pub clocked : new.board.end ≡ None → new.history ≡ appended old.history (state_of new.board)
+    pub ended : IsSome new.board.end → new.history ≡ old.history
+
+  -- The newest state is where the board stands; behind an end, its memory.
+  pub record IsRewind (board : BoardView M) (h : HistoryView) : Type 0 where
+    pub words : (newest h).words ≡ board.bus.words
+    pub moment : board.end ≡ None → (newest h).moment ≡ moment_of board

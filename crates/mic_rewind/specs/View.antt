@@ -1,0 +1,53 @@
+-- What contracts see of a history: the states that are kept, with a cursor at one of them.
+use Rattle.std.specs.Prelude.{◌≡◌, ◌≤◌, ◌<◌, ℕ, ◌-◌, List, [], ◌∷◌, ◌++◌, length, take, drop}
+use Rattle.circular_buffer.specs.Buffer.{Buffer, keep_last}
+use Rattle.mic_rewind.specs.declared.kept_cycle.KeptCycle.{KeptCycle}
+use Rattle.mic_rewind.specs.declared.moment.Moment.{Moment}
+use Rattle.mic_rewind.specs.States.{Snapshot, states_before, states_after, LeadTo, LeadFrom}
+
+pub record HistoryView : Type 0 where
+  -- the states before the cursor's, the oldest first
+  pub before : List Snapshot
+  pub here : Snapshot
+  -- the states after it, up to the newest
+  pub after : List Snapshot
+  -- the most cycles that are kept
+  pub depth : ℕ
+
+-- the whole list
+abbrev pub states : HistoryView → List Snapshot
+states h = h.before ++ h.here ∷ h.after
+
+-- the cursor went back by one state, and the list stays
+pub record GoesBack (old new : HistoryView) : Type 0 where
+  pub before : old.before ≡ new.before ++ new.here ∷ []
+  pub after : new.after ≡ old.here ∷ old.after
+  pub depth : new.depth ≡ old.depth
+
+-- the cursor was at the newest state, and goes on to a new one; the oldest beyond the depth is dropped
+abbrev pub appended : HistoryView → Snapshot → HistoryView
+appended h s = record { before = keep_last h.depth (h.before ++ h.here ∷ []); here = s; after = []; depth = h.depth }
+
+-- How it is kept: the cycles up to the cursor, with so many of them after it.
+abbrev pub past : Buffer KeptCycle → ℕ → List KeptCycle
+past b behind = take (length b.items - behind) b.items
+
+abbrev pub future : Buffer KeptCycle → ℕ → List KeptCycle
+future b behind = drop (length b.items - behind) b.items
+
+abbrev pub view_of : Buffer KeptCycle → ℕ → Moment → List ℕ → HistoryView
+view_of b behind m words =
+    record {
+      before = states_before (past b behind) words;
+      here = record { moment = m; words = words };
+      after = states_after (future b behind) words;
+      depth = b.capacity;
+    }
+
+pub record IsHistory (b : Buffer KeptCycle) (behind : ℕ) (m : Moment) (words : List ℕ) : Type 0 where
+  pub some : 0 < b.capacity
+  pub few : b.capacity ≤ 65536
+  pub within : length b.items ≤ b.capacity
+  pub cursor : behind ≤ length b.items
+  pub led : LeadTo (past b behind) m words
+  pub leads : LeadFrom (future b behind) m words

@@ -1,0 +1,133 @@
+//! The last cycles of a board, and a cursor among them.
+
+ghost use Rattle.std.specs.Prelude.{◌≡◌, ◌≤◌, ◌<◌, [], ◌∷◌, length, slice_get, true, false, None, IfOk};
+ghost use Rattle.mic_clock.specs.Board.{tick_of};
+ghost use Rattle.mic_rewind.specs.States.{stored};
+ghost use Rattle.mic_rewind.specs.View.{GoesBack, appended};
+
+use crate::kept_cycle::KeptCycle;
+use crate::memory::{redo, take_over, undo};
+use crate::moment::Moment;
+use circular_buffer::HeapCircularBuffer;
+use mic_clock::Tick;
+use std::alloc::{AllocError, Global};
+use std::marker::Model;
+use std::mem::replace;
+
+/// The most cycles that a history keeps.
+pub const MOST_DEPTH: u32 = 65_536;
+
+/// The last cycles, and a memory of its own, as it was at the cursor.
+#[derive(Drop)]
+pub struct History {
+    cycles: HeapCircularBuffer<KeptCycle>,
+    /// The cycles from the cursor to the newest state.
+    behind: usize,
+    here: Moment,
+    memory: Vec<u32>,
+}
+
+impl Model for History {
+    ghost use Rattle.mic_rewind.specs.View.{HistoryView, IsHistory, view_of};
+
+    ghost Value = { HistoryView };
+
+    ghost view = { λ h. view_of h.cycles h.behind h.here h.memory.items };
+
+    ghost invariant = { λ h. IsHistory h.cycles h.behind h.here h.memory.items };
+}
+
+impl History {
+    /// Begins at one moment, with these memory words. At most `depth` cycles are kept.
+    pub fn new(
+        alloc: Global,
+        here: Moment,
+        memory: Vec<u32>,
+        depth: u32,
+    ) -> Result<History, AllocError>
+        requires { (0 < depth) × (depth ≤ 65536) }
+        ensures { IfOk result (λ h. h ≡ record { before = []; here = record { moment = here; words = memory.items }; after = []; depth = depth }) }
+    {
+        Ok(History {
+            cycles: HeapCircularBuffer::with_capacity(alloc, depth as usize)?,
+            behind: 0,
+            here,
+            memory,
+        })
+    }
+
+    /// The number of kept cycles before the cursor.
+    pub fn kept(&self) -> usize
+        ensures is { result ≡ length self.now.before }
+        ensures most { result ≤ 65536 }
+    {
+        self.cycles.len() - self.behind
+    }
+
+    /// The number of kept cycles from the cursor to the newest state.
+    pub fn behind(&self) -> usize
+        ensures is { result ≡ length self.now.after }
+        ensures most { result ≤ 65536 }
+    {
+        self.behind
+    }
+
+    /// The moment at the cursor.
+    pub fn here(&self) -> &Moment
+        ensures { result.now ≡ self.now.here.moment }
+    {
+        &self.here
+    }
+
+    /// The memory word at the cursor, or none where no memory is.
+    pub fn peek(&self, at: u32) -> Option<u32>
+        ensures { result ≡ slice_get self.now.here.words at }
+    {
+        self.memory.get(at as usize).copied()
+    }
+
+    /// Keeps a cycle that led from the newest state to this moment, and left this word at MAR.
+    pub fn append(&mut self, after: Moment, tick: Tick, word: Option<u32>)
+        requires newest { self.old.after ≡ [] }
+        requires tick { tick ≡ tick_of self.old.here.moment.counts after.counts None }
+        ensures { self.new ≡ appended self.old (record { moment = after; words = stored after.registers.mar word self.old.here.words }) }
+    {
+        let written = take_over(&mut self.memory, after.registers.mar, word);
+        let before = replace(&mut self.here, after.again());
+        self.cycles.push_back(KeptCycle {
+            before,
+            after,
+            tick,
+            written,
+        });
+    }
+
+    /// Goes back over the kept cycle before the cursor; answers whether there was one.
+    pub fn back(&mut self) -> bool
+        ensures went { result ≡ true → GoesBack self.old self.new }
+        ensures stayed { result ≡ false → (self.old.before ≡ []) × (self.new ≡ self.old) }
+    {
+        let kept = self.cycles.len() - self.behind;
+        if kept == 0 {
+            return false;
+        }
+        let cycle = self.cycles.get(kept - 1).unwrap();
+        undo(&mut self.memory, cycle.written);
+        self.here = cycle.before.again();
+        self.behind += 1;
+        true
+    }
+
+    /// Goes forward over the kept cycle after the cursor.
+    pub fn forward(&mut self) -> Tick
+        requires { 0 < length self.old.after }
+        ensures went { GoesBack self.new self.old }
+        ensures tick { result ≡ tick_of self.old.here.moment.counts self.new.here.moment.counts None }
+    {
+        let cycle = self.cycles.get(self.cycles.len() - self.behind).unwrap();
+        redo(&mut self.memory, cycle.written);
+        self.here = cycle.after.again();
+        self.behind -= 1;
+        cycle.tick
+    }
+}

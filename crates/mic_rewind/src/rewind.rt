@@ -1,0 +1,158 @@
+//! A board with a cursor at it, or some cycles before it.
+
+ghost use Rattle.std.specs.Prelude.{◌≡◌, ◌≢◌, ◌≤◌, ◌<◌, ◌+◌, ◌^◌, ℕ, List, [], Option, Some, None, IsSome, IfOk, IfErr, OnOk, true, false, length, slice_get};
+ghost use Rattle.console_port.specs.Bus.{Stands};
+ghost use Rattle.console_port.specs.Console.{HasFaultCause};
+ghost use Rattle.mic_clock.specs.Board.{IsTurned, IsCutByFault, HasEndCause, ShowsAs, tick_of};
+ghost use Rattle.mic_rewind.specs.View.{GoesBack};
+ghost use Rattle.mic_rewind.specs.Rewind.{MovesOn, Keeps, moment_of, state_of};
+
+use crate::history::History;
+use crate::moment::Moment;
+use console_port::BusFault;
+use ijvm_verifier::VerifiedImage;
+use mic_base::{Sink, Source};
+use mic_clock::{Board, Clocked, Counts, Registers, Tick};
+use std::alloc::{AllocError, Global};
+use std::marker::Model;
+
+/// A board that is only clocked forward, and the history of its last cycles, with the cursor.
+#[derive(Drop)]
+pub struct Rewind<M: Clocked> {
+    board: Board<M>,
+    history: History,
+}
+
+impl<M: Clocked> Model for Rewind<M> {
+    ghost use Rattle.mic_rewind.specs.Rewind.{RewindView, IsRewind};
+
+    ghost Value = { RewindView M };
+
+    ghost view = { λ r. record { board = r.board; history = r.history } };
+
+    ghost invariant = { λ r. IsRewind M.state M.meaning r.board r.history };
+}
+
+/// Where a board stands, beside its memory.
+fn moment_of<M: Clocked>(board: &Board<M>) -> Moment
+    ensures { result ≡ moment_of M.state M.meaning board.now }
+{
+    Moment {
+        registers: board.registers(),
+        counts: board.counts(),
+    }
+}
+
+/// The memory words of a board.
+fn words_of<M: Clocked>(alloc: Global, board: &Board<M>, size: u32) -> Result<Vec<u32>, AllocError>
+    requires { size ≡ length board.now.bus.words }
+    ensures { IfOk result (λ memory. memory.items ≡ board.now.bus.words) }
+{
+    let mut memory = Vec::new(alloc);
+    for at in 0..size {
+        memory.push(board.bus().word(at))?;
+    }
+    Ok(memory)
+}
+
+impl<M: Clocked> Rewind<M> {
+    /// Begins where a board stands that runs this image. At most `depth` cycles are kept.
+    pub fn new(
+        alloc: Global,
+        board: Board<M>,
+        image: &VerifiedImage,
+        depth: u32,
+    ) -> Result<Rewind<M>, AllocError>
+    where
+        M: Drop,
+        requires memory { length board.bus.words ≡ image.now.map.stack_end }
+        requires depth { (0 < depth) × (depth ≤ 65536) }
+        ensures board { IfOk result (λ r. r.board ≡ board) }
+        ensures history { IfOk result (λ r. r.history ≡ record { before = []; here = state_of M.state M.meaning board; after = []; depth = depth }) }
+    {
+        let memory = words_of(alloc, &board, image.map().stack_end)?;
+        let history = History::new(alloc, moment_of(&board), memory, depth)?;
+        Ok(Rewind { board, history })
+    }
+
+    /// Goes forward by a cycle: over the kept one after the cursor, or else by one that the board clocks.
+    pub fn forward<S: Source, K: Sink>(&mut self, source: &mut S, sink: &mut K) -> Tick
+        requires { self.old.history.after ≡ [] → self.old.board.counts.cycles ≤ 2 ^ 62 + 4096 }
+        ensures moves { self.old.history.after ≢ [] → MovesOn M.state M.meaning self.old self.new }
+        ensures again { self.old.history.after ≢ [] → result ≡ tick_of self.old.history.here.moment.counts self.new.history.here.moment.counts None }
+        ensures untouched { self.old.history.after ≢ [] → (source.new ≡ source.old) × (sink.new ≡ sink.old) }
+        ensures turn { self.old.history.after ≡ [] → IsTurned M.state M.meaning (S.left source.old) (K.held sink.old) self.old.board (S.left source.new) (K.held sink.new) self.new.board None }
+        ensures cut { self.old.history.after ≡ [] → IsCutByFault M.state M.meaning (S.left source.old) (K.held sink.old) self.old.board (S.left source.new) (K.held sink.new) self.new.board }
+        ensures tick { self.old.history.after ≡ [] → result ≡ tick_of self.old.board.counts self.new.board.counts self.new.board.end }
+        ensures keeps { self.old.history.after ≡ [] → Keeps M.state M.meaning self.old self.new }
+        ensures cause { self.old.history.after ≡ [] →
+            HasEndCause (S.faults source.old) (S.faults source.new) (K.faults sink.old) (K.faults sink.new) self.old.board.end self.new.board.end }
+    {
+        if self.history.behind() > 0 {
+            return self.history.forward();
+        }
+        let tick = self.board.cycle(source, sink);
+        if self.board.ended().is_none() {
+            let after = moment_of(&self.board);
+            let word = self.board.bus().peek(after.registers.mar);
+            self.history.append(after, tick, word);
+        }
+        tick
+    }
+
+    /// Goes back over the kept cycle before the cursor; answers whether there was one.
+    pub fn back(&mut self) -> bool
+        ensures went { result ≡ true → GoesBack self.old.history self.new.history × (self.new.board ≡ self.old.board) }
+        ensures stayed { result ≡ false → (self.old.history.before ≡ []) × (self.new ≡ self.old) }
+    {
+        self.history.back()
+    }
+
+    /// Puts what the board's console keeps to the sink.
+    pub fn flush<K: Sink>(&mut self, sink: &mut K) -> Result<(), BusFault>
+        ensures history { self.new.history ≡ self.old.history }
+        ensures board { self.new.board ≡ record self.old.board { bus = self.new.board.bus } }
+        ensures memory { self.new.board.bus.words ≡ self.old.board.bus.words }
+        ensures ok { OnOk result (ShowsAs M.state (K.held sink.old) self.old.board (K.held sink.new) self.new.board (λ r. r)) }
+        ensures err { (left : Option (List ℕ)) → IfErr result (Stands left (K.held sink.old) self.old.board.bus left (K.held sink.new) self.new.board.bus) }
+        ensures kept { self.new.board.bus.console.kept ≡ [] }
+        ensures cause { HasFaultCause 0 0 (K.faults sink.old) (K.faults sink.new) result }
+    {
+        self.board.flush(sink)
+    }
+
+    /// The registers at the cursor.
+    pub fn registers(&self) -> Registers
+        ensures { result ≡ self.now.history.here.moment.registers }
+    {
+        self.history.here().registers.again()
+    }
+
+    /// The counts at the cursor.
+    pub fn counts(&self) -> Counts
+        ensures { result ≡ self.now.history.here.moment.counts }
+    {
+        self.history.here().counts
+    }
+
+    /// The memory word at the cursor, or none where no memory is.
+    pub fn peek(&self, at: u32) -> Option<u32>
+        ensures { result ≡ slice_get self.now.history.here.words at }
+    {
+        self.history.peek(at)
+    }
+
+    /// The number of kept cycles from the cursor to the board.
+    pub fn behind(&self) -> u32
+        ensures { result ≡ length self.now.history.after }
+    {
+        self.history.behind() as u32
+    }
+
+    /// The number of kept cycles before the cursor.
+    pub fn kept(&self) -> u32
+        ensures { result ≡ length self.now.history.before }
+    {
+        self.history.kept() as u32
+    }
+}
