@@ -1,13 +1,13 @@
 -- Why an access of the machine fails: its words read and write the console where the memory ends before it.
-use Rattle.std.proofs.Common.{◌≡◌, ℕ, ◌%◌, ◌≤◌, true, false, List, length, Option, None, inl, inr, refl, sym, subst}
-use Rattle.std.proofs.lemmas.Bool.{le-ltb}
+use Rattle.std.proofs.Common.{◌≡◌, ◌≢◌, ◌⊎◌, ℕ, ◌%◌, ◌<◌, ◌≤◌, true, false, List, [], ◌∷◌, length, Option, None, inl, inr, refl, sym, subst}
+use Rattle.std.proofs.lemmas.Bool.{cases_lt, le-ltb}
 use Rattle.console_port.specs.View.{BusView}
 use Rattle.console_port.specs.World.{World, console_at, untaken_after, given_after, write_refusal}
 use Rattle.console_port.specs.Console.{IsFault}
 use Rattle.console_port.specs.declared.fault.BusFault.{BusFault}
 use Rattle.console_port.specs.declared.fault.BusFault.TheVariants.{WriteFault}
 use Rattle.mic_clock.specs.Meaning.{ReadsConsole, WritesConsole}
-use Rattle.mic_clock.specs.Edge.{IsErrOfStep}
+use Rattle.mic_clock.specs.Edge.{IsErrOfStep, LetsBytesWait}
 use Rattle.accumulator.specs.Accumulator.{has_read, has_write, has_fetch, meaning}
 use Rattle.accumulator.specs.declared.machine.Cells.{Cells}
 
@@ -54,3 +54,19 @@ module _ (word : ℕ) (s : Cells) where
         (λ w same. storing w (subst (λ (ws : List ℕ). length ws ≤ s.acc) (sym same) behind) read write fetch
         (subst (λ (ws : List ℕ). write_refusal (length ws) s.acc ≡ None) (sym same) clear))
         fault
+
+  some_or_none : (xs : List ℕ) → (xs ≡ []) ⊎ (xs ≢ [])
+  some_or_none [] = inl refl
+  some_or_none (x ∷ xs) = inr (λ e. cc)
+
+  -- a read lets the bytes wait, unless it is of the console
+  pub read_waits : {K : Type 0} (left held : Option (List ℕ)) (bus : BusView) (sink sink' : K) → has_read word ≡ true →
+      (console_at < length bus.words → sink' ≡ sink) → (bus.console.kept ≡ [] → sink' ≡ sink) → LetsBytesWait meaning word s left held bus sink sink'
+  read_waits left held bus sink sink' read memory empty = λ room.
+      elim (cases_lt console_at (length bus.words)) [
+        | inl inside ↦ inl (memory inside)
+        | inr behind ↦ elim (some_or_none bus.console.kept) [
+          | inl none ↦ inl (empty none)
+          | inr some ↦ inr (some, λ w shows. reading w (subst (λ (ws : List ℕ). length ws ≤ console_at) (sym shows.words) behind) read)
+        ]
+      ]

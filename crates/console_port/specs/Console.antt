@@ -20,6 +20,16 @@ abbrev pub Asks : List ℕ → Option (List ℕ) → Bool → Type 0
 Asks [] left ended = (left ≡ Some []) × (ended ≡ true)
 Asks (byte ∷ rest) left ended = (left ≡ Some rest) × (ended ≡ false)
 
+-- the source tells what it has left: nothing once its end was met
+pub record TellsLeft (left : Option (List ℕ)) (ended : Bool) : Type 0 where
+  pub bytes : List ℕ
+  pub tells : left ≡ Some bytes
+  pub none_left : ended ≡ true → bytes ≡ []
+
+-- where it told so before, it tells so after
+abbrev pub StillTells : Option (List ℕ) → Bool → Option (List ℕ) → Bool → Type 0
+StillTells left ended left' ended' = TellsLeft left ended → TellsLeft left' ended'
+
 -- the bytes given may be these: where the sink tells what it holds, that followed by the kept bytes
 abbrev pub Given : Option (List ℕ) → List ℕ → List ℕ → Type 0
 Given held kept given = IfSome held (λ h. given ≡ h ++ kept)

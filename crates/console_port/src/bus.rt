@@ -4,7 +4,7 @@ ghost use Rattle.mic_base.specs.Streams.{Holds, IsFlushed};
 ghost use Rattle.std.specs.Prelude.{◌/◌, ◌==◌, ◌≡◌, ◌≢◌, ◌≤◌, ◌<◌, [], ℕ, List, Option, Some, None, Ok, Err, true, false, length, replicate, IsTrue, ◌↔◌, IsSome, slice_get, slice_index, slice_set, IsOk, IfOk, OnOk, OnErr, IfErr};
 ghost use Rattle.console_port.specs.Access.{IsAccess};
 ghost use Rattle.console_port.specs.Bus.{Shows, Stands, IsLed, ChangesOnly, refused_by, IsRead};
-ghost use Rattle.console_port.specs.Console.{IsLost, IsFault, HasFaultCause, StaysFlushed, most_kept};
+ghost use Rattle.console_port.specs.Console.{IsLost, IsFault, HasFaultCause, StaysFlushed, StillTells, most_kept};
 ghost use Rattle.console_port.specs.Loading.{IsLoaded};
 ghost use Rattle.console_port.specs.World.{World, Refusal, fault_of, console_at, read_refusal, write_refusal, word_refusal, fetch_refusal, byte_in, read_value, after_write};
 
@@ -127,6 +127,7 @@ impl Bus {
         ensures fault { IfErr result (λ e. read_refusal (length self.old.words) at ≡ None → (at ≡ console_at) × IsFault e) }
         ensures ended { self.old.console.ended ≡ true → self.new.console.ended ≡ true }
         ensures empty { self.old.console.kept ≡ [] → sink.new ≡ sink.old }
+        ensures tells_left { StillTells (S.left source.old) self.old.console.ended (S.left source.new) self.new.console.ended }
         ensures words { self.new.words ≡ self.old.words }
         ensures memory { at < length self.old.words →
             (result ≡ Ok (slice_index self.old.words at)) × (self.new ≡ self.old) × (source.new ≡ source.old) × (sink.new ≡ sink.old) }

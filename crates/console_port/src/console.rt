@@ -3,7 +3,7 @@
 ghost use Rattle.mic_base.specs.Causes.{HasCause};
 ghost use Rattle.mic_base.specs.Streams.{Holds, IsFlushed, PutsAndFlushes};
 ghost use Rattle.std.specs.Prelude.{◌≡◌, ◌≢◌, ◌<◌, ◌+◌, [], ◌∷◌, ◌++◌, ℕ, List, false, true, drop, length, Ok, IsOk, IfOk, OnOk, OnErr, IfErr, IsErrOf, IsSome, Some, Err};
-ghost use Rattle.console_port.specs.Console.{Asks, Untaken, Given, IsLost, IsFault, HasFaultCause, StaysFlushed, most_kept};
+ghost use Rattle.console_port.specs.Console.{Asks, Untaken, Given, IsLost, IsFault, HasFaultCause, StaysFlushed, StillTells, most_kept};
 ghost use Rattle.console_port.specs.World.{next_byte};
 
 use crate::fault::BusFault;
@@ -41,6 +41,7 @@ impl Console {
     }
 
     /// The next input byte, or 0 at the end of input. The kept bytes go to the sink before the source is asked.
+    #[tactic(auto, using(crate::proofs::Taken::told_as, crate::proofs::Taken::told_taken, crate::proofs::Taken::told_ended))]
     pub fn take<S: Source, K: Sink>(&mut self, source: &mut S, sink: &mut K) -> Result<u8, BusFault>
         ensures ok { IfOk result (λ byte. (rest : List ℕ) → Untaken (S.left source.new) self.new.ended rest →
             (untaken : List ℕ) × Untaken (S.left source.old) self.old.ended untaken × (byte ≡ next_byte untaken) × (drop 1 untaken ≡ rest)) }
@@ -55,6 +56,7 @@ impl Console {
         ensures asked { self.old.ended ≡ false → self.new.kept ≡ [] }
         ensures told { (bytes : List ℕ) → self.old.ended ≡ false → S.left source.old ≡ Some bytes →
             OnOk result (Asks bytes (S.left source.new) self.new.ended) }
+        ensures tells_left { StillTells (S.left source.old) self.old.ended (S.left source.new) self.new.ended }
         ensures asked_no_more { self.old.ended ≡ true → (result ≡ Ok 0) × (self.new ≡ self.old) × (source.new ≡ source.old) × (sink.new ≡ sink.old) }
         ensures nothing_kept { self.old.kept ≡ [] → sink.new ≡ sink.old }
         ensures empty { self.old.kept ≡ [] → sink.new ≡ sink.old }

@@ -3,7 +3,7 @@ use Rattle.std.proofs.Common.{◌≡◌, ℕ, List, [], ◌++◌, Option, Some, 
 use Rattle.std.proofs.lemmas.List.{append-nil}
 use Rattle.mic_base.specs.Streams.{Holds}
 use Rattle.console_port.specs.World.{World}
-use Rattle.console_port.specs.Console.{Untaken, Given}
+use Rattle.console_port.specs.Console.{Untaken, Given, TellsLeft, StillTells}
 use Rattle.mic_clock.specs.Meaning.{Meaning}
 use Rattle.mic_clock.specs.View.{BoardView}
 use Rattle.mic_clock.specs.declared.end.End.{End}
@@ -14,7 +14,7 @@ use Rattle.ijvm_paths.specs.Accepted.{VerifiedView, IsAccepted}
 use Rattle.ijvm_simulation.specs.Simulates.{IsEnd}
 use Rattle.ijvm_simulation.specs.Law.{Grows}
 use Rattle.ijvm_simulation.specs.Starts.{Starts}
-use Rattle.ijvm_simulation.specs.Headline.{told_of, reset_run, Begins, HasRun, IsCutByRead, IsCutByWrite}
+use Rattle.ijvm_simulation.specs.Headline.{told_of, Leaves, reset_run, Begins, HasRun, IsCutByRead, IsCutByWrite}
 use Rattle.ijvm_simulation.proofs.Next.{Known}
 use Rattle.ijvm_simulation.proofs.Carried.{Promises, simulated}
 use Rattle.ijvm_simulation.proofs.Worlds.{same_end, front_of_end}
@@ -37,6 +37,19 @@ holds_told : (held : Option (List ℕ)) → Holds (told_of held) held
 holds_told None = tt
 holds_told (Some h) = ([], sym (append-nil h))
 
+-- what a source tells that may have left these bytes
+still_told : (left : Option (List ℕ)) (ended : Bool) (rest : List ℕ) → TellsLeft left ended → Untaken left ended rest → left ≡ Some rest
+still_told left true rest t here = t.tells ∙ ap some (t.none_left refl ∙ sym here)
+  where
+    some : List ℕ → Option (List ℕ)
+    some x = Some x
+still_told left false rest t here =
+    let same : rest ≡ t.bytes = subst (λ (l : Option (List ℕ)). IfSome l (λ x. rest ≡ x)) t.tells here in
+    t.tells ∙ ap some (sym same)
+  where
+    some : List ℕ → Option (List ℕ)
+    some x = Some x
+
 -- what the sink holds, where all that was given was put
 all_put : (held : Option (List ℕ)) (kept given given' : List ℕ) → kept ≡ [] → given ≡ given' → Given held kept given → IfSome held (λ h. h ≡ given')
 all_put None kept given given' e same g = tt
@@ -48,7 +61,8 @@ front_put None before given kept front = tt
 front_put (Some h) before given kept front = (record { more = kept.0; are = kept.1 }, record { more = front.0; are = front.1 })
 
 module _ {M S : Type 0} (state : M → S) (m : Meaning S) (IsReady : ℕ → List ℕ → ℕ → S → Type 0) (IsShipped : List ℕ → Type 0) (entry : ℕ) (promises : Promises m IsReady IsShipped entry)
-    (v : VerifiedView) (image : IsImage v.image) (accepted : IsAccepted v) (known : Known v) (bound : ℕ) (left held left' held' : Option (List ℕ)) (board0 board : BoardView M) (s : Starts state m entry v board0) (has : IsShipped board.store.words) where
+    (v : VerifiedView) (image : IsImage v.image) (accepted : IsAccepted v) (known : Known v) (bound : ℕ) (left held left' held' : Option (List ℕ)) (board0 board : BoardView M) (s : Starts state m entry v board0) (has : IsShipped board.store.words)
+    (tells : StillTells left board0.bus.console.ended left' board.bus.console.ended) where
   abbrev Here : Type 0
   Here = Begins state m IsReady IsShipped entry v bound board.store.words left (told_of held)
 
@@ -66,6 +80,9 @@ module _ {M S : Type 0} (state : M → S) (m : Meaning S) (IsReady : ℕ → Lis
 
   abbrev after : ℕ → List ℕ → MicroRun S
   after n input = turns m board.store.words (Some bound) n (reset_run m entry v.main_locals (world input))
+
+  leaves : (rest : List ℕ) → Untaken left' board.bus.console.ended rest → Leaves left left' rest
+  leaves rest here = λ bytes told. still_told left' board.bus.console.ended rest (tells (record { bytes = bytes; tells = told; none_left = λ e. let begun = s.input in absurd (cc) })) here
 
   shown : (input : List ℕ) → Untaken left board0.bus.console.ended input → ShowsRun state left held board0 (reset_run m entry v.main_locals (world input))
   shown input h =
@@ -97,10 +114,10 @@ module _ {M S : Type 0} (state : M → S) (m : Meaning S) (IsReady : ℕ → Lis
       record {
         begins = b;
         n = n;
-        at = record { its_state = here.its_state; memory = here.world.words; counts = here.counts; untaken = here.world.untaken };
+        at = record { its_state = here.its_state; memory = here.world.words; counts = here.counts; untaken = here.world.untaken; leaves = leaves (after n input).world.untaken here.world.untaken };
         end = here.its_end;
         agrees = agrees;
-        untaken = subst (λ (u : List ℕ). Untaken left' board.bus.console.ended u) agrees.untaken here.world.untaken;
+        untaken = subst (λ (u : List ℕ). Leaves left left' u) agrees.untaken (leaves (after n input).world.untaken here.world.untaken);
         given = all_put held' board.bus.console.kept (after n input).world.given (told_of held ++ b.finish.left.given) kept agrees.given here.world.given;
       }
 
@@ -119,7 +136,7 @@ module _ {M S : Type 0} (state : M → S) (m : Meaning S) (IsReady : ℕ → Lis
       record {
         begins = b;
         n = n;
-        at = record { its_state = here.its_state; memory = here.world.words; counts = here.counts; untaken = here.world.untaken };
+        at = record { its_state = here.its_state; memory = here.world.words; counts = here.counts; untaken = here.world.untaken; leaves = leaves (after n input).world.untaken here.world.untaken };
         next = here.next;
         reads = here.reads;
         given = all_put held' board.bus.console.kept (after n input).world.given (after n input).world.given here.kept refl here.world.given;
@@ -141,7 +158,7 @@ module _ {M S : Type 0} (state : M → S) (m : Meaning S) (IsReady : ℕ → Lis
       record {
         begins = b;
         n = n;
-        at = record { its_state = here.its_state; memory = here.memory; counts = here.counts; untaken = here.untaken };
+        at = record { its_state = here.its_state; memory = here.memory; counts = here.counts; untaken = here.untaken; leaves = leaves (after n input).world.untaken here.untaken };
         next = here.next;
         given = front_put held' (told_of held) (after n input).world.given (keeps (told_of held) (holds_told held)) here.front;
         front = front b n;

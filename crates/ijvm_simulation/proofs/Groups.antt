@@ -14,7 +14,7 @@ use Rattle.ijvm_simulation.specs.Passes.{Moment}
 use Rattle.ijvm_simulation.specs.Outcomes.{Went, Overran}
 use Rattle.ijvm_simulation.specs.Verified.{Fine, IsNext}
 use Rattle.ijvm_simulation.specs.Law.{Moves, Overruns, Takes}
-use Rattle.ijvm_simulation.specs.Stalls.{MovesWithStalls, TakesWithStalls}
+use Rattle.ijvm_simulation.specs.Stalls.{MovesWithStalls, OverrunsWithStalls, TakesWithStalls}
 
 module _ (P : Instr → Type 0) (operands : (i : Instr) → IsOfOperands i → P i) (locals : (i : Instr) → IsOfLocals i → P i) (jumps : (i : Instr) → IsJump i → P i)
     (calls : (i : Instr) → IsCall i → P i) (consoles : (i : Instr) → IsOfConsole i → P i) (err : P Err) (halt : P Halt) where
@@ -51,8 +51,8 @@ module _ {S : Type 0} (m : Meaning S) (words : List ℕ) (IsAt : State → S →
   abbrev On : (State → Moment S → Instr → Type 0) → State → State → Moment S → Instr → Type 0
   On Leads s to q i = Fine v s → IsNext v o s i → IsAt s q.state q.world → Went v.image v.map.stack_end s to i → Leads to q i
 
-  abbrev Full : State → State → Moment S → Instr → Type 0
-  Full s left q i = Fine v s → IsNext v o s i → IsAt s q.state q.world → Overran v.image v.map.stack_end s left i → Overruns m words IsAt before q left
+  abbrev Full : (State → Moment S → Instr → Type 0) → State → State → Moment S → Instr → Type 0
+  Full Overrun s left q i = Fine v s → IsNext v o s i → IsAt s q.state q.world → Overran v.image v.map.stack_end s left i → Overrun left q i
 
   pub takes : ByGroups (Takes m words IsAt before v o)
   takes operands locals jumps calls consoles =
@@ -61,7 +61,7 @@ module _ {S : Type 0} (m : Meaning S) (words : List ℕ) (IsAt : State → S →
             each (On (λ t p j. Moves m words IsAt before p (cost v.image m.machine j s) t) s to q) (operands.goes s to q) (locals.goes s to q) (jumps.goes s to q) (calls.goes s to q) (consoles.goes s to q)
             (λ fine n h went. absurd went) (λ fine n h went. absurd went) i;
         limits = λ s left q i any.
-            each (Full s left q) (operands.limits s left q) (locals.limits s left q) (jumps.limits s left q) (calls.limits s left q) (consoles.limits s left q)
+            each (Full (λ l p j. Overruns m words IsAt before p l) s left q) (operands.limits s left q) (locals.limits s left q) (jumps.limits s left q) (calls.limits s left q) (consoles.limits s left q)
             (λ fine n h over. absurd over) (λ fine n h over. absurd over) i;
       }
 
@@ -73,6 +73,6 @@ module _ {S : Type 0} (m : Meaning S) (words : List ℕ) (IsAt : State → S →
             (operands.goes s to q) (locals.goes s to q) (jumps.goes s to q) (calls.goes s to q) (consoles.goes s to q)
             (λ fine n h went. absurd went) (λ fine n h went. absurd went) i;
         limits = λ s left q i any.
-            each (Full s left q) (operands.limits s left q) (locals.limits s left q) (jumps.limits s left q) (calls.limits s left q) (consoles.limits s left q)
+            each (Full (λ l p j. OverrunsWithStalls m words IsAt before p (stalls_of v.image j) l) s left q) (operands.limits s left q) (locals.limits s left q) (jumps.limits s left q) (calls.limits s left q) (consoles.limits s left q)
             (λ fine n h over. absurd over) (λ fine n h over. absurd over) i;
       }

@@ -18,3 +18,4 @@ pub mod Accesses
 pub mod Methods
 pub mod Writes
 pub mod Stack
+pub mod Counted

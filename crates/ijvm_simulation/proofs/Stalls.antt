@@ -3,26 +3,27 @@ use Rattle.std.proofs.Common.{◌≡◌, ℕ, suc, ◌+◌, ◌<◌, Some, false
 use Rattle.std.specs.Prelude.{nat_le}
 use Rattle.std.proofs.lemmas.Bool.Decides.{nat_tests}
 use Rattle.std.proofs.lemmas.Option.{same_Some}
-use Rattle.console_port.specs.World.{World}
-use Rattle.mic_clock.specs.Meaning.{Meaning}
-use Rattle.mic_clock.specs.Run.{MicroRun, turns, last_cycles}
+use Rattle.console_port.specs.World.{World, StackLimit}
+use Rattle.mic_clock.specs.Meaning.{Meaning, Refused}
+use Rattle.mic_clock.specs.Run.{MicroRun, turns, after_step, last_cycles}
 use Rattle.ijvm_image.specs.Image.{ImageView}
 use Rattle.ijvm_instr.specs.declared.instr.Instr.{Instr}
 use Rattle.ijvm_instr.specs.Instructions.{instr_at}
 use Rattle.ijvm_run.specs.Frames.{State, start_of}
-use Rattle.ijvm_run.specs.Step.{Outcome, Goes, outcome, step_if_any}
+use Rattle.ijvm_run.specs.Step.{Outcome, Goes, Limits, outcome, step_if_any}
 use Rattle.ijvm_run.specs.Cost.{boot, cost, cost_at, next_cost}
 use Rattle.ijvm_run.specs.Run.{Program, Point, point_after, first_point}
 use Rattle.ijvm_paths.specs.Accepted.{VerifiedView}
 use Rattle.ijvm_simulation.specs.Stands.{Origin}
-use Rattle.ijvm_simulation.specs.Outcomes.{Went, IsOutcome}
+use Rattle.ijvm_simulation.specs.Outcomes.{Went, Overran, IsOutcome}
 use Rattle.ijvm_simulation.specs.Verified.{program, Loads, Fine, IsNext}
 use Rattle.ijvm_simulation.specs.Simulates.{IsBoundary}
 use Rattle.ijvm_simulation.specs.Law.{Law, Shows, Boots, reset_moment}
 use Rattle.ijvm_simulation.specs.Headline.{reset_run}
-use Rattle.ijvm_simulation.specs.Stalls.{MovesWithStalls, TakesWithStalls, HasStalled, Booted, Behind}
+use Rattle.ijvm_simulation.specs.Stalls.{MovesWithStalls, OverrunsWithStalls, TakesWithStalls, HasStalled, StoppedWithin, Booted, Behind}
 use Rattle.ijvm_simulation.proofs.Cases.{says}
-use Rattle.ijvm_simulation.proofs.Turns.{moment_of, run_at, IsReady, turns-add, pass_turns}
+use Rattle.ijvm_simulation.proofs.Passes.{not_boundary}
+use Rattle.ijvm_simulation.proofs.Turns.{moment_of, run_at, run_inside, IsReady, ready_inside, whole_turn, clocks, turns-add, pass_turns, pass_turns_inside}
 use Rattle.ijvm_simulation.proofs.Instruction.{Law as BoundaryLaw, Keeps, Moved, moved}
 use Rattle.ijvm_simulation.proofs.Next.{Known, fine_start, keeps, next, boundary_law}
 use Rattle.ijvm_simulation.proofs.Boots.{booted}
@@ -80,6 +81,34 @@ module _ {S : Type 0} (m : Meaning S) (store : List ℕ) (IsAt : State → S →
         stalled = stalls_behind at stalls r i to h below code goes;
       }
 
+  -- an instruction that the stack's end cuts short
+  cut_behind : (at : Point) (stalls : ℕ) (r : MicroRun S) (i : Instr) (left : State) → IsHere at stalls r → at.cycles < bound →
+      instr_at v.image.text at.state.at ≡ Some i → outcome v.image v.map.stack_end at.state ≡ Limits left →
+      (n : ℕ) × StoppedWithin (stalls + stalls_of v.image i) (turns m store (Some bound) n r)
+  cut_behind at stalls r i left h below code limits =
+      let n = next v o loads known at.state h.fine in
+      let same : n.0 ≡ i = same_Some n.0 i (sym n.1.finds.code ∙ code) in
+      let is : IsNext v o at.state i = subst (λ (j : Instr). IsNext v o at.state j) same n.1 in
+      let over : Overran v.image v.map.stack_end at.state left i =
+      subst (λ (x : Outcome). IsOutcome v.image v.map.stack_end at.state i x) (ap (step_if_any v.image v.map.stack_end at.state) (sym code) ∙ limits) (says v.image v.map.stack_end at.state i) in
+      let w : OverrunsWithStalls m store IsAt o.given (moment_of r) (stalls_of v.image i) left = takes.limits at.state left (moment_of r) i tt h.fine is h.boundary.stands over in
+      let u = w.overruns in
+      let t : nat_le bound at.cycles ≡ false = grind (arith, nat_tests) in
+      let later : nat_le bound r.counts.cycles ≡ false = ap (nat_le bound) h.boundary.cycles ∙ t in
+      let last : last_cycles r.counts.boundary ≡ at.cycles = ap last_cycles h.boundary.boundary in
+      let ready : IsReady m bound r =
+      record { no_bound = grind (arith, nat_tests); no_halt = u.begins.no_halt; no_err = u.begins.no_err; not_ended = h.boundary.not_ended } in
+      let q : MicroRun S = run_inside m r (r.counts.cycles + u.n + 1) u.there in
+      let off : m.is_boundary u.there.state ≡ false = not_boundary m u.there.state u.inside in
+      let first : turns m store (Some bound) (suc u.n) r ≡ q =
+      pass_turns_inside m store bound u.n r u.there (r.counts.cycles + u.n + 1) refl ready (omega (arith, h.boundary.cycles, u.short)) u.passes off in
+      let nearby : r.counts.cycles + u.n + 1 < last_cycles r.counts.boundary + 1024 = omega (arith, h.boundary.cycles, u.short) in
+      let final : whole_turn m store bound q ≡ after_step m store q (Refused (StackLimit u.at)) =
+      clocks m store bound q (Refused (StackLimit u.at)) (ready_inside m store bound r u.there (r.counts.cycles + u.n + 1) u.inside) nearby u.refused in
+      let whole : turns m store (Some bound) (suc u.n + 1) r ≡ after_step m store q (Refused (StackLimit u.at)) =
+      turns-add m store bound (suc u.n) 1 r ∙ (ap (whole_turn m store bound) first ∙ final) in
+      (suc u.n + 1, subst (λ (x : MicroRun S). StoppedWithin (stalls + stalls_of v.image i) x) (sym whole) (record { end = refl; stalled = omega (arith, w.stalled, h.stalled) }))
+
   module _ (entry booting : ℕ) (input : List ℕ) (boots : MovesWithStalls m store IsAt o.given (reset_moment m entry v.main_locals o input) boot booting (start_of v.main_locals input))
       (off : Boots m store IsAt o.given (reset_moment m entry v.main_locals o input) (start_of v.main_locals input)) where
     abbrev start : MicroRun S
@@ -112,3 +141,10 @@ module _ {S : Type 0} (m : Meaning S) (store : List ℕ) (IsAt : State → S →
 
     pub stalled_at : (at : Point) (stalls : ℕ) → HasStalled booting stalls_of p bound (first_point v.main_locals input) at stalls → (turns m store (Some bound) at.cycles start).counts.stalls ≡ stalls
     stalled_at at stalls h = (here at stalls h).stalled
+
+    pub cut_at : (at : Point) (stalls : ℕ) (i : Instr) (left : State) → HasStalled booting stalls_of p bound (first_point v.main_locals input) at stalls → at.cycles < bound →
+        instr_at v.image.text at.state.at ≡ Some i → outcome v.image v.map.stack_end at.state ≡ Limits left →
+        (n : ℕ) × StoppedWithin (stalls + stalls_of v.image i) (turns m store (Some bound) n start)
+    cut_at at stalls i left h below code limits =
+        let c = cut_behind at stalls (turns m store (Some bound) at.cycles start) i left (here at stalls h) below code limits in
+        (at.cycles + c.0, subst (λ (r : MicroRun S). StoppedWithin (stalls + stalls_of v.image i) r) (sym (turns-add m store bound at.cycles c.0 start)) c.1)

@@ -2,7 +2,7 @@
 use Rattle.std.specs.Prelude.{◌≡◌, ◌⊎◌, ℕ, ◌+◌, ◌-◌, List, [], ◌++◌, replicate, Option, Some, IfSome, IsSome, unwrap_or, false}
 use Rattle.console_port.specs.World.{World}
 use Rattle.console_port.specs.Loading.{IsLoaded}
-use Rattle.console_port.specs.Console.{Untaken}
+use Rattle.console_port.specs.Console.{Untaken, LosesLast}
 use Rattle.mic_clock.specs.Meaning.{Meaning, ReadsConsole, UsesConsole}
 use Rattle.mic_clock.specs.View.{BoardView}
 use Rattle.mic_clock.specs.Run.{MicroRun, start_run, turns, word_at, IsClocking}
@@ -16,6 +16,10 @@ use Rattle.ijvm_simulation.specs.Law.{Grows}
 -- what a source or a sink tells, or nothing
 abbrev pub told_of : Option (List ℕ) → List ℕ
 told_of told = unwrap_or told []
+
+-- a source that told what it had left tells these bytes now
+abbrev pub Leaves : Option (List ℕ) → Option (List ℕ) → List ℕ → Type 0
+Leaves left left' untaken = (bytes : List ℕ) → left ≡ Some bytes → left' ≡ Some untaken
 
 -- the clocked run at its reset: MPC at the entry, and SP before the first operand of main, which has so many locals
 abbrev pub reset_run : {S : Type 0} → Meaning S → ℕ → ℕ → World → MicroRun S
@@ -48,6 +52,7 @@ module _ {M S : Type 0} (state : M → S) (m : Meaning S) (IsReady : ℕ → Lis
         pub memory : r.world.words ≡ board.bus.words
         pub counts : r.counts ≡ board.counts
         pub untaken : Untaken left' board.bus.console.ended r.world.untaken
+        pub leaves : Leaves left left' r.world.untaken
 
       -- no fault came: the run has ended, as the definition's has; the sink holds all its output, and what it left of the input is left
       pub record HasRun : Type 0 where
@@ -56,7 +61,7 @@ module _ {M S : Type 0} (state : M → S) (m : Meaning S) (IsReady : ℕ → Lis
         pub at : IsAtMoment (moment begins n)
         pub end : (moment begins n).end ≡ board.end
         pub agrees : IsEnd (told_of held) begins.finish (moment begins n)
-        pub untaken : Untaken left' board.bus.console.ended begins.finish.left.untaken
+        pub untaken : Leaves left left' begins.finish.left.untaken
         pub given : IfSome held' (λ h. h ≡ told_of held ++ begins.finish.left.given)
 
       -- The source failed: the run was cut before a read of the console. The sink holds all that the cut run gave, which is a front of the definition's output.
@@ -69,7 +74,7 @@ module _ {M S : Type 0} (state : M → S) (m : Meaning S) (IsReady : ℕ → Lis
         pub given : IfSome held' (λ h. h ≡ (moment begins n).world.given)
         pub front : Grows (moment begins n).world.given (told_of held ++ begins.finish.left.given)
 
-      -- The sink failed: the run was cut before an access of the console, or at its end. The sink holds a front of what the cut run gave, which is a front of the definition's output.
+      -- The sink failed: the run was cut before an access of the console, or at its end, where the last bytes that were given waited. The sink holds a front of what the cut run gave, which is a front of the definition's output.
       pub record IsCutByWrite : Type 0 where
         pub begins : Begins board.store.words left (told_of held)
         pub n : ℕ
@@ -77,6 +82,6 @@ module _ {M S : Type 0} (state : M → S) (m : Meaning S) (IsReady : ℕ → Lis
         pub next :
             (IsClocking m board.store.words (Some bound) (moment begins n)
             × UsesConsole m (word_at m board.store.words (moment begins n).state) (moment begins n).state (moment begins n).world)
-            ⊎ IsSome (moment begins n).end
+            ⊎ (IsSome (moment begins n).end × LosesLast held' (moment begins n).world.given)
         pub given : IfSome held' (λ h. Grows (told_of held) h × Grows h (moment begins n).world.given)
         pub front : Grows (moment begins n).world.given (told_of held ++ begins.finish.left.given)

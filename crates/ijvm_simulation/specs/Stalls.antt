@@ -1,13 +1,14 @@
 -- How many of its cycles stall: what a machine promises of its boot and of each instruction, and what its clock then has counted at each boundary of a run.
-use Rattle.std.specs.Prelude.{◌≡◌, ℕ, ◌+◌, ◌<◌, List, Some}
+use Rattle.std.specs.Prelude.{◌≡◌, ℕ, ◌+◌, ◌<◌, ◌≤◌, List, Some}
 use Rattle.console_port.specs.World.{World}
 use Rattle.mic_clock.specs.Meaning.{Meaning}
-use Rattle.mic_clock.specs.Run.{turns}
+use Rattle.mic_clock.specs.Run.{MicroRun, turns}
+use Rattle.mic_clock.specs.declared.end.End.TheVariants as clocked
 use Rattle.ijvm_image.specs.Image.{ImageView}
 use Rattle.ijvm_instr.specs.declared.instr.Instr.{Instr}
 use Rattle.ijvm_instr.specs.Instructions.{instr_at}
 use Rattle.ijvm_run.specs.Frames.{State, start_of}
-use Rattle.ijvm_run.specs.Step.{Goes, outcome}
+use Rattle.ijvm_run.specs.Step.{Goes, Limits, outcome}
 use Rattle.ijvm_run.specs.Run.{Program, Point, point_after, first_point}
 use Rattle.ijvm_run.specs.Cost.{boot, cost}
 use Rattle.ijvm_paths.specs.Accepted.{VerifiedView}
@@ -24,12 +25,17 @@ module _ {S : Type 0} (m : Meaning S) (words : List ℕ) (IsAt : State → S →
     pub moves : Moves m words IsAt before q spent to
     pub stalled : moves.there.stalls ≡ q.stalls + stalls
 
+  -- some cycles behind a boundary a write meets the stack's end, and no more than so many of them stalled
+  pub record OverrunsWithStalls (q : Moment S) (stalls : ℕ) (left : State) : Type 0 where
+    pub overruns : Overruns m words IsAt before q left
+    pub stalled : overruns.there.stalls ≤ q.stalls + stalls
+
   -- what the instructions of a group take of a machine that runs a verified image, with the stalls of each
   pub record TakesWithStalls (stalls_of : ImageView → Instr → ℕ) (v : VerifiedView) (o : Origin) (Has : Instr → Type 0) : Type 0 where
     pub goes : (s to : State) (q : Moment S) (i : Instr) → Has i → Fine v s → IsNext v o s i → IsAt s q.state q.world →
         Went v.image v.map.stack_end s to i → MovesWithStalls q (cost v.image m.machine i s) (stalls_of v.image i) to
     pub limits : (s left : State) (q : Moment S) (i : Instr) → Has i → Fine v s → IsNext v o s i → IsAt s q.state q.world →
-        Overran v.image v.map.stack_end s left i → Overruns m words IsAt before q left
+        Overran v.image v.map.stack_end s left i → OverrunsWithStalls q (stalls_of v.image i) left
 
 -- from its reset a machine with a microprogram at this entry comes to the first boundary, with so many stalls
 abbrev pub BootsWithStalls : {S : Type 0} → Meaning S → List ℕ → (Origin → State → S → World → Type 0) → ℕ → ℕ → VerifiedView → Origin → List ℕ → Type 0
@@ -43,6 +49,11 @@ pub data HasStalled (booting : ℕ) (stalls_of : ImageView → Instr → ℕ) (p
       instr_at p.image.text at.state.at ≡ Some i → outcome p.image p.stack_end at.state ≡ Goes to → next ≡ point_after p at to →
       HasStalled booting stalls_of p bound first next (stalls + stalls_of p.image i)
 
+-- the stack limit has ended the run, with no more stalls than so many
+pub record StoppedWithin {S : Type 0} (stalls : ℕ) (r : MicroRun S) : Type 0 where
+  pub end : r.end ≡ Some clocked.StackLimit
+  pub stalled : r.counts.stalls ≤ stalls
+
 -- A machine: its meaning, when its next instruction is ready, its store that ships, and where that begins.
 module _ {S : Type 0} (m : Meaning S) (IsReady : ℕ → List ℕ → ℕ → S → Type 0) (IsShipped : List ℕ → Type 0) (entry : ℕ) where
   -- Stalls add up: where its boot and each instruction stall as often as is said, the clock has counted at each boundary of a run the stalls of the boot and of the instructions passed, and no other.
@@ -53,3 +64,13 @@ module _ {S : Type 0} (m : Meaning S) (IsReady : ℕ → List ℕ → ℕ → S 
       TakesWithStalls m store (IsAt m IsReady entry o) o.given stalls_of v o (λ i. Unit {0}) →
       (at : Point) (stalls : ℕ) → HasStalled booting stalls_of (program m.machine v) bound (first_point v.main_locals input) at stalls →
       (turns m store (Some bound) at.cycles (reset_run m entry v.main_locals (record { words = o.words; untaken = input; given = o.given }))).counts.stalls ≡ stalls
+
+  -- Where the stack's end then cuts an instruction short, its cycles have stalled no more often than the whole instruction does.
+  abbrev pub CutShort : Type 0
+  CutShort =
+      (booting : ℕ) (stalls_of : ImageView → Instr → ℕ) (store : List ℕ) (o : Origin) (v : VerifiedView) (input : List ℕ) (bound : ℕ) → IsShipped store → Loads v o →
+      BootsWithStalls m store (IsAt m IsReady entry) entry booting v o input →
+      TakesWithStalls m store (IsAt m IsReady entry o) o.given stalls_of v o (λ i. Unit {0}) →
+      (at : Point) (stalls : ℕ) (i : Instr) (left : State) → HasStalled booting stalls_of (program m.machine v) bound (first_point v.main_locals input) at stalls →
+      at.cycles < bound → instr_at v.image.text at.state.at ≡ Some i → outcome v.image v.map.stack_end at.state ≡ Limits left →
+      (n : ℕ) × StoppedWithin (stalls + stalls_of v.image i) (turns m store (Some bound) n (reset_run m entry v.main_locals (record { words = o.words; untaken = input; given = o.given })))

@@ -1,20 +1,28 @@
 //! What holds of every interpreter, and of every run of one, whoever clocks it.
 
-ghost use Rattle.std.specs.Prelude.{ℕ, List};
+ghost use Rattle.std.specs.Prelude.{◌≡◌, ℕ, List, Some};
 ghost use Rattle.ijvm_instr.specs.declared.instr.Instr.{Instr};
 ghost use Rattle.ijvm_image.specs.Image.{ImageView};
 ghost use Rattle.ijvm_paths.specs.Accepted.{VerifiedView};
+ghost use Rattle.ijvm_run.specs.Run.{Program, Point, Passes};
+ghost use Rattle.ijvm_simulation.specs.Simulates.{point_behind};
 ghost use Rattle.ijvm_simulation.specs.Stands.{Origin, IsAt};
 ghost use Rattle.ijvm_simulation.specs.Groups.{ByGroups};
 ghost use Rattle.ijvm_simulation.specs.Law.{Takes};
 ghost use Rattle.ijvm_simulation.specs.Starts.{EndsAsDefined};
 ghost use Rattle.ijvm_simulation.specs.Stack.{StackLaw};
-ghost use Rattle.ijvm_simulation.specs.Stalls.{StallsAddUp, TakesWithStalls};
+ghost use Rattle.ijvm_simulation.specs.Stalls.{StallsAddUp, CutShort, TakesWithStalls};
 
 use crate::interpreter::Interpreter;
 use ijvm_paths::accepted_images_keep_sound;
 use ijvm_run::runs_keep_words;
 use mic_clock::Clocked;
+
+/// The boundaries that are counted from the first one are those that the definition's run passes.
+pub fn counted_boundaries_are_passed()
+    ensures passed { (p : Program) (bound i : ℕ) (from at : Point) → point_behind p bound i from ≡ Some at → Passes p bound from at }
+    ensures counted { (p : Program) (bound : ℕ) (from at : Point) → Passes p bound from at → (i : ℕ) × (point_behind p bound i from ≡ Some at) }
+{}
 
 /// A run over the store that ships, from its reset over a verified image, ends as the definition's run where no fault cuts it. So it is never adrift, and never out of the memory map.
 pub fn shipped_runs_end_as_defined<I: Interpreter>()
@@ -27,7 +35,8 @@ pub fn shipped_runs_end_as_defined<I: Interpreter>()
 
 /// At each boundary of a run from its reset the clock has counted the stalls of the boot and those of the instructions passed, and no other, where the boot and each instruction stall as often as is said of them.
 pub fn stalls_add_up<I: Interpreter>()
-    ensures { StallsAddUp I.Machine.meaning I.Machine.IsReady I.IsShipped I.entry }
+    ensures boundaries { StallsAddUp I.Machine.meaning I.Machine.IsReady I.IsShipped I.entry }
+    ensures limit { CutShort I.Machine.meaning I.Machine.IsReady I.IsShipped I.entry }
 {
     accepted_images_keep_sound();
     runs_keep_words();

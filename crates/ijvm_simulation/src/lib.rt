@@ -8,5 +8,8 @@ pub mod run;
 
 pub use agreement::interpreters_agree;
 pub use interpreter::Interpreter;
-pub use laws::{groups_are_all, shipped_runs_end_as_defined, stack_law, stalls_add_up};
+pub use laws::{
+    counted_boundaries_are_passed, groups_are_all, shipped_runs_end_as_defined, stack_law,
+    stalls_add_up,
+};
 pub use run::{first_sp, loaded_bus, reset_board, run_image};

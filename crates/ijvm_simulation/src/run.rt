@@ -6,7 +6,7 @@ ghost use Rattle.console_port.specs.Bus.{Shows};
 ghost use Rattle.console_port.specs.Console.{StaysFlushed};
 ghost use Rattle.console_port.specs.Loading.{IsLoaded};
 ghost use Rattle.mic_clock.specs.Board.{ShowsRun, NoFault, HasEndCause};
-ghost use Rattle.mic_clock.specs.Run.{start_counts};
+ghost use Rattle.mic_clock.specs.Run.{start_counts, start_buses};
 ghost use Rattle.ijvm_image.specs.Image.{IsWithinLimits, IsImage};
 ghost use Rattle.ijvm_simulation.specs.Headline.{reset_run, HasRun, IsCutByRead, IsCutByWrite};
 
@@ -57,6 +57,7 @@ pub fn reset_board<I: Interpreter>(
     ensures input { IfOk result (λ board. board.bus.console.ended ≡ false) }
     ensures counts { IfOk result (λ board. board.counts ≡ start_counts) }
     ensures end { IfOk result (λ board. board.end ≡ None) }
+    ensures buses { IfOk result (λ board. board.buses ≡ start_buses) }
 {
     let store = I::store(alloc)?;
     let bus = loaded_bus(alloc, image)?;

@@ -4,7 +4,7 @@ ghost use Rattle.std.specs.Prelude.{◌≡◌, ◌≢◌, IsSome, ◌==◌, ◌&
 ghost use Rattle.mic_base.specs.Streams.{Holds};
 ghost use Rattle.console_port.specs.World.{console_at};
 ghost use Rattle.console_port.specs.Bus.{Stands, IsLed, ChangesOnly, refused_by};
-ghost use Rattle.console_port.specs.Console.{IsFault, HasFaultCause, StaysFlushed};
+ghost use Rattle.console_port.specs.Console.{IsFault, HasFaultCause, StaysFlushed, StillTells};
 ghost use Rattle.mic_clock.specs.Edge.{AsksNoMore};
 ghost use Rattle.datapath.specs.Memory.{first_refusal, memory_refusal};
 ghost use Rattle.datapath.specs.Access.{IsTransfer, LetsBytesWait, is_read, is_access};
@@ -64,6 +64,7 @@ pub fn access<S: Source, K: Sink>(
         (first_refusal (memory_refusal (length bus.old.words) mem ports.now.mar) (sample_refusal (length bus.old.words) at)) bus.old.console.kept sink.old sink.new }
     ensures keeps { (front : List ℕ) → Holds front (K.held sink.old) → Holds front (K.held sink.new) }
     ensures asked_no_more { AsksNoMore bus.old.console.ended source.old bus.new.console.ended source.new }
+    ensures tells_left { StillTells (S.left source.old) bus.old.console.ended (S.left source.new) bus.new.console.ended }
     ensures tells { IsSome (K.held sink.old) → IsSome (K.held sink.new) }
     ensures flushed { result ≢ Err BusFault.WriteFault → StaysFlushed (K.held sink.old) (K.passed sink.old) (K.held sink.new) (K.passed sink.new) }
     ensures cause { HasFaultCause (S.faults source.old) (S.faults source.new) (K.faults sink.old) (K.faults sink.new) result }

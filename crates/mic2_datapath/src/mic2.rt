@@ -41,7 +41,7 @@ pub struct Mic2 {
 impl Mic2 {
     ghost use Rattle.mic_base.specs.Streams.{Holds};
     ghost use Rattle.console_port.specs.Bus.{ChangesOnly, Stands};
-    ghost use Rattle.console_port.specs.Console.{HasFaultCause, StaysFlushed};
+    ghost use Rattle.console_port.specs.Console.{HasFaultCause, StaysFlushed, StillTells};
     ghost use Rattle.mic_clock.specs.Edge.{AnswersRefusal, AsksNoMore, IsErrOfStep, IsStep, LetsBytesWait};
     ghost use Rattle.mic_clock.specs.Meaning.{AtRest};
     ghost use Rattle.mic2_datapath.specs.Mic2.{at_zero, initial as initial_of, mic2_meaning};
@@ -89,6 +89,7 @@ impl Mic2 {
         ensures waits { LetsBytesWait mic2_meaning (microinstruction_of self.old) (micro_of self.old) (S.left source.old) (K.held sink.old) bus.old sink.old sink.new }
         ensures keeps { (front : List ℕ) → Holds front (K.held sink.old) → Holds front (K.held sink.new) }
         ensures asked_no_more { AsksNoMore bus.old.console.ended source.old bus.new.console.ended source.new }
+        ensures tells_left { StillTells (S.left source.old) bus.old.console.ended (S.left source.new) bus.new.console.ended }
         ensures tells { IsSome (K.held sink.old) → IsSome (K.held sink.new) }
         ensures flushed { result ≢ Err BusFault.WriteFault → StaysFlushed (K.held sink.old) (K.passed sink.old) (K.held sink.new) (K.passed sink.new) }
         ensures cause { HasFaultCause (S.faults source.old) (S.faults source.new) (K.faults sink.old) (K.faults sink.new) result }

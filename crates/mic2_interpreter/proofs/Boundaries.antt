@@ -16,7 +16,7 @@ use Rattle.ijvm_run.specs.Cost.{cost}
 use Rattle.ijvm_paths.specs.Accepted.{VerifiedView}
 use Rattle.ijvm_simulation.specs.Verified.{IsNext, Loads}
 use Rattle.mic2_interpreter.specs.Stands.{Stands}
-use Rattle.mic2_interpreter.specs.Stalls.{MovesWithStalls}
+use Rattle.mic2_interpreter.specs.Stalls.{MovesWithStalls, OverrunsWithStalls}
 use Rattle.mic2_interpreter.proofs.Shipped.{shipped, HasStatements}
 use Rattle.mic2_interpreter.proofs.Units.{unit_at}
 use Rattle.mic2_interpreter.proofs.Queue.{Held, AtLeast, IsHeld, Bounds, is_enough, Beat, Goes}
@@ -26,7 +26,7 @@ use Rattle.mic2_interpreter.proofs.Words.{before_is, wrap_small}
 use Rattle.ijvm_simulation.specs.Stands.{Origin, RegistersStand}
 use Rattle.ijvm_simulation.specs.Stack.{IsMapEnd}
 use Rattle.ijvm_simulation.specs.Passes.{Moment, is_inside, pass}
-use Rattle.ijvm_simulation.specs.Law.{Shows, HasWord, Overruns}
+use Rattle.ijvm_simulation.specs.Law.{Shows, HasWord}
 
 -- so many steps, none of which stalls
 abbrev pub steps : ℕ → List Beat
@@ -216,7 +216,7 @@ IsFull o t x =
     × (memory_refusal (length o.words) s.part.mem (settled_by s (text_result o.words s.part t.state) t.state).mar ≡ Some (StackLimit x))
 
 -- some steps of a symbolic run, and then a write that is refused
-pub overruns : (program : List ℕ) (has : HasStatements program) (o : Origin) (map : IsMapEnd (length o.words)) (s left : State) (q : Moment Micro) (b : Beat) (bs : List Beat) (gs : List ℕ) (code x : ℕ) →
+pub overruns : (program : List ℕ) (has : HasStatements program) (o : Origin) (map : IsMapEnd (length o.words)) (s left : State) (q : Moment Micro) (b : Beat) (bs : List Beat) (gs : List ℕ) (code x waits : ℕ) →
     Stands o s q.state q.world → byte_in o.words s.at ≡ code → (code == 255) ≡ false → (code == 254) ≡ false → length bs < 1023 →
     IsSmooth o.words (b ∷ bs) gs (at_opcode code q.state q.world q.stalls) →
     is_inside mic2_meaning (clocked o.words (b ∷ bs) gs (at_opcode code q.state q.world q.stalls)).state ≡ true →
@@ -224,23 +224,27 @@ pub overruns : (program : List ℕ) (has : HasStatements program) (o : Origin) (
     IsFull o (clocked o.words (b ∷ bs) gs (at_opcode code q.state q.world q.stalls)) x →
     (clocked o.words (b ∷ bs) gs (at_opcode code q.state q.world q.stalls)).world.untaken ≡ left.untaken →
     (clocked o.words (b ∷ bs) gs (at_opcode code q.state q.world q.stalls)).world.given ≡ o.given ++ left.given →
-    Overruns mic2_meaning program (Stands o) o.given q left
-overruns program has o map s left q b bs gs code x h is no_halt no_err short smooth inside low full untaken given =
+    (clocked o.words (b ∷ bs) gs (at_opcode code q.state q.world q.stalls)).stalls ≡ q.stalls + waits →
+    OverrunsWithStalls program o q waits left
+overruns program has o map s left q b bs gs code x waits h is no_halt no_err short smooth inside low full untaken given stalls =
     let t : Short = clocked o.words (b ∷ bs) gs (at_opcode code q.state q.world q.stalls) in
     let a : Arrives o.words (pass mic2_meaning program (length bs) (moment_of o.words (at_opcode code q.state q.world q.stalls) (length q.state.unit.bytes))) t =
     pass-clocked program has o.words map.low b bs gs (at_opcode code q.state q.world q.stalls) (length q.state.unit.bytes) h.holds.memory (starts_held o s q.state q.world q.stalls h) smooth in
     record {
-      n = length bs;
-      short = short;
-      begins = begins o s q.state q.world code h is no_halt no_err;
-      there = moment_of o.words t a.have;
-      passes = ap (pass mic2_meaning program (length bs)) (starts o s q.state q.world q.stalls h code is) ∙ a.is;
-      inside = inside;
-      at = x;
-      refused = outcome_is program has o.words map.low (moment_of o.words t a.have) (grind (arith, nat_tests))
-          ∙ step-refused o.words (shipped t.state.mpc) t a.have (StackLimit x) a.memory a.held full.0 full.1;
-      untaken = untaken;
-      given = given;
+      overruns = record {
+        n = length bs;
+        short = short;
+        begins = begins o s q.state q.world code h is no_halt no_err;
+        there = moment_of o.words t a.have;
+        passes = ap (pass mic2_meaning program (length bs)) (starts o s q.state q.world q.stalls h code is) ∙ a.is;
+        inside = inside;
+        at = x;
+        refused = outcome_is program has o.words map.low (moment_of o.words t a.have) (grind (arith, nat_tests))
+            ∙ step-refused o.words (shipped t.state.mpc) t a.have (StackLimit x) a.memory a.held full.0 full.1;
+        untaken = untaken;
+        given = given;
+      };
+      stalled = omega (arith, stalls);
     }
 
 -- the number that the two bytes at a place make

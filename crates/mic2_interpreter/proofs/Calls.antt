@@ -20,10 +20,9 @@ use Rattle.ijvm_simulation.specs.Stack.{IsMapEnd, IsWordAccess, frame_with, plac
 use Rattle.ijvm_simulation.specs.Passes.{Moment}
 use Rattle.ijvm_simulation.specs.Outcomes.{Went, Overran}
 use Rattle.ijvm_simulation.specs.Verified.{Loads, Fine, IsNext}
-use Rattle.ijvm_simulation.specs.Law.{Overruns}
 use Rattle.ijvm_simulation.specs.Groups.{IsCall}
 use Rattle.mic2_interpreter.specs.Stands.{Stands}
-use Rattle.mic2_interpreter.specs.Stalls.{MovesWithStalls, TakesWithStalls, stalls_of}
+use Rattle.mic2_interpreter.specs.Stalls.{MovesWithStalls, OverrunsWithStalls, TakesWithStalls, stalls_of}
 use Rattle.mic2_interpreter.proofs.Shipped.{HasStatements}
 use Rattle.mic2_interpreter.proofs.Queue.{Beat, Goes, Waits, WaitsLate, WaitsOn}
 use Rattle.mic2_interpreter.proofs.Boundaries.{ReachesBoundary, comes, steps, Counts, counts, Place, place_at, place_on, pair_at, at_boundary, map_of, next_inside, moves, overruns}
@@ -228,6 +227,13 @@ module _ (program : List ℕ) (has : HasStatements program) (o : Origin) (v : Ve
       subst (λ (n : ℕ). MovesWithStalls program o q (cost v.image Mic2 (Invokevirtual k) s) n to) (sym (ap (λ (b : Bool). stalls_of_call b) later))
       (moves program o v s to a q (Invokevirtual k) 12 2 0xB6 h code refl refl (ap (λ (b : Bool). if b then 13 else 12) later) (omega arith) same c)
 
+  -- the stalls of a call that is cut short
+  cut_short : (q : Moment Micro) (k e : ℕ) (late : Bool) (left : State) → slice_index v.image.pool k ≡ e → (e % 4 == 3) ≡ late → OverrunsWithStalls program o q (stalls_of_call late) left →
+      OverrunsWithStalls program o q (stalls_of v.image (Invokevirtual k)) left
+  cut_short q k e late left named is over =
+      let same : (slice_index v.image.pool k % 4 == 3) ≡ late = ap (λ (j : ℕ). j % 4 == 3) named ∙ is in
+      subst (λ (n : ℕ). OverrunsWithStalls program o q n left) (sym (ap (λ (b : Bool). stalls_of_call b) same)) over
+
   goes : (s to : State) (q : Moment Micro) (i : Instr) → IsCall i → Fine v s → IsNext v o s i → Stands o s q.state q.world → Went v.image v.map.stack_end s to i →
       MovesWithStalls program o q (cost v.image Mic2 i s) (stalls_of v.image i) to
   goes s to q Ireturn is fine n h went =
@@ -252,7 +258,7 @@ module _ (program : List ℕ) (has : HasStatements program) (o : Origin) (v : Ve
 
   -- the second or the third word of the link meets the stack's end
   limits : (s left : State) (q : Moment Micro) (i : Instr) → IsCall i → Fine v s → IsNext v o s i → Stands o s q.state q.world → Overran v.image v.map.stack_end s left i →
-      Overruns mic2_meaning program (Stands o) o.given q left
+      OverrunsWithStalls program o q (stalls_of v.image i) left
   limits s left q Ireturn is fine n h over = absurd over
   limits s left q (Invokevirtual k) is fine n h over =
       let f : IsMethod v o k over.method = law.method v o loads k over.method over.found in
@@ -284,10 +290,12 @@ module _ (program : List ℕ) (has : HasStatements program) (o : Origin) (v : Ve
             elim (cases_Bool (over.method.entry % 4 == 3)) [
               | inl is_late ↦
                   let lateness : (entry o q.state q.world % 4 == 3) ≡ true = late ∙ is_late in
-                  overruns program has o map s left q Goes (plan true (steps 4)) [] 0xB6 y h n.reads.0 refl refl (omega arith) (assumption) refl refl (refl, fault) (a.untaken ∙ untaken) (b.given _ y ∙ given)
+                  cut_short q k over.method.entry true left f.named is_late
+                  (overruns program has o map s left q Goes (plan true (steps 4)) [] 0xB6 y 2 h n.reads.0 refl refl (omega arith) (assumption) refl refl (refl, fault) (a.untaken ∙ untaken) (b.given _ y ∙ given) (let e : q.stalls + 1 + 1 ≡ q.stalls + 2 = omega arith in e))
               | inr is_early ↦
                   let lateness : (entry o q.state q.world % 4 == 3) ≡ false = late ∙ is_early in
-                  overruns program has o map s left q Goes (plan false (steps 4)) [] 0xB6 y h n.reads.0 refl refl (omega arith) (assumption) refl refl (refl, fault) (a.untaken ∙ untaken) (b.given _ y ∙ given)
+                  cut_short q k over.method.entry false left f.named is_early
+                  (overruns program has o map s left q Goes (plan false (steps 4)) [] 0xB6 y 1 h n.reads.0 refl refl (omega arith) (assumption) refl refl (refl, fault) (a.untaken ∙ untaken) (b.given _ y ∙ given) refl)
             ]
         | inl room ↦
             let d : IsWordAccess (length o.words) q.world y behind = law.access (length o.words) q.world y behind en.link_is room in
@@ -296,12 +304,14 @@ module _ (program : List ℕ) (has : HasStatements program) (o : Origin) (v : Ve
             elim (cases_Bool (over.method.entry % 4 == 3)) [
               | inl is_late ↦
                   let lateness : (entry o q.state q.world % 4 == 3) ≡ true = late ∙ is_late in
-                  overruns program has o map s left q Goes (plan true (steps 6)) [] 0xB6 (next y) h n.reads.0 refl refl (omega arith) (assumption) refl refl (refl, fault)
-                  (a.untaken ∙ untaken) (d.given _ _ ∙ (b.given _ y ∙ given))
+                  cut_short q k over.method.entry true left f.named is_late
+                  (overruns program has o map s left q Goes (plan true (steps 6)) [] 0xB6 (next y) 2 h n.reads.0 refl refl (omega arith) (assumption) refl refl (refl, fault)
+                  (a.untaken ∙ untaken) (d.given _ _ ∙ (b.given _ y ∙ given)) (let e : q.stalls + 1 + 1 ≡ q.stalls + 2 = omega arith in e))
               | inr is_early ↦
                   let lateness : (entry o q.state q.world % 4 == 3) ≡ false = late ∙ is_early in
-                  overruns program has o map s left q Goes (plan false (steps 6)) [] 0xB6 (next y) h n.reads.0 refl refl (omega arith) (assumption) refl refl (refl, fault)
-                  (a.untaken ∙ untaken) (d.given _ _ ∙ (b.given _ y ∙ given))
+                  cut_short q k over.method.entry false left f.named is_early
+                  (overruns program has o map s left q Goes (plan false (steps 6)) [] 0xB6 (next y) 1 h n.reads.0 refl refl (omega arith) (assumption) refl refl (refl, fault)
+                  (a.untaken ∙ untaken) (d.given _ _ ∙ (b.given _ y ∙ given)) refl)
             ]
       ]
   limits s left q i is fine n h over = absurd is

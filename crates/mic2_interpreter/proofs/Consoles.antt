@@ -17,10 +17,9 @@ use Rattle.ijvm_simulation.specs.Stack.{IsMapEnd, IsWordAccess, IsConsoleAccess,
 use Rattle.ijvm_simulation.specs.Passes.{Moment}
 use Rattle.ijvm_simulation.specs.Outcomes.{Went, Overran, push}
 use Rattle.ijvm_simulation.specs.Verified.{Loads, Fine, IsNext}
-use Rattle.ijvm_simulation.specs.Law.{Overruns}
 use Rattle.ijvm_simulation.specs.Groups.{IsOfConsole}
 use Rattle.mic2_interpreter.specs.Stands.{Stands}
-use Rattle.mic2_interpreter.specs.Stalls.{MovesWithStalls, TakesWithStalls, stalls_of}
+use Rattle.mic2_interpreter.specs.Stalls.{MovesWithStalls, OverrunsWithStalls, TakesWithStalls, stalls_of}
 use Rattle.mic2_interpreter.proofs.Shipped.{HasStatements}
 use Rattle.mic2_interpreter.proofs.Queue.{Goes}
 use Rattle.mic2_interpreter.proofs.Boundaries.{ReachesBoundary, comes, steps, Counts, counts, at_boundary, map_of, next_inside, moves, overruns}
@@ -77,14 +76,14 @@ module _ (program : List ℕ) (has : HasStatements program) (o : Origin) (v : Ve
   goes s to q i is fine n h went = absurd is
 
   limits : (s left : State) (q : Moment Micro) (i : Instr) → IsOfConsole i → Fine v s → IsNext v o s i → Stands o s q.state q.world → Overran v.image v.map.stack_end s left i →
-      Overruns mic2_meaning program (Stands o) o.given q left
+      OverrunsWithStalls program o q (stalls_of v.image i) left
   limits s left q In is fine n h over =
       let c : Counts o s q.state = counts o s q.state q.world h (next_inside loads n) in
       let p : IsConsoleAccess (length o.words) q.world = law.port (length o.words) q.world map h.holds.memory.long in
       let fault : write_refusal (length o.words) (next q.state.sp) ≡ Some (StackLimit (next q.state.sp)) =
       (law.boundary o s q.state.sp q.state.lv q.state.cpp q.state.tos q.world map h.holds).full (omega (arith, over.over, loads.long)) in
-      overruns program has o map s left q Goes (steps 3) [] 0xFC (next q.state.sp) h n.reads refl refl (omega arith) (assumption) refl refl (refl, fault)
-      (p.untaken ∙ (ap (drop 1) h.holds.untaken ∙ ap (λ (t : State). t.untaken) over.leaves)) (h.holds.given ∙ ap (λ (t : State). o.given ++ t.given) over.leaves)
+      overruns program has o map s left q Goes (steps 3) [] 0xFC (next q.state.sp) 0 h n.reads refl refl (omega arith) (assumption) refl refl (refl, fault)
+      (p.untaken ∙ (ap (drop 1) h.holds.untaken ∙ ap (λ (t : State). t.untaken) over.leaves)) (h.holds.given ∙ ap (λ (t : State). o.given ++ t.given) over.leaves) (let e : q.stalls ≡ q.stalls + 0 = omega arith in e)
   limits s left q Out is fine n h over = absurd over
   limits s left q i is fine n h over = absurd is
 

@@ -20,10 +20,9 @@ use Rattle.ijvm_simulation.specs.Stack.{IsMapEnd, Top, Two, AtBoundary, StackLaw
 use Rattle.ijvm_simulation.specs.Passes.{Moment}
 use Rattle.ijvm_simulation.specs.Outcomes.{Went, Overran}
 use Rattle.ijvm_simulation.specs.Verified.{Loads, Fine, IsNext}
-use Rattle.ijvm_simulation.specs.Law.{Overruns}
 use Rattle.ijvm_simulation.specs.Groups.{IsJump}
 use Rattle.mic2_interpreter.specs.Stands.{Stands}
-use Rattle.mic2_interpreter.specs.Stalls.{MovesWithStalls, TakesWithStalls, stalls_of}
+use Rattle.mic2_interpreter.specs.Stalls.{MovesWithStalls, OverrunsWithStalls, TakesWithStalls, stalls_of}
 use Rattle.mic2_interpreter.proofs.Shipped.{HasStatements}
 use Rattle.mic2_interpreter.proofs.Queue.{Goes}
 use Rattle.mic2_interpreter.proofs.Boundaries.{ReachesBoundary, comes, steps, Counts, counts, Place, place_at, place_on, signed_pair_at, at_boundary, map_of, next_inside, moves}
@@ -236,7 +235,7 @@ module _ (program : List ℕ) (has : HasStatements program) (o : Origin) (v : Ve
   goes s to q i is fine n h went = absurd is
 
   limits : (s left : State) (q : Moment Micro) (i : Instr) → IsJump i → Fine v s → IsNext v o s i → Stands o s q.state q.world → Overran v.image v.map.stack_end s left i →
-      Overruns mic2_meaning program (Stands o) o.given q left
+      OverrunsWithStalls program o q (stalls_of v.image i) left
   limits s left q (Goto z) is fine n h over = absurd over
   limits s left q (Ifeq z) is fine n h over = absurd over
   limits s left q (Iflt z) is fine n h over = absurd over

@@ -18,10 +18,9 @@ use Rattle.ijvm_simulation.specs.Stack.{IsMapEnd, IsWordAccess, IsConstant, Top,
 use Rattle.ijvm_simulation.specs.Passes.{Moment}
 use Rattle.ijvm_simulation.specs.Outcomes.{Went, Overran, push}
 use Rattle.ijvm_simulation.specs.Verified.{Loads, Fine, IsNext}
-use Rattle.ijvm_simulation.specs.Law.{Overruns}
 use Rattle.ijvm_simulation.specs.Groups.{IsOfLocals}
 use Rattle.mic2_interpreter.specs.Stands.{Stands}
-use Rattle.mic2_interpreter.specs.Stalls.{MovesWithStalls, TakesWithStalls, stalls_of}
+use Rattle.mic2_interpreter.specs.Stalls.{MovesWithStalls, OverrunsWithStalls, TakesWithStalls, stalls_of}
 use Rattle.mic2_interpreter.proofs.Shipped.{HasStatements}
 use Rattle.mic2_interpreter.proofs.Queue.{Goes}
 use Rattle.mic2_interpreter.proofs.Boundaries.{ReachesBoundary, comes, steps, Counts, counts, pair_at, signed_pair_at, at_boundary, map_of, next_inside, moves, overruns}
@@ -194,7 +193,7 @@ module _ (program : List ℕ) (has : HasStatements program) (o : Origin) (v : Ve
   goes s to q i is fine n h went = absurd is
 
   limits : (s left : State) (q : Moment Micro) (i : Instr) → IsOfLocals i → Fine v s → IsNext v o s i → Stands o s q.state q.world → Overran v.image v.map.stack_end s left i →
-      Overruns mic2_meaning program (Stands o) o.given q left
+      OverrunsWithStalls program o q (stalls_of v.image i) left
   limits s left q (LdcW k) is fine n h over =
       let c : Counts o s q.state = counts o s q.state q.world h (next_inside loads n) in
       let from : ℕ = plus q.state.cpp (256 * byte_in o.words q.state.pc + byte_in o.words (q.state.pc + 1)) in
@@ -203,8 +202,8 @@ module _ (program : List ℕ) (has : HasStatements program) (o : Origin) (v : Ve
       law.access (length o.words) q.world from (0x4000 + k) (plus_is h.holds.cpp_is (pair_at o.words q.state.pc (s.at + 1) (s.at + 2) c.p0 (omega arith) ∙ sym n.reads.1) refl (omega (arith, small))) (omega (arith, map.low)) in
       let fault : write_refusal (length o.words) (next q.state.sp) ≡ Some (StackLimit (next q.state.sp)) =
       (law.boundary o s q.state.sp q.state.lv q.state.cpp q.state.tos q.world map h.holds).full (omega (arith, over.leads.over, loads.long)) in
-      overruns program has o map s left q Goes (steps 1) [] 0x13 (next q.state.sp) h n.reads.0 refl refl (omega arith) (assumption) refl refl (refl, fault)
-      (a.untaken ∙ (h.holds.untaken ∙ ap (λ (t : State). t.untaken) over.leads.leaves)) (h.holds.given ∙ ap (λ (t : State). o.given ++ t.given) over.leads.leaves)
+      overruns program has o map s left q Goes (steps 1) [] 0x13 (next q.state.sp) 0 h n.reads.0 refl refl (omega arith) (assumption) refl refl (refl, fault)
+      (a.untaken ∙ (h.holds.untaken ∙ ap (λ (t : State). t.untaken) over.leads.leaves)) (h.holds.given ∙ ap (λ (t : State). o.given ++ t.given) over.leads.leaves) (let e : q.stalls ≡ q.stalls + 0 = omega arith in e)
   limits s left q (Iload k) is fine n h over =
       let c : Counts o s q.state = counts o s q.state q.world h (next_inside loads n) in
       let from : ℕ = plus q.state.lv (byte_in o.words q.state.pc) in
@@ -213,8 +212,8 @@ module _ (program : List ℕ) (has : HasStatements program) (o : Origin) (v : Ve
       (law.boundary o s q.state.sp q.state.lv q.state.cpp q.state.tos q.world map h.holds).local from k l (plus_is h.holds.lv_is (c.p0.byte ∙ sym n.reads.1) refl (omega (arith, h.holds.fits, map.high))) in
       let fault : write_refusal (length o.words) (next q.state.sp) ≡ Some (StackLimit (next q.state.sp)) =
       (law.boundary o s q.state.sp q.state.lv q.state.cpp q.state.tos q.world map h.holds).full (omega (arith, over.leads.over, loads.long)) in
-      overruns program has o map s left q Goes (steps 1) [] 0x15 (next q.state.sp) h n.reads.0 refl refl (omega arith) (assumption) refl refl (refl, fault)
-      (a.untaken ∙ (h.holds.untaken ∙ ap (λ (t : State). t.untaken) over.leads.leaves)) (h.holds.given ∙ ap (λ (t : State). o.given ++ t.given) over.leads.leaves)
+      overruns program has o map s left q Goes (steps 1) [] 0x15 (next q.state.sp) 0 h n.reads.0 refl refl (omega arith) (assumption) refl refl (refl, fault)
+      (a.untaken ∙ (h.holds.untaken ∙ ap (λ (t : State). t.untaken) over.leads.leaves)) (h.holds.given ∙ ap (λ (t : State). o.given ++ t.given) over.leads.leaves) (let e : q.stalls ≡ q.stalls + 0 = omega arith in e)
   limits s left q (WideIload k) is fine n h over =
       let c : Counts o s q.state = counts o s q.state q.world h (next_inside loads n) in
       let op2 : byte_in o.words q.state.pc + 256 ≡ 0x115 = omega (arith, c.p0.byte ∙ n.reads.1) in
@@ -224,8 +223,8 @@ module _ (program : List ℕ) (has : HasStatements program) (o : Origin) (v : Ve
       (law.boundary o s q.state.sp q.state.lv q.state.cpp q.state.tos q.world map h.holds).local from k l (plus_is h.holds.lv_is (pair_at o.words (plus q.state.pc 1) (s.at + 2) (s.at + 3) c.p1 (omega arith) ∙ sym n.reads.2) refl (omega (arith, h.holds.fits, map.high))) in
       let fault : write_refusal (length o.words) (next q.state.sp) ≡ Some (StackLimit (next q.state.sp)) =
       (law.boundary o s q.state.sp q.state.lv q.state.cpp q.state.tos q.world map h.holds).full (omega (arith, over.leads.over, loads.long)) in
-      overruns program has o map s left q Goes (steps 2) (0x115 ∷ []) 0xC4 (next q.state.sp) h n.reads.0 refl refl (omega arith) (assumption) refl refl (refl, fault)
-      (a.untaken ∙ (h.holds.untaken ∙ ap (λ (t : State). t.untaken) over.leads.leaves)) (h.holds.given ∙ ap (λ (t : State). o.given ++ t.given) over.leads.leaves)
+      overruns program has o map s left q Goes (steps 2) (0x115 ∷ []) 0xC4 (next q.state.sp) 0 h n.reads.0 refl refl (omega arith) (assumption) refl refl (refl, fault)
+      (a.untaken ∙ (h.holds.untaken ∙ ap (λ (t : State). t.untaken) over.leads.leaves)) (h.holds.given ∙ ap (λ (t : State). o.given ++ t.given) over.leads.leaves) (let e : q.stalls ≡ q.stalls + 0 = omega arith in e)
   limits s left q (Istore k) is fine n h over = absurd over
   limits s left q (Iinc k b) is fine n h over = absurd over
   limits s left q (WideIstore k) is fine n h over = absurd over

@@ -24,6 +24,9 @@ module _ (program : List ℕ) (o : Origin) where
   abbrev pub MovesWithStalls : Moment Micro → ℕ → ℕ → State → Type 0
   MovesWithStalls = simulation.MovesWithStalls mic2_meaning program (Stands o) o.given
 
+  abbrev pub OverrunsWithStalls : Moment Micro → ℕ → State → Type 0
+  OverrunsWithStalls = simulation.OverrunsWithStalls mic2_meaning program (Stands o) o.given
+
   abbrev pub TakesWithStalls : VerifiedView → (Instr → Type 0) → Type 0
   TakesWithStalls v Has = simulation.TakesWithStalls mic2_meaning program (Stands o) o.given stalls_of v o Has
 

@@ -1,18 +1,23 @@
 //! What each instruction takes of Mic-2, with its stalls.
 
-ghost use Rattle.std.specs.Prelude.{◌≡◌, ℕ, List, Some};
+ghost use Rattle.std.specs.Prelude.{◌≡◌, ◌+◌, ◌<◌, ℕ, List, Some};
 ghost use Rattle.machine_words.specs.declared.machine.Machine.TheVariants.{Mic2};
 ghost use Rattle.mic2_datapath.specs.Mic2.{mic2_meaning};
 ghost use Rattle.ijvm_paths.specs.Accepted.{VerifiedView};
 ghost use Rattle.shipped_program.specs.Shipped.{HasShipped};
 ghost use Rattle.ijvm_simulation.specs.Stands.{Origin};
 ghost use Rattle.mic_clock.specs.Run.{turns};
+ghost use Rattle.ijvm_instr.specs.declared.instr.Instr.{Instr};
+ghost use Rattle.ijvm_instr.specs.Instructions.{instr_at};
+ghost use Rattle.ijvm_run.specs.Frames.{State};
+ghost use Rattle.ijvm_run.specs.Step.{Limits, outcome};
 ghost use Rattle.ijvm_run.specs.Run.{Point, first_point};
 ghost use Rattle.ijvm_simulation.specs.Verified.{Loads, program};
 ghost use Rattle.ijvm_simulation.specs.Headline.{reset_run};
 ghost use Rattle.ijvm_simulation.specs.Law.{HaltsAndErrs};
+ghost use Rattle.ijvm_simulation.specs.Stalls.{StoppedWithin};
 ghost use Rattle.mic2_interpreter.specs.Stands.{Stands};
-ghost use Rattle.mic2_interpreter.specs.Stalls.{TakesWithStalls, BootsWithStall, HasStalled};
+ghost use Rattle.mic2_interpreter.specs.Stalls.{TakesWithStalls, BootsWithStall, HasStalled, stalls_of};
 ghost use Rattle.ijvm_simulation.specs.Groups.{IsOfOperands, IsOfLocals, IsOfConsole, IsJump, IsCall};
 
 use crate::interpreter::Mic2Interpreter;
@@ -77,11 +82,16 @@ pub fn stalls_law()
     groups_are_all::<mic2_datapath::Mic2>();
 }
 
-/// So at each boundary of a run the clock has counted the stall of the boot and those of the calls, and no other.
+/// So at each boundary of a run the clock has counted the stall of the boot and those of the calls, and no other; nor has it counted another where the stack's end cuts the last instruction short.
 pub fn runs_stall_at_calls()
-    ensures { (store : List ℕ) (o : Origin) (v : VerifiedView) (input : List ℕ) (bound : ℕ) → HasShipped Mic2 store → Loads v o →
+    ensures boundaries { (store : List ℕ) (o : Origin) (v : VerifiedView) (input : List ℕ) (bound : ℕ) → HasShipped Mic2 store → Loads v o →
         (at : Point) (stalls : ℕ) → HasStalled (program Mic2 v) bound (first_point v.main_locals input) at stalls →
         (turns mic2_meaning store (Some bound) at.cycles (reset_run mic2_meaning 0x002 v.main_locals (record { words = o.words; untaken = input; given = o.given }))).counts.stalls ≡ stalls }
+    ensures limit { (store : List ℕ) (o : Origin) (v : VerifiedView) (input : List ℕ) (bound : ℕ) → HasShipped Mic2 store → Loads v o →
+        (at : Point) (stalls : ℕ) (i : Instr) (left : State) → HasStalled (program Mic2 v) bound (first_point v.main_locals input) at stalls →
+        at.cycles < bound → instr_at v.image.text at.state.at ≡ Some i → outcome v.image v.map.stack_end at.state ≡ Limits left →
+        (n : ℕ) × StoppedWithin (stalls + stalls_of v.image i)
+        (turns mic2_meaning store (Some bound) n (reset_run mic2_meaning 0x002 v.main_locals (record { words = o.words; untaken = input; given = o.given }))) }
 {
     stalls_law();
     stalls_add_up::<Mic2Interpreter>();

@@ -2,13 +2,13 @@
 use Rattle.std.proofs.Common.{◌≡◌, ◌≢◌, ◌+◌, ◌∙◌, ap, zero, suc, zero-add, suc-add, add-zero, add-suc, add_comm, ℕ, List, Bool, Option, Some, None, IsSome, refl, sym, subst, rules}
 use Rattle.std.specs.Fn.{iterate}
 use Rattle.console_port.specs.World.{World, fault_of}
-use Rattle.console_port.specs.Bus.{Shows, Stands}
+use Rattle.console_port.specs.Bus.{Shows, Stands, IsLed}
 use Rattle.console_port.specs.Console.{IsFault, Untaken}
 use Rattle.console_port.specs.declared.fault.BusFault.{BusFault}
 use Rattle.console_port.specs.declared.fault.BusFault.TheVariants as faults
 use Rattle.mic_clock.specs.declared.end.End.{End}
 use Rattle.mic_clock.specs.Meaning.{Meaning, Outcome, Done, Refused, refusal_in}
-use Rattle.mic_clock.specs.Run.{MicroRun, Buses, word_at, end_by, end_before, after_step, after_end_or_step, turn, turn_by, turns, buses, buses_of, bounded, bounded_by}
+use Rattle.mic_clock.specs.Run.{MicroRun, Buses, word_at, end_by, end_before, counts_after, after_step, after_end_or_step, turn, turn_by, turns, buses, buses_of, bounded, bounded_by}
 use Rattle.mic_clock.specs.View.{BoardView}
 use Rattle.mic_clock.specs.Board.{ShowsRun, IsLedTo, NoFault}
 
@@ -57,6 +57,31 @@ module _ {M State : Type 0} (state : M → State) (m : Meaning State) (left held
           ap (λ (x : MicroRun State). x.world.untaken) is ∙ is_rest,
         ),
   )
+
+-- a microstep that is done leads the run on
+pub led-done : {M State : Type 0} (state : M → State) (m : Meaning State) (left held left' held' : Option (List ℕ)) (board board' : BoardView M) →
+    board.end ≡ None → end_before m (state board.machine) board.counts ≡ None →
+    IsLed left held board.bus left' held' board'.bus (λ w v. m.step (word_at m board.store.words (state board.machine)) (state board.machine) w ≡ Done (state board'.machine) v) →
+    board'.counts ≡ counts_after m board.counts (m.drives (word_at m board.store.words (state board.machine)) (state board.machine)).stalled (state board'.machine) →
+    board'.end ≡ None →
+    IsLedTo state left held board left' board' (λ r rest. ShowsRun state left' held' board' (turn m board.store.words r) × ((turn m board.store.words r).world.untaken ≡ rest))
+led-done state m left held left' held' board board' not_ended no_end led counted ends rest fits =
+    let l = led rest fits in (
+      l.0,
+      l.1,
+      λ r s e.
+          let to = l.2 r.world s.world e in
+          let words = board.store.words in
+          let here : end_before m r.state r.counts ≡ None = rw (s.its_state, s.counts) no_end in
+          let steps : m.step (word_at m words r.state) r.state r.world ≡ Done (state board'.machine) to.0 = rw s.its_state to.1 in
+          let is : turn m words r ≡ after_step m words r (Done (state board'.machine) to.0) =
+          ap (λ (x : Option End). turn_by m words x r) (s.its_end ∙ not_ended)
+          ∙ (ap (λ (x : Option End). after_end_or_step m words x r) here ∙ ap (λ (o : Outcome _). after_step m words r o) steps) in
+          let counts : counts_after m r.counts (m.drives (word_at m words r.state) r.state).stalled (state board'.machine) ≡ board'.counts = rw (s.its_state, s.counts) (sym counted) in (
+            subst (λ (x : MicroRun _). ShowsRun state left' held' board' x) (sym is) (record { its_state = refl; world = to.2; counts = counts; its_end = sym ends }),
+            ap (λ (x : MicroRun _). x.world.untaken) is ∙ to.3,
+          ),
+    )
 
 -- Turns counted from the last one.
 iterate-suc : {A : Type 0} (h : A → A) (n : ℕ) (x : A) → iterate h (suc n) x ≡ h (iterate h n x)

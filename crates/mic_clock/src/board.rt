@@ -4,7 +4,7 @@ ghost use Rattle.mic_base.specs.Causes.{Rose};
 ghost use Rattle.mic_base.specs.Streams.{Holds, IsFlushed};
 ghost use Rattle.std.specs.Prelude.{◌≡◌, ◌≢◌, [], ◌<◌, ◌≤◌, ◌+◌, ◌^◌, ℕ, List, Option, None, Some, IsOk, OnOk, IfErr, IsSome, true, false, length, max};
 ghost use Rattle.console_port.specs.Bus.{Stands};
-ghost use Rattle.console_port.specs.Console.{IsFault, IsLost, HasFaultCause, StaysFlushed};
+ghost use Rattle.console_port.specs.Console.{IsFault, IsLost, HasFaultCause, StaysFlushed, StillTells};
 ghost use Rattle.mic_clock.specs.Edge.{AsksNoMore, LetsBytesWait};
 ghost use Rattle.mic_clock.specs.Run.{MicroRun, start_counts, start_buses, bounded, word_at, last_cycles, end_by};
 ghost use Rattle.mic_clock.specs.Board.{ShowsAs, IsReset, NoFault, HasEndCause, tick_of, IsTurned, IsCutByFault, IsReached, IsRun, RunIsCutByRead, RunIsCutByWrite, BoundIsCutByWrite, IsLegRun, LegIsCutByRead, LegIsCutByWrite};
@@ -96,6 +96,7 @@ impl<M: Clocked> Board<M> {
         ensures store { self.new.store ≡ self.old.store }
         ensures keeps { (front : List ℕ) → Holds front (K.held sink.old) → Holds front (K.held sink.new) }
         ensures asked_no_more { AsksNoMore self.old.bus.console.ended source.old self.new.bus.console.ended source.new }
+        ensures tells_left { StillTells (S.left source.old) self.old.bus.console.ended (S.left source.new) self.new.bus.console.ended }
         ensures tells { IsSome (K.held sink.old) → IsSome (K.held sink.new) }
         ensures flushed { self.new.end ≢ Some End.WriteFault → StaysFlushed (K.held sink.old) (K.passed sink.old) (K.held sink.new) (K.passed sink.new) }
         ensures cause { HasEndCause (S.faults source.old) (S.faults source.new) (K.faults sink.old) (K.faults sink.new) self.old.end self.new.end }
@@ -168,6 +169,7 @@ impl<M: Clocked> Board<M> {
         ensures store { self.new.store ≡ self.old.store }
         ensures keeps { (front : List ℕ) → Holds front (K.held sink.old) → Holds front (K.held sink.new) }
         ensures asked_no_more { AsksNoMore self.old.bus.console.ended source.old self.new.bus.console.ended source.new }
+        ensures tells_left { StillTells (S.left source.old) self.old.bus.console.ended (S.left source.new) self.new.bus.console.ended }
         ensures tells { IsSome (K.held sink.old) → IsSome (K.held sink.new) }
         ensures flushed { self.new.end ≢ Some End.WriteFault → StaysFlushed (K.held sink.old) (K.passed sink.old) (K.held sink.new) (K.passed sink.new) }
         ensures cause { HasEndCause (S.faults source.old) (S.faults source.new) (K.faults sink.old) (K.faults sink.new) self.old.end self.new.end }
@@ -274,6 +276,7 @@ impl<M: Clocked> Board<M> {
         ensures store { self.new.store ≡ self.old.store }
         ensures keeps { (front : List ℕ) → Holds front (K.held sink.old) → Holds front (K.held sink.new) }
         ensures asked_no_more { AsksNoMore self.old.bus.console.ended source.old self.new.bus.console.ended source.new }
+        ensures tells_left { StillTells (S.left source.old) self.old.bus.console.ended (S.left source.new) self.new.bus.console.ended }
         ensures tells { IsSome (K.held sink.old) → IsSome (K.held sink.new) }
         ensures flushed { self.new.end ≢ Some End.WriteFault → StaysFlushed (K.held sink.old) (K.passed sink.old) (K.held sink.new) (K.passed sink.new) }
         ensures cause { HasEndCause (S.faults source.old) (S.faults source.new) (K.faults sink.old) (K.faults sink.new) self.old.end self.new.end }
@@ -309,6 +312,7 @@ impl<M: Clocked> Board<M> {
         ensures store { self.new.store ≡ self.old.store }
         ensures keeps { (front : List ℕ) → Holds front (K.held sink.old) → Holds front (K.held sink.new) }
         ensures asked_no_more { AsksNoMore self.old.bus.console.ended source.old self.new.bus.console.ended source.new }
+        ensures tells_left { StillTells (S.left source.old) self.old.bus.console.ended (S.left source.new) self.new.bus.console.ended }
         ensures tells { IsSome (K.held sink.old) → IsSome (K.held sink.new) }
         ensures flushed { self.new.end ≢ Some End.WriteFault → StaysFlushed (K.held sink.old) (K.passed sink.old) (K.held sink.new) (K.passed sink.new) }
         ensures cause { HasEndCause (S.faults source.old) (S.faults source.new) (K.faults sink.old) (K.faults sink.new) None self.new.end }
@@ -334,6 +338,7 @@ impl<M: Clocked> Board<M> {
         ensures store { self.new.store ≡ self.old.store }
         ensures keeps { (front : List ℕ) → Holds front (K.held sink.old) → Holds front (K.held sink.new) }
         ensures asked_no_more { AsksNoMore self.old.bus.console.ended source.old self.new.bus.console.ended source.new }
+        ensures tells_left { StillTells (S.left source.old) self.old.bus.console.ended (S.left source.new) self.new.bus.console.ended }
         ensures tells { IsSome (K.held sink.old) → IsSome (K.held sink.new) }
         ensures flushed { self.new.end ≢ Some End.WriteFault → StaysFlushed (K.held sink.old) (K.passed sink.old) (K.held sink.new) (K.passed sink.new) }
         ensures cause { HasEndCause (S.faults source.old) (S.faults source.new) (K.faults sink.old) (K.faults sink.new) self.old.end self.new.end }

@@ -3,7 +3,7 @@
 ghost use Rattle.mic_base.specs.Streams.{Holds};
 ghost use Rattle.std.specs.Prelude.{◌≡◌, ◌≢◌, IsSome, Err, ◌<◌, ℕ, List, slice_index, OnOk, OnErr, IfErr};
 ghost use Rattle.console_port.specs.Bus.{Stands, ChangesOnly};
-ghost use Rattle.console_port.specs.Console.{HasFaultCause, StaysFlushed};
+ghost use Rattle.console_port.specs.Console.{HasFaultCause, StaysFlushed, StillTells};
 ghost use Rattle.mic_clock.specs.Edge.{IsStep, AnswersRefusal, IsErrOfStep, LetsBytesWait, AsksNoMore};
 ghost use Rattle.mic_clock.specs.Meaning.{Meaning, Phase, AtRest, SetUp, Driven, AtEdge};
 
@@ -86,6 +86,7 @@ pub trait Clocked {
         ensures waits { LetsBytesWait meaning (word self.old) (state self.old) (S.left source.old) (K.held sink.old) bus.old sink.old sink.new }
         ensures keeps { (front : List ℕ) → Holds front (K.held sink.old) → Holds front (K.held sink.new) }
         ensures asked_no_more { AsksNoMore bus.old.console.ended source.old bus.new.console.ended source.new }
+        ensures tells_left { StillTells (S.left source.old) bus.old.console.ended (S.left source.new) bus.new.console.ended }
         ensures tells { IsSome (K.held sink.old) → IsSome (K.held sink.new) }
         ensures flushed { result ≢ Err BusFault.WriteFault → StaysFlushed (K.held sink.old) (K.passed sink.old) (K.held sink.new) (K.passed sink.new) }
         ensures cause { HasFaultCause (S.faults source.old) (S.faults source.new) (K.faults sink.old) (K.faults sink.new) result };

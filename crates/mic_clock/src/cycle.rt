@@ -3,7 +3,7 @@
 ghost use Rattle.mic_base.specs.Streams.{Holds};
 ghost use Rattle.std.specs.Prelude.{◌≡◌, ◌≢◌, IsSome, Err, ℕ, List, OnOk, OnErr, IfOk, IfErr};
 ghost use Rattle.console_port.specs.Bus.{Stands, ChangesOnly};
-ghost use Rattle.console_port.specs.Console.{HasFaultCause, StaysFlushed};
+ghost use Rattle.console_port.specs.Console.{HasFaultCause, StaysFlushed, StillTells};
 ghost use Rattle.mic_clock.specs.Edge.{IsStep, AnswersRefusal, IsErrOfStep, LetsBytesWait, AsksNoMore};
 ghost use Rattle.mic_clock.specs.Meaning.{AtRest};
 ghost use Rattle.mic_clock.specs.Run.{word_at};
@@ -41,6 +41,7 @@ pub fn clock_once<M: Clocked, S: Source, K: Sink>(
         (S.left source.old) (K.held sink.old) bus.old sink.old sink.new }
     ensures keeps { (front : List ℕ) → Holds front (K.held sink.old) → Holds front (K.held sink.new) }
     ensures asked_no_more { AsksNoMore bus.old.console.ended source.old bus.new.console.ended source.new }
+    ensures tells_left { StillTells (S.left source.old) bus.old.console.ended (S.left source.new) bus.new.console.ended }
     ensures tells { IsSome (K.held sink.old) → IsSome (K.held sink.new) }
     ensures flushed { result ≢ Err BusFault.WriteFault → StaysFlushed (K.held sink.old) (K.passed sink.old) (K.held sink.new) (K.passed sink.new) }
     ensures cause { HasFaultCause (S.faults source.old) (S.faults source.new) (K.faults sink.old) (K.faults sink.new) result }

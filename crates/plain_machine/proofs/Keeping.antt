@@ -2,10 +2,10 @@
 use Rattle.std.proofs.Common.{◌≡◌, ◌≢◌, ◌<◌, ◌≤◌, ℕ, ◌+◌, Bool, true, false, nat_lt, List, [], ◌∷◌, ◌++◌, length, length-append, Option, Some, IfSome, refl, sym, ap, subst, ◌∙◌, arith}
 use Rattle.std.proofs.lemmas.Bool.Decides.{nat_tests}
 use Rattle.console_port.specs.View.{ConsoleView}
-use Rattle.console_port.specs.Console.{Untaken, Asks}
+use Rattle.console_port.specs.Console.{Untaken, Asks, TellsLeft}
 use Rattle.ijvm_instr.specs.declared.instr.Instr.{Instr}
 use Rattle.ijvm_instr.specs.declared.instr.Instr.TheVariants.{In, Out}
-use Rattle.plain_machine.specs.Kept.{TellsLeft, is_empty, WritesOut, HasRead, HasKept}
+use Rattle.plain_machine.specs.Kept.{is_empty, WritesOut, HasRead, HasKept}
 
 -- the source, asked for a byte
 abbrev pub AsksOf : Option (List ℕ) → Option (List ℕ) → ConsoleView → ConsoleView → Type 0
@@ -28,21 +28,6 @@ take_reads left left' c c' later emptied asks = λ told untaken tell here. recor
       let t : TellsLeft left c.ended = tell is in
       ended_by t.bytes untaken left' c'.ended (asks t.bytes not_ended t.tells) (told_bytes left t.bytes untaken c.ended t.tells not_ended here);
 }
-
-told_asked : (bytes : List ℕ) (left' : Option (List ℕ)) (ended : Bool) → Asks bytes left' ended → TellsLeft left' ended
-told_asked [] left' ended asks = record { bytes = []; tells = asks.0; none_left = λ e. refl }
-told_asked (b ∷ rest) left' ended asks = record { bytes = rest; tells = asks.0; none_left = λ e. absurd (let not_ended : ended ≡ false = asks.1 in cc) }
-
-pub told_as : (left left' : Option (List ℕ)) (ended ended' : Bool) → left' ≡ left → ended' ≡ ended → TellsLeft left ended → TellsLeft left' ended'
-told_as left left' ended ended' same still t = record { bytes = t.bytes; tells = same ∙ t.tells; none_left = λ e. t.none_left (sym still ∙ e) }
-
-pub take_tells : (left left' : Option (List ℕ)) (c c' : ConsoleView) → (c.ended ≡ true → c' ≡ c) → (c.ended ≡ true → left' ≡ left) → AsksOf left left' c c' →
-    TellsLeft left c.ended → TellsLeft left' c'.ended
-take_tells left left' c c' later same asks t = by_end c.ended refl
-  where
-    by_end : (b : Bool) → c.ended ≡ b → TellsLeft left' c'.ended
-    by_end true e = told_as left left' c.ended c'.ended (same e) (ap (λ (v : ConsoleView). v.ended) (later e)) t
-    by_end false e = told_asked t.bytes left' c'.ended (asks t.bytes e t.tells)
 
 pub give_writes : (byte : ℕ) (c c' : ConsoleView) → c'.ended ≡ c.ended → (length c.kept < 4096 → c'.kept ≡ c.kept ++ byte ∷ []) → (length c.kept ≡ 4096 → c'.kept ≡ byte ∷ []) → WritesOut c c'
 give_writes byte c c' ended roomy full =

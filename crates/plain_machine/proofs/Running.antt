@@ -5,7 +5,7 @@ use Rattle.std.proofs.lemmas.List.{take-append-drop}
 use Rattle.std.proofs.lemmas.Bool.{lt-leb, le-leb}
 use Rattle.machine_words.specs.declared.machine.Machine.{Machine}
 use Rattle.console_port.specs.View.{ConsoleView}
-use Rattle.console_port.specs.Console.{Untaken, Given, IsLost}
+use Rattle.console_port.specs.Console.{Untaken, Given, IsLost, TellsLeft}
 use Rattle.plain_machine.specs.declared.frames.StepEnd.TheVariants as steps
 use Rattle.plain_machine.specs.declared.frames.StepError.{StepError}
 use Rattle.plain_machine.specs.declared.frames.StepError.TheVariants as errors
@@ -25,7 +25,7 @@ use Rattle.plain_machine.specs.Steps.{IsLedOn, Does, IsCutOff, IsMetBy}
 use Rattle.plain_machine.proofs.Costs.{next_cost-least}
 use Rattle.plain_machine.proofs.SafeLemmas.{some_untaken, some_given}
 use Rattle.plain_machine.proofs.Limited.{limits-same, same_frames}
-use Rattle.plain_machine.specs.Kept.{TellsLeft, HasKept}
+use Rattle.plain_machine.specs.Kept.{HasKept}
 use Rattle.plain_machine.specs.Runs.{program_of, point_at, RunEndsWith, IsAllBut, IsCut, StoppedBy, IsShown, LedTo, GoesOn, Reaches, Begins, Onward, cut_by}
 
 -- what a step leads to, told in other words

@@ -6,7 +6,7 @@ use Rattle.std.proofs.lemmas.List.{append-nil, append_cancel_left}
 use Rattle.mic_base.specs.Streams.{Holds}
 use Rattle.machine_words.specs.declared.machine.Machine.{Machine}
 use Rattle.console_port.specs.View.{ConsoleView}
-use Rattle.console_port.specs.Console.{Untaken, Given, IsLost}
+use Rattle.console_port.specs.Console.{Untaken, Given, IsLost, LosesLast, TellsLeft}
 use Rattle.plain_machine.specs.declared.frames.StepError.{StepError}
 use Rattle.plain_machine.specs.declared.frames.StepError.TheVariants as errors
 use Rattle.ijvm_run.specs.declared.run.RunEnd.{RunEnd}
@@ -22,7 +22,7 @@ use Rattle.ijvm_run.specs.Safe.{SameFrames}
 use Rattle.ijvm_run.specs.Run.{Program, Point, Finish, first_point, EndsBy}
 use Rattle.plain_machine.specs.Machine.{MachineView, state_of, started}
 use Rattle.plain_machine.specs.Steps.{IsMetBy}
-use Rattle.plain_machine.specs.Kept.{TellsLeft, fresh}
+use Rattle.plain_machine.specs.Kept.{fresh}
 use Rattle.plain_machine.specs.Runs.{program_of, point_at, IsAllBut, IsCut, EndsIn, StoppedBy, IsShown, IsDriven, Reaches, Begins}
 use Rattle.plain_machine.specs.Plain.{told_of, reported_end, Reports, Leaves, GotFront, Finishes, Stops, HasRun, IsCutByRead, IsCutInside, IsCutAtEnd, IsShort}
 use Rattle.plain_machine.proofs.SafeLemmas.{some_untaken}
@@ -226,16 +226,22 @@ has_run end left held left' held' p main_locals bound input rest all c new r tol
       given = got_all (told_of held) b.0.left.given all held' shown b.2.given;
     }
 
+-- where something was kept, it is the last that was given
+lost_last : (held held' : Option (List ℕ)) (kept kept' given : List ℕ) → kept ≢ [] → IsLost held kept held' kept' → Given held kept given → LosesLast held' given
+lost_last None held' kept kept' given some lost told = subst (λ o. LosesLast o given) (sym lost.prefix.1) tt
+lost_last (Some h) held' kept kept' given some lost told = subst (λ o. LosesLast o given) (sym lost.prefix.1) (h, kept, lost.prefix.0, some, told, refl)
+
 -- the run has ended, but the last flush failed
 cut_at_end : (end : RunEnd) (left held left' held' : Option (List ℕ)) (p : Program) (main_locals bound : ℕ) (input rest all : List ℕ) (c : Counts) (new : MachineView) (r : PlainReport) →
     Untaken left false input → Leaves left left' rest → EndsIn end p bound (point_behind (told_of held) (first_point main_locals input)) c new rest all → IsShown (Ok ends.WriteFault) held' [] all →
-    Holds (told_of held) held' → IsReportOf r c new → IsCutAtEnd p main_locals bound left held left' held' r
-cut_at_end end left held left' held' p main_locals bound input rest all c new r told untaken e shown holds is =
+    LosesLast held' all → Holds (told_of held) held' → IsReportOf r c new → IsCutAtEnd p main_locals bound left held left' held' r
+cut_at_end end left held left' held' p main_locals bound input rest all c new r told untaken e shown last holds is =
     let b = ends_behind (told_of held) p bound (first_point main_locals input) end c new rest all e in
     record {
       run = finishes left held left' held' p main_locals bound input rest all end c new told untaken b.0 b.1 b.2.untaken;
       report = reports r c new rest all b.0.cycles b.0.instructions b.0.last is b.2.cycles b.2.instructions b.2.boundary b.2.frames;
       given = got_front (told_of held) b.0.left.given all held' holds shown b.2.given;
+      last = subst (λ (xs : List ℕ). LosesLast held' xs) (sym b.2.given) last;
     }
 
 -- whichever end it is
@@ -254,18 +260,18 @@ ran ends.ReadFault left held left' held1 held' c1 p main_locals bound c new r n 
 ran ends.WriteFault left held left' held1 held' c1 p main_locals bound c new r n m d flushed is by = absurd (m refl)
 
 pub unflushed : (end : PlainEnd) (left held left' held1 held' : Option (List ℕ)) (c1 : ConsoleView) (kept : List ℕ) (p : Program) (main_locals bound : ℕ) (c : Counts) (new : MachineView) (r : PlainReport) →
-    end ≢ ends.ReadFault → end ≢ ends.WriteFault → Driven (Ok end) left held left' held1 c1 p main_locals bound c new → IsLost held1 c1.kept held' kept → Holds (told_of held) held' →
+    end ≢ ends.ReadFault → end ≢ ends.WriteFault → Driven (Ok end) left held left' held1 c1 p main_locals bound c new → c1.kept ≢ [] → IsLost held1 c1.kept held' kept → Holds (told_of held) held' →
     IsReportOf r c new → IsCutAtEnd p main_locals bound left held left' held' r
-unflushed ends.Halt left held left' held1 held' c1 kept p main_locals bound c new r n m d lost holds is =
-    cut_at_end defined.Halt left held left' held' p main_locals bound d.input d.rest d.all c new r d.told d.untaken d.stopped (lost_shown held1 held' c1.kept kept d.all lost d.shown) holds is
-unflushed ends.Err left held left' held1 held' c1 kept p main_locals bound c new r n m d lost holds is =
-    cut_at_end defined.Err left held left' held' p main_locals bound d.input d.rest d.all c new r d.told d.untaken d.stopped (lost_shown held1 held' c1.kept kept d.all lost d.shown) holds is
-unflushed ends.Bound left held left' held1 held' c1 kept p main_locals bound c new r n m d lost holds is =
-    cut_at_end defined.Bound left held left' held' p main_locals bound d.input d.rest d.all c new r d.told d.untaken d.stopped (lost_shown held1 held' c1.kept kept d.all lost d.shown) holds is
-unflushed ends.StackLimit left held left' held1 held' c1 kept p main_locals bound c new r n m d lost holds is =
-    cut_at_end defined.StackLimit left held left' held' p main_locals bound d.input d.rest d.all c new r d.told d.untaken d.stopped (lost_shown held1 held' c1.kept kept d.all lost d.shown) holds is
-unflushed ends.ReadFault left held left' held1 held' c1 kept p main_locals bound c new r n m d lost holds is = absurd (n refl)
-unflushed ends.WriteFault left held left' held1 held' c1 kept p main_locals bound c new r n m d lost holds is = absurd (m refl)
+unflushed ends.Halt left held left' held1 held' c1 kept p main_locals bound c new r n m d some lost holds is =
+    cut_at_end defined.Halt left held left' held' p main_locals bound d.input d.rest d.all c new r d.told d.untaken d.stopped (lost_shown held1 held' c1.kept kept d.all lost d.shown) (lost_last held1 held' c1.kept kept d.all some lost d.shown) holds is
+unflushed ends.Err left held left' held1 held' c1 kept p main_locals bound c new r n m d some lost holds is =
+    cut_at_end defined.Err left held left' held' p main_locals bound d.input d.rest d.all c new r d.told d.untaken d.stopped (lost_shown held1 held' c1.kept kept d.all lost d.shown) (lost_last held1 held' c1.kept kept d.all some lost d.shown) holds is
+unflushed ends.Bound left held left' held1 held' c1 kept p main_locals bound c new r n m d some lost holds is =
+    cut_at_end defined.Bound left held left' held' p main_locals bound d.input d.rest d.all c new r d.told d.untaken d.stopped (lost_shown held1 held' c1.kept kept d.all lost d.shown) (lost_last held1 held' c1.kept kept d.all some lost d.shown) holds is
+unflushed ends.StackLimit left held left' held1 held' c1 kept p main_locals bound c new r n m d some lost holds is =
+    cut_at_end defined.StackLimit left held left' held' p main_locals bound d.input d.rest d.all c new r d.told d.untaken d.stopped (lost_shown held1 held' c1.kept kept d.all lost d.shown) (lost_last held1 held' c1.kept kept d.all some lost d.shown) holds is
+unflushed ends.ReadFault left held left' held1 held' c1 kept p main_locals bound c new r n m d some lost holds is = absurd (n refl)
+unflushed ends.WriteFault left held left' held1 held' c1 kept p main_locals bound c new r n m d some lost holds is = absurd (m refl)
 
 abbrev stops : (left held left' held' : Option (List ℕ)) (p : Program) (main_locals bound : ℕ) (input rest : List ℕ) → Untaken left false input → Leaves left left' rest →
     (at : Point) (console : ConsoleView) → Reaches (is_some left) p bound (first_point main_locals input) fresh at console → at.state.untaken ≡ rest → Stops p main_locals bound left held left' held'

@@ -1,17 +1,11 @@
 -- What the console keeps along a run: OUT adds a byte, and empties a full console first; IN empties it, until it has met the end of input.
 use Rattle.std.specs.Prelude.{◌≡◌, ◌≢◌, ◌⊎◌, ◌<◌, ◌≤◌, ℕ, ◌+◌, Bool, true, false, List, [], ◌∷◌, length, Option, Some}
 use Rattle.console_port.specs.View.{ConsoleView}
-use Rattle.console_port.specs.Console.{Untaken}
+use Rattle.console_port.specs.Console.{Untaken, TellsLeft}
 use Rattle.ijvm_instr.specs.declared.instr.Instr.{Instr}
 use Rattle.ijvm_instr.specs.declared.instr.Instr.TheVariants.{In, Out}
 use Rattle.plain_machine.specs.declared.frames.StepError.{StepError}
 use Rattle.plain_machine.specs.declared.frames.StepError.TheVariants as errors
-
--- the source tells what it has left: nothing once its end was met
-pub record TellsLeft (left : Option (List ℕ)) (ended : Bool) : Type 0 where
-  pub bytes : List ℕ
-  pub tells : left ≡ Some bytes
-  pub none_left : ended ≡ true → bytes ≡ []
 
 abbrev pub is_empty : List ℕ → Bool
 is_empty [] = true

@@ -2,7 +2,7 @@
 use Rattle.std.specs.Prelude.{◌≡◌, ◌≢◌, ◌⊎◌, ℕ, ◌<◌, false, List, [], ◌++◌, Option, Some, IfSome, is_some, unwrap_or}
 use Rattle.machine_words.specs.declared.machine.Machine.{Machine}
 use Rattle.console_port.specs.View.{ConsoleView}
-use Rattle.console_port.specs.Console.{Untaken}
+use Rattle.console_port.specs.Console.{Untaken, LosesLast}
 use Rattle.console_port.specs.declared.map.MemoryMap.{MemoryMap}
 use Rattle.ijvm_instr.specs.declared.instr.Instr.TheVariants.{In}
 use Rattle.ijvm_run.specs.declared.run.RunEnd.{RunEnd}
@@ -97,11 +97,12 @@ module _ (p : Program) (main_locals bound : ℕ) (left held left' held' : Option
     pub given : GotFront held held' run.at.state.given
     pub lost : IsAllBut held' run.console.kept (told_of held ++ run.at.state.given)
 
-  -- the sink failed in the last flush
+  -- the sink failed in the last flush, for which the last bytes that were given waited
   pub record IsCutAtEnd (r : PlainReport) : Type 0 where
     pub run : Finishes
     pub report : Reports r run.finish.cycles run.finish.instructions run.finish.last
     pub given : GotFront held held' run.finish.left.given
+    pub last : LosesLast held' (told_of held ++ run.finish.left.given)
 
   abbrev pub IsCutByWrite : PlainReport → Type 0
   IsCutByWrite r = IsCutInside r ⊎ IsCutAtEnd r

@@ -4,7 +4,7 @@ use Rattle.std.specs.declared.alloc.AllocError.{AllocError}
 use Rattle.mic_base.specs.Causes.{Rose}
 use Rattle.machine_words.specs.declared.machine.Machine.{Machine}
 use Rattle.console_port.specs.View.{ConsoleView}
-use Rattle.console_port.specs.Console.{Untaken, Given}
+use Rattle.console_port.specs.Console.{Untaken, Given, TellsLeft}
 use Rattle.plain_machine.specs.declared.frames.StepError.{StepError}
 use Rattle.plain_machine.specs.declared.frames.StepError.TheVariants as errors
 use Rattle.ijvm_run.specs.declared.run.RunEnd.{RunEnd}
@@ -16,7 +16,7 @@ use Rattle.ijvm_instr.specs.Instructions.{instr_at}
 use Rattle.ijvm_run.specs.Safe.{SameFrames}
 use Rattle.plain_machine.specs.Machine.{MachineView, state_of}
 use Rattle.ijvm_run.specs.Step.{Goes, outcome}
-use Rattle.plain_machine.specs.Kept.{TellsLeft, Keeps}
+use Rattle.plain_machine.specs.Kept.{Keeps}
 use Rattle.plain_machine.specs.Steps.{IsMetBy}
 use Rattle.ijvm_run.specs.Run.{Program, Point, Finish, EndsBy, point_after}
 

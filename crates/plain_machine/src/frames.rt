@@ -2,13 +2,13 @@
 
 ghost use Rattle.std.specs.Prelude.{◌≡◌, ◌≢◌, ◌+◌, ◌≤◌, [], ◌∷◌, ℕ, List, Err, IsSome, IfOk, OnOk, IfErr, OnErr};
 ghost use Rattle.mic_base.specs.Streams.{Holds};
-ghost use Rattle.console_port.specs.Console.{StaysFlushed};
+ghost use Rattle.console_port.specs.Console.{StaysFlushed, StillTells};
 ghost use Rattle.ijvm_instr.specs.Instructions.{instr_at};
 ghost use Rattle.ijvm_run.specs.Cost.{next_cost};
 ghost use Rattle.ijvm_run.specs.Frames.{base, top_of};
 ghost use Rattle.ijvm_run.specs.Safe.{NeverStuck, IsSafe};
 ghost use Rattle.plain_machine.specs.Machine.{MachineView, KeepsProgram, state_of, started};
-ghost use Rattle.plain_machine.specs.Kept.{TellsLeft, HasKept};
+ghost use Rattle.plain_machine.specs.Kept.{HasKept};
 ghost use Rattle.plain_machine.specs.Steps.{IsLedOn, step_end, Does, Turns, IsCutOff, IsMetBy, HasStepCause};
 
 use crate::compute::{Effect, compute};
@@ -80,7 +80,7 @@ pub fn turn<S: Source, K: Sink>(
     ensures flushed { result ≢ Err StepError.WriteFault → StaysFlushed (K.held sink.old) (K.passed sink.old) (K.held sink.new) (K.passed sink.new) }
     ensures met { IfErr result (λ e. IsMetBy e (instr_at machine.old.image.text machine.old.at) console.old) }
     ensures kept { IfOk result (λ end. IsSome end → HasKept (S.left source.old) (instr_at machine.old.image.text machine.old.at) console.old console.new) }
-    ensures tells { TellsLeft (S.left source.old) console.old.ended → TellsLeft (S.left source.new) console.new.ended }
+    ensures tells { StillTells (S.left source.old) console.old.ended (S.left source.new) console.new.ended }
     ensures cause { HasStepCause (S.faults source.old) (S.faults source.new) (K.faults sink.old) (K.faults sink.new) result }
     ensures program { KeepsProgram machine.old machine.new }
 {
@@ -152,7 +152,7 @@ impl Frames {
         ensures flushed { result ≢ Err StepError.WriteFault → StaysFlushed (K.held sink.old) (K.passed sink.old) (K.held sink.new) (K.passed sink.new) }
         ensures met { IfErr result (λ e. IsMetBy e (instr_at self.old.image.text self.old.at) console.old) }
         ensures kept { OnOk result (HasKept (S.left source.old) (instr_at self.old.image.text self.old.at) console.old console.new) }
-        ensures tells { TellsLeft (S.left source.old) console.old.ended → TellsLeft (S.left source.new) console.new.ended }
+        ensures tells { StillTells (S.left source.old) console.old.ended (S.left source.new) console.new.ended }
         ensures cause { HasStepCause (S.faults source.old) (S.faults source.new) (K.faults sink.old) (K.faults sink.new) result }
     {
         match turn(&mut self.machine, console, source, sink) {

@@ -5,11 +5,13 @@ mod compute;
 mod cost;
 mod frame;
 pub mod frames;
+mod laws;
 mod machine;
 pub mod plain;
 mod port;
 
 pub use frames::{Frames, StepEnd, StepError};
+pub use laws::reached_boundaries_are_passed;
 pub use plain::{PlainEnd, PlainReport, run_plain};
 
 #[cfg(test)]

@@ -2,10 +2,9 @@
 
 ghost use Rattle.std.specs.Prelude.{◌≡◌, ◌≢◌, ◌≤◌, ◌<◌, ◌+◌, ◌^◌, ℕ, List, Some, Ok, IfNone, IfOk, OnErr};
 ghost use Rattle.mic_base.specs.Streams.{Holds};
-ghost use Rattle.console_port.specs.Console.{StaysFlushed};
+ghost use Rattle.console_port.specs.Console.{StaysFlushed, StillTells};
 ghost use Rattle.plain_machine.specs.Machine.{KeepsProgram};
 ghost use Rattle.ijvm_run.specs.Safe.{IsSafe};
-ghost use Rattle.plain_machine.specs.Kept.{TellsLeft};
 ghost use Rattle.plain_machine.specs.Runs.{IsDriven, IsEmptied, HasRunCause, cut_by};
 ghost use Rattle.plain_machine.specs.Plain.{program, RunsWhole, FailsToRead, FailsToWrite, IsShort};
 
@@ -76,7 +75,7 @@ fn pass<S: Source, K: Sink>(
     requires few { counts.old.instructions ≤ counts.old.cycles }
     ensures led { IsDriven result bound machine counts.old counts.new (S.left source.old) (K.held sink.old) console.old
         (S.left source.new) (K.held sink.new) console.new frames.old frames.new }
-    ensures tells { TellsLeft (S.left source.old) console.old.ended → TellsLeft (S.left source.new) console.new.ended }
+    ensures tells { StillTells (S.left source.old) console.old.ended (S.left source.new) console.new.ended }
     ensures program { KeepsProgram frames.old frames.new }
     ensures boundary { IfNone result (counts.new.boundary ≡ counts.new.cycles) }
     ensures few { IfNone result (counts.new.instructions ≤ counts.new.cycles) }
@@ -128,7 +127,7 @@ fn drive<S: Source, K: Sink>(
     requires few { counts.old.instructions ≤ counts.old.cycles }
     ensures led { IsDriven (Some result) bound machine counts.old counts.new (S.left source.old) (K.held sink.old) console.old
         (S.left source.new) (K.held sink.new) console.new frames.old frames.new }
-    ensures tells { TellsLeft (S.left source.old) console.old.ended → TellsLeft (S.left source.new) console.new.ended }
+    ensures tells { StillTells (S.left source.old) console.old.ended (S.left source.new) console.new.ended }
     ensures program { KeepsProgram frames.old frames.new }
     ensures emptied { IsEmptied (Some result) console.new }
     ensures keeps { (front : List ℕ) → Holds front (K.held sink.old) → Holds front (K.held sink.new) }

@@ -2,11 +2,11 @@
 
 ghost use Rattle.std.specs.Prelude.{◌≡◌, ◌≢◌, ◌+◌, ◌<◌, ◌≤◌, ◌^◌, length, ◌∷◌, [], ℕ, List, drop, IfOk, OnOk, IfErr, OnErr, Option, Err};
 ghost use Rattle.mic_base.specs.Streams.{Holds};
-ghost use Rattle.console_port.specs.Console.{Untaken, Given, IsFault, StaysFlushed};
+ghost use Rattle.console_port.specs.Console.{Untaken, Given, IsFault, StaysFlushed, StillTells};
 ghost use Rattle.console_port.specs.World.{next_byte};
 ghost use Rattle.ijvm_run.specs.Step.{read_in, given_out};
 ghost use Rattle.plain_machine.specs.Machine.{KeepsProgram, state_of, outcome_of};
-ghost use Rattle.plain_machine.specs.Kept.{TellsLeft, HasRead, HasAsked, WritesOut};
+ghost use Rattle.plain_machine.specs.Kept.{HasRead, HasAsked, WritesOut};
 ghost use Rattle.plain_machine.specs.Steps.{IsLedOn, LedBy, Gives, IsCutOff, HasStepCause};
 
 use crate::compute::Effect;
@@ -28,7 +28,7 @@ fn step_error(fault: BusFault) -> StepError
     }
 }
 
-#[tactic(auto, using(crate::proofs::Keeping::take_reads, crate::proofs::Keeping::take_tells, crate::proofs::Keeping::told_as))]
+#[tactic(auto, using(crate::proofs::Keeping::take_reads))]
 fn take_byte<S: Source, K: Sink>(
     console: &mut Console,
     source: &mut S,
@@ -40,7 +40,7 @@ fn take_byte<S: Source, K: Sink>(
         Given (K.held sink.old) console.old.kept given → Given (K.held sink.new) console.new.kept given) }
     ensures err { IfErr result (IsCutOff (S.left source.old) (K.held sink.old) console.old (S.left source.new) (K.held sink.new) console.new) }
     ensures kept { OnOk result (HasRead (S.left source.old) console.old console.new) }
-    ensures tells { TellsLeft (S.left source.old) console.old.ended → TellsLeft (S.left source.new) console.new.ended }
+    ensures tells { StillTells (S.left source.old) console.old.ended (S.left source.new) console.new.ended }
     ensures asked { IfErr result (λ e. HasAsked e console.old) }
     ensures keeps { (front : List ℕ) → Holds front (K.held sink.old) → Holds front (K.held sink.new) }
     ensures flushed { result ≢ Err StepError.WriteFault → StaysFlushed (K.held sink.old) (K.passed sink.old) (K.held sink.new) (K.passed sink.new) }
@@ -86,7 +86,7 @@ pub fn read_in<S: Source, K: Sink>(
     ensures cause { HasStepCause (S.faults source.old) (S.faults source.new) (K.faults sink.old) (K.faults sink.new) result }
     ensures program { KeepsProgram machine.old machine.new }
     ensures kept { OnOk result (HasRead (S.left source.old) console.old console.new) }
-    ensures tells { TellsLeft (S.left source.old) console.old.ended → TellsLeft (S.left source.new) console.new.ended }
+    ensures tells { StillTells (S.left source.old) console.old.ended (S.left source.new) console.new.ended }
     ensures asked { IfErr result (λ e. e ≢ StepError.OutOfMemory → HasAsked e console.old) }
 {
     if !machine.has_room(1) {

@@ -6,7 +6,7 @@ ghost use Rattle.console_port.specs.World.{World};
 ghost use Rattle.console_port.specs.Bus.{Shows};
 ghost use Rattle.console_port.specs.Loading.{IsLoaded};
 ghost use Rattle.mic_clock.specs.Board.{ShowsRun};
-ghost use Rattle.mic_clock.specs.Run.{start_counts};
+ghost use Rattle.mic_clock.specs.Run.{start_counts, start_buses};
 ghost use Rattle.mic1_datapath.specs.Mic1.{mic1_meaning};
 ghost use Rattle.mic1_datapath.specs.View.{micro_of as micro_of1};
 ghost use Rattle.mic2_datapath.specs.Mic2.{mic2_meaning};
@@ -38,6 +38,7 @@ pub fn board1(
     ensures input { IfOk result (λ board. board.bus.console.ended ≡ false) }
     ensures counts { IfOk result (λ board. board.counts ≡ start_counts) }
     ensures end { IfOk result (λ board. board.end ≡ None) }
+    ensures buses { IfOk result (λ board. board.buses ≡ start_buses) }
 {
     let bus = loaded_bus(alloc, image)?;
     Ok(Board::new(Mic1::new(), store, entry, first_sp(image), bus))
@@ -60,6 +61,7 @@ pub fn board2(
     ensures input { IfOk result (λ board. board.bus.console.ended ≡ false) }
     ensures counts { IfOk result (λ board. board.counts ≡ start_counts) }
     ensures end { IfOk result (λ board. board.end ≡ None) }
+    ensures buses { IfOk result (λ board. board.buses ≡ start_buses) }
 {
     let bus = loaded_bus(alloc, image)?;
     Ok(Board::new(Mic2::new(), store, entry, first_sp(image), bus))

@@ -23,7 +23,7 @@ returns-clause-run g c = λ none.
     record { start = c.in_ok-board.ensures.start; loaded = c.in_ok-board.ensures.words; kept = c.in_ok-board.ensures.kept; input = c.in_ok-board.ensures.input } in
     let has : g.I.Interpreter.IsShipped c.run.new.self.store.words = subst (λ (st : ControlStore). g.I.Interpreter.IsShipped st.words) (sym c.run.ensures.store) c.in_ok-board.ensures.store in
     has_run g.I.Machine.Clocked.state g.I.Machine.Clocked.meaning g.I.Machine.Clocked.IsReady g.I.Interpreter.IsShipped g.I.Interpreter.entry promises
-    c.args.image.now image c.image.ensures.accepted known c.args.bound _ _ _ _ c.in_ok-board.board c.run.new.self starts has c.run.result c.run.ensures.end (c.run.ensures.kept c.in_ok-board.ensures.end)
+    c.args.image.now image c.image.ensures.accepted known c.args.bound _ _ _ _ c.in_ok-board.board c.run.new.self starts has c.run.ensures.tells_left c.run.result c.run.ensures.end (c.run.ensures.kept c.in_ok-board.ensures.end)
     (subst
     (λ (st : ControlStore). IsLedTo g.I.Machine.Clocked.state (g.S.Source.left c.args.source.now) (g.K.Sink.held c.args.sink.now) c.in_ok-board.board (g.S.Source.left c.run.new.source) c.run.new.self
     (λ r rest. (n : ℕ) × Leads g.I.Machine.Clocked.state g.I.Machine.Clocked.meaning st.words (Some c.args.bound) c.run.new.self c.in_ok-board.board.buses rest n r (ShowsRun g.I.Machine.Clocked.state (g.S.Source.left c.run.new.source) (g.K.Sink.held c.run.new.sink) c.run.new.self)))
@@ -44,7 +44,7 @@ returns-clause-read g c = λ failed.
     record { start = c.in_ok-board.ensures.start; loaded = c.in_ok-board.ensures.words; kept = c.in_ok-board.ensures.kept; input = c.in_ok-board.ensures.input } in
     let has : g.I.Interpreter.IsShipped c.run.new.self.store.words = subst (λ (st : ControlStore). g.I.Interpreter.IsShipped st.words) (sym c.run.ensures.store) c.in_ok-board.ensures.store in
     is_cut_by_read g.I.Machine.Clocked.state g.I.Machine.Clocked.meaning g.I.Machine.Clocked.IsReady g.I.Interpreter.IsShipped g.I.Interpreter.entry promises
-    c.args.image.now image c.image.ensures.accepted known c.args.bound _ _ _ _ c.in_ok-board.board c.run.new.self starts has
+    c.args.image.now image c.image.ensures.accepted known c.args.bound _ _ _ _ c.in_ok-board.board c.run.new.self starts has c.run.ensures.tells_left
     (subst
     (λ (st : ControlStore). IsLedTo g.I.Machine.Clocked.state (g.S.Source.left c.args.source.now) (g.K.Sink.held c.args.sink.now) c.in_ok-board.board (g.S.Source.left c.run.new.source) c.run.new.self
     (λ r rest. (n : ℕ) × Leads g.I.Machine.Clocked.state g.I.Machine.Clocked.meaning st.words (Some c.args.bound) c.run.new.self c.in_ok-board.board.buses rest n r (IsReadCut g.I.Machine.Clocked.state g.I.Machine.Clocked.meaning st.words (Some c.args.bound) (g.S.Source.left c.run.new.source) (g.K.Sink.held c.run.new.sink) c.run.new.self)))
@@ -65,7 +65,7 @@ returns-clause-write g c = λ failed.
     record { start = c.in_ok-board.ensures.start; loaded = c.in_ok-board.ensures.words; kept = c.in_ok-board.ensures.kept; input = c.in_ok-board.ensures.input } in
     let has : g.I.Interpreter.IsShipped c.run.new.self.store.words = subst (λ (st : ControlStore). g.I.Interpreter.IsShipped st.words) (sym c.run.ensures.store) c.in_ok-board.ensures.store in
     is_cut_by_write g.I.Machine.Clocked.state g.I.Machine.Clocked.meaning g.I.Machine.Clocked.IsReady g.I.Interpreter.IsShipped g.I.Interpreter.entry promises
-    c.args.image.now image c.image.ensures.accepted known c.args.bound _ _ _ _ c.in_ok-board.board c.run.new.self starts has c.run.ensures.keeps
+    c.args.image.now image c.image.ensures.accepted known c.args.bound _ _ _ _ c.in_ok-board.board c.run.new.self starts has c.run.ensures.tells_left c.run.ensures.keeps
     (subst
     (λ (st : ControlStore). IsLedTo g.I.Machine.Clocked.state (g.S.Source.left c.args.source.now) (g.K.Sink.held c.args.sink.now) c.in_ok-board.board (g.S.Source.left c.run.new.source) c.run.new.self
     (λ r rest. (n : ℕ) × Leads g.I.Machine.Clocked.state g.I.Machine.Clocked.meaning st.words (Some c.args.bound) c.run.new.self c.in_ok-board.board.buses rest n r (IsCut g.I.Machine.Clocked.state g.I.Machine.Clocked.meaning st.words (Some c.args.bound) (g.S.Source.left c.run.new.source) (g.K.Sink.held c.run.new.sink) c.run.new.self)))

@@ -1,5 +1,5 @@
 use Rattle.std.proofs.Common.{◌≡◌, ◌∙◌, subst}
-use Rattle.mic_clock.specs.Edge.{IsStep}
+use Rattle.mic_clock.specs.Edge.{IsStep, LetsBytesWait}
 use Rattle.mic_clock.specs.Run.{word_at}
 use Rattle.mic_clock.proofs.cycle.clock_once.Goals as goal
 
@@ -18,3 +18,29 @@ returns-clause-ok g c =
     let state_is : state c.compute-computed.new.self ≡ before = c.compute-computed.ensures.state ∙ (c.drive-drive.ensures.state ∙ c.setup.ensures.state) in
     subst (λ w. IsStep m w before left held c.args.bus.now after left' held' c.edge.new.bus) word_is
     (subst (λ s. IsStep m (g.M.Clocked.word c.compute-computed.new.self) s left held c.args.bus.now after left' held' c.edge.new.bus) state_is c.in_ok-edge.ensures.ok)
+
+pub returns-in_err-edge-clause-waits : goal.returns-in_err-edge-clause-waits
+returns-in_err-edge-clause-waits g c =
+    let state = g.M.Clocked.state in
+    let m = g.M.Clocked.meaning in
+    let before = state c.args.machine.now in
+    let left = g.S.Source.left c.args.source.now in
+    let held = g.K.Sink.held c.args.sink.now in
+    let word_is : g.M.Clocked.word c.compute-computed.new.self ≡ word_at m c.args.store.now.words before =
+    c.compute-computed.ensures.word ∙ (c.drive-drive.ensures.word ∙ c.setup.ensures.word) in
+    let state_is : state c.compute-computed.new.self ≡ before = c.compute-computed.ensures.state ∙ (c.drive-drive.ensures.state ∙ c.setup.ensures.state) in
+    subst (λ w. LetsBytesWait m w before left held c.args.bus.now c.args.sink.now c.edge.new.sink) word_is
+    (subst (λ s. LetsBytesWait m (g.M.Clocked.word c.compute-computed.new.self) s left held c.args.bus.now c.args.sink.now c.edge.new.sink) state_is c.in_err-edge.ensures.waits)
+
+pub returns-clause-waits : goal.returns-clause-waits
+returns-clause-waits g c =
+    let state = g.M.Clocked.state in
+    let m = g.M.Clocked.meaning in
+    let before = state c.args.machine.now in
+    let left = g.S.Source.left c.args.source.now in
+    let held = g.K.Sink.held c.args.sink.now in
+    let word_is : g.M.Clocked.word c.compute-computed.new.self ≡ word_at m c.args.store.now.words before =
+    c.compute-computed.ensures.word ∙ (c.drive-drive.ensures.word ∙ c.setup.ensures.word) in
+    let state_is : state c.compute-computed.new.self ≡ before = c.compute-computed.ensures.state ∙ (c.drive-drive.ensures.state ∙ c.setup.ensures.state) in
+    subst (λ w. LetsBytesWait m w before left held c.args.bus.now c.args.sink.now c.edge.new.sink) word_is
+    (subst (λ s. LetsBytesWait m (g.M.Clocked.word c.compute-computed.new.self) s left held c.args.bus.now c.args.sink.now c.edge.new.sink) state_is c.in_ok-edge.ensures.waits)

@@ -124,5 +124,5 @@ returns-clause-write g c = λ by.
           (program c.args.image.now c.args.map c.args.machine) c.args.main_locals c.args.bound c.drive.new.counts c.drive.new.frames r
           (λ e. let done : false ≡ true = (w.in-Err.ensures.empty (c.in_ok-driven.ensures.emptied.read (ap (λ (x : PlainEnd). Some (Ok x)) e))).0 in cc)
           (λ e. let done : false ≡ true = (w.in-Err.ensures.empty (c.in_ok-driven.ensures.emptied.write (ap (λ (x : PlainEnd). Some (Ok x)) e))).0 in cc)
-          d w.in-Err.ensures.lost (c.flush.ensures.keeps front holds) is)
+          d (λ none. let done : false ≡ true = (w.in-Err.ensures.empty none).0 in cc) w.in-Err.ensures.lost (c.flush.ensures.keeps front holds) is)
     ]

@@ -1,13 +1,7 @@
-use Rattle.std.proofs.Common.{ap}
-use Rattle.plain_machine.proofs.Keeping.{take_reads, take_tells}
+use Rattle.plain_machine.proofs.Keeping.{take_reads}
 use Rattle.plain_machine.proofs.port.take_byte.Goals as goal
 
 pub returns-in-Ok-clause-kept : goal.returns-in-Ok-clause-kept
 returns-in-Ok-clause-kept g c =
     take_reads (g.S.Source.left c.args.source.now) (g.S.Source.left c.take.new.source) c.args.console.now c.take.new.self
     (λ e. (c.take.ensures.asked_no_more e).1) c.take.ensures.asked c.in-Ok.ensures.told
-
-pub returns-in-Ok-clause-tells : goal.returns-in-Ok-clause-tells
-returns-in-Ok-clause-tells g c =
-    take_tells (g.S.Source.left c.args.source.now) (g.S.Source.left c.take.new.source) c.args.console.now c.take.new.self
-    (λ e. (c.take.ensures.asked_no_more e).1) (λ e. ap g.S.Source.left (c.take.ensures.asked_no_more e).2) c.in-Ok.ensures.told

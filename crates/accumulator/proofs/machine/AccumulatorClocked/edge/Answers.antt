@@ -8,7 +8,7 @@ use Rattle.mic_clock.specs.Edge.{IsErrOfStep}
 use Rattle.accumulator.specs.Accumulator.{has_read, has_write, has_fetch, meaning}
 use Rattle.accumulator.specs.View.{cells_of}
 use Rattle.accumulator.proofs.Refusals.{read_console, write_console}
-use Rattle.accumulator.proofs.Consoles.{of_read, of_write, of_store}
+use Rattle.accumulator.proofs.Consoles.{of_read, of_write, of_store, read_waits}
 use Rattle.accumulator.proofs.machine.AccumulatorClocked.edge.Goals as goal
 
 pub returns-in_err-acc-in-1-clause-err : goal.returns-in_err-acc-in-1-clause-err
@@ -59,3 +59,15 @@ returns-in_err-write_word-in_default-2-clause-err g c =
     ] in
     let fault = (c.in_err-write_word-in_default-2.ensures.fault clear).1 in
     subst (λ r. IfErr r (IsErrOfStep meaning word s (g.S.Source.left c.args.source.now) (g.K.Sink.held c.args.sink.now) bus)) (sym is) (of_store word s _ _ bus e behind read write fetch clear fault)
+
+pub returns-in_err-acc-in-1-clause-waits : goal.returns-in_err-acc-in-1-clause-waits
+returns-in_err-acc-in-1-clause-waits g c =
+    let read : has_read c.args.self.now.word ≡ true = search rules in
+    read_waits c.args.self.now.word (cells_of c.args.self.now) _ _ c.args.bus.now c.args.sink.now c.read_word.new.sink read
+    (λ inside. (c.in_err-acc-in-1.ensures.memory inside).3) c.in_err-acc-in-1.ensures.empty
+
+pub returns-in_ok-acc-in-1-clause-waits : goal.returns-in_ok-acc-in-1-clause-waits
+returns-in_ok-acc-in-1-clause-waits g c =
+    let read : has_read c.args.self.now.word ≡ true = search rules in
+    read_waits c.args.self.now.word (cells_of c.args.self.now) _ _ c.args.bus.now c.args.sink.now c.read_word.new.sink read
+    (λ inside. (c.in_ok-acc-in-1.ensures.memory inside).3) c.in_ok-acc-in-1.ensures.empty

@@ -9,7 +9,7 @@ returns-clause-law c = λ store o v has loads. record {
   shows = shows store o;
   takes = record {
     goes = λ s to q i any fine n h went. ((c.stalls_law.ensures.takes store o v has loads).goes s to q i any fine n h went).moves;
-    limits = (c.stalls_law.ensures.takes store o v has loads).limits;
+    limits = λ s left q i any fine n h over. ((c.stalls_law.ensures.takes store o v has loads).limits s left q i any fine n h over).overruns;
   };
   ends = c.ends_law.ensures store o v has loads;
 }

@@ -37,6 +37,7 @@ inside-init g c =
           not_ended (c.cycle.ensures.cut faults.WriteFault not_ended tt p) (λ r s. s.its_end ∙ not_ended);
       keeps = c.cycle.ensures.keeps;
       asked_no_more = c.cycle.ensures.asked_no_more;
+      tells_left = c.cycle.ensures.tells_left;
       tells = c.cycle.ensures.tells;
       flushed = c.cycle.ensures.flushed;
       cause = rw not_ended at c.cycle.ensures.cause;
@@ -81,6 +82,7 @@ inside-preserved g c =
           not_ended (c.cycle-in-inside.ensures.cut faults.WriteFault not_ended tt p) (λ r s. s.its_end ∙ not_ended);
       keeps = λ front h. c.cycle-in-inside.ensures.keeps front (c.inside.invariant.keeps front h);
       asked_no_more = λ e. let first = c.inside.invariant.asked_no_more e in let next = c.cycle-in-inside.ensures.asked_no_more first.0 in (next.0, next.1 ∙ first.1);
+      tells_left = λ t. c.cycle-in-inside.ensures.tells_left (c.inside.invariant.tells_left t);
       tells = λ h. c.cycle-in-inside.ensures.tells (c.inside.invariant.tells h);
       flushed = λ q h. c.cycle-in-inside.ensures.flushed q (c.inside.invariant.flushed (λ w. cc) h);
       cause = HasEndCause-step _ _ _ _ _ _ old.end new.end not_ended c.inside.invariant.cause c.cycle-in-inside.ensures.cause;

@@ -6,7 +6,7 @@ use Rattle.mic_clock.specs.declared.end.End.TheVariants as ends
 use Rattle.mic_clock.specs.View.{BoardView}
 use Rattle.mic_clock.specs.Run.{MicroRun, last_cycles}
 use Rattle.mic_clock.specs.Board.{ShowsRun, NoFault, IsCutByRead, IsCutByWrite, HasEndCause}
-use Rattle.mic_clock.proofs.InTime.{InTime-stride, HasEndCause-step}
+use Rattle.mic_clock.proofs.InTime.{InTime-stride, HasEndCause-step, HasEndCause-lost}
 use Rattle.mic_clock.proofs.Reach.{IsLedTo-map, Leads-on, Leads-flushed, Leads-lost, fault_cases}
 use Rattle.mic_clock.proofs.board.Board.run.Goals as goal
 
@@ -39,6 +39,7 @@ strides-preserved g c =
       empty_write = λ p. c.stride.ensures.kept faults.WriteFault tt p;
       keeps = λ front h. c.stride.ensures.keeps front (c.strides.invariant.keeps front h);
       asked_no_more = λ e. let before = c.strides.invariant.asked_no_more e in let next = c.stride.ensures.asked_no_more before.0 in (next.0, next.1 ∙ before.1);
+      tells_left = λ t. c.stride.ensures.tells_left (c.strides.invariant.tells_left t);
       tells = λ h. c.stride.ensures.tells (c.strides.invariant.tells h);
       flushed = λ q h. c.stride.ensures.flushed q (c.strides.invariant.flushed (λ w. cc) h);
       cause = HasEndCause-step _ _ _ _ _ _ old.end new.end not_ended c.strides.invariant.cause
@@ -119,3 +120,32 @@ returns-clause-write g c =
             ]
           ])
     ]
+
+pub returns-clause-cause : goal.returns-clause-cause
+returns-clause-cause g c =
+    let old = c.strides.self in
+    let new = c.finish.new.self in
+    let none : c.args.self.now.end ≡ None = search rules in
+    let a = g.S.Source.faults c.args.source.now in
+    let a' = g.S.Source.faults c.strides.source in
+    let b = g.K.Sink.faults c.args.sink.now in
+    let b' = g.K.Sink.faults c.strides.sink in
+    let b'' = g.K.Sink.faults c.finish.new.sink in
+    let first = c.strides.invariant.cause in
+    subst (λ (e : Option _). HasEndCause a a' b b'' e new.end) (sym none)
+    (elim (cases_Bool c.finish.result) [
+      | inl t ↦
+          subst (λ (x : ℕ). HasEndCause a a' b x None new.end) (sym (c.finish.ensures.quiet t))
+          (subst (λ (e : Option _). HasEndCause a a' b b' None e) (sym (c.finish.ensures.done t)) first)
+      | inr f ↦ (
+          let kept : old.bus.console.kept ≡ [] → ⊥ = λ e. let t = (c.finish.ensures.empty e).0 in cc in
+          let lost : NoFault None old.end → HasEndCause a a' b b'' None new.end =
+          λ plain. subst (λ (e : Option _). HasEndCause a a' b b'' None e) (sym (c.finish.ensures.failed f)) (HasEndCause-lost a a' b b' b'' old.end plain first (c.finish.ensures.rose f) c.finish.ensures.later) in
+          elim (fault_cases old.end) [
+            | inl plain ↦ lost plain
+            | inr fault ↦ elim fault [
+              | inl read ↦ absurd (kept (c.strides.invariant.empty_read read))
+              | inr write ↦ absurd (kept (c.strides.invariant.empty_write write))
+            ]
+          ])
+    ])

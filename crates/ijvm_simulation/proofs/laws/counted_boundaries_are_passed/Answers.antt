@@ -1,0 +1,5 @@
+use Rattle.ijvm_simulation.proofs.Counted.{passed, counted}
+use Rattle.ijvm_simulation.proofs.laws.counted_boundaries_are_passed.Goals as goal
+
+pub returns : goal.returns
+returns c = record { passed = passed; counted = counted }
