@@ -10,7 +10,7 @@ use Rattle.cli_outside.specs.Outside.{Got, OutsideView}
 use Rattle.mic_clock.specs.State.{state_line}
 use Rattle.cli_run_texts.specs.Report.{plain_head, report as report_of}
 
--- a call met no fault of its files and its streams, and memory was not wanting
+-- a call met no fault of its files and its streams, and was not out of memory
 pub record IsQuiet (old new : OutsideView) (status : ℕ) : Type 0 where
   pub files : Rose old.files.faults new.files.faults → ⊥
   pub console : Rose old.console.faults new.console.faults → ⊥

@@ -19,7 +19,7 @@ use ijvm_run::runs_end_once;
 use ijvm_simulation::interpreters_agree;
 use shipped_microcode::{Mic1Interpreter, Mic2Interpreter};
 
-/// Two calls over one file, `run` and `reference`, on the same machine and map, with the same bound and input, agree where no fault comes and memory is not wanting.
+/// Two calls over one file, `run` and `reference`, on the same machine and map, with the same bound and input, agree where no fault comes and neither is out of memory.
 pub fn run_agrees_with_reference()
     ensures { (machine : Machine) (file : List ℕ) (map : MemoryMap) (bound : ℕ) (input : List ℕ) (contents : Contents) (old ran told : OutsideView) (status status' : ℕ) →
         old.console.left ≡ Some input → old.files.contents ≡ Some contents →
@@ -30,7 +30,7 @@ pub fn run_agrees_with_reference()
     a_file_has_one_program();
 }
 
-/// Two calls of `run` over one file, on Mic-1 and on Mic-2, with the same map and input, give the same output and the same end where no fault comes, memory is not wanting and neither meets its bound.
+/// Two calls of `run` over one file, on Mic-1 and on Mic-2, with the same map and input, give the same output and the same end where no fault comes, neither is out of memory and neither meets its bound.
 pub fn run_agrees_on_both_machines()
     ensures { (file : List ℕ) (map : MemoryMap) (bound bound' : ℕ) (input : List ℕ) (contents : Contents) (old one other : OutsideView) (status status' : ℕ) →
         old.console.left ≡ Some input → old.files.contents ≡ Some contents →

@@ -37,7 +37,7 @@ lines_first memory n [] line some e = absurd (omega (arith, some))
 lines_first memory n (b ∷ bytes) line some e =
     λ i. sym e i ∷ (if is_quit memory (sym e i) then [] else lines_of memory n (behind_line 256 (b ∷ bytes)))
 
--- what is left behind the first of some bytes, and then behind the others, if it does not quit
+-- what is left after the first line of some bytes, and then after the others, if it does not quit
 left_first : (memory n : ℕ) (told line : List ℕ) → 0 < length told → line ≡ line_in 256 told →
     left_after memory (suc n) told ≡ (if is_quit memory line then behind_line 256 told else left_after memory n (behind_line 256 told))
 left_first memory n [] line some e = absurd (omega (arith, some))
@@ -102,7 +102,7 @@ module _ (memory n : ℕ) (bytes line : List ℕ) (left : Option (List ℕ)) whe
             ∙ ap (λ (q : Bool). if q then behind_line 256 bytes else left_after memory n (behind_line 256 bytes)) is;
       }
 
-  -- nothing stands behind it
+  -- nothing stands after it
   last_at : is_quit memory line ≡ false → IsFirstLine bytes line left → behind_line 256 bytes ≡ [] → IsReadOut memory (suc n) bytes (line ∷ []) left
   last_at is first none =
       let on = on_at is first in

@@ -6,3 +6,4 @@ pub mod Ends
 pub mod Getting
 pub mod Naming
 pub mod Jobs
+pub mod Once

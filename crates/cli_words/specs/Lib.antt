@@ -1,4 +1,5 @@
 pub mod Reading
+pub mod Given
 pub mod Table
 pub mod Taking
 pub mod Words

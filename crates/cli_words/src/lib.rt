@@ -2,6 +2,7 @@
 #![tactic(auto)]
 
 mod error;
+mod laws;
 mod options;
 mod read;
 mod request;
@@ -9,6 +10,7 @@ mod table;
 mod taking;
 
 pub use error::WordsError;
+pub use laws::each_name_is_given_once;
 pub use options::{DEFAULT_BOUND, MOST_BLOCKS, MOST_CYCLES, MOST_SEED};
 pub use read::read_words;
 pub use request::{Job, Mode, Request};
