@@ -14,7 +14,6 @@ use Rattle.ijvm_run.specs.Cost.{cost}
 use Rattle.ijvm_run.specs.Step.{onto, called}
 use Rattle.ijvm_paths.specs.Accepted.{VerifiedView}
 use Rattle.mic2_datapath.specs.Micro.{Micro}
-use Rattle.mic2_datapath.specs.Mic2.{mic2_meaning}
 use Rattle.ijvm_simulation.specs.Stands.{Origin, IsLinked, caller_lv}
 use Rattle.ijvm_simulation.specs.Stack.{IsMapEnd, IsWordAccess, frame_with, place_behind, linked_words, Arguments, IsMethod, Top, AtBoundary, StackLaw}
 use Rattle.ijvm_simulation.specs.Passes.{Moment}

@@ -14,7 +14,6 @@ use Rattle.ijvm_run.specs.Cost.{cost, tests, are_equal}
 use Rattle.ijvm_run.specs.Step.{moved, way}
 use Rattle.ijvm_paths.specs.Accepted.{VerifiedView}
 use Rattle.mic2_datapath.specs.Micro.{Micro}
-use Rattle.mic2_datapath.specs.Mic2.{mic2_meaning}
 use Rattle.ijvm_simulation.specs.Stands.{Origin, IsTop}
 use Rattle.ijvm_simulation.specs.Stack.{IsMapEnd, Top, Two, AtBoundary, StackLaw}
 use Rattle.ijvm_simulation.specs.Passes.{Moment}

@@ -13,7 +13,6 @@ use Rattle.ijvm_run.specs.Cost.{cost}
 use Rattle.ijvm_run.specs.Step.{moved}
 use Rattle.ijvm_paths.specs.Accepted.{VerifiedView}
 use Rattle.mic2_datapath.specs.Micro.{Micro}
-use Rattle.mic2_datapath.specs.Mic2.{mic2_meaning}
 use Rattle.ijvm_simulation.specs.Stands.{Origin}
 use Rattle.ijvm_simulation.specs.Stack.{IsMapEnd, IsWordAccess, place_behind, Top, Two, AtBoundary, StackLaw}
 use Rattle.ijvm_simulation.specs.Passes.{Moment}
