@@ -70,6 +70,7 @@ Maintainer: Hepnayog maintainers <maintainers@users.noreply.hepnayog.example>
 Section: education
 Priority: optional
 Depends: libc6 (>= $glibc)
+Recommends: python3 (>= 3.9)
 Suggests: rlwrap
 Installed-Size: $(du -sk "$deb/usr" | cut -f 1)
 X-Processor: $processor
@@ -79,7 +80,8 @@ Description: Mic-1 and Mic-2, the microprogrammed machines of Tanenbaum's book
  microinstruction after another. It is proved to compute what the definition
  of IJVM says.
  .
- The documents, examples and exercises are in /usr/share/doc/mic. It needs a
+ The documents, examples and exercises are in /usr/share/doc/mic, with scripts
+ (in Python) that grade submissions and make waveforms of a run. mic needs a
  processor of the level $processor.
 END
 flags=

@@ -4,7 +4,7 @@ if exists("current_compiler")
 endif
 let current_compiler = "mic"
 
-" A microprogram for Mic-2 needs:  :let b:mic_machine = 'mic2' | unlet! current_compiler | compiler mic
+" A microprogram for Mic-2 needs:  :let b:mic_machine = 'mic2' | compiler mic
 let s:machine = exists("b:mic_machine") ? '\ --machine\ ' . b:mic_machine : ''
 if &filetype ==# 'mal'
   execute 'CompilerSet makeprg=mic\ micro' . s:machine . '\ --\ %:S\ /dev/null'
