@@ -8,7 +8,7 @@ use std::alloc::{AllocError, Global};
 const ROOM: u32 = 100_000;
 
 /// What comes of a call: its status, and what it prints on standard output and standard error.
-#[derive(Debug, PartialEq, Eq, Drop)]
+#[derive(PartialEq, Eq, Drop)]
 pub struct Answer {
     pub status: u8,
     pub out: Vec<u8>,
