@@ -19,15 +19,6 @@ pub struct CaseFile {
     pub bytes: Vec<u8>,
 }
 
-impl CaseFile {
-    pub fn new(alloc: Global, name: &str, bytes: Vec<u8>) -> Result<CaseFile, AllocError> {
-        Ok(CaseFile {
-            name: String::from_str(alloc, name)?,
-            bytes,
-        })
-    }
-}
-
 /// What comes of a call.
 #[derive(Drop)]
 pub struct Answer {
@@ -63,6 +54,8 @@ pub struct Failing {
 
 #[derive(Drop)]
 pub struct Case {
+    /// The lines up to the first that says what must come of the call.
+    pub inputs: String,
     pub words: Vec<String>,
     pub files: Vec<CaseFile>,
     pub console: Vec<u8>,
@@ -73,6 +66,7 @@ pub struct Case {
 impl Case {
     pub fn new(alloc: Global) -> Case {
         Case {
+            inputs: String::new(alloc),
             words: Vec::new(alloc),
             files: Vec::new(alloc),
             console: Vec::new(alloc),

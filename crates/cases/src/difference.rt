@@ -1,6 +1,7 @@
 //! What came of a call is held against what must come of it.
 
 use crate::case::{Answer, CaseFile};
+use crate::hex;
 use std::alloc::{AllocError, Global};
 
 /// The first difference of an answer from the one that is wanted, in one line.
@@ -16,13 +17,16 @@ pub fn difference(
         return Ok(Some(difference));
     }
     if is.status != wanted.status {
-        let (is, wanted) = (is.status, wanted.status);
-        return Ok(Some(format!(in alloc; "the status is {is}, and not {wanted}")?));
+        return Ok(Some(status_difference(alloc, is.status, wanted.status)?));
     }
     if let Some(difference) = bytes_difference(alloc, "left", &is.left, &wanted.left)? {
         return Ok(Some(difference));
     }
     files_difference(alloc, &is.written, &wanted.written)
+}
+
+fn status_difference(alloc: Global, is: u8, wanted: u8) -> Result<String, AllocError> {
+    format!(in alloc; "the status is {is}, and not {wanted}")
 }
 
 /// The first file that is not written as it must be, or that no one asked for.
@@ -32,34 +36,37 @@ fn files_difference(
     wanted: &[CaseFile],
 ) -> Result<Option<String>, AllocError> {
     for file in wanted {
-        let name = file.name.as_str();
-        match find(are, name) {
-            None => return Ok(Some(format!(in alloc; "{name} is not written")?)),
-            Some(found) => {
-                let what = format!(in alloc; "written {name}")?;
-                let difference = bytes_difference(alloc, &what, &found.bytes, &file.bytes)?;
-                if difference.is_some() {
-                    return Ok(difference);
-                }
-            }
+        if let Some(difference) = file_difference(alloc, find(are, &file.name), file)? {
+            return Ok(Some(difference));
         }
     }
     for file in are {
-        let name = file.name.as_str();
-        if find(wanted, name).is_none() {
-            return Ok(Some(format!(in alloc; "{name} is written, and the case does not say so")?));
+        if find(wanted, &file.name).is_none() {
+            return Ok(Some(not_asked_for(alloc, &file.name)?));
         }
     }
     Ok(None)
 }
 
+fn file_difference(
+    alloc: Global,
+    found: Option<&CaseFile>,
+    wanted: &CaseFile,
+) -> Result<Option<String>, AllocError> {
+    let name = wanted.name.as_str();
+    let Some(found) = found else {
+        return Ok(Some(format!(in alloc; "{name} is not written")?));
+    };
+    let what = format!(in alloc; "written {name}")?;
+    bytes_difference(alloc, &what, &found.bytes, &wanted.bytes)
+}
+
+fn not_asked_for(alloc: Global, name: &str) -> Result<String, AllocError> {
+    format!(in alloc; "{name} is written, and the case does not say so")
+}
+
 fn find<'a>(files: &'a [CaseFile], name: &str) -> Option<&'a CaseFile> {
-    for file in files {
-        if file.name.as_str() == name {
-            return Some(file);
-        }
-    }
-    None
+    files.iter().find(|file| file.name.as_str() == name)
 }
 
 /// The first line that differs, or the first byte where one of them is no text.
@@ -84,17 +91,17 @@ fn line_difference(
     is: &str,
     wanted: &str,
 ) -> Result<String, AllocError> {
-    let mut number: u64 = 1;
-    let mut wants = wanted.split('\n');
-    for line in is.split('\n') {
-        let want = wants.next().unwrap_or("");
-        if line != want {
-            return format!(in alloc; "{what} line {number} is {line:?}, and not {want:?}");
-        }
-        number = number.saturating_add(1);
+    let same = is
+        .split('\n')
+        .zip(wanted.split('\n'))
+        .take_while(|(line, want)| line == want)
+        .count();
+    let number = same.saturating_add(1);
+    let want = wanted.split('\n').nth(same).unwrap_or("");
+    match is.split('\n').nth(same) {
+        Some(line) => { format!(in alloc; "{what} line {number} is {line:?}, and not {want:?}") }
+        None => format!(in alloc; "{what} ends before its line {number}, which is {want:?}"),
     }
-    let want = wants.next().unwrap_or("");
-    format!(in alloc; "{what} ends before its line {number}, which is {want:?}")
 }
 
 fn byte_difference(
@@ -103,11 +110,19 @@ fn byte_difference(
     is: &[u8],
     wanted: &[u8],
 ) -> Result<String, AllocError> {
-    for (at, (byte, want)) in is.iter().zip(wanted).enumerate() {
-        if byte != want {
-            return format!(in alloc; "{what} byte {at} is {byte:02X}, and not {want:02X}");
+    let same = is
+        .iter()
+        .zip(wanted)
+        .take_while(|(byte, want)| byte == want)
+        .count();
+    match (is.get(same), wanted.get(same)) {
+        (Some(byte), Some(want)) => {
+            let (byte, want) = (hex::text_of(alloc, *byte)?, hex::text_of(alloc, *want)?);
+            format!(in alloc; "{what} byte {same} is {byte}, and not {want}")
+        }
+        _ => {
+            let (is, wanted) = (is.len(), wanted.len());
+            format!(in alloc; "{what} has {is} bytes, and not {wanted}")
         }
     }
-    let (is, wanted) = (is.len(), wanted.len());
-    format!(in alloc; "{what} has {is} bytes, and not {wanted}")
 }

@@ -1,5 +1,6 @@
 //! The names of the cases: one a line, in groups under headings that begin with `#`.
 
+use crate::names::has_name;
 use std::alloc::{AllocError, Global};
 use std::{fs, io};
 
@@ -21,14 +22,14 @@ const DEEPEST: usize = 4;
 pub fn not_named(rt: &HostRuntime, names: &[String]) -> io::Result<Vec<String>> {
     let mut missing = Vec::new(rt.alloc());
     let mut folders = Vec::new(rt.alloc());
-    folders.push(String::from_str(rt.alloc(), ".")?)?;
+    folders.push(String::new(rt.alloc()))?;
     for _ in 0..DEEPEST {
         let mut below = Vec::new(rt.alloc());
         for folder in &folders {
             for name in entries_of(rt, folder)? {
                 if !name.ends_with(".case") {
-                    below.push(name)?;
-                } else if !has(names, &name) {
+                    below.push(format!(in rt.alloc(); "{name}/")?)?;
+                } else if !has_name(names, &name) {
                     missing.push(name)?;
                 }
             }
@@ -38,23 +39,17 @@ pub fn not_named(rt: &HostRuntime, names: &[String]) -> io::Result<Vec<String>> 
     Ok(missing)
 }
 
-/// What lies in a folder; nothing lies in a file.
+/// What lies in a folder, whose name ends in `/`, or in this one; nothing lies in a file.
 fn entries_of(rt: &HostRuntime, folder: &str) -> io::Result<Vec<String>> {
     let mut names = Vec::new(rt.alloc());
-    let Ok(entries) = fs::read_dir(rt, folder) else {
+    let path = format!(in rt.alloc(); "./{folder}")?;
+    let Ok(entries) = fs::read_dir(rt, path.as_str()) else {
         return Ok(names);
     };
     for entry in entries {
         let entry = entry?;
-        let path = entry.path();
-        let path = path.display();
-        let path = format!(in rt.alloc(); "{path}")?;
-        let name = path.strip_prefix("./").unwrap_or(&path);
-        names.push(String::from_str(rt.alloc(), name)?)?;
+        let name = entry.file_name();
+        names.push(format!(in rt.alloc(); "{folder}{name}")?)?;
     }
     Ok(names)
-}
-
-fn has(names: &[String], name: &str) -> bool {
-    names.iter().any(|known| known.as_str() == name)
 }

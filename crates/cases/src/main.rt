@@ -5,17 +5,21 @@ mod answer;
 mod case;
 mod content;
 mod difference;
+mod hex;
 mod index;
+mod names;
 mod noted;
+mod part;
 mod reading;
 mod shown;
 
 use answer::answer_of;
-use case::Refusal;
+use case::{Case, Refusal};
 use difference::difference;
 use index::{not_named, read_index};
-use reading::{inputs_of, read_case};
+use reading::read_case;
 use shown::shown;
+use std::alloc::{AllocError, Global};
 use std::process::ExitCode;
 use std::{env, fs, io};
 
@@ -26,55 +30,66 @@ struct Failure {
     texts: String,
 }
 
-fn refused(rt: &HostRuntime, line: u64, refusal: Refusal) -> io::Result<Failure> {
+/// The line that is none of a case, and why.
+fn refused(alloc: Global, line: u64, refusal: Refusal) -> Result<String, AllocError> {
     let reason = refusal.0;
-    Ok(Failure {
-        why: format!(in rt.alloc(); "line {line}: {reason}")?,
-        texts: String::new(rt.alloc()),
-    })
+    format!(in alloc; "line {line}: {reason}")
 }
 
 /// Why the case of this file fails, if it does.
 fn failure_of(rt: &HostRuntime, name: &str) -> io::Result<Option<Failure>> {
     let alloc = rt.alloc();
-    let Ok(text) = fs::read_to_string(rt, name) else {
-        return Ok(Some(Failure {
-            why: String::from_str(alloc, "cannot be read")?,
-            texts: String::new(alloc),
-        }));
+    let why = match fs::read_to_string(rt, name) {
+        Err(_) => String::from_str(alloc, "cannot be read")?,
+        Ok(text) => match read_case(rt, &text) {
+            Ok(case) => return Ok(difference_of(alloc, &case)?),
+            Err((line, refusal)) => refused(alloc, line, refusal)?,
+        },
     };
-    let case = match read_case(rt, &text) {
-        Ok(case) => case,
-        Err((line, refusal)) => return Ok(Some(refused(rt, line, refusal)?)),
-    };
-    let answer = answer_of(alloc, &case)?;
+    Ok(Some(Failure {
+        why,
+        texts: String::new(alloc),
+    }))
+}
+
+/// What comes of the case's call in place of what must, if it differs.
+fn difference_of(alloc: Global, case: &Case) -> Result<Option<Failure>, AllocError> {
+    let answer = answer_of(alloc, case)?;
     let Some(why) = difference(alloc, &answer, &case.wanted)? else {
         return Ok(None);
     };
     let is = shown(alloc, &answer)?;
     let wanted = shown(alloc, &case.wanted)?;
-    Ok(Some(Failure {
-        why,
-        texts: format!(in alloc; "it gives\n\n{is}\nand must give\n\n{wanted}\n")?,
-    }))
+    let texts = format!(in alloc; "it gives\n\n{is}\nand must give\n\n{wanted}\n")?;
+    Ok(Some(Failure { why, texts }))
 }
 
-/// Runs all cases, and tells how many there are and how many fail. Each that fails has a line on standard error.
-fn run_all(rt: &HostRuntime) -> io::Result<ExitCode> {
-    let index = fs::read_to_string(rt, "index.txt")?;
-    let names = read_index(rt.alloc(), &index)?;
+/// Says on standard error and on standard output why a case fails.
+fn report(rt: &HostRuntime, name: &str, why: &str) -> io::Result<()> {
+    eprintln!(rt; "{name}: {why}")?;
+    println!(rt; "{name}: {why}")
+}
+
+/// How many of the cases fail. Each that fails has a line on standard error.
+fn run_cases(rt: &HostRuntime, names: &[String]) -> io::Result<u64> {
     let mut failed: u64 = 0;
-    for name in &names {
+    for name in names {
         if let Some(failure) = failure_of(rt, name)? {
-            let (why, texts) = (&failure.why, &failure.texts);
-            eprintln!(rt; "{name}: {why}")?;
-            println!(rt; "{name}: {why}\n{texts}")?;
+            report(rt, name, &failure.why)?;
+            rt.println(failure.texts.as_str())?;
             failed = failed.saturating_add(1);
         }
     }
-    for name in not_named(rt, &names)? {
-        eprintln!(rt; "{name}: is not in index.txt")?;
-        println!(rt; "{name}: is not in index.txt")?;
+    Ok(failed)
+}
+
+/// Runs all cases, and tells how many there are and how many fail.
+fn run_all(rt: &HostRuntime) -> io::Result<ExitCode> {
+    let index = fs::read_to_string(rt, "index.txt")?;
+    let names = read_index(rt.alloc(), &index)?;
+    let mut failed = run_cases(rt, &names)?;
+    for name in &not_named(rt, &names)? {
+        report(rt, name, "is not in index.txt")?;
         failed = failed.saturating_add(1);
     }
     let count = names.len();
@@ -87,14 +102,13 @@ fn show(rt: &HostRuntime, name: &str) -> io::Result<ExitCode> {
     let text = fs::read_to_string(rt, name)?;
     match read_case(rt, &text) {
         Err((line, refusal)) => {
-            let reason = refusal.0;
-            eprintln!(rt; "{name}: line {line}: {reason}")?;
+            let why = refused(rt.alloc(), line, refusal)?;
+            eprintln!(rt; "{name}: {why}")?;
             Ok(ExitCode::from(1))
         }
         Ok(case) => {
-            let inputs = inputs_of(rt.alloc(), &text)?;
             let answer = answer_of(rt.alloc(), &case)?;
-            let outputs = shown(rt.alloc(), &answer)?;
+            let (inputs, outputs) = (&case.inputs, shown(rt.alloc(), &answer)?);
             print!(rt; "{inputs}{outputs}")?;
             Ok(ExitCode::from(0))
         }

@@ -4,6 +4,7 @@ ghost use Rattle.std.specs.Prelude.{Some};
 ghost use Rattle.mic_base.specs.Memory.{files_contents, files_faults};
 
 use crate::case::CaseFile;
+use crate::names::has_name;
 use mic_base::{FileError, Files, MemFiles};
 use std::alloc::{AllocError, Global};
 
@@ -33,8 +34,10 @@ impl NotedFiles {
         let mut written = Vec::new(self.alloc);
         for name in &self.names {
             if let Some(bytes) = self.files.find(name) {
-                let copy = Vec::from_slice(self.alloc, bytes)?;
-                written.push(CaseFile::new(self.alloc, name, copy)?)?;
+                written.push(CaseFile {
+                    name: name.clone()?,
+                    bytes: Vec::from_slice(self.alloc, bytes)?,
+                })?;
             }
         }
         Ok(written)
@@ -43,7 +46,7 @@ impl NotedFiles {
 
 /// Adds a name, if it is not there.
 fn note(alloc: Global, names: &mut Vec<String>, name: &str) -> Result<(), AllocError> {
-    if !names.iter().any(|noted| noted.as_str() == name) {
+    if !has_name(names, name) {
         names.push(String::from_str(alloc, name)?)?;
     }
     Ok(())
