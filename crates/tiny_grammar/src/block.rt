@@ -52,7 +52,8 @@ fn named(
 /// The statement at the front, which holds no block.
 fn simple(alloc: Global, levels: u32, tokens: &[Token]) -> Result<(Statement, &[Token]), Refusal>
     ensures ok { IfOk result (λ p. Reads levels AStatement tokens.now (spell_statement (statement_tree p.0)) p.1.now) }
-    ensures err { IfErr result (λ e. is_memory e ≡ false → HoldsNoBlock tokens.now → Stops levels (AStatement ∷ []) tokens.now e) }
+    ensures err { IfErr result (λ e.
+        is_memory e ≡ false → HoldsNoBlock tokens.now → Stops levels (AStatement ∷ []) tokens.now e) }
 {
     if let Some(after_put) = after_sign(tokens, Sign::Put) {
         let (shown, put_end) = value(alloc, levels, after_put)?;
@@ -143,7 +144,8 @@ fn otherwise(
     levels: u32,
     tokens: &[Token],
 ) -> Result<(Option<Block>, &[Token]), Refusal>
-    ensures ok { IfOk result (λ p. Reads levels MaybeElse tokens.now (spell_else (else_of (option_map block_tree p.0))) p.1.now) }
+    ensures ok { IfOk result (λ p.
+        Reads levels MaybeElse tokens.now (spell_else (else_of (option_map block_tree p.0))) p.1.now) }
     ensures err { IfErr result (λ e. StopsBy levels (MaybeElse ∷ []) tokens.now e) }
 {
     let Some(inside) = after_sign(tokens, Sign::Else) else {

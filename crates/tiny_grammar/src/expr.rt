@@ -64,7 +64,8 @@ fn call(
     tokens: &[Token],
 ) -> Result<Option<(Items<Expr>, &[Token])>, Refusal>
     ensures ok { IfOk result (λ found. MatchOption found (Skips levels MaybeCall tokens.now)
-        (λ p. Reads levels MaybeCall tokens.now (sign Open ∷ spell_arguments (arguments_of (map expr_tree p.0))) p.1.now)) }
+        (λ p.
+        Reads levels MaybeCall tokens.now (sign Open ∷ spell_arguments (arguments_of (map expr_tree p.0))) p.1.now)) }
     ensures err { IfErr result (λ e. StopsBy levels (MaybeCall ∷ []) tokens.now e) }
 {
     let Some(rest) = after_sign(tokens, Sign::Open) else {
@@ -85,7 +86,8 @@ pub(crate) fn arguments(
     tokens: &[Token],
 ) -> Result<(Items<Expr>, &[Token]), Refusal>
     ensures ok { IfOk result (λ p.
-        Moves levels (Arguments ∷ []) tokens.now (spell_arguments (arguments_of (map expr_tree p.0))) (levels + 1) [] p.1.now) }
+        Moves levels (Arguments ∷ []) tokens.now (spell_arguments (arguments_of (map expr_tree p.0)))
+        (levels + 1) [] p.1.now) }
     ensures err { IfErr result (λ e. StopsBy levels (Arguments ∷ []) tokens.now e) }
 {
     let mut found = Items::new(alloc);

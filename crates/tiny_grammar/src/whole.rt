@@ -38,8 +38,10 @@ pub fn parse(alloc: Global, tokens: &[Token]) -> Result<Items<Function>, Refusal
 /// A law: tokens spell at most one program; where they spell one and open no level too many, they are not refused;
 /// and they have at most one refusal.
 pub fn tokens_have_one_reading()
-    ensures one_program { (ts : List Token) (p q : List tree.Function) → SpellsProgram ts p → SpellsProgram ts q → p ≡ q }
+    ensures one_program { (ts : List Token) (p q : List tree.Function) →
+        SpellsProgram ts p → SpellsProgram ts q → p ≡ q }
     ensures not_both { (levels : ℕ) (ts : List Token) (p : List tree.Function) (e : Refusal) →
         SpellsProgram ts p → IsShallow levels ts → IsRefused levels ts e → ⊥ }
-    ensures one_refusal { (levels : ℕ) (ts : List Token) (d e : Refusal) → IsRefused levels ts d → IsRefused levels ts e → d ≡ e }
+    ensures one_refusal { (levels : ℕ) (ts : List Token) (d e : Refusal) →
+        IsRefused levels ts d → IsRefused levels ts e → d ≡ e }
 {}
