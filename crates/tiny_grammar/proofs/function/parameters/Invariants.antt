@@ -1,0 +1,11 @@
+use Rattle.std.proofs.Common.{[], ◌∷◌, length}
+use Rattle.tiny_grammar.specs.Machine.{AName, MoreParameters, Parameters}
+use Rattle.tiny_grammar.specs.Reads.{Moves}
+use Rattle.tiny_grammar.proofs.Lists.{words_with_commas}
+use Rattle.tiny_grammar.proofs.function.parameters.Given as goal
+
+abbrev pub invariant-loop-found : goal.invariant-loop-found
+invariant-loop-found l = Moves 63 (Parameters ∷ []) l.tokens (words_with_commas l.found) 63 (AName ∷ MoreParameters ∷ []) l.rest
+
+abbrev pub decreases-loop-found : goal.decreases-loop-found
+decreases-loop-found l = length l.rest

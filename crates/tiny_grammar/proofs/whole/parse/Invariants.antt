@@ -1,0 +1,12 @@
+use Rattle.std.proofs.Common.{[], ◌∷◌, length, map}
+use Rattle.tiny_draft.specs.View.{function_tree}
+use Rattle.tiny_grammar.specs.Grammar.{spell_functions}
+use Rattle.tiny_grammar.specs.Machine.{Functions}
+use Rattle.tiny_grammar.specs.Reads.{Moves}
+use Rattle.tiny_grammar.proofs.whole.parse.Given as goal
+
+abbrev pub invariant-loop-after_fn : goal.invariant-loop-after_fn
+invariant-loop-after_fn l = Moves 64 (Functions ∷ []) l.tokens (spell_functions (map function_tree l.found)) 64 (Functions ∷ []) l.rest
+
+abbrev pub decreases-loop-after_fn : goal.decreases-loop-after_fn
+decreases-loop-after_fn l = length l.rest

@@ -1,0 +1,5 @@
+pub mod Tokens
+pub mod Grammar
+pub mod Refusals
+pub mod Machine
+pub mod Reads
