@@ -1,5 +1,5 @@
 -- The plain tree that a value of the program is, without where its parts lie in memory.
-use Rattle.std.specs.Prelude.{ℕ, List, [], ◌∷◌, map, Option, Some, None}
+use Rattle.std.specs.Prelude.{map}
 use Rattle.tiny_tree.specs.declared.tree.Operator.{Operator}
 use Rattle.tiny_tree.specs.declared.tree.Term.{Term, fold-Term}
 use Rattle.tiny_tree.specs.declared.tree.Term.TheOpen.{Term-F, Expr-F, Step-F}
