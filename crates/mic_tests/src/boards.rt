@@ -29,15 +29,10 @@ const HALT: Placed = Placed {
     next: PlacedNext::Goto(0x0FF),
 };
 
-fn image_of(
-    alloc: Global,
-    text: &[u8; 21],
-    entry: u32,
-    map: MemoryMap,
-) -> Result<VerifiedImage, Fail> {
+fn image_of(alloc: Global, text: &[u8; 21], entry: u32) -> Result<VerifiedImage, Fail> {
     let text = Vec::from_slice(alloc, text)?;
     let pool = Vec::from_slice(alloc, &[entry])?;
-    Ok(verify(alloc, Image::new(text, pool), map)?)
+    Ok(verify(alloc, Image::new(text, pool), MemoryMap::STANDARD)?)
 }
 
 fn no_input(alloc: Global) -> MemSource {
@@ -51,11 +46,8 @@ fn empty_sink(alloc: Global) -> Result<MemSink, AllocError> {
 #[test]
 fn images_run_on_mic1(rt: HostRuntime) -> Result<(), Fail> {
     let alloc = rt.alloc();
-    for (text, entry, map, cycles) in [
-        (&CALL, 9, MemoryMap::STANDARD, 65),
-        (&LATE_CALL, 11, MemoryMap::LARGE, 69),
-    ] {
-        let image = image_of(alloc, text, entry, map)?;
+    for (text, entry, cycles) in [(&CALL, 9, 65), (&LATE_CALL, 11, 69)] {
+        let image = image_of(alloc, text, entry)?;
         let mut sink = empty_sink(alloc)?;
         let board = run_image1(alloc, &image, 1000, &mut no_input(alloc), &mut sink)?;
         assert_eq!(rt;
@@ -70,11 +62,8 @@ fn images_run_on_mic1(rt: HostRuntime) -> Result<(), Fail> {
 #[test]
 fn images_run_on_mic2(rt: HostRuntime) -> Result<(), Fail> {
     let alloc = rt.alloc();
-    for (text, entry, map, cycles) in [
-        (&CALL, 9, MemoryMap::LARGE, 41),
-        (&LATE_CALL, 11, MemoryMap::STANDARD, 44),
-    ] {
-        let image = image_of(alloc, text, entry, map)?;
+    for (text, entry, cycles) in [(&CALL, 9, 41), (&LATE_CALL, 11, 44)] {
+        let image = image_of(alloc, text, entry)?;
         let mut sink = empty_sink(alloc)?;
         let board = run_image2(alloc, &image, 1000, &mut no_input(alloc), &mut sink)?;
         assert_eq!(rt;
@@ -89,7 +78,7 @@ fn images_run_on_mic2(rt: HostRuntime) -> Result<(), Fail> {
 #[test]
 fn a_board_of_mic1_has_its_image(rt: HostRuntime) -> Result<(), Fail> {
     let alloc = rt.alloc();
-    let image = image_of(alloc, &CALL, 9, MemoryMap::STANDARD)?;
+    let image = image_of(alloc, &CALL, 9)?;
     let board = board1(alloc, &image, Store::filled(Machine::Mic1, &HALT), 0)?;
     assert_eq!(rt; board.bus().peek(0x4000), Some(9));
     Ok(())
@@ -98,7 +87,7 @@ fn a_board_of_mic1_has_its_image(rt: HostRuntime) -> Result<(), Fail> {
 #[test]
 fn a_board_of_mic2_has_its_image(rt: HostRuntime) -> Result<(), Fail> {
     let alloc = rt.alloc();
-    let image = image_of(alloc, &CALL, 9, MemoryMap::STANDARD)?;
+    let image = image_of(alloc, &CALL, 9)?;
     let board = board2(alloc, &image, Store::filled(Machine::Mic2, &HALT), 0)?;
     assert_eq!(rt; board.bus().peek(0x4000), Some(9));
     Ok(())
