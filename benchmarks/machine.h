@@ -232,7 +232,7 @@ static int report(const struct run *run, uint64_t further) {
     uint64_t instructions = run->boundaries - (end == HALT || end == ERROR ? 0 : reached);
     fprintf(stderr, "end %s", names[end]);
     if (end == OUT_OF_MAP) fprintf(stderr, " at %08" PRIx32, run->refused);
-    fprintf(stderr, "\ncycles %" PRIu64 " instructions %" PRIu64 "\n", run->cycles + (end == STACK_LIMIT ? 0 : further), instructions);
+    fprintf(stderr, "\ncycles %" PRIu64 " instructions %" PRIu64 "\n", run->cycles + (end == STACK_LIMIT && reached ? 0 : further), instructions);
     if (reached)
         fprintf(stderr, "boundary %" PRIu64 " at %08" PRIx32 " sp %08" PRIx32 " lv %08" PRIx32 "\n", run->cycles, run->at, run->sp, run->lv);
     else

@@ -109,8 +109,8 @@ INLINED int cycle(unsigned access, unsigned fetch, unsigned jam, int more, unsig
     return next->clock[(reads ? A_WORD : 0) | (fetch ? A_BYTE : 0)](next, m, left - 1, read_word, read_byte);
 }
 
-/* A function for each usual shape and what arrives; `others` are for MORE without access, fetch and jam, and for all the
- * rest. */
+/* A function for each usual shape and what arrives. Of the rest, `quiet` is for MORE without access, fetch and jam, and
+ * `any` clocks all words. */
 
 #define EACH_ARRIVAL(X, A, F, J) X(A, F, J, 0) X(A, F, J, 1) X(A, F, J, 2) X(A, F, J, 3)
 #define EACH_JAM(X, A, F) EACH_ARRIVAL(X, A, F, 0) EACH_ARRIVAL(X, A, F, 1) EACH_ARRIVAL(X, A, F, 2)

@@ -17,11 +17,14 @@
 enum { MDR, PC, MBR1, MBR1U, SP, LV, CPP, TOS, OPC, MBR2, MBR2U, H, ZERO, MAR, SINK, PLACES };
 
 /* The shape of a word: its access, with whether MAR is new; how many operand bytes it names; what else makes the next
- * address; and whether its value is more than a sum with at most two destinations, or goes to PC. */
+ * address; and whether its value is more than a sum with at most two destinations. */
 enum { NO_ACCESS, READ, READ_NEW, WRITE, WRITE_NEW, ACCESSES };
 enum { MOST_BYTES = 2 };
 enum { NO_JAM, JAM_BOUNDARY, JAM_FLAG, JAMS, JAM_BYTE };
 enum { SUM, MORE };
+
+/* The unit reads the next word where so many bytes are left, or fewer. */
+enum { MOST_LEFT = 2 };
 
 /* What arrives at the edge: a word that was read, and one of the fetch unit. */
 enum { A_WORD = 1, PENDING = 2, AFTER_JUMP = 4, ARRIVALS = 6 };
@@ -86,22 +89,21 @@ INLINED void arrive(unsigned arrives, const struct machine *m, uint64_t *queue, 
 
 /* A cycle whose bytes are not there: only the fetch unit's edge. What was read waits. */
 INLINED int stall(unsigned arrives, STATE) {
-    uint32_t imar = m->imar, came = have, reads_next;
+    uint32_t imar = m->imar, came = have, pending;
     uint64_t bytes = queue;
     arrive(arrives, m, &bytes, &came, &imar);
-    reads_next = came <= 2;
-    if (reads_next && unlikely(imar >= STACK_END)) return refused(OUT_OF_MAP, imar, SAME);
+    pending = PENDING * (came <= MOST_LEFT);
+    if (unlikely(imar >= STACK_END) && pending) return refused(OUT_OF_MAP, imar, SAME);
     m->imar = imar;
-    return w->clock[(arrives & A_WORD) | (reads_next ? PENDING : 0)](w, m, left - 1, word, bytes, came);
+    return w->clock[(arrives & A_WORD) + pending](w, m, left - 1, word, bytes, came);
 }
 
 static function *const outside[ARRIVALS];
 
 /* Clocks a word of this shape. Where `slow`, its access may be outside of memory. */
-INLINED int cycle(unsigned access, unsigned bytes, unsigned jam, int more, unsigned arrives, int slow, STATE) {
+INLINED int cycle(unsigned access, unsigned bytes, unsigned jam, int more, int jumps, unsigned arrives, int slow, STATE) {
     uint32_t *r = m->r, read_word = 0, imar = m->imar, demand = bytes + (jam == JAM_BOUNDARY || jam == JAM_BYTE);
     int reads = access == READ || access == READ_NEW, writes = access == WRITE || access == WRITE_NEW, console = 0;
-    int jumps = more && w->jumps;
     unsigned pending = 0, dispatch = queue >> 8 * bytes & 255;
     if (unlikely(left == 0)) return ended(ADRIFT, SAME);
     if (arrives >= PENDING && demand > have) return stall(arrives, SAME);
@@ -124,8 +126,7 @@ INLINED int cycle(unsigned access, unsigned bytes, unsigned jam, int more, unsig
         pending = AFTER_JUMP;
     } else {
         arrive(arrives, m, &rest, &stay, &imar);
-        /* No demand takes from six bytes what leaves four or more; see above for a word that arrives. */
-        if ((arrives < PENDING ? demand != 0 : arrives >= AFTER_JUMP) && stay <= 2) pending = PENDING;
+        if (arrives < PENDING ? demand != 0 : arrives >= AFTER_JUMP) pending = PENDING * (stay <= MOST_LEFT);
     }
 
     uint32_t mar = access == READ_NEW || access == WRITE_NEW ? c : r[MAR];
@@ -134,7 +135,7 @@ INLINED int cycle(unsigned access, unsigned bytes, unsigned jam, int more, unsig
         if (mar != CONSOLE) return refused(refusal(writes, mar), mar, SAME);
         console = 1;
     }
-    if (pending && unlikely(imar >= STACK_END)) return refused(OUT_OF_MAP, imar, SAME);
+    if (unlikely(imar >= STACK_END) && pending) return refused(OUT_OF_MAP, imar, SAME);
     if (slow && console) {
         enum end fault = WRITE_FAULT;
         uint32_t mdr = arrives & A_WORD ? word : w->value.to == MDR || w->value.also == MDR ? c : r[MDR];
@@ -158,13 +159,11 @@ INLINED int cycle(unsigned access, unsigned bytes, unsigned jam, int more, unsig
         left = DRIFT;
         if (unlikely(m->run.cycles >= m->run.bound)) return ended(BOUND, next, m, left, 0, rest, stay);
     }
-    if (pending == AFTER_JUMP) return next->clock[(reads ? A_WORD : 0) | AFTER_JUMP](next, m, left, read_word, rest, stay);
-    if (pending) return next->clock[(reads ? A_WORD : 0) | PENDING](next, m, left, read_word, rest, stay);
-    return next->clock[reads ? A_WORD : 0](next, m, left, read_word, rest, stay);
+    return next->clock[(reads ? A_WORD : 0) + pending](next, m, left, read_word, rest, stay);
 }
 
-/* A function for each usual shape and what arrives; `quiet` is for MORE without access, bytes and jam, and `any` for all
- * the rest. */
+/* A function for each usual shape and what arrives. Of the rest, `jump` is for a sum that goes to PC, and `quiet` for any
+ * other value, both without access and jam, and the second without bytes; `any` clocks all words. */
 
 #define EACH_ARRIVAL(X, A, B, J) X(A, B, J, 0) X(A, B, J, 1) X(A, B, J, 2) X(A, B, J, 3) X(A, B, J, 4) X(A, B, J, 5)
 #define EACH_JAM(X, A, B) EACH_ARRIVAL(X, A, B, 0) EACH_ARRIVAL(X, A, B, 1) EACH_ARRIVAL(X, A, B, 2)
@@ -172,12 +171,13 @@ INLINED int cycle(unsigned access, unsigned bytes, unsigned jam, int more, unsig
 #define EACH_SHAPE(X) EACH_DEMAND(X, 0) EACH_DEMAND(X, 1) EACH_DEMAND(X, 2) EACH_DEMAND(X, 3) EACH_DEMAND(X, 4)
 
 #define DEFINED(A, B, J, R) \
-    static int usual_##A##B##J##R(STATE) { return cycle(A, B, J, SUM, R, 0, SAME); }
+    static int usual_##A##B##J##R(STATE) { return cycle(A, B, J, SUM, 0, R, 0, SAME); }
 #define LISTED(A, B, J, R) [A][B][J][R] = usual_##A##B##J##R,
 #define FOR_ARRIVAL(R) \
-    static int quiet_##R(STATE) { return cycle(NO_ACCESS, 0, NO_JAM, MORE, R, 0, SAME); } \
-    static int any_##R(STATE) { return cycle(w->access, w->bytes, w->jam, MORE, R, 0, SAME); } \
-    static SELDOM int outside_##R(STATE) { return cycle(w->access, w->bytes, w->jam, MORE, R, 1, SAME); }
+    static int jump_##R(STATE) { return cycle(NO_ACCESS, w->bytes, NO_JAM, SUM, 1, R, 0, SAME); } \
+    static int quiet_##R(STATE) { return cycle(NO_ACCESS, 0, NO_JAM, MORE, 0, R, 0, SAME); } \
+    static int any_##R(STATE) { return cycle(w->access, w->bytes, w->jam, MORE, w->jumps, R, 0, SAME); } \
+    static SELDOM int outside_##R(STATE) { return cycle(w->access, w->bytes, w->jam, MORE, w->jumps, R, 1, SAME); }
 #define OF_EACH(NAME) {NAME##_0, NAME##_1, NAME##_2, NAME##_3, NAME##_4, NAME##_5}
 
 EACH_SHAPE(DEFINED)
@@ -189,6 +189,7 @@ FOR_ARRIVAL(4)
 FOR_ARRIVAL(5)
 
 static function *const usual[ACCESSES][MOST_BYTES + 1][JAMS][ARRIVALS] = {EACH_SHAPE(LISTED)};
+static function *const jump[ARRIVALS] = OF_EACH(jump);
 static function *const quiet[ARRIVALS] = OF_EACH(quiet);
 static function *const any[ARRIVALS] = OF_EACH(any);
 static function *const outside[ARRIVALS] = OF_EACH(outside);
@@ -218,7 +219,8 @@ static void decode(struct machine *m, unsigned at, uint64_t bits) {
     w->jumps = c >> 2 & 1;
     function *const *chosen = any;
     if (!is_more(&w->value) && !w->jumps && w->jam != JAM_BYTE) chosen = usual[w->access][w->bytes][w->jam];
-    else if (!w->access && !w->bytes && !w->jam) chosen = quiet;
+    else if (!w->access && !w->jam && w->jumps && !is_more(&w->value)) chosen = jump;
+    else if (!w->access && !w->jam && !w->jumps && !w->bytes) chosen = quiet;
     for (unsigned i = 0; i < ARRIVALS; i++) w->clock[i] = at == HALTS ? halts : at == FAILS ? fails : chosen[i];
 }
 
