@@ -123,7 +123,7 @@ INLINED int cycle(unsigned access, unsigned fetch, unsigned jam, int more, unsig
 #define FOR_ARRIVAL(R) \
     static int quiet_##R(STATE) { return cycle(NO_ACCESS, NO_FETCH, NO_JAM, MORE, R, 0, SAME); } \
     static int any_##R(STATE) { return cycle(w->access, w->fetch, w->jam, MORE, R, 0, SAME); } \
-    static SELDOM int outside_##R(STATE) { return cycle(w->access, w->fetch, w->jam, MORE, R, 1, SAME); } \
+    static int outside_##R(STATE) { return cycle(w->access, w->fetch, w->jam, MORE, R, 1, SAME); } \
     static int boundary_##R(STATE) { \
         at_boundary(&m->run, left, m->r[PC], m->r[SP], m->r[LV]); \
         if (unlikely(m->run.cycles >= m->run.bound)) return ended(BOUND, w, m, DRIFT); \

@@ -177,7 +177,7 @@ INLINED int cycle(unsigned access, unsigned bytes, unsigned jam, int more, int j
     static int jump_##R(STATE) { return cycle(NO_ACCESS, w->bytes, NO_JAM, SUM, 1, R, 0, SAME); } \
     static int quiet_##R(STATE) { return cycle(NO_ACCESS, 0, NO_JAM, MORE, 0, R, 0, SAME); } \
     static int any_##R(STATE) { return cycle(w->access, w->bytes, w->jam, MORE, w->jumps, R, 0, SAME); } \
-    static SELDOM int outside_##R(STATE) { return cycle(w->access, w->bytes, w->jam, MORE, w->jumps, R, 1, SAME); }
+    static int outside_##R(STATE) { return cycle(w->access, w->bytes, w->jam, MORE, w->jumps, R, 1, SAME); }
 #define OF_EACH(NAME) {NAME##_0, NAME##_1, NAME##_2, NAME##_3, NAME##_4, NAME##_5}
 
 EACH_SHAPE(DEFINED)
