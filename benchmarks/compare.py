@@ -8,6 +8,8 @@
     --programs loop,..       which programs of the folder programs
     --compilers gcc,clang    what builds the C machines; those that are not installed are left out
     --flags=-O2              with which flags
+    --plain                  builds them with PLAIN too: one function that tests the control lines in each cycle
+    --no-instructions        does not count host instructions
     --bound N                cycles of a run (100000000); echo runs to its end
 
 It prints a table and ends with status 1 if any output, report or status differs from that of mic.
@@ -80,8 +82,7 @@ def per_cycle(count, run, given):
     return (many - few) / (COUNTED[1] - COUNTED[0])
 
 
-def built(name, compiler, flags, made):
-    program = f"{made}/{name}-{compiler}"
+def built(name, compiler, flags, program):
     subprocess.run([compiler, *flags, "-o", program, str(HERE / f"{name}.c")], check=True)
     return program
 
@@ -94,25 +95,27 @@ def store_of(mic, machine, made):
     return store, re.search(r"^([0-9a-f]{3}) [0-9a-f]+ Main1 ", addresses, re.M).group(1)
 
 
-def compared(machine, name, given, runs, bound, rounds, count):
+def compared(machine, name, given, runs, kinds, bound, rounds, count):
     """Prints a row, and gives whether all did the same."""
     seconds, seen = {who: [] for who in runs}, {}
     for _ in range(rounds):
         for who, run in runs.items():
             did, user, _ = ran(run(bound), given)
-            seconds[who].append(user)
+            # A run of few cycles can have no measured time at all.
+            seconds[who].append(max(user, 1e-6))
             seen.setdefault(who, did)
             if did != seen["mic"]:
-                print(f"{machine} {name}: what {who} wrote or its status differs from that of mic", file=sys.stderr)
+                print(f"{machine} {name}: what {who} wrote, or its status, differs from that of mic", file=sys.stderr)
                 return False
     cycles = int(re.search(rb"^cycles (\d+)", seen["mic"][2], re.M).group(1))
-    rates = [f"{cycles / min(seconds[who]) / 1e6:.0f}" for who in runs]
-    of_c = []
-    for taken in (min, statistics.median):
-        quickest = min(taken(seconds[who]) for who in runs if who != "mic")
-        of_c.append(f"{quickest / taken(seconds['mic']):.2f}")
-    counts = [f"{per_cycle(count, run, given):.0f}" if count else "-" for run in runs.values()]
-    print("| " + " | ".join([machine, name, *rates, *of_c, *counts]) + " |", flush=True)
+    row = [machine, name] + [f"{cycles / min(seconds[who]) / 1e6:.0f}" for who in runs]
+    for kind in kinds:
+        for taken in (min, statistics.median):
+            quickest = min(taken(seconds[who]) for who in kind)
+            row.append(f"{quickest / taken(seconds['mic']):.2f}")
+    if count:
+        row += [f"{per_cycle(count, run, given):.0f}" for run in runs.values()]
+    print("| " + " | ".join(row) + " |", flush=True)
     return True
 
 
@@ -132,6 +135,8 @@ def asked():
     words.add_argument("--programs", default=",".join(PROGRAMS))
     words.add_argument("--compilers", default="gcc,clang")
     words.add_argument("--flags", default="-O2")
+    words.add_argument("--plain", action="store_true")
+    words.add_argument("--no-instructions", action="store_true")
     words.add_argument("--bound", type=int, default=100_000_000)
     return words.parse_args()
 
@@ -142,27 +147,39 @@ def main():
     compilers = [compiler for compiler in given.compilers.split(",") if shutil.which(compiler)]
     if not compilers:
         sys.exit("no C compiler is there")
-    count, counts = counter()
+    # The kinds of C, with the flags of each.
+    kinds = {"": given.flags.split()}
+    if given.plain:
+        kinds[" plain"] = [*given.flags.split(), "-DPLAIN"]
+    columns = ["mic", *(compiler + kind for kind in kinds for compiler in compilers)]
+    count, counts = (None, "nothing") if given.no_instructions else counter()
+    print(f"Million cycles a second by the best user time of {given.rounds} rounds; the speed of mic, of that of the faster C, by the best")
+    print("and by the median" + (f"; host instructions a cycle, counted by {counts}" if count else "") + f". The C is built with {given.flags}.")
+    print()
+    heads = ["machine", "program", *columns]
+    heads += [word for kind in kinds for word in (f"mic, of C{kind}", "by the median")]
+    heads += ["instructions: mic", *columns[1:]] if count else []
+    print("| " + " | ".join(heads) + " |")
+    print("|---" * len(heads) + "|", flush=True)
     with tempfile.TemporaryDirectory() as made:
-        print(f"Million cycles a second by the best user time of {given.rounds} rounds; mic's speed, of that of the faster C, by the best")
-        print(f"and by the median; host instructions a cycle, counted by {counts}. C is built with {given.flags}.")
-        print()
-        print("| machine | program | mic | " + " | ".join(compilers) + " | mic, of C | by the median | instructions: mic | " + " | ".join(compilers) + " |")
-        print("|---" * (6 + 2 * len(compilers) + 1) + "|")
         for machine in given.machines.split(","):
             store, entry = store_of(mic, machine, made)
-            plain = {compiler: built(machine, compiler, given.flags.split(), made) for compiler in compilers}
+            programs = {}
+            for kind, flags in kinds.items():
+                for compiler in compilers:
+                    programs[compiler + kind] = built(machine, compiler, flags, f"{made}/{machine} {compiler}{kind}")
             for name in given.programs.split(","):
                 image = f"{made}/{name}.ijvm"
                 told(mic, "assemble", str(HERE / f"programs/{name}.jas"), image)
                 local = re.search(r"main (\d+)", told(mic, "verify", image)).group(1)
                 runs = {"mic": lambda bound: [mic, "run", image, "--machine", machine, "--bound", str(bound)]}
-                for compiler, program in plain.items():
-                    runs[compiler] = lambda bound, program=program: [program, store, entry, local, image, str(bound)]
-                echoes = name == "echo"
-                same &= compared(machine, name, INPUT if echoes else b"", runs, ECHO_BOUND if echoes else given.bound, given.rounds, count)
+                for who, program in programs.items():
+                    runs[who] = lambda bound, program=program: [program, store, entry, local, image, str(bound)]
+                source, bound = (INPUT, ECHO_BOUND) if name == "echo" else (b"", given.bound)
+                whose = [[compiler + kind for compiler in compilers] for kind in kinds]
+                same &= compared(machine, name, source, runs, whose, bound, given.rounds, count)
         print()
-        start(mic, built("memory", compilers[0], ["-O2"], made))
+        start(mic, built("memory", compilers[0], ["-O2"], f"{made}/memory"))
     sys.exit(0 if same else 1)
 
 

@@ -1,8 +1,8 @@
 /* What mic1.c and mic2.c share: memory, console, files, the ends of a run and its counts.
  *
- * The console does what that of `mic` does. Written bytes are kept until there are 4,096, or the program asks for input,
- * or the run ends, and then go out by one call. Each byte is read by a call of its own, so that no byte is taken that
- * the program does not ask for. After the end of input nothing is asked again.
+ * The console does what that of `mic` does. Written bytes are kept until there are 4,096, or the program asks for
+ * input, or the run ends, and then go out by one call. Each byte is read by a call of its own, so that no byte is taken
+ * that the program does not ask for. After the end of input nothing is asked again.
  */
 #ifndef MACHINE_H
 #define MACHINE_H
@@ -18,6 +18,12 @@
 #define INLINED static inline __attribute__((always_inline))
 #define SELDOM __attribute__((noinline, cold))
 #define unlikely(it) __builtin_expect(!!(it), 0)
+
+#ifdef PLAIN
+enum { BY_SHAPE = 0 };
+#else
+enum { BY_SHAPE = 1 };
+#endif
 
 enum {
     WORDS = 512,         /* of the control store */
@@ -110,8 +116,8 @@ INLINED uint32_t byte_at(const uint32_t *memory, uint32_t at) {
 
 /* A cycle's value and its destinations, as places in a machine's list of registers.
  *
- * All operations of the ALU but AND and OR are one sum, of A inverted or not, B and the carry into slice 0. NOT B is a sum
- * with B on the left; a bus that is not enabled reads the place that is 0.
+ * All operations of the ALU but AND and OR are one sum, of A inverted or not, B, and the carry into slice 0. NOT B is
+ * a sum with B on the left. A bus that is not enabled reads the place that is 0.
  */
 struct value {
     uint32_t invert, carry;

@@ -1,26 +1,28 @@
 /* Mic-1 in C, as fast as we could make it: the opponent of `mic run` in this folder's comparison.
  *
- *     cc -O2 -o mic1 mic1.c
+ *     cc -O2 -o mic1 mic1.c                cc -O2 -DPLAIN -o mic1 mic1.c
  *     mic1 STORE ENTRY LOCALS IMAGE BOUND
  *
- * STORE is a file that `mic micro` wrote, ENTRY the address of Main1 in hexadecimal, LOCALS the number of main's locals.
- * It clocks any control store word by word, and its output, report and status are those of `mic run`.
+ * STORE is a file that `mic micro` wrote, ENTRY the address of Main1 in hexadecimal, LOCALS the number of main's
+ * locals. It clocks any control store word by word, and its output, report and status are those of `mic run`.
  *
  * Each word is decoded once, when the store is loaded. The registers lie in one list, so a word's operands and
  * destinations are places in it. For each usual shape of word there is a function that clocks it with no test of its
- * control lines, and one for each of what can arrive at its edge: nothing, a word, a byte, or both. A function knows what
- * it has started, so it goes on to that function of the next word by a tail call, and nothing is tested there either.
- * The words at which a run ends, and that of a boundary, have functions of their own. What is left to test in a cycle is
- * the count of cycles since the boundary, and each address. An access outside of memory goes to a slow function.
- * Without the compiler's tail calls (-O0) the calls would fill the stack.
+ * control lines, and one for each of what can arrive at its edge: nothing, a word, a byte, or both. A function knows
+ * what it has started, so it goes on to that function of the next word by a tail call, and nothing is tested there
+ * either. The words at which a run ends, and that of a boundary, have functions of their own. What is left to test in a
+ * cycle is the count of cycles since the boundary, and each address. An access outside of memory goes to a slow
+ * function. Without the compiler's tail calls (-O0) the calls would fill the stack.
+ *
+ * With PLAIN all words are clocked by one function, which tests the decoded control lines in each cycle.
  */
 #include "machine.h"
 
 /* The places: first the codes of the B bus. Nothing is written to ZERO; SINK takes what has no destination. */
 enum { MDR, PC, MBR, MBRU, SP, LV, CPP, TOS, OPC, ZERO, H, MAR, SINK, PLACES };
 
-/* The shape of a word: its access, with whether MAR is new; its fetch, with whether PC is new; what else makes the next
- * address; and whether its value is more than a sum with at most two destinations. */
+/* The shape of a word: its access, with whether MAR is new; its fetch, with whether PC is new; what else makes the
+ * next address; and whether its value is more than a sum with at most two destinations. */
 enum { NO_ACCESS, READ, READ_NEW, WRITE, WRITE_NEW, ACCESSES };
 enum { NO_FETCH, FETCH_NEW, FETCH };
 enum { NO_JAM, JAM_BYTE, JAM_FLAG, JAMS };
@@ -153,6 +155,12 @@ static int fails(STATE) {
     return ended(ERROR, w, m, left);
 }
 
+static function *const *functions_for(const struct word *w) {
+    if (!BY_SHAPE) return any;
+    if (!is_more(&w->value) && w->fetch != FETCH) return usual[w->access][w->fetch][w->jam];
+    return w->access || w->fetch || w->jam ? any : quiet;
+}
+
 static void decode(struct machine *m, unsigned at, uint64_t bits) {
     static const uint8_t places[9] = {MAR, MDR, PC, SP, LV, CPP, TOS, OPC, H};
     struct word *w = &m->store[at];
@@ -167,10 +175,7 @@ static void decode(struct machine *m, unsigned at, uint64_t bits) {
     w->access = mem == 1 ? c & 1 ? READ_NEW : READ : mem == 2 ? c & 1 ? WRITE_NEW : WRITE : NO_ACCESS;
     w->fetch = bits & 16 ? c & 4 ? FETCH_NEW : FETCH : NO_FETCH;
     w->jam = jam & 4 ? JAM_BYTE : jam ? JAM_FLAG : NO_JAM;
-    function *const *chosen = any;
-    if (!is_more(&w->value) && w->fetch != FETCH) chosen = usual[w->access][w->fetch][w->jam];
-    else if (!w->access && !w->fetch && !w->jam) chosen = quiet;
-    for (unsigned i = 0; i < ARRIVALS; i++) w->clock[i] = at == HALTS ? halts : at == FAILS ? fails : chosen[i];
+    for (unsigned i = 0; i < ARRIVALS; i++) w->clock[i] = at == HALTS ? halts : at == FAILS ? fails : functions_for(w)[i];
 }
 
 int main(int count, char **words) {

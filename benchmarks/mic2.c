@@ -1,15 +1,16 @@
 /* Mic-2 in C, as fast as we could make it: the opponent of `mic run --machine mic2` in this folder's comparison.
  *
- *     cc -O2 -o mic2 mic2.c
+ *     cc -O2 -o mic2 mic2.c                cc -O2 -DPLAIN -o mic2 mic2.c
  *     mic2 STORE ENTRY LOCALS IMAGE BOUND
  *
- * STORE is a file that `mic micro --machine mic2` wrote, ENTRY the address of Main1 in hexadecimal, LOCALS the number of
- * main's locals. It clocks any control store word by word, and its output, report and status are those of `mic run`.
+ * STORE is a file that `mic micro --machine mic2` wrote, ENTRY the address of Main1 in hexadecimal, LOCALS the number
+ * of main's locals. It clocks any control store word by word, and its output, report and status are those of `mic run`.
  *
- * It is built as mic1.c is: a function for each usual shape of word and what arrives at its edge, and tail calls from one
- * to the next. What arrives is here a word that was read, and the fetch unit's pending word: none, one, or the first after
- * a jump. The unit reads whenever at most two bytes are left. So where no word is pending the queue has three bytes or
- * more, no demand stalls, and where one arrives that is not the first after a jump none is read: neither is tested.
+ * It is made as mic1.c is: a function for each usual shape of word and what arrives at its edge, and tail calls from
+ * one to the next; or, with PLAIN, one function for all words. What arrives is here a word that was read, and the fetch
+ * unit's pending word: none, one, or the first after a jump. The unit reads whenever at most two bytes are left. So
+ * where no word is pending, the queue has three bytes or more, and no demand stalls. Where a word arrives that is not
+ * the first after a jump, more than two bytes are left, and none is read. Neither is tested.
  */
 #include "machine.h"
 
@@ -29,8 +30,8 @@ enum { MOST_LEFT = 2 };
 /* What arrives at the edge: a word that was read, and one of the fetch unit. */
 enum { A_WORD = 1, PENDING = 2, AFTER_JUMP = 4, ARRIVALS = 6 };
 
-/* `left` cycles are left before a run without a boundary ends; `word` is what was read; the queue has `have` bytes, the
- * first of which is the lowest. */
+/* `left` cycles are left before a run without a boundary ends; `word` is what was read; the queue has `have` bytes,
+ * the first of which is the lowest. */
 #define STATE const struct word *w, struct machine *m, uint32_t left, uint32_t word, uint64_t queue, uint32_t have
 #define SAME w, m, left, word, queue, have
 
@@ -201,6 +202,14 @@ static unsigned bytes_named(unsigned code) {
     return code == MBR1 || code == MBR1U ? 1 : code == MBR2 || code == MBR2U ? 2 : 0;
 }
 
+static function *const *functions_for(const struct word *w) {
+    if (!BY_SHAPE) return any;
+    if (!is_more(&w->value) && !w->jumps && w->jam != JAM_BYTE) return usual[w->access][w->bytes][w->jam];
+    if (w->access || w->jam) return any;
+    if (w->jumps) return is_more(&w->value) ? any : jump;
+    return w->bytes ? any : quiet;
+}
+
 static void decode(struct machine *m, unsigned at, uint64_t bits) {
     static const uint8_t places[9] = {MAR, MDR, PC, SP, LV, CPP, TOS, OPC, H};
     struct word *w = &m->store[at];
@@ -217,11 +226,7 @@ static void decode(struct machine *m, unsigned at, uint64_t bits) {
     w->bytes = (uint8_t)(bytes_a ? bytes_a : bytes_b);
     w->jam = jam & 4 ? w->addr ? JAM_BYTE : JAM_BOUNDARY : jam ? JAM_FLAG : NO_JAM;
     w->jumps = c >> 2 & 1;
-    function *const *chosen = any;
-    if (!is_more(&w->value) && !w->jumps && w->jam != JAM_BYTE) chosen = usual[w->access][w->bytes][w->jam];
-    else if (!w->access && !w->jam && w->jumps && !is_more(&w->value)) chosen = jump;
-    else if (!w->access && !w->jam && !w->jumps && !w->bytes) chosen = quiet;
-    for (unsigned i = 0; i < ARRIVALS; i++) w->clock[i] = at == HALTS ? halts : at == FAILS ? fails : chosen[i];
+    for (unsigned i = 0; i < ARRIVALS; i++) w->clock[i] = at == HALTS ? halts : at == FAILS ? fails : functions_for(w)[i];
 }
 
 int main(int count, char **words) {
