@@ -31,7 +31,7 @@ PROGRAMS = ("loop", "calls", "output", "echo")
 # An echo of a megabyte comes to its end before this bound.
 ECHO_BOUND = 1_000_000_000
 # Instructions a cycle are those between these two bounds, so that the start does not count.
-COUNTED = (1_000_000, 2_000_000)
+COUNTED = (100_000, 300_000)
 # An echo reads this many bytes, none of which is 0.
 INPUT = bytes(1 + n % 255 for n in range(1 << 20))
 

@@ -39,12 +39,16 @@ enum {
 
 enum end { HALT, ERROR, BOUND, STACK_LIMIT, READ_FAULT, WRITE_FAULT, OUT_OF_MAP, ADRIFT };
 
-/* A run: its counts as of the last boundary, or of the reset where there was none, and how it ended. */
+/* A run: its counts as of the last boundary, or of the reset where there was none, and how it ended. No two of what a
+ * boundary sets lie side by side: gcc would store them as one vector, which takes longer. */
 struct run {
-    uint64_t cycles, boundaries, bound;
-    uint32_t at, sp, lv;
+    uint64_t cycles;
+    uint32_t at;
+    uint64_t boundaries;
+    uint32_t sp;
+    uint64_t bound;
+    uint32_t lv, refused; /* `refused` is the word address of an out-of-map access */
     enum end end;
-    uint32_t refused; /* the word address that an out-of-map access has */
 };
 
 static void fail(const char *what) {
