@@ -1,218 +1,199 @@
-/* Mic-1 in plain C: the opponent of `mic run` in this folder's comparison.
+/* Mic-1 in C, as fast as we could make it: the opponent of `mic run` in this folder's comparison.
  *
+ *     cc -O2 -o mic1 mic1.c                cc -O2 -DPLAIN -o mic1 mic1.c
  *     mic1 STORE ENTRY LOCALS IMAGE BOUND
  *
- * It clocks a control store as `mic` does, word by word, with the same tests: where MPC ends the run, 1,024 cycles
- * without a boundary, the bound at each boundary, and each address before anything is changed. It decodes each word
- * when it clocks it. Its console does what that of `mic` does: written bytes are kept until there are 4,096, or the
- * program asks for input, or the run ends, and then go out by one call; each byte is read by a call of its own, so that
- * no byte is taken that the program does not ask for; and after the end of input nothing is asked again. ENTRY is the address of Main1 in hexadecimal, LOCALS the number of main's locals.
+ * STORE is a file that `mic micro` wrote, ENTRY the address of Main1 in hexadecimal, LOCALS the number of main's
+ * locals. It clocks any control store word by word, and its output, report and status are those of `mic run`.
+ *
+ * Each word is decoded once, when the store is loaded. The registers lie in one list, so a word's operands and
+ * destinations are places in it. For each usual shape of word there is a function that clocks it with no test of its
+ * control lines, and one for each of what can arrive at its edge: nothing, a word, a byte, or both. A function knows
+ * what it has started, so it goes on to that function of the next word by a tail call, and nothing is tested there
+ * either. The words at which a run ends, and that of a boundary, have functions of their own. What is left to test in a
+ * cycle is the count of cycles since the boundary, and each address. An access outside of memory goes to a slow
+ * function. Without the compiler's tail calls (-O0) the calls would fill the stack.
+ *
+ * With PLAIN all words are clocked by one function, which tests the decoded control lines in each cycle.
  */
-#include <stdint.h>
-#include <stdio.h>
-#include <stdlib.h>
-#include <string.h>
-#include <unistd.h>
+#include "machine.h"
 
-enum { STACK_END = 0x10000, POOL = 0x4000, FRAME = 0x8000, MOST_KEPT = 4096 };
-static const uint32_t CONSOLE = 0xFFFFFFFD;
+/* The places: first the codes of the B bus. Nothing is written to ZERO; SINK takes what has no destination. */
+enum { MDR, PC, MBR, MBRU, SP, LV, CPP, TOS, OPC, ZERO, H, MAR, SINK, PLACES };
 
-static uint64_t store[512];
-static uint32_t memory[STACK_END];
+/* The shape of a word: its access, with whether MAR is new; its fetch, with whether PC is new; what else makes the
+ * next address; and whether its value is more than a sum with at most two destinations. */
+enum { NO_ACCESS, READ, READ_NEW, WRITE, WRITE_NEW, ACCESSES };
+enum { NO_FETCH, FETCH_NEW, FETCH };
+enum { NO_JAM, JAM_BYTE, JAM_FLAG, JAMS };
+enum { SUM, MORE };
 
-static uint32_t mar, mdr, pc, sp, lv, cpp, tos, opc, h;
-static uint8_t mbr;
-static uint16_t mpc;
+/* What arrives at the edge. */
+enum { A_WORD = 1, A_BYTE = 2, ARRIVALS = 4 };
 
-/* What the next edge loads. */
-static int word_comes, byte_comes;
-static uint32_t word;
-static uint8_t byte;
+/* `left` cycles are left before a run without a boundary ends; `word` and `byte` are what arrives. */
+#define STATE const struct word *w, struct machine *m, uint32_t left, uint32_t word, uint32_t byte
+#define SAME w, m, left, word, byte
 
-static const char *end;
+struct word;
+struct machine;
+typedef int function(STATE);
 
-static void fail(const char *what) {
-    fprintf(stderr, "mic1: %s\n", what);
-    exit(2);
+struct word {
+    function *clock[ARRIVALS];
+    const struct word *next;
+    struct value value;
+    uint16_t addr;
+    uint8_t minus, zero; /* whether N and Z change the next address */
+    uint8_t access, fetch, jam;
+};
+
+struct machine {
+    uint32_t r[PLACES];
+    struct run run;
+    function *entry[ARRIVALS]; /* what clocks the word of the boundary */
+    struct word store[WORDS];
+    uint32_t memory[STACK_END];
+};
+
+static SELDOM int ended(enum end end, const struct word *w, struct machine *m, uint32_t left) {
+    const uint32_t *r = m->r;
+    m->run.end = flush_kept() ? end : WRITE_FAULT;
+    int status = report(&m->run, DRIFT - left);
+    fprintf(stderr, "MAR %08" PRIx32 " MDR %08" PRIx32 " PC %08" PRIx32 " MBR %02" PRIx32, r[MAR], r[MDR], r[PC], r[MBRU]);
+    fprintf(stderr, " SP %08" PRIx32 " LV %08" PRIx32 " CPP %08" PRIx32 " TOS %08" PRIx32, r[SP], r[LV], r[CPP], r[TOS]);
+    fprintf(stderr, " OPC %08" PRIx32 " H %08" PRIx32 " MPC %03x\n", r[OPC], r[H], (unsigned)(w - m->store));
+    return status;
 }
 
-static unsigned char kept[MOST_KEPT];
-static size_t kept_count;
-static int input_ended;
+static function *const outside[ARRIVALS];
 
-static void flush_kept(void) {
-    for (size_t done = 0; done < kept_count;) {
-        ssize_t count = write(1, kept + done, kept_count - done);
-        if (count <= 0) fail("cannot write");
-        done += (size_t)count;
-    }
-    kept_count = 0;
-}
+/* Clocks a word of this shape. Where `slow`, its access may be outside of memory. */
+INLINED int cycle(unsigned access, unsigned fetch, unsigned jam, int more, unsigned arrives, int slow, STATE) {
+    uint32_t *r = m->r, read_word = 0, read_byte = 0;
+    int reads = access == READ || access == READ_NEW, writes = access == WRITE || access == WRITE_NEW, console = 0;
+    if (unlikely(left == 0)) return ended(ADRIFT, w, m, left);
 
-static void give(uint8_t it) {
-    if (kept_count == MOST_KEPT) flush_kept();
-    kept[kept_count++] = it;
-}
-
-static uint32_t take(void) {
-    unsigned char it = 0;
-    if (input_ended) return 0;
-    flush_kept();
-    ssize_t count = read(0, &it, 1);
-    if (count < 0) fail("cannot read");
-    input_ended = count == 0;
-    return it;
-}
-
-static uint32_t b_bus(unsigned code) {
-    switch (code) {
-    case 0: return mdr;
-    case 1: return pc;
-    case 2: return (uint32_t)(int32_t)(int8_t)mbr;
-    case 3: return mbr;
-    case 4: return sp;
-    case 5: return lv;
-    case 6: return cpp;
-    case 7: return tos;
-    case 8: return opc;
-    default: return 0;
-    }
-}
-
-static uint32_t alu(unsigned gates, uint32_t a, uint32_t b) {
-    a = gates & 8 ? a : 0;
-    a = gates & 2 ? ~a : a;
-    b = gates & 4 ? b : 0;
-    switch (gates >> 4) {
-    case 0: return a & b;
-    case 1: return a | b;
-    case 2: return ~b;
-    default: return a + b + (gates & 1);
-    }
-}
-
-static uint32_t shifted(unsigned shift, uint32_t x) {
-    if (shift & 2) return x << 8;
-    if (shift & 1) return (uint32_t)((int32_t)x >> 1);
-    return x;
-}
-
-/* One cycle; 0 where an access is refused, and then nothing is changed. */
-static int cycle(void) {
-    uint64_t w = store[mpc];
-    unsigned c = w >> 7 & 511, mem = w >> 5 & 3, fetch = w >> 4 & 1, jam = w >> 24 & 7;
-    uint32_t x = alu(w >> 16 & 63, h, b_bus(w & 15));
-    uint32_t v = shifted(w >> 22 & 3, x);
-    uint32_t new_mar = c & 1 ? v : mar, new_pc = c & 4 ? v : pc;
-    uint32_t new_mdr = word_comes ? word : c & 2 ? v : mdr;
-    if (mem && new_mar >= STACK_END && new_mar != CONSOLE) {
-        end = mem == 2 && new_mar < 0x40000000 ? "stack-limit" : "out-of-map";
-        return 0;
-    }
-    if (fetch && new_pc / 4 >= STACK_END) {
-        end = "out-of-map";
-        return 0;
-    }
-    mar = new_mar;
-    mdr = new_mdr;
-    pc = new_pc;
-    if (c & 8) sp = v;
-    if (c & 16) lv = v;
-    if (c & 32) cpp = v;
-    if (c & 64) tos = v;
-    if (c & 128) opc = v;
-    if (c & 256) h = v;
-    if (byte_comes) mbr = byte;
-    word_comes = mem == 1;
-    byte_comes = fetch;
-    if (mem == 2) {
-        if (mar == CONSOLE) give(mdr & 255);
-        else memory[mar] = mdr;
-    }
-    if (mem == 1) word = mar == CONSOLE ? take() : memory[mar];
-    if (fetch) byte = memory[pc / 4] >> (8 * (3 - pc % 4)) & 255;
-    unsigned next = w >> 27 & 511;
-    if (jam & 4) next |= mbr;
-    if ((jam & 2 && x >> 31) || (jam & 1 && x == 0)) next |= 256;
-    mpc = next;
-    return 1;
-}
-
-static uint32_t four(const unsigned char *p) {
-    return (uint32_t)p[0] << 24 | (uint32_t)p[1] << 16 | (uint32_t)p[2] << 8 | p[3];
-}
-
-static size_t read_all(const char *name, unsigned char *into, size_t most) {
-    FILE *file = fopen(name, "rb");
-    if (!file) fail("cannot read");
-    size_t size = fread(into, 1, most, file);
-    fclose(file);
-    return size;
-}
-
-static void load_store(const char *name) {
-    static unsigned char bytes[4 + 512 * 5 + 1];
-    if (read_all(name, bytes, sizeof bytes) != 4 + 512 * 5 || memcmp(bytes, "MIC1", 4)) fail("no control store of Mic-1");
-    for (int at = 0; at < 512; at++) {
-        const unsigned char *p = bytes + 4 + 5 * at;
-        store[at] = (uint64_t)p[0] << 32 | four(p + 1);
-    }
-}
-
-static void load_image(const char *name) {
-    static unsigned char bytes[1 << 20];
-    size_t size = read_all(name, bytes, sizeof bytes), at = 4;
-    if (size < 4 || four(bytes) != 0x1DEADFAD) fail("no image");
-    while (at + 8 <= size) {
-        uint32_t origin = four(bytes + at), length = four(bytes + at + 4);
-        const unsigned char *p = bytes + at + 8;
-        if (at + 8 + length > size) fail("image is cut off");
-        for (uint32_t i = 0; i < length; i++) {
-            uint32_t word_at = origin ? POOL + i / 4 : i / 4;
-            memory[word_at] |= (uint32_t)p[i] << (8 * (3 - i % 4));
+    uint32_t alu = alu_of(&w->value, r, more), c = shifted(&w->value, alu, more);
+    uint32_t mar = access == READ_NEW || access == WRITE_NEW ? c : r[MAR];
+    uint32_t pc = fetch == FETCH_NEW ? c : r[PC];
+    if (access && unlikely(mar >= STACK_END)) {
+        if (!slow) return outside[arrives](SAME);
+        if (mar != CONSOLE) {
+            m->run.refused = mar;
+            return ended(refusal(writes, mar), w, m, left);
         }
-        at += 8 + length;
+        console = 1;
     }
+    if (fetch && unlikely(pc / 4 >= STACK_END)) {
+        m->run.refused = pc / 4;
+        return ended(OUT_OF_MAP, w, m, left);
+    }
+    if (slow && console) {
+        enum end fault = WRITE_FAULT;
+        uint32_t mdr = arrives & A_WORD ? word : w->value.to == MDR || w->value.also == MDR ? c : r[MDR];
+        if (writes ? !give(mdr) : !take(&read_word, &fault)) return ended(fault, w, m, left);
+    }
+
+    store_value(&w->value, r, c, more);
+    if (arrives & A_WORD) r[MDR] = word;
+    if (arrives & A_BYTE) {
+        r[MBR] = (uint32_t)(int32_t)(int8_t)byte;
+        r[MBRU] = byte;
+    }
+    if (writes && !console) m->memory[mar] = arrives & A_WORD ? word : r[MDR];
+    if (reads && !console) read_word = m->memory[mar];
+    if (fetch) read_byte = byte_at(m->memory, pc);
+
+    const struct word *next = w->next;
+    if (jam == JAM_BYTE) next = &m->store[w->addr | (arrives & A_BYTE ? byte : r[MBRU])];
+    if (jam == JAM_FLAG) next += 256 * ((alu >> 31 & w->minus) | ((alu == 0) & w->zero));
+    return next->clock[(reads ? A_WORD : 0) | (fetch ? A_BYTE : 0)](next, m, left - 1, read_word, read_byte);
+}
+
+/* A function for each usual shape and what arrives. Of the rest, `quiet` is for MORE without access, fetch and jam, and
+ * `any` clocks all words. */
+
+#define EACH_ARRIVAL(X, A, F, J) X(A, F, J, 0) X(A, F, J, 1) X(A, F, J, 2) X(A, F, J, 3)
+#define EACH_JAM(X, A, F) EACH_ARRIVAL(X, A, F, 0) EACH_ARRIVAL(X, A, F, 1) EACH_ARRIVAL(X, A, F, 2)
+#define EACH_FETCH(X, A) EACH_JAM(X, A, 0) EACH_JAM(X, A, 1)
+#define EACH_SHAPE(X) EACH_FETCH(X, 0) EACH_FETCH(X, 1) EACH_FETCH(X, 2) EACH_FETCH(X, 3) EACH_FETCH(X, 4)
+
+#define DEFINED(A, F, J, R) \
+    static int usual_##A##F##J##R(STATE) { return cycle(A, F, J, SUM, R, 0, SAME); }
+#define LISTED(A, F, J, R) [A][F][J][R] = usual_##A##F##J##R,
+#define FOR_ARRIVAL(R) \
+    static int quiet_##R(STATE) { return cycle(NO_ACCESS, NO_FETCH, NO_JAM, MORE, R, 0, SAME); } \
+    static int any_##R(STATE) { return cycle(w->access, w->fetch, w->jam, MORE, R, 0, SAME); } \
+    static int outside_##R(STATE) { return cycle(w->access, w->fetch, w->jam, MORE, R, 1, SAME); } \
+    static int boundary_##R(STATE) { \
+        at_boundary(&m->run, left, m->r[PC], m->r[SP], m->r[LV]); \
+        if (unlikely(m->run.cycles >= m->run.bound)) return ended(BOUND, w, m, DRIFT); \
+        return m->entry[R](w, m, DRIFT, word, byte); \
+    }
+#define OF_EACH(NAME) {NAME##_0, NAME##_1, NAME##_2, NAME##_3}
+
+EACH_SHAPE(DEFINED)
+FOR_ARRIVAL(0)
+FOR_ARRIVAL(1)
+FOR_ARRIVAL(2)
+FOR_ARRIVAL(3)
+
+static function *const usual[ACCESSES][2][JAMS][ARRIVALS] = {EACH_SHAPE(LISTED)};
+static function *const quiet[ARRIVALS] = OF_EACH(quiet);
+static function *const any[ARRIVALS] = OF_EACH(any);
+static function *const outside[ARRIVALS] = OF_EACH(outside);
+static function *const boundary[ARRIVALS] = OF_EACH(boundary);
+
+static int halts(STATE) {
+    (void)word, (void)byte;
+    return ended(HALT, w, m, left);
+}
+
+static int fails(STATE) {
+    (void)word, (void)byte;
+    return ended(ERROR, w, m, left);
+}
+
+static function *const *functions_for(const struct word *w) {
+    if (!BY_SHAPE) return any;
+    if (!is_more(&w->value) && w->fetch != FETCH) return usual[w->access][w->fetch][w->jam];
+    return w->access || w->fetch || w->jam ? any : quiet;
+}
+
+static void decode(struct machine *m, unsigned at, uint64_t bits) {
+    static const uint8_t places[9] = {MAR, MDR, PC, SP, LV, CPP, TOS, OPC, H};
+    struct word *w = &m->store[at];
+    unsigned c = bits >> 7 & 511, mem = bits >> 5 & 3, jam = bits >> 24 & 7, b = bits & 15;
+    if (mem == 3 || (jam & 4 && jam & 3)) fail("a word of no statement");
+    decode_alu(&w->value, bits >> 16 & 255, H, b < ZERO ? (uint8_t)b : ZERO, ZERO);
+    decode_destinations(&w->value, c, places, SINK);
+    w->addr = (uint16_t)(bits >> 27 & 511);
+    w->next = &m->store[w->addr];
+    w->minus = jam & 2 && w->addr < 256;
+    w->zero = jam & 1 && w->addr < 256;
+    w->access = mem == 1 ? c & 1 ? READ_NEW : READ : mem == 2 ? c & 1 ? WRITE_NEW : WRITE : NO_ACCESS;
+    w->fetch = bits & 16 ? c & 4 ? FETCH_NEW : FETCH : NO_FETCH;
+    w->jam = jam & 4 ? JAM_BYTE : jam ? JAM_FLAG : NO_JAM;
+    for (unsigned i = 0; i < ARRIVALS; i++) w->clock[i] = at == HALTS ? halts : at == FAILS ? fails : functions_for(w)[i];
 }
 
 int main(int count, char **words) {
-    if (count != 6) fail("STORE ENTRY LOCALS IMAGE BOUND");
-    load_store(words[1]);
-    uint16_t entry = (uint16_t)strtoul(words[2], NULL, 16);
-    load_image(words[4]);
-    uint64_t bound = strtoull(words[5], NULL, 10);
-    pc = 0xFFFFFFFF;
-    sp = FRAME + (uint32_t)strtoul(words[3], NULL, 10) - 1;
-    lv = FRAME;
-    cpp = POOL;
-    mpc = entry;
-
-    uint64_t cycles = 0, instructions = 0, last = 0;
-    uint32_t at = 0, last_sp = 0, last_lv = 0;
-    int reached = 0;
-    while (!end) {
-        if (cycles && mpc == entry && cycles >= bound) {
-            end = "bound";
-        } else if (mpc == 0x0FF || mpc == 0x0FE) {
-            end = mpc == 0x0FF ? "halt" : "error";
-            instructions += reached;
-        } else if (cycles - last >= 1024) {
-            end = "adrift";
-        } else if (cycle()) {
-            cycles++;
-            if (mpc == entry) {
-                instructions += reached;
-                reached = 1;
-                last = cycles;
-                at = pc;
-                last_sp = sp;
-                last_lv = lv;
-            }
-        }
-    }
-    flush_kept();
-    fprintf(stderr, "end %s\ncycles %llu instructions %llu\n", end, (unsigned long long)cycles, (unsigned long long)instructions);
-    if (reached) fprintf(stderr, "boundary %llu at %08x sp %08x lv %08x\n", (unsigned long long)last, at, last_sp, last_lv);
-    fprintf(stderr, "MAR %08x MDR %08x PC %08x MBR %02x SP %08x LV %08x CPP %08x TOS %08x OPC %08x H %08x MPC %03x\n", mar, mdr, pc, mbr, sp, lv, cpp, tos, opc, h, mpc);
-    return 0;
+    static struct machine machine;
+    static uint64_t bits[WORDS];
+    struct machine *m = &machine;
+    if (count != 6) fail("mic1 STORE ENTRY LOCALS IMAGE BOUND");
+    read_store(words[1], "MIC1", bits);
+    for (unsigned at = 0; at < WORDS; at++) decode(m, at, bits[at]);
+    struct word *entry = &m->store[strtoul(words[2], NULL, 16) % WORDS];
+    memcpy(m->entry, entry->clock, sizeof m->entry);
+    memcpy(entry->clock, boundary, sizeof boundary);
+    read_image(words[4], m->memory);
+    m->run.bound = strtoull(words[5], NULL, 10);
+    m->r[PC] = UINT32_MAX;
+    m->r[SP] = FRAME + (uint32_t)strtoul(words[3], NULL, 10) - 1;
+    m->r[LV] = FRAME;
+    m->r[CPP] = POOL;
+    /* The reset is no boundary. */
+    return m->entry[0](entry, m, DRIFT, 0, 0);
 }
