@@ -10,17 +10,17 @@ use Rattle.mic_clock.specs.declared.end.End.TheVariants as ends
 use Rattle.mic_clock.specs.Meaning.{Meaning, Outcome, Done, Refused}
 use Rattle.mic_clock.specs.View.{BoardView}
 use Rattle.mic_clock.specs.Run.{start_run, MicroRun, after_end_or_step, after_step, bounded, counts_at, counts_between, end_before, turn, turns, word_at}
-use Rattle.watched_run.specs.declared.cycle.Cycle.{Cycle}
-use Rattle.watched_run.specs.Cycles.{cycle_between, cycles_of, shown, shown_where}
-use Rattle.watched_run.specs.Watched.{LeadsOver, ShowsCycles}
+use Rattle.mic_watched.specs.declared.cycle.Cycle.{Cycle}
+use Rattle.mic_watched.specs.Cycles.{cycle_between, cycles_of, shown, shown_where}
+use Rattle.mic_watched.specs.Watched.{LeadsOver, ShowsCycles}
 use Rattle.console_port.specs.declared.map.TheConstants.{FRAME}
-use Rattle.ijvm_paths.specs.Accepted.{VerifiedView}
+use Rattle.verifier_facts.specs.Accepted.{VerifiedView}
 use Rattle.mal_parser.specs.Program.{Program}
-use Rattle.shipped_program.specs.declared.loaded.Loaded.{Loaded}
+use Rattle.mal_shipped.specs.declared.loaded.Loaded.{Loaded}
 use Rattle.cli_outside.specs.Outside.{OutsideView}
 use Rattle.cli_boards.specs.Reset.{IsAtReset}
 use Rattle.cli_boards.specs.Runs.{RunsThrough}
-use Rattle.cli_profile.specs.Counted.{AreClockedAfter, IsClockedAfter}
+use Rattle.cli_watchers.specs.Counted.{AreClockedAfter, IsClockedAfter}
 
 -- ---- cycles after cycles
 

@@ -1,8 +1,8 @@
 -- How a command ends that had a program and a microprogram first, or not.
 use Rattle.std.proofs.Common.{ℕ, List, Option}
-use Rattle.machine_words.specs.declared.machine.Machine.{Machine}
+use Rattle.mic_words.specs.declared.machine.Machine.{Machine}
 use Rattle.console_port.specs.declared.map.MemoryMap.{MemoryMap}
-use Rattle.ijvm_paths.specs.Accepted.{VerifiedView}
+use Rattle.verifier_facts.specs.Accepted.{VerifiedView}
 use Rattle.mal_parser.specs.Program.{Program}
 use Rattle.cli_outside.specs.Outside.{LentView, OutsideView, Over}
 use Rattle.cli_outside.specs.Work.{IsHad, IsNotHad}

@@ -1,15 +1,15 @@
 -- Why there is no microprogram, and where one begins.
 use Rattle.std.proofs.Common.{◌≡◌, ◌∙◌, ℕ, List, [], ◌∷◌, ◌++◌, length, take, Some, false, refl, sym, ap, subst, arith}
-use Rattle.machine_words.specs.declared.machine.Machine.{Machine}
-use Rattle.machine_words.specs.declared.machine.Machine.TheVariants.{Mic1, Mic2}
-use Rattle.watched_run.specs.declared.cycle.Cycle.{Cycle}
-use Rattle.watched_run.specs.Watched.{PrintsOf}
-use Rattle.cli_profile.specs.Profile.{Profile, Silent, profile_after}
+use Rattle.mic_words.specs.declared.machine.Machine.{Machine}
+use Rattle.mic_words.specs.declared.machine.Machine.TheVariants.{Mic1, Mic2}
+use Rattle.mic_watched.specs.declared.cycle.Cycle.{Cycle}
+use Rattle.mic_watched.specs.Watched.{PrintsOf}
+use Rattle.cli_watchers.specs.Profile.{Profile, Silent, profile_after}
 use Rattle.cli_outside.specs.declared.refusal.Refusal.{Refusal}
 use Rattle.cli_outside.specs.Outside.{Got, GotInPart}
 use Rattle.cli_outside.specs.Work.{IsRefusal, refusal_by}
 use Rattle.cli_micro.specs.Answers.{IsRefusedText, NoProgram}
-use Rattle.shipped_program.specs.Listing.{program1, program2, listed_program}
+use Rattle.mal_shipped.specs.Listing.{program1, program2, listed_program}
 use Rattle.std.proofs.Math.Seq.{take-nil}
 use Rattle.std.proofs.lemmas.List.{append-nil, length-map}
 use Rattle.std.specs.Prelude.{Option, None, option_map}

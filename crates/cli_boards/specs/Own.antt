@@ -1,13 +1,13 @@
 -- The microprogram that a command clocks: that of a file, or the one that ships; and why there is none.
 use Rattle.std.specs.Prelude.{◌≡◌, ℕ, List, Option, Some, None}
-use Rattle.machine_words.specs.declared.machine.Machine.{Machine}
+use Rattle.mic_words.specs.declared.machine.Machine.{Machine}
 use Rattle.mal_parser.specs.Program.{Program}
 use Rattle.mal_parser.specs.Text.{SpellsProgram}
 use Rattle.cli_outside.specs.Status as exits
 use Rattle.cli_outside.specs.Messages.{out_of_memory}
 use Rattle.cli_outside.specs.Outside.{OutsideView, TellsOnErr}
 use Rattle.cli_outside.specs.Work.{IsHad, IsNotHad}
-use Rattle.shipped_program.specs.Listing.{listed_program}
+use Rattle.mal_shipped.specs.Listing.{listed_program}
 use Rattle.cli_micro.specs.Answers.{IsRefusedText}
 
 -- where a file is named it is that file's, and else the one that ships for the machine

@@ -4,9 +4,9 @@ use Rattle.mic_clock.specs.declared.end.End.{End}
 use Rattle.mic_clock.specs.Meaning.{Meaning}
 use Rattle.mic_clock.specs.View.{BoardView}
 use Rattle.mic_clock.specs.Board.{IsRun, RunIsCutByRead, RunIsCutByWrite}
-use Rattle.ijvm_paths.specs.Accepted.{VerifiedView}
+use Rattle.verifier_facts.specs.Accepted.{VerifiedView}
 use Rattle.mal_parser.specs.Program.{Program}
-use Rattle.shipped_program.specs.declared.loaded.Loaded.{Loaded}
+use Rattle.mal_shipped.specs.declared.loaded.Loaded.{Loaded}
 use Rattle.cli_outside.specs.Status as exits
 use Rattle.cli_outside.specs.Messages.{out_of_memory}
 use Rattle.cli_outside.specs.Outside.{OutsideView, Says, TellsOnErr}

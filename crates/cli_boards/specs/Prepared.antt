@@ -1,8 +1,8 @@
 -- What a command clocks, a program and a microprogram, and how a command ends that has both of files first.
 use Rattle.std.specs.Prelude.{ℕ, List, Option}
-use Rattle.machine_words.specs.declared.machine.Machine.{Machine}
+use Rattle.mic_words.specs.declared.machine.Machine.{Machine}
 use Rattle.console_port.specs.declared.map.MemoryMap.{MemoryMap}
-use Rattle.ijvm_paths.specs.Accepted.{VerifiedView}
+use Rattle.verifier_facts.specs.Accepted.{VerifiedView}
 use Rattle.mal_parser.specs.Program.{Program}
 use Rattle.cli_outside.specs.Outside.{OutsideView}
 use Rattle.cli_outside.specs.Work.{IsHad, IsNotHad}

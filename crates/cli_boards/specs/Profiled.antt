@@ -4,12 +4,12 @@ use Rattle.mic_base.specs.Causes.{Rose}
 use Rattle.mic_clock.specs.declared.end.End.{End}
 use Rattle.mic_clock.specs.Meaning.{Meaning}
 use Rattle.mic_clock.specs.View.{BoardView}
-use Rattle.ijvm_paths.specs.Accepted.{VerifiedView}
+use Rattle.verifier_facts.specs.Accepted.{VerifiedView}
 use Rattle.mal_parser.specs.Program.{Program}
-use Rattle.shipped_program.specs.declared.loaded.Loaded.{Loaded}
-use Rattle.watched_run.specs.declared.cycle.Cycle.{Cycle}
-use Rattle.cli_profile.specs.Rows.{AreRowsUpTo}
-use Rattle.cli_profile.specs.Profile.{profile_of_cycles, profile_text}
+use Rattle.mal_shipped.specs.declared.loaded.Loaded.{Loaded}
+use Rattle.mic_watched.specs.declared.cycle.Cycle.{Cycle}
+use Rattle.cli_watchers.specs.Rows.{AreRowsUpTo}
+use Rattle.cli_watchers.specs.Profile.{profile_of_cycles, profile_text}
 use Rattle.cli_outside.specs.Status as exits
 use Rattle.cli_outside.specs.Messages.{out_of_memory}
 use Rattle.cli_outside.specs.Outside.{Got, OutsideView, Says, TellsOnErr}

@@ -9,7 +9,7 @@ use Rattle.mic_clock.specs.View.{BoardView}
 use Rattle.mic_clock.specs.Run.{start_run, start_counts}
 use Rattle.mic_clock.specs.Board.{ShowsRun}
 use Rattle.ijvm_image.specs.Image.{IsImage}
-use Rattle.ijvm_paths.specs.Accepted.{VerifiedView}
+use Rattle.verifier_facts.specs.Accepted.{VerifiedView}
 
 -- SP is the place before the first operand of main, and nothing was given, taken or counted yet.
 pub record IsAtReset {M State : Type 0} (state : M → State) (m : Meaning State) (entry : ℕ) (program : VerifiedView) (board : BoardView M) : Type 0 where

@@ -6,12 +6,12 @@ use Rattle.mic_clock.specs.declared.end.End.TheVariants as ends
 use Rattle.mic_clock.specs.Meaning.{Meaning}
 use Rattle.mic_clock.specs.View.{BoardView}
 use Rattle.mic_clock.specs.Board.{HasEndCause}
-use Rattle.ijvm_paths.specs.Accepted.{VerifiedView}
+use Rattle.verifier_facts.specs.Accepted.{VerifiedView}
 use Rattle.mal_parser.specs.Program.{Program}
-use Rattle.shipped_program.specs.declared.loaded.Loaded.{Loaded}
-use Rattle.shipped_program.specs.Loaded.{IsLoaded}
-use Rattle.watched_run.specs.declared.cycle.Cycle.{Cycle}
-use Rattle.watched_run.specs.Watched.{ShowsCycles}
+use Rattle.mal_shipped.specs.declared.loaded.Loaded.{Loaded}
+use Rattle.mal_shipped.specs.Loaded.{IsLoaded}
+use Rattle.mic_watched.specs.declared.cycle.Cycle.{Cycle}
+use Rattle.mic_watched.specs.Watched.{ShowsCycles}
 use Rattle.cli_outside.specs.Outside.{OutsideView}
 use Rattle.cli_run_texts.specs.Report.{report as report_of}
 use Rattle.cli_boards.specs.Reset.{IsAtReset}

@@ -3,12 +3,12 @@
 ghost use Rattle.std.specs.Prelude.{◌≡◌, ℕ, List, Option, length};
 ghost use Rattle.mic_clock.specs.declared.end.End.{End};
 ghost use Rattle.mic_clock.specs.View.{BoardView};
-ghost use Rattle.ijvm_paths.specs.Accepted.{VerifiedView};
+ghost use Rattle.verifier_facts.specs.Accepted.{VerifiedView};
 ghost use Rattle.mal_parser.specs.Program.{Program};
-ghost use Rattle.shipped_program.specs.declared.loaded.Loaded.{Loaded};
-ghost use Rattle.watched_run.specs.declared.cycle.Cycle.{Cycle};
+ghost use Rattle.mal_shipped.specs.declared.loaded.Loaded.{Loaded};
+ghost use Rattle.mic_watched.specs.declared.cycle.Cycle.{Cycle};
 ghost use Rattle.cli_outside.specs.Outside.{OutsideView};
-ghost use Rattle.cli_profile.specs.Counted.{AreClockedAfter};
+ghost use Rattle.cli_watchers.specs.Counted.{AreClockedAfter};
 ghost use Rattle.cli_boards.specs.Runs.{RunsThrough};
 
 use mic_clock::Clocked;

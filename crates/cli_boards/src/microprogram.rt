@@ -2,16 +2,16 @@
 
 ghost use Rattle.std.specs.Prelude.{◌≡◌, ◌<◌, ◌^◌, length, IfOk, IfErr};
 ghost use Rattle.mal_parser.specs.Text.{SpellsProgram};
-ghost use Rattle.shipped_program.specs.Loaded.{IsLoaded};
-ghost use Rattle.shipped_program.specs.Listing.{listed_program};
+ghost use Rattle.mal_shipped.specs.Loaded.{IsLoaded};
+ghost use Rattle.mal_shipped.specs.Listing.{listed_program};
 ghost use Rattle.cli_outside.specs.Work.{IsRefusal};
 ghost use Rattle.cli_micro.specs.Answers.{IsRefusedText};
 
 use cli_micro::{mal_reason, place_reason};
 use cli_outside::Refusal;
 use mal_parser::{MalProgram, parse_mal};
+use mal_shipped::{Loaded, load_micro, shipped_program, shipped_programs_are_listed};
 use micro_word::Machine;
-use shipped_program::{Loaded, load_micro, shipped_program, shipped_programs_are_listed};
 use std::alloc::{AllocError, Global};
 
 /// A microprogram and its control store.

@@ -9,12 +9,12 @@ use crate::preparing::Prepared;
 use crate::report::report_behind;
 use crate::reset::reset_board;
 use cli_outside::{Outside, Status};
-use cli_profile::{Profiler, put_profile, rows_of};
+use cli_watchers::{Profiler, put_profile, rows_of};
+use mal_shipped::Loaded;
 use mic_base::{Files, Sink, Source};
 use mic_clock::Clocked;
-use shipped_program::Loaded;
+use mic_watched::run_watched;
 use std::alloc::Global;
-use watched_run::run_watched;
 
 /// Clocks an accepted program with a microprogram to its end, prints how often each instruction was completed, and reports.
 pub fn profile_program<M: Clocked + Drop, F: Files, S: Source, K: Sink, E: Sink>(

@@ -9,9 +9,9 @@ use crate::preparing::Prepared;
 use crate::reset::reset_board;
 use cli_outside::{Outside, Status};
 use cli_run_texts::{clocked_report, status_of};
+use mal_shipped::Loaded;
 use mic_base::{Files, Sink, Source};
 use mic_clock::Clocked;
-use shipped_program::Loaded;
 use std::alloc::Global;
 
 /// Clocks an accepted program with a microprogram to its end, and reports.

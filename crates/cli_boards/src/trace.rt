@@ -8,13 +8,13 @@ use crate::microprogram::Microprogram;
 use crate::preparing::Prepared;
 use crate::report::report_behind;
 use crate::reset::reset_board;
-use cli_cycle_texts::Tracer;
 use cli_outside::{Outside, Status};
+use cli_watchers::Tracer;
+use mal_shipped::Loaded;
 use mic_base::{Files, Sink, Source};
 use mic_clock::Clocked;
-use shipped_program::Loaded;
+use mic_watched::run_watched;
 use std::alloc::Global;
-use watched_run::run_watched;
 
 /// Clocks an accepted program with a microprogram to its end, prints the lines of each cycle as it is clocked, and reports.
 pub fn trace_program<M: Clocked + Drop, F: Files, S: Source, K: Sink, E: Sink>(

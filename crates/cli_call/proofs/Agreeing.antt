@@ -9,14 +9,14 @@ use Rattle.mic_clock.specs.declared.counts.Boundary.{Boundary}
 use Rattle.mic_clock.specs.declared.counts.Counts.{Counts}
 use Rattle.mic_clock.specs.Meaning.{Meaning}
 use Rattle.mic_clock.specs.View.{BoardView}
-use Rattle.ijvm_run.specs.declared.run.RunEnd.{RunEnd}
-use Rattle.ijvm_run.specs.declared.run.RunEnd.TheVariants as defined
-use Rattle.ijvm_run.specs.Step.{Outcome, Goes, Halts, Errs, Limits, Stuck, outcome}
-use Rattle.ijvm_run.specs.Run.{Program, Point, Finish, EndsBy, finish_from, after_test, after_outcome, first_point, point_after}
-use Rattle.plain_machine.specs.declared.plain.PlainReport.{PlainReport}
-use Rattle.plain_machine.specs.Plain.{Reports, HasRun as HasPlainRun}
-use Rattle.plain_machine.specs.Plain as plain
-use Rattle.ijvm_paths.specs.Accepted.{VerifiedView}
+use Rattle.ijvm_meaning.specs.declared.run.RunEnd.{RunEnd}
+use Rattle.ijvm_meaning.specs.declared.run.RunEnd.TheVariants as defined
+use Rattle.ijvm_meaning.specs.Step.{Outcome, Goes, Halts, Errs, Limits, Stuck, outcome}
+use Rattle.ijvm_meaning.specs.Run.{Program, Point, Finish, EndsBy, finish_from, after_test, after_outcome, first_point, point_after}
+use Rattle.ijvm_reference.specs.declared.plain.PlainReport.{PlainReport}
+use Rattle.ijvm_reference.specs.Plain.{Reports, HasRun as HasPlainRun}
+use Rattle.ijvm_reference.specs.Plain as plain
+use Rattle.verifier_facts.specs.Accepted.{VerifiedView}
 use Rattle.ijvm_simulation.specs.Simulates.{boundary_of, board_end}
 use Rattle.ijvm_simulation.specs.Verified.{program as program_on}
 use Rattle.ijvm_simulation.specs.Headline.{HasRun}

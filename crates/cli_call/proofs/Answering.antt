@@ -1,8 +1,8 @@
 -- Each end of a call is one of its answers.
 use Rattle.std.proofs.Common.{◌≡◌, ◌≢◌, ◌∙◌, ◌+◌, ◌-◌, ◌⊎◌, ℕ, Bool, List, Option, Some, None, refl, sym, ap, subst, arith, inl, inr}
 use Rattle.std.proofs.lemmas.Option.{same_Some}
-use Rattle.machine_words.specs.declared.machine.Machine.{Machine}
-use Rattle.machine_words.specs.declared.machine.Machine.TheVariants.{Mic1, Mic2}
+use Rattle.mic_words.specs.declared.machine.Machine.{Machine}
+use Rattle.mic_words.specs.declared.machine.Machine.TheVariants.{Mic1, Mic2}
 use Rattle.console_port.specs.declared.map.MemoryMap.{MemoryMap}
 use Rattle.mic_clock.specs.declared.end.End.{End}
 use Rattle.mic_clock.specs.declared.end.End.TheVariants as ends
@@ -14,20 +14,20 @@ use Rattle.mic1_datapath.specs.Mic1.{mic1_meaning, IsReady as IsReady1}
 use Rattle.mic1_datapath.specs.View.{micro_of as micro_of1}
 use Rattle.mic2_datapath.specs.Mic2.{mic2_meaning, IsReady as IsReady2}
 use Rattle.mic2_datapath.specs.View.{micro_of as micro_of2}
-use Rattle.ijvm_run.specs.declared.run.RunEnd.{RunEnd}
-use Rattle.ijvm_run.specs.declared.run.RunEnd.TheVariants as defined
-use Rattle.ijvm_paths.specs.Accepted.{VerifiedView, IsAccepted}
+use Rattle.ijvm_meaning.specs.declared.run.RunEnd.{RunEnd}
+use Rattle.ijvm_meaning.specs.declared.run.RunEnd.TheVariants as defined
+use Rattle.verifier_facts.specs.Accepted.{VerifiedView, IsAccepted}
 use Rattle.ijvm_simulation.specs.Simulates.{board_end}
 use Rattle.ijvm_simulation.specs.Starts.{EndsAsDefined}
 use Rattle.mal_parser.specs.Program.{Program}
-use Rattle.plain_machine.specs.declared.plain.PlainReport.{PlainReport}
-use Rattle.plain_machine.specs.Plain as plain
-use Rattle.shipped_program.specs.declared.loaded.Loaded.{Loaded}
-use Rattle.shipped_program.specs.Loaded.{IsLoaded}
-use Rattle.shipped_program.specs.Listing.{listed_program}
-use Rattle.shipped_program.specs.Shipped.{HasShipped}
-use Rattle.watched_run.specs.declared.cycle.Cycle.{Cycle}
-use Rattle.watched_run.specs.Watched.{ShowsCycles}
+use Rattle.ijvm_reference.specs.declared.plain.PlainReport.{PlainReport}
+use Rattle.ijvm_reference.specs.Plain as plain
+use Rattle.mal_shipped.specs.declared.loaded.Loaded.{Loaded}
+use Rattle.mal_shipped.specs.Loaded.{IsLoaded}
+use Rattle.mal_shipped.specs.Listing.{listed_program}
+use Rattle.mal_shipped.specs.Shipped.{HasShipped}
+use Rattle.mic_watched.specs.declared.cycle.Cycle.{Cycle}
+use Rattle.mic_watched.specs.Watched.{ShowsCycles}
 use Rattle.mic_base.specs.Causes.{Rose}
 use Rattle.cli_words.specs.Words.{Asked, Assemble, ListOf, Verify, Run, RunOwn, Trace, Profile, Debug, Reference, Micro, PrintMicro, Soak}
 use Rattle.cli_outside.specs.Status as exits

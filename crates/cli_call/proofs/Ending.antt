@@ -7,7 +7,7 @@ use Rattle.mic_clock.specs.declared.end.End.TheVariants as ends
 use Rattle.mic_clock.specs.Meaning.{Meaning}
 use Rattle.mic_clock.specs.Board.{NoFault, HasEndCause}
 use Rattle.mic_clock.specs.View.{BoardView}
-use Rattle.ijvm_paths.specs.Accepted.{VerifiedView}
+use Rattle.verifier_facts.specs.Accepted.{VerifiedView}
 use Rattle.ijvm_simulation.specs.Simulates.{board_end}
 use Rattle.ijvm_simulation.specs.Headline.{HasRun, IsCutByRead, IsCutByWrite}
 use Rattle.cli_outside.specs.Outside.{OutsideView, Says}

@@ -3,15 +3,15 @@ use Rattle.std.proofs.Common.{◌≡◌, ◌∙◌, ℕ, ◌%◌, Bool, true, fa
 use Rattle.std.specs.Prelude.{nat_lt}
 use Rattle.std.proofs.lemmas.List.{append-nil}
 use Rattle.console_port.specs.World.{World, Refusal, given_after}
-use Rattle.machine_words.specs.declared.machine.Machine.TheVariants as machines
+use Rattle.mic_words.specs.declared.machine.Machine.TheVariants as machines
 use Rattle.micro_word.specs.Coding.{statement_of}
 use Rattle.micro_word.specs.declared.statement.Mem.{Mem}
 use Rattle.micro_word.specs.declared.statement.Mem.TheVariants as mems
 use Rattle.micro_word.specs.declared.statement.Placed.{Placed}
 use Rattle.mic_clock.specs.Meaning.{Done}
-use Rattle.datapath.specs.declared.ports.Ports.{Ports}
-use Rattle.datapath.specs.Memory.{outcome, sampled, written}
-use Rattle.datapath.specs.Registers.{ports_given}
+use Rattle.mic_datapath.specs.declared.ports.Ports.{Ports}
+use Rattle.mic_datapath.specs.Memory.{outcome, sampled, written}
+use Rattle.mic_datapath.specs.Registers.{ports_given}
 use Rattle.mic1_datapath.specs.Mic1.{mic1_meaning, step_of_word as step_of_word1}
 use Rattle.mic1_datapath.specs.Microstep as mic1
 use Rattle.mic2_fetch_unit.specs.FetchUnit.{edge_refusal}

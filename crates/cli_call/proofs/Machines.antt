@@ -6,7 +6,7 @@ use Rattle.mic_clock.specs.declared.end.End.{End}
 use Rattle.mic_clock.specs.declared.end.End.TheVariants as clocked
 use Rattle.mic_clock.specs.Meaning.{Meaning}
 use Rattle.mic_clock.specs.View.{BoardView}
-use Rattle.ijvm_paths.specs.Accepted.{VerifiedView}
+use Rattle.verifier_facts.specs.Accepted.{VerifiedView}
 use Rattle.ijvm_simulation.specs.Simulates.{board_end}
 use Rattle.ijvm_simulation.specs.Headline.{HasRun}
 use Rattle.ijvm_simulation.specs.Agreement.{MeetNoBound}

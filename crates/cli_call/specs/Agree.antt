@@ -4,7 +4,7 @@ use Rattle.mic_base.specs.Causes.{Rose}
 use Rattle.mic_clock.specs.declared.counts.Counts.{Counts}
 use Rattle.mic_clock.specs.declared.end.End.{End}
 use Rattle.mic_clock.specs.declared.registers.Registers.{Registers}
-use Rattle.plain_machine.specs.declared.plain.PlainReport.{PlainReport}
+use Rattle.ijvm_reference.specs.declared.plain.PlainReport.{PlainReport}
 use Rattle.cli_outside.specs.Status as exits
 use Rattle.cli_outside.specs.Outside.{Got, OutsideView}
 use Rattle.mic_clock.specs.State.{state_line}

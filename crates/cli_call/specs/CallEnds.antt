@@ -1,22 +1,22 @@
 -- How a call of `mic` ends, by what its words ask for.
 use Rattle.std.specs.Prelude.{ℕ, List, Option, Some, None}
-use Rattle.machine_words.specs.declared.machine.Machine.{Machine}
-use Rattle.machine_words.specs.declared.machine.Machine.TheVariants.{Mic1, Mic2}
+use Rattle.mic_words.specs.declared.machine.Machine.{Machine}
+use Rattle.mic_words.specs.declared.machine.Machine.TheVariants.{Mic1, Mic2}
 use Rattle.mal_parser.specs.ProgramText.{canonical_text}
 use Rattle.mic_clock.specs.Meaning.{Meaning}
 use Rattle.mic1_datapath.specs.Mic1.{mic1_meaning, IsReady as IsReady1}
 use Rattle.mic1_datapath.specs.View.{micro_of as micro_of1}
 use Rattle.mic2_datapath.specs.Mic2.{mic2_meaning, IsReady as IsReady2}
 use Rattle.mic2_datapath.specs.View.{micro_of as micro_of2}
-use Rattle.shipped_program.specs.Listing.{listed_program}
-use Rattle.shipped_program.specs.Shipped.{HasShipped}
+use Rattle.mal_shipped.specs.Listing.{listed_program}
+use Rattle.mal_shipped.specs.Shipped.{HasShipped}
 use Rattle.cli_words.specs.Words.{Asked, Assemble, ListOf, Verify, Run, RunOwn, Trace, Profile, Debug, Reference, Micro, PrintMicro, Soak}
 use Rattle.cli_outside.specs.Status as exits
 use Rattle.cli_outside.specs.Messages.{out_of_memory}
 use Rattle.cli_outside.specs.Outside.{OutsideView, PrintsOnOut, TellsOnErr}
 use Rattle.cli_outside.specs.Work.{PrintsTextOf}
-use Rattle.cli_texts.specs.Listing.{Lists}
-use Rattle.cli_texts.specs.Summary.{Summarizes}
+use Rattle.cli_program_texts.specs.Listing.{Lists}
+use Rattle.cli_program_texts.specs.Summary.{Summarizes}
 use Rattle.cli_programs.specs.Answers.{Assembles, EndsOver}
 use Rattle.cli_programs.specs.Reference.{IsReferenceRun}
 use Rattle.cli_micro.specs.Answers.{MicroAnswers, PrintMicroAnswers}

@@ -9,9 +9,9 @@ ghost use Rattle.cli_call.specs.Answers.{IsAnswer};
 use crate::top_call::answer_words;
 use cli_outside::{Outside, Status, close};
 use ijvm_simulation::shipped_runs_end_as_defined;
+use mal_shipped::loaded_programs_are_shipped;
 use mic_base::{Files, Sink, Source};
 use shipped_microcode::{Mic1Interpreter, Mic2Interpreter};
-use shipped_program::loaded_programs_are_shipped;
 use std::alloc::Global;
 
 /// Each status that a call ends with has its cause, and no other comes.

@@ -13,8 +13,8 @@ use cli_outside::{Outside, Status};
 use cli_programs::reference_file;
 use cli_words::{Job, Mode};
 use ijvm_simulation::Interpreter;
-use machine_words::Machine;
 use mic_base::{Files, Sink, Source};
+use mic_words::Machine;
 use shipped_microcode::{Mic1Interpreter, Mic2Interpreter};
 use std::alloc::Global;
 

@@ -2,8 +2,8 @@
 
 ghost use Rattle.std.specs.Prelude.{◌≡◌, ◌≢◌, ℕ, List, Some};
 ghost use Rattle.mic_base.specs.Files.{Contents};
-ghost use Rattle.machine_words.specs.declared.machine.Machine.{Machine};
-ghost use Rattle.machine_words.specs.declared.machine.Machine.TheVariants.{Mic1, Mic2};
+ghost use Rattle.mic_words.specs.declared.machine.Machine.{Machine};
+ghost use Rattle.mic_words.specs.declared.machine.Machine.TheVariants.{Mic1, Mic2};
 ghost use Rattle.console_port.specs.declared.map.MemoryMap.{MemoryMap};
 ghost use Rattle.mic1_datapath.specs.Mic1.{mic1_meaning};
 ghost use Rattle.mic2_datapath.specs.Mic2.{mic2_meaning};
@@ -15,7 +15,7 @@ ghost use Rattle.cli_call.specs.CallEnds.{CallEnds};
 ghost use Rattle.cli_call.specs.Agree.{Agrees, CallsAgree, CallsEndAlike, IsQuiet};
 
 use cli_programs::a_file_has_one_program;
-use ijvm_run::runs_end_once;
+use ijvm_meaning::runs_end_once;
 use ijvm_simulation::interpreters_agree;
 use shipped_microcode::{Mic1Interpreter, Mic2Interpreter};
 

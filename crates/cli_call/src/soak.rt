@@ -7,8 +7,8 @@ ghost use Rattle.cli_call.specs.CallEnds.{EndsAs};
 
 use cli_outside::{Outside, Status};
 use cli_soak::soak;
-use machine_words::Machine;
 use mic_base::{Files, Sink, Source};
+use mic_words::Machine;
 use shipped_microcode::{Mic1Interpreter, Mic2Interpreter};
 use std::alloc::Global;
 

@@ -9,10 +9,10 @@ use crate::lines::{Step, do_lines};
 use cli_boards::{Microprogram, Prepared, reset_board};
 use cli_outside::{Outside, Status};
 use cli_run_texts::left_report;
+use mal_shipped::Loaded;
 use mic_base::{Files, PlainSource, Sink, Source};
 use mic_clock::{Board, Clocked};
 use mic_debugger::Session;
-use shipped_program::Loaded;
 use std::alloc::{AllocError, Global};
 
 /// A session over an accepted program at its reset.

@@ -1,8 +1,8 @@
 -- How many digits a canonical word has.
 use Rattle.std.proofs.Common.{ℕ, Bool, true, false, ◌&&◌, ◌^◌, ◌<◌, nat_lt, IsTrue, refl, arith}
 use Rattle.std.proofs.lemmas.Bool.Decides.{nat_tests}
-use Rattle.machine_words.specs.declared.machine.Machine.{Machine}
-use Rattle.machine_words.specs.declared.machine.Machine.TheVariants.{Mic1, Mic2}
+use Rattle.mic_words.specs.declared.machine.Machine.{Machine}
+use Rattle.mic_words.specs.declared.machine.Machine.TheVariants.{Mic1, Mic2}
 use Rattle.micro_word.specs.Words.{are_canonical, is_canonical, word_end}
 use Rattle.micro_word.specs.Layout.{fields_of}
 use Rattle.cli_micro.specs.Texts.{word_digits}

@@ -1,6 +1,6 @@
 -- How `micro` and `print-micro` end.
 use Rattle.std.specs.Prelude.{◌≡◌, ℕ, List, Some, None, IsSome}
-use Rattle.machine_words.specs.declared.machine.Machine.{Machine}
+use Rattle.mic_words.specs.declared.machine.Machine.{Machine}
 use Rattle.micro_word.specs.ControlStore.{ControlStore, IsStore}
 use Rattle.cli_outside.specs.Status as exits
 use Rattle.cli_outside.specs.Outside.{OutsideView, PrintsOnOut}

@@ -1,7 +1,7 @@
 //! The commands, from the file that they read to their status.
 
 ghost use Rattle.mal_parser.specs.ProgramText.{canonical_text};
-ghost use Rattle.shipped_program.specs.Listing.{listed_program};
+ghost use Rattle.mal_shipped.specs.Listing.{listed_program};
 ghost use Rattle.cli_outside.specs.Status as exits;
 ghost use Rattle.cli_outside.specs.Outside.{Over, PrintsOnOut};
 ghost use Rattle.cli_micro.specs.Answers.{MicroAnswers, PrintMicroAnswers};
@@ -9,9 +9,9 @@ ghost use Rattle.cli_micro.specs.Answers.{MicroAnswers, PrintMicroAnswers};
 use crate::listing::printed_text;
 use crate::placing::made_of;
 use cli_outside::{Outside, Status};
+use mal_shipped::{shipped_text, shipped_texts_are_canonical};
 use mic_base::{Files, Sink, Source};
 use micro_word::Machine;
-use shipped_program::{shipped_text, shipped_texts_are_canonical};
 use std::alloc::Global;
 
 /// Places the microprogram of a file, writes its store file, and then prints its addresses and words.

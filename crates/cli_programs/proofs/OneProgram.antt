@@ -11,9 +11,9 @@ use Rattle.ijvm_asm.specs.Text as assembler
 use Rattle.method_linker.specs.declared.error.LinkError.{LinkError}
 use Rattle.method_linker.specs.declared.error.LinkError.TheVariants as limits
 use Rattle.method_linker.specs.Linked as linker
-use Rattle.ijvm_paths.specs.Accepted.{VerifiedView}
-use Rattle.ijvm_paths.specs.Facts.{IsMainCount, IsTrueOf}
-use Rattle.cli_texts.specs.Refusals.{link_reason}
+use Rattle.verifier_facts.specs.Accepted.{VerifiedView}
+use Rattle.verifier_facts.specs.Facts.{IsMainCount, IsTrueOf}
+use Rattle.cli_program_texts.specs.Refusals.{link_reason}
 use Rattle.cli_programs.specs.Program.{AsFile, AsSource, IsNoSource, IsOf, IsProgram, IsRefusedProgram, IsSource, NoImage, NoProgram, NoSource, NotAccepted, NotLinked, begins_image}
 
 -- ---- main's locals

@@ -6,10 +6,10 @@ use Rattle.ijvm_image.specs.declared.image.ImageError.{ImageError}
 use Rattle.ijvm_image.specs.declared.image.ImageError.TheVariants as images
 use Rattle.ijvm_image.specs.Image.{ImageView}
 use Rattle.ijvm_image.specs.ImageFile.{IsRefused as IsRefusedFile}
-use Rattle.ijvm_paths.specs.declared.error.VerifyError.{VerifyError}
-use Rattle.ijvm_paths.specs.declared.error.VerifyError.TheVariants as facts
-use Rattle.ijvm_paths.specs.Facts.{IsTrueOf}
-use Rattle.cli_texts.specs.Refusals.{image_reason, link_reason, source_reason, verify_reason}
+use Rattle.verifier_facts.specs.declared.error.VerifyError.{VerifyError}
+use Rattle.verifier_facts.specs.declared.error.VerifyError.TheVariants as facts
+use Rattle.verifier_facts.specs.Facts.{IsTrueOf}
+use Rattle.cli_program_texts.specs.Refusals.{image_reason, link_reason, source_reason, verify_reason}
 use Rattle.cli_outside.specs.declared.refusal.Refusal.{Refusal}
 use Rattle.cli_outside.specs.declared.refusal.Refusal.TheVariants as refusals
 use Rattle.cli_outside.specs.Work.{IsRefusal, refusal_by}

@@ -1,13 +1,13 @@
 -- What a report says of its run, by the run's end.
 use Rattle.std.proofs.Common.{◌≡◌, ◌≢◌, ◌∙◌, ℕ, Some, Ok, refl, sym, ap}
-use Rattle.machine_words.specs.declared.machine.Machine.{Machine}
+use Rattle.mic_words.specs.declared.machine.Machine.{Machine}
 use Rattle.console_port.specs.Console.{StaysFlushed}
-use Rattle.plain_machine.specs.declared.plain.PlainEnd.{PlainEnd}
-use Rattle.plain_machine.specs.declared.plain.PlainEnd.TheVariants as ends
-use Rattle.plain_machine.specs.declared.plain.PlainReport.{PlainReport}
-use Rattle.plain_machine.specs.Runs.{HasRunCause}
-use Rattle.plain_machine.specs.Plain.{HasRun, IsCutByRead, IsCutByWrite}
-use Rattle.ijvm_paths.specs.Accepted.{VerifiedView}
+use Rattle.ijvm_reference.specs.declared.plain.PlainEnd.{PlainEnd}
+use Rattle.ijvm_reference.specs.declared.plain.PlainEnd.TheVariants as ends
+use Rattle.ijvm_reference.specs.declared.plain.PlainReport.{PlainReport}
+use Rattle.ijvm_reference.specs.Runs.{HasRunCause}
+use Rattle.ijvm_reference.specs.Plain.{HasRun, IsCutByRead, IsCutByWrite}
+use Rattle.verifier_facts.specs.Accepted.{VerifiedView}
 use Rattle.cli_outside.specs.Outside.{OutsideView}
 use Rattle.cli_programs.specs.Reference.{CutByRead, CutByWrite, IsReported, Ran, verified_program}
 

@@ -2,10 +2,10 @@
 use Rattle.std.specs.Prelude.{ℕ, List, length}
 use Rattle.console_port.specs.declared.map.MemoryMap.{MemoryMap}
 use Rattle.ijvm_image.specs.ImageFile.{file_of}
-use Rattle.ijvm_paths.specs.Accepted.{VerifiedView}
+use Rattle.verifier_facts.specs.Accepted.{VerifiedView}
 use Rattle.cli_outside.specs.Outside.{OutsideView}
 use Rattle.cli_outside.specs.Work.{Ends, WritesThenPrints}
-use Rattle.cli_texts.specs.Summary.{sizes}
+use Rattle.cli_program_texts.specs.Summary.{sizes}
 use Rattle.cli_programs.specs.Program.{IsNoSource, IsProgram, IsRefusedProgram, IsSource}
 
 -- over the accepted program that a file holds

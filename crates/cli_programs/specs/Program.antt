@@ -11,10 +11,10 @@ use Rattle.ijvm_asm.specs.Text as assembler
 use Rattle.method_linker.specs.declared.error.LinkError.{LinkError}
 use Rattle.method_linker.specs.Linked.{IsLinked}
 use Rattle.method_linker.specs.Linked as linker
-use Rattle.ijvm_paths.specs.declared.error.VerifyError.{VerifyError}
-use Rattle.ijvm_paths.specs.Accepted.{IsAccepted, VerifiedView}
-use Rattle.ijvm_paths.specs.Facts.{IsTrueOf}
-use Rattle.cli_texts.specs.Refusals.{image_reason, link_reason, source_reason, verify_reason}
+use Rattle.verifier_facts.specs.declared.error.VerifyError.{VerifyError}
+use Rattle.verifier_facts.specs.Accepted.{IsAccepted, VerifiedView}
+use Rattle.verifier_facts.specs.Facts.{IsTrueOf}
+use Rattle.cli_program_texts.specs.Refusals.{image_reason, link_reason, source_reason, verify_reason}
 use Rattle.cli_outside.specs.declared.refusal.Refusal.{Refusal}
 use Rattle.cli_outside.specs.Work.{IsRefusal}
 

@@ -1,13 +1,13 @@
 -- How the definition's run of an accepted program ends, with a machine's costs, and its report.
 use Rattle.std.specs.Prelude.{◌≡◌, ℕ}
 use Rattle.mic_base.specs.Causes.{Rose}
-use Rattle.machine_words.specs.declared.machine.Machine.{Machine}
+use Rattle.mic_words.specs.declared.machine.Machine.{Machine}
 use Rattle.console_port.specs.Console.{StaysFlushed}
-use Rattle.plain_machine.specs.declared.plain.PlainEnd.TheVariants as ends
-use Rattle.plain_machine.specs.declared.plain.PlainReport.{PlainReport}
-use Rattle.ijvm_run.specs.Run.{Program}
-use Rattle.plain_machine.specs.Plain.{HasRun, IsCutByRead, IsCutByWrite, IsShort}
-use Rattle.ijvm_paths.specs.Accepted.{VerifiedView}
+use Rattle.ijvm_reference.specs.declared.plain.PlainEnd.TheVariants as ends
+use Rattle.ijvm_reference.specs.declared.plain.PlainReport.{PlainReport}
+use Rattle.ijvm_meaning.specs.Run.{Program}
+use Rattle.ijvm_reference.specs.Plain.{HasRun, IsCutByRead, IsCutByWrite, IsShort}
+use Rattle.verifier_facts.specs.Accepted.{VerifiedView}
 use Rattle.cli_outside.specs.Status as exits
 use Rattle.cli_outside.specs.Outside.{OutsideView, Says}
 use Rattle.cli_outside.specs.Messages.{out_of_memory}

@@ -5,7 +5,7 @@ ghost use Rattle.cli_programs.specs.Answers.{Assembles};
 
 use crate::program::assembled;
 use cli_outside::{Outside, Status};
-use cli_texts::sizes_of;
+use cli_program_texts::sizes_of;
 use ijvm_image::write_image;
 use mic_base::{Files, Sink, Source};
 use std::alloc::Global;

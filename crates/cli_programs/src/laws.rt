@@ -2,7 +2,7 @@
 
 ghost use Rattle.std.specs.Prelude.{◌≡◌, ℕ, List};
 ghost use Rattle.console_port.specs.declared.map.MemoryMap.{MemoryMap};
-ghost use Rattle.ijvm_paths.specs.Accepted.{VerifiedView};
+ghost use Rattle.verifier_facts.specs.Accepted.{VerifiedView};
 ghost use Rattle.cli_programs.specs.Program.{IsProgram, IsRefusedProgram};
 
 use ijvm_asm::a_text_says_one_thing;

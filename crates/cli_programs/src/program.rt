@@ -8,7 +8,7 @@ ghost use Rattle.cli_outside.specs.Work.{IsHad, IsNotHad, IsRefusal};
 ghost use Rattle.cli_programs.specs.Program.{IsNoSource, IsOf, IsProgram, IsRefusalByAll, IsRefusedProgram, IsSource, begins_image};
 
 use cli_outside::{Outside, Refusal, Status};
-use cli_texts::{image_reason, link_reason, source_reason, verify_reason};
+use cli_program_texts::{image_reason, link_reason, source_reason, verify_reason};
 use console_port::MemoryMap;
 use ijvm_asm::parse_source;
 use ijvm_image::{Image, read_image};

@@ -10,10 +10,10 @@ use crate::program::program_in_file;
 use cli_outside::{Outside, Status};
 use cli_run_texts::{clocked_end, plain_report, status_of};
 use console_port::MemoryMap;
+use ijvm_reference::run_plain;
 use ijvm_verifier::VerifiedImage;
-use machine_words::Machine;
 use mic_base::{Files, Sink, Source};
-use plain_machine::run_plain;
+use mic_words::Machine;
 use std::alloc::Global;
 
 /// Runs an accepted program, and reports.

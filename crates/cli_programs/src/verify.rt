@@ -3,12 +3,12 @@
 ghost use Rattle.console_port.specs.Map.{IsMap};
 ghost use Rattle.cli_outside.specs.Outside.{Over};
 ghost use Rattle.cli_outside.specs.Work.{PrintsTextOf};
-ghost use Rattle.cli_texts.specs.Summary.{Summarizes};
+ghost use Rattle.cli_program_texts.specs.Summary.{Summarizes};
 ghost use Rattle.cli_programs.specs.Answers.{EndsOver};
 
 use crate::program::program_in_file;
 use cli_outside::{Outside, Status};
-use cli_texts::summary_of;
+use cli_program_texts::summary_of;
 use console_port::MemoryMap;
 use mic_base::{Files, Sink, Source};
 use std::alloc::Global;

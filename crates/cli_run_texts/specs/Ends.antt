@@ -4,8 +4,8 @@ use Rattle.mic_base.specs.Digits.{hex_text}
 use Rattle.cli_outside.specs.Status as exits
 use Rattle.mic_clock.specs.declared.end.End.{End}
 use Rattle.mic_clock.specs.declared.end.End.TheVariants as ends
-use Rattle.plain_machine.specs.declared.plain.PlainEnd.{PlainEnd}
-use Rattle.plain_machine.specs.declared.plain.PlainEnd.TheVariants as plain
+use Rattle.ijvm_reference.specs.declared.plain.PlainEnd.{PlainEnd}
+use Rattle.ijvm_reference.specs.declared.plain.PlainEnd.TheVariants as plain
 
 abbrev pub end_name : End → List ℕ
 end_name ends.Halt = codes "halt"

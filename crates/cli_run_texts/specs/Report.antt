@@ -8,7 +8,7 @@ use Rattle.mic_clock.specs.declared.counts.Boundary.{Boundary}
 use Rattle.mic_clock.specs.declared.counts.Counts.{Counts}
 use Rattle.mic_clock.specs.declared.registers.Registers.{Registers}
 use Rattle.mic_clock.specs.State.{state_line}
-use Rattle.plain_machine.specs.declared.plain.PlainReport.{PlainReport}
+use Rattle.ijvm_reference.specs.declared.plain.PlainReport.{PlainReport}
 use Rattle.cli_run_texts.specs.Ends.{clocked_end, end_name}
 
 abbrev pub boundary_line : Option Boundary → List ℕ

@@ -4,9 +4,9 @@ ghost use Rattle.std.specs.Prelude.{◌≡◌, ◌≤◌, ◌+◌, ◌++◌, len
 ghost use Rattle.cli_run_texts.specs.Ends.{clocked_end, end_name, status_of};
 
 use cli_outside::{Status, word};
+use ijvm_reference::PlainEnd;
 use mic_base::Line;
 use mic_clock::End;
-use plain_machine::PlainEnd;
 
 /// Appends the name of an end.
 pub fn end_name(line: &mut Line, end: End)

@@ -5,9 +5,9 @@ ghost use Rattle.cli_run_texts.specs.Report.{boundary_line, clocked_head, counts
 
 use crate::ends::{clocked_end, end_name};
 use cli_outside::{number, text_line, word};
+use ijvm_reference::PlainReport;
 use mic_base::Line;
 use mic_clock::{Boundary, Counts, End, Registers, print_state};
-use plain_machine::PlainReport;
 
 fn boundary_line(line: &mut Line, boundary: Option<Boundary>)
     requires { length line.old + 66 ≤ 512 }

@@ -3,10 +3,10 @@ use Rattle.std.specs.Prelude.{◌≡◌, ℕ, List, [], length, Option, Some, No
 use Rattle.console_port.specs.declared.map.TheConstants.MemoryMap.{STANDARD}
 use Rattle.mic_clock.specs.Meaning.{Meaning}
 use Rattle.mic_clock.specs.View.{BoardView}
-use Rattle.ijvm_paths.specs.Accepted.{VerifiedView, IsAccepted}
+use Rattle.verifier_facts.specs.Accepted.{VerifiedView, IsAccepted}
 use Rattle.ijvm_simulation.specs.Simulates.{board_end}
 use Rattle.ijvm_simulation.specs.Headline.{HasRun}
-use Rattle.soak_program.specs.Generated.{generated}
+use Rattle.ijvm_soak.specs.Generated.{generated}
 use Rattle.cli_outside.specs.Status as exits
 use Rattle.cli_outside.specs.Messages.{out_of_memory}
 use Rattle.cli_outside.specs.Outside.{OutsideView, PrintsOnOut, TellsOnErr}

@@ -8,9 +8,9 @@ use crate::summary::summary;
 use cli_outside::{Outside, Status};
 use cli_run_texts::status_of;
 use ijvm_simulation::{Interpreter, run_image};
+use ijvm_soak::soak_image;
 use ijvm_verifier::VerifiedImage;
 use mic_base::{Files, PlainSink, PlainSource, Sink, Source};
-use soak_program::soak_image;
 use std::alloc::Global;
 
 /// The cycles after which a run ends at the next boundary.

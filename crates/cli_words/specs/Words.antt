@@ -3,8 +3,8 @@ use Rattle.std.specs.Prelude.{◌≡◌, ◌≤◌, ℕ, ℤ, pos, Bool, false, 
 use Rattle.std.specs.Str.{bytes_eq}
 use Rattle.mic_base.specs.Number.{number_of}
 use Rattle.mic_base.specs.declared.number.NumberError.{NumberError}
-use Rattle.machine_words.specs.declared.machine.Machine.{Machine}
-use Rattle.machine_words.specs.declared.machine.Machine.TheVariants.{Mic1, Mic2}
+use Rattle.mic_words.specs.declared.machine.Machine.{Machine}
+use Rattle.mic_words.specs.declared.machine.Machine.TheVariants.{Mic1, Mic2}
 use Rattle.console_port.specs.declared.map.MemoryMap.{MemoryMap}
 use Rattle.console_port.specs.declared.map.TheConstants.MemoryMap.{LARGE, STANDARD}
 use Rattle.console_port.specs.Map.{IsMap}

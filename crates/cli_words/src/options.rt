@@ -6,8 +6,8 @@ ghost use Rattle.mic_base.specs.Number.{number_of};
 ghost use Rattle.cli_words.specs.Words.{HasMap, bound_in, is_true, machine_in, map_in, most_blocks, most_cycles, number_within, seed_in, size_in};
 
 use console_port::MemoryMap;
-use machine_words::Machine;
 use mic_base::Number;
+use mic_words::Machine;
 
 /// The bound on cycles where none is given.
 pub const DEFAULT_BOUND: u64 = 10_000_000;

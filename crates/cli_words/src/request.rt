@@ -1,7 +1,7 @@
 //! What a command line can ask for.
 
 use console_port::MemoryMap;
-use machine_words::Machine;
+use mic_words::Machine;
 
 /// A program that is to be run: on which machine, to which bound, and with which map.
 #[derive(Clone, Copy, Debug, PartialEq, Eq)]

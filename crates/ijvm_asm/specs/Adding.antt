@@ -18,7 +18,7 @@ use Rattle.ijvm_line.specs.declared.instruction.Instruction.{Instruction}
 use Rattle.ijvm_line.specs.Lines as spelled
 use Rattle.ijvm_line.specs.Reading.{line_from}
 use Rattle.ijvm_line.specs.Parameters.{parameters}
-use Rattle.name_list.specs.Places.{place_of}
+use Rattle.source_names.specs.Places.{place_of}
 use Rattle.ijvm_asm.specs.declared.error.AsmError.{AsmError}
 use Rattle.ijvm_asm.specs.declared.error.AsmError.TheVariants as errors
 use Rattle.ijvm_asm.specs.Drafts.{begun, DraftView}

@@ -8,7 +8,7 @@ ghost use Rattle.ijvm_asm.specs.Drafts.{begun, FailsBy, StaysBy};
 use crate::error::AsmError;
 use ijvm_line::Instruction;
 use mic_base::Name;
-use name_list::NameList;
+use source_names::NameList;
 use std::alloc::Global;
 use std::marker::Model;
 

@@ -11,7 +11,7 @@ use crate::laws::reads_lines;
 use ijvm_line::{Instruction, Line, LineFault, Mark, Place, line_from, parameters_of};
 use ijvm_tokens::{Token, tokens_of};
 use mic_base::Name;
-use name_list::NameList;
+use source_names::NameList;
 use source_text::{Reader, TokenError};
 use std::alloc::Global;
 use std::marker::Model;

@@ -6,5 +6,5 @@ pub use ijvm_instr::{
     Cost, Flow, Instr, Operands, Row, decode_at, decode_instr, encode_instr, name, print_instr,
     print_name, target_of,
 };
-pub use ijvm_run::RunEnd;
-pub use plain_machine::{Frames, PlainEnd, PlainReport, StepEnd, StepError, run_plain};
+pub use ijvm_meaning::RunEnd;
+pub use ijvm_reference::{Frames, PlainEnd, PlainReport, StepEnd, StepError, run_plain};

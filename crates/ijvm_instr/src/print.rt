@@ -9,7 +9,7 @@ use crate::row::{Operands, name};
 use mic_base::Line;
 
 /// The target of a jump at this address.
-#[tactic(auto, unfolding(machine_words::specs::Arithmetic::wrap))]
+#[tactic(auto, unfolding(mic_words::specs::Arithmetic::wrap))]
 pub fn target_of(at: u32, offset: i16) -> u32
     ensures { result ≡ target at offset }
 {

@@ -3,7 +3,7 @@ use Rattle.std.proofs.Common.{◌≡◌, ℕ, ◌+◌, ◌^◌, ◌<◌, ◌≤�
 use Rattle.std.specs.Prelude.{slice_index, nat_lt}
 use Rattle.std.proofs.lemmas.Bool.Decides.{nat_tests}
 use Rattle.std.proofs.lemmas.List.{set_past}
-use Rattle.machine_words.specs.Arithmetic.{wrap, next, before}
+use Rattle.mic_words.specs.Arithmetic.{wrap, next, before}
 use Rattle.console_port.specs.World.{World, StackLimit, read_value, untaken_after, given_after, read_refusal, write_refusal}
 use Rattle.ijvm_simulation.specs.Stack.{IsMapEnd, IsWordAccess, IsConsoleAccess}
 

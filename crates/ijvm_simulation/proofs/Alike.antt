@@ -5,12 +5,12 @@ use Rattle.std.proofs.lemmas.Option.{same_Some}
 use Rattle.mic_clock.specs.declared.counts.Counts.{Counts}
 use Rattle.mic_clock.specs.Meaning.{Meaning}
 use Rattle.mic_clock.specs.View.{BoardView}
-use Rattle.ijvm_run.specs.declared.run.RunEnd.{RunEnd}
-use Rattle.ijvm_run.specs.declared.run.RunEnd.TheVariants as defined
-use Rattle.ijvm_run.specs.Frames.{State}
-use Rattle.ijvm_run.specs.Step.{Outcome, Goes, Halts, Errs, Limits, Stuck, outcome}
-use Rattle.ijvm_run.specs.Run.{Program, Point, Finish, point_after, finish_from, after_test, after_outcome, completed, stopped, first_point}
-use Rattle.ijvm_paths.specs.Accepted.{VerifiedView}
+use Rattle.ijvm_meaning.specs.declared.run.RunEnd.{RunEnd}
+use Rattle.ijvm_meaning.specs.declared.run.RunEnd.TheVariants as defined
+use Rattle.ijvm_meaning.specs.Frames.{State}
+use Rattle.ijvm_meaning.specs.Step.{Outcome, Goes, Halts, Errs, Limits, Stuck, outcome}
+use Rattle.ijvm_meaning.specs.Run.{Program, Point, Finish, point_after, finish_from, after_test, after_outcome, completed, stopped, first_point}
+use Rattle.verifier_facts.specs.Accepted.{VerifiedView}
 use Rattle.ijvm_simulation.specs.Simulates.{board_end}
 use Rattle.ijvm_simulation.specs.Verified.{program}
 use Rattle.ijvm_simulation.specs.Headline.{told_of, HasRun}

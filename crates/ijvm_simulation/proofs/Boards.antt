@@ -10,7 +10,7 @@ use Rattle.mic_clock.specs.declared.end.End.{End}
 use Rattle.mic_clock.specs.Run.{MicroRun, turns}
 use Rattle.mic_clock.specs.Board.{ShowsRun, IsLedTo, Leads, IsCutByRead as IsReadCut, IsCutByWrite as IsCut}
 use Rattle.ijvm_image.specs.Image.{IsImage}
-use Rattle.ijvm_paths.specs.Accepted.{VerifiedView, IsAccepted}
+use Rattle.verifier_facts.specs.Accepted.{VerifiedView, IsAccepted}
 use Rattle.ijvm_simulation.specs.Simulates.{IsEnd}
 use Rattle.ijvm_simulation.specs.Law.{Grows}
 use Rattle.ijvm_simulation.specs.Starts.{Starts}

@@ -4,9 +4,9 @@ use Rattle.std.proofs.lemmas.Bool.Decides.{nat_tests}
 use Rattle.console_port.specs.World.{World}
 use Rattle.mic_clock.specs.Meaning.{Meaning}
 use Rattle.mic_clock.specs.Run.{MicroRun, turns}
-use Rattle.ijvm_run.specs.Frames.{State, start_of}
-use Rattle.ijvm_run.specs.Cost.{boot}
-use Rattle.ijvm_run.specs.Run.{first_point}
+use Rattle.ijvm_meaning.specs.Frames.{State, start_of}
+use Rattle.ijvm_meaning.specs.Cost.{boot}
+use Rattle.ijvm_meaning.specs.Run.{first_point}
 use Rattle.ijvm_simulation.specs.Stands.{Origin}
 use Rattle.ijvm_simulation.specs.Simulates.{IsBoundary}
 use Rattle.ijvm_simulation.specs.Law.{Shows, Boots, reset_moment}

@@ -6,9 +6,9 @@ use Rattle.console_port.specs.World.{World}
 use Rattle.console_port.specs.Loading.{IsLoaded}
 use Rattle.mic_clock.specs.Meaning.{Meaning}
 use Rattle.ijvm_image.specs.Image.{IsImage}
-use Rattle.ijvm_run.specs.Frames.{start_of}
-use Rattle.ijvm_run.specs.Run.{first_point}
-use Rattle.ijvm_paths.specs.Accepted.{VerifiedView, IsAccepted}
+use Rattle.ijvm_meaning.specs.Frames.{start_of}
+use Rattle.ijvm_meaning.specs.Run.{first_point}
+use Rattle.verifier_facts.specs.Accepted.{VerifiedView, IsAccepted}
 use Rattle.ijvm_simulation.specs.Stands.{Origin, IsAt}
 use Rattle.ijvm_simulation.specs.Verified.{program, Loads, Fine}
 use Rattle.ijvm_simulation.specs.Law.{Law, Boots, reset_moment, OnDone, Grows}

@@ -2,15 +2,15 @@
 use Rattle.std.proofs.Common.{◌≡◌, ℕ, zero, suc, ◌+◌, ◌<◌, ◌≤◌, ◌==◌, Bool, true, false, if◌then◌else◌, List, [], ◌∷◌, length, Option, Some, None, refl, arith}
 use Rattle.std.specs.Prelude.{nat_le, nat_lt, slice_get, ℤ, bit_and, bit_or}
 use Rattle.std.proofs.lemmas.Bool.Decides.{nat_tests}
-use Rattle.machine_words.specs.Arithmetic.{plus, minus, is_negative}
+use Rattle.mic_words.specs.Arithmetic.{plus, minus, is_negative}
 use Rattle.console_port.specs.World.{next_byte}
 use Rattle.ijvm_instr.specs.declared.instr.Instr.{Instr}
 use Rattle.ijvm_instr.specs.declared.instr.Instr.TheVariants.{Nop, Bipush, LdcW, Iload, Istore, Pop, Dup, Swap, Iadd, Isub, Iand, Iinc, Ifeq, Iflt, IfIcmpeq, Goto, Ireturn, Ior, Invokevirtual, WideIload, WideIstore, WideIinc, In, Out, Err, Halt}
 use Rattle.ijvm_instr.specs.Instructions.{word_of}
 use Rattle.ijvm_image.specs.declared.method.Method.{Method}
 use Rattle.ijvm_image.specs.Image.{ImageView, method_at}
-use Rattle.ijvm_run.specs.Frames.{Frame, State, frames_of, base}
-use Rattle.ijvm_run.specs.Step.{Outcome, Goes, Limits, Stuck, limited, moved, pushed_constant, loaded, is_own, with_local, stored, increased, popped, doubled, swapped, combined, way, branched, compared, returned, in_method, entered, called_at, taken, given_out, step}
+use Rattle.ijvm_meaning.specs.Frames.{Frame, State, frames_of, base}
+use Rattle.ijvm_meaning.specs.Step.{Outcome, Goes, Limits, Stuck, limited, moved, pushed_constant, loaded, is_own, with_local, stored, increased, popped, doubled, swapped, combined, way, branched, compared, returned, in_method, entered, called_at, taken, given_out, step}
 use Rattle.ijvm_simulation.specs.Outcomes.{Stores, push, Went, Overran, IsOutcome}
 
 module _ (image : ImageView) (stack_end : ℕ) (s : State) where

@@ -1,9 +1,9 @@
 -- The boundaries counted from the first one, and those that the definition's run passes.
 use Rattle.std.proofs.Common.{◌≡◌, ◌<◌, ℕ, zero, suc, Bool, true, false, nat_le, Option, Some, refl, sym, ◌∙◌, ap, subst}
 use Rattle.std.proofs.lemmas.Bool.{lt-leb, leb-false}
-use Rattle.ijvm_run.specs.Frames.{State}
-use Rattle.ijvm_run.specs.Step.{Outcome, Goes, Halts, Errs, Limits, Stuck, outcome}
-use Rattle.ijvm_run.specs.Run.{Program, Point, point_after, Passes, Start, More}
+use Rattle.ijvm_meaning.specs.Frames.{State}
+use Rattle.ijvm_meaning.specs.Step.{Outcome, Goes, Halts, Errs, Limits, Stuck, outcome}
+use Rattle.ijvm_meaning.specs.Run.{Program, Point, point_after, Passes, Start, More}
 use Rattle.ijvm_simulation.specs.Simulates.{below, going_on, point_behind}
 
 module _ (p : Program) (bound : ℕ) where

@@ -8,7 +8,7 @@ use Rattle.mic_clock.specs.Run.{MicroRun}
 use Rattle.ijvm_simulation.specs.Simulates.{board_end}
 use Rattle.ijvm_simulation.specs.Headline.{told_of, reset_run}
 use Rattle.ijvm_simulation.specs.Starts.{EndsAsDefined}
-use Rattle.ijvm_paths.specs.Accepted.{VerifiedView, IsAccepted}
+use Rattle.verifier_facts.specs.Accepted.{VerifiedView, IsAccepted}
 use Rattle.ijvm_image.specs.Image.{IsImage}
 use Rattle.ijvm_simulation.proofs.Next.{Known}
 use Rattle.ijvm_simulation.proofs.Carried.{Promises, simulated}

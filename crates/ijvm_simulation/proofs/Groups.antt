@@ -5,9 +5,9 @@ use Rattle.mic_clock.specs.Meaning.{Meaning}
 use Rattle.ijvm_instr.specs.declared.instr.Instr.{Instr}
 use Rattle.ijvm_instr.specs.declared.instr.Instr.TheVariants.{Nop, Bipush, LdcW, Iload, Istore, Pop, Dup, Swap, Iadd, Isub, Iand, Iinc, Ifeq, Iflt, IfIcmpeq, Goto, Ireturn, Ior, Invokevirtual, WideIload, WideIstore, WideIinc, In, Out, Err, Halt}
 use Rattle.ijvm_image.specs.Image.{ImageView}
-use Rattle.ijvm_run.specs.Frames.{State}
-use Rattle.ijvm_run.specs.Cost.{cost}
-use Rattle.ijvm_paths.specs.Accepted.{VerifiedView}
+use Rattle.ijvm_meaning.specs.Frames.{State}
+use Rattle.ijvm_meaning.specs.Cost.{cost}
+use Rattle.verifier_facts.specs.Accepted.{VerifiedView}
 use Rattle.ijvm_simulation.specs.Stands.{Origin}
 use Rattle.ijvm_simulation.specs.Groups.{IsOfOperands, IsOfLocals, IsJump, IsCall, IsOfConsole, ByGroups}
 use Rattle.ijvm_simulation.specs.Passes.{Moment}

@@ -10,12 +10,12 @@ use Rattle.mic_clock.specs.declared.end.End.{End}
 use Rattle.mic_clock.specs.declared.end.End.TheVariants as clocked
 use Rattle.mic_clock.specs.Meaning.{Meaning, Refused}
 use Rattle.mic_clock.specs.Run.{MicroRun, turn, turn_by, turns, bounded, after_step, after_end_or_step, end_before, completes, last_cycles, number_of}
-use Rattle.ijvm_run.specs.declared.run.RunEnd.{RunEnd}
-use Rattle.ijvm_run.specs.declared.run.RunEnd.TheVariants as defined
-use Rattle.ijvm_run.specs.Frames.{State}
-use Rattle.ijvm_run.specs.Step.{Outcome, Goes, Halts, Errs, Limits, Stuck, outcome}
-use Rattle.ijvm_run.specs.Cost.{next_cost}
-use Rattle.ijvm_run.specs.Run.{Program, Point, Finish, point_after, finish_from, after_test, after_outcome, completed, stopped}
+use Rattle.ijvm_meaning.specs.declared.run.RunEnd.{RunEnd}
+use Rattle.ijvm_meaning.specs.declared.run.RunEnd.TheVariants as defined
+use Rattle.ijvm_meaning.specs.Frames.{State}
+use Rattle.ijvm_meaning.specs.Step.{Outcome, Goes, Halts, Errs, Limits, Stuck, outcome}
+use Rattle.ijvm_meaning.specs.Cost.{next_cost}
+use Rattle.ijvm_meaning.specs.Run.{Program, Point, Finish, point_after, finish_from, after_test, after_outcome, completed, stopped}
 use Rattle.ijvm_simulation.specs.Simulates.{point_behind, below, going_on, board_end, IsBoundary, IsEnd}
 use Rattle.ijvm_simulation.specs.Passes.{Moment, pass}
 use Rattle.ijvm_simulation.specs.Law.{HasWord, Moves, Stops, StopsHere, StopsBehind, Overruns, Shows}

@@ -1,18 +1,18 @@
 -- What comes next in a run of a verified image, and how the law of a machine's instructions becomes the law of its boundaries.
 use Rattle.std.proofs.Common.{◌≡◌, ℕ, ◌+◌, ◌*◌, ◌<◌, Bool, true, false, Some, List, [], ◌∷◌, ◌++◌, length, refl, arith, sym, ◌∙◌, ap, ap₂, subst, inl, inr}
-use Rattle.machine_words.specs.Arithmetic.{signed_byte, signed_pair}
-use Rattle.machine_words.specs.declared.machine.Machine.{Machine}
+use Rattle.mic_words.specs.Arithmetic.{signed_byte, signed_pair}
+use Rattle.mic_words.specs.declared.machine.Machine.{Machine}
 use Rattle.console_port.specs.World.{World, byte_in}
 use Rattle.mic_clock.specs.Meaning.{Meaning}
 use Rattle.ijvm_instr.specs.declared.instr.Instr.{Instr}
 use Rattle.ijvm_instr.specs.declared.instr.Instr.TheVariants.{Nop, Bipush, LdcW, Iload, Istore, Pop, Dup, Swap, Iadd, Isub, Iand, Iinc, Ifeq, Iflt, IfIcmpeq, Goto, Ireturn, Ior, Invokevirtual, WideIload, WideIstore, WideIinc, In, Out, Err, Halt}
 use Rattle.ijvm_instr.specs.Instructions.{row_of, size_of, prefix, operand_bytes, instr_at}
-use Rattle.ijvm_run.specs.Frames.{State, AreWords, start_of}
-use Rattle.ijvm_run.specs.Step.{Outcome, Goes, Halts, Errs, Limits, outcome, step_if_any}
-use Rattle.ijvm_run.specs.Cost.{next_cost, cost_at, cost}
-use Rattle.ijvm_run.specs.Safe.{Here, On}
-use Rattle.ijvm_paths.specs.Sound.{Finds, KeepsSound}
-use Rattle.ijvm_paths.specs.Accepted.{VerifiedView}
+use Rattle.ijvm_meaning.specs.Frames.{State, AreWords, start_of}
+use Rattle.ijvm_meaning.specs.Step.{Outcome, Goes, Halts, Errs, Limits, outcome, step_if_any}
+use Rattle.ijvm_meaning.specs.Cost.{next_cost, cost_at, cost}
+use Rattle.ijvm_meaning.specs.Safe.{Here, On}
+use Rattle.verifier_facts.specs.Sound.{Finds, KeepsSound}
+use Rattle.verifier_facts.specs.Accepted.{VerifiedView}
 use Rattle.ijvm_simulation.specs.Stands.{Origin}
 use Rattle.ijvm_simulation.specs.Bytes.{Reads}
 use Rattle.ijvm_simulation.specs.Outcomes.{IsOutcome}

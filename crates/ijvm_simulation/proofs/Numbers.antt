@@ -4,7 +4,7 @@ use Rattle.std.specs.Prelude.{nat_lt, if◌then◌else◌, pos, negsuc}
 use Rattle.std.specs.Int.{w8, w16, cast_signed}
 use mir.Val.{sel}
 use Rattle.std.proofs.lemmas.Bool.Decides.{nat_tests}
-use Rattle.machine_words.specs.Arithmetic.{signed_byte, signed_pair}
+use Rattle.mic_words.specs.Arithmetic.{signed_byte, signed_pair}
 use Rattle.ijvm_instr.specs.Instructions.{word_of}
 
 -- a signed byte is the same word for both

@@ -1,10 +1,10 @@
 -- What a machine at a boundary knows of its stack, and what it stands for behind an instruction.
 use Rattle.std.proofs.Common.{◌≡◌, ◌≢◌, ℕ, suc, ◌+◌, ◌-◌, ◌<◌, ◌≤◌, true, Some, List, [], ◌∷◌, ◌++◌, length, refl, arith, ◌∙◌, ap, sym, subst, get_or-set_other, length-set}
 use Rattle.std.specs.Prelude.{slice_index, slice_set}
-use Rattle.machine_words.specs.Arithmetic.{next, before}
+use Rattle.mic_words.specs.Arithmetic.{next, before}
 use Rattle.console_port.specs.World.{World, StackLimit, read_value, write_refusal}
-use Rattle.ijvm_run.specs.Frames.{Frame, State, frames_of, operands_at, base}
-use Rattle.ijvm_run.specs.Step.{moved, is_own, with_local, called}
+use Rattle.ijvm_meaning.specs.Frames.{Frame, State, frames_of, operands_at, base}
+use Rattle.ijvm_meaning.specs.Step.{moved, is_own, with_local, called}
 use Rattle.ijvm_simulation.specs.Stands.{Origin, RegistersStand, FramesStand, OperandsAt, IsTop, IsMemory}
 use Rattle.ijvm_simulation.specs.Stack.{IsMapEnd, IsWordAccess, frame_with, place_behind, linked_words, Top, Two, AtBoundary, StackLaw}
 use Rattle.ijvm_simulation.proofs.Accesses.{next_is, before_is, access, port, limit}

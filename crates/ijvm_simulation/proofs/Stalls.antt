@@ -9,11 +9,11 @@ use Rattle.mic_clock.specs.Run.{MicroRun, turns, after_step, last_cycles}
 use Rattle.ijvm_image.specs.Image.{ImageView}
 use Rattle.ijvm_instr.specs.declared.instr.Instr.{Instr}
 use Rattle.ijvm_instr.specs.Instructions.{instr_at}
-use Rattle.ijvm_run.specs.Frames.{State, start_of}
-use Rattle.ijvm_run.specs.Step.{Outcome, Goes, Limits, outcome, step_if_any}
-use Rattle.ijvm_run.specs.Cost.{boot, cost, cost_at, next_cost}
-use Rattle.ijvm_run.specs.Run.{Program, Point, point_after, first_point}
-use Rattle.ijvm_paths.specs.Accepted.{VerifiedView}
+use Rattle.ijvm_meaning.specs.Frames.{State, start_of}
+use Rattle.ijvm_meaning.specs.Step.{Outcome, Goes, Limits, outcome, step_if_any}
+use Rattle.ijvm_meaning.specs.Cost.{boot, cost, cost_at, next_cost}
+use Rattle.ijvm_meaning.specs.Run.{Program, Point, point_after, first_point}
+use Rattle.verifier_facts.specs.Accepted.{VerifiedView}
 use Rattle.ijvm_simulation.specs.Stands.{Origin}
 use Rattle.ijvm_simulation.specs.Outcomes.{Went, Overran, IsOutcome}
 use Rattle.ijvm_simulation.specs.Verified.{program, Loads, Fine, IsNext}

@@ -7,9 +7,9 @@ use Rattle.std.proofs.lemmas.Option.{none-some, same_Some}
 use Rattle.console_port.specs.World.{World}
 use Rattle.mic_clock.specs.Meaning.{Meaning}
 use Rattle.mic_clock.specs.Run.{MicroRun, turns}
-use Rattle.ijvm_run.specs.declared.run.RunEnd.TheVariants as defined
-use Rattle.ijvm_run.specs.Frames.{State}
-use Rattle.ijvm_run.specs.Run.{Program, Point, Finish, point_after, finish_from, after_test, stopped}
+use Rattle.ijvm_meaning.specs.declared.run.RunEnd.TheVariants as defined
+use Rattle.ijvm_meaning.specs.Frames.{State}
+use Rattle.ijvm_meaning.specs.Run.{Program, Point, Finish, point_after, finish_from, after_test, stopped}
 use Rattle.ijvm_simulation.specs.Simulates.{point_behind, board_end, IsBoundary, IsEnd, Simulates}
 use Rattle.ijvm_simulation.proofs.Turns.{turns-add, ended_stays}
 use Rattle.ijvm_simulation.proofs.Instruction.{Law, Keeps, Turnout, On, Over, turnout}

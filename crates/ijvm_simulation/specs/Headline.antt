@@ -6,8 +6,8 @@ use Rattle.console_port.specs.Console.{Untaken, LosesLast}
 use Rattle.mic_clock.specs.Meaning.{Meaning, ReadsConsole, UsesConsole}
 use Rattle.mic_clock.specs.View.{BoardView}
 use Rattle.mic_clock.specs.Run.{MicroRun, start_run, turns, word_at, IsClocking}
-use Rattle.ijvm_run.specs.Run.{Finish, first_point, EndsBy}
-use Rattle.ijvm_paths.specs.Accepted.{VerifiedView}
+use Rattle.ijvm_meaning.specs.Run.{Finish, first_point, EndsBy}
+use Rattle.verifier_facts.specs.Accepted.{VerifiedView}
 use Rattle.ijvm_simulation.specs.Stands.{IsAt}
 use Rattle.ijvm_simulation.specs.Simulates.{Simulates, IsEnd}
 use Rattle.ijvm_simulation.specs.Verified.{program}

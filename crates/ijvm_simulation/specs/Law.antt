@@ -4,9 +4,9 @@ use Rattle.console_port.specs.World.{World, StackLimit}
 use Rattle.mic_clock.specs.Meaning.{Meaning, Outcome, Done, Refused}
 use Rattle.ijvm_instr.specs.declared.instr.Instr.{Instr}
 use Rattle.ijvm_instr.specs.declared.instr.Instr.TheVariants.{Err, Halt}
-use Rattle.ijvm_run.specs.Frames.{State, sp_of, lv_of}
-use Rattle.ijvm_run.specs.Cost.{boot, cost}
-use Rattle.ijvm_paths.specs.Accepted.{VerifiedView}
+use Rattle.ijvm_meaning.specs.Frames.{State, sp_of, lv_of}
+use Rattle.ijvm_meaning.specs.Cost.{boot, cost}
+use Rattle.verifier_facts.specs.Accepted.{VerifiedView}
 use Rattle.ijvm_simulation.specs.Stands.{Origin}
 use Rattle.ijvm_simulation.specs.Passes.{Moment, is_inside, outcome_at, pass}
 use Rattle.ijvm_simulation.specs.Outcomes.{Went, Overran}

@@ -1,14 +1,14 @@
 -- What each instruction finds in a state, and the state that it leads to: the step of the definition, told from its end.
 use Rattle.std.specs.Prelude.{◌≡◌, ℕ, suc, ◌+◌, ◌<◌, ◌≤◌, ◌%◌, ◌==◌, true, List, [], ◌∷◌, ◌++◌, length, slice_get, Option, Some, bit_and, bit_or}
-use Rattle.machine_words.specs.Arithmetic.{plus, minus, is_negative}
+use Rattle.mic_words.specs.Arithmetic.{plus, minus, is_negative}
 use Rattle.console_port.specs.World.{next_byte}
 use Rattle.ijvm_instr.specs.declared.instr.Instr.{Instr}
 use Rattle.ijvm_instr.specs.declared.instr.Instr.TheVariants.{Nop, Bipush, LdcW, Iload, Istore, Pop, Dup, Swap, Iadd, Isub, Iand, Iinc, Ifeq, Iflt, IfIcmpeq, Goto, Ireturn, Ior, Invokevirtual, WideIload, WideIstore, WideIinc, In, Out, Err, Halt}
 use Rattle.ijvm_instr.specs.Instructions.{word_of, target}
 use Rattle.ijvm_image.specs.declared.method.Method.{Method}
 use Rattle.ijvm_image.specs.Image.{ImageView, method_at}
-use Rattle.ijvm_run.specs.Frames.{Frame, State, frames_of, base}
-use Rattle.ijvm_run.specs.Step.{Outcome, Goes, Halts, Errs, Limits, Stuck, is_own, moved, with_local, way, in_method, taken}
+use Rattle.ijvm_meaning.specs.Frames.{Frame, State, frames_of, base}
+use Rattle.ijvm_meaning.specs.Step.{Outcome, Goes, Halts, Errs, Limits, Stuck, is_own, moved, with_local, way, in_method, taken}
 
 -- there is a top operand, of which this holds, and of those below it
 pub record WithTop (operands : List ℕ) (Leads : ℕ → List ℕ → Type 0) : Type 0 where

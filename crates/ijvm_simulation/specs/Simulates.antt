@@ -6,11 +6,11 @@ use Rattle.mic_clock.specs.declared.end.End.{End}
 use Rattle.mic_clock.specs.declared.end.End.TheVariants as clocked
 use Rattle.mic_clock.specs.Meaning.{Meaning}
 use Rattle.mic_clock.specs.Run.{MicroRun, turns}
-use Rattle.ijvm_run.specs.declared.run.RunEnd.{RunEnd}
-use Rattle.ijvm_run.specs.declared.run.RunEnd.TheVariants as defined
-use Rattle.ijvm_run.specs.Frames.{State, sp_of, lv_of}
-use Rattle.ijvm_run.specs.Step.{Outcome, Goes, Halts, Errs, Limits, Stuck, outcome}
-use Rattle.ijvm_run.specs.Run.{Program, Point, Finish, point_after, EndsBy}
+use Rattle.ijvm_meaning.specs.declared.run.RunEnd.{RunEnd}
+use Rattle.ijvm_meaning.specs.declared.run.RunEnd.TheVariants as defined
+use Rattle.ijvm_meaning.specs.Frames.{State, sp_of, lv_of}
+use Rattle.ijvm_meaning.specs.Step.{Outcome, Goes, Halts, Errs, Limits, Stuck, outcome}
+use Rattle.ijvm_meaning.specs.Run.{Program, Point, Finish, point_after, EndsBy}
 
 -- what comes after an outcome, where the run goes on; `more` is the rest of the run
 abbrev pub going_on : (Point → Option Point) → Program → Point → Outcome → Option Point

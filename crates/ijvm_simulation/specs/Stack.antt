@@ -1,12 +1,12 @@
 -- What a machine at a boundary knows of its memory and its stack, and that it stands for the state behind an instruction once its registers and its memory have become what the instruction makes of them.
 use Rattle.std.specs.Prelude.{◌≡◌, ℕ, suc, ◌+◌, ◌-◌, ◌*◌, ◌%◌, ◌<◌, ◌≤◌, true, List, [], ◌∷◌, ◌++◌, length, take, drop, replicate, slice_index, slice_set, slice_get, Some, None}
-use Rattle.machine_words.specs.Arithmetic.{plus, next, before}
+use Rattle.mic_words.specs.Arithmetic.{plus, next, before}
 use Rattle.console_port.specs.World.{World, StackLimit, next_byte, read_value, untaken_after, given_after, read_refusal, write_refusal, byte_in}
 use Rattle.ijvm_image.specs.declared.method.Method.{Method}
 use Rattle.ijvm_image.specs.Image.{method_at}
-use Rattle.ijvm_run.specs.Frames.{Frame, State, frames_of, base}
-use Rattle.ijvm_run.specs.Step.{moved, is_own, with_local, onto, called}
-use Rattle.ijvm_paths.specs.Accepted.{VerifiedView}
+use Rattle.ijvm_meaning.specs.Frames.{Frame, State, frames_of, base}
+use Rattle.ijvm_meaning.specs.Step.{moved, is_own, with_local, onto, called}
+use Rattle.verifier_facts.specs.Accepted.{VerifiedView}
 use Rattle.ijvm_simulation.specs.Stands.{Origin, RegistersStand, FramesStand, IsTop}
 use Rattle.ijvm_simulation.specs.Verified.{Loads}
 

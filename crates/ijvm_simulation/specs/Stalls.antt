@@ -7,11 +7,11 @@ use Rattle.mic_clock.specs.declared.end.End.TheVariants as clocked
 use Rattle.ijvm_image.specs.Image.{ImageView}
 use Rattle.ijvm_instr.specs.declared.instr.Instr.{Instr}
 use Rattle.ijvm_instr.specs.Instructions.{instr_at}
-use Rattle.ijvm_run.specs.Frames.{State, start_of}
-use Rattle.ijvm_run.specs.Step.{Goes, Limits, outcome}
-use Rattle.ijvm_run.specs.Run.{Program, Point, point_after, first_point}
-use Rattle.ijvm_run.specs.Cost.{boot, cost}
-use Rattle.ijvm_paths.specs.Accepted.{VerifiedView}
+use Rattle.ijvm_meaning.specs.Frames.{State, start_of}
+use Rattle.ijvm_meaning.specs.Step.{Goes, Limits, outcome}
+use Rattle.ijvm_meaning.specs.Run.{Program, Point, point_after, first_point}
+use Rattle.ijvm_meaning.specs.Cost.{boot, cost}
+use Rattle.verifier_facts.specs.Accepted.{VerifiedView}
 use Rattle.ijvm_simulation.specs.Stands.{Origin, IsAt}
 use Rattle.ijvm_simulation.specs.Passes.{Moment}
 use Rattle.ijvm_simulation.specs.Outcomes.{Went, Overran}

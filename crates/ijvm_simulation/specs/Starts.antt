@@ -1,6 +1,6 @@
 -- A board at its reset over a verified image, and how its run ends with the store that ships, whoever clocks it.
 use Rattle.std.specs.Prelude.{◌≡◌, ℕ, List, [], replicate, Option, Some, false}
-use Rattle.machine_words.specs.declared.machine.Machine.{Machine}
+use Rattle.mic_words.specs.declared.machine.Machine.{Machine}
 use Rattle.console_port.specs.World.{World}
 use Rattle.console_port.specs.Bus.{Shows}
 use Rattle.console_port.specs.Console.{Untaken}
@@ -10,8 +10,8 @@ use Rattle.mic_clock.specs.Meaning.{Meaning}
 use Rattle.mic_clock.specs.View.{BoardView}
 use Rattle.mic_clock.specs.Board.{IsLedTo, Leads, ShowsRun}
 use Rattle.ijvm_image.specs.Image.{IsImage}
-use Rattle.ijvm_run.specs.Run.{Finish, first_point, EndsBy}
-use Rattle.ijvm_paths.specs.Accepted.{VerifiedView, IsAccepted}
+use Rattle.ijvm_meaning.specs.Run.{Finish, first_point, EndsBy}
+use Rattle.verifier_facts.specs.Accepted.{VerifiedView, IsAccepted}
 use Rattle.ijvm_simulation.specs.Simulates.{board_end}
 use Rattle.ijvm_simulation.specs.Headline.{reset_run}
 use Rattle.ijvm_simulation.specs.Verified.{program}

@@ -1,14 +1,14 @@
 -- A verified image that a machine runs: its memory when the run begins, and the states that its run comes to.
 use Rattle.std.specs.Prelude.{◌≡◌, ℕ, ◌+◌, ◌<◌, [], length, slice_index}
-use Rattle.machine_words.specs.declared.machine.Machine.{Machine}
+use Rattle.mic_words.specs.declared.machine.Machine.{Machine}
 use Rattle.console_port.specs.World.{byte_in}
 use Rattle.ijvm_instr.specs.declared.instr.Instr.{Instr}
 use Rattle.ijvm_image.specs.Image.{IsImage}
-use Rattle.ijvm_run.specs.Frames.{State, AreWords, start_of}
-use Rattle.ijvm_run.specs.Run.{Program}
-use Rattle.ijvm_run.specs.Safe.{ComesTo}
-use Rattle.ijvm_paths.specs.Sound.{Finds}
-use Rattle.ijvm_paths.specs.Accepted.{VerifiedView, IsAccepted}
+use Rattle.ijvm_meaning.specs.Frames.{State, AreWords, start_of}
+use Rattle.ijvm_meaning.specs.Run.{Program}
+use Rattle.ijvm_meaning.specs.Safe.{ComesTo}
+use Rattle.verifier_facts.specs.Sound.{Finds}
+use Rattle.verifier_facts.specs.Accepted.{VerifiedView, IsAccepted}
 use Rattle.ijvm_simulation.specs.Stands.{Origin}
 use Rattle.ijvm_simulation.specs.Bytes.{Reads}
 

@@ -2,7 +2,7 @@
 
 ghost use Rattle.std.specs.Prelude.{ℕ, List, Option, Some};
 ghost use Rattle.mic_clock.specs.View.{BoardView};
-ghost use Rattle.ijvm_paths.specs.Accepted.{VerifiedView};
+ghost use Rattle.verifier_facts.specs.Accepted.{VerifiedView};
 ghost use Rattle.ijvm_simulation.specs.Headline.{HasRun};
 ghost use Rattle.ijvm_simulation.specs.Agreement.{EndAlike, MeetNoBound};
 

@@ -2,8 +2,8 @@
 
 ghost use Rattle.std.specs.Prelude.{◌≡◌, ◌<◌, ℕ, List, IfOk};
 ghost use Rattle.console_port.specs.World.{World};
-ghost use Rattle.ijvm_run.specs.Frames.{start_of};
-ghost use Rattle.ijvm_paths.specs.Accepted.{VerifiedView};
+ghost use Rattle.ijvm_meaning.specs.Frames.{start_of};
+ghost use Rattle.verifier_facts.specs.Accepted.{VerifiedView};
 ghost use Rattle.ijvm_simulation.specs.Stands.{Origin, IsAt};
 ghost use Rattle.ijvm_simulation.specs.Verified.{Loads};
 ghost use Rattle.ijvm_simulation.specs.Law.{Law, Boots, reset_moment, OnDone, Grows};

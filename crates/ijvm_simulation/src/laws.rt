@@ -3,8 +3,8 @@
 ghost use Rattle.std.specs.Prelude.{◌≡◌, ℕ, List, Some};
 ghost use Rattle.ijvm_instr.specs.declared.instr.Instr.{Instr};
 ghost use Rattle.ijvm_image.specs.Image.{ImageView};
-ghost use Rattle.ijvm_paths.specs.Accepted.{VerifiedView};
-ghost use Rattle.ijvm_run.specs.Run.{Program, Point, Passes};
+ghost use Rattle.verifier_facts.specs.Accepted.{VerifiedView};
+ghost use Rattle.ijvm_meaning.specs.Run.{Program, Point, Passes};
 ghost use Rattle.ijvm_simulation.specs.Simulates.{point_behind};
 ghost use Rattle.ijvm_simulation.specs.Stands.{Origin, IsAt};
 ghost use Rattle.ijvm_simulation.specs.Groups.{ByGroups};
@@ -14,9 +14,9 @@ ghost use Rattle.ijvm_simulation.specs.Stack.{StackLaw};
 ghost use Rattle.ijvm_simulation.specs.Stalls.{StallsAddUp, CutShort, TakesWithStalls};
 
 use crate::interpreter::Interpreter;
-use ijvm_paths::accepted_images_keep_sound;
-use ijvm_run::runs_keep_words;
+use ijvm_meaning::runs_keep_words;
 use mic_clock::Clocked;
+use verifier_facts::accepted_images_keep_sound;
 
 /// The boundaries that are counted from the first one are those that the definition's run passes.
 pub fn counted_boundaries_are_passed()

@@ -12,12 +12,12 @@ ghost use Rattle.ijvm_simulation.specs.Headline.{reset_run, HasRun, IsCutByRead,
 
 use crate::interpreter::Interpreter;
 use console_port::{Bus, FRAME};
-use ijvm_paths::accepted_images_keep_sound;
-use ijvm_run::runs_keep_words;
+use ijvm_meaning::runs_keep_words;
 use ijvm_verifier::VerifiedImage;
 use mic_base::{Sink, Source};
 use mic_clock::{Board, End};
 use std::alloc::{AllocError, Global};
+use verifier_facts::accepted_images_keep_sound;
 
 /// The bytes of a text and the words of a pool are what their types say.
 fn is_image(text: &[u8], pool: &[u32])

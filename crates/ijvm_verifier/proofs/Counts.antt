@@ -7,19 +7,19 @@ use Rattle.console_port.specs.declared.map.MemoryMap.{MemoryMap}
 use Rattle.console_port.specs.Map.{IsMap}
 use Rattle.ijvm_instr.specs.declared.row.Row.{Row}
 use Rattle.ijvm_image.specs.Image.{ImageView}
-use Rattle.ijvm_reach.specs.declared.kept.Kept.{Kept}
-use Rattle.ijvm_unset.specs.declared.graph.Node.{Node}
-use Rattle.ijvm_paths.specs.declared.error.VerifyError.{VerifyError}
-use Rattle.ijvm_paths.specs.declared.error.VerifyError.TheVariants.{BadCode, FallsOff, BadTarget, Overlap, BadConstant, BadEntry, BadHeader, LinkSlot, BadLocal, UnsetLocal, TooFewArguments, Underflow, DepthDiffers, ReturnInMain, MainFrame, OutOfMemory}
-use Rattle.ijvm_paths.specs.Paths.{Arrival, HasRow, Reached}
-use Rattle.ijvm_paths.specs.declared.kind.Kind.{Kind}
-use Rattle.ijvm_paths.specs.Facts.{Names, IsMainCount, IsTrueOf, Accepts}
-use Rattle.ijvm_reach.specs.Search.{kept_at, kept_of, IsClosed, IsDecided}
-use Rattle.ijvm_unset.specs.Graph.{IsNodeOf, IsGraph}
+use Rattle.verifier_reach.specs.declared.kept.Kept.{Kept}
+use Rattle.verifier_locals.specs.declared.graph.Node.{Node}
+use Rattle.verifier_facts.specs.declared.error.VerifyError.{VerifyError}
+use Rattle.verifier_facts.specs.declared.error.VerifyError.TheVariants.{BadCode, FallsOff, BadTarget, Overlap, BadConstant, BadEntry, BadHeader, LinkSlot, BadLocal, UnsetLocal, TooFewArguments, Underflow, DepthDiffers, ReturnInMain, MainFrame, OutOfMemory}
+use Rattle.verifier_facts.specs.Paths.{Arrival, HasRow, Reached}
+use Rattle.verifier_facts.specs.declared.kind.Kind.{Kind}
+use Rattle.verifier_facts.specs.Facts.{Names, IsMainCount, IsTrueOf, Accepts}
+use Rattle.verifier_reach.specs.Search.{kept_at, kept_of, IsClosed, IsDecided}
+use Rattle.verifier_locals.specs.Graph.{IsNodeOf, IsGraph}
 use Rattle.ijvm_verifier.specs.Counted.{NodeNames, IsCounted}
 use Rattle.ijvm_verifier.specs.Survey.{IsSurvey}
-use Rattle.ijvm_paths.specs.Sound.{KeepsSound}
-use Rattle.ijvm_paths.specs.Accepted.{IsVerified}
+use Rattle.verifier_facts.specs.Sound.{KeepsSound}
+use Rattle.verifier_facts.specs.Accepted.{IsVerified}
 
 pub counted_skip : (image : ImageView) (seen : List (Option Kept)) (n count : ℕ) → IsClosed image seen → IsCounted image n count → ((k : Kept) → slice_get seen n ≡ Some (Some k) → k.unit ≢ None) → IsCounted image (n + 1) count
 counted_skip image seen n count closed s other = record {

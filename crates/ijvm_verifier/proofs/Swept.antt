@@ -8,13 +8,13 @@ use Rattle.std.proofs.lemmas.List.Elements.{Contains-append_left, Contains-push,
 use Rattle.ijvm_instr.specs.declared.row.Row.{Row}
 use Rattle.ijvm_instr.specs.Instructions.{size_of}
 use Rattle.ijvm_image.specs.Image.{ImageView}
-use Rattle.ijvm_reach.specs.declared.kept.Kept.{Kept}
-use Rattle.ijvm_paths.specs.declared.error.VerifyError.TheVariants.{Overlap}
-use Rattle.ijvm_paths.specs.Paths.{HasRow, IsReachedMethod}
-use Rattle.ijvm_paths.specs.Facts.{Piece, Code, Header, Covers, IsTrueOf, IsMethodCount}
-use Rattle.ijvm_paths.specs.declared.kind.Kind.{Kind}
-use Rattle.ijvm_paths.specs.Kinds.{first, IsKind}
-use Rattle.ijvm_reach.specs.Search.{kept_at, kept_of, IsClosed}
+use Rattle.verifier_reach.specs.declared.kept.Kept.{Kept}
+use Rattle.verifier_facts.specs.declared.error.VerifyError.TheVariants.{Overlap}
+use Rattle.verifier_facts.specs.Paths.{HasRow, IsReachedMethod}
+use Rattle.verifier_facts.specs.Facts.{Piece, Code, Header, Covers, IsTrueOf, IsMethodCount}
+use Rattle.verifier_facts.specs.declared.kind.Kind.{Kind}
+use Rattle.verifier_facts.specs.Kinds.{first, IsKind}
+use Rattle.verifier_reach.specs.Search.{kept_at, kept_of, IsClosed}
 use Rattle.ijvm_verifier.specs.Sweep.{rank, IsSwept, AreMethodsBelow}
 
 -- one element more at the end

@@ -2,20 +2,20 @@
 
 ghost use Rattle.std.specs.Prelude.{◌≡◌, ◌≢◌, ◌⊎◌, ℕ, IfOk, IfErr};
 ghost use Rattle.console_port.specs.Map.{IsMap};
-ghost use Rattle.ijvm_paths.specs.Facts.{IsTrueOf};
-ghost use Rattle.ijvm_reach.specs.Search.{States};
+ghost use Rattle.verifier_facts.specs.Facts.{IsTrueOf};
+ghost use Rattle.verifier_reach.specs.Search.{States};
 ghost use Rattle.ijvm_verifier.specs.Survey.{IsSurvey};
-ghost use Rattle.ijvm_paths.specs.Accepted.{IsAccepted};
+ghost use Rattle.verifier_facts.specs.Accepted.{IsAccepted};
 
 use crate::count::count_locals;
 use crate::sweep::{count_methods, sweep_all};
 use crate::verified::VerifiedImage;
 use console_port::{FRAME, MemoryMap};
 use ijvm_image::Image;
-use ijvm_paths::{Kind, VerifyError, accepted_images_keep_sound};
-use ijvm_reach::{search_all, text_len};
-use ijvm_unset::{check_locals, graph_of};
 use std::alloc::Global;
+use verifier_facts::{Kind, VerifyError, accepted_images_keep_sound};
+use verifier_locals::{check_locals, graph_of};
+use verifier_reach::{search_all, text_len};
 
 /// What the searches find in an image.
 #[derive(Drop)]

@@ -1,14 +1,14 @@
 //! The number of main's locals.
 
 ghost use Rattle.std.specs.Prelude.{◌≡◌, ◌+◌, ◌<◌, ◌≤◌, ◌⊎◌, ℕ, Some, length};
-ghost use Rattle.ijvm_paths.specs.Facts.{IsMainCount};
-ghost use Rattle.ijvm_reach.specs.Search.{IsClosed};
-ghost use Rattle.ijvm_unset.specs.Graph.{IsGraph};
+ghost use Rattle.verifier_facts.specs.Facts.{IsMainCount};
+ghost use Rattle.verifier_reach.specs.Search.{IsClosed};
+ghost use Rattle.verifier_locals.specs.Graph.{IsGraph};
 ghost use Rattle.ijvm_verifier.specs.Counted.{NodeNames, IsCounted};
 
 use ijvm_image::Image;
-use ijvm_reach::Kept;
-use ijvm_unset::Node;
+use verifier_locals::Node;
+use verifier_reach::Kept;
 
 /// The count, raised above this local.
 fn larger(count: u32, named: Option<u16>) -> u32

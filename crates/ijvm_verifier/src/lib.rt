@@ -7,5 +7,5 @@ mod sweep;
 pub mod verified;
 
 pub use accept::verify;
-pub use ijvm_paths::{Kind, VerifyError, accepted_images_keep_sound};
 pub use verified::VerifiedImage;
+pub use verifier_facts::{Kind, VerifyError, accepted_images_keep_sound};

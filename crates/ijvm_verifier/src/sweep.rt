@@ -1,19 +1,19 @@
 //! What stands at each byte of the text: no byte belongs to two reached instructions or headers.
 
 ghost use Rattle.std.specs.Prelude.{◌≡◌, ◌+◌, ◌*◌, ◌<◌, ◌≤◌, ℕ, true, false, IfOk, IfErr, length};
-ghost use Rattle.ijvm_paths.specs.declared.error.VerifyError.{VerifyError};
-ghost use Rattle.ijvm_reach.specs.declared.kept.Kept.{Kept};
-ghost use Rattle.ijvm_paths.specs.declared.kind.Kind.{Kind};
-ghost use Rattle.ijvm_paths.specs.Paths.{IsReachedMethod};
-ghost use Rattle.ijvm_paths.specs.Facts.{IsTrueOf, IsMethodCount};
-ghost use Rattle.ijvm_paths.specs.Kinds.{IsKind, AreKinds};
-ghost use Rattle.ijvm_reach.specs.Search.{IsClosed, States};
+ghost use Rattle.verifier_facts.specs.declared.error.VerifyError.{VerifyError};
+ghost use Rattle.verifier_reach.specs.declared.kept.Kept.{Kept};
+ghost use Rattle.verifier_facts.specs.declared.kind.Kind.{Kind};
+ghost use Rattle.verifier_facts.specs.Paths.{IsReachedMethod};
+ghost use Rattle.verifier_facts.specs.Facts.{IsTrueOf, IsMethodCount};
+ghost use Rattle.verifier_facts.specs.Kinds.{IsKind, AreKinds};
+ghost use Rattle.verifier_reach.specs.Search.{IsClosed, States};
 ghost use Rattle.ijvm_verifier.specs.Sweep.{IsSwept};
 
 use ijvm_image::Image;
-use ijvm_paths::{Kind, VerifyError};
-use ijvm_reach::{Kept, decode};
 use std::alloc::Global;
+use verifier_facts::{Kind, VerifyError};
+use verifier_reach::{Kept, decode};
 
 /// The header of a reached method begins here.
 pub fn is_entry(image: &Image, seen: &[Option<Kept>], at: u32) -> bool

@@ -1,14 +1,14 @@
 //! An accepted image.
 
 ghost use Rattle.std.specs.Prelude.{◌≡◌, ◌+◌, ◌≤◌};
-ghost use Rattle.ijvm_paths.specs.Accepted.{IsAccepted};
-ghost use Rattle.ijvm_paths.specs.Facts.{IsMethodCount};
-ghost use Rattle.ijvm_paths.specs.Kinds.{IsKind};
+ghost use Rattle.verifier_facts.specs.Accepted.{IsAccepted};
+ghost use Rattle.verifier_facts.specs.Facts.{IsMethodCount};
+ghost use Rattle.verifier_facts.specs.Kinds.{IsKind};
 
 use console_port::MemoryMap;
 use ijvm_image::Image;
-use ijvm_paths::Kind;
 use std::marker::Model;
+use verifier_facts::Kind;
 
 /// An image that is accepted, which its type keeps, and what verifying has found.
 #[derive(Drop)]
@@ -21,7 +21,7 @@ pub struct VerifiedImage {
 }
 
 impl Model for VerifiedImage {
-    ghost use Rattle.ijvm_paths.specs.Accepted.{VerifiedView, IsVerified};
+    ghost use Rattle.verifier_facts.specs.Accepted.{VerifiedView, IsVerified};
 
     ghost Value = { VerifiedView };
 
@@ -31,7 +31,7 @@ impl Model for VerifiedImage {
 }
 
 impl VerifiedImage {
-    ghost use Rattle.ijvm_paths.specs.Accepted.{VerifiedView, IsVerified};
+    ghost use Rattle.verifier_facts.specs.Accepted.{VerifiedView, IsVerified};
 
     pub(crate) fn new(
         image: Image,

@@ -3,8 +3,8 @@ use Rattle.std.proofs.Common.{◌≡◌, ℕ, ◌<◌, Bool, true, false, List, 
 use Rattle.std.specs.Prelude.{◌⊎◌, ◌&&◌, not, nat_lt, IsTrue}
 use Rattle.std.specs.List.{list_any, list_all, onto_first}
 use Rattle.std.proofs.lemmas.Bool.{or_parts, lt-ltb}
-use Rattle.machine_words.specs.declared.machine.Machine.{Machine}
-use Rattle.machine_words.specs.declared.machine.Machine.TheVariants.{Mic1, Mic2}
+use Rattle.mic_words.specs.declared.machine.Machine.{Machine}
+use Rattle.mic_words.specs.declared.machine.Machine.TheVariants.{Mic1, Mic2}
 use Rattle.micro_word.specs.declared.statement.Part.{Part}
 use Rattle.micro_word.specs.declared.statement.Mem.{Mem}
 use Rattle.micro_word.specs.Coding.{idle, row}

@@ -1,7 +1,7 @@
 -- The reading of a line, token by token. It computes what `Lines` states: `line_from` answers what a line spells, or the first refusal that it has.
 use Rattle.std.specs.Prelude.{ℕ, Bool, true, false, List, [], ◌∷◌, Option, Some, None, Result, Ok, Err, if◌then◌else◌, ◌==◌, length, take, drop, bit_or, is_some, option_map, option_and_then}
 use Rattle.std.specs.List.{prefix_len}
-use Rattle.machine_words.specs.declared.machine.Machine.{Machine}
+use Rattle.mic_words.specs.declared.machine.Machine.{Machine}
 use Rattle.micro_word.specs.declared.statement.Mem.{Mem}
 use Rattle.micro_word.specs.declared.statement.Mem.TheVariants as mems
 use Rattle.micro_word.specs.declared.statement.Test.{Test}

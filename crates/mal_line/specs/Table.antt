@@ -1,7 +1,7 @@
 -- The table of expressions: on which bus sources X and Y each spelling is which operation, on each machine.
 use Rattle.std.specs.Prelude.{◌≡◌, ◌⊎◌, false, IsTrue, List, [], ◌∷◌, Option, Some, None}
-use Rattle.machine_words.specs.declared.machine.Machine.{Machine}
-use Rattle.machine_words.specs.declared.machine.Machine.TheVariants.{Mic1, Mic2}
+use Rattle.mic_words.specs.declared.machine.Machine.{Machine}
+use Rattle.mic_words.specs.declared.machine.Machine.TheVariants.{Mic1, Mic2}
 use Rattle.micro_word.specs.declared.statement.AluOp.{AluOp}
 use Rattle.micro_word.specs.declared.statement.AluOp.TheVariants as ops
 use Rattle.micro_word.specs.declared.statement.BusSource.{BusSource}

@@ -1,6 +1,6 @@
 //! What the reading of a line promises of all lines.
 ghost use Rattle.std.specs.Prelude.{◌≡◌, ◌↔◌, List, Ok, Err};
-ghost use Rattle.machine_words.specs.declared.machine.Machine.{Machine};
+ghost use Rattle.mic_words.specs.declared.machine.Machine.{Machine};
 ghost use Rattle.mal_tokens.specs.declared.token.Token.{Token};
 ghost use Rattle.mal_tokens.specs.declared.word.Word.{Word};
 ghost use Rattle.mal_line.specs.declared.chain.Tail.{Tail};

@@ -4,7 +4,7 @@ use Rattle.std.specs.Prelude.{Ok, IfSome, map, find, not, slice_get, option_map,
 use Rattle.std.specs.List.{list_all}
 use Rattle.std.proofs.lemmas.Option.{slice_get_within}
 use Rattle.std.proofs.lemmas.Bool.{not-false}
-use Rattle.machine_words.specs.declared.machine.Machine.{Machine}
+use Rattle.mic_words.specs.declared.machine.Machine.{Machine}
 use Rattle.micro_word.specs.declared.statement.Part.{Part}
 use Rattle.mal_line.specs.declared.content.Content.{Content}
 use Rattle.mal_line.specs.declared.next.Next.{Next}

@@ -1,7 +1,7 @@
 -- What the reading of a text comes to: the program it spells, or its first refusal, and there is one of these at most.
 use Rattle.std.proofs.Common.{◌≡◌, ℕ, ◌+◌, List, true, false, length, refl, sym, ap, subst, ◌∙◌, arith, inl, inr}
 use Rattle.std.specs.Prelude.{Result, Ok, Err, IfOk, IfErr, ◌⊎◌}
-use Rattle.machine_words.specs.declared.machine.Machine.{Machine}
+use Rattle.mic_words.specs.declared.machine.Machine.{Machine}
 use Rattle.source_text.specs.Content.{contents}
 use Rattle.source_text.specs.Walk.{FirstRefused, Leads, StopsAt}
 use Rattle.mal_parser.specs.declared.error.MalError.{MalError}

@@ -4,7 +4,7 @@ use Rattle.std.specs.Prelude.{IfSome, All, nat_lt, option_map, ℤ, pos, negsuc}
 use Rattle.std.specs.List.{cons_option}
 use Rattle.std.proofs.lemmas.Bool.Decides.{nat_tests}
 use Rattle.std.proofs.lemmas.List.Elements.{All-cons, All-nil}
-use Rattle.machine_words.specs.declared.machine.Machine.{Machine}
+use Rattle.mic_words.specs.declared.machine.Machine.{Machine}
 use Rattle.mal_line.specs.declared.content.Content.{Content}
 use Rattle.mal_line.specs.declared.content.Content.TheVariants as said
 use Rattle.mal_parser.specs.declared.source.Fix.{Fix}

@@ -1,6 +1,6 @@
 -- Programs of the microassembly language, and what holds of each.
 use Rattle.std.specs.Prelude.{◌≡◌, ℕ, ◌+◌, ◌<◌, ◌≤◌, List, length, slice_get, codes, option_and_then, Option, Some, None, IsTrue, IsSome, IfSome}
-use Rattle.machine_words.specs.declared.machine.Machine.{Machine}
+use Rattle.mic_words.specs.declared.machine.Machine.{Machine}
 use Rattle.micro_word.specs.Words.{is_part}
 use Rattle.mal_tokens.specs.Words.{IsLabelText}
 use Rattle.mal_line.specs.declared.next.Next.{Next}

@@ -1,7 +1,7 @@
 -- The canonical text of a program: the fixed addresses, what unused words hold, and the statements, each on a line of its own.
 use Rattle.std.specs.Prelude.{ℕ, ◌+◌, length, List, [], ◌∷◌, ◌++◌, map, slice_get, Option, unwrap_or, option_map, option_and_then, option_to_list}
 use Rattle.std.specs.List.{filter_map}
-use Rattle.machine_words.specs.declared.machine.Machine.{Machine}
+use Rattle.mic_words.specs.declared.machine.Machine.{Machine}
 use Rattle.micro_word.specs.declared.statement.Placed.{Placed}
 use Rattle.micro_word.specs.declared.statement.PlacedNext.{PlacedNext}
 use Rattle.micro_word.specs.declared.statement.PlacedNext.TheVariants as placed

@@ -1,7 +1,7 @@
 //! What holds of every text, and of every program that is printed.
 
 ghost use Rattle.std.specs.Prelude.{◌≡◌, ℕ, List};
-ghost use Rattle.machine_words.specs.declared.machine.Machine.{Machine};
+ghost use Rattle.mic_words.specs.declared.machine.Machine.{Machine};
 ghost use Rattle.mal_parser.specs.declared.error.MalError.{MalError};
 ghost use Rattle.mal_parser.specs.ProgramText.{canonical_text, relined};
 ghost use Rattle.mal_parser.specs.Program.{IsProgram, Program};

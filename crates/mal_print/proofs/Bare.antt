@@ -1,7 +1,7 @@
 -- The parts of a statement begin without a space, where there are some.
 use Rattle.std.proofs.Common.{◌≡◌, Bool, true, false, List, [], ◌∷◌, ◌++◌, refl, ap, cond}
 use Rattle.std.specs.Prelude.{◌||◌, not}
-use Rattle.machine_words.specs.declared.machine.Machine.{Machine}
+use Rattle.mic_words.specs.declared.machine.Machine.{Machine}
 use Rattle.micro_word.specs.declared.statement.Mem.{Mem}
 use Rattle.micro_word.specs.declared.statement.Mem.TheVariants as mems
 use Rattle.micro_word.specs.declared.statement.Part.{Part}

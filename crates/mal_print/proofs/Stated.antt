@@ -1,8 +1,8 @@
 -- The canonical text of a statement spells that statement.
 use Rattle.std.proofs.Common.{◌≡◌, ℕ, Bool, true, false, List, ◌∷◌, Option, Some, None, refl, ap, ◌∙◌, inl}
 use Rattle.std.specs.Prelude.{IfSome, option_map, pos, ◌<◌}
-use Rattle.machine_words.specs.declared.machine.Machine.{Machine}
-use Rattle.machine_words.specs.declared.machine.Machine.TheVariants.{Mic1, Mic2}
+use Rattle.mic_words.specs.declared.machine.Machine.{Machine}
+use Rattle.mic_words.specs.declared.machine.Machine.TheVariants.{Mic1, Mic2}
 use Rattle.micro_word.specs.declared.statement.Part.{Part}
 use Rattle.micro_word.specs.Words.{is_part}
 use Rattle.mal_tokens.specs.declared.sign.Sign.TheVariants as signs

@@ -1,7 +1,7 @@
 -- What the lines of a canonical text say.
 use Rattle.std.specs.Prelude.{◌≡◌, ℕ, true, List}
 use Rattle.std.specs.List.{list_all}
-use Rattle.machine_words.specs.declared.machine.Machine.{Machine}
+use Rattle.mic_words.specs.declared.machine.Machine.{Machine}
 use Rattle.mal_tokens.specs.declared.token.Token.{Token}
 use Rattle.mal_tokens.specs.Tokens as tokens
 use Rattle.mal_line.specs.declared.content.Content.{Content}

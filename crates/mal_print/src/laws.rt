@@ -1,7 +1,7 @@
 //! What holds of every canonical line.
 
 ghost use Rattle.std.specs.Prelude.{◌<◌, ℕ, List, Option, IfSome, IsTrue, pos};
-ghost use Rattle.machine_words.specs.declared.machine.Machine.{Machine};
+ghost use Rattle.mic_words.specs.declared.machine.Machine.{Machine};
 ghost use Rattle.micro_word.specs.Words.{is_part};
 ghost use Rattle.mal_tokens.specs.Words.{IsLabelText};
 ghost use Rattle.mal_line.specs.declared.content.Parts.{Parts};

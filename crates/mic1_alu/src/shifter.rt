@@ -7,7 +7,7 @@ use micro_word::Shift;
 const SIGN: u32 = 0x8000_0000;
 
 /// What leaves the shifter. A right shift keeps the sign.
-#[tactic(auto, unfolding(machine_words::specs::Arithmetic::wrap, machine_words::specs::Arithmetic::half))]
+#[tactic(auto, unfolding(mic_words::specs::Arithmetic::wrap, mic_words::specs::Arithmetic::half))]
 pub fn shift(shift: Shift, value: u32) -> u32
     ensures { result ≡ shifted shift value }
 {

@@ -1,6 +1,6 @@
 -- What stands at the place of a source is what the source puts on the B bus; and an operation that does not use the bus finds 0 there.
 use Rattle.std.proofs.Common.{◌≡◌, ◌/◌, ◌%◌, ◌==◌, Bool, true, false, ◌&&◌, IsTrue, Option, Some, None, slice_index, refl, ap, ◌∙◌}
-use Rattle.machine_words.specs.declared.machine.Machine.TheVariants.{Mic1}
+use Rattle.mic_words.specs.declared.machine.Machine.TheVariants.{Mic1}
 use Rattle.micro_word.specs.Words.{fits_side, may_be_b}
 use Rattle.micro_word.specs.Coding.{row}
 use Rattle.micro_word.specs.Lines.{place_on_bus}

@@ -6,7 +6,7 @@ use Rattle.console_port.specs.World.{World, Refusal, StackLimit, OutOfMap, fault
 use Rattle.console_port.specs.Bus.{refused_by}
 use Rattle.console_port.specs.Console.{IsFault}
 use Rattle.console_port.specs.declared.fault.BusFault.{BusFault}
-use Rattle.machine_words.specs.declared.machine.Machine.TheVariants as machines
+use Rattle.mic_words.specs.declared.machine.Machine.TheVariants as machines
 use Rattle.micro_word.specs.Coding.{statement_of, mem_of}
 use Rattle.micro_word.specs.Layout.{fields_of}
 use Rattle.micro_word.specs.Operation.{shifted}
@@ -14,12 +14,12 @@ use Rattle.micro_word.specs.declared.statement.Mem.{Mem}
 use Rattle.micro_word.specs.declared.statement.Mem.TheVariants as mems
 use Rattle.micro_word.specs.declared.statement.Placed.{Placed}
 use Rattle.mic_clock.specs.Meaning.{Outcome, Done, refusal_in, untaken_by, given_by, ReadsConsole, WritesConsole, UsesConsole}
-use Rattle.datapath.specs.Memory.{access_refusal, word_under_way, byte_under_way, written, sampled, outcome}
+use Rattle.mic_datapath.specs.Memory.{access_refusal, word_under_way, byte_under_way, written, sampled, outcome}
 use Rattle.mic1_datapath.specs.Microstep.{assigned, ports_of, result_of, settled, moved, refusal, clock, world_after}
-use Rattle.datapath.specs.Access.{IsAccess, is_read, is_access}
+use Rattle.mic_datapath.specs.Access.{IsAccess, is_read, is_access}
 use Rattle.mic1_datapath.specs.Mic1.{microstep, step_of_word, mic1_meaning}
 use Rattle.mic1_datapath.specs.Micro.{Micro}
-use Rattle.datapath.specs.declared.ports.Ports.{Ports}
+use Rattle.mic_datapath.specs.declared.ports.Ports.{Ports}
 
 -- what a cycle asks of the bus
 pub record Asked : Type 0 where

@@ -1,7 +1,7 @@
 -- What the latches of Mic-1 mean: the microstep's state.
 use Rattle.std.specs.Prelude.{◌≡◌, ℕ, ◌<◌, ◌==◌, Bool, if◌then◌else◌, Option, Some, None, slice_index}
-use Rattle.machine_words.specs.Arithmetic.{signed_byte}
-use Rattle.machine_words.specs.declared.machine.Machine.TheVariants as machines
+use Rattle.mic_words.specs.Arithmetic.{signed_byte}
+use Rattle.mic_words.specs.declared.machine.Machine.TheVariants as machines
 use Rattle.micro_word.specs.Layout.{fields_of}
 use Rattle.micro_word.specs.declared.lines.TheConstants.{NOTHING}
 use Rattle.mic1_datapath.specs.Micro.{Micro}

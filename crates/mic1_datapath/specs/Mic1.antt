@@ -2,9 +2,9 @@
 use Rattle.std.specs.Prelude.{◌≡◌, ℕ, true, false, ◌&&◌, ◌==◌, List, None, length}
 use Rattle.console_port.specs.World.{World, byte_in}
 use Rattle.micro_word.specs.declared.statement.Placed.{Placed}
-use Rattle.machine_words.specs.declared.machine.Machine.TheVariants as machines
+use Rattle.mic_words.specs.declared.machine.Machine.TheVariants as machines
 use Rattle.micro_word.specs.Coding.{statement_of}
-use Rattle.machine_words.specs.Arithmetic.{is_negative}
+use Rattle.mic_words.specs.Arithmetic.{is_negative}
 use Rattle.micro_word.specs.Operation.{shifted}
 use Rattle.mic_clock.specs.declared.buses.Drive.{Drive}
 use Rattle.mic_clock.specs.declared.buses.Computed.{Computed}
@@ -12,7 +12,7 @@ use Rattle.mic_clock.specs.declared.registers.Registers.{Registers}
 use Rattle.mic_clock.specs.declared.registers.Start.{Start}
 use Rattle.mic_clock.specs.declared.registers.Tail.TheVariants.{Mbr}
 use Rattle.mic_clock.specs.Meaning.{Meaning, Outcome}
-use Rattle.datapath.specs.Memory.{outcome}
+use Rattle.mic_datapath.specs.Memory.{outcome}
 use Rattle.mic1_datapath.specs.Microstep.{source, result_of, clock, world_after, refusal}
 use Rattle.mic1_datapath.specs.Micro.{Micro}
 

@@ -1,6 +1,6 @@
 -- The microstep of Mic-1 (chapter 4; the order of events at the clock edge is this profile's). A statement assigns whole words; `clock` is total, and `refusal` looks at addresses alone.
 use Rattle.std.specs.Prelude.{ℕ, true, Option, None}
-use Rattle.machine_words.specs.Arithmetic.{signed_byte}
+use Rattle.mic_words.specs.Arithmetic.{signed_byte}
 use Rattle.micro_word.specs.Operation.{alu, shifted}
 use Rattle.console_port.specs.World.{World, Refusal}
 use Rattle.micro_word.specs.declared.statement.BusSource.{BusSource}
@@ -8,10 +8,10 @@ use Rattle.micro_word.specs.declared.statement.BusSource.TheVariants as sources
 use Rattle.micro_word.specs.declared.statement.PlacedNext.{PlacedNext}
 use Rattle.micro_word.specs.declared.statement.Part.{Part}
 use Rattle.micro_word.specs.declared.statement.Placed.{Placed}
-use Rattle.datapath.specs.Registers.{NineRegisters, on_bus, arrived, loaded, ports_given}
-use Rattle.datapath.specs.Memory.{written, sampled, word_under_way, byte_under_way, access_refusal}
-use Rattle.datapath.specs.Next.{target}
-use Rattle.datapath.specs.declared.ports.Ports.{Ports}
+use Rattle.mic_datapath.specs.Registers.{NineRegisters, on_bus, arrived, loaded, ports_given}
+use Rattle.mic_datapath.specs.Memory.{written, sampled, word_under_way, byte_under_way, access_refusal}
+use Rattle.mic_datapath.specs.Next.{target}
+use Rattle.mic_datapath.specs.declared.ports.Ports.{Ports}
 use Rattle.mic1_datapath.specs.Micro.{Micro}
 
 -- 1. The operation is done on H and on what is on the B bus, and its result is shifted.

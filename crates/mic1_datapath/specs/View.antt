@@ -1,7 +1,7 @@
 -- What contracts see of a Mic-1.
 use Rattle.std.specs.Prelude.{ℕ}
 use Rattle.mic_clock.specs.Meaning.{Phase}
-use Rattle.datapath.specs.Stage.{phase_of}
+use Rattle.mic_datapath.specs.Stage.{phase_of}
 use Rattle.mic1_datapath.specs.Micro.{Micro}
 use Rattle.mic1_datapath.specs.Latches.{micro_in}
 use Rattle.mic1_datapath.specs.declared.mic1.Mic1.{Mic1}

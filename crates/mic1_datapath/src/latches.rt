@@ -1,20 +1,20 @@
 //! What Mic-1 keeps between cycles.
 
 ghost use Rattle.std.specs.Prelude.{◌≡◌, ◌≢◌, ◌<◌, ℕ, IsTrue, is_some, slice_index, unwrap_or};
-ghost use Rattle.machine_words.specs.Arithmetic.{signed_byte};
-ghost use Rattle.machine_words.specs.declared.machine.Machine.TheVariants.{Mic1};
+ghost use Rattle.mic_words.specs.Arithmetic.{signed_byte};
+ghost use Rattle.mic_words.specs.declared.machine.Machine.TheVariants.{Mic1};
 ghost use Rattle.micro_word.specs.Words.{is_canonical};
 ghost use Rattle.micro_word.specs.Coding.{statement_of};
 ghost use Rattle.micro_word.specs.Layout.{fields_of};
 ghost use Rattle.micro_word.specs.Lines.{AreLines};
 ghost use Rattle.micro_word.specs.Operation.{shifted};
-ghost use Rattle.datapath.specs.Registers.{arrived as arrived_of};
+ghost use Rattle.mic_datapath.specs.Registers.{arrived as arrived_of};
 ghost use Rattle.mic1_datapath.specs.Mic1.{initial as initial_of};
 ghost use Rattle.mic1_datapath.specs.Microstep.{assigned, ports_of, result_of, settled, moved};
 ghost use Rattle.mic1_datapath.specs.Latches.{AreLatches, micro_in, reads, fetches, under_way};
 
-use datapath::{Places, Ports, Sampled, arrived, next_address, port, settle, sign_extended};
 use mic_clock::Start;
+use mic_datapath::{Places, Ports, Sampled, arrived, next_address, port, settle, sign_extended};
 use micro_word::{Lines, Machine, bits, statement_law, word_law};
 
 /// The word of `goto 0x000`, which reads and fetches nothing.
@@ -89,7 +89,7 @@ fn load_mbr(byte: Option<u8>, places: &mut Places)
 
 impl Latches {
     /// As a reset leaves them.
-    #[tactic(auto, unfolding(machine_words::specs::Arithmetic::signed_byte))]
+    #[tactic(auto, unfolding(mic_words::specs::Arithmetic::signed_byte))]
     pub fn initial(start: &Start) -> Latches
         requires { start.now.entry < 512 }
         ensures micro { micro_in result ≡ initial_of start.now }

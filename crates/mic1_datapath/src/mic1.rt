@@ -1,25 +1,25 @@
 //! The machine: its four calls, which are the book's subcycles.
 
 ghost use Rattle.std.specs.Prelude.{◌≡◌, ◌==◌, IsTrue, refl, true, false};
-ghost use Rattle.machine_words.specs.declared.machine.Machine.TheVariants.{Mic1 as Mic1Machine};
+ghost use Rattle.mic_words.specs.declared.machine.Machine.TheVariants.{Mic1 as Mic1Machine};
 ghost use Rattle.micro_word.specs.Words.{is_canonical};
 ghost use Rattle.micro_word.specs.Coding.{mem_of, statement_of};
 ghost use Rattle.micro_word.specs.Layout.{fields_of};
 ghost use Rattle.micro_word.specs.Lines.{AreLines};
 ghost use Rattle.micro_word.specs.Operation.{shifted};
 ghost use Rattle.mic_clock.specs.Meaning.{Driven, AtEdge};
-ghost use Rattle.datapath.specs.Stage.{phase_of};
+ghost use Rattle.mic_datapath.specs.Stage.{phase_of};
 ghost use Rattle.mic1_datapath.specs.Microstep.{source, result_of};
 ghost use Rattle.mic1_datapath.specs.Latches.{AreLatches, micro_in};
 
 use crate::latches::{IDLE, Latches};
 use console_port::{Bus, BusFault};
-use datapath::{
+use mic_base::{Sink, Source};
+use mic_clock::{Clocked, Computed, Drive, Registers, Start, Tail};
+use mic_datapath::{
     Sampled, Stage, access, access_memory, fetch_alone, is_in_memory, operate, read_alone,
     shift_by, write_alone,
 };
-use mic_base::{Sink, Source};
-use mic_clock::{Clocked, Computed, Drive, Registers, Start, Tail};
 use mic1_alu::AluOut;
 use micro_word::{Lines, Machine, Mem, Store, Word1, bits, fields1, statement_law, word_law};
 

@@ -3,15 +3,15 @@ use Rattle.std.proofs.Common.{◌≡◌, ℕ, ◌+◌, ◌<◌, ◌++◌, Some, 
 use Rattle.std.specs.Prelude.{nat_lt, ◌==◌}
 use Rattle.std.proofs.lemmas.Bool.Decides.{nat_tests}
 use Rattle.console_port.specs.World.{World, StackLimit, byte_in, fetch_refusal}
-use Rattle.machine_words.specs.Arithmetic.{next}
-use Rattle.ijvm_run.specs.Frames.{State}
+use Rattle.mic_words.specs.Arithmetic.{next}
+use Rattle.ijvm_meaning.specs.Frames.{State}
 use Rattle.mic1_datapath.specs.Micro.{Micro}
 use Rattle.mic1_datapath.specs.Mic1.{mic1_meaning}
 use Rattle.mic1_datapath.specs.Microstep.{refusal}
-use Rattle.machine_words.specs.declared.machine.Machine.TheVariants.{Mic1}
+use Rattle.mic_words.specs.declared.machine.Machine.TheVariants.{Mic1}
 use Rattle.ijvm_instr.specs.declared.instr.Instr.{Instr}
-use Rattle.ijvm_run.specs.Cost.{cost}
-use Rattle.ijvm_paths.specs.Accepted.{VerifiedView}
+use Rattle.ijvm_meaning.specs.Cost.{cost}
+use Rattle.verifier_facts.specs.Accepted.{VerifiedView}
 use Rattle.ijvm_simulation.specs.Verified.{IsNext, Loads}
 use Rattle.mic1_interpreter.proofs.Shipped.{shipped, HasStatements}
 use Rattle.mic1_interpreter.specs.Stands.{Stands}

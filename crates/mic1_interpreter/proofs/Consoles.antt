@@ -1,17 +1,17 @@
 -- IN and OUT.
 use Rattle.std.proofs.Common.{◌≡◌, ℕ, ◌+◌, ◌%◌, ◌<◌, Some, None, Option, List, [], ◌∷◌, ◌++◌, length, drop, refl, arith, ◌∙◌, ap, ap₂, append_assoc, subst, sym}
 use Rattle.std.specs.Prelude.{slice_set}
-use Rattle.machine_words.specs.declared.machine.Machine.TheVariants.{Mic1}
-use Rattle.machine_words.specs.Arithmetic.{next, before}
+use Rattle.mic_words.specs.declared.machine.Machine.TheVariants.{Mic1}
+use Rattle.mic_words.specs.Arithmetic.{next, before}
 use Rattle.console_port.specs.World.{World, Refusal, StackLimit, next_byte, read_value, byte_in, write_refusal}
 use Rattle.ijvm_instr.specs.declared.instr.Instr.{Instr}
 use Rattle.ijvm_instr.specs.declared.instr.Instr.TheVariants.{In, Out}
-use Rattle.ijvm_run.specs.Frames.{State, frames_of, base}
-use Rattle.ijvm_run.specs.Cost.{cost}
-use Rattle.ijvm_run.specs.Step.{moved, taken}
-use Rattle.ijvm_paths.specs.Accepted.{VerifiedView}
+use Rattle.ijvm_meaning.specs.Frames.{State, frames_of, base}
+use Rattle.ijvm_meaning.specs.Cost.{cost}
+use Rattle.ijvm_meaning.specs.Step.{moved, taken}
+use Rattle.verifier_facts.specs.Accepted.{VerifiedView}
 use Rattle.mic1_datapath.specs.Micro.{Micro}
-use Rattle.datapath.specs.Memory.{first_refusal}
+use Rattle.mic_datapath.specs.Memory.{first_refusal}
 use Rattle.mic1_datapath.specs.Mic1.{mic1_meaning}
 use Rattle.ijvm_simulation.specs.Stands.{Origin, IsTop}
 use Rattle.ijvm_simulation.specs.Stack.{IsMapEnd, IsWordAccess, IsConsoleAccess, console_address, Top, AtBoundary, StackLaw}

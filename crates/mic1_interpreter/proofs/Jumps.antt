@@ -3,16 +3,16 @@ use Rattle.std.proofs.Common.{◌≡◌, ℕ, ◌+◌, ◌*◌, ◌<◌, ◌≤�
 use Rattle.std.specs.Prelude.{bit_or, if◌then◌else◌, ℤ}
 use Rattle.std.proofs.lemmas.Bool.Decides.{nat_tests}
 use Rattle.std.proofs.lemmas.List.Elements.{All-get_or}
-use Rattle.machine_words.specs.declared.machine.Machine.TheVariants.{Mic1}
-use Rattle.machine_words.specs.Arithmetic.{wrap, plus, minus, next, before, signed_byte, signed_pair, is_negative}
+use Rattle.mic_words.specs.declared.machine.Machine.TheVariants.{Mic1}
+use Rattle.mic_words.specs.Arithmetic.{wrap, plus, minus, next, before, signed_byte, signed_pair, is_negative}
 use Rattle.console_port.specs.World.{World, read_value, untaken_after, byte_in, fetch_refusal}
 use Rattle.ijvm_instr.specs.declared.instr.Instr.{Instr}
 use Rattle.ijvm_instr.specs.declared.instr.Instr.TheVariants.{Ifeq, Iflt, IfIcmpeq, Goto}
 use Rattle.ijvm_instr.specs.Instructions.{word_of, target}
-use Rattle.ijvm_run.specs.Frames.{State, IsWord, HasWords, frames_of, base}
-use Rattle.ijvm_run.specs.Cost.{cost, tests, are_equal}
-use Rattle.ijvm_run.specs.Step.{moved, way}
-use Rattle.ijvm_paths.specs.Accepted.{VerifiedView}
+use Rattle.ijvm_meaning.specs.Frames.{State, IsWord, HasWords, frames_of, base}
+use Rattle.ijvm_meaning.specs.Cost.{cost, tests, are_equal}
+use Rattle.ijvm_meaning.specs.Step.{moved, way}
+use Rattle.verifier_facts.specs.Accepted.{VerifiedView}
 use Rattle.mic1_datapath.specs.Micro.{Micro}
 use Rattle.mic1_datapath.specs.Mic1.{mic1_meaning}
 use Rattle.ijvm_simulation.specs.Stands.{Origin, IsTop}

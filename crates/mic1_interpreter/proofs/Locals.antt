@@ -2,17 +2,17 @@
 use Rattle.std.proofs.Common.{◌≡◌, ℕ, ◌+◌, ◌*◌, ◌<◌, Some, Option, List, [], ◌∷◌, ◌++◌, length, true, refl, arith, sym, ◌∙◌, ap, ap₂, inl}
 use Rattle.std.specs.Prelude.{slice_index, slice_set, slice_get, bit_or}
 use Rattle.std.proofs.lemmas.Option.{slice_get_within}
-use Rattle.machine_words.specs.declared.machine.Machine.TheVariants.{Mic1}
-use Rattle.machine_words.specs.Arithmetic.{wrap, plus, next, signed_byte, signed_pair}
+use Rattle.mic_words.specs.declared.machine.Machine.TheVariants.{Mic1}
+use Rattle.mic_words.specs.Arithmetic.{wrap, plus, next, signed_byte, signed_pair}
 use Rattle.console_port.specs.World.{World, Refusal, StackLimit, read_value, byte_in, write_refusal, fetch_refusal}
 use Rattle.ijvm_instr.specs.declared.instr.Instr.{Instr}
 use Rattle.ijvm_instr.specs.declared.instr.Instr.TheVariants.{LdcW, Iload, Istore, Iinc, WideIload, WideIstore, WideIinc}
-use Rattle.ijvm_run.specs.Frames.{State, frames_of, base}
-use Rattle.ijvm_run.specs.Cost.{cost}
-use Rattle.ijvm_run.specs.Step.{with_local, is_own}
-use Rattle.ijvm_paths.specs.Accepted.{VerifiedView}
+use Rattle.ijvm_meaning.specs.Frames.{State, frames_of, base}
+use Rattle.ijvm_meaning.specs.Cost.{cost}
+use Rattle.ijvm_meaning.specs.Step.{with_local, is_own}
+use Rattle.verifier_facts.specs.Accepted.{VerifiedView}
 use Rattle.mic1_datapath.specs.Micro.{Micro}
-use Rattle.datapath.specs.Memory.{first_refusal}
+use Rattle.mic_datapath.specs.Memory.{first_refusal}
 use Rattle.mic1_datapath.specs.Mic1.{mic1_meaning}
 use Rattle.ijvm_simulation.specs.Stands.{Origin}
 use Rattle.ijvm_simulation.specs.Stack.{IsMapEnd, IsWordAccess, IsConstant, Top, AtBoundary, StackLaw}

@@ -3,18 +3,18 @@ use Rattle.std.proofs.Common.{◌≡◌, ◌≢◌, ℕ, suc, ◌+◌, ◌<◌, 
 use Rattle.std.specs.Prelude.{slice_set, bit_and, bit_or, Option}
 use Rattle.std.proofs.lemmas.Nat.{and_comm, or_comm}
 use Rattle.std.proofs.lemmas.List.{set_comm}
-use Rattle.machine_words.specs.declared.machine.Machine.TheVariants.{Mic1}
-use Rattle.machine_words.specs.Arithmetic.{plus, minus, next, before, signed_byte}
+use Rattle.mic_words.specs.declared.machine.Machine.TheVariants.{Mic1}
+use Rattle.mic_words.specs.Arithmetic.{plus, minus, next, before, signed_byte}
 use Rattle.console_port.specs.World.{World, Refusal, StackLimit, read_value, byte_in, write_refusal}
 use Rattle.ijvm_instr.specs.declared.instr.Instr.{Instr}
 use Rattle.ijvm_instr.specs.declared.instr.Instr.TheVariants.{Nop, Bipush, Pop, Dup, Swap, Iadd, Isub, Iand, Ior}
 use Rattle.ijvm_instr.specs.Instructions.{word_of}
-use Rattle.ijvm_run.specs.Frames.{State, frames_of, base}
-use Rattle.ijvm_run.specs.Cost.{cost}
-use Rattle.ijvm_run.specs.Step.{moved}
-use Rattle.ijvm_paths.specs.Accepted.{VerifiedView}
+use Rattle.ijvm_meaning.specs.Frames.{State, frames_of, base}
+use Rattle.ijvm_meaning.specs.Cost.{cost}
+use Rattle.ijvm_meaning.specs.Step.{moved}
+use Rattle.verifier_facts.specs.Accepted.{VerifiedView}
 use Rattle.mic1_datapath.specs.Micro.{Micro}
-use Rattle.datapath.specs.Memory.{first_refusal}
+use Rattle.mic_datapath.specs.Memory.{first_refusal}
 use Rattle.mic1_datapath.specs.Mic1.{mic1_meaning}
 use Rattle.ijvm_simulation.specs.Stands.{Origin}
 use Rattle.ijvm_simulation.specs.Stack.{IsMapEnd, IsWordAccess, place_behind, Top, Two, AtBoundary, StackLaw}

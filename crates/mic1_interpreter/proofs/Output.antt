@@ -6,15 +6,15 @@ use Rattle.console_port.specs.World.{given_after}
 use Rattle.micro_word.specs.declared.statement.Mem.{Mem}
 use Rattle.micro_word.specs.declared.statement.Mem.TheVariants.{None as Idle, Read, Write}
 use Rattle.mic1_datapath.specs.Micro.{Micro}
-use Rattle.datapath.specs.declared.ports.Ports.{Ports}
-use Rattle.datapath.specs.Memory.{written, sampled}
+use Rattle.mic_datapath.specs.declared.ports.Ports.{Ports}
+use Rattle.mic_datapath.specs.Memory.{written, sampled}
 use Rattle.mic1_datapath.specs.Microstep.{ports_of, settled}
 use Rattle.std.specs.Prelude.{length, Option, None}
 use Rattle.console_port.specs.World.{World, Refusal}
-use Rattle.machine_words.specs.declared.machine.Machine.TheVariants as machines
+use Rattle.mic_words.specs.declared.machine.Machine.TheVariants as machines
 use Rattle.micro_word.specs.Coding.{statement_of}
 use Rattle.mic1_datapath.specs.Microstep.{clock, world_after, refusal}
-use Rattle.datapath.specs.Memory.{outcome}
+use Rattle.mic_datapath.specs.Memory.{outcome}
 use Rattle.mic1_datapath.specs.Mic1.{step_of_word}
 use Rattle.ijvm_simulation.specs.Law.{Grows, OnDone}
 

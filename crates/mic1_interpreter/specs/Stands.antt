@@ -1,6 +1,6 @@
 -- When a Mic-1 at a boundary stands for a state of the plain machine.
 use Rattle.console_port.specs.World.{World}
-use Rattle.ijvm_run.specs.Frames.{State}
+use Rattle.ijvm_meaning.specs.Frames.{State}
 use Rattle.mic1_datapath.specs.Micro.{Micro}
 use Rattle.mic1_datapath.specs.Mic1.{mic1_meaning, IsReady}
 use Rattle.ijvm_simulation.specs.Stands.{Origin, IsAt}

@@ -1,24 +1,24 @@
 //! Mic-1 as an interpreter of IJVM.
 
 ghost use Rattle.std.specs.Prelude.{◌≡◌, ◌≢◌, ◌≤◌, ◌^◌, Some, None, IfOk, OnErr, IsSome};
-ghost use Rattle.machine_words.specs.declared.machine.Machine.TheVariants as machines;
+ghost use Rattle.mic_words.specs.declared.machine.Machine.TheVariants as machines;
 ghost use Rattle.console_port.specs.Console.{StaysFlushed};
 ghost use Rattle.mic_clock.specs.Board.{NoFault, HasEndCause};
 ghost use Rattle.mic1_datapath.specs.Mic1.{mic1_meaning, IsReady};
 ghost use Rattle.mic1_datapath.specs.View.{micro_of};
-ghost use Rattle.shipped_program.specs.Shipped.{HasShipped};
+ghost use Rattle.mal_shipped.specs.Shipped.{HasShipped};
 ghost use Rattle.ijvm_simulation.specs.Headline.{HasRun, IsCutByRead, IsCutByWrite};
 
 use crate::laws::{calls_law, consoles_law, ends_law, jumps_law, locals_law, operands_law};
 use ijvm_simulation::{Interpreter, groups_are_all, run_image};
 use ijvm_verifier::VerifiedImage;
+use mal_shipped::{
+    load_micro, loaded_programs_are_shipped, shipped_program, shipped_programs_are_listed,
+};
 use mic_base::{Sink, Source};
 use mic_clock::{Board, End};
 use mic1_datapath::Mic1;
 use micro_word::{Machine, Store};
-use shipped_program::{
-    load_micro, loaded_programs_are_shipped, shipped_program, shipped_programs_are_listed,
-};
 use std::alloc::{AllocError, Global};
 
 /// The address of Main1, where a run begins.
@@ -28,8 +28,8 @@ const MAIN1: u16 = 0x002;
 pub struct Mic1Interpreter;
 
 impl Interpreter for Mic1Interpreter {
-    ghost use Rattle.machine_words.specs.declared.machine.Machine.TheVariants as machines;
-    ghost use Rattle.shipped_program.specs.Shipped.{HasShipped};
+    ghost use Rattle.mic_words.specs.declared.machine.Machine.TheVariants as machines;
+    ghost use Rattle.mal_shipped.specs.Shipped.{HasShipped};
 
     type Machine = Mic1;
 

@@ -1,10 +1,10 @@
 //! What each group of instructions takes of Mic-1.
 
 ghost use Rattle.std.specs.Prelude.{ℕ, List};
-ghost use Rattle.machine_words.specs.declared.machine.Machine.TheVariants.{Mic1};
+ghost use Rattle.mic_words.specs.declared.machine.Machine.TheVariants.{Mic1};
 ghost use Rattle.mic1_datapath.specs.Mic1.{mic1_meaning};
-ghost use Rattle.ijvm_paths.specs.Accepted.{VerifiedView};
-ghost use Rattle.shipped_program.specs.Shipped.{HasShipped};
+ghost use Rattle.verifier_facts.specs.Accepted.{VerifiedView};
+ghost use Rattle.mal_shipped.specs.Shipped.{HasShipped};
 ghost use Rattle.ijvm_simulation.specs.Stands.{Origin};
 ghost use Rattle.ijvm_simulation.specs.Verified.{Loads};
 ghost use Rattle.ijvm_simulation.specs.Law.{Takes, HaltsAndErrs};

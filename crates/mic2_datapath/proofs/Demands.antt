@@ -2,8 +2,8 @@
 use Rattle.std.proofs.Common.{◌≡◌, ℕ, zero, suc, ◌+◌, ◌-◌, ◌/◌, ◌≤◌, ◌<◌, ◌^◌, ◌%◌, ◌==◌, ◌||◌, ◌&&◌, ◌≢◌, Bool, true, false, IsTrue, List, Option, Some, None, if◌then◌else◌, refl, ap, ◌∙◌, arith}
 use Rattle.std.specs.Prelude.{nat_lt}
 use Rattle.std.proofs.lemmas.Bool.Decides.{nat_tests}
-use Rattle.machine_words.specs.Arithmetic.{wrap}
-use Rattle.machine_words.specs.declared.machine.Machine.TheVariants.{Mic2}
+use Rattle.mic_words.specs.Arithmetic.{wrap}
+use Rattle.mic_words.specs.declared.machine.Machine.TheVariants.{Mic2}
 use Rattle.micro_word.specs.Words.{Valid, fits_side, is_byte, is_pair, may_be_b}
 use Rattle.micro_word.specs.Coding.{jam_bits, row}
 use Rattle.micro_word.specs.Lines.{bytes_shown, bytes_taken, place_on_bus}
@@ -12,7 +12,7 @@ use Rattle.micro_word.specs.declared.statement.BusSource.TheVariants as sources
 use Rattle.micro_word.specs.declared.statement.PlacedNext.{PlacedNext}
 use Rattle.micro_word.specs.declared.statement.PlacedNext.TheVariants as nexts
 use Rattle.micro_word.specs.declared.statement.Test.TheVariants as tests
-use Rattle.datapath.specs.Next.{target}
+use Rattle.mic_datapath.specs.Next.{target}
 use Rattle.micro_word.specs.declared.statement.Placed.{Placed}
 use Rattle.mic2_datapath.specs.Microstep.{advanced, demand, dispatch_bytes, unit_after, unit_samples}
 use Rattle.mic2_fetch_unit.specs.FetchUnit.{Prefetch, jump}

@@ -7,9 +7,9 @@ use Rattle.console_port.specs.Console.{Untaken, Given}
 use Rattle.console_port.specs.Bus.{Shows, IsLed}
 use Rattle.micro_word.specs.declared.statement.Mem.{Mem}
 use Rattle.micro_word.specs.declared.statement.Mem.TheVariants as mems
-use Rattle.datapath.specs.Access.{IsAccess}
-use Rattle.datapath.specs.Memory.{first_refusal, sampled, written}
-use Rattle.datapath.specs.declared.ports.Ports.{Ports}
+use Rattle.mic_datapath.specs.Access.{IsAccess}
+use Rattle.mic_datapath.specs.Memory.{first_refusal, sampled, written}
+use Rattle.mic_datapath.specs.declared.ports.Ports.{Ports}
 
 pub first_clear : (a b : Option Refusal) → first_refusal a b ≡ None → a ≡ None
 first_clear (Some why) b h = absurd (cc)

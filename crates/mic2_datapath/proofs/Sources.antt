@@ -1,6 +1,6 @@
 -- What stands at the place of a source is what the source puts on its bus, once the front of the queue is shown.
 use Rattle.std.proofs.Common.{◌≡◌, ℕ, ◌≤◌, Bool, true, IsTrue, Option, Some, None, slice_index, refl}
-use Rattle.machine_words.specs.declared.machine.Machine.TheVariants.{Mic2}
+use Rattle.mic_words.specs.declared.machine.Machine.TheVariants.{Mic2}
 use Rattle.micro_word.specs.Words.{fits_side, is_byte, is_pair, may_be_b}
 use Rattle.micro_word.specs.Lines.{place_on_bus}
 use Rattle.micro_word.specs.declared.statement.BusSource.{BusSource}

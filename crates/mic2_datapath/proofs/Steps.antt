@@ -5,7 +5,7 @@ use Rattle.console_port.specs.World.{World, Refusal, StackLimit, OutOfMap, fault
 use Rattle.console_port.specs.Bus.{refused_by}
 use Rattle.console_port.specs.Console.{IsFault}
 use Rattle.console_port.specs.declared.fault.BusFault.{BusFault}
-use Rattle.machine_words.specs.declared.machine.Machine.TheVariants as machines
+use Rattle.mic_words.specs.declared.machine.Machine.TheVariants as machines
 use Rattle.micro_word.specs.Coding.{statement_of, mem_of}
 use Rattle.micro_word.specs.Layout.{fields_of}
 use Rattle.micro_word.specs.Lines.{names}
@@ -14,11 +14,11 @@ use Rattle.micro_word.specs.declared.statement.Mem.{Mem}
 use Rattle.micro_word.specs.declared.statement.Mem.TheVariants as mems
 use Rattle.micro_word.specs.declared.statement.Placed.{Placed}
 use Rattle.mic_clock.specs.Meaning.{Outcome, Done, refusal_in, untaken_by, given_by, ReadsConsole, WritesConsole, UsesConsole}
-use Rattle.datapath.specs.Access.{IsTransfer, is_read, is_access}
-use Rattle.datapath.specs.Memory.{first_refusal, memory_refusal, word_under_way, written, sampled, outcome}
-use Rattle.datapath.specs.Next.{target}
-use Rattle.datapath.specs.Registers.{loaded, ports_given}
-use Rattle.datapath.specs.declared.ports.Ports.{Ports}
+use Rattle.mic_datapath.specs.Access.{IsTransfer, is_read, is_access}
+use Rattle.mic_datapath.specs.Memory.{first_refusal, memory_refusal, word_under_way, written, sampled, outcome}
+use Rattle.mic_datapath.specs.Next.{target}
+use Rattle.mic_datapath.specs.Registers.{loaded, ports_given}
+use Rattle.mic_datapath.specs.declared.ports.Ports.{Ports}
 use Rattle.mic2_fetch_unit.specs.FetchUnit.{Prefetch, edge_refusal, sample_refusal}
 use Rattle.mic2_datapath.proofs.Demands.{same_sample, same_unit}
 use Rattle.mic2_datapath.specs.Microstep.{advanced, byte_at, clock, demand, is_stalled, is_to_instruction, jumps, microstep, moved, operand_bytes, refusal, registers_in, result_of, settled, stalled, step_if, unit_after, unit_refusal, unit_samples, world_after}

@@ -1,15 +1,15 @@
 -- What the latches of Mic-2 mean: the microstep's state, and what its buses carry between its calls.
 use Rattle.std.specs.Prelude.{◌≡◌, ℕ, ◌*◌, ◌+◌, ◌<◌, ◌≤◌, Bool, true, false, slice_index}
-use Rattle.machine_words.specs.Arithmetic.{signed_byte, signed_pair}
-use Rattle.machine_words.specs.declared.machine.Machine.TheVariants.{Mic2}
+use Rattle.mic_words.specs.Arithmetic.{signed_byte, signed_pair}
+use Rattle.mic_words.specs.declared.machine.Machine.TheVariants.{Mic2}
 use Rattle.micro_word.specs.Layout.{fields_of}
 use Rattle.micro_word.specs.Operation.{shifted}
 use Rattle.micro_word.specs.declared.lines.TheConstants.{NOTHING}
 use Rattle.micro_word.specs.declared.statement.Mem.{Mem}
 use Rattle.micro_word.specs.declared.statement.Mem.TheVariants as mems
 use Rattle.micro_word.specs.declared.statement.Placed.{Placed}
-use Rattle.datapath.specs.Places.{registers_at}
-use Rattle.datapath.specs.Registers.{NineRegisters, loaded}
+use Rattle.mic_datapath.specs.Places.{registers_at}
+use Rattle.mic_datapath.specs.Registers.{NineRegisters, loaded}
 use Rattle.mic2_datapath.specs.Micro.{Micro}
 use Rattle.mic2_datapath.specs.Microstep.{is_stalled, result_of, source}
 use Rattle.mic2_datapath.specs.declared.latches.Latches.{Latches}

@@ -1,6 +1,6 @@
 -- The microstep of Mic-2 (chapter 4; the order of events at the clock edge is this profile's). A statement assigns whole words, or waits for the bytes that it names.
 use Rattle.std.specs.Prelude.{ℕ, zero, suc, ◌+◌, ◌*◌, ◌/◌, ◌||◌, Bool, true, false, not, nat_lt, if◌then◌else◌, List, length, slice_index, Option, Some}
-use Rattle.machine_words.specs.Arithmetic.{plus, signed_byte, signed_pair}
+use Rattle.mic_words.specs.Arithmetic.{plus, signed_byte, signed_pair}
 use Rattle.micro_word.specs.Words.{is_byte, is_pair}
 use Rattle.micro_word.specs.Destinations.{loads}
 use Rattle.micro_word.specs.Operation.{alu, shifted}
@@ -13,9 +13,9 @@ use Rattle.micro_word.specs.declared.statement.Part.{Part}
 use Rattle.micro_word.specs.declared.statement.Placed.{Placed}
 use Rattle.console_port.specs.World.{World, Refusal}
 use Rattle.mic_clock.specs.Meaning.{Outcome}
-use Rattle.datapath.specs.Registers.{NineRegisters, on_bus, loaded, ports_given}
-use Rattle.datapath.specs.Memory.{written, sampled, word_under_way, memory_refusal, first_refusal, outcome}
-use Rattle.datapath.specs.Next.{target}
+use Rattle.mic_datapath.specs.Registers.{NineRegisters, on_bus, loaded, ports_given}
+use Rattle.mic_datapath.specs.Memory.{written, sampled, word_under_way, memory_refusal, first_refusal, outcome}
+use Rattle.mic_datapath.specs.Next.{target}
 use Rattle.mic2_fetch_unit.specs.FetchUnit.{Prefetch, edge, jump, sampled_at, edge_refusal, jump_refusal}
 use Rattle.mic2_datapath.specs.Micro.{Micro}
 

@@ -1,7 +1,7 @@
 -- What contracts see of a Mic-2.
 use Rattle.std.specs.Prelude.{ℕ}
 use Rattle.mic_clock.specs.Meaning.{Phase}
-use Rattle.datapath.specs.Stage.{phase_of}
+use Rattle.mic_datapath.specs.Stage.{phase_of}
 use Rattle.mic2_datapath.specs.Micro.{Micro}
 use Rattle.mic2_datapath.specs.Latches.{micro_in}
 use Rattle.mic2_datapath.specs.declared.mic2.Mic2.{Mic2}

@@ -6,13 +6,13 @@ ghost use Rattle.console_port.specs.World.{console_at};
 ghost use Rattle.console_port.specs.Bus.{Stands, IsLed, ChangesOnly, refused_by};
 ghost use Rattle.console_port.specs.Console.{IsFault, HasFaultCause, StaysFlushed, StillTells};
 ghost use Rattle.mic_clock.specs.Edge.{AsksNoMore};
-ghost use Rattle.datapath.specs.Memory.{first_refusal, memory_refusal};
-ghost use Rattle.datapath.specs.Access.{IsTransfer, LetsBytesWait, is_read, is_access};
+ghost use Rattle.mic_datapath.specs.Memory.{first_refusal, memory_refusal};
+ghost use Rattle.mic_datapath.specs.Access.{IsTransfer, LetsBytesWait, is_read, is_access};
 ghost use Rattle.mic2_fetch_unit.specs.FetchUnit.{sample_refusal};
 
 use console_port::{Bus, BusFault};
-use datapath::{Ports, check_memory, transfer};
 use mic_base::{Sink, Source};
+use mic_datapath::{Ports, check_memory, transfer};
 use mic2_fetch_unit::check_sample;
 use micro_word::Mem;
 

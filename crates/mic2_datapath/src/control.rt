@@ -1,7 +1,7 @@
 //! The word that is clocked.
 
 ghost use Rattle.std.specs.Prelude.{◌≡◌, ◌<◌, IsTrue, slice_index, true};
-ghost use Rattle.machine_words.specs.declared.machine.Machine.TheVariants.{Mic2};
+ghost use Rattle.mic_words.specs.declared.machine.Machine.TheVariants.{Mic2};
 ghost use Rattle.micro_word.specs.Words.{is_canonical};
 ghost use Rattle.micro_word.specs.Coding.{mem_of, shift_of, statement_of};
 ghost use Rattle.micro_word.specs.Layout.{fields_of};
@@ -9,7 +9,7 @@ ghost use Rattle.micro_word.specs.Lines.{AreLines};
 ghost use Rattle.micro_word.specs.Operation.{shifted};
 ghost use Rattle.mic2_datapath.specs.Microstep.{demand};
 
-use datapath::shift_by;
+use mic_datapath::shift_by;
 use micro_word::{Lines, Machine, Mem, Store, bits, fields2, statement_law, word_law};
 
 /// JMPC.

@@ -1,21 +1,21 @@
 //! What Mic-2 keeps between cycles.
 
 ghost use Rattle.std.specs.Prelude.{◌≡◌, ◌≢◌, ◌≤◌, ◌<◌, ◌*◌, ◌+◌, ℕ, None, OnOk, OnErr, IfErr, IfNone, IfSome, IsTrue, false, is_some, length, slice_index, true};
-ghost use Rattle.machine_words.specs.Arithmetic.{signed_byte, signed_pair};
+ghost use Rattle.mic_words.specs.Arithmetic.{signed_byte, signed_pair};
 ghost use Rattle.micro_word.specs.declared.statement.PlacedNext.{PlacedNext};
 ghost use Rattle.micro_word.specs.Coding.{addr_bits, jam_bits, mem_of, statement_of};
 ghost use Rattle.micro_word.specs.Words.{is_next};
 ghost use Rattle.micro_word.specs.Layout.{fields_of};
 ghost use Rattle.micro_word.specs.Lines.{AreSlots, names};
 ghost use Rattle.micro_word.specs.Operation.{shifted};
-ghost use Rattle.machine_words.specs.declared.machine.Machine.TheVariants.{Mic2};
+ghost use Rattle.mic_words.specs.declared.machine.Machine.TheVariants.{Mic2};
 ghost use Rattle.console_port.specs.Bus.{ChangesOnly, refused_by};
 ghost use Rattle.console_port.specs.World.{World};
-ghost use Rattle.datapath.specs.Access.{IsTransfer};
-ghost use Rattle.datapath.specs.Memory.{memory_refusal};
-ghost use Rattle.datapath.specs.Next.{target};
-ghost use Rattle.datapath.specs.Places.{registers_at};
-ghost use Rattle.datapath.specs.Registers.{loaded, ports_given};
+ghost use Rattle.mic_datapath.specs.Access.{IsTransfer};
+ghost use Rattle.mic_datapath.specs.Memory.{memory_refusal};
+ghost use Rattle.mic_datapath.specs.Next.{target};
+ghost use Rattle.mic_datapath.specs.Places.{registers_at};
+ghost use Rattle.mic_datapath.specs.Registers.{loaded, ports_given};
 ghost use Rattle.mic2_fetch_unit.specs.FetchUnit.{edge_refusal, sample_refusal};
 ghost use Rattle.mic2_datapath.specs.Mic2.{initial as initial_of};
 ghost use Rattle.mic2_datapath.specs.Microstep.{advanced, byte_at, demand, dispatch_bytes, is_to_instruction, jumps, moved, operand_bytes, result_of, settled, stalled, unit_after, unit_refusal, unit_samples};
@@ -24,10 +24,10 @@ ghost use Rattle.mic2_datapath.specs.Latches.{AreLatches, HasFront, access_by, l
 use crate::access::is_there;
 use crate::control::{Control, JMPC, is_read, is_write};
 use console_port::{Bus, BusFault};
-use datapath::{
+use mic_clock::Start;
+use mic_datapath::{
     Places, Ports, arrived, next_address, port, read_alone, settle, sign_extended, write_alone,
 };
-use mic_clock::Start;
 use mic2_fetch_unit::FetchUnit;
 use micro_word::{Machine, Mem, bits, is_named, statement_law, word_law};
 
@@ -58,7 +58,7 @@ pub struct Latches {
     pub places: Places,
 }
 
-#[tactic(auto, unfolding(machine_words::specs::Arithmetic::signed_pair))]
+#[tactic(auto, unfolding(mic_words::specs::Arithmetic::signed_pair))]
 fn sign_extended_pair(pair: u16) -> u32
     ensures { (high low : ℕ) → low < 256 → pair ≡ 256 * high + low → result ≡ signed_pair high low }
 {
@@ -86,7 +86,7 @@ fn show_pair(pair: u16, places: &mut Places)
 }
 
 /// PC behind the bytes that are taken.
-#[tactic(auto, unfolding(machine_words::specs::Arithmetic::wrap))]
+#[tactic(auto, unfolding(mic_words::specs::Arithmetic::wrap))]
 fn behind(pc: u32, taken: u8) -> u32
     ensures { result ≡ advanced taken pc }
 {

@@ -2,7 +2,7 @@
 
 ghost use Rattle.std.specs.Prelude.{◌≡◌, IsTrue};
 ghost use Rattle.console_port.specs.World.{World};
-ghost use Rattle.machine_words.specs.declared.machine.Machine.TheVariants.{Mic2};
+ghost use Rattle.mic_words.specs.declared.machine.Machine.TheVariants.{Mic2};
 ghost use Rattle.micro_word.specs.declared.statement.Placed.{Placed};
 ghost use Rattle.micro_word.specs.Coding.{word_of};
 ghost use Rattle.micro_word.specs.Words.{is_valid};
@@ -10,7 +10,7 @@ ghost use Rattle.mic2_datapath.specs.Microstep.{microstep};
 ghost use Rattle.mic2_datapath.specs.Mic2.{step_of_word};
 ghost use Rattle.mic2_datapath.specs.Micro.{Micro};
 
-use machine_words::Machine;
+use mic_words::Machine;
 use micro_word::statement_law;
 
 /// The step of a valid statement's word is the microstep of the statement.

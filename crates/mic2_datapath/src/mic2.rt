@@ -1,19 +1,19 @@
 //! The machine: its four calls, which are the book's subcycles.
 
 ghost use Rattle.std.specs.Prelude.{◌≡◌, ◌≢◌, Err, IfErr, IsSome, List, OnErr, OnOk, refl, ℕ};
-ghost use Rattle.machine_words.specs.declared.machine.Machine.TheVariants.{Mic2 as Mic2Machine};
+ghost use Rattle.mic_words.specs.declared.machine.Machine.TheVariants.{Mic2 as Mic2Machine};
 ghost use Rattle.micro_word.specs.Coding.{statement_of};
 ghost use Rattle.mic_clock.specs.Meaning.{Driven, AtEdge};
-ghost use Rattle.datapath.specs.Stage.{phase_of};
+ghost use Rattle.mic_datapath.specs.Stage.{phase_of};
 ghost use Rattle.mic2_datapath.specs.Latches.{AreLatches, HasDriven, HasComputed, micro_in};
 
 use crate::access::access;
 use crate::control::{Control, is_quiet, shift_for};
 use crate::latches::{Latches, PC};
 use console_port::{Bus, BusFault};
-use datapath::{Stage, console_law, operate, side_law};
 use mic_base::{Sink, Source};
 use mic_clock::{Clocked, Computed, Drive, Registers, Start, Tail};
+use mic_datapath::{Stage, console_law, operate, side_law};
 use mic1_alu::AluOut;
 use micro_word::{Machine, Mem, Store, Word2, bits, is_named, statement_law, word_law};
 

@@ -2,12 +2,12 @@
 use Rattle.std.proofs.Common.{◌≡◌, ℕ, zero, suc, ◌<◌, Option, Some, List, [], ◌∷◌, length, replicate, refl, arith, sym, ◌∙◌, ap}
 use Rattle.std.specs.Prelude.{slice_get, slice_index}
 use Rattle.std.proofs.lemmas.List.{length-replicate, append-nil}
-use Rattle.machine_words.specs.Arithmetic.{plus}
+use Rattle.mic_words.specs.Arithmetic.{plus}
 use Rattle.console_port.specs.World.{byte_in}
 use Rattle.mic2_fetch_unit.specs.FetchUnit.{at_start}
 use Rattle.mic2_datapath.specs.Micro.{Micro}
 use Rattle.mic2_datapath.specs.Mic2.{mic2_meaning}
-use Rattle.ijvm_run.specs.Frames.{start_of}
+use Rattle.ijvm_meaning.specs.Frames.{start_of}
 use Rattle.mic2_interpreter.specs.Stands.{Stands}
 use Rattle.mic2_interpreter.specs.Stalls.{BootsWithStall}
 use Rattle.mic2_interpreter.proofs.Shipped.{HasStatements}
@@ -20,7 +20,7 @@ use Rattle.ijvm_simulation.specs.Stack.{IsMapEnd}
 use Rattle.ijvm_simulation.specs.Passes.{Moment, pass}
 use Rattle.ijvm_simulation.specs.Law.{Boots, reset_moment}
 use Rattle.ijvm_simulation.specs.Verified.{Loads}
-use Rattle.ijvm_paths.specs.Accepted.{VerifiedView}
+use Rattle.verifier_facts.specs.Accepted.{VerifiedView}
 
 zero_locals : (n k v : ℕ) → slice_get (replicate n (Some 0)) k ≡ Some (Some v) → (k < n) × (0 ≡ v)
 zero_locals zero k v e = absurd (cc)

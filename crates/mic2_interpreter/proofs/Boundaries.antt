@@ -3,17 +3,17 @@ use Rattle.std.proofs.Common.{◌≡◌, ℕ, zero, suc, ◌+◌, ◌*◌, ◌<�
 use Rattle.std.specs.Prelude.{nat_lt, nat_le, ◌==◌}
 use Rattle.std.proofs.lemmas.Bool.Decides.{nat_tests}
 use Rattle.console_port.specs.World.{World, StackLimit, byte_in}
-use Rattle.machine_words.specs.Arithmetic.{plus, signed_pair}
-use Rattle.ijvm_run.specs.Frames.{State}
-use Rattle.datapath.specs.Memory.{memory_refusal}
+use Rattle.mic_words.specs.Arithmetic.{plus, signed_pair}
+use Rattle.ijvm_meaning.specs.Frames.{State}
+use Rattle.mic_datapath.specs.Memory.{memory_refusal}
 use Rattle.mic2_fetch_unit.specs.Place.{StandsAt}
 use Rattle.mic2_datapath.specs.Micro.{Micro}
 use Rattle.mic2_datapath.specs.Microstep.{demand}
 use Rattle.mic2_datapath.specs.Mic2.{mic2_meaning}
-use Rattle.machine_words.specs.declared.machine.Machine.TheVariants.{Mic2}
+use Rattle.mic_words.specs.declared.machine.Machine.TheVariants.{Mic2}
 use Rattle.ijvm_instr.specs.declared.instr.Instr.{Instr}
-use Rattle.ijvm_run.specs.Cost.{cost}
-use Rattle.ijvm_paths.specs.Accepted.{VerifiedView}
+use Rattle.ijvm_meaning.specs.Cost.{cost}
+use Rattle.verifier_facts.specs.Accepted.{VerifiedView}
 use Rattle.ijvm_simulation.specs.Verified.{IsNext, Loads}
 use Rattle.mic2_interpreter.specs.Stands.{Stands}
 use Rattle.mic2_interpreter.specs.Stalls.{MovesWithStalls, OverrunsWithStalls}

@@ -3,16 +3,16 @@ use Rattle.std.proofs.Common.{◌≡◌, ℕ, suc, ◌+◌, ◌-◌, ◌*◌, �
 use Rattle.std.specs.Prelude.{slice_index, slice_set, if◌then◌else◌}
 use Rattle.std.proofs.lemmas.Bool.{cases_lt, cases_Bool}
 use Rattle.std.proofs.lemmas.Option.{same_Some}
-use Rattle.machine_words.specs.declared.machine.Machine.TheVariants.{Mic2}
-use Rattle.machine_words.specs.Arithmetic.{plus, minus, next}
+use Rattle.mic_words.specs.declared.machine.Machine.TheVariants.{Mic2}
+use Rattle.mic_words.specs.Arithmetic.{plus, minus, next}
 use Rattle.console_port.specs.World.{World, StackLimit, read_value, after_read, byte_in, write_refusal}
 use Rattle.ijvm_instr.specs.declared.instr.Instr.{Instr}
 use Rattle.ijvm_instr.specs.declared.instr.Instr.TheVariants.{Ireturn, Invokevirtual}
 use Rattle.ijvm_image.specs.declared.method.Method.{Method}
-use Rattle.ijvm_run.specs.Frames.{Frame, State, base, kept_words}
-use Rattle.ijvm_run.specs.Cost.{cost}
-use Rattle.ijvm_run.specs.Step.{onto, called}
-use Rattle.ijvm_paths.specs.Accepted.{VerifiedView}
+use Rattle.ijvm_meaning.specs.Frames.{Frame, State, base, kept_words}
+use Rattle.ijvm_meaning.specs.Cost.{cost}
+use Rattle.ijvm_meaning.specs.Step.{onto, called}
+use Rattle.verifier_facts.specs.Accepted.{VerifiedView}
 use Rattle.mic2_datapath.specs.Micro.{Micro}
 use Rattle.ijvm_simulation.specs.Stands.{Origin, IsLinked, caller_lv}
 use Rattle.ijvm_simulation.specs.Stack.{IsMapEnd, IsWordAccess, frame_with, place_behind, linked_words, Arguments, IsMethod, Top, AtBoundary, StackLaw}

@@ -2,7 +2,7 @@
 use Rattle.std.proofs.Common.{◌≢◌, get_or-set_other, length-set, ap, ap₂, ◌∙◌, ◌≡◌, ℕ, zero, suc, ◌+◌, ◌*◌, ◌<◌, ◌≤◌, Option, Some, None, Bool, true, false, List, [], ◌∷◌, length, arith, refl, sym, subst, add-zero}
 use Rattle.std.specs.Prelude.{slice_set, nat_lt, slice_index, if◌then◌else◌, ◌||◌}
 use Rattle.std.proofs.lemmas.Bool.Decides.{nat_tests}
-use Rattle.machine_words.specs.Arithmetic.{signed_byte, signed_pair}
+use Rattle.mic_words.specs.Arithmetic.{signed_byte, signed_pair}
 use Rattle.console_port.specs.World.{World, Refusal, byte_in}
 use Rattle.micro_word.specs.Words.{is_byte, is_pair}
 use Rattle.micro_word.specs.Operation.{alu, shifted}
@@ -15,10 +15,10 @@ use Rattle.micro_word.specs.declared.statement.Placed.{Placed}
 use Rattle.micro_word.specs.declared.statement.PlacedNext.{PlacedNext}
 use Rattle.micro_word.specs.declared.statement.PlacedNext.TheVariants.{Goto, Dispatch, Branch}
 use Rattle.mic_clock.specs.Meaning.{Outcome, Done, Refused}
-use Rattle.datapath.specs.declared.ports.Ports.{Ports}
-use Rattle.datapath.specs.Registers.{NineRegisters, on_bus, loaded, ports_given}
-use Rattle.datapath.specs.Memory.{written, sampled, word_under_way, memory_refusal, first_refusal, outcome}
-use Rattle.datapath.specs.Next.{target}
+use Rattle.mic_datapath.specs.declared.ports.Ports.{Ports}
+use Rattle.mic_datapath.specs.Registers.{NineRegisters, on_bus, loaded, ports_given}
+use Rattle.mic_datapath.specs.Memory.{written, sampled, word_under_way, memory_refusal, first_refusal, outcome}
+use Rattle.mic_datapath.specs.Next.{target}
 use Rattle.mic2_fetch_unit.specs.FetchUnit.{Prefetch, edge, edge_refusal}
 use Rattle.mic2_datapath.specs.Micro.{Micro}
 use Rattle.mic2_datapath.specs.Microstep.{operand_bytes, dispatch_bytes, demand, is_stalled, stalled, registers_in, byte_at, fetched, source, result_of, advanced, jumps, unit_after, unit_refusal, is_to_instruction, moved, clock, world_after, step_if, microstep}

@@ -3,14 +3,14 @@ use Rattle.std.proofs.Common.{ℕ, Bool, true, false, Some, None, Option, List, 
 use Rattle.std.specs.Prelude.{nat_lt, ◌%◌, if◌then◌else◌}
 use Rattle.std.proofs.lemmas.List.{append-nil}
 use Rattle.console_port.specs.World.{World, Refusal, given_after}
-use Rattle.machine_words.specs.declared.machine.Machine.TheVariants as machines
+use Rattle.mic_words.specs.declared.machine.Machine.TheVariants as machines
 use Rattle.micro_word.specs.Coding.{statement_of}
 use Rattle.micro_word.specs.declared.statement.Mem.{Mem}
 use Rattle.micro_word.specs.declared.statement.Mem.TheVariants.{None as Idle, Read, Write}
 use Rattle.micro_word.specs.declared.statement.Placed.{Placed}
-use Rattle.datapath.specs.Registers.{ports_given}
-use Rattle.datapath.specs.declared.ports.Ports.{Ports}
-use Rattle.datapath.specs.Memory.{written, sampled, outcome}
+use Rattle.mic_datapath.specs.Registers.{ports_given}
+use Rattle.mic_datapath.specs.declared.ports.Ports.{Ports}
+use Rattle.mic_datapath.specs.Memory.{written, sampled, outcome}
 use Rattle.mic2_fetch_unit.specs.FetchUnit.{edge_refusal}
 use Rattle.mic2_datapath.specs.Micro.{Micro}
 use Rattle.mic2_datapath.specs.Microstep.{settled, clock, world_after, refusal, stalled, is_stalled, step_if}

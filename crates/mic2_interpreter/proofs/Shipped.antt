@@ -1,7 +1,7 @@
 -- The statement at each address of a control store that holds Mic-2's microprogram, as one table: what a symbolic run reads.
 use Rattle.std.proofs.Common.{◌≡◌, ℕ, ◌<◌, Bool, true, false, ◌==◌, List, [], ◌∷◌, Option, Some, None, refl, ◌∙◌}
 use Rattle.std.specs.Prelude.{slice_index}
-use Rattle.machine_words.specs.declared.machine.Machine.TheVariants.{Mic2}
+use Rattle.mic_words.specs.declared.machine.Machine.TheVariants.{Mic2}
 use Rattle.micro_word.specs.declared.statement.BusSource.{BusSource}
 use Rattle.micro_word.specs.declared.statement.BusSource.TheVariants as sources
 use Rattle.micro_word.specs.declared.statement.AluOp.{AluOp}
@@ -15,8 +15,8 @@ use Rattle.micro_word.specs.declared.statement.PlacedNext.{PlacedNext}
 use Rattle.micro_word.specs.declared.statement.PlacedNext.TheVariants as nexts
 use Rattle.micro_word.specs.declared.statement.Placed.{Placed}
 use Rattle.micro_word.specs.Coding.{statement_of}
-use Rattle.shipped_program.specs.Listing.{rows2, program2}
-use Rattle.shipped_program.specs.Shipped.{HasShipped, shipped as listed}
+use Rattle.mal_shipped.specs.Listing.{rows2, program2}
+use Rattle.mal_shipped.specs.Shipped.{HasShipped, shipped as listed}
 
 -- destinations, operation, sources on both buses, shift, memory, whether it fetches, where it goes
 abbrev pub statement : ℕ → AluOp → Option BusSource → Option BusSource → Shift → Mem → Bool → PlacedNext → Placed

@@ -1,6 +1,6 @@
 -- Words, and the bytes of a memory.
 use Rattle.std.proofs.Common.{◌≡◌, ℕ, ◌+◌, ◌^◌, ◌<◌, ◌≤◌, List, arith, ◌∙◌, ap, add_comm}
-use Rattle.machine_words.specs.Arithmetic.{wrap, plus, minus, next, before}
+use Rattle.mic_words.specs.Arithmetic.{wrap, plus, minus, next, before}
 use Rattle.console_port.specs.World.{byte_in}
 use Rattle.ijvm_simulation.specs.Stack.{console_address}
 

@@ -3,10 +3,10 @@ use Rattle.std.specs.Prelude.{ℕ, ◌%◌, ◌==◌, if◌then◌else◌, List}
 use Rattle.ijvm_image.specs.Image.{ImageView}
 use Rattle.ijvm_instr.specs.declared.instr.Instr.{Instr}
 use Rattle.ijvm_instr.specs.declared.instr.Instr.TheVariants.{Invokevirtual}
-use Rattle.ijvm_run.specs.Frames.{State}
-use Rattle.ijvm_run.specs.Run.{Program, Point}
-use Rattle.ijvm_run.specs.Cost.{entry_of}
-use Rattle.ijvm_paths.specs.Accepted.{VerifiedView}
+use Rattle.ijvm_meaning.specs.Frames.{State}
+use Rattle.ijvm_meaning.specs.Run.{Program, Point}
+use Rattle.ijvm_meaning.specs.Cost.{entry_of}
+use Rattle.verifier_facts.specs.Accepted.{VerifiedView}
 use Rattle.mic2_datapath.specs.Micro.{Micro}
 use Rattle.mic2_datapath.specs.Mic2.{mic2_meaning}
 use Rattle.ijvm_simulation.specs.Stands.{Origin}

@@ -1,24 +1,24 @@
 //! Mic-2 as an interpreter of IJVM.
 
 ghost use Rattle.std.specs.Prelude.{◌≡◌, ◌≢◌, ◌≤◌, ◌^◌, Some, None, IfOk, OnErr, IsSome};
-ghost use Rattle.machine_words.specs.declared.machine.Machine.TheVariants as machines;
+ghost use Rattle.mic_words.specs.declared.machine.Machine.TheVariants as machines;
 ghost use Rattle.console_port.specs.Console.{StaysFlushed};
 ghost use Rattle.mic_clock.specs.Board.{NoFault, HasEndCause};
 ghost use Rattle.mic2_datapath.specs.Mic2.{mic2_meaning, IsReady};
 ghost use Rattle.mic2_datapath.specs.View.{micro_of};
-ghost use Rattle.shipped_program.specs.Shipped.{HasShipped};
+ghost use Rattle.mal_shipped.specs.Shipped.{HasShipped};
 ghost use Rattle.ijvm_simulation.specs.Headline.{HasRun, IsCutByRead, IsCutByWrite};
 
 use crate::laws::{ends_law, stalls_law};
 use ijvm_simulation::{Interpreter, run_image};
 use ijvm_verifier::VerifiedImage;
+use mal_shipped::{
+    load_micro, loaded_programs_are_shipped, shipped_program, shipped_programs_are_listed,
+};
 use mic_base::{Sink, Source};
 use mic_clock::{Board, End};
 use mic2_datapath::Mic2;
 use micro_word::{Machine, Store};
-use shipped_program::{
-    load_micro, loaded_programs_are_shipped, shipped_program, shipped_programs_are_listed,
-};
 use std::alloc::{AllocError, Global};
 
 /// The address of Main1, where a run begins.
@@ -28,8 +28,8 @@ const MAIN1: u16 = 0x002;
 pub struct Mic2Interpreter;
 
 impl Interpreter for Mic2Interpreter {
-    ghost use Rattle.machine_words.specs.declared.machine.Machine.TheVariants as machines;
-    ghost use Rattle.shipped_program.specs.Shipped.{HasShipped};
+    ghost use Rattle.mic_words.specs.declared.machine.Machine.TheVariants as machines;
+    ghost use Rattle.mal_shipped.specs.Shipped.{HasShipped};
 
     type Machine = Mic2;
 

@@ -1,17 +1,17 @@
 //! What each instruction takes of Mic-2, with its stalls.
 
 ghost use Rattle.std.specs.Prelude.{◌≡◌, ◌+◌, ◌<◌, ℕ, List, Some};
-ghost use Rattle.machine_words.specs.declared.machine.Machine.TheVariants.{Mic2};
+ghost use Rattle.mic_words.specs.declared.machine.Machine.TheVariants.{Mic2};
 ghost use Rattle.mic2_datapath.specs.Mic2.{mic2_meaning};
-ghost use Rattle.ijvm_paths.specs.Accepted.{VerifiedView};
-ghost use Rattle.shipped_program.specs.Shipped.{HasShipped};
+ghost use Rattle.verifier_facts.specs.Accepted.{VerifiedView};
+ghost use Rattle.mal_shipped.specs.Shipped.{HasShipped};
 ghost use Rattle.ijvm_simulation.specs.Stands.{Origin};
 ghost use Rattle.mic_clock.specs.Run.{turns};
 ghost use Rattle.ijvm_instr.specs.declared.instr.Instr.{Instr};
 ghost use Rattle.ijvm_instr.specs.Instructions.{instr_at};
-ghost use Rattle.ijvm_run.specs.Frames.{State};
-ghost use Rattle.ijvm_run.specs.Step.{Limits, outcome};
-ghost use Rattle.ijvm_run.specs.Run.{Point, first_point};
+ghost use Rattle.ijvm_meaning.specs.Frames.{State};
+ghost use Rattle.ijvm_meaning.specs.Step.{Limits, outcome};
+ghost use Rattle.ijvm_meaning.specs.Run.{Point, first_point};
 ghost use Rattle.ijvm_simulation.specs.Verified.{Loads, program};
 ghost use Rattle.ijvm_simulation.specs.Headline.{reset_run};
 ghost use Rattle.ijvm_simulation.specs.Law.{HaltsAndErrs};

@@ -1,7 +1,7 @@
 //! A word of a control store, for each machine a type of its own.
 
 ghost use Rattle.std.specs.Prelude.{◌≡◌, ℕ, IfSome, IfNone};
-ghost use Rattle.machine_words.specs.declared.machine.Machine.{Machine};
+ghost use Rattle.mic_words.specs.declared.machine.Machine.{Machine};
 ghost use Rattle.micro_word.specs.Words.{IsCanonical};
 
 use micro_word::{Word1, Word2, decode1, decode2, encode1, encode2};
@@ -23,7 +23,7 @@ pub trait MicroWord: Sized {
 }
 
 impl MicroWord for Word1 {
-    ghost use Rattle.machine_words.specs.declared.machine.Machine.TheVariants.{Mic1};
+    ghost use Rattle.mic_words.specs.declared.machine.Machine.TheVariants.{Mic1};
 
     ghost machine = { Mic1 };
 
@@ -39,7 +39,7 @@ impl MicroWord for Word1 {
 }
 
 impl MicroWord for Word2 {
-    ghost use Rattle.machine_words.specs.declared.machine.Machine.TheVariants.{Mic2};
+    ghost use Rattle.mic_words.specs.declared.machine.Machine.TheVariants.{Mic2};
 
     ghost machine = { Mic2 };
 

@@ -1,11 +1,11 @@
 -- At the start of a reached instruction nothing else stands.
 use Rattle.std.proofs.Common.{◌≡◌, ◌≢◌, ℕ, ◌<◌, refl, ap, arith}
 use Rattle.ijvm_image.specs.Image.{ImageView}
-use Rattle.ijvm_paths.specs.Facts.{Accepts, Code, Header}
-use Rattle.ijvm_paths.specs.Kinds.{IsKind, first}
-use Rattle.ijvm_paths.specs.declared.kind.Kind.{Kind}
-use Rattle.ijvm_paths.specs.declared.kind.Kind.TheVariants as kinds
-use Rattle.ijvm_paths.specs.declared.error.VerifyError.TheVariants.{Overlap}
+use Rattle.verifier_facts.specs.Facts.{Accepts, Code, Header}
+use Rattle.verifier_facts.specs.Kinds.{IsKind, first}
+use Rattle.verifier_facts.specs.declared.kind.Kind.{Kind}
+use Rattle.verifier_facts.specs.declared.kind.Kind.TheVariants as kinds
+use Rattle.verifier_facts.specs.declared.error.VerifyError.TheVariants.{Overlap}
 
 pub start_alone : (image : ImageView) (stack_end : ℕ) → Accepts image stack_end → (at : ℕ) (kind : Kind) →
     (kind ≡ kinds.Start → ⊥) → IsKind image at kind → IsKind image at kinds.Start → ⊥

@@ -4,8 +4,8 @@ use Rattle.ijvm_image.specs.Image.{ImageView}
 use Rattle.ijvm_instr.specs.Instructions.{instr_at}
 use Rattle.ijvm_instr.specs.Text.{instr_text}
 use Rattle.ijvm_instr.specs.declared.instr.Instr.{Instr}
-use Rattle.ijvm_paths.specs.Kinds.{IsKind}
-use Rattle.ijvm_paths.specs.declared.kind.Kind.TheVariants.{Start}
+use Rattle.verifier_facts.specs.Kinds.{IsKind}
+use Rattle.verifier_facts.specs.declared.kind.Kind.TheVariants.{Start}
 use Rattle.mal_parser.specs.ProgramText.{parts_text, fallback_of}
 use Rattle.mal_parser.specs.Program.{Program, label_at}
 use Rattle.mic_debugger.specs.View.{ListingView}

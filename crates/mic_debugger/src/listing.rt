@@ -4,7 +4,7 @@ ghost use Rattle.std.specs.Prelude.{◌≡◌, ◌<◌, ◌≤◌, ◌+◌, ◌+
 ghost use Rattle.store_placement.specs.Placement.{Places};
 ghost use Rattle.store_placement.specs.Program.{demands_of};
 ghost use Rattle.ijvm_instr.specs.Instructions.{instr_at};
-ghost use Rattle.ijvm_paths.specs.Kinds.{IsKind};
+ghost use Rattle.verifier_facts.specs.Kinds.{IsKind};
 ghost use Rattle.mic_base.specs.Digits.{hex_text};
 ghost use Rattle.mic_debugger.specs.Book.{Book, IsBookOf, unused_text};
 ghost use Rattle.mic_debugger.specs.Lines.{clocked_line, cycle_text, place_line, place_text, next_line};

@@ -3,9 +3,9 @@
 use console_port::MemoryMap;
 use ijvm_image::Image;
 use ijvm_verifier::{VerifiedImage, verify};
-use machine_words::Machine;
 use mic_base::{MemSink, MemSource};
 use mic_clock::End;
+use mic_words::Machine;
 use micro_word::{Part, Placed, PlacedNext, Store};
 use shipped_microcode::{board1, board2, run_image1, run_image2};
 use std::alloc::{AllocError, Global};

@@ -7,8 +7,8 @@ use Rattle.micro_word.specs.Layout.{word_with, fields_of}
 use Rattle.micro_word.specs.Coding.{row, row_of, op_of, shift_bits, shift_of, mem_bits, mem_of, fetch_bit, bus_code, source_of, a_code, a_of, codes, named, word_of, statement_of}
 use Rattle.micro_word.specs.Words.{has_operation, may_be_a, may_be_b, fits_side, is_mixed, is_valid, IsCanonical, is_row, is_side, is_side_a, are_apart, is_target, is_one_at_most, are_canonical, word_end, is_canonical, decoded_as, SpellsWord}
 pub use Rattle.micro_word.specs.Words.{Valid}
-use Rattle.machine_words.specs.declared.machine.Machine.{Machine}
-use Rattle.machine_words.specs.declared.machine.Machine.TheVariants.{Mic1, Mic2}
+use Rattle.mic_words.specs.declared.machine.Machine.{Machine}
+use Rattle.mic_words.specs.declared.machine.Machine.TheVariants.{Mic1, Mic2}
 use Rattle.micro_word.specs.declared.statement.AluOp.{AluOp}
 use Rattle.micro_word.specs.declared.statement.AluOp.TheVariants as ops
 use Rattle.micro_word.specs.declared.statement.BusSource.{BusSource}

@@ -2,7 +2,7 @@
 use Rattle.std.proofs.Common.{◌≡◌, ℕ, ◌<◌, IsTrue, List, length, replicate, slice_index, slice_set, get_or, subst, sym, inl, inr, get_or-set_same, get_or-set_other}
 use Rattle.std.proofs.lemmas.List.{get_or-replicate}
 use Rattle.std.proofs.lemmas.Bool.{cases_eq}
-use Rattle.machine_words.specs.declared.machine.Machine.{Machine}
+use Rattle.mic_words.specs.declared.machine.Machine.{Machine}
 use Rattle.micro_word.specs.Layout.{fields_of}
 use Rattle.micro_word.specs.Lines.{AreLines}
 use Rattle.micro_word.specs.ControlStore.{AreCanonical, AreDecoded}

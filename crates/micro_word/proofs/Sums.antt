@@ -2,8 +2,8 @@
 use Rattle.micro_word.specs.Words.{word_end}
 use Rattle.std.proofs.Common.{◌≡◌, ℕ, ◌/◌, ◌%◌, ◌^◌, ◌<◌, arith}
 use Rattle.micro_word.specs.Layout.{word_with, fields_of}
-use Rattle.machine_words.specs.declared.machine.Machine.{Machine}
-use Rattle.machine_words.specs.declared.machine.Machine.TheVariants.{Mic1, Mic2}
+use Rattle.mic_words.specs.declared.machine.Machine.{Machine}
+use Rattle.mic_words.specs.declared.machine.Machine.TheVariants.{Mic1, Mic2}
 use Rattle.micro_word.specs.declared.layout.Fields.{Fields}
 
 -- where a machine's word has no such field, 0 alone fits

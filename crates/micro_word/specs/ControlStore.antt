@@ -1,6 +1,6 @@
 -- What a control store holds: 512 words, each canonical for its machine.
 use Rattle.std.specs.Prelude.{◌≡◌, ℕ, ◌<◌, List, length, get_or, slice_index, IsTrue}
-use Rattle.machine_words.specs.declared.machine.Machine.{Machine}
+use Rattle.mic_words.specs.declared.machine.Machine.{Machine}
 use Rattle.micro_word.specs.Words.{is_canonical}
 use Rattle.micro_word.specs.Layout.{fields_of}
 use Rattle.micro_word.specs.Lines.{AreLines}

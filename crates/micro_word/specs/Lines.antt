@@ -1,6 +1,6 @@
 -- The control lines of a word: what its fields keep on for a whole cycle, and the places of a datapath that they name.
 use Rattle.std.specs.Prelude.{◌≡◌, ◌≢◌, ℕ, ◌<◌, ◌≤◌, ◌+◌, ◌/◌, ◌%◌, ◌^◌, ◌==◌, ◌||◌, Bool, true, nat_lt, if◌then◌else◌, Option, Some, None}
-use Rattle.machine_words.specs.declared.machine.Machine.{Machine}
+use Rattle.mic_words.specs.declared.machine.Machine.{Machine}
 use Rattle.micro_word.specs.declared.layout.Fields.{Fields}
 use Rattle.micro_word.specs.declared.lines.Lines.{Lines}
 use Rattle.micro_word.specs.declared.lines.TheConstants.{NOTHING, NOWHERE}

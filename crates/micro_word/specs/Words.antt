@@ -1,7 +1,7 @@
 -- Which statements have a word on a machine, and which numbers are the word of one. Each has one spelling: this profile's rule.
 use Rattle.std.specs.Prelude.{◌≡◌, ℕ, Bool, true, false, not, ◌&&◌, ◌||◌, ◌==◌, nat_lt, ◌^◌, is_some, if◌then◌else◌, Option, Some, None, IsTrue}
-use Rattle.machine_words.specs.declared.machine.Machine.{Machine}
-use Rattle.machine_words.specs.declared.machine.Machine.TheVariants.{Mic1, Mic2}
+use Rattle.mic_words.specs.declared.machine.Machine.{Machine}
+use Rattle.mic_words.specs.declared.machine.Machine.TheVariants.{Mic1, Mic2}
 use Rattle.micro_word.specs.declared.statement.AluOp.{AluOp}
 use Rattle.micro_word.specs.declared.statement.AluOp.TheVariants as ops
 use Rattle.micro_word.specs.declared.statement.BusSource.{BusSource}

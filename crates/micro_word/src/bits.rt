@@ -3,7 +3,7 @@ ghost use Rattle.std.specs.Prelude.{◌≡◌, ◌<◌, ◌==◌};
 ghost use Rattle.micro_word.specs.Layout.{fields_of};
 
 use crate::layout::field;
-use machine_words::Machine;
+use mic_words::Machine;
 
 /// JMPC JAMN JAMZ
 pub fn jam(machine: Machine, word: u64) -> u8

@@ -1,10 +1,10 @@
 //! The codes of what drives a bus.
 ghost use Rattle.std.specs.Prelude.{◌≡◌, ◌==◌, find};
-ghost use Rattle.machine_words.specs.declared.machine.Machine.TheVariants.{Mic1, Mic2};
+ghost use Rattle.mic_words.specs.declared.machine.Machine.TheVariants.{Mic1, Mic2};
 ghost use Rattle.micro_word.specs.Coding.{source_code, is_code, bus_code, idle_code, source_of, a_code, a_of};
 
 use crate::statement::{AluOp, BusSource};
-use machine_words::Machine;
+use mic_words::Machine;
 
 fn first_with_code(sources: &[BusSource], machine: Machine, code: u8) -> Option<BusSource>
     ensures { result ≡ find (λ source. is_code code (source_code machine source)) sources.now }

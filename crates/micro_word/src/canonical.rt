@@ -6,7 +6,7 @@ use crate::bus::code_for_nothing;
 use crate::layout::Fields;
 use crate::statement::{AluOp, BusSource};
 use crate::valid::{has_operation, mixes};
-use machine_words::Machine;
+use mic_words::Machine;
 
 fn is_row_of(machine: Machine, gates: u8) -> bool
     ensures { result ≡ is_row machine gates }

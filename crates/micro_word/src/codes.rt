@@ -5,7 +5,7 @@ ghost use Rattle.micro_word.specs.Coding.{shift_bits, shift_of, mem_bits, mem_of
 use crate::bus::{code_of_a, code_on_bus, side_a};
 use crate::layout::Fields;
 use crate::statement::{AluOp, BusSource, Mem, Part, Placed, PlacedNext, Shift, Test};
-use machine_words::Machine;
+use mic_words::Machine;
 
 impl Shift {
     pub fn bits(self) -> u8

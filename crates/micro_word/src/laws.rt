@@ -4,7 +4,7 @@ ghost use Rattle.micro_word.specs.declared.statement.Placed.{Placed};
 ghost use Rattle.micro_word.specs.Coding.{word_of, statement_of};
 ghost use Rattle.micro_word.specs.Words.{is_valid, is_canonical, IsCanonical, SpellsWord, Valid};
 
-use machine_words::Machine;
+use mic_words::Machine;
 
 /// A valid statement meets each condition, its word is canonical, and the word's fields name that statement.
 pub fn statement_law(_machine: Machine)

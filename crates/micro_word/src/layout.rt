@@ -1,6 +1,6 @@
 //! The fields of a word.
 ghost use Rattle.std.specs.Prelude.{◌≡◌, ◌<◌, ◌/◌, ◌%◌, ◌^◌};
-ghost use Rattle.machine_words.specs.declared.machine.Machine.TheVariants.{Mic1, Mic2};
+ghost use Rattle.mic_words.specs.declared.machine.Machine.TheVariants.{Mic1, Mic2};
 ghost use Rattle.micro_word.specs.Layout.{fields_of, word_with};
 
 /// What stands in each field; 0 where the machine's word has no such field.

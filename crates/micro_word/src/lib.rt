@@ -19,7 +19,7 @@ pub use destination::Destination;
 pub use laws::{statement_law, word_law};
 pub use layout::{Fields, fields1, fields2};
 pub use lines::{Lines, NOTHING, NOWHERE, is_named};
-pub use machine_words::Machine;
+pub use mic_words::Machine;
 pub use operation::Row;
 pub use statement::{AluOp, BusSource, Mem, Part, Placed, PlacedNext, Shift, Test};
 pub use store::Store;

@@ -5,7 +5,7 @@ ghost use Rattle.micro_word.specs.Lines.{AreLines, IsSlot, bytes_shown, bytes_ta
 use crate::bus::side_a;
 use crate::layout::Fields;
 use crate::statement::{AluOp, BusSource};
-use machine_words::Machine;
+use mic_words::Machine;
 
 /// The place that holds 0, for a bus that nothing drives.
 pub const NOTHING: u8 = 13;

@@ -9,7 +9,7 @@ use crate::layout::{fields1, fields2};
 use crate::lines::Lines;
 use crate::statement::Placed;
 use crate::word::{encode1, encode2};
-use machine_words::Machine;
+use mic_words::Machine;
 use std::marker::Model;
 
 /// A control store: 512 words, each canonical for its machine.

@@ -4,7 +4,7 @@ ghost use Rattle.micro_word.specs.Coding.{row};
 ghost use Rattle.micro_word.specs.Words.{has_operation, may_be_a, may_be_b, fits_side, is_byte, is_pair, is_mixed, may_fetch, is_part, is_next, is_valid};
 
 use crate::statement::{AluOp, BusSource, Part, Placed, PlacedNext};
-use machine_words::Machine;
+use mic_words::Machine;
 
 pub(crate) fn has_operation(machine: Machine, op: AluOp) -> bool
     ensures { result ≡ has_operation machine op }

@@ -1,6 +1,6 @@
 //! The words of both machines, each exactly one statement's.
 ghost use Rattle.std.specs.Prelude.{◌≡◌, nat_lt, IsTrue, Some, None, IfSome, IfNone};
-ghost use Rattle.machine_words.specs.declared.machine.Machine.TheVariants.{Mic1, Mic2};
+ghost use Rattle.mic_words.specs.declared.machine.Machine.TheVariants.{Mic1, Mic2};
 ghost use Rattle.micro_word.specs.declared.statement.Placed.{Placed};
 ghost use Rattle.micro_word.specs.Layout.{fields_of};
 ghost use Rattle.micro_word.specs.Coding.{word_of, statement_of};
@@ -8,7 +8,7 @@ ghost use Rattle.micro_word.specs.Words.{is_valid, IsCanonical, is_canonical, de
 
 use crate::layout::{Fields, fields1, fields2, word_with1, word_with2};
 use crate::statement::Placed;
-use machine_words::Machine;
+use mic_words::Machine;
 use std::marker::Model;
 
 /// A canonical word of Mic-1.
@@ -19,7 +19,7 @@ pub struct Word1 {
 
 impl Model for Word1 {
     ghost use Rattle.std.specs.Prelude.{ℕ, IsTrue};
-    ghost use Rattle.machine_words.specs.declared.machine.Machine.TheVariants.{Mic1};
+    ghost use Rattle.mic_words.specs.declared.machine.Machine.TheVariants.{Mic1};
     ghost use Rattle.micro_word.specs.Words.{is_canonical};
 
     ghost Value = { ℕ };
@@ -39,7 +39,7 @@ pub struct Word2 {
 
 impl Model for Word2 {
     ghost use Rattle.std.specs.Prelude.{ℕ, IsTrue};
-    ghost use Rattle.machine_words.specs.declared.machine.Machine.TheVariants.{Mic2};
+    ghost use Rattle.mic_words.specs.declared.machine.Machine.TheVariants.{Mic2};
     ghost use Rattle.micro_word.specs.Words.{is_canonical};
 
     ghost Value = { ℕ };

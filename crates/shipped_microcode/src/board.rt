@@ -1,7 +1,7 @@
 //! The board of each machine over a verified image, with any microprogram.
 
 ghost use Rattle.std.specs.Prelude.{◌≡◌, ◌<◌, [], List, ℕ, Option, None, false, replicate, IfOk};
-ghost use Rattle.machine_words.specs.declared.machine.Machine.TheVariants as machines;
+ghost use Rattle.mic_words.specs.declared.machine.Machine.TheVariants as machines;
 ghost use Rattle.console_port.specs.World.{World};
 ghost use Rattle.console_port.specs.Bus.{Shows};
 ghost use Rattle.console_port.specs.Loading.{IsLoaded};

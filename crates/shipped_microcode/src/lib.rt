@@ -5,6 +5,6 @@ mod board;
 
 pub use board::{board1, board2};
 pub use ijvm_simulation::{Interpreter, run_image};
+pub use mal_shipped::{Loaded, load_micro, shipped_program, shipped_text};
 pub use mic1_interpreter::{Mic1Interpreter, run_image1};
 pub use mic2_interpreter::{Mic2Interpreter, run_image2};
-pub use shipped_program::{Loaded, load_micro, shipped_program, shipped_text};

@@ -7,8 +7,8 @@ use Rattle.std.proofs.lemmas.List.{drop_more, drop_all, ext_get_or, length-appen
 use borrow.Author.Count.{below_more}
 use Rattle.std.specs.Cmp.Lexicographic.{same_text}
 use Rattle.std.proofs.lemmas.List.FromFn.{length-map-range_with_len, get_or-map-range_with_len}
-use Rattle.machine_words.specs.declared.machine.Machine.{Machine}
-use Rattle.machine_words.specs.declared.machine.Machine.TheVariants.{Mic1, Mic2}
+use Rattle.mic_words.specs.declared.machine.Machine.{Machine}
+use Rattle.mic_words.specs.declared.machine.Machine.TheVariants.{Mic1, Mic2}
 use Rattle.micro_word.specs.Words.{is_canonical}
 use Rattle.micro_word.specs.ControlStore.{ControlStore, IsStore}
 use Rattle.store_placement.specs.First.{IsFirst}

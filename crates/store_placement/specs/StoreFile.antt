@@ -1,8 +1,8 @@
 -- The store file: the magic of the machine, then the 512 words, five bytes each with the most significant first.
 use Rattle.std.specs.Prelude.{◌≡◌, ◌≢◌, ℕ, ◌+◌, ◌*◌, ◌/◌, ◌%◌, ◌^◌, ◌<◌, Bool, not, if◌then◌else◌, List, [], ◌∷◌, ◌++◌, Option, Some, None, length, slice_index, codes, nat_eq}
 use Rattle.std.specs.List.{flat_map, starts_with}
-use Rattle.machine_words.specs.declared.machine.Machine.{Machine}
-use Rattle.machine_words.specs.declared.machine.Machine.TheVariants.{Mic1, Mic2}
+use Rattle.mic_words.specs.declared.machine.Machine.{Machine}
+use Rattle.mic_words.specs.declared.machine.Machine.TheVariants.{Mic1, Mic2}
 use Rattle.micro_word.specs.Words.{is_canonical}
 use Rattle.micro_word.specs.ControlStore.{ControlStore}
 use Rattle.store_placement.specs.declared.store_error.StoreError.{StoreError}

@@ -1,6 +1,6 @@
 //! The control store of a placed program.
 ghost use Rattle.std.specs.Prelude.{◌≡◌, ◌≢◌, ◌<◌, ℕ, Some, length, slice_get, slice_index, IsTrue, MatchOption};
-ghost use Rattle.machine_words.specs.declared.machine.Machine.{Machine};
+ghost use Rattle.mic_words.specs.declared.machine.Machine.{Machine};
 ghost use Rattle.micro_word.specs.Words.{is_valid};
 ghost use Rattle.mal_parser.specs.declared.statement.Statement.{Statement};
 ghost use Rattle.mal_parser.specs.Program.{IsProgram};

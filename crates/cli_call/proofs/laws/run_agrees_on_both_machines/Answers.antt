@@ -1,13 +1,13 @@
 use Rattle.std.proofs.Common.{◌≡◌, ◌≢◌, ℕ, List, Some}
 use Rattle.mic_base.specs.Files.{Contents}
-use Rattle.machine_words.specs.declared.machine.Machine.TheVariants.{Mic1, Mic2}
+use Rattle.mic_words.specs.declared.machine.Machine.TheVariants.{Mic1, Mic2}
 use Rattle.console_port.specs.declared.map.MemoryMap.{MemoryMap}
 use Rattle.mic1_datapath.specs.Mic1.{mic1_meaning, IsReady as IsReady1}
 use Rattle.mic1_datapath.specs.View.{micro_of as micro_of1}
 use Rattle.mic2_datapath.specs.Mic2.{mic2_meaning, IsReady as IsReady2}
 use Rattle.mic2_datapath.specs.View.{micro_of as micro_of2}
-use Rattle.shipped_program.specs.Shipped.{HasShipped}
-use Rattle.ijvm_paths.specs.Accepted.{VerifiedView}
+use Rattle.mal_shipped.specs.Shipped.{HasShipped}
+use Rattle.verifier_facts.specs.Accepted.{VerifiedView}
 use Rattle.cli_outside.specs.Status as exits
 use Rattle.cli_outside.specs.Outside.{OutsideView}
 use Rattle.cli_words.specs.Words.{Run}

@@ -1,7 +1,7 @@
 use Rattle.std.proofs.Common.{◌≡◌, ◌*◌, ℕ, Some, length}
 use Rattle.std.specs.Prelude.{slice_get}
-use Rattle.ijvm_paths.specs.declared.kind.Kind.{Kind}
-use Rattle.ijvm_paths.specs.Kinds.{IsKind}
+use Rattle.verifier_facts.specs.declared.kind.Kind.{Kind}
+use Rattle.verifier_facts.specs.Kinds.{IsKind}
 use Rattle.ijvm_verifier.specs.Sweep.{IsSwept}
 use Rattle.ijvm_verifier.proofs.sweep.sweep_all.Given as goal
 

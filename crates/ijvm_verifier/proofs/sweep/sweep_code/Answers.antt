@@ -2,8 +2,8 @@ use Rattle.std.proofs.Common.{◌≡◌, ◌<◌, ◌+◌, ◌*◌, ◌∙◌, r
 use Rattle.std.specs.Prelude.{slice_get}
 use Rattle.std.proofs.lemmas.Option.{slice_get-get_or}
 use Rattle.ijvm_instr.specs.Instructions.{row_of, size_of}
-use Rattle.ijvm_paths.specs.Paths.{HasRow}
-use Rattle.ijvm_paths.specs.Facts.{Code}
+use Rattle.verifier_facts.specs.Paths.{HasRow}
+use Rattle.verifier_facts.specs.Facts.{Code}
 use Rattle.ijvm_verifier.proofs.Swept.{swept_skip, swept_add, swept_clash, code_none, code_only, code_covers}
 use Rattle.ijvm_verifier.proofs.sweep.sweep_code.Goals as goal
 

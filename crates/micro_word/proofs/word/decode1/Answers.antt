@@ -1,5 +1,5 @@
 use Rattle.std.proofs.Common.{◌≡◌, IsTrue, Option, IfSome, sym, subst, ◌∙◌}
-use Rattle.machine_words.specs.declared.machine.Machine.TheVariants.{Mic1}
+use Rattle.mic_words.specs.declared.machine.Machine.TheVariants.{Mic1}
 use Rattle.micro_word.specs.declared.statement.Placed.{Placed}
 use Rattle.micro_word.specs.Coding.{word_of}
 use Rattle.micro_word.specs.Words.{is_valid}

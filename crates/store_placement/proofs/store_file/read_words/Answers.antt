@@ -1,5 +1,5 @@
 use Rattle.std.proofs.Common.{◌≡◌, false, not, refl, sym, ap, ◌∙◌}
-use Rattle.machine_words.specs.declared.machine.Machine.{Machine}
+use Rattle.mic_words.specs.declared.machine.Machine.{Machine}
 use Rattle.micro_word.specs.Coding.{word_of}
 use Rattle.micro_word.specs.Words.{is_canonical}
 use Rattle.store_placement.specs.StoreFile.{is_bad}

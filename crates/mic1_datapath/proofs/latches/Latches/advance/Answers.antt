@@ -1,12 +1,12 @@
 use Rattle.std.proofs.Common.{◌≡◌, ℕ, ◌<◌, true, subst, sym, ap, ◌∙◌, arith}
-use Rattle.machine_words.specs.Arithmetic.{signed_byte}
-use Rattle.machine_words.specs.declared.machine.Machine.TheVariants.{Mic1}
+use Rattle.mic_words.specs.Arithmetic.{signed_byte}
+use Rattle.mic_words.specs.declared.machine.Machine.TheVariants.{Mic1}
 use Rattle.micro_word.specs.Coding.{statement_of}
 use Rattle.micro_word.specs.Operation.{shifted}
 use Rattle.micro_word.specs.declared.layout.Fields.{Fields}
-use Rattle.datapath.specs.Places.{registers_at}
-use Rattle.datapath.specs.Registers.{NineRegisters, arrived, loaded}
-use Rattle.datapath.specs.Next.{target}
+use Rattle.mic_datapath.specs.Places.{registers_at}
+use Rattle.mic_datapath.specs.Registers.{NineRegisters, arrived, loaded}
+use Rattle.mic_datapath.specs.Next.{target}
 use Rattle.mic1_datapath.specs.Microstep.{result_of, registers_in}
 use Rattle.mic1_datapath.specs.Latches.{micro_in, reads, fetches, under_way}
 use Rattle.mic1_datapath.proofs.UnderWay.{kept_under_way}

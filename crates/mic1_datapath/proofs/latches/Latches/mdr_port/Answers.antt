@@ -1,5 +1,5 @@
 use Rattle.std.proofs.Common.{◌∙◌}
-use Rattle.datapath.specs.Registers.{arrived}
+use Rattle.mic_datapath.specs.Registers.{arrived}
 use Rattle.mic1_datapath.proofs.latches.Latches.mdr_port.Goals as goal
 
 pub returns : goal.returns

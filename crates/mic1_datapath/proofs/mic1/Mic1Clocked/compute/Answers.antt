@@ -1,9 +1,9 @@
 use Rattle.std.proofs.Common.{◌≡◌, ℕ, ◌/◌, ◌%◌, ◌==◌, sym, ap, ◌∙◌}
 use Rattle.micro_word.specs.Coding.{statement_of, shift_of}
-use Rattle.machine_words.specs.Arithmetic.{is_negative}
+use Rattle.mic_words.specs.Arithmetic.{is_negative}
 use Rattle.micro_word.specs.Operation.{alu, shifted}
 use Rattle.micro_word.specs.declared.layout.Fields.{Fields}
-use Rattle.machine_words.specs.declared.machine.Machine.TheVariants as machines
+use Rattle.mic_words.specs.declared.machine.Machine.TheVariants as machines
 use Rattle.mic1_alu.specs.Gates.{enabled}
 use Rattle.mic1_datapath.specs.Microstep.{result_of}
 use Rattle.mic1_datapath.specs.Mic1.{computed}

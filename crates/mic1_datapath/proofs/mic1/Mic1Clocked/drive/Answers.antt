@@ -1,6 +1,6 @@
 use Rattle.std.proofs.Common.{◌≡◌, ℕ, false, slice_index, ap, ◌∙◌}
 use Rattle.micro_word.specs.Coding.{statement_of}
-use Rattle.machine_words.specs.declared.machine.Machine.TheVariants as machines
+use Rattle.mic_words.specs.declared.machine.Machine.TheVariants as machines
 use Rattle.mic1_datapath.specs.Microstep.{source}
 use Rattle.mic1_datapath.specs.Mic1.{driven}
 use Rattle.mic1_datapath.specs.Latches.{micro_in}

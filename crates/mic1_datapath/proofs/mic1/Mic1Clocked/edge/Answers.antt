@@ -5,9 +5,9 @@ use Rattle.console_port.specs.declared.fault.BusFault.TheVariants as faults
 use Rattle.micro_word.specs.Coding.{statement_of, mem_of}
 use Rattle.micro_word.specs.Layout.{fields_of}
 use Rattle.micro_word.specs.declared.statement.Mem.TheVariants as mems
-use Rattle.machine_words.specs.declared.machine.Machine.TheVariants as machines
-use Rattle.datapath.specs.Memory.{access_refusal}
-use Rattle.datapath.specs.declared.ports.Ports.{Ports}
+use Rattle.mic_words.specs.declared.machine.Machine.TheVariants as machines
+use Rattle.mic_datapath.specs.Memory.{access_refusal}
+use Rattle.mic_datapath.specs.declared.ports.Ports.{Ports}
 use Rattle.mic1_datapath.specs.Micro.{Micro}
 use Rattle.mic1_datapath.specs.Microstep.{assigned, ports_of, settled, moved}
 use Rattle.mic1_datapath.specs.Mic1.{step_of_word}

@@ -1,9 +1,9 @@
 use Rattle.std.proofs.Common.{◌≡◌, true, false, sym, ◌∙◌, subst}
-use Rattle.machine_words.specs.declared.machine.Machine.TheVariants.{Mic1}
+use Rattle.mic_words.specs.declared.machine.Machine.TheVariants.{Mic1}
 use Rattle.mal_parser.specs.Program.{Program}
 use Rattle.store_placement.specs.Placement.{HasPlacement}
 use Rattle.store_placement.specs.Program.{demands_of}
-use Rattle.shipped_program.specs.Listing.{listed_program, addresses_of}
+use Rattle.mal_shipped.specs.Listing.{listed_program, addresses_of}
 use Rattle.mic1_interpreter.proofs.Store.{has_placement, of_mic1}
 use Rattle.mic1_interpreter.proofs.interpreter.Mic1InterpreterInterpreter.store.Goals as goal
 

@@ -1,5 +1,5 @@
 use Rattle.std.proofs.Common.{refl, subst, ◌∙◌}
-use Rattle.machine_words.specs.declared.machine.Machine.TheVariants as machines
+use Rattle.mic_words.specs.declared.machine.Machine.TheVariants as machines
 use Rattle.micro_word.specs.Layout.{fields_of}
 use Rattle.micro_word.specs.Lines.{AreLines, bytes_taken}
 use Rattle.micro_word.specs.declared.layout.Fields.{Fields}

@@ -1,6 +1,6 @@
 use Rattle.std.proofs.Common.{ℕ, IsTrue, slice_index, ap, sym, subst, ◌∙◌}
-use Rattle.machine_words.specs.declared.machine.Machine.{Machine}
-use Rattle.machine_words.specs.declared.machine.Machine.TheVariants as machines
+use Rattle.mic_words.specs.declared.machine.Machine.{Machine}
+use Rattle.mic_words.specs.declared.machine.Machine.TheVariants as machines
 use Rattle.micro_word.specs.Words.{is_canonical}
 use Rattle.micro_word.specs.Coding.{statement_of}
 use Rattle.micro_word.specs.Layout.{fields_of}

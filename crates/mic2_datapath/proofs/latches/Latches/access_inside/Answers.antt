@@ -1,9 +1,9 @@
 use Rattle.std.proofs.Common.{[], ℕ, length, refl, sym, ap, ◌∙◌}
 use Rattle.console_port.specs.World.{World}
 use Rattle.micro_word.specs.declared.statement.Mem.TheVariants as mems
-use Rattle.datapath.specs.Memory.{memory_refusal, ports_with}
-use Rattle.datapath.specs.Places.{registers_at}
-use Rattle.datapath.specs.Registers.{loaded}
+use Rattle.mic_datapath.specs.Memory.{memory_refusal, ports_with}
+use Rattle.mic_datapath.specs.Places.{registers_at}
+use Rattle.mic_datapath.specs.Registers.{loaded}
 use Rattle.mic2_datapath.specs.Latches.{access_by}
 use Rattle.mic2_datapath.proofs.Inside.{first_clear, size_is}
 use Rattle.mic2_datapath.proofs.latches.Latches.access_inside.Goals as goal

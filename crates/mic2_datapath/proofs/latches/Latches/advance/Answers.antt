@@ -1,11 +1,11 @@
 use Rattle.std.proofs.Common.{◌≡◌, ℕ, ap, sym, subst, ◌∙◌, ◌≤◌, Option, length}
-use Rattle.machine_words.specs.declared.machine.Machine.TheVariants as machines
+use Rattle.mic_words.specs.declared.machine.Machine.TheVariants as machines
 use Rattle.micro_word.specs.Coding.{statement_of}
 use Rattle.micro_word.specs.Lines.{names}
 use Rattle.micro_word.specs.Operation.{shifted}
 use Rattle.micro_word.specs.declared.layout.Fields.{Fields}
-use Rattle.datapath.specs.Places.{registers_at}
-use Rattle.datapath.specs.Registers.{loaded}
+use Rattle.mic_datapath.specs.Places.{registers_at}
+use Rattle.mic_datapath.specs.Registers.{loaded}
 use Rattle.mic2_fetch_unit.specs.FetchUnit.{sample_refusal}
 use Rattle.mic2_datapath.specs.Microstep.{advanced, jumps, operand_bytes, registers_in, result_of, settled}
 use Rattle.mic2_datapath.specs.Latches.{micro_in}

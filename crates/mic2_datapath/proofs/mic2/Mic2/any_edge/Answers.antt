@@ -4,8 +4,8 @@ use Rattle.console_port.specs.Console.{IsFault}
 use Rattle.console_port.specs.declared.fault.BusFault.TheVariants as faults
 use Rattle.mic2_datapath.proofs.Demands.{are_there}
 use Rattle.micro_word.specs.Coding.{statement_of, mem_of}
-use Rattle.machine_words.specs.declared.machine.Machine.TheVariants as machines
-use Rattle.datapath.specs.declared.ports.Ports.{Ports}
+use Rattle.mic_words.specs.declared.machine.Machine.TheVariants as machines
+use Rattle.mic_datapath.specs.declared.ports.Ports.{Ports}
 use Rattle.mic2_fetch_unit.specs.FetchUnit.{edge_refusal}
 use Rattle.mic2_datapath.specs.Micro.{Micro}
 use Rattle.mic2_datapath.specs.Microstep.{is_stalled}

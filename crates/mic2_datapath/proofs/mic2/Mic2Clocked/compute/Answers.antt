@@ -1,6 +1,6 @@
 use Rattle.std.proofs.Common.{◌≡◌, ℕ, ◌/◌, ◌%◌, ◌==◌, Bool, true, false, Option, None, if◌then◌else◌, sym, ap, ◌∙◌}
-use Rattle.machine_words.specs.Arithmetic.{is_negative}
-use Rattle.machine_words.specs.declared.machine.Machine.TheVariants as machines
+use Rattle.mic_words.specs.Arithmetic.{is_negative}
+use Rattle.mic_words.specs.declared.machine.Machine.TheVariants as machines
 use Rattle.micro_word.specs.Words.{may_be_b}
 use Rattle.micro_word.specs.Coding.{statement_of, shift_of}
 use Rattle.micro_word.specs.Layout.{fields_of}

@@ -8,8 +8,8 @@ use Rattle.micro_word.specs.Coding.{statement_of}
 use Rattle.micro_word.specs.Operation.{shifted}
 use Rattle.micro_word.specs.declared.statement.Mem.TheVariants as mems
 use Rattle.mic_clock.specs.Edge.{AnswersRefusal, LetsBytesWait}
-use Rattle.machine_words.specs.declared.machine.Machine.TheVariants as machines
-use Rattle.datapath.specs.Memory.{memory_refusal}
+use Rattle.mic_words.specs.declared.machine.Machine.TheVariants as machines
+use Rattle.mic_datapath.specs.Memory.{memory_refusal}
 use Rattle.mic2_fetch_unit.specs.FetchUnit.{sample_refusal}
 use Rattle.mic2_datapath.specs.Micro.{Micro}
 use Rattle.mic2_datapath.specs.Microstep.{jumps}

@@ -2,8 +2,8 @@ use Rattle.std.proofs.Common.{◌≡◌, ℕ, List, ◌++◌, codes, Some, refl,
 use Rattle.mic_base.specs.Digits.{hex_text}
 use Rattle.ijvm_instr.specs.Instructions.{instr_at}
 use Rattle.ijvm_instr.specs.Text.{instr_text}
-use Rattle.ijvm_paths.specs.Kinds.{IsKind}
-use Rattle.ijvm_paths.specs.declared.kind.Kind.TheVariants.{Start}
+use Rattle.verifier_facts.specs.Kinds.{IsKind}
+use Rattle.verifier_facts.specs.declared.kind.Kind.TheVariants.{Start}
 use Rattle.mic_debugger.specs.View.{ListingView}
 use Rattle.mic_debugger.proofs.listing.Listing.instruction.Goals as goal
 

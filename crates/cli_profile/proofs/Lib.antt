@@ -1,5 +1,0 @@
-pub mod Names
-pub mod Ordered
-pub mod Listed
-pub mod Printed
-pub mod Counting

@@ -1,0 +1,41 @@
+//! What is said of a byte of the text, and of a number.
+
+ghost use Rattle.std.specs.Prelude.{◌≡◌, ◌≤◌, ◌+◌, ◌++◌, length};
+ghost use Rattle.std.specs.Fmt.{decimal};
+ghost use Rattle.cli_program_texts.specs.Refusals.{of_byte};
+
+use cli_outside::{addressed, number, numbered};
+use mic_base::Line;
+
+/// What is said of the byte at an address.
+pub fn at_byte(at: u32, text: &str) -> Line
+    requires { length text.now ≤ 400 }
+    ensures text { result ≡ of_byte at ++ text.now }
+    ensures len { length result ≡ length text.now + 10 }
+{
+    let mut line = addressed(": ", at);
+    line.text(text);
+    line
+}
+
+/// What is said of the byte at an address, up to a number.
+pub fn numbered_at(at: u32, text: &str, value: u64) -> Line
+    requires { length text.now ≤ 400 }
+    ensures text { result ≡ of_byte at ++ text.now ++ decimal value }
+    ensures len { length result ≤ length text.now + 30 }
+{
+    let mut line = addressed(": ", at);
+    number(&mut line, text, value);
+    line
+}
+
+/// A number between two texts.
+pub fn number_between(before: &str, value: u64, behind: &str) -> Line
+    requires { length before.now + length behind.now ≤ 400 }
+    ensures text { result ≡ before.now ++ decimal value ++ behind.now }
+    ensures len { length result ≤ length before.now + length behind.now + 20 }
+{
+    let mut line = numbered(before, value);
+    line.text(behind);
+    line
+}

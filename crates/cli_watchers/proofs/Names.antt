@@ -1,0 +1,10 @@
+-- Each row has the name of its instructions.
+use Rattle.std.proofs.Common.{◌≡◌, refl}
+use Rattle.ijvm_instr.specs.declared.instr.Instr.{Instr}
+use Rattle.ijvm_instr.specs.declared.instr.Instr.TheVariants as instrs
+use Rattle.ijvm_instr.specs.Instructions.{name_of}
+use Rattle.cli_watchers.specs.Rows.{row_name, row_number}
+
+pub named : (i : Instr) → row_name (row_number i) ≡ name_of i
+named instrs.Nop = refl
+named _ = refl

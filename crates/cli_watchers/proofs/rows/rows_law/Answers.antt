@@ -1,0 +1,5 @@
+use Rattle.cli_watchers.proofs.Names.{named}
+use Rattle.cli_watchers.proofs.rows.rows_law.Goals as goal
+
+pub returns : goal.returns
+returns c = named

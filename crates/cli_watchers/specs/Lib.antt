@@ -1,0 +1,5 @@
+pub mod Naming
+pub mod Lines
+pub mod Rows
+pub mod Profile
+pub mod Counted

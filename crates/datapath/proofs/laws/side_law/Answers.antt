@@ -1,5 +1,0 @@
-use Rattle.datapath.proofs.Sides.{side_passes}
-use Rattle.datapath.proofs.laws.side_law.Goals as goal
-
-pub returns : goal.returns
-returns c = side_passes

@@ -1,0 +1,66 @@
+-- What the console keeps, from what its own calls promise.
+use Rattle.std.proofs.Common.{◌≡◌, ◌≢◌, ◌<◌, ◌≤◌, ℕ, Bool, true, false, nat_lt, List, [], ◌∷◌, ◌++◌, length, length-append, Option, Some, IfSome, refl, sym, ap, subst, ◌∙◌, arith}
+use Rattle.std.proofs.lemmas.Bool.Decides.{nat_tests}
+use Rattle.console_port.specs.View.{ConsoleView}
+use Rattle.console_port.specs.Console.{Untaken, Asks, TellsLeft}
+use Rattle.ijvm_instr.specs.declared.instr.Instr.{Instr}
+use Rattle.ijvm_instr.specs.declared.instr.Instr.TheVariants.{In, Out}
+use Rattle.ijvm_reference.specs.Kept.{is_empty, WritesOut, HasRead, HasKept}
+
+-- the source, asked for a byte
+abbrev pub AsksOf : Option (List ℕ) → Option (List ℕ) → ConsoleView → ConsoleView → Type 0
+AsksOf left left' c c' = (bytes : List ℕ) → c.ended ≡ false → left ≡ Some bytes → Asks bytes left' c'.ended
+
+ended_by : (bytes untaken : List ℕ) (left' : Option (List ℕ)) (ended : Bool) → Asks bytes left' ended → untaken ≡ bytes → ended ≡ is_empty untaken
+ended_by [] untaken left' ended asks same = asks.1 ∙ sym (ap is_empty same)
+ended_by (b ∷ rest) untaken left' ended asks same = asks.1 ∙ sym (ap is_empty same)
+
+told_bytes : (left : Option (List ℕ)) (bytes untaken : List ℕ) (ended : Bool) → left ≡ Some bytes → ended ≡ false → Untaken left ended untaken → untaken ≡ bytes
+told_bytes left bytes untaken ended is not_ended h =
+    let here : Untaken left false untaken = subst (λ (b : Bool). Untaken left b untaken) not_ended h in
+    subst (λ (l : Option (List ℕ)). IfSome l (λ x. untaken ≡ x)) is here
+
+pub take_reads : (left left' : Option (List ℕ)) (c c' : ConsoleView) → (c.ended ≡ true → c' ≡ c) → (c.ended ≡ false → c'.kept ≡ []) → AsksOf left left' c c' → HasRead left c c'
+take_reads left left' c c' later emptied asks = λ told untaken tell here. record {
+  later = later;
+  emptied = emptied;
+  end = λ not_ended is.
+      let t : TellsLeft left c.ended = tell is in
+      ended_by t.bytes untaken left' c'.ended (asks t.bytes not_ended t.tells) (told_bytes left t.bytes untaken c.ended t.tells not_ended here);
+}
+
+pub give_writes : (byte : ℕ) (c c' : ConsoleView) → c'.ended ≡ c.ended → (length c.kept < 4096 → c'.kept ≡ c.kept ++ byte ∷ []) → (length c.kept ≡ 4096 → c'.kept ≡ byte ∷ []) → WritesOut c c'
+give_writes byte c c' ended roomy full =
+    record {
+      ended = ended;
+      more = λ h. ap length (roomy h) ∙ length-append c.kept (byte ∷ []);
+      full = λ h. ap length (full h);
+    }
+
+pub not_roomy : (n : ℕ) → (n < 4096 → ⊥) → 4096 ≤ n
+not_roomy n full = by_test (nat_lt n 4096) refl
+  where
+    by_test : (t : Bool) → nat_lt n 4096 ≡ t → 4096 ≤ n
+    by_test true e = absurd (full (grind (arith, nat_tests)))
+    by_test false e = grind (arith, nat_tests)
+
+pub kept_read : (left : Option (List ℕ)) (i : Option Instr) (c c' : ConsoleView) → i ≡ Some In → HasRead left c c' → HasKept left i c c'
+kept_read left i c c' is reads = λ told untaken tell here. record {
+  read = λ e. reads told untaken tell here;
+  write = λ e. absurd (let differ : Some In ≡ Some Out = sym is ∙ e in cc);
+  other = λ n m. absurd (n is);
+}
+
+pub kept_written : (left : Option (List ℕ)) (i : Option Instr) (c c' : ConsoleView) → i ≡ Some Out → WritesOut c c' → HasKept left i c c'
+kept_written left i c c' is writes = λ told untaken tell here. record {
+  read = λ e. absurd (let differ : Some Out ≡ Some In = sym is ∙ e in cc);
+  write = λ e. writes;
+  other = λ n m. absurd (m is);
+}
+
+pub kept_same : (left : Option (List ℕ)) (i : Option Instr) (c : ConsoleView) → i ≢ Some In → i ≢ Some Out → HasKept left i c c
+kept_same left i c not_in not_out = λ told untaken tell here. record {
+  read = λ e. absurd (not_in e);
+  write = λ e. absurd (not_out e);
+  other = λ n m. refl;
+}

@@ -1,0 +1,334 @@
+-- A turn of a run, from the step of its frames.
+use Rattle.std.proofs.Common.{◌≡◌, ◌<◌, ◌≤◌, ℕ, zero, suc, ◌+◌, Bool, true, List, [], ◌++◌, take, drop, append_assoc, Option, Some, None, IfSome, Result, Ok, Err, refl, sym, ap, ap₂, subst, ◌∙◌}
+use Rattle.std.specs.declared.alloc.AllocError.{AllocError}
+use Rattle.std.proofs.lemmas.List.{take-append-drop}
+use Rattle.std.proofs.lemmas.Bool.{lt-leb, le-leb}
+use Rattle.mic_words.specs.declared.machine.Machine.{Machine}
+use Rattle.console_port.specs.View.{ConsoleView}
+use Rattle.console_port.specs.Console.{Untaken, Given, IsLost, TellsLeft}
+use Rattle.ijvm_reference.specs.declared.frames.StepEnd.TheVariants as steps
+use Rattle.ijvm_reference.specs.declared.frames.StepError.{StepError}
+use Rattle.ijvm_reference.specs.declared.frames.StepError.TheVariants as errors
+use Rattle.ijvm_meaning.specs.declared.run.RunEnd.TheVariants as defined
+use Rattle.ijvm_reference.specs.declared.plain.PlainEnd.{PlainEnd}
+use Rattle.ijvm_reference.specs.declared.plain.PlainEnd.TheVariants as ends
+use Rattle.ijvm_instr.specs.Instructions.{instr_at}
+use Rattle.mic_base.specs.Streams.{Holds}
+use Rattle.ijvm_reference.specs.declared.plain.Counts.{Counts}
+use Rattle.ijvm_image.specs.Image.{ImageView}
+use Rattle.ijvm_meaning.specs.Frames.{State}
+use Rattle.ijvm_meaning.specs.Step.{Outcome, Halts, Errs, Limits, outcome}
+use Rattle.ijvm_meaning.specs.Cost.{next_cost}
+use Rattle.ijvm_meaning.specs.Run.{Program, Point, Finish, point_after, completed, stopped, after_outcome, after_test, finish_from, EndsBy, Passes, Start, More}
+use Rattle.ijvm_reference.specs.Machine.{MachineView, KeepsProgram, state_of}
+use Rattle.ijvm_reference.specs.Steps.{IsLedOn, Does, IsCutOff, IsMetBy}
+use Rattle.ijvm_reference.proofs.Costs.{next_cost-least}
+use Rattle.ijvm_reference.proofs.SafeLemmas.{some_untaken, some_given}
+use Rattle.ijvm_reference.proofs.Limited.{limits-same, same_frames}
+use Rattle.ijvm_reference.specs.Kept.{HasKept}
+use Rattle.ijvm_reference.specs.Runs.{program_of, point_at, RunEndsWith, IsAllBut, IsCut, StoppedBy, IsShown, LedTo, GoesOn, Reaches, Begins, Onward, cut_by}
+
+-- what a step leads to, told in other words
+pub led_as : (left held : Option (List ℕ)) (c : ConsoleView) (left' held' : Option (List ℕ)) (c' : ConsoleView) (P Q : List ℕ → List ℕ → List ℕ → List ℕ → Type 0) →
+    IsLedOn left held c left' held' c' P → ((u g u' g' : List ℕ) → Untaken left c.ended u → P u g u' g' → Q u g u' g') → LedTo Given left held c left' held' c' Q
+led_as left held c left' held' c' P Q led told = λ rest here.
+    let first = led rest here in (
+      first.0,
+      first.1,
+      λ given shown.
+          let next = first.2 given shown in
+          (next.0, next.1, told first.0 given rest next.0 first.1 next.2),
+    )
+
+pub goes_on : (told : Bool) (left : Option (List ℕ)) (c c' : ConsoleView) (bound : ℕ) (machine : Machine) (old new : MachineView) (cycles instructions cycles' instructions' cost : ℕ) (u g u' g' : List ℕ) →
+    (told ≡ true → TellsLeft left c.ended) → HasKept left (instr_at old.image.text old.at) c c' → cycles < bound →
+    cost ≡ next_cost old.image machine (state_of old [] []) → cycles' ≡ cycles + cost → instructions' ≡ instructions + 1 → Untaken left c.ended u → Does steps.Went old new u g u' g' →
+    GoesOn told (program_of old machine) bound (point_at old cycles instructions u g) (point_at new cycles' instructions' u' g') c c'
+goes_on told left c c' bound machine old new cycles instructions cycles' instructions' cost u g u' g' tell kept under is more one here does =
+    record {
+      under = under;
+      goes = does;
+      counts = ap₂ (λ (k n : ℕ). point_at new k n u' g') (more ∙ ap (λ (k : ℕ). cycles + k) is) one;
+      keeps = kept told u tell here;
+    }
+
+-- the run ends at this boundary, by the outcome of its instruction
+ends_by : (p : Program) (bound : ℕ) (at : Point) (o : Outcome) (f : Finish) → at.cycles < bound → outcome p.image p.stack_end at.state ≡ o →
+    after_outcome (finish_from p bound zero) p at o ≡ Some f → EndsBy p bound at f
+ends_by p bound at o f under is then_ =
+    (suc zero, ap (after_test (finish_from p bound zero) p at) (lt-leb bound at.cycles under) ∙ ap (after_outcome (finish_from p bound zero) p at) is ∙ then_)
+
+pub halt_ends : (told : Bool) (c : ConsoleView) (held : Option (List ℕ)) (bound : ℕ) (machine : Machine) (old new : MachineView) (cycles instructions cost : ℕ) (r : Counts) (u g u' g' : List ℕ) → cycles < bound →
+    cost ≡ next_cost old.image machine (state_of old [] []) → r.boundary ≡ cycles → r.cycles ≡ cycles + cost → r.instructions ≡ instructions + 1 → Does steps.Halt old new u g u' g' →
+    StoppedBy told c held (Ok ends.Halt) (program_of old machine) bound (point_at old cycles instructions u g) r new u' g'
+halt_ends told c held bound machine old new cycles instructions cost r u g u' g' under is boundary all one does =
+    let p : Program = program_of old machine in
+    let at : Point = point_at old cycles instructions u g in (
+      record {
+        finish = completed p at defined.Halt;
+        ends = ends_by p bound at Halts (completed p at defined.Halt) under does.0 refl;
+        boundary = sym boundary;
+        cycles = ap (λ (k : ℕ). cycles + k) (sym is) ∙ sym all;
+        instructions = sym one;
+        last = same_frames at.state;
+        left = sym does.1;
+      },
+      refl,
+    )
+
+pub err_ends : (told : Bool) (c : ConsoleView) (held : Option (List ℕ)) (bound : ℕ) (machine : Machine) (old new : MachineView) (cycles instructions cost : ℕ) (r : Counts) (u g u' g' : List ℕ) → cycles < bound →
+    cost ≡ next_cost old.image machine (state_of old [] []) → r.boundary ≡ cycles → r.cycles ≡ cycles + cost → r.instructions ≡ instructions + 1 → Does steps.Err old new u g u' g' →
+    StoppedBy told c held (Ok ends.Err) (program_of old machine) bound (point_at old cycles instructions u g) r new u' g'
+err_ends told c held bound machine old new cycles instructions cost r u g u' g' under is boundary all one does =
+    let p : Program = program_of old machine in
+    let at : Point = point_at old cycles instructions u g in (
+      record {
+        finish = completed p at defined.Err;
+        ends = ends_by p bound at Errs (completed p at defined.Err) under does.0 refl;
+        boundary = sym boundary;
+        cycles = ap (λ (k : ℕ). cycles + k) (sym is) ∙ sym all;
+        instructions = sym one;
+        last = same_frames at.state;
+        left = sym does.1;
+      },
+      refl,
+    )
+
+pub limit_ends : (told : Bool) (c : ConsoleView) (held : Option (List ℕ)) (bound : ℕ) (machine : Machine) (old new : MachineView) (cycles instructions : ℕ) (r : Counts) (u g u' g' : List ℕ) → cycles < bound →
+    r.boundary ≡ cycles → r.cycles ≡ cycles → r.instructions ≡ instructions → Does steps.StackLimit old new u g u' g' →
+    StoppedBy told c held (Ok ends.StackLimit) (program_of old machine) bound (point_at old cycles instructions u g) r new u' g'
+limit_ends told c held bound machine old new cycles instructions r u g u' g' under boundary all one does =
+    let p : Program = program_of old machine in
+    let at : Point = point_at old cycles instructions u g in
+    let left : State = state_of new u' g' in (
+      record {
+        finish = stopped at defined.StackLimit left;
+        ends = ends_by p bound at (Limits left) (stopped at defined.StackLimit left) under does refl;
+        boundary = sym boundary;
+        cycles = sym all;
+        instructions = sym one;
+        last = limits-same p.image p.stack_end at.state left does;
+        left = refl;
+      },
+      refl,
+    )
+
+pub bound_ends : (told : Bool) (c : ConsoleView) (held : Option (List ℕ)) (bound : ℕ) (machine : Machine) (m : MachineView) (cycles instructions : ℕ) (r : Counts) (u g : List ℕ) → bound ≤ cycles →
+    r.boundary ≡ cycles → r.cycles ≡ cycles → r.instructions ≡ instructions → StoppedBy told c held (Ok ends.Bound) (program_of m machine) bound (point_at m cycles instructions u g) r m u g
+bound_ends told c held bound machine m cycles instructions r u g over boundary all one =
+    let p : Program = program_of m machine in
+    let at : Point = point_at m cycles instructions u g in (
+      record {
+        finish = stopped at defined.Bound at.state;
+        ends = (suc zero, ap (after_test (finish_from p bound zero) p at) (le-leb bound cycles over));
+        boundary = sym boundary;
+        cycles = sym all;
+        instructions = sym one;
+        last = same_frames at.state;
+        left = refl;
+      },
+      refl,
+    )
+
+cut_here : (e : StepError) (told : Bool) (c : ConsoleView) (held : Option (List ℕ)) (bound : ℕ) (machine : Machine) (old new : MachineView) (cycles instructions : ℕ) (r : Counts) (u g : List ℕ) → new ≡ old → cycles < bound →
+    IsMetBy e (instr_at old.image.text old.at) c → (e ≡ errors.WriteFault → IsAllBut held c.kept g) → r.boundary ≡ cycles → r.cycles ≡ cycles → r.instructions ≡ instructions →
+    IsCut e told c held (program_of old machine) bound (point_at old cycles instructions u g) r new u g
+cut_here e told c held bound machine old new cycles instructions r u g same under met lost boundary all one =
+    record {
+      at = point_at old cycles instructions u g;
+      console = c;
+      reaches = Begins _ c refl refl;
+      under = under;
+      met = met;
+      boundary = sym boundary;
+      cycles = sym all;
+      instructions = sym one;
+      state = ap (λ (m : MachineView). state_of m u g) (sym same);
+      lost = lost;
+    }
+
+cut_reported : (e : StepError) (told : Bool) (c : ConsoleView) (held : Option (List ℕ)) (p : Program) (bound : ℕ) (from : Point) (r : Counts) (new : MachineView) (u g : List ℕ) →
+    IsCut e told c held p bound from r new u g → StoppedBy told c held (cut_by e) p bound from r new u g
+cut_reported errors.ReadFault told c held p bound from r new u g cut = cut
+cut_reported errors.WriteFault told c held p bound from r new u g cut = cut
+cut_reported errors.OutOfMemory told c held p bound from r new u g cut = cut
+
+-- after a write that failed the sink holds all but the last of what was kept
+all_but : (held held' : Option (List ℕ)) (kept kept' given : List ℕ) → IsLost held kept held' kept' → Given held kept given → IsAllBut held' kept given
+all_but None held' kept kept' given lost shown = subst (λ (h : Option (List ℕ)). IsAllBut h kept given) (sym lost.prefix.1) tt
+all_but (Some h) held' kept kept' given lost shown =
+    let n : ℕ = lost.prefix.0 in
+    let parts : (h ++ take n kept) ++ drop n kept ≡ given =
+    append_assoc h (take n kept) (drop n kept) ∙ ap (λ (xs : List ℕ). h ++ xs) (take-append-drop n kept) ∙ sym shown in
+    subst (λ (x : Option (List ℕ)). IsAllBut x kept given) (sym lost.prefix.1) (n, parts)
+
+-- what a sink that lost bytes holds is a beginning of what was given
+pub lost_shown : (held held' : Option (List ℕ)) (kept kept' given : List ℕ) → IsLost held kept held' kept' → Given held kept given → IsShown (Ok ends.WriteFault) held' kept' given
+lost_shown None held' kept kept' given lost shown =
+    subst (λ (h : Option (List ℕ)). IfSome h (λ x. (more : List ℕ) × (given ≡ x ++ more))) (sym lost.prefix.1) tt
+lost_shown (Some h) held' kept kept' given lost shown =
+    let n : ℕ = lost.prefix.0 in
+    let parts : given ≡ (h ++ take n kept) ++ drop n kept =
+    shown ∙ ap (λ (xs : List ℕ). h ++ xs) (sym (take-append-drop n kept)) ∙ sym (append_assoc h (take n kept) (drop n kept)) in
+    subst (λ (x : Option (List ℕ)). IfSome x (λ y. (more : List ℕ) × (given ≡ y ++ more))) (sym lost.prefix.1) (drop n kept, parts)
+
+cut_shown : (e : StepError) (left held : Option (List ℕ)) (c : ConsoleView) (left' held' : Option (List ℕ)) (c' : ConsoleView) (given : List ℕ) →
+    IsCutOff left held c left' held' c' e → Given held c.kept given → IsShown (cut_by e) held' c'.kept given
+cut_shown errors.ReadFault left held c left' held' c' given cut shown = cut.given (λ same. cc) given shown
+cut_shown errors.WriteFault left held c left' held' c' given cut shown = lost_shown held held' c.kept c'.kept given (cut.lost refl) shown
+cut_shown errors.OutOfMemory left held c left' held' c' given cut shown = cut.given (λ same. cc) given shown
+
+pub cut_led : (e : StepError) (told : Bool) (left held : Option (List ℕ)) (c : ConsoleView) (left' held' : Option (List ℕ)) (c' : ConsoleView) (bound : ℕ) (machine : Machine) (old new : MachineView)
+    (cycles instructions : ℕ) (r : Counts) → IsCutOff left held c left' held' c' e → new ≡ old → cycles < bound → IsMetBy e (instr_at old.image.text old.at) c → r.boundary ≡ cycles → r.cycles ≡ cycles → r.instructions ≡ instructions →
+    LedTo (IsShown (cut_by e)) left held c left' held' c' (λ u g u' g'. StoppedBy told c held' (cut_by e) (program_of old machine) bound (point_at old cycles instructions u g) r new u' g')
+cut_led e told left held c left' held' c' bound machine old new cycles instructions r cut same under met boundary all one = λ rest here.
+    let ended : Untaken left' c.ended rest = subst (λ (b : Bool). Untaken left' b rest) cut.ended here in
+    let first : Untaken left c.ended rest = subst (λ (l : Option (List ℕ)). Untaken l c.ended rest) cut.untaken ended in (
+      rest,
+      first,
+      λ given shown. (
+        given,
+        cut_shown e left held c left' held' c' given cut shown,
+        cut_reported e told c held' (program_of old machine) bound (point_at old cycles instructions rest given) r new rest given
+            (cut_here e told c held' bound machine old new cycles instructions r rest given same under met
+            (λ is. all_but held held' c.kept c'.kept given (cut.lost is) shown) boundary all one),
+      ),
+    )
+
+-- a step that goes on costs at least a cycle
+pub went_cost : (left held : Option (List ℕ)) (c : ConsoleView) (left' held' : Option (List ℕ)) (c' : ConsoleView) (machine : Machine) (old new : MachineView) →
+    IsLedOn left held c left' held' c' (Does steps.Went old new) → 1 ≤ next_cost old.image machine (state_of old [] [])
+went_cost left held c left' held' c' machine old new led =
+    let rest = some_untaken left' c'.ended in
+    let first = led rest.0 rest.1 in
+    let given = some_given held c.kept in
+    let next = first.2 given.0 given.1 in
+    next_cost-least old.image old.stack_end machine (state_of old first.0 given.0) (state_of new rest.0 next.0) next.2
+
+-- Whole runs.
+
+finish_passes : (p : Program) (bound : ℕ) (from at : Point) (f : Finish) → Passes p bound from at → EndsBy p bound at f → EndsBy p bound from f
+finish_passes p bound from at f (Start a same) e = subst (λ (x : Point). EndsBy p bound x f) same e
+finish_passes p bound from at f (More b next to first under goes is) e =
+    let e0 : EndsBy p bound (point_after p b to) f = subst (λ (x : Point). EndsBy p bound x f) is e in
+    finish_passes p bound from b f first
+    (suc e0.0, ap (after_test (finish_from p bound e0.0) p b) (lt-leb bound b.cycles under) ∙ ap (after_outcome (finish_from p bound e0.0) p b) goes ∙ e0.1)
+
+-- the boundaries that it reaches are boundaries that it passes
+pub passed : (told : Bool) (p : Program) (bound : ℕ) (from : Point) (c0 : ConsoleView) (at : Point) (c : ConsoleView) → Reaches told p bound from c0 at c → Passes p bound from at
+passed told p bound from c0 at c (Begins a d same is) = Start a same
+passed told p bound from c0 at c (Onward b next d d' first on) = More b next next.state (passed told p bound from c0 b d first) on.under on.goes on.counts
+
+reaches_on : (told : Bool) (p : Program) (bound : ℕ) (from : Point) (c0 : ConsoleView) (at : Point) (c : ConsoleView) (to : Point) (d : ConsoleView) → Reaches told p bound from c0 at c → Reaches told p bound at c to d → Reaches told p bound from c0 to d
+reaches_on told p bound from c0 at c to d first (Begins a b same is) =
+    subst (λ (x : Point). Reaches told p bound from c0 x d) (sym same) (subst (λ (v : ConsoleView). Reaches told p bound from c0 at v) (sym is) first)
+reaches_on told p bound from c0 at c to d first (Onward b next e e' more on) = Onward b next e e' (reaches_on told p bound from c0 at c b e first more) on
+
+abbrev cut_on : (e : StepError) (told : Bool) (held : Option (List ℕ)) (p : Program) (bound : ℕ) (from at : Point) (c0 c : ConsoleView) (r : Counts) (new : MachineView) (u g : List ℕ) →
+    Reaches told p bound from c0 at c → IsCut e told c held p bound at r new u g → IsCut e told c0 held p bound from r new u g
+cut_on e told held p bound from at c0 c r new u g first cut =
+    record {
+      at = cut.at;
+      console = cut.console;
+      reaches = reaches_on told p bound from c0 at c cut.at cut.console first cut.reaches;
+      under = cut.under;
+      met = cut.met;
+      boundary = cut.boundary;
+      cycles = cut.cycles;
+      instructions = cut.instructions;
+      state = cut.state;
+      lost = cut.lost;
+    }
+
+abbrev ends_on : (p : Program) (bound : ℕ) (from at : Point) (r : Counts) (new : MachineView) (u g : List ℕ) → Passes p bound from at → RunEndsWith p bound at r new u g → RunEndsWith p bound from r new u g
+ends_on p bound from at r new u g first e =
+    record {
+      finish = e.finish;
+      ends = finish_passes p bound from at e.finish first e.ends;
+      boundary = e.boundary;
+      cycles = e.cycles;
+      instructions = e.instructions;
+      last = e.last;
+      left = e.left;
+    }
+
+reported_on : (end : Result PlainEnd AllocError) (told : Bool) (held : Option (List ℕ)) (p : Program) (bound : ℕ) (from at : Point) (c0 c : ConsoleView) (r : Counts) (new : MachineView) (u g : List ℕ) →
+    Reaches told p bound from c0 at c → StoppedBy told c held end p bound at r new u g → StoppedBy told c0 held end p bound from r new u g
+reported_on (Ok ends.ReadFault) told held p bound from at c0 c r new u g first h = cut_on errors.ReadFault told held p bound from at c0 c r new u g first h
+reported_on (Err e) told held p bound from at c0 c r new u g first h = cut_on errors.OutOfMemory told held p bound from at c0 c r new u g first h
+reported_on (Ok ends.WriteFault) told held p bound from at c0 c r new u g first h = cut_on errors.WriteFault told held p bound from at c0 c r new u g first h
+reported_on (Ok ends.Halt) told held p bound from at c0 c r new u g first h = (ends_on p bound from at r new u g (passed told p bound from c0 at c first) h.0, h.1)
+reported_on (Ok ends.Err) told held p bound from at c0 c r new u g first h = (ends_on p bound from at r new u g (passed told p bound from c0 at c first) h.0, h.1)
+reported_on (Ok ends.Bound) told held p bound from at c0 c r new u g first h = (ends_on p bound from at r new u g (passed told p bound from c0 at c first) h.0, h.1)
+reported_on (Ok ends.StackLimit) told held p bound from at c0 c r new u g first h = (ends_on p bound from at r new u g (passed told p bound from c0 at c first) h.0, h.1)
+
+-- one after the other
+led_on : (shown : Option (List ℕ) → List ℕ → List ℕ → Type 0) (l0 h0 : Option (List ℕ)) (c0 : ConsoleView) (l1 h1 : Option (List ℕ)) (c1 : ConsoleView) (l2 h2 : Option (List ℕ)) (c2 : ConsoleView)
+    (P Q R : List ℕ → List ℕ → List ℕ → List ℕ → Type 0) → LedTo Given l0 h0 c0 l1 h1 c1 P → LedTo shown l1 h1 c1 l2 h2 c2 Q →
+    ((u g v h w k : List ℕ) → P u g v h → Q v h w k → R u g w k) → LedTo shown l0 h0 c0 l2 h2 c2 R
+led_on shown l0 h0 c0 l1 h1 c1 l2 h2 c2 P Q R first second both = λ rest here.
+    let b = second rest here in
+    let a = first b.0 b.1 in (
+      a.0,
+      a.1,
+      λ given g0.
+          let x = a.2 given g0 in
+          let y = b.2 x.0 x.1 in
+          (y.0, y.1, both a.0 given b.0 x.0 rest y.0 x.2 y.2),
+    )
+
+-- a run that has passed this boundary, with these frames and consoles
+abbrev pub HasPassed : Bool → ℕ → Machine → ℕ → ℕ → ℕ → ℕ → ConsoleView → ConsoleView → MachineView → MachineView → List ℕ → List ℕ → List ℕ → List ℕ → Type 0
+HasPassed told bound machine cycles instructions cycles' instructions' c c' old new u g u' g' =
+    Reaches told (program_of old machine) bound (point_at old cycles instructions u g) c (point_at new cycles' instructions' u' g') c'
+
+-- at the start of a run
+pub passed_none : (told : Bool) (l h : Option (List ℕ)) (c : ConsoleView) (bound : ℕ) (machine : Machine) (cycles instructions : ℕ) (m : MachineView) →
+    LedTo Given l h c l h c (HasPassed told bound machine cycles instructions cycles instructions c c m m)
+passed_none told l h c bound machine cycles instructions m = λ rest here. (rest, here, λ given shown. (given, shown, Begins _ c refl refl))
+
+same_program : (machine : Machine) (old new : MachineView) → KeepsProgram old new → program_of new machine ≡ program_of old machine
+same_program machine old new keeps = ap₂ (λ (image : ImageView) (n : ℕ). program image n machine) keeps.image keeps.stack_end
+  where
+    program : ImageView → ℕ → Machine → Program
+    program image n machine = record { image = image; stack_end = n; machine = machine }
+
+pub passed_more : (told : Bool) (l0 h0 : Option (List ℕ)) (c0 : ConsoleView) (l1 h1 : Option (List ℕ)) (c1 : ConsoleView) (l2 h2 : Option (List ℕ)) (c2 : ConsoleView) (bound : ℕ) (machine : Machine)
+    (cycles instructions cycles' instructions' cycles'' instructions'' : ℕ) (old new next : MachineView) → KeepsProgram old new →
+    LedTo Given l0 h0 c0 l1 h1 c1 (HasPassed told bound machine cycles instructions cycles' instructions' c0 c1 old new) →
+    LedTo Given l1 h1 c1 l2 h2 c2 (λ u g u' g'. GoesOn told (program_of new machine) bound (point_at new cycles' instructions' u g) (point_at next cycles'' instructions'' u' g') c1 c2) →
+    LedTo Given l0 h0 c0 l2 h2 c2 (HasPassed told bound machine cycles instructions cycles'' instructions'' c0 c2 old next)
+passed_more told l0 h0 c0 l1 h1 c1 l2 h2 c2 bound machine cycles instructions cycles' instructions' cycles'' instructions'' old new next keeps first second =
+    led_on Given l0 h0 c0 l1 h1 c1 l2 h2 c2 (HasPassed told bound machine cycles instructions cycles' instructions' c0 c1 old new)
+    (λ u g u' g'. GoesOn told (program_of new machine) bound (point_at new cycles' instructions' u g) (point_at next cycles'' instructions'' u' g') c1 c2)
+    (HasPassed told bound machine cycles instructions cycles'' instructions'' c0 c2 old next) first second
+    (λ u g v h w k passes on. Onward (point_at new cycles' instructions' v h) (point_at next cycles'' instructions'' w k) c1 c2 passes
+    (subst (λ (p : Program). GoesOn told p bound (point_at new cycles' instructions' v h) (point_at next cycles'' instructions'' w k) c1 c2) (same_program machine old new keeps) on))
+
+pub passed_end : (end : Result PlainEnd AllocError) (told : Bool) (l0 h0 : Option (List ℕ)) (c0 : ConsoleView) (l1 h1 : Option (List ℕ)) (c1 : ConsoleView) (l2 h2 : Option (List ℕ)) (c2 : ConsoleView) (bound : ℕ) (machine : Machine)
+    (cycles instructions cycles' instructions' : ℕ) (r : Counts) (old new next : MachineView) → KeepsProgram old new →
+    LedTo Given l0 h0 c0 l1 h1 c1 (HasPassed told bound machine cycles instructions cycles' instructions' c0 c1 old new) →
+    LedTo (IsShown end) l1 h1 c1 l2 h2 c2 (λ u g u' g'. StoppedBy told c1 h2 end (program_of new machine) bound (point_at new cycles' instructions' u g) r next u' g') →
+    LedTo (IsShown end) l0 h0 c0 l2 h2 c2 (λ u g u' g'. StoppedBy told c0 h2 end (program_of old machine) bound (point_at old cycles instructions u g) r next u' g')
+passed_end end told l0 h0 c0 l1 h1 c1 l2 h2 c2 bound machine cycles instructions cycles' instructions' r old new next keeps first second =
+    led_on (IsShown end) l0 h0 c0 l1 h1 c1 l2 h2 c2 (HasPassed told bound machine cycles instructions cycles' instructions' c0 c1 old new)
+    (λ u g u' g'. StoppedBy told c1 h2 end (program_of new machine) bound (point_at new cycles' instructions' u g) r next u' g')
+    (λ u g u' g'. StoppedBy told c0 h2 end (program_of old machine) bound (point_at old cycles instructions u g) r next u' g') first second
+    (λ u g v h w k passes reported. reported_on end told h2 (program_of old machine) bound (point_at old cycles instructions u g) (point_at new cycles' instructions' v h) c0 c1 r next w k passes
+    (subst (λ (p : Program). StoppedBy told c1 h2 end p bound (point_at new cycles' instructions' v h) r next w k) (same_program machine old new keeps) reported))
+
+-- what holds of a run between two turns
+pub record IsRunning (l0 h0 : Option (List ℕ)) (c0 : ConsoleView) (l1 h1 : Option (List ℕ)) (c1 : ConsoleView) (bound : ℕ) (machine : Machine) (counts0 counts1 : Counts) (old new : MachineView) : Type 0 where
+  pub passed : (told : Bool) → (told ≡ true → TellsLeft l0 c0.ended) →
+      LedTo Given l0 h0 c0 l1 h1 c1 (HasPassed told bound machine counts0.cycles counts0.instructions counts1.cycles counts1.instructions c0 c1 old new)
+  pub tells : TellsLeft l0 c0.ended → TellsLeft l1 c1.ended
+  pub program : KeepsProgram old new
+  pub boundary : counts1.boundary ≡ counts1.cycles
+  pub few : counts1.instructions ≤ counts1.cycles
+  pub keeps : (front : List ℕ) → Holds front h0 → Holds front h1
+
+pub program_stays : (m : MachineView) → KeepsProgram m m
+program_stays m = record { image = refl; stack_end = refl }
+
+pub program_on : (old new next : MachineView) → KeepsProgram old new → KeepsProgram new next → KeepsProgram old next
+program_on old new next first then_ = record { image = then_.image ∙ first.image; stack_end = then_.stack_end ∙ first.stack_end }

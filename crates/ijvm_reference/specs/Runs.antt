@@ -1,0 +1,135 @@
+-- How frames are driven over a console, a source and a sink, from boundary to boundary.
+use Rattle.std.specs.Prelude.{◌≡◌, ◌≢◌, ℕ, ◌≤◌, ◌<◌, List, [], ◌++◌, drop, Bool, true, Option, Some, None, IfSome, Result, Ok, Err, alloc_error}
+use Rattle.std.specs.declared.alloc.AllocError.{AllocError}
+use Rattle.mic_base.specs.Causes.{Rose}
+use Rattle.mic_words.specs.declared.machine.Machine.{Machine}
+use Rattle.console_port.specs.View.{ConsoleView}
+use Rattle.console_port.specs.Console.{Untaken, Given, TellsLeft}
+use Rattle.ijvm_reference.specs.declared.frames.StepError.{StepError}
+use Rattle.ijvm_reference.specs.declared.frames.StepError.TheVariants as errors
+use Rattle.ijvm_meaning.specs.declared.run.RunEnd.{RunEnd}
+use Rattle.ijvm_meaning.specs.declared.run.RunEnd.TheVariants as defined
+use Rattle.ijvm_reference.specs.declared.plain.PlainEnd.{PlainEnd}
+use Rattle.ijvm_reference.specs.declared.plain.PlainEnd.TheVariants as ends
+use Rattle.ijvm_reference.specs.declared.plain.Counts.{Counts}
+use Rattle.ijvm_instr.specs.Instructions.{instr_at}
+use Rattle.ijvm_meaning.specs.Safe.{SameFrames}
+use Rattle.ijvm_reference.specs.Machine.{MachineView, state_of}
+use Rattle.ijvm_meaning.specs.Step.{Goes, outcome}
+use Rattle.ijvm_reference.specs.Kept.{Keeps}
+use Rattle.ijvm_reference.specs.Steps.{IsMetBy}
+use Rattle.ijvm_meaning.specs.Run.{Program, Point, Finish, EndsBy, point_after}
+
+abbrev pub program_of : MachineView → Machine → Program
+program_of m machine = record { image = m.image; stack_end = m.stack_end; machine = machine }
+
+-- a boundary, with these cycles and instructions done
+abbrev pub point_at : MachineView → ℕ → ℕ → List ℕ → List ℕ → Point
+point_at m cycles instructions untaken given = record { state = state_of m untaken given; cycles = cycles; instructions = instructions }
+
+-- the sink holds all of these bytes but the last of those that the console kept
+abbrev pub IsAllBut : Option (List ℕ) → List ℕ → List ℕ → Type 0
+IsAllBut held kept given = IfSome held (λ h. (n : ℕ) × (h ++ drop n kept ≡ given))
+
+-- the run that goes on so ends with these counts, frames and bytes
+pub record RunEndsWith (p : Program) (bound : ℕ) (from : Point) (c : Counts) (new : MachineView) (untaken given : List ℕ) : Type 0 where
+  pub finish : Finish
+  pub ends : EndsBy p bound from finish
+  pub boundary : finish.last.cycles ≡ c.boundary
+  pub cycles : finish.cycles ≡ c.cycles
+  pub instructions : finish.instructions ≡ c.instructions
+  pub last : SameFrames finish.last.state finish.left
+  pub left : finish.left ≡ state_of new untaken given
+
+-- one boundary behind another, and what the console keeps at both
+pub record GoesOn (told : Bool) (p : Program) (bound : ℕ) (at next : Point) (c c' : ConsoleView) : Type 0 where
+  pub under : at.cycles < bound
+  pub goes : outcome p.image p.stack_end at.state ≡ Goes next.state
+  pub counts : next ≡ point_after p at next.state
+  pub keeps : Keeps told (instr_at p.image.text at.state.at) at.state.untaken c c'
+
+-- the boundaries that the run from this one passes before it ends, with what the console keeps there
+pub data Reaches (told : Bool) (p : Program) (bound : ℕ) (from : Point) (c0 : ConsoleView) : Point → ConsoleView → Type 0 where
+  Begins : (at : Point) (c : ConsoleView) → at ≡ from → c ≡ c0 → Reaches told p bound from c0 at c
+  Onward : (at next : Point) (c c' : ConsoleView) → Reaches told p bound from c0 at c → GoesOn told p bound at next c c' → Reaches told p bound from c0 next c'
+
+-- The run that goes on so passes a boundary with these counts, frames and bytes, and its instruction there meets this. After a write that
+-- failed the sink holds all that was given there but the last of what the console kept.
+pub record IsCut (e : StepError) (told : Bool) (c0 : ConsoleView) (held : Option (List ℕ)) (p : Program) (bound : ℕ) (from : Point) (c : Counts) (new : MachineView) (untaken given : List ℕ) : Type 0 where
+  pub at : Point
+  pub console : ConsoleView
+  pub reaches : Reaches told p bound from c0 at console
+  pub under : at.cycles < bound
+  pub met : IsMetBy e (instr_at p.image.text at.state.at) console
+  pub boundary : at.cycles ≡ c.boundary
+  pub cycles : at.cycles ≡ c.cycles
+  pub instructions : at.instructions ≡ c.instructions
+  pub state : at.state ≡ state_of new untaken given
+  pub lost : e ≡ errors.WriteFault → IsAllBut held console.kept given
+
+-- an end of the definition's run
+abbrev pub EndsIn : RunEnd → Program → ℕ → Point → Counts → MachineView → List ℕ → List ℕ → Type 0
+EndsIn end p bound from c new untaken given = (e : RunEndsWith p bound from c new untaken given) × (e.finish.end ≡ end)
+
+-- where a run stops: at an end of the definition's, or where a fault or want of memory cuts it
+abbrev pub StoppedBy : Bool → ConsoleView → Option (List ℕ) → Result PlainEnd AllocError → Program → ℕ → Point → Counts → MachineView → List ℕ → List ℕ → Type 0
+StoppedBy told c0 held (Ok ends.Halt) = EndsIn defined.Halt
+StoppedBy told c0 held (Ok ends.Err) = EndsIn defined.Err
+StoppedBy told c0 held (Ok ends.Bound) = EndsIn defined.Bound
+StoppedBy told c0 held (Ok ends.StackLimit) = EndsIn defined.StackLimit
+StoppedBy told c0 held (Ok ends.ReadFault) = IsCut errors.ReadFault told c0 held
+StoppedBy told c0 held (Ok ends.WriteFault) = IsCut errors.WriteFault told c0 held
+StoppedBy told c0 held (Err e) = IsCut errors.OutOfMemory told c0 held
+
+-- where a step's error stops the run
+abbrev pub cut_by : StepError → Result PlainEnd AllocError
+cut_by errors.ReadFault = Ok ends.ReadFault
+cut_by errors.WriteFault = Ok ends.WriteFault
+cut_by errors.OutOfMemory = Err alloc_error
+
+-- the bytes that were given, as the sink and the console show them: after a fault of the sink it holds a front of them
+abbrev pub IsShown : Result PlainEnd AllocError → Option (List ℕ) → List ℕ → List ℕ → Type 0
+IsShown (Ok ends.WriteFault) held kept given = IfSome held (λ h. (more : List ℕ) × (given ≡ h ++ more))
+IsShown stop held kept given = Given held kept given
+
+-- the same, where the run may go on
+abbrev pub ShownBy : Option (Result PlainEnd AllocError) → Option (List ℕ) → List ℕ → List ℕ → Type 0
+ShownBy None held kept given = Given held kept given
+ShownBy (Some stop) held kept given = IsShown stop held kept given
+
+-- Whatever is left untaken after, something may have been left before it from which a run leads there; the given bytes are shown so after it.
+abbrev pub LedTo : (Option (List ℕ) → List ℕ → List ℕ → Type 0) → Option (List ℕ) → Option (List ℕ) → ConsoleView → Option (List ℕ) → Option (List ℕ) → ConsoleView →
+    (List ℕ → List ℕ → List ℕ → List ℕ → Type 0) → Type 0
+LedTo shown left held c left' held' c' leads =
+    (rest : List ℕ) → Untaken left' c'.ended rest →
+    (untaken : List ℕ) × Untaken left c.ended untaken ×
+    ((given : List ℕ) → Given held c.kept given → (more : List ℕ) × shown held' c'.kept more × leads untaken given rest more)
+
+-- a turn of the run: on to the next boundary, or to its stop
+abbrev pub TurnsTo : Bool → Option (Result PlainEnd AllocError) → ℕ → Machine → Counts → Counts → ConsoleView → ConsoleView → Option (List ℕ) → MachineView → MachineView →
+    List ℕ → List ℕ → List ℕ → List ℕ → Type 0
+TurnsTo told None bound machine old_counts counts c c' held' old new untaken given untaken' given' =
+    GoesOn told (program_of old machine) bound (point_at old old_counts.cycles old_counts.instructions untaken given) (point_at new counts.cycles counts.instructions untaken' given') c c'
+TurnsTo told (Some stop) bound machine old_counts counts c c' held' old new untaken given untaken' given' =
+    StoppedBy told c held' stop (program_of old machine) bound (point_at old old_counts.cycles old_counts.instructions untaken given) counts new untaken' given'
+
+-- Frames are driven over a console, a source and a sink, by a turn or by turns up to a stop, whether or not the source tells what it has left.
+abbrev pub IsDriven : Option (Result PlainEnd AllocError) → ℕ → Machine → Counts → Counts → Option (List ℕ) → Option (List ℕ) → ConsoleView → Option (List ℕ) → Option (List ℕ) → ConsoleView →
+    MachineView → MachineView → Type 0
+IsDriven stop bound machine old_counts counts left held c left' held' c' old new =
+    (told : Bool) → (told ≡ true → TellsLeft left c.ended) →
+    LedTo (ShownBy stop) left held c left' held' c' (TurnsTo told stop bound machine old_counts counts c c' held' old new)
+
+-- after a fault nothing is kept
+pub record IsEmptied (stop : Option (Result PlainEnd AllocError)) (c : ConsoleView) : Type 0 where
+  pub read : stop ≡ Some (Ok ends.ReadFault) → c.kept ≡ []
+  pub write : stop ≡ Some (Ok ends.WriteFault) → c.kept ≡ []
+
+-- a fault comes only where its object's count rose, and each count stays otherwise
+pub record HasRunCause (source source' sink sink' : ℕ) (stop : Option (Result PlainEnd AllocError)) : Type 0 where
+  pub source_later : source ≤ source'
+  pub sink_later : sink ≤ sink'
+  pub read : stop ≡ Some (Ok ends.ReadFault) → Rose source source'
+  pub write : stop ≡ Some (Ok ends.WriteFault) → Rose sink sink'
+  pub source_same : stop ≢ Some (Ok ends.ReadFault) → source' ≡ source
+  pub sink_same : stop ≢ Some (Ok ends.WriteFault) → sink' ≡ sink

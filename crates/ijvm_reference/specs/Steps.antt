@@ -1,0 +1,79 @@
+-- A step of frames over a console, a source and a sink is the definition's `outcome`, where what these have left and hold are the state's
+-- untaken and given bytes.
+use Rattle.std.specs.Prelude.{◌≡◌, ◌≢◌, ℕ, ◌≤◌, List, [], ◌++◌, false, Option, Some, None, Result, Err, IsErrOf}
+use Rattle.mic_base.specs.Causes.{Rose}
+use Rattle.console_port.specs.View.{ConsoleView}
+use Rattle.console_port.specs.Console.{Untaken, Given, IsLost}
+use Rattle.ijvm_instr.specs.declared.instr.Instr.{Instr}
+use Rattle.ijvm_instr.specs.declared.instr.Instr.TheVariants.{In}
+use Rattle.ijvm_reference.specs.declared.frames.StepEnd.{StepEnd}
+use Rattle.ijvm_reference.specs.declared.frames.StepEnd.TheVariants as ends
+use Rattle.ijvm_reference.specs.declared.frames.StepError.{StepError}
+use Rattle.ijvm_reference.specs.declared.frames.StepError.TheVariants as errors
+use Rattle.ijvm_meaning.specs.Frames.{State}
+use Rattle.ijvm_meaning.specs.Step.{Outcome, Goes, Halts, Errs, Limits, Stuck, outcome}
+use Rattle.ijvm_reference.specs.declared.compute.Effect.{Effect}
+use Rattle.ijvm_reference.specs.declared.compute.Effect.TheVariants as effects
+use Rattle.ijvm_reference.specs.Machine.{MachineView, state_of, outcome_of}
+use Rattle.ijvm_reference.specs.Kept.{PutsKept}
+
+-- Whatever may be left untaken after a step, something may have been left before it from which the step leads there, whatever was given.
+-- A step leads from untaken and given bytes to untaken and given bytes.
+abbrev pub IsLedOn : Option (List ℕ) → Option (List ℕ) → ConsoleView → Option (List ℕ) → Option (List ℕ) → ConsoleView →
+    (List ℕ → List ℕ → List ℕ → List ℕ → Type 0) → Type 0
+IsLedOn left held c left' held' c' leads =
+    (rest : List ℕ) → Untaken left' c'.ended rest →
+    (untaken : List ℕ) × Untaken left c.ended untaken ×
+    ((given : List ℕ) → Given held c.kept given → (more : List ℕ) × Given held' c'.kept more × leads untaken given rest more)
+
+-- what comes of an instruction over the console
+abbrev pub LedBy : (State → Outcome) → Option (List ℕ) → Option (List ℕ) → ConsoleView → Option (List ℕ) → Option (List ℕ) → ConsoleView → MachineView → MachineView → Effect → Type 0
+LedBy does left held c left' held' c' old new effect =
+    IsLedOn left held c left' held' c' (λ u g u' g'. does (state_of old u g) ≡ outcome_of effect (state_of new u' g'))
+
+-- these bytes are given behind those that were
+abbrev pub Gives : List ℕ → Option (List ℕ) → List ℕ → Option (List ℕ) → List ℕ → Type 0
+Gives bytes held kept held' kept' = (given : List ℕ) → Given held kept given → Given held' kept' (given ++ bytes)
+
+abbrev pub step_end : Effect → Option StepEnd
+step_end effects.Went = Some ends.Went
+step_end effects.StackLimit = Some ends.StackLimit
+step_end effects.Stuck = None
+
+-- what each end of a step says
+abbrev pub Does : StepEnd → MachineView → MachineView → List ℕ → List ℕ → List ℕ → List ℕ → Type 0
+Does ends.Went old new untaken given untaken' given' = outcome old.image old.stack_end (state_of old untaken given) ≡ Goes (state_of new untaken' given')
+Does ends.Halt old new untaken given untaken' given' =
+    (outcome old.image old.stack_end (state_of old untaken given) ≡ Halts) × (state_of new untaken' given' ≡ state_of old untaken given)
+Does ends.Err old new untaken given untaken' given' =
+    (outcome old.image old.stack_end (state_of old untaken given) ≡ Errs) × (state_of new untaken' given' ≡ state_of old untaken given)
+Does ends.StackLimit old new untaken given untaken' given' =
+    outcome old.image old.stack_end (state_of old untaken given) ≡ Limits (state_of new untaken' given')
+
+-- what comes of an instruction: an end of a step, or none where the machine is stuck
+abbrev pub Turns : Option StepEnd → MachineView → MachineView → List ℕ → List ℕ → List ℕ → List ℕ → Type 0
+Turns None old new untaken given untaken' given' = outcome old.image old.stack_end (state_of old untaken given) ≡ Stuck
+Turns (Some end) old new untaken given untaken' given' = Does end old new untaken given untaken' given'
+
+-- after an Err: but for a write that failed the console's bytes are as they were
+pub record IsCutOff (left held : Option (List ℕ)) (c : ConsoleView) (left' held' : Option (List ℕ)) (c' : ConsoleView) (e : StepError) : Type 0 where
+  pub untaken : left' ≡ left
+  pub ended : c'.ended ≡ c.ended
+  pub given : e ≢ errors.WriteFault → (given : List ℕ) → Given held c.kept given → Given held' c'.kept given
+  pub lost : e ≡ errors.WriteFault → IsLost held c.kept held' c'.kept
+  -- after a fault nothing is kept
+  pub emptied : e ≢ errors.OutOfMemory → c'.kept ≡ []
+
+-- the instruction at which an Err comes, over this console: the source is asked by IN alone, and the sink gets what the console keeps
+pub record IsMetBy (e : StepError) (i : Option Instr) (c : ConsoleView) : Type 0 where
+  pub read : e ≡ errors.ReadFault → (i ≡ Some In) × (c.ended ≡ false)
+  pub write : e ≡ errors.WriteFault → PutsKept i c
+
+-- a fault comes only where its object's count rose, and each count stays otherwise
+pub record HasStepCause {T : Type 0} (source source' sink sink' : ℕ) (result : Result T StepError) : Type 0 where
+  pub source_later : source ≤ source'
+  pub sink_later : sink ≤ sink'
+  pub read : IsErrOf result errors.ReadFault → Rose source source'
+  pub write : IsErrOf result errors.WriteFault → Rose sink sink'
+  pub source_same : result ≢ Err errors.ReadFault → source' ≡ source
+  pub sink_same : result ≢ Err errors.WriteFault → sink' ≡ sink

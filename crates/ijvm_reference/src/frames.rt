@@ -1,0 +1,200 @@
+//! The plain machine, which computes the definition's run step by step.
+
+ghost use Rattle.std.specs.Prelude.{◌≡◌, ◌≢◌, ◌+◌, ◌≤◌, [], ◌∷◌, ℕ, List, Err, IsSome, IfOk, OnOk, IfErr, OnErr};
+ghost use Rattle.mic_base.specs.Streams.{Holds};
+ghost use Rattle.console_port.specs.Console.{StaysFlushed, StillTells};
+ghost use Rattle.ijvm_instr.specs.Instructions.{instr_at};
+ghost use Rattle.ijvm_meaning.specs.Cost.{next_cost};
+ghost use Rattle.ijvm_meaning.specs.Frames.{base, top_of};
+ghost use Rattle.ijvm_meaning.specs.Safe.{NeverStuck, IsSafe};
+ghost use Rattle.ijvm_reference.specs.Machine.{MachineView, KeepsProgram, state_of, started};
+ghost use Rattle.ijvm_reference.specs.Kept.{HasKept};
+ghost use Rattle.ijvm_reference.specs.Steps.{IsLedOn, step_end, Does, Turns, IsCutOff, IsMetBy, HasStepCause};
+
+use crate::compute::{Effect, compute};
+use crate::cost::cost_of;
+use crate::machine::PlainMachine;
+use crate::port::{read_in, write_out};
+use console_port::{Console, MemoryMap};
+use ijvm_image::Image;
+use ijvm_instr::Instr;
+use mic_base::{Sink, Source};
+use mic_words::Machine;
+use std::alloc::{AllocError, Global};
+use std::marker::Model;
+use thiserror::Error;
+
+/// How a step ends.
+#[derive(Clone, Copy, Debug, PartialEq, Eq)]
+pub enum StepEnd {
+    Went,
+    Halt,
+    Err,
+    StackLimit,
+}
+
+/// Why a step cannot be done.
+#[derive(Clone, Copy, Debug, PartialEq, Eq, Error)]
+pub enum StepError {
+    #[error("the source failed")]
+    ReadFault,
+    #[error("the sink failed")]
+    WriteFault,
+    #[error("out of memory")]
+    OutOfMemory,
+}
+
+impl From<AllocError> for StepError {
+    ghost use Rattle.ijvm_reference.specs.declared.frames.StepError.TheVariants.{OutOfMemory};
+
+    ghost from_gives = { λ _ e. e ≡ OutOfMemory };
+
+    fn from(_error: AllocError) -> StepError {
+        StepError::OutOfMemory
+    }
+}
+
+fn step_end(effect: Effect) -> Option<StepEnd>
+    ensures { result ≡ step_end effect }
+{
+    match effect {
+        Effect::Went => Some(StepEnd::Went),
+        Effect::StackLimit => Some(StepEnd::StackLimit),
+        Effect::Stuck => None,
+    }
+}
+
+/// Does one instruction of the machine; none where it is stuck.
+#[tactic(auto, using(crate::proofs::Turned::is_computed, crate::proofs::Keeping::kept_read, crate::proofs::Keeping::kept_written, crate::proofs::Keeping::kept_same))]
+pub fn turn<S: Source, K: Sink>(
+    machine: &mut PlainMachine,
+    console: &mut Console,
+    source: &mut S,
+    sink: &mut K,
+) -> Result<Option<StepEnd>, StepError>
+    ensures ok { IfOk result (λ end. IsLedOn (S.left source.old) (K.held sink.old) console.old (S.left source.new) (K.held sink.new) console.new
+        (Turns end machine.old machine.new)) }
+    ensures frames { OnErr result (machine.new ≡ machine.old) }
+    ensures err { IfErr result (IsCutOff (S.left source.old) (K.held sink.old) console.old (S.left source.new) (K.held sink.new) console.new) }
+    ensures keeps { (front : List ℕ) → Holds front (K.held sink.old) → Holds front (K.held sink.new) }
+    ensures flushed { result ≢ Err StepError.WriteFault → StaysFlushed (K.held sink.old) (K.passed sink.old) (K.held sink.new) (K.passed sink.new) }
+    ensures met { IfErr result (λ e. IsMetBy e (instr_at machine.old.image.text machine.old.at) console.old) }
+    ensures kept { IfOk result (λ end. IsSome end → HasKept (S.left source.old) (instr_at machine.old.image.text machine.old.at) console.old console.new) }
+    ensures tells { StillTells (S.left source.old) console.old.ended (S.left source.new) console.new.ended }
+    ensures cause { HasStepCause (S.faults source.old) (S.faults source.new) (K.faults sink.old) (K.faults sink.new) result }
+    ensures program { KeepsProgram machine.old machine.new }
+{
+    let Some(instr) = machine.next() else {
+        return Ok(None);
+    };
+    match instr {
+        Instr::Halt => Ok(Some(StepEnd::Halt)),
+        Instr::Err => Ok(Some(StepEnd::Err)),
+        Instr::In => match read_in(machine, console, source, sink) {
+            Ok(effect) => Ok(step_end(effect)),
+            Err(error) => Err(error),
+        },
+        Instr::Out => match write_out(machine, console, sink) {
+            Ok(effect) => Ok(step_end(effect)),
+            Err(error) => Err(error),
+        },
+        _ => match compute(machine, instr) {
+            Ok(effect) => Ok(step_end(effect)),
+            Err(error) => Err(error.into()),
+        },
+    }
+}
+
+/// The plain machine over an image whose run never gets stuck.
+#[derive(Drop)]
+pub struct Frames {
+    machine: PlainMachine,
+}
+
+impl Model for Frames {
+    ghost Value = { MachineView };
+
+    ghost view = { λ f. f.machine };
+
+    ghost invariant = { λ f. NeverStuck f.machine.image f.machine.stack_end (state_of f.machine [] []) };
+}
+
+impl Frames {
+    /// The start of a run, with so many locals of main.
+    pub fn new(
+        alloc: Global,
+        image: &Image,
+        main_locals: u32,
+        map: MemoryMap,
+    ) -> Result<Frames, AllocError>
+        requires room { 0x8000 + main_locals ≤ map.stack_end }
+        requires safe { IsSafe image.now map.stack_end main_locals }
+        ensures { IfOk result (λ f. f ≡ started image.now map.stack_end main_locals) }
+    {
+        Ok(Frames {
+            machine: PlainMachine::new(alloc, image, main_locals, map.stack_end)?,
+        })
+    }
+
+    /// Does the next instruction. Room for a push is made before a byte is taken.
+    pub fn step<S: Source, K: Sink>(
+        &mut self,
+        console: &mut Console,
+        source: &mut S,
+        sink: &mut K,
+    ) -> Result<StepEnd, StepError>
+        ensures ok { IfOk result (λ end. IsLedOn (S.left source.old) (K.held sink.old) console.old (S.left source.new) (K.held sink.new) console.new
+            (Does end self.old self.new)) }
+        ensures program { KeepsProgram self.old self.new }
+        ensures frames { OnErr result (self.new ≡ self.old) }
+        ensures err { IfErr result (IsCutOff (S.left source.old) (K.held sink.old) console.old (S.left source.new) (K.held sink.new) console.new) }
+        ensures keeps { (front : List ℕ) → Holds front (K.held sink.old) → Holds front (K.held sink.new) }
+        ensures flushed { result ≢ Err StepError.WriteFault → StaysFlushed (K.held sink.old) (K.passed sink.old) (K.held sink.new) (K.passed sink.new) }
+        ensures met { IfErr result (λ e. IsMetBy e (instr_at self.old.image.text self.old.at) console.old) }
+        ensures kept { OnOk result (HasKept (S.left source.old) (instr_at self.old.image.text self.old.at) console.old console.new) }
+        ensures tells { StillTells (S.left source.old) console.old.ended (S.left source.new) console.new.ended }
+        ensures cause { HasStepCause (S.faults source.old) (S.faults source.new) (K.faults sink.old) (K.faults sink.new) result }
+    {
+        match turn(&mut self.machine, console, source, sink) {
+            Ok(Some(end)) => Ok(end),
+            Ok(None) => unreachable!(),
+            Err(error) => Err(error),
+        }
+    }
+
+    /// The byte address of the next instruction.
+    pub fn address(&self) -> u32
+        ensures { result ≡ self.now.at }
+    {
+        self.machine.address()
+    }
+
+    /// The word address before that of the running frame's next operand.
+    pub fn sp(&self) -> u32
+        ensures { result + 1 ≡ base (self.now.running ∷ self.now.callers) }
+    {
+        self.machine.end() - 1
+    }
+
+    /// The word address at which the running frame begins.
+    pub fn lv(&self) -> u32
+        ensures { result ≡ base self.now.callers }
+    {
+        self.machine.lv()
+    }
+
+    /// The last operand; none exactly where the running frame has none.
+    pub fn tos(&self) -> Option<u32>
+        ensures { result ≡ top_of self.now.running.operands }
+    {
+        self.machine.top()
+    }
+
+    /// The cycles of the next instruction.
+    pub fn cost(&self, machine: Machine) -> u64
+        ensures is { result ≡ next_cost self.now.image machine (state_of self.now [] []) }
+        ensures most { result ≤ 23 }
+    {
+        cost_of(&self.machine, machine)
+    }
+}

@@ -1,0 +1,12 @@
+//! What holds of the boundaries at which a run of the plain machine is followed.
+
+ghost use Rattle.std.specs.Prelude.{ℕ, Bool};
+ghost use Rattle.console_port.specs.View.{ConsoleView};
+ghost use Rattle.ijvm_meaning.specs.Run.{Program, Point, Passes};
+ghost use Rattle.ijvm_reference.specs.Runs.{Reaches};
+
+/// The definition's run passes each of them.
+pub fn reached_boundaries_are_passed()
+    ensures { (told : Bool) (p : Program) (bound : ℕ) (from : Point) (first : ConsoleView) (at : Point) (console : ConsoleView) →
+        Reaches told p bound from first at console → Passes p bound from at }
+{}

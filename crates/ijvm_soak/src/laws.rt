@@ -1,0 +1,16 @@
+//! What holds of every generated program.
+
+ghost use Rattle.std.specs.Prelude.{◌≤◌, ℕ, length};
+ghost use Rattle.console_port.specs.Map.{IsMap};
+ghost use Rattle.verifier_facts.specs.Facts.{Accepts};
+ghost use Rattle.ijvm_soak.specs.Generated.{generated};
+
+/// It is accepted: no refusal is true of it.
+pub fn generated_images_are_accepted()
+    ensures { (seed size end : ℕ) → size ≤ 9000 → IsMap end → Accepts (generated seed size) end }
+{}
+
+/// Its text is within the limit.
+pub fn generated_texts_are_short()
+    ensures { (seed size : ℕ) → size ≤ 9000 → length (generated seed size).text ≤ 65536 }
+{}

@@ -1,7 +1,0 @@
-use Rattle.std.proofs.Common.{ℕ, ◌<◌, ◌+◌, ◌*◌, ◌↔◌}
-use Rattle.ijvm_paths.specs.Paths.{IsOwn}
-use Rattle.ijvm_unset.specs.LocalSet.{Has}
-use Rattle.ijvm_unset.proofs.unset.own_locals.Given as goal
-
-abbrev pub invariant-loop-place : goal.invariant-loop-place
-invariant-loop-place l = (p : ℕ) → p < 64 → Has l.locals p ↔ ((p < l.place) × IsOwn l.image.text l.wanted.entry (64 * l.wanted.group + p))

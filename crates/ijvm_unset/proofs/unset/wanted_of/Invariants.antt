@@ -1,6 +1,0 @@
-use Rattle.std.proofs.Common.{◌≤◌, length}
-use Rattle.ijvm_unset.specs.Unset.{AreWanted}
-use Rattle.ijvm_unset.proofs.unset.wanted_of.Given as goal
-
-abbrev pub invariant-loop-at : goal.invariant-loop-at
-invariant-loop-at l = record { wanted : AreWanted l.image l.seen l.graph l.at l.wanted.items; few : length l.wanted.items ≤ l.at }

@@ -1,0 +1,52 @@
+-- Line numbers: the program of a text, without them, is the listed one.
+use Rattle.std.proofs.Common.{◌≡◌, ℕ, ◌+◌, ◌<◌, List, [], ◌∷◌, ◌++◌, length, take, map, Some, Result, Ok, Err, ◌⊎◌, inl, inr, refl, sym, ap, ◌∙◌, subst}
+use Rattle.std.specs.Prelude.{slice_get}
+use Rattle.std.proofs.lemmas.List.{map-append, take_more}
+use Rattle.std.proofs.lemmas.Option.{slice_get_within, get_or_from_slice_get}
+use Rattle.mic_words.specs.declared.machine.Machine.{Machine}
+use Rattle.mic_words.specs.declared.machine.Machine.TheVariants.{Mic1, Mic2}
+use Rattle.mal_parser.specs.declared.statement.Statement.{Statement}
+use Rattle.mal_parser.specs.declared.error.MalError.{MalError}
+use Rattle.mal_parser.specs.declared.error.MalError.TheVariants.{OutOfMemory}
+use Rattle.mal_parser.specs.ProgramText.{canonical_text, relined}
+use Rattle.mal_parser.specs.Text.{SpellsProgram}
+use Rattle.mal_parser.specs.Program.{IsProgram, Program}
+use Rattle.mal_shipped.proofs.Valid.{valid}
+use Rattle.mal_shipped.proofs.Texts.{canonical}
+use Rattle.mal_shipped.specs.Listing.{listed_program, text_of, unlined, without_line, program1, rows1, program2, rows2}
+
+pub one_more : (ss : List Statement) (k : ℕ) (s : Statement) → slice_get ss k ≡ Some s →
+    map without_line (take k ss) ++ without_line s ∷ [] ≡ map without_line (take (k + 1) ss)
+one_more ss k s e =
+    let inside : k < length ss = slice_get_within ss k s e in
+    let here : take (k + 1) ss ≡ take k ss ++ s ∷ [] = take_more ss k s inside ∙ ap (λ (x : Statement). take k ss ++ x ∷ []) (get_or_from_slice_get ss k s s e) in
+    sym (ap (map without_line) here ∙ map-append without_line (take k ss) (s ∷ []))
+
+pub unlined_of : (machine : Machine) → unlined (relined (listed_program machine)) ≡ listed_program machine
+unfolding program1 rows1 program2 rows2
+unlined_of Mic1 = refl
+unlined_of Mic2 = refl
+
+pub unlined_is_program : (machine : Machine) → IsProgram (unlined (relined (listed_program machine)))
+unlined_is_program machine = subst IsProgram (sym (unlined_of machine)) (valid machine)
+
+machine_of : (machine : Machine) → (listed_program machine).machine ≡ machine
+unfolding program1 program2
+machine_of Mic1 = refl
+machine_of Mic2 = refl
+
+text_spells : (machine : Machine) → ((q : Program) → IsProgram q → SpellsProgram q.machine (canonical_text q) (relined q)) →
+    SpellsProgram machine (text_of machine) (relined (listed_program machine))
+text_spells machine law =
+    let spells : SpellsProgram (listed_program machine).machine (canonical_text (listed_program machine)) (relined (listed_program machine)) = law (listed_program machine) (valid machine) in
+    let here : SpellsProgram machine (canonical_text (listed_program machine)) (relined (listed_program machine)) =
+    subst (λ (m : Machine). SpellsProgram m (canonical_text (listed_program machine)) (relined (listed_program machine))) (machine_of machine) spells in
+    subst (λ (text : List ℕ). SpellsProgram machine text (relined (listed_program machine))) (sym (canonical machine)) here
+
+-- what a text is read as, where it spells this program
+pub read_as : (machine : Machine) (text : List ℕ) (r : Result Program MalError) (p : Program) → r ≡ Ok p → text ≡ text_of machine →
+    ((q : Program) → IsProgram q → SpellsProgram q.machine (canonical_text q) (relined q)) →
+    ((q : Program) → SpellsProgram machine text q → (r ≡ Ok q) ⊎ (r ≡ Err OutOfMemory)) → p ≡ relined (listed_program machine)
+read_as machine text r p e same law spelled =
+    let spells : SpellsProgram machine text (relined (listed_program machine)) = subst (λ (t : List ℕ). SpellsProgram machine t (relined (listed_program machine))) (sym same) (text_spells machine law) in
+    elim (spelled (relined (listed_program machine)) spells) [ inl f ↦ cc | inr f ↦ absurd (cc) ]

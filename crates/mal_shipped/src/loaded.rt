@@ -1,0 +1,35 @@
+//! A microprogram in the control store.
+
+ghost use Rattle.std.specs.Prelude.{◌≡◌, ◌↔◌, IsOk, IfOk, Err};
+ghost use Rattle.store_placement.specs.Placement.{HasPlacement};
+ghost use Rattle.store_placement.specs.Program.{demands_of};
+ghost use Rattle.store_placement.specs.Refusals.{Refuses};
+ghost use Rattle.mal_shipped.specs.Loaded.{IsLoaded};
+
+use mal_parser::MalProgram;
+use micro_word::Store;
+use store_placement::{PlaceError, Placement, constraints_of, fill, place};
+
+/// A placed microprogram: its control store, the address of each statement, and the address of Main1.
+#[derive(Drop)]
+pub struct Loaded {
+    pub store: Store,
+    pub placement: Placement,
+    pub entry: u16,
+}
+
+/// The program at its chosen placement, or the first reason why it has none.
+pub fn load_micro(program: &MalProgram) -> Result<Loaded, PlaceError>
+    ensures ok { IsOk result ↔ HasPlacement (demands_of program.now) }
+    ensures loaded { IfOk result (IsLoaded program.now) }
+    ensures err { (e : PlaceError) → (result ≡ Err e) ↔ Refuses (demands_of program.now) e }
+{
+    let placement = place(&constraints_of(program))?;
+    let store = fill(program, &placement);
+    let entry = placement.address(program.entry());
+    Ok(Loaded {
+        store,
+        placement,
+        entry,
+    })
+}

@@ -1,0 +1,39 @@
+-- A read lets the bytes of the console wait, unless it is of the console.
+use Rattle.std.proofs.Common.{◌≡◌, ◌≢◌, ◌⊎◌, inl, inr, ◌<◌, ◌≤◌, ◌==◌, ℕ, List, [], ◌∷◌, None, refl, sym, subst, arith}
+use Rattle.std.specs.Prelude.{IsTrue}
+use Rattle.std.proofs.lemmas.Bool.{cases_lt, cases_Bool}
+use Rattle.std.proofs.lemmas.Bool.Decides.{nat_tests}
+use Rattle.console_port.specs.World.{console_at, read_refusal}
+use Rattle.micro_word.specs.declared.statement.Mem.{Mem}
+use Rattle.micro_word.specs.declared.statement.Mem.TheVariants as mems
+use Rattle.mic_datapath.specs.Memory.{memory_refusal}
+use Rattle.mic_datapath.specs.Access.{LetsBytesWait}
+
+-- a read that is not refused, and not of the memory, is of the console
+at_console : (n at : ℕ) → read_refusal n at ≡ None → n ≤ at → IsTrue (at == console_at)
+unfolding read_refusal
+at_console n at clear behind = elim (cases_Bool (at == console_at)) [
+  | inl here ↦ here
+  | inr other ↦ absurd (grind (arith, nat_tests, clear, behind, other))
+]
+
+some_or_none : (xs : List ℕ) → (xs ≡ []) ⊎ (xs ≢ [])
+some_or_none [] = inl refl
+some_or_none (x ∷ xs) = inr (λ e. cc)
+
+read_lets : {K : Type 0} (n at : ℕ) (kept : List ℕ) (sink sink' : K) → read_refusal n at ≡ None → (at < n → sink' ≡ sink) → (kept ≡ [] → sink' ≡ sink) →
+    LetsBytesWait n mems.Read at (read_refusal n at) kept sink sink'
+read_lets n at kept sink sink' clear memory empty = λ room.
+    elim (cases_lt at n) [
+      | inl inside ↦ inl (memory inside)
+      | inr behind ↦ elim (some_or_none kept) [
+        | inl none ↦ inl (empty none)
+        | inr some ↦ inr (record { some = some; reads = at_console n at clear behind; behind = behind; clear = clear })
+      ]
+    ]
+
+pub read_waits : {K : Type 0} (n at : ℕ) (kept : List ℕ) (sink sink' : K) (mem : Mem) → mem ≡ mems.Read → memory_refusal n mem at ≡ None →
+    (at < n → sink' ≡ sink) → (kept ≡ [] → sink' ≡ sink) → LetsBytesWait n mem at (memory_refusal n mem at) kept sink sink'
+read_waits n at kept sink sink' mem is clear memory empty =
+    subst (λ (x : Mem). LetsBytesWait n x at (memory_refusal n x at) kept sink sink') (sym is)
+    (read_lets n at kept sink sink' (subst (λ (x : Mem). memory_refusal n x at ≡ None) is clear) memory empty)

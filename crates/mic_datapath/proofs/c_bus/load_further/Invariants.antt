@@ -1,0 +1,12 @@
+use Rattle.std.proofs.Common.{◌≡◌, ℕ, ◌<◌, ◌≤◌, if◌then◌else◌, slice_index}
+use Rattle.micro_word.specs.Lines.{names}
+use Rattle.mic_datapath.proofs.c_bus.load_further.Given as goal
+
+abbrev pub invariant-places : goal.invariant-places
+invariant-places l =
+    record {
+      loaded : (k : ℕ) → l.fn.from ≤ k → k < l.place → slice_index l.places k ≡ (if names l.fn.c k then l.fn.value else slice_index l.initial.places k);
+      before : (k : ℕ) → k < l.fn.from → slice_index l.places k ≡ slice_index l.initial.places k;
+      others : (k : ℕ) → 9 ≤ k → slice_index l.places k ≡ slice_index l.initial.places k;
+      behind : (k : ℕ) → l.place ≤ k → slice_index l.places k ≡ slice_index l.initial.places k;
+    }

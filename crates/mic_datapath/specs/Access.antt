@@ -1,0 +1,47 @@
+-- What the accesses of a cycle come to, by what the ports are given.
+use Rattle.std.specs.Prelude.{◌≡◌, ◌≢◌, ◌⊎◌, ◌<◌, ◌≤◌, ◌/◌, ◌==◌, ◌&&◌, ℕ, Bool, true, false, List, [], length, Option, None, IsTrue}
+use Rattle.console_port.specs.Console.{most_kept}
+use Rattle.console_port.specs.World.{World, Refusal, console_at}
+use Rattle.micro_word.specs.declared.statement.Mem.{Mem}
+use Rattle.micro_word.specs.declared.statement.Mem.TheVariants as mems
+use Rattle.mic_datapath.specs.Memory.{written, sampled, word_under_way, byte_under_way}
+use Rattle.mic_datapath.specs.declared.ports.Ports.{Ports}
+
+-- the write or the read leads the world w to v, and this word is under way
+pub record IsTransfer (stack_end : ℕ) (mem : Mem) (p : Ports) (w : World) (word : Option ℕ) (v : World) : Type 0 where
+  pub its_word : word ≡ word_under_way stack_end mem p (written stack_end mem p w)
+  pub after : v ≡ sampled stack_end mem p (written stack_end mem p w)
+  pub words : v.words ≡ (written stack_end mem p w).words
+
+-- all accesses lead the world w to v, and this word and this byte are under way
+pub record IsAccess (stack_end : ℕ) (mem : Mem) (fetch : Bool) (p : Ports) (w : World) (word byte : Option ℕ) (v : World) : Type 0 where
+  pub its_word : word ≡ word_under_way stack_end mem p (written stack_end mem p w)
+  pub its_byte : byte ≡ byte_under_way fetch p (written stack_end mem p w)
+  pub after : v ≡ sampled stack_end mem p (written stack_end mem p w)
+
+abbrev pub is_read : Mem → Bool
+is_read mems.Read = true
+is_read mems.Write = false
+is_read mems.None = false
+
+-- a read or a write
+abbrev pub is_access : Mem → Bool
+is_access mems.Read = true
+is_access mems.Write = true
+is_access mems.None = false
+
+-- a read of the console that is not refused, where bytes wait
+pub record ReadsWaiting (stack_end : ℕ) (mem : Mem) (mar : ℕ) (refusal : Option Refusal) (kept : List ℕ) : Type 0 where
+  pub some : kept ≢ []
+  pub reads : IsTrue (is_read mem && mar == console_at)
+  pub behind : stack_end ≤ mar
+  pub clear : refusal ≡ None
+
+-- while the console has room for one byte more, the sink is left as it is by all but such a read
+abbrev pub LetsBytesWait : {K : Type 0} → ℕ → Mem → ℕ → Option Refusal → List ℕ → K → K → Type 0
+LetsBytesWait stack_end mem mar refusal kept sink sink' = length kept < most_kept → (sink' ≡ sink) ⊎ ReadsWaiting stack_end mem mar refusal kept
+
+-- no access of the cycle reaches past the memory's words
+pub record AreInMemory (stack_end : ℕ) (mem : Mem) (fetch : Bool) (mar pc : ℕ) : Type 0 where
+  pub word : is_access mem ≡ true → mar < stack_end
+  pub byte : fetch ≡ true → pc / 4 < stack_end

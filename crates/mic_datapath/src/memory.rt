@@ -1,0 +1,136 @@
+//! The accesses of a cycle that reach memory alone, which none refuses and no fault stops.
+
+ghost use Rattle.std.specs.Prelude.{◌≡◌, ◌<◌, ◌/◌, None, is_some, length, true, false};
+ghost use Rattle.console_port.specs.Bus.{ChangesOnly};
+ghost use Rattle.console_port.specs.World.{World};
+ghost use Rattle.mic_datapath.specs.Memory.{access_refusal, memory_refusal};
+ghost use Rattle.mic_datapath.specs.Access.{IsAccess, IsTransfer, AreInMemory, is_access, is_read};
+
+use crate::accesses::{Sampled, sample};
+use crate::ports::Ports;
+use console_port::Bus;
+use micro_word::Mem;
+
+/// Whether the accesses reach memory alone.
+pub fn is_in_memory(mem: Mem, fetch: bool, mar: u32, pc: u32, bus: &Bus) -> bool
+    ensures { result ≡ true → AreInMemory (length bus.now.words) mem fetch mar pc }
+{
+    if fetch && !bus.has(pc / 4) {
+        return false;
+    }
+    match mem {
+        Mem::None => true,
+        _ => bus.has(mar),
+    }
+}
+
+/// Whether nothing is accessed.
+pub fn is_quiet(mem: Mem, fetch: bool) -> bool
+    ensures { result ≡ true → (mem ≡ Mem.None) × (fetch ≡ false) }
+{
+    mem == Mem::None && !fetch
+}
+
+/// What no access samples.
+pub fn no_access(mem: Mem, fetch: bool, ports: &Ports, bus: &Bus) -> Sampled
+    requires mem { mem ≡ Mem.None }
+    requires fetch { fetch ≡ false }
+    ensures clear { access_refusal (length bus.now.words) mem fetch ports.now ≡ None }
+    ensures access { (w : World) → w.words ≡ bus.now.words →
+        IsAccess (length bus.now.words) mem fetch ports.now w result.word result.byte w }
+    ensures word { is_some result.word ≡ is_read mem }
+    ensures byte { is_some result.byte ≡ fetch }
+{
+    Sampled {
+        word: None,
+        byte: None,
+    }
+}
+
+/// What a fetch from memory samples where nothing else is accessed.
+#[inline(always)]
+#[tactic(auto, unfolding(console_port::specs::World::fetch_refusal))]
+pub fn fetch_alone(pc: u32, bus: &Bus) -> Sampled
+    requires { pc / 4 < length bus.now.words }
+    ensures clear { (p : Ports) → p.pc ≡ pc → access_refusal (length bus.now.words) Mem.None true p ≡ None }
+    ensures access { (p : Ports) → p.pc ≡ pc → (w : World) → w.words ≡ bus.now.words →
+        IsAccess (length bus.now.words) Mem.None true p w result.word result.byte w }
+    ensures word { result.word ≡ None }
+    ensures byte { is_some result.byte ≡ true }
+{
+    Sampled {
+        word: None,
+        byte: Some(bus.byte(pc)),
+    }
+}
+
+/// What a read of memory samples where nothing else is accessed.
+#[inline(always)]
+#[tactic(auto, unfolding(console_port::specs::World::read_refusal, console_port::specs::World::read_value, console_port::specs::World::untaken_after))]
+pub fn read_alone(mar: u32, bus: &Bus) -> Sampled
+    requires { mar < length bus.now.words }
+    ensures clear { (p : Ports) → p.mar ≡ mar → access_refusal (length bus.now.words) Mem.Read false p ≡ None }
+    ensures access { (p : Ports) → p.mar ≡ mar → (w : World) → w.words ≡ bus.now.words →
+        IsAccess (length bus.now.words) Mem.Read false p w result.word result.byte w }
+    ensures word { is_some result.word ≡ true }
+    ensures byte { result.byte ≡ None }
+{
+    Sampled {
+        word: Some(bus.word(mar)),
+        byte: None,
+    }
+}
+
+/// Stores MDR in memory where nothing else is accessed.
+#[inline(always)]
+#[tactic(auto, unfolding(console_port::specs::World::write_refusal, console_port::specs::World::given_after))]
+pub fn write_alone(mar: u32, mdr: u32, bus: &mut Bus)
+    requires { mar < length bus.old.words }
+    ensures clear { (p : Ports) → p.mar ≡ mar → access_refusal (length bus.old.words) Mem.Write false p ≡ None }
+    ensures access { (p : Ports) → p.mar ≡ mar → p.mdr ≡ mdr → (w : World) → w.words ≡ bus.old.words →
+        IsAccess (length bus.old.words) Mem.Write false p w None None (record w { words = bus.new.words }) }
+    ensures others { ChangesOnly mar bus.old.words bus.new.words }
+    ensures console { bus.new.console ≡ bus.old.console }
+{
+    bus.set_word(mar, mdr);
+}
+
+/// Stores MDR at MAR, or takes the word there.
+#[tactic(auto, unfolding(console_port::specs::World::read_refusal, console_port::specs::World::write_refusal, console_port::specs::World::read_value, console_port::specs::World::untaken_after, console_port::specs::World::given_after))]
+fn transfer_memory(mem: Mem, ports: &Ports, bus: &mut Bus) -> Option<u32>
+    requires { is_access mem ≡ true → ports.now.mar < length bus.old.words }
+    ensures clear { memory_refusal (length bus.old.words) mem ports.now.mar ≡ None }
+    ensures transfer { (w : World) → w.words ≡ bus.old.words →
+        IsTransfer (length bus.old.words) mem ports.now w result (record w { words = bus.new.words }) }
+    ensures sampled { is_some result ≡ is_read mem }
+    ensures others { ChangesOnly ports.now.mar bus.old.words bus.new.words }
+    ensures size { length bus.new.words ≡ length bus.old.words }
+    ensures console { bus.new.console ≡ bus.old.console }
+{
+    match mem {
+        Mem::Write => {
+            bus.set_word(ports.mar, ports.mdr);
+            None
+        }
+        Mem::Read => Some(bus.word(ports.mar)),
+        Mem::None => None,
+    }
+}
+
+/// Does them.
+#[inline(always)]
+#[tactic(auto, unfolding(console_port::specs::World::fetch_refusal))]
+pub fn access_memory(mem: Mem, fetch: bool, ports: &Ports, bus: &mut Bus) -> Sampled
+    requires { AreInMemory (length bus.old.words) mem fetch ports.now.mar ports.now.pc }
+    ensures clear { access_refusal (length bus.old.words) mem fetch ports.now ≡ None }
+    ensures access { (w : World) → w.words ≡ bus.old.words →
+        IsAccess (length bus.old.words) mem fetch ports.now w result.word result.byte (record w { words = bus.new.words }) }
+    ensures word { is_some result.word ≡ is_read mem }
+    ensures byte { is_some result.byte ≡ fetch }
+    ensures others { ChangesOnly ports.now.mar bus.old.words bus.new.words }
+    ensures console { bus.new.console ≡ bus.old.console }
+{
+    let word = transfer_memory(mem, ports, bus);
+    let byte = sample(bus, fetch, ports);
+    Sampled { word, byte }
+}

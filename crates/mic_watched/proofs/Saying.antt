@@ -1,0 +1,61 @@
+-- What a watcher says of cycles one after the other.
+use Rattle.std.proofs.Common.{◌≡◌, ℕ, ◌+◌, List, [], ◌∷◌, ◌++◌, length, take, ap, sym, ◌∙◌, append_assoc, refl, subst, Result, Ok, Err, Option, Some, None}
+use Rattle.std.specs.Option.{option_map}
+use Rattle.std.proofs.Math.Seq.{take-append-add}
+use Rattle.std.proofs.lemmas.List.{append-nil}
+use Rattle.mic_base.specs.Streams.{Puts}
+use Rattle.mic_base.specs.Causes.{HasCause}
+use Rattle.mic_watched.specs.declared.cycle.Cycle.{Cycle}
+use Rattle.mic_watched.specs.Watched.{kept_of, PrintsOf, Saw}
+
+-- what is put behind a text that was put
+puts_then : {E : Type 0} (old mid new : Option (List ℕ)) (p q : List ℕ) (result : Result Unit E) →
+    mid ≡ option_map (λ held. held ++ p) old → Puts mid q result new → Puts old (p ++ q) result new
+puts_then None mid new p q (Ok done) e h = h ∙ ap (option_map (λ (held : List ℕ). held ++ q)) e
+puts_then (Some held) mid new p q (Ok done) e h =
+    h ∙ ap (option_map (λ (front : List ℕ). front ++ q)) e ∙ ap Some (append_assoc held p q)
+puts_then None mid new p q (Err x) e h = (0, h.1 ∙ ap (option_map (λ (front : List ℕ). front ++ take h.0 q)) e)
+puts_then (Some held) mid new p q (Err x) e h = (
+  length p + h.0,
+  h.1 ∙ ap (option_map (λ (front : List ℕ). front ++ take h.0 q)) e ∙ ap Some (append_assoc held p (take h.0 q))
+      ∙ ap (λ (more : List ℕ). Some (held ++ more)) (sym (take-append-add p q h.0)),
+)
+
+pub puts_nothing : (old : Option (List ℕ)) → old ≡ option_map (λ held. held ++ []) old
+puts_nothing None = refl
+puts_nothing (Some held) = ap Some (sym (append-nil held))
+
+module _ {Kept : Type 0} (keeps : Kept → Cycle → Kept) (Prints : Kept → Cycle → List ℕ → Type 0) where
+  pub kept-append : (k : Kept) (cs ds : List Cycle) → kept_of keeps Prints k (cs ++ ds) ≡ kept_of keeps Prints (kept_of keeps Prints k cs) ds
+  kept-append k [] ds = refl
+  kept-append k (c ∷ cs) ds = kept-append (keeps k c) cs ds
+
+  says-append : (k : Kept) (cs ds : List Cycle) (p q : List ℕ) → PrintsOf keeps Prints k cs p → PrintsOf keeps Prints (kept_of keeps Prints k cs) ds q → PrintsOf keeps Prints k (cs ++ ds) (p ++ q)
+  says-append k [] ds p q first next = subst (λ (x : List ℕ). PrintsOf keeps Prints k ds (x ++ q)) (sym first) next
+  says-append k (c ∷ cs) ds p q first next =
+      (first.0, first.1 ++ q, first.2, says-append (keeps k c) cs ds first.1 q first.3 next, ap (λ (x : List ℕ). x ++ q) first.4 ∙ append_assoc first.0 first.1 q)
+
+  -- cycles that were seen, and more behind them
+  pub saw-then : {E : Type 0} (k k' k'' : Kept) (err err' err'' : Option (List ℕ)) (cs ds : List Cycle) (result : Result Unit E) →
+      Saw keeps Prints {E = E} k k' err err' cs (Ok tt) → Saw keeps Prints k' k'' err' err'' ds result → Saw keeps Prints k k'' err err'' (cs ++ ds) result
+  saw-then k k' k'' err err' err'' cs ds result first next =
+      record {
+        kept = next.kept ∙ (ap (λ (x : Kept). kept_of keeps Prints x ds) first.kept ∙ sym (kept-append k cs ds));
+        text = first.text ++ next.text;
+        says = says-append k cs ds first.text next.text first.says (subst (λ (x : Kept). PrintsOf keeps Prints x ds next.text) first.kept next.says);
+        said = puts_then err err' err'' first.text next.text result first.said next.said;
+      }
+
+  -- nothing yet
+  pub saw-nothing : {E : Type 0} (k : Kept) (err : Option (List ℕ)) → Saw keeps Prints {E = E} k k err err [] (Ok tt)
+  saw-nothing k err = record { kept = refl; text = []; says = refl; said = puts_nothing err }
+
+  -- one cycle
+  pub saw-one : {E : Type 0} (k k' : Kept) (err err' : Option (List ℕ)) (c : Cycle) (text : List ℕ) (result : Result Unit E) →
+      k' ≡ keeps k c → Prints k c text → Puts err text result err' → Saw keeps Prints k k' err err' (c ∷ []) result
+  saw-one k k' err err' c text result kept says said =
+      record { kept = kept; text = text; says = (text, [], says, refl, sym (append-nil text)); said = said }
+
+-- causes of one call after another
+pub cause-then : {E : Type 0} (a b c : ℕ) (done : Unit {0}) (result : Result Unit E) → HasCause {E = E} a b (Ok done) → HasCause b c result → HasCause a c result
+cause-then a b c done result first next = subst (λ (x : ℕ). HasCause x c result) first.quiet next

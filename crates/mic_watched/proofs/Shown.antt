@@ -1,0 +1,224 @@
+-- The cycles between boards of a run.
+use Rattle.std.proofs.Common.{◌≡◌, ◌≢◌, ◌≤◌, inr, ℕ, zero, suc, ◌+◌, List, [], ◌∷◌, ◌++◌, Bool, Option, Some, None, IsSome, refl, sym, ◌∙◌, ap, subst, take, drop, append_assoc}
+use Rattle.std.proofs.Math.ListN.{take-append-drop}
+use Rattle.std.specs.Prelude.{IfSome}
+use Rattle.console_port.specs.Console.{IsLost, Given, LosesLast, Untaken}
+use Rattle.mic_clock.specs.declared.counts.Counts.{Counts}
+use Rattle.mic_clock.specs.declared.end.End.{End}
+use Rattle.mic_clock.specs.declared.end.End.TheVariants as ends
+use Rattle.mic_clock.specs.Meaning.{Meaning}
+use Rattle.mic_clock.specs.View.{BoardView}
+use Rattle.mic_clock.specs.Run.{MicroRun, Buses, last_cycles, word_at, turn, turns, buses, bounded, buses_of}
+use Rattle.mic_clock.specs.Board.{ShowsRun, ShowsAs, IsLedTo, IsCutByRead, IsCutByWrite, Leads, NoFault, IsTurned, RunIsCutByRead, RunIsCutByWrite, EndsUncounted, IsCounted, ShowsBuses}
+use Rattle.mic_watched.specs.declared.cycle.Cycle.{Cycle}
+use Rattle.mic_watched.specs.Cycles.{shown_where, cycle_between, shown, cycles_of, boundary_in, boundary_of, cycle_on, shown_on}
+use Rattle.mic_watched.specs.Watched.{LeadsOver, ShowsCycles}
+use Rattle.mic_watched.proofs.Turns.{turns-plus, buses-plus, cycles-plus, cycles-none, boundary-counted}
+
+where_same : (end : Option End) (c d : Cycle) → (end ≡ None → c ≡ d) → shown_where end c ≡ shown_where end d
+where_same (Some e) c d same = refl
+where_same None c d same = ap (λ (x : Cycle). x ∷ []) (same refl)
+
+module _ {M State : Type 0} (state : M → State) (m : Meaning State) (bound : ℕ) (left held : Option (List ℕ)) (board : BoardView M) where
+  -- before the first turn
+  pub over-start : LeadsOver state m bound left held board left held board [] (ShowsRun state left held board)
+  over-start rest fits = (rest, fits, λ r s e. (zero, refl, record { here = s; untaken = e; buses = refl }))
+
+  module _ (left' held' : Option (List ℕ)) (board' : BoardView M) where
+    -- the cycle that a turn between two boards shows
+    turn_shows : (mpc : ℕ) → mpc ≡ (m.registers (state board.machine)).mpc → last_cycles board.counts.boundary ≤ board.counts.cycles →
+        IsCounted state m board board' → ShowsBuses state m board board' → board'.end ≡ None →
+        cycle_between m board.store.words (state board.machine) (state board'.machine) board'.counts ≡ cycle_on state m mpc board'
+    turn_shows mpc is ordered counted seen not_ended =
+        let words = board.store.words in
+        let s = state board.machine in
+        let driven : board'.buses ≡ record { drive = m.drives (word_at m words s) s; computed = m.computes (word_at m words s) s } =
+        seen ∙ ap (λ (e : Option End). buses_of m words s board.buses e) not_ended in
+        let reached : boundary_in board'.counts ≡ boundary_of m words (state board'.machine) =
+        boundary-counted m board.counts board'.counts (m.drives (word_at m words s) s).stalled (state board'.machine) ordered (counted not_ended).1 in
+        λ i. record {
+          mpc = sym is i;
+          drive = (sym driven i).drive;
+          computed = (sym driven i).computed;
+          counts = board'.counts;
+          registers = m.registers (state board'.machine);
+          boundary = sym reached i;
+        }
+
+    -- a turn without a fault
+    turn_over : (mpc : ℕ) → mpc ≡ (m.registers (state board.machine)).mpc → last_cycles board.counts.boundary ≤ board.counts.cycles →
+        IsCounted state m board board' → ShowsBuses state m board board' →
+        IsLedTo state left held board left' board'
+        (λ r rest. ShowsRun state left' held' board' (turn m board.store.words (bounded m (Some bound) r)) × ((turn m board.store.words (bounded m (Some bound) r)).world.untaken ≡ rest)) →
+        LeadsOver state m bound left held board left' held' board' (shown_on state m mpc board') (ShowsRun state left' held' board')
+    turn_over mpc is ordered counted seen turned rest fits =
+        let words = board.store.words in
+        let one = turned rest fits in (
+          one.0,
+          one.1,
+          λ r s e.
+              let at = one.2 r s e in
+              let cycle = cycle_between m words (state board.machine) (state board'.machine) board'.counts in
+              let by_board : shown m words r (turn m words (bounded m (Some bound) r)) ≡ shown_where board'.end cycle =
+              λ i. shown_where (at.0.its_end i) (cycle_between m words (s.its_state i) (at.0.its_state i) (at.0.counts i)) in (
+                suc zero,
+                by_board ∙ where_same board'.end cycle (cycle_on state m mpc board') (turn_shows mpc is ordered counted seen),
+                record {
+                  here = at.0;
+                  untaken = at.1;
+                  buses = seen ∙ (λ i. buses_of m words (sym s.its_state i) board.buses (sym at.0.its_end i));
+                },
+              ),
+        )
+
+    -- turns that end and clock nothing
+    still_over : (H : MicroRun State → Type 0) → ((r : MicroRun State) → H r → r.counts ≡ board'.counts) → board'.counts.cycles ≡ board.counts.cycles →
+        IsLedTo state left held board left' board' (λ r rest. (n : ℕ) × Leads state m board.store.words (Some bound) board' board.buses rest n r H) →
+        LeadsOver state m bound left held board left' held' board' [] H
+    still_over H counts same led rest fits =
+        let words = board.store.words in
+        let far = led rest fits in (
+          far.0,
+          far.1,
+          λ r s e.
+              let at = far.2 r s e in
+              let cycles : Counts → ℕ = λ c. c.cycles in (
+                at.0,
+                cycles-none m words (Some bound) at.0 r (ap cycles (counts (turns m words (Some bound) at.0 r) at.1.here) ∙ (same ∙ sym (ap cycles s.counts))),
+                at.1,
+              ),
+        )
+
+    -- one turn, by what a board says of it
+    pub one-turn : (mpc : ℕ) → mpc ≡ (m.registers (state board.machine)).mpc → last_cycles board.counts.boundary ≤ board.counts.cycles → board.end ≡ None →
+        IsCounted state m board board' → ShowsBuses state m board board' → EndsUncounted board board' →
+        IsTurned state m left held board left' held' board' (Some bound) →
+        RunIsCutByRead state m left held board left' held' board' (Some bound) →
+        RunIsCutByWrite state m left held board left' held' board' (Some bound) →
+        ShowsCycles state m bound left held board left' held' board' (shown_on state m mpc board') board'.end
+    one-turn mpc is ordered not_ended counted seen still turned read write =
+        let words = board.store.words in
+        let none : (e : End) → board'.end ≡ Some e → shown_on state m mpc board' ≡ [] = λ e p. ap (λ (x : Option End). shown_where x (cycle_on state m mpc board')) p in
+        let same : (e : End) → board'.end ≡ Some e → board'.counts.cycles ≡ board.counts.cycles = λ e p. (still (subst IsSome (sym p) refl)).0 in
+        record {
+          run = λ q. turn_over mpc is ordered counted seen (turned (subst (λ (e : Option End). NoFault e board'.end) (sym not_ended) q));
+          read = λ p. let H = IsCutByRead state m words (Some bound) left' held' board' in
+              subst (λ (cs : List Cycle). LeadsOver state m bound left held board left' held' board' cs H) (sym (none ends.ReadFault p))
+              (still_over H (λ r h. h.counts) (same ends.ReadFault p) (read not_ended p));
+          write = λ p. let H = IsCutByWrite state m words (Some bound) left' held' board' in
+              subst (λ (cs : List Cycle). LeadsOver state m bound left held board left' held' board' cs H) (sym (none ends.WriteFault p))
+              (still_over H (λ r h. h.counts) (same ends.WriteFault p) (write not_ended p));
+        }
+
+module _ {M State : Type 0} (state : M → State) (m : Meaning State) (bound : ℕ) (left0 held0 : Option (List ℕ)) (board0 : BoardView M)
+    (left held : Option (List ℕ)) (board : BoardView M) (left' held' : Option (List ℕ)) (board' : BoardView M) where
+  -- turns to a board, and turns on from there
+  over_then : (H : List ℕ → MicroRun State → Type 0) (cs ds : List Cycle) → board.store.words ≡ board0.store.words →
+      LeadsOver state m bound left0 held0 board0 left held board cs (ShowsRun state left held board) →
+      LeadsOver state m bound left held board left' held' board' ds (H board.store.words) →
+      LeadsOver state m bound left0 held0 board0 left' held' board' (cs ++ ds) (H board0.store.words)
+  over_then H cs ds program first next rest fits =
+      let words = board0.store.words in
+      let b = Some bound in
+      let next' = subst
+      (λ (ws : List ℕ). IsLedTo state left held board left' board' (λ r rest. (n : ℕ) × (cycles_of m ws (Some bound) n r ≡ ds) × Leads state m ws (Some bound) board' board.buses rest n r (H ws)))
+      program next in
+      let there = next' rest fits in
+      let far = first there.0 there.1 in (
+        far.0,
+        far.1,
+        λ r s e.
+            let at = far.2 r s e in
+            let on = there.2 (turns m words (Some bound) at.0 r) at.2.here at.2.untaken in
+            let is : turns m words (Some bound) (at.0 + on.0) r ≡ turns m words (Some bound) on.0 (turns m words (Some bound) at.0 r) = turns-plus m words (Some bound) at.0 on.0 r in (
+              at.0 + on.0,
+              cycles-plus m words (Some bound) at.0 on.0 r ∙ (λ i. at.1 i ++ on.1 i),
+              record {
+                here = subst (H words) (sym is) on.2.here;
+                untaken = ap (λ (x : MicroRun State). x.world.untaken) is ∙ on.2.untaken;
+                buses = on.2.buses ∙ (ap (λ (x : Buses). buses m words (Some bound) on.0 (turns m words (Some bound) at.0 r) x) at.2.buses ∙ sym (buses-plus m words (Some bound) at.0 on.0 r board0.buses));
+              },
+            ),
+      )
+
+  pub shows-then : (cs ds : List Cycle) → board.store.words ≡ board0.store.words → board.end ≡ None →
+      ShowsCycles state m bound left0 held0 board0 left held board cs board.end →
+      ShowsCycles state m bound left held board left' held' board' ds board'.end →
+      ShowsCycles state m bound left0 held0 board0 left' held' board' (cs ++ ds) board'.end
+  shows-then cs ds program not_ended first next =
+      let led = first.run (subst (λ (e : Option End). NoFault None e) (sym not_ended) tt) in
+      record {
+        run = λ q. over_then (λ (ws : List ℕ) (r : MicroRun State). ShowsRun state left' held' board' r) cs ds program led (next.run q);
+        read = λ p. over_then (λ (ws : List ℕ) (r : MicroRun State). IsCutByRead state m ws (Some bound) left' held' board' r) cs ds program led (next.read p);
+        write = λ p. over_then (λ (ws : List ℕ) (r : MicroRun State). IsCutByWrite state m ws (Some bound) left' held' board' r) cs ds program led (next.write p);
+      }
+
+-- a sink that lost the end of what was kept has a front of what was given
+front_lost : (held held' : Option (List ℕ)) (kept kept' given : List ℕ) → IsLost held kept held' kept' → Given held kept given →
+    IfSome held' (λ h. (more : List ℕ) × (given ≡ h ++ more))
+front_lost None held' kept kept' given lost told = subst (λ o. IfSome o (λ h. (more : List ℕ) × (given ≡ h ++ more))) (sym lost.prefix.1) tt
+front_lost (Some h) held' kept kept' given lost told =
+    subst (λ o. IfSome o (λ h. (more : List ℕ) × (given ≡ h ++ more))) (sym lost.prefix.1)
+    (drop lost.prefix.0 kept, told ∙ ap (λ (k : List ℕ). h ++ k) (sym (take-append-drop lost.prefix.0 kept)) ∙ sym (append_assoc h (take lost.prefix.0 kept) (drop lost.prefix.0 kept)))
+
+-- where something was kept, it is the last that was given
+last_lost : (held held' : Option (List ℕ)) (kept kept' given : List ℕ) → kept ≢ [] → IsLost held kept held' kept' → Given held kept given → LosesLast held' given
+last_lost None held' kept kept' given some lost told = subst (λ o. LosesLast o given) (sym lost.prefix.1) tt
+last_lost (Some h) held' kept kept' given some lost told = subst (λ o. LosesLast o given) (sym lost.prefix.1) (h, kept, lost.prefix.0, some, told, refl)
+
+module _ {M State : Type 0} (state : M → State) (m : Meaning State) (bound : ℕ) (left0 held0 : Option (List ℕ)) (board0 : BoardView M)
+    (left held : Option (List ℕ)) (board : BoardView M) (held' : Option (List ℕ)) (board' : BoardView M) (cs : List Cycle)
+    (same : board' ≡ record board { bus = board'.bus }) (input : board'.bus.console.ended ≡ board.bus.console.ended) where
+  -- a flush behind the last turn leads nowhere else
+  over_flush : (H H' : MicroRun State → Type 0) → ((r : MicroRun State) → H r → H' r) →
+      LeadsOver state m bound left0 held0 board0 left held board cs H → LeadsOver state m bound left0 held0 board0 left held' board' cs H'
+  over_flush H H' f led rest fits =
+      let far = led rest (subst (λ (b : Bool). Untaken left b rest) input fits) in (
+        far.0,
+        far.1,
+        λ r s e.
+            let at = far.2 r s e in
+            (at.0, at.1, record { here = f (turns m board0.store.words (Some bound) at.0 r) at.2.here; untaken = at.2.untaken; buses = ap (λ (b : BoardView M). b.buses) same ∙ at.2.buses }),
+      )
+
+  -- where it is done
+  pub flush-done : ShowsAs state held board held' board' (λ r. r) → (kept : board.bus.console.kept ≡ [] → (board' ≡ board) × (held' ≡ held)) →
+      (board.end ≡ Some ends.ReadFault → board.bus.console.kept ≡ []) → (board.end ≡ Some ends.WriteFault → board.bus.console.kept ≡ []) →
+      ShowsCycles state m bound left0 held0 board0 left held board cs board.end → ShowsCycles state m bound left0 held0 board0 left held' board' cs board.end
+  flush-done shows kept empty_read empty_write first =
+      let unchanged : board.bus.console.kept ≡ [] → ShowsCycles state m bound left0 held0 board0 left held' board' cs board.end =
+      λ none. let is = kept none in
+      subst (λ (b : BoardView M). ShowsCycles state m bound left0 held0 board0 left held' b cs board.end) (sym is.0)
+      (subst (λ (h : Option (List ℕ)). ShowsCycles state m bound left0 held0 board0 left h board cs board.end) (sym is.1) first) in
+      record {
+        run = λ q. over_flush (ShowsRun state left held board) (ShowsRun state left held' board') (λ r s. shows left r s) (first.run q);
+        read = λ p. (unchanged (empty_read p)).read p;
+        write = λ p. (unchanged (empty_write p)).write p;
+      }
+
+  -- where it fails, it cuts the ended run
+  pub flush-lost : IsSome board.end → board.bus.console.kept ≢ [] → NoFault None board.end → board'.bus.words ≡ board.bus.words → IsLost held board.bus.console.kept held' board'.bus.console.kept →
+      ShowsCycles state m bound left0 held0 board0 left held board cs board.end → ShowsCycles state m bound left0 held0 board0 left held' board' cs (Some ends.WriteFault)
+  flush-lost over some plain memory lost first =
+      let its : (A : Type 0) (f : BoardView M → A) → f board' ≡ f (record board { bus = board'.bus }) = λ A f. ap f same in
+      record {
+        run = λ q. absurd q;
+        read = λ p. cc;
+        write = λ p. over_flush (ShowsRun state left held board) (IsCutByWrite state m board0.store.words (Some bound) left held' board')
+            (λ r s. record {
+              its_state = s.its_state ∙ sym (its State (λ b. state b.machine));
+              memory = s.world.words ∙ sym memory;
+              untaken = subst (λ (b : Bool). Untaken left b r.world.untaken) (sym input) s.world.untaken;
+              counts = s.counts ∙ sym (its Counts (λ b. b.counts));
+              kept = lost.emptied;
+              front = front_lost held held' board.bus.console.kept board'.bus.console.kept r.world.given lost s.world.given;
+              next = inr (subst IsSome (sym s.its_end) over, last_lost held held' board.bus.console.kept board'.bus.console.kept r.world.given some lost s.world.given);
+            }) (first.run plain);
+      }
+
+-- a run that no fault ended, or one did
+pub no_fault : (end : Option End) → end ≢ Some ends.ReadFault → end ≢ Some ends.WriteFault → NoFault None end
+no_fault None read write = tt
+no_fault (Some ends.ReadFault) read write = absurd (read refl)
+no_fault (Some ends.WriteFault) read write = absurd (write refl)
+no_fault (Some e) read write = tt

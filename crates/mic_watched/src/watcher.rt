@@ -1,0 +1,36 @@
+//! What sees the cycles of a run.
+
+ghost use Rattle.std.specs.Prelude.{◌≡◌, ◌<◌, ℕ, List, [], false, is_some};
+ghost use Rattle.mic_base.specs.Causes.{HasCause};
+ghost use Rattle.mic_base.specs.Streams.{Puts};
+ghost use Rattle.mic_watched.specs.declared.cycle.Cycle.{Cycle};
+
+use crate::cycle::Cycle;
+use mic_base::{Sink, SinkFailed};
+
+/// Sees one cycle after the other, keeps of them what it will, and says of each what it will on `err`.
+pub trait Watcher {
+    /// What it keeps.
+    ghost Kept: { Type 0 };
+
+    ghost kept: { Self → Kept };
+
+    /// What it keeps after a cycle, and the texts that it may say of it.
+    ghost keeps: { Kept → Cycle → Kept };
+
+    ghost Prints: { Kept → Cycle → List ℕ → Type 0 };
+
+    /// Whether it has anything to do with cycles that reach a boundary, or with those that do not.
+    fn wants(&self, boundary: bool) -> bool
+        ensures { result ≡ false → (cycle : Cycle) → is_some cycle.boundary ≡ boundary → (keeps (kept self.now) cycle ≡ kept self.now) × Prints (kept self.now) cycle [] }
+    {
+        true
+    }
+
+    fn see<E: Sink>(&mut self, cycle: &Cycle, err: &mut E) -> Result<(), SinkFailed>
+        requires word { cycle.now.mpc < 512 }
+        requires next { cycle.now.registers.mpc < 512 }
+        ensures keeps { kept self.new ≡ keeps (kept self.old) cycle.now }
+        ensures says { (text : List ℕ) × Prints (kept self.old) cycle.now text × Puts (E.held err.old) text result (E.held err.new) }
+        ensures cause { HasCause (E.faults err.old) (E.faults err.new) result };
+}

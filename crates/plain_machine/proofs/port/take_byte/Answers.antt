@@ -1,7 +1,0 @@
-use Rattle.plain_machine.proofs.Keeping.{take_reads}
-use Rattle.plain_machine.proofs.port.take_byte.Goals as goal
-
-pub returns-in-Ok-clause-kept : goal.returns-in-Ok-clause-kept
-returns-in-Ok-clause-kept g c =
-    take_reads (g.S.Source.left c.args.source.now) (g.S.Source.left c.take.new.source) c.args.console.now c.take.new.self
-    (λ e. (c.take.ensures.asked_no_more e).1) c.take.ensures.asked c.in-Ok.ensures.told

@@ -1,8 +1,0 @@
-use Rattle.std.proofs.Common.{sym, subst}
-use Rattle.mal_parser.specs.Program.{IsProgram, Program}
-use Rattle.shipped_program.specs.Listing.{unlined}
-use Rattle.shipped_program.proofs.Lines.{unlined_is_program}
-use Rattle.shipped_program.proofs.program.shipped_program.Goals as goal
-
-pub unlined-requires : goal.unlined-requires
-unlined-requires c = subst (λ (p : Program). IsProgram (unlined p)) (sym c.in_ok-program.ensures) (unlined_is_program c.args.machine)

@@ -1,7 +1,0 @@
-use Rattle.std.proofs.Common.{◌≡◌, ◌++◌, take}
-use Rattle.std.specs.List.{flat_map}
-use Rattle.ijvm_instr.specs.Instructions.{spelling}
-use Rattle.soak_program.proofs.code.push_code.Given as goal
-
-abbrev pub invariant-loop-instr : goal.invariant-loop-instr
-invariant-loop-instr l = l.text.items ≡ l.initial.text.items ++ flat_map spelling (take l.instr-index l.code)

@@ -1,0 +1,5 @@
+use Rattle.verifier_locals.specs.Shortcut.{IsShort}
+use Rattle.verifier_locals.proofs.shortcut.shorten.Given as goal
+
+abbrev pub invariant-loop-at : goal.invariant-loop-at
+invariant-loop-at l = IsShort l.graph l.short.items

@@ -1,0 +1,5 @@
+use Rattle.verifier_locals.specs.Shortcut.{IsShort}
+use Rattle.verifier_locals.proofs.shortcut.shortened.Given as goal
+
+abbrev pub invariant-loop-round : goal.invariant-loop-round
+invariant-loop-round l = IsShort l.graph l.short.items

@@ -1,0 +1,12 @@
+use Rattle.std.proofs.Common.{ℕ, ◌<◌, ◌+◌, ◌≡◌, length, Some}
+use Rattle.std.specs.Prelude.{slice_get}
+use Rattle.verifier_locals.specs.declared.unset.Wanted.{Wanted}
+use Rattle.verifier_locals.specs.Trace.{IsReady}
+use Rattle.verifier_locals.specs.Unset.{AreSet}
+use Rattle.verifier_locals.proofs.unset.check_locals.Given as goal
+
+abbrev pub invariant-loop-i : goal.invariant-loop-i
+invariant-loop-i l = record {
+  ready : IsReady (l.i + 1) (length l.short.items) l.trace.marks.items l.trace.todo.items;
+  set : (j : ℕ) (w : Wanted) → j < l.i → slice_get l.wanted.items j ≡ Some w → AreSet l.image w;
+}

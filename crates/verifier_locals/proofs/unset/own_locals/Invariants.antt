@@ -1,0 +1,7 @@
+use Rattle.std.proofs.Common.{ℕ, ◌<◌, ◌+◌, ◌*◌, ◌↔◌}
+use Rattle.verifier_facts.specs.Paths.{IsOwn}
+use Rattle.verifier_locals.specs.LocalSet.{Has}
+use Rattle.verifier_locals.proofs.unset.own_locals.Given as goal
+
+abbrev pub invariant-loop-place : goal.invariant-loop-place
+invariant-loop-place l = (p : ℕ) → p < 64 → Has l.locals p ↔ ((p < l.place) × IsOwn l.image.text l.wanted.entry (64 * l.wanted.group + p))

@@ -1,0 +1,6 @@
+use Rattle.std.proofs.Common.{◌≤◌, length}
+use Rattle.verifier_locals.specs.Unset.{AreWanted}
+use Rattle.verifier_locals.proofs.unset.wanted_of.Given as goal
+
+abbrev pub invariant-loop-at : goal.invariant-loop-at
+invariant-loop-at l = record { wanted : AreWanted l.image l.seen l.graph l.at l.wanted.items; few : length l.wanted.items ≤ l.at }
