@@ -1,5 +1,5 @@
 pub mod Placed
-pub mod Names
+pub mod RowNames
 pub mod Ordered
 pub mod Listed
 pub mod Printed

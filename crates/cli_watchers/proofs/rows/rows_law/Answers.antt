@@ -1,4 +1,4 @@
-use Rattle.cli_watchers.proofs.Names.{named}
+use Rattle.cli_watchers.proofs.RowNames.{named}
 use Rattle.cli_watchers.proofs.rows.rows_law.Goals as goal
 
 pub returns : goal.returns
