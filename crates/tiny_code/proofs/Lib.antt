@@ -1,0 +1,2 @@
+mod Methods
+mod Examples

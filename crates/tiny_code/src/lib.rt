@@ -1,0 +1,6 @@
+//! The code of a Tiny program, and the image that holds it.
+#![tactic(auto)]
+
+mod laws;
+
+pub use laws::{laid_out_programs_hold, methods_are_the_others};
