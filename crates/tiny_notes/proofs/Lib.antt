@@ -1,0 +1,7 @@
+mod Jumps
+mod Scenes
+mod Single
+mod Straight
+mod Statements
+mod Spelled
+mod Units
