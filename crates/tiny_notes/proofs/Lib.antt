@@ -5,3 +5,4 @@ mod Straight
 mod Statements
 mod Spelled
 mod Units
+mod Examples

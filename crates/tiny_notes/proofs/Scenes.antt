@@ -100,7 +100,8 @@ set_stored first x k seen h = by (nat_lt k first) refl h
     at true t le e = inr (omega (arith, eqb-true (k - first) x t))
     at false t le e = inl e
 
-    by : (b : Bool) → nat_lt k first ≡ b → (if b then false else seen_with seen x (k - first)) ≡ true → ((if b then false else seen (k - first)) ≡ true) ⊎ (first + x ≡ k)
+    by : (b : Bool) → nat_lt k first ≡ b → (if b then false else seen_with seen x (k - first)) ≡ true
+        → ((if b then false else seen (k - first)) ≡ true) ⊎ (first + x ≡ k)
     by true t e = inl e
     by false t e = at (k - first == x) refl (ltb-false k first t) e
 

@@ -83,10 +83,12 @@ module _ (u : Scene) (seen : Seen) where
     names = λ k. ⊎_elim (λ e. let z : None ≡ Some k = sym p.no_read ∙ e in cc) (λ e. let z : None ≡ Some k = sym p.no_store ∙ e in cc);
   }
 
-  led_to : (i : Instr) (d to : ℕ) (m : Note) → note_at u.whole to ≡ Some m → takes u.frame.image i ≤ d → Suits u.frame seen (next_depth u.frame.image i d) m → Led i d to
+  led_to : (i : Instr) (d to : ℕ) (m : Note) → note_at u.whole to ≡ Some m → takes u.frame.image i ≤ d
+      → Suits u.frame seen (next_depth u.frame.image i d) m → Led i d to
   led_to i d to m there enough s = (m, there, record { unit = s.unit; depth = omega (arith, s.depth, enough); set = λ k e. inl (s.set k e) })
 
-  pub simple_met : (i : Instr) (at d : ℕ) (m : Note) → IsSimple u seen i d → instr_at u.frame.image.text at ≡ Some i → note_at u.whole (at + size_of (row_of i)) ≡ Some m
+  pub simple_met : (i : Instr) (at d : ℕ) (m : Note) → IsSimple u seen i d → instr_at u.frame.image.text at ≡ Some i
+      → note_at u.whole (at + size_of (row_of i)) ≡ Some m
       → Suits u.frame seen (next_depth u.frame.image i d) m → IsMet u.frame.image u.whole at i (note d)
   simple_met i at d m s is there suits = meets_by i at d is s.ready leads
     where
@@ -97,7 +99,8 @@ module _ (u : Scene) (seen : Seen) where
   -- ---- instructions that end the unit's flow
 
   pub halt_met : (at d : ℕ) → instr_at u.frame.image.text at ≡ Some Halt → IsMet u.frame.image u.whole at Halt (note d)
-  halt_met at d is = meets_by Halt at d is (plain Halt d (record { needs = refl; no_call = λ k e. cc; no_read = refl; no_store = refl }) tt (omega arith) (λ e. cc)) leads
+  halt_met at d is = meets_by Halt at d is
+      (plain Halt d (record { needs = refl; no_call = λ k e. cc; no_read = refl; no_store = refl }) tt (omega arith) (λ e. cc)) leads
     where
       leads : (to : ℕ) → GoesOn flows.End at (at + 1) to → Led Halt d to
       leads to (inl h) = let x : false ≡ true = h.0 in cc
@@ -113,16 +116,19 @@ module _ (u : Scene) (seen : Seen) where
 
   -- ---- jumps
 
-  pub goto_met : (at to : ℕ) (o : ℤ) (m : Note) → instr_at u.frame.image.text at ≡ Some (Goto o) → target at o ≡ to → note_at u.whole to ≡ Some m → Suits u.frame seen 0 m
+  pub goto_met : (at to : ℕ) (o : ℤ) (m : Note) → instr_at u.frame.image.text at ≡ Some (Goto o) → target at o ≡ to → note_at u.whole to ≡ Some m
+      → Suits u.frame seen 0 m
       → IsMet u.frame.image u.whole at (Goto o) (note 0)
   goto_met at to o m is there is_note s =
-      meets_by (Goto o) at 0 is (plain (Goto o) 0 (record { needs = refl; no_call = λ k e. cc; no_read = refl; no_store = refl }) tt (omega arith) (λ e. cc)) leads
+      meets_by (Goto o) at 0 is (plain (Goto o) 0 (record { needs = refl; no_call = λ k e. cc; no_read = refl; no_store = refl }) tt
+          (omega arith) (λ e. cc)) leads
     where
       leads : (x : ℕ) → GoesOn (flows.Jump o) at (at + 3) x → Led (Goto o) 0 x
       leads x (inl h) = let z : false ≡ true = h.0 in cc
       leads x (inr h) =
           let same : o ≡ h.0 = same_Some o h.0 h.1 in
-          led_to (Goto o) 0 x m (ap (note_at u.whole) (h.2 ∙ ap (target at) (sym same) ∙ there) ∙ is_note) (omega arith) (at_depth u.frame seen 0 (0 + 0 - 0) m (omega arith) s)
+          led_to (Goto o) 0 x m (ap (note_at u.whole) (h.2 ∙ ap (target at) (sym same) ∙ there) ∙ is_note) (omega arith)
+              (at_depth u.frame seen 0 (0 + 0 - 0) m (omega arith) s)
 
   -- a test's jump, which takes so many operands
   pub record IsBranch (i : Instr) (o : ℤ) (d : ℕ) : Type 0 where
@@ -165,19 +171,23 @@ module _ (u : Scene) (seen : Seen) where
 
       leads : (x : ℕ) → GoesOn (flows.Branch o) at (at + size_of (row_of i)) x → Led i d x
       leads x (inl h) =
-          led_to i d x m (ap (note_at u.whole) (h.1 ∙ ap (λ (y : ℕ). at + y) b.size) ∙ next) (omega (arith, b.takes_is)) (at_depth u.frame seen 0 (next_depth u.frame.image i d) m (sym none_left) s)
+          led_to i d x m (ap (note_at u.whole) (h.1 ∙ ap (λ (y : ℕ). at + y) b.size) ∙ next) (omega (arith, b.takes_is))
+              (at_depth u.frame seen 0 (next_depth u.frame.image i d) m (sym none_left) s)
       leads x (inr h) =
           let same : o ≡ h.0 = same_Some o h.0 h.1 in
-          led_to i d x n (ap (note_at u.whole) (h.2 ∙ ap (target at) (sym same) ∙ there) ∙ at_to) (omega (arith, b.takes_is)) (at_depth u.frame seen 0 (next_depth u.frame.image i d) n (sym none_left) t)
+          led_to i d x n (ap (note_at u.whole) (h.2 ∙ ap (target at) (sym same) ∙ there) ∙ at_to) (omega (arith, b.takes_is))
+              (at_depth u.frame seen 0 (next_depth u.frame.image i d) n (sym none_left) t)
 
   -- ---- instructions that take a value
 
   -- a plain instruction that takes the one operand
-  pub taken_met : (i : Instr) (at : ℕ) (last : Note) → IsSimple u seen i 1 → next_depth u.frame.image i 1 ≡ 0 → Suits u.frame seen 0 last → instr_at u.frame.image.text at ≡ Some i
+  pub taken_met : (i : Instr) (at : ℕ) (last : Note) → IsSimple u seen i 1 → next_depth u.frame.image i 1 ≡ 0 → Suits u.frame seen 0 last
+      → instr_at u.frame.image.text at ≡ Some i
       → note_at u.whole (at + size_of (row_of i)) ≡ Some last → IsMet u.frame.image u.whole at i (note 1)
   taken_met i at last simple none s is next = simple_met i at 1 last simple is next (at_depth u.frame seen 0 (next_depth u.frame.image i 1) last (sym none) s)
 
-  pub store_met : (x at : ℕ) (last : Note) → x < u.names → Suits u.frame (seen_with seen x) 0 last → instr_at u.frame.image.text at ≡ Some (Istore (u.frame.local + x))
+  pub store_met : (x at : ℕ) (last : Note) → x < u.names → Suits u.frame (seen_with seen x) 0 last
+      → instr_at u.frame.image.text at ≡ Some (Istore (u.frame.local + x))
       → note_at u.whole (at + 2) ≡ Some last → IsMet u.frame.image u.whole at (Istore (u.frame.local + x)) (note 1)
   store_met x at last fits s is next =
       meets_by i at 1 is (record {
@@ -187,7 +197,8 @@ module _ (u : Scene) (seen : Seen) where
         calls = λ k e. cc;
         returns = λ e. cc;
         reads = λ k e. cc;
-        names = λ k. ⊎_elim (λ e. let z : None ≡ Some k = e in cc) (λ e. let same : u.frame.local + x ≡ k = same_Some (u.frame.local + x) k e in (omega (arith, same), omega (arith, same, fits)));
+        names = λ k. ⊎_elim (λ e. let z : None ≡ Some k = e in cc)
+            (λ e. let same : u.frame.local + x ≡ k = same_Some (u.frame.local + x) k e in (omega (arith, same), omega (arith, same, fits)));
       }) leads
     where
       i : Instr

@@ -64,7 +64,8 @@ nothing = record { code_is = refl; size = refl; clean = tt }
 module _ (f : Frame) where
   straight_spells : (seen : Seen) (d : ℕ) (is : List Instr) → Spells (straight f seen d is) is
   straight_spells seen d [] = nothing
-  straight_spells seen d (i ∷ is) = begins i (note_of f seen d) (straight f seen (next_depth f.image i d) is) is (straight_spells seen (next_depth f.image i d) is)
+  straight_spells seen d (i ∷ is) =
+      begins i (note_of f seen d) (straight f seen (next_depth f.image i d) is) is (straight_spells seen (next_depth f.image i d) is)
 
   last_spells : (seen : Seen) (code : List Instr) (i : Instr) → Spells (with_last f seen code i) (code ++ i ∷ [])
   last_spells seen code i =
@@ -116,7 +117,8 @@ module _ (f : Frame) where
     statement_spells (If line (Different a b) taken other) seen =
         choice_spells seen (test_code f.places f.local (Different a b)) IfIcmpeq 2 (statements_items f taken seen) (else_items f other seen)
         (statements_code f.places f.local taken) (else_code f.places f.local other) (statements_spell taken seen) (else_spells other seen)
-    statement_spells (While line c body) seen = loop_spells seen c (statements_items f body seen) (statements_code f.places f.local body) (statements_spell body seen)
+    statement_spells (While line c body) seen =
+        loop_spells seen c (statements_items f body seen) (statements_code f.places f.local body) (statements_spell body seen)
     statement_spells (Return e) seen = last_spells seen (expr_code f.places f.local e) Ireturn
     statement_spells (Put e) seen = last_spells seen (expr_code f.places f.local e) Out
     statement_spells Halt seen = begins HaltCode (note_of f seen 0) [] [] nothing
@@ -124,7 +126,8 @@ module _ (f : Frame) where
     pub statements_spell : (row : Statements) (seen : Seen) → Spells (statements_items f row seen) (statements_code f.places f.local row)
     statements_spell no_statements seen = nothing
     statements_spell (statement s rest) seen =
-        joins (statement_items f s seen) (statements_items f rest (seen_after s seen)) (statement_code f.places f.local s) (statements_code f.places f.local rest)
+        joins (statement_items f s seen) (statements_items f rest (seen_after s seen)) (statement_code f.places f.local s)
+            (statements_code f.places f.local rest)
         (statement_spells s seen) (statements_spell rest (seen_after s seen))
 
     pub else_spells : (other : Else) (seen : Seen) → Spells (else_items f other seen) (else_code f.places f.local other)
@@ -223,7 +226,8 @@ pub note_at_seam : (whole pre : List Item) (i : Instr) (n : Note) (post : List I
 note_at_seam whole pre i n post at is e = ap (λ x. note_at x at) is ∙ note_after pre i n post 0 at (omega (arith, e))
 
 -- items stand with their notes where their code stands
-pub stands_at : (image : ImageView) (whole pre xs post : List Item) (i : Instr) (m : Note) (at : ℕ) → whole ≡ pre ++ (xs ++ (Code i m ∷ post)) → at ≡ items_size pre
+pub stands_at : (image : ImageView) (whole pre xs post : List Item) (i : Instr) (m : Note) (at : ℕ) → whole ≡ pre ++ (xs ++ (Code i m ∷ post))
+    → at ≡ items_size pre
     → CodeAt image.text at (code_of xs) → NoHeader xs → Stands image whole at xs m
 stands_at image whole pre [] post i m at is e h clean = note_at_seam whole pre i m post at is e
 stands_at image whole pre (Code j n ∷ xs) post i m at is e h clean =

@@ -43,7 +43,8 @@ module _ (f : Frame) where
   -- the jump back from after the body
   abbrev pub again_items : Seen → Cond → List Item → List Item
   again_items seen c body =
-      Code (Goto (neg_ℤ (pos (code_size (test_code f.places f.local c) + items_size (leave_items seen c (items_size body)) + items_size body)))) (note_of f seen 0) ∷ []
+      Code (Goto (neg_ℤ (pos (code_size (test_code f.places f.local c) + items_size (leave_items seen c (items_size body)) + items_size body))))
+          (note_of f seen 0) ∷ []
 
   abbrev pub loop_items : Seen → Cond → List Item → List Item
   loop_items seen c body = straight f seen 0 (test_code f.places f.local c) ++ (leave_items seen c (items_size body) ++ (body ++ again_items seen c body))
@@ -92,6 +93,13 @@ grows_all (statement s rest) seen y h = grows_all rest (seen_after s seen) y (gr
 module _ (u : Scene) where
   abbrev text : List ℕ
   text = u.frame.image.text
+
+  -- the pool has this number, or all of these, at their places
+  abbrev IsKnown : ℕ → Type 0
+  IsKnown n = slice_get u.frame.image.pool (u.frame.places.constant n) ≡ Some n
+
+  abbrev Has : List ℕ → Type 0
+  Has ns = HasNumbers u.frame.image u.frame.places ns
 
   abbrev At : ℕ → List Item → Note → Type 0
   At = Stands u.frame.image u.whole
@@ -153,7 +161,8 @@ module _ (u : Scene) where
         let front = test_begin code d at rest last run h next in
         let begin = head_note u seen code at 0 (note d) front.0 front.1 in
         record {
-          met = met_append u.frame.image u.whole (straight u.frame seen 0 code) rest at (straight_met u seen code at 0 (note d) run.simple front.0 front.1) after;
+          met = met_append u.frame.image u.whole (straight u.frame seen 0 code) rest at
+              (straight_met u seen code at 0 (note d) run.simple front.0 front.1) after;
           first = begin.0;
           there = begin.1;
           suits = begin.2;
@@ -205,7 +214,8 @@ module _ (u : Scene) where
     test_depth (Less a b) = 1
 
     -- a jump over the next one
-    over_met : (i : Instr) (d size mid : ℕ) (m last : Note) → IsBranch u seen i (pos 6) d → At mid (Code i (note d) ∷ Code (Goto (pos (6 + size))) (note 0) ∷ []) m
+    over_met : (i : Instr) (d size mid : ℕ) (m last : Note) → IsBranch u seen i (pos 6) d
+        → At mid (Code i (note d) ∷ Code (Goto (pos (6 + size))) (note 0) ∷ []) m
         → Suits u.frame seen 0 m → mid + 9 + size ≤ 65536 → note_at u.whole (mid + 9 + size) ≡ Some last → Suits u.frame seen 0 last
         → Met mid (Code i (note d) ∷ Code (Goto (pos (6 + size))) (note 0) ∷ [])
     over_met i d size mid m last b h s small end t =
@@ -224,7 +234,8 @@ module _ (u : Scene) where
         → Met mid (leave_items u.frame seen c size)
     leave_met (Different a b) size mid m last h s small end t =
         let t2 : target mid (pos (6 + size)) ≡ mid + 3 + size + 3 = forward mid (6 + size) (omega (arith, small)) ∙ omega arith in
-        (branch_met u seen (IfIcmpeq (pos (6 + size))) (pos (6 + size)) mid 2 (mid + 3 + size + 3) m last (icmpeq u seen (pos (6 + size))) h.0 h.2 s t2 end t, tt)
+        (branch_met u seen (IfIcmpeq (pos (6 + size))) (pos (6 + size)) mid 2 (mid + 3 + size + 3) m last (icmpeq u seen (pos (6 + size))) h.0
+            h.2 s t2 end t, tt)
     leave_met (Equal a b) size mid m last h s small end t =
         let e : mid + 9 + size ≡ mid + 6 + size + 3 = omega arith in
         over_met (IfIcmpeq (pos 6)) 2 size mid m last (icmpeq u seen (pos 6)) h s (omega (arith, small)) (ap (note_at u.whole) e ∙ end) t
@@ -237,7 +248,8 @@ module _ (u : Scene) where
     leave_first (Different a b) size mid m h = h.1
     leave_first (Less a b) size mid m h = h.1
 
-    pub loop_part : (c : Cond) (body : List Item) → Runs u seen (test_code u.frame.places u.frame.local c) 0 (test_depth c) → Part seen seen body → Part seen seen (loop_items u.frame seen c body)
+    pub loop_part : (c : Cond) (body : List Item) → Runs u seen (test_code u.frame.places u.frame.local c) 0 (test_depth c) → Part seen seen body
+        → Part seen seen (loop_items u.frame seen c body)
     loop_part c body run inner at last h suits small =
         let test : List Instr = test_code u.frame.places u.frame.local c in
         let a : List Item = straight u.frame seen 0 test in
@@ -271,12 +283,6 @@ module _ (u : Scene) where
 
     -- ---- from the tree
 
-    abbrev Has : List ℕ → Type 0
-    Has ns = HasNumbers u.frame.image u.frame.places ns
-
-    abbrev IsKnown : ℕ → Type 0
-    IsKnown n = slice_get u.frame.image.pool (u.frame.places.constant n) ≡ Some n
-
     sides_run : (a b : Expr) → Has (expr_numbers a ++ expr_numbers b) → IsNamedExpr u.program u.names seen a × IsNamedExpr u.program u.names seen b
         → Runs u seen (expr_code u.frame.places u.frame.local a ++ expr_code u.frame.places u.frame.local b) 0 2
     sides_run a b known named =
@@ -284,14 +290,16 @@ module _ (u : Scene) where
         joined u seen (expr_code u.frame.places u.frame.local a) (expr_code u.frame.places u.frame.local b) 0 1 2
         (expr_runs u seen a 0 has.0 named.0) (expr_runs u seen b 1 has.1 named.1)
 
-    pub test_runs : (c : Cond) → Has (cond_numbers c) → IsNamedCond u.program u.names seen c → Runs u seen (test_code u.frame.places u.frame.local c) 0 (test_depth c)
+    pub test_runs : (c : Cond) → Has (cond_numbers c) → IsNamedCond u.program u.names seen c
+        → Runs u seen (test_code u.frame.places u.frame.local c) 0 (test_depth c)
     test_runs (Equal a b) known named = sides_run a b known named
     test_runs (Different a b) known named = sides_run a b known named
     test_runs (Less a b) known named =
         let left : List Instr = expr_code u.frame.places u.frame.local a in
         let right : List Instr = expr_code u.frame.places u.frame.local b in
         let less : Runs u seen (Isub ∷ []) 2 1 =
-        begun u seen Isub [] 2 1 1 (plain_simple u seen Isub 2 (record { needs = refl; no_call = λ k e. cc; no_read = refl; no_store = refl }) refl tt (omega arith)) refl (none u seen 1) in
+        begun u seen Isub [] 2 1 1 (plain_simple u seen Isub 2 (record { needs = refl; no_call = λ k e. cc; no_read = refl; no_store = refl })
+            refl tt (omega arith)) refl (none u seen 1) in
         subst (λ (is : List Instr). Runs u seen is 0 1) (append_assoc left right (Isub ∷ []))
         (joined u seen (left ++ right) (Isub ∷ []) 0 2 1 (sides_run a b known named) less)
 
@@ -316,23 +324,24 @@ module _ (u : Scene) where
     store_takes x few mid last s is there = store_met u seen x mid last few s is there
 
   -- the numbers of a choice, part by part
-  choice_numbers : (c : Cond) (taken : Statements) (other : Else) → HasNumbers u.frame.image u.frame.places (cond_numbers c ++ (statements_numbers taken ++ else_numbers other))
-      → HasNumbers u.frame.image u.frame.places (cond_numbers c) × HasNumbers u.frame.image u.frame.places (statements_numbers taken) × HasNumbers u.frame.image u.frame.places (else_numbers other)
+  choice_numbers : (c : Cond) (taken : Statements) (other : Else) → Has (cond_numbers c ++ (statements_numbers taken ++ else_numbers other))
+      → Has (cond_numbers c) × Has (statements_numbers taken) × Has (else_numbers other)
   choice_numbers c taken other known =
-      let known_of : ℕ → Type 0 = λ n. slice_get u.frame.image.pool (u.frame.places.constant n) ≡ Some n in
-      let one = all_append known_of (cond_numbers c) (statements_numbers taken ++ else_numbers other) known in
-      let two = all_append known_of (statements_numbers taken) (else_numbers other) one.1 in
+      let one = all_append IsKnown (cond_numbers c) (statements_numbers taken ++ else_numbers other) known in
+      let two = all_append IsKnown (statements_numbers taken) (else_numbers other) one.1 in
       (one.0, two.0, two.1)
 
   -- a block in braces
-  block : (row : Statements) (seen : Seen) → Part seen (seen_afters row seen) (statements_items u.frame row seen) → Part seen seen (statements_items u.frame row seen)
+  block : (row : Statements) (seen : Seen) → Part seen (seen_afters row seen) (statements_items u.frame row seen)
+      → Part seen seen (statements_items u.frame row seen)
   block row seen part = part_block seen (seen_afters row seen) (statements_items u.frame row seen) (grows_all row seen) part
 
   mutual
-    pub statement_part : (s : Statement) (seen : Seen) → HasNumbers u.frame.image u.frame.places (statement_numbers s)
+    pub statement_part : (s : Statement) (seen : Seen) → Has (statement_numbers s)
         → IsNamedStatement u.program u.in_main u.names s seen → Part seen (seen_after s seen) (statement_items u.frame s seen)
     statement_part (Var x e) seen known named =
-        last_part seen (seen_with seen x) (expr_code u.frame.places u.frame.local e) (Istore (u.frame.local + x)) (value_runs seen e known named.0) (store_takes seen x named.1)
+        last_part seen (seen_with seen x) (expr_code u.frame.places u.frame.local e) (Istore (u.frame.local + x))
+            (value_runs seen e known named.0) (store_takes seen x named.1)
     statement_part (Assign x e) seen known named =
         last_part seen seen (expr_code u.frame.places u.frame.local e) (Istore (u.frame.local + x)) (value_runs seen e known named.0)
         (λ mid last s is there. store_takes seen x named.2 mid last (suits_wider seen (seen_with seen x) 0 last (grows_with seen x) s) is there)
@@ -341,34 +350,40 @@ module _ (u : Scene) where
     statement_part (If line (Equal a b) taken other) seen known named =
         let has = choice_numbers (Equal a b) taken other known in
         choice_part seen (test_code u.frame.places u.frame.local (Equal a b)) IfIcmpeq 2 (else_items u.frame other seen) (statements_items u.frame taken seen)
-        (test_runs seen (Equal a b) has.0 named.0) (icmpeq u seen (pos (6 + items_size (else_items u.frame other seen)))) (else_part other seen has.2 named.2) (block taken seen (statements_part taken seen has.1 named.1))
+        (test_runs seen (Equal a b) has.0 named.0) (icmpeq u seen (pos (6 + items_size (else_items u.frame other seen))))
+            (else_part other seen has.2 named.2) (block taken seen (statements_part taken seen has.1 named.1))
     statement_part (If line (Less a b) taken other) seen known named =
         let has = choice_numbers (Less a b) taken other known in
         choice_part seen (test_code u.frame.places u.frame.local (Less a b)) Iflt 1 (else_items u.frame other seen) (statements_items u.frame taken seen)
-        (test_runs seen (Less a b) has.0 named.0) (iflt u seen (pos (6 + items_size (else_items u.frame other seen)))) (else_part other seen has.2 named.2) (block taken seen (statements_part taken seen has.1 named.1))
+        (test_runs seen (Less a b) has.0 named.0) (iflt u seen (pos (6 + items_size (else_items u.frame other seen))))
+            (else_part other seen has.2 named.2) (block taken seen (statements_part taken seen has.1 named.1))
     statement_part (If line (Different a b) taken other) seen known named =
         let has = choice_numbers (Different a b) taken other known in
-        choice_part seen (test_code u.frame.places u.frame.local (Different a b)) IfIcmpeq 2 (statements_items u.frame taken seen) (else_items u.frame other seen)
-        (test_runs seen (Different a b) has.0 named.0) (icmpeq u seen (pos (6 + items_size (statements_items u.frame taken seen)))) (block taken seen (statements_part taken seen has.1 named.1)) (else_part other seen has.2 named.2)
+        choice_part seen (test_code u.frame.places u.frame.local (Different a b)) IfIcmpeq 2 (statements_items u.frame taken seen)
+            (else_items u.frame other seen)
+        (test_runs seen (Different a b) has.0 named.0) (icmpeq u seen (pos (6 + items_size (statements_items u.frame taken seen))))
+            (block taken seen (statements_part taken seen has.1 named.1)) (else_part other seen has.2 named.2)
     statement_part (While line c body) seen known named =
-        let has : HasNumbers u.frame.image u.frame.places (cond_numbers c) × HasNumbers u.frame.image u.frame.places (statements_numbers body) =
-        all_append (IsKnown seen) (cond_numbers c) (statements_numbers body) known in
+        let has : Has (cond_numbers c) × Has (statements_numbers body) =
+        all_append IsKnown (cond_numbers c) (statements_numbers body) known in
         loop_part seen c (statements_items u.frame body seen) (test_runs seen c has.0 named.0) (block body seen (statements_part body seen has.1 named.1))
     statement_part (Return e) seen known named =
         last_part seen seen (expr_code u.frame.places u.frame.local e) Ireturn (value_runs seen e known named.0) (return_takes seen seen named.1)
-    statement_part (Put e) seen known named = last_part seen seen (expr_code u.frame.places u.frame.local e) Out (value_runs seen e known named) (out_takes seen)
+    statement_part (Put e) seen known named =
+        last_part seen seen (expr_code u.frame.places u.frame.local e) Out (value_runs seen e known named) (out_takes seen)
     statement_part Halt seen known named = halt_part seen
 
-    pub statements_part : (row : Statements) (seen : Seen) → HasNumbers u.frame.image u.frame.places (statements_numbers row)
+    pub statements_part : (row : Statements) (seen : Seen) → Has (statements_numbers row)
         → AreNamed u.program u.in_main u.names row seen → Part seen (seen_afters row seen) (statements_items u.frame row seen)
     statements_part no_statements seen known named = part_none seen
     statements_part (statement s rest) seen known named =
-        let has : HasNumbers u.frame.image u.frame.places (statement_numbers s) × HasNumbers u.frame.image u.frame.places (statements_numbers rest) =
-        all_append (IsKnown seen) (statement_numbers s) (statements_numbers rest) known in
-        part_append seen (seen_after s seen) (seen_afters rest (seen_after s seen)) (statement_items u.frame s seen) (statements_items u.frame rest (seen_after s seen))
+        let has : Has (statement_numbers s) × Has (statements_numbers rest) =
+        all_append IsKnown (statement_numbers s) (statements_numbers rest) known in
+        part_append seen (seen_after s seen) (seen_afters rest (seen_after s seen)) (statement_items u.frame s seen)
+            (statements_items u.frame rest (seen_after s seen))
         (statement_part s seen has.0 named.0) (statements_part rest (seen_after s seen) has.1 named.1)
 
-    pub else_part : (other : Else) (seen : Seen) → HasNumbers u.frame.image u.frame.places (else_numbers other)
+    pub else_part : (other : Else) (seen : Seen) → Has (else_numbers other)
         → IsNamedElse u.program u.in_main u.names other seen → Part seen seen (else_items u.frame other seen)
     else_part no_else seen known named = part_none seen
     else_part (else_block b) seen known named = block b seen (statements_part b seen known named)

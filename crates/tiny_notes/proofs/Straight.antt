@@ -62,7 +62,8 @@ module _ (u : Scene) (seen : Seen) where
     pub depth : depth_after u.frame.image d is ≡ e
 
   -- a note where the code begins, or where it ends if it is empty
-  pub head_note : (is : List Instr) (at d : ℕ) (last : Note) → Stands u.frame.image u.whole at (straight u.frame seen d is) last → Suits u.frame seen (depth_after u.frame.image d is) last
+  pub head_note : (is : List Instr) (at d : ℕ) (last : Note) → Stands u.frame.image u.whole at (straight u.frame seen d is) last
+      → Suits u.frame seen (depth_after u.frame.image d is) last
       → (m : Note) × (note_at u.whole at ≡ Some m) × Suits u.frame seen d m
   head_note [] at d last h s = (last, h, s)
   head_note (i ∷ is) at d last h s = (note d, h.1, its_own u.frame seen d)
@@ -96,7 +97,8 @@ module _ (u : Scene) (seen : Seen) where
 
   -- ---- the instructions of expressions
 
-  pub plain_simple : (i : Instr) (d : ℕ) → IsPlain u i → (row_of i).flow ≡ flows.Next → HasConstant u.frame.image.pool (row_of i).constant → takes u.frame.image i ≤ d → IsSimple u seen i d
+  pub plain_simple : (i : Instr) (d : ℕ) → IsPlain u i → (row_of i).flow ≡ flows.Next → HasConstant u.frame.image.pool (row_of i).constant
+      → takes u.frame.image i ≤ d → IsSimple u seen i d
   plain_simple i d p next constant enough = record {
     ready = plain u seen i d p constant enough (λ e. let z : flows.Next ≡ flows.Return = sym next ∙ e in cc);
     no_jump = ap (λ (x : Flow). (ways_of x).jump) next;
@@ -140,7 +142,8 @@ module _ (u : Scene) (seen : Seen) where
       calls = λ k e. cc;
       returns = λ e. cc;
       reads = λ k e. ap (set_of first seen) (sym (same_Some (first + x) k e)) ∙ set_first first x seen ∙ h.0;
-      names = λ k. ⊎_elim (λ e. let same : first + x ≡ k = same_Some (first + x) k e in (omega (arith, same), omega (arith, same, h.1))) (λ e. let z : None ≡ Some k = e in cc);
+      names = λ k. ⊎_elim (λ e. let same : first + x ≡ k = same_Some (first + x) k e in (omega (arith, same), omega (arith, same, h.1)))
+          (λ e. let z : None ≡ Some k = e in cc);
     };
     no_jump = refl;
   }
@@ -148,7 +151,8 @@ module _ (u : Scene) (seen : Seen) where
       first : ℕ
       first = u.frame.local
 
-  call_simple : (g m d : ℕ) → CallFinds u.frame.image u.whole (u.frame.places.entry g) m → m + 1 ≤ d → IsSimple u seen (Invokevirtual (u.frame.places.entry g)) d
+  call_simple : (g m d : ℕ) → CallFinds u.frame.image u.whole (u.frame.places.entry g) m → m + 1 ≤ d
+      → IsSimple u seen (Invokevirtual (u.frame.places.entry g)) d
   call_simple g m d c h = record {
     ready = record {
       constant = c.constant;
@@ -174,11 +178,15 @@ module _ (u : Scene) (seen : Seen) where
         let m : ℕ = arguments_count args in
         let c : CallFinds u.frame.image u.whole (u.frame.places.entry g) m = u.finds g m named.0 in
         let call : Runs (Invokevirtual (u.frame.places.entry g) ∷ []) (d + 1 + m) (d + 1) =
-        begun (Invokevirtual (u.frame.places.entry g)) [] (d + 1 + m) (d + 1) (d + 1) (call_simple g m (d + 1 + m) c (omega arith)) (omega (arith, c.takes_is)) (none (d + 1)) in
-        begun (LdcW 0) (arguments_code u.frame.places u.frame.local args ++ Invokevirtual (u.frame.places.entry g) ∷ []) d (d + 1) (d + 1) (constant_simple 0 d u.object) (omega arith)
-        (joined (arguments_code u.frame.places u.frame.local args) (Invokevirtual (u.frame.places.entry g) ∷ []) (d + 1) (d + 1 + m) (d + 1) (arguments_run args (d + 1) known named.1) call)
+        begun (Invokevirtual (u.frame.places.entry g)) [] (d + 1 + m) (d + 1) (d + 1) (call_simple g m (d + 1 + m) c (omega arith))
+            (omega (arith, c.takes_is)) (none (d + 1)) in
+        begun (LdcW 0) (arguments_code u.frame.places u.frame.local args ++ Invokevirtual (u.frame.places.entry g) ∷ []) d (d + 1) (d + 1)
+            (constant_simple 0 d u.object) (omega arith)
+        (joined (arguments_code u.frame.places u.frame.local args) (Invokevirtual (u.frame.places.entry g) ∷ []) (d + 1) (d + 1 + m) (d + 1)
+            (arguments_run args (d + 1) known named.1) call)
     term_runs Get d known named =
-        begun In [] d (d + 1) (d + 1) (plain_simple In d (record { needs = refl; no_call = λ j e. cc; no_read = refl; no_store = refl }) refl tt (omega arith)) (omega arith) (none (d + 1))
+        begun In [] d (d + 1) (d + 1) (plain_simple In d (record { needs = refl; no_call = λ j e. cc; no_read = refl; no_store = refl }) refl tt
+            (omega arith)) (omega arith) (none (d + 1))
     term_runs (Group e) d known named = expr_runs e d known named
 
     pub expr_runs : (e : Expr) (d : ℕ) → Has (expr_numbers e) → IsNamedExpr u.program u.names seen e → Runs (expr_code u.frame.places u.frame.local e) d (d + 1)
@@ -187,7 +195,8 @@ module _ (u : Scene) (seen : Seen) where
         joined (term_code u.frame.places u.frame.local first) (steps_code u.frame.places u.frame.local rest) d (d + 1) (d + 1)
         (term_runs first d has.0 named.0) (steps_run rest d has.1 named.1)
 
-    pub steps_run : (rest : Steps) (d : ℕ) → Has (steps_numbers rest) → AreNamedSteps u.program u.names seen rest → Runs (steps_code u.frame.places u.frame.local rest) (d + 1) (d + 1)
+    pub steps_run : (rest : Steps) (d : ℕ) → Has (steps_numbers rest) → AreNamedSteps u.program u.names seen rest
+        → Runs (steps_code u.frame.places u.frame.local rest) (d + 1) (d + 1)
     steps_run no_steps d known named = none (d + 1)
     steps_run (step op t rest) d known named =
         let has : Has (term_numbers t) × Has (steps_numbers rest) = all_append IsKnown (term_numbers t) (steps_numbers rest) known in

@@ -104,11 +104,13 @@ module _ (image : ImageView) (p : Places) (program : Program) where
 
   method_size_is : (begin : ℕ) (g : Function) → items_size (method_items begin g) ≡ method_size p g
   method_size_is begin g =
-      omega (arith, items_append (body_items begin g) (end_items begin g), (body_spells begin g).size, size_append (statements_code p 1 g.body) (Bipush (pos 0) ∷ Ireturn ∷ []))
+      omega (arith, items_append (body_items begin g) (end_items begin g), (body_spells begin g).size, size_append (statements_code p 1 g.body)
+          (Bipush (pos 0) ∷ Ireturn ∷ []))
 
   main_size_is : (g : Function) → items_size (main_items g) ≡ code_size (main_code p g)
   main_size_is g =
-      let spells : Spells (statements_items main_frame g.body (parameters_seen g)) (statements_code p 0 g.body) = statements_spell main_frame g.body (parameters_seen g) in
+      let spells : Spells (statements_items main_frame g.body (parameters_seen g)) (statements_code p 0 g.body) =
+          statements_spell main_frame g.body (parameters_seen g) in
       omega (
         arith,
         items_append (statements_items main_frame g.body (parameters_seen g)) (Code HaltCode (note_of main_frame (parameters_seen g) 0) ∷ []),
@@ -139,12 +141,14 @@ module _ (image : ImageView) (p : Places) (program : Program) where
 
     head : (f : ℕ) (g : Function) (l : Lies f g) → Begins (method_frame l.begin) (parameters_seen g) (body_items l.begin g ++ (end_items l.begin g ++ l.post))
     head f g l = row_begins (method_frame l.begin) g.body (parameters_seen g) (end_items l.begin g ++ l.post)
-        (record { i = Bipush (pos 0); n = method_note l.begin g 0; rest = Code Ireturn (method_note l.begin g 1) ∷ l.post; is = refl; suits = its_own (method_frame l.begin) (parameters_seen g) 0 })
+        (record { i = Bipush (pos 0); n = method_note l.begin g 0; rest = Code Ireturn (method_note l.begin g 1)
+            ∷ l.post; is = refl; suits = its_own (method_frame l.begin) (parameters_seen g) 0 })
 
     begins_there : (f : ℕ) (g : Function) (l : Lies f g) → note_at whole (l.begin + 4) ≡ Some (head f g l).n
     begins_there f g l =
         let h : Begins (method_frame l.begin) (parameters_seen g) (body_items l.begin g ++ (end_items l.begin g ++ l.post)) = head f g l in
-        note_at_seam whole (l.pre ++ Header ∷ []) h.i h.n h.rest (l.begin + 4) (code_split f g l ∙ ap (λ x. (l.pre ++ Header ∷ []) ++ x) h.is) (code_begins f g l)
+        note_at_seam whole (l.pre ++ Header ∷ []) h.i h.n h.rest (l.begin + 4) (code_split f g l ∙ ap (λ x. (l.pre ++ Header ∷ []) ++ x) h.is)
+            (code_begins f g l)
 
     unset_by : (b : Bool) → (b ≡ true → ⊥) → b ≡ false
     unset_by true h = absurd (h refl)
@@ -217,7 +221,8 @@ module _ (image : ImageView) (p : Places) (program : Program) where
           headed : (e : ℕ) → Some l.begin ≡ Some e → (0 < 1) × HasHeader 0 whole e
           headed e u =
               let h : HasHeader 0 whole (0 + items_size l.pre) =
-              subst (λ (x : List Item). HasHeader 0 x (0 + items_size l.pre)) (sym l.split) (header_at_seam l.pre ((body_items l.begin g ++ end_items l.begin g) ++ l.post) 0) in
+              subst (λ (x : List Item). HasHeader 0 x (0 + items_size l.pre)) (sym l.split)
+                  (header_at_seam l.pre ((body_items l.begin g ++ end_items l.begin g) ++ l.post) 0) in
               let z : 0 + items_size l.pre ≡ e = omega (arith, l.at, same_Some l.begin e u) in
               (omega arith, subst (λ (x : ℕ). HasHeader 0 whole x) z h)
 
@@ -253,7 +258,8 @@ module _ (image : ImageView) (p : Places) (program : Program) where
           pre = l.pre ++ Header ∷ []
 
           stands : Stands image whole b body here
-          stands = stands_at image whole pre body (Code Ireturn (method_note l.begin g 1) ∷ l.post) (Bipush (pos 0)) here b (code_split f g l) (code_begins f g l)
+          stands = stands_at image whole pre body (Code Ireturn (method_note l.begin g 1) ∷ l.post) (Bipush (pos 0)) here b (code_split f g l)
+              (code_begins f g l)
               (subst (CodeAt image.text b) (sym spells.code_is) (front image.text b code ends l.stands.code)) spells.clean
 
           after : CodeAt image.text (b + code_size code) ends
@@ -261,7 +267,8 @@ module _ (image : ImageView) (p : Places) (program : Program) where
 
           fine : Fine u seen b body
           fine = statements_part u g.body seen (holds.numbers f g is) (named.functions f g is).body b here stands
-              (suits_wider u seen (seen_afters g.body seen) 0 here (grows_all g.body seen) (its_own (method_frame l.begin) seen 0)) (omega (arith, after.0, spells.size))
+              (suits_wider u seen (seen_afters g.body seen) 0 here (grows_all g.body seen) (its_own (method_frame l.begin) seen 0))
+                  (omega (arith, after.0, spells.size))
 
           mid : b + items_size body ≡ b + code_size code
           mid = omega (arith, spells.size)
@@ -291,7 +298,8 @@ module _ (image : ImageView) (p : Places) (program : Program) where
 
     -- ---- one method after the other
 
-    abbrev first_lies : (pre : List Item) (begin : ℕ) (m : ℕ × Function) (ms : List (ℕ × Function)) → begin ≡ items_size pre → whole ≡ pre ++ methods_items begin (m ∷ ms)
+    abbrev first_lies : (pre : List Item) (begin : ℕ) (m : ℕ × Function) (ms : List (ℕ × Function)) → begin ≡ items_size pre
+        → whole ≡ pre ++ methods_items begin (m ∷ ms)
         → AreMethodsAt image p begin (m ∷ ms) → Lies m.0 m.1
     first_lies pre begin m ms at split laid = record {
       begin = begin;
@@ -332,7 +340,8 @@ module _ (image : ImageView) (p : Places) (program : Program) where
         met_append image whole (method_items begin m.1) (methods_items next ms) begin
         (method_met named holds finds m.0 m.1 (first_lies pre begin m ms at split laid) (All-head known m ms are))
         (subst (λ (x : ℕ). AllMet image whole x (methods_items next ms)) (sym place)
-        (methods_met named holds finds ms (pre ++ method_items begin m.1) next (next_at pre begin m.1 at) (next_split pre begin m ms split) laid.1 (All-tail known m ms are)))
+        (methods_met named holds finds ms (pre ++ method_items begin m.1) next (next_at pre begin m.1 at) (next_split pre begin m ms split)
+            laid.1 (All-tail known m ms are)))
 
   -- ---- main, and the whole list
 
@@ -383,10 +392,12 @@ module _ (image : ImageView) (p : Places) (program : Program) where
       finds : (f m : ℕ) → IsCallable program f m → CallFinds image whole (p.entry f) m
       finds f m c =
           lies_found whole f m c.function
-          (lies_by whole (methods program) (main_items g) size f c.function at refl stand (has_of (methods program) f c.function (complete f c.function c.is c.other))) c.counts
+          (lies_by whole (methods program) (main_items g) size f c.function at refl stand
+              (has_of (methods program) f c.function (complete f c.function c.is c.other))) c.counts
 
       are : AreFunctions whole (methods program)
-      are = All-weaker (Contains (methods program)) (λ m. slice_get program.functions m.0 ≡ Some m.1) (λ m c. (sound m.0 m.1 c).0) (methods program) (All-contains_itself (methods program))
+      are = All-weaker (Contains (methods program)) (λ m. slice_get program.functions m.0 ≡ Some m.1) (λ m c. (sound m.0 m.1 c).0)
+          (methods program) (All-contains_itself (methods program))
 
       rest : AllMet image whole size others_items
       rest = methods_met whole named holds finds (methods program) (main_items g) size at refl stand are
@@ -429,7 +440,8 @@ module _ (image : ImageView) (p : Places) (program : Program) where
           (suits_wider u seen (seen_afters g.body seen) 0 here (grows_all g.body seen) (its_own main_frame seen 0)) (omega (arith, after.0, spells.size))
 
       begin : Begins main_frame seen (body ++ (halting ∷ others_items))
-      begin = row_begins main_frame g.body seen (halting ∷ others_items) (record { i = HaltCode; n = here; rest = others_items; is = refl; suits = its_own main_frame seen 0 })
+      begin = row_begins main_frame g.body seen (halting ∷ others_items)
+          (record { i = HaltCode; n = here; rest = others_items; is = refl; suits = its_own main_frame seen 0 })
 
       begins_there_0 : note_at whole 0 ≡ Some begin.n
       begins_there_0 = note_at_seam whole [] begin.i begin.n begin.rest 0 (split ∙ begin.is) refl

@@ -90,7 +90,8 @@ module _ (image : ImageView) (whole : List Item) where
       ends_before (start + 4) xs at to n m i all (past_header start xs at n h) (past_header start xs to m k) is lt
 
   -- an instruction ends before a header, or begins after it
-  clear_of : (start : ℕ) (xs : List Item) (at e : ℕ) (n : Note) (i : Instr) → AllMet image whole start xs → note_from start xs at ≡ Some n → HasHeader start xs e
+  clear_of : (start : ℕ) (xs : List Item) (at e : ℕ) (n : Note) (i : Instr) → AllMet image whole start xs → note_from start xs at ≡ Some n
+      → HasHeader start xs e
       → instr_at image.text at ≡ Some i → (at + size_of (row_of i) ≤ e) ⊎ (e + 4 ≤ at)
   clear_of start [] at e n i all h k is = cc
   clear_of start (Code j o ∷ xs) at e n i all h k is =

@@ -1,0 +1,94 @@
+-- A worked program whose names are known, and an image in which it is laid out.
+use Rattle.std.proofs.Common.{◌≡◌, ◌≢◌, ◌<◌, ◌≤◌, ℕ, zero, suc, ◌+◌, Bool, true, false, List, [], ◌∷◌, ◌++◌, Option, Some, None, refl, subst, arith}
+use Rattle.std.specs.Prelude.{slice_get}
+use Rattle.std.proofs.lemmas.Option.{same_Some}
+use Rattle.std.proofs.lemmas.List.Elements.{All-nil}
+use Rattle.std.specs.Int.{w8, w16, cast_signed}
+use Rattle.ijvm_instr.specs.Instructions.{instr_at, of_bytes}
+use Rattle.ijvm_image.specs.Image.{ImageView, params, others}
+use Rattle.tiny_tree.specs.declared.tree.Operator.{Operator}
+use Rattle.tiny_tree.specs.declared.tree.Operator.TheVariants.{Plus, Minus}
+use Rattle.tiny_tree.specs.Tree.{Term, Number, Variable, Called, Expr, Sum, no_steps, step, Different, Statement, Var, Assign, While, Return, Put, Function, Program, arguments_of, statements_of}
+use Rattle.tiny_tree.specs.Named.{IsNamed, IsNamedFunction}
+use Rattle.tiny_code.specs.Code.{Places}
+use Rattle.tiny_code.specs.Laid.{IsMethodAt, IsLaidOut}
+
+abbrev alone : Term → Expr
+alone t = Sum t no_steps
+
+abbrev two : Term → Operator → Term → Expr
+two a op b = Sum a (step op b no_steps)
+
+abbrev add : Function
+add = record { parameters = 2; body = statements_of (Return (two (Variable 0) Plus (Variable 1)) ∷ []) }
+
+abbrev body : List Statement
+body =
+    Put (alone (Called 0 (arguments_of (alone (Number 64) ∷ alone (Variable 0) ∷ []))))
+    ∷ Assign 0 (two (Variable 0) Minus (Number 1)) ∷ []
+
+abbrev main : Function
+main = record { parameters = 0; body = statements_of (Var 0 (alone (Number 3)) ∷ While 1 (Different (alone (Variable 0)) (alone (Number 0))) (statements_of body) ∷ []) }
+
+-- fn add(a, b) { return a + b; } fn main() { var n = 3; while n != 0 { put add(64, n); n = n - 1; } }
+abbrev countdown : Program
+countdown = record { functions = add ∷ main ∷ []; main = 1 }
+
+abbrev places : Places
+places = record { constant = λ n. 0; entry = λ f. 1 }
+
+abbrev image : ImageView
+image = record {
+  text =
+      16 ∷ 3 ∷ 54 ∷ 0 ∷ 21 ∷ 0 ∷ 16 ∷ 0 ∷ 159 ∷ 0 ∷ 24 ∷ 19 ∷ 0 ∷ 0 ∷ 16 ∷ 64 ∷ 21 ∷ 0 ∷ 182 ∷ 0 ∷ 1 ∷ 253 ∷ 21 ∷ 0 ∷ 16 ∷ 1 ∷ 100 ∷ 54 ∷ 0 ∷ 167 ∷ 255 ∷ 231 ∷ 255
+      ∷ 0 ∷ 3 ∷ 0 ∷ 0 ∷ 21 ∷ 1 ∷ 21 ∷ 2 ∷ 96 ∷ 172 ∷ 16 ∷ 0 ∷ 172 ∷ [];
+  pool = 0 ∷ 33 ∷ [];
+}
+
+zero_other : ◌≢◌ {A = ℕ} 0 1
+zero_other h = absurd (omega (arith, h))
+
+add_named : IsNamedFunction countdown 0 add
+add_named = record { few = omega arith; body = ((((refl, omega arith), ((refl, omega arith), tt)), refl), tt) }
+
+main_named : IsNamedFunction countdown 1 main
+main_named = record {
+  few = omega arith;
+  body =
+      (((omega arith, tt), omega arith),
+       (((((refl, omega arith), tt), (omega arith, tt)),
+         (((record { function = add; is = refl; counts = refl; other = zero_other }, ((omega arith, tt), (((refl, omega arith), tt), tt))), tt),
+          ((((refl, omega arith), ((omega arith), tt)), refl, omega arith), tt))),
+        tt));
+}
+
+named : IsNamed countdown
+named = record { main = main; main_is = refl; no_parameters = refl; functions = named_by }
+  where
+    named_by : (f : ℕ) (g : Function) → slice_get (add ∷ main ∷ []) f ≡ Some g → IsNamedFunction countdown f g
+    named_by zero g h = subst (IsNamedFunction countdown 0) (same_Some add g h) add_named
+    named_by (suc zero) g h = subst (IsNamedFunction countdown 1) (same_Some main g h) main_named
+    named_by (suc (suc f)) g h = cc
+
+add_at : IsMethodAt image places 33 0 add
+unfolding of_bytes instr_at params others
+add_at = record {
+  entry = refl;
+  inside = omega arith;
+  params = refl;
+  others = refl;
+  code = (omega arith, refl, (omega arith, refl, (omega arith, refl, (omega arith, refl, (omega arith, refl, (omega arith, refl, omega arith))))));
+}
+
+laid_out : IsLaidOut image places countdown
+unfolding of_bytes instr_at params others
+laid_out = record {
+  object = refl;
+  numbers = All-nil _;
+  main = main;
+  main_is = refl;
+  main_at = (omega arith, refl, (omega arith, refl, (omega arith, refl, (omega arith, refl, (omega arith, refl, (omega arith, refl, (omega arith, refl,
+      (omega arith, refl, (omega arith, refl, (omega arith, refl, (omega arith, refl, (omega arith, refl, (omega arith, refl, (omega arith, refl,
+      (omega arith, refl, (omega arith, refl, omega arith))))))))))))))));
+  methods = (add_at, tt);
+}
