@@ -1,9 +1,8 @@
 -- A worked program whose names are known, and an image in which it is laid out.
-use Rattle.std.proofs.Common.{◌≡◌, ◌≢◌, ◌<◌, ◌≤◌, ℕ, zero, suc, ◌+◌, Bool, true, false, List, [], ◌∷◌, ◌++◌, Option, Some, None, refl, subst, arith}
+use Rattle.std.proofs.Common.{◌≡◌, ◌≢◌, ℕ, zero, suc, List, [], ◌∷◌, Some, refl, subst, arith}
 use Rattle.std.specs.Prelude.{slice_get}
 use Rattle.std.proofs.lemmas.Option.{same_Some}
 use Rattle.std.proofs.lemmas.List.Elements.{All-nil}
-use Rattle.std.specs.Int.{w8, w16, cast_signed}
 use Rattle.ijvm_instr.specs.Instructions.{instr_at, of_bytes}
 use Rattle.ijvm_image.specs.Image.{ImageView, params, others}
 use Rattle.tiny_tree.specs.declared.tree.Operator.{Operator}
@@ -54,12 +53,19 @@ add_named = record { few = omega arith; body = ((((refl, omega arith), ((refl, o
 main_named : IsNamedFunction countdown 1 main
 main_named = record {
   few = omega arith;
-  body =
-      (((omega arith, tt), omega arith),
-       (((((refl, omega arith), tt), (omega arith, tt)),
-         (((record { function = add; is = refl; counts = refl; other = zero_other }, ((omega arith, tt), (((refl, omega arith), tt), tt))), tt),
-          ((((refl, omega arith), ((omega arith), tt)), refl, omega arith), tt))),
-        tt));
+  body = (
+    ((omega arith, tt), omega arith),
+    (
+      (
+        (((refl, omega arith), tt), (omega arith, tt)),
+        (
+          ((record { function = add; is = refl; counts = refl; other = zero_other }, ((omega arith, tt), (((refl, omega arith), tt), tt))), tt),
+          ((((refl, omega arith), ((omega arith), tt)), refl, omega arith), tt),
+        ),
+      ),
+      tt,
+    ),
+  );
 }
 
 named : IsNamed countdown
@@ -87,8 +93,62 @@ laid_out = record {
   numbers = All-nil _;
   main = main;
   main_is = refl;
-  main_at = (omega arith, refl, (omega arith, refl, (omega arith, refl, (omega arith, refl, (omega arith, refl, (omega arith, refl, (omega arith, refl,
-      (omega arith, refl, (omega arith, refl, (omega arith, refl, (omega arith, refl, (omega arith, refl, (omega arith, refl, (omega arith, refl,
-      (omega arith, refl, (omega arith, refl, omega arith))))))))))))))));
+  main_at = (
+    omega arith,
+    refl,
+    (
+      omega arith,
+      refl,
+      (
+        omega arith,
+        refl,
+        (
+          omega arith,
+          refl,
+          (
+            omega arith,
+            refl,
+            (
+              omega arith,
+              refl,
+              (
+                omega arith,
+                refl,
+                (
+                  omega arith,
+                  refl,
+                  (
+                    omega arith,
+                    refl,
+                    (
+                      omega arith,
+                      refl,
+                      (
+                        omega arith,
+                        refl,
+                        (
+                          omega arith,
+                          refl,
+                          (
+                            omega arith,
+                            refl,
+                            (
+                              omega arith,
+                              refl,
+                              (omega arith, refl, (omega arith, refl, omega arith)),
+                            ),
+                          ),
+                        ),
+                      ),
+                    ),
+                  ),
+                ),
+              ),
+            ),
+          ),
+        ),
+      ),
+    ),
+  );
   methods = (add_at, tt);
 }

@@ -1,18 +1,17 @@
 -- One instruction meets its note.
-use Rattle.std.proofs.Common.{◌≡◌, ◌≢◌, ◌<◌, ◌≤◌, ◌⊎◌, inl, inr, ⊎_elim, ℕ, ℤ, ◌+◌, ◌-◌, Bool, true, false, List, [], ◌∷◌, length, Option, Some, None, refl, sym, ap, ◌∙◌, subst, arith}
+use Rattle.std.proofs.Common.{◌≡◌, ◌≢◌, ◌<◌, ◌≤◌, inl, inr, ⊎_elim, ℕ, ℤ, ◌+◌, ◌-◌, true, false, Some, None, refl, sym, ap, ◌∙◌, subst, arith}
 use Rattle.std.proofs.lemmas.Option.{same_Some}
 use Rattle.ijvm_instr.specs.declared.instr.Instr.{Instr}
-use Rattle.ijvm_instr.specs.declared.instr.Instr.TheVariants.{Bipush, LdcW, Iload, Istore, Pop, Iadd, Isub, Iand, Ior, Iflt, IfIcmpeq, Goto, Ireturn, Invokevirtual, In, Out, Halt}
+use Rattle.ijvm_instr.specs.declared.instr.Instr.TheVariants.{Istore, Iflt, IfIcmpeq, Goto, Ireturn, Halt}
 use Rattle.ijvm_instr.specs.declared.row.Flow.{Flow}
 use Rattle.ijvm_instr.specs.declared.row.Flow.TheVariants as flows
 use Rattle.ijvm_instr.specs.Instructions.{row_of, size_of, instr_at, target}
-use Rattle.ijvm_image.specs.Image.{ImageView, params, others}
 use Rattle.verifier_facts.specs.Paths.{HasConstant, GoesOn, need_of, ways_of}
 use Rattle.verifier_facts.specs.Facts.{Names}
-use Rattle.verifier_notes.specs.Noted.{Note, LeadsOn, FindsMethod, Meets}
+use Rattle.verifier_notes.specs.Noted.{Note, LeadsOn, FindsMethod}
 use Rattle.verifier_notes.specs.Listed.{note_at, IsMet}
-use Rattle.tiny_tree.specs.Named.{IsCallable, Seen, seen_with}
-use Rattle.tiny_notes.proofs.Scenes.{Scene, Suits, CallFinds, note_of, set_of, takes, next_depth, set_first, set_stored, its_own, at_depth}
+use Rattle.tiny_tree.specs.Named.{Seen, seen_with}
+use Rattle.tiny_notes.proofs.Scenes.{Scene, Suits, note_of, set_of, takes, next_depth, set_stored, at_depth}
 
 -- a variable's local
 abbrev pub IsLocal : Scene → ℕ → Type 0
@@ -121,14 +120,14 @@ module _ (u : Scene) (seen : Seen) where
       → IsMet u.frame.image u.whole at (Goto o) (note 0)
   goto_met at to o m is there is_note s =
       meets_by (Goto o) at 0 is (plain (Goto o) 0 (record { needs = refl; no_call = λ k e. cc; no_read = refl; no_store = refl }) tt
-          (omega arith) (λ e. cc)) leads
+      (omega arith) (λ e. cc)) leads
     where
       leads : (x : ℕ) → GoesOn (flows.Jump o) at (at + 3) x → Led (Goto o) 0 x
       leads x (inl h) = let z : false ≡ true = h.0 in cc
       leads x (inr h) =
           let same : o ≡ h.0 = same_Some o h.0 h.1 in
           led_to (Goto o) 0 x m (ap (note_at u.whole) (h.2 ∙ ap (target at) (sym same) ∙ there) ∙ is_note) (omega arith)
-              (at_depth u.frame seen 0 (0 + 0 - 0) m (omega arith) s)
+          (at_depth u.frame seen 0 (0 + 0 - 0) m (omega arith) s)
 
   -- a test's jump, which takes so many operands
   pub record IsBranch (i : Instr) (o : ℤ) (d : ℕ) : Type 0 where
@@ -172,11 +171,11 @@ module _ (u : Scene) (seen : Seen) where
       leads : (x : ℕ) → GoesOn (flows.Branch o) at (at + size_of (row_of i)) x → Led i d x
       leads x (inl h) =
           led_to i d x m (ap (note_at u.whole) (h.1 ∙ ap (λ (y : ℕ). at + y) b.size) ∙ next) (omega (arith, b.takes_is))
-              (at_depth u.frame seen 0 (next_depth u.frame.image i d) m (sym none_left) s)
+          (at_depth u.frame seen 0 (next_depth u.frame.image i d) m (sym none_left) s)
       leads x (inr h) =
           let same : o ≡ h.0 = same_Some o h.0 h.1 in
           led_to i d x n (ap (note_at u.whole) (h.2 ∙ ap (target at) (sym same) ∙ there) ∙ at_to) (omega (arith, b.takes_is))
-              (at_depth u.frame seen 0 (next_depth u.frame.image i d) n (sym none_left) t)
+          (at_depth u.frame seen 0 (next_depth u.frame.image i d) n (sym none_left) t)
 
   -- ---- instructions that take a value
 

@@ -1,11 +1,11 @@
 -- The items are the code, and begin with a note of depth 0; where a list's items stand.
-use Rattle.std.proofs.Common.{◌≡◌, ◌≢◌, ◌<◌, ◌≤◌, ◌⊎◌, inl, inr, ⊎_elim, ℕ, ℤ, pos, zero, suc, ◌+◌, ◌==◌, Bool, true, false, if◌then◌else◌, List, [], ◌∷◌, ◌++◌, Option, Some, None, refl, sym, ap, ◌∙◌, subst, arith, append_assoc}
+use Rattle.std.proofs.Common.{◌≡◌, ◌≤◌, ⊎_elim, ℕ, ℤ, pos, ◌+◌, Bool, if◌then◌else◌, List, [], ◌∷◌, ◌++◌, Some, refl, sym, ap, ◌∙◌, subst, arith, append_assoc}
 use Rattle.std.specs.Prelude.{neg_ℤ}
 use Rattle.std.proofs.lemmas.Bool.{eq-eqb}
 use Rattle.std.proofs.lemmas.Bool.Decides.{eqb_tells}
 use Rattle.ijvm_instr.specs.declared.instr.Instr.{Instr}
 use Rattle.ijvm_instr.specs.declared.instr.Instr.TheVariants.{LdcW, Iload, Invokevirtual, In, Istore, Pop, Isub, Iflt, IfIcmpeq, Goto, Ireturn, Out, Halt as HaltCode}
-use Rattle.ijvm_instr.specs.Instructions.{row_of, size_of, instr_at}
+use Rattle.ijvm_instr.specs.Instructions.{row_of, size_of}
 use Rattle.ijvm_image.specs.Image.{ImageView}
 use Rattle.verifier_notes.specs.Noted.{Note}
 use Rattle.verifier_notes.specs.Listed.{Item, Code, Header, item_size, items_size, own_note, note_from, note_at}
@@ -127,7 +127,7 @@ module _ (f : Frame) where
     statements_spell no_statements seen = nothing
     statements_spell (statement s rest) seen =
         joins (statement_items f s seen) (statements_items f rest (seen_after s seen)) (statement_code f.places f.local s)
-            (statements_code f.places f.local rest)
+        (statements_code f.places f.local rest)
         (statement_spells s seen) (statements_spell rest (seen_after s seen))
 
     pub else_spells : (other : Else) (seen : Seen) → Spells (else_items f other seen) (else_code f.places f.local other)

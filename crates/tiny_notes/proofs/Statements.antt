@@ -1,5 +1,5 @@
 -- The items of statements, which meet their notes wherever they stand.
-use Rattle.std.proofs.Common.{◌≡◌, ◌≢◌, ◌<◌, ◌≤◌, ◌⊎◌, inl, inr, ℕ, ℤ, pos, zero, suc, ◌+◌, ◌-◌, ◌==◌, Bool, true, false, if◌then◌else◌, List, [], ◌∷◌, ◌++◌, length, Option, Some, None, refl, sym, ap, ◌∙◌, subst, arith, append_assoc}
+use Rattle.std.proofs.Common.{◌≡◌, ◌<◌, ◌≤◌, ℕ, ℤ, pos, ◌+◌, ◌==◌, Bool, true, false, if◌then◌else◌, List, [], ◌∷◌, ◌++◌, Some, refl, sym, ap, ◌∙◌, subst, arith, append_assoc}
 use Rattle.std.specs.Prelude.{neg_ℤ, slice_get}
 use Rattle.std.proofs.lemmas.Bool.{true≢false}
 use Rattle.ijvm_instr.specs.declared.instr.Instr.{Instr}
@@ -8,15 +8,15 @@ use Rattle.ijvm_instr.specs.declared.row.Flow.TheVariants as flows
 use Rattle.ijvm_instr.specs.Instructions.{row_of, size_of, instr_at, target}
 use Rattle.verifier_facts.specs.Paths.{HasConstant}
 use Rattle.verifier_notes.specs.Noted.{Note}
-use Rattle.verifier_notes.specs.Listed.{Item, Code, Header, item_size, items_size, note_at, IsMet, AllMet}
+use Rattle.verifier_notes.specs.Listed.{Item, Code, items_size, note_at, IsMet, AllMet}
 use Rattle.tiny_tree.specs.Tree.{Called, Expr, Cond, Equal, Different, Less, Statement, Var, Assign, Calls, If, While, Return, Put, Halt, Else, no_else, else_block, Statements, no_statements, statement}
 use Rattle.tiny_tree.specs.Named.{Seen, seen_with, seen_after, IsNamedExpr, IsNamedCond, IsNamedStatement, AreNamed, IsNamedElse}
-use Rattle.tiny_code.specs.Code.{code_size, term_code, expr_code, test_code, term_numbers, expr_numbers, cond_numbers, statement_numbers, statements_numbers, else_numbers}
+use Rattle.tiny_code.specs.Code.{code_size, term_code, expr_code, test_code, expr_numbers, cond_numbers, statement_numbers, statements_numbers, else_numbers}
 use Rattle.tiny_code.specs.Laid.{HasNumbers}
 use Rattle.tiny_notes.proofs.Jumps.{forward, backward}
-use Rattle.tiny_notes.proofs.Scenes.{Frame, Scene, Suits, note_of, takes, next_depth, depth_after, straight, set_of, set_wider, its_own, at_depth, items_append, Stands, stands_back, stands_front, stands_end, met_append}
+use Rattle.tiny_notes.proofs.Scenes.{Frame, Scene, Suits, note_of, takes, next_depth, depth_after, straight, set_wider, its_own, at_depth, items_append, Stands, stands_back, stands_front, stands_end, met_append}
 use Rattle.tiny_notes.proofs.Single.{IsPlain, IsBranch, icmpeq, iflt, halt_met, return_met, goto_met, branch_met, taken_met, store_met}
-use Rattle.tiny_notes.proofs.Straight.{all_append, straight_size, AllSimple, Runs, head_note, straight_met, joined, begun, none, plain_simple, term_runs, expr_runs}
+use Rattle.tiny_notes.proofs.Straight.{all_append, straight_size, Runs, head_note, straight_met, joined, begun, none, plain_simple, term_runs, expr_runs}
 
 -- ---- the items
 
@@ -44,7 +44,7 @@ module _ (f : Frame) where
   abbrev pub again_items : Seen → Cond → List Item → List Item
   again_items seen c body =
       Code (Goto (neg_ℤ (pos (code_size (test_code f.places f.local c) + items_size (leave_items seen c (items_size body)) + items_size body))))
-          (note_of f seen 0) ∷ []
+      (note_of f seen 0) ∷ []
 
   abbrev pub loop_items : Seen → Cond → List Item → List Item
   loop_items seen c body = straight f seen 0 (test_code f.places f.local c) ++ (leave_items seen c (items_size body) ++ (body ++ again_items seen c body))
@@ -233,9 +233,11 @@ module _ (u : Scene) where
         → note_at u.whole (mid + items_size (leave_items u.frame seen c size) + size + 3) ≡ Some last → Suits u.frame seen 0 last
         → Met mid (leave_items u.frame seen c size)
     leave_met (Different a b) size mid m last h s small end t =
-        let t2 : target mid (pos (6 + size)) ≡ mid + 3 + size + 3 = forward mid (6 + size) (omega (arith, small)) ∙ omega arith in
-        (branch_met u seen (IfIcmpeq (pos (6 + size))) (pos (6 + size)) mid 2 (mid + 3 + size + 3) m last (icmpeq u seen (pos (6 + size))) h.0
-            h.2 s t2 end t, tt)
+        let t2 : target mid (pos (6 + size)) ≡ mid + 3 + size + 3 = forward mid (6 + size) (omega (arith, small)) ∙ omega arith in (
+          branch_met u seen (IfIcmpeq (pos (6 + size))) (pos (6 + size)) mid 2 (mid + 3 + size + 3) m last (icmpeq u seen (pos (6 + size))) h.0
+              h.2 s t2 end t,
+          tt,
+        )
     leave_met (Equal a b) size mid m last h s small end t =
         let e : mid + 9 + size ≡ mid + 6 + size + 3 = omega arith in
         over_met (IfIcmpeq (pos 6)) 2 size mid m last (icmpeq u seen (pos 6)) h s (omega (arith, small)) (ap (note_at u.whole) e ∙ end) t
@@ -299,7 +301,7 @@ module _ (u : Scene) where
         let right : List Instr = expr_code u.frame.places u.frame.local b in
         let less : Runs u seen (Isub ∷ []) 2 1 =
         begun u seen Isub [] 2 1 1 (plain_simple u seen Isub 2 (record { needs = refl; no_call = λ k e. cc; no_read = refl; no_store = refl })
-            refl tt (omega arith)) refl (none u seen 1) in
+        refl tt (omega arith)) refl (none u seen 1) in
         subst (λ (is : List Instr). Runs u seen is 0 1) (append_assoc left right (Isub ∷ []))
         (joined u seen (left ++ right) (Isub ∷ []) 0 2 1 (sides_run a b known named) less)
 
@@ -341,7 +343,7 @@ module _ (u : Scene) where
         → IsNamedStatement u.program u.in_main u.names s seen → Part seen (seen_after s seen) (statement_items u.frame s seen)
     statement_part (Var x e) seen known named =
         last_part seen (seen_with seen x) (expr_code u.frame.places u.frame.local e) (Istore (u.frame.local + x))
-            (value_runs seen e known named.0) (store_takes seen x named.1)
+        (value_runs seen e known named.0) (store_takes seen x named.1)
     statement_part (Assign x e) seen known named =
         last_part seen seen (expr_code u.frame.places u.frame.local e) (Istore (u.frame.local + x)) (value_runs seen e known named.0)
         (λ mid last s is there. store_takes seen x named.2 mid last (suits_wider seen (seen_with seen x) 0 last (grows_with seen x) s) is there)
@@ -351,18 +353,18 @@ module _ (u : Scene) where
         let has = choice_numbers (Equal a b) taken other known in
         choice_part seen (test_code u.frame.places u.frame.local (Equal a b)) IfIcmpeq 2 (else_items u.frame other seen) (statements_items u.frame taken seen)
         (test_runs seen (Equal a b) has.0 named.0) (icmpeq u seen (pos (6 + items_size (else_items u.frame other seen))))
-            (else_part other seen has.2 named.2) (block taken seen (statements_part taken seen has.1 named.1))
+        (else_part other seen has.2 named.2) (block taken seen (statements_part taken seen has.1 named.1))
     statement_part (If line (Less a b) taken other) seen known named =
         let has = choice_numbers (Less a b) taken other known in
         choice_part seen (test_code u.frame.places u.frame.local (Less a b)) Iflt 1 (else_items u.frame other seen) (statements_items u.frame taken seen)
         (test_runs seen (Less a b) has.0 named.0) (iflt u seen (pos (6 + items_size (else_items u.frame other seen))))
-            (else_part other seen has.2 named.2) (block taken seen (statements_part taken seen has.1 named.1))
+        (else_part other seen has.2 named.2) (block taken seen (statements_part taken seen has.1 named.1))
     statement_part (If line (Different a b) taken other) seen known named =
         let has = choice_numbers (Different a b) taken other known in
         choice_part seen (test_code u.frame.places u.frame.local (Different a b)) IfIcmpeq 2 (statements_items u.frame taken seen)
-            (else_items u.frame other seen)
+        (else_items u.frame other seen)
         (test_runs seen (Different a b) has.0 named.0) (icmpeq u seen (pos (6 + items_size (statements_items u.frame taken seen))))
-            (block taken seen (statements_part taken seen has.1 named.1)) (else_part other seen has.2 named.2)
+        (block taken seen (statements_part taken seen has.1 named.1)) (else_part other seen has.2 named.2)
     statement_part (While line c body) seen known named =
         let has : Has (cond_numbers c) × Has (statements_numbers body) =
         all_append IsKnown (cond_numbers c) (statements_numbers body) known in
@@ -380,7 +382,7 @@ module _ (u : Scene) where
         let has : Has (statement_numbers s) × Has (statements_numbers rest) =
         all_append IsKnown (statement_numbers s) (statements_numbers rest) known in
         part_append seen (seen_after s seen) (seen_afters rest (seen_after s seen)) (statement_items u.frame s seen)
-            (statements_items u.frame rest (seen_after s seen))
+        (statements_items u.frame rest (seen_after s seen))
         (statement_part s seen has.0 named.0) (statements_part rest (seen_after s seen) has.1 named.1)
 
     pub else_part : (other : Else) (seen : Seen) → Has (else_numbers other)

@@ -1,25 +1,25 @@
 -- Code without jumps: the code of expressions.
-use Rattle.std.proofs.Common.{◌≡◌, ◌<◌, ◌≤◌, ⊎_elim, ℕ, ℤ, pos, zero, suc, ◌+◌, ◌-◌, Bool, true, false, if◌then◌else◌, List, [], ◌∷◌, ◌++◌, length, Option, Some, None, refl, sym, ap, ◌∙◌, subst, arith}
+use Rattle.std.proofs.Common.{◌≡◌, ◌<◌, ◌≤◌, ⊎_elim, ℕ, pos, zero, suc, ◌+◌, Bool, true, false, if◌then◌else◌, List, [], ◌∷◌, ◌++◌, length, Some, None, refl, sym, ap, ◌∙◌, subst, arith}
 use Rattle.std.specs.Prelude.{nat_le, slice_get}
 use Rattle.std.proofs.lemmas.Option.{same_Some}
 use Rattle.std.specs.List.{All}
 use Rattle.std.proofs.lemmas.List.Elements.{All-nil, All-cons, All-head, All-tail}
 use Rattle.ijvm_instr.specs.declared.instr.Instr.{Instr}
-use Rattle.ijvm_instr.specs.declared.instr.Instr.TheVariants.{Bipush, LdcW, Iload, Isub, Invokevirtual, In}
+use Rattle.ijvm_instr.specs.declared.instr.Instr.TheVariants.{Bipush, LdcW, Iload, Invokevirtual, In}
 use Rattle.ijvm_instr.specs.declared.row.Flow.{Flow}
 use Rattle.ijvm_instr.specs.declared.row.Flow.TheVariants as flows
-use Rattle.ijvm_instr.specs.Instructions.{row_of, size_of, instr_at}
+use Rattle.ijvm_instr.specs.Instructions.{row_of, size_of}
 use Rattle.verifier_facts.specs.Paths.{HasConstant, ways_of}
 use Rattle.verifier_notes.specs.Noted.{Note, FindsMethod}
 use Rattle.verifier_notes.specs.Listed.{note_at, AllMet, items_size}
 use Rattle.tiny_tree.specs.declared.tree.Operator.{Operator}
 use Rattle.tiny_tree.specs.declared.tree.Operator.TheVariants.{Plus, Minus, And, Or}
 use Rattle.tiny_tree.specs.Tree.{Term, Number, Variable, Called, Get, Group, Expr, Sum, Steps, no_steps, step, Arguments, no_arguments, argument}
-use Rattle.tiny_tree.specs.Named.{IsCallable, Seen, arguments_count, IsNamedTerm, IsNamedExpr, AreNamedSteps, AreNamedArguments}
+use Rattle.tiny_tree.specs.Named.{Seen, arguments_count, IsNamedTerm, IsNamedExpr, AreNamedSteps, AreNamedArguments}
 use Rattle.tiny_code.specs.Code.{code_size, operator_code, term_code, expr_code, steps_code, arguments_code, term_numbers, expr_numbers, steps_numbers, arguments_numbers}
 use Rattle.tiny_code.specs.Laid.{HasNumbers}
 use Rattle.tiny_notes.proofs.Scenes.{Scene, Suits, CallFinds, note_of, takes, next_depth, depth_after, straight, Stands, set_of, set_first, its_own}
-use Rattle.tiny_notes.proofs.Single.{IsLocal, Ready, IsSimple, IsPlain, plain, simple_met}
+use Rattle.tiny_notes.proofs.Single.{IsSimple, IsPlain, plain, simple_met}
 
 pub all_append : {X : Type 0} (P : X → Type 0) (xs ys : List X) → All P (xs ++ ys) → All P xs × All P ys
 all_append P [] ys h = (All-nil P, h)
@@ -179,14 +179,14 @@ module _ (u : Scene) (seen : Seen) where
         let c : CallFinds u.frame.image u.whole (u.frame.places.entry g) m = u.finds g m named.0 in
         let call : Runs (Invokevirtual (u.frame.places.entry g) ∷ []) (d + 1 + m) (d + 1) =
         begun (Invokevirtual (u.frame.places.entry g)) [] (d + 1 + m) (d + 1) (d + 1) (call_simple g m (d + 1 + m) c (omega arith))
-            (omega (arith, c.takes_is)) (none (d + 1)) in
+        (omega (arith, c.takes_is)) (none (d + 1)) in
         begun (LdcW 0) (arguments_code u.frame.places u.frame.local args ++ Invokevirtual (u.frame.places.entry g) ∷ []) d (d + 1) (d + 1)
-            (constant_simple 0 d u.object) (omega arith)
+        (constant_simple 0 d u.object) (omega arith)
         (joined (arguments_code u.frame.places u.frame.local args) (Invokevirtual (u.frame.places.entry g) ∷ []) (d + 1) (d + 1 + m) (d + 1)
-            (arguments_run args (d + 1) known named.1) call)
+        (arguments_run args (d + 1) known named.1) call)
     term_runs Get d known named =
         begun In [] d (d + 1) (d + 1) (plain_simple In d (record { needs = refl; no_call = λ j e. cc; no_read = refl; no_store = refl }) refl tt
-            (omega arith)) (omega arith) (none (d + 1))
+        (omega arith)) (omega arith) (none (d + 1))
     term_runs (Group e) d known named = expr_runs e d known named
 
     pub expr_runs : (e : Expr) (d : ℕ) → Has (expr_numbers e) → IsNamedExpr u.program u.names seen e → Runs (expr_code u.frame.places u.frame.local e) d (d + 1)

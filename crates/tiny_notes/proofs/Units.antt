@@ -1,14 +1,13 @@
 -- The units of a program, one after the other: main, then each method after its header.
-use Rattle.std.proofs.Common.{◌≡◌, ◌≢◌, ◌<◌, ◌≤◌, ◌⊎◌, inl, inr, ℕ, pos, zero, suc, ◌+◌, ◌-◌, ◌==◌, Bool, true, false, if◌then◌else◌, List, [], ◌∷◌, ◌++◌, length, Option, Some, None, refl, sym, ap, ◌∙◌, subst, arith, append_assoc}
+use Rattle.std.proofs.Common.{◌≡◌, ◌≢◌, ◌<◌, ◌≤◌, ◌⊎◌, inl, inr, ℕ, pos, ◌+◌, ◌-◌, ◌==◌, Bool, true, false, if◌then◌else◌, List, [], ◌∷◌, ◌++◌, length, Option, Some, None, refl, sym, ap, ◌∙◌, subst, arith, append_assoc}
 use Rattle.std.specs.Prelude.{nat_lt, slice_get}
 use Rattle.std.specs.List.{All, Contains}
 use Rattle.std.specs.Option.{option_map}
 use Rattle.std.proofs.lemmas.Option.{same_Some}
-use Rattle.std.proofs.lemmas.Bool.{eq-eqb, le-ltb, lt-ltb, ltb-false, ltb-true}
+use Rattle.std.proofs.lemmas.Bool.{eq-eqb, lt-ltb, ltb-false, ltb-true}
 use Rattle.std.proofs.lemmas.List.Elements.{All-nil, All-cons, All-head, All-tail, All-weaker, All-contains, All-contains_itself}
 use Rattle.ijvm_instr.specs.declared.instr.Instr.{Instr}
 use Rattle.ijvm_instr.specs.declared.instr.Instr.TheVariants.{Bipush, Ireturn, Halt as HaltCode}
-use Rattle.ijvm_instr.specs.declared.row.Flow.TheVariants as flows
 use Rattle.ijvm_instr.specs.Instructions.{row_of, size_of, instr_at}
 use Rattle.ijvm_image.specs.declared.method.Method.{Method}
 use Rattle.ijvm_image.specs.Image.{ImageView, params, others, method_at}
@@ -16,10 +15,10 @@ use Rattle.verifier_facts.specs.Paths.{IsOwn}
 use Rattle.verifier_notes.specs.Noted.{Note}
 use Rattle.verifier_notes.specs.Listed.{Item, Code, Header, items_size, note_at, HasHeader, IsMet, AllMet, IsListed}
 use Rattle.tiny_tree.specs.Tree.{Function, Program}
-use Rattle.tiny_tree.specs.Named.{IsCallable, Seen, names_count, parameters_seen, IsNamedFunction, IsNamed}
-use Rattle.tiny_code.specs.Code.{Places, code_size, statements_code, main_code, method_code, method_size, methods}
+use Rattle.tiny_tree.specs.Named.{IsCallable, Seen, names_count, parameters_seen, IsNamed}
+use Rattle.tiny_code.specs.Code.{Places, code_size, statements_code, main_code, method_size, methods}
 use Rattle.tiny_code.specs.Laid.{CodeAt, IsMethodAt, AreMethodsAt, Holds}
-use Rattle.tiny_notes.proofs.Scenes.{Frame, Scene, Suits, CallFinds, note_of, set_of, set_wider, params_by, takes, its_own, items_append, Stands, met_append}
+use Rattle.tiny_notes.proofs.Scenes.{Frame, Scene, CallFinds, note_of, set_of, params_by, its_own, items_append, Stands, met_append}
 use Rattle.tiny_notes.proofs.Single.{halt_met, return_met, simple_met}
 use Rattle.tiny_notes.proofs.Straight.{in_pool, plain_simple}
 use Rattle.tiny_notes.proofs.Statements.{statements_items, seen_afters, grows_all, Fine, statements_part, suits_wider}
@@ -104,13 +103,18 @@ module _ (image : ImageView) (p : Places) (program : Program) where
 
   method_size_is : (begin : ℕ) (g : Function) → items_size (method_items begin g) ≡ method_size p g
   method_size_is begin g =
-      omega (arith, items_append (body_items begin g) (end_items begin g), (body_spells begin g).size, size_append (statements_code p 1 g.body)
-          (Bipush (pos 0) ∷ Ireturn ∷ []))
+      omega (
+        arith,
+        items_append (body_items begin g) (end_items begin g),
+        (body_spells begin g).size,
+        size_append (statements_code p 1 g.body)
+            (Bipush (pos 0) ∷ Ireturn ∷ []),
+      )
 
   main_size_is : (g : Function) → items_size (main_items g) ≡ code_size (main_code p g)
   main_size_is g =
       let spells : Spells (statements_items main_frame g.body (parameters_seen g)) (statements_code p 0 g.body) =
-          statements_spell main_frame g.body (parameters_seen g) in
+      statements_spell main_frame g.body (parameters_seen g) in
       omega (
         arith,
         items_append (statements_items main_frame g.body (parameters_seen g)) (Code HaltCode (note_of main_frame (parameters_seen g) 0) ∷ []),
@@ -141,14 +145,20 @@ module _ (image : ImageView) (p : Places) (program : Program) where
 
     head : (f : ℕ) (g : Function) (l : Lies f g) → Begins (method_frame l.begin) (parameters_seen g) (body_items l.begin g ++ (end_items l.begin g ++ l.post))
     head f g l = row_begins (method_frame l.begin) g.body (parameters_seen g) (end_items l.begin g ++ l.post)
-        (record { i = Bipush (pos 0); n = method_note l.begin g 0; rest = Code Ireturn (method_note l.begin g 1)
-            ∷ l.post; is = refl; suits = its_own (method_frame l.begin) (parameters_seen g) 0 })
+        (record {
+          i = Bipush (pos 0);
+          n = method_note l.begin g 0;
+          rest = Code Ireturn (method_note l.begin g 1)
+              ∷ l.post;
+          is = refl;
+          suits = its_own (method_frame l.begin) (parameters_seen g) 0;
+        })
 
     begins_there : (f : ℕ) (g : Function) (l : Lies f g) → note_at whole (l.begin + 4) ≡ Some (head f g l).n
     begins_there f g l =
         let h : Begins (method_frame l.begin) (parameters_seen g) (body_items l.begin g ++ (end_items l.begin g ++ l.post)) = head f g l in
         note_at_seam whole (l.pre ++ Header ∷ []) h.i h.n h.rest (l.begin + 4) (code_split f g l ∙ ap (λ x. (l.pre ++ Header ∷ []) ++ x) h.is)
-            (code_begins f g l)
+        (code_begins f g l)
 
     unset_by : (b : Bool) → (b ≡ true → ⊥) → b ≡ false
     unset_by true h = absurd (h refl)
@@ -222,7 +232,7 @@ module _ (image : ImageView) (p : Places) (program : Program) where
           headed e u =
               let h : HasHeader 0 whole (0 + items_size l.pre) =
               subst (λ (x : List Item). HasHeader 0 x (0 + items_size l.pre)) (sym l.split)
-                  (header_at_seam l.pre ((body_items l.begin g ++ end_items l.begin g) ++ l.post) 0) in
+              (header_at_seam l.pre ((body_items l.begin g ++ end_items l.begin g) ++ l.post) 0) in
               let z : 0 + items_size l.pre ≡ e = omega (arith, l.at, same_Some l.begin e u) in
               (omega arith, subst (λ (x : ℕ). HasHeader 0 whole x) z h)
 
@@ -268,7 +278,7 @@ module _ (image : ImageView) (p : Places) (program : Program) where
           fine : Fine u seen b body
           fine = statements_part u g.body seen (holds.numbers f g is) (named.functions f g is).body b here stands
               (suits_wider u seen (seen_afters g.body seen) 0 here (grows_all g.body seen) (its_own (method_frame l.begin) seen 0))
-                  (omega (arith, after.0, spells.size))
+              (omega (arith, after.0, spells.size))
 
           mid : b + items_size body ≡ b + code_size code
           mid = omega (arith, spells.size)
@@ -341,7 +351,7 @@ module _ (image : ImageView) (p : Places) (program : Program) where
         (method_met named holds finds m.0 m.1 (first_lies pre begin m ms at split laid) (All-head known m ms are))
         (subst (λ (x : ℕ). AllMet image whole x (methods_items next ms)) (sym place)
         (methods_met named holds finds ms (pre ++ method_items begin m.1) next (next_at pre begin m.1 at) (next_split pre begin m ms split)
-            laid.1 (All-tail known m ms are)))
+        laid.1 (All-tail known m ms are)))
 
   -- ---- main, and the whole list
 
@@ -393,7 +403,7 @@ module _ (image : ImageView) (p : Places) (program : Program) where
       finds f m c =
           lies_found whole f m c.function
           (lies_by whole (methods program) (main_items g) size f c.function at refl stand
-              (has_of (methods program) f c.function (complete f c.function c.is c.other))) c.counts
+          (has_of (methods program) f c.function (complete f c.function c.is c.other))) c.counts
 
       are : AreFunctions whole (methods program)
       are = All-weaker (Contains (methods program)) (λ m. slice_get program.functions m.0 ≡ Some m.1) (λ m c. (sound m.0 m.1 c).0)
