@@ -1,4 +1,3 @@
 mod Examples
-pub mod Layouts
-pub mod Laid
-pub mod Stops
+mod Lengths
+mod Notes

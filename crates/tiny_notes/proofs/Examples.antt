@@ -27,7 +27,10 @@ body =
     ∷ Assign 0 (two (Variable 0) Minus (Number 1)) ∷ []
 
 abbrev main : Function
-main = record { parameters = 0; body = statements_of (Var 0 (alone (Number 3)) ∷ While 1 (Different (alone (Variable 0)) (alone (Number 0))) (statements_of body) ∷ []) }
+main = record {
+  parameters = 0;
+  body = statements_of (Var 0 (alone (Number 3)) ∷ While 1 (Different (alone (Variable 0)) (alone (Number 0))) (statements_of body) ∷ []);
+}
 
 -- fn add(a, b) { return a + b; } fn main() { var n = 3; while n != 0 { put add(64, n); n = n - 1; } }
 abbrev countdown : Program
@@ -39,7 +42,8 @@ places = record { constant = λ n. 0; entry = λ f. 1 }
 abbrev image : ImageView
 image = record {
   text =
-      16 ∷ 3 ∷ 54 ∷ 0 ∷ 21 ∷ 0 ∷ 16 ∷ 0 ∷ 159 ∷ 0 ∷ 24 ∷ 19 ∷ 0 ∷ 0 ∷ 16 ∷ 64 ∷ 21 ∷ 0 ∷ 182 ∷ 0 ∷ 1 ∷ 253 ∷ 21 ∷ 0 ∷ 16 ∷ 1 ∷ 100 ∷ 54 ∷ 0 ∷ 167 ∷ 255 ∷ 231 ∷ 255
+      16 ∷ 3 ∷ 54 ∷ 0 ∷ 21 ∷ 0 ∷ 16 ∷ 0 ∷ 159 ∷ 0 ∷ 24 ∷ 19 ∷ 0 ∷ 0 ∷ 16 ∷ 64 ∷ 21 ∷ 0 ∷ 182 ∷ 0 ∷ 1 ∷ 253 ∷ 21 ∷ 0 ∷ 16 ∷ 1 ∷ 100 ∷ 54 ∷ 0
+      ∷ 167 ∷ 255 ∷ 231 ∷ 255
       ∷ 0 ∷ 3 ∷ 0 ∷ 0 ∷ 21 ∷ 1 ∷ 21 ∷ 2 ∷ 96 ∷ 172 ∷ 16 ∷ 0 ∷ 172 ∷ [];
   pool = 0 ∷ 33 ∷ [];
 }

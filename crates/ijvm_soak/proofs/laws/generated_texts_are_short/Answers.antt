@@ -1,5 +1,5 @@
 use Rattle.ijvm_soak.specs.Generated.{generated}
-use Rattle.ijvm_soak.proofs.Layouts.{text_short}
+use Rattle.ijvm_soak.proofs.Lengths.{text_short}
 use Rattle.ijvm_soak.proofs.laws.generated_texts_are_short.Goals as goal
 
 pub returns : goal.returns
