@@ -1,12 +1,13 @@
 -- The cost columns, computed: each instruction, each outcome of a branch and each kind of entry, on both machines.
 use Rattle.std.specs.Prelude.{◌≡◌, ℕ, List, [], ◌∷◌, ℤ}
 use Rattle.std.proofs.Common.{refl}
+use Rattle.mic_words.specs.declared.machine.Machine.{Machine}
 use Rattle.mic_words.specs.declared.machine.Machine.TheVariants.{Mic1, Mic2}
 use Rattle.ijvm_instr.specs.declared.instr.Instr.{Instr}
 use Rattle.ijvm_instr.specs.declared.instr.Instr.TheVariants.{Nop, Bipush, LdcW, Iload, Istore, Pop, Dup, Swap, Iadd, Isub, Iand, Iinc, Ifeq, Iflt, IfIcmpeq, Goto, Ireturn, Ior, Invokevirtual, WideIload, WideIstore, WideIinc, In, Out, Err, Halt}
 use Rattle.ijvm_meaning.specs.Frames.{State, start_of}
 use Rattle.ijvm_meaning.specs.Step.{moved}
-use Rattle.ijvm_meaning.specs.Cost.{boot, cost}
+use Rattle.ijvm_meaning.specs.Cost.{timing_of, cost}
 
 -- a state with these operands, the last one first
 abbrev over : List ℕ → State
@@ -19,10 +20,10 @@ pool = 12 ∷ 13 ∷ 14 ∷ 15 ∷ []
 -- over these operands the instruction costs so many cycles on Mic-1 and on Mic-2
 abbrev Costs : Instr → List ℕ → ℕ → ℕ → Type 0
 Costs i operands mic1 mic2 =
-    (cost (record { text = []; pool = pool }) Mic1 i (over operands) ≡ mic1) × (cost (record { text = []; pool = pool }) Mic2 i (over operands) ≡ mic2)
+    (cost (record { text = []; pool = pool }) (timing_of Mic1) i (over operands) ≡ mic1) × (cost (record { text = []; pool = pool }) (timing_of Mic2) i (over operands) ≡ mic2)
 
-first_boundary : boot ≡ 2
-first_boundary = refl
+first_boundary : (machine : Machine) → (timing_of machine).boot ≡ 2
+first_boundary machine = refl
 
 nop : Costs Nop [] 2 1
 nop = (refl, refl)

@@ -12,13 +12,20 @@ use Rattle.ijvm_instr.specs.Instructions.{row_of, instr_at}
 use Rattle.ijvm_image.specs.Image.{ImageView}
 use Rattle.ijvm_meaning.specs.Frames.{State}
 
--- from reset to the first boundary
-abbrev pub boot : ℕ
-boot = 2
+-- What a machine with its microprogram spends, in cycles.
+pub record Timing : Type 0 where
+  -- from reset to the first boundary
+  pub boot : ℕ
+  -- on each instruction
+  pub of : Instr → Cost
 
 abbrev pub column : Machine → Row → Cost
 column Mic1 r = r.mic1
 column Mic2 r = r.mic2
+
+-- on both machines of the table two cycles lead to the first boundary
+abbrev pub timing_of : Machine → Timing
+timing_of machine = record { boot = 2; of = λ i. column machine (row_of i) }
 
 abbrev pub tests : (ℕ → Bool) → List ℕ → Bool
 tests test [] = false
@@ -47,13 +54,13 @@ cycles_of (IfTaken jumps falls) taken entry = if taken then jumps else falls
 cycles_of (ByEntry early late) taken entry = if entry % 4 == 3 then late else early
 
 -- the cycles of this instruction in this state
-abbrev pub cost : ImageView → Machine → Instr → State → ℕ
-cost image machine i s = cycles_of (column machine (row_of i)) (is_taken i s.running.operands) (entry_of image.pool i)
+abbrev pub cost : ImageView → Timing → Instr → State → ℕ
+cost image timing i s = cycles_of (timing.of i) (is_taken i s.running.operands) (entry_of image.pool i)
 
-abbrev pub cost_at : ImageView → Machine → State → Option Instr → ℕ
-cost_at image machine s None = 0
-cost_at image machine s (Some i) = cost image machine i s
+abbrev pub cost_at : ImageView → Timing → State → Option Instr → ℕ
+cost_at image timing s None = 0
+cost_at image timing s (Some i) = cost image timing i s
 
 -- the cycles of the instruction at this state's address
-abbrev pub next_cost : ImageView → Machine → State → ℕ
-next_cost image machine s = cost_at image machine s (instr_at image.text s.at)
+abbrev pub next_cost : ImageView → Timing → State → ℕ
+next_cost image timing s = cost_at image timing s (instr_at image.text s.at)

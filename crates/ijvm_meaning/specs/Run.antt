@@ -1,18 +1,17 @@
 -- The definition's run: from boundary to boundary, an instruction each, until it ends.
 use Rattle.std.specs.Prelude.{◌≡◌, ◌<◌, ℕ, zero, suc, ◌+◌, Bool, true, false, nat_le, List, Option, Some, None}
-use Rattle.mic_words.specs.declared.machine.Machine.{Machine}
 use Rattle.ijvm_meaning.specs.declared.run.RunEnd.{RunEnd}
 use Rattle.ijvm_meaning.specs.declared.run.RunEnd.TheVariants as ends
 use Rattle.ijvm_image.specs.Image.{ImageView}
 use Rattle.ijvm_meaning.specs.Frames.{State, start_of}
 use Rattle.ijvm_meaning.specs.Step.{Outcome, Goes, Halts, Errs, Limits, Stuck, outcome}
-use Rattle.ijvm_meaning.specs.Cost.{boot, next_cost}
+use Rattle.ijvm_meaning.specs.Cost.{Timing, next_cost}
 
--- what a run runs: an image, the end of its stack and the machine whose cycles are counted
+-- what a run runs: an image, the end of its stack and what is spent on it
 pub record Program : Type 0 where
   pub image : ImageView
   pub stack_end : ℕ
-  pub machine : Machine
+  pub timing : Timing
 
 -- a boundary: the state, and the cycles and instructions done
 pub record Point : Type 0 where
@@ -30,12 +29,12 @@ pub record Finish : Type 0 where
   pub cycles : ℕ
   pub instructions : ℕ
 
-abbrev pub first_point : ℕ → List ℕ → Point
-first_point main_locals input = record { state = start_of main_locals input; cycles = boot; instructions = 0 }
+abbrev pub first_point : Program → ℕ → List ℕ → Point
+first_point p main_locals input = record { state = start_of main_locals input; cycles = p.timing.boot; instructions = 0 }
 
 -- the point behind a completed instruction that goes on to this state
 abbrev pub point_after : Program → Point → State → Point
-point_after p at to = record { state = to; cycles = at.cycles + next_cost p.image p.machine at.state; instructions = at.instructions + 1 }
+point_after p at to = record { state = to; cycles = at.cycles + next_cost p.image p.timing at.state; instructions = at.instructions + 1 }
 
 -- the run ends here, by HALT or ERR
 abbrev pub completed : Program → Point → RunEnd → Finish
@@ -44,7 +43,7 @@ completed p at end =
       end = end;
       last = at;
       left = at.state;
-      cycles = at.cycles + next_cost p.image p.machine at.state;
+      cycles = at.cycles + next_cost p.image p.timing at.state;
       instructions = at.instructions + 1;
     }
 

@@ -22,7 +22,7 @@ pub fn runs_keep_words()
     ensures goes { (image : ImageView) (stack_end : ℕ) (s to : State) → IsImage image → AreWords s → outcome image stack_end s ≡ Goes to → AreWords to }
     ensures limits { (image : ImageView) (stack_end : ℕ) (s left : State) → IsImage image → AreWords s → outcome image stack_end s ≡ Limits left → AreWords left }
     ensures passes { (p : Program) (bound main_locals : ℕ) (input : List ℕ) (at : Point) → IsImage p.image →
-        Passes p bound (first_point main_locals input) at → AreWords at.state }
+        Passes p bound (first_point p main_locals input) at → AreWords at.state }
 {
     read_instructions_are_whole();
 }

@@ -2,7 +2,6 @@
 use Rattle.std.proofs.Common.{◌≡◌, ℕ, zero, suc, ◌+◌, ◌%◌, ◌==◌, Bool, true, false, nat_lt, nat_le, if◌then◌else◌, List, [], ◌∷◌, ◌++◌, append_assoc, length, Option, Some, None, ℤ, refl, sym, ap, subst, ◌∙◌}
 use Rattle.std.specs.Prelude.{slice_get, bit_and, bit_or}
 use Rattle.std.specs.Option.{option_map}
-use Rattle.mic_words.specs.declared.machine.Machine.{Machine}
 use Rattle.mic_words.specs.Arithmetic.{plus, minus, is_negative}
 use Rattle.console_port.specs.View.{ConsoleView}
 use Rattle.console_port.specs.World.{next_byte}
@@ -15,7 +14,7 @@ use Rattle.ijvm_image.specs.Image.{ImageView, method_at}
 use Rattle.ijvm_meaning.specs.Frames.{Frame, State, base, frames_of}
 use Rattle.ijvm_instr.specs.Instructions.{word_of}
 use Rattle.ijvm_meaning.specs.Step.{Outcome, Goes, Halts, Errs, Limits, Stuck, moved, limited, pushed, pushed_constant, loaded, stored, with_local, is_own, increased, popped, doubled, swapped, combined, branched, compared, returned, in_method, entered, called_at, taken, given_out, step, step_if_any, outcome}
-use Rattle.ijvm_meaning.specs.Cost.{cost_at}
+use Rattle.ijvm_meaning.specs.Cost.{Timing, cost_at}
 use Rattle.ijvm_meaning.specs.Run.{Program, Point, Finish, point_after, after_outcome, after_test, finish_from, EndsBy}
 use Rattle.ijvm_reference.specs.Runs.{GoesOn, Reaches, Begins, Onward}
 
@@ -147,9 +146,9 @@ stepped_at image n g s (Some i) = step_at image n i g s
 outcome-behind : (image : ImageView) (n : ℕ) (g : List ℕ) (s : State) → outcome image n (behind g s) ≡ lifted g (outcome image n s)
 outcome-behind image n g s = stepped_at image n g s (instr_at image.text s.at)
 
-cost_same : (image : ImageView) (machine : Machine) (g : List ℕ) (s : State) (i : Option Instr) → cost_at image machine (behind g s) i ≡ cost_at image machine s i
-cost_same image machine g s None = refl
-cost_same image machine g s (Some i) = refl
+cost_same : (image : ImageView) (timing : Timing) (g : List ℕ) (s : State) (i : Option Instr) → cost_at image timing (behind g s) i ≡ cost_at image timing s i
+cost_same image timing g s None = refl
+cost_same image timing g s (Some i) = refl
 
 -- Whole runs.
 
@@ -161,17 +160,17 @@ finish_behind g f = record f { last = point_behind g f.last; left = behind g f.l
 
 next-behind : (p : Program) (g : List ℕ) (at : Point) (to : State) → point_after p (point_behind g at) (behind g to) ≡ point_behind g (point_after p at to)
 next-behind p g at to =
-    ap (λ (cost : ℕ). record { state = behind g to; cycles = at.cycles + cost; instructions = at.instructions + 1 }) (cost_same p.image p.machine g at.state (instr_at p.image.text at.state.at))
+    ap (λ (cost : ℕ). record { state = behind g to; cycles = at.cycles + cost; instructions = at.instructions + 1 }) (cost_same p.image p.timing g at.state (instr_at p.image.text at.state.at))
 
 after_behind : (p : Program) (g : List ℕ) (more : Point → Option Finish) → ((a : Point) → more (point_behind g a) ≡ option_map (finish_behind g) (more a)) → (at : Point) (o : Outcome) →
     after_outcome more p (point_behind g at) (lifted g o) ≡ option_map (finish_behind g) (after_outcome more p at o)
 after_behind p g more h at (Goes to) = ap more (next-behind p g at to) ∙ h (point_after p at to)
 after_behind p g more h at Halts =
     ap (λ (cost : ℕ). Some (record { end = ends.Halt; last = point_behind g at; left = behind g at.state; cycles = at.cycles + cost; instructions = at.instructions + 1 }))
-    (cost_same p.image p.machine g at.state (instr_at p.image.text at.state.at))
+    (cost_same p.image p.timing g at.state (instr_at p.image.text at.state.at))
 after_behind p g more h at Errs =
     ap (λ (cost : ℕ). Some (record { end = ends.Err; last = point_behind g at; left = behind g at.state; cycles = at.cycles + cost; instructions = at.instructions + 1 }))
-    (cost_same p.image p.machine g at.state (instr_at p.image.text at.state.at))
+    (cost_same p.image p.timing g at.state (instr_at p.image.text at.state.at))
 after_behind p g more h at (Limits left) = refl
 after_behind p g more h at Stuck = refl
 

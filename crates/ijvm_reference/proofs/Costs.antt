@@ -14,7 +14,7 @@ use Rattle.ijvm_instr.specs.Instructions.{row_of, instr_at}
 use Rattle.ijvm_image.specs.Image.{ImageView}
 use Rattle.ijvm_meaning.specs.Frames.{State}
 use Rattle.ijvm_meaning.specs.Step.{Goes, step, step_if_any, outcome}
-use Rattle.ijvm_meaning.specs.Cost.{column, cycles_of, is_taken, entry_of, cost_at, next_cost}
+use Rattle.ijvm_meaning.specs.Cost.{timing_of, column, cycles_of, is_taken, entry_of, cost_at, next_cost}
 
 pub index-none : (xs : List ℕ) (i : ℕ) → slice_get xs i ≡ None → slice_index xs i ≡ 0
 index-none [] i e = refl
@@ -121,18 +121,18 @@ cheap Out = refl
 cheap Err = refl
 cheap Halt = refl
 
-least_at : (image : ImageView) (n : ℕ) (machine : Machine) (i : Option Instr) (s to : State) → step_if_any image n s i ≡ Goes to → 1 ≤ cost_at image machine s i
+least_at : (image : ImageView) (n : ℕ) (machine : Machine) (i : Option Instr) (s to : State) → step_if_any image n s i ≡ Goes to → 1 ≤ cost_at image (timing_of machine) s i
 least_at image n machine None s to e = absurd (cc)
 least_at image n machine (Some i) s to e =
     least_cycles 1 (column machine (row_of i)) (is_taken i s.running.operands) (entry_of image.pool i) (of_both (at_least 1) machine (row_of i) (paid image n i s to e))
 
-most_at : (image : ImageView) (machine : Machine) (i : Option Instr) (s : State) → cost_at image machine s i ≤ 23
+most_at : (image : ImageView) (machine : Machine) (i : Option Instr) (s : State) → cost_at image (timing_of machine) s i ≤ 23
 most_at image machine None s = omega arith
 most_at image machine (Some i) s =
     most_cycles 23 (column machine (row_of i)) (is_taken i s.running.operands) (entry_of image.pool i) (of_both (at_most 23) machine (row_of i) (cheap i))
 
-pub next_cost-least : (image : ImageView) (stack_end : ℕ) (machine : Machine) (s to : State) → outcome image stack_end s ≡ Goes to → 1 ≤ next_cost image machine s
+pub next_cost-least : (image : ImageView) (stack_end : ℕ) (machine : Machine) (s to : State) → outcome image stack_end s ≡ Goes to → 1 ≤ next_cost image (timing_of machine) s
 next_cost-least image stack_end machine s to e = least_at image stack_end machine (instr_at image.text s.at) s to e
 
-pub next_cost_most : (image : ImageView) (machine : Machine) (s : State) → next_cost image machine s ≤ 23
+pub next_cost_most : (image : ImageView) (machine : Machine) (s : State) → next_cost image (timing_of machine) s ≤ 23
 next_cost_most image machine s = most_at image machine (instr_at image.text s.at) s

@@ -18,7 +18,7 @@ use Rattle.ijvm_reference.specs.declared.plain.Counts.{Counts}
 use Rattle.ijvm_image.specs.Image.{ImageView}
 use Rattle.ijvm_meaning.specs.Frames.{State}
 use Rattle.ijvm_meaning.specs.Step.{Outcome, Halts, Errs, Limits, outcome}
-use Rattle.ijvm_meaning.specs.Cost.{next_cost}
+use Rattle.ijvm_meaning.specs.Cost.{timing_of, next_cost}
 use Rattle.ijvm_meaning.specs.Run.{Program, Point, Finish, point_after, completed, stopped, after_outcome, after_test, finish_from, EndsBy, Passes, Start, More}
 use Rattle.ijvm_reference.specs.Machine.{MachineView, KeepsProgram, state_of}
 use Rattle.ijvm_reference.specs.Steps.{IsLedOn, Does, IsCutOff, IsMetBy}
@@ -42,7 +42,7 @@ led_as left held c left' held' c' P Q led told = λ rest here.
 
 pub goes_on : (told : Bool) (left : Option (List ℕ)) (c c' : ConsoleView) (bound : ℕ) (machine : Machine) (old new : MachineView) (cycles instructions cycles' instructions' cost : ℕ) (u g u' g' : List ℕ) →
     (told ≡ true → TellsLeft left c.ended) → HasKept left (instr_at old.image.text old.at) c c' → cycles < bound →
-    cost ≡ next_cost old.image machine (state_of old [] []) → cycles' ≡ cycles + cost → instructions' ≡ instructions + 1 → Untaken left c.ended u → Does steps.Went old new u g u' g' →
+    cost ≡ next_cost old.image (timing_of machine) (state_of old [] []) → cycles' ≡ cycles + cost → instructions' ≡ instructions + 1 → Untaken left c.ended u → Does steps.Went old new u g u' g' →
     GoesOn told (program_of old machine) bound (point_at old cycles instructions u g) (point_at new cycles' instructions' u' g') c c'
 goes_on told left c c' bound machine old new cycles instructions cycles' instructions' cost u g u' g' tell kept under is more one here does =
     record {
@@ -59,7 +59,7 @@ ends_by p bound at o f under is then_ =
     (suc zero, ap (after_test (finish_from p bound zero) p at) (lt-leb bound at.cycles under) ∙ ap (after_outcome (finish_from p bound zero) p at) is ∙ then_)
 
 pub halt_ends : (told : Bool) (c : ConsoleView) (held : Option (List ℕ)) (bound : ℕ) (machine : Machine) (old new : MachineView) (cycles instructions cost : ℕ) (r : Counts) (u g u' g' : List ℕ) → cycles < bound →
-    cost ≡ next_cost old.image machine (state_of old [] []) → r.boundary ≡ cycles → r.cycles ≡ cycles + cost → r.instructions ≡ instructions + 1 → Does steps.Halt old new u g u' g' →
+    cost ≡ next_cost old.image (timing_of machine) (state_of old [] []) → r.boundary ≡ cycles → r.cycles ≡ cycles + cost → r.instructions ≡ instructions + 1 → Does steps.Halt old new u g u' g' →
     StoppedBy told c held (Ok ends.Halt) (program_of old machine) bound (point_at old cycles instructions u g) r new u' g'
 halt_ends told c held bound machine old new cycles instructions cost r u g u' g' under is boundary all one does =
     let p : Program = program_of old machine in
@@ -77,7 +77,7 @@ halt_ends told c held bound machine old new cycles instructions cost r u g u' g'
     )
 
 pub err_ends : (told : Bool) (c : ConsoleView) (held : Option (List ℕ)) (bound : ℕ) (machine : Machine) (old new : MachineView) (cycles instructions cost : ℕ) (r : Counts) (u g u' g' : List ℕ) → cycles < bound →
-    cost ≡ next_cost old.image machine (state_of old [] []) → r.boundary ≡ cycles → r.cycles ≡ cycles + cost → r.instructions ≡ instructions + 1 → Does steps.Err old new u g u' g' →
+    cost ≡ next_cost old.image (timing_of machine) (state_of old [] []) → r.boundary ≡ cycles → r.cycles ≡ cycles + cost → r.instructions ≡ instructions + 1 → Does steps.Err old new u g u' g' →
     StoppedBy told c held (Ok ends.Err) (program_of old machine) bound (point_at old cycles instructions u g) r new u' g'
 err_ends told c held bound machine old new cycles instructions cost r u g u' g' under is boundary all one does =
     let p : Program = program_of old machine in
@@ -197,7 +197,7 @@ cut_led e told left held c left' held' c' bound machine old new cycles instructi
 
 -- a step that goes on costs at least a cycle
 pub went_cost : (left held : Option (List ℕ)) (c : ConsoleView) (left' held' : Option (List ℕ)) (c' : ConsoleView) (machine : Machine) (old new : MachineView) →
-    IsLedOn left held c left' held' c' (Does steps.Went old new) → 1 ≤ next_cost old.image machine (state_of old [] [])
+    IsLedOn left held c left' held' c' (Does steps.Went old new) → 1 ≤ next_cost old.image (timing_of machine) (state_of old [] [])
 went_cost left held c left' held' c' machine old new led =
     let rest = some_untaken left' c'.ended in
     let first = led rest.0 rest.1 in
@@ -291,7 +291,7 @@ same_program : (machine : Machine) (old new : MachineView) → KeepsProgram old 
 same_program machine old new keeps = ap₂ (λ (image : ImageView) (n : ℕ). program image n machine) keeps.image keeps.stack_end
   where
     program : ImageView → ℕ → Machine → Program
-    program image n machine = record { image = image; stack_end = n; machine = machine }
+    program image n machine = record { image = image; stack_end = n; timing = timing_of machine }
 
 pub passed_more : (told : Bool) (l0 h0 : Option (List ℕ)) (c0 : ConsoleView) (l1 h1 : Option (List ℕ)) (c1 : ConsoleView) (l2 h2 : Option (List ℕ)) (c2 : ConsoleView) (bound : ℕ) (machine : Machine)
     (cycles instructions cycles' instructions' cycles'' instructions'' : ℕ) (old new next : MachineView) → KeepsProgram old new →

@@ -19,6 +19,7 @@ use Rattle.ijvm_instr.specs.Instructions.{instr_at}
 use Rattle.ijvm_image.specs.Image.{ImageView}
 use Rattle.ijvm_meaning.specs.Frames.{Frame, State, frames_of, base}
 use Rattle.ijvm_meaning.specs.Safe.{SameFrames}
+use Rattle.ijvm_meaning.specs.Cost.{timing_of}
 use Rattle.ijvm_meaning.specs.Run.{Program, Point, Finish, first_point, EndsBy}
 use Rattle.ijvm_reference.specs.Machine.{MachineView, state_of, started}
 use Rattle.ijvm_reference.specs.Steps.{IsMetBy}
@@ -170,12 +171,12 @@ pub record Driven (stop : Result PlainEnd AllocError) (left held left' held' : O
   pub untaken : Leaves left left' rest
   pub all : List ℕ
   pub shown : IsShown stop held' c'.kept all
-  pub stopped : StoppedBy (is_some left) fresh held' stop p bound (point_behind (told_of held) (first_point main_locals input)) c new rest all
+  pub stopped : StoppedBy (is_some left) fresh held' stop p bound (point_behind (told_of held) (first_point p main_locals input)) c new rest all
 
 pub driven : (stop : Result PlainEnd AllocError) (left held left' held' : Option (List ℕ)) (c0 c' : ConsoleView) (image : ImageView) (n main_locals bound : ℕ) (machine : Machine) (c0s c : Counts) (old new : MachineView) →
     c0.kept ≡ [] → c0.ended ≡ false → c0s.cycles ≡ 2 → c0s.instructions ≡ 0 → old ≡ started image n main_locals → (TellsLeft left c0.ended → TellsLeft left' c'.ended) →
     IsDriven (Some stop) bound machine c0s c left held c0 left' held' c' old new →
-    Driven stop left held left' held' c' (record { image = image; stack_end = n; machine = machine }) main_locals bound c new
+    Driven stop left held left' held' c' (record { image = image; stack_end = n; timing = timing_of machine }) main_locals bound c new
 driven stop left held left' held' c0 c' image n main_locals bound machine c0s c old new kept ended cycles instructions is tells led =
     let rest = some_untaken left' c'.ended in
     let first = led (is_some left) (told_if left c0.ended ended) rest.0 rest.1 in
@@ -208,17 +209,17 @@ driven stop left held left' held' c0 c' image n main_locals bound machine c0s c 
         subst (λ (m : MachineView). StoppedBy told fresh held' stop (program_of m machine) bound (point_at m 2 0 u g) c new u' g') is d
 
 abbrev finishes : (left held left' held' : Option (List ℕ)) (p : Program) (main_locals bound : ℕ) (input rest all : List ℕ) (end : RunEnd) (c : Counts) (new : MachineView) →
-    Untaken left false input → Leaves left left' rest → (f : Finish) → EndsBy p bound (first_point main_locals input) f → f.left.untaken ≡ rest →
+    Untaken left false input → Leaves left left' rest → (f : Finish) → EndsBy p bound (first_point p main_locals input) f → f.left.untaken ≡ rest →
     Finishes p main_locals bound left held left' held'
 finishes left held left' held' p main_locals bound input rest all end c new told untaken f by is =
     record { input = input; told = told; finish = f; ends = by; untaken = subst (λ (xs : List ℕ). Leaves left left' xs) (sym is) untaken }
 
 -- the run has ended as the definition's
 has_run : (end : RunEnd) (left held left' held' : Option (List ℕ)) (p : Program) (main_locals bound : ℕ) (input rest all : List ℕ) (c : Counts) (new : MachineView) (r : PlainReport) →
-    Untaken left false input → Leaves left left' rest → EndsIn end p bound (point_behind (told_of held) (first_point main_locals input)) c new rest all → Given held' [] all →
+    Untaken left false input → Leaves left left' rest → EndsIn end p bound (point_behind (told_of held) (first_point p main_locals input)) c new rest all → Given held' [] all →
     IsReportOf r c new → r.end ≡ reported_end end → HasRun p main_locals bound left held left' held' r
 has_run end left held left' held' p main_locals bound input rest all c new r told untaken e shown is by =
-    let b = ends_behind (told_of held) p bound (first_point main_locals input) end c new rest all e in
+    let b = ends_behind (told_of held) p bound (first_point p main_locals input) end c new rest all e in
     record {
       run = finishes left held left' held' p main_locals bound input rest all end c new told untaken b.0 b.1 b.2.untaken;
       end = by ∙ ap reported_end (sym b.2.is_end);
@@ -233,10 +234,10 @@ lost_last (Some h) held' kept kept' given some lost told = subst (λ o. LosesLas
 
 -- the run has ended, but the last flush failed
 cut_at_end : (end : RunEnd) (left held left' held' : Option (List ℕ)) (p : Program) (main_locals bound : ℕ) (input rest all : List ℕ) (c : Counts) (new : MachineView) (r : PlainReport) →
-    Untaken left false input → Leaves left left' rest → EndsIn end p bound (point_behind (told_of held) (first_point main_locals input)) c new rest all → IsShown (Ok ends.WriteFault) held' [] all →
+    Untaken left false input → Leaves left left' rest → EndsIn end p bound (point_behind (told_of held) (first_point p main_locals input)) c new rest all → IsShown (Ok ends.WriteFault) held' [] all →
     LosesLast held' all → Holds (told_of held) held' → IsReportOf r c new → IsCutAtEnd p main_locals bound left held left' held' r
 cut_at_end end left held left' held' p main_locals bound input rest all c new r told untaken e shown last holds is =
-    let b = ends_behind (told_of held) p bound (first_point main_locals input) end c new rest all e in
+    let b = ends_behind (told_of held) p bound (first_point p main_locals input) end c new rest all e in
     record {
       run = finishes left held left' held' p main_locals bound input rest all end c new told untaken b.0 b.1 b.2.untaken;
       report = reports r c new rest all b.0.cycles b.0.instructions b.0.last is b.2.cycles b.2.instructions b.2.boundary b.2.frames;
@@ -274,7 +275,7 @@ unflushed ends.ReadFault left held left' held1 held' c1 kept p main_locals bound
 unflushed ends.WriteFault left held left' held1 held' c1 kept p main_locals bound c new r n m d some lost holds is = absurd (m refl)
 
 abbrev stops : (left held left' held' : Option (List ℕ)) (p : Program) (main_locals bound : ℕ) (input rest : List ℕ) → Untaken left false input → Leaves left left' rest →
-    (at : Point) (console : ConsoleView) → Reaches (is_some left) p bound (first_point main_locals input) fresh at console → at.state.untaken ≡ rest → Stops p main_locals bound left held left' held'
+    (at : Point) (console : ConsoleView) → Reaches (is_some left) p bound (first_point p main_locals input) fresh at console → at.state.untaken ≡ rest → Stops p main_locals bound left held left' held'
 stops left held left' held' p main_locals bound input rest told untaken at console reaches is =
     record { input = input; told = told; at = at; console = console; reaches = reaches; untaken = subst (λ (xs : List ℕ). Leaves left left' xs) (sym is) untaken }
 
@@ -282,7 +283,7 @@ pub cut_by_read : (left held left' held1 held' : Option (List ℕ)) (c1 : Consol
     Driven (Ok ends.ReadFault) left held left' held1 c1 p main_locals bound c new → ((g : List ℕ) → Given held1 c1.kept g → Given held' [] g) → IsReportOf r c new →
     IsCutByRead p main_locals bound left held left' held' r
 cut_by_read left held left' held1 held' c1 p main_locals bound c new r d flushed is =
-    let b = cut_behind errors.ReadFault (is_some left) fresh held1 (told_of held) p bound (first_point main_locals d.input) c new d.rest d.all d.stopped in
+    let b = cut_behind errors.ReadFault (is_some left) fresh held1 (told_of held) p bound (first_point p main_locals d.input) c new d.rest d.all d.stopped in
     record {
       run = stops left held left' held' p main_locals bound d.input d.rest d.told d.untaken b.0 b.1 b.2 b.3.untaken;
       under = b.3.under;
@@ -296,7 +297,7 @@ pub cut_inside : (left held left' held1 held' : Option (List ℕ)) (c1 : Console
     Driven (Ok ends.WriteFault) left held left' held1 c1 p main_locals bound c new → held' ≡ held1 → Holds (told_of held) held1 → IsReportOf r c new →
     IsCutInside p main_locals bound left held left' held' r
 cut_inside left held left' held1 held' c1 p main_locals bound c new r d same holds is =
-    let b = cut_behind errors.WriteFault (is_some left) fresh held1 (told_of held) p bound (first_point main_locals d.input) c new d.rest d.all d.stopped in
+    let b = cut_behind errors.WriteFault (is_some left) fresh held1 (told_of held) p bound (first_point p main_locals d.input) c new d.rest d.all d.stopped in
     record {
       run = stops left held left' held' p main_locals bound d.input d.rest d.told d.untaken b.0 b.1 b.2 b.3.untaken;
       under = b.3.under;
@@ -309,7 +310,7 @@ cut_inside left held left' held1 held' c1 p main_locals bound c new r d same hol
 pub short : (e : AllocError) (left held left' held' : Option (List ℕ)) (c1 : ConsoleView) (p : Program) (main_locals bound : ℕ) (c : Counts) (new : MachineView) →
     Driven (Err e) left held left' held' c1 p main_locals bound c new → Holds (told_of held) held' → IsShort p main_locals bound left held left' held'
 short e left held left' held' c1 p main_locals bound c new d holds =
-    let b = cut_behind errors.OutOfMemory (is_some left) fresh held' (told_of held) p bound (first_point main_locals d.input) c new d.rest d.all d.stopped in
+    let b = cut_behind errors.OutOfMemory (is_some left) fresh held' (told_of held) p bound (first_point p main_locals d.input) c new d.rest d.all d.stopped in
     record {
       run = stops left held left' held' p main_locals bound d.input d.rest d.told d.untaken b.0 b.1 b.2 b.3.untaken;
       given = got_front (told_of held) b.0.state.given d.all held' holds (kept_front c1.kept d.all held' d.shown) b.3.given;
@@ -320,7 +321,7 @@ pub short_first : (left held : Option (List ℕ)) (p : Program) (main_locals bou
 short_first left held p main_locals bound =
     let input = some_untaken left false in
     record {
-      run = stops left held left held p main_locals bound input.0 input.0 input.1 (same_left left input.0 input.1) (first_point main_locals input.0) fresh (Begins _ fresh refl refl) refl;
+      run = stops left held left held p main_locals bound input.0 input.0 input.1 (same_left left input.0 input.1) (first_point p main_locals input.0) fresh (Begins _ fresh refl refl) refl;
       given = nothing held;
     }
   where

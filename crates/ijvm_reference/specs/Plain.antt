@@ -13,6 +13,7 @@ use Rattle.ijvm_reference.specs.declared.plain.PlainReport.{PlainReport}
 use Rattle.ijvm_instr.specs.Instructions.{instr_at}
 use Rattle.ijvm_image.specs.Image.{ImageView}
 use Rattle.ijvm_meaning.specs.Frames.{sp_of, lv_of}
+use Rattle.ijvm_meaning.specs.Cost.{timing_of}
 use Rattle.ijvm_meaning.specs.Run.{Program, Point, Finish, first_point, EndsBy}
 use Rattle.ijvm_reference.specs.Kept.{PutsKept, fresh}
 use Rattle.ijvm_reference.specs.Runs.{Reaches, IsAllBut}
@@ -23,7 +24,7 @@ told_of told = unwrap_or told []
 
 -- an image on a memory map, with a machine's cycles
 abbrev pub program : ImageView → MemoryMap → Machine → Program
-program image map machine = record { image = image; stack_end = map.stack_end; machine = machine }
+program image map machine = record { image = image; stack_end = map.stack_end; timing = timing_of machine }
 
 -- an end of the definition's run, as it is reported
 abbrev pub reported_end : RunEnd → PlainEnd
@@ -59,7 +60,7 @@ module _ (p : Program) (main_locals bound : ℕ) (left held left' held' : Option
     pub input : List ℕ
     pub told : Untaken left false input
     pub finish : Finish
-    pub ends : EndsBy p bound (first_point main_locals input) finish
+    pub ends : EndsBy p bound (first_point p main_locals input) finish
     pub untaken : Leaves left left' finish.left.untaken
 
   -- that run goes to a boundary that it passes, with what the console keeps there
@@ -68,7 +69,7 @@ module _ (p : Program) (main_locals bound : ℕ) (left held left' held' : Option
     pub told : Untaken left false input
     pub at : Point
     pub console : ConsoleView
-    pub reaches : Reaches (is_some left) p bound (first_point main_locals input) fresh at console
+    pub reaches : Reaches (is_some left) p bound (first_point p main_locals input) fresh at console
     pub untaken : Leaves left left' at.state.untaken
 
   -- no fault came: the end is the definition's, and the sink has got all its output

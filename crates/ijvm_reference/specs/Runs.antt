@@ -18,10 +18,11 @@ use Rattle.ijvm_reference.specs.Machine.{MachineView, state_of}
 use Rattle.ijvm_meaning.specs.Step.{Goes, outcome}
 use Rattle.ijvm_reference.specs.Kept.{Keeps}
 use Rattle.ijvm_reference.specs.Steps.{IsMetBy}
+use Rattle.ijvm_meaning.specs.Cost.{timing_of}
 use Rattle.ijvm_meaning.specs.Run.{Program, Point, Finish, EndsBy, point_after}
 
 abbrev pub program_of : MachineView → Machine → Program
-program_of m machine = record { image = m.image; stack_end = m.stack_end; machine = machine }
+program_of m machine = record { image = m.image; stack_end = m.stack_end; timing = timing_of machine }
 
 -- a boundary, with these cycles and instructions done
 abbrev pub point_at : MachineView → ℕ → ℕ → List ℕ → List ℕ → Point

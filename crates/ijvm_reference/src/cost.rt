@@ -1,7 +1,7 @@
 //! What the next instruction costs.
 
 ghost use Rattle.std.specs.Prelude.{◌≡◌, ◌≤◌, []};
-ghost use Rattle.ijvm_meaning.specs.Cost.{column, is_taken, entry_of, next_cost};
+ghost use Rattle.ijvm_meaning.specs.Cost.{column, timing_of, is_taken, entry_of, next_cost};
 ghost use Rattle.ijvm_reference.specs.Machine.{state_of};
 
 use crate::machine::PlainMachine;
@@ -51,7 +51,7 @@ fn entry_of(plain: &PlainMachine, instr: Instr) -> u32
 /// The cycles of the next instruction, or 0 where there is none.
 #[tactic(auto, using(crate::proofs::Costs::next_cost_most))]
 pub fn cost_of(plain: &PlainMachine, machine: Machine) -> u64
-    ensures is { result ≡ next_cost plain.now.image machine (state_of plain.now [] []) }
+    ensures is { result ≡ next_cost plain.now.image (timing_of machine) (state_of plain.now [] []) }
     ensures most { result ≤ 23 }
 {
     let Some(instr) = plain.next() else {

@@ -4,7 +4,7 @@ ghost use Rattle.std.specs.Prelude.{◌≡◌, ◌≢◌, ◌+◌, ◌≤◌, []
 ghost use Rattle.mic_base.specs.Streams.{Holds};
 ghost use Rattle.console_port.specs.Console.{StaysFlushed, StillTells};
 ghost use Rattle.ijvm_instr.specs.Instructions.{instr_at};
-ghost use Rattle.ijvm_meaning.specs.Cost.{next_cost};
+ghost use Rattle.ijvm_meaning.specs.Cost.{timing_of, next_cost};
 ghost use Rattle.ijvm_meaning.specs.Frames.{base, top_of};
 ghost use Rattle.ijvm_meaning.specs.Safe.{NeverStuck, IsSafe};
 ghost use Rattle.ijvm_reference.specs.Machine.{MachineView, KeepsProgram, state_of, started};
@@ -192,7 +192,7 @@ impl Frames {
 
     /// The cycles of the next instruction.
     pub fn cost(&self, machine: Machine) -> u64
-        ensures is { result ≡ next_cost self.now.image machine (state_of self.now [] []) }
+        ensures is { result ≡ next_cost self.now.image (timing_of machine) (state_of self.now [] []) }
         ensures most { result ≤ 23 }
     {
         cost_of(&self.machine, machine)
