@@ -7,8 +7,9 @@ use Rattle.mic_clock.specs.Meaning.{Meaning}
 use Rattle.mic_clock.specs.View.{BoardView}
 use Rattle.ijvm_meaning.specs.declared.run.RunEnd.{RunEnd}
 use Rattle.ijvm_meaning.specs.declared.run.RunEnd.TheVariants as defined
-use Rattle.ijvm_meaning.specs.Frames.{State}
+use Rattle.ijvm_meaning.specs.Frames.{State, start_of}
 use Rattle.ijvm_meaning.specs.Step.{Outcome, Goes, Halts, Errs, Limits, Stuck, outcome}
+use Rattle.ijvm_meaning.specs.Cost.{Timing}
 use Rattle.ijvm_meaning.specs.Run.{Program, Point, Finish, point_after, finish_from, after_test, after_outcome, completed, stopped, first_point}
 use Rattle.verifier_facts.specs.Accepted.{VerifiedView}
 use Rattle.ijvm_simulation.specs.Simulates.{board_end}
@@ -76,11 +77,11 @@ both_told None held' x y e a b = tt
 both_told (Some h) None x y e a b = tt
 both_told (Some h) (Some h') x y e a b = a ∙ (e ∙ sym b)
 
-module _ {M N S T : Type 0} (state : M → S) (m : Meaning S) (IsReady : ℕ → List ℕ → ℕ → S → Type 0) (IsShipped : List ℕ → Type 0) (entry : ℕ)
-    (state' : N → T) (m' : Meaning T) (IsReady' : ℕ → List ℕ → ℕ → T → Type 0) (IsShipped' : List ℕ → Type 0) (entry' : ℕ) where
+module _ {M N S T : Type 0} (state : M → S) (m : Meaning S) (IsReady : ℕ → List ℕ → ℕ → S → Type 0) (IsShipped : List ℕ → Type 0) (entry : ℕ) (timing : Timing)
+    (state' : N → T) (m' : Meaning T) (IsReady' : ℕ → List ℕ → ℕ → T → Type 0) (IsShipped' : List ℕ → Type 0) (entry' : ℕ) (timing' : Timing) where
   pub agree : (v : VerifiedView) (bound bound' : ℕ) (input : List ℕ) (before left held left' held' : Option (List ℕ)) (board : BoardView M) (board' : BoardView N) →
-      HasRun state m IsReady IsShipped entry v bound (Some input) before left held board →
-      HasRun state' m' IsReady' IsShipped' entry' v bound' (Some input) before left' held' board' →
+      HasRun state m IsReady IsShipped entry timing v bound (Some input) before left held board →
+      HasRun state' m' IsReady' IsShipped' entry' timing' v bound' (Some input) before left' held' board' →
       MeetNoBound board board' → EndAlike held held' board board'
   agree v bound bound' input before left held left' held' board board' r r' none =
       let f : Finish = r.begins.finish in
@@ -90,9 +91,9 @@ module _ {M N S T : Type 0} (state : M → S) (m : Meaning S) (IsReady : ℕ →
       let nf : f.end ≢ defined.Bound = λ e. none.0 (sym r.end ∙ (r.agrees.end ∙ ap (λ (x : RunEnd). Some (board_end x)) e)) in
       let ng : g.end ≢ defined.Bound = λ e. none.1 (sym r'.end ∙ (r'.agrees.end ∙ ap (λ (x : RunEnd). Some (board_end x)) e)) in
       let a : Alike f g =
-      alike (program m.machine v) (program m'.machine v) refl refl bound bound' r.begins.finishes.0 r'.begins.finishes.0
-      (first_point v.main_locals r.begins.input) (first_point v.main_locals r'.begins.input) f g
-      (ap (λ (i : List ℕ). (first_point v.main_locals i).state) (told ∙ sym told')) refl r.begins.finishes.1 r'.begins.finishes.1 nf ng in
+      alike (program timing v) (program timing' v) refl refl bound bound' r.begins.finishes.0 r'.begins.finishes.0
+      (first_point (program timing v) v.main_locals r.begins.input) (first_point (program timing' v) v.main_locals r'.begins.input) f g
+      (ap (λ (i : List ℕ). start_of v.main_locals i) (told ∙ sym told')) refl r.begins.finishes.1 r'.begins.finishes.1 nf ng in
       record {
         end = sym r.end ∙ (r.agrees.end ∙ (ap (λ (x : RunEnd). Some (board_end x)) a.end ∙ (sym r'.agrees.end ∙ r'.end)));
         instructions = ap (λ (x : Counts). x.instructions) (sym r.at.counts) ∙ (r.agrees.instructions ∙ (a.instructions ∙ (sym r'.agrees.instructions ∙ ap (λ (x : Counts). x.instructions) r'.at.counts)));

@@ -10,6 +10,7 @@ use Rattle.mic_clock.specs.declared.end.End.{End}
 use Rattle.mic_clock.specs.Run.{MicroRun, turns}
 use Rattle.mic_clock.specs.Board.{ShowsRun, IsLedTo, Leads, IsCutByRead as IsReadCut, IsCutByWrite as IsCut}
 use Rattle.ijvm_image.specs.Image.{IsImage}
+use Rattle.ijvm_meaning.specs.Cost.{Timing}
 use Rattle.verifier_facts.specs.Accepted.{VerifiedView, IsAccepted}
 use Rattle.ijvm_simulation.specs.Simulates.{IsEnd}
 use Rattle.ijvm_simulation.specs.Law.{Grows}
@@ -60,11 +61,11 @@ front_put : (held : Option (List ℕ)) (before given : List ℕ) → Holds befor
 front_put None before given kept front = tt
 front_put (Some h) before given kept front = (record { more = kept.0; are = kept.1 }, record { more = front.0; are = front.1 })
 
-module _ {M S : Type 0} (state : M → S) (m : Meaning S) (IsReady : ℕ → List ℕ → ℕ → S → Type 0) (IsShipped : List ℕ → Type 0) (entry : ℕ) (promises : Promises m IsReady IsShipped entry)
+module _ {M S : Type 0} (state : M → S) (m : Meaning S) (IsReady : ℕ → List ℕ → ℕ → S → Type 0) (IsShipped : List ℕ → Type 0) (entry : ℕ) (timing : Timing) (promises : Promises m IsReady IsShipped entry timing)
     (v : VerifiedView) (image : IsImage v.image) (accepted : IsAccepted v) (known : Known v) (bound : ℕ) (left held left' held' : Option (List ℕ)) (board0 board : BoardView M) (s : Starts state m entry v board0) (has : IsShipped board.store.words)
     (tells : StillTells left board0.bus.console.ended left' board.bus.console.ended) where
   abbrev Here : Type 0
-  Here = Begins state m IsReady IsShipped entry v bound board.store.words left (told_of held)
+  Here = Begins state m IsReady IsShipped entry timing v bound board.store.words left (told_of held)
 
   -- the bytes that were left when the run began
   untaken_at : (input : List ℕ) → Untaken left board0.bus.console.ended input → Untaken left false input
@@ -72,7 +73,7 @@ module _ {M S : Type 0} (state : M → S) (m : Meaning S) (IsReady : ℕ → Lis
 
   abbrev begins : (input : List ℕ) → Untaken left false input → Here
   begins input told =
-      let sim = simulated v image accepted board0.bus.words s.loaded (told_of held) m IsReady IsShipped entry promises known board.store.words has bound input in
+      let sim = simulated v image accepted board0.bus.words s.loaded (told_of held) m IsReady IsShipped entry timing promises known board.store.words has bound input in
       record { shipped = has; words = board0.bus.words; loaded = s.loaded; input = input; told = told; simulates = sim; finish = sim.finishes.0; finishes = sim.finishes.1 }
 
   abbrev world : List ℕ → World
@@ -99,7 +100,7 @@ module _ {M S : Type 0} (state : M → S) (m : Meaning S) (IsReady : ℕ → Lis
   pub has_run : (e : End) → board.end ≡ Some e → board.bus.console.kept ≡ [] →
       IsLedTo state left held board0 left' board
       (λ r rest. (n : ℕ) × Leads state m board.store.words (Some bound) board board0.buses rest n r (ShowsRun state left' held' board)) →
-      HasRun state m IsReady IsShipped entry v bound left held left' held' board
+      HasRun state m IsReady IsShipped entry timing v bound left held left' held' board
   has_run e ended kept led =
       let rest : List ℕ = rest_of left' board.bus.console.ended in
       let l = led rest (rest_fits left' board.bus.console.ended) in
@@ -124,7 +125,7 @@ module _ {M S : Type 0} (state : M → S) (m : Meaning S) (IsReady : ℕ → Lis
   pub is_cut_by_read :
       IsLedTo state left held board0 left' board
       (λ r rest. (n : ℕ) × Leads state m board.store.words (Some bound) board board0.buses rest n r (IsReadCut state m board.store.words (Some bound) left' held' board)) →
-      IsCutByRead state m IsReady IsShipped entry v bound left held left' held' board
+      IsCutByRead state m IsReady IsShipped entry timing v bound left held left' held' board
   is_cut_by_read led =
       let rest : List ℕ = rest_of left' board.bus.console.ended in
       let l = led rest (rest_fits left' board.bus.console.ended) in
@@ -146,7 +147,7 @@ module _ {M S : Type 0} (state : M → S) (m : Meaning S) (IsReady : ℕ → Lis
   pub is_cut_by_write : ((front : List ℕ) → Holds front held → Holds front held') →
       IsLedTo state left held board0 left' board
       (λ r rest. (n : ℕ) × Leads state m board.store.words (Some bound) board board0.buses rest n r (IsCut state m board.store.words (Some bound) left' held' board)) →
-      IsCutByWrite state m IsReady IsShipped entry v bound left held left' held' board
+      IsCutByWrite state m IsReady IsShipped entry timing v bound left held left' held' board
   is_cut_by_write keeps led =
       let rest : List ℕ = rest_of left' board.bus.console.ended in
       let l = led rest (rest_fits left' board.bus.console.ended) in

@@ -5,8 +5,7 @@ use Rattle.console_port.specs.World.{World}
 use Rattle.mic_clock.specs.Meaning.{Meaning}
 use Rattle.mic_clock.specs.Run.{MicroRun, turns}
 use Rattle.ijvm_meaning.specs.Frames.{State, start_of}
-use Rattle.ijvm_meaning.specs.Cost.{boot}
-use Rattle.ijvm_meaning.specs.Run.{first_point}
+use Rattle.ijvm_meaning.specs.Run.{Program, first_point}
 use Rattle.ijvm_simulation.specs.Stands.{Origin}
 use Rattle.ijvm_simulation.specs.Simulates.{IsBoundary}
 use Rattle.ijvm_simulation.specs.Law.{Shows, Boots, reset_moment}
@@ -14,8 +13,8 @@ use Rattle.ijvm_simulation.specs.Headline.{reset_run}
 use Rattle.ijvm_simulation.proofs.Passes.{not_boundary}
 use Rattle.ijvm_simulation.proofs.Turns.{IsReady, moment_of, run_at, run_inside, pass_turns, pass_turns_inside, Shorter, shorter}
 
-module _ {S : Type 0} (m : Meaning S) (words : List ℕ) (IsAt : State → S → World → Type 0) (entry main_locals : ℕ) (o : Origin) (input : List ℕ)
-    (b : Boots m words IsAt o.given (reset_moment m entry main_locals o input) (start_of main_locals input))
+module _ {S : Type 0} (m : Meaning S) (words : List ℕ) (IsAt : State → S → World → Type 0) (p : Program) (entry main_locals : ℕ) (o : Origin) (input : List ℕ)
+    (b : Boots m words IsAt o.given p.timing (reset_moment m entry main_locals o input) (start_of main_locals input))
     (shows : (s : State) (x : S) (w : World) → IsAt s x w → Shows m words IsAt o.given s x w) (bound : ℕ) where
   abbrev pub start : MicroRun S
   start = reset_run m entry main_locals (record { words = o.words; untaken = input; given = o.given })
@@ -25,14 +24,14 @@ module _ {S : Type 0} (m : Meaning S) (words : List ℕ) (IsAt : State → S →
       let off : m.is_boundary start.state ≡ false = b.off in
       record { no_bound = grind (arith, nat_tests); no_halt = b.moves.begins.no_halt; no_err = b.moves.begins.no_err; not_ended = refl }
 
-  pub booted : IsBoundary IsAt (first_point main_locals input) (turns m words (Some bound) boot start)
+  pub booted : IsBoundary IsAt (first_point p main_locals input) (turns m words (Some bound) p.timing.boot start)
   booted =
       let v = b.moves in
       let s : Shows m words IsAt o.given (start_of main_locals input) v.there.state v.there.world = shows _ _ _ v.stands in
       let e : turns m words (Some bound) (suc v.n) start ≡ run_at m start (v.n + 1) v.there =
       pass_turns m words bound v.n start v.there (v.n + 1) (omega arith) ready (omega (arith, v.short)) v.passes s.boundary in
-      let many : boot ≡ suc v.n = v.spent_is ∙ omega arith in
-      subst (λ (r : MicroRun S). IsBoundary IsAt (first_point main_locals input) r) (sym (ap (λ (k : ℕ). turns m words (Some bound) k start) many ∙ e))
+      let many : p.timing.boot ≡ suc v.n = v.spent_is ∙ omega arith in
+      subst (λ (r : MicroRun S). IsBoundary IsAt (first_point p main_locals input) r) (sym (ap (λ (k : ℕ). turns m words (Some bound) k start) many ∙ e))
       (record {
         stands = v.stands;
         cycles = sym v.spent_is;
@@ -41,7 +40,7 @@ module _ {S : Type 0} (m : Meaning S) (words : List ℕ) (IsAt : State → S →
         not_ended = refl;
       })
 
-  pub quiet : (n : ℕ) → 0 < n → n < boot → m.is_boundary (turns m words (Some bound) n start).state ≡ false
+  pub quiet : (n : ℕ) → 0 < n → n < p.timing.boot → m.is_boundary (turns m words (Some bound) n start).state ≡ false
   quiet zero pos l = absurd (omega arith)
   quiet (suc j) pos l =
       let v = b.moves in

@@ -7,6 +7,7 @@ use Rattle.console_port.specs.Loading.{IsLoaded}
 use Rattle.mic_clock.specs.Meaning.{Meaning}
 use Rattle.ijvm_image.specs.Image.{IsImage}
 use Rattle.ijvm_meaning.specs.Frames.{start_of}
+use Rattle.ijvm_meaning.specs.Cost.{Timing}
 use Rattle.ijvm_meaning.specs.Run.{first_point}
 use Rattle.verifier_facts.specs.Accepted.{VerifiedView, IsAccepted}
 use Rattle.ijvm_simulation.specs.Stands.{Origin, IsAt}
@@ -20,10 +21,10 @@ use Rattle.ijvm_simulation.proofs.Boots.{booted, quiet}
 use Rattle.ijvm_simulation.proofs.Whole.{simulates}
 
 -- what a machine promises
-pub record Promises {S : Type 0} (m : Meaning S) (IsReady : ℕ → List ℕ → ℕ → S → Type 0) (IsShipped : List ℕ → Type 0) (entry : ℕ) : Type 0 where
-  pub law : (store : List ℕ) (o : Origin) (v : VerifiedView) → IsShipped store → Loads v o → Law m store (IsAt m IsReady entry o) o.given v o
+pub record Promises {S : Type 0} (m : Meaning S) (IsReady : ℕ → List ℕ → ℕ → S → Type 0) (IsShipped : List ℕ → Type 0) (entry : ℕ) (timing : Timing) : Type 0 where
+  pub law : (store : List ℕ) (o : Origin) (v : VerifiedView) → IsShipped store → Loads v o → Law m store (IsAt m IsReady entry o) o.given timing v o
   pub boots : (store : List ℕ) (o : Origin) (v : VerifiedView) (input : List ℕ) → IsShipped store → Loads v o →
-      Boots m store (IsAt m IsReady entry o) o.given (reset_moment m entry v.main_locals o input) (start_of v.main_locals input)
+      Boots m store (IsAt m IsReady entry o) o.given timing (reset_moment m entry v.main_locals o input) (start_of v.main_locals input)
   pub grows : (word : ℕ) (s : S) (w : World) → OnDone (λ (u : World). Grows w.given u.given) (m.step word s w)
 
 zero_word : (n k : ℕ) → slice_index (replicate n 0) k ≡ 0
@@ -48,15 +49,15 @@ module _ (v : VerifiedView) (image : IsImage v.image) (accepted : IsAccepted v) 
         long = loaded.size ∙ length-replicate {A = ℕ} v.map.stack_end 0;
       }
 
-  module _ {S : Type 0} (m : Meaning S) (IsReady : ℕ → List ℕ → ℕ → S → Type 0) (IsShipped : List ℕ → Type 0) (entry : ℕ) (promises : Promises m IsReady IsShipped entry) (known : Known v) where
+  module _ {S : Type 0} (m : Meaning S) (IsReady : ℕ → List ℕ → ℕ → S → Type 0) (IsShipped : List ℕ → Type 0) (entry : ℕ) (timing : Timing) (promises : Promises m IsReady IsShipped entry timing) (known : Known v) where
     pub simulated : (store : List ℕ) (has : IsShipped store) (bound : ℕ) (input : List ℕ) →
-        Simulates m (IsAt m IsReady entry origin) store bound (program m.machine v) (first_point v.main_locals input) before
+        Simulates m (IsAt m IsReady entry origin) store bound (program timing v) (first_point (program timing v) v.main_locals input) before
         (reset_run m entry v.main_locals (record { words = words; untaken = input; given = before }))
     simulated store has bound input =
-        let law : Law m store (IsAt m IsReady entry origin) before v origin = promises.law store origin v has loads in
-        let each : BoundaryLaw m store (IsAt m IsReady entry origin) before (program m.machine v) (Fine v) = boundary_law v origin loads known m store (IsAt m IsReady entry origin) law in
-        let b : Boots m store (IsAt m IsReady entry origin) before (reset_moment m entry v.main_locals origin input) (start_of v.main_locals input) = promises.boots store origin v input has loads in
-        simulates m store (IsAt m IsReady entry origin) before (program m.machine v) (Fine v) each (keeps v m.machine known) bound (first_point v.main_locals input)
+        let law : Law m store (IsAt m IsReady entry origin) before timing v origin = promises.law store origin v has loads in
+        let each : BoundaryLaw m store (IsAt m IsReady entry origin) before (program timing v) (Fine v) = boundary_law v origin loads known m store (IsAt m IsReady entry origin) timing law in
+        let b : Boots m store (IsAt m IsReady entry origin) before timing (reset_moment m entry v.main_locals origin input) (start_of v.main_locals input) = promises.boots store origin v input has loads in
+        simulates m store (IsAt m IsReady entry origin) before (program timing v) (Fine v) each (keeps v timing known) bound (first_point (program timing v) v.main_locals input)
         (reset_run m entry v.main_locals (record { words = words; untaken = input; given = before }))
-        (booted m store (IsAt m IsReady entry origin) entry v.main_locals origin input b law.shows bound) (fine_start v known input)
-        (quiet m store (IsAt m IsReady entry origin) entry v.main_locals origin input b law.shows bound)
+        (booted m store (IsAt m IsReady entry origin) (program timing v) entry v.main_locals origin input b law.shows bound) (fine_start v known input)
+        (quiet m store (IsAt m IsReady entry origin) (program timing v) entry v.main_locals origin input b law.shows bound)

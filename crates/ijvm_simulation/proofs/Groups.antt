@@ -6,7 +6,7 @@ use Rattle.ijvm_instr.specs.declared.instr.Instr.{Instr}
 use Rattle.ijvm_instr.specs.declared.instr.Instr.TheVariants.{Nop, Bipush, LdcW, Iload, Istore, Pop, Dup, Swap, Iadd, Isub, Iand, Iinc, Ifeq, Iflt, IfIcmpeq, Goto, Ireturn, Ior, Invokevirtual, WideIload, WideIstore, WideIinc, In, Out, Err, Halt}
 use Rattle.ijvm_image.specs.Image.{ImageView}
 use Rattle.ijvm_meaning.specs.Frames.{State}
-use Rattle.ijvm_meaning.specs.Cost.{cost}
+use Rattle.ijvm_meaning.specs.Cost.{Timing, cost}
 use Rattle.verifier_facts.specs.Accepted.{VerifiedView}
 use Rattle.ijvm_simulation.specs.Stands.{Origin}
 use Rattle.ijvm_simulation.specs.Groups.{IsOfOperands, IsOfLocals, IsJump, IsCall, IsOfConsole, ByGroups}
@@ -46,7 +46,7 @@ module _ (P : Instr → Type 0) (operands : (i : Instr) → IsOfOperands i → P
   each Err = err
   each Halt = halt
 
-module _ {S : Type 0} (m : Meaning S) (words : List ℕ) (IsAt : State → S → World → Type 0) (before : List ℕ) (v : VerifiedView) (o : Origin) where
+module _ {S : Type 0} (m : Meaning S) (words : List ℕ) (IsAt : State → S → World → Type 0) (before : List ℕ) (timing : Timing) (v : VerifiedView) (o : Origin) where
   -- what an instruction takes where it goes on, and where the stack has no room
   abbrev On : (State → Moment S → Instr → Type 0) → State → State → Moment S → Instr → Type 0
   On Leads s to q i = Fine v s → IsNext v o s i → IsAt s q.state q.world → Went v.image v.map.stack_end s to i → Leads to q i
@@ -54,22 +54,22 @@ module _ {S : Type 0} (m : Meaning S) (words : List ℕ) (IsAt : State → S →
   abbrev Full : (State → Moment S → Instr → Type 0) → State → State → Moment S → Instr → Type 0
   Full Overrun s left q i = Fine v s → IsNext v o s i → IsAt s q.state q.world → Overran v.image v.map.stack_end s left i → Overrun left q i
 
-  pub takes : ByGroups (Takes m words IsAt before v o)
+  pub takes : ByGroups (Takes m words IsAt before timing v o)
   takes operands locals jumps calls consoles =
       record {
         goes = λ s to q i any.
-            each (On (λ t p j. Moves m words IsAt before p (cost v.image m.machine j s) t) s to q) (operands.goes s to q) (locals.goes s to q) (jumps.goes s to q) (calls.goes s to q) (consoles.goes s to q)
+            each (On (λ t p j. Moves m words IsAt before p (cost v.image timing j s) t) s to q) (operands.goes s to q) (locals.goes s to q) (jumps.goes s to q) (calls.goes s to q) (consoles.goes s to q)
             (λ fine n h went. absurd went) (λ fine n h went. absurd went) i;
         limits = λ s left q i any.
             each (Full (λ l p j. Overruns m words IsAt before p l) s left q) (operands.limits s left q) (locals.limits s left q) (jumps.limits s left q) (calls.limits s left q) (consoles.limits s left q)
             (λ fine n h over. absurd over) (λ fine n h over. absurd over) i;
       }
 
-  pub takes_with_stalls : (stalls_of : ImageView → Instr → ℕ) → ByGroups (TakesWithStalls m words IsAt before stalls_of v o)
+  pub takes_with_stalls : (stalls_of : ImageView → Instr → ℕ) → ByGroups (TakesWithStalls m words IsAt before timing stalls_of v o)
   takes_with_stalls stalls_of operands locals jumps calls consoles =
       record {
         goes = λ s to q i any.
-            each (On (λ t p j. MovesWithStalls m words IsAt before p (cost v.image m.machine j s) (stalls_of v.image j) t) s to q)
+            each (On (λ t p j. MovesWithStalls m words IsAt before p (cost v.image timing j s) (stalls_of v.image j) t) s to q)
             (operands.goes s to q) (locals.goes s to q) (jumps.goes s to q) (calls.goes s to q) (consoles.goes s to q)
             (λ fine n h went. absurd went) (λ fine n h went. absurd went) i;
         limits = λ s left q i any.

@@ -31,11 +31,11 @@ pub record Keeps (p : Program) (Fine : State → Type 0) : Type 0 where
 pub record Law {S : Type 0} (m : Meaning S) (words : List ℕ) (IsAt : State → S → World → Type 0) (before : List ℕ) (p : Program) (Fine : State → Type 0) : Type 0 where
   pub shows : (s : State) (x : S) (w : World) → IsAt s x w → Shows m words IsAt before s x w
   pub goes : (s to : State) (q : Moment S) → Fine s → IsAt s q.state q.world → outcome p.image p.stack_end s ≡ Goes to →
-      Moves m words IsAt before q (next_cost p.image p.machine s) to
+      Moves m words IsAt before q (next_cost p.image p.timing s) to
   pub halts : (s : State) (q : Moment S) → Fine s → IsAt s q.state q.world → outcome p.image p.stack_end s ≡ Halts →
-      Stops m words IsAt before q (next_cost p.image p.machine s) 255
+      Stops m words IsAt before q (next_cost p.image p.timing s) 255
   pub errs : (s : State) (q : Moment S) → Fine s → IsAt s q.state q.world → outcome p.image p.stack_end s ≡ Errs →
-      Stops m words IsAt before q (next_cost p.image p.machine s) 254
+      Stops m words IsAt before q (next_cost p.image p.timing s) 254
   pub limits : (s left : State) (q : Moment S) → Fine s → IsAt s q.state q.world → outcome p.image p.stack_end s ≡ Limits left →
       Overruns m words IsAt before q left
 
@@ -54,7 +54,7 @@ module _ {S : Type 0} (m : Meaning S) (words : List ℕ) (IsAt : State → S →
   -- the boundary behind an instruction that goes on
   pub record Moved (to : State) : Type 0 where
     pub k : ℕ
-    pub spent : next_cost p.image p.machine at.state ≡ k
+    pub spent : next_cost p.image p.timing at.state ≡ k
     pub some : 0 < k
     pub is : IsBoundary IsAt (point_after p at to) (turns m words (Some bound) k r)
     pub inside : (j : ℕ) → 0 < j → j < k → m.is_boundary (turns m words (Some bound) j r).state ≡ false
@@ -73,12 +73,12 @@ module _ {S : Type 0} (m : Meaning S) (words : List ℕ) (IsAt : State → S →
 
   pub moved : (to : State) → nat_le bound at.cycles ≡ false → outcome p.image p.stack_end at.state ≡ Goes to → Moved to
   moved to t goes =
-      let v : Moves m words IsAt before (moment_of r) (next_cost p.image p.machine at.state) to = law.goes at.state to (moment_of r) fine h.stands goes in
+      let v : Moves m words IsAt before (moment_of r) (next_cost p.image p.timing at.state) to = law.goes at.state to (moment_of r) fine h.stands goes in
       let shows : Shows m words IsAt before to v.there.state v.there.world = law.shows to v.there.state v.there.world v.stands in
       let c : ℕ = r.counts.cycles + v.n + 1 in
       let e : turns m words (Some bound) (suc v.n) r ≡ run_at m r c v.there =
       pass_turns m words bound v.n r v.there c refl (ready t v.begins) (near v.n v.short) v.passes shows.boundary in
-      let cycles : c ≡ at.cycles + next_cost p.image p.machine at.state = omega (arith, v.spent_is, h.cycles) in
+      let cycles : c ≡ at.cycles + next_cost p.image p.timing at.state = omega (arith, v.spent_is, h.cycles) in
       record {
         k = suc v.n;
         spent = v.spent_is ∙ omega arith;
@@ -120,7 +120,7 @@ module _ {S : Type 0} (m : Meaning S) (words : List ℕ) (IsAt : State → S →
       }
 
   -- by HALT or ERR
-  stops_behind : (mpc : ℕ) (e : End) (f : Finish) (v : StopsBehind m words IsAt before (moment_of r) (next_cost p.image p.machine at.state) mpc) → nat_le bound at.cycles ≡ false →
+  stops_behind : (mpc : ℕ) (e : End) (f : Finish) (v : StopsBehind m words IsAt before (moment_of r) (next_cost p.image p.timing at.state) mpc) → nat_le bound at.cycles ≡ false →
       end_before m v.there.state (run_inside m r (r.counts.cycles + v.n + 1) v.there).counts ≡ Some e →
       IsEnd before f (after_end_or_step m words (Some e) (run_inside m r (r.counts.cycles + v.n + 1) v.there)) → Ended f
   stops_behind mpc e f v t ending is =
@@ -142,7 +142,7 @@ module _ {S : Type 0} (m : Meaning S) (words : List ℕ) (IsAt : State → S →
       }
 
   -- what is counted where an instruction ends the run
-  completed_behind : (mpc : ℕ) (e : RunEnd) (v : StopsBehind m words IsAt before (moment_of r) (next_cost p.image p.machine at.state) mpc) → completes (board_end e) ≡ true →
+  completed_behind : (mpc : ℕ) (e : RunEnd) (v : StopsBehind m words IsAt before (moment_of r) (next_cost p.image p.timing at.state) mpc) → completes (board_end e) ≡ true →
       IsEnd before (completed p at e) (after_end_or_step m words (Some (board_end e)) (run_inside m r (r.counts.cycles + v.n + 1) v.there))
   completed_behind mpc e v t =
       record {
@@ -155,7 +155,7 @@ module _ {S : Type 0} (m : Meaning S) (words : List ℕ) (IsAt : State → S →
       }
 
   -- the clock ends the run here
-  stops_here : (mpc : ℕ) (e : RunEnd) (v : StopsHere m words IsAt before (moment_of r) (next_cost p.image p.machine at.state) mpc) → nat_le bound at.cycles ≡ false →
+  stops_here : (mpc : ℕ) (e : RunEnd) (v : StopsHere m words IsAt before (moment_of r) (next_cost p.image p.timing at.state) mpc) → nat_le bound at.cycles ≡ false →
       end_before m r.state r.counts ≡ Some (board_end e) → completes (board_end e) ≡ true → Ended (completed p at e)
   stops_here mpc e v t ending done =
       let e1 : r.end ≡ None = h.not_ended in
@@ -179,7 +179,7 @@ module _ {S : Type 0} (m : Meaning S) (words : List ℕ) (IsAt : State → S →
         quiet = λ j pos l. absurd (omega arith);
       }
 
-  stops : (mpc : ℕ) (e : RunEnd) (v : Stops m words IsAt before (moment_of r) (next_cost p.image p.machine at.state) mpc) → nat_le bound at.cycles ≡ false →
+  stops : (mpc : ℕ) (e : RunEnd) (v : Stops m words IsAt before (moment_of r) (next_cost p.image p.timing at.state) mpc) → nat_le bound at.cycles ≡ false →
       ((x : S) (c : Counts) → (m.registers x).mpc ≡ mpc → end_before m x c ≡ Some (board_end e)) → completes (board_end e) ≡ true → Ended (completed p at e)
   stops mpc e (inl v) t ending done = stops_here mpc e v t (ending r.state r.counts v.mpc_is) done
   stops mpc e (inr v) t ending done =

@@ -1,7 +1,6 @@
 -- What comes next in a run of a verified image, and how the law of a machine's instructions becomes the law of its boundaries.
 use Rattle.std.proofs.Common.{◌≡◌, ℕ, ◌+◌, ◌*◌, ◌<◌, Bool, true, false, Some, List, [], ◌∷◌, ◌++◌, length, refl, arith, sym, ◌∙◌, ap, ap₂, subst, inl, inr}
 use Rattle.mic_words.specs.Arithmetic.{signed_byte, signed_pair}
-use Rattle.mic_words.specs.declared.machine.Machine.{Machine}
 use Rattle.console_port.specs.World.{World, byte_in}
 use Rattle.mic_clock.specs.Meaning.{Meaning}
 use Rattle.ijvm_instr.specs.declared.instr.Instr.{Instr}
@@ -9,7 +8,7 @@ use Rattle.ijvm_instr.specs.declared.instr.Instr.TheVariants.{Nop, Bipush, LdcW,
 use Rattle.ijvm_instr.specs.Instructions.{row_of, size_of, prefix, operand_bytes, instr_at}
 use Rattle.ijvm_meaning.specs.Frames.{State, AreWords, start_of}
 use Rattle.ijvm_meaning.specs.Step.{Outcome, Goes, Halts, Errs, Limits, outcome, step_if_any}
-use Rattle.ijvm_meaning.specs.Cost.{next_cost, cost_at, cost}
+use Rattle.ijvm_meaning.specs.Cost.{Timing, next_cost, cost_at, cost}
 use Rattle.ijvm_meaning.specs.Safe.{Here, On}
 use Rattle.verifier_facts.specs.Sound.{Finds, KeepsSound}
 use Rattle.verifier_facts.specs.Accepted.{VerifiedView}
@@ -66,8 +65,8 @@ pub record Known (v : VerifiedView) : Type 0 where
 pub fine_start : (v : VerifiedView) → Known v → (input : List ℕ) → Fine v (start_of v.main_locals input)
 fine_start v known input = record { reached = Here _ (record { running = refl; callers = refl; at = refl }); words = known.start_words input }
 
-pub keeps : (v : VerifiedView) (machine : Machine) → Known v → Keeps (program machine v) (Fine v)
-keeps v machine known =
+pub keeps : (v : VerifiedView) (timing : Timing) → Known v → Keeps (program timing v) (Fine v)
+keeps v timing known =
     record {
       stays = λ s to fine goes. record {
         reached = On s to to fine.reached goes (record { running = refl; callers = refl; at = refl });
@@ -105,11 +104,11 @@ module _ (v : VerifiedView) (o : Origin) (loads : Loads v o) (known : Known v) w
   said s i out code e =
       subst (λ (x : Outcome). IsOutcome v.image v.map.stack_end s i x) (ap (step_if_any v.image v.map.stack_end s) (sym code) ∙ e) (says v.image v.map.stack_end s i)
 
-  module _ {S : Type 0} (m : Meaning S) (store : List ℕ) (IsAt : State → S → World → Type 0) (law : Law m store IsAt o.given v o) where
-    cost_is : (s : State) (i : Instr) → instr_at v.image.text s.at ≡ Some i → cost v.image m.machine i s ≡ next_cost v.image m.machine s
-    cost_is s i code = ap (cost_at v.image m.machine s) (sym code)
+  module _ {S : Type 0} (m : Meaning S) (store : List ℕ) (IsAt : State → S → World → Type 0) (timing : Timing) (law : Law m store IsAt o.given timing v o) where
+    cost_is : (s : State) (i : Instr) → instr_at v.image.text s.at ≡ Some i → cost v.image timing i s ≡ next_cost v.image timing s
+    cost_is s i code = ap (cost_at v.image timing s) (sym code)
 
-    pub boundary_law : BoundaryLaw m store IsAt o.given (program m.machine v) (Fine v)
+    pub boundary_law : BoundaryLaw m store IsAt o.given (program timing v) (Fine v)
     boundary_law =
         record {
           shows = law.shows;

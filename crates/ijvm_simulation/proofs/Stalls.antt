@@ -11,7 +11,7 @@ use Rattle.ijvm_instr.specs.declared.instr.Instr.{Instr}
 use Rattle.ijvm_instr.specs.Instructions.{instr_at}
 use Rattle.ijvm_meaning.specs.Frames.{State, start_of}
 use Rattle.ijvm_meaning.specs.Step.{Outcome, Goes, Limits, outcome, step_if_any}
-use Rattle.ijvm_meaning.specs.Cost.{boot, cost, cost_at, next_cost}
+use Rattle.ijvm_meaning.specs.Cost.{Timing, cost, cost_at, next_cost}
 use Rattle.ijvm_meaning.specs.Run.{Program, Point, point_after, first_point}
 use Rattle.verifier_facts.specs.Accepted.{VerifiedView}
 use Rattle.ijvm_simulation.specs.Stands.{Origin}
@@ -29,12 +29,12 @@ use Rattle.ijvm_simulation.proofs.Next.{Known, fine_start, keeps, next, boundary
 use Rattle.ijvm_simulation.proofs.Boots.{booted}
 
 module _ {S : Type 0} (m : Meaning S) (store : List ℕ) (IsAt : State → S → World → Type 0) (o : Origin) (v : VerifiedView) (loads : Loads v o) (known : Known v)
-    (law : Law m store IsAt o.given v o) (stalls_of : ImageView → Instr → ℕ) (takes : TakesWithStalls m store IsAt o.given stalls_of v o (λ i. Unit {0})) (bound : ℕ) where
+    (timing : Timing) (law : Law m store IsAt o.given timing v o) (stalls_of : ImageView → Instr → ℕ) (takes : TakesWithStalls m store IsAt o.given timing stalls_of v o (λ i. Unit {0})) (bound : ℕ) where
   abbrev p : Program
-  p = program m.machine v
+  p = program timing v
 
   abbrev each : BoundaryLaw m store IsAt o.given p (Fine v)
-  each = boundary_law v o loads known m store IsAt law
+  each = boundary_law v o loads known m store IsAt timing law
 
   -- a boundary of the run, with the stalls before it
   record IsHere (at : Point) (stalls : ℕ) (r : MicroRun S) : Type 0 where
@@ -45,14 +45,14 @@ module _ {S : Type 0} (m : Meaning S) (store : List ℕ) (IsAt : State → S →
   -- the stalls behind an instruction
   stalls_behind : (at : Point) (stalls : ℕ) (r : MicroRun S) (i : Instr) (to : State) → IsHere at stalls r → at.cycles < bound →
       instr_at v.image.text at.state.at ≡ Some i → outcome v.image v.map.stack_end at.state ≡ Goes to →
-      (turns m store (Some bound) (next_cost v.image m.machine at.state) r).counts.stalls ≡ stalls + stalls_of v.image i
+      (turns m store (Some bound) (next_cost v.image timing at.state) r).counts.stalls ≡ stalls + stalls_of v.image i
   stalls_behind at stalls r i to h below code goes =
       let n = next v o loads known at.state h.fine in
       let same : n.0 ≡ i = same_Some n.0 i (sym n.1.finds.code ∙ code) in
       let is : IsNext v o at.state i = subst (λ (j : Instr). IsNext v o at.state j) same n.1 in
       let went : Went v.image v.map.stack_end at.state to i =
       subst (λ (x : Outcome). IsOutcome v.image v.map.stack_end at.state i x) (ap (step_if_any v.image v.map.stack_end at.state) (sym code) ∙ goes) (says v.image v.map.stack_end at.state i) in
-      let w : MovesWithStalls m store IsAt o.given (moment_of r) (cost v.image m.machine i at.state) (stalls_of v.image i) to =
+      let w : MovesWithStalls m store IsAt o.given (moment_of r) (cost v.image timing i at.state) (stalls_of v.image i) to =
       takes.goes at.state to (moment_of r) i tt h.fine is h.boundary.stands went in
       let shows : Shows m store IsAt o.given to w.moves.there.state w.moves.there.world = law.shows to w.moves.there.state w.moves.there.world w.moves.stands in
       let t : nat_le bound at.cycles ≡ false = grind (arith, nat_tests) in
@@ -63,16 +63,16 @@ module _ {S : Type 0} (m : Meaning S) (store : List ℕ) (IsAt : State → S →
       let c : ℕ = r.counts.cycles + w.moves.n + 1 in
       let e : turns m store (Some bound) (suc w.moves.n) r ≡ run_at m r c w.moves.there =
       pass_turns m store bound w.moves.n r w.moves.there c refl ready (omega (arith, h.boundary.cycles, w.moves.short)) w.moves.passes shows.boundary in
-      let spent : next_cost v.image m.machine at.state ≡ suc w.moves.n = ap (cost_at v.image m.machine at.state) code ∙ (w.moves.spent_is ∙ omega arith) in
+      let spent : next_cost v.image timing at.state ≡ suc w.moves.n = ap (cost_at v.image timing at.state) code ∙ (w.moves.spent_is ∙ omega arith) in
       ap (λ (k : ℕ). (turns m store (Some bound) k r).counts.stalls) spent
       ∙ (ap (λ (x : MicroRun S). x.counts.stalls) e ∙ (w.stalled ∙ ap (λ (k : ℕ). k + stalls_of v.image i) h.stalled))
 
   behind : (at : Point) (stalls : ℕ) (r : MicroRun S) (i : Instr) (to : State) → IsHere at stalls r → at.cycles < bound →
       instr_at v.image.text at.state.at ≡ Some i → outcome v.image v.map.stack_end at.state ≡ Goes to →
-      IsHere (point_after p at to) (stalls + stalls_of v.image i) (turns m store (Some bound) (next_cost v.image m.machine at.state) r)
+      IsHere (point_after p at to) (stalls + stalls_of v.image i) (turns m store (Some bound) (next_cost v.image timing at.state) r)
   behind at stalls r i to h below code goes =
       let t : nat_le bound at.cycles ≡ false = grind (arith, nat_tests) in
-      let keep : Keeps p (Fine v) = keeps v m.machine known in
+      let keep : Keeps p (Fine v) = keeps v timing known in
       let on : Moved m store IsAt o.given p (Fine v) each keep bound at r h.boundary h.fine to =
       moved m store IsAt o.given p (Fine v) each keep bound at r h.boundary h.fine to t goes in
       record {
@@ -109,12 +109,12 @@ module _ {S : Type 0} (m : Meaning S) (store : List ℕ) (IsAt : State → S →
       turns-add m store bound (suc u.n) 1 r ∙ (ap (whole_turn m store bound) first ∙ final) in
       (suc u.n + 1, subst (λ (x : MicroRun S). StoppedWithin (stalls + stalls_of v.image i) x) (sym whole) (record { end = refl; stalled = omega (arith, w.stalled, h.stalled) }))
 
-  module _ (entry booting : ℕ) (input : List ℕ) (boots : MovesWithStalls m store IsAt o.given (reset_moment m entry v.main_locals o input) boot booting (start_of v.main_locals input))
-      (off : Boots m store IsAt o.given (reset_moment m entry v.main_locals o input) (start_of v.main_locals input)) where
+  module _ (entry booting : ℕ) (input : List ℕ) (boots : MovesWithStalls m store IsAt o.given (reset_moment m entry v.main_locals o input) timing.boot booting (start_of v.main_locals input))
+      (off : Boots m store IsAt o.given timing (reset_moment m entry v.main_locals o input) (start_of v.main_locals input)) where
     abbrev start : MicroRun S
     start = reset_run m entry v.main_locals (record { words = o.words; untaken = input; given = o.given })
 
-    first : IsHere (first_point v.main_locals input) booting (turns m store (Some bound) boot start)
+    first : IsHere (first_point p v.main_locals input) booting (turns m store (Some bound) timing.boot start)
     first =
         let w = boots.moves in
         let shows : Shows m store IsAt o.given (start_of v.main_locals input) w.there.state w.there.world = law.shows (start_of v.main_locals input) w.there.state w.there.world w.stands in
@@ -122,27 +122,27 @@ module _ {S : Type 0} (m : Meaning S) (store : List ℕ) (IsAt : State → S →
         let ready : IsReady m bound start = record { no_bound = grind (arith, nat_tests); no_halt = w.begins.no_halt; no_err = w.begins.no_err; not_ended = refl } in
         let e : turns m store (Some bound) (suc w.n) start ≡ run_at m start (w.n + 1) w.there =
         pass_turns m store bound w.n start w.there (w.n + 1) (omega arith) ready (omega (arith, w.short)) w.passes shows.boundary in
-        let many : boot ≡ suc w.n = w.spent_is ∙ omega arith in
+        let many : timing.boot ≡ suc w.n = w.spent_is ∙ omega arith in
         record {
-          boundary = booted m store IsAt entry v.main_locals o input off law.shows bound;
+          boundary = booted m store IsAt p entry v.main_locals o input off law.shows bound;
           fine = fine_start v known input;
           stalled = ap (λ (k : ℕ). (turns m store (Some bound) k start).counts.stalls) many ∙ (ap (λ (x : MicroRun S). x.counts.stalls) e ∙ (boots.stalled ∙ zero-add booting));
         }
 
-    here : (at : Point) (stalls : ℕ) → HasStalled booting stalls_of p bound (first_point v.main_locals input) at stalls → IsHere at stalls (turns m store (Some bound) at.cycles start)
+    here : (at : Point) (stalls : ℕ) → HasStalled booting stalls_of p bound (first_point p v.main_locals input) at stalls → IsHere at stalls (turns m store (Some bound) at.cycles start)
     here at stalls (Booted at' same) = subst (λ (x : Point). IsHere x booting (turns m store (Some bound) x.cycles start)) (sym same) first
     here at stalls (Behind before at' k i to past below code goes same) =
         let h : IsHere before k (turns m store (Some bound) before.cycles start) = here before k past in
-        let g : IsHere (point_after p before to) (k + stalls_of v.image i) (turns m store (Some bound) (next_cost v.image m.machine before.state) (turns m store (Some bound) before.cycles start)) =
+        let g : IsHere (point_after p before to) (k + stalls_of v.image i) (turns m store (Some bound) (next_cost v.image timing before.state) (turns m store (Some bound) before.cycles start)) =
         behind before k (turns m store (Some bound) before.cycles start) i to h below code goes in
         subst (λ (x : Point). IsHere x (k + stalls_of v.image i) (turns m store (Some bound) x.cycles start)) (sym same)
         (subst (λ (r : MicroRun S). IsHere (point_after p before to) (k + stalls_of v.image i) r)
-        (sym (turns-add m store bound before.cycles (next_cost v.image m.machine before.state) start)) g)
+        (sym (turns-add m store bound before.cycles (next_cost v.image timing before.state) start)) g)
 
-    pub stalled_at : (at : Point) (stalls : ℕ) → HasStalled booting stalls_of p bound (first_point v.main_locals input) at stalls → (turns m store (Some bound) at.cycles start).counts.stalls ≡ stalls
+    pub stalled_at : (at : Point) (stalls : ℕ) → HasStalled booting stalls_of p bound (first_point p v.main_locals input) at stalls → (turns m store (Some bound) at.cycles start).counts.stalls ≡ stalls
     stalled_at at stalls h = (here at stalls h).stalled
 
-    pub cut_at : (at : Point) (stalls : ℕ) (i : Instr) (left : State) → HasStalled booting stalls_of p bound (first_point v.main_locals input) at stalls → at.cycles < bound →
+    pub cut_at : (at : Point) (stalls : ℕ) (i : Instr) (left : State) → HasStalled booting stalls_of p bound (first_point p v.main_locals input) at stalls → at.cycles < bound →
         instr_at v.image.text at.state.at ≡ Some i → outcome v.image v.map.stack_end at.state ≡ Limits left →
         (n : ℕ) × StoppedWithin (stalls + stalls_of v.image i) (turns m store (Some bound) n start)
     cut_at at stalls i left h below code limits =

@@ -6,6 +6,7 @@ use Rattle.console_port.specs.Console.{Untaken, LosesLast}
 use Rattle.mic_clock.specs.Meaning.{Meaning, ReadsConsole, UsesConsole}
 use Rattle.mic_clock.specs.View.{BoardView}
 use Rattle.mic_clock.specs.Run.{MicroRun, start_run, turns, word_at, IsClocking}
+use Rattle.ijvm_meaning.specs.Cost.{Timing}
 use Rattle.ijvm_meaning.specs.Run.{Finish, first_point, EndsBy}
 use Rattle.verifier_facts.specs.Accepted.{VerifiedView}
 use Rattle.ijvm_simulation.specs.Stands.{IsAt}
@@ -25,8 +26,8 @@ Leaves left left' untaken = (bytes : List ℕ) → left ≡ Some bytes → left'
 abbrev pub reset_run : {S : Type 0} → Meaning S → ℕ → ℕ → World → MicroRun S
 reset_run m entry main_locals w = start_run m entry (0x8000 + main_locals - 1) w
 
--- A machine: its meaning, when its next instruction is ready, its store that ships, and where that begins.
-module _ {M S : Type 0} (state : M → S) (m : Meaning S) (IsReady : ℕ → List ℕ → ℕ → S → Type 0) (IsShipped : List ℕ → Type 0) (entry : ℕ) where
+-- A machine: its meaning, when its next instruction is ready, its store that ships, where that begins, and what is spent.
+module _ {M S : Type 0} (state : M → S) (m : Meaning S) (IsReady : ℕ → List ℕ → ℕ → S → Type 0) (IsShipped : List ℕ → Type 0) (entry : ℕ) (timing : Timing) where
   module _ (v : VerifiedView) (bound : ℕ) where
     -- How a run begins with a control store and a source: the store is the one that ships, the image was loaded into a memory of its map, and the bytes that are left are untaken, where the source tells them.
     pub record Begins (store : List ℕ) (left : Option (List ℕ)) (before : List ℕ) : Type 0 where
@@ -35,11 +36,11 @@ module _ {M S : Type 0} (state : M → S) (m : Meaning S) (IsReady : ℕ → Lis
       pub loaded : IsLoaded v.image.text v.image.pool (replicate v.map.stack_end 0) words
       pub input : List ℕ
       pub told : Untaken left false input
-      pub simulates : Simulates m (IsAt m IsReady entry (record { words = words; given = before })) store bound (program m.machine v) (first_point v.main_locals input) before
+      pub simulates : Simulates m (IsAt m IsReady entry (record { words = words; given = before })) store bound (program timing v) (first_point (program timing v) v.main_locals input) before
           (reset_run m entry v.main_locals (record { words = words; untaken = input; given = before }))
       -- the definition's run
       pub finish : Finish
-      pub finishes : EndsBy (program m.machine v) bound (first_point v.main_locals input) finish
+      pub finishes : EndsBy (program timing v) bound (first_point (program timing v) v.main_locals input) finish
 
     module _ (left held left' held' : Option (List ℕ)) (board : BoardView M) where
       -- the moment so many turns behind the reset

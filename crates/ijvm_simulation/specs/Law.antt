@@ -5,7 +5,7 @@ use Rattle.mic_clock.specs.Meaning.{Meaning, Outcome, Done, Refused}
 use Rattle.ijvm_instr.specs.declared.instr.Instr.{Instr}
 use Rattle.ijvm_instr.specs.declared.instr.Instr.TheVariants.{Err, Halt}
 use Rattle.ijvm_meaning.specs.Frames.{State, sp_of, lv_of}
-use Rattle.ijvm_meaning.specs.Cost.{boot, cost}
+use Rattle.ijvm_meaning.specs.Cost.{Timing, cost}
 use Rattle.verifier_facts.specs.Accepted.{VerifiedView}
 use Rattle.ijvm_simulation.specs.Stands.{Origin}
 use Rattle.ijvm_simulation.specs.Passes.{Moment, is_inside, outcome_at, pass}
@@ -70,28 +70,30 @@ module _ {S : Type 0} (m : Meaning S) (words : List ℕ) (IsAt : State → S →
     pub untaken : w.untaken ≡ s.untaken
     pub given : w.given ≡ before ++ s.given
 
-  -- from its reset, which is no boundary, a machine comes to the first one
-  pub record Boots (q : Moment S) (first : State) : Type 0 where
-    pub off : m.is_boundary q.state ≡ false
-    pub moves : Moves q boot first
+  -- `timing` says what is spent.
+  module _ (timing : Timing) where
+    -- from its reset, which is no boundary, a machine comes to the first one
+    pub record Boots (q : Moment S) (first : State) : Type 0 where
+      pub off : m.is_boundary q.state ≡ false
+      pub moves : Moves q timing.boot first
 
-  -- what the instructions of a group take of a machine that runs a verified image
-  pub record Takes (v : VerifiedView) (o : Origin) (Has : Instr → Type 0) : Type 0 where
-    pub goes : (s to : State) (q : Moment S) (i : Instr) → Has i → Fine v s → IsNext v o s i → IsAt s q.state q.world →
-        Went v.image v.map.stack_end s to i → Moves q (cost v.image m.machine i s) to
-    pub limits : (s left : State) (q : Moment S) (i : Instr) → Has i → Fine v s → IsNext v o s i → IsAt s q.state q.world →
-        Overran v.image v.map.stack_end s left i → Overruns q left
+    -- what the instructions of a group take of a machine that runs a verified image
+    pub record Takes (v : VerifiedView) (o : Origin) (Has : Instr → Type 0) : Type 0 where
+      pub goes : (s to : State) (q : Moment S) (i : Instr) → Has i → Fine v s → IsNext v o s i → IsAt s q.state q.world →
+          Went v.image v.map.stack_end s to i → Moves q (cost v.image timing i s) to
+      pub limits : (s left : State) (q : Moment S) (i : Instr) → Has i → Fine v s → IsNext v o s i → IsAt s q.state q.world →
+          Overran v.image v.map.stack_end s left i → Overruns q left
 
-  -- where HALT and ERR lead
-  pub record HaltsAndErrs (v : VerifiedView) (o : Origin) : Type 0 where
-    pub halts : (s : State) (q : Moment S) → Fine v s → IsNext v o s Halt → IsAt s q.state q.world → Stops q (cost v.image m.machine Halt s) 0x0FF
-    pub errs : (s : State) (q : Moment S) → Fine v s → IsNext v o s Err → IsAt s q.state q.world → Stops q (cost v.image m.machine Err s) 0x0FE
+    -- where HALT and ERR lead
+    pub record HaltsAndErrs (v : VerifiedView) (o : Origin) : Type 0 where
+      pub halts : (s : State) (q : Moment S) → Fine v s → IsNext v o s Halt → IsAt s q.state q.world → Stops q (cost v.image timing Halt s) 0x0FF
+      pub errs : (s : State) (q : Moment S) → Fine v s → IsNext v o s Err → IsAt s q.state q.world → Stops q (cost v.image timing Err s) 0x0FE
 
-  -- what each instruction takes, in the states that a run comes to
-  pub record Law (v : VerifiedView) (o : Origin) : Type 0 where
-    pub shows : (s : State) (x : S) (w : World) → IsAt s x w → Shows s x w
-    pub takes : Takes v o (λ i. Unit {0})
-    pub ends : HaltsAndErrs v o
+    -- what each instruction takes, in the states that a run comes to
+    pub record Law (v : VerifiedView) (o : Origin) : Type 0 where
+      pub shows : (s : State) (x : S) (w : World) → IsAt s x w → Shows s x w
+      pub takes : Takes v o (λ i. Unit {0})
+      pub ends : HaltsAndErrs v o
 
 -- the moment at a reset over these words, with this input left
 abbrev pub reset_moment : {S : Type 0} → Meaning S → ℕ → ℕ → Origin → List ℕ → Moment S

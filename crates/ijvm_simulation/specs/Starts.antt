@@ -1,6 +1,5 @@
 -- A board at its reset over a verified image, and how its run ends with the store that ships, whoever clocks it.
 use Rattle.std.specs.Prelude.{◌≡◌, ℕ, List, [], replicate, Option, Some, false}
-use Rattle.mic_words.specs.declared.machine.Machine.{Machine}
 use Rattle.console_port.specs.World.{World}
 use Rattle.console_port.specs.Bus.{Shows}
 use Rattle.console_port.specs.Console.{Untaken}
@@ -10,6 +9,7 @@ use Rattle.mic_clock.specs.Meaning.{Meaning}
 use Rattle.mic_clock.specs.View.{BoardView}
 use Rattle.mic_clock.specs.Board.{IsLedTo, Leads, ShowsRun}
 use Rattle.ijvm_image.specs.Image.{IsImage}
+use Rattle.ijvm_meaning.specs.Cost.{Timing}
 use Rattle.ijvm_meaning.specs.Run.{Finish, first_point, EndsBy}
 use Rattle.verifier_facts.specs.Accepted.{VerifiedView, IsAccepted}
 use Rattle.ijvm_simulation.specs.Simulates.{board_end}
@@ -24,14 +24,14 @@ pub record Starts {M S : Type 0} (state : M → S) (m : Meaning S) (entry : ℕ)
   pub input : board.bus.console.ended ≡ false
 
 -- the definition's run ends so, over the bytes that a source has left where it tells them
-pub record EndsSo (machine : Machine) (v : VerifiedView) (bound : ℕ) (left : Option (List ℕ)) (end : End) : Type 0 where
+pub record EndsSo (timing : Timing) (v : VerifiedView) (bound : ℕ) (left : Option (List ℕ)) (end : End) : Type 0 where
   pub input : List ℕ
   pub told : Untaken left false input
   pub finish : Finish
-  pub finishes : EndsBy (program machine v) bound (first_point v.main_locals input) finish
+  pub finishes : EndsBy (program timing v) bound (first_point (program timing v) v.main_locals input) finish
   pub is : end ≡ board_end finish.end
 
-module _ {M S : Type 0} (state : M → S) (m : Meaning S) (IsShipped : List ℕ → Type 0) (entry : ℕ) where
+module _ {M S : Type 0} (state : M → S) (m : Meaning S) (IsShipped : List ℕ → Type 0) (entry : ℕ) (timing : Timing) where
   -- From its reset over a verified image, with the store that ships, a board is led by turns to another that has ended: it has ended as the definition's run.
   abbrev pub EndsAsDefined : Type 0
   EndsAsDefined =
@@ -39,4 +39,4 @@ module _ {M S : Type 0} (state : M → S) (m : Meaning S) (IsShipped : List ℕ 
       IsShipped first.store.words → Starts state m entry v first →
       IsLedTo state left held first left' last
       (λ r rest. (n : ℕ) × Leads state m first.store.words (Some bound) last first.buses rest n r (ShowsRun state left' held' last)) →
-      (end : End) → last.end ≡ Some end → EndsSo m.machine v bound left end
+      (end : End) → last.end ≡ Some end → EndsSo timing v bound left end

@@ -1,10 +1,10 @@
 -- A verified image that a machine runs: its memory when the run begins, and the states that its run comes to.
 use Rattle.std.specs.Prelude.{◌≡◌, ℕ, ◌+◌, ◌<◌, [], length, slice_index}
-use Rattle.mic_words.specs.declared.machine.Machine.{Machine}
 use Rattle.console_port.specs.World.{byte_in}
 use Rattle.ijvm_instr.specs.declared.instr.Instr.{Instr}
 use Rattle.ijvm_image.specs.Image.{IsImage}
 use Rattle.ijvm_meaning.specs.Frames.{State, AreWords, start_of}
+use Rattle.ijvm_meaning.specs.Cost.{Timing}
 use Rattle.ijvm_meaning.specs.Run.{Program}
 use Rattle.ijvm_meaning.specs.Safe.{ComesTo}
 use Rattle.verifier_facts.specs.Sound.{Finds}
@@ -13,8 +13,8 @@ use Rattle.ijvm_simulation.specs.Stands.{Origin}
 use Rattle.ijvm_simulation.specs.Bytes.{Reads}
 
 -- what a machine's run of it runs
-abbrev pub program : Machine → VerifiedView → Program
-program machine v = record { image = v.image; stack_end = v.map.stack_end; machine = machine }
+abbrev pub program : Timing → VerifiedView → Program
+program timing v = record { image = v.image; stack_end = v.map.stack_end; timing = timing }
 
 -- it stands in the memory that a run begins over, and main's locals are 0
 pub record Loads (v : VerifiedView) (o : Origin) : Type 0 where

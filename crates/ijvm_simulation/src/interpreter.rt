@@ -2,6 +2,7 @@
 
 ghost use Rattle.std.specs.Prelude.{◌≡◌, ◌<◌, ℕ, List, IfOk};
 ghost use Rattle.console_port.specs.World.{World};
+ghost use Rattle.ijvm_meaning.specs.Cost.{Timing};
 ghost use Rattle.ijvm_meaning.specs.Frames.{start_of};
 ghost use Rattle.verifier_facts.specs.Accepted.{VerifiedView};
 ghost use Rattle.ijvm_simulation.specs.Stands.{Origin, IsAt};
@@ -22,6 +23,9 @@ pub trait Interpreter {
     /// The address where a run begins.
     ghost entry: { ℕ };
 
+    /// What it spends on a boot and on each instruction.
+    ghost timing: { Timing };
+
     fn entry() -> u16
         ensures value { result ≡ entry }
         ensures small { result < 512 };
@@ -37,9 +41,9 @@ pub trait Interpreter {
     /// What each instruction takes over a verified image, how a run boots, and that what is given stays.
     fn law()
         ensures law { (store : List ℕ) (o : Origin) (v : VerifiedView) → IsShipped store → Loads v o →
-            Law Self.Machine.meaning store (IsAt Self.Machine.meaning Self.Machine.IsReady entry o) o.given v o }
+            Law Self.Machine.meaning store (IsAt Self.Machine.meaning Self.Machine.IsReady entry o) o.given timing v o }
         ensures boots { (store : List ℕ) (o : Origin) (v : VerifiedView) (input : List ℕ) → IsShipped store → Loads v o →
-            Boots Self.Machine.meaning store (IsAt Self.Machine.meaning Self.Machine.IsReady entry o) o.given
+            Boots Self.Machine.meaning store (IsAt Self.Machine.meaning Self.Machine.IsReady entry o) o.given timing
             (reset_moment Self.Machine.meaning entry v.main_locals o input) (start_of v.main_locals input) }
         ensures grows { (word : ℕ) (s : Self.Machine.State) (w : World) → OnDone (λ v. Grows w.given v.given) (Self.Machine.meaning.step word s w) };
 }

@@ -3,6 +3,7 @@
 ghost use Rattle.std.specs.Prelude.{◌≡◌, ℕ, List, Some};
 ghost use Rattle.ijvm_instr.specs.declared.instr.Instr.{Instr};
 ghost use Rattle.ijvm_image.specs.Image.{ImageView};
+ghost use Rattle.ijvm_meaning.specs.Cost.{Timing};
 ghost use Rattle.verifier_facts.specs.Accepted.{VerifiedView};
 ghost use Rattle.ijvm_meaning.specs.Run.{Program, Point, Passes};
 ghost use Rattle.ijvm_simulation.specs.Simulates.{point_behind};
@@ -26,7 +27,7 @@ pub fn counted_boundaries_are_passed()
 
 /// A run over the store that ships, from its reset over a verified image, ends as the definition's run where no fault cuts it. So it is never adrift, and never out of the memory map.
 pub fn shipped_runs_end_as_defined<I: Interpreter>()
-    ensures { EndsAsDefined I.Machine.state I.Machine.meaning I.IsShipped I.entry }
+    ensures { EndsAsDefined I.Machine.state I.Machine.meaning I.IsShipped I.entry I.timing }
 {
     accepted_images_keep_sound();
     runs_keep_words();
@@ -35,8 +36,8 @@ pub fn shipped_runs_end_as_defined<I: Interpreter>()
 
 /// At each boundary of a run from its reset the clock has counted the stalls of the boot and those of the instructions passed, and no other, where the boot and each instruction stall as often as is said of them.
 pub fn stalls_add_up<I: Interpreter>()
-    ensures boundaries { StallsAddUp I.Machine.meaning I.Machine.IsReady I.IsShipped I.entry }
-    ensures limit { CutShort I.Machine.meaning I.Machine.IsReady I.IsShipped I.entry }
+    ensures boundaries { StallsAddUp I.Machine.meaning I.Machine.IsReady I.IsShipped I.entry I.timing }
+    ensures limit { CutShort I.Machine.meaning I.Machine.IsReady I.IsShipped I.entry I.timing }
 {
     accepted_images_keep_sound();
     runs_keep_words();
@@ -50,7 +51,7 @@ pub fn stack_law()
 
 /// What is shown of each group of instructions holds of every instruction.
 pub fn groups_are_all<C: Clocked>()
-    ensures takes { (store : List ℕ) (entry : ℕ) (v : VerifiedView) (o : Origin) → ByGroups (Takes C.meaning store (IsAt C.meaning C.IsReady entry o) o.given v o) }
-    ensures stalls { (store : List ℕ) (entry : ℕ) (stalls_of : ImageView → Instr → ℕ) (v : VerifiedView) (o : Origin) →
-        ByGroups (TakesWithStalls C.meaning store (IsAt C.meaning C.IsReady entry o) o.given stalls_of v o) }
+    ensures takes { (store : List ℕ) (entry : ℕ) (timing : Timing) (v : VerifiedView) (o : Origin) → ByGroups (Takes C.meaning store (IsAt C.meaning C.IsReady entry o) o.given timing v o) }
+    ensures stalls { (store : List ℕ) (entry : ℕ) (timing : Timing) (stalls_of : ImageView → Instr → ℕ) (v : VerifiedView) (o : Origin) →
+        ByGroups (TakesWithStalls C.meaning store (IsAt C.meaning C.IsReady entry o) o.given timing stalls_of v o) }
 {}

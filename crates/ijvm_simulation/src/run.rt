@@ -75,13 +75,13 @@ pub fn run_image<I: Interpreter, S: Source, K: Sink>(
     requires { bound ≤ 2 ^ 62 }
     ensures ended { IfOk result (λ board. IsSome board.end) }
     ensures run { IfOk result (λ board. NoFault None board.end →
-        HasRun I.Machine.state I.Machine.meaning I.Machine.IsReady I.IsShipped I.entry image.now bound
+        HasRun I.Machine.state I.Machine.meaning I.Machine.IsReady I.IsShipped I.entry I.timing image.now bound
         (S.left source.old) (K.held sink.old) (S.left source.new) (K.held sink.new) board) }
     ensures read { IfOk result (λ board. board.end ≡ Some End.ReadFault →
-        IsCutByRead I.Machine.state I.Machine.meaning I.Machine.IsReady I.IsShipped I.entry image.now bound
+        IsCutByRead I.Machine.state I.Machine.meaning I.Machine.IsReady I.IsShipped I.entry I.timing image.now bound
         (S.left source.old) (K.held sink.old) (S.left source.new) (K.held sink.new) board) }
     ensures write { IfOk result (λ board. board.end ≡ Some End.WriteFault →
-        IsCutByWrite I.Machine.state I.Machine.meaning I.Machine.IsReady I.IsShipped I.entry image.now bound
+        IsCutByWrite I.Machine.state I.Machine.meaning I.Machine.IsReady I.IsShipped I.entry I.timing image.now bound
         (S.left source.old) (K.held sink.old) (S.left source.new) (K.held sink.new) board) }
     ensures flushed { IfOk result (λ board. board.end ≢ Some End.WriteFault → StaysFlushed (K.held sink.old) (K.passed sink.old) (K.held sink.new) (K.passed sink.new)) }
     ensures cause { IfOk result (λ board. HasEndCause (S.faults source.old) (S.faults source.new) (K.faults sink.old) (K.faults sink.new) None board.end) }

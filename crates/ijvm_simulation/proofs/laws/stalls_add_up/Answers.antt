@@ -10,7 +10,7 @@ returns-clause-boundaries g c = λ booting stalls_of store o v input bound has l
       start_words = c.runs_keep_words.ensures.start v.main_locals;
       goes_words = λ s to. c.runs_keep_words.ensures.goes v.image v.map.stack_end s to loads.image;
     } in
-    stalled_at g.I.Machine.Clocked.meaning store (IsAt g.I.Machine.Clocked.meaning g.I.Machine.Clocked.IsReady g.I.Interpreter.entry o) o v loads known
+    stalled_at g.I.Machine.Clocked.meaning store (IsAt g.I.Machine.Clocked.meaning g.I.Machine.Clocked.IsReady g.I.Interpreter.entry o) o v loads known g.I.Interpreter.timing
     (c.law.ensures.law store o v has loads) stalls_of takes bound g.I.Interpreter.entry booting input boots (c.law.ensures.boots store o v input has loads)
 
 pub returns-clause-limit : goal.returns-clause-limit
@@ -20,5 +20,5 @@ returns-clause-limit g c = λ booting stalls_of store o v input bound has loads 
       start_words = c.runs_keep_words.ensures.start v.main_locals;
       goes_words = λ s to. c.runs_keep_words.ensures.goes v.image v.map.stack_end s to loads.image;
     } in
-    cut_at g.I.Machine.Clocked.meaning store (IsAt g.I.Machine.Clocked.meaning g.I.Machine.Clocked.IsReady g.I.Interpreter.entry o) o v loads known
+    cut_at g.I.Machine.Clocked.meaning store (IsAt g.I.Machine.Clocked.meaning g.I.Machine.Clocked.IsReady g.I.Interpreter.entry o) o v loads known g.I.Interpreter.timing
     (c.law.ensures.law store o v has loads) stalls_of takes bound g.I.Interpreter.entry booting input boots (c.law.ensures.boots store o v input has loads)

@@ -18,11 +18,11 @@ returns-clause-run g c = λ none.
       start_words = c.runs_keep_words.ensures.start c.args.image.now.main_locals;
       goes_words = λ s to. c.runs_keep_words.ensures.goes c.args.image.now.image c.args.image.now.map.stack_end s to image;
     } in
-    let promises : Promises g.I.Machine.Clocked.meaning g.I.Machine.Clocked.IsReady g.I.Interpreter.IsShipped g.I.Interpreter.entry = record { law = c.law.ensures.law; boots = c.law.ensures.boots; grows = c.law.ensures.grows } in
+    let promises : Promises g.I.Machine.Clocked.meaning g.I.Machine.Clocked.IsReady g.I.Interpreter.IsShipped g.I.Interpreter.entry g.I.Interpreter.timing = record { law = c.law.ensures.law; boots = c.law.ensures.boots; grows = c.law.ensures.grows } in
     let starts : Starts g.I.Machine.Clocked.state g.I.Machine.Clocked.meaning g.I.Interpreter.entry c.args.image.now c.in_ok-board.board =
     record { start = c.in_ok-board.ensures.start; loaded = c.in_ok-board.ensures.words; kept = c.in_ok-board.ensures.kept; input = c.in_ok-board.ensures.input } in
     let has : g.I.Interpreter.IsShipped c.run.new.self.store.words = subst (λ (st : ControlStore). g.I.Interpreter.IsShipped st.words) (sym c.run.ensures.store) c.in_ok-board.ensures.store in
-    has_run g.I.Machine.Clocked.state g.I.Machine.Clocked.meaning g.I.Machine.Clocked.IsReady g.I.Interpreter.IsShipped g.I.Interpreter.entry promises
+    has_run g.I.Machine.Clocked.state g.I.Machine.Clocked.meaning g.I.Machine.Clocked.IsReady g.I.Interpreter.IsShipped g.I.Interpreter.entry g.I.Interpreter.timing promises
     c.args.image.now image c.image.ensures.accepted known c.args.bound _ _ _ _ c.in_ok-board.board c.run.new.self starts has c.run.ensures.tells_left c.run.result c.run.ensures.end (c.run.ensures.kept c.in_ok-board.ensures.end)
     (subst
     (λ (st : ControlStore). IsLedTo g.I.Machine.Clocked.state (g.S.Source.left c.args.source.now) (g.K.Sink.held c.args.sink.now) c.in_ok-board.board (g.S.Source.left c.run.new.source) c.run.new.self
@@ -39,11 +39,11 @@ returns-clause-read g c = λ failed.
       start_words = c.runs_keep_words.ensures.start c.args.image.now.main_locals;
       goes_words = λ s to. c.runs_keep_words.ensures.goes c.args.image.now.image c.args.image.now.map.stack_end s to image;
     } in
-    let promises : Promises g.I.Machine.Clocked.meaning g.I.Machine.Clocked.IsReady g.I.Interpreter.IsShipped g.I.Interpreter.entry = record { law = c.law.ensures.law; boots = c.law.ensures.boots; grows = c.law.ensures.grows } in
+    let promises : Promises g.I.Machine.Clocked.meaning g.I.Machine.Clocked.IsReady g.I.Interpreter.IsShipped g.I.Interpreter.entry g.I.Interpreter.timing = record { law = c.law.ensures.law; boots = c.law.ensures.boots; grows = c.law.ensures.grows } in
     let starts : Starts g.I.Machine.Clocked.state g.I.Machine.Clocked.meaning g.I.Interpreter.entry c.args.image.now c.in_ok-board.board =
     record { start = c.in_ok-board.ensures.start; loaded = c.in_ok-board.ensures.words; kept = c.in_ok-board.ensures.kept; input = c.in_ok-board.ensures.input } in
     let has : g.I.Interpreter.IsShipped c.run.new.self.store.words = subst (λ (st : ControlStore). g.I.Interpreter.IsShipped st.words) (sym c.run.ensures.store) c.in_ok-board.ensures.store in
-    is_cut_by_read g.I.Machine.Clocked.state g.I.Machine.Clocked.meaning g.I.Machine.Clocked.IsReady g.I.Interpreter.IsShipped g.I.Interpreter.entry promises
+    is_cut_by_read g.I.Machine.Clocked.state g.I.Machine.Clocked.meaning g.I.Machine.Clocked.IsReady g.I.Interpreter.IsShipped g.I.Interpreter.entry g.I.Interpreter.timing promises
     c.args.image.now image c.image.ensures.accepted known c.args.bound _ _ _ _ c.in_ok-board.board c.run.new.self starts has c.run.ensures.tells_left
     (subst
     (λ (st : ControlStore). IsLedTo g.I.Machine.Clocked.state (g.S.Source.left c.args.source.now) (g.K.Sink.held c.args.sink.now) c.in_ok-board.board (g.S.Source.left c.run.new.source) c.run.new.self
@@ -60,11 +60,11 @@ returns-clause-write g c = λ failed.
       start_words = c.runs_keep_words.ensures.start c.args.image.now.main_locals;
       goes_words = λ s to. c.runs_keep_words.ensures.goes c.args.image.now.image c.args.image.now.map.stack_end s to image;
     } in
-    let promises : Promises g.I.Machine.Clocked.meaning g.I.Machine.Clocked.IsReady g.I.Interpreter.IsShipped g.I.Interpreter.entry = record { law = c.law.ensures.law; boots = c.law.ensures.boots; grows = c.law.ensures.grows } in
+    let promises : Promises g.I.Machine.Clocked.meaning g.I.Machine.Clocked.IsReady g.I.Interpreter.IsShipped g.I.Interpreter.entry g.I.Interpreter.timing = record { law = c.law.ensures.law; boots = c.law.ensures.boots; grows = c.law.ensures.grows } in
     let starts : Starts g.I.Machine.Clocked.state g.I.Machine.Clocked.meaning g.I.Interpreter.entry c.args.image.now c.in_ok-board.board =
     record { start = c.in_ok-board.ensures.start; loaded = c.in_ok-board.ensures.words; kept = c.in_ok-board.ensures.kept; input = c.in_ok-board.ensures.input } in
     let has : g.I.Interpreter.IsShipped c.run.new.self.store.words = subst (λ (st : ControlStore). g.I.Interpreter.IsShipped st.words) (sym c.run.ensures.store) c.in_ok-board.ensures.store in
-    is_cut_by_write g.I.Machine.Clocked.state g.I.Machine.Clocked.meaning g.I.Machine.Clocked.IsReady g.I.Interpreter.IsShipped g.I.Interpreter.entry promises
+    is_cut_by_write g.I.Machine.Clocked.state g.I.Machine.Clocked.meaning g.I.Machine.Clocked.IsReady g.I.Interpreter.IsShipped g.I.Interpreter.entry g.I.Interpreter.timing promises
     c.args.image.now image c.image.ensures.accepted known c.args.bound _ _ _ _ c.in_ok-board.board c.run.new.self starts has c.run.ensures.tells_left c.run.ensures.keeps
     (subst
     (λ (st : ControlStore). IsLedTo g.I.Machine.Clocked.state (g.S.Source.left c.args.source.now) (g.K.Sink.held c.args.sink.now) c.in_ok-board.board (g.S.Source.left c.run.new.source) c.run.new.self
