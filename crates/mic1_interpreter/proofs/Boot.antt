@@ -2,11 +2,13 @@
 use Rattle.std.proofs.Common.{◌≡◌, ℕ, zero, suc, ◌+◌, ◌-◌, ◌<◌, Option, Some, None, List, [], ◌∷◌, length, replicate, refl, arith, sym, ◌∙◌, ap}
 use Rattle.std.specs.Prelude.{slice_get}
 use Rattle.std.proofs.lemmas.List.{length-replicate, append-nil}
+use Rattle.mic_words.specs.declared.machine.Machine.TheVariants.{Mic1}
 use Rattle.mic_words.specs.Arithmetic.{next, wrap}
 use Rattle.console_port.specs.World.{World, fetch_refusal, byte_in}
 use Rattle.mic_clock.specs.Run.{MicroRun, start_run}
 use Rattle.mic1_datapath.specs.Micro.{Micro}
 use Rattle.mic1_datapath.specs.Mic1.{mic1_meaning}
+use Rattle.ijvm_meaning.specs.Cost.{timing_of}
 use Rattle.ijvm_meaning.specs.Frames.{start_of}
 use Rattle.mic1_interpreter.proofs.Shipped.{HasStatements}
 use Rattle.mic1_interpreter.specs.Stands.{Stands}
@@ -60,7 +62,7 @@ module _ (program : List ℕ) (has : HasStatements program) (o : Origin) (v : Ve
         stalls = refl;
       }
 
-  pub boots : Boots mic1_meaning program (Stands o) o.given (reset_moment mic1_meaning 0x002 v.main_locals o input) (start_of v.main_locals input)
+  pub boots : Boots mic1_meaning program (Stands o) o.given (timing_of Mic1) (reset_moment mic1_meaning 0x002 v.main_locals o input) (start_of v.main_locals input)
   boots =
       let c : ReachesBoundary program o 1 (reset_moment mic1_meaning 0x002 v.main_locals o input) (start_of v.main_locals input) = boot in
       record {

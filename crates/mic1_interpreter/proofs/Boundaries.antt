@@ -10,7 +10,7 @@ use Rattle.mic1_datapath.specs.Mic1.{mic1_meaning}
 use Rattle.mic1_datapath.specs.Microstep.{refusal}
 use Rattle.mic_words.specs.declared.machine.Machine.TheVariants.{Mic1}
 use Rattle.ijvm_instr.specs.declared.instr.Instr.{Instr}
-use Rattle.ijvm_meaning.specs.Cost.{cost}
+use Rattle.ijvm_meaning.specs.Cost.{timing_of, cost}
 use Rattle.verifier_facts.specs.Accepted.{VerifiedView}
 use Rattle.ijvm_simulation.specs.Verified.{IsNext, Loads}
 use Rattle.mic1_interpreter.proofs.Shipped.{shipped, HasStatements}
@@ -143,8 +143,8 @@ begins o s m w h =
 
 module _ (program : List ℕ) (o : Origin) (v : VerifiedView) where
   -- a pass to the next boundary, where it takes the instruction's cycles
-  pub moves : (s to a : State) (q : Moment Micro) (i : Instr) (n : ℕ) → Stands o s q.state q.world → cost v.image Mic1 i s ≡ n + 1 → n < 1024 → a ≡ to →
-      ReachesBoundary program o n q a → Moves mic1_meaning program (Stands o) o.given q (cost v.image Mic1 i s) to
+  pub moves : (s to a : State) (q : Moment Micro) (i : Instr) (n : ℕ) → Stands o s q.state q.world → cost v.image (timing_of Mic1) i s ≡ n + 1 → n < 1024 → a ≡ to →
+      ReachesBoundary program o n q a → Moves mic1_meaning program (Stands o) o.given q (cost v.image (timing_of Mic1) i s) to
   moves s to a q i n h spent short same c =
       record {
         n = n;

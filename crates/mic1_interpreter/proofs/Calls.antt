@@ -10,7 +10,7 @@ use Rattle.ijvm_instr.specs.declared.instr.Instr.{Instr}
 use Rattle.ijvm_instr.specs.declared.instr.Instr.TheVariants.{Ireturn, Invokevirtual}
 use Rattle.ijvm_image.specs.declared.method.Method.{Method}
 use Rattle.ijvm_meaning.specs.Frames.{Frame, State, base, kept_words}
-use Rattle.ijvm_meaning.specs.Cost.{cost}
+use Rattle.ijvm_meaning.specs.Cost.{timing_of, cost}
 use Rattle.ijvm_meaning.specs.Step.{onto, called}
 use Rattle.verifier_facts.specs.Accepted.{VerifiedView}
 use Rattle.mic1_datapath.specs.Micro.{Micro}
@@ -190,7 +190,7 @@ module _ (program : List ℕ) (has : HasStatements program) (o : Origin) (v : Ve
       next.reads.1 f.constant.small f.constant.there f.whole (omega (arith, f.params_are)) f.others_are a.depth
 
   goes : (s to : State) (q : Moment Micro) (i : Instr) → IsCall i → Fine v s → IsNext v o s i → Stands o s q.state q.world → Went v.image v.map.stack_end s to i →
-      Moves mic1_meaning program (Stands o) o.given q (cost v.image Mic1 i s) to
+      Moves mic1_meaning program (Stands o) o.given q (cost v.image (timing_of Mic1) i s) to
   goes s to q Ireturn is fine n h went =
       let r = n.finds.returns refl in
       let same : r.0 ≡ went.back = same_Some r.0 went.back (sym r.3 ∙ went.back_is) in
@@ -255,5 +255,5 @@ module _ (program : List ℕ) (has : HasStatements program) (o : Origin) (v : Ve
       ]
   limits s left q i is fine n h over = absurd is
 
-  pub calls : Takes mic1_meaning program (Stands o) o.given v o IsCall
+  pub calls : Takes mic1_meaning program (Stands o) o.given (timing_of Mic1) v o IsCall
   calls = record { goes = goes; limits = limits }

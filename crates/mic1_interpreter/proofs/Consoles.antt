@@ -7,7 +7,7 @@ use Rattle.console_port.specs.World.{World, Refusal, StackLimit, next_byte, read
 use Rattle.ijvm_instr.specs.declared.instr.Instr.{Instr}
 use Rattle.ijvm_instr.specs.declared.instr.Instr.TheVariants.{In, Out}
 use Rattle.ijvm_meaning.specs.Frames.{State, frames_of, base}
-use Rattle.ijvm_meaning.specs.Cost.{cost}
+use Rattle.ijvm_meaning.specs.Cost.{timing_of, cost}
 use Rattle.ijvm_meaning.specs.Step.{moved, taken}
 use Rattle.verifier_facts.specs.Accepted.{VerifiedView}
 use Rattle.mic1_datapath.specs.Micro.{Micro}
@@ -66,7 +66,7 @@ module _ (program : List ℕ) (has : HasStatements program) (o : Origin) (v : Ve
   map = map_of v o loads
 
   goes : (s to : State) (q : Moment Micro) (i : Instr) → IsOfConsole i → Fine v s → IsNext v o s i → Stands o s q.state q.world → Went v.image v.map.stack_end s to i →
-      Moves mic1_meaning program (Stands o) o.given q (cost v.image Mic1 i s) to
+      Moves mic1_meaning program (Stands o) o.given q (cost v.image (timing_of Mic1) i s) to
   goes s to q In is fine n h went =
       moves program o v s to _ q In 5 h refl (omega arith) went.goes (inp program has o map law s q.state q.world q.stalls h (next_inside loads n) n.reads (omega (arith, went.fits, loads.long)))
   goes s to q Out is fine n h went =
@@ -87,5 +87,5 @@ module _ (program : List ℕ) (has : HasStatements program) (o : Origin) (v : Ve
   limits s left q Out is fine n h over = absurd over
   limits s left q i is fine n h over = absurd is
 
-  pub consoles : Takes mic1_meaning program (Stands o) o.given v o IsOfConsole
+  pub consoles : Takes mic1_meaning program (Stands o) o.given (timing_of Mic1) v o IsOfConsole
   consoles = record { goes = goes; limits = limits }

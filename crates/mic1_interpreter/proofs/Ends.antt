@@ -3,7 +3,7 @@ use Rattle.std.proofs.Common.{◌≡◌, ℕ, List, [], ◌∷◌, length, refl,
 use Rattle.mic_words.specs.declared.machine.Machine.TheVariants.{Mic1}
 use Rattle.ijvm_instr.specs.declared.instr.Instr.TheVariants.{Err, Halt}
 use Rattle.ijvm_meaning.specs.Frames.{State}
-use Rattle.ijvm_meaning.specs.Cost.{cost}
+use Rattle.ijvm_meaning.specs.Cost.{timing_of, cost}
 use Rattle.verifier_facts.specs.Accepted.{VerifiedView}
 use Rattle.mic1_datapath.specs.Micro.{Micro}
 use Rattle.mic1_datapath.specs.Mic1.{mic1_meaning}
@@ -21,7 +21,7 @@ module _ (program : List ℕ) (has : HasStatements program) (o : Origin) (v : Ve
   abbrev map : IsMapEnd (length o.words)
   map = map_of v o loads
 
-  halts : (s : State) (q : Moment Micro) → Fine v s → IsNext v o s Halt → Stands o s q.state q.world → Stops mic1_meaning program (Stands o) o.given q (cost v.image Mic1 Halt s) 0x0FF
+  halts : (s : State) (q : Moment Micro) → Fine v s → IsNext v o s Halt → Stands o s q.state q.world → Stops mic1_meaning program (Stands o) o.given q (cost v.image (timing_of Mic1) Halt s) 0x0FF
   halts s q fine n h =
       let c : Counts o s q.state q.world = counts o map s q.state q.world h (next_inside loads n) in
       let op : q.state.mbr ≡ 0xFF = h.ready.mbr ∙ n.reads in
@@ -38,7 +38,7 @@ module _ (program : List ℕ) (has : HasStatements program) (o : Origin) (v : Ve
         world = refl;
       })
 
-  errs : (s : State) (q : Moment Micro) → Fine v s → IsNext v o s Err → Stands o s q.state q.world → Stops mic1_meaning program (Stands o) o.given q (cost v.image Mic1 Err s) 0x0FE
+  errs : (s : State) (q : Moment Micro) → Fine v s → IsNext v o s Err → Stands o s q.state q.world → Stops mic1_meaning program (Stands o) o.given q (cost v.image (timing_of Mic1) Err s) 0x0FE
   errs s q fine n h =
       let c : Counts o s q.state q.world = counts o map s q.state q.world h (next_inside loads n) in
       let op : q.state.mbr ≡ 0xFE = h.ready.mbr ∙ n.reads in
@@ -55,5 +55,5 @@ module _ (program : List ℕ) (has : HasStatements program) (o : Origin) (v : Ve
         world = refl;
       })
 
-  pub ends : HaltsAndErrs mic1_meaning program (Stands o) o.given v o
+  pub ends : HaltsAndErrs mic1_meaning program (Stands o) o.given (timing_of Mic1) v o
   ends = record { halts = halts; errs = errs }

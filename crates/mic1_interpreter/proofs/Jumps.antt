@@ -10,7 +10,7 @@ use Rattle.ijvm_instr.specs.declared.instr.Instr.{Instr}
 use Rattle.ijvm_instr.specs.declared.instr.Instr.TheVariants.{Ifeq, Iflt, IfIcmpeq, Goto}
 use Rattle.ijvm_instr.specs.Instructions.{word_of, target}
 use Rattle.ijvm_meaning.specs.Frames.{State, IsWord, HasWords, frames_of, base}
-use Rattle.ijvm_meaning.specs.Cost.{cost, tests, are_equal}
+use Rattle.ijvm_meaning.specs.Cost.{timing_of, cost, tests, are_equal}
 use Rattle.ijvm_meaning.specs.Step.{moved, way}
 use Rattle.verifier_facts.specs.Accepted.{VerifiedView}
 use Rattle.mic1_datapath.specs.Micro.{Micro}
@@ -188,9 +188,9 @@ module _ (program : List ℕ) (has : HasStatements program) (o : Origin) (v : Ve
 
   -- a branch by a test of the top
   branched : (s to : State) (q : Moment Micro) (i : Instr) (z : ℤ) (t : Bool) (rest : List ℕ) → Stands o s q.state q.world → jump o.words s.at ≡ target s.at z →
-      moved s rest (way s.at z t) ≡ to → (t ≡ true → cost v.image Mic1 i s ≡ 11) → (t ≡ false → cost v.image Mic1 i s ≡ 8) →
+      moved s rest (way s.at z t) ≡ to → (t ≡ true → cost v.image (timing_of Mic1) i s ≡ 11) → (t ≡ false → cost v.image (timing_of Mic1) i s ≡ 8) →
       (t ≡ true → ReachesBoundary program o 10 q (moved s rest (jump o.words s.at))) → (t ≡ false → ReachesBoundary program o 7 q (moved s rest (s.at + 3))) →
-      Moves mic1_meaning program (Stands o) o.given q (cost v.image Mic1 i s) to
+      Moves mic1_meaning program (Stands o) o.given q (cost v.image (timing_of Mic1) i s) to
   branched s to q i z true rest h e same jumps_in falls_in taken not =
       moves program o v s to _ q i 10 h (jumps_in refl) (omega arith) (ap (moved s rest) e ∙ same) (taken refl)
   branched s to q i z false rest h e same jumps_in falls_in taken not =
@@ -198,16 +198,16 @@ module _ (program : List ℕ) (has : HasStatements program) (o : Origin) (v : Ve
 
   -- IF_ICMPEQ takes two cycles more
   compared : (s to : State) (q : Moment Micro) (i : Instr) (z : ℤ) (t : Bool) (rest : List ℕ) → Stands o s q.state q.world → jump o.words s.at ≡ target s.at z →
-      moved s rest (way s.at z t) ≡ to → (t ≡ true → cost v.image Mic1 i s ≡ 13) → (t ≡ false → cost v.image Mic1 i s ≡ 10) →
+      moved s rest (way s.at z t) ≡ to → (t ≡ true → cost v.image (timing_of Mic1) i s ≡ 13) → (t ≡ false → cost v.image (timing_of Mic1) i s ≡ 10) →
       (t ≡ true → ReachesBoundary program o 12 q (moved s rest (jump o.words s.at))) → (t ≡ false → ReachesBoundary program o 9 q (moved s rest (s.at + 3))) →
-      Moves mic1_meaning program (Stands o) o.given q (cost v.image Mic1 i s) to
+      Moves mic1_meaning program (Stands o) o.given q (cost v.image (timing_of Mic1) i s) to
   compared s to q i z true rest h e same jumps_in falls_in taken not =
       moves program o v s to _ q i 12 h (jumps_in refl) (omega arith) (ap (moved s rest) e ∙ same) (taken refl)
   compared s to q i z false rest h e same jumps_in falls_in taken not =
       moves program o v s to _ q i 9 h (falls_in refl) (omega arith) same (not refl)
 
   goes : (s to : State) (q : Moment Micro) (i : Instr) → IsJump i → Fine v s → IsNext v o s i → Stands o s q.state q.world → Went v.image v.map.stack_end s to i →
-      Moves mic1_meaning program (Stands o) o.given q (cost v.image Mic1 i s) to
+      Moves mic1_meaning program (Stands o) o.given q (cost v.image (timing_of Mic1) i s) to
   goes s to q (Goto z) is fine n h went =
       let e : jump o.words s.at ≡ target s.at z = target_is s z n.reads.1 in
       let there : jump o.words s.at < 0x10000 = target_inside s z e (n.finds.inside (target s.at z) (inr (z, refl, refl))) in
@@ -250,5 +250,5 @@ module _ (program : List ℕ) (has : HasStatements program) (o : Origin) (v : Ve
   limits s left q (IfIcmpeq z) is fine n h over = absurd over
   limits s left q i is fine n h over = absurd is
 
-  pub jumping : Takes mic1_meaning program (Stands o) o.given v o IsJump
+  pub jumping : Takes mic1_meaning program (Stands o) o.given (timing_of Mic1) v o IsJump
   jumping = record { goes = goes; limits = limits }

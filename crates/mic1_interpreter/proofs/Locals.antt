@@ -8,7 +8,7 @@ use Rattle.console_port.specs.World.{World, Refusal, StackLimit, read_value, byt
 use Rattle.ijvm_instr.specs.declared.instr.Instr.{Instr}
 use Rattle.ijvm_instr.specs.declared.instr.Instr.TheVariants.{LdcW, Iload, Istore, Iinc, WideIload, WideIstore, WideIinc}
 use Rattle.ijvm_meaning.specs.Frames.{State, frames_of, base}
-use Rattle.ijvm_meaning.specs.Cost.{cost}
+use Rattle.ijvm_meaning.specs.Cost.{timing_of, cost}
 use Rattle.ijvm_meaning.specs.Step.{with_local, is_own}
 use Rattle.verifier_facts.specs.Accepted.{VerifiedView}
 use Rattle.mic1_datapath.specs.Micro.{Micro}
@@ -158,7 +158,7 @@ module _ (program : List ℕ) (has : HasStatements program) (o : Origin) (v : Ve
   map = map_of v o loads
 
   goes : (s to : State) (q : Moment Micro) (i : Instr) → IsOfLocals i → Fine v s → IsNext v o s i → Stands o s q.state q.world → Went v.image v.map.stack_end s to i →
-      Moves mic1_meaning program (Stands o) o.given q (cost v.image Mic1 i s) to
+      Moves mic1_meaning program (Stands o) o.given q (cost v.image (timing_of Mic1) i s) to
   goes s to q (LdcW k) is fine n h went =
       let c : IsConstant o k went.value = law.constant v o loads k went.value went.found in
       moves program o v s to _ q (LdcW k) 7 h refl (omega arith) went.leads.goes
@@ -230,5 +230,5 @@ module _ (program : List ℕ) (has : HasStatements program) (o : Origin) (v : Ve
   limits s left q (WideIinc k z) is fine n h over = absurd over
   limits s left q i is fine n h over = absurd is
 
-  pub locals : Takes mic1_meaning program (Stands o) o.given v o IsOfLocals
+  pub locals : Takes mic1_meaning program (Stands o) o.given (timing_of Mic1) v o IsOfLocals
   locals = record { goes = goes; limits = limits }

@@ -10,7 +10,7 @@ use Rattle.ijvm_instr.specs.declared.instr.Instr.{Instr}
 use Rattle.ijvm_instr.specs.declared.instr.Instr.TheVariants.{Nop, Bipush, Pop, Dup, Swap, Iadd, Isub, Iand, Ior}
 use Rattle.ijvm_instr.specs.Instructions.{word_of}
 use Rattle.ijvm_meaning.specs.Frames.{State, frames_of, base}
-use Rattle.ijvm_meaning.specs.Cost.{cost}
+use Rattle.ijvm_meaning.specs.Cost.{timing_of, cost}
 use Rattle.ijvm_meaning.specs.Step.{moved}
 use Rattle.verifier_facts.specs.Accepted.{VerifiedView}
 use Rattle.mic1_datapath.specs.Micro.{Micro}
@@ -177,7 +177,7 @@ module _ (program : List ℕ) (has : HasStatements program) (o : Origin) (v : Ve
   map = map_of v o loads
 
   goes : (s to : State) (q : Moment Micro) (i : Instr) → IsOfOperands i → Fine v s → IsNext v o s i → Stands o s q.state q.world → Went v.image v.map.stack_end s to i →
-      Moves mic1_meaning program (Stands o) o.given q (cost v.image Mic1 i s) to
+      Moves mic1_meaning program (Stands o) o.given q (cost v.image (timing_of Mic1) i s) to
   goes s to q Nop is fine n h went = moves program o v s to _ q Nop 1 h refl (omega arith) went (nop program has o map law s q.state q.world q.stalls h (next_inside loads n) n.reads)
   goes s to q (Bipush b) is fine n h went =
       let word : signed_byte (byte_in o.words (s.at + 1)) ≡ word_of b = sym n.reads.1 in
@@ -231,5 +231,5 @@ module _ (program : List ℕ) (has : HasStatements program) (o : Origin) (v : Ve
   limits s left q Ior is fine n h over = absurd over
   limits s left q i is fine n h over = absurd is
 
-  pub operands : Takes mic1_meaning program (Stands o) o.given v o IsOfOperands
+  pub operands : Takes mic1_meaning program (Stands o) o.given (timing_of Mic1) v o IsOfOperands
   operands = record { goes = goes; limits = limits }

@@ -2,7 +2,9 @@
 use Rattle.std.proofs.Common.{◌≡◌, ℕ, zero, suc, ◌<◌, Option, Some, List, [], ◌∷◌, length, replicate, refl, arith, sym, ◌∙◌, ap}
 use Rattle.std.specs.Prelude.{slice_get, slice_index}
 use Rattle.std.proofs.lemmas.List.{length-replicate, append-nil}
+use Rattle.mic_words.specs.declared.machine.Machine.TheVariants.{Mic2}
 use Rattle.mic_words.specs.Arithmetic.{plus}
+use Rattle.ijvm_meaning.specs.Cost.{timing_of}
 use Rattle.console_port.specs.World.{byte_in}
 use Rattle.mic2_fetch_unit.specs.FetchUnit.{at_start}
 use Rattle.mic2_datapath.specs.Micro.{Micro}
@@ -83,5 +85,5 @@ module _ (program : List ℕ) (has : HasStatements program) (o : Origin) (v : Ve
       }
 
   -- a reset is no boundary
-  pub boots_off : Boots mic2_meaning program (Stands o) o.given start (start_of v.main_locals input)
+  pub boots_off : Boots mic2_meaning program (Stands o) o.given (timing_of Mic2) start (start_of v.main_locals input)
   boots_off = record { off = refl; moves = boots.moves }

@@ -12,7 +12,7 @@ use Rattle.mic2_datapath.specs.Microstep.{demand}
 use Rattle.mic2_datapath.specs.Mic2.{mic2_meaning}
 use Rattle.mic_words.specs.declared.machine.Machine.TheVariants.{Mic2}
 use Rattle.ijvm_instr.specs.declared.instr.Instr.{Instr}
-use Rattle.ijvm_meaning.specs.Cost.{cost}
+use Rattle.ijvm_meaning.specs.Cost.{timing_of, cost}
 use Rattle.verifier_facts.specs.Accepted.{VerifiedView}
 use Rattle.ijvm_simulation.specs.Verified.{IsNext, Loads}
 use Rattle.mic2_interpreter.specs.Stands.{Stands}
@@ -193,7 +193,7 @@ begins o s m w code h is no_halt no_err =
 module _ (program : List ℕ) (o : Origin) (v : VerifiedView) where
   -- a pass to the next boundary, where it takes the instruction's cycles
   pub moves : (s to a : State) (q : Moment Micro) (i : Instr) (n waits code : ℕ) → Stands o s q.state q.world → byte_in o.words s.at ≡ code → (code == 255) ≡ false → (code == 254) ≡ false →
-      cost v.image Mic2 i s ≡ n + 1 → n < 1024 → a ≡ to → ReachesBoundary program o n waits q a → MovesWithStalls program o q (cost v.image Mic2 i s) waits to
+      cost v.image (timing_of Mic2) i s ≡ n + 1 → n < 1024 → a ≡ to → ReachesBoundary program o n waits q a → MovesWithStalls program o q (cost v.image (timing_of Mic2) i s) waits to
   moves s to a q i n waits code h is no_halt no_err spent short same c =
       record {
         moves = record {

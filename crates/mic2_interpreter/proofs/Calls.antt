@@ -10,7 +10,7 @@ use Rattle.ijvm_instr.specs.declared.instr.Instr.{Instr}
 use Rattle.ijvm_instr.specs.declared.instr.Instr.TheVariants.{Ireturn, Invokevirtual}
 use Rattle.ijvm_image.specs.declared.method.Method.{Method}
 use Rattle.ijvm_meaning.specs.Frames.{Frame, State, base, kept_words}
-use Rattle.ijvm_meaning.specs.Cost.{cost}
+use Rattle.ijvm_meaning.specs.Cost.{timing_of, cost}
 use Rattle.ijvm_meaning.specs.Step.{onto, called}
 use Rattle.verifier_facts.specs.Accepted.{VerifiedView}
 use Rattle.mic2_datapath.specs.Micro.{Micro}
@@ -216,14 +216,14 @@ module _ (program : List ℕ) (has : HasStatements program) (o : Origin) (v : Ve
 
   -- the cycles of a call by its entry
   invoked : (s to : State) (q : Moment Micro) (k e : ℕ) (late : Bool) (a : State) → Stands o s q.state q.world → byte_in o.words s.at ≡ 0xB6 → slice_index v.image.pool k ≡ e → (e % 4 == 3) ≡ late → a ≡ to →
-      ReachesBoundary program o (length (plan late (steps 8))) (stalls_of_call late) q a → MovesWithStalls program o q (cost v.image Mic2 (Invokevirtual k) s) (stalls_of v.image (Invokevirtual k)) to
+      ReachesBoundary program o (length (plan late (steps 8))) (stalls_of_call late) q a → MovesWithStalls program o q (cost v.image (timing_of Mic2) (Invokevirtual k) s) (stalls_of v.image (Invokevirtual k)) to
   invoked s to q k e false a h code named late same c =
       let early : (slice_index v.image.pool k % 4 == 3) ≡ false = ap (λ (j : ℕ). j % 4 == 3) named ∙ late in
-      subst (λ (n : ℕ). MovesWithStalls program o q (cost v.image Mic2 (Invokevirtual k) s) n to) (sym (ap (λ (b : Bool). stalls_of_call b) early))
+      subst (λ (n : ℕ). MovesWithStalls program o q (cost v.image (timing_of Mic2) (Invokevirtual k) s) n to) (sym (ap (λ (b : Bool). stalls_of_call b) early))
       (moves program o v s to a q (Invokevirtual k) 11 1 0xB6 h code refl refl (ap (λ (b : Bool). if b then 13 else 12) early) (omega arith) same c)
   invoked s to q k e true a h code named late same c =
       let later : (slice_index v.image.pool k % 4 == 3) ≡ true = ap (λ (j : ℕ). j % 4 == 3) named ∙ late in
-      subst (λ (n : ℕ). MovesWithStalls program o q (cost v.image Mic2 (Invokevirtual k) s) n to) (sym (ap (λ (b : Bool). stalls_of_call b) later))
+      subst (λ (n : ℕ). MovesWithStalls program o q (cost v.image (timing_of Mic2) (Invokevirtual k) s) n to) (sym (ap (λ (b : Bool). stalls_of_call b) later))
       (moves program o v s to a q (Invokevirtual k) 12 2 0xB6 h code refl refl (ap (λ (b : Bool). if b then 13 else 12) later) (omega arith) same c)
 
   -- the stalls of a call that is cut short
@@ -234,7 +234,7 @@ module _ (program : List ℕ) (has : HasStatements program) (o : Origin) (v : Ve
       subst (λ (n : ℕ). OverrunsWithStalls program o q n left) (sym (ap (λ (b : Bool). stalls_of_call b) same)) over
 
   goes : (s to : State) (q : Moment Micro) (i : Instr) → IsCall i → Fine v s → IsNext v o s i → Stands o s q.state q.world → Went v.image v.map.stack_end s to i →
-      MovesWithStalls program o q (cost v.image Mic2 i s) (stalls_of v.image i) to
+      MovesWithStalls program o q (cost v.image (timing_of Mic2) i s) (stalls_of v.image i) to
   goes s to q Ireturn is fine n h went =
       let r = n.finds.returns refl in
       let same : r.0 ≡ went.back = same_Some r.0 went.back (sym r.3 ∙ went.back_is) in

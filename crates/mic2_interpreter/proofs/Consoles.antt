@@ -7,7 +7,7 @@ use Rattle.console_port.specs.World.{World, StackLimit, next_byte, read_value, b
 use Rattle.ijvm_instr.specs.declared.instr.Instr.{Instr}
 use Rattle.ijvm_instr.specs.declared.instr.Instr.TheVariants.{In, Out}
 use Rattle.ijvm_meaning.specs.Frames.{State, frames_of, base}
-use Rattle.ijvm_meaning.specs.Cost.{cost}
+use Rattle.ijvm_meaning.specs.Cost.{timing_of, cost}
 use Rattle.ijvm_meaning.specs.Step.{moved, taken}
 use Rattle.verifier_facts.specs.Accepted.{VerifiedView}
 use Rattle.mic2_datapath.specs.Micro.{Micro}
@@ -67,7 +67,7 @@ module _ (program : List ℕ) (has : HasStatements program) (o : Origin) (v : Ve
   map = map_of v o loads
 
   goes : (s to : State) (q : Moment Micro) (i : Instr) → IsOfConsole i → Fine v s → IsNext v o s i → Stands o s q.state q.world → Went v.image v.map.stack_end s to i →
-      MovesWithStalls program o q (cost v.image Mic2 i s) (stalls_of v.image i) to
+      MovesWithStalls program o q (cost v.image (timing_of Mic2) i s) (stalls_of v.image i) to
   goes s to q In is fine n h went =
       moves program o v s to _ q In 4 0 0xFC h n.reads refl refl refl (omega arith) went.goes (inp program has o map law s q.state q.world q.stalls h (next_inside loads n) n.reads (omega (arith, went.fits, loads.long)))
   goes s to q Out is fine n h went =

@@ -3,7 +3,7 @@ use Rattle.std.proofs.Common.{ℕ, List, refl, ◌∙◌, inl}
 use Rattle.mic_words.specs.declared.machine.Machine.TheVariants.{Mic2}
 use Rattle.ijvm_instr.specs.declared.instr.Instr.TheVariants.{Err, Halt}
 use Rattle.ijvm_meaning.specs.Frames.{State}
-use Rattle.ijvm_meaning.specs.Cost.{cost}
+use Rattle.ijvm_meaning.specs.Cost.{timing_of, cost}
 use Rattle.verifier_facts.specs.Accepted.{VerifiedView}
 use Rattle.mic2_datapath.specs.Micro.{Micro}
 use Rattle.mic2_datapath.specs.Mic2.{mic2_meaning}
@@ -15,11 +15,11 @@ use Rattle.mic2_interpreter.specs.Stands.{Stands}
 
 -- MPC is the opcode, so the run ends at the boundary
 module _ (program : List ℕ) (o : Origin) (v : VerifiedView) where
-  halts : (s : State) (q : Moment Micro) → Fine v s → IsNext v o s Halt → Stands o s q.state q.world → Stops mic2_meaning program (Stands o) o.given q (cost v.image Mic2 Halt s) 0x0FF
+  halts : (s : State) (q : Moment Micro) → Fine v s → IsNext v o s Halt → Stands o s q.state q.world → Stops mic2_meaning program (Stands o) o.given q (cost v.image (timing_of Mic2) Halt s) 0x0FF
   halts s q fine n h = inl (record { spent_is = refl; mpc_is = h.ready.mpc ∙ n.reads })
 
-  errs : (s : State) (q : Moment Micro) → Fine v s → IsNext v o s Err → Stands o s q.state q.world → Stops mic2_meaning program (Stands o) o.given q (cost v.image Mic2 Err s) 0x0FE
+  errs : (s : State) (q : Moment Micro) → Fine v s → IsNext v o s Err → Stands o s q.state q.world → Stops mic2_meaning program (Stands o) o.given q (cost v.image (timing_of Mic2) Err s) 0x0FE
   errs s q fine n h = inl (record { spent_is = refl; mpc_is = h.ready.mpc ∙ n.reads })
 
-  pub ends : HaltsAndErrs mic2_meaning program (Stands o) o.given v o
+  pub ends : HaltsAndErrs mic2_meaning program (Stands o) o.given (timing_of Mic2) v o
   ends = record { halts = halts; errs = errs }

@@ -10,7 +10,7 @@ use Rattle.ijvm_instr.specs.declared.instr.Instr.{Instr}
 use Rattle.ijvm_instr.specs.declared.instr.Instr.TheVariants.{Ifeq, Iflt, IfIcmpeq, Goto}
 use Rattle.ijvm_instr.specs.Instructions.{word_of, target}
 use Rattle.ijvm_meaning.specs.Frames.{State, IsWord, HasWords, frames_of, base}
-use Rattle.ijvm_meaning.specs.Cost.{cost, tests, are_equal}
+use Rattle.ijvm_meaning.specs.Cost.{timing_of, cost, tests, are_equal}
 use Rattle.ijvm_meaning.specs.Step.{moved, way}
 use Rattle.verifier_facts.specs.Accepted.{VerifiedView}
 use Rattle.mic2_datapath.specs.Micro.{Micro}
@@ -179,9 +179,9 @@ module _ (program : List ℕ) (has : HasStatements program) (o : Origin) (v : Ve
 
   -- a branch by a test of the top
   branched : (s to : State) (q : Moment Micro) (i : Instr) (z : ℤ) (t : Bool) (rest : List ℕ) (code : ℕ) → Stands o s q.state q.world → byte_in o.words s.at ≡ code → (code == 255) ≡ false → (code == 254) ≡ false → jump o.words s.at ≡ target s.at z →
-      moved s rest (way s.at z t) ≡ to → (t ≡ true → cost v.image Mic2 i s ≡ 8) → (t ≡ false → cost v.image Mic2 i s ≡ 6) →
+      moved s rest (way s.at z t) ≡ to → (t ≡ true → cost v.image (timing_of Mic2) i s ≡ 8) → (t ≡ false → cost v.image (timing_of Mic2) i s ≡ 6) →
       (t ≡ true → ReachesBoundary program o 7 0 q (moved s rest (jump o.words s.at))) → (t ≡ false → ReachesBoundary program o 5 0 q (moved s rest (s.at + 3))) →
-      MovesWithStalls program o q (cost v.image Mic2 i s) 0 to
+      MovesWithStalls program o q (cost v.image (timing_of Mic2) i s) 0 to
   branched s to q i z true rest code h is no_halt no_err e same jumps_in falls_in taken not =
       moves program o v s to _ q i 7 0 code h is no_halt no_err (jumps_in refl) (omega arith) (ap (moved s rest) e ∙ same) (taken refl)
   branched s to q i z false rest code h is no_halt no_err e same jumps_in falls_in taken not =
@@ -189,16 +189,16 @@ module _ (program : List ℕ) (has : HasStatements program) (o : Origin) (v : Ve
 
   -- IF_ICMPEQ takes two cycles more
   compared : (s to : State) (q : Moment Micro) (i : Instr) (z : ℤ) (t : Bool) (rest : List ℕ) (code : ℕ) → Stands o s q.state q.world → byte_in o.words s.at ≡ code → (code == 255) ≡ false → (code == 254) ≡ false → jump o.words s.at ≡ target s.at z →
-      moved s rest (way s.at z t) ≡ to → (t ≡ true → cost v.image Mic2 i s ≡ 10) → (t ≡ false → cost v.image Mic2 i s ≡ 8) →
+      moved s rest (way s.at z t) ≡ to → (t ≡ true → cost v.image (timing_of Mic2) i s ≡ 10) → (t ≡ false → cost v.image (timing_of Mic2) i s ≡ 8) →
       (t ≡ true → ReachesBoundary program o 9 0 q (moved s rest (jump o.words s.at))) → (t ≡ false → ReachesBoundary program o 7 0 q (moved s rest (s.at + 3))) →
-      MovesWithStalls program o q (cost v.image Mic2 i s) 0 to
+      MovesWithStalls program o q (cost v.image (timing_of Mic2) i s) 0 to
   compared s to q i z true rest code h is no_halt no_err e same jumps_in falls_in taken not =
       moves program o v s to _ q i 9 0 code h is no_halt no_err (jumps_in refl) (omega arith) (ap (moved s rest) e ∙ same) (taken refl)
   compared s to q i z false rest code h is no_halt no_err e same jumps_in falls_in taken not =
       moves program o v s to _ q i 7 0 code h is no_halt no_err (falls_in refl) (omega arith) same (not refl)
 
   goes : (s to : State) (q : Moment Micro) (i : Instr) → IsJump i → Fine v s → IsNext v o s i → Stands o s q.state q.world → Went v.image v.map.stack_end s to i →
-      MovesWithStalls program o q (cost v.image Mic2 i s) (stalls_of v.image i) to
+      MovesWithStalls program o q (cost v.image (timing_of Mic2) i s) (stalls_of v.image i) to
   goes s to q (Goto z) is fine n h went =
       let e : jump o.words s.at ≡ target s.at z = target_is s z n.reads.1 in
       let there : jump o.words s.at < 0x10000 = target_inside s z e (n.finds.inside (target s.at z) (inr (z, refl, refl))) in

@@ -8,7 +8,7 @@ use Rattle.console_port.specs.World.{World, StackLimit, read_value, byte_in, wri
 use Rattle.ijvm_instr.specs.declared.instr.Instr.{Instr}
 use Rattle.ijvm_instr.specs.declared.instr.Instr.TheVariants.{LdcW, Iload, Istore, Iinc, WideIload, WideIstore, WideIinc}
 use Rattle.ijvm_meaning.specs.Frames.{State, frames_of, base}
-use Rattle.ijvm_meaning.specs.Cost.{cost}
+use Rattle.ijvm_meaning.specs.Cost.{timing_of, cost}
 use Rattle.ijvm_meaning.specs.Step.{with_local, is_own}
 use Rattle.verifier_facts.specs.Accepted.{VerifiedView}
 use Rattle.mic2_datapath.specs.Micro.{Micro}
@@ -164,7 +164,7 @@ module _ (program : List ℕ) (has : HasStatements program) (o : Origin) (v : Ve
   map = map_of v o loads
 
   goes : (s to : State) (q : Moment Micro) (i : Instr) → IsOfLocals i → Fine v s → IsNext v o s i → Stands o s q.state q.world → Went v.image v.map.stack_end s to i →
-      MovesWithStalls program o q (cost v.image Mic2 i s) (stalls_of v.image i) to
+      MovesWithStalls program o q (cost v.image (timing_of Mic2) i s) (stalls_of v.image i) to
   goes s to q (LdcW k) is fine n h went =
       let c : IsConstant o k went.value = law.constant v o loads k went.value went.found in
       moves program o v s to _ q (LdcW k) 2 0 0x13 h n.reads.0 refl refl refl (omega arith) went.leads.goes

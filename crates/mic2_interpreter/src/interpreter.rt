@@ -6,6 +6,7 @@ ghost use Rattle.console_port.specs.Console.{StaysFlushed};
 ghost use Rattle.mic_clock.specs.Board.{NoFault, HasEndCause};
 ghost use Rattle.mic2_datapath.specs.Mic2.{mic2_meaning, IsReady};
 ghost use Rattle.mic2_datapath.specs.View.{micro_of};
+ghost use Rattle.ijvm_meaning.specs.Cost.{timing_of};
 ghost use Rattle.mal_shipped.specs.Shipped.{HasShipped};
 ghost use Rattle.ijvm_simulation.specs.Headline.{HasRun, IsCutByRead, IsCutByWrite};
 
@@ -29,6 +30,7 @@ pub struct Mic2Interpreter;
 
 impl Interpreter for Mic2Interpreter {
     ghost use Rattle.mic_words.specs.declared.machine.Machine.TheVariants as machines;
+    ghost use Rattle.ijvm_meaning.specs.Cost.{timing_of};
     ghost use Rattle.mal_shipped.specs.Shipped.{HasShipped};
 
     type Machine = Mic2;
@@ -36,6 +38,8 @@ impl Interpreter for Mic2Interpreter {
     ghost IsShipped = { HasShipped machines.Mic2 };
 
     ghost entry = { 0x002 };
+
+    ghost timing = { timing_of machines.Mic2 };
 
     fn entry() -> u16 {
         MAIN1
@@ -72,13 +76,13 @@ pub fn run_image2<S: Source, K: Sink>(
     requires { bound ≤ 2 ^ 62 }
     ensures ended { IfOk result (λ board. IsSome board.end) }
     ensures run { IfOk result (λ board. NoFault None board.end →
-        HasRun micro_of mic2_meaning IsReady (HasShipped machines.Mic2) 0x002 image.now bound
+        HasRun micro_of mic2_meaning IsReady (HasShipped machines.Mic2) 0x002 (timing_of machines.Mic2) image.now bound
         (S.left source.old) (K.held sink.old) (S.left source.new) (K.held sink.new) board) }
     ensures read { IfOk result (λ board. board.end ≡ Some End.ReadFault →
-        IsCutByRead micro_of mic2_meaning IsReady (HasShipped machines.Mic2) 0x002 image.now bound
+        IsCutByRead micro_of mic2_meaning IsReady (HasShipped machines.Mic2) 0x002 (timing_of machines.Mic2) image.now bound
         (S.left source.old) (K.held sink.old) (S.left source.new) (K.held sink.new) board) }
     ensures write { IfOk result (λ board. board.end ≡ Some End.WriteFault →
-        IsCutByWrite micro_of mic2_meaning IsReady (HasShipped machines.Mic2) 0x002 image.now bound
+        IsCutByWrite micro_of mic2_meaning IsReady (HasShipped machines.Mic2) 0x002 (timing_of machines.Mic2) image.now bound
         (S.left source.old) (K.held sink.old) (S.left source.new) (K.held sink.new) board) }
     ensures flushed { IfOk result (λ board. board.end ≢ Some End.WriteFault → StaysFlushed (K.held sink.old) (K.passed sink.old) (K.held sink.new) (K.passed sink.new)) }
     ensures cause { IfOk result (λ board. HasEndCause (S.faults source.old) (S.faults source.new) (K.faults sink.old) (K.faults sink.new) None board.end) }

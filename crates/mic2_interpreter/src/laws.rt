@@ -2,6 +2,7 @@
 
 ghost use Rattle.std.specs.Prelude.{◌≡◌, ◌+◌, ◌<◌, ℕ, List, Some};
 ghost use Rattle.mic_words.specs.declared.machine.Machine.TheVariants.{Mic2};
+ghost use Rattle.ijvm_meaning.specs.Cost.{timing_of};
 ghost use Rattle.mic2_datapath.specs.Mic2.{mic2_meaning};
 ghost use Rattle.verifier_facts.specs.Accepted.{VerifiedView};
 ghost use Rattle.mal_shipped.specs.Shipped.{HasShipped};
@@ -66,7 +67,7 @@ pub(crate) fn calls_law()
 /// HALT and ERR.
 pub(crate) fn ends_law()
     ensures { (store : List ℕ) (o : Origin) (v : VerifiedView) → HasShipped Mic2 store → Loads v o →
-        HaltsAndErrs mic2_meaning store (Stands o) o.given v o }
+        HaltsAndErrs mic2_meaning store (Stands o) o.given (timing_of Mic2) v o }
 {}
 
 /// How a run boots, and what every instruction takes. Behind the boot, whose one stall waits for the first word of the text, only a call stalls: once, or twice where its method's entry is the last byte of a word.
@@ -85,10 +86,11 @@ pub fn stalls_law()
 /// So at each boundary of a run the clock has counted the stall of the boot and those of the calls, and no other; nor has it counted another where the stack's end cuts the last instruction short.
 pub fn runs_stall_at_calls()
     ensures boundaries { (store : List ℕ) (o : Origin) (v : VerifiedView) (input : List ℕ) (bound : ℕ) → HasShipped Mic2 store → Loads v o →
-        (at : Point) (stalls : ℕ) → HasStalled (program Mic2 v) bound (first_point v.main_locals input) at stalls →
+        (at : Point) (stalls : ℕ) → HasStalled (program (timing_of Mic2) v) bound (first_point (program (timing_of Mic2) v) v.main_locals input) at stalls →
         (turns mic2_meaning store (Some bound) at.cycles (reset_run mic2_meaning 0x002 v.main_locals (record { words = o.words; untaken = input; given = o.given }))).counts.stalls ≡ stalls }
     ensures limit { (store : List ℕ) (o : Origin) (v : VerifiedView) (input : List ℕ) (bound : ℕ) → HasShipped Mic2 store → Loads v o →
-        (at : Point) (stalls : ℕ) (i : Instr) (left : State) → HasStalled (program Mic2 v) bound (first_point v.main_locals input) at stalls →
+        (at : Point) (stalls : ℕ) (i : Instr) (left : State) →
+        HasStalled (program (timing_of Mic2) v) bound (first_point (program (timing_of Mic2) v) v.main_locals input) at stalls →
         at.cycles < bound → instr_at v.image.text at.state.at ≡ Some i → outcome v.image v.map.stack_end at.state ≡ Limits left →
         (n : ℕ) × StoppedWithin (stalls + stalls_of v.image i)
         (turns mic2_meaning store (Some bound) n (reset_run mic2_meaning 0x002 v.main_locals (record { words = o.words; untaken = input; given = o.given }))) }

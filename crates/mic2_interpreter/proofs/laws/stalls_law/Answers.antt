@@ -1,3 +1,5 @@
+use Rattle.mic_words.specs.declared.machine.Machine.TheVariants.{Mic2}
+use Rattle.ijvm_meaning.specs.Cost.{timing_of}
 use Rattle.mic2_interpreter.proofs.Shipped.{has_statements}
 use Rattle.mic2_interpreter.proofs.Boot.{boots}
 use Rattle.mic2_interpreter.specs.Stalls.{stalls_of}
@@ -8,5 +10,5 @@ returns-clause-boots c = λ store o v input has loads. boots store (has_statemen
 
 pub returns-clause-takes : goal.returns-clause-takes
 returns-clause-takes c = λ store o v has loads.
-    c.groups_are_all.ensures.stalls store 0x002 stalls_of v o (c.operands_law.ensures store o v has loads) (c.locals_law.ensures store o v has loads) (c.jumps_law.ensures store o v has loads)
+    c.groups_are_all.ensures.stalls store 0x002 (timing_of Mic2) stalls_of v o (c.operands_law.ensures store o v has loads) (c.locals_law.ensures store o v has loads) (c.jumps_law.ensures store o v has loads)
     (c.calls_law.ensures store o v has loads) (c.consoles_law.ensures store o v has loads)

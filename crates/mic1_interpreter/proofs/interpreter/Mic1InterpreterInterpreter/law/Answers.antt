@@ -1,3 +1,5 @@
+use Rattle.mic_words.specs.declared.machine.Machine.TheVariants.{Mic1}
+use Rattle.ijvm_meaning.specs.Cost.{timing_of}
 use Rattle.mic1_interpreter.proofs.Shipped.{has_statements}
 use Rattle.mic1_interpreter.proofs.Boundaries.{shows}
 use Rattle.mic1_interpreter.proofs.Boot.{boots}
@@ -7,7 +9,7 @@ use Rattle.mic1_interpreter.proofs.interpreter.Mic1InterpreterInterpreter.law.Go
 pub returns-clause-law : goal.returns-clause-law
 returns-clause-law c = λ store o v has loads. record {
   shows = shows store o;
-  takes = c.groups_are_all.ensures.takes store 0x002 v o (c.operands_law.ensures store o v has loads) (c.locals_law.ensures store o v has loads) (c.jumps_law.ensures store o v has loads)
+  takes = c.groups_are_all.ensures.takes store 0x002 (timing_of Mic1) v o (c.operands_law.ensures store o v has loads) (c.locals_law.ensures store o v has loads) (c.jumps_law.ensures store o v has loads)
       (c.calls_law.ensures store o v has loads) (c.consoles_law.ensures store o v has loads);
   ends = c.ends_law.ensures store o v has loads;
 }
