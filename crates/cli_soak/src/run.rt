@@ -26,7 +26,7 @@ pub fn soak<I: Interpreter, F: Files, S: Source, K: Sink, E: Sink>(
 where
     I::Machine: Drop,
     requires { size ≤ 9000 }
-    ensures { Over (SoakEnds I.Machine.state I.Machine.meaning I.Machine.IsReady I.IsShipped I.entry seed size) outside.old outside.new result.0 }
+    ensures { Over (SoakEnds I.Machine.state I.Machine.meaning I.Machine.IsReady I.IsShipped I.entry I.timing seed size) outside.old outside.new result.0 }
 {
     match soak_image(alloc, seed, size) {
         Ok(program) => run_soak::<I, F, S, K, E>(alloc, &program, outside),
@@ -43,7 +43,7 @@ fn run_soak<I: Interpreter, F: Files, S: Source, K: Sink, E: Sink>(
 where
     I::Machine: Drop,
     ensures { (seed size : ℕ) → IsGenerated seed size program.now →
-        Over (SoakEnds I.Machine.state I.Machine.meaning I.Machine.IsReady I.IsShipped I.entry seed size) outside.old outside.new result.0 }
+        Over (SoakEnds I.Machine.state I.Machine.meaning I.Machine.IsReady I.IsShipped I.entry I.timing seed size) outside.old outside.new result.0 }
 {
     let mut source = PlainSource::new(Vec::new(alloc));
     let mut sink = PlainSink::new();

@@ -18,7 +18,7 @@ returns-in-Ok g c = λ seed size is.
     ∙ (ap (λ (x : ℕ). soak_summary x end c.counts.result c.registers.result.tos) long
     ∙ (ap (λ (k : Counts). soak_summary (length c.args.program.now.image.text) end k c.registers.result.tos) c.counts.ensures
     ∙ ap (λ (r : Registers). soak_summary (length c.args.program.now.image.text) end c.in-Ok.board.counts r.tos) c.registers.ensures.value)) in
-    ends_by g.I.Machine.Clocked.state g.I.Machine.Clocked.meaning g.I.Machine.Clocked.IsReady g.I.Interpreter.IsShipped g.I.Interpreter.entry
+    ends_by g.I.Machine.Clocked.state g.I.Machine.Clocked.meaning g.I.Machine.Clocked.IsReady g.I.Interpreter.IsShipped g.I.Interpreter.entry g.I.Interpreter.timing
     seed size c.args.program.now _ _ c.in-Ok.board end _ _ c.print.result.0 is
     (ap (λ (xs : List ℕ). Some xs) (c.new-source.ensures ∙ c.new.ensures.items))
     c.in-Ok.ensures.run c.in-Ok.ensures.cause ended (rw (printed, c.status_of.ensures) at c.print.ensures)
