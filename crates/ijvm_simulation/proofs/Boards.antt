@@ -9,13 +9,12 @@ use Rattle.mic_clock.specs.View.{BoardView}
 use Rattle.mic_clock.specs.declared.end.End.{End}
 use Rattle.mic_clock.specs.Run.{MicroRun, turns}
 use Rattle.mic_clock.specs.Board.{ShowsRun, IsLedTo, Leads, IsCutByRead as IsReadCut, IsCutByWrite as IsCut}
-use Rattle.ijvm_image.specs.Image.{IsImage}
 use Rattle.ijvm_meaning.specs.Cost.{Timing}
-use Rattle.verifier_facts.specs.Accepted.{VerifiedView, IsAccepted}
+use Rattle.verifier_facts.specs.Accepted.{VerifiedView}
 use Rattle.ijvm_simulation.specs.Simulates.{IsEnd}
 use Rattle.ijvm_simulation.specs.Law.{Grows}
-use Rattle.ijvm_simulation.specs.Starts.{Starts}
-use Rattle.ijvm_simulation.specs.Headline.{told_of, Leaves, reset_run, Begins, HasRun, IsCutByRead, IsCutByWrite}
+use Rattle.mic_image_board.specs.Reset.{IsAtReset, reset_run}
+use Rattle.ijvm_simulation.specs.Headline.{told_of, Leaves, Begins, HasRun, IsCutByRead, IsCutByWrite}
 use Rattle.ijvm_simulation.proofs.Next.{Known}
 use Rattle.ijvm_simulation.proofs.Carried.{Promises, simulated}
 use Rattle.ijvm_simulation.proofs.Worlds.{same_end, front_of_end}
@@ -62,18 +61,18 @@ front_put None before given kept front = tt
 front_put (Some h) before given kept front = (record { more = kept.0; are = kept.1 }, record { more = front.0; are = front.1 })
 
 module _ {M S : Type 0} (state : M → S) (m : Meaning S) (IsReady : ℕ → List ℕ → ℕ → S → Type 0) (IsShipped : List ℕ → Type 0) (entry : ℕ) (timing : Timing) (promises : Promises m IsReady IsShipped entry timing)
-    (v : VerifiedView) (image : IsImage v.image) (accepted : IsAccepted v) (known : Known v) (bound : ℕ) (left held left' held' : Option (List ℕ)) (board0 board : BoardView M) (s : Starts state m entry v board0) (has : IsShipped board.store.words)
+    (v : VerifiedView) (known : Known v) (bound : ℕ) (left held left' held' : Option (List ℕ)) (board0 board : BoardView M) (s : IsAtReset state m entry v board0) (has : IsShipped board.store.words)
     (tells : StillTells left board0.bus.console.ended left' board.bus.console.ended) where
   abbrev Here : Type 0
   Here = Begins state m IsReady IsShipped entry timing v bound board.store.words left (told_of held)
 
   -- the bytes that were left when the run began
   untaken_at : (input : List ℕ) → Untaken left board0.bus.console.ended input → Untaken left false input
-  untaken_at input h = subst (λ (e : Bool). Untaken left e input) s.input h
+  untaken_at input h = subst (λ (e : Bool). Untaken left e input) s.ended h
 
   abbrev begins : (input : List ℕ) → Untaken left false input → Here
   begins input told =
-      let sim = simulated v image accepted board0.bus.words s.loaded (told_of held) m IsReady IsShipped entry timing promises known board.store.words has bound input in
+      let sim = simulated v s.image s.accepted board0.bus.words s.loaded (told_of held) m IsReady IsShipped entry timing promises known board.store.words has bound input in
       record { shipped = has; words = board0.bus.words; loaded = s.loaded; input = input; told = told; simulates = sim; finish = sim.finishes.0; finishes = sim.finishes.1 }
 
   abbrev world : List ℕ → World
@@ -83,11 +82,11 @@ module _ {M S : Type 0} (state : M → S) (m : Meaning S) (IsReady : ℕ → Lis
   after n input = turns m board.store.words (Some bound) n (reset_run m entry v.main_locals (world input))
 
   leaves : (rest : List ℕ) → Untaken left' board.bus.console.ended rest → Leaves left left' rest
-  leaves rest here = λ bytes told. still_told left' board.bus.console.ended rest (tells (record { bytes = bytes; tells = told; none_left = λ e. let begun = s.input in absurd (cc) })) here
+  leaves rest here = λ bytes told. still_told left' board.bus.console.ended rest (tells (record { bytes = bytes; tells = told; none_left = λ e. let begun = s.ended in absurd (cc) })) here
 
   shown : (input : List ℕ) → Untaken left board0.bus.console.ended input → ShowsRun state left held board0 (reset_run m entry v.main_locals (world input))
   shown input h =
-      s.start left held (world input)
+      s.shows left held (world input)
       (record { words = refl; untaken = h; given = subst (λ (k : List ℕ). Given held k (told_of held)) (sym s.kept) (given_told held) })
 
   -- what has been given at a moment is a front of the definition's output
@@ -164,9 +163,3 @@ module _ {M S : Type 0} (state : M → S) (m : Meaning S) (IsReady : ℕ → Lis
         given = front_put held' (told_of held) (after n input).world.given (keeps (told_of held) (holds_told held)) here.front;
         front = front b n;
       }
-
--- an image by its parts
-pub image_by_parts : (v : VerifiedView) (text pool : List ℕ) → text ≡ v.image.text → pool ≡ v.image.pool → IsImage (record { text = text; pool = pool }) → IsImage v.image
-image_by_parts v text pool e f h =
-    let same : record { text = text; pool = pool } ≡ v.image = λ i. record { text = e i; pool = f i } in
-    subst IsImage same h

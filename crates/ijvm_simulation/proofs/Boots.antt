@@ -9,7 +9,7 @@ use Rattle.ijvm_meaning.specs.Run.{Program, first_point}
 use Rattle.ijvm_simulation.specs.Stands.{Origin}
 use Rattle.ijvm_simulation.specs.Simulates.{IsBoundary}
 use Rattle.ijvm_simulation.specs.Law.{Shows, Boots, reset_moment}
-use Rattle.ijvm_simulation.specs.Headline.{reset_run}
+use Rattle.mic_image_board.specs.Reset.{reset_run}
 use Rattle.ijvm_simulation.proofs.Passes.{not_boundary}
 use Rattle.ijvm_simulation.proofs.Turns.{IsReady, moment_of, run_at, run_inside, pass_turns, pass_turns_inside, Shorter, shorter}
 

@@ -14,7 +14,7 @@ use Rattle.ijvm_simulation.specs.Stands.{Origin, IsAt}
 use Rattle.ijvm_simulation.specs.Verified.{program, Loads, Fine}
 use Rattle.ijvm_simulation.specs.Law.{Law, Boots, reset_moment, OnDone, Grows}
 use Rattle.ijvm_simulation.specs.Simulates.{Simulates}
-use Rattle.ijvm_simulation.specs.Headline.{reset_run}
+use Rattle.mic_image_board.specs.Reset.{reset_run}
 use Rattle.ijvm_simulation.proofs.Instruction.{Law as BoundaryLaw}
 use Rattle.ijvm_simulation.proofs.Next.{Known, fine_start, keeps, boundary_law}
 use Rattle.ijvm_simulation.proofs.Boots.{booted, quiet}

@@ -19,7 +19,7 @@ use Rattle.ijvm_simulation.specs.Outcomes.{Went, Overran, IsOutcome}
 use Rattle.ijvm_simulation.specs.Verified.{program, Loads, Fine, IsNext}
 use Rattle.ijvm_simulation.specs.Simulates.{IsBoundary}
 use Rattle.ijvm_simulation.specs.Law.{Law, Shows, Boots, reset_moment}
-use Rattle.ijvm_simulation.specs.Headline.{reset_run}
+use Rattle.mic_image_board.specs.Reset.{reset_run}
 use Rattle.ijvm_simulation.specs.Stalls.{MovesWithStalls, OverrunsWithStalls, TakesWithStalls, HasStalled, StoppedWithin, Booted, Behind}
 use Rattle.ijvm_simulation.proofs.Cases.{says}
 use Rattle.ijvm_simulation.proofs.Passes.{not_boundary}

@@ -1,11 +1,11 @@
 -- The headline of a machine that was clocked over a verified image from its reset, with the store that ships: its run stands for the definition's run, and the board that is left shows where that run ended, or where a fault cut it.
-use Rattle.std.specs.Prelude.{◌≡◌, ◌⊎◌, ℕ, ◌+◌, ◌-◌, List, [], ◌++◌, replicate, Option, Some, IfSome, IsSome, unwrap_or, false}
-use Rattle.console_port.specs.World.{World}
+use Rattle.std.specs.Prelude.{◌≡◌, ◌⊎◌, ℕ, List, [], ◌++◌, replicate, Option, Some, IfSome, IsSome, unwrap_or, false}
 use Rattle.console_port.specs.Loading.{IsLoaded}
 use Rattle.console_port.specs.Console.{Untaken, LosesLast}
 use Rattle.mic_clock.specs.Meaning.{Meaning, ReadsConsole, UsesConsole}
 use Rattle.mic_clock.specs.View.{BoardView}
-use Rattle.mic_clock.specs.Run.{MicroRun, start_run, turns, word_at, IsClocking}
+use Rattle.mic_clock.specs.Run.{MicroRun, turns, word_at, IsClocking}
+use Rattle.mic_image_board.specs.Reset.{reset_run}
 use Rattle.ijvm_meaning.specs.Cost.{Timing}
 use Rattle.ijvm_meaning.specs.Run.{Finish, first_point, EndsBy}
 use Rattle.verifier_facts.specs.Accepted.{VerifiedView}
@@ -21,10 +21,6 @@ told_of told = unwrap_or told []
 -- a source that told what it had left tells these bytes now
 abbrev pub Leaves : Option (List ℕ) → Option (List ℕ) → List ℕ → Type 0
 Leaves left left' untaken = (bytes : List ℕ) → left ≡ Some bytes → left' ≡ Some untaken
-
--- the clocked run at its reset: MPC at the entry, and SP before the first operand of main, which has so many locals
-abbrev pub reset_run : {S : Type 0} → Meaning S → ℕ → ℕ → World → MicroRun S
-reset_run m entry main_locals w = start_run m entry (0x8000 + main_locals - 1) w
 
 -- A machine: its meaning, when its next instruction is ready, its store that ships, where that begins, and what is spent.
 module _ {M S : Type 0} (state : M → S) (m : Meaning S) (IsReady : ℕ → List ℕ → ℕ → S → Type 0) (IsShipped : List ℕ → Type 0) (entry : ℕ) (timing : Timing) where

@@ -17,7 +17,7 @@ use Rattle.ijvm_simulation.specs.Passes.{Moment}
 use Rattle.ijvm_simulation.specs.Outcomes.{Went, Overran}
 use Rattle.ijvm_simulation.specs.Verified.{program, Loads, Fine, IsNext}
 use Rattle.ijvm_simulation.specs.Law.{Moves, Overruns, reset_moment}
-use Rattle.ijvm_simulation.specs.Headline.{reset_run}
+use Rattle.mic_image_board.specs.Reset.{reset_run}
 
 module _ {S : Type 0} (m : Meaning S) (words : List ℕ) (IsAt : State → S → World → Type 0) (before : List ℕ) where
   -- so many cycles, of which so many stall, lead from a boundary to the next, which stands for this state

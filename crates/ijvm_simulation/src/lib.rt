@@ -12,4 +12,4 @@ pub use laws::{
     counted_boundaries_are_passed, groups_are_all, shipped_runs_end_as_defined, stack_law,
     stalls_add_up,
 };
-pub use run::{first_sp, loaded_bus, reset_board, run_image};
+pub use run::{run_image, shipped_board};

@@ -14,7 +14,7 @@ ghost use Rattle.ijvm_meaning.specs.Frames.{State};
 ghost use Rattle.ijvm_meaning.specs.Step.{Limits, outcome};
 ghost use Rattle.ijvm_meaning.specs.Run.{Point, first_point};
 ghost use Rattle.ijvm_simulation.specs.Verified.{Loads, program};
-ghost use Rattle.ijvm_simulation.specs.Headline.{reset_run};
+ghost use Rattle.mic_image_board.specs.Reset.{reset_run};
 ghost use Rattle.ijvm_simulation.specs.Law.{HaltsAndErrs};
 ghost use Rattle.ijvm_simulation.specs.Stalls.{StoppedWithin};
 ghost use Rattle.mic2_interpreter.specs.Stands.{Stands};
