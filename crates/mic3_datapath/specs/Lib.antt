@@ -1,0 +1,3 @@
+pub mod Pipeline
+pub mod Cycle
+pub mod Mic3
