@@ -1,15 +1,16 @@
 //! The word that is clocked.
 
-ghost use Rattle.std.specs.Prelude.{◌≡◌, ◌<◌, IsTrue, slice_index, true};
+ghost use Rattle.std.specs.Prelude.{◌≡◌, ◌<◌, IsTrue, None, slice_index, true};
 ghost use Rattle.mic_words.specs.declared.machine.Machine.TheVariants.{Mic2};
 ghost use Rattle.micro_word.specs.Words.{is_canonical};
-ghost use Rattle.micro_word.specs.Coding.{mem_of, shift_of, statement_of};
+ghost use Rattle.micro_word.specs.Coding.{addr_bits, jam_bits, mem_of, shift_of, statement_of};
 ghost use Rattle.micro_word.specs.Layout.{fields_of};
-ghost use Rattle.micro_word.specs.Lines.{AreLines};
-ghost use Rattle.micro_word.specs.Operation.{shifted};
+ghost use Rattle.micro_word.specs.Lines.{AreLines, AreSlots};
+ghost use Rattle.micro_word.specs.Operation.{alu, shifted};
+ghost use Rattle.mic_datapath.specs.Next.{target};
 ghost use Rattle.mic2_datapath.specs.Microstep.{demand};
 
-use mic_datapath::shift_by;
+use mic_datapath::{next_address, operate, shift_by, side_law};
 use micro_word::{Lines, Machine, Mem, Store, bits, fields2, statement_law, word_law};
 
 /// JMPC.
@@ -77,6 +78,68 @@ impl Control {
         let word = store.word(address);
         let lines = store.lines(address);
         Control { word, lines }
+    }
+
+    /// What leaves the ALU for the words on both sides.
+    #[inline(always)]
+    pub fn operate(&self, a: u32, b: u32) -> u32
+        requires { (statement_of Mic2 self.now.word).part.b ≡ None → b ≡ 0 }
+        ensures { result ≡ alu (statement_of Mic2 self.now.word).part.op a b }
+    {
+        word_law(Machine::Mic2);
+        statement_law(Machine::Mic2);
+        side_law();
+        operate(bits::gates(Machine::Mic2, self.word), &self.lines, a, b)
+    }
+
+    /// What the shifter puts on the C bus.
+    #[inline(always)]
+    #[tactic(auto, unfolding(micro_word::specs::Coding::statement_of))]
+    pub fn shift(&self, value: u32) -> u32
+        ensures { result ≡ shifted (statement_of Mic2 self.now.word).part.shift value }
+    {
+        shift_for(self.word, value)
+    }
+
+    /// Its destinations, a bit for each register.
+    #[inline(always)]
+    #[tactic(auto, unfolding(micro_word::specs::Coding::statement_of))]
+    pub fn destinations(&self) -> u16
+        ensures value { result ≡ (statement_of Mic2 self.now.word).part.dests }
+        ensures within { result < 512 }
+        ensures slots { AreSlots result self.now.lines.first self.now.lines.second self.now.lines.further }
+    {
+        bits::destinations(Machine::Mic2, self.word)
+    }
+
+    /// Its access of memory.
+    #[inline(always)]
+    #[tactic(auto, unfolding(micro_word::specs::Coding::statement_of))]
+    pub fn mem(&self) -> Mem
+        ensures { result ≡ (statement_of Mic2 self.now.word).part.mem }
+    {
+        Mem::of_bits(bits::mem(Machine::Mic2, self.word))
+    }
+
+    /// JMPC JAMN JAMZ
+    #[inline(always)]
+    pub fn jam(&self) -> u8
+        ensures value { result ≡ jam_bits (statement_of Mic2 self.now.word).next }
+        ensures addr { self.now.lines.addr ≡ addr_bits (statement_of Mic2 self.now.word).next }
+    {
+        word_law(Machine::Mic2);
+        bits::jam(Machine::Mic2, self.word)
+    }
+
+    /// Where it goes next, with this value out of the ALU and this byte for a dispatch.
+    #[inline(always)]
+    pub fn target(&self, value: u32, byte: u8) -> u16
+        ensures next { result ≡ target (statement_of Mic2 self.now.word).next value byte }
+        ensures small { result < 512 }
+    {
+        word_law(Machine::Mic2);
+        statement_law(Machine::Mic2);
+        next_address(self.lines.addr, self.jam(), value, byte)
     }
 
     /// `goto 0x000`, which demands nothing.

@@ -18,10 +18,10 @@ ghost use Rattle.mic_datapath.specs.Places.{registers_at};
 ghost use Rattle.mic_datapath.specs.Registers.{loaded, ports_given};
 ghost use Rattle.mic2_fetch_unit.specs.FetchUnit.{edge_refusal, sample_refusal};
 ghost use Rattle.mic2_datapath.specs.Mic2.{initial as initial_of};
-ghost use Rattle.mic2_datapath.specs.Microstep.{advanced, byte_at, demand, dispatch_bytes, is_to_instruction, jumps, moved, operand_bytes, result_of, settled, stalled, unit_after, unit_refusal, unit_samples};
+ghost use Rattle.mic2_datapath.specs.Microstep.{advanced, byte_at, demand, dispatch_bytes, is_to_instruction, jumps, moved, operand_bytes, result_of, settled, source, stalled, unit_after, unit_refusal, unit_samples};
 ghost use Rattle.mic2_datapath.specs.Latches.{AreLatches, HasFront, access_by, loaded_in, micro_in};
 
-use crate::access::is_there;
+use crate::accesses::is_there;
 use crate::control::{Control, JMPC, is_read, is_write};
 use console_port::{Bus, BusFault};
 use mic_clock::Start;
@@ -29,7 +29,7 @@ use mic_datapath::{
     Places, Ports, arrived, next_address, port, read_alone, settle, sign_extended, write_alone,
 };
 use mic2_fetch_unit::FetchUnit;
-use micro_word::{Machine, Mem, bits, is_named, statement_law, word_law};
+use micro_word::{Lines, Machine, Mem, bits, is_named, statement_law, word_law};
 
 /// The places of the registers that the memory's ports are given, and of the front of the queue in its four forms.
 const MAR: u8 = 0;
@@ -56,6 +56,13 @@ pub struct Latches {
     pub begins: bool,
     /// Behind all else, so that what is reached by index stands apart from it.
     pub places: Places,
+}
+
+/// The words on the sides A and B.
+#[derive(Clone, Copy, Debug, PartialEq, Eq)]
+pub struct Operands {
+    pub a: u32,
+    pub b: u32,
 }
 
 #[tactic(auto, unfolding(mic_words::specs::Arithmetic::signed_pair))]
@@ -87,27 +94,42 @@ fn show_pair(pair: u16, places: &mut Places)
 
 /// PC behind the bytes that are taken.
 #[tactic(auto, unfolding(mic_words::specs::Arithmetic::wrap))]
-fn behind(pc: u32, taken: u8) -> u32
+pub fn pc_after(pc: u32, taken: u8) -> u32
     ensures { result ≡ advanced taken pc }
 {
     pc.wrapping_add(taken as u32)
 }
 
+/// PC goes on behind the bytes that are taken.
+pub fn go_past(taken: u8, places: &mut Places)
+    ensures registers { registers_at places.new ≡ record (registers_at places.old) { pc = advanced taken (registers_at places.old).pc } }
+    ensures others { (k : ℕ) → 9 ≤ k → slice_index places.new k ≡ slice_index places.old k }
+{
+    places[PC as usize] = pc_after(places[PC as usize], taken);
+}
+
 /// The registers at a clock edge: PC goes on, those that are named become the value on the C bus, and then a word that was read arrives.
-fn load(destinations: u16, control: &Control, c: u32, arriving: Option<u32>, places: &mut Places)
-    requires { AreSlots destinations control.now.lines.first control.now.lines.second control.now.lines.further }
+pub fn load(
+    destinations: u16,
+    lines: &Lines,
+    c: u32,
+    taken: u8,
+    arriving: Option<u32>,
+    places: &mut Places,
+)
+    requires { AreSlots destinations lines.now.first lines.now.second lines.now.further }
     ensures registers { registers_at places.new ≡
-        loaded destinations c arriving (record (registers_at places.old) { pc = advanced control.now.lines.takes (registers_at places.old).pc }) }
+        loaded destinations c arriving (record (registers_at places.old) { pc = advanced taken (registers_at places.old).pc }) }
     ensures others { (k : ℕ) → 9 ≤ k → k < 15 → slice_index places.new k ≡ slice_index places.old k }
 {
-    places[PC as usize] = behind(places[PC as usize], control.lines.takes);
-    settle(destinations, &control.lines, c, arriving, places);
+    go_past(taken, places);
+    settle(destinations, lines, c, arriving, places);
 }
 
 /// The fetch unit at a clock edge: it jumps to PC, or so many bytes are taken. An Err leaves it.
 #[inline(always)]
 #[tactic(auto, unfolding(mic2_fetch_unit::specs::FetchUnit::edge_refusal))]
-fn go(jumps: bool, pc: u32, taken: u8, bus: &Bus, unit: &mut FetchUnit) -> Result<(), BusFault>
+pub fn go(jumps: bool, pc: u32, taken: u8, bus: &Bus, unit: &mut FetchUnit) -> Result<(), BusFault>
     requires there { taken ≤ length unit.old.bytes }
     ensures ok { OnOk result (unit.new ≡ unit_after jumps bus.now.words pc taken unit.old) }
     ensures allowed { OnOk result (sample_refusal (length bus.now.words) (unit_samples jumps pc taken unit.old) ≡ None) }
@@ -185,6 +207,25 @@ impl Latches {
         }
     }
 
+    /// What is on both sides of a word that finds the bytes that it takes.
+    #[inline(always)]
+    pub fn operands(&mut self, control: &Control) -> Operands
+        requires latches { AreLatches self.old }
+        requires there { control.now.lines.takes ≤ length self.old.unit.bytes }
+        ensures latches { AreLatches self.new }
+        ensures micro { micro_in self.new ≡ micro_in self.old }
+        ensures a { result.a ≡ source (statement_of Mic2 control.now.word).part.a (micro_in self.old) }
+        ensures b { result.b ≡ source (statement_of Mic2 control.now.word).part.b (micro_in self.old) }
+    {
+        word_law(Machine::Mic2);
+        statement_law(Machine::Mic2);
+        self.show_front(control.lines.takes);
+        Operands {
+            a: self.places[control.lines.a as usize],
+            b: self.places[control.lines.b as usize],
+        }
+    }
+
     /// What the memory's ports are given: their registers as they become.
     pub fn ports(&self, c: u16, value: u32, taken: u8) -> Ports
         ensures { result ≡ ports_given (loaded c value self.now.word (record (registers_at self.now.places) { pc = advanced taken (registers_at self.now.places).pc })) }
@@ -194,7 +235,7 @@ impl Latches {
         let pc = if is_named(c, PC) {
             value
         } else {
-            behind(self.places[PC as usize], taken)
+            pc_after(self.places[PC as usize], taken)
         };
         Ports { mar, mdr, pc }
     }
@@ -348,7 +389,7 @@ impl Latches {
         let next = self.goes_on(jam, control.lines.addr, control.lines.takes, value);
         let jumps = is_named(destinations, PC);
         go(jumps, c, control.lines.takes, bus, &mut self.unit)?;
-        load(destinations, control, c, self.word, &mut self.places);
+        load(destinations, &control.lines, c, control.lines.takes, self.word, &mut self.places);
         self.mpc = next.mpc;
         self.word = word;
         self.begins = next.begins;

@@ -1,11 +1,14 @@
 //! Mic-2 as a clocked machine: control lines, two operand buses, latches and a fetch unit. Its four calls are one microstep, which assigns whole words or stalls.
 #![tactic(auto)]
 
-mod access;
+mod accesses;
 mod control;
 mod latches;
 mod laws;
 mod mic2;
 
+pub use accesses::access;
+pub use control::Control;
+pub use latches::{Latches, Operands, go, go_past, load, pc_after};
 pub use laws::step_law;
 pub use mic2::Mic2;

@@ -7,15 +7,15 @@ ghost use Rattle.mic_clock.specs.Meaning.{Driven, AtEdge};
 ghost use Rattle.mic_datapath.specs.Stage.{phase_of};
 ghost use Rattle.mic2_datapath.specs.Latches.{AreLatches, HasDriven, HasComputed, micro_in};
 
-use crate::access::access;
-use crate::control::{Control, is_quiet, shift_for};
-use crate::latches::{Latches, PC};
+use crate::accesses::access;
+use crate::control::{Control, is_quiet};
+use crate::latches::{Latches, Operands, PC};
 use console_port::{Bus, BusFault};
 use mic_base::{Sink, Source};
 use mic_clock::{Clocked, Computed, Drive, Registers, Start, Tail};
-use mic_datapath::{Stage, console_law, operate, side_law};
+use mic_datapath::{Stage, console_law};
 use mic1_alu::AluOut;
-use micro_word::{Machine, Mem, Store, Word2, bits, is_named, statement_law, word_law};
+use micro_word::{Machine, Mem, Store, Word2, bits, is_named};
 
 /// Mic-2.
 #[derive(Drop)]
@@ -156,8 +156,6 @@ impl Clocked for Mic2 {
 
     #[inline(always)]
     fn drive(&mut self) -> Drive {
-        word_law(Machine::Mic2);
-        statement_law(Machine::Mic2);
         let stalled = self.latches.unit.have() < self.control.lines.takes;
         self.stalled = stalled;
         if stalled {
@@ -168,9 +166,7 @@ impl Clocked for Mic2 {
                 stalled: true,
             };
         }
-        self.latches.show_front(self.control.lines.takes);
-        let a = self.latches.places[self.control.lines.a as usize];
-        let b = self.latches.places[self.control.lines.b as usize];
+        let Operands { a, b } = self.latches.operands(&self.control);
         self.a = a;
         self.b = b;
         self.stage = Stage::Compute;
@@ -183,9 +179,6 @@ impl Clocked for Mic2 {
 
     #[inline(always)]
     fn compute(&mut self) -> Computed {
-        word_law(Machine::Mic2);
-        statement_law(Machine::Mic2);
-        side_law();
         if self.stalled {
             self.stage = Stage::Edge;
             return Computed {
@@ -197,10 +190,8 @@ impl Clocked for Mic2 {
                 c: 0,
             };
         }
-        let word = self.control.word;
-        let gates = bits::gates(Machine::Mic2, word);
-        let value = operate(gates, &self.control.lines, self.a, self.b);
-        let c = shift_for(word, value);
+        let value = self.control.operate(self.a, self.b);
+        let c = self.control.shift(value);
         self.value = value;
         self.c = c;
         self.stage = Stage::Edge;
