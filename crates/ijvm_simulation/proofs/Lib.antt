@@ -19,3 +19,5 @@ pub mod Methods
 pub mod Writes
 pub mod Stack
 pub mod Counted
+pub mod Words
+pub mod Images

@@ -10,6 +10,8 @@ use Rattle.ijvm_simulation.specs.Stack.{IsMapEnd, IsWordAccess, frame_with, plac
 use Rattle.ijvm_simulation.proofs.Accesses.{next_is, before_is, access, port, limit}
 use Rattle.ijvm_simulation.proofs.Methods.{locals, arguments, constant, method}
 use Rattle.ijvm_simulation.proofs.Writes.{pushed, stored, entered}
+use Rattle.ijvm_simulation.proofs.Words.{words, console}
+use Rattle.ijvm_simulation.proofs.Images as images
 
 above : (fs : List Frame) → 0x8000 ≤ base fs
 above [] = omega arith
@@ -260,4 +262,22 @@ module _ (o : Origin) (s : State) (sp lv cpp tos : ℕ) (w : World) (map : IsMap
       }
 
 pub law : StackLaw
-law = record { access = access; port = port; limit = limit; above = above; constant = constant; method = method; arguments = arguments; locals = locals; boundary = boundary }
+law =
+    record {
+      access = access;
+      port = port;
+      limit = limit;
+      above = above;
+      constant = constant;
+      method = method;
+      arguments = arguments;
+      locals = locals;
+      map = images.map;
+      inside = images.inside;
+      lands = images.lands;
+      first = images.first;
+      running = images.running;
+      words = words;
+      console = console;
+      boundary = boundary;
+    }

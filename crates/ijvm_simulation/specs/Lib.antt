@@ -12,3 +12,4 @@ pub mod Headline
 pub mod Agreement
 pub mod Starts
 pub mod Stalls
+pub mod Words

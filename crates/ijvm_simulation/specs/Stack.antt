@@ -1,14 +1,17 @@
 -- What a machine at a boundary knows of its memory and its stack, and that it stands for the state behind an instruction once its registers and its memory have become what the instruction makes of them.
-use Rattle.std.specs.Prelude.{◌≡◌, ℕ, suc, ◌+◌, ◌-◌, ◌*◌, ◌%◌, ◌<◌, ◌≤◌, true, List, [], ◌∷◌, ◌++◌, length, take, drop, replicate, slice_index, slice_set, slice_get, Some, None}
-use Rattle.mic_words.specs.Arithmetic.{plus, next, before}
+use Rattle.std.specs.Prelude.{◌≡◌, ℕ, suc, ◌+◌, ◌-◌, ◌*◌, ◌%◌, ◌<◌, ◌≤◌, true, List, [], ◌∷◌, ◌++◌, length, take, drop, replicate, slice_index, slice_set, slice_get, Some, None, ℤ}
+use Rattle.mic_words.specs.Arithmetic.{plus, next, before, signed_pair}
 use Rattle.console_port.specs.World.{World, StackLimit, next_byte, read_value, untaken_after, given_after, read_refusal, write_refusal, byte_in}
 use Rattle.ijvm_image.specs.declared.method.Method.{Method}
 use Rattle.ijvm_image.specs.Image.{method_at}
-use Rattle.ijvm_meaning.specs.Frames.{Frame, State, frames_of, base}
+use Rattle.ijvm_instr.specs.declared.instr.Instr.{Instr}
+use Rattle.ijvm_instr.specs.Instructions.{word_of, target}
+use Rattle.ijvm_meaning.specs.Frames.{Frame, State, HasWords, start_of, frames_of, base}
 use Rattle.ijvm_meaning.specs.Step.{moved, is_own, with_local, onto, called}
 use Rattle.verifier_facts.specs.Accepted.{VerifiedView}
 use Rattle.ijvm_simulation.specs.Stands.{Origin, RegistersStand, FramesStand, IsTop}
-use Rattle.ijvm_simulation.specs.Verified.{Loads}
+use Rattle.ijvm_simulation.specs.Verified.{Loads, Fine, IsNext}
+use Rattle.ijvm_simulation.specs.Words.{WordLaw}
 
 -- where the memory of a map may end
 pub record IsMapEnd (top : ℕ) : Type 0 where
@@ -50,6 +53,15 @@ place_behind s xs = base (frame_with s xs ∷ s.callers)
 -- the memory with the three words of a method's frame that a call writes: its link word, its return address, and its caller's LV
 abbrev pub linked_words : List ℕ → ℕ → ℕ → ℕ → ℕ → List ℕ
 linked_words words lv many back caller = slice_set (slice_set (slice_set words lv (lv + many)) (lv + many) back) (lv + many + 1) caller
+
+-- the target of the jump whose two bytes follow this address
+abbrev pub jump : List ℕ → ℕ → ℕ
+jump words at = plus (signed_pair (byte_in words (at + 1)) (byte_in words (at + 2))) at
+
+-- a jump by z comes to an address of the text
+pub record Lands (o : Origin) (s : State) (z : ℤ) : Type 0 where
+  pub is : jump o.words s.at ≡ target s.at z
+  pub inside : jump o.words s.at < 0x10000
 
 -- the operands of a call: the arguments, the last one first, the object reference, and those below
 pub record Arguments (n : ℕ) (xs : List ℕ) : Type 0 where
@@ -152,4 +164,15 @@ pub record StackLaw : Type 0 where
   pub arguments : (n : ℕ) (xs : List ℕ) → n < length xs → Arguments n xs
   -- the locals of a method behind its object reference
   pub locals : (ps : List ℕ) (more : ℕ) → length (onto ps (replicate more None)) ≡ length ps + more
+  -- a verified image: where its memory ends, where an instruction and the target of a jump stand, and what its run's first state is
+  pub map : (v : VerifiedView) (o : Origin) → Loads v o → IsMapEnd (length o.words)
+  pub inside : (v : VerifiedView) (o : Origin) (s : State) (i : Instr) → Loads v o → IsNext v o s i → s.at < 0x10000
+  pub lands : (v : VerifiedView) (o : Origin) (s : State) (z : ℤ) → Loads v o →
+      word_of z ≡ signed_pair (byte_in o.words (s.at + 1)) (byte_in o.words (s.at + 2)) → target s.at z < length v.image.text → Lands o s z
+  pub first : (v : VerifiedView) (o : Origin) (input : List ℕ) (sp tos : ℕ) → Loads v o → sp + 1 ≡ 0x8000 + v.main_locals →
+      RegistersStand o (start_of v.main_locals input) sp 0x8000 0x4000 tos (record { words = o.words; untaken = input; given = o.given })
+  pub running : (v : VerifiedView) (s : State) → Fine v s → HasWords s.running
+  -- words, and that the console is no word below the stack
+  pub words : WordLaw
+  pub console : 0x8000 ≤ console_address
   pub boundary : (o : Origin) (s : State) (sp lv cpp tos : ℕ) (w : World) → IsMapEnd (length o.words) → RegistersStand o s sp lv cpp tos w → AtBoundary o s sp lv cpp tos w
