@@ -11,7 +11,13 @@ use Rattle.mal_parser.specs.declared.statement.Statement.{Statement}
 use Rattle.mal_parser.specs.Program.{Program}
 use Rattle.store_placement.specs.Program.{placed_statement, placed_default, IsFilled, Decodes}
 use Rattle.mal_shipped.specs.Listing.{Row, listed_program, addresses_of, program1, rows1, program2, rows2}
-use Rattle.mal_shipped.specs.Shipped.{statement_among, HasShipped}
+use Rattle.mal_shipped.specs.Shipped.{shipped, HasShipped}
+
+-- the statement at an address among these rows, the first of which has this number; else what unused words hold
+abbrev statement_among : Placed → (ℕ → ℕ) → ℕ → List Row → ℕ → Placed
+statement_among unused address number [] at = unused
+statement_among unused address number (r ∷ rows) at =
+    elim (r.address == at) [ true ↦ placed_statement address number r.statement | false ↦ statement_among unused address (number + 1) rows at ]
 
 by_test : (P : Placed → Type 0) (here there : Placed) (x y : ℕ) (t : Bool) → (x == y) ≡ t → (x ≡ y → P here) → (x ≢ y → P there) →
     P (elim t [ true ↦ here | false ↦ there ])
@@ -81,12 +87,21 @@ filled_is machine rows program words m s law filled at below =
     none k found_row.0 found_row.1 (sym (address_in rows k found_row.0 found_row.1) ∙ e) in
     decoded machine _ _ law (subst (λ (n : Machine). Decodes n (slice_index words at) (placed_default address program.fallback)) m (filled.others at below empty)))
 
+-- the statement that the text places at an address is the one that the table has there
+listed1 : (at : ℕ) → statement_among (placed_default (slice_index (addresses_of Mic1)) program1.fallback) (slice_index (addresses_of Mic1)) 0 rows1 at ≡ shipped Mic1 at
+unfolding rows1 program1 shipped
+listed1 at = refl
+
+listed2 : (at : ℕ) → statement_among (placed_default (slice_index (addresses_of Mic2)) program2.fallback) (slice_index (addresses_of Mic2)) 0 rows2 at ≡ shipped Mic2 at
+unfolding rows2 program2 shipped
+listed2 at = refl
+
 -- the words of a store that is filled with a shipped microprogram at its addresses
 pub shipped_words : (machine : Machine) (words : List ℕ) → ((q : Placed) → IsTrue (is_valid machine q) → statement_of machine (word_of machine q) ≡ q) →
     IsFilled (listed_program machine) (addresses_of machine) words → HasShipped machine words
 unfolding program1 program2
-shipped_words Mic1 words law filled = filled_is Mic1 rows1 program1 words refl refl law filled
-shipped_words Mic2 words law filled = filled_is Mic2 rows2 program2 words refl refl law filled
+shipped_words Mic1 words law filled = λ at below. filled_is Mic1 rows1 program1 words refl refl law filled at below ∙ listed1 at
+shipped_words Mic2 words law filled = λ at below. filled_is Mic2 rows2 program2 words refl refl law filled at below ∙ listed2 at
 
 -- Main1 stands at 0x002 on both machines
 pub entry_at : (machine : Machine) (addresses : List ℕ) (entry : ℕ) → addresses ≡ addresses_of machine → entry ≡ slice_index addresses (listed_program machine).entry → entry ≡ 0x002

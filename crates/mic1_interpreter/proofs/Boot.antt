@@ -10,12 +10,13 @@ use Rattle.mic1_datapath.specs.Micro.{Micro}
 use Rattle.mic1_datapath.specs.Mic1.{mic1_meaning}
 use Rattle.ijvm_meaning.specs.Cost.{timing_of}
 use Rattle.ijvm_meaning.specs.Frames.{start_of}
-use Rattle.mic1_interpreter.proofs.Shipped.{HasStatements}
+use Rattle.mic1_interpreter.proofs.Store.{HasStatements}
 use Rattle.mic1_interpreter.specs.Stands.{Stands}
 use Rattle.mic1_interpreter.proofs.Guided.{clocked, pass-clocked}
-use Rattle.mic1_interpreter.proofs.Boundaries.{ReachesBoundary, at_boundary, map_of}
+use Rattle.mic1_interpreter.proofs.Boundaries.{ReachesBoundary, at_boundary}
 use Rattle.mic1_interpreter.proofs.Words.{fetch_ok}
 use Rattle.ijvm_simulation.specs.Stands.{Origin}
+use Rattle.ijvm_simulation.specs.Stack.{StackLaw}
 use Rattle.ijvm_simulation.specs.Passes.{Moment}
 use Rattle.ijvm_simulation.specs.Law.{Boots, reset_moment}
 use Rattle.ijvm_simulation.specs.Verified.{Loads}
@@ -25,12 +26,7 @@ first_address : next 4294967295 ≡ 0
 unfolding wrap
 first_address = refl
 
-zero_locals : (n k v : ℕ) → slice_get (replicate n (Some 0)) k ≡ Some (Some v) → (k < n) × (0 ≡ v)
-zero_locals zero k v e = absurd (cc)
-zero_locals (suc n) zero v e = (omega arith, cc)
-zero_locals (suc n) (suc k) v e = let h = zero_locals n k v e in (omega (arith, h.0), h.1)
-
-module _ (program : List ℕ) (has : HasStatements program) (o : Origin) (v : VerifiedView) (loads : Loads v o) (input : List ℕ) where
+module _ (program : List ℕ) (has : HasStatements program) (o : Origin) (v : VerifiedView) (loads : Loads v o) (law : StackLaw) (input : List ℕ) where
   -- the world when the run begins
   abbrev pub world : World
   world = record { words = o.words; untaken = input; given = o.given }
@@ -40,24 +36,13 @@ module _ (program : List ℕ) (has : HasStatements program) (o : Origin) (v : Ve
 
   pub boot : ReachesBoundary program o 1 (record { state = start.state; world = world; stalls = 0 }) (start_of v.main_locals input)
   boot =
-      let fetch : fetch_refusal (length o.words) (next 4294967295) ≡ None = fetch_ok (length o.words) (map_of v o loads) first_address (omega arith) in
-      let len : length (replicate {A = Option ℕ} v.main_locals (Some 0)) ≡ v.main_locals = length-replicate {A = Option ℕ} v.main_locals (Some 0) in
+      let fetch : fetch_refusal (length o.words) (next 4294967295) ≡ None = fetch_ok (length o.words) (law.map v o loads) first_address (omega arith) in
       let p : Moment Micro = record { state = start.state; world = world; stalls = 0 } in
       record {
         to = clocked (length o.words) (0 ∷ []) 1 p;
         passes = pass-clocked program has (length o.words) (0 ∷ []) 1 p refl (assumption);
         stands = at_boundary o _ _ _
-            (record {
-              sp_is = omega arith;
-              lv_is = refl;
-              cpp_is = refl;
-              tos_is = tt;
-              frames = (record { locals = λ k x e. let z = zero_locals v.main_locals k x e in loads.zeros k z.0 ∙ z.1; operands = tt; linked = tt }, tt);
-              memory = record { kept = λ a l. refl; long = refl };
-              fits = omega (arith, loads.accepted.main_fits, loads.long);
-              untaken = refl;
-              given = sym (append-nil o.given);
-            })
+            (law.first v o input _ _ loads (omega arith))
             first_address (ap (byte_in o.words) first_address) refl refl refl refl refl;
         stalls = refl;
       }

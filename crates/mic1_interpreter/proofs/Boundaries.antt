@@ -13,7 +13,7 @@ use Rattle.ijvm_instr.specs.declared.instr.Instr.{Instr}
 use Rattle.ijvm_meaning.specs.Cost.{timing_of, cost}
 use Rattle.verifier_facts.specs.Accepted.{VerifiedView}
 use Rattle.ijvm_simulation.specs.Verified.{IsNext, Loads}
-use Rattle.mic1_interpreter.proofs.Shipped.{shipped, HasStatements}
+use Rattle.mic1_interpreter.proofs.Store.{shipped, HasStatements}
 use Rattle.mic1_interpreter.specs.Stands.{Stands}
 use Rattle.mic1_interpreter.proofs.Guided.{clocked, IsSmooth, pass-clocked, outcome_is, step-refused}
 use Rattle.mic1_interpreter.proofs.Words.{byte_kept, fetch_ok, next_is}
@@ -124,17 +124,6 @@ shows program o s m w h =
       untaken = h.holds.untaken;
       given = h.holds.given;
     }
-
--- a verified image's memory ends where a map has it
-pub map_of : (v : VerifiedView) (o : Origin) → Loads v o → IsMapEnd (length o.words)
-map_of v o loads = elim loads.accepted.map_is [
-  | inl e ↦ let long : length o.words ≡ v.map.stack_end = loads.long in record { low = omega (arith, e); high = omega (arith, e); near = omega (arith, e) }
-  | inr e ↦ let long : length o.words ≡ v.map.stack_end = loads.long in record { low = omega (arith, e); high = omega (arith, e); near = omega (arith, e) }
-]
-
--- and an instruction of it stands in the first 65,536 bytes
-pub next_inside : {v : VerifiedView} {o : Origin} {s : State} {i : Instr} → Loads v o → IsNext v o s i → s.at < 0x10000
-next_inside loads n = omega (arith, n.begins, loads.image.limits.text_fits)
 
 pub begins : (o : Origin) (s : State) (m : Micro) (w : World) → Stands o s m w → HasWord mic1_meaning m
 begins o s m w h =

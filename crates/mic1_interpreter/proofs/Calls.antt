@@ -24,9 +24,9 @@ use Rattle.ijvm_simulation.specs.Verified.{Loads, Fine, IsNext}
 use Rattle.ijvm_simulation.specs.Law.{Moves, Overruns, Takes}
 use Rattle.ijvm_simulation.specs.Groups.{IsCall}
 use Rattle.mic1_interpreter.specs.Stands.{Stands}
-use Rattle.mic1_interpreter.proofs.Shipped.{HasStatements}
-use Rattle.mic1_interpreter.proofs.Boundaries.{ReachesBoundary, comes, Counts, counts, at_boundary, at_text, map_of, next_inside, moves, overruns}
-use Rattle.mic1_interpreter.proofs.Words.{byte_bound, byte_kept, fetch_ok, minus_is, next_is, pair_is, plus_is}
+use Rattle.mic1_interpreter.proofs.Store.{HasStatements}
+use Rattle.mic1_interpreter.proofs.Boundaries.{ReachesBoundary, comes, Counts, counts, at_boundary, at_text, moves, overruns}
+use Rattle.mic1_interpreter.proofs.Words.{byte_kept, fetch_ok, pair_is}
 
 -- what a method's frame says of the words below its operands
 link_of : (words : List ℕ) (lv many caller r : ℕ) (back : Option ℕ) → back ≡ Some r → IsLinked words lv many caller back → IsLinked words lv many caller (Some r)
@@ -98,7 +98,7 @@ module _ (program : List ℕ) (has : HasStatements program) (o : Origin) (map : 
       let b : IsWordAccess (length o.words) w1 x (lv + many) = law.access (length o.words) w1 x (lv + many) (a.value ∙ at) (omega arith) in
       let w2 : World = after_read (length o.words) w1 x in
       let d : IsWordAccess (length o.words) w2 (next x) (lv + many + 1) =
-      law.access (length o.words) w2 (next x) (lv + many + 1) (next_is x (lv + many + 1) (omega (arith, b.is)) (omega arith)) (omega arith) in
+      law.access (length o.words) w2 (next x) (lv + many + 1) (law.words.next_is x (lv + many + 1) (omega (arith, b.is)) (omega arith)) (omega arith) in
       let pc : read_value (length o.words) w.words w1.untaken x ≡ r = b.value ∙ (rw same at link.1) in
       let lv_back : read_value (length o.words) w.words w2.untaken (next x) ≡ base fs = d.value ∙ ((rw same at link.2) ∙ ap caller_lv callers) in
       let fetch : fetch_refusal (length o.words) (read_value (length o.words) w.words w1.untaken x) ≡ None = fetch_ok (length o.words) map pc (omega (arith, to)) in
@@ -119,25 +119,25 @@ module _ (program : List ℕ) (has : HasStatements program) (o : Origin) (map : 
       let high : length o.words < 0x80000000 = map.high in
       let a : IsWordAccess (length o.words) w (from (length o.words) m w) (0x4000 + i) =
       law.access (length o.words) w (from (length o.words) m w) (0x4000 + i)
-      (plus_is (pair_is o.words (s.at + 1) (s.at + 2) c.byte1 c.byte2 index) h.holds.cpp_is (omega arith) (omega (arith, small))) (omega (arith, map.low)) in
+      (law.words.plus_is (pair_is o.words (s.at + 1) (s.at + 2) c.byte1 c.byte2 index) h.holds.cpp_is (omega arith) (omega (arith, small))) (omega (arith, map.low)) in
       let x : ℕ = entry (length o.words) m w in
       let e0 : x ≡ e = a.value ∙ (h.holds.memory.kept (0x4000 + i) (omega arith) ∙ is_e) in
-      let e1 : next x ≡ e + 1 = next_is x (e + 1) (omega arith) (omega arith) in
-      let e2 : next (next x) ≡ e + 2 = next_is (next x) (e + 2) (omega arith) (omega arith) in
-      let e3 : next (next (next x)) ≡ e + 3 = next_is (next (next x)) (e + 3) (omega arith) (omega arith) in
-      let e4 : next (next (next (next x))) ≡ e + 4 = next_is (next (next (next x))) (e + 4) (omega arith) (omega arith) in
+      let e1 : next x ≡ e + 1 = law.words.next_is x (e + 1) (omega arith) (omega arith) in
+      let e2 : next (next x) ≡ e + 2 = law.words.next_is (next x) (e + 2) (omega arith) (omega arith) in
+      let e3 : next (next (next x)) ≡ e + 3 = law.words.next_is (next (next x)) (e + 3) (omega arith) (omega arith) in
+      let e4 : next (next (next (next x))) ≡ e + 4 = law.words.next_is (next (next (next x))) (e + 4) (omega arith) (omega arith) in
       let kept = h.holds.memory.kept in
       let count_is : count (length o.words) m w ≡ n + 1 =
       pair_is o.words e (e + 1) (byte_kept w.words o.words kept e0 (omega arith)) (byte_kept w.words o.words kept e1 (omega arith)) counted in
       let own_is : own (length o.words) m w ≡ more =
       pair_is o.words (e + 2) (e + 3) (byte_kept w.words o.words kept e2 (omega arith)) (byte_kept w.words o.words kept e3 (omega arith)) owned in
-      let b2 : byte_in o.words (e + 2) < 256 = byte_bound o.words (e + 2) in
-      let b3 : byte_in o.words (e + 3) < 256 = byte_bound o.words (e + 3) in
+      let b2 : byte_in o.words (e + 2) < 256 = law.words.byte_bound o.words (e + 2) in
+      let b3 : byte_in o.words (e + 3) < 256 = law.words.byte_bound o.words (e + 3) in
       let few : more < 65536 = omega arith in
       let lv : ℕ = place_behind s rest in
       let sp : m.sp ≡ lv + n = omega (arith, h.holds.sp_is) in
       let low : lv < length o.words = omega (arith, h.holds.fits) in
-      let start : minus m.sp (count (length o.words) m w) ≡ lv - 1 = minus_is refl count_is (omega arith) (omega (arith, h.holds.sp_is, h.holds.fits)) in
+      let start : minus m.sp (count (length o.words) m w) ≡ lv - 1 = law.words.minus_is refl count_is (omega arith) (omega (arith, h.holds.sp_is, h.holds.fits)) in
       record {
         constant = a;
         entry_is = e0;
@@ -150,8 +150,8 @@ module _ (program : List ℕ) (has : HasStatements program) (o : Origin) (map : 
         count_is = count_is;
         own_is = own_is;
         few = few;
-        link_access = law.access (length o.words) w (link_at (length o.words) m w) lv (next_is _ lv (omega arith) (omega arith)) low;
-        link_is = next_is (own (length o.words) m w + m.sp) (lv + (n + 1 + more)) (omega arith) (omega (arith, h.holds.sp_is, h.holds.fits));
+        link_access = law.access (length o.words) w (link_at (length o.words) m w) lv (law.words.next_is _ lv (omega arith) (omega arith)) low;
+        link_is = law.words.next_is (own (length o.words) m w + m.sp) (lv + (n + 1 + more)) (omega arith) (omega (arith, h.holds.sp_is, h.holds.fits));
       }
 
   invoke : (i e more : ℕ) (ps : List ℕ) (x : ℕ) (rest : List ℕ) → byte_in o.words s.at ≡ 0xB6 → Entering o s m w i e (length ps) more rest → e + 4 < 0x10000 →
@@ -170,7 +170,7 @@ module _ (program : List ℕ) (has : HasStatements program) (o : Origin) (map : 
       let y : ℕ = link (length o.words) m w in
       let d : IsWordAccess (length o.words) w y (lv + many) = law.access (length o.words) w y (lv + many) en.link_is (omega arith) in
       let f : IsWordAccess (length o.words) w (next y) (lv + many + 1) =
-      law.access (length o.words) w (next y) (lv + many + 1) (next_is y (lv + many + 1) (omega (arith, d.is)) (omega arith)) (omega arith) in
+      law.access (length o.words) w (next y) (lv + many + 1) (law.words.next_is y (lv + many + 1) (omega (arith, d.is)) (omega arith)) (omega arith) in
       let same : slice_set (slice_set (slice_set w.words (link_at (length o.words) m w) y) y (next (next (next m.pc)))) (next y) m.lv ≡ linked_words w.words lv many (s.at + 3) (base s.callers) =
       λ j. slice_set (slice_set (slice_set w.words (b.is j) (d.is j)) (d.is j) (c.pc3 j)) (f.is j) (h.holds.lv_is j) in
       comes program has o (0xB6 ∷ []) 22 m w k s _ h (assumption)
@@ -181,12 +181,12 @@ module _ (program : List ℕ) (has : HasStatements program) (o : Origin) (map : 
 
 module _ (program : List ℕ) (has : HasStatements program) (o : Origin) (v : VerifiedView) (loads : Loads v o) (law : StackLaw) where
   abbrev map : IsMapEnd (length o.words)
-  map = map_of v o loads
+  map = law.map v o loads
 
   entering_at : (s : State) (q : Moment Micro) (k : ℕ) (m : Method) (n : ℕ) → Stands o s q.state q.world → IsNext v o s (Invokevirtual k) → IsMethod v o k m → m.params ≡ suc n → (a : Arguments n s.running.operands) →
       Entering o s q.state q.world k m.entry n m.others (drop (n + 1) s.running.operands)
   entering_at s q k m n h next f params a =
-      entering program has o map law s q.state q.world q.stalls h (next_inside loads next) k m.entry n m.others (drop (n + 1) s.running.operands)
+      entering program has o map law s q.state q.world q.stalls h (law.inside v o s _ loads next) k m.entry n m.others (drop (n + 1) s.running.operands)
       next.reads.1 f.constant.small f.constant.there f.whole (omega (arith, f.params_are)) f.others_are a.depth
 
   goes : (s to : State) (q : Moment Micro) (i : Instr) → IsCall i → Fine v s → IsNext v o s i → Stands o s q.state q.world → Went v.image v.map.stack_end s to i →
@@ -195,7 +195,7 @@ module _ (program : List ℕ) (has : HasStatements program) (o : Origin) (v : Ve
       let r = n.finds.returns refl in
       let same : r.0 ≡ went.back = same_Some r.0 went.back (sym r.3 ∙ went.back_is) in
       moves program o v s to _ q Ireturn 8 h refl (omega arith) went.with_top.leads
-      (ireturn program has o map law s q.state q.world q.stalls h (next_inside loads n) went.with_top.top went.back went.with_top.rest went.caller went.above n.reads went.with_top.are went.back_is went.callers_are
+      (ireturn program has o map law s q.state q.world q.stalls h (law.inside v o s _ loads n) went.with_top.top went.back went.with_top.rest went.caller went.above n.reads went.with_top.are went.back_is went.callers_are
       (omega (arith, same, r.5, loads.image.limits.text_fits)))
   goes s to q (Invokevirtual k) is fine n h went =
       let f : IsMethod v o k went.method = law.method v o loads k went.method went.found in
@@ -207,7 +207,7 @@ module _ (program : List ℕ) (has : HasStatements program) (o : Origin) (v : Ve
       subst (λ (j : ℕ). Entering o s q.state q.world k went.method.entry j went.method.others rest) (sym a.long) en in
       let many : length (onto ps (replicate went.method.others None)) ≡ length ps + went.method.others = law.locals ps went.method.others in
       moves program o v s to _ q (Invokevirtual k) 22 h refl (omega arith) went.leads.goes
-      (invoke program has o map law s q.state q.world q.stalls h (next_inside loads n) k went.method.entry went.method.others ps a.o rest n.reads.0 en' f.whole a.are
+      (invoke program has o map law s q.state q.world q.stalls h (law.inside v o s _ loads n) k went.method.entry went.method.others ps a.o rest n.reads.0 en' f.whole a.are
       (omega (arith, went.leads.fits, loads.long)))
   goes s to q i is fine n h went = absurd is
 
@@ -221,7 +221,7 @@ module _ (program : List ℕ) (has : HasStatements program) (o : Origin) (v : Ve
       let ps : List ℕ = take over.others s.running.operands in
       let rest : List ℕ = drop (over.others + 1) s.running.operands in
       let en : Entering o s q.state q.world k over.method.entry over.others over.method.others rest = entering_at s q k over.method over.others h n f over.params args in
-      let c : Counts o s q.state q.world = counts o map s q.state q.world h (next_inside loads n) in
+      let c : Counts o s q.state q.world = counts o map s q.state q.world h (law.inside v o s _ loads n) in
       let op : q.state.mbr ≡ 0xB6 = h.ready.mbr ∙ n.reads.0 in
       let bottom : 0x8000 ≤ base s.callers = law.above s.callers in
       let near : length o.words ≤ 0x20000 = map.near in
@@ -245,7 +245,7 @@ module _ (program : List ℕ) (has : HasStatements program) (o : Origin) (v : Ve
             (a.untaken ∙ untaken) (b.given _ y ∙ given)
         | inl room ↦
             let d : IsWordAccess (length o.words) q.world y behind = law.access (length o.words) q.world y behind en.link_is room in
-            let last : next y ≡ behind + 1 = next_is y (behind + 1) (omega (arith, en.link_is)) (omega arith) in
+            let last : next y ≡ behind + 1 = law.words.next_is y (behind + 1) (omega (arith, en.link_is)) (omega arith) in
             let fault : write_refusal (length o.words) (next y) ≡ Some (StackLimit (next y)) = law.limit (length o.words) (next y) (omega arith) (omega arith) in
             overruns program has o s left q (0xB6 ∷ []) 19 (next y) h (omega arith) (assumption) refl refl
             (length-set (slice_set q.world.words (link_at (length o.words) q.state q.world) y) y (next (next (next q.state.pc)))

@@ -21,8 +21,8 @@ use Rattle.ijvm_simulation.specs.Verified.{Loads, Fine, IsNext}
 use Rattle.ijvm_simulation.specs.Law.{Moves, Overruns, Takes}
 use Rattle.ijvm_simulation.specs.Groups.{IsOfConsole}
 use Rattle.mic1_interpreter.specs.Stands.{Stands}
-use Rattle.mic1_interpreter.proofs.Shipped.{HasStatements}
-use Rattle.mic1_interpreter.proofs.Boundaries.{ReachesBoundary, comes, Counts, counts, at_boundary, map_of, next_inside, moves, overruns}
+use Rattle.mic1_interpreter.proofs.Store.{HasStatements}
+use Rattle.mic1_interpreter.proofs.Boundaries.{ReachesBoundary, comes, Counts, counts, at_boundary, moves, overruns}
 
 module _ (program : List ℕ) (has : HasStatements program) (o : Origin) (map : IsMapEnd (length o.words)) (law : StackLaw) (s : State) (m : Micro) (w : World) (k : ℕ) (h : Stands o s m w) (inside : s.at < 0x10000) where
   abbrev here : AtBoundary o s m.sp m.lv m.cpp m.tos w
@@ -63,20 +63,20 @@ module _ (program : List ℕ) (has : HasStatements program) (o : Origin) (map : 
 
 module _ (program : List ℕ) (has : HasStatements program) (o : Origin) (v : VerifiedView) (loads : Loads v o) (law : StackLaw) where
   abbrev map : IsMapEnd (length o.words)
-  map = map_of v o loads
+  map = law.map v o loads
 
   goes : (s to : State) (q : Moment Micro) (i : Instr) → IsOfConsole i → Fine v s → IsNext v o s i → Stands o s q.state q.world → Went v.image v.map.stack_end s to i →
       Moves mic1_meaning program (Stands o) o.given q (cost v.image (timing_of Mic1) i s) to
   goes s to q In is fine n h went =
-      moves program o v s to _ q In 5 h refl (omega arith) went.goes (inp program has o map law s q.state q.world q.stalls h (next_inside loads n) n.reads (omega (arith, went.fits, loads.long)))
+      moves program o v s to _ q In 5 h refl (omega arith) went.goes (inp program has o map law s q.state q.world q.stalls h (law.inside v o s _ loads n) n.reads (omega (arith, went.fits, loads.long)))
   goes s to q Out is fine n h went =
-      moves program o v s to _ q Out 7 h refl (omega arith) went.leads (out program has o map law s q.state q.world q.stalls h (next_inside loads n) went.top went.rest n.reads went.are)
+      moves program o v s to _ q Out 7 h refl (omega arith) went.leads (out program has o map law s q.state q.world q.stalls h (law.inside v o s _ loads n) went.top went.rest n.reads went.are)
   goes s to q i is fine n h went = absurd is
 
   limits : (s left : State) (q : Moment Micro) (i : Instr) → IsOfConsole i → Fine v s → IsNext v o s i → Stands o s q.state q.world → Overran v.image v.map.stack_end s left i →
       Overruns mic1_meaning program (Stands o) o.given q left
   limits s left q In is fine n h over =
-      let c : Counts o s q.state q.world = counts o map s q.state q.world h (next_inside loads n) in
+      let c : Counts o s q.state q.world = counts o map s q.state q.world h (law.inside v o s _ loads n) in
       let p : IsConsoleAccess (length o.words) q.world = law.port (length o.words) q.world map h.holds.memory.long in
       let op : q.state.mbr ≡ 0xFC = h.ready.mbr ∙ n.reads in
       let fault : write_refusal (length o.words) (next q.state.sp) ≡ Some (StackLimit (next q.state.sp)) =

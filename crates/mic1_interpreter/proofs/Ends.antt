@@ -8,22 +8,22 @@ use Rattle.verifier_facts.specs.Accepted.{VerifiedView}
 use Rattle.mic1_datapath.specs.Micro.{Micro}
 use Rattle.mic1_datapath.specs.Mic1.{mic1_meaning}
 use Rattle.ijvm_simulation.specs.Stands.{Origin}
-use Rattle.ijvm_simulation.specs.Stack.{IsMapEnd}
+use Rattle.ijvm_simulation.specs.Stack.{IsMapEnd, StackLaw}
 use Rattle.ijvm_simulation.specs.Passes.{Moment, pass}
 use Rattle.ijvm_simulation.specs.Verified.{Loads, Fine, IsNext}
 use Rattle.ijvm_simulation.specs.Law.{Stops, HaltsAndErrs}
 use Rattle.mic1_interpreter.specs.Stands.{Stands}
-use Rattle.mic1_interpreter.proofs.Shipped.{HasStatements}
+use Rattle.mic1_interpreter.proofs.Store.{HasStatements}
 use Rattle.mic1_interpreter.proofs.Guided.{clocked, pass-clocked}
-use Rattle.mic1_interpreter.proofs.Boundaries.{Counts, counts, at_main, starts, begins, map_of, next_inside}
+use Rattle.mic1_interpreter.proofs.Boundaries.{Counts, counts, at_main, starts, begins}
 
-module _ (program : List ℕ) (has : HasStatements program) (o : Origin) (v : VerifiedView) (loads : Loads v o) where
+module _ (program : List ℕ) (has : HasStatements program) (o : Origin) (v : VerifiedView) (loads : Loads v o) (law : StackLaw) where
   abbrev map : IsMapEnd (length o.words)
-  map = map_of v o loads
+  map = law.map v o loads
 
   halts : (s : State) (q : Moment Micro) → Fine v s → IsNext v o s Halt → Stands o s q.state q.world → Stops mic1_meaning program (Stands o) o.given q (cost v.image (timing_of Mic1) Halt s) 0x0FF
   halts s q fine n h =
-      let c : Counts o s q.state q.world = counts o map s q.state q.world h (next_inside loads n) in
+      let c : Counts o s q.state q.world = counts o map s q.state q.world h (law.inside v o s _ loads n) in
       let op : q.state.mbr ≡ 0xFF = h.ready.mbr ∙ n.reads in
       inr (record {
         n = 0;
@@ -40,7 +40,7 @@ module _ (program : List ℕ) (has : HasStatements program) (o : Origin) (v : Ve
 
   errs : (s : State) (q : Moment Micro) → Fine v s → IsNext v o s Err → Stands o s q.state q.world → Stops mic1_meaning program (Stands o) o.given q (cost v.image (timing_of Mic1) Err s) 0x0FE
   errs s q fine n h =
-      let c : Counts o s q.state q.world = counts o map s q.state q.world h (next_inside loads n) in
+      let c : Counts o s q.state q.world = counts o map s q.state q.world h (law.inside v o s _ loads n) in
       let op : q.state.mbr ≡ 0xFE = h.ready.mbr ∙ n.reads in
       inr (record {
         n = 0;

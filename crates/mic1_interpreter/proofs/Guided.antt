@@ -13,7 +13,7 @@ use Rattle.mic_datapath.specs.Memory.{written, sampled, memory_refusal, byte_ref
 use Rattle.mic1_datapath.specs.Microstep.{clock, world_after, ports_of, settled, refusal}
 use Rattle.mic_datapath.specs.Memory.{outcome}
 use Rattle.mic1_datapath.specs.Mic1.{mic1_meaning, microstep, step_of_word, driven}
-use Rattle.mic1_interpreter.proofs.Shipped.{shipped, HasStatements}
+use Rattle.mic1_interpreter.proofs.Store.{shipped, HasStatements}
 use Rattle.ijvm_simulation.specs.Passes.{Moment, is_inside, outcome_at, stalls_at, last, onward, pass}
 use Rattle.ijvm_simulation.specs.Guesses.{address_behind, left_of}
 

@@ -16,24 +16,20 @@ use Rattle.verifier_facts.specs.Accepted.{VerifiedView}
 use Rattle.mic1_datapath.specs.Micro.{Micro}
 use Rattle.mic1_datapath.specs.Mic1.{mic1_meaning}
 use Rattle.ijvm_simulation.specs.Stands.{Origin, IsTop}
-use Rattle.ijvm_simulation.specs.Stack.{IsMapEnd, Top, Two, AtBoundary, StackLaw}
+use Rattle.ijvm_simulation.specs.Stack.{IsMapEnd, Top, Two, AtBoundary, StackLaw, jump, Lands}
 use Rattle.ijvm_simulation.specs.Passes.{Moment}
 use Rattle.ijvm_simulation.specs.Outcomes.{Went, Overran}
 use Rattle.ijvm_simulation.specs.Verified.{Loads, Fine, IsNext}
 use Rattle.ijvm_simulation.specs.Law.{Moves, Overruns, Takes}
 use Rattle.ijvm_simulation.specs.Groups.{IsJump}
 use Rattle.mic1_interpreter.specs.Stands.{Stands}
-use Rattle.mic1_interpreter.proofs.Shipped.{HasStatements}
-use Rattle.mic1_interpreter.proofs.Boundaries.{ReachesBoundary, comes, Counts, counts, at_boundary, map_of, next_inside, moves}
-use Rattle.mic1_interpreter.proofs.Words.{before_is, byte_kept, fetch_ok, plus_comm, signed_pair_is}
+use Rattle.mic1_interpreter.proofs.Store.{HasStatements}
+use Rattle.mic1_interpreter.proofs.Boundaries.{ReachesBoundary, comes, Counts, counts, at_boundary, moves}
+use Rattle.mic1_interpreter.proofs.Words.{byte_kept, fetch_ok, signed_pair_is}
 
 -- where the words of goto come to
 abbrev pub goes_to : Micro → World → ℕ
 goes_to m w = plus (bit_or (wrap (256 * signed_byte (byte_in w.words (next m.pc)))) (byte_in w.words (next (next m.pc)))) (before (next m.pc))
-
--- the target of the jump of these two bytes
-abbrev pub jump : List ℕ → ℕ → ℕ
-jump words at = plus (signed_pair (byte_in words (at + 1)) (byte_in words (at + 2))) at
 
 pub record Jump (o : Origin) (s : State) (m : Micro) (w : World) : Type 0 where
   pub is : goes_to m w ≡ jump o.words s.at
@@ -44,10 +40,6 @@ pub record Jump (o : Origin) (s : State) (m : Micro) (w : World) : Type 0 where
 abbrev pub branch : Bool → ℕ
 branch b = if b then 257 else 1
 
-difference_zero : (y x : ℕ) → IsWord y → IsWord x → (minus y x == 0) ≡ (x == y)
-unfolding wrap
-difference_zero y x ly lx = grind (arith, nat_tests)
-
 module _ (program : List ℕ) (has : HasStatements program) (o : Origin) (map : IsMapEnd (length o.words)) (law : StackLaw) (s : State) (m : Micro) (w : World) (k : ℕ) (h : Stands o s m w) (inside : s.at < 0x10000) where
   abbrev here : AtBoundary o s m.sp m.lv m.cpp m.tos w
   here = law.boundary o s m.sp m.lv m.cpp m.tos w map h.holds
@@ -55,7 +47,7 @@ module _ (program : List ℕ) (has : HasStatements program) (o : Origin) (map : 
   jumps : jump o.words s.at < 0x10000 → Jump o s m w
   jumps to =
       let c : Counts o s m w = counts o map s m w h inside in
-      let from : before (next m.pc) ≡ s.at = before_is (next m.pc) s.at c.pc1 (omega (arith, c.pc1)) in
+      let from : before (next m.pc) ≡ s.at = law.words.before_is (next m.pc) s.at c.pc1 (omega (arith, c.pc1)) in
       let is : goes_to m w ≡ jump o.words s.at = ap₂ plus (signed_pair_is o.words (s.at + 1) (s.at + 2) c.byte1 c.byte2) from in
       record {
         is = is;
@@ -142,7 +134,7 @@ module _ (program : List ℕ) (has : HasStatements program) (o : Origin) (map : 
       let j : Jump o s m w = jumps to in
       let op : m.mbr ≡ 0x9F = h.ready.mbr ∙ code in
       let to_t : branch (minus m.tos (read_value (length o.words) w.words w.untaken (before m.sp)) == 0) ≡ 257 =
-      ap branch (ap₂ (λ (i : ℕ) (k : ℕ). minus i k == 0) t.tos_is t.second ∙ (difference_zero y x ly lx ∙ flag)) in
+      ap branch (ap₂ (λ (i : ℕ) (k : ℕ). minus i k == 0) t.tos_is t.second ∙ (law.words.difference_zero y x ly lx ∙ flag)) in
       comes program has o (0x9F ∷ 257 ∷ []) 12 m w k s _ h (assumption)
       (at_boundary o _ _ _
       (here.drops rest (jump o.words s.at) _ _ _ _ _ s.given t.frames (omega (arith, t.at.below))
@@ -160,7 +152,7 @@ module _ (program : List ℕ) (has : HasStatements program) (o : Origin) (map : 
       let bottom : 0x8000 ≤ base s.callers = law.above s.callers in
       let op : m.mbr ≡ 0x9F = h.ready.mbr ∙ code in
       let to_f : branch (minus m.tos (read_value (length o.words) w.words w.untaken (before m.sp)) == 0) ≡ 1 =
-      ap branch (ap₂ (λ (i : ℕ) (k : ℕ). minus i k == 0) t.tos_is t.second ∙ (difference_zero y x ly lx ∙ flag)) in
+      ap branch (ap₂ (λ (i : ℕ) (k : ℕ). minus i k == 0) t.tos_is t.second ∙ (law.words.difference_zero y x ly lx ∙ flag)) in
       comes program has o (0x9F ∷ 1 ∷ []) 9 m w k s _ h (assumption)
       (at_boundary o _ _ _
       (here.drops rest (s.at + 3) _ _ _ _ _ s.given t.frames (omega (arith, t.at.below))
@@ -172,19 +164,7 @@ module _ (program : List ℕ) (has : HasStatements program) (o : Origin) (map : 
 
 module _ (program : List ℕ) (has : HasStatements program) (o : Origin) (v : VerifiedView) (loads : Loads v o) (law : StackLaw) where
   abbrev map : IsMapEnd (length o.words)
-  map = map_of v o loads
-
-  -- the target of a jump
-  target_is : (s : State) (z : ℤ) → word_of z ≡ signed_pair (byte_in o.words (s.at + 1)) (byte_in o.words (s.at + 2)) → jump o.words s.at ≡ target s.at z
-  target_is s z e =
-      plus_comm (signed_pair (byte_in o.words (s.at + 1)) (byte_in o.words (s.at + 2))) s.at
-      ∙ ap (plus s.at) (sym e)
-
-  target_inside : (s : State) (z : ℤ) → jump o.words s.at ≡ target s.at z → target s.at z < length v.image.text → jump o.words s.at < 0x10000
-  target_inside s z e l = omega (arith, loads.image.limits.text_fits)
-
-  first_frame : (s : State) → Fine v s → HasWords s.running
-  first_frame s fine = All-get_or HasWords (frames_of s) 0 s.running (omega arith) fine.words.frames
+  map = law.map v o loads
 
   -- a branch by a test of the top
   branched : (s to : State) (q : Moment Micro) (i : Instr) (z : ℤ) (t : Bool) (rest : List ℕ) → Stands o s q.state q.world → jump o.words s.at ≡ target s.at z →
@@ -209,37 +189,33 @@ module _ (program : List ℕ) (has : HasStatements program) (o : Origin) (v : Ve
   goes : (s to : State) (q : Moment Micro) (i : Instr) → IsJump i → Fine v s → IsNext v o s i → Stands o s q.state q.world → Went v.image v.map.stack_end s to i →
       Moves mic1_meaning program (Stands o) o.given q (cost v.image (timing_of Mic1) i s) to
   goes s to q (Goto z) is fine n h went =
-      let e : jump o.words s.at ≡ target s.at z = target_is s z n.reads.1 in
-      let there : jump o.words s.at < 0x10000 = target_inside s z e (n.finds.inside (target s.at z) (inr (z, refl, refl))) in
-      moves program o v s to _ q (Goto z) 6 h refl (omega arith) (ap (moved s s.running.operands) e ∙ went)
-      (go program has o map law s q.state q.world q.stalls h (next_inside loads n) n.reads.0 there)
+      let j : Lands o s z = law.lands v o s z loads n.reads.1 (n.finds.inside (target s.at z) (inr (z, refl, refl))) in
+      moves program o v s to _ q (Goto z) 6 h refl (omega arith) (ap (moved s s.running.operands) j.is ∙ went)
+      (go program has o map law s q.state q.world q.stalls h (law.inside v o s _ loads n) n.reads.0 j.inside)
   goes s to q (Ifeq z) is fine n h went =
-      let e : jump o.words s.at ≡ target s.at z = target_is s z n.reads.1 in
-      let there : jump o.words s.at < 0x10000 = target_inside s z e (n.finds.inside (target s.at z) (inr (z, refl, refl))) in
+      let j : Lands o s z = law.lands v o s z loads n.reads.1 (n.finds.inside (target s.at z) (inr (z, refl, refl))) in
       let taken_is : tests (λ (y : ℕ). y == 0) s.running.operands ≡ (went.top == 0) = ap (tests (λ (y : ℕ). y == 0)) went.are in
-      branched s to q (Ifeq z) z (went.top == 0) went.rest h e went.leads
+      branched s to q (Ifeq z) z (went.top == 0) went.rest h j.is went.leads
       (λ t. ap (λ (b : Bool). if b then 11 else 8) (taken_is ∙ t)) (λ t. ap (λ (b : Bool). if b then 11 else 8) (taken_is ∙ t))
-      (λ t. ifeq_taken program has o map law s q.state q.world q.stalls h (next_inside loads n) went.top went.rest n.reads.0 went.are t there)
-      (λ t. ifeq_not program has o map law s q.state q.world q.stalls h (next_inside loads n) went.top went.rest n.reads.0 went.are t)
+      (λ t. ifeq_taken program has o map law s q.state q.world q.stalls h (law.inside v o s _ loads n) went.top went.rest n.reads.0 went.are t j.inside)
+      (λ t. ifeq_not program has o map law s q.state q.world q.stalls h (law.inside v o s _ loads n) went.top went.rest n.reads.0 went.are t)
   goes s to q (Iflt z) is fine n h went =
-      let e : jump o.words s.at ≡ target s.at z = target_is s z n.reads.1 in
-      let there : jump o.words s.at < 0x10000 = target_inside s z e (n.finds.inside (target s.at z) (inr (z, refl, refl))) in
+      let j : Lands o s z = law.lands v o s z loads n.reads.1 (n.finds.inside (target s.at z) (inr (z, refl, refl))) in
       let taken_is : tests is_negative s.running.operands ≡ is_negative went.top = ap (tests is_negative) went.are in
-      branched s to q (Iflt z) z (is_negative went.top) went.rest h e went.leads
+      branched s to q (Iflt z) z (is_negative went.top) went.rest h j.is went.leads
       (λ t. ap (λ (b : Bool). if b then 11 else 8) (taken_is ∙ t)) (λ t. ap (λ (b : Bool). if b then 11 else 8) (taken_is ∙ t))
-      (λ t. iflt_taken program has o map law s q.state q.world q.stalls h (next_inside loads n) went.top went.rest n.reads.0 went.are t there)
-      (λ t. iflt_not program has o map law s q.state q.world q.stalls h (next_inside loads n) went.top went.rest n.reads.0 went.are t)
+      (λ t. iflt_taken program has o map law s q.state q.world q.stalls h (law.inside v o s _ loads n) went.top went.rest n.reads.0 went.are t j.inside)
+      (λ t. iflt_not program has o map law s q.state q.world q.stalls h (law.inside v o s _ loads n) went.top went.rest n.reads.0 went.are t)
   goes s to q (IfIcmpeq z) is fine n h went =
-      let e : jump o.words s.at ≡ target s.at z = target_is s z n.reads.1 in
-      let there : jump o.words s.at < 0x10000 = target_inside s z e (n.finds.inside (target s.at z) (inr (z, refl, refl))) in
+      let j : Lands o s z = law.lands v o s z loads n.reads.1 (n.finds.inside (target s.at z) (inr (z, refl, refl))) in
       let taken_is : are_equal s.running.operands ≡ (went.second == went.top) = ap are_equal went.are in
-      let words : All IsWord (went.top ∷ went.second ∷ went.rest) = subst (All IsWord) went.are (first_frame s fine).operands in
+      let words : All IsWord (went.top ∷ went.second ∷ went.rest) = subst (All IsWord) went.are (law.running v s fine).operands in
       let ly : IsWord went.top = All-get_or IsWord (went.top ∷ went.second ∷ went.rest) 0 went.top (omega arith) words in
       let lx : IsWord went.second = All-get_or IsWord (went.top ∷ went.second ∷ went.rest) 1 went.second (omega arith) words in
-      compared s to q (IfIcmpeq z) z (went.second == went.top) went.rest h e went.leads
+      compared s to q (IfIcmpeq z) z (went.second == went.top) went.rest h j.is went.leads
       (λ t. ap (λ (b : Bool). if b then 13 else 10) (taken_is ∙ t)) (λ t. ap (λ (b : Bool). if b then 13 else 10) (taken_is ∙ t))
-      (λ t. icmpeq_taken program has o map law s q.state q.world q.stalls h (next_inside loads n) went.top went.second went.rest n.reads.0 went.are ly lx t there)
-      (λ t. icmpeq_not program has o map law s q.state q.world q.stalls h (next_inside loads n) went.top went.second went.rest n.reads.0 went.are ly lx t)
+      (λ t. icmpeq_taken program has o map law s q.state q.world q.stalls h (law.inside v o s _ loads n) went.top went.second went.rest n.reads.0 went.are ly lx t j.inside)
+      (λ t. icmpeq_not program has o map law s q.state q.world q.stalls h (law.inside v o s _ loads n) went.top went.second went.rest n.reads.0 went.are ly lx t)
   goes s to q i is fine n h went = absurd is
 
   limits : (s left : State) (q : Moment Micro) (i : Instr) → IsJump i → Fine v s → IsNext v o s i → Stands o s q.state q.world → Overran v.image v.map.stack_end s left i →

@@ -1,4 +1,3 @@
-pub mod Shipped
 pub mod Guided
 pub mod Words
 pub mod Boundaries

@@ -22,9 +22,9 @@ use Rattle.ijvm_simulation.specs.Verified.{Loads, Fine, IsNext}
 use Rattle.ijvm_simulation.specs.Law.{Moves, Overruns, Takes}
 use Rattle.ijvm_simulation.specs.Groups.{IsOfLocals}
 use Rattle.mic1_interpreter.specs.Stands.{Stands}
-use Rattle.mic1_interpreter.proofs.Shipped.{HasStatements}
-use Rattle.mic1_interpreter.proofs.Boundaries.{ReachesBoundary, comes, Counts, counts, at_boundary, at_text, map_of, next_inside, moves, overruns}
-use Rattle.mic1_interpreter.proofs.Words.{pair_is, plus_comm, plus_is, signed_pair_is}
+use Rattle.mic1_interpreter.proofs.Store.{HasStatements}
+use Rattle.mic1_interpreter.proofs.Boundaries.{ReachesBoundary, comes, Counts, counts, at_boundary, at_text, moves, overruns}
+use Rattle.mic1_interpreter.proofs.Words.{pair_is, signed_pair_is}
 
 module _ (program : List ℕ) (has : HasStatements program) (o : Origin) (map : IsMapEnd (length o.words)) (law : StackLaw) (s : State) (m : Micro) (w : World) (k : ℕ) (h : Stands o s m w) (inside : s.at < 0x10000) where
   abbrev here : AtBoundary o s m.sp m.lv m.cpp m.tos w
@@ -39,7 +39,7 @@ module _ (program : List ℕ) (has : HasStatements program) (o : Origin) (map : 
       let from : ℕ = plus m.lv (byte_in w.words (next m.pc)) in
       let l : i < length s.running.locals = slice_get_within s.running.locals i (Some v) local in
       let a : IsWordAccess (length o.words) w from (base s.callers + i) =
-      here.local from i l (plus_is h.holds.lv_is (c.byte1 ∙ sym index) refl (omega (arith, h.holds.fits, map.high))) in
+      here.local from i l (law.words.plus_is h.holds.lv_is (c.byte1 ∙ sym index) refl (omega (arith, h.holds.fits, map.high))) in
       let is : read_value (length o.words) w.words w.untaken from ≡ v = a.value ∙ h.holds.frames.0.locals i v local in
       let same : slice_set w.words (next m.sp) (read_value (length o.words) w.words w.untaken from) ≡ slice_set w.words (base (frames_of s)) v = ap₂ (slice_set w.words) r.is is in
       comes program has o (0x15 ∷ []) 5 m w k s _ h (assumption)
@@ -59,7 +59,7 @@ module _ (program : List ℕ) (has : HasStatements program) (o : Origin) (map : 
       let from : ℕ = plus (bit_or (wrap (256 * byte_in w.words (next (next m.pc)))) (byte_in w.words (next (next (next m.pc))))) m.lv in
       let l : i < length s.running.locals = slice_get_within s.running.locals i (Some v) local in
       let a : IsWordAccess (length o.words) w from (base s.callers + i) =
-      here.local from i l (plus_is (pair_is o.words (s.at + 2) (s.at + 3) c.byte2 c.byte3 index) h.holds.lv_is (omega arith) (omega (arith, h.holds.fits, map.high))) in
+      here.local from i l (law.words.plus_is (pair_is o.words (s.at + 2) (s.at + 3) c.byte2 c.byte3 index) h.holds.lv_is (omega arith) (omega (arith, h.holds.fits, map.high))) in
       let is : read_value (length o.words) w.words w.untaken from ≡ v = a.value ∙ h.holds.frames.0.locals i v local in
       let same : slice_set w.words (next m.sp) (read_value (length o.words) w.words w.untaken from) ≡ slice_set w.words (base (frames_of s)) v = ap₂ (slice_set w.words) r.is is in
       comes program has o (0xC4 ∷ 0x115 ∷ []) 8 m w k s _ h (assumption)
@@ -77,7 +77,7 @@ module _ (program : List ℕ) (has : HasStatements program) (o : Origin) (map : 
       let op : m.mbr ≡ 0x13 = h.ready.mbr ∙ code in
       let from : ℕ = plus (bit_or (wrap (256 * byte_in w.words (next m.pc))) (byte_in w.words (next (next m.pc)))) m.cpp in
       let a : IsWordAccess (length o.words) w from (0x4000 + i) =
-      law.access (length o.words) w from (0x4000 + i) (plus_is (pair_is o.words (s.at + 1) (s.at + 2) c.byte1 c.byte2 index) h.holds.cpp_is (omega arith) (omega (arith, small))) (omega (arith, map.low)) in
+      law.access (length o.words) w from (0x4000 + i) (law.words.plus_is (pair_is o.words (s.at + 1) (s.at + 2) c.byte1 c.byte2 index) h.holds.cpp_is (omega arith) (omega (arith, small))) (omega (arith, map.low)) in
       let is : read_value (length o.words) w.words w.untaken from ≡ v = a.value ∙ (h.holds.memory.kept (0x4000 + i) (omega arith) ∙ constant) in
       let same : slice_set w.words (next m.sp) (read_value (length o.words) w.words w.untaken from) ≡ slice_set w.words (base (frames_of s)) v = ap₂ (slice_set w.words) r.is is in
       comes program has o (0x13 ∷ []) 7 m w k s _ h (assumption)
@@ -94,7 +94,7 @@ module _ (program : List ℕ) (has : HasStatements program) (o : Origin) (map : 
       let op : m.mbr ≡ 0x36 = h.ready.mbr ∙ code in
       let t : Top o s m.sp m.lv m.cpp m.tos w y rest = here.top y rest ops in
       let to : ℕ = plus m.lv (byte_in w.words (next m.pc)) in
-      let a : IsWordAccess (length o.words) w to (base s.callers + i) = here.local to i l (plus_is h.holds.lv_is (c.byte1 ∙ sym index) refl (omega (arith, h.holds.fits, map.high))) in
+      let a : IsWordAccess (length o.words) w to (base s.callers + i) = here.local to i l (law.words.plus_is h.holds.lv_is (c.byte1 ∙ sym index) refl (omega (arith, h.holds.fits, map.high))) in
       let same : slice_set w.words to m.tos ≡ slice_set w.words (base s.callers + i) y = ap₂ (slice_set w.words) a.is t.tos_is in
       comes program has o (0x36 ∷ []) 6 m w k s _ h (assumption)
       (at_text o _ _ _
@@ -110,7 +110,7 @@ module _ (program : List ℕ) (has : HasStatements program) (o : Origin) (map : 
       let op2 : byte_in w.words (next m.pc) + 256 ≡ 0x136 = omega (arith, c.byte1 ∙ code2) in
       let t : Top o s m.sp m.lv m.cpp m.tos w y rest = here.top y rest ops in
       let to : ℕ = plus (bit_or (wrap (256 * byte_in w.words (next (next m.pc)))) (byte_in w.words (next (next (next m.pc))))) m.lv in
-      let a : IsWordAccess (length o.words) w to (base s.callers + i) = here.local to i l (plus_is (pair_is o.words (s.at + 2) (s.at + 3) c.byte2 c.byte3 index) h.holds.lv_is (omega arith) (omega (arith, h.holds.fits, map.high))) in
+      let a : IsWordAccess (length o.words) w to (base s.callers + i) = here.local to i l (law.words.plus_is (pair_is o.words (s.at + 2) (s.at + 3) c.byte2 c.byte3 index) h.holds.lv_is (omega arith) (omega (arith, h.holds.fits, map.high))) in
       let same : slice_set w.words to m.tos ≡ slice_set w.words (base s.callers + i) y = ap₂ (slice_set w.words) a.is t.tos_is in
       comes program has o (0xC4 ∷ 0x136 ∷ []) 9 m w k s _ h (assumption)
       (at_text o _ _ _
@@ -125,7 +125,7 @@ module _ (program : List ℕ) (has : HasStatements program) (o : Origin) (map : 
       let op : m.mbr ≡ 0x84 = h.ready.mbr ∙ code in
       let l : i < length s.running.locals = slice_get_within s.running.locals i (Some v) local in
       let at : ℕ = plus m.lv (byte_in w.words (next m.pc)) in
-      let a : IsWordAccess (length o.words) w at (base s.callers + i) = here.local at i l (plus_is h.holds.lv_is (c.byte1 ∙ sym index) refl (omega (arith, h.holds.fits, map.high))) in
+      let a : IsWordAccess (length o.words) w at (base s.callers + i) = here.local at i l (law.words.plus_is h.holds.lv_is (c.byte1 ∙ sym index) refl (omega (arith, h.holds.fits, map.high))) in
       let y : ℕ = plus v (signed_byte (byte_in o.words (s.at + 2))) in
       let is : plus (read_value (length o.words) w.words w.untaken at) (signed_byte (byte_in w.words (next (next m.pc)))) ≡ y = ap₂ plus (a.value ∙ h.holds.frames.0.locals i v local) (ap signed_byte c.byte2) in
       let same : slice_set w.words at (plus (read_value (length o.words) w.words w.untaken at) (signed_byte (byte_in w.words (next (next m.pc))))) ≡ slice_set w.words (base s.callers + i) y = ap₂ (slice_set w.words) a.is is in
@@ -143,9 +143,9 @@ module _ (program : List ℕ) (has : HasStatements program) (o : Origin) (map : 
       let op2 : byte_in w.words (next m.pc) + 256 ≡ 0x184 = omega (arith, c.byte1 ∙ code2) in
       let l : i < length s.running.locals = slice_get_within s.running.locals i (Some v) local in
       let at : ℕ = plus (bit_or (wrap (256 * byte_in w.words (next (next m.pc)))) (byte_in w.words (next (next (next m.pc))))) m.lv in
-      let a : IsWordAccess (length o.words) w at (base s.callers + i) = here.local at i l (plus_is (pair_is o.words (s.at + 2) (s.at + 3) c.byte2 c.byte3 index) h.holds.lv_is (omega arith) (omega (arith, h.holds.fits, map.high))) in
+      let a : IsWordAccess (length o.words) w at (base s.callers + i) = here.local at i l (law.words.plus_is (pair_is o.words (s.at + 2) (s.at + 3) c.byte2 c.byte3 index) h.holds.lv_is (omega arith) (omega (arith, h.holds.fits, map.high))) in
       let y : ℕ = plus v (signed_pair (byte_in o.words (s.at + 4)) (byte_in o.words (s.at + 5))) in
-      let is : plus (bit_or (wrap (256 * signed_byte (byte_in w.words (next (next (next (next m.pc))))))) (byte_in w.words (next (next (next (next (next m.pc))))))) (read_value (length o.words) w.words w.untaken at) ≡ y = ap₂ plus (signed_pair_is o.words (s.at + 4) (s.at + 5) c.byte4 c.byte5) (a.value ∙ h.holds.frames.0.locals i v local) ∙ plus_comm (signed_pair (byte_in o.words (s.at + 4)) (byte_in o.words (s.at + 5))) v in
+      let is : plus (bit_or (wrap (256 * signed_byte (byte_in w.words (next (next (next (next m.pc))))))) (byte_in w.words (next (next (next (next (next m.pc))))))) (read_value (length o.words) w.words w.untaken at) ≡ y = ap₂ plus (signed_pair_is o.words (s.at + 4) (s.at + 5) c.byte4 c.byte5) (a.value ∙ h.holds.frames.0.locals i v local) ∙ law.words.plus_comm (signed_pair (byte_in o.words (s.at + 4)) (byte_in o.words (s.at + 5))) v in
       let same : slice_set w.words at (plus (bit_or (wrap (256 * signed_byte (byte_in w.words (next (next (next (next m.pc))))))) (byte_in w.words (next (next (next (next (next m.pc))))))) (read_value (length o.words) w.words w.untaken at)) ≡ slice_set w.words (base s.callers + i) y = ap₂ (slice_set w.words) a.is is in
       comes program has o (0xC4 ∷ 0x184 ∷ []) 11 m w k s _ h (assumption)
       (at_boundary o _ _ _
@@ -155,70 +155,70 @@ module _ (program : List ℕ) (has : HasStatements program) (o : Origin) (map : 
 
 module _ (program : List ℕ) (has : HasStatements program) (o : Origin) (v : VerifiedView) (loads : Loads v o) (law : StackLaw) where
   abbrev map : IsMapEnd (length o.words)
-  map = map_of v o loads
+  map = law.map v o loads
 
   goes : (s to : State) (q : Moment Micro) (i : Instr) → IsOfLocals i → Fine v s → IsNext v o s i → Stands o s q.state q.world → Went v.image v.map.stack_end s to i →
       Moves mic1_meaning program (Stands o) o.given q (cost v.image (timing_of Mic1) i s) to
   goes s to q (LdcW k) is fine n h went =
       let c : IsConstant o k went.value = law.constant v o loads k went.value went.found in
       moves program o v s to _ q (LdcW k) 7 h refl (omega arith) went.leads.goes
-      (ldc_w program has o map law s q.state q.world q.stalls h (next_inside loads n) k went.value n.reads.0 n.reads.1 c.small c.there (omega (arith, went.leads.fits, loads.long)))
+      (ldc_w program has o map law s q.state q.world q.stalls h (law.inside v o s _ loads n) k went.value n.reads.0 n.reads.1 c.small c.there (omega (arith, went.leads.fits, loads.long)))
   goes s to q (Iload k) is fine n h went =
       moves program o v s to _ q (Iload k) 5 h refl (omega arith) went.leads.goes
-      (iload program has o map law s q.state q.world q.stalls h (next_inside loads n) k went.value n.reads.0 n.reads.1 went.set (omega (arith, went.leads.fits, loads.long)))
+      (iload program has o map law s q.state q.world q.stalls h (law.inside v o s _ loads n) k went.value n.reads.0 n.reads.1 went.set (omega (arith, went.leads.fits, loads.long)))
   goes s to q (Istore k) is fine n h went =
       moves program o v s to _ q (Istore k) 6 h refl (omega arith) went.leads.goes
-      (istore program has o map law s q.state q.world q.stalls h (next_inside loads n) k went.top went.rest n.reads.0 n.reads.1 went.are went.leads.inside went.leads.own)
+      (istore program has o map law s q.state q.world q.stalls h (law.inside v o s _ loads n) k went.top went.rest n.reads.0 n.reads.1 went.are went.leads.inside went.leads.own)
   goes s to q (Iinc k b) is fine n h went =
       moves program o v s to _ q (Iinc k b) 6 h refl (omega arith)
       (ap (λ (x : ℕ). with_local s k (plus went.value x) s.running.operands (s.at + 3)) (sym n.reads.2) ∙ went.leads)
-      (iinc program has o map law s q.state q.world q.stalls h (next_inside loads n) k went.value n.reads.0 n.reads.1 went.set (n.finds.named k (inl refl)).1)
+      (iinc program has o map law s q.state q.world q.stalls h (law.inside v o s _ loads n) k went.value n.reads.0 n.reads.1 went.set (n.finds.named k (inl refl)).1)
   goes s to q (WideIload k) is fine n h went =
       moves program o v s to _ q (WideIload k) 8 h refl (omega arith) went.leads.goes
-      (wide_iload program has o map law s q.state q.world q.stalls h (next_inside loads n) k went.value n.reads.0 n.reads.1 n.reads.2 went.set (omega (arith, went.leads.fits, loads.long)))
+      (wide_iload program has o map law s q.state q.world q.stalls h (law.inside v o s _ loads n) k went.value n.reads.0 n.reads.1 n.reads.2 went.set (omega (arith, went.leads.fits, loads.long)))
   goes s to q (WideIstore k) is fine n h went =
       moves program o v s to _ q (WideIstore k) 9 h refl (omega arith) went.leads.goes
-      (wide_istore program has o map law s q.state q.world q.stalls h (next_inside loads n) k went.top went.rest n.reads.0 n.reads.1 n.reads.2 went.are went.leads.inside went.leads.own)
+      (wide_istore program has o map law s q.state q.world q.stalls h (law.inside v o s _ loads n) k went.top went.rest n.reads.0 n.reads.1 n.reads.2 went.are went.leads.inside went.leads.own)
   goes s to q (WideIinc k z) is fine n h went =
       moves program o v s to _ q (WideIinc k z) 11 h refl (omega arith)
       (ap (λ (x : ℕ). with_local s k (plus went.value x) s.running.operands (s.at + 6)) (sym n.reads.3) ∙ went.leads)
-      (wide_iinc program has o map law s q.state q.world q.stalls h (next_inside loads n) k went.value n.reads.0 n.reads.1 n.reads.2 went.set (n.finds.named k (inl refl)).1)
+      (wide_iinc program has o map law s q.state q.world q.stalls h (law.inside v o s _ loads n) k went.value n.reads.0 n.reads.1 n.reads.2 went.set (n.finds.named k (inl refl)).1)
   goes s to q i is fine n h went = absurd is
 
   limits : (s left : State) (q : Moment Micro) (i : Instr) → IsOfLocals i → Fine v s → IsNext v o s i → Stands o s q.state q.world → Overran v.image v.map.stack_end s left i →
       Overruns mic1_meaning program (Stands o) o.given q left
   limits s left q (LdcW k) is fine n h over =
-      let c : Counts o s q.state q.world = counts o map s q.state q.world h (next_inside loads n) in
+      let c : Counts o s q.state q.world = counts o map s q.state q.world h (law.inside v o s _ loads n) in
       let op : q.state.mbr ≡ 0x13 = h.ready.mbr ∙ n.reads.0 in
       let from : ℕ = plus (bit_or (wrap (256 * byte_in q.world.words (next q.state.pc))) (byte_in q.world.words (next (next q.state.pc)))) q.state.cpp in
       let small : k < 0x4000 = (law.constant v o loads k over.value over.found).small in
       let a : IsWordAccess (length o.words) q.world from (0x4000 + k) =
-      law.access (length o.words) q.world from (0x4000 + k) (plus_is (pair_is o.words (s.at + 1) (s.at + 2) c.byte1 c.byte2 n.reads.1) h.holds.cpp_is (omega arith) (omega (arith, small))) (omega (arith, map.low)) in
+      law.access (length o.words) q.world from (0x4000 + k) (law.words.plus_is (pair_is o.words (s.at + 1) (s.at + 2) c.byte1 c.byte2 n.reads.1) h.holds.cpp_is (omega arith) (omega (arith, small))) (omega (arith, map.low)) in
       let fault : write_refusal (length o.words) (next q.state.sp) ≡ Some (StackLimit (next q.state.sp)) =
       (law.boundary o s q.state.sp q.state.lv q.state.cpp q.state.tos q.world map h.holds).full (omega (arith, over.leads.over, loads.long)) in
       overruns program has o s left q (0x13 ∷ []) 5 (next q.state.sp) h (omega arith) (assumption) refl refl h.holds.memory.long
       (ap (λ (r : Option Refusal). first_refusal r (fetch_refusal (length o.words) (next (next (next q.state.pc))))) fault)
       (a.untaken ∙ (h.holds.untaken ∙ ap (λ (t : State). t.untaken) over.leads.leaves)) (h.holds.given ∙ ap (λ (t : State). o.given ++ t.given) over.leads.leaves)
   limits s left q (Iload k) is fine n h over =
-      let c : Counts o s q.state q.world = counts o map s q.state q.world h (next_inside loads n) in
+      let c : Counts o s q.state q.world = counts o map s q.state q.world h (law.inside v o s _ loads n) in
       let op : q.state.mbr ≡ 0x15 = h.ready.mbr ∙ n.reads.0 in
       let from : ℕ = plus q.state.lv (byte_in q.world.words (next q.state.pc)) in
       let l : k < length s.running.locals = slice_get_within s.running.locals k (Some over.value) over.set in
       let a : IsWordAccess (length o.words) q.world from (base s.callers + k) =
-      (law.boundary o s q.state.sp q.state.lv q.state.cpp q.state.tos q.world map h.holds).local from k l (plus_is h.holds.lv_is (c.byte1 ∙ sym n.reads.1) refl (omega (arith, h.holds.fits, map.high))) in
+      (law.boundary o s q.state.sp q.state.lv q.state.cpp q.state.tos q.world map h.holds).local from k l (law.words.plus_is h.holds.lv_is (c.byte1 ∙ sym n.reads.1) refl (omega (arith, h.holds.fits, map.high))) in
       let fault : write_refusal (length o.words) (next q.state.sp) ≡ Some (StackLimit (next q.state.sp)) =
       (law.boundary o s q.state.sp q.state.lv q.state.cpp q.state.tos q.world map h.holds).full (omega (arith, over.leads.over, loads.long)) in
       overruns program has o s left q (0x15 ∷ []) 3 (next q.state.sp) h (omega arith) (assumption) refl refl h.holds.memory.long
       (ap (λ (r : Option Refusal). first_refusal r (fetch_refusal (length o.words) (next (next q.state.pc)))) fault)
       (a.untaken ∙ (h.holds.untaken ∙ ap (λ (t : State). t.untaken) over.leads.leaves)) (h.holds.given ∙ ap (λ (t : State). o.given ++ t.given) over.leads.leaves)
   limits s left q (WideIload k) is fine n h over =
-      let c : Counts o s q.state q.world = counts o map s q.state q.world h (next_inside loads n) in
+      let c : Counts o s q.state q.world = counts o map s q.state q.world h (law.inside v o s _ loads n) in
       let op : q.state.mbr ≡ 0xC4 = h.ready.mbr ∙ n.reads.0 in
       let op2 : byte_in q.world.words (next q.state.pc) + 256 ≡ 0x115 = omega (arith, c.byte1 ∙ n.reads.1) in
       let from : ℕ = plus (bit_or (wrap (256 * byte_in q.world.words (next (next q.state.pc)))) (byte_in q.world.words (next (next (next q.state.pc))))) q.state.lv in
       let l : k < length s.running.locals = slice_get_within s.running.locals k (Some over.value) over.set in
       let a : IsWordAccess (length o.words) q.world from (base s.callers + k) =
-      (law.boundary o s q.state.sp q.state.lv q.state.cpp q.state.tos q.world map h.holds).local from k l (plus_is (pair_is o.words (s.at + 2) (s.at + 3) c.byte2 c.byte3 n.reads.2) h.holds.lv_is (omega arith) (omega (arith, h.holds.fits, map.high))) in
+      (law.boundary o s q.state.sp q.state.lv q.state.cpp q.state.tos q.world map h.holds).local from k l (law.words.plus_is (pair_is o.words (s.at + 2) (s.at + 3) c.byte2 c.byte3 n.reads.2) h.holds.lv_is (omega arith) (omega (arith, h.holds.fits, map.high))) in
       let fault : write_refusal (length o.words) (next q.state.sp) ≡ Some (StackLimit (next q.state.sp)) =
       (law.boundary o s q.state.sp q.state.lv q.state.cpp q.state.tos q.world map h.holds).full (omega (arith, over.leads.over, loads.long)) in
       overruns program has o s left q (0xC4 ∷ 0x115 ∷ []) 6 (next q.state.sp) h (omega arith) (assumption) refl refl h.holds.memory.long

@@ -24,9 +24,8 @@ use Rattle.ijvm_simulation.specs.Verified.{Loads, Fine, IsNext}
 use Rattle.ijvm_simulation.specs.Law.{Moves, Overruns, Takes}
 use Rattle.ijvm_simulation.specs.Groups.{IsOfOperands}
 use Rattle.mic1_interpreter.specs.Stands.{Stands}
-use Rattle.mic1_interpreter.proofs.Shipped.{HasStatements}
-use Rattle.mic1_interpreter.proofs.Boundaries.{ReachesBoundary, comes, Counts, counts, at_boundary, map_of, next_inside, moves, overruns}
-use Rattle.mic1_interpreter.proofs.Words.{plus_comm}
+use Rattle.mic1_interpreter.proofs.Store.{HasStatements}
+use Rattle.mic1_interpreter.proofs.Boundaries.{ReachesBoundary, comes, Counts, counts, at_boundary, moves, overruns}
 
 module _ (program : List ℕ) (has : HasStatements program) (o : Origin) (map : IsMapEnd (length o.words)) (law : StackLaw) (s : State) (m : Micro) (w : World) (k : ℕ) (h : Stands o s m w) (inside : s.at < 0x10000) where
   abbrev here : AtBoundary o s m.sp m.lv m.cpp m.tos w
@@ -108,7 +107,7 @@ module _ (program : List ℕ) (has : HasStatements program) (o : Origin) (map : 
       let c : Counts o s m w = counts o map s m w h inside in
       let t : Two o s m.sp m.lv m.cpp m.tos w y x rest = here.two y x rest ops in
       let op : m.mbr ≡ 0x60 = h.ready.mbr ∙ code in
-      let v : plus m.tos (read_value (length o.words) w.words w.untaken (before m.sp)) ≡ plus x y = ap₂ plus t.tos_is t.second ∙ plus_comm y x in
+      let v : plus m.tos (read_value (length o.words) w.words w.untaken (before m.sp)) ≡ plus x y = ap₂ plus t.tos_is t.second ∙ law.words.plus_comm y x in
       comes program has o (0x60 ∷ []) 3 m w k s _ h (assumption)
       (at_boundary o _ _ _
       (here.pushes rest _ (s.at + 1) _ _ _ _ _ s.untaken t.frames t.at.below
@@ -174,40 +173,40 @@ module _ (program : List ℕ) (has : HasStatements program) (o : Origin) (map : 
 
 module _ (program : List ℕ) (has : HasStatements program) (o : Origin) (v : VerifiedView) (loads : Loads v o) (law : StackLaw) where
   abbrev map : IsMapEnd (length o.words)
-  map = map_of v o loads
+  map = law.map v o loads
 
   goes : (s to : State) (q : Moment Micro) (i : Instr) → IsOfOperands i → Fine v s → IsNext v o s i → Stands o s q.state q.world → Went v.image v.map.stack_end s to i →
       Moves mic1_meaning program (Stands o) o.given q (cost v.image (timing_of Mic1) i s) to
-  goes s to q Nop is fine n h went = moves program o v s to _ q Nop 1 h refl (omega arith) went (nop program has o map law s q.state q.world q.stalls h (next_inside loads n) n.reads)
+  goes s to q Nop is fine n h went = moves program o v s to _ q Nop 1 h refl (omega arith) went (nop program has o map law s q.state q.world q.stalls h (law.inside v o s _ loads n) n.reads)
   goes s to q (Bipush b) is fine n h went =
       let word : signed_byte (byte_in o.words (s.at + 1)) ≡ word_of b = sym n.reads.1 in
       moves program o v s to _ q (Bipush b) 3 h refl (omega arith) (ap (λ (x : ℕ). push s x (s.at + 2)) word ∙ went.goes)
-      (bipush program has o map law s q.state q.world q.stalls h (next_inside loads n) n.reads.0 (omega (arith, went.fits, loads.long)))
+      (bipush program has o map law s q.state q.world q.stalls h (law.inside v o s _ loads n) n.reads.0 (omega (arith, went.fits, loads.long)))
   goes s to q Pop is fine n h went =
-      moves program o v s to _ q Pop 3 h refl (omega arith) went.leads (pop program has o map law s q.state q.world q.stalls h (next_inside loads n) went.top went.rest n.reads went.are)
+      moves program o v s to _ q Pop 3 h refl (omega arith) went.leads (pop program has o map law s q.state q.world q.stalls h (law.inside v o s _ loads n) went.top went.rest n.reads went.are)
   goes s to q Dup is fine n h went =
       moves program o v s to _ q Dup 2 h refl (omega arith) went.leads.goes
-      (dup program has o map law s q.state q.world q.stalls h (next_inside loads n) went.top went.rest n.reads went.are (omega (arith, went.leads.fits, loads.long)))
+      (dup program has o map law s q.state q.world q.stalls h (law.inside v o s _ loads n) went.top went.rest n.reads went.are (omega (arith, went.leads.fits, loads.long)))
   goes s to q Swap is fine n h went =
-      moves program o v s to _ q Swap 6 h refl (omega arith) went.leads (swap program has o map law s q.state q.world q.stalls h (next_inside loads n) went.top went.second went.rest n.reads went.are)
+      moves program o v s to _ q Swap 6 h refl (omega arith) went.leads (swap program has o map law s q.state q.world q.stalls h (law.inside v o s _ loads n) went.top went.second went.rest n.reads went.are)
   goes s to q Iadd is fine n h went =
-      moves program o v s to _ q Iadd 3 h refl (omega arith) went.leads (iadd program has o map law s q.state q.world q.stalls h (next_inside loads n) went.top went.second went.rest n.reads went.are)
+      moves program o v s to _ q Iadd 3 h refl (omega arith) went.leads (iadd program has o map law s q.state q.world q.stalls h (law.inside v o s _ loads n) went.top went.second went.rest n.reads went.are)
   goes s to q Isub is fine n h went =
-      moves program o v s to _ q Isub 3 h refl (omega arith) went.leads (isub program has o map law s q.state q.world q.stalls h (next_inside loads n) went.top went.second went.rest n.reads went.are)
+      moves program o v s to _ q Isub 3 h refl (omega arith) went.leads (isub program has o map law s q.state q.world q.stalls h (law.inside v o s _ loads n) went.top went.second went.rest n.reads went.are)
   goes s to q Iand is fine n h went =
-      moves program o v s to _ q Iand 3 h refl (omega arith) went.leads (iand program has o map law s q.state q.world q.stalls h (next_inside loads n) went.top went.second went.rest n.reads went.are)
+      moves program o v s to _ q Iand 3 h refl (omega arith) went.leads (iand program has o map law s q.state q.world q.stalls h (law.inside v o s _ loads n) went.top went.second went.rest n.reads went.are)
   goes s to q Ior is fine n h went = elim n.reads [
     | inl code ↦
-        moves program o v s to _ q Ior 3 h refl (omega arith) went.leads (ior program has o map law s q.state q.world q.stalls h (next_inside loads n) went.top went.second went.rest code went.are)
+        moves program o v s to _ q Ior 3 h refl (omega arith) went.leads (ior program has o map law s q.state q.world q.stalls h (law.inside v o s _ loads n) went.top went.second went.rest code went.are)
     | inr code ↦
-        moves program o v s to _ q Ior 3 h refl (omega arith) went.leads (ior80 program has o map law s q.state q.world q.stalls h (next_inside loads n) went.top went.second went.rest code went.are)
+        moves program o v s to _ q Ior 3 h refl (omega arith) went.leads (ior80 program has o map law s q.state q.world q.stalls h (law.inside v o s _ loads n) went.top went.second went.rest code went.are)
   ]
   goes s to q i is fine n h went = absurd is
 
   limits : (s left : State) (q : Moment Micro) (i : Instr) → IsOfOperands i → Fine v s → IsNext v o s i → Stands o s q.state q.world → Overran v.image v.map.stack_end s left i →
       Overruns mic1_meaning program (Stands o) o.given q left
   limits s left q (Bipush b) is fine n h over =
-      let c : Counts o s q.state q.world = counts o map s q.state q.world h (next_inside loads n) in
+      let c : Counts o s q.state q.world = counts o map s q.state q.world h (law.inside v o s _ loads n) in
       let op : q.state.mbr ≡ 0x10 = h.ready.mbr ∙ n.reads.0 in
       let fault : write_refusal (length o.words) (next q.state.sp) ≡ Some (StackLimit (next q.state.sp)) =
       (law.boundary o s q.state.sp q.state.lv q.state.cpp q.state.tos q.world map h.holds).full (omega (arith, over.over, loads.long)) in
@@ -215,7 +214,7 @@ module _ (program : List ℕ) (has : HasStatements program) (o : Origin) (v : Ve
       (ap (λ (r : Option Refusal). first_refusal r None) fault)
       (h.holds.untaken ∙ ap (λ (t : State). t.untaken) over.leaves) (h.holds.given ∙ ap (λ (t : State). o.given ++ t.given) over.leaves)
   limits s left q Dup is fine n h over =
-      let c : Counts o s q.state q.world = counts o map s q.state q.world h (next_inside loads n) in
+      let c : Counts o s q.state q.world = counts o map s q.state q.world h (law.inside v o s _ loads n) in
       let op : q.state.mbr ≡ 0x59 = h.ready.mbr ∙ n.reads in
       let fault : write_refusal (length o.words) (next q.state.sp) ≡ Some (StackLimit (next q.state.sp)) =
       (law.boundary o s q.state.sp q.state.lv q.state.cpp q.state.tos q.world map h.holds).full (omega (arith, over.leads.over, loads.long)) in

@@ -1,4 +1,4 @@
--- Words, and the bytes of a memory.
+-- The bytes of a memory, and the numbers that two of them make.
 use Rattle.std.proofs.Common.{◌≡◌, ℕ, ◌+◌, ◌-◌, ◌/◌, ◌%◌, ◌^◌, ◌<◌, ◌≤◌, ◌*◌, None, true, false, List, arith, ◌∙◌, ap, ap₂, add_comm, inl, inr}
 use Rattle.std.specs.Prelude.{slice_index, nat_lt, bit_or}
 use Rattle.std.proofs.lemmas.Bool.Decides.{nat_tests}
@@ -8,7 +8,7 @@ use Rattle.mic_words.specs.Arithmetic.{wrap, plus, minus, next, before, signed_b
 use Rattle.console_port.specs.World.{fetch_refusal, byte_in}
 use Rattle.ijvm_simulation.specs.Stack.{IsMapEnd}
 
-pub wrap_small : (x : ℕ) → x < 2 ^ 32 → wrap x ≡ x
+wrap_small : (x : ℕ) → x < 2 ^ 32 → wrap x ≡ x
 unfolding wrap
 wrap_small x h = omega arith
 
@@ -16,11 +16,7 @@ pub next_is : (x y : ℕ) → x + 1 ≡ y → y < 2 ^ 32 → next x ≡ y
 unfolding wrap
 next_is x y e h = omega arith
 
-pub before_is : (x y : ℕ) → x ≡ y + 1 → x < 2 ^ 32 → before x ≡ y
-unfolding wrap
-before_is x y e h = omega arith
-
-pub byte_bound : (words : List ℕ) (p : ℕ) → byte_in words p < 256
+byte_bound : (words : List ℕ) (p : ℕ) → byte_in words p < 256
 unfolding byte_in
 byte_bound words p = omega arith
 
@@ -38,16 +34,6 @@ unfolding byte_in
 byte_kept words origin {x} {p} h e l =
     ap (λ (k : ℕ). slice_index words (k / 4) / 256 ^ (3 - k % 4) % 256) e
     ∙ ap (λ (v : ℕ). v / 256 ^ (3 - p % 4) % 256) (h (p / 4) (omega arith))
-
-pub plus_comm : (x y : ℕ) → plus x y ≡ plus y x
-plus_comm x y = ap wrap (add_comm x y)
-
-pub plus_is : {x y x' y' z : ℕ} → x ≡ x' → y ≡ y' → x' + y' ≡ z → z < 2 ^ 32 → plus x y ≡ z
-plus_is {x} {y} {x'} {y'} {z} ex ey e h = wrap_small (x + y) (omega arith) ∙ omega arith
-
-pub minus_is : {x y x' y' z : ℕ} → x ≡ x' → y ≡ y' → x' ≡ z + y' → x' < 2 ^ 32 → minus x y ≡ z
-unfolding wrap
-minus_is {x} {y} {x'} {y'} {z} ex ey e h = omega arith
 
 -- two bytes as a number
 pub two_bytes : (a b : ℕ) → a < 256 → b < 256 → bit_or (wrap (256 * a)) b ≡ 256 * a + b

@@ -11,7 +11,7 @@ ghost use Rattle.mal_shipped.specs.Shipped.{HasShipped};
 ghost use Rattle.ijvm_simulation.specs.Headline.{HasRun, IsCutByRead, IsCutByWrite};
 
 use crate::laws::{calls_law, consoles_law, ends_law, jumps_law, locals_law, operands_law};
-use ijvm_simulation::{Interpreter, groups_are_all, run_image};
+use ijvm_simulation::{Interpreter, groups_are_all, run_image, stack_law};
 use ijvm_verifier::VerifiedImage;
 use mal_shipped::{
     load_micro, loaded_programs_are_shipped, shipped_program, shipped_programs_are_listed,
@@ -60,6 +60,7 @@ impl Interpreter for Mic1Interpreter {
     }
 
     fn law() {
+        stack_law();
         operands_law();
         locals_law();
         jumps_law();

@@ -58,4 +58,6 @@ pub(crate) fn calls_law()
 pub(crate) fn ends_law()
     ensures { (store : List ℕ) (o : Origin) (v : VerifiedView) → HasShipped Mic1 store → Loads v o →
         HaltsAndErrs mic1_meaning store (Stands o) o.given (timing_of Mic1) v o }
-{}
+{
+    stack_law();
+}

@@ -4,36 +4,26 @@ use Rattle.std.specs.Prelude.{slice_get, slice_index}
 use Rattle.std.proofs.lemmas.List.{length-replicate, append-nil}
 use Rattle.mic_words.specs.declared.machine.Machine.TheVariants.{Mic2}
 use Rattle.mic_words.specs.Arithmetic.{plus}
-use Rattle.ijvm_meaning.specs.Cost.{timing_of}
 use Rattle.console_port.specs.World.{byte_in}
-use Rattle.mic2_fetch_unit.specs.FetchUnit.{at_start}
 use Rattle.mic2_datapath.specs.Micro.{Micro}
 use Rattle.mic2_datapath.specs.Mic2.{mic2_meaning}
+use Rattle.ijvm_meaning.specs.Cost.{timing_of}
 use Rattle.ijvm_meaning.specs.Frames.{start_of}
 use Rattle.mic2_interpreter.specs.Stands.{Stands}
 use Rattle.mic2_interpreter.specs.Stalls.{BootsWithStall}
-use Rattle.mic2_interpreter.proofs.Shipped.{HasStatements}
-use Rattle.mic2_interpreter.proofs.Units.{unit_at}
-use Rattle.mic2_interpreter.proofs.Queue.{Jumped, Goes, Waits}
+use Rattle.mic2_interpreter.proofs.Store.{Known}
+use Rattle.mic2_queue.specs.Held.{Jumped, Waits}
+use Rattle.mic2_interpreter.proofs.Guided.{Goes, Lacks}
 use Rattle.mic2_interpreter.proofs.Guided.{Short, moment_of, clocked, Arrives, IsSmooth, pass-clocked}
-use Rattle.mic2_interpreter.proofs.Boundaries.{ReachesBoundary, at_boundary, stands_at, map_of, Place, place_at, place_on}
+use Rattle.mic2_interpreter.proofs.Boundaries.{ReachesBoundary, at_boundary, stands_at, Place, place_at, place_on}
 use Rattle.ijvm_simulation.specs.Stands.{Origin, IsMemory}
-use Rattle.ijvm_simulation.specs.Stack.{IsMapEnd}
+use Rattle.ijvm_simulation.specs.Stack.{IsMapEnd, StackLaw}
 use Rattle.ijvm_simulation.specs.Passes.{Moment, pass}
 use Rattle.ijvm_simulation.specs.Law.{Boots, reset_moment}
 use Rattle.ijvm_simulation.specs.Verified.{Loads}
 use Rattle.verifier_facts.specs.Accepted.{VerifiedView}
 
-zero_locals : (n k v : ℕ) → slice_get (replicate n (Some 0)) k ≡ Some (Some v) → (k < n) × (0 ≡ v)
-zero_locals zero k v e = absurd (cc)
-zero_locals (suc n) zero v e = (omega arith, cc)
-zero_locals (suc n) (suc k) v e = let h = zero_locals n k v e in (omega (arith, h.0), h.1)
-
-unit_starts : (words : List ℕ) → at_start (slice_index words 0) ≡ unit_at words 0 0
-unfolding unit_at
-unit_starts words = refl
-
-module _ (program : List ℕ) (has : HasStatements program) (o : Origin) (v : VerifiedView) (loads : Loads v o) (input : List ℕ) where
+module _ (program : List ℕ) (has : Known program) (o : Origin) (v : VerifiedView) (loads : Loads v o) (law : StackLaw) (input : List ℕ) where
   abbrev start : Moment Micro
   start = reset_moment mic2_meaning 0x002 v.main_locals o input
 
@@ -42,35 +32,24 @@ module _ (program : List ℕ) (has : HasStatements program) (o : Origin) (v : Ve
   reset = record { state = start.state; queue = Jumped; world = start.world; stalls = 0 }
 
   starts : start ≡ moment_of o.words reset 0
-  starts = λ i. record { state = record start.state { unit = unit_starts o.words i }; world = start.world; stalls = 0 }
+  starts = λ i. record { state = record start.state { unit = has.queue.start o.words i }; world = start.world; stalls = 0 }
 
   -- one stall, for the first word of the text
   pub boot : ReachesBoundary program o 1 1 start (start_of v.main_locals input)
   boot =
-      let map : IsMapEnd (length o.words) = map_of v o loads in
+      let map : IsMapEnd (length o.words) = law.map v o loads in
       let p0 : Place o.words 0 0 = place_at o.words 0 0 refl (omega arith) in
       let p1 : Place o.words (plus 0 1) 1 = place_on o.words 0 0 1 1 p0 (omega arith) (omega arith) in
       let memory : IsMemory o.words o.words = record { kept = λ a l. refl; long = refl } in
-      let len : length (replicate {A = Option ℕ} v.main_locals (Some 0)) ≡ v.main_locals = length-replicate {A = Option ℕ} v.main_locals (Some 0) in
-      let smooth : IsSmooth o.words (Waits ∷ Goes ∷ []) (byte_in o.words 0 ∷ []) reset = assumption in
-      let t : Short = clocked o.words (Waits ∷ Goes ∷ []) (byte_in o.words 0 ∷ []) reset in
-      let a : Arrives o.words (pass mic2_meaning program 1 (moment_of o.words reset 0)) t = pass-clocked program has o.words map.low Waits (Goes ∷ []) (byte_in o.words 0 ∷ []) reset 0 memory refl smooth in
+      let smooth : IsSmooth o.words (Lacks Waits ∷ Goes ∷ []) (byte_in o.words 0 ∷ []) reset = assumption in
+      let t : Short = clocked o.words (Lacks Waits ∷ Goes ∷ []) (byte_in o.words 0 ∷ []) reset in
+      let a : Arrives o.words (pass mic2_meaning program 1 (moment_of o.words reset 0)) t = pass-clocked program has o.words map.low (Lacks Waits) (Goes ∷ []) (byte_in o.words 0 ∷ []) reset 0 memory refl smooth in
       record {
         to = moment_of o.words t a.have;
         passes = ap (pass mic2_meaning program 1) starts ∙ a.is;
-        stands = stands_at o (start_of v.main_locals input) t a.have
+        stands = stands_at has.queue o (start_of v.main_locals input) t a.have
             (at_boundary o _ _ _
-            (record {
-              sp_is = omega arith;
-              lv_is = refl;
-              cpp_is = refl;
-              tos_is = tt;
-              frames = (record { locals = λ k x e. let z = zero_locals v.main_locals k x e in loads.zeros k z.0 ∙ z.1; operands = tt; linked = tt }, tt);
-              memory = memory;
-              fits = omega (arith, loads.accepted.main_fits, loads.long);
-              untaken = refl;
-              given = sym (append-nil o.given);
-            })
+            (law.first v o input _ _ loads (omega arith))
             p1.is (omega arith) refl refl refl refl refl)
             a.held;
         stalls = refl;

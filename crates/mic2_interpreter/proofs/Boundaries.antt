@@ -3,7 +3,7 @@ use Rattle.std.proofs.Common.{◌≡◌, ℕ, zero, suc, ◌+◌, ◌*◌, ◌<�
 use Rattle.std.specs.Prelude.{nat_lt, nat_le, ◌==◌}
 use Rattle.std.proofs.lemmas.Bool.Decides.{nat_tests}
 use Rattle.console_port.specs.World.{World, StackLimit, byte_in}
-use Rattle.mic_words.specs.Arithmetic.{plus, signed_pair}
+use Rattle.mic_words.specs.Arithmetic.{wrap, plus, signed_pair}
 use Rattle.ijvm_meaning.specs.Frames.{State}
 use Rattle.mic_datapath.specs.Memory.{memory_refusal}
 use Rattle.mic2_fetch_unit.specs.Place.{StandsAt}
@@ -14,22 +14,22 @@ use Rattle.mic_words.specs.declared.machine.Machine.TheVariants.{Mic2}
 use Rattle.ijvm_instr.specs.declared.instr.Instr.{Instr}
 use Rattle.ijvm_meaning.specs.Cost.{timing_of, cost}
 use Rattle.verifier_facts.specs.Accepted.{VerifiedView}
-use Rattle.ijvm_simulation.specs.Verified.{IsNext, Loads}
+use Rattle.ijvm_simulation.specs.Verified.{Loads}
 use Rattle.mic2_interpreter.specs.Stands.{Stands}
 use Rattle.mic2_interpreter.specs.Stalls.{MovesWithStalls, OverrunsWithStalls}
-use Rattle.mic2_interpreter.proofs.Shipped.{shipped, HasStatements}
-use Rattle.mic2_interpreter.proofs.Units.{unit_at}
-use Rattle.mic2_interpreter.proofs.Queue.{Held, AtLeast, IsHeld, Bounds, is_enough, Beat, Goes}
-use Rattle.mic2_interpreter.proofs.Places.{unit_there, bounds_there, stands_there, many_there}
+use Rattle.mic2_interpreter.proofs.Store.{shipped, Known}
+use Rattle.mic2_queue.specs.Units.{unit_at}
+use Rattle.mic2_queue.specs.Law.{QueueLaw}
+use Rattle.mic2_queue.specs.Held.{Held, AtLeast, IsHeld, Bounds, is_enough}
+use Rattle.mic2_interpreter.proofs.Guided.{Turn, Goes}
 use Rattle.mic2_interpreter.proofs.Guided.{Short, standing, moment_of, settled_by, text_result, clocked, IsSmooth, Arrives, pass-clocked, outcome_is, step-refused}
-use Rattle.mic2_interpreter.proofs.Words.{before_is, wrap_small}
 use Rattle.ijvm_simulation.specs.Stands.{Origin, RegistersStand}
 use Rattle.ijvm_simulation.specs.Stack.{IsMapEnd}
 use Rattle.ijvm_simulation.specs.Passes.{Moment, is_inside, pass}
 use Rattle.ijvm_simulation.specs.Law.{Shows, HasWord}
 
 -- so many steps, none of which stalls
-abbrev pub steps : ℕ → List Beat
+abbrev pub steps : ℕ → List Turn
 steps zero = []
 steps (suc n) = Goes ∷ steps n
 
@@ -37,20 +37,20 @@ steps (suc n) = Goes ∷ steps n
 abbrev pub at_opcode : ℕ → Micro → World → ℕ → Short
 at_opcode code m w stalls = record { state = record m { mpc = code; word = None; begins = true }; queue = AtLeast 2; world = w; stalls = stalls }
 
-module _ (o : Origin) (s : State) (m : Micro) (w : World) (stalls : ℕ) (h : Stands o s m w) where
+module _ (queue : QueueLaw) (o : Origin) (s : State) (m : Micro) (w : World) (stalls : ℕ) (h : Stands o s m w) where
   -- the bytes in the queue
   abbrev many : ℕ
   many = length m.unit.bytes
 
   unit_is : m.unit ≡ unit_at o.words m.pc many
-  unit_is = unit_there o.words (s.at + 1) m.unit h.ready.unit ∙ ap (λ (p : ℕ). unit_at o.words p many) (sym h.ready.pc)
+  unit_is = queue.there o.words (s.at + 1) m.unit h.ready.unit ∙ ap (λ (p : ℕ). unit_at o.words p many) (sym h.ready.pc)
 
   pub starts : (code : ℕ) → byte_in o.words s.at ≡ code → record { state = m; world = w; stalls = stalls } ≡ moment_of o.words (at_opcode code m w stalls) many
   starts code e =
       λ i. record { state = record m { mpc = (h.ready.mpc ∙ e) i; word = h.ready.word i; unit = unit_is i; begins = h.ready.begins i }; world = w; stalls = stalls }
 
   pub starts_held : Bounds 2 m.pc many
-  starts_held = subst (λ (p : ℕ). Bounds 2 p many) (sym h.ready.pc) (bounds_there o.words (s.at + 1) m.unit h.ready.unit h.ready.two)
+  starts_held = subst (λ (p : ℕ). Bounds 2 p many) (sym h.ready.pc) (queue.bounds o.words (s.at + 1) m.unit h.ready.unit h.ready.two)
 
 -- n + 1 microsteps, of which so many stall, come to the next boundary, which stands for this state
 pub record ReachesBoundary (program : List ℕ) (o : Origin) (n waits : ℕ) (p : Moment Micro) (s : State) : Type 0 where
@@ -71,37 +71,37 @@ pub record IsThere (o : Origin) (s : State) (t : Short) : Type 0 where
   pub queue : t.queue ≡ AtLeast least
   pub two : nat_le 2 least ≡ true
 
-pub stands_at : (o : Origin) (s : State) (t : Short) (have : ℕ) → IsThere o s t → IsHeld t.queue t.state.pc have → Stands o s (standing o.words t.state have) t.world
-stands_at o s t have there held =
+pub stands_at : (queue : QueueLaw) (o : Origin) (s : State) (t : Short) (have : ℕ) → IsThere o s t → IsHeld t.queue t.state.pc have → Stands o s (standing o.words t.state have) t.world
+stands_at queue o s t have there held =
     let b : Bounds there.least t.state.pc have = subst (λ (q : Held). IsHeld q t.state.pc have) there.queue held in
     let test : nat_le 2 there.least ≡ true = there.two in
     let l : 2 ≤ there.least = grind (arith, nat_tests) in
     let two : Bounds 2 t.state.pc have = record { least = omega (arith, b.least); few = b.few; aligned = b.aligned } in
-    let long : length (unit_at o.words t.state.pc have).bytes ≡ have = many_there o.words t.state.pc have in
+    let long : length (unit_at o.words t.state.pc have).bytes ≡ have = queue.many o.words t.state.pc have in
     record {
       holds = there.holds;
       ready = record {
         pc = there.pc;
         low = omega (arith, there.near, there.pc);
         mpc = there.mpc;
-        unit = subst (λ (p : ℕ). StandsAt o.words p (unit_at o.words t.state.pc have)) there.pc (stands_there o.words t.state.pc have two);
+        unit = subst (λ (p : ℕ). StandsAt o.words p (unit_at o.words t.state.pc have)) there.pc (queue.stands o.words t.state.pc have two);
         two = omega (arith, two.least);
         begins = there.begins;
         word = there.word;
       };
     }
 
-pub comes : (program : List ℕ) (has : HasStatements program) (o : Origin) (map : IsMapEnd (length o.words)) (b : Beat) (bs : List Beat) (gs : List ℕ) (m : Micro) (w : World) (k code waits : ℕ) (s s' : State) →
+pub comes : (program : List ℕ) (has : Known program) (o : Origin) (map : IsMapEnd (length o.words)) (b : Turn) (bs : List Turn) (gs : List ℕ) (m : Micro) (w : World) (k code waits : ℕ) (s s' : State) →
     Stands o s m w → byte_in o.words s.at ≡ code → IsSmooth o.words (b ∷ bs) gs (at_opcode code m w k) → IsThere o s' (clocked o.words (b ∷ bs) gs (at_opcode code m w k)) →
     (clocked o.words (b ∷ bs) gs (at_opcode code m w k)).stalls ≡ k + waits →
     ReachesBoundary program o (length bs) waits (record { state = m; world = w; stalls = k }) s'
 comes program has o map b bs gs m w k code waits s s' h is smooth there stalls =
     let a : Arrives o.words (pass mic2_meaning program (length bs) (moment_of o.words (at_opcode code m w k) (length m.unit.bytes))) (clocked o.words (b ∷ bs) gs (at_opcode code m w k)) =
-    pass-clocked program has o.words map.low b bs gs (at_opcode code m w k) (length m.unit.bytes) h.holds.memory (starts_held o s m w k h) smooth in
+    pass-clocked program has o.words map.low b bs gs (at_opcode code m w k) (length m.unit.bytes) h.holds.memory (starts_held has.queue o s m w k h) smooth in
     record {
       to = moment_of o.words (clocked o.words (b ∷ bs) gs (at_opcode code m w k)) a.have;
-      passes = ap (pass mic2_meaning program (length bs)) (starts o s m w k h code is) ∙ a.is;
-      stands = stands_at o s' (clocked o.words (b ∷ bs) gs (at_opcode code m w k)) a.have there a.held;
+      passes = ap (pass mic2_meaning program (length bs)) (starts has.queue o s m w k h code is) ∙ a.is;
+      stands = stands_at has.queue o s' (clocked o.words (b ∷ bs) gs (at_opcode code m w k)) a.have there a.held;
       stalls = stalls;
     }
 
@@ -119,7 +119,8 @@ place_at words x a e l =
 
 -- so many bytes behind
 pub place_on : (words : List ℕ) (x a d b : ℕ) → Place words x a → a + d ≡ b → b < 0x1FF00 → Place words (plus x d) b
-place_on words x a d b p e l = place_at words (plus x d) b (wrap_small (x + d) (omega (arith, p.is)) ∙ omega (arith, p.is)) l
+unfolding wrap
+place_on words x a d b p e l = place_at words (plus x d) b (omega (arith, p.is)) l
 
 -- PC, and what it becomes as bytes are taken
 pub record Counts (o : Origin) (s : State) (m : Micro) : Type 0 where
@@ -163,26 +164,16 @@ at_boundary o s t least holds pc near mpc word begins queue two =
 
 -- what a Mic-2 shows at a boundary
 pub shows : (program : List ℕ) (o : Origin) (s : State) (m : Micro) (w : World) → Stands o s m w → Shows mic2_meaning program (Stands o) o.given s m w
+unfolding wrap
 shows program o s m w h =
     record {
       boundary = h.ready.begins;
-      address = before_is m.pc s.at h.ready.pc h.ready.low;
+      address = omega (arith, h.ready.pc, h.ready.low);
       sp = omega (arith, h.holds.sp_is);
       lv = h.holds.lv_is;
       untaken = h.holds.untaken;
       given = h.holds.given;
     }
-
--- a verified image's memory ends where a map has it
-pub map_of : (v : VerifiedView) (o : Origin) → Loads v o → IsMapEnd (length o.words)
-map_of v o loads = elim loads.accepted.map_is [
-  | inl e ↦ let long : length o.words ≡ v.map.stack_end = loads.long in record { low = omega (arith, e); high = omega (arith, e); near = omega (arith, e) }
-  | inr e ↦ let long : length o.words ≡ v.map.stack_end = loads.long in record { low = omega (arith, e); high = omega (arith, e); near = omega (arith, e) }
-]
-
--- and an instruction of it stands in the first 65,536 bytes
-pub next_inside : {v : VerifiedView} {o : Origin} {s : State} {i : Instr} → Loads v o → IsNext v o s i → s.at < 0x10000
-next_inside loads n = omega (arith, n.begins, loads.image.limits.text_fits)
 
 -- no instruction but HALT and ERR begins at an end
 pub begins : (o : Origin) (s : State) (m : Micro) (w : World) (code : ℕ) → Stands o s m w → byte_in o.words s.at ≡ code → (code == 255) ≡ false → (code == 254) ≡ false → HasWord mic2_meaning m
@@ -216,7 +207,7 @@ IsFull o t x =
     × (memory_refusal (length o.words) s.part.mem (settled_by s (text_result o.words s.part t.state) t.state).mar ≡ Some (StackLimit x))
 
 -- some steps of a symbolic run, and then a write that is refused
-pub overruns : (program : List ℕ) (has : HasStatements program) (o : Origin) (map : IsMapEnd (length o.words)) (s left : State) (q : Moment Micro) (b : Beat) (bs : List Beat) (gs : List ℕ) (code x waits : ℕ) →
+pub overruns : (program : List ℕ) (has : Known program) (o : Origin) (map : IsMapEnd (length o.words)) (s left : State) (q : Moment Micro) (b : Turn) (bs : List Turn) (gs : List ℕ) (code x waits : ℕ) →
     Stands o s q.state q.world → byte_in o.words s.at ≡ code → (code == 255) ≡ false → (code == 254) ≡ false → length bs < 1023 →
     IsSmooth o.words (b ∷ bs) gs (at_opcode code q.state q.world q.stalls) →
     is_inside mic2_meaning (clocked o.words (b ∷ bs) gs (at_opcode code q.state q.world q.stalls)).state ≡ true →
@@ -229,18 +220,18 @@ pub overruns : (program : List ℕ) (has : HasStatements program) (o : Origin) (
 overruns program has o map s left q b bs gs code x waits h is no_halt no_err short smooth inside low full untaken given stalls =
     let t : Short = clocked o.words (b ∷ bs) gs (at_opcode code q.state q.world q.stalls) in
     let a : Arrives o.words (pass mic2_meaning program (length bs) (moment_of o.words (at_opcode code q.state q.world q.stalls) (length q.state.unit.bytes))) t =
-    pass-clocked program has o.words map.low b bs gs (at_opcode code q.state q.world q.stalls) (length q.state.unit.bytes) h.holds.memory (starts_held o s q.state q.world q.stalls h) smooth in
+    pass-clocked program has o.words map.low b bs gs (at_opcode code q.state q.world q.stalls) (length q.state.unit.bytes) h.holds.memory (starts_held has.queue o s q.state q.world q.stalls h) smooth in
     record {
       overruns = record {
         n = length bs;
         short = short;
         begins = begins o s q.state q.world code h is no_halt no_err;
         there = moment_of o.words t a.have;
-        passes = ap (pass mic2_meaning program (length bs)) (starts o s q.state q.world q.stalls h code is) ∙ a.is;
+        passes = ap (pass mic2_meaning program (length bs)) (starts has.queue o s q.state q.world q.stalls h code is) ∙ a.is;
         inside = inside;
         at = x;
         refused = outcome_is program has o.words map.low (moment_of o.words t a.have) (grind (arith, nat_tests))
-            ∙ step-refused o.words (shipped t.state.mpc) t a.have (StackLimit x) a.memory a.held full.0 full.1;
+            ∙ step-refused o.words has.queue (shipped t.state.mpc) t a.have (StackLimit x) a.memory a.held full.0 full.1;
         untaken = untaken;
         given = given;
       };

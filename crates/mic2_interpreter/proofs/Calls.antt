@@ -22,10 +22,10 @@ use Rattle.ijvm_simulation.specs.Verified.{Loads, Fine, IsNext}
 use Rattle.ijvm_simulation.specs.Groups.{IsCall}
 use Rattle.mic2_interpreter.specs.Stands.{Stands}
 use Rattle.mic2_interpreter.specs.Stalls.{MovesWithStalls, OverrunsWithStalls, TakesWithStalls, stalls_of}
-use Rattle.mic2_interpreter.proofs.Shipped.{HasStatements}
-use Rattle.mic2_interpreter.proofs.Queue.{Beat, Goes, Waits, WaitsLate, WaitsOn}
-use Rattle.mic2_interpreter.proofs.Boundaries.{ReachesBoundary, comes, steps, Counts, counts, Place, place_at, place_on, pair_at, at_boundary, map_of, next_inside, moves, overruns}
-use Rattle.mic2_interpreter.proofs.Words.{byte_bound, minus_is, next_is, plus_is}
+use Rattle.mic2_interpreter.proofs.Store.{Known}
+use Rattle.mic2_queue.specs.Held.{Waits, WaitsLate, WaitsOn}
+use Rattle.mic2_interpreter.proofs.Guided.{Turn, Goes, Lacks}
+use Rattle.mic2_interpreter.proofs.Boundaries.{ReachesBoundary, comes, steps, Counts, counts, Place, place_at, place_on, pair_at, at_boundary, moves, overruns}
 
 -- what a method's frame says of the words below its operands
 link_of : (words : List ℕ) (lv many caller r : ℕ) (back : Option ℕ) → back ≡ Some r → IsLinked words lv many caller back → IsLinked words lv many caller (Some r)
@@ -69,14 +69,14 @@ record Entering (o : Origin) (s : State) (m : Micro) (w : World) (k e n more : �
   pub link_is : link o m w ≡ place_behind s rest + (n + 1 + more)
 
 -- The steps of a call up to the word that stalls, and its stalls: one, or two where the entry is the last byte of a word.
-abbrev plan : Bool → List Beat → List Beat
-plan false bs = Goes ∷ Goes ∷ Waits ∷ bs
-plan true bs = Goes ∷ Goes ∷ WaitsLate ∷ WaitsOn ∷ bs
+abbrev plan : Bool → List Turn → List Turn
+plan false bs = Goes ∷ Goes ∷ Lacks Waits ∷ bs
+plan true bs = Goes ∷ Goes ∷ Lacks WaitsLate ∷ Lacks WaitsOn ∷ bs
 
 abbrev stalls_of_call : Bool → ℕ
 stalls_of_call late = if late then 2 else 1
 
-module _ (program : List ℕ) (has : HasStatements program) (o : Origin) (map : IsMapEnd (length o.words)) (law : StackLaw) (s : State) (m : Micro) (w : World) (k : ℕ) (h : Stands o s m w) (inside : s.at < 0x10000) where
+module _ (program : List ℕ) (has : Known program) (o : Origin) (map : IsMapEnd (length o.words)) (law : StackLaw) (s : State) (m : Micro) (w : World) (k : ℕ) (h : Stands o s m w) (inside : s.at < 0x10000) where
   abbrev here : AtBoundary o s m.sp m.lv m.cpp m.tos w
   here = law.boundary o s m.sp m.lv m.cpp m.tos w map h.holds
 
@@ -101,7 +101,7 @@ module _ (program : List ℕ) (has : HasStatements program) (o : Origin) (map : 
       let b : IsWordAccess (length o.words) w1 x (lv + many) = law.access (length o.words) w1 x (lv + many) (a.value ∙ at) (omega arith) in
       let w2 : World = after_read (length o.words) w1 x in
       let d : IsWordAccess (length o.words) w2 (next x) (lv + many + 1) =
-      law.access (length o.words) w2 (next x) (lv + many + 1) (next_is x (lv + many + 1) (omega (arith, b.is)) (omega arith)) (omega arith) in
+      law.access (length o.words) w2 (next x) (lv + many + 1) (law.words.next_is x (lv + many + 1) (omega (arith, b.is)) (omega arith)) (omega arith) in
       let pc : read_value (length o.words) w.words w1.untaken x ≡ r = b.value ∙ (rw same at link.1) in
       let lv_back : read_value (length o.words) w.words w2.untaken (next x) ≡ base fs = d.value ∙ ((rw same at link.2) ∙ ap caller_lv callers) in
       let there : Place o.words (read_value (length o.words) w.words w1.untaken x) r = place_at o.words (read_value (length o.words) w.words w1.untaken x) r pc (omega (arith, to)) in
@@ -125,7 +125,7 @@ module _ (program : List ℕ) (has : HasStatements program) (o : Origin) (map : 
       let high : length o.words < 0x80000000 = map.high in
       let a : IsWordAccess (length o.words) w (from o m w) (0x4000 + i) =
       law.access (length o.words) w (from o m w) (0x4000 + i)
-      (plus_is h.holds.cpp_is (pair_at o.words m.pc (s.at + 1) (s.at + 2) c.p0 (omega arith) ∙ sym index) refl (omega (arith, small))) (omega (arith, map.low)) in
+      (law.words.plus_is h.holds.cpp_is (pair_at o.words m.pc (s.at + 1) (s.at + 2) c.p0 (omega arith) ∙ sym index) refl (omega (arith, small))) (omega (arith, map.low)) in
       let x : ℕ = entry o m w in
       let is : x ≡ e = a.value ∙ (h.holds.memory.kept (0x4000 + i) (omega arith) ∙ is_e) in
       let e0 : Place o.words x e = place_at o.words x e is (omega arith) in
@@ -133,13 +133,13 @@ module _ (program : List ℕ) (has : HasStatements program) (o : Origin) (map : 
       let e4 : Place o.words (plus (plus x 2) 2) (e + 4) = place_on o.words (plus x 2) (e + 2) 2 (e + 4) e2 (omega arith) (omega arith) in
       let count_is : count o m w ≡ n + 1 = pair_at o.words x e (e + 1) e0 refl ∙ sym counted in
       let own_is : own o m w ≡ more = pair_at o.words (plus x 2) (e + 2) (e + 3) e2 (omega arith) ∙ sym owned in
-      let b2 : byte_in o.words (e + 2) < 256 = byte_bound o.words (e + 2) in
-      let b3 : byte_in o.words (e + 3) < 256 = byte_bound o.words (e + 3) in
+      let b2 : byte_in o.words (e + 2) < 256 = law.words.byte_bound o.words (e + 2) in
+      let b3 : byte_in o.words (e + 3) < 256 = law.words.byte_bound o.words (e + 3) in
       let few : more < 65536 = omega arith in
       let lv : ℕ = place_behind s rest in
       let sp : m.sp ≡ lv + n = omega (arith, h.holds.sp_is) in
       let low : lv < length o.words = omega (arith, h.holds.fits) in
-      let start : minus m.sp (count o m w) ≡ lv - 1 = minus_is refl count_is (omega arith) (omega (arith, h.holds.sp_is, h.holds.fits)) in
+      let start : minus m.sp (count o m w) ≡ lv - 1 = law.words.minus_is refl count_is (omega arith) (omega (arith, h.holds.sp_is, h.holds.fits)) in
       record {
         constant = a;
         e0 = e0;
@@ -149,8 +149,8 @@ module _ (program : List ℕ) (has : HasStatements program) (o : Origin) (map : 
         count_is = count_is;
         own_is = own_is;
         few = few;
-        link_access = law.access (length o.words) w (link_at o m w) lv (next_is _ lv (omega arith) (omega arith)) low;
-        link_is = next_is (m.sp + own o m w) (lv + (n + 1 + more)) (omega arith) (omega (arith, h.holds.sp_is, h.holds.fits));
+        link_access = law.access (length o.words) w (link_at o m w) lv (law.words.next_is _ lv (omega arith) (omega arith)) low;
+        link_is = law.words.next_is (m.sp + own o m w) (lv + (n + 1 + more)) (omega arith) (omega (arith, h.holds.sp_is, h.holds.fits));
       }
 
   invoke : (i e more : ℕ) (ps : List ℕ) (x : ℕ) (rest : List ℕ) (late : Bool) → (e % 4 == 3) ≡ late → byte_in o.words s.at ≡ 0xB6 → Entering o s m w i e (length ps) more rest → e + 4 < 0x10000 →
@@ -168,7 +168,7 @@ module _ (program : List ℕ) (has : HasStatements program) (o : Origin) (map : 
       let y : ℕ = link o m w in
       let d : IsWordAccess (length o.words) w y (lv + many) = law.access (length o.words) w y (lv + many) en.link_is (omega arith) in
       let f : IsWordAccess (length o.words) w (next y) (lv + many + 1) =
-      law.access (length o.words) w (next y) (lv + many + 1) (next_is y (lv + many + 1) (omega (arith, d.is)) (omega arith)) (omega arith) in
+      law.access (length o.words) w (next y) (lv + many + 1) (law.words.next_is y (lv + many + 1) (omega (arith, d.is)) (omega arith)) (omega arith) in
       let same : slice_set (slice_set (slice_set w.words (link_at o m w) y) y (plus m.pc 2)) (next y) m.lv ≡ linked_words w.words lv many (s.at + 3) (base s.callers) =
       λ j. slice_set (slice_set (slice_set w.words (b.is j) (d.is j)) (d.is j) (c.p2.is j)) (f.is j) (h.holds.lv_is j) in
       let high1 : 0x8000 ≤ link_at o m w = omega (arith, b.is) in
@@ -191,7 +191,7 @@ module _ (program : List ℕ) (has : HasStatements program) (o : Origin) (map : 
       let y : ℕ = link o m w in
       let d : IsWordAccess (length o.words) w y (lv + many) = law.access (length o.words) w y (lv + many) en.link_is (omega arith) in
       let f : IsWordAccess (length o.words) w (next y) (lv + many + 1) =
-      law.access (length o.words) w (next y) (lv + many + 1) (next_is y (lv + many + 1) (omega (arith, d.is)) (omega arith)) (omega arith) in
+      law.access (length o.words) w (next y) (lv + many + 1) (law.words.next_is y (lv + many + 1) (omega (arith, d.is)) (omega arith)) (omega arith) in
       let same : slice_set (slice_set (slice_set w.words (link_at o m w) y) y (plus m.pc 2)) (next y) m.lv ≡ linked_words w.words lv many (s.at + 3) (base s.callers) =
       λ j. slice_set (slice_set (slice_set w.words (b.is j) (d.is j)) (d.is j) (c.p2.is j)) (f.is j) (h.holds.lv_is j) in
       let high1 : 0x8000 ≤ link_at o m w = omega (arith, b.is) in
@@ -204,14 +204,14 @@ module _ (program : List ℕ) (has : HasStatements program) (o : Origin) (map : 
       (omega (arith, en.e5.is)) (omega arith) refl refl refl refl refl)
       (omega arith)
 
-module _ (program : List ℕ) (has : HasStatements program) (o : Origin) (v : VerifiedView) (loads : Loads v o) (law : StackLaw) where
+module _ (program : List ℕ) (has : Known program) (o : Origin) (v : VerifiedView) (loads : Loads v o) (law : StackLaw) where
   abbrev map : IsMapEnd (length o.words)
-  map = map_of v o loads
+  map = law.map v o loads
 
   entering_at : (s : State) (q : Moment Micro) (k : ℕ) (m : Method) (n : ℕ) → Stands o s q.state q.world → IsNext v o s (Invokevirtual k) → IsMethod v o k m → m.params ≡ suc n → (a : Arguments n s.running.operands) →
       Entering o s q.state q.world k m.entry n m.others (drop (n + 1) s.running.operands)
   entering_at s q k m n h next f params a =
-      entering program has o map law s q.state q.world q.stalls h (next_inside loads next) k m.entry n m.others (drop (n + 1) s.running.operands)
+      entering program has o map law s q.state q.world q.stalls h (law.inside v o s _ loads next) k m.entry n m.others (drop (n + 1) s.running.operands)
       next.reads.1 f.constant.small f.constant.there f.whole (omega (arith, f.params_are)) f.others_are a.depth
 
   -- the cycles of a call by its entry
@@ -239,7 +239,7 @@ module _ (program : List ℕ) (has : HasStatements program) (o : Origin) (v : Ve
       let r = n.finds.returns refl in
       let same : r.0 ≡ went.back = same_Some r.0 went.back (sym r.3 ∙ went.back_is) in
       moves program o v s to _ q Ireturn 7 0 0xAC h n.reads refl refl refl (omega arith) went.with_top.leads
-      (ireturn program has o map law s q.state q.world q.stalls h (next_inside loads n) went.with_top.top went.back went.with_top.rest went.caller went.above n.reads went.with_top.are went.back_is went.callers_are
+      (ireturn program has o map law s q.state q.world q.stalls h (law.inside v o s _ loads n) went.with_top.top went.back went.with_top.rest went.caller went.above n.reads went.with_top.are went.back_is went.callers_are
       (omega (arith, same, r.5, loads.image.limits.text_fits)))
   goes s to q (Invokevirtual k) is fine n h went =
       let f : IsMethod v o k went.method = law.method v o loads k went.method went.found in
@@ -251,7 +251,7 @@ module _ (program : List ℕ) (has : HasStatements program) (o : Origin) (v : Ve
       subst (λ (j : ℕ). Entering o s q.state q.world k went.method.entry j went.method.others rest) (sym a.long) en in
       let many : length (onto ps (replicate went.method.others None)) ≡ length ps + went.method.others = law.locals ps went.method.others in
       invoked s to q k went.method.entry (went.method.entry % 4 == 3) _ h n.reads.0 f.named refl went.leads.goes
-      (invoke program has o map law s q.state q.world q.stalls h (next_inside loads n) k went.method.entry went.method.others ps a.o rest (went.method.entry % 4 == 3) refl n.reads.0 en' f.whole a.are
+      (invoke program has o map law s q.state q.world q.stalls h (law.inside v o s _ loads n) k went.method.entry went.method.others ps a.o rest (went.method.entry % 4 == 3) refl n.reads.0 en' f.whole a.are
       (omega (arith, went.leads.fits, loads.long)))
   goes s to q i is fine n h went = absurd is
 
@@ -265,7 +265,7 @@ module _ (program : List ℕ) (has : HasStatements program) (o : Origin) (v : Ve
       let ps : List ℕ = take over.others s.running.operands in
       let rest : List ℕ = drop (over.others + 1) s.running.operands in
       let en : Entering o s q.state q.world k over.method.entry over.others over.method.others rest = entering_at s q k over.method over.others h n f over.params args in
-      let c : Counts o s q.state = counts o s q.state q.world h (next_inside loads n) in
+      let c : Counts o s q.state = counts o s q.state q.world h (law.inside v o s _ loads n) in
       let bottom : 0x8000 ≤ base s.callers = law.above s.callers in
       let near : length o.words ≤ 0x20000 = map.near in
       let many : length (onto ps (replicate over.method.others None)) ≡ length ps + over.method.others = law.locals ps over.method.others in
@@ -298,7 +298,7 @@ module _ (program : List ℕ) (has : HasStatements program) (o : Origin) (v : Ve
             ]
         | inl room ↦
             let d : IsWordAccess (length o.words) q.world y behind = law.access (length o.words) q.world y behind en.link_is room in
-            let last : next y ≡ behind + 1 = next_is y (behind + 1) (omega (arith, en.link_is)) (omega arith) in
+            let last : next y ≡ behind + 1 = law.words.next_is y (behind + 1) (omega (arith, en.link_is)) (omega arith) in
             let fault : write_refusal (length o.words) (next y) ≡ Some (StackLimit (next y)) = law.limit (length o.words) (next y) (omega arith) (omega arith) in
             elim (cases_Bool (over.method.entry % 4 == 3)) [
               | inl is_late ↦

@@ -19,12 +19,11 @@ use Rattle.ijvm_simulation.specs.Verified.{Loads, Fine, IsNext}
 use Rattle.ijvm_simulation.specs.Groups.{IsOfConsole}
 use Rattle.mic2_interpreter.specs.Stands.{Stands}
 use Rattle.mic2_interpreter.specs.Stalls.{MovesWithStalls, OverrunsWithStalls, TakesWithStalls, stalls_of}
-use Rattle.mic2_interpreter.proofs.Shipped.{HasStatements}
-use Rattle.mic2_interpreter.proofs.Queue.{Goes}
-use Rattle.mic2_interpreter.proofs.Boundaries.{ReachesBoundary, comes, steps, Counts, counts, at_boundary, map_of, next_inside, moves, overruns}
-use Rattle.mic2_interpreter.proofs.Words.{console_above}
+use Rattle.mic2_interpreter.proofs.Store.{Known}
+use Rattle.mic2_interpreter.proofs.Guided.{Goes}
+use Rattle.mic2_interpreter.proofs.Boundaries.{ReachesBoundary, comes, steps, Counts, counts, at_boundary, moves, overruns}
 
-module _ (program : List ℕ) (has : HasStatements program) (o : Origin) (map : IsMapEnd (length o.words)) (law : StackLaw) (s : State) (m : Micro) (w : World) (k : ℕ) (h : Stands o s m w) (inside : s.at < 0x10000) where
+module _ (program : List ℕ) (has : Known program) (o : Origin) (map : IsMapEnd (length o.words)) (law : StackLaw) (s : State) (m : Micro) (w : World) (k : ℕ) (h : Stands o s m w) (inside : s.at < 0x10000) where
   abbrev here : AtBoundary o s m.sp m.lv m.cpp m.tos w
   here = law.boundary o s m.sp m.lv m.cpp m.tos w map h.holds
 
@@ -34,7 +33,7 @@ module _ (program : List ℕ) (has : HasStatements program) (o : Origin) (map : 
       let c : Counts o s m = counts o s m w h inside in
       let t : Top o s m.sp m.lv m.cpp m.tos w y rest = here.top y rest ops in
       let p : IsConsoleAccess (length o.words) w = law.port (length o.words) w map h.holds.memory.long in
-      let far : 0x8000 ≤ console_address = console_above in
+      let far : 0x8000 ≤ console_address = law.console in
       let same : slice_set w.words console_address m.tos ≡ w.words = p.words m.tos in
       comes program has o map Goes (steps 6) (byte_in o.words (s.at + 1) ∷ []) m w k 0xFD 0 s _ h code (assumption)
       (at_boundary o _ _ _
@@ -62,22 +61,22 @@ module _ (program : List ℕ) (has : HasStatements program) (o : Origin) (map : 
       (omega (arith, c.p1.is)) (omega arith) refl refl refl refl refl)
       (sym (add-zero k))
 
-module _ (program : List ℕ) (has : HasStatements program) (o : Origin) (v : VerifiedView) (loads : Loads v o) (law : StackLaw) where
+module _ (program : List ℕ) (has : Known program) (o : Origin) (v : VerifiedView) (loads : Loads v o) (law : StackLaw) where
   abbrev map : IsMapEnd (length o.words)
-  map = map_of v o loads
+  map = law.map v o loads
 
   goes : (s to : State) (q : Moment Micro) (i : Instr) → IsOfConsole i → Fine v s → IsNext v o s i → Stands o s q.state q.world → Went v.image v.map.stack_end s to i →
       MovesWithStalls program o q (cost v.image (timing_of Mic2) i s) (stalls_of v.image i) to
   goes s to q In is fine n h went =
-      moves program o v s to _ q In 4 0 0xFC h n.reads refl refl refl (omega arith) went.goes (inp program has o map law s q.state q.world q.stalls h (next_inside loads n) n.reads (omega (arith, went.fits, loads.long)))
+      moves program o v s to _ q In 4 0 0xFC h n.reads refl refl refl (omega arith) went.goes (inp program has o map law s q.state q.world q.stalls h (law.inside v o s _ loads n) n.reads (omega (arith, went.fits, loads.long)))
   goes s to q Out is fine n h went =
-      moves program o v s to _ q Out 6 0 0xFD h n.reads refl refl refl (omega arith) went.leads (out program has o map law s q.state q.world q.stalls h (next_inside loads n) went.top went.rest n.reads went.are)
+      moves program o v s to _ q Out 6 0 0xFD h n.reads refl refl refl (omega arith) went.leads (out program has o map law s q.state q.world q.stalls h (law.inside v o s _ loads n) went.top went.rest n.reads went.are)
   goes s to q i is fine n h went = absurd is
 
   limits : (s left : State) (q : Moment Micro) (i : Instr) → IsOfConsole i → Fine v s → IsNext v o s i → Stands o s q.state q.world → Overran v.image v.map.stack_end s left i →
       OverrunsWithStalls program o q (stalls_of v.image i) left
   limits s left q In is fine n h over =
-      let c : Counts o s q.state = counts o s q.state q.world h (next_inside loads n) in
+      let c : Counts o s q.state = counts o s q.state q.world h (law.inside v o s _ loads n) in
       let p : IsConsoleAccess (length o.words) q.world = law.port (length o.words) q.world map h.holds.memory.long in
       let fault : write_refusal (length o.words) (next q.state.sp) ≡ Some (StackLimit (next q.state.sp)) =
       (law.boundary o s q.state.sp q.state.lv q.state.cpp q.state.tos q.world map h.holds).full (omega (arith, over.over, loads.long)) in

@@ -2,7 +2,7 @@
 use Rattle.std.proofs.Common.{◌≢◌, get_or-set_other, length-set, ap, ap₂, ◌∙◌, ◌≡◌, ℕ, zero, suc, ◌+◌, ◌*◌, ◌<◌, ◌≤◌, Option, Some, None, Bool, true, false, List, [], ◌∷◌, length, arith, refl, sym, subst, add-zero}
 use Rattle.std.specs.Prelude.{slice_set, nat_lt, slice_index, if◌then◌else◌, ◌||◌}
 use Rattle.std.proofs.lemmas.Bool.Decides.{nat_tests}
-use Rattle.mic_words.specs.Arithmetic.{signed_byte, signed_pair}
+use Rattle.mic_words.specs.Arithmetic.{wrap, signed_byte, signed_pair}
 use Rattle.console_port.specs.World.{World, Refusal, byte_in}
 use Rattle.micro_word.specs.Words.{is_byte, is_pair}
 use Rattle.micro_word.specs.Operation.{alu, shifted}
@@ -27,11 +27,15 @@ use Rattle.mic2_datapath.specs.Mic2.{mic2_meaning, step_of_word, driven, driven_
 use Rattle.ijvm_simulation.specs.Stands.{IsMemory}
 use Rattle.ijvm_simulation.specs.Passes.{Moment, is_inside, outcome_at, stalls_at, last, onward, pass}
 use Rattle.ijvm_simulation.specs.Guesses.{address_behind, left_of}
-use Rattle.mic2_interpreter.proofs.Shipped.{shipped, HasStatements}
-use Rattle.mic2_interpreter.proofs.Units.{unit_at, have_after, byte_there, Fits, edge_stands, edge_allowed, jump_stands, jump_allowed}
-use Rattle.mic2_interpreter.proofs.Places.{many_there}
-use Rattle.mic2_interpreter.proofs.Queue.{Held, Jumped, IsHeld, is_enough, held_after, held_fits, held_enough, held_edge, Beat, Goes, Waits, WaitsLate, WaitsOn, IsWait, held_waited, wait_short, wait_held}
-use Rattle.mic2_interpreter.proofs.Words.{wrap_small}
+use Rattle.mic2_interpreter.proofs.Store.{shipped, Known}
+use Rattle.mic2_queue.specs.Units.{unit_at, have_after, text_from}
+use Rattle.mic2_queue.specs.Law.{QueueLaw}
+use Rattle.mic2_queue.specs.Held.{Held, Jumped, IsHeld, is_enough, held_after, Lack, IsWait, held_waited}
+
+-- In a step of a plan the word at MPC goes on, or it stalls.
+pub data Turn : Type 0 where
+  Goes : Turn
+  Lacks : Lack → Turn
 
 -- A symbolic state: what the machine has but for its unit, and what is known of the queue there.
 pub record Short : Type 0 where
@@ -40,22 +44,12 @@ pub record Short : Type 0 where
   pub world : World
   pub stalls : ℕ
 
--- the bytes from PC on
-abbrev pub text_from : List ℕ → ℕ → ℕ → ℕ
-text_from origin pc zero = byte_in origin pc
-text_from origin pc (suc k) = byte_in origin (pc + suc k)
-
 -- the machine whose unit stands at PC
 abbrev pub standing : List ℕ → Micro → ℕ → Micro
 standing origin m have = record m { unit = unit_at origin m.pc have }
 
 abbrev pub moment_of : List ℕ → Short → ℕ → Moment Micro
 moment_of origin t have = record { state = standing origin t.state have; world = t.world; stalls = t.stalls }
-
-front_is : (origin : List ℕ) (pc have k : ℕ) → k < have → slice_index (unit_at origin pc have).bytes k ≡ text_from origin pc k
-unfolding unit_at
-front_is origin pc have zero h = let e : pc + 0 ≡ pc = omega arith in byte_there origin pc have 0 h ∙ ap (byte_in origin) e
-front_is origin pc have (suc k) h = byte_there origin pc have (suc k) h
 
 -- what a side of the ALU is given, where the queue's bytes are these
 abbrev pub source_of : (ℕ → ℕ) → Option BusSource → Micro → ℕ
@@ -98,14 +92,14 @@ wants_within false false false false = (omega arith, omega arith)
 abbrev pub text_result : List ℕ → Part → Micro → ℕ
 text_result origin part m = alu part.op (source_of (text_from origin m.pc) part.a m) (source_of (text_from origin m.pc) part.b m)
 
-result_same : (origin : List ℕ) (part : Part) (m : Micro) (have : ℕ) → operand_bytes part ≤ have → result_of part (standing origin m have) ≡ text_result origin part m
-result_same origin part m have h =
+result_same : (queue : QueueLaw) (origin : List ℕ) (part : Part) (m : Micro) (have : ℕ) → operand_bytes part ≤ have → result_of part (standing origin m have) ≡ text_result origin part m
+result_same queue origin part m have h =
     let both = wants_within (is_pair part.a) (is_pair part.b) (is_byte part.a) (is_byte part.b) in
     let la : wants part.a ≤ operand_bytes part = both.0 in
     let lb : wants part.b ≤ operand_bytes part = both.1 in
     ap₂ (alu part.op)
-    (source_same (byte_at (unit_at origin m.pc have)) (text_from origin m.pc) part.a m (λ k l. front_is origin m.pc have k (omega arith)))
-    (source_same (byte_at (unit_at origin m.pc have)) (text_from origin m.pc) part.b m (λ k l. front_is origin m.pc have k (omega arith)))
+    (source_same (byte_at (unit_at origin m.pc have)) (text_from origin m.pc) part.a m (λ k l. queue.front origin m.pc have k (omega arith)))
+    (source_same (byte_at (unit_at origin m.pc have)) (text_from origin m.pc) part.b m (λ k l. queue.front origin m.pc have k (omega arith)))
 
 target_same : (n : PlacedNext) (x b c : ℕ) → (0 < dispatch_bytes n → b ≡ c) → target n x b ≡ target n x c
 target_same (Goto to) x b c h = refl
@@ -173,37 +167,31 @@ module _ (origin : List ℕ) where
       × (r.pc < 0x1FF00)
       × (nat_lt t.state.mpc 512 ≡ true)
 
-  abbrev pub waited : Beat → Short → Short
+  abbrev pub waited : Lack → Short → Short
   waited b t = record { state = record t.state { begins = false }; queue = held_waited b; world = t.world; stalls = t.stalls + 1 }
 
-  abbrev pub IsStall : Beat → Placed → Short → Type 0
+  abbrev pub IsStall : Lack → Placed → Short → Type 0
   IsStall b s t = IsWait b t.queue t.state.pc (demand s) × (t.state.pc < 0x1FF00) × (nat_lt t.state.mpc 512 ≡ true)
 
-  abbrev pub step_of : Beat → Placed → List ℕ → Short → Short
+  abbrev pub step_of : Turn → Placed → List ℕ → Short → Short
   step_of Goes s gs t = guided s gs t
-  step_of Waits s gs t = waited Waits t
-  step_of WaitsLate s gs t = waited WaitsLate t
-  step_of WaitsOn s gs t = waited WaitsOn t
+  step_of (Lacks b) s gs t = waited b t
 
-  abbrev pub IsRight : Beat → Placed → List ℕ → Short → Type 0
+  abbrev pub IsRight : Turn → Placed → List ℕ → Short → Type 0
   IsRight Goes s gs t = IsClear s gs t
-  IsRight Waits s gs t = IsStall Waits s t
-  IsRight WaitsLate s gs t = IsStall WaitsLate s t
-  IsRight WaitsOn s gs t = IsStall WaitsOn s t
+  IsRight (Lacks b) s gs t = IsStall b s t
 
-  abbrev pub guesses_of : Beat → Placed → List ℕ → List ℕ
+  abbrev pub guesses_of : Turn → Placed → List ℕ → List ℕ
   guesses_of Goes s gs = left_of s.next gs
-  guesses_of Waits s gs = gs
-  guesses_of WaitsLate s gs = gs
-  guesses_of WaitsOn s gs = gs
+  guesses_of (Lacks b) s gs = gs
 
   -- the moment behind the steps of a plan along the guesses
-  abbrev pub clocked : List Beat → List ℕ → Short → Short
+  abbrev pub clocked : List Turn → List ℕ → Short → Short
   clocked [] gs t = t
   clocked (b ∷ bs) gs t = let s = shipped t.state.mpc in clocked bs (guesses_of b s gs) (step_of b s gs t)
 
   -- no step of the plan is refused, none but the last comes to a boundary or an end, and the plan and the guesses are right
-  abbrev pub IsSmooth : List Beat → List ℕ → Short → Type 0
+  abbrev pub IsSmooth : List Turn → List ℕ → Short → Type 0
   IsSmooth [] gs t = ⊥
   IsSmooth (b ∷ []) gs t = IsRight b (shipped t.state.mpc) gs t
   IsSmooth (b ∷ c ∷ bs) gs t =
@@ -211,129 +199,129 @@ module _ (origin : List ℕ) where
       IsRight b s gs t × (is_inside mic2_meaning (step_of b s gs t).state ≡ true) × IsSmooth (c ∷ bs) (guesses_of b s gs) (step_of b s gs t)
 
   advanced_is : (d pc : ℕ) → pc + d < 4294967296 → advanced d pc ≡ pc + d
+  unfolding wrap
   advanced_is zero pc h = omega arith
-  advanced_is (suc d) pc h = wrap_small (pc + suc d) h
+  advanced_is (suc d) pc h = omega arith
 
   -- PC behind a step that does not load it
   pc_on : (s : Placed) (x : ℕ) (m : Micro) → jumps s.part ≡ false → m.pc + demand s < 4294967296 → (settled_by s x m).pc ≡ m.pc + demand s
   pc_on s x m e l = ap (λ (b : Bool). if b then shifted s.part.shift x else advanced (demand s) m.pc) e ∙ advanced_is (demand s) m.pc l
 
-  unit_is : (s : Placed) (m : Micro) (have x : ℕ) (words : List ℕ) (b : Bool) → jumps s.part ≡ b → demand s ≤ have → have ≤ 6 → IsMemory origin words →
-      m.pc < 0x1FF00 → (settled_by s x m).pc < 0x1FF00 →
-      unit_after b words (settled_by s x m).pc (demand s) (unit_at origin m.pc have) ≡ unit_at origin (settled_by s x m).pc (have_behind b m.pc (demand s) have)
-  unit_is s m have x words true e h few ms l l2 = jump_stands origin words (settled_by s x m).pc ms l2
-  unit_is s m have x words false e h few ms l l2 =
-      let pc : (settled_by s x m).pc ≡ m.pc + demand s = pc_on s x m e (omega arith) in
-      edge_stands origin words m.pc have (demand s) h few ms l ∙ ap (λ (k : ℕ). unit_at origin k (have_after m.pc have (demand s))) (sym pc)
+  module _ (queue : QueueLaw) where
+    unit_is : (s : Placed) (m : Micro) (have x : ℕ) (words : List ℕ) (b : Bool) → jumps s.part ≡ b → demand s ≤ have → have ≤ 6 → IsMemory origin words →
+        m.pc < 0x1FF00 → (settled_by s x m).pc < 0x1FF00 →
+        unit_after b words (settled_by s x m).pc (demand s) (unit_at origin m.pc have) ≡ unit_at origin (settled_by s x m).pc (have_behind b m.pc (demand s) have)
+    unit_is s m have x words true e h few ms l l2 = queue.jump_stands origin words (settled_by s x m).pc ms.kept l2
+    unit_is s m have x words false e h few ms l l2 =
+        let pc : (settled_by s x m).pc ≡ m.pc + demand s = pc_on s x m e (omega arith) in
+        queue.edge_stands origin words m.pc have (demand s) h few ms.kept l ∙ ap (λ (k : ℕ). unit_at origin k (have_after m.pc have (demand s))) (sym pc)
 
-  unit_allowed : (s : Placed) (m : Micro) (have x : ℕ) (b : Bool) → 0x8000 ≤ top → demand s ≤ have → have ≤ 6 → m.pc < 0x1FF00 → (settled_by s x m).pc < 0x1FF00 →
-      unit_refusal b top (settled_by s x m).pc (demand s) (unit_at origin m.pc have) ≡ None
-  unit_allowed s m have x true map h few l l2 = jump_allowed top (settled_by s x m).pc map l2
-  unit_allowed s m have x false map h few l l2 = edge_allowed top origin m.pc have (demand s) map h few l
+    unit_allowed : (s : Placed) (m : Micro) (have x : ℕ) (b : Bool) → 0x8000 ≤ top → demand s ≤ have → have ≤ 6 → m.pc < 0x1FF00 → (settled_by s x m).pc < 0x1FF00 →
+        unit_refusal b top (settled_by s x m).pc (demand s) (unit_at origin m.pc have) ≡ None
+    unit_allowed s m have x true map h few l l2 = queue.jump_allowed top (settled_by s x m).pc map l2
+    unit_allowed s m have x false map h few l l2 = queue.edge_allowed top origin m.pc have (demand s) map h few l
 
-  not_stalled : (s : Placed) (m : Micro) (have : ℕ) → demand s ≤ have → is_stalled s (standing origin m have) ≡ false
-  not_stalled s m have h = let e : length (unit_at origin m.pc have).bytes ≡ have = many_there origin m.pc have in rw e (grind (arith, nat_tests))
+    not_stalled : (s : Placed) (m : Micro) (have : ℕ) → demand s ≤ have → is_stalled s (standing origin m have) ≡ false
+    not_stalled s m have h = let e : length (unit_at origin m.pc have).bytes ≡ have = queue.many origin m.pc have in rw e (grind (arith, nat_tests))
 
-  is_short : (s : Placed) (m : Micro) (have : ℕ) → have < demand s → is_stalled s (standing origin m have) ≡ true
-  is_short s m have h = let e : length (unit_at origin m.pc have).bytes ≡ have = many_there origin m.pc have in rw e (grind (arith, nat_tests))
+    is_short : (s : Placed) (m : Micro) (have : ℕ) → have < demand s → is_stalled s (standing origin m have) ≡ true
+    is_short s m have h = let e : length (unit_at origin m.pc have).bytes ≡ have = queue.many origin m.pc have in rw e (grind (arith, nat_tests))
 
-  -- the machine behind a step that does not stall
-  abbrev there_of : Placed → List ℕ → Short → ℕ → Moment Micro
-  there_of s gs t have = moment_of origin (guided s gs t) (have_behind (jumps s.part) t.state.pc (demand s) have)
+    -- the machine behind a step that does not stall
+    abbrev there_of : Placed → List ℕ → Short → ℕ → Moment Micro
+    there_of s gs t have = moment_of origin (guided s gs t) (have_behind (jumps s.part) t.state.pc (demand s) have)
 
-  memory_set : (words : List ℕ) (a v : ℕ) → 0x8000 ≤ a → IsMemory origin words → IsMemory origin (slice_set words a v)
-  memory_set words a v le h =
-      record { kept = λ b l. let ne : b ≢ a = omega arith in get_or-set_other words a b v 0 ne ∙ h.kept b l; long = length-set words a v ∙ h.long }
+    memory_set : (words : List ℕ) (a v : ℕ) → 0x8000 ≤ a → IsMemory origin words → IsMemory origin (slice_set words a v)
+    memory_set words a v le h =
+        record { kept = λ b l. let ne : b ≢ a = omega arith in get_or-set_other words a b v 0 ne ∙ h.kept b l; long = length-set words a v ∙ h.long }
 
-  written-memory : (mem : Mem) (p : Ports) (w : World) → IsAbove mem p.mar → IsMemory origin w.words → IsMemory origin (written top mem p w).words
-  written-memory Write p w above h = memory_set w.words p.mar p.mdr above h
-  written-memory Read p w above h = h
-  written-memory Idle p w above h = h
+    written-memory : (mem : Mem) (p : Ports) (w : World) → IsAbove mem p.mar → IsMemory origin w.words → IsMemory origin (written top mem p w).words
+    written-memory Write p w above h = memory_set w.words p.mar p.mdr above h
+    written-memory Read p w above h = h
+    written-memory Idle p w above h = h
 
-  sampled-memory : (mem : Mem) (p : Ports) (w : World) → IsMemory origin w.words → IsMemory origin (sampled top mem p w).words
-  sampled-memory Write p w h = h
-  sampled-memory Read p w h = h
-  sampled-memory Idle p w h = h
+    sampled-memory : (mem : Mem) (p : Ports) (w : World) → IsMemory origin w.words → IsMemory origin (sampled top mem p w).words
+    sampled-memory Write p w h = h
+    sampled-memory Read p w h = h
+    sampled-memory Idle p w h = h
 
-  step-clear : (s : Placed) (gs : List ℕ) (t : Short) (have : ℕ) → 0x8000 ≤ top → IsMemory origin t.world.words → IsHeld t.queue t.state.pc have → IsClear s gs t →
-      microstep s (standing origin t.state have) t.world ≡ Done (there_of s gs t have).state (there_of s gs t have).world
-  step-clear s gs t have map ms held c =
-      let m : Micro = t.state in
-      let w : World = t.world in
-      let x : ℕ = text_result origin s.part m in
-      let f : Fits m.pc have = held_fits t.queue m.pc have held in
-      let les : demand s ≤ have = held_enough (demand s) t.queue m.pc have c.0 held in
-      let same : result_of s.part (standing origin m have) ≡ x = result_same origin s.part m have (omega arith) in
-      let unit : unit_refusal (jumps s.part) top (settled_by s x m).pc (demand s) (unit_at origin m.pc have) ≡ None = unit_allowed s m have x (jumps s.part) map les f.few c.4 c.5 in
-      let none : refusal_by top s x (standing origin m have) ≡ None = ap₂ first_refusal c.1 unit in
-      let byte : (0 < dispatch_bytes s.next → byte_at (unit_at origin m.pc have) (operand_bytes s.part) ≡ text_from origin m.pc (operand_bytes s.part)) =
-      λ l. front_is origin m.pc have (operand_bytes s.part) (omega arith) in
-      let next : target s.next x (byte_at (unit_at origin m.pc have) (operand_bytes s.part)) ≡ address_behind s.next gs = target_same s.next x _ _ byte ∙ c.2 in
-      let after : unit_after (jumps s.part) (written top s.part.mem (ports_given (settled_by s x m)) w).words (settled_by s x m).pc (demand s) (unit_at origin m.pc have)
-      ≡ unit_at origin (settled_by s x m).pc (have_behind (jumps s.part) m.pc (demand s) have) =
-      unit_is s m have x (written top s.part.mem (ports_given (settled_by s x m)) w).words (jumps s.part) refl les f.few
-      (written-memory s.part.mem (ports_given (settled_by s x m)) w c.3 ms) c.4 c.5 in
-      let stepped : (top' x' : ℕ) → Outcome Micro =
-      λ top' x'. outcome (refusal_by top' s x' (standing origin m have))
-      (clock_by top' s x' (target s.next x' (byte_at (unit_at origin m.pc have) (operand_bytes s.part)))
-      (unit_after (jumps s.part) (written top' s.part.mem (ports_given (settled_by s x' m)) w).words (settled_by s x' m).pc (demand s) (unit_at origin m.pc have)) m w)
-      (world_by top' s x' m w) in
-      ap (λ (b : Bool). step_if b (length w.words) s (standing origin m have) w) (not_stalled s m have les)
-      ∙ (ap₂ stepped ms.long same
-      ∙ (λ i. outcome (none i) (clock_by top s x (next i) (after i) m w) (world_by top s x m w)))
+    step-clear : (s : Placed) (gs : List ℕ) (t : Short) (have : ℕ) → 0x8000 ≤ top → IsMemory origin t.world.words → IsHeld t.queue t.state.pc have → IsClear s gs t →
+        microstep s (standing origin t.state have) t.world ≡ Done (there_of s gs t have).state (there_of s gs t have).world
+    step-clear s gs t have map ms held c =
+        let m : Micro = t.state in
+        let w : World = t.world in
+        let x : ℕ = text_result origin s.part m in
+        let few : have ≤ 6 = queue.few t.queue m.pc have held in
+        let les : demand s ≤ have = queue.enough (demand s) t.queue m.pc have c.0 held in
+        let same : result_of s.part (standing origin m have) ≡ x = result_same queue origin s.part m have (omega arith) in
+        let unit : unit_refusal (jumps s.part) top (settled_by s x m).pc (demand s) (unit_at origin m.pc have) ≡ None = unit_allowed s m have x (jumps s.part) map les few c.4 c.5 in
+        let none : refusal_by top s x (standing origin m have) ≡ None = ap₂ first_refusal c.1 unit in
+        let byte : (0 < dispatch_bytes s.next → byte_at (unit_at origin m.pc have) (operand_bytes s.part) ≡ text_from origin m.pc (operand_bytes s.part)) =
+        λ l. queue.front origin m.pc have (operand_bytes s.part) (omega arith) in
+        let next : target s.next x (byte_at (unit_at origin m.pc have) (operand_bytes s.part)) ≡ address_behind s.next gs = target_same s.next x _ _ byte ∙ c.2 in
+        let after : unit_after (jumps s.part) (written top s.part.mem (ports_given (settled_by s x m)) w).words (settled_by s x m).pc (demand s) (unit_at origin m.pc have)
+        ≡ unit_at origin (settled_by s x m).pc (have_behind (jumps s.part) m.pc (demand s) have) =
+        unit_is s m have x (written top s.part.mem (ports_given (settled_by s x m)) w).words (jumps s.part) refl les few
+        (written-memory s.part.mem (ports_given (settled_by s x m)) w c.3 ms) c.4 c.5 in
+        let stepped : (top' x' : ℕ) → Outcome Micro =
+        λ top' x'. outcome (refusal_by top' s x' (standing origin m have))
+        (clock_by top' s x' (target s.next x' (byte_at (unit_at origin m.pc have) (operand_bytes s.part)))
+        (unit_after (jumps s.part) (written top' s.part.mem (ports_given (settled_by s x' m)) w).words (settled_by s x' m).pc (demand s) (unit_at origin m.pc have)) m w)
+        (world_by top' s x' m w) in
+        ap (λ (b : Bool). step_if b (length w.words) s (standing origin m have) w) (not_stalled s m have les)
+        ∙ (ap₂ stepped ms.long same
+        ∙ (λ i. outcome (none i) (clock_by top s x (next i) (after i) m w) (world_by top s x m w)))
 
-  step-waits : (s : Placed) (b : Beat) (t : Short) (have : ℕ) → 0x8000 ≤ top → IsMemory origin t.world.words → IsHeld t.queue t.state.pc have → IsStall b s t →
-      microstep s (standing origin t.state have) t.world ≡ Done (moment_of origin (waited b t) (have_after t.state.pc have 0)).state t.world
-  step-waits s b t have map ms held c =
-      let m : Micro = t.state in
-      let f : Fits m.pc have = held_fits t.queue m.pc have held in
-      let short : have < demand s = wait_short b t.queue m.pc (demand s) have c.0 held in
-      let none : edge_refusal top 0 (unit_at origin m.pc have) ≡ None = edge_allowed top origin m.pc have 0 map (omega arith) f.few c.1 in
-      let same : m.pc + 0 ≡ m.pc = omega arith in
-      let unit : edge t.world.words 0 (unit_at origin m.pc have) ≡ unit_at origin m.pc (have_after m.pc have 0) =
-      edge_stands origin t.world.words m.pc have 0 (omega arith) f.few ms c.1 ∙ ap (λ (p : ℕ). unit_at origin p (have_after m.pc have 0)) same in
-      ap (λ (k : Bool). step_if k (length t.world.words) s (standing origin m have) t.world) (is_short s m have short)
-      ∙ (ap (λ (n : ℕ). outcome (edge_refusal n 0 (unit_at origin m.pc have)) (stalled t.world.words (standing origin m have)) t.world) ms.long
-      ∙ (λ i. outcome (none i) (record m { unit = unit i; begins = false }) t.world))
+    step-waits : (s : Placed) (b : Lack) (t : Short) (have : ℕ) → 0x8000 ≤ top → IsMemory origin t.world.words → IsHeld t.queue t.state.pc have → IsStall b s t →
+        microstep s (standing origin t.state have) t.world ≡ Done (moment_of origin (waited b t) (have_after t.state.pc have 0)).state t.world
+    step-waits s b t have map ms held c =
+        let m : Micro = t.state in
+        let few : have ≤ 6 = queue.few t.queue m.pc have held in
+        let short : have < demand s = queue.short b t.queue m.pc (demand s) have c.0 held in
+        let none : edge_refusal top 0 (unit_at origin m.pc have) ≡ None = queue.edge_allowed top origin m.pc have 0 map (omega arith) few c.1 in
+        let same : m.pc + 0 ≡ m.pc = omega arith in
+        let unit : edge t.world.words 0 (unit_at origin m.pc have) ≡ unit_at origin m.pc (have_after m.pc have 0) =
+        queue.edge_stands origin t.world.words m.pc have 0 (omega arith) few ms.kept c.1 ∙ ap (λ (p : ℕ). unit_at origin p (have_after m.pc have 0)) same in
+        ap (λ (k : Bool). step_if k (length t.world.words) s (standing origin m have) t.world) (is_short s m have short)
+        ∙ (ap (λ (n : ℕ). outcome (edge_refusal n 0 (unit_at origin m.pc have)) (stalled t.world.words (standing origin m have)) t.world) ms.long
+        ∙ (λ i. outcome (none i) (record m { unit = unit i; begins = false }) t.world))
 
-  held-guided : (s : Placed) (gs : List ℕ) (t : Short) (have : ℕ) → IsHeld t.queue t.state.pc have → IsClear s gs t →
-      IsHeld (guided s gs t).queue (guided s gs t).state.pc (have_behind (jumps s.part) t.state.pc (demand s) have)
-  held-guided s gs t have held c = by_jump (jumps s.part) refl
-    where
-      by_jump : (b : Bool) → jumps s.part ≡ b →
-          IsHeld (queue_after b (demand s) t.queue) (settled_by s (text_result origin s.part t.state) t.state).pc (have_behind b t.state.pc (demand s) have)
-      by_jump true e = refl
-      by_jump false e =
-          let f : Fits t.state.pc have = held_fits t.queue t.state.pc have held in
-          let les : demand s ≤ have = held_enough (demand s) t.queue t.state.pc have c.0 held in
-          let pc : (settled_by s (text_result origin s.part t.state) t.state).pc ≡ t.state.pc + demand s = pc_on s (text_result origin s.part t.state) t.state e (omega (arith, f.few, c.4)) in
-          subst (λ (p : ℕ). IsHeld (held_after (demand s) t.queue) p (have_after t.state.pc have (demand s))) (sym pc)
-          (held_edge (demand s) t.queue t.state.pc have c.0 held)
+    held-guided : (s : Placed) (gs : List ℕ) (t : Short) (have : ℕ) → IsHeld t.queue t.state.pc have → IsClear s gs t →
+        IsHeld (guided s gs t).queue (guided s gs t).state.pc (have_behind (jumps s.part) t.state.pc (demand s) have)
+    held-guided s gs t have held c = by_jump (jumps s.part) refl
+      where
+        by_jump : (b : Bool) → jumps s.part ≡ b →
+            IsHeld (queue_after b (demand s) t.queue) (settled_by s (text_result origin s.part t.state) t.state).pc (have_behind b t.state.pc (demand s) have)
+        by_jump true e = refl
+        by_jump false e =
+            let few : have ≤ 6 = queue.few t.queue t.state.pc have held in
+            let les : demand s ≤ have = queue.enough (demand s) t.queue t.state.pc have c.0 held in
+            let pc : (settled_by s (text_result origin s.part t.state) t.state).pc ≡ t.state.pc + demand s = pc_on s (text_result origin s.part t.state) t.state e (omega (arith, few, c.4)) in
+            subst (λ (p : ℕ). IsHeld (held_after (demand s) t.queue) p (have_after t.state.pc have (demand s))) (sym pc)
+            (queue.after_edge (demand s) t.queue t.state.pc have c.0 held)
 
-  step-memory : (b : Beat) (s : Placed) (gs : List ℕ) (t : Short) → IsRight b s gs t → IsMemory origin t.world.words → IsMemory origin (step_of b s gs t).world.words
-  step-memory Goes s gs t c ms =
-      let p = ports_given (settled_by s (text_result origin s.part t.state) t.state) in
-      sampled-memory s.part.mem p (written top s.part.mem p t.world) (written-memory s.part.mem p t.world c.3 ms)
-  step-memory Waits s gs t c ms = ms
-  step-memory WaitsLate s gs t c ms = ms
-  step-memory WaitsOn s gs t c ms = ms
+    step-memory : (b : Turn) (s : Placed) (gs : List ℕ) (t : Short) → IsRight b s gs t → IsMemory origin t.world.words → IsMemory origin (step_of b s gs t).world.words
+    step-memory Goes s gs t c ms =
+        let p = ports_given (settled_by s (text_result origin s.part t.state) t.state) in
+        sampled-memory s.part.mem p (written top s.part.mem p t.world) (written-memory s.part.mem p t.world c.3 ms)
+    step-memory (Lacks b) s gs t c ms = ms
 
-  -- the refusal of a step that does not stall, where its memory access is refused
-  pub step-refused : (s : Placed) (t : Short) (have : ℕ) (why : Refusal) → IsMemory origin t.world.words → IsHeld t.queue t.state.pc have → is_enough (demand s) t.queue ≡ true →
-      memory_refusal top s.part.mem (settled_by s (text_result origin s.part t.state) t.state).mar ≡ Some why →
-      microstep s (standing origin t.state have) t.world ≡ Refused why
-  step-refused s t have why ms held enough h =
-      let m : Micro = t.state in
-      let w : World = t.world in
-      let x : ℕ = text_result origin s.part m in
-      let les : demand s ≤ have = held_enough (demand s) t.queue m.pc have enough held in
-      let same : result_of s.part (standing origin m have) ≡ x = result_same origin s.part m have (omega arith) in
-      let refused : (top' x' : ℕ) → Outcome Micro =
-      λ top' x'. outcome (refusal_by top' s x' (standing origin m have)) (clock top' s (standing origin m have) w) (world_after top' s (standing origin m have) w) in
-      ap (λ (b : Bool). step_if b (length w.words) s (standing origin m have) w) (not_stalled s m have les)
-      ∙ (ap₂ refused ms.long same
-      ∙ ap (λ (r : Option Refusal). outcome (first_refusal r (unit_refusal (jumps s.part) top (settled_by s x m).pc (demand s) (unit_at origin m.pc have)))
-      (clock top s (standing origin m have) w) (world_after top s (standing origin m have) w)) h)
+    -- the refusal of a step that does not stall, where its memory access is refused
+    pub step-refused : (s : Placed) (t : Short) (have : ℕ) (why : Refusal) → IsMemory origin t.world.words → IsHeld t.queue t.state.pc have → is_enough (demand s) t.queue ≡ true →
+        memory_refusal top s.part.mem (settled_by s (text_result origin s.part t.state) t.state).mar ≡ Some why →
+        microstep s (standing origin t.state have) t.world ≡ Refused why
+    step-refused s t have why ms held enough h =
+        let m : Micro = t.state in
+        let w : World = t.world in
+        let x : ℕ = text_result origin s.part m in
+        let les : demand s ≤ have = queue.enough (demand s) t.queue m.pc have enough held in
+        let same : result_of s.part (standing origin m have) ≡ x = result_same queue origin s.part m have (omega arith) in
+        let refused : (top' x' : ℕ) → Outcome Micro =
+        λ top' x'. outcome (refusal_by top' s x' (standing origin m have)) (clock top' s (standing origin m have) w) (world_after top' s (standing origin m have) w) in
+        ap (λ (b : Bool). step_if b (length w.words) s (standing origin m have) w) (not_stalled s m have les)
+        ∙ (ap₂ refused ms.long same
+        ∙ ap (λ (r : Option Refusal). outcome (first_refusal r (unit_refusal (jumps s.part) top (settled_by s x m).pc (demand s) (unit_at origin m.pc have)))
+        (clock top s (standing origin m have) w) (world_after top s (standing origin m have) w)) h)
 
 -- a run arrives where the symbolic one does, with so many bytes in the queue
 pub record Arrives (origin : List ℕ) (run : Option (Moment Micro)) (t : Short) : Type 0 where
@@ -354,16 +342,16 @@ onward-inside : (program : List ℕ) (more : Moment Micro → Option (Moment Mic
 onward-inside program more p h = simp (h, onward)
 
 -- `program` has the words of a control store that holds the shipped microprogram.
-module _ (program : List ℕ) (has : HasStatements program) (origin : List ℕ) (map : 0x8000 ≤ length origin) where
+module _ (program : List ℕ) (has : Known program) (origin : List ℕ) (map : 0x8000 ≤ length origin) where
   -- the outcome of the word at MPC is that of the shipped statement
   pub outcome_is : (p : Moment Micro) → p.state.mpc < 512 → outcome_at mic2_meaning program p ≡ microstep (shipped p.state.mpc) p.state p.world
   unfolding step_of_word
-  outcome_is p l = ap (λ (s : Placed). microstep s p.state p.world) (has p.state.mpc l)
+  outcome_is p l = ap (λ (s : Placed). microstep s p.state p.world) (has.statements p.state.mpc l)
 
   stalls_are : (p : Moment Micro) (b : Bool) → p.state.mpc < 512 → is_stalled (shipped p.state.mpc) p.state ≡ b → stalls_at mic2_meaning program p ≡ p.stalls + number_of b
   unfolding driven
   stalls_are p b l e =
-      ap (λ (s : Placed). p.stalls + number_of (driven_by s p.state).stalled) (has p.state.mpc l)
+      ap (λ (s : Placed). p.stalls + number_of (driven_by s p.state).stalled) (has.statements p.state.mpc l)
       ∙ (ap (λ (k : Bool). p.stalls + number_of (if k then stalled_drive else record { a = source (shipped p.state.mpc).part.a p.state; b = source (shipped p.state.mpc).part.b p.state; stalled = false }).stalled) e
       ∙ by_stall b)
     where
@@ -371,48 +359,46 @@ module _ (program : List ℕ) (has : HasStatements program) (origin : List ℕ) 
       by_stall true = refl
       by_stall false = refl
 
-  waits : (b : Beat) (t : Short) (have : ℕ) → IsMemory origin t.world.words → IsHeld t.queue t.state.pc have → IsStall origin b (shipped t.state.mpc) t →
+  waits : (b : Lack) (t : Short) (have : ℕ) → IsMemory origin t.world.words → IsHeld t.queue t.state.pc have → IsStall origin b (shipped t.state.mpc) t →
       Steps program origin (moment_of origin t have) (waited origin b t)
   waits b t have ms held c =
       let s : Placed = shipped t.state.mpc in
       let clear : nat_lt t.state.mpc 512 ≡ true = c.2 in
       let l : t.state.mpc < 512 = grind (arith, nat_tests) in
-      let short : have < demand s = wait_short b t.queue t.state.pc (demand s) have c.0 held in
+      let short : have < demand s = has.queue.short b t.queue t.state.pc (demand s) have c.0 held in
       record {
         have = have_after t.state.pc have 0;
-        done = outcome_is (moment_of origin t have) l ∙ step-waits origin s b t have map ms held c;
-        stalls = stalls_are (moment_of origin t have) true l (is_short origin s t.state have short);
-        held = wait_held b t.queue t.state.pc (demand s) have c.0 held;
+        done = outcome_is (moment_of origin t have) l ∙ step-waits origin has.queue s b t have map ms held c;
+        stalls = stalls_are (moment_of origin t have) true l (is_short origin has.queue s t.state have short);
+        held = has.queue.after_wait b t.queue t.state.pc (demand s) have c.0 held;
       }
 
-  steps : (b : Beat) (gs : List ℕ) (t : Short) (have : ℕ) → IsMemory origin t.world.words → IsHeld t.queue t.state.pc have → IsRight origin b (shipped t.state.mpc) gs t →
+  steps : (b : Turn) (gs : List ℕ) (t : Short) (have : ℕ) → IsMemory origin t.world.words → IsHeld t.queue t.state.pc have → IsRight origin b (shipped t.state.mpc) gs t →
       Steps program origin (moment_of origin t have) (step_of origin b (shipped t.state.mpc) gs t)
   steps Goes gs t have ms held c =
       let s : Placed = shipped t.state.mpc in
       let clear : nat_lt t.state.mpc 512 ≡ true = c.6 in
       let l : t.state.mpc < 512 = grind (arith, nat_tests) in
-      let les : demand s ≤ have = held_enough (demand s) t.queue t.state.pc have c.0 held in
+      let les : demand s ≤ have = has.queue.enough (demand s) t.queue t.state.pc have c.0 held in
       record {
         have = have_behind (jumps s.part) t.state.pc (demand s) have;
-        done = outcome_is (moment_of origin t have) l ∙ step-clear origin s gs t have map ms held c;
-        stalls = stalls_are (moment_of origin t have) false l (not_stalled origin s t.state have les) ∙ add-zero t.stalls;
-        held = held-guided origin s gs t have held c;
+        done = outcome_is (moment_of origin t have) l ∙ step-clear origin has.queue s gs t have map ms held c;
+        stalls = stalls_are (moment_of origin t have) false l (not_stalled origin has.queue s t.state have les) ∙ add-zero t.stalls;
+        held = held-guided origin has.queue s gs t have held c;
       }
-  steps Waits gs t have ms held c = waits Waits t have ms held c
-  steps WaitsLate gs t have ms held c = waits WaitsLate t have ms held c
-  steps WaitsOn gs t have ms held c = waits WaitsOn t have ms held c
+  steps (Lacks b) gs t have ms held c = waits b t have ms held c
 
-  pub pass-clocked : (b : Beat) (bs : List Beat) (gs : List ℕ) (t : Short) (have : ℕ) → IsMemory origin t.world.words → IsHeld t.queue t.state.pc have → IsSmooth origin (b ∷ bs) gs t →
+  pub pass-clocked : (b : Turn) (bs : List Turn) (gs : List ℕ) (t : Short) (have : ℕ) → IsMemory origin t.world.words → IsHeld t.queue t.state.pc have → IsSmooth origin (b ∷ bs) gs t →
       Arrives origin (pass mic2_meaning program (length bs) (moment_of origin t have)) (clocked origin (b ∷ bs) gs t)
   pass-clocked b [] gs t have ms held h =
       let a : Steps program origin (moment_of origin t have) (step_of origin b (shipped t.state.mpc) gs t) = steps b gs t have ms held h in
-      record { have = a.have; is = ap₂ (last mic2_meaning program) a.stalls a.done; held = a.held; memory = step-memory origin b (shipped t.state.mpc) gs t h ms }
+      record { have = a.have; is = ap₂ (last mic2_meaning program) a.stalls a.done; held = a.held; memory = step-memory origin has.queue b (shipped t.state.mpc) gs t h ms }
   pass-clocked b (c ∷ cs) gs t have ms held h =
       let s : Placed = shipped t.state.mpc in
       let u : Short = step_of origin b s gs t in
       let a : Steps program origin (moment_of origin t have) u = steps b gs t have ms held h.0 in
       let r : Arrives origin (pass mic2_meaning program (length cs) (moment_of origin u a.have)) (clocked origin (c ∷ cs) (guesses_of origin b s gs) u) =
-      pass-clocked c cs (guesses_of origin b s gs) u a.have (step-memory origin b s gs t h.0 ms) a.held h.2 in
+      pass-clocked c cs (guesses_of origin b s gs) u a.have (step-memory origin has.queue b s gs t h.0 ms) a.held h.2 in
       record {
         have = r.have;
         is = ap₂ (onward mic2_meaning program (pass mic2_meaning program (length cs))) a.stalls a.done

@@ -1,9 +1,4 @@
-pub mod Shipped
-pub mod Words
-pub mod Units
-pub mod Queue
 pub mod Guided
-pub mod Places
 pub mod Boundaries
 pub mod Boot
 pub mod Operands

@@ -20,12 +20,11 @@ use Rattle.ijvm_simulation.specs.Verified.{Loads, Fine, IsNext}
 use Rattle.ijvm_simulation.specs.Groups.{IsOfLocals}
 use Rattle.mic2_interpreter.specs.Stands.{Stands}
 use Rattle.mic2_interpreter.specs.Stalls.{MovesWithStalls, OverrunsWithStalls, TakesWithStalls, stalls_of}
-use Rattle.mic2_interpreter.proofs.Shipped.{HasStatements}
-use Rattle.mic2_interpreter.proofs.Queue.{Goes}
-use Rattle.mic2_interpreter.proofs.Boundaries.{ReachesBoundary, comes, steps, Counts, counts, pair_at, signed_pair_at, at_boundary, map_of, next_inside, moves, overruns}
-use Rattle.mic2_interpreter.proofs.Words.{plus_is}
+use Rattle.mic2_interpreter.proofs.Store.{Known}
+use Rattle.mic2_interpreter.proofs.Guided.{Goes}
+use Rattle.mic2_interpreter.proofs.Boundaries.{ReachesBoundary, comes, steps, Counts, counts, pair_at, signed_pair_at, at_boundary, moves, overruns}
 
-module _ (program : List ℕ) (has : HasStatements program) (o : Origin) (map : IsMapEnd (length o.words)) (law : StackLaw) (s : State) (m : Micro) (w : World) (k : ℕ) (h : Stands o s m w) (inside : s.at < 0x10000) where
+module _ (program : List ℕ) (has : Known program) (o : Origin) (map : IsMapEnd (length o.words)) (law : StackLaw) (s : State) (m : Micro) (w : World) (k : ℕ) (h : Stands o s m w) (inside : s.at < 0x10000) where
   abbrev here : AtBoundary o s m.sp m.lv m.cpp m.tos w
   here = law.boundary o s m.sp m.lv m.cpp m.tos w map h.holds
 
@@ -39,7 +38,7 @@ module _ (program : List ℕ) (has : HasStatements program) (o : Origin) (map : 
       let from : ℕ = plus m.lv (byte_in o.words m.pc) in
       let l : i < length s.running.locals = slice_get_within s.running.locals i (Some v) local in
       let a : IsWordAccess (length o.words) w from (base s.callers + i) =
-      here.local from i l (plus_is h.holds.lv_is (c.p0.byte ∙ sym index) refl (omega (arith, h.holds.fits, map.high))) in
+      here.local from i l (law.words.plus_is h.holds.lv_is (c.p0.byte ∙ sym index) refl (omega (arith, h.holds.fits, map.high))) in
       let is : read_value (length o.words) w.words w.untaken from ≡ v = a.value ∙ h.holds.frames.0.locals i v local in
       let same : slice_set w.words (next m.sp) (read_value (length o.words) w.words w.untaken from) ≡ slice_set w.words (base (frames_of s)) v = ap₂ (slice_set w.words) r.is is in
       comes program has o map Goes (steps 2) (byte_in o.words (s.at + 2) ∷ []) m w k 0x15 0 s _ h code (assumption)
@@ -60,7 +59,7 @@ module _ (program : List ℕ) (has : HasStatements program) (o : Origin) (map : 
       let from : ℕ = plus m.lv (256 * byte_in o.words (plus m.pc 1) + byte_in o.words (plus m.pc 1 + 1)) in
       let l : i < length s.running.locals = slice_get_within s.running.locals i (Some v) local in
       let a : IsWordAccess (length o.words) w from (base s.callers + i) =
-      here.local from i l (plus_is h.holds.lv_is (pair_at o.words (plus m.pc 1) (s.at + 2) (s.at + 3) c.p1 (omega arith) ∙ sym index) refl (omega (arith, h.holds.fits, map.high))) in
+      here.local from i l (law.words.plus_is h.holds.lv_is (pair_at o.words (plus m.pc 1) (s.at + 2) (s.at + 3) c.p1 (omega arith) ∙ sym index) refl (omega (arith, h.holds.fits, map.high))) in
       let is : read_value (length o.words) w.words w.untaken from ≡ v = a.value ∙ h.holds.frames.0.locals i v local in
       let same : slice_set w.words (next m.sp) (read_value (length o.words) w.words w.untaken from) ≡ slice_set w.words (base (frames_of s)) v = ap₂ (slice_set w.words) r.is is in
       comes program has o map Goes (steps 3) (0x115 ∷ byte_in o.words (s.at + 4) ∷ []) m w k 0xC4 0 s _ h code (assumption)
@@ -79,7 +78,7 @@ module _ (program : List ℕ) (has : HasStatements program) (o : Origin) (map : 
       let high : 0x8000 ≤ next m.sp = omega (arith, r.is) in
       let from : ℕ = plus m.cpp (256 * byte_in o.words m.pc + byte_in o.words (m.pc + 1)) in
       let a : IsWordAccess (length o.words) w from (0x4000 + i) =
-      law.access (length o.words) w from (0x4000 + i) (plus_is h.holds.cpp_is (pair_at o.words m.pc (s.at + 1) (s.at + 2) c.p0 (omega arith) ∙ sym index) refl (omega (arith, small))) (omega (arith, map.low)) in
+      law.access (length o.words) w from (0x4000 + i) (law.words.plus_is h.holds.cpp_is (pair_at o.words m.pc (s.at + 1) (s.at + 2) c.p0 (omega arith) ∙ sym index) refl (omega (arith, small))) (omega (arith, map.low)) in
       let is : read_value (length o.words) w.words w.untaken from ≡ v = a.value ∙ (h.holds.memory.kept (0x4000 + i) (omega arith) ∙ constant) in
       let same : slice_set w.words (next m.sp) (read_value (length o.words) w.words w.untaken from) ≡ slice_set w.words (base (frames_of s)) v = ap₂ (slice_set w.words) r.is is in
       comes program has o map Goes (steps 2) (byte_in o.words (s.at + 3) ∷ []) m w k 0x13 0 s _ h code (assumption)
@@ -95,7 +94,7 @@ module _ (program : List ℕ) (has : HasStatements program) (o : Origin) (map : 
       let c : Counts o s m = counts o s m w h inside in
       let t : Top o s m.sp m.lv m.cpp m.tos w y rest = here.top y rest ops in
       let to : ℕ = plus m.lv (byte_in o.words m.pc) in
-      let a : IsWordAccess (length o.words) w to (base s.callers + i) = here.local to i l (plus_is h.holds.lv_is (c.p0.byte ∙ sym index) refl (omega (arith, h.holds.fits, map.high))) in
+      let a : IsWordAccess (length o.words) w to (base s.callers + i) = here.local to i l (law.words.plus_is h.holds.lv_is (c.p0.byte ∙ sym index) refl (omega (arith, h.holds.fits, map.high))) in
       let same : slice_set w.words to m.tos ≡ slice_set w.words (base s.callers + i) y = ap₂ (slice_set w.words) a.is t.tos_is in
       let bottom : 0x8000 ≤ base s.callers = law.above s.callers in
       let high : 0x8000 ≤ to = omega (arith, a.is) in
@@ -112,7 +111,7 @@ module _ (program : List ℕ) (has : HasStatements program) (o : Origin) (map : 
       let op2 : byte_in o.words m.pc + 256 ≡ 0x136 = omega (arith, c.p0.byte ∙ code2) in
       let t : Top o s m.sp m.lv m.cpp m.tos w y rest = here.top y rest ops in
       let to : ℕ = plus m.lv (256 * byte_in o.words (plus m.pc 1) + byte_in o.words (plus m.pc 1 + 1)) in
-      let a : IsWordAccess (length o.words) w to (base s.callers + i) = here.local to i l (plus_is h.holds.lv_is (pair_at o.words (plus m.pc 1) (s.at + 2) (s.at + 3) c.p1 (omega arith) ∙ sym index) refl (omega (arith, h.holds.fits, map.high))) in
+      let a : IsWordAccess (length o.words) w to (base s.callers + i) = here.local to i l (law.words.plus_is h.holds.lv_is (pair_at o.words (plus m.pc 1) (s.at + 2) (s.at + 3) c.p1 (omega arith) ∙ sym index) refl (omega (arith, h.holds.fits, map.high))) in
       let same : slice_set w.words to m.tos ≡ slice_set w.words (base s.callers + i) y = ap₂ (slice_set w.words) a.is t.tos_is in
       let bottom : 0x8000 ≤ base s.callers = law.above s.callers in
       let high : 0x8000 ≤ to = omega (arith, a.is) in
@@ -128,7 +127,7 @@ module _ (program : List ℕ) (has : HasStatements program) (o : Origin) (map : 
       let c : Counts o s m = counts o s m w h inside in
       let l : i < length s.running.locals = slice_get_within s.running.locals i (Some v) local in
       let at : ℕ = plus m.lv (byte_in o.words m.pc) in
-      let a : IsWordAccess (length o.words) w at (base s.callers + i) = here.local at i l (plus_is h.holds.lv_is (c.p0.byte ∙ sym index) refl (omega (arith, h.holds.fits, map.high))) in
+      let a : IsWordAccess (length o.words) w at (base s.callers + i) = here.local at i l (law.words.plus_is h.holds.lv_is (c.p0.byte ∙ sym index) refl (omega (arith, h.holds.fits, map.high))) in
       let y : ℕ = plus v (signed_byte (byte_in o.words (s.at + 2))) in
       let is : plus (read_value (length o.words) w.words w.untaken at) (signed_byte (byte_in o.words (plus m.pc 1))) ≡ y = ap₂ plus (a.value ∙ h.holds.frames.0.locals i v local) (ap signed_byte c.p1.byte) in
       let same : slice_set w.words at (plus (read_value (length o.words) w.words w.untaken at) (signed_byte (byte_in o.words (plus m.pc 1)))) ≡ slice_set w.words (base s.callers + i) y = ap₂ (slice_set w.words) a.is is in
@@ -147,7 +146,7 @@ module _ (program : List ℕ) (has : HasStatements program) (o : Origin) (map : 
       let op2 : byte_in o.words m.pc + 256 ≡ 0x184 = omega (arith, c.p0.byte ∙ code2) in
       let l : i < length s.running.locals = slice_get_within s.running.locals i (Some v) local in
       let at : ℕ = plus m.lv (256 * byte_in o.words (plus m.pc 1) + byte_in o.words (plus m.pc 1 + 1)) in
-      let a : IsWordAccess (length o.words) w at (base s.callers + i) = here.local at i l (plus_is h.holds.lv_is (pair_at o.words (plus m.pc 1) (s.at + 2) (s.at + 3) c.p1 (omega arith) ∙ sym index) refl (omega (arith, h.holds.fits, map.high))) in
+      let a : IsWordAccess (length o.words) w at (base s.callers + i) = here.local at i l (law.words.plus_is h.holds.lv_is (pair_at o.words (plus m.pc 1) (s.at + 2) (s.at + 3) c.p1 (omega arith) ∙ sym index) refl (omega (arith, h.holds.fits, map.high))) in
       let y : ℕ = plus v (signed_pair (byte_in o.words (s.at + 4)) (byte_in o.words (s.at + 5))) in
       let is : plus (read_value (length o.words) w.words w.untaken at) (signed_pair (byte_in o.words (plus (plus m.pc 1) 2)) (byte_in o.words (plus (plus m.pc 1) 2 + 1))) ≡ y = ap₂ plus (a.value ∙ h.holds.frames.0.locals i v local) (signed_pair_at o.words (plus (plus m.pc 1) 2) (s.at + 4) (s.at + 5) c.p12 (omega arith)) in
       let same : slice_set w.words at (plus (read_value (length o.words) w.words w.untaken at) (signed_pair (byte_in o.words (plus (plus m.pc 1) 2)) (byte_in o.words (plus (plus m.pc 1) 2 + 1)))) ≡ slice_set w.words (base s.callers + i) y = ap₂ (slice_set w.words) a.is is in
@@ -159,67 +158,67 @@ module _ (program : List ℕ) (has : HasStatements program) (o : Origin) (map : 
       (omega (arith, c.p1221.is)) (omega arith) refl refl refl refl refl)
       (sym (add-zero k))
 
-module _ (program : List ℕ) (has : HasStatements program) (o : Origin) (v : VerifiedView) (loads : Loads v o) (law : StackLaw) where
+module _ (program : List ℕ) (has : Known program) (o : Origin) (v : VerifiedView) (loads : Loads v o) (law : StackLaw) where
   abbrev map : IsMapEnd (length o.words)
-  map = map_of v o loads
+  map = law.map v o loads
 
   goes : (s to : State) (q : Moment Micro) (i : Instr) → IsOfLocals i → Fine v s → IsNext v o s i → Stands o s q.state q.world → Went v.image v.map.stack_end s to i →
       MovesWithStalls program o q (cost v.image (timing_of Mic2) i s) (stalls_of v.image i) to
   goes s to q (LdcW k) is fine n h went =
       let c : IsConstant o k went.value = law.constant v o loads k went.value went.found in
       moves program o v s to _ q (LdcW k) 2 0 0x13 h n.reads.0 refl refl refl (omega arith) went.leads.goes
-      (ldc_w program has o map law s q.state q.world q.stalls h (next_inside loads n) k went.value n.reads.0 n.reads.1 c.small c.there (omega (arith, went.leads.fits, loads.long)))
+      (ldc_w program has o map law s q.state q.world q.stalls h (law.inside v o s _ loads n) k went.value n.reads.0 n.reads.1 c.small c.there (omega (arith, went.leads.fits, loads.long)))
   goes s to q (Iload k) is fine n h went =
       moves program o v s to _ q (Iload k) 2 0 0x15 h n.reads.0 refl refl refl (omega arith) went.leads.goes
-      (iload program has o map law s q.state q.world q.stalls h (next_inside loads n) k went.value n.reads.0 n.reads.1 went.set (omega (arith, went.leads.fits, loads.long)))
+      (iload program has o map law s q.state q.world q.stalls h (law.inside v o s _ loads n) k went.value n.reads.0 n.reads.1 went.set (omega (arith, went.leads.fits, loads.long)))
   goes s to q (Istore k) is fine n h went =
       moves program o v s to _ q (Istore k) 4 0 0x36 h n.reads.0 refl refl refl (omega arith) went.leads.goes
-      (istore program has o map law s q.state q.world q.stalls h (next_inside loads n) k went.top went.rest n.reads.0 n.reads.1 went.are went.leads.inside went.leads.own)
+      (istore program has o map law s q.state q.world q.stalls h (law.inside v o s _ loads n) k went.top went.rest n.reads.0 n.reads.1 went.are went.leads.inside went.leads.own)
   goes s to q (Iinc k b) is fine n h went =
       moves program o v s to _ q (Iinc k b) 2 0 0x84 h n.reads.0 refl refl refl (omega arith)
       (ap (λ (x : ℕ). with_local s k (plus went.value x) s.running.operands (s.at + 3)) (sym n.reads.2) ∙ went.leads)
-      (iinc program has o map law s q.state q.world q.stalls h (next_inside loads n) k went.value n.reads.0 n.reads.1 went.set (n.finds.named k (inl refl)).1)
+      (iinc program has o map law s q.state q.world q.stalls h (law.inside v o s _ loads n) k went.value n.reads.0 n.reads.1 went.set (n.finds.named k (inl refl)).1)
   goes s to q (WideIload k) is fine n h went =
       moves program o v s to _ q (WideIload k) 3 0 0xC4 h n.reads.0 refl refl refl (omega arith) went.leads.goes
-      (wide_iload program has o map law s q.state q.world q.stalls h (next_inside loads n) k went.value n.reads.0 n.reads.1 n.reads.2 went.set (omega (arith, went.leads.fits, loads.long)))
+      (wide_iload program has o map law s q.state q.world q.stalls h (law.inside v o s _ loads n) k went.value n.reads.0 n.reads.1 n.reads.2 went.set (omega (arith, went.leads.fits, loads.long)))
   goes s to q (WideIstore k) is fine n h went =
       moves program o v s to _ q (WideIstore k) 5 0 0xC4 h n.reads.0 refl refl refl (omega arith) went.leads.goes
-      (wide_istore program has o map law s q.state q.world q.stalls h (next_inside loads n) k went.top went.rest n.reads.0 n.reads.1 n.reads.2 went.are went.leads.inside went.leads.own)
+      (wide_istore program has o map law s q.state q.world q.stalls h (law.inside v o s _ loads n) k went.top went.rest n.reads.0 n.reads.1 n.reads.2 went.are went.leads.inside went.leads.own)
   goes s to q (WideIinc k z) is fine n h went =
       moves program o v s to _ q (WideIinc k z) 4 0 0xC4 h n.reads.0 refl refl refl (omega arith)
       (ap (λ (x : ℕ). with_local s k (plus went.value x) s.running.operands (s.at + 6)) (sym n.reads.3) ∙ went.leads)
-      (wide_iinc program has o map law s q.state q.world q.stalls h (next_inside loads n) k went.value n.reads.0 n.reads.1 n.reads.2 went.set (n.finds.named k (inl refl)).1)
+      (wide_iinc program has o map law s q.state q.world q.stalls h (law.inside v o s _ loads n) k went.value n.reads.0 n.reads.1 n.reads.2 went.set (n.finds.named k (inl refl)).1)
   goes s to q i is fine n h went = absurd is
 
   limits : (s left : State) (q : Moment Micro) (i : Instr) → IsOfLocals i → Fine v s → IsNext v o s i → Stands o s q.state q.world → Overran v.image v.map.stack_end s left i →
       OverrunsWithStalls program o q (stalls_of v.image i) left
   limits s left q (LdcW k) is fine n h over =
-      let c : Counts o s q.state = counts o s q.state q.world h (next_inside loads n) in
+      let c : Counts o s q.state = counts o s q.state q.world h (law.inside v o s _ loads n) in
       let from : ℕ = plus q.state.cpp (256 * byte_in o.words q.state.pc + byte_in o.words (q.state.pc + 1)) in
       let small : k < 0x4000 = (law.constant v o loads k over.value over.found).small in
       let a : IsWordAccess (length o.words) q.world from (0x4000 + k) =
-      law.access (length o.words) q.world from (0x4000 + k) (plus_is h.holds.cpp_is (pair_at o.words q.state.pc (s.at + 1) (s.at + 2) c.p0 (omega arith) ∙ sym n.reads.1) refl (omega (arith, small))) (omega (arith, map.low)) in
+      law.access (length o.words) q.world from (0x4000 + k) (law.words.plus_is h.holds.cpp_is (pair_at o.words q.state.pc (s.at + 1) (s.at + 2) c.p0 (omega arith) ∙ sym n.reads.1) refl (omega (arith, small))) (omega (arith, map.low)) in
       let fault : write_refusal (length o.words) (next q.state.sp) ≡ Some (StackLimit (next q.state.sp)) =
       (law.boundary o s q.state.sp q.state.lv q.state.cpp q.state.tos q.world map h.holds).full (omega (arith, over.leads.over, loads.long)) in
       overruns program has o map s left q Goes (steps 1) [] 0x13 (next q.state.sp) 0 h n.reads.0 refl refl (omega arith) (assumption) refl refl (refl, fault)
       (a.untaken ∙ (h.holds.untaken ∙ ap (λ (t : State). t.untaken) over.leads.leaves)) (h.holds.given ∙ ap (λ (t : State). o.given ++ t.given) over.leads.leaves) (let e : q.stalls ≡ q.stalls + 0 = omega arith in e)
   limits s left q (Iload k) is fine n h over =
-      let c : Counts o s q.state = counts o s q.state q.world h (next_inside loads n) in
+      let c : Counts o s q.state = counts o s q.state q.world h (law.inside v o s _ loads n) in
       let from : ℕ = plus q.state.lv (byte_in o.words q.state.pc) in
       let l : k < length s.running.locals = slice_get_within s.running.locals k (Some over.value) over.set in
       let a : IsWordAccess (length o.words) q.world from (base s.callers + k) =
-      (law.boundary o s q.state.sp q.state.lv q.state.cpp q.state.tos q.world map h.holds).local from k l (plus_is h.holds.lv_is (c.p0.byte ∙ sym n.reads.1) refl (omega (arith, h.holds.fits, map.high))) in
+      (law.boundary o s q.state.sp q.state.lv q.state.cpp q.state.tos q.world map h.holds).local from k l (law.words.plus_is h.holds.lv_is (c.p0.byte ∙ sym n.reads.1) refl (omega (arith, h.holds.fits, map.high))) in
       let fault : write_refusal (length o.words) (next q.state.sp) ≡ Some (StackLimit (next q.state.sp)) =
       (law.boundary o s q.state.sp q.state.lv q.state.cpp q.state.tos q.world map h.holds).full (omega (arith, over.leads.over, loads.long)) in
       overruns program has o map s left q Goes (steps 1) [] 0x15 (next q.state.sp) 0 h n.reads.0 refl refl (omega arith) (assumption) refl refl (refl, fault)
       (a.untaken ∙ (h.holds.untaken ∙ ap (λ (t : State). t.untaken) over.leads.leaves)) (h.holds.given ∙ ap (λ (t : State). o.given ++ t.given) over.leads.leaves) (let e : q.stalls ≡ q.stalls + 0 = omega arith in e)
   limits s left q (WideIload k) is fine n h over =
-      let c : Counts o s q.state = counts o s q.state q.world h (next_inside loads n) in
+      let c : Counts o s q.state = counts o s q.state q.world h (law.inside v o s _ loads n) in
       let op2 : byte_in o.words q.state.pc + 256 ≡ 0x115 = omega (arith, c.p0.byte ∙ n.reads.1) in
       let from : ℕ = plus q.state.lv (256 * byte_in o.words (plus q.state.pc 1) + byte_in o.words (plus q.state.pc 1 + 1)) in
       let l : k < length s.running.locals = slice_get_within s.running.locals k (Some over.value) over.set in
       let a : IsWordAccess (length o.words) q.world from (base s.callers + k) =
-      (law.boundary o s q.state.sp q.state.lv q.state.cpp q.state.tos q.world map h.holds).local from k l (plus_is h.holds.lv_is (pair_at o.words (plus q.state.pc 1) (s.at + 2) (s.at + 3) c.p1 (omega arith) ∙ sym n.reads.2) refl (omega (arith, h.holds.fits, map.high))) in
+      (law.boundary o s q.state.sp q.state.lv q.state.cpp q.state.tos q.world map h.holds).local from k l (law.words.plus_is h.holds.lv_is (pair_at o.words (plus q.state.pc 1) (s.at + 2) (s.at + 3) c.p1 (omega arith) ∙ sym n.reads.2) refl (omega (arith, h.holds.fits, map.high))) in
       let fault : write_refusal (length o.words) (next q.state.sp) ≡ Some (StackLimit (next q.state.sp)) =
       (law.boundary o s q.state.sp q.state.lv q.state.cpp q.state.tos q.world map h.holds).full (omega (arith, over.leads.over, loads.long)) in
       overruns program has o map s left q Goes (steps 2) (0x115 ∷ []) 0xC4 (next q.state.sp) 0 h n.reads.0 refl refl (omega arith) (assumption) refl refl (refl, fault)

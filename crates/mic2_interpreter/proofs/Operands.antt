@@ -21,11 +21,11 @@ use Rattle.ijvm_simulation.specs.Verified.{Loads, Fine, IsNext}
 use Rattle.ijvm_simulation.specs.Groups.{IsOfOperands}
 use Rattle.mic2_interpreter.specs.Stands.{Stands}
 use Rattle.mic2_interpreter.specs.Stalls.{MovesWithStalls, OverrunsWithStalls, TakesWithStalls, stalls_of}
-use Rattle.mic2_interpreter.proofs.Shipped.{HasStatements}
-use Rattle.mic2_interpreter.proofs.Queue.{Goes}
-use Rattle.mic2_interpreter.proofs.Boundaries.{ReachesBoundary, comes, steps, Counts, counts, at_boundary, map_of, next_inside, moves, overruns}
+use Rattle.mic2_interpreter.proofs.Store.{Known}
+use Rattle.mic2_interpreter.proofs.Guided.{Goes}
+use Rattle.mic2_interpreter.proofs.Boundaries.{ReachesBoundary, comes, steps, Counts, counts, at_boundary, moves, overruns}
 
-module _ (program : List ℕ) (has : HasStatements program) (o : Origin) (map : IsMapEnd (length o.words)) (law : StackLaw) (s : State) (m : Micro) (w : World) (k : ℕ) (h : Stands o s m w) (inside : s.at < 0x10000) where
+module _ (program : List ℕ) (has : Known program) (o : Origin) (map : IsMapEnd (length o.words)) (law : StackLaw) (s : State) (m : Micro) (w : World) (k : ℕ) (h : Stands o s m w) (inside : s.at < 0x10000) where
   abbrev here : AtBoundary o s m.sp m.lv m.cpp m.tos w
   here = law.boundary o s m.sp m.lv m.cpp m.tos w map h.holds
 
@@ -175,48 +175,48 @@ module _ (program : List ℕ) (has : HasStatements program) (o : Origin) (map : 
       (omega (arith, c.p1.is)) (omega arith) refl refl refl refl refl)
       (sym (add-zero k))
 
-module _ (program : List ℕ) (has : HasStatements program) (o : Origin) (v : VerifiedView) (loads : Loads v o) (law : StackLaw) where
+module _ (program : List ℕ) (has : Known program) (o : Origin) (v : VerifiedView) (loads : Loads v o) (law : StackLaw) where
   abbrev map : IsMapEnd (length o.words)
-  map = map_of v o loads
+  map = law.map v o loads
 
   goes : (s to : State) (q : Moment Micro) (i : Instr) → IsOfOperands i → Fine v s → IsNext v o s i → Stands o s q.state q.world → Went v.image v.map.stack_end s to i →
       MovesWithStalls program o q (cost v.image (timing_of Mic2) i s) (stalls_of v.image i) to
-  goes s to q Nop is fine n h went = moves program o v s to _ q Nop 0 0 0x00 h n.reads refl refl refl (omega arith) went (nop program has o map law s q.state q.world q.stalls h (next_inside loads n) n.reads)
+  goes s to q Nop is fine n h went = moves program o v s to _ q Nop 0 0 0x00 h n.reads refl refl refl (omega arith) went (nop program has o map law s q.state q.world q.stalls h (law.inside v o s _ loads n) n.reads)
   goes s to q (Bipush b) is fine n h went =
       let word : signed_byte (byte_in o.words (s.at + 1)) ≡ word_of b = sym n.reads.1 in
       moves program o v s to _ q (Bipush b) 1 0 0x10 h n.reads.0 refl refl refl (omega arith) (ap (λ (x : ℕ). push s x (s.at + 2)) word ∙ went.goes)
-      (bipush program has o map law s q.state q.world q.stalls h (next_inside loads n) n.reads.0 (omega (arith, went.fits, loads.long)))
+      (bipush program has o map law s q.state q.world q.stalls h (law.inside v o s _ loads n) n.reads.0 (omega (arith, went.fits, loads.long)))
   goes s to q Pop is fine n h went =
-      moves program o v s to _ q Pop 2 0 0x57 h n.reads refl refl refl (omega arith) went.leads (pop program has o map law s q.state q.world q.stalls h (next_inside loads n) went.top went.rest n.reads went.are)
+      moves program o v s to _ q Pop 2 0 0x57 h n.reads refl refl refl (omega arith) went.leads (pop program has o map law s q.state q.world q.stalls h (law.inside v o s _ loads n) went.top went.rest n.reads went.are)
   goes s to q Dup is fine n h went =
       moves program o v s to _ q Dup 1 0 0x59 h n.reads refl refl refl (omega arith) went.leads.goes
-      (dup program has o map law s q.state q.world q.stalls h (next_inside loads n) went.top went.rest n.reads went.are (omega (arith, went.leads.fits, loads.long)))
+      (dup program has o map law s q.state q.world q.stalls h (law.inside v o s _ loads n) went.top went.rest n.reads went.are (omega (arith, went.leads.fits, loads.long)))
   goes s to q Swap is fine n h went =
-      moves program o v s to _ q Swap 5 0 0x5F h n.reads refl refl refl (omega arith) went.leads (swap program has o map law s q.state q.world q.stalls h (next_inside loads n) went.top went.second went.rest n.reads went.are)
+      moves program o v s to _ q Swap 5 0 0x5F h n.reads refl refl refl (omega arith) went.leads (swap program has o map law s q.state q.world q.stalls h (law.inside v o s _ loads n) went.top went.second went.rest n.reads went.are)
   goes s to q Iadd is fine n h went =
-      moves program o v s to _ q Iadd 2 0 0x60 h n.reads refl refl refl (omega arith) went.leads (iadd program has o map law s q.state q.world q.stalls h (next_inside loads n) went.top went.second went.rest n.reads went.are)
+      moves program o v s to _ q Iadd 2 0 0x60 h n.reads refl refl refl (omega arith) went.leads (iadd program has o map law s q.state q.world q.stalls h (law.inside v o s _ loads n) went.top went.second went.rest n.reads went.are)
   goes s to q Isub is fine n h went =
-      moves program o v s to _ q Isub 2 0 0x64 h n.reads refl refl refl (omega arith) went.leads (isub program has o map law s q.state q.world q.stalls h (next_inside loads n) went.top went.second went.rest n.reads went.are)
+      moves program o v s to _ q Isub 2 0 0x64 h n.reads refl refl refl (omega arith) went.leads (isub program has o map law s q.state q.world q.stalls h (law.inside v o s _ loads n) went.top went.second went.rest n.reads went.are)
   goes s to q Iand is fine n h went =
-      moves program o v s to _ q Iand 2 0 0x7E h n.reads refl refl refl (omega arith) went.leads (iand program has o map law s q.state q.world q.stalls h (next_inside loads n) went.top went.second went.rest n.reads went.are)
+      moves program o v s to _ q Iand 2 0 0x7E h n.reads refl refl refl (omega arith) went.leads (iand program has o map law s q.state q.world q.stalls h (law.inside v o s _ loads n) went.top went.second went.rest n.reads went.are)
   goes s to q Ior is fine n h went = elim n.reads [
     | inl code ↦
-        moves program o v s to _ q Ior 2 0 0xB0 h code refl refl refl (omega arith) went.leads (ior program has o map law s q.state q.world q.stalls h (next_inside loads n) went.top went.second went.rest code went.are)
+        moves program o v s to _ q Ior 2 0 0xB0 h code refl refl refl (omega arith) went.leads (ior program has o map law s q.state q.world q.stalls h (law.inside v o s _ loads n) went.top went.second went.rest code went.are)
     | inr code ↦
-        moves program o v s to _ q Ior 2 0 0x80 h code refl refl refl (omega arith) went.leads (ior80 program has o map law s q.state q.world q.stalls h (next_inside loads n) went.top went.second went.rest code went.are)
+        moves program o v s to _ q Ior 2 0 0x80 h code refl refl refl (omega arith) went.leads (ior80 program has o map law s q.state q.world q.stalls h (law.inside v o s _ loads n) went.top went.second went.rest code went.are)
   ]
   goes s to q i is fine n h went = absurd is
 
   limits : (s left : State) (q : Moment Micro) (i : Instr) → IsOfOperands i → Fine v s → IsNext v o s i → Stands o s q.state q.world → Overran v.image v.map.stack_end s left i →
       OverrunsWithStalls program o q (stalls_of v.image i) left
   limits s left q (Bipush b) is fine n h over =
-      let c : Counts o s q.state = counts o s q.state q.world h (next_inside loads n) in
+      let c : Counts o s q.state = counts o s q.state q.world h (law.inside v o s _ loads n) in
       let fault : write_refusal (length o.words) (next q.state.sp) ≡ Some (StackLimit (next q.state.sp)) =
       (law.boundary o s q.state.sp q.state.lv q.state.cpp q.state.tos q.world map h.holds).full (omega (arith, over.over, loads.long)) in
       overruns program has o map s left q Goes (steps 0) [] 0x10 (next q.state.sp) 0 h n.reads.0 refl refl (omega arith) (assumption) refl refl (refl, fault)
       (h.holds.untaken ∙ ap (λ (t : State). t.untaken) over.leaves) (h.holds.given ∙ ap (λ (t : State). o.given ++ t.given) over.leaves) (let e : q.stalls ≡ q.stalls + 0 = omega arith in e)
   limits s left q Dup is fine n h over =
-      let c : Counts o s q.state = counts o s q.state q.world h (next_inside loads n) in
+      let c : Counts o s q.state = counts o s q.state q.world h (law.inside v o s _ loads n) in
       let fault : write_refusal (length o.words) (next q.state.sp) ≡ Some (StackLimit (next q.state.sp)) =
       (law.boundary o s q.state.sp q.state.lv q.state.cpp q.state.tos q.world map h.holds).full (omega (arith, over.leads.over, loads.long)) in
       overruns program has o map s left q Goes (steps 0) [] 0x59 (next q.state.sp) 0 h n.reads refl refl (omega arith) (assumption) refl refl (refl, fault)

@@ -16,38 +16,32 @@ use Rattle.mic2_datapath.specs.Micro.{Micro}
 use Rattle.mic2_datapath.specs.Microstep.{settled, clock, world_after, refusal, stalled, is_stalled, step_if}
 use Rattle.mic2_datapath.specs.Mic2.{step_of_word}
 use Rattle.ijvm_simulation.specs.Law.{Grows, OnDone}
+use Rattle.ijvm_simulation.specs.Words.{WordLaw}
 
 stays : (xs : List ℕ) → Grows xs xs
 stays xs = record { more = []; are = sym (append-nil xs) }
 
-given_grows : (top : ℕ) (given : List ℕ) (at value : ℕ) → Grows given (given_after top given at value)
-unfolding given_after
-given_grows top given at value = by_test (nat_lt at top)
-  where
-    by_test : (t : Bool) → Grows given (if t then given else given ++ (value % 256) ∷ [])
-    by_test true = stays given
-    by_test false = record { more = (value % 256) ∷ []; are = refl }
+module _ (words : WordLaw) where
+  access_grows : (top : ℕ) (mem : Mem) (p : Ports) (w : World) → Grows w.given (sampled top mem p (written top mem p w)).given
+  access_grows top Write p w = words.given_grows top w.given p.mar p.mdr
+  access_grows top Read p w = stays w.given
+  access_grows top Idle p w = stays w.given
 
-access_grows : (top : ℕ) (mem : Mem) (p : Ports) (w : World) → Grows w.given (sampled top mem p (written top mem p w)).given
-access_grows top Write p w = given_grows top w.given p.mar p.mdr
-access_grows top Read p w = stays w.given
-access_grows top Idle p w = stays w.given
+  pub step_grows : (word : ℕ) (m : Micro) (w : World) → OnDone (λ (v : World). Grows w.given v.given) (step_of_word word m w)
+  unfolding step_of_word
+  step_grows word m w = by_stall (is_stalled s m)
+    where
+      s : Placed
+      s = statement_of machines.Mic2 word
 
-pub step_grows : (word : ℕ) (m : Micro) (w : World) → OnDone (λ (v : World). Grows w.given v.given) (step_of_word word m w)
-unfolding step_of_word
-step_grows word m w = by_stall (is_stalled s m)
-  where
-    s : Placed
-    s = statement_of machines.Mic2 word
+      stall_grows : (r : Option Refusal) → OnDone (λ (v : World). Grows w.given v.given) (outcome r (stalled w.words m) w)
+      stall_grows (Some why) = tt
+      stall_grows None = stays w.given
 
-    stall_grows : (r : Option Refusal) → OnDone (λ (v : World). Grows w.given v.given) (outcome r (stalled w.words m) w)
-    stall_grows (Some why) = tt
-    stall_grows None = stays w.given
+      clock_grows : (r : Option Refusal) → OnDone (λ (v : World). Grows w.given v.given) (outcome r (clock (length w.words) (statement_of machines.Mic2 word) m w) (world_after (length w.words) (statement_of machines.Mic2 word) m w))
+      clock_grows (Some why) = tt
+      clock_grows None = access_grows (length w.words) (statement_of machines.Mic2 word).part.mem (ports_given (settled (statement_of machines.Mic2 word) m)) w
 
-    clock_grows : (r : Option Refusal) → OnDone (λ (v : World). Grows w.given v.given) (outcome r (clock (length w.words) (statement_of machines.Mic2 word) m w) (world_after (length w.words) (statement_of machines.Mic2 word) m w))
-    clock_grows (Some why) = tt
-    clock_grows None = access_grows (length w.words) (statement_of machines.Mic2 word).part.mem (ports_given (settled (statement_of machines.Mic2 word) m)) w
-
-    by_stall : (b : Bool) → OnDone (λ (v : World). Grows w.given v.given) (step_if b (length w.words) (statement_of machines.Mic2 word) m w)
-    by_stall true = stall_grows (edge_refusal (length w.words) 0 m.unit)
-    by_stall false = clock_grows (refusal (length w.words) (statement_of machines.Mic2 word) m)
+      by_stall : (b : Bool) → OnDone (λ (v : World). Grows w.given v.given) (step_if b (length w.words) (statement_of machines.Mic2 word) m w)
+      by_stall true = stall_grows (edge_refusal (length w.words) 0 m.unit)
+      by_stall false = clock_grows (refusal (length w.words) (statement_of machines.Mic2 word) m)

@@ -11,7 +11,7 @@ ghost use Rattle.mal_shipped.specs.Shipped.{HasShipped};
 ghost use Rattle.ijvm_simulation.specs.Headline.{HasRun, IsCutByRead, IsCutByWrite};
 
 use crate::laws::{ends_law, stalls_law};
-use ijvm_simulation::{Interpreter, run_image};
+use ijvm_simulation::{Interpreter, run_image, stack_law};
 use ijvm_verifier::VerifiedImage;
 use mal_shipped::{
     load_micro, loaded_programs_are_shipped, shipped_program, shipped_programs_are_listed,
@@ -19,6 +19,7 @@ use mal_shipped::{
 use mic_base::{Sink, Source};
 use mic_clock::{Board, End};
 use mic2_datapath::Mic2;
+use mic2_queue::queue_law;
 use micro_word::{Machine, Store};
 use std::alloc::{AllocError, Global};
 
@@ -60,6 +61,8 @@ impl Interpreter for Mic2Interpreter {
     }
 
     fn law() {
+        stack_law();
+        queue_law();
         stalls_law();
         ends_law();
     }

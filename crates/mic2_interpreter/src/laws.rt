@@ -23,12 +23,14 @@ ghost use Rattle.ijvm_simulation.specs.Groups.{IsOfOperands, IsOfLocals, IsOfCon
 
 use crate::interpreter::Mic2Interpreter;
 use ijvm_simulation::{groups_are_all, stack_law, stalls_add_up};
+use mic2_queue::queue_law;
 
 /// The instructions on the operands alone.
 pub(crate) fn operands_law()
     ensures { (store : List ℕ) (o : Origin) (v : VerifiedView) → HasShipped Mic2 store → Loads v o →
         TakesWithStalls store o v IsOfOperands }
 {
+    queue_law();
     stack_law();
 }
 
@@ -37,6 +39,7 @@ pub(crate) fn consoles_law()
     ensures { (store : List ℕ) (o : Origin) (v : VerifiedView) → HasShipped Mic2 store → Loads v o →
         TakesWithStalls store o v IsOfConsole }
 {
+    queue_law();
     stack_law();
 }
 
@@ -45,6 +48,7 @@ pub(crate) fn jumps_law()
     ensures { (store : List ℕ) (o : Origin) (v : VerifiedView) → HasShipped Mic2 store → Loads v o →
         TakesWithStalls store o v IsJump }
 {
+    queue_law();
     stack_law();
 }
 
@@ -53,6 +57,7 @@ pub(crate) fn locals_law()
     ensures { (store : List ℕ) (o : Origin) (v : VerifiedView) → HasShipped Mic2 store → Loads v o →
         TakesWithStalls store o v IsOfLocals }
 {
+    queue_law();
     stack_law();
 }
 
@@ -61,6 +66,7 @@ pub(crate) fn calls_law()
     ensures { (store : List ℕ) (o : Origin) (v : VerifiedView) → HasShipped Mic2 store → Loads v o →
         TakesWithStalls store o v IsCall }
 {
+    queue_law();
     stack_law();
 }
 
@@ -75,6 +81,8 @@ pub fn stalls_law()
     ensures boots { (store : List ℕ) (o : Origin) (v : VerifiedView) (input : List ℕ) → HasShipped Mic2 store → Loads v o → BootsWithStall store o v input }
     ensures takes { (store : List ℕ) (o : Origin) (v : VerifiedView) → HasShipped Mic2 store → Loads v o → TakesWithStalls store o v (λ i. Unit {0}) }
 {
+    stack_law();
+    queue_law();
     operands_law();
     locals_law();
     jumps_law();

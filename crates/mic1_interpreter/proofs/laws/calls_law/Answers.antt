@@ -1,4 +1,4 @@
-use Rattle.mic1_interpreter.proofs.Shipped.{has_statements}
+use Rattle.mic1_interpreter.proofs.Store.{has_statements}
 use Rattle.mic1_interpreter.proofs.Calls.{calls}
 use Rattle.mic1_interpreter.proofs.laws.calls_law.Goals as goal
 

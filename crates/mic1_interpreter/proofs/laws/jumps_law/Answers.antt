@@ -1,4 +1,4 @@
-use Rattle.mic1_interpreter.proofs.Shipped.{has_statements}
+use Rattle.mic1_interpreter.proofs.Store.{has_statements}
 use Rattle.mic1_interpreter.proofs.Jumps.{jumping}
 use Rattle.mic1_interpreter.proofs.laws.jumps_law.Goals as goal
 

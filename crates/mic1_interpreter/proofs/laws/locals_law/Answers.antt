@@ -1,4 +1,4 @@
-use Rattle.mic1_interpreter.proofs.Shipped.{has_statements}
+use Rattle.mic1_interpreter.proofs.Store.{has_statements}
 use Rattle.mic1_interpreter.proofs.Locals.{locals}
 use Rattle.mic1_interpreter.proofs.laws.locals_law.Goals as goal
 

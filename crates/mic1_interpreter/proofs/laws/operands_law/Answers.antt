@@ -1,4 +1,4 @@
-use Rattle.mic1_interpreter.proofs.Shipped.{has_statements}
+use Rattle.mic1_interpreter.proofs.Store.{has_statements}
 use Rattle.mic1_interpreter.proofs.Operands.{operands}
 use Rattle.mic1_interpreter.proofs.laws.operands_law.Goals as goal
 

@@ -1,12 +1,12 @@
 use Rattle.mic_words.specs.declared.machine.Machine.TheVariants.{Mic2}
 use Rattle.ijvm_meaning.specs.Cost.{timing_of}
-use Rattle.mic2_interpreter.proofs.Shipped.{has_statements}
+use Rattle.mic2_interpreter.proofs.Store.{known}
 use Rattle.mic2_interpreter.proofs.Boot.{boots}
 use Rattle.mic2_interpreter.specs.Stalls.{stalls_of}
 use Rattle.mic2_interpreter.proofs.laws.stalls_law.Goals as goal
 
 pub returns-clause-boots : goal.returns-clause-boots
-returns-clause-boots c = λ store o v input has loads. boots store (has_statements store has) o v loads input
+returns-clause-boots c = λ store o v input has loads. boots store (known store has c.queue_law.ensures) o v loads c.stack_law.ensures input
 
 pub returns-clause-takes : goal.returns-clause-takes
 returns-clause-takes c = λ store o v has loads.

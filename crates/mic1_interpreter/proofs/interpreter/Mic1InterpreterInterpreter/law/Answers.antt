@@ -1,6 +1,6 @@
 use Rattle.mic_words.specs.declared.machine.Machine.TheVariants.{Mic1}
 use Rattle.ijvm_meaning.specs.Cost.{timing_of}
-use Rattle.mic1_interpreter.proofs.Shipped.{has_statements}
+use Rattle.mic1_interpreter.proofs.Store.{has_statements}
 use Rattle.mic1_interpreter.proofs.Boundaries.{shows}
 use Rattle.mic1_interpreter.proofs.Boot.{boots}
 use Rattle.mic1_interpreter.proofs.Output.{step_grows}
@@ -15,7 +15,7 @@ returns-clause-law c = λ store o v has loads. record {
 }
 
 pub returns-clause-boots : goal.returns-clause-boots
-returns-clause-boots c = λ store o v input has loads. boots store (has_statements store has) o v loads input
+returns-clause-boots c = λ store o v input has loads. boots store (has_statements store has) o v loads c.stack_law.ensures input
 
 pub returns-clause-grows : goal.returns-clause-grows
-returns-clause-grows c = λ word s w. step_grows word s w
+returns-clause-grows c = λ word s w. step_grows c.stack_law.ensures.words word s w

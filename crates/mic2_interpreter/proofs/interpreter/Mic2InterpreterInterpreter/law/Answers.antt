@@ -1,4 +1,4 @@
-use Rattle.mic2_interpreter.proofs.Shipped.{has_statements}
+use Rattle.mic2_interpreter.proofs.Store.{known}
 use Rattle.mic2_interpreter.proofs.Boundaries.{shows}
 use Rattle.mic2_interpreter.proofs.Boot.{boots_off}
 use Rattle.mic2_interpreter.proofs.Output.{step_grows}
@@ -15,7 +15,7 @@ returns-clause-law c = λ store o v has loads. record {
 }
 
 pub returns-clause-boots : goal.returns-clause-boots
-returns-clause-boots c = λ store o v input has loads. boots_off store (has_statements store has) o v loads input
+returns-clause-boots c = λ store o v input has loads. boots_off store (known store has c.queue_law.ensures) o v loads c.stack_law.ensures input
 
 pub returns-clause-grows : goal.returns-clause-grows
-returns-clause-grows c = λ word s w. step_grows word s w
+returns-clause-grows c = λ word s w. step_grows c.stack_law.ensures.words word s w

@@ -1,29 +1,18 @@
--- The fetch unit that stands at a place of memory is one folded value, which two equations move: its edge and its jump.
-use Rattle.std.proofs.Common.{◌≡◌, ℕ, zero, suc, ◌+◌, ◌-◌, ◌*◌, ◌/◌, ◌%◌, ◌<◌, ◌≤◌, inl, inr, Some, None, List, [], ◌∷◌, ◌++◌, length, drop, Bool, true, false, refl, arith, ◌∙◌, ap, ap₂, sym, add-zero}
+-- The folded unit: two equations move it, its edge and its jump.
+use Rattle.std.proofs.Common.{◌≡◌, ℕ, zero, suc, ◌+◌, ◌-◌, ◌*◌, ◌/◌, ◌%◌, ◌^◌, ◌<◌, ◌≤◌, inl, inr, Some, None, List, [], ◌∷◌, ◌++◌, length, drop, Bool, true, false, refl, arith, ◌∙◌, ap, ap₂, sym, add-zero}
 use Rattle.std.specs.Prelude.{slice_index, nat_lt, nat_le, if◌then◌else◌}
 use Rattle.std.specs.Option.{option_map}
 use Rattle.std.proofs.lemmas.Bool.{cases_Bool}
 use Rattle.std.proofs.lemmas.Bool.Decides.{nat_tests}
-use Rattle.mic_words.specs.Arithmetic.{next}
+use Rattle.mic_words.specs.Arithmetic.{wrap, next}
 use Rattle.console_port.specs.World.{byte_in, byte_of, word_refusal}
 use Rattle.mic2_fetch_unit.specs.FetchUnit.{Prefetch, bytes_of_word, without, appended, with_pending, sampled_by, sample_refusal, edge, jump, edge_refusal, jump_refusal}
-use Rattle.ijvm_simulation.specs.Stands.{IsMemory}
-use Rattle.mic2_interpreter.proofs.Words.{next_is}
+use Rattle.mic2_queue.specs.Units.{bytes_from, unit_at, have_after}
+use Rattle.mic2_queue.specs.Law.{IsKept}
 
--- so many bytes from a byte address on
-abbrev pub bytes_from : List ℕ → ℕ → ℕ → List ℕ
-bytes_from words p zero = []
-bytes_from words p (suc n) = byte_in words p ∷ bytes_from words (p + 1) n
-
--- the unit that has so many of the bytes from p on
-unfoldable pub unit_at : List ℕ → ℕ → ℕ → Prefetch
-unit_at words p have =
-    record {
-      bytes = bytes_from words p have;
-      imar = (p + have) / 4;
-      skip = (p + have) % 4;
-      pending = if nat_le have 2 then Some (slice_index words ((p + have) / 4)) else None;
-    }
+next_is : (x y : ℕ) → x + 1 ≡ y → y < 2 ^ 32 → next x ≡ y
+unfolding wrap
+next_is x y e h = omega arith
 
 from_same : (words : List ℕ) {p q a b : ℕ} → p ≡ q → a ≡ b → bytes_from words p a ≡ bytes_from words q b
 from_same words e f = ap₂ (bytes_from words) e f
@@ -66,20 +55,11 @@ word_part words q (suc (suc zero)) r h e = λ i.
 word_part words q (suc (suc (suc zero))) r h e = λ i. sym (byte_of_word words q 3 r (omega arith) (omega arith)) i ∷ []
 word_part words q (suc (suc (suc (suc k)))) r h e = absurd (omega arith)
 
--- how many bytes are there behind an edge that takes t
-unfoldable pub have_after : ℕ → ℕ → ℕ → ℕ
-have_after p have t = if nat_le have 2 then have - t + (4 - (p + have) % 4) else have - t
-
 -- the bytes of a unit that stands at p
 pub byte_there : (words : List ℕ) (p have k : ℕ) → k < have → slice_index (bytes_from words p have) k ≡ byte_in words (p + k)
 byte_there words p zero k h = absurd (omega arith)
 byte_there words p (suc have) zero h = let e : p ≡ p + 0 = omega arith in ap (byte_in words) e
 byte_there words p (suc have) (suc k) h = let e : p + 1 + k ≡ p + suc k = omega arith in byte_there words (p + 1) have k (omega arith) ∙ ap (byte_in words) e
-
--- what holds of every unit that stands at a place
-pub record Fits (p have : ℕ) : Type 0 where
-  pub few : have ≤ 6
-  pub aligned : 0 < have → (p + have) % 4 ≡ 0
 
 -- the unit before it samples
 abbrev bare : List ℕ → ℕ → ℕ → Prefetch
@@ -119,11 +99,11 @@ filled_is words p have t h near = elim (cases_Bool (nat_le have 2)) [
 abbrev resampled : List ℕ → Prefetch → Prefetch
 resampled words u = record u { pending = option_map (λ (at : ℕ). slice_index words at) (sampled_by u) }
 
-resampled_bare : (origin words : List ℕ) (p have : ℕ) → IsMemory origin words → p + have < 0x20000 → resampled words (bare origin p have) ≡ unit_at origin p have
+resampled_bare : (origin words : List ℕ) (p have : ℕ) → IsKept origin words → p + have < 0x20000 → resampled words (bare origin p have) ≡ unit_at origin p have
 unfolding unit_at
 resampled_bare origin words p have h l =
     let len : length (bytes_from origin p have) ≡ have = length-bytes origin p have in
-    let same : slice_index words ((p + have) / 4) ≡ slice_index origin ((p + have) / 4) = h.kept ((p + have) / 4) (omega arith) in
+    let same : slice_index words ((p + have) / 4) ≡ slice_index origin ((p + have) / 4) = h ((p + have) / 4) (omega arith) in
     rw len (by_test (nat_le have 2) same)
   where
     by_test : (b : Bool) → slice_index words ((p + have) / 4) ≡ slice_index origin ((p + have) / 4) →
@@ -148,7 +128,7 @@ unfolding have_after
 after_bound p have t h = elim (cases_Bool (nat_le have 2)) [ inl b ↦ rw b (omega arith) | inr b ↦ rw b (omega arith) ]
 
 -- an edge that takes t bytes
-pub edge_stands : (origin words : List ℕ) (p have t : ℕ) → t ≤ have → have ≤ 6 → IsMemory origin words → p < 0x1FF00 →
+pub edge_stands : (origin words : List ℕ) (p have t : ℕ) → t ≤ have → have ≤ 6 → IsKept origin words → p < 0x1FF00 →
     edge words t (unit_at origin p have) ≡ unit_at origin (p + t) (have_after p have t)
 unfolding edge
 edge_stands origin words p have t h few ms l =
@@ -168,20 +148,10 @@ edge_allowed stack_end origin p have t map h few l =
     by_test true small = rw small
     by_test false small = refl
 
-pub after_fits : (p have t : ℕ) → t ≤ have → Fits p have → Fits (p + t) (have_after p have t)
-unfolding have_after
-after_fits p have t h f = elim (cases_Bool (nat_le have 2)) [
-  | inl b ↦ record { few = rw b (grind (arith, nat_tests)); aligned = rw b (λ pos. omega arith) }
-  | inr b ↦
-      let l : 2 < have = grind (arith, nat_tests) in
-      let e : p + t + (have - t) ≡ p + have = omega arith in
-      record { few = rw b (omega (arith, f.few)); aligned = rw b (λ pos. ap (λ (k : ℕ). k % 4) e ∙ f.aligned (omega arith)) }
-]
-
-pub jump_stands : (origin words : List ℕ) (p : ℕ) → IsMemory origin words → p < 0x1FF00 → jump words p ≡ unit_at origin p 0
+pub jump_stands : (origin words : List ℕ) (p : ℕ) → IsKept origin words → p < 0x1FF00 → jump words p ≡ unit_at origin p 0
 unfolding unit_at jump
 jump_stands origin words p h l =
-    let same : slice_index words (p / 4) ≡ slice_index origin (p / 4) = h.kept (p / 4) (omega arith) in
+    let same : slice_index words (p / 4) ≡ slice_index origin (p / 4) = h (p / 4) (omega arith) in
     rw (add-zero, same)
 
 pub jump_allowed : (stack_end p : ℕ) → 0x8000 ≤ stack_end → p < 0x1FF00 → jump_refusal stack_end p ≡ None

@@ -2,10 +2,11 @@
 use Rattle.std.proofs.Common.{◌≡◌, ℕ, zero, suc, ◌+◌, ◌*◌, ◌/◌, ◌%◌, ◌<◌, ◌≤◌, Option, Some, None, List, [], ◌∷◌, length, Bool, true, false, refl, arith, ◌∙◌, ap, ap₂, sym}
 use Rattle.std.specs.Prelude.{slice_index, nat_le, if◌then◌else◌, is_some, IfSome}
 use Rattle.console_port.specs.World.{byte_in}
-use Rattle.mic2_fetch_unit.specs.FetchUnit.{Prefetch}
+use Rattle.mic2_fetch_unit.specs.FetchUnit.{Prefetch, at_start}
 use Rattle.mic2_fetch_unit.specs.Place.{StandsAt}
-use Rattle.mic2_interpreter.proofs.Units.{unit_at, bytes_from, length-bytes, byte_there}
-use Rattle.mic2_interpreter.proofs.Queue.{Bounds}
+use Rattle.mic2_queue.specs.Units.{unit_at, bytes_from, text_from}
+use Rattle.mic2_queue.specs.Held.{Bounds}
+use Rattle.mic2_queue.proofs.Units.{length-bytes, byte_there}
 
 bytes_are : (words : List ℕ) (xs : List ℕ) (p : ℕ) → ((k : ℕ) → k < length xs → slice_index xs k ≡ byte_in words (p + k)) → xs ≡ bytes_from words p (length xs)
 bytes_are words [] p h = refl
@@ -70,3 +71,12 @@ stands_there words p have h =
 pub many_there : (words : List ℕ) (p have : ℕ) → length (unit_at words p have).bytes ≡ have
 unfolding unit_at
 many_there words p have = length-bytes words p have
+
+pub front_is : (words : List ℕ) (p have k : ℕ) → k < have → slice_index (unit_at words p have).bytes k ≡ text_from words p k
+unfolding unit_at
+front_is words p have zero h = let e : p + 0 ≡ p = omega arith in byte_there words p have 0 h ∙ ap (byte_in words) e
+front_is words p have (suc k) h = byte_there words p have (suc k) h
+
+pub starts : (words : List ℕ) → at_start (slice_index words 0) ≡ unit_at words 0 0
+unfolding unit_at
+starts words = refl

@@ -1,0 +1,3 @@
+mod Units
+mod Held
+mod Places
