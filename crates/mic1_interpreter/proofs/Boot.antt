@@ -1,7 +1,5 @@
 -- From the reset of a Mic-1 to its first boundary.
-use Rattle.std.proofs.Common.{◌≡◌, ℕ, zero, suc, ◌+◌, ◌-◌, ◌<◌, Option, Some, None, List, [], ◌∷◌, length, replicate, refl, arith, sym, ◌∙◌, ap}
-use Rattle.std.specs.Prelude.{slice_get}
-use Rattle.std.proofs.lemmas.List.{length-replicate, append-nil}
+use Rattle.std.proofs.Common.{◌≡◌, ℕ, ◌+◌, ◌-◌, None, List, [], ◌∷◌, length, refl, arith, ap}
 use Rattle.mic_words.specs.declared.machine.Machine.TheVariants.{Mic1}
 use Rattle.mic_words.specs.Arithmetic.{next, wrap}
 use Rattle.console_port.specs.World.{World, fetch_refusal, byte_in}

@@ -1,15 +1,14 @@
 -- Jumps and branches.
 use Rattle.std.proofs.Common.{◌≡◌, ℕ, ◌+◌, ◌*◌, ◌<◌, ◌≤◌, Bool, true, false, ◌==◌, None, List, [], ◌∷◌, length, refl, arith, sym, ◌∙◌, ap, ap₂, subst, All, inr}
 use Rattle.std.specs.Prelude.{bit_or, if◌then◌else◌, ℤ}
-use Rattle.std.proofs.lemmas.Bool.Decides.{nat_tests}
 use Rattle.std.proofs.lemmas.List.Elements.{All-get_or}
 use Rattle.mic_words.specs.declared.machine.Machine.TheVariants.{Mic1}
-use Rattle.mic_words.specs.Arithmetic.{wrap, plus, minus, next, before, signed_byte, signed_pair, is_negative}
+use Rattle.mic_words.specs.Arithmetic.{wrap, plus, minus, next, before, signed_byte, is_negative}
 use Rattle.console_port.specs.World.{World, read_value, untaken_after, byte_in, fetch_refusal}
 use Rattle.ijvm_instr.specs.declared.instr.Instr.{Instr}
 use Rattle.ijvm_instr.specs.declared.instr.Instr.TheVariants.{Ifeq, Iflt, IfIcmpeq, Goto}
-use Rattle.ijvm_instr.specs.Instructions.{word_of, target}
-use Rattle.ijvm_meaning.specs.Frames.{State, IsWord, HasWords, frames_of, base}
+use Rattle.ijvm_instr.specs.Instructions.{target}
+use Rattle.ijvm_meaning.specs.Frames.{State, IsWord, base}
 use Rattle.ijvm_meaning.specs.Cost.{timing_of, cost, tests, are_equal}
 use Rattle.ijvm_meaning.specs.Step.{moved, way}
 use Rattle.verifier_facts.specs.Accepted.{VerifiedView}

@@ -1,8 +1,6 @@
 -- The bytes that a microstep of Mic-1 gives come behind what had been given.
-use Rattle.std.proofs.Common.{ℕ, Bool, true, false, Some, List, [], ◌∷◌, ◌++◌, refl, sym}
-use Rattle.std.specs.Prelude.{nat_lt, ◌%◌, if◌then◌else◌}
+use Rattle.std.proofs.Common.{ℕ, Some, List, [], sym}
 use Rattle.std.proofs.lemmas.List.{append-nil}
-use Rattle.console_port.specs.World.{given_after}
 use Rattle.micro_word.specs.declared.statement.Mem.{Mem}
 use Rattle.micro_word.specs.declared.statement.Mem.TheVariants.{None as Idle, Read, Write}
 use Rattle.mic1_datapath.specs.Micro.{Micro}

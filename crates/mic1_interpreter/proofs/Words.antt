@@ -1,10 +1,10 @@
 -- The bytes of a memory, and the numbers that two of them make.
-use Rattle.std.proofs.Common.{◌≡◌, ℕ, ◌+◌, ◌-◌, ◌/◌, ◌%◌, ◌^◌, ◌<◌, ◌≤◌, ◌*◌, None, true, false, List, arith, ◌∙◌, ap, ap₂, add_comm, inl, inr}
+use Rattle.std.proofs.Common.{◌≡◌, ℕ, ◌+◌, ◌-◌, ◌/◌, ◌%◌, ◌^◌, ◌<◌, ◌≤◌, ◌*◌, None, true, false, List, arith, ◌∙◌, ap, ap₂, inl, inr}
 use Rattle.std.specs.Prelude.{slice_index, nat_lt, bit_or}
 use Rattle.std.proofs.lemmas.Bool.Decides.{nat_tests}
 use Rattle.std.proofs.lemmas.Bool.{cases_lt}
 use Rattle.std.proofs.lemmas.Nat.{or_shifted}
-use Rattle.mic_words.specs.Arithmetic.{wrap, plus, minus, next, before, signed_byte, signed_pair}
+use Rattle.mic_words.specs.Arithmetic.{wrap, next, signed_byte, signed_pair}
 use Rattle.console_port.specs.World.{fetch_refusal, byte_in}
 use Rattle.ijvm_simulation.specs.Stack.{IsMapEnd}
 

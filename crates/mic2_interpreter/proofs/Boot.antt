@@ -1,7 +1,5 @@
 -- From the reset of a Mic-2 to its first boundary.
-use Rattle.std.proofs.Common.{◌≡◌, ℕ, zero, suc, ◌<◌, Option, Some, List, [], ◌∷◌, length, replicate, refl, arith, sym, ◌∙◌, ap}
-use Rattle.std.specs.Prelude.{slice_get, slice_index}
-use Rattle.std.proofs.lemmas.List.{length-replicate, append-nil}
+use Rattle.std.proofs.Common.{◌≡◌, ℕ, List, [], ◌∷◌, length, refl, arith, ◌∙◌, ap}
 use Rattle.mic_words.specs.declared.machine.Machine.TheVariants.{Mic2}
 use Rattle.mic_words.specs.Arithmetic.{plus}
 use Rattle.console_port.specs.World.{byte_in}

@@ -1,9 +1,9 @@
 -- Symbolic runs of Mic-2 over the shipped microprogram: a run along a plan of stalls and guessed next addresses, and what makes it the machine's.
 use Rattle.std.proofs.Common.{◌≢◌, get_or-set_other, length-set, ap, ap₂, ◌∙◌, ◌≡◌, ℕ, zero, suc, ◌+◌, ◌*◌, ◌<◌, ◌≤◌, Option, Some, None, Bool, true, false, List, [], ◌∷◌, length, arith, refl, sym, subst, add-zero}
-use Rattle.std.specs.Prelude.{slice_set, nat_lt, slice_index, if◌then◌else◌, ◌||◌}
+use Rattle.std.specs.Prelude.{slice_set, nat_lt, if◌then◌else◌, ◌||◌}
 use Rattle.std.proofs.lemmas.Bool.Decides.{nat_tests}
 use Rattle.mic_words.specs.Arithmetic.{wrap, signed_byte, signed_pair}
-use Rattle.console_port.specs.World.{World, Refusal, byte_in}
+use Rattle.console_port.specs.World.{World, Refusal}
 use Rattle.micro_word.specs.Words.{is_byte, is_pair}
 use Rattle.micro_word.specs.Operation.{alu, shifted}
 use Rattle.micro_word.specs.declared.statement.BusSource.{BusSource}

@@ -1,15 +1,14 @@
 -- Jumps and branches.
 use Rattle.std.proofs.Common.{◌≡◌, ℕ, ◌+◌, ◌<◌, ◌≤◌, Bool, true, false, ◌==◌, List, [], ◌∷◌, length, refl, arith, sym, ◌∙◌, ap, ap₂, subst, All, inr, add-zero}
 use Rattle.std.specs.Prelude.{if◌then◌else◌, ℤ}
-use Rattle.std.proofs.lemmas.Bool.Decides.{nat_tests}
 use Rattle.std.proofs.lemmas.List.Elements.{All-get_or}
 use Rattle.mic_words.specs.declared.machine.Machine.TheVariants.{Mic2}
-use Rattle.mic_words.specs.Arithmetic.{wrap, plus, minus, before, signed_pair, is_negative}
+use Rattle.mic_words.specs.Arithmetic.{plus, minus, before, signed_pair, is_negative}
 use Rattle.console_port.specs.World.{World, read_value, untaken_after, byte_in}
 use Rattle.ijvm_instr.specs.declared.instr.Instr.{Instr}
 use Rattle.ijvm_instr.specs.declared.instr.Instr.TheVariants.{Ifeq, Iflt, IfIcmpeq, Goto}
-use Rattle.ijvm_instr.specs.Instructions.{word_of, target}
-use Rattle.ijvm_meaning.specs.Frames.{State, IsWord, HasWords, frames_of, base}
+use Rattle.ijvm_instr.specs.Instructions.{target}
+use Rattle.ijvm_meaning.specs.Frames.{State, IsWord, base}
 use Rattle.ijvm_meaning.specs.Cost.{timing_of, cost, tests, are_equal}
 use Rattle.ijvm_meaning.specs.Step.{moved, way}
 use Rattle.verifier_facts.specs.Accepted.{VerifiedView}

@@ -1,8 +1,7 @@
 -- The bytes that a microstep of Mic-2 gives come behind what had been given.
-use Rattle.std.proofs.Common.{ℕ, Bool, true, false, Some, None, Option, List, [], ◌∷◌, ◌++◌, length, refl, sym}
-use Rattle.std.specs.Prelude.{nat_lt, ◌%◌, if◌then◌else◌}
+use Rattle.std.proofs.Common.{ℕ, Bool, true, false, Some, None, Option, List, [], length, sym}
 use Rattle.std.proofs.lemmas.List.{append-nil}
-use Rattle.console_port.specs.World.{World, Refusal, given_after}
+use Rattle.console_port.specs.World.{World, Refusal}
 use Rattle.mic_words.specs.declared.machine.Machine.TheVariants as machines
 use Rattle.micro_word.specs.Coding.{statement_of}
 use Rattle.micro_word.specs.declared.statement.Mem.{Mem}
