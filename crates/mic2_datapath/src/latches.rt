@@ -389,7 +389,14 @@ impl Latches {
         let next = self.goes_on(jam, control.lines.addr, control.lines.takes, value);
         let jumps = is_named(destinations, PC);
         go(jumps, c, control.lines.takes, bus, &mut self.unit)?;
-        load(destinations, &control.lines, c, control.lines.takes, self.word, &mut self.places);
+        load(
+            destinations,
+            &control.lines,
+            c,
+            control.lines.takes,
+            self.word,
+            &mut self.places,
+        );
         self.mpc = next.mpc;
         self.word = word;
         self.begins = next.begins;

@@ -1,3 +1,5 @@
 pub mod Pipeline
 pub mod Cycle
 pub mod Mic3
+pub mod Slots
+pub mod View

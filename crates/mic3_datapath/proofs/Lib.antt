@@ -1,0 +1,3 @@
+pub mod Examples
+pub mod Bits
+pub mod Steps

@@ -1,0 +1,202 @@
+-- What is asked of the bus for the statement that retires, with its access, is the cycle or its refusal.
+use Rattle.std.proofs.Common.{arith, ◌≡◌, ℕ, ◌%◌, ◌≤◌, ◌==◌, ◌&&◌, Bool, true, false, if◌then◌else◌, IsTrue, List, [], ◌∷◌, ◌++◌, drop, Option, Some, None, Result, Ok, Err, length, inl, inr, refl, sym, ap, ap₂, subst, ◌∙◌}
+use Rattle.std.specs.Prelude.{⊤, IfErr, IfSome, OnOk, nat_lt, ◌||◌}
+use Rattle.std.proofs.lemmas.Bool.Decides.{nat_tests}
+use Rattle.console_port.specs.World.{World, Refusal, StackLimit, OutOfMap, fault_of, console_at}
+use Rattle.console_port.specs.Bus.{refused_by}
+use Rattle.console_port.specs.Console.{IsFault}
+use Rattle.console_port.specs.declared.fault.BusFault.{BusFault}
+use Rattle.mic_words.specs.declared.machine.Machine.TheVariants as machines
+use Rattle.micro_word.specs.Coding.{statement_of}
+use Rattle.micro_word.specs.declared.statement.Mem.{Mem}
+use Rattle.micro_word.specs.declared.statement.Mem.TheVariants as mems
+use Rattle.micro_word.specs.declared.statement.Placed.{Placed}
+use Rattle.mic_clock.specs.Meaning.{Outcome, Done, refusal_in, untaken_by, given_by, ReadsConsole, WritesConsole, UsesConsole}
+use Rattle.mic_datapath.specs.Access.{IsTransfer, is_read, is_access}
+use Rattle.mic_datapath.specs.Memory.{first_refusal, memory_refusal, word_under_way, written, sampled, outcome}
+use Rattle.mic_datapath.specs.Places.{registers_at}
+use Rattle.mic_datapath.specs.Registers.{NineRegisters, ports_given}
+use Rattle.mic_datapath.specs.declared.ports.Ports.{Ports}
+use Rattle.mic2_fetch_unit.specs.FetchUnit.{sample_refusal}
+use Rattle.mic2_datapath.specs.Microstep.{advanced, demand, moved, unit_after, unit_refusal, unit_samples}
+use Rattle.mic3_datapath.specs.declared.pipeline.Pipeline.{Pipeline as Latched}
+use Rattle.mic3_datapath.specs.Pipeline.{Pipeline, Issued, Computed}
+use Rattle.mic3_datapath.specs.Cycle.{begins, clock, computed, computed_in, cycle, cycle_with, is_held_up, is_jump_coming, issued, issued_by, issued_in, mem_in, mpc_after, refusal, retired, settled, taken, waits, word_after, world_after}
+use Rattle.mic3_datapath.specs.Mic3.{mic3_meaning, step_of_word}
+use Rattle.mic3_datapath.specs.Slots.{edged, in_result, pipeline_in, word_held}
+
+-- what a cycle asks of the bus: an access, and the word that the fetch unit samples
+pub record Asked : Type 0 where
+  pub ports : Ports
+  pub mem : Mem
+  pub at : Option ℕ
+
+-- it is what the cycle does in which this issues
+pub record IsAsked (i : Option Issued) (p : Pipeline) (q : Asked) : Type 0 where
+  pub given : q.ports ≡ ports_given (settled i p)
+  pub memory : q.mem ≡ mem_in p.result
+  pub samples : (n : ℕ) → sample_refusal n q.at ≡ unit_refusal (is_jump_coming (computed_in p.result)) n q.ports.pc (taken i) p.micro.unit
+  pub its : q.at ≡ unit_samples (is_jump_coming (computed_in p.result)) q.ports.pc (taken i) p.micro.unit
+
+-- what is asked of the bus is asked for the word in the result slot
+pub is_asked : (l : Latched) (i : Option Issued) (t : ℕ) (ports : Ports) (mem : Mem) (jump : Bool) (at : Option ℕ) → t ≡ taken i →
+    ports ≡ ports_given (retired (in_result l.result) l.latches.word (record (registers_at l.latches.places) { pc = advanced t (registers_at l.latches.places).pc })) →
+    mem ≡ mem_in (in_result l.result) → jump ≡ is_jump_coming (computed_in (in_result l.result)) →
+    ((n : ℕ) → sample_refusal n at ≡ unit_refusal jump n ports.pc t l.latches.unit) → at ≡ unit_samples jump ports.pc t l.latches.unit →
+    IsAsked i (pipeline_in l) (record { ports = ports; mem = mem; at = at })
+is_asked l i t ports mem jump at t_is ports_are mem_is jump_is samples its =
+    record {
+      given =
+          ports_are
+          ∙ (λ j. ports_given (retired (in_result l.result) l.latches.word (record (registers_at l.latches.places) { pc = advanced (t_is j) (registers_at l.latches.places).pc })));
+      memory = mem_is;
+      samples = λ n. samples n ∙ (λ j. unit_refusal (jump_is j) n ports.pc (t_is j) l.latches.unit);
+      its = its ∙ (λ j. unit_samples (jump_is j) ports.pc (t_is j) l.latches.unit);
+    }
+
+abbrev pub refusal_on : ℕ → Asked → Option Refusal
+refusal_on n q = first_refusal (memory_refusal n q.mem q.ports.mar) (sample_refusal n q.at)
+
+same_refusal : (i : Option Issued) (p : Pipeline) (q : Asked) → IsAsked i p q → (n : ℕ) → refusal n i p ≡ refusal_on n q
+same_refusal i p q h n =
+    sym
+    (ap (λ (r : Option Refusal). first_refusal (memory_refusal n q.mem q.ports.mar) r) (h.samples n)
+    ∙ (λ j. first_refusal (memory_refusal n (h.memory j) (h.given j).mar) (unit_refusal (is_jump_coming (computed_in p.result)) n (h.given j).pc (taken i) p.micro.unit)))
+
+goes_on : (s : Placed) (i : Option Issued) (p : Pipeline) → issued s p ≡ i → (n : ℕ) (w : World) → length w.words ≡ n → cycle s p w ≡ cycle_with n i p w
+goes_on s i p is n w size = ap₂ (λ (k : ℕ) (x : Option Issued). cycle_with k x p w) size is
+
+word_is : (c : Option Computed) (word under : Option ℕ) (n : ℕ) (r : NineRegisters) (v : World) → under ≡ word_under_way n (mem_in c) (ports_given r) v →
+    word_after n c word r v ≡ word_held c word under
+word_is None word under n r v e = refl
+word_is (Some c) word under n r v e = sym e
+
+pub is_done : (s : Placed) (i : Option Issued) (p : Pipeline) (q : Asked) → issued s p ≡ i → IsAsked i p q → (w v : World) (n : ℕ) → length w.words ≡ n → (word : Option ℕ) (words : List ℕ) →
+    refusal_on n q ≡ None → IsTransfer n q.mem q.ports w word v → v.words ≡ words →
+    (t : Pipeline) → t ≡ edged i p words word → cycle s p w ≡ Done t v
+is_done s i p q is h w v n size word words clear a shown t moves =
+    let r : NineRegisters = settled i p in
+    let its_word : word ≡ word_under_way n (mem_in p.result) (ports_given r) (written n (mem_in p.result) (ports_given r) w) =
+    a.its_word ∙ (λ j. word_under_way n (h.memory j) (h.given j) (written n (h.memory j) (h.given j) w)) in
+    let under : word_after n p.result p.micro.word r (written n (mem_in p.result) (ports_given r) w) ≡ word_held p.result p.micro.word word =
+    word_is p.result p.micro.word word n r (written n (mem_in p.result) (ports_given r) w) its_word in
+    let after : world_after n i p w ≡ v = sym (a.after ∙ (λ j. sampled n (h.memory j) (h.given j) (written n (h.memory j) (h.given j) w))) in
+    let over : (written n (mem_in p.result) (ports_given r) w).words ≡ words = sym (a.words ∙ (λ j. (written n (h.memory j) (h.given j) w).words)) ∙ shown in
+    goes_on s i p is n w size
+    ∙ (ap (λ (x : Option Refusal). outcome x (clock n i p w) (world_after n i p w)) (same_refusal i p q h n ∙ clear)
+    ∙ ((λ j. Done
+    (record {
+      micro = moved r (mpc_after i p) (under j) (unit_after (is_jump_coming (computed_in p.result)) (over j) r.pc (taken i) p.micro.unit) (begins p.result);
+      operand = i;
+      result = computed p.operand;
+    })
+    (after j))
+    ∙ ap (λ (x : Pipeline). Done x v) (sym moves)))
+
+answered : (r : Option Refusal) (p : Pipeline) (w : World) → refusal_in (outcome r p w) ≡ refused_by r
+answered (Some why) p w = refl
+answered None p w = refl
+
+module _ (s : Placed) (i : Option Issued) (p : Pipeline) (q : Asked) (is : issued s p ≡ i) (h : IsAsked i p q) (n : ℕ) (w : World) (size : length w.words ≡ n) where
+  -- the cycle's refusal is that of its accesses
+  pub step_refusal : refusal_in (cycle s p w) ≡ refused_by (refusal_on n q)
+  step_refusal =
+      ap refusal_in (goes_on s i p is n w size)
+      ∙ (answered (refusal n i p) (clock n i p w) (world_after n i p w) ∙ ap refused_by (same_refusal i p q h n))
+
+  done_with : refusal_on n q ≡ None → cycle s p w ≡ Done (clock n i p w) (sampled n q.mem q.ports (written n q.mem q.ports w))
+  done_with clear =
+      goes_on s i p is n w size
+      ∙ (ap (λ (r : Option Refusal). outcome r (clock n i p w) (world_after n i p w)) (same_refusal i p q h n ∙ clear)
+      ∙ sym (λ j. Done (clock n i p w) (sampled n (h.memory j) (h.given j) (written n (h.memory j) (h.given j) w))))
+
+-- an access that is answered by a fault is not refused
+pub not_refused : {T : Type 0} (r : Option Refusal) (result : Result T BusFault) (e : BusFault) → result ≡ Err e → IsFault e →
+    ((f : BusFault) → refused_by r ≡ Some f → result ≡ Err f) → r ≡ None
+not_refused None result e is fault answers = refl
+not_refused (Some why) result e is fault answers = absurd (no_fault why (subst IsFault same fault))
+  where
+    same : e ≡ fault_of why
+    same = let a = answers (fault_of why) refl in cc
+
+    no_fault : (r : Refusal) → IsFault (fault_of r) → ⊥
+    no_fault (StackLimit at) f = f
+    no_fault (OutOfMap at) f = f
+
+-- what is not refused is done
+pub unrefused : {P : Type 0} (r : Result ⊤ BusFault) (why : Option Refusal) → IfErr r (λ e. refused_by why ≡ Some e) → why ≡ None → OnOk r P → P
+unrefused (Ok done) why fails clear holds = holds
+unrefused (Err e) why fails clear holds = let none : None ≡ Some e = sym (ap refused_by clear) ∙ fails in absurd (cc)
+
+second_clear : (a b : Option Refusal) → first_refusal a b ≡ None → b ≡ None
+second_clear (Some why) b h = absurd (cc)
+second_clear None b h = h
+
+-- an access that is not refused leaves the unit's fetch clear
+pub samples_clear : (i : Option Issued) (p : Pipeline) (q : Asked) → IsAsked i p q → (n n' : ℕ) → n' ≡ n → refusal_on n q ≡ None →
+    sample_refusal n' (unit_samples (is_jump_coming (computed_in p.result)) q.ports.pc (taken i) p.micro.unit) ≡ None
+samples_clear i p q h n n' size clear = (λ j. sample_refusal (size j) (sym h.its j)) ∙ second_clear (memory_refusal n q.mem q.ports.mar) (sample_refusal n q.at) clear
+
+both : (a b : Bool) → (a && b) ≡ true → a ≡ true
+both true b h = refl
+both false b h = absurd (cc)
+
+-- what an access behind the memory's words does at the console
+pub record AtConsole : Type 0 where
+  pub takes : (n : ℕ) (p : Ports) (mem : Mem) (w : World) → n ≤ p.mar → is_read mem ≡ true → (sampled n mem p (written n mem p w)).untaken ≡ drop 1 w.untaken
+  pub gives : (n : ℕ) (p : Ports) (w : World) → n ≤ p.mar → (written n mems.Write p w).given ≡ w.given ++ (p.mdr % 256) ∷ []
+
+module _ (law : AtConsole) (word : ℕ) (i : Option Issued) (p : Pipeline) (q : Asked) (is : issued (statement_of machines.Mic2 word) p ≡ i) (h : IsAsked i p q) (n : ℕ) (w : World) (size : length w.words ≡ n)
+    (clear : refusal_on n q ≡ None) (behind : n ≤ q.ports.mar) where
+  reads_by : is_read q.mem ≡ true → ReadsConsole mic3_meaning word p w
+  unfolding step_of_word
+  reads_by reads =
+      record {
+        takes = λ input.
+            ap untaken_by (done_with (statement_of machines.Mic2 word) i p q is h n (record w { untaken = input }) size clear)
+            ∙ ap Some (law.takes n q.ports q.mem (record w { untaken = input }) behind reads);
+      }
+
+  writes_by : q.mem ≡ mems.Write → WritesConsole mic3_meaning word p w
+  unfolding step_of_word
+  writes_by writes =
+      record {
+        byte = q.ports.mdr % 256;
+        gives =
+            ap given_by (done_with (statement_of machines.Mic2 word) i p q is h n w size clear)
+            ∙ (ap (λ (mem : Mem). Some (sampled n mem q.ports (written n mem q.ports w)).given) writes ∙ ap Some (law.gives n q.ports w behind));
+      }
+
+  -- a failed read of the console is of a cycle that reads it
+  pub reads_console : IsTrue (is_read q.mem && q.ports.mar == console_at) → ReadsConsole mic3_meaning word p w
+  reads_console t = reads_by (both _ _ t)
+
+  -- a failed access of the console is of a cycle that reads or writes it
+  pub uses_console : IsTrue (is_access q.mem && q.ports.mar == console_at) → UsesConsole mic3_meaning word p w
+  uses_console t = by_mem q.mem refl (both _ _ t)
+    where
+      by_mem : (mem : Mem) → q.mem ≡ mem → is_access mem ≡ true → UsesConsole mic3_meaning word p w
+      by_mem mems.Read e a = inl (reads_by (ap is_read e))
+      by_mem mems.Write e a = inr (writes_by e)
+      by_mem mems.None e a = absurd (cc)
+
+-- what issues finds the bytes that it takes
+
+abbrev issued_if : Bool → Placed → Pipeline → Option Issued
+issued_if b s p = if b then None else Some (issued_by s p)
+
+pub issued_there : (s : Placed) (p : Pipeline) → taken (issued s p) ≤ length p.micro.unit.bytes
+issued_there s p = by_tests (is_held_up s p.micro.word (issued_in p.operand) (computed_in p.result)) (nat_lt (length p.micro.unit.bytes) (demand s)) refl
+  where
+    by_tests : (a b : Bool) → nat_lt (length p.micro.unit.bytes) (demand s) ≡ b → taken (issued_if (a || b) s p) ≤ length p.micro.unit.bytes
+    by_tests true b e = omega arith
+    by_tests false true e = omega arith
+    by_tests false false e = grind (arith, nat_tests)
+
+pub enough : (s : Placed) (p : Pipeline) → waits s p ≡ false → demand s ≤ length p.micro.unit.bytes
+enough s p goes = by_tests (is_held_up s p.micro.word (issued_in p.operand) (computed_in p.result)) (nat_lt (length p.micro.unit.bytes) (demand s)) refl goes
+  where
+    by_tests : (a b : Bool) → nat_lt (length p.micro.unit.bytes) (demand s) ≡ b → (a || b) ≡ false → demand s ≤ length p.micro.unit.bytes
+    by_tests true b is h = absurd (cc)
+    by_tests false true is h = absurd (cc)
+    by_tests false false is h = grind (arith, nat_tests)

@@ -1,0 +1,46 @@
+-- What the latches and the slots of Mic-3 mean: the state of its cycle.
+use Rattle.std.specs.Prelude.{◌≡◌, ℕ, List, Option, Some, None}
+use Rattle.mic_words.specs.declared.machine.Machine.TheVariants.{Mic2}
+use Rattle.micro_word.specs.Coding.{statement_of}
+use Rattle.micro_word.specs.declared.statement.Placed.{Placed}
+use Rattle.mic_clock.specs.declared.buses.Computed.{Computed as Values}
+use Rattle.mic2_datapath.specs.Latches.{micro_in}
+use Rattle.mic2_datapath.specs.Microstep.{moved, unit_after}
+use Rattle.mic3_datapath.specs.declared.slots.OperandSlot.{OperandSlot}
+use Rattle.mic3_datapath.specs.declared.slots.ResultSlot.{ResultSlot}
+use Rattle.mic3_datapath.specs.declared.pipeline.Pipeline.{Pipeline as Latched}
+use Rattle.mic3_datapath.specs.Pipeline.{Pipeline, Issued, Computed}
+use Rattle.mic3_datapath.specs.Cycle.{begins, computed, computed_in, is_jump_coming, issued, mpc_after, settled, taken}
+use Rattle.mic3_datapath.specs.Mic3.{values_of}
+
+abbrev pub in_operand : Option OperandSlot → Option Issued
+in_operand None = None
+in_operand (Some o) = Some (record { statement = statement_of Mic2 o.control.word; a = o.a; b = o.b; byte = o.byte })
+
+abbrev pub in_result : Option ResultSlot → Option Computed
+in_result None = None
+in_result (Some r) = Some (record { statement = statement_of Mic2 r.control.word; value = r.value; byte = r.byte })
+
+abbrev pub pipeline_in : Latched → Pipeline
+pipeline_in l = record { micro = micro_in l.latches; operand = in_operand l.operand; result = in_result l.result }
+
+-- the word under way after an edge whose access sampled this: where nothing retires, one that has arrived stays
+abbrev pub word_held : Option Computed → Option ℕ → Option ℕ → Option ℕ
+word_held None word sampled = word
+word_held (Some c) word sampled = sampled
+
+-- after the edge in which this issues, with what its access sampled, where the unit samples these words
+abbrev pub edged : Option Issued → Pipeline → List ℕ → Option ℕ → Pipeline
+edged to_issue p words sampled =
+    let r = settled to_issue p in
+    record {
+      micro = moved r (mpc_after to_issue p) (word_held p.result p.micro.word sampled)
+          (unit_after (is_jump_coming (computed_in p.result)) words r.pc (taken to_issue) p.micro.unit) (begins p.result);
+      operand = to_issue;
+      result = computed p.operand;
+    }
+
+-- after the call that lets ALU and shifter work: what issues, and what leaves them for the statement in the operand slot
+pub record HasComputed (s : Placed) (p : Pipeline) (to_issue : Option Issued) (given : Values) : Type 0 where
+  pub issues : to_issue ≡ issued s p
+  pub values : given ≡ values_of p.operand

@@ -1,0 +1,169 @@
+//! Why a word waits.
+
+ghost use Rattle.std.specs.Prelude.{◌≡◌, ◌<◌, ◌||◌};
+ghost use Rattle.mic_words.specs.declared.machine.Machine.TheVariants.{Mic2};
+ghost use Rattle.micro_word.specs.Coding.{statement_of};
+ghost use Rattle.mic2_datapath.specs.Microstep.{is_to_instruction, jumps};
+ghost use Rattle.mic3_datapath.specs.Cycle.{awaits, computed_in, is_branch, is_destination, is_held_up, is_jump_coming, is_turning, is_word_coming, issued_in, names_mdr};
+ghost use Rattle.mic3_datapath.specs.Slots.{in_operand, in_result};
+
+use crate::slots::{OperandSlot, ResultSlot};
+use mic2_datapath::Control;
+use micro_word::{Mem, is_named};
+
+/// MDR alone among the destinations.
+const MDR: u16 = 0b10;
+
+/// The place of PC.
+const PC: u8 = 2;
+
+/// JMPC
+const JMPC: u8 = 4;
+
+#[inline(always)]
+#[tactic(auto, using(crate::proofs::Bits::branch_bits))]
+pub fn is_branch(control: &Control) -> bool
+    ensures { result ≡ is_branch (statement_of Mic2 control.now.word).next }
+{
+    let jam = control.jam();
+    jam == 1 || jam == 2
+}
+
+/// Whether it dispatches to an instruction.
+#[inline(always)]
+#[tactic(auto, using(crate::proofs::Bits::instruction_bits))]
+pub fn is_to_instruction(control: &Control) -> bool
+    ensures { result ≡ is_to_instruction (statement_of Mic2 control.now.word).next }
+{
+    control.jam() == JMPC && control.lines.addr == 0
+}
+
+/// Whether it loads PC.
+#[inline(always)]
+pub fn jumps(control: &Control) -> bool
+    ensures { result ≡ jumps (statement_of Mic2 control.now.word).part }
+{
+    is_named(control.destinations(), PC)
+}
+
+#[inline(always)]
+fn is_turning(operand: Option<OperandSlot>, behind: Option<ResultSlot>) -> bool
+    ensures { result ≡ is_turning (issued_in (in_operand operand)) (computed_in (in_result behind)) }
+{
+    let before = match operand {
+        Some(slot) => is_branch(&slot.control) || is_to_instruction(&slot.control),
+        None => false,
+    };
+    let last = match behind {
+        Some(slot) => is_to_instruction(&slot.control),
+        None => false,
+    };
+    before || last
+}
+
+/// Whether a word has one of these destinations on side A.
+#[inline(always)]
+fn is_on_a(control: &Control, destinations: u16) -> bool
+    requires { destinations < 512 }
+    ensures { result ≡ is_destination destinations (statement_of Mic2 control.now.word).part.a }
+{
+    is_named(destinations, control.lines.a)
+}
+
+/// Whether it has one on side B.
+#[inline(always)]
+fn is_on_b(control: &Control, destinations: u16) -> bool
+    requires { destinations < 512 }
+    ensures { result ≡ is_destination destinations (statement_of Mic2 control.now.word).part.b }
+{
+    is_named(destinations, control.lines.b)
+}
+
+/// Whether it has one on a side.
+#[inline(always)]
+fn names_one_of(control: &Control, destinations: u16) -> bool
+    requires { destinations < 512 }
+    ensures { result ≡ (is_destination destinations (statement_of Mic2 control.now.word).part.a
+        || is_destination destinations (statement_of Mic2 control.now.word).part.b) }
+{
+    is_on_a(control, destinations) || is_on_b(control, destinations)
+}
+
+#[inline(always)]
+fn awaits_operand(control: &Control, operand: Option<OperandSlot>) -> bool
+    ensures { result ≡ awaits (statement_of Mic2 control.now.word).part (issued_in (in_operand operand)) }
+{
+    match operand {
+        Some(slot) => names_one_of(control, slot.control.destinations()),
+        None => false,
+    }
+}
+
+#[inline(always)]
+fn awaits_result(control: &Control, behind: Option<ResultSlot>) -> bool
+    ensures { result ≡ awaits (statement_of Mic2 control.now.word).part (computed_in (in_result behind)) }
+{
+    match behind {
+        Some(slot) => names_one_of(control, slot.control.destinations()),
+        None => false,
+    }
+}
+
+#[inline(always)]
+fn names_mdr(control: &Control) -> bool
+    ensures { result ≡ names_mdr (statement_of Mic2 control.now.word).part }
+{
+    names_one_of(control, MDR)
+}
+
+#[inline(always)]
+fn is_word_coming(
+    word: Option<u32>,
+    operand: Option<OperandSlot>,
+    behind: Option<ResultSlot>,
+) -> bool
+    ensures { result ≡ is_word_coming word (issued_in (in_operand operand)) (computed_in (in_result behind)) }
+{
+    match behind {
+        Some(slot) => word.is_some() || (operand.is_some() && slot.control.mem() == Mem::Read),
+        None => word.is_some() && operand.is_some(),
+    }
+}
+
+#[inline(always)]
+fn will_jump(operand: Option<OperandSlot>) -> bool
+    ensures { result ≡ is_jump_coming (issued_in (in_operand operand)) }
+{
+    match operand {
+        Some(slot) => jumps(&slot.control),
+        None => false,
+    }
+}
+
+/// Whether the word that retires loads PC.
+#[inline(always)]
+pub fn jumps_now(behind: Option<ResultSlot>) -> bool
+    ensures { result ≡ is_jump_coming (computed_in (in_result behind)) }
+{
+    match behind {
+        Some(slot) => jumps(&slot.control),
+        None => false,
+    }
+}
+
+/// Whether what is in the slots holds a word up.
+#[inline(always)]
+pub fn is_held_up(
+    control: &Control,
+    word: Option<u32>,
+    operand: Option<OperandSlot>,
+    behind: Option<ResultSlot>,
+) -> bool
+    ensures { result ≡ is_held_up (statement_of Mic2 control.now.word) word (issued_in (in_operand operand)) (computed_in (in_result behind)) }
+{
+    is_turning(operand, behind)
+        || awaits_operand(control, operand)
+        || awaits_result(control, behind)
+        || (names_mdr(control) && is_word_coming(word, operand, behind))
+        || (control.lines.takes > 0 && (will_jump(operand) || jumps_now(behind)))
+}

@@ -1,0 +1,350 @@
+//! What Mic-3 keeps between cycles.
+
+ghost use Rattle.std.specs.Prelude.{◌≡◌, ◌<◌, ◌≤◌, ℕ, Some, OnOk, OnErr, IfErr, length, slice_index};
+ghost use Rattle.mic_words.specs.declared.machine.Machine.TheVariants.{Mic2};
+ghost use Rattle.micro_word.specs.Coding.{statement_of};
+ghost use Rattle.console_port.specs.Bus.{refused_by};
+ghost use Rattle.mic_datapath.specs.Places.{registers_at};
+ghost use Rattle.mic_datapath.specs.Registers.{ports_given};
+ghost use Rattle.mic2_fetch_unit.specs.FetchUnit.{sample_refusal};
+ghost use Rattle.mic2_datapath.specs.Latches.{AreLatches};
+ghost use Rattle.mic2_datapath.specs.Microstep.{advanced, byte_at, demand, operand_bytes, unit_after, unit_samples};
+ghost use Rattle.mic3_datapath.specs.Cycle.{begins, computed, computed_in, dispatched, from_computed, from_issued, from_retired, is_jump_coming, issued, mem_in, mpc_after, retired, settled, taken, waits};
+ghost use Rattle.mic3_datapath.specs.Mic3.{initial as initial_of, values_of};
+ghost use Rattle.mic3_datapath.specs.Slots.{edged, in_operand, in_result, pipeline_in, word_held};
+
+use crate::hazards::{is_branch, is_held_up, is_to_instruction, jumps_now};
+use crate::slots::{OperandSlot, ResultSlot};
+use console_port::{Bus, BusFault};
+use mic_clock::{Computed, Start};
+use mic_datapath::{Places, Ports};
+use mic1_alu::AluOut;
+use mic2_datapath::{Control, Latches, Operands, go, go_past, load, pc_after};
+use mic2_fetch_unit::FetchUnit;
+use micro_word::Mem;
+
+/// JMPC
+const JMPC: u8 = 4;
+
+/// The places of the registers that the memory's ports are given.
+const MAR: usize = 0;
+
+const MDR: usize = 1;
+
+const PC: usize = 2;
+
+/// The registers and the fetch unit of Mic-2, and the two slots.
+#[derive(Drop)]
+pub struct Pipeline {
+    pub operand: Option<OperandSlot>,
+    pub result: Option<ResultSlot>,
+    pub latches: Latches,
+}
+
+/// How many bytes leave the queue.
+#[inline(always)]
+pub fn taken(to_issue: Option<OperandSlot>) -> u8
+    ensures { result ≡ taken (in_operand to_issue) }
+{
+    match to_issue {
+        Some(slot) => slot.control.lines.takes,
+        None => 0,
+    }
+}
+
+/// The access of the word that retires.
+#[inline(always)]
+pub fn mem_in(slot: Option<ResultSlot>) -> Mem
+    ensures { result ≡ mem_in (in_result slot) }
+{
+    match slot {
+        Some(slot) => slot.control.mem(),
+        None => Mem::None,
+    }
+}
+
+/// Whether a word waits.
+#[inline(always)]
+fn waits(control: &Control, pipeline: &Pipeline) -> bool
+    ensures { result ≡ waits (statement_of Mic2 control.now.word) (pipeline_in pipeline.now) }
+{
+    is_held_up(
+        control,
+        pipeline.latches.word,
+        pipeline.operand,
+        pipeline.result,
+    ) || pipeline.latches.unit.have() < control.lines.takes
+}
+
+/// The byte that a word dispatches to: the last of those that it takes.
+#[inline(always)]
+fn dispatched(control: &Control, unit: &FetchUnit) -> u8
+    requires { demand (statement_of Mic2 control.now.word) ≤ length unit.now.bytes }
+    ensures { result ≡ dispatched (statement_of Mic2 control.now.word).next (byte_at unit.now (operand_bytes (statement_of Mic2 control.now.word).part)) }
+{
+    let dispatches = control.jam() == JMPC;
+    if dispatches {
+        unit.byte_at(control.lines.takes - 1)
+    } else {
+        0
+    }
+}
+
+/// The registers after the edge: PC goes on by so many bytes, and the word in the result slot retires.
+#[inline(always)]
+fn retire(slot: Option<ResultSlot>, taken: u8, arriving: Option<u32>, places: &mut Places)
+    ensures registers { registers_at places.new ≡
+        retired (in_result slot) arriving (record (registers_at places.old) { pc = advanced taken (registers_at places.old).pc }) }
+    ensures others { (k : ℕ) → 9 ≤ k → k < 15 → slice_index places.new k ≡ slice_index places.old k }
+{
+    match slot {
+        Some(slot) => load(
+            slot.control.destinations(),
+            &slot.control.lines,
+            slot.value,
+            taken,
+            arriving,
+            places,
+        ),
+        None => go_past(taken, places),
+    }
+}
+
+/// The fetch unit jumps where the word in the result slot loads PC, and has its edge otherwise. An Err leaves it.
+#[inline(always)]
+fn clock_unit(
+    slot: Option<ResultSlot>,
+    pc: u32,
+    taken: u8,
+    bus: &Bus,
+    unit: &mut FetchUnit,
+) -> Result<(), BusFault>
+    requires { taken ≤ length unit.old.bytes }
+    ensures ok { OnOk result (unit.new ≡ unit_after (is_jump_coming (computed_in (in_result slot))) bus.now.words pc taken unit.old) }
+    ensures err { IfErr result (λ e. refused_by (sample_refusal (length bus.now.words)
+        (unit_samples (is_jump_coming (computed_in (in_result slot))) pc taken unit.old)) ≡ Some e) }
+    ensures stays { OnErr result (unit.new ≡ unit.old) }
+{
+    let jumps = jumps_now(slot);
+    go(jumps, pc, taken, bus, unit)
+}
+
+/// The word under way after an edge whose access sampled this.
+#[inline(always)]
+fn held(slot: Option<ResultSlot>, word: Option<u32>, sampled: Option<u32>) -> Option<u32>
+    ensures { result ≡ word_held (in_result slot) word sampled }
+{
+    match slot {
+        Some(_) => sampled,
+        None => word,
+    }
+}
+
+/// The word in the operand slot moves on, with what is on the C bus.
+#[inline(always)]
+fn moved_on(operand: Option<OperandSlot>, c: u32) -> Option<ResultSlot>
+    requires { c ≡ (values_of (in_operand operand)).c }
+    ensures { in_result result ≡ computed (in_operand operand) }
+{
+    match operand {
+        Some(slot) => Some(ResultSlot {
+            control: slot.control,
+            value: c,
+            byte: slot.byte,
+        }),
+        None => None,
+    }
+}
+
+#[inline(always)]
+fn from_retired(slot: Option<ResultSlot>, mpc: u16) -> u16
+    requires { mpc < 512 }
+    ensures value { result ≡ from_retired (in_result slot) mpc }
+    ensures small { result < 512 }
+{
+    match slot {
+        Some(slot) => {
+            if is_to_instruction(&slot.control) {
+                slot.control.target(0, slot.byte)
+            } else {
+                mpc
+            }
+        }
+        None => mpc,
+    }
+}
+
+#[inline(always)]
+fn from_computed(operand: Option<OperandSlot>, value: u32, mpc: u16) -> u16
+    requires mpc { mpc < 512 }
+    requires value { value ≡ (values_of (in_operand operand)).alu.value }
+    ensures value { result ≡ from_computed (in_operand operand) mpc }
+    ensures small { result < 512 }
+{
+    match operand {
+        Some(slot) => {
+            if is_branch(&slot.control) {
+                slot.control.target(value, 0)
+            } else {
+                mpc
+            }
+        }
+        None => mpc,
+    }
+}
+
+#[inline(always)]
+fn from_issued(to_issue: Option<OperandSlot>, mpc: u16) -> u16
+    requires { mpc < 512 }
+    ensures value { result ≡ from_issued (in_operand to_issue) mpc }
+    ensures small { result < 512 }
+{
+    match to_issue {
+        Some(slot) => {
+            if is_branch(&slot.control) || is_to_instruction(&slot.control) {
+                mpc
+            } else {
+                slot.control.target(0, slot.byte)
+            }
+        }
+        None => mpc,
+    }
+}
+
+/// Whether an instruction begins.
+#[inline(always)]
+fn begins(slot: Option<ResultSlot>) -> bool
+    ensures { result ≡ begins (in_result slot) }
+{
+    match slot {
+        Some(slot) => is_to_instruction(&slot.control),
+        None => false,
+    }
+}
+
+/// MPC after the edge.
+#[inline(always)]
+fn mpc_after(to_issue: Option<OperandSlot>, pipeline: &Pipeline, value: u32) -> u16
+    requires mpc { pipeline.now.latches.mpc < 512 }
+    requires value { value ≡ (values_of (in_operand pipeline.now.operand)).alu.value }
+    ensures value { result ≡ mpc_after (in_operand to_issue) (pipeline_in pipeline.now) }
+    ensures small { result < 512 }
+{
+    let mpc = from_retired(pipeline.result, pipeline.latches.mpc);
+    let mpc = from_computed(pipeline.operand, value, mpc);
+    from_issued(to_issue, mpc)
+}
+
+/// What leaves the ALU and the shifter for the word in the operand slot.
+#[inline(always)]
+pub fn values_of(operand: Option<OperandSlot>) -> Computed
+    ensures { result ≡ values_of (in_operand operand) }
+{
+    match operand {
+        Some(slot) => {
+            let value = slot.control.operate(slot.a, slot.b);
+            let c = slot.control.shift(value);
+            Computed {
+                alu: AluOut {
+                    value,
+                    n: value >= 0x8000_0000,
+                    z: value == 0,
+                },
+                c,
+            }
+        }
+        None => Computed::ZERO,
+    }
+}
+
+impl Pipeline {
+    /// As a reset leaves it.
+    pub fn initial(start: &Start) -> Pipeline
+        requires { start.now.entry < 512 }
+        ensures pipeline { pipeline_in result ≡ initial_of start.now }
+        ensures latches { AreLatches result.latches }
+    {
+        Pipeline {
+            operand: None,
+            result: None,
+            latches: Latches::initial(start),
+        }
+    }
+
+    /// A word issues, or waits.
+    #[inline(always)]
+    pub fn issue(&mut self, control: &Control) -> Option<OperandSlot>
+        requires { AreLatches self.old.latches }
+        ensures value { in_operand result ≡ issued (statement_of Mic2 control.now.word) (pipeline_in self.old) }
+        ensures pipeline { pipeline_in self.new ≡ pipeline_in self.old }
+        ensures latches { AreLatches self.new.latches }
+    {
+        let waits = waits(control, self);
+        if waits {
+            return None;
+        }
+        let byte = dispatched(control, &self.latches.unit);
+        let Operands { a, b } = self.latches.operands(control);
+        Some(OperandSlot {
+            control: *control,
+            a,
+            b,
+            byte,
+        })
+    }
+
+    /// What the memory's ports are given, where so many bytes are taken.
+    #[inline(always)]
+    pub fn ports(&self, taken: u8) -> Ports
+        ensures { result ≡ ports_given (retired (in_result self.now.result) self.now.latches.word
+            (record (registers_at self.now.latches.places) { pc = advanced taken (registers_at self.now.latches.places).pc })) }
+    {
+        match self.result {
+            Some(slot) => self
+                .latches
+                .ports(slot.control.destinations(), slot.value, taken),
+            None => Ports {
+                mar: self.latches.places[MAR],
+                mdr: self.latches.places[MDR],
+                pc: pc_after(self.latches.places[PC], taken),
+            },
+        }
+    }
+
+    /// The edge after its access, which sampled this word if it read. An Err leaves all.
+    #[inline(always)]
+    pub fn advance(
+        &mut self,
+        to_issue: Option<OperandSlot>,
+        values: &Computed,
+        pc: u32,
+        sampled: Option<u32>,
+        bus: &Bus,
+    ) -> Result<(), BusFault>
+        requires latches { AreLatches self.old.latches }
+        requires there { taken (in_operand to_issue) ≤ length self.old.latches.unit.bytes }
+        requires values { values.now ≡ values_of (in_operand self.old.operand) }
+        requires pc { pc ≡ (settled (in_operand to_issue) (pipeline_in self.old)).pc }
+        ensures latches { AreLatches self.new.latches }
+        ensures ok { OnOk result (pipeline_in self.new ≡ edged (in_operand to_issue) (pipeline_in self.old) bus.now.words sampled) }
+        ensures err { IfErr result (λ e. refused_by (sample_refusal (length bus.now.words)
+            (unit_samples (is_jump_coming (computed_in (in_result self.old.result))) pc (taken (in_operand to_issue)) self.old.latches.unit)) ≡ Some e) }
+        ensures state { OnErr result (pipeline_in self.new ≡ pipeline_in self.old) }
+    {
+        let taken = taken(to_issue);
+        let mpc = mpc_after(to_issue, self, values.alu.value);
+        clock_unit(self.result, pc, taken, bus, &mut self.latches.unit)?;
+        retire(
+            self.result,
+            taken,
+            self.latches.word,
+            &mut self.latches.places,
+        );
+        self.latches.mpc = mpc;
+        self.latches.begins = begins(self.result);
+        self.latches.word = held(self.result, self.latches.word, sampled);
+        self.result = moved_on(self.operand, values.c);
+        self.operand = to_issue;
+        Ok(())
+    }
+}
