@@ -1,0 +1,12 @@
+pub mod Store
+pub mod Examples
+pub mod Guided
+pub mod Boundaries
+pub mod Operands
+pub mod Locals
+pub mod Jumps
+pub mod Calls
+pub mod Consoles
+pub mod Ends
+pub mod Boot
+pub mod Output

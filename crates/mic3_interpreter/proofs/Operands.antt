@@ -1,0 +1,255 @@
+-- Instructions on the operands alone.
+use Rattle.std.proofs.Common.{◌≡◌, ◌≢◌, ℕ, suc, ◌+◌, ◌<◌, ◌≤◌, Some, List, [], ◌∷◌, ◌++◌, length, refl, arith, sym, ◌∙◌, ap, ap₂, inl, inr}
+use Rattle.std.specs.Prelude.{slice_set, bit_and, bit_or}
+use Rattle.std.proofs.lemmas.List.{set_comm}
+use Rattle.mic_words.specs.Arithmetic.{plus, minus, next, before, signed_byte}
+use Rattle.console_port.specs.World.{World, StackLimit, read_value, byte_in, write_refusal}
+use Rattle.ijvm_instr.specs.declared.instr.Instr.{Instr}
+use Rattle.ijvm_instr.specs.declared.instr.Instr.TheVariants.{Nop, Bipush, Pop, Dup, Swap, Iadd, Isub, Iand, Ior}
+use Rattle.ijvm_instr.specs.Instructions.{word_of}
+use Rattle.ijvm_meaning.specs.Frames.{State, frames_of, base}
+use Rattle.ijvm_meaning.specs.Cost.{cost}
+use Rattle.ijvm_meaning.specs.Step.{moved}
+use Rattle.verifier_facts.specs.Accepted.{VerifiedView}
+use Rattle.mic2_datapath.specs.Micro.{Micro}
+use Rattle.mic3_datapath.specs.Mic3.{mic3_meaning}
+use Rattle.mic3_interpreter.specs.Timing.{mic3_timing}
+use Rattle.mic3_datapath.specs.Pipeline.{Pipeline}
+use Rattle.ijvm_simulation.specs.Stands.{Origin}
+use Rattle.ijvm_simulation.specs.Stack.{IsMapEnd, IsWordAccess, place_behind, Top, Two, AtBoundary, StackLaw}
+use Rattle.ijvm_simulation.specs.Passes.{Moment}
+use Rattle.ijvm_simulation.specs.Outcomes.{Went, Overran, push}
+use Rattle.ijvm_simulation.specs.Verified.{Loads, Fine, IsNext}
+use Rattle.ijvm_simulation.specs.Law.{Moves, Takes, Overruns}
+use Rattle.ijvm_simulation.specs.Groups.{IsOfOperands}
+use Rattle.mic3_interpreter.specs.Stands.{Stands}
+use Rattle.mic3_interpreter.proofs.Store.{Known}
+use Rattle.mic3_interpreter.proofs.Guided.{Issues, HeldUp}
+use Rattle.mic3_interpreter.proofs.Boundaries.{ReachesBoundary, comes, Counts, counts, at_boundary, moves, overruns}
+
+module _ (program : List ℕ) (has : Known program) (o : Origin) (map : IsMapEnd (length o.words)) (law : StackLaw) (s : State) (pipe : Pipeline)
+    (w : World) (k : ℕ) (h : Stands o s pipe w) (inside : s.at < 0x10000) where
+  abbrev m : Micro
+  m = pipe.micro
+
+  abbrev here : AtBoundary o s m.sp m.lv m.cpp m.tos w
+  here = law.boundary o s m.sp m.lv m.cpp m.tos w map h.holds
+
+  nop : byte_in o.words s.at ≡ 0x00 → ReachesBoundary program o 2 (record { state = pipe; world = w; stalls = k }) (moved s s.running.operands (s.at + 1))
+  nop code =
+      let c : Counts o s m = counts o s pipe w h inside in
+      comes program has o map Issues (HeldUp ∷ HeldUp ∷ []) (byte_in o.words (s.at + 1) ∷ []) pipe w k 0x00 s _ h code (assumption)
+      (at_boundary o _ _ _
+      (here.drops s.running.operands (s.at + 1) _ _ _ _ _ s.given h.holds.frames h.holds.fits
+      refl refl h.holds.sp_is h.holds.tos_is refl h.holds.untaken h.holds.given)
+      (omega (arith, c.p1.is)) (omega arith) refl refl refl refl refl refl refl)
+
+  bipush : byte_in o.words s.at ≡ 0x10 → base (frames_of s) < length o.words →
+      ReachesBoundary program o 3 (record { state = pipe; world = w; stalls = k }) (push s (signed_byte (byte_in o.words (s.at + 1))) (s.at + 2))
+  bipush code space =
+      let c : Counts o s m = counts o s pipe w h inside in
+      let r : IsWordAccess (length o.words) w (next m.sp) (base (frames_of s)) = here.room space in
+      let bottom : 0x8000 ≤ base s.callers = law.above s.callers in
+      let high : 0x8000 ≤ next m.sp = omega (arith, r.is) in
+      let v : signed_byte (byte_in o.words m.pc) ≡ signed_byte (byte_in o.words (s.at + 1)) = ap signed_byte c.p0.byte in
+      comes program has o map Issues (Issues ∷ HeldUp ∷ HeldUp ∷ []) (byte_in o.words (s.at + 2) ∷ []) pipe w k 0x10 s _ h code (assumption)
+      (at_boundary o _ _ _
+      (here.pushes s.running.operands _ (s.at + 2) _ _ _ _ _ s.untaken h.holds.frames space
+      refl refl r.is v (ap₂ (slice_set w.words) r.is v) h.holds.untaken (r.given _ _))
+      (omega (arith, c.p11.is)) (omega arith) refl refl refl refl refl refl refl)
+
+  pop : (y : ℕ) (rest : List ℕ) → byte_in o.words s.at ≡ 0x57 → s.running.operands ≡ y ∷ rest →
+      ReachesBoundary program o 6 (record { state = pipe; world = w; stalls = k }) (moved s rest (s.at + 1))
+  pop y rest code ops =
+      let c : Counts o s m = counts o s pipe w h inside in
+      let t : Top o s m.sp m.lv m.cpp m.tos w y rest = here.top y rest ops in
+      comes program has o map Issues (Issues ∷ HeldUp ∷ HeldUp ∷ Issues ∷ HeldUp ∷ HeldUp ∷ [])
+      (byte_in o.words (s.at + 1) ∷ []) pipe w k 0x57 s _ h code (assumption)
+      (at_boundary o _ _ _
+      (here.drops rest (s.at + 1) _ _ _ _ _ s.given t.frames (omega (arith, t.below))
+      refl refl (omega (arith, t.down.is, t.above)) t.next_top refl (t.down.untaken ∙ h.holds.untaken) h.holds.given)
+      (omega (arith, c.p1.is)) (omega arith) refl refl refl refl refl refl refl)
+
+  dup : (y : ℕ) (rest : List ℕ) → byte_in o.words s.at ≡ 0x59 → s.running.operands ≡ y ∷ rest → base (frames_of s) < length o.words →
+      ReachesBoundary program o 3 (record { state = pipe; world = w; stalls = k }) (push s y (s.at + 1))
+  dup y rest code ops space =
+      let c : Counts o s m = counts o s pipe w h inside in
+      let t : Top o s m.sp m.lv m.cpp m.tos w y rest = here.top y rest ops in
+      let r : IsWordAccess (length o.words) w (next m.sp) (base (frames_of s)) = here.room space in
+      let bottom : 0x8000 ≤ base s.callers = law.above s.callers in
+      let high : 0x8000 ≤ next m.sp = omega (arith, r.is) in
+      comes program has o map Issues (Issues ∷ HeldUp ∷ HeldUp ∷ []) (byte_in o.words (s.at + 1) ∷ []) pipe w k 0x59 s _ h code (assumption)
+      (at_boundary o _ _ _
+      (here.pushes s.running.operands _ (s.at + 1) _ _ _ _ _ s.untaken h.holds.frames space
+      refl refl r.is t.tos_is (ap₂ (slice_set w.words) r.is t.tos_is) h.holds.untaken (r.given _ _))
+      (omega (arith, c.p1.is)) (omega arith) refl refl refl refl refl refl refl)
+
+  swap : (y x : ℕ) (rest : List ℕ) → byte_in o.words s.at ≡ 0x5F → s.running.operands ≡ y ∷ x ∷ rest →
+      ReachesBoundary program o 9 (record { state = pipe; world = w; stalls = k }) (moved s (x ∷ y ∷ rest) (s.at + 1))
+  swap y x rest code ops =
+      let c : Counts o s m = counts o s pipe w h inside in
+      let t : Two o s m.sp m.lv m.cpp m.tos w y x rest = here.two y x rest ops in
+      let bottom : 0x8000 ≤ base s.callers = law.above s.callers in
+      let len : length s.running.operands ≡ suc (suc (length rest)) = ap length ops in
+      let top_at : IsWordAccess (length o.words) w m.sp (place_behind s rest + 1) =
+      law.access (length o.words) w m.sp (place_behind s rest + 1) t.sp_is (omega (arith, h.holds.fits)) in
+      let high : 0x8000 ≤ m.sp = omega (arith, t.sp_is) in
+      let high2 : 0x8000 ≤ before m.sp = omega (arith, t.at.is) in
+      let apart : place_behind s rest + 1 ≢ place_behind s rest = omega arith in
+      let same : slice_set (slice_set w.words m.sp (read_value (length o.words) w.words w.untaken (before m.sp))) (before m.sp) m.tos ≡ slice_set
+      (slice_set w.words (place_behind s rest) y) (place_behind s rest + 1) x =
+      (λ j. slice_set (slice_set w.words (top_at.is j) (t.second j)) (t.at.is j) (t.tos_is j))
+      ∙ set_comm w.words (place_behind s rest + 1) (place_behind s rest) x y apart in
+      comes program has o map Issues (Issues ∷ HeldUp ∷ HeldUp ∷ Issues ∷ Issues ∷ Issues ∷ Issues ∷ HeldUp ∷ HeldUp ∷ [])
+      (byte_in o.words (s.at + 1) ∷ []) pipe w k 0x5F s _ h code (assumption)
+      (at_boundary o _ _ _
+      (here.swaps y x rest (s.at + 1) _ _ _ _ _ t refl refl refl t.second same (t.at.untaken ∙ h.holds.untaken) (t.at.given _ _ ∙ top_at.given _ _))
+      (omega (arith, c.p1.is)) (omega arith) refl refl refl refl refl refl refl)
+
+  iadd : (y x : ℕ) (rest : List ℕ) → byte_in o.words s.at ≡ 0x60 → s.running.operands ≡ y ∷ x ∷ rest →
+      ReachesBoundary program o 6 (record { state = pipe; world = w; stalls = k }) (moved s (plus x y ∷ rest) (s.at + 1))
+  iadd y x rest code ops =
+      let c : Counts o s m = counts o s pipe w h inside in
+      let t : Two o s m.sp m.lv m.cpp m.tos w y x rest = here.two y x rest ops in
+      let bottom : 0x8000 ≤ base s.callers = law.above s.callers in
+      let high : 0x8000 ≤ before m.sp = omega (arith, t.at.is) in
+      let v : plus (read_value (length o.words) w.words w.untaken (before m.sp)) m.tos ≡ plus x y = ap₂ plus t.second t.tos_is in
+      comes program has o map Issues (Issues ∷ HeldUp ∷ HeldUp ∷ Issues ∷ HeldUp ∷ HeldUp ∷ [])
+      (byte_in o.words (s.at + 1) ∷ []) pipe w k 0x60 s _ h code (assumption)
+      (at_boundary o _ _ _
+      (here.pushes rest _ (s.at + 1) _ _ _ _ _ s.untaken t.frames t.at.below
+      refl refl t.at.is v (ap₂ (slice_set w.words) t.at.is v) (t.at.untaken ∙ h.holds.untaken) (t.at.given _ _))
+      (omega (arith, c.p1.is)) (omega arith) refl refl refl refl refl refl refl)
+
+  isub : (y x : ℕ) (rest : List ℕ) → byte_in o.words s.at ≡ 0x64 → s.running.operands ≡ y ∷ x ∷ rest →
+      ReachesBoundary program o 6 (record { state = pipe; world = w; stalls = k }) (moved s (minus x y ∷ rest) (s.at + 1))
+  isub y x rest code ops =
+      let c : Counts o s m = counts o s pipe w h inside in
+      let t : Two o s m.sp m.lv m.cpp m.tos w y x rest = here.two y x rest ops in
+      let bottom : 0x8000 ≤ base s.callers = law.above s.callers in
+      let high : 0x8000 ≤ before m.sp = omega (arith, t.at.is) in
+      let v : minus (read_value (length o.words) w.words w.untaken (before m.sp)) m.tos ≡ minus x y = ap₂ minus t.second t.tos_is in
+      comes program has o map Issues (Issues ∷ HeldUp ∷ HeldUp ∷ Issues ∷ HeldUp ∷ HeldUp ∷ [])
+      (byte_in o.words (s.at + 1) ∷ []) pipe w k 0x64 s _ h code (assumption)
+      (at_boundary o _ _ _
+      (here.pushes rest _ (s.at + 1) _ _ _ _ _ s.untaken t.frames t.at.below
+      refl refl t.at.is v (ap₂ (slice_set w.words) t.at.is v) (t.at.untaken ∙ h.holds.untaken) (t.at.given _ _))
+      (omega (arith, c.p1.is)) (omega arith) refl refl refl refl refl refl refl)
+
+  iand : (y x : ℕ) (rest : List ℕ) → byte_in o.words s.at ≡ 0x7E → s.running.operands ≡ y ∷ x ∷ rest →
+      ReachesBoundary program o 6 (record { state = pipe; world = w; stalls = k }) (moved s (bit_and x y ∷ rest) (s.at + 1))
+  iand y x rest code ops =
+      let c : Counts o s m = counts o s pipe w h inside in
+      let t : Two o s m.sp m.lv m.cpp m.tos w y x rest = here.two y x rest ops in
+      let bottom : 0x8000 ≤ base s.callers = law.above s.callers in
+      let high : 0x8000 ≤ before m.sp = omega (arith, t.at.is) in
+      let v : bit_and (read_value (length o.words) w.words w.untaken (before m.sp)) m.tos ≡ bit_and x y = ap₂ bit_and t.second t.tos_is in
+      comes program has o map Issues (Issues ∷ HeldUp ∷ HeldUp ∷ Issues ∷ HeldUp ∷ HeldUp ∷ [])
+      (byte_in o.words (s.at + 1) ∷ []) pipe w k 0x7E s _ h code (assumption)
+      (at_boundary o _ _ _
+      (here.pushes rest _ (s.at + 1) _ _ _ _ _ s.untaken t.frames t.at.below
+      refl refl t.at.is v (ap₂ (slice_set w.words) t.at.is v) (t.at.untaken ∙ h.holds.untaken) (t.at.given _ _))
+      (omega (arith, c.p1.is)) (omega arith) refl refl refl refl refl refl refl)
+
+  ior : (y x : ℕ) (rest : List ℕ) → byte_in o.words s.at ≡ 0xB0 → s.running.operands ≡ y ∷ x ∷ rest →
+      ReachesBoundary program o 6 (record { state = pipe; world = w; stalls = k }) (moved s (bit_or x y ∷ rest) (s.at + 1))
+  ior y x rest code ops =
+      let c : Counts o s m = counts o s pipe w h inside in
+      let t : Two o s m.sp m.lv m.cpp m.tos w y x rest = here.two y x rest ops in
+      let bottom : 0x8000 ≤ base s.callers = law.above s.callers in
+      let high : 0x8000 ≤ before m.sp = omega (arith, t.at.is) in
+      let v : bit_or (read_value (length o.words) w.words w.untaken (before m.sp)) m.tos ≡ bit_or x y = ap₂ bit_or t.second t.tos_is in
+      comes program has o map Issues (Issues ∷ HeldUp ∷ HeldUp ∷ Issues ∷ HeldUp ∷ HeldUp ∷ [])
+      (byte_in o.words (s.at + 1) ∷ []) pipe w k 0xB0 s _ h code (assumption)
+      (at_boundary o _ _ _
+      (here.pushes rest _ (s.at + 1) _ _ _ _ _ s.untaken t.frames t.at.below
+      refl refl t.at.is v (ap₂ (slice_set w.words) t.at.is v) (t.at.untaken ∙ h.holds.untaken) (t.at.given _ _))
+      (omega (arith, c.p1.is)) (omega arith) refl refl refl refl refl refl refl)
+
+  ior80 : (y x : ℕ) (rest : List ℕ) → byte_in o.words s.at ≡ 0x80 → s.running.operands ≡ y ∷ x ∷ rest →
+      ReachesBoundary program o 6 (record { state = pipe; world = w; stalls = k }) (moved s (bit_or x y ∷ rest) (s.at + 1))
+  ior80 y x rest code ops =
+      let c : Counts o s m = counts o s pipe w h inside in
+      let t : Two o s m.sp m.lv m.cpp m.tos w y x rest = here.two y x rest ops in
+      let bottom : 0x8000 ≤ base s.callers = law.above s.callers in
+      let high : 0x8000 ≤ before m.sp = omega (arith, t.at.is) in
+      let v : bit_or (read_value (length o.words) w.words w.untaken (before m.sp)) m.tos ≡ bit_or x y = ap₂ bit_or t.second t.tos_is in
+      comes program has o map Issues (Issues ∷ HeldUp ∷ HeldUp ∷ Issues ∷ HeldUp ∷ HeldUp ∷ [])
+      (byte_in o.words (s.at + 1) ∷ []) pipe w k 0x80 s _ h code (assumption)
+      (at_boundary o _ _ _
+      (here.pushes rest _ (s.at + 1) _ _ _ _ _ s.untaken t.frames t.at.below
+      refl refl t.at.is v (ap₂ (slice_set w.words) t.at.is v) (t.at.untaken ∙ h.holds.untaken) (t.at.given _ _))
+      (omega (arith, c.p1.is)) (omega arith) refl refl refl refl refl refl refl)
+
+module _ (program : List ℕ) (has : Known program) (o : Origin) (v : VerifiedView) (loads : Loads v o) (law : StackLaw) where
+  abbrev map : IsMapEnd (length o.words)
+  map = law.map v o loads
+
+  goes : (s to : State) (q : Moment Pipeline) (i : Instr) → IsOfOperands i → Fine v s → IsNext v o s i → Stands o s q.state q.world →
+      Went v.image v.map.stack_end s to i →
+      Moves mic3_meaning program (Stands o) o.given q (cost v.image mic3_timing i s) to
+  goes s to q Nop is fine n h went = moves program o v s to _ q Nop 2 0x00 h n.reads refl refl refl (omega arith) went
+      (nop program has o map law s q.state q.world q.stalls h (law.inside v o s _ loads n) n.reads)
+  goes s to q (Bipush b) is fine n h went =
+      let word : signed_byte (byte_in o.words (s.at + 1)) ≡ word_of b = sym n.reads.1 in
+      moves program o v s to _ q (Bipush b) 3 0x10 h n.reads.0 refl refl refl (omega arith) (ap (λ (x : ℕ). push s x (s.at + 2)) word ∙ went.goes)
+      (bipush program has o map law s q.state q.world q.stalls h (law.inside v o s _ loads n) n.reads.0 (omega (arith, went.fits, loads.long)))
+  goes s to q Pop is fine n h went =
+      moves program o v s to _ q Pop 6 0x57 h n.reads refl refl refl (omega arith) went.leads
+      (pop program has o map law s q.state q.world q.stalls h (law.inside v o s _ loads n) went.top went.rest n.reads went.are)
+  goes s to q Dup is fine n h went =
+      moves program o v s to _ q Dup 3 0x59 h n.reads refl refl refl (omega arith) went.leads.goes
+      (dup program has o map law s q.state q.world q.stalls h (law.inside v o s _ loads n) went.top went.rest n.reads went.are
+      (omega (arith, went.leads.fits, loads.long)))
+  goes s to q Swap is fine n h went =
+      moves program o v s to _ q Swap 9 0x5F h n.reads refl refl refl (omega arith) went.leads
+      (swap program has o map law s q.state q.world q.stalls h (law.inside v o s _ loads n) went.top went.second went.rest n.reads went.are)
+  goes s to q Iadd is fine n h went =
+      moves program o v s to _ q Iadd 6 0x60 h n.reads refl refl refl (omega arith) went.leads
+      (iadd program has o map law s q.state q.world q.stalls h (law.inside v o s _ loads n) went.top went.second went.rest n.reads went.are)
+  goes s to q Isub is fine n h went =
+      moves program o v s to _ q Isub 6 0x64 h n.reads refl refl refl (omega arith) went.leads
+      (isub program has o map law s q.state q.world q.stalls h (law.inside v o s _ loads n) went.top went.second went.rest n.reads went.are)
+  goes s to q Iand is fine n h went =
+      moves program o v s to _ q Iand 6 0x7E h n.reads refl refl refl (omega arith) went.leads
+      (iand program has o map law s q.state q.world q.stalls h (law.inside v o s _ loads n) went.top went.second went.rest n.reads went.are)
+  goes s to q Ior is fine n h went = elim n.reads [
+    | inl code ↦
+        moves program o v s to _ q Ior 6 0xB0 h code refl refl refl (omega arith) went.leads
+        (ior program has o map law s q.state q.world q.stalls h (law.inside v o s _ loads n) went.top went.second went.rest code went.are)
+    | inr code ↦
+        moves program o v s to _ q Ior 6 0x80 h code refl refl refl (omega arith) went.leads
+        (ior80 program has o map law s q.state q.world q.stalls h (law.inside v o s _ loads n) went.top went.second went.rest code went.are)
+  ]
+  goes s to q i is fine n h went = absurd is
+
+  limits : (s left : State) (q : Moment Pipeline) (i : Instr) → IsOfOperands i → Fine v s → IsNext v o s i → Stands o s q.state q.world →
+      Overran v.image v.map.stack_end s left i →
+      Overruns mic3_meaning program (Stands o) o.given q left
+  limits s left q (Bipush b) is fine n h over =
+      let c : Counts o s q.state.micro = counts o s q.state q.world h (law.inside v o s _ loads n) in
+      let fault : write_refusal (length o.words) (next q.state.micro.sp) ≡ Some (StackLimit (next q.state.micro.sp)) =
+      (law.boundary o s q.state.micro.sp q.state.micro.lv q.state.micro.cpp q.state.micro.tos q.world map h.holds).full
+      (omega (arith, over.over, loads.long)) in
+      overruns program has o map s left q Issues (Issues ∷ HeldUp ∷ []) (byte_in o.words (plus q.state.micro.pc 1) ∷ []) HeldUp 0x10
+      (next q.state.micro.sp) h n.reads.0 refl refl (omega arith) (assumption) refl refl (refl, fault)
+      (h.holds.untaken ∙ ap (λ (t : State). t.untaken) over.leaves) (h.holds.given ∙ ap (λ (t : State). o.given ++ t.given) over.leaves)
+  limits s left q Dup is fine n h over =
+      let c : Counts o s q.state.micro = counts o s q.state q.world h (law.inside v o s _ loads n) in
+      let fault : write_refusal (length o.words) (next q.state.micro.sp) ≡ Some (StackLimit (next q.state.micro.sp)) =
+      (law.boundary o s q.state.micro.sp q.state.micro.lv q.state.micro.cpp q.state.micro.tos q.world map h.holds).full
+      (omega (arith, over.leads.over, loads.long)) in
+      overruns program has o map s left q Issues (Issues ∷ HeldUp ∷ []) (byte_in o.words q.state.micro.pc ∷ []) HeldUp 0x59
+      (next q.state.micro.sp) h n.reads refl refl (omega arith) (assumption) refl refl (refl, fault)
+      (h.holds.untaken ∙ ap (λ (t : State). t.untaken) over.leads.leaves) (h.holds.given ∙ ap (λ (t : State). o.given ++ t.given) over.leads.leaves)
+  limits s left q Nop is fine n h over = absurd over
+  limits s left q Pop is fine n h over = absurd over
+  limits s left q Swap is fine n h over = absurd over
+  limits s left q Iadd is fine n h over = absurd over
+  limits s left q Isub is fine n h over = absurd over
+  limits s left q Iand is fine n h over = absurd over
+  limits s left q Ior is fine n h over = absurd over
+  limits s left q i is fine n h over = absurd is
+
+  pub operands : Takes mic3_meaning program (Stands o) o.given mic3_timing v o IsOfOperands
+  operands = record { goes = goes; limits = limits }

@@ -1,0 +1,39 @@
+-- The bytes that a cycle of Mic-3 gives come behind what had been given.
+use Rattle.std.proofs.Common.{ℕ, Some, None, Option, List, [], length, sym}
+use Rattle.std.proofs.lemmas.List.{append-nil}
+use Rattle.console_port.specs.World.{World, Refusal}
+use Rattle.mic_words.specs.declared.machine.Machine.TheVariants as machines
+use Rattle.micro_word.specs.Coding.{statement_of}
+use Rattle.micro_word.specs.declared.statement.Mem.{Mem}
+use Rattle.micro_word.specs.declared.statement.Mem.TheVariants.{None as Idle, Read, Write}
+use Rattle.mic_datapath.specs.Registers.{ports_given}
+use Rattle.mic_datapath.specs.declared.ports.Ports.{Ports}
+use Rattle.mic_datapath.specs.Memory.{written, sampled, outcome}
+use Rattle.mic3_datapath.specs.Pipeline.{Pipeline, Issued}
+use Rattle.mic3_datapath.specs.Cycle.{issued, mem_in, settled, clock, world_after, refusal}
+use Rattle.mic3_datapath.specs.Mic3.{step_of_word}
+use Rattle.ijvm_simulation.specs.Law.{Grows, OnDone}
+use Rattle.ijvm_simulation.specs.Words.{WordLaw}
+
+stays : (xs : List ℕ) → Grows xs xs
+stays xs = record { more = []; are = sym (append-nil xs) }
+
+module _ (words : WordLaw) where
+  access_grows : (top : ℕ) (mem : Mem) (p : Ports) (w : World) → Grows w.given (sampled top mem p (written top mem p w)).given
+  access_grows top Write p w = words.given_grows top w.given p.mar p.mdr
+  access_grows top Read p w = stays w.given
+  access_grows top Idle p w = stays w.given
+
+  pub step_grows : (word : ℕ) (p : Pipeline) (w : World) → OnDone (λ (v : World). Grows w.given v.given) (step_of_word word p w)
+  unfolding step_of_word
+  step_grows word p w = by_refusal (refusal (length w.words) i p)
+    where
+      i : Option Issued
+      i = issued (statement_of machines.Mic2 word) p
+
+      by_refusal : (r : Option Refusal) →
+          OnDone (λ (v : World). Grows w.given v.given)
+          (outcome r (clock (length w.words) (issued (statement_of machines.Mic2 word) p) p w)
+          (world_after (length w.words) (issued (statement_of machines.Mic2 word) p) p w))
+      by_refusal (Some why) = tt
+      by_refusal None = access_grows (length w.words) (mem_in p.result) (ports_given (settled (issued (statement_of machines.Mic2 word) p) p)) w

@@ -1,0 +1,7 @@
+//! That Mic-3, with the microprogram that ships for Mic-2, interprets IJVM.
+#![tactic(auto)]
+
+mod interpreter;
+mod laws;
+
+pub use interpreter::{Mic3Interpreter, run_image3};
