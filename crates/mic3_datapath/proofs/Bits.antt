@@ -1,5 +1,5 @@
 -- What a word's bits and control lines say of its statement.
-use Rattle.std.proofs.Common.{◌≡◌, ◌≢◌, ℕ, ◌+◌, ◌-◌, ◌/◌, ◌%◌, ◌^◌, ◌==◌, ◌||◌, ◌&&◌, ◌<◌, ◌≤◌, Bool, true, false, Option, Some, None, ap, refl, ◌∙◌, arith}
+use Rattle.std.proofs.Common.{◌≡◌, ◌≢◌, ℕ, ◌+◌, ◌-◌, ◌/◌, ◌%◌, ◌^◌, ◌==◌, ◌||◌, ◌&&◌, ◌<◌, ◌≤◌, true, false, Option, Some, None, ap, refl, ◌∙◌, arith}
 use Rattle.micro_word.specs.Coding.{addr_bits, jam_bits}
 use Rattle.micro_word.specs.Lines.{names, place_on_bus}
 use Rattle.micro_word.specs.declared.statement.BusSource.{BusSource}

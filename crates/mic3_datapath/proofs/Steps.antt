@@ -1,6 +1,6 @@
 -- What is asked of the bus for the statement that retires, with its access, is the cycle or its refusal.
 use Rattle.std.proofs.Common.{arith, ◌≡◌, ℕ, ◌%◌, ◌≤◌, ◌==◌, ◌&&◌, Bool, true, false, if◌then◌else◌, IsTrue, List, [], ◌∷◌, ◌++◌, drop, Option, Some, None, Result, Ok, Err, length, inl, inr, refl, sym, ap, ap₂, subst, ◌∙◌}
-use Rattle.std.specs.Prelude.{⊤, IfErr, IfSome, OnOk, nat_lt, ◌||◌}
+use Rattle.std.specs.Prelude.{⊤, IfErr, OnOk, nat_lt, ◌||◌}
 use Rattle.std.proofs.lemmas.Bool.Decides.{nat_tests}
 use Rattle.console_port.specs.World.{World, Refusal, StackLimit, OutOfMap, fault_of, console_at}
 use Rattle.console_port.specs.Bus.{refused_by}
@@ -11,7 +11,7 @@ use Rattle.micro_word.specs.Coding.{statement_of}
 use Rattle.micro_word.specs.declared.statement.Mem.{Mem}
 use Rattle.micro_word.specs.declared.statement.Mem.TheVariants as mems
 use Rattle.micro_word.specs.declared.statement.Placed.{Placed}
-use Rattle.mic_clock.specs.Meaning.{Outcome, Done, refusal_in, untaken_by, given_by, ReadsConsole, WritesConsole, UsesConsole}
+use Rattle.mic_clock.specs.Meaning.{Done, refusal_in, untaken_by, given_by, ReadsConsole, WritesConsole, UsesConsole}
 use Rattle.mic_datapath.specs.Access.{IsTransfer, is_read, is_access}
 use Rattle.mic_datapath.specs.Memory.{first_refusal, memory_refusal, word_under_way, written, sampled, outcome}
 use Rattle.mic_datapath.specs.Places.{registers_at}

@@ -1,10 +1,6 @@
-use Rattle.std.proofs.Common.{◌≡◌, ◌≤◌, ℕ, Bool, false, length, Option, Some, None, if◌then◌else◌, subst, sym, ap, ◌∙◌}
+use Rattle.std.proofs.Common.{◌≡◌, ◌≤◌, ℕ, Bool, false, length, Some, None, if◌then◌else◌, subst, sym, ap, ◌∙◌}
 use Rattle.mic_words.specs.declared.machine.Machine.TheVariants as machines
 use Rattle.micro_word.specs.Coding.{statement_of}
-use Rattle.micro_word.specs.declared.statement.BusSource.{BusSource}
-use Rattle.mic2_datapath.specs.Latches.{micro_in}
-use Rattle.mic2_datapath.specs.Microstep.{demand, source}
-use Rattle.mic3_datapath.specs.Pipeline.{Issued}
 use Rattle.mic3_datapath.specs.Cycle.{issued_by, waits}
 use Rattle.mic3_datapath.specs.Slots.{pipeline_in}
 use Rattle.mic3_datapath.proofs.Steps.{enough}
