@@ -1,0 +1,8 @@
+mod Led
+mod Stands
+mod Does
+mod Values
+mod Flows
+mod Runs
+mod Ends
+mod AsMeant
