@@ -1,0 +1,37 @@
+-- Lists of faults, one after the other.
+use Rattle.std.proofs.Common.{◌≡◌, ℕ, suc, ◌+◌, ◌<◌, [], ◌∷◌, ◌++◌, List, length, get_or, drop, drop-cons, add-one, map, refl, ap, sym, ◌∙◌, arith}
+use Rattle.std.specs.Prelude.{Option, Some, None}
+use Rattle.tiny_draft.specs.declared.tree.Expr.{Expr}
+use Rattle.tiny_draft.specs.declared.tree.Step.{Step, out-Step}
+use Rattle.tiny_draft.specs.Tree.{arguments_of, steps_of}
+use Rattle.tiny_draft.specs.declared.tree.Term.TheFolds.{fold_out-Step}
+use Rattle.tiny_tree.specs.declared.tree.Operator.{Operator}
+use Rattle.tiny_draft.specs.Tree as tree
+use Rattle.tiny_draft.specs.View.{expr_level, expr_tree, step_level, step_tree, term_level, term_tree}
+use Rattle.tiny_names.specs.declared.fault.Fault.{Fault}
+use Rattle.tiny_names.specs.declared.functions.Signature.{Signature}
+use Rattle.tiny_names.specs.Faults.{count, first, step_faults, term_faults}
+
+pub first_some : (a b : List Fault) (f : Fault) → Some f ≡ first a → Some f ≡ first (a ++ b)
+first_some [] b f h = absurd (cc)
+first_some (x ∷ a) b f h = h
+
+pub first_none : (a b : List Fault) → None ≡ first a → first (a ++ b) ≡ first b
+first_none [] b h = refl
+first_none (x ∷ a) b h = absurd (cc)
+
+pub count_arguments : (es : List Expr) → count (arguments_of (map expr_tree es)) ≡ length es
+count_arguments [] = refl
+count_arguments (e ∷ es) = let r = count_arguments es in omega (arith, r)
+
+pub drop_item : {A : Type 0} (xs : List A) (i : ℕ) (x : A) → i < length xs → x ≡ get_or xs i x → drop i xs ≡ x ∷ drop (i + 1) xs
+drop_item xs i x lt is = rw add-one (drop-cons xs i x lt ∙ ap (λ y. y ∷ drop (suc i) xs) (sym is))
+
+step_tree_out : (s : Step) → step_tree s ≡ ((out-Step s).operator, term_tree (out-Step s).term)
+step_tree_out s = fold_out-Step tree.Term tree.Expr (Operator × tree.Term) term_level expr_level step_level s
+
+pub steps_at : (known : ℕ → Option Signature) (seen : List ℕ) (ss : List Step) (i : ℕ) (s : Step) → i < length ss → s ≡ get_or ss i s
+    → step_faults known seen (steps_of (map step_tree (drop i ss)))
+    ≡ term_faults known seen (term_tree (out-Step s).term) ++ step_faults known seen (steps_of (map step_tree (drop (i + 1) ss)))
+steps_at known seen ss i s lt is = ap (λ l. step_faults known seen (steps_of (map step_tree l))) (drop_item ss i s lt is)
+    ∙ ap (λ (x : Operator × tree.Term). term_faults known seen x.1 ++ step_faults known seen (steps_of (map step_tree (drop (i + 1) ss)))) (step_tree_out s)

@@ -1,0 +1,16 @@
+use Rattle.std.proofs.Common.{◌≡◌, drop, map}
+use Rattle.tiny_draft.specs.Tree.{arguments_of, steps_of}
+use Rattle.tiny_draft.specs.View.{expr_tree, step_tree}
+use Rattle.tiny_names.specs.Faults.{argument_faults, expr_faults, first, step_faults}
+use Rattle.tiny_names.specs.Names.{lookup}
+use Rattle.tiny_names.proofs.expr.+faults.Given as goal
+
+abbrev pub invariant-argument_fault-loop-argument : goal.invariant-argument_fault-loop-argument
+invariant-argument_fault-loop-argument l =
+    first (argument_faults (lookup l.functions) l.seen (arguments_of (map expr_tree l.arguments)))
+    ≡ first (argument_faults (lookup l.functions) l.seen (arguments_of (map expr_tree (drop l.argument-index l.arguments))))
+
+abbrev pub invariant-expr_fault-loop-step : goal.invariant-expr_fault-loop-step
+invariant-expr_fault-loop-step l =
+    first (expr_faults (lookup l.functions) l.seen (expr_tree l.expr))
+    ≡ first (step_faults (lookup l.functions) l.seen (steps_of (map step_tree (drop l.step-index l.step-items))))

@@ -1,0 +1,11 @@
+use Rattle.std.proofs.Common.{◌≡◌, ◌≤◌, ◌++◌, drop, length, map}
+use Rattle.tiny_names.specs.Faults.{first, parameter_faults}
+use Rattle.tiny_names.specs.Names.{name_of}
+use Rattle.tiny_names.proofs.program.declare_all.Given as goal
+
+abbrev pub invariant-loop-parameter : goal.invariant-loop-parameter
+invariant-loop-parameter l = let rest = drop l.parameter-index l.parameters in record {
+  same : first (parameter_faults l.fn.declared.items l.parameters) ≡ first (parameter_faults l.declared.items rest);
+  all : l.declared.items ++ map name_of rest ≡ l.fn.declared.items ++ map name_of l.parameters;
+  few : length l.declared.items ≤ 255;
+}

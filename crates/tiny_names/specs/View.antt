@@ -1,0 +1,8 @@
+-- The plain tree that a program is.
+use Rattle.std.specs.Prelude.{map}
+use Rattle.tiny_names.specs.declared.tiny_program.TinyProgram.{TinyProgram}
+use Rattle.tiny_tree.specs.Tree.{Program}
+use Rattle.tiny_tree.specs.View.{function_tree}
+
+abbrev pub program_tree : TinyProgram → Program
+program_tree p = record { functions = map function_tree p.functions; main = p.main }
