@@ -1,5 +1,5 @@
 -- What the words of a command line ask for: a command's name, and then what the entries behind it say, by the table.
-use Rattle.std.specs.Prelude.{◌≡◌, ◌≤◌, ℕ, ℤ, pos, Bool, false, ◌&&◌, nat_le, if◌then◌else◌, List, [], ◌∷◌, Option, Some, None, Result, Ok, Err, codes, is_some, option_and_then, option_map, unwrap_or}
+use Rattle.std.specs.Prelude.{◌≡◌, ◌≤◌, ◌<◌, ℕ, ℤ, pos, Bool, false, ◌&&◌, nat_le, if◌then◌else◌, List, [], ◌∷◌, Option, Some, None, Result, Ok, Err, codes, is_some, option_and_then, option_map, unwrap_or}
 use Rattle.std.specs.Str.{bytes_eq}
 use Rattle.mic_base.specs.Number.{number_of}
 use Rattle.mic_base.specs.declared.number.NumberError.{NumberError}
@@ -40,6 +40,8 @@ pub data Asked : Type 0 where
   PrintMicro : (file : Option Text) (machine : Machine) → Asked
   -- a generated program of so many blocks
   Soak : (seed size : ℕ) (machine : Machine) → Asked
+  -- a run on Mic-1 with a cache of so many lines
+  Cache : (file : Text) (lines bound : ℕ) (map : MemoryMap) → Asked
 
 abbrev pub asked_run : Job → Mode → Asked
 asked_run job modes.Shipped = Run job.file.now job.machine job.bound job.map
@@ -58,6 +60,7 @@ asked (requests.Run job mode) = asked_run job mode
 asked (requests.Micro mal store machine) = Micro mal.now store.now machine
 asked (requests.PrintMicro file machine) = PrintMicro (option_map (λ file. file.now) file) machine
 asked (requests.Soak seed size machine) = Soak seed size machine
+asked (requests.Cache file lines bound map) = Cache file.now lines bound map
 
 -- The numbers of the command line.
 
@@ -77,6 +80,10 @@ most_seed = 4294967295
 abbrev pub most_blocks : ℕ
 most_blocks = 9000
 
+-- the most lines of a cache
+abbrev pub most_lines : ℕ
+most_lines = 4096
+
 -- one of the two maps
 abbrev pub HasMap : MemoryMap → Type 0
 HasMap map = IsMap map.stack_end
@@ -84,12 +91,17 @@ HasMap map = IsMap map.stack_end
 abbrev pub HasJobLimits : Job → Type 0
 HasJobLimits job = (job.bound ≤ most_cycles) × HasMap job.map
 
--- the map of a request is one of the two, and its bound or its size at most the greatest
+-- a cache has a line, and at most the most
+abbrev pub IsLineCount : ℕ → Type 0
+IsLineCount lines = (0 < lines) × (lines ≤ most_lines)
+
+-- the map of a request is one of the two, its bound or its size at most the greatest, and its lines are those that a cache may have
 abbrev pub HasLimits : Request → Type 0
 HasLimits (requests.List file map) = HasMap map
 HasLimits (requests.Verify file map) = HasMap map
 HasLimits (requests.Run job mode) = HasJobLimits job
 HasLimits (requests.Soak seed size machine) = size ≤ most_blocks
+HasLimits (requests.Cache file lines bound map) = IsLineCount lines × (bound ≤ most_cycles) × HasMap map
 HasLimits request = Unit {0}
 
 -- The value of an option, where it is given, and what holds where it is not.
@@ -114,6 +126,9 @@ bound_in (Some word) = number_within 0 most_cycles (number_of word)
 abbrev pub machine_of : List Entry → Option Machine
 machine_of given = machine_in (text_in (codes "machine") given)
 
+abbrev pub bound_of : List Entry → Option ℕ
+bound_of given = bound_in (text_in (codes "bound") given)
+
 abbrev pub map_of : List Entry → Option MemoryMap
 map_of given = map_in (text_in (codes "map") given)
 
@@ -124,6 +139,9 @@ seed_in word = number_within 0 most_seed (number_of word)
 
 abbrev pub size_in : Text → Option ℕ
 size_in word = number_within 1 most_blocks (number_of word)
+
+abbrev pub lines_in : Text → Option ℕ
+lines_in word = number_within 1 most_lines (number_of word)
 
 -- A flag reads as `true` where it is given, and as `false` where it is not.
 
@@ -208,6 +226,10 @@ abbrev pub soak_of : List Entry → Option Asked
 soak_of given = option_and_then (λ seed. option_and_then (λ size. option_map (λ machine. Soak seed size machine)
     (machine_of given)) (option_and_then size_in (text_in (codes "SIZE") given))) (option_and_then seed_in (text_in (codes "SEED") given))
 
+abbrev pub cache_of : List Entry → Option Asked
+cache_of given = option_and_then (λ file. option_and_then (λ lines. option_and_then (λ bound. option_map (λ map. Cache file lines bound map)
+    (map_of given)) (bound_of given)) (option_and_then lines_in (text_in (codes "LINES") given))) (text_in (codes "FILE") given)
+
 abbrev pub is_given : Text → List Entry → Bool
 is_given option given = is_some (text_in option given)
 
@@ -224,6 +246,7 @@ asked_of name.Reference given = reference_of given
 asked_of name.Micro given = micro_of given
 asked_of name.PrintMicro given = print_micro_of given
 asked_of name.Soak given = soak_of given
+asked_of name.Cache given = cache_of given
 
 abbrev pub asked_by : Option CommandName → List Text → Option Asked
 asked_by None words = None

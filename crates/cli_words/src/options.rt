@@ -3,7 +3,7 @@
 ghost use Rattle.std.specs.Prelude.{◌≡◌, ◌≤◌, IfSome};
 ghost use Rattle.std.specs.Option.{option_map};
 ghost use Rattle.mic_base.specs.Number.{number_of};
-ghost use Rattle.cli_words.specs.Words.{HasMap, bound_in, is_true, machine_in, map_in, most_blocks, most_cycles, number_within, seed_in, size_in};
+ghost use Rattle.cli_words.specs.Words.{HasMap, IsLineCount, bound_in, is_true, lines_in, machine_in, map_in, most_blocks, most_cycles, number_within, seed_in, size_in};
 
 use console_port::MemoryMap;
 use mic_base::Number;
@@ -21,6 +21,9 @@ pub const MOST_SEED: u32 = 4_294_967_295;
 /// The greatest number of blocks of a generated program.
 pub const MOST_BLOCKS: u16 = 9_000;
 
+/// The most lines of a cache.
+pub const MOST_LINES: u16 = 4_096;
+
 /// Mic-1 where no machine is given.
 pub(crate) fn machine_in(value: Option<&str>) -> Option<Machine>
     ensures { result ≡ machine_in (option_map (λ value. value.now) value.entry) }
@@ -35,7 +38,7 @@ pub(crate) fn machine_in(value: Option<&str>) -> Option<Machine>
 
 fn number_within(word: &str, least: u64, greatest: u64) -> Option<u64>
     ensures value { result ≡ number_within least greatest (number_of word.now) }
-    ensures small { IfSome result (λ n. n ≤ greatest) }
+    ensures within { IfSome result (λ n. (least ≤ n) × (n ≤ greatest)) }
 {
     match Number::read(word.as_bytes()) {
         Ok(number) if number >= 0 && least <= number as u64 && number as u64 <= greatest => {
@@ -68,6 +71,14 @@ pub(crate) fn size_in(word: &str) -> Option<u16>
 {
     let size = number_within(word, 1, u64::from(MOST_BLOCKS))?;
     Some(size as u16)
+}
+
+pub(crate) fn lines_in(word: &str) -> Option<u16>
+    ensures value { result ≡ lines_in word.now }
+    ensures within { IfSome result IsLineCount }
+{
+    let lines = number_within(word, 1, u64::from(MOST_LINES))?;
+    Some(lines as u16)
 }
 
 /// The standard map where none is given.

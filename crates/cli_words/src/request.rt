@@ -73,4 +73,11 @@ pub enum Request<'a> {
         size: u16,
         machine: Machine,
     },
+    /// A run on Mic-1 whose accesses of memory a cache of so many lines repeats.
+    Cache {
+        file: &'a str,
+        lines: u16,
+        bound: u64,
+        map: MemoryMap,
+    },
 }

@@ -18,6 +18,7 @@ pub enum CommandName {
     Micro,
     PrintMicro,
     Soak,
+    Cache,
 }
 
 /// A command's name, and what it takes: plain words, options with a value, and flags, by name.
@@ -45,7 +46,7 @@ macro_rules! rows {
     };
 }
 
-const COMMANDS: [Row; 11] = rows! {
+const COMMANDS: [Row; 12] = rows! {
     // command  name           plain words          whole  options                                           flags
     Assemble    "assemble"     ["SOURCE", "IMAGE"]  true   []                                                []
     List        "list"         ["FILE"]             true   ["map"]                                           []
@@ -58,6 +59,7 @@ const COMMANDS: [Row; 11] = rows! {
     Micro       "micro"        ["MAL", "STORE"]     true   ["machine"]                                       []
     PrintMicro  "print-micro"  ["FILE"]             false  ["machine"]                                       []
     Soak        "soak"         ["SEED", "SIZE"]     true   ["machine"]                                       []
+    Cache       "cache"        ["FILE", "LINES"]    true   ["bound", "map"]                                  []
 };
 
 fn first_named(rows: &[Row], word: &str) -> Option<Row>
