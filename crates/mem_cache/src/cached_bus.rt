@@ -1,9 +1,10 @@
 //! A bus behind a direct-mapped cache.
 
-ghost use Rattle.std.specs.Prelude.{◌==◌, ◌≡◌, ◌≤◌, ◌<◌, ◌%◌, ◌^◌, ℕ, List, Option, Some, None, Ok, Err, true, [], length, slice_index, slice_set, slice_get, map, IsOk, IfOk, OnOk, OnErr, IfErr};
+ghost use Rattle.std.specs.Prelude.{◌==◌, ◌≡◌, ◌≢◌, ◌≤◌, ◌<◌, ◌%◌, ◌^◌, ℕ, List, Option, Some, None, Ok, Err, true, [], length, slice_index, slice_set, slice_get, map, nat_lt, IsOk, IsSome, IfOk, OnOk, OnErr, IfErr};
+ghost use Rattle.mic_base.specs.Streams.{Holds};
 ghost use Rattle.console_port.specs.Access.{IsAccess};
-ghost use Rattle.console_port.specs.Bus.{Shows, Stands, IsLed, IsRead, refused_by};
-ghost use Rattle.console_port.specs.Console.{HasFaultCause, IsFault};
+ghost use Rattle.console_port.specs.Bus.{ChangesOnly, Shows, Stands, IsLed, IsRead, refused_by};
+ghost use Rattle.console_port.specs.Console.{HasFaultCause, IsFault, StaysFlushed, StillTells, most_kept};
 ghost use Rattle.console_port.specs.World.{World, Refusal, after_write, byte_in, console_at, fault_of, fetch_refusal, read_refusal, write_refusal};
 ghost use Rattle.mem_cache.specs.Accesses.{Access};
 ghost use Rattle.mem_cache.specs.Tally.{empty_tally};
@@ -60,8 +61,15 @@ impl CachedBus {
         })
     }
 
+    /// Whether a memory word is there.
+    pub fn has(&self, at: u32) -> bool
+        ensures { result ≡ nat_lt at (length self.now.bus.words) }
+    {
+        self.bus.has(at)
+    }
+
     /// The memory word there, out of the line of its block.
-    fn load(&mut self, at: u32) -> u32
+    pub fn load(&mut self, at: u32) -> u32
         requires memory { at < length self.old.bus.words }
         requires counts { (self.old.tally.counts.hits < 2 ^ 63) × (self.old.tally.counts.misses < 2 ^ 63) }
         ensures value { result ≡ slice_index self.old.bus.words at }
@@ -96,6 +104,9 @@ impl CachedBus {
             IsLed (S.left source.old) (K.held sink.old) self.old.bus (S.left source.new) (K.held sink.new) self.new.bus (IsRead (length self.old.bus.words) at value)) }
         ensures access { IsAccess S.left S.faults K.held K.passed K.faults (λ w e. refused_by (read_refusal (length self.old.bus.words) at) ≡ Some e)
             (at == console_at) (at == console_at) source.old source.new sink.old sink.new self.old.bus self.new.bus result }
+        ensures ended { self.old.bus.console.ended ≡ true → self.new.bus.console.ended ≡ true }
+        ensures empty { self.old.bus.console.kept ≡ [] → sink.new ≡ sink.old }
+        ensures tells_left { StillTells (S.left source.old) self.old.bus.console.ended (S.left source.new) self.new.bus.console.ended }
         ensures fault { IfErr result (λ e. read_refusal (length self.old.bus.words) at ≡ None → (at ≡ console_at) × IsFault e) }
         ensures words { self.new.bus.words ≡ self.old.bus.words }
         ensures memory { at < length self.old.bus.words →
@@ -137,6 +148,14 @@ impl CachedBus {
         ensures words { OnOk result (self.new.bus.words ≡ slice_set self.old.bus.words at value) }
         ensures err { (left : Option (List ℕ)) → IfErr result (Stands left (K.held sink.old) self.old.bus left (K.held sink.new) self.new.bus) }
         ensures fault { IfErr result (λ e. write_refusal (length self.old.bus.words) at ≡ None → (at ≡ console_at) × (e ≡ BusFault.WriteFault)) }
+        ensures ended { self.new.bus.console.ended ≡ self.old.bus.console.ended }
+        ensures size { length self.new.bus.words ≡ length self.old.bus.words }
+        ensures others { ChangesOnly at self.old.bus.words self.new.bus.words }
+        ensures memory { at < length self.old.bus.words → IsOk result × (self.new.bus.console ≡ self.old.bus.console) × (sink.new ≡ sink.old) }
+        ensures waits { length self.old.bus.console.kept < most_kept → sink.new ≡ sink.old }
+        ensures keeps { (front : List ℕ) → Holds front (K.held sink.old) → Holds front (K.held sink.new) }
+        ensures tells { IsSome (K.held sink.old) → IsSome (K.held sink.new) }
+        ensures flushed { result ≢ Err BusFault.WriteFault → StaysFlushed (K.held sink.old) (K.passed sink.old) (K.held sink.new) (K.passed sink.new) }
         ensures uncounted { self.new.tally ≡ self.old.tally }
         ensures cause { HasFaultCause 0 0 (K.faults sink.old) (K.faults sink.new) result }
     {
