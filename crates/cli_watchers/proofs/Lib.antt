@@ -4,3 +4,4 @@ pub mod Ordered
 pub mod Listed
 pub mod Printed
 pub mod Counting
+pub mod Caching

@@ -3,3 +3,4 @@ pub mod Lines
 pub mod Rows
 pub mod Profile
 pub mod Counted
+pub mod Cached

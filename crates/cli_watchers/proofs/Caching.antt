@@ -1,0 +1,184 @@
+-- A cache counts the accesses of a run, and a run leaves it room.
+use Rattle.std.proofs.Common.{◌≡◌, ◌∙◌, ℕ, ◌+◌, ◌*◌, ◌/◌, ◌^◌, ◌<◌, ◌≤◌, Bool, true, false, ◌&&◌, if◌then◌else◌, List, [], ◌∷◌, ◌++◌, map, length, Option, Some, None, refl, sym, ap, subst, arith, get_or, replicate, append_assoc}
+use Rattle.std.specs.Prelude.{nat_lt, slice_index, slice_get, unwrap_or}
+use Rattle.std.proofs.lemmas.Bool.{lt-ltb, ltb-true}
+use Rattle.std.proofs.lemmas.List.{length-replicate}
+use Rattle.std.proofs.lemmas.Option.{unwrap_or-slice_get}
+use Rattle.std.proofs.Math.ListN as lists
+use Rattle.mic_words.specs.declared.machine.Machine.{Machine}
+use Rattle.mic_words.specs.declared.machine.Machine.TheVariants.{Mic1, Mic2}
+use Rattle.micro_word.specs.declared.statement.Mem.{Mem}
+use Rattle.micro_word.specs.declared.statement.Mem.TheVariants as mems
+use Rattle.micro_word.specs.Coding.{statement_of}
+use Rattle.console_port.specs.View.{BusView}
+use Rattle.mic_clock.specs.declared.registers.Registers.{Registers}
+use Rattle.mic_watched.specs.declared.cycle.Cycle.{Cycle}
+use Rattle.mic_watched.specs.Watched.{kept_of}
+use Rattle.mem_cache.specs.declared.counts.CacheCounts.{CacheCounts}
+use Rattle.mem_cache.specs.Accesses.{Access, Read, Write, Fetch, asks_for, hits_of, misses_of}
+use Rattle.mem_cache.specs.Tally.{Tally, after_asking, after_hit, after_miss, counted, empty_tally, has_block}
+use Rattle.mem_cache.specs.View.{AllLead, CacheView, answered}
+use Rattle.cli_watchers.specs.declared.cache.WordAccess.{WordAccess}
+use Rattle.cli_watchers.specs.Cached.{CacheKept, SaysNothing, access_at, access_in, accesses_by, accesses_of, all_counted, at_mar, at_pc, counts_of, has_room, kept_after, kept_of_cycles}
+
+-- ---- one access
+
+-- an access behind the memory is not counted
+pub read_past : (size at : ℕ) (t : Tally) → nat_lt at size ≡ false → counted size (Read at) t ≡ t
+read_past size at t past = rw past refl
+
+pub fetch_past : (size byte : ℕ) (t : Tally) → nat_lt (byte / 4) size ≡ false → counted size (Fetch byte) t ≡ t
+fetch_past size byte t past = rw past refl
+
+-- at most one hit or one miss more
+pub record IsFew (n : ℕ) (t t' : Tally) : Type 0 where
+  pub hits : t'.counts.hits ≤ t.counts.hits + n
+  pub misses : t'.counts.misses ≤ t.counts.misses + n
+  pub both : t'.counts.hits + t'.counts.misses ≤ t.counts.hits + t.counts.misses + n
+
+few_by_block : (block : ℕ) (t : Tally) (held : Bool) → IsFew 1 t (if held then after_hit t else after_miss block t)
+few_by_block block t true = record { hits = omega arith; misses = omega arith; both = omega arith }
+few_by_block block t false = record { hits = omega arith; misses = omega arith; both = omega arith }
+
+none_more : (t : Tally) → IsFew 1 t t
+none_more t = record { hits = omega arith; misses = omega arith; both = omega arith }
+
+few_by_asking : (asked : Option ℕ) (t : Tally) → IsFew 1 t (after_asking asked t)
+few_by_asking None t = none_more t
+few_by_asking (Some block) t = few_by_block block t (has_block t.held block)
+
+few_at_mar : (size : ℕ) (mem : Mem) (mar : ℕ) (t : Tally) → IsFew 1 t (all_counted size (at_mar mem mar) t)
+few_at_mar size mems.None mar t = none_more t
+few_at_mar size mems.Read mar t = few_by_asking (asks_for size (Read mar)) t
+few_at_mar size mems.Write mar t = few_by_asking (asks_for size (Write mar)) t
+
+few_at_pc : (size : ℕ) (is_fetched : Bool) (pc : ℕ) (t : Tally) → IsFew 1 t (all_counted size (at_pc is_fetched pc) t)
+few_at_pc size false pc t = none_more t
+few_at_pc size true pc t = few_by_asking (asks_for size (Fetch pc)) t
+
+-- ---- accesses one after the other
+
+pub all_counted-append : (size : ℕ) (xs ys : List Access) (t : Tally) → all_counted size (xs ++ ys) t ≡ all_counted size ys (all_counted size xs t)
+all_counted-append size [] ys t = refl
+all_counted-append size (x ∷ xs) ys t = all_counted-append size xs ys (counted size x t)
+
+-- ---- the room for a cycle
+
+both_true : (a b : Bool) → (a && b) ≡ true → (a ≡ true) × (b ≡ true)
+both_true true true h = (refl, refl)
+both_true true false h = cc
+both_true false b h = cc
+
+-- where there is room, either count may rise, and so it may after the access at MAR
+pub room_is : (c : CacheCounts) → has_room c ≡ true → (c.hits < 0x7FFF_FFFF_FFFF_FFFF) × (c.misses < 0x7FFF_FFFF_FFFF_FFFF)
+room_is c h =
+    let both = both_true (nat_lt c.hits 0x7FFF_FFFF_FFFF_FFFF) (nat_lt c.misses 0x7FFF_FFFF_FFFF_FFFF) h in
+    (ltb-true c.hits 0x7FFF_FFFF_FFFF_FFFF both.0, ltb-true c.misses 0x7FFF_FFFF_FFFF_FFFF both.1)
+
+pub room_at_mar : (c : CacheCounts) → has_room c ≡ true → (c.hits < 2 ^ 63) × (c.misses < 2 ^ 63)
+room_at_mar c h =
+    let room = room_is c h in
+    let hits = room.0 in
+    let misses = room.1 in
+    (omega arith, omega arith)
+
+pub room_at_pc : (size : ℕ) (mem : Mem) (mar : ℕ) (t t' : Tally) → has_room t.counts ≡ true → t' ≡ all_counted size (at_mar mem mar) t →
+    (t'.counts.hits < 2 ^ 63) × (t'.counts.misses < 2 ^ 63)
+room_at_pc size mem mar t t' h is =
+    let few : IsFew 1 t t' = subst (IsFew 1 t) (sym is) (few_at_mar size mem mar t) in
+    let room = room_is t.counts h in
+    let hits = room.0 in
+    let misses = room.1 in
+    (omega (arith, few.hits, hits), omega (arith, few.misses, misses))
+
+room_when : (c : CacheCounts) → c.hits + c.misses < 0x7FFF_FFFF_FFFF_FFFF → has_room c ≡ true
+room_when c h =
+    let hits : c.hits < 0x7FFF_FFFF_FFFF_FFFF = omega arith in
+    let misses : c.misses < 0x7FFF_FFFF_FFFF_FFFF = omega arith in
+    rw (lt-ltb c.hits 0x7FFF_FFFF_FFFF_FFFF hits, lt-ltb c.misses 0x7FFF_FFFF_FFFF_FFFF misses) refl
+
+-- ---- the words of a control store
+
+-- a word of zeros asks for nothing
+idle : (machine : Machine) → record { mem = mems.None; fetch = false } ≡ access_in machine 0
+unfolding statement_of
+idle Mic1 = refl
+idle Mic2 = refl
+
+word_asks : (machine : Machine) (words : List ℕ) (address : ℕ) → access_at (map (access_in machine) words) address ≡ access_in machine (slice_index words address)
+word_asks machine words address =
+    unwrap_or-slice_get (map (access_in machine) words) address (record { mem = mems.None; fetch = false })
+    ∙ (ap (λ (d : WordAccess). get_or (map (access_in machine) words) address d) (idle machine)
+    ∙ lists.get_or-map (access_in machine) words address 0)
+
+-- ---- a run
+
+few_by_cycle : (size : ℕ) (access : WordAccess) (r : Registers) (t : Tally) → IsFew 2 t (all_counted size (accesses_by access r) t)
+few_by_cycle size access r t =
+    let mid : Tally = all_counted size (at_mar access.mem r.mar) t in
+    let first : IsFew 1 t mid = few_at_mar size access.mem r.mar t in
+    let second : IsFew 1 mid (all_counted size (at_pc access.fetch r.pc) mid) = few_at_pc size access.fetch r.pc mid in
+    let both : IsFew 2 t (all_counted size (at_pc access.fetch r.pc) mid) =
+    record { hits = omega (arith, first.hits, second.hits); misses = omega (arith, first.misses, second.misses); both = omega (arith, first.both, second.both) } in
+    subst (IsFew 2 t) (sym (all_counted-append size (at_mar access.mem r.mar) (at_pc access.fetch r.pc) t)) both
+
+module _ (machine : Machine) (words : List ℕ) (size : ℕ) where
+  abbrev kept_with : Tally → CacheKept
+  kept_with t = record { accesses = map (access_in machine) words; size = size; tally = t }
+
+  abbrev after_cycle : Tally → Cycle → Tally
+  after_cycle t c = all_counted size (accesses_by (access_in machine (slice_index words c.mpc)) c.registers) t
+
+  with_room : (t : Tally) (c : Cycle) → has_room t.counts ≡ true → kept_after (kept_with t) c ≡ kept_with (after_cycle t c)
+  with_room t c room = rw room (ap (λ (a : WordAccess). kept_with (all_counted size (accesses_by a c.registers) t)) (word_asks machine words c.mpc))
+
+  -- the cycles of a run are counted one after the other
+  all_cycles : (cs : List Cycle) (t : Tally) → t.counts.hits + t.counts.misses + 2 * length cs < 0x7FFF_FFFF_FFFF_FFFF →
+      (kept_of kept_after SaysNothing (kept_with t) cs).tally ≡ all_counted size (accesses_of machine words cs) t
+  all_cycles [] t h = refl
+  all_cycles (c ∷ cs) t h =
+      let few : IsFew 2 t (after_cycle t c) = few_by_cycle size (access_in machine (slice_index words c.mpc)) c.registers t in
+      let room : has_room t.counts ≡ true = room_when t.counts (omega arith) in
+      ap (λ (k : CacheKept). (kept_of kept_after SaysNothing k cs).tally) (with_room t c room)
+      ∙ (all_cycles cs (after_cycle t c) (omega (arith, few.both))
+      ∙ sym (all_counted-append size (accesses_by (access_in machine (slice_index words c.mpc)) c.registers) (accesses_of machine words cs) t))
+
+-- ---- accesses as calls of a cache that were answered
+
+all_answered : (accesses : List Access) → answered (map (λ a. Some a) accesses) ≡ accesses
+all_answered [] = refl
+all_answered (a ∷ accesses) = ap (λ (more : List Access). a ∷ more) (all_answered accesses)
+
+all_lead : (bus : BusView) (accesses : List Access) (t : Tally) →
+    AllLead (map (λ a. Some a) accesses) (record { bus = bus; tally = t }) (record { bus = bus; tally = all_counted (length bus.words) accesses t })
+all_lead bus [] t = refl
+all_lead bus (a ∷ accesses) t =
+    (record { bus = bus; tally = counted (length bus.words) a t }, (refl, refl), all_lead bus accesses (counted (length bus.words) a t))
+
+-- the counts of a cache are those of the accesses that it answered
+abbrev pub CountsAnswered : Type 0
+CountsAnswered =
+    (lines : ℕ) (calls : List (Option Access)) (first last : CacheView) → 0 < lines → first.tally ≡ empty_tally lines → AllLead calls first last →
+    (last.tally.counts.hits ≡ hits_of lines (length first.bus.words) (answered calls))
+    × (last.tally.counts.misses ≡ misses_of lines (length first.bus.words) (answered calls))
+
+counts_all : CountsAnswered → (lines size : ℕ) (accesses : List Access) → 0 < lines →
+    (all_counted size accesses (empty_tally lines)).counts ≡ counts_of lines size accesses
+counts_all law lines size accesses some =
+    let bus : BusView = record { words = replicate size 0; console = record { kept = []; ended = false } } in
+    let long : length (replicate size 0) ≡ size = length-replicate size 0 in
+    let t : ℕ → Tally = λ n. all_counted n accesses (empty_tally lines) in
+    let is = law lines (map (λ a. Some a) accesses) (record { bus = bus; tally = empty_tally lines }) (record { bus = bus; tally = t (length bus.words) })
+    some refl (all_lead bus accesses (empty_tally lines)) in
+    let hits : (t (length bus.words)).counts.hits ≡ hits_of lines (length bus.words) accesses =
+    is.0 ∙ ap (λ (more : List Access). hits_of lines (length bus.words) more) (all_answered accesses) in
+    let misses : (t (length bus.words)).counts.misses ≡ misses_of lines (length bus.words) accesses =
+    is.1 ∙ ap (λ (more : List Access). misses_of lines (length bus.words) more) (all_answered accesses) in
+    let same : (t (length bus.words)).counts ≡ counts_of lines (length bus.words) accesses = λ i. record { hits = hits i; misses = misses i } in
+    subst (λ (n : ℕ). (all_counted n accesses (empty_tally lines)).counts ≡ counts_of lines n accesses) long same
+
+pub run_counted : CountsAnswered → (machine : Machine) (words : List ℕ) (lines size : ℕ) (cs : List Cycle) → 0 < lines → length cs < 2 ^ 62 →
+    (kept_of_cycles machine words lines size cs).tally.counts ≡ counts_of lines size (accesses_of machine words cs)
+run_counted law machine words lines size cs some short =
+    ap (λ (t : Tally). t.counts) (all_cycles machine words size cs (empty_tally lines) (omega arith))
+    ∙ counts_all law lines size (accesses_of machine words cs) some
