@@ -1,0 +1,4 @@
+pub mod Naming
+pub mod OneReading
+pub mod Programs
+pub mod Words
