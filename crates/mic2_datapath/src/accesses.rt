@@ -2,7 +2,7 @@
 
 ghost use Rattle.std.specs.Prelude.{◌≡◌, ◌≢◌, IsSome, ◌==◌, ◌&&◌, ◌≤◌, ℕ, List, Some, None, Err, length, OnOk, IfOk, IfErr, IsErrOf, IsTrue, true};
 ghost use Rattle.mic_base.specs.Streams.{Holds};
-ghost use Rattle.console_port.specs.World.{console_at};
+ghost use Rattle.console_port.specs.World.{World, console_at};
 ghost use Rattle.console_port.specs.Bus.{Stands, IsLed, ChangesOnly, refused_by};
 ghost use Rattle.console_port.specs.Console.{IsFault, HasFaultCause, StaysFlushed, StillTells};
 ghost use Rattle.mic_clock.specs.Edge.{AsksNoMore};
@@ -38,7 +38,18 @@ pub fn is_there(at: Option<u32>, bus: &Bus) -> bool
     }
 }
 
+/// What is read where nothing is accessed.
+#[inline(always)]
+fn no_transfer(mem: Mem, ports: &Ports, bus: &Bus) -> Option<u32>
+    requires { mem ≡ Mem.None }
+    ensures clear { memory_refusal (length bus.now.words) mem ports.now.mar ≡ None }
+    ensures transfer { (w : World) → w.words ≡ bus.now.words → IsTransfer (length bus.now.words) mem ports.now w result w }
+{
+    None
+}
+
 /// Tests the addresses, and then does the write or the read.
+#[inline(always)]
 pub fn access<S: Source, K: Sink>(
     mem: Mem,
     at: Option<u32>,
@@ -69,6 +80,11 @@ pub fn access<S: Source, K: Sink>(
     ensures flushed { result ≢ Err BusFault.WriteFault → StaysFlushed (K.held sink.old) (K.passed sink.old) (K.held sink.new) (K.passed sink.new) }
     ensures cause { HasFaultCause (S.faults source.old) (S.faults source.new) (K.faults sink.old) (K.faults sink.new) result }
 {
+    // Most cycles access nothing.
+    if mem == Mem::None {
+        check_sample(at, bus)?;
+        return Ok(no_transfer(mem, ports, bus));
+    }
     check(bus, mem, ports.mar, at)?;
     transfer(mem, ports, bus, source, sink)
 }
