@@ -1,4 +1,4 @@
-use Rattle.std.proofs.Common.{◌≡◌, ℕ, ◌≤◌, slice_index, ap, ◌∙◌}
+use Rattle.std.proofs.Common.{ℕ, ◌≤◌, slice_index, ap, ◌∙◌}
 use Rattle.mic_words.specs.declared.machine.Machine.TheVariants as machines
 use Rattle.micro_word.specs.Words.{is_byte, is_pair}
 use Rattle.micro_word.specs.Coding.{row, statement_of}
