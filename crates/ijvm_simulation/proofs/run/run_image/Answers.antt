@@ -1,4 +1,4 @@
-use Rattle.std.proofs.Common.{ℕ, Some, sym, ◌∙◌, ap, subst}
+use Rattle.std.proofs.Common.{ℕ, Some, sym, subst}
 use Rattle.micro_word.specs.ControlStore.{ControlStore}
 use Rattle.mic_clock.specs.Board.{IsLedTo, Leads, ShowsRun, IsCutByRead as IsReadCut, IsCutByWrite as IsCut}
 use Rattle.ijvm_simulation.proofs.Next.{Known}
