@@ -51,8 +51,8 @@ use Rattle.cli_boards.specs.Traced.{IsTraced}
 use Rattle.cli_boards.specs.Traced as traced
 use Rattle.cli_debug.specs.Debugged.{IsDebugged}
 use Rattle.cli_debug.specs.Debugged as debugging
-use Rattle.cli_debug.specs.Input.{EndsWithInput, IsNoInput}
-use Rattle.cli_debug.specs.Input as inputs
+use Rattle.cli_session.specs.Input.{EndsWithInput, IsNoInput}
+use Rattle.cli_session.specs.Input as inputs
 use Rattle.cli_soak.specs.SoakEnds.{SoakEnds}
 use Rattle.cli_soak.specs.SoakEnds as soaking
 use Rattle.cli_call.specs.ClockedEnd.{ClockedEnd}
@@ -279,7 +279,7 @@ module _ (asks : Option Asked) (old new : OutsideView) (status : ℕ) where
   with_input : (Debugs : List ℕ → OutsideView → OutsideView → ℕ → Type 0) (name : Option (List ℕ)) → ((one : List ℕ) → name ≡ Some one → HasFileRead asks one) →
       EndsWithInput Debugs name old new status → ((input : List ℕ) → Debugs input old new status → Answer) → Answer
   with_input Debugs name reads (inputs.NoInput h) debugs = no_input name reads h
-  with_input Debugs name reads (inputs.Debugged input is h) debugs = debugs input h
+  with_input Debugs name reads (inputs.HasInput input is h) debugs = debugs input h
 
   debugged : {M S : Type 0} (state : M → S) (m : Meaning S) (bound : ℕ) (micro : Program) (program : VerifiedView) (input : List ℕ) →
       IsDebugged state m bound micro program input old new status → Answer

@@ -25,7 +25,7 @@ use Rattle.cli_boards.specs.Prepared.{EndsPrepared}
 use Rattle.cli_boards.specs.Profiled.{IsProfiled}
 use Rattle.cli_boards.specs.Traced.{IsTraced}
 use Rattle.cli_debug.specs.Debugged.{IsDebugged}
-use Rattle.cli_debug.specs.Input.{EndsWithInput}
+use Rattle.cli_session.specs.Input.{EndsWithInput}
 use Rattle.cli_soak.specs.SoakEnds.{SoakEnds}
 use Rattle.cli_call.specs.ClockedEnd.{ClockedEnd}
 use Rattle.cli_call.specs.Usage.{usage_text}

@@ -16,13 +16,14 @@ use Rattle.mic_debugger.specs.declared.until.Until.{Until}
 use Rattle.mic_debugger.specs.Book.{Book, IsBook}
 use Rattle.mic_debugger.specs.Clocking.{IsDone, IsGoing, after, printed, turn_lines}
 use Rattle.mic_debugger.specs.Obeys.{IsBrokenIn, IsSaidInPart, plan_in}
-use Rattle.mic_debugger.specs.Session.{HasReadCause, IsFrontOf, StandsAfter}
+use Rattle.mic_debugger.specs.Session.{HasReadCause, StandsAfter}
+use Rattle.cli_session.specs.Meaning.{BreaksOff, IsCutShort, IsFrontOf, Place, place}
 use Rattle.mic_debugger.specs.View.{SessionView}
 use Rattle.mic_base.specs.Causes.{Rose}
 use Rattle.mic_base.specs.Streams.{Holds}
 use Rattle.cli_outside.specs.Outside.{GotInPart, OutsideView}
 use Rattle.cli_debug.specs.Stand.{Carries, HasBegun, IsBrokenOff, OnlyGives, OnlyShows, Stand, StandsAt, plan_at, shown_at}
-use Rattle.cli_debug.specs.Goes.{BreaksOff, IsCutShort, Place, place}
+use Rattle.cli_debug.specs.Debugging.{DebuggingRules, DebuggingView, debugging, debugging_view, rules_of}
 use Rattle.cli_debug.proofs.Standing.{leads_on, no_rise, same_plan, shown_same}
 
 -- ---- fronts
@@ -210,19 +211,21 @@ module _ {M State : Type 0} (state : M → State) (m : Meaning State) (book : Bo
 pub breaks_by : {M State T E : Type 0} (state : M → State) (m : Meaning State) (left left' : List ℕ) (o o' : OutsideView) (v v' : SessionView M) (line : List ℕ) (r : Result T E) →
     OnErr r ((v.board.end ≡ None → v'.board.end ≢ Some ends.ReadFault) → (book : Book) → IsBook v.listing.program v.listing.placement v.listing.image book →
     IsBrokenIn state m book (Some left) o.out.held o.err.held v (Some left') o'.out.held o'.err.held v'.board (plan_in v line)) →
-    (v.board.end ≡ None → HasReadCause 0 0 v'.board.end) → OnErr r (BreaksOff state m line (place v left o) o')
+    (v.board.end ≡ None → HasReadCause 0 0 v'.board.end) → OnErr r (BreaksOff (debugging state m) line (place (debugging_view v left) o) o')
 breaks_by state m left left' o o' v v' line (Ok reply) broken input = tt
 breaks_by state m left left' o o' v v' line (Err e) broken input =
-    λ book is_book s here.
-    let at = left_by state m book left left' o.out.held o'.out.held o.err.held o'.err.held v v'.board s here (plan_in v line) (broken (λ none read. no_rise ((input none).rose read)) book is_book) in
-    broken_off m book v.board.store.words v.listing.memory v.bound s line o'.out.held o.err.held o'.err.held at.0 at.1
-    (subst (λ (p : Plan). HasBegun m book v.board.store.words v.listing.memory v.bound p s at.0 at.1) (same_plan state m book left left' o.out.held o'.out.held v v'.board [] s here line) at.2) at.3 at.4
+    λ rules goes_by s here.
+    let book = rules.book in
+    let at = left_by state m book left left' o.out.held o'.out.held o.err.held o'.err.held v v'.board s here (plan_in v line) (broken (λ none read. no_rise ((input none).rose read)) book goes_by.0) in
+    subst (λ (r : DebuggingRules). IsBrokenOff m r.book r.words r.memory r.bound line s o'.out.held o.err.held o'.err.held) (sym goes_by.1)
+    (broken_off m book v.board.store.words v.listing.memory v.bound s line o'.out.held o.err.held o'.err.held at.0 at.1
+    (subst (λ (p : Plan). HasBegun m book v.board.store.words v.listing.memory v.bound p s at.0 at.1) (same_plan state m book left left' o.out.held o'.out.held v v'.board [] s here line) at.2) at.3 at.4)
 
 -- so it is cut short
-pub cut_by : {M State T E : Type 0} (state : M → State) (m : Meaning State) (old : Place M) (new : OutsideView) (line : List ℕ) (r : Result T E) →
-    OnErr r (BreaksOff state m line old new) → ((front : List ℕ) → Holds front old.seen.out.held → Holds front new.out.held) →
+pub cut_by : {M State T E : Type 0} (state : M → State) (m : Meaning State) (old : Place (DebuggingView M)) (new : OutsideView) (line : List ℕ) (r : Result T E) →
+    OnErr r (BreaksOff (debugging state m) line old new) → ((front : List ℕ) → Holds front old.seen.out.held → Holds front new.out.held) →
     ((front : List ℕ) → Holds front old.seen.err.held → Holds front new.err.held) → new.files ≡ old.seen.files →
-    OnErr r (Rose old.seen.out.faults new.out.faults ⊎ Rose old.seen.err.faults new.err.faults) → OnErr r (IsCutShort state m line old new)
+    OnErr r (Rose old.seen.out.faults new.out.faults ⊎ Rose old.seen.err.faults new.err.faults) → OnErr r (IsCutShort (debugging state m) line old new)
 cut_by state m old new line (Ok reply) breaks keeps_out keeps_err files rose = tt
 cut_by state m old new line (Err e) breaks keeps_out keeps_err files rose =
     record { breaks = breaks; keeps_out = keeps_out; keeps_err = keeps_err; files = files; rose = rose }

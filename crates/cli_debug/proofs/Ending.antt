@@ -1,5 +1,6 @@
 -- How a session that is over ends its command.
-use Rattle.std.proofs.Common.{◌≡◌, ◌≢◌, ◌∙◌, ◌∷◌, ◌++◌, ℕ, List, Some, refl, sym, ap, subst}
+use Rattle.std.proofs.Common.{◌≡◌, ◌≢◌, ◌∙◌, ℕ, Bool, List, Option, Some, None, refl, sym, ap, subst}
+use Rattle.std.specs.Prelude.{IfSome}
 use Rattle.std.proofs.lemmas.List.{append-nil}
 use Rattle.mic_clock.specs.Meaning.{Meaning}
 use Rattle.verifier_facts.specs.Accepted.{VerifiedView}
@@ -8,51 +9,57 @@ use Rattle.mal_shipped.specs.declared.loaded.Loaded.{Loaded}
 use Rattle.mic_debugger.specs.View.{SessionView}
 use Rattle.cli_outside.specs.Status as exits
 use Rattle.cli_outside.specs.Outside.{OutsideView, TellsOnErr}
-use Rattle.cli_debug.specs.declared.lines.Step.{Step}
-use Rattle.cli_debug.specs.declared.lines.Step.TheVariants as steps
-use Rattle.cli_debug.specs.Stand.{lines_of, most_lines}
-use Rattle.cli_debug.specs.Goes.{ConsoleFailed, Goes, IsCutIn, IsReadOut, On, Over, Place, SinkFailed, place}
+use Rattle.cli_session.specs.declared.lines.Step.{Step}
+use Rattle.cli_session.specs.declared.lines.Step.TheVariants as steps
+use Rattle.cli_session.specs.Lines.{IsCutIn, IsNext, IsReadOut, most_lines}
+use Rattle.cli_session.specs.Meaning.{Place, place}
+use Rattle.cli_session.specs.Goes.{ConsoleFailed, Goes, On, Over, SinkFailed}
+use Rattle.cli_debug.specs.Stand.{is_quit}
+use Rattle.cli_debug.specs.Debugging.{DebuggingView, debugging, debugging_view}
 use Rattle.cli_debug.specs.Debugged.{Cut, IsDebugged, IsStart, Left, Stopped, report_in}
-use Rattle.cli_debug.proofs.Going.{told_as}
+
+told_as : (left : Option (List ℕ)) (P Q : List ℕ → Type 0) → IfSome left P → ((bytes : List ℕ) → P bytes → Q bytes) → IfSome left Q
+told_as None P Q p f = tt
+told_as (Some bytes) P Q p f = f bytes p
 
 module _ {M State : Type 0} {state : M → State} {m : Meaning State} {bound : ℕ} {micro : Program} {l : Loaded} {program : VerifiedView} {input : List ℕ}
-    {first : SessionView M} {old : OutsideView} {last : Place M} (start : IsStart state m bound micro l program first) where
+    {first : SessionView M} {old : OutsideView} {last : Place (DebuggingView M)} (start : IsStart state m bound micro l program first) where
   -- it was left, or its lines are at their end
   pub left_by : {new : OutsideView} {status : ℕ} (step : Step) → step ≢ steps.ConsoleFailed → step ≢ steps.SinkFailed →
-      Goes state m most_lines 0 (place first input old) last step → TellsOnErr (report_in state m last.session) exits.done last.seen new status →
+      Goes (debugging state m) most_lines 0 (place (debugging_view first input) old) last step → TellsOnErr (report_in state m last.session.session) exits.done last.seen new status →
       IsDebugged state m bound micro program input old new status
   left_by _ p q (On lines done quiet told) tells =
       Left l first lines last start done
       (rw tells.console (told_as old.console.left _ _ told
-      (λ bytes t. subst (λ (k : ℕ). IsReadOut k most_lines bytes lines last.seen.console.left) start.begun.memory
+      (λ bytes t. subst (λ (k : List ℕ → Bool). IsReadOut k most_lines bytes lines last.seen.console.left) (ap is_quit start.begun.memory)
       (record { whole = sym (t.2.whole ∙ append-nil lines); left_is = t.1 ∙ ap Some (sym t.2.rest_is) }))))
       (rw tells.console quiet) tells
   left_by _ p q (Over lines done quiet told) tells =
       Left l first lines last start done
-      (rw tells.console (told_as old.console.left _ _ told (λ bytes t. subst (λ (k : ℕ). IsReadOut k most_lines bytes lines last.seen.console.left) start.begun.memory t)))
+      (rw tells.console (told_as old.console.left _ _ told (λ bytes t. subst (λ (k : List ℕ → Bool). IsReadOut k most_lines bytes lines last.seen.console.left) (ap is_quit start.begun.memory) t)))
       (rw tells.console quiet) tells
   left_by _ p q (ConsoleFailed lines done rose told) tells = absurd (p refl)
   left_by _ p q (SinkFailed lines line mid done quiet told cut) tells = absurd (q refl)
 
   -- the console failed
   pub cut_by : {new : OutsideView} {status : ℕ} (step : Step) → step ≡ steps.ConsoleFailed →
-      Goes state m most_lines 0 (place first input old) last step → TellsOnErr (report_in state m last.session) exits.console last.seen new status →
+      Goes (debugging state m) most_lines 0 (place (debugging_view first input) old) last step → TellsOnErr (report_in state m last.session.session) exits.console last.seen new status →
       IsDebugged state m bound micro program input old new status
   cut_by _ p (On lines done quiet told) tells = absurd (cc)
   cut_by _ p (Over lines done quiet told) tells = absurd (cc)
   cut_by _ p (ConsoleFailed lines done rose told) tells =
       Cut l first lines last start done
-      (rw tells.console (told_as old.console.left _ _ told (λ bytes t. subst (λ (k : ℕ). IsCutIn k most_lines bytes lines last.seen.console.left) start.begun.memory t)))
+      (rw tells.console (told_as old.console.left _ _ told (λ bytes t. subst (λ (k : List ℕ → Bool). IsCutIn k most_lines bytes lines last.seen.console.left) (ap is_quit start.begun.memory) t)))
       (rw tells.console rose) tells
   cut_by _ p (SinkFailed lines line mid done quiet told cut) tells = absurd (cc)
 
   -- a sink failed
-  pub stopped_by : {status : ℕ} (step : Step) → step ≡ steps.SinkFailed → Goes state m most_lines 0 (place first input old) last step →
+  pub stopped_by : {status : ℕ} (step : Step) → step ≡ steps.SinkFailed → Goes (debugging state m) most_lines 0 (place (debugging_view first input) old) last step →
       status ≡ exits.sink → IsDebugged state m bound micro program input old last.seen status
   stopped_by _ p (On lines done quiet told) is = absurd (cc)
   stopped_by _ p (Over lines done quiet told) is = absurd (cc)
   stopped_by _ p (ConsoleFailed lines done rose told) is = absurd (cc)
   stopped_by _ p (SinkFailed lines line mid done quiet told cut) is =
       Stopped l first lines line mid start done
-      (told_as old.console.left _ _ told (λ bytes t. subst (λ (k : ℕ). (behind : List (List ℕ)) × (lines_of k most_lines bytes ≡ lines ++ line ∷ behind)) start.begun.memory t))
+      (told_as old.console.left _ _ told (λ bytes t. subst (λ (k : List ℕ → Bool). IsNext k most_lines bytes lines line) (ap is_quit start.begun.memory) t))
       cut quiet is

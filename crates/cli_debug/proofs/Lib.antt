@@ -1,5 +1,3 @@
-pub mod LineLemmas
 pub mod Standing
-pub mod Going
 pub mod Ending
 pub mod Breaking

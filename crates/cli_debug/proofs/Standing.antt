@@ -20,19 +20,20 @@ use Rattle.mic_debugger.specs.declared.reply.Reply.{Reply}
 use Rattle.mic_debugger.specs.declared.reply.Reply.TheVariants as replies
 use Rattle.mic_debugger.specs.declared.table.Verb.{Verb}
 use Rattle.mic_debugger.specs.declared.table.Verb.TheVariants as verbs
-use Rattle.mic_debugger.specs.declared.reading.CommandError.TheVariants.{BadCommand, BadNumber}
-use Rattle.mic_debugger.specs.declared.reading.Command.{Command}
-use Rattle.mic_debugger.specs.declared.reading.CommandError.{CommandError}
-use Rattle.mic_debugger.specs.Book.{Book, IsBook}
+use Rattle.cli_session.specs.declared.reading.CommandError.TheVariants.{BadCommand, BadNumber}
+use Rattle.cli_session.specs.declared.reading.Command.{Command}
+use Rattle.cli_session.specs.declared.reading.CommandError.{CommandError}
+use Rattle.cli_session.specs.Meaning.{DoesAll, Gone, LeadOn, Place, place}
+use Rattle.mic_debugger.specs.Book.{Book, IsBook, IsBookOf}
 use Rattle.mic_debugger.specs.Clocking.{IsDone, after, printed}
 use Rattle.mic_debugger.specs.Commands.{command_of}
 use Rattle.mic_debugger.specs.Obeys.{IsSaid, Obeys, plan_in, shown_text}
 use Rattle.mic_debugger.specs.Plans.{breaks_after, clocking, is_full_for, plan_by, plan_of, reply_of, watched_after, watched_now}
 use Rattle.mic_debugger.specs.Session.{HasReadCause}
-use Rattle.mic_debugger.specs.View.{SessionView}
-use Rattle.cli_debug.specs.Stand.{Carries, DoesAll, OnlyShows, Stand, StandsAt, is_quit, is_quit_in, is_quit_verb, plan_at, shown_at}
+use Rattle.mic_debugger.specs.View.{ListingView, SessionView}
+use Rattle.cli_debug.specs.Stand.{Carries, Does, OnlyShows, Stand, StandsAt, is_quit, is_quit_reply, is_quit_in, is_quit_verb, plan_at, shown_at}
 use Rattle.cli_outside.specs.Outside.{Got, OutsideView}
-use Rattle.cli_debug.specs.Goes.{Gone, LeadOn, Place, is_quit_reply, place}
+use Rattle.cli_debug.specs.Debugging.{DebuggingRules, DebuggingView, debugging, debugging_view, rules_of}
 
 -- a count that stays did not rise
 pub no_rise : Rose 0 0 → ⊥
@@ -119,7 +120,7 @@ module _ {M State : Type 0} (state : M → State) (m : Meaning State) (book : Bo
   pub stands_next : (line : List ℕ) (v' : SessionView M) → v'.board ≡ board' →
       v'.breaks ≡ breaks_after v.breaks (command_of v.listing.memory line) → v'.watched ≡ watched_after v.watched (command_of v.listing.memory line) →
       Obeys state m book (Some left) held v (Some left') held' board' text (plan_in v line) →
-      (s' : Stand State) × DoesAll m book v.board.store.words v.listing.memory v.bound (line ∷ []) s text s' × StandsAt state (Some left') held' v' s'
+      (s' : Stand State) × DoesAll (debugging state m) (rules_of v book) (line ∷ []) s text s' × StandsAt state (Some left') held' v' s'
   stands_next line v' board_is breaks watched obeys =
       let at = carried (plan_in v line) obeys in
       let s' : Stand State = record { run = at.0; breaks = v'.breaks; watched = v'.watched } in (
@@ -162,7 +163,7 @@ verb_quits end breaks watched memory verbs.Stack n = refl
 verb_quits end breaks watched memory verbs.Where n = refl
 verb_quits end breaks watched memory verbs.Quit n = refl
 
-line_quits : (end : Option End) (breaks : List ℕ) (watched : Option ℕ) (memory : List ℕ) (read : Result (Option Command) CommandError) →
+line_quits : (end : Option End) (breaks : List ℕ) (watched : Option ℕ) (memory : List ℕ) (read : Result (Option (Command Verb)) CommandError) →
     is_quit_reply (reply_of (plan_of end breaks watched memory read)) ≡ is_quit_in read
 line_quits end breaks watched memory (Ok None) = refl
 line_quits end breaks watched memory (Ok (Some c)) = verb_quits end breaks watched memory c.verb c.number
@@ -181,24 +182,41 @@ pub leads_by : {M State T E : Type 0} (state : M → State) (m : Meaning State) 
     (text : List ℕ) × Got o.err.held text o'.err.held × Obeys state m book (Some left) o.out.held v (Some left') o'.out.held v'.board text (plan_in v line)) →
     OnOk r (v.board.end ≡ None → v'.board.end ≢ Some ends.WriteFault) → (v.board.end ≡ None → HasReadCause 0 0 v'.board.end) →
     OnOk r (v'.breaks ≡ breaks_after v.breaks (command_of v.listing.memory line)) → OnOk r (v'.watched ≡ watched_after v.watched (command_of v.listing.memory line)) →
-    OnOk r (LeadOn state m (line ∷ []) (place v left o) (place v' left' o'))
+    OnOk r (LeadOn (debugging state m) (line ∷ []) (place (debugging_view v left) o) (place (debugging_view v' left') o'))
 leads_by state m left left' o o' v v' line (Ok reply) obeys fault input breaks watched =
-    λ book is_book.
+    λ rules goes_by.
+    let book = rules.book in
     let read : v.board.end ≡ None → v'.board.end ≢ Some ends.ReadFault = λ none e. no_rise ((input none).rose e) in
-    let at = obeys (no_fault v.board.end v'.board.end read fault) book is_book in (
+    let at = obeys (no_fault v.board.end v'.board.end read fault) book goes_by.0 in (
       at.0,
       at.1,
-      λ s here. stands_next state m book left left' o.out.held o'.out.held v v'.board at.0 s here line v' refl breaks watched at.2,
+      λ s here.
+          let next = stands_next state m book left left' o.out.held o'.out.held v v'.board at.0 s here line v' refl breaks watched at.2 in
+          (next.0, subst (λ (r : DebuggingRules). DoesAll (debugging state m) r (line ∷ []) s at.0 next.0) (sym goes_by.1) next.1, next.2),
     )
 leads_by state m left left' o o' v v' line (Err e) obeys fault input breaks watched = tt
 
 -- so it is done whole
-pub done_by : {M State T E : Type 0} (state : M → State) (m : Meaning State) (old new : Place M) (line : List ℕ) (r : Result T E) →
-    OnOk r (LeadOn state m (line ∷ []) old new) → OnOk r (new.session.board.bus.console.kept ≡ []) →
+pub done_by : {M State T E : Type 0} (state : M → State) (m : Meaning State) (old new : Place (DebuggingView M)) (line : List ℕ) (r : Result T E) →
+    OnOk r (LeadOn (debugging state m) (line ∷ []) old new) → OnOk r (new.session.session.board.bus.console.kept ≡ []) →
     OnOk r (StaysFlushed old.seen.out.held old.seen.out.passed new.seen.out.held new.seen.out.passed) → OnOk r (IsFlushed new.seen.err.held new.seen.err.passed) →
-    (new.session.listing ≡ old.session.listing) × (new.session.bound ≡ old.session.bound) → new.session.board.store ≡ old.session.board.store →
+    (new.session.session.listing ≡ old.session.session.listing) × (new.session.session.bound ≡ old.session.session.bound) →
+    new.session.session.board.store ≡ old.session.session.board.store →
     new.seen.files ≡ old.seen.files → OnOk r ((new.seen.out.faults ≡ old.seen.out.faults) × (new.seen.err.faults ≡ old.seen.err.faults)) →
-    OnOk r (Gone state m (line ∷ []) old new)
+    OnOk r (Gone (debugging state m) (line ∷ []) old new)
 done_by state m old new line (Ok reply) led kept flushed passed same store files quiet =
-    record { led = led; listing = same.0; bound = same.1; store = store; kept = kept; flushed_out = flushed; flushed_err = λ h. passed; files = files; out = quiet.0; err = quiet.1 }
+    record {
+      led = led;
+      rules = λ rules goes_by. (
+        subst (λ (l : ListingView). IsBookOf l rules.book) (sym same.0) goes_by.0,
+        goes_by.1 ∙ (λ i. record { book = rules.book; words = (sym store i).words; memory = (sym same.0 i).memory; bound = sym same.1 i }),
+      );
+      quits = ap (λ (l : ListingView). is_quit l.memory) same.0;
+      waiting = kept;
+      flushed_out = flushed;
+      flushed_err = λ h. passed;
+      files = files;
+      out = quiet.0;
+      err = quiet.1;
+    }
 done_by state m old new line (Err e) led kept flushed passed same store files quiet = tt

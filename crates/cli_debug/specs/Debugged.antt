@@ -1,5 +1,5 @@
 -- How debugging an accepted program ends: what the lines of the console print, and the report; or less, where a fault stopped it.
-use Rattle.std.specs.Prelude.{◌≡◌, ℕ, List, [], ◌∷◌, ◌++◌, None, IfSome}
+use Rattle.std.specs.Prelude.{◌≡◌, ℕ, List, [], None, IfSome}
 use Rattle.mic_base.specs.Causes.{Rose}
 use Rattle.mic_clock.specs.Meaning.{Meaning}
 use Rattle.verifier_facts.specs.Accepted.{VerifiedView}
@@ -11,8 +11,10 @@ use Rattle.cli_outside.specs.Messages.{out_of_memory}
 use Rattle.cli_outside.specs.Outside.{OutsideView, TellsOnErr}
 use Rattle.cli_run_texts.specs.Report.{left_report}
 use Rattle.cli_boards.specs.Runs.{IsFirstBoard}
-use Rattle.cli_debug.specs.Stand.{lines_of, most_lines}
-use Rattle.cli_debug.specs.Goes.{Gone, IsCutIn, IsCutShort, IsReadOut, Place, place}
+use Rattle.cli_session.specs.Lines.{IsCutIn, IsNext, IsReadOut, most_lines}
+use Rattle.cli_session.specs.Meaning.{Gone, IsCutShort, Place, place}
+use Rattle.cli_debug.specs.Stand.{is_quit}
+use Rattle.cli_debug.specs.Debugging.{DebuggingView, debugging, debugging_view}
 
 -- what a session has before its first line
 pub record IsBegun {M : Type 0} (micro : Program) (l : Loaded) (program : VerifiedView) (bound : ℕ) (v : SessionView M) : Type 0 where
@@ -38,19 +40,19 @@ module _ {M State : Type 0} (state : M → State) (m : Meaning State) where
     -- memory was wanting before the first line
     NoRoom : TellsOnErr out_of_memory exits.memory old new status → IsDebugged bound micro program input old new status
     -- the lines of the console were done, none after them was asked for, and then it was reported where the session stands
-    Left : (l : Loaded) (first : SessionView M) (lines : List (List ℕ)) (last : Place M) →
-        IsStart bound micro l program first → Gone state m lines (place first input old) last →
-        IfSome old.console.left (λ bytes. IsReadOut program.map.stack_end most_lines bytes lines new.console.left) → new.console.faults ≡ old.console.faults →
-        TellsOnErr (report_in last.session) exits.done last.seen new status → IsDebugged bound micro program input old new status
+    Left : (l : Loaded) (first : SessionView M) (lines : List (List ℕ)) (last : Place (DebuggingView M)) →
+        IsStart bound micro l program first → Gone (debugging state m) lines (place (debugging_view first input) old) last →
+        IfSome old.console.left (λ bytes. IsReadOut (is_quit program.map.stack_end) most_lines bytes lines new.console.left) → new.console.faults ≡ old.console.faults →
+        TellsOnErr (report_in last.session.session) exits.done last.seen new status → IsDebugged bound micro program input old new status
     -- the console failed: so it was reported behind the whole lines before that
-    Cut : (l : Loaded) (first : SessionView M) (lines : List (List ℕ)) (last : Place M) →
-        IsStart bound micro l program first → Gone state m lines (place first input old) last →
-        IfSome old.console.left (λ bytes. IsCutIn program.map.stack_end most_lines bytes lines new.console.left) →
+    Cut : (l : Loaded) (first : SessionView M) (lines : List (List ℕ)) (last : Place (DebuggingView M)) →
+        IsStart bound micro l program first → Gone (debugging state m) lines (place (debugging_view first input) old) last →
+        IfSome old.console.left (λ bytes. IsCutIn (is_quit program.map.stack_end) most_lines bytes lines new.console.left) →
         Rose old.console.faults new.console.faults →
-        TellsOnErr (report_in last.session) exits.console last.seen new status → IsDebugged bound micro program input old new status
+        TellsOnErr (report_in last.session.session) exits.console last.seen new status → IsDebugged bound micro program input old new status
     -- `out` or `err` failed in the line behind these
-    Stopped : (l : Loaded) (first : SessionView M) (lines : List (List ℕ)) (line : List ℕ) (mid : Place M) →
-        IsStart bound micro l program first → Gone state m lines (place first input old) mid →
-        IfSome old.console.left (λ bytes. (behind : List (List ℕ)) × (lines_of program.map.stack_end most_lines bytes ≡ lines ++ line ∷ behind)) →
-        IsCutShort state m line mid new → new.console.faults ≡ old.console.faults → status ≡ exits.sink →
+    Stopped : (l : Loaded) (first : SessionView M) (lines : List (List ℕ)) (line : List ℕ) (mid : Place (DebuggingView M)) →
+        IsStart bound micro l program first → Gone (debugging state m) lines (place (debugging_view first input) old) mid →
+        IfSome old.console.left (λ bytes. IsNext (is_quit program.map.stack_end) most_lines bytes lines line) →
+        IsCutShort (debugging state m) line mid new → new.console.faults ≡ old.console.faults → status ≡ exits.sink →
         IsDebugged bound micro program input old new status

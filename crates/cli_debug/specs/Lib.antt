@@ -1,5 +1,3 @@
-pub mod Told
 pub mod Stand
-pub mod Goes
+pub mod Debugging
 pub mod Debugged
-pub mod Input

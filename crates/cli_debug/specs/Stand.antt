@@ -1,5 +1,5 @@
--- Where a session stands, and how its lines lead it on: the definition of debugging.
-use Rattle.std.specs.Prelude.{◌≡◌, ℕ, zero, suc, Bool, true, false, if◌then◌else◌, List, [], ◌∷◌, ◌++◌, Option, Some, None, Result, Ok, Err, codes}
+-- Where a session stands, and what a line does there: the definition of debugging.
+use Rattle.std.specs.Prelude.{◌≡◌, ℕ, Bool, true, false, List, [], ◌++◌, Option, Some, None, Result, Ok, Err, codes}
 use Rattle.console_port.specs.World.{World}
 use Rattle.mic_clock.specs.Meaning.{Meaning, Done}
 use Rattle.mic_clock.specs.Run.{MicroRun}
@@ -7,8 +7,10 @@ use Rattle.mic_clock.specs.State.{state_line}
 use Rattle.mic_clock.specs.Board.{ShowsRun}
 use Rattle.mic_debugger.specs.declared.plan.Plan.{Plan}
 use Rattle.mic_debugger.specs.declared.plan.Plan.TheVariants as plans
-use Rattle.mic_debugger.specs.declared.reading.Command.{Command}
-use Rattle.mic_debugger.specs.declared.reading.CommandError.{CommandError}
+use Rattle.cli_session.specs.declared.reading.Command.{Command}
+use Rattle.cli_session.specs.declared.reading.CommandError.{CommandError}
+use Rattle.mic_debugger.specs.declared.reply.Reply.{Reply}
+use Rattle.mic_debugger.specs.declared.reply.Reply.TheVariants as replies
 use Rattle.mic_debugger.specs.declared.table.Verb.{Verb}
 use Rattle.mic_debugger.specs.declared.table.Verb.TheVariants as verbs
 use Rattle.mic_debugger.specs.declared.until.Until.{Until}
@@ -17,10 +19,9 @@ use Rattle.mic_debugger.specs.Clocking.{IsDone, IsGoing, after, printed}
 use Rattle.mic_debugger.specs.Commands.{command_of}
 use Rattle.mic_debugger.specs.Lines.{stack_text, where_line}
 use Rattle.mic_debugger.specs.Plans.{breaks_after, plan_of, refusal_text, watched_after}
-use Rattle.mic_debugger.specs.Session.{IsFrontOf}
+use Rattle.cli_session.specs.Meaning.{IsFrontOf}
 use Rattle.mic_debugger.specs.View.{SessionView}
 use Rattle.cli_outside.specs.Outside.{GotInPart}
-use Rattle.cli_debug.specs.Told.{behind_line, line_in}
 
 -- a clocked run, the breakpoints and the watched word
 pub record Stand (State : Type 0) : Type 0 where
@@ -28,13 +29,13 @@ pub record Stand (State : Type 0) : Type 0 where
   pub breaks : List ℕ
   pub watched : Option ℕ
 
--- ---- the lines that are done
+-- ---- the line that ends it
 
 abbrev pub is_quit_verb : Verb → Bool
 is_quit_verb verbs.Quit = true
 is_quit_verb verb = false
 
-abbrev pub is_quit_in : Result (Option Command) CommandError → Bool
+abbrev pub is_quit_in : Result (Option (Command Verb)) CommandError → Bool
 is_quit_in (Ok (Some c)) = is_quit_verb c.verb
 is_quit_in (Ok None) = false
 is_quit_in (Err e) = false
@@ -43,24 +44,9 @@ is_quit_in (Err e) = false
 abbrev pub is_quit : ℕ → List ℕ → Bool
 is_quit memory line = is_quit_in (command_of memory line)
 
--- the lines of these bytes that are done: at most so many, up to the first `quit`
-abbrev pub lines_of : ℕ → ℕ → List ℕ → List (List ℕ)
-lines_of memory zero bytes = []
-lines_of memory (suc n) [] = []
-lines_of memory (suc n) (b ∷ bytes) =
-    line_in 256 (b ∷ bytes)
-    ∷ (if is_quit memory (line_in 256 (b ∷ bytes)) then [] else lines_of memory n (behind_line 256 (b ∷ bytes)))
-
--- what is left of these bytes after those lines
-abbrev pub left_after : ℕ → ℕ → List ℕ → List ℕ
-left_after memory zero bytes = bytes
-left_after memory (suc n) [] = []
-left_after memory (suc n) (b ∷ bytes) =
-    if is_quit memory (line_in 256 (b ∷ bytes)) then behind_line 256 (b ∷ bytes) else left_after memory n (behind_line 256 (b ∷ bytes))
-
--- the most lines of a session
-abbrev pub most_lines : ℕ
-most_lines = 65536
+abbrev pub is_quit_reply : Reply → Bool
+is_quit_reply replies.Quit = true
+is_quit_reply reply = false
 
 -- a machine that only adds to what it has given
 abbrev pub OnlyGives : {State : Type 0} → Meaning State → Type 0
@@ -126,12 +112,6 @@ module _ {State : Type 0} (m : Meaning State) (book : Book) (words : List ℕ) (
     pub err : GotInPart said text said'
     pub whole_out : OnlyGives m → (whole : List ℕ) (s' : Stand State) → Does line s whole s' → IsFrontOf held s'.run.world.given
     pub whole_err : (whole : List ℕ) (s' : Stand State) → Does line s whole s' → GotInPart said whole said'
-
-  -- lines one after the other
-  abbrev pub DoesAll : List (List ℕ) → Stand State → List ℕ → Stand State → Type 0
-  DoesAll [] s text s' = (text ≡ []) × (s' ≡ s)
-  DoesAll (line ∷ lines) s text s' =
-      (first rest : List ℕ) × (next : Stand State) × Does line s first next × DoesAll lines next rest s' × (text ≡ first ++ rest)
 
 -- a session between what its input has left and what `out` holds shows a stand
 pub record StandsAt {M State : Type 0} (state : M → State) (left held : Option (List ℕ)) (v : SessionView M) (s : Stand State) : Type 0 where

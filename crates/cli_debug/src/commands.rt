@@ -1,35 +1,20 @@
 //! The command, from the files that it reads to its status.
 
-ghost use Rattle.std.specs.Prelude.{◌≡◌, ◌≤◌, ◌^◌, IfOk, IfErr, OnOk, option_map};
+ghost use Rattle.std.specs.Prelude.{◌≤◌, ◌^◌, option_map};
 ghost use Rattle.console_port.specs.Map.{IsMap};
 ghost use Rattle.cli_outside.specs.Outside.{Over};
 ghost use Rattle.cli_boards.specs.Prepared.{EndsPrepared};
 ghost use Rattle.cli_debug.specs.Debugged.{IsDebugged};
-ghost use Rattle.cli_debug.specs.Input.{EndsWithInput, IsInput, IsNoInput};
+ghost use Rattle.cli_session.specs.Input.{EndsWithInput};
 
 use crate::debug::debug_program;
 use cli_boards::prepare;
 use cli_outside::{Outside, Status};
+use cli_session::chosen_input;
 use console_port::MemoryMap;
 use mic_base::{Files, Sink, Source};
 use mic_clock::Clocked;
 use std::alloc::Global;
-
-/// The bytes of the named file, or none where no file is named.
-fn chosen_input<F: Files, S: Source, K: Sink, E: Sink>(
-    alloc: Global,
-    name: Option<&str>,
-    outside: &mut Outside<'_, F, S, K, E>,
-) -> Result<Vec<u8>, Status>
-    ensures ok { IfOk result (λ bytes. IsInput (option_map (λ name. name.now) name.entry) outside.old.seen bytes.items) }
-    ensures same { OnOk result (outside.new ≡ outside.old) }
-    ensures err { IfErr result (λ status. Over (IsNoInput (option_map (λ name. name.now) name.entry)) outside.old outside.new status.0) }
-{
-    match name {
-        Some(name) => outside.read(alloc, name),
-        None => Ok(Vec::new(alloc)),
-    }
-}
 
 /// Reads a program, a microprogram and the program's input, and debugs the run of one by the other.
 pub fn debug_file<M: Clocked + Drop, F: Files, S: Source, K: Sink, E: Sink>(

@@ -5,10 +5,11 @@ ghost use Rattle.cli_outside.specs.Outside.{Over, TellsOnErr};
 ghost use Rattle.cli_run_texts.specs.Report.{left_report};
 ghost use Rattle.cli_debug.specs.Debugged.{IsDebugged, IsStart};
 
-use crate::lines::{Step, do_lines};
+use crate::debugging::Debugging;
 use cli_boards::{Microprogram, Prepared, reset_board};
 use cli_outside::{Outside, Status};
 use cli_run_texts::left_report;
+use cli_session::{Step, do_lines};
 use mal_shipped::Loaded;
 use mic_base::{Files, PlainSource, Sink, Source};
 use mic_clock::{Board, Clocked};
@@ -53,15 +54,16 @@ pub fn debug_program<M: Clocked + Drop, F: Files, S: Source, K: Sink, E: Sink>(
     requires bound { bound ≤ 2 ^ 62 }
     ensures { Over (IsDebugged M.state M.meaning bound prepared.micro.program prepared.program input.items) outside.old outside.new result.0 }
 {
-    let mut session = match begun(alloc, machine, prepared, bound) {
+    let session = match begun(alloc, machine, prepared, bound) {
         Ok(session) => session,
         Err(_) => return outside.no_memory(),
     };
-    let mut input = PlainSource::new(input);
-    match do_lines(&mut session, &mut input, outside) {
+    let input = PlainSource::new(input);
+    let mut debugging = Debugging { session, input };
+    match do_lines(&mut debugging, outside) {
         Step::SinkFailed => Status::SINK,
-        Step::ConsoleFailed => report(session.board(), outside, Status::CONSOLE),
-        _ => report(session.board(), outside, Status::DONE),
+        Step::ConsoleFailed => report(debugging.session.board(), outside, Status::CONSOLE),
+        _ => report(debugging.session.board(), outside, Status::DONE),
     }
 }
 

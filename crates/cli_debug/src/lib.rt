@@ -3,8 +3,7 @@
 
 mod commands;
 mod debug;
-mod line;
-mod lines;
+mod debugging;
 
 pub use commands::debug_file;
 pub use debug::debug_program;

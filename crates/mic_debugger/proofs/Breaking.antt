@@ -20,7 +20,8 @@ use Rattle.mic_debugger.specs.declared.until.Until.{Until}
 use Rattle.mic_debugger.specs.Book.{Book}
 use Rattle.mic_debugger.specs.Clocking.{after, passed, printed, turn_lines, turn_text}
 use Rattle.mic_debugger.specs.Obeys.{IsBrokenIn, IsSaid, IsSaidInPart, Obeys}
-use Rattle.mic_debugger.specs.Session.{IsBroken, IsFrontOf, IsUnderway, StandsAfter, text_between}
+use Rattle.cli_session.specs.Meaning.{IsFrontOf}
+use Rattle.mic_debugger.specs.Session.{IsBroken, IsUnderway, StandsAfter, text_between}
 use Rattle.mic_debugger.specs.View.{SessionView}
 use Rattle.mic_debugger.proofs.Flushing.{led_on}
 use Rattle.mic_debugger.proofs.Putting.{puts_first, puts_nothing, puts_passed, puts_then}

@@ -1,4 +1,3 @@
-pub mod Finding
 pub mod Starting
 pub mod Placing
 pub mod Putting

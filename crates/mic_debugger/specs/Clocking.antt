@@ -11,7 +11,8 @@ use Rattle.mic_debugger.specs.declared.until.Until.{Until}
 use Rattle.mic_debugger.specs.declared.until.Until.TheVariants as until
 use Rattle.mic_debugger.specs.declared.until.Watched.{Watched}
 use Rattle.mic_debugger.specs.Book.{Book}
-use Rattle.mic_debugger.specs.Lines.{clocked_line, end_line, registers_line, place_line, next_line}
+use Rattle.cli_session.specs.Texts.{end_line}
+use Rattle.mic_debugger.specs.Lines.{clocked_line, registers_line, place_line, next_line}
 
 -- ---- what is waited for
 

@@ -1,17 +1,13 @@
 -- The lines of a session, as bytes. Words have 8 hexadecimal digits in lower case, addresses of the control store 3.
-use Rattle.std.specs.Prelude.{ℕ, suc, zero, ◌+◌, ◌-◌, min, max, Bool, List, [], ◌++◌, Option, Some, None, codes, slice_get, unwrap_or, if◌then◌else◌}
+use Rattle.std.specs.Prelude.{ℕ, suc, zero, ◌+◌, ◌-◌, min, max, Bool, List, [], ◌++◌, Option, Some, None, codes, if◌then◌else◌}
 use Rattle.std.specs.Fmt.{decimal}
 use Rattle.mic_base.specs.Digits.{hex_text}
 use Rattle.mic_clock.specs.declared.counts.Boundary.{Boundary}
 use Rattle.mic_clock.specs.declared.counts.Counts.{Counts}
-use Rattle.mic_clock.specs.declared.end.End.{End}
 use Rattle.mic_clock.specs.declared.registers.Registers.{Registers}
 use Rattle.mic_clock.specs.State.{state_line}
-use Rattle.cli_run_texts.specs.Ends.{end_name}
+use Rattle.cli_session.specs.Texts.{word_line}
 use Rattle.mic_debugger.specs.Book.{Book}
-
-unfoldable pub end_line : End → List ℕ
-end_line e = codes "end " ++ end_name e ++ codes "\n"
 
 -- the text of a cycle's statement, `stall` where it was one
 abbrev pub cycle_text : Book → ℕ → Bool → List ℕ
@@ -41,10 +37,6 @@ next_line book mpc = codes " mpc " ++ hex_text 3 mpc ++ codes " " ++ book.label 
 
 abbrev pub where_line : Book → Counts → ℕ → List ℕ
 where_line book c mpc = place_line book c ++ next_line book mpc
-
--- a memory word and its address
-abbrev pub word_line : List ℕ → ℕ → List ℕ
-word_line memory at = hex_text 8 at ++ codes " " ++ hex_text 8 (unwrap_or (slice_get memory at) 0) ++ codes "\n"
 
 -- so many memory words from an address on
 abbrev pub word_lines : List ℕ → ℕ → ℕ → List ℕ

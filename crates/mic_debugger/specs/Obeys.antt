@@ -5,13 +5,14 @@ use Rattle.mic_clock.specs.State.{state_line}
 use Rattle.mic_clock.specs.View.{BoardView}
 use Rattle.mic_clock.specs.Board.{ShowsRun, IsLedTo}
 use Rattle.cli_outside.specs.Outside.{GotInPart}
+use Rattle.cli_session.specs.Meaning.{IsFrontOf}
 use Rattle.mic_debugger.specs.declared.plan.Plan.{Plan}
 use Rattle.mic_debugger.specs.declared.plan.Plan.TheVariants as plans
 use Rattle.mic_debugger.specs.Book.{Book}
 use Rattle.mic_debugger.specs.Commands.{command_of}
 use Rattle.mic_debugger.specs.Lines.{stack_text, where_line}
 use Rattle.mic_debugger.specs.Plans.{plan_of, refusal_text}
-use Rattle.mic_debugger.specs.Session.{IsBroken, IsClocked, IsFrontOf, IsStopped, StandsAfter}
+use Rattle.mic_debugger.specs.Session.{IsBroken, IsClocked, IsStopped, StandsAfter}
 use Rattle.mic_debugger.specs.View.{SessionView}
 
 -- what a line comes to in a session

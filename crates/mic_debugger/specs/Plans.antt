@@ -4,9 +4,9 @@ use Rattle.std.specs.List.{list_any}
 use Rattle.mic_clock.specs.declared.end.End.{End}
 use Rattle.mic_debugger.specs.declared.table.Verb.{Verb}
 use Rattle.mic_debugger.specs.declared.table.Verb.TheVariants as verbs
-use Rattle.mic_debugger.specs.declared.reading.Command.{Command}
-use Rattle.mic_debugger.specs.declared.reading.CommandError.{CommandError}
-use Rattle.mic_debugger.specs.declared.reading.CommandError.TheVariants.{BadCommand, BadNumber}
+use Rattle.cli_session.specs.declared.reading.Command.{Command}
+use Rattle.cli_session.specs.declared.reading.CommandError.{CommandError}
+use Rattle.cli_session.specs.declared.reading.CommandError.TheVariants.{BadCommand, BadNumber}
 use Rattle.mic_debugger.specs.declared.plan.Plan.{Plan}
 use Rattle.mic_debugger.specs.declared.plan.Plan.TheVariants as plans
 use Rattle.mic_debugger.specs.declared.reply.Reply.{Reply}
@@ -43,12 +43,12 @@ abbrev pub watched_by : Option ℕ → Verb → ℕ → Option ℕ
 watched_by watched verbs.Watch at = Some at
 watched_by watched _ at = watched
 
-abbrev pub breaks_after : List ℕ → Result (Option Command) CommandError → List ℕ
+abbrev pub breaks_after : List ℕ → Result (Option (Command Verb)) CommandError → List ℕ
 breaks_after breaks (Ok (Some c)) = breaks_by breaks c.verb c.number
 breaks_after breaks (Ok None) = breaks
 breaks_after breaks (Err e) = breaks
 
-abbrev pub watched_after : Option ℕ → Result (Option Command) CommandError → Option ℕ
+abbrev pub watched_after : Option ℕ → Result (Option (Command Verb)) CommandError → Option ℕ
 watched_after watched (Ok (Some c)) = watched_by watched c.verb c.number
 watched_after watched (Ok None) = watched
 watched_after watched (Err e) = watched
@@ -72,7 +72,7 @@ module _ (end : Option End) (breaks : List ℕ) (watched : Option ℕ) (memory :
   plan_by verbs.Where n = plans.Where
   plan_by verbs.Quit n = plans.Quit
 
-  abbrev pub plan_of : Result (Option Command) CommandError → Plan
+  abbrev pub plan_of : Result (Option (Command Verb)) CommandError → Plan
   plan_of (Ok None) = plans.Nothing
   plan_of (Ok (Some c)) = plan_by c.verb c.number
   plan_of (Err BadCommand) = plans.Refuse replies.BadCommand

@@ -1,5 +1,5 @@
 -- Where a session leads a board, and what it prints.
-use Rattle.std.specs.Prelude.{◌≡◌, ◌≢◌, ◌⊎◌, ℕ, suc, ◌+◌, ◌<◌, List, ◌++◌, Option, Some, IfSome}
+use Rattle.std.specs.Prelude.{◌≡◌, ◌≢◌, ◌⊎◌, ℕ, suc, ◌+◌, ◌<◌, List, ◌++◌, Option, Some}
 use Rattle.mic_base.specs.Causes.{Rose}
 use Rattle.mic_clock.specs.declared.end.End.{End}
 use Rattle.mic_clock.specs.Meaning.{Meaning}
@@ -8,19 +8,16 @@ use Rattle.mic_clock.specs.View.{BoardView}
 use Rattle.mic_clock.specs.Board.{ShowsRun, IsCutByRead}
 use Rattle.mic_clock.specs.declared.end.End.TheVariants as ends
 use Rattle.cli_outside.specs.Outside.{Got, GotInPart}
+use Rattle.cli_session.specs.Meaning.{IsFrontOf}
 use Rattle.mic_debugger.specs.declared.until.Until.{Until}
 use Rattle.mic_debugger.specs.Book.{Book}
-use Rattle.mic_debugger.specs.Lines.{end_line}
+use Rattle.cli_session.specs.Texts.{end_line}
 use Rattle.mic_debugger.specs.Clocking.{turn_lines, turn_text, after, printed, passed, IsGoing, IsDone}
 
 -- a failing source ends a board, and only that raises its count
 pub record HasReadCause (before now : ℕ) (end : Option End) : Type 0 where
   pub rose : end ≡ Some ends.ReadFault → Rose before now
   pub same : end ≢ Some ends.ReadFault → now ≡ before
-
--- what a sink that tells it holds is a front of these bytes
-abbrev pub IsFrontOf : Option (List ℕ) → List ℕ → Type 0
-IsFrontOf held bytes = IfSome held (λ h. (more : List ℕ) × (bytes ≡ h ++ more))
 
 -- what is printed of a turn from one board to the next
 abbrev pub text_between : {M State : Type 0} → (M → State) → Meaning State → Book → List ℕ → Until → BoardView M → BoardView M → List ℕ

@@ -9,15 +9,16 @@ ghost use Rattle.mic_clock.specs.Run.{number_of};
 ghost use Rattle.mic_clock.specs.Board.{IsTurned, RunIsCutByRead, RunIsCutByWrite, IsCounted, EndsUncounted, HasRoom, NoFault, IsLedTo};
 ghost use Rattle.mic_debugger.specs.Book.{Book, IsBookOf};
 ghost use Rattle.mic_debugger.specs.InTime.{InTime};
-ghost use Rattle.mic_debugger.specs.Lines.{end_line};
+ghost use Rattle.cli_session.specs.Texts.{end_line};
 ghost use Rattle.mic_debugger.specs.Clocking.{comes, counted_turn, first_piece, has_break, has_changed, is_at_boundary, second_piece, turn_text};
 ghost use Rattle.mic_debugger.specs.Session.{HasReadCause, IsBroken, IsClocked, IsStopped, text_between};
 ghost use Rattle.cli_outside.specs.Outside.{Got, GotInPart};
 
 use crate::fault::SessionFault;
 use crate::listing::Listing;
-use crate::pieces::{end_line, put_two, registers_line};
+use crate::pieces::{put_two, registers_line};
 use crate::until::{Until, Watched};
+use cli_session::end_line;
 use console_port::Bus;
 use mic_base::{Line, Sink, SinkFailed, Source};
 use mic_clock::{Board, Clocked, Counts, End};

@@ -8,7 +8,6 @@ mod fault;
 mod listing;
 mod pieces;
 mod plan;
-mod reading;
 mod reply;
 mod session;
 pub mod table;
@@ -16,7 +15,6 @@ mod until;
 
 pub use fault::SessionFault;
 pub use listing::Listing;
-pub use reading::{Command, CommandError, read_command};
 pub use reply::Reply;
 pub use session::Session;
-pub use table::{Argument, Verb};
+pub use table::{Verb, read_command};

@@ -3,13 +3,14 @@
 ghost use Rattle.std.specs.Prelude.{◌≡◌, ◌++◌, ◌<◌, ◌+◌, ◌^◌, ℕ, List};
 ghost use Rattle.mic_base.specs.Causes.{HasCause};
 ghost use Rattle.mic_base.specs.Streams.{Holds, Puts};
-ghost use Rattle.mic_debugger.specs.Lines.{end_line, registers_line, word_line, word_lines};
+ghost use Rattle.cli_session.specs.Texts.{word_line};
+ghost use Rattle.mic_debugger.specs.Lines.{registers_line, word_lines};
 
-use cli_outside::{put_after, word};
-use cli_run_texts::end_name;
+use cli_outside::put_after;
+use cli_session::word_text;
 use console_port::Bus;
 use mic_base::{Line, Sink, SinkFailed};
-use mic_clock::{End, Registers, print_state};
+use mic_clock::{Registers, print_state};
 
 /// Puts one piece behind another.
 pub(crate) fn put_two<E: Sink>(err: &mut E, first: &[u8], second: &[u8]) -> Result<(), SinkFailed>
@@ -20,18 +21,6 @@ pub(crate) fn put_two<E: Sink>(err: &mut E, first: &[u8], second: &[u8]) -> Resu
 {
     let said = err.put(first);
     put_after(said, err, second)
-}
-
-/// The line of an end.
-#[tactic(auto, unfolding(crate::specs::Lines::end_line))]
-pub(crate) fn end_line(end: End) -> Line
-    ensures { result ≡ end_line end }
-{
-    let mut line = Line::new();
-    line.text("end ");
-    end_name(&mut line, end);
-    line.text("\n");
-    line
 }
 
 /// The registers behind a cycle.
@@ -51,11 +40,7 @@ pub(crate) fn registers_line(registers: &Registers) -> Line
 fn word_line(bus: &Bus, at: u32) -> Line
     ensures { result ≡ word_line bus.now.words at }
 {
-    let mut line = Line::new();
-    word(&mut line, "", at);
-    word(&mut line, " ", bus.peek(at).unwrap_or(0));
-    line.text("\n");
-    line
+    word_text(at, bus.peek(at).unwrap_or(0))
 }
 
 /// Puts so many memory words from an address on.

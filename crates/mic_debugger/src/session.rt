@@ -14,7 +14,8 @@ ghost use Rattle.mic_debugger.specs.Book.{Book, IsBookOf};
 ghost use Rattle.mic_debugger.specs.Commands.{command_of};
 ghost use Rattle.mic_debugger.specs.Lines.{stack_text, where_line};
 ghost use Rattle.mic_debugger.specs.Obeys.{Obeys, IsBrokenIn, IsStoppedIn, plan_in, shown_text};
-ghost use Rattle.mic_debugger.specs.Session.{HasReadCause, IsFrontOf};
+ghost use Rattle.cli_session.specs.Meaning.{IsFrontOf};
+ghost use Rattle.mic_debugger.specs.Session.{HasReadCause};
 ghost use Rattle.mic_debugger.specs.Plans.{breaks_after, clocking, plan_by, plan_of, refusal_text, reply_of, watched_after, watched_now};
 
 use crate::breakpoints::Breakpoints;
@@ -23,14 +24,14 @@ use crate::fault::SessionFault;
 use crate::listing::Listing;
 use crate::pieces::{put_two, put_words};
 use crate::plan::Plan;
-use crate::reading::{Command, CommandError, read_command};
 use crate::reply::Reply;
-use crate::table::Verb;
+use crate::table::{Verb, read_command};
 use crate::until::{Until, Watched};
+use cli_session::{Command, CommandError, state_text};
 use ijvm_verifier::VerifiedImage;
 use mal_parser::MalProgram;
 use mic_base::{Line, Sink, SinkFailed, Source};
-use mic_clock::{Board, Clocked, End, print_state};
+use mic_clock::{Board, Clocked, End};
 use std::marker::Model;
 use store_placement::Placement;
 
@@ -146,7 +147,7 @@ impl<M: Clocked> Session<M> {
     }
 
     /// What a line that was read comes to.
-    fn plan(&self, read: Result<Option<Command>, CommandError>) -> Plan
+    fn plan(&self, read: Result<Option<Command<Verb>>, CommandError>) -> Plan
         ensures { result ≡ plan_of self.now.board.end self.now.breaks self.now.watched self.now.board.bus.words read }
     {
         match read {
@@ -158,7 +159,7 @@ impl<M: Clocked> Session<M> {
     }
 
     /// Notes a breakpoint or a watched word.
-    fn note(&mut self, read: Result<Option<Command>, CommandError>)
+    fn note(&mut self, read: Result<Option<Command<Verb>>, CommandError>)
         ensures breaks { self.new.breaks ≡ breaks_after self.old.breaks read }
         ensures watched { self.new.watched ≡ watched_after self.old.watched read }
         ensures same { self.new ≡ record self.old { breaks = self.new.breaks; watched = self.new.watched } }
@@ -182,10 +183,7 @@ impl<M: Clocked> Session<M> {
         let mpc = self.board.mpc();
         let registers = self.board.registers();
         prove!(mpc == registers.mpc);
-        let mut line = Line::new();
-        print_state(&registers, &mut line);
-        line.text("\n");
-        err.put(line.bytes())
+        err.put(state_text(&registers).bytes())
     }
 
     /// Puts where the run stands.

@@ -1,5 +1,5 @@
 -- What clauses see of a rewind, and how its calls change that.
-use Rattle.std.specs.Prelude.{◌≡◌, List, [], ◌∷◌, None, IsSome}
+use Rattle.std.specs.Prelude.{◌≡◌, ◌<◌, List, [], ◌∷◌, None, IsSome}
 use Rattle.mic_clock.specs.Meaning.{Meaning}
 use Rattle.mic_clock.specs.Run.{MicroRun}
 use Rattle.mic_clock.specs.View.{BoardView}
@@ -19,6 +19,14 @@ last_of s (t ∷ ts) = last_of t ts
 -- the newest state that is kept
 abbrev pub newest : HistoryView → Snapshot
 newest h = last_of h.here h.after
+
+-- MPC is an address of the control store
+abbrev pub HasAddress : Snapshot → Type 0
+HasAddress s = s.moment.registers.mpc < 512
+
+abbrev pub HaveAddresses : List Snapshot → Type 0
+HaveAddresses [] = Unit {0}
+HaveAddresses (s ∷ ss) = HasAddress s × HaveAddresses ss
 
 module _ {M State : Type 0} (state : M → State) (m : Meaning State) where
   -- where a board stands
@@ -42,7 +50,10 @@ module _ {M State : Type 0} (state : M → State) (m : Meaning State) where
     pub clocked : new.board.end ≡ None → new.history ≡ appended old.history (state_of new.board)
     pub ended : IsSome new.board.end → new.history ≡ old.history
 
-  -- The newest state is where the board stands; behind an end, its memory.
+  -- The newest state is where the board stands; behind an end, its memory. MPC is an address in each state.
   pub record IsRewind (board : BoardView M) (h : HistoryView) : Type 0 where
     pub words : (newest h).words ≡ board.bus.words
     pub moment : board.end ≡ None → (newest h).moment ≡ moment_of board
+    pub before : HaveAddresses h.before
+    pub here : HasAddress h.here
+    pub after : HaveAddresses h.after

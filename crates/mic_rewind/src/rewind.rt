@@ -2,7 +2,8 @@
 
 ghost use Rattle.std.specs.Prelude.{◌≡◌, ◌≢◌, ◌≤◌, ◌<◌, ◌+◌, ◌^◌, ℕ, List, [], Option, Some, None, IsSome, IfOk, IfErr, OnOk, true, false, length, slice_get};
 ghost use Rattle.console_port.specs.Bus.{Stands};
-ghost use Rattle.console_port.specs.Console.{HasFaultCause};
+ghost use Rattle.console_port.specs.Console.{HasFaultCause, StaysFlushed};
+ghost use Rattle.mic_base.specs.Streams.{Holds};
 ghost use Rattle.mic_clock.specs.Board.{IsTurned, IsCutByFault, HasEndCause, ShowsAs, tick_of};
 ghost use Rattle.mic_rewind.specs.View.{GoesBack};
 ghost use Rattle.mic_rewind.specs.Rewind.{MovesOn, Keeps, moment_of, state_of};
@@ -12,7 +13,7 @@ use crate::moment::Moment;
 use console_port::BusFault;
 use ijvm_verifier::VerifiedImage;
 use mic_base::{Sink, Source};
-use mic_clock::{Board, Clocked, Counts, Registers, Tick};
+use mic_clock::{Board, Clocked, Counts, End, Registers, Tick};
 use std::alloc::{AllocError, Global};
 use std::marker::Model;
 
@@ -35,7 +36,8 @@ impl<M: Clocked> Model for Rewind<M> {
 
 /// Where a board stands, beside its memory.
 fn moment_of<M: Clocked>(board: &Board<M>) -> Moment
-    ensures { result ≡ moment_of M.state M.meaning board.now }
+    ensures value { result ≡ moment_of M.state M.meaning board.now }
+    ensures mpc { result.registers.mpc < 512 }
 {
     Moment {
         registers: board.registers(),
@@ -85,6 +87,10 @@ impl<M: Clocked> Rewind<M> {
         ensures cut { self.old.history.after ≡ [] → IsCutByFault M.state M.meaning (S.left source.old) (K.held sink.old) self.old.board (S.left source.new) (K.held sink.new) self.new.board }
         ensures tick { self.old.history.after ≡ [] → result ≡ tick_of self.old.board.counts self.new.board.counts self.new.board.end }
         ensures keeps { self.old.history.after ≡ [] → Keeps M.state M.meaning self.old self.new }
+        ensures growth { self.new.board.counts.cycles ≤ self.old.board.counts.cycles + 1 }
+        ensures store { self.new.board.store ≡ self.old.board.store }
+        ensures sink_keeps { (front : List ℕ) → Holds front (K.held sink.old) → Holds front (K.held sink.new) }
+        ensures flushed { self.new.board.end ≢ Some End.WriteFault → StaysFlushed (K.held sink.old) (K.passed sink.old) (K.held sink.new) (K.passed sink.new) }
         ensures cause { self.old.history.after ≡ [] →
             HasEndCause (S.faults source.old) (S.faults source.new) (K.faults sink.old) (K.faults sink.new) self.old.board.end self.new.board.end }
     {
@@ -116,14 +122,26 @@ impl<M: Clocked> Rewind<M> {
         ensures ok { OnOk result (ShowsAs M.state (K.held sink.old) self.old.board (K.held sink.new) self.new.board (λ r. r)) }
         ensures err { (left : Option (List ℕ)) → IfErr result (Stands left (K.held sink.old) self.old.board.bus left (K.held sink.new) self.new.board.bus) }
         ensures kept { self.new.board.bus.console.kept ≡ [] }
+        ensures fault { IfErr result (λ e. e ≡ BusFault.WriteFault) }
+        ensures input { self.new.board.bus.console.ended ≡ self.old.board.bus.console.ended }
+        ensures sink_keeps { (front : List ℕ) → Holds front (K.held sink.old) → Holds front (K.held sink.new) }
+        ensures flushed { OnOk result (StaysFlushed (K.held sink.old) (K.passed sink.old) (K.held sink.new) (K.passed sink.new)) }
         ensures cause { HasFaultCause 0 0 (K.faults sink.old) (K.faults sink.new) result }
     {
         self.board.flush(sink)
     }
 
+    /// The end of the board, if it has ended.
+    pub fn ended(&self) -> Option<End>
+        ensures { result ≡ self.now.board.end }
+    {
+        self.board.ended()
+    }
+
     /// The registers at the cursor.
     pub fn registers(&self) -> Registers
-        ensures { result ≡ self.now.history.here.moment.registers }
+        ensures value { result ≡ self.now.history.here.moment.registers }
+        ensures mpc { result.mpc < 512 }
     {
         self.history.here().registers.again()
     }

@@ -1,5 +1,5 @@
 use Rattle.cli_boards.specs.Prepared.{Clocked, Unprepared}
-use Rattle.cli_debug.specs.Input.{Debugged, NoInput}
+use Rattle.cli_session.specs.Input.{HasInput, NoInput}
 use Rattle.cli_debug.proofs.commands.debug_file.Goals as goal
 
 pub returns-in-Err : goal.returns-in-Err
@@ -14,7 +14,7 @@ returns-in-Ok-chosen_input g c =
       names = ended.names;
       does =
           Clocked c.in-Ok.prepared.micro.program c.in-Ok.prepared.program (rw c.machine.ensures at c.in-Ok.ensures.prepared)
-          (Debugged c.in-Ok-chosen_input.input.items (rw c.in-Ok.ensures.same at c.in-Ok-chosen_input.ensures.ok) ended.does);
+          (HasInput c.in-Ok-chosen_input.input.items (rw c.in-Ok.ensures.same at c.in-Ok-chosen_input.ensures.ok) ended.does);
     }
 
 pub returns-in-Err-chosen_input : goal.returns-in-Err-chosen_input

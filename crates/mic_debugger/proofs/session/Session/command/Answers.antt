@@ -2,9 +2,10 @@ use Rattle.std.proofs.Common.{◌≡◌, ℕ, Result, Option, sym, ◌∙◌, ap
 use Rattle.mic_clock.specs.declared.end.End.{End}
 use Rattle.mic_clock.specs.View.{BoardView}
 use Rattle.mic_clock.specs.Board.{NoFault}
-use Rattle.mic_debugger.specs.declared.reading.Command.{Command}
-use Rattle.mic_debugger.specs.declared.reading.CommandError.{CommandError}
+use Rattle.cli_session.specs.declared.reading.Command.{Command}
+use Rattle.cli_session.specs.declared.reading.CommandError.{CommandError}
 use Rattle.mic_debugger.specs.declared.plan.Plan.{Plan}
+use Rattle.mic_debugger.specs.declared.table.Verb.{Verb}
 use Rattle.mic_debugger.specs.Commands.{command_of}
 use Rattle.mic_debugger.specs.Plans.{plan_of}
 use Rattle.mic_debugger.specs.View.{SessionView}
@@ -26,7 +27,7 @@ returns-clause-obeys g c =
     let held' = g.K.Sink.held c.flush.new.out in
     let read_is : c.read_command-read.result ≡ command_of v.listing.memory line = c.read_command-read.ensures ∙ ap (λ (n : ℕ). command_of n line) c.memory_words.ensures.value in
     let plan_is : c.plan-plan.result ≡ plan_in v line =
-    c.plan-plan.ensures ∙ ap (λ (x : Result (Option Command) CommandError). plan_of v.board.end v.breaks v.watched v.board.bus.words x) read_is in
+    c.plan-plan.ensures ∙ ap (λ (x : Result (Option (Command Verb)) CommandError). plan_of v.board.end v.breaks v.watched v.board.bus.words x) read_is in
     let flushed = c.in_ok-flush.ensures in
     let board_is : c.note.new.self.board ≡ c.flush.new.self.board = ap (λ (s : SessionView g.row.M.Denot). s.board) c.note.ensures.same in
     let end_is : c.flush.new.self.board.end ≡ c.carry_out.new.self.board.end = ap (λ (s : SessionView g.row.M.Denot). s.board.end) flushed.same in
@@ -52,7 +53,7 @@ returns-clause-read g c =
     let held' = g.K.Sink.held c.flush.new.out in
     let read_is : c.read_command-read.result ≡ command_of v.listing.memory line = c.read_command-read.ensures ∙ ap (λ (n : ℕ). command_of n line) c.memory_words.ensures.value in
     let plan_is : c.plan-plan.result ≡ plan_in v line =
-    c.plan-plan.ensures ∙ ap (λ (x : Result (Option Command) CommandError). plan_of v.board.end v.breaks v.watched v.board.bus.words x) read_is in
+    c.plan-plan.ensures ∙ ap (λ (x : Result (Option (Command Verb)) CommandError). plan_of v.board.end v.breaks v.watched v.board.bus.words x) read_is in
     let flushed = c.in_ok-flush.ensures in
     let board_is : c.note.new.self.board ≡ c.flush.new.self.board = ap (λ (s : SessionView g.row.M.Denot). s.board) c.note.ensures.same in
     let end_is : c.flush.new.self.board.end ≡ c.carry_out.new.self.board.end = ap (λ (s : SessionView g.row.M.Denot). s.board.end) flushed.same in
@@ -81,7 +82,7 @@ returns-in_err-carry_out-clause-broken g c =
     let said = g.E.Sink.held c.carry_out.new.err in
     let read_is : c.read_command-read.result ≡ command_of v.listing.memory line = c.read_command-read.ensures ∙ ap (λ (n : ℕ). command_of n line) c.memory_words.ensures.value in
     let plan_is : c.plan-plan.result ≡ plan_in v line =
-    c.plan-plan.ensures ∙ ap (λ (x : Result (Option Command) CommandError). plan_of v.board.end v.breaks v.watched v.board.bus.words x) read_is in
+    c.plan-plan.ensures ∙ ap (λ (x : Result (Option (Command Verb)) CommandError). plan_of v.board.end v.breaks v.watched v.board.bus.words x) read_is in
     on_err_of _ c.from_residual.result
     (λ unread book is_book.
     subst (λ (p : Plan). IsBrokenIn state m book left0 held0 said0 v left held said c.carry_out.new.self.board p) plan_is (c.in_err-carry_out.ensures.broken unread book is_book))
@@ -101,7 +102,7 @@ returns-in_err-flush-clause-broken g c =
     let said' = g.E.Sink.held c.flush.new.err in
     let read_is : c.read_command-read.result ≡ command_of v.listing.memory line = c.read_command-read.ensures ∙ ap (λ (n : ℕ). command_of n line) c.memory_words.ensures.value in
     let plan_is : c.plan-plan.result ≡ plan_in v line =
-    c.plan-plan.ensures ∙ ap (λ (x : Result (Option Command) CommandError). plan_of v.board.end v.breaks v.watched v.board.bus.words x) read_is in
+    c.plan-plan.ensures ∙ ap (λ (x : Result (Option (Command Verb)) CommandError). plan_of v.board.end v.breaks v.watched v.board.bus.words x) read_is in
     let flushed = c.in_err-flush.ensures in
     let end_is : c.flush.new.self.board.end ≡ c.carry_out.new.self.board.end = ap (λ (s : SessionView g.row.M.Denot). s.board.end) flushed.same in
     on_err_of _ c.from_residual-in_err-flush.result

@@ -1,4 +1,0 @@
-use Rattle.cli_debug.proofs.commands.chosen_input.Goals as goal
-
-pub returns-in-Some-clause-err : goal.returns-in-Some-clause-err
-returns-in-Some-clause-err g c = rw c.in-Some.is c.read.ensures.unread
