@@ -31,6 +31,7 @@ debugging state m =
       quits = λ d. is_quit d.session.listing.memory;
       GoesBy = λ d rules. IsBookOf d.session.listing rules.book × (rules ≡ rules_of d.session rules.book);
       StandsAt = λ held d s. StandsAt state (Some d.input) held d.session s;
+      Lasts = λ n d. Unit {0};
       waiting = λ d. d.session.board.bus.console.kept;
       Does = λ rules. Does m rules.book rules.words rules.memory rules.bound;
       IsBrokenOff = λ rules. IsBrokenOff m rules.book rules.words rules.memory rules.bound;

@@ -3,7 +3,7 @@ use Rattle.cli_debug.proofs.Ending.{cut_by, left_by, stopped_by}
 use Rattle.cli_debug.proofs.debug.debug_program.Goals as goal
 
 pub do_lines-requires : goal.do_lines-requires
-do_lines-requires g c = c.in-Ok.ensures.reset.reset.kept
+do_lines-requires g c = record { lasts = tt; waits = c.in-Ok.ensures.reset.reset.kept }
 
 pub returns-in-SinkFailed : goal.returns-in-SinkFailed
 returns-in-SinkFailed g c =
