@@ -1,2 +1,3 @@
 mod Methods
 mod Examples
+mod Written

@@ -3,4 +3,4 @@
 
 mod laws;
 
-pub use laws::{laid_out_programs_hold, methods_are_the_others};
+pub use laws::{laid_out_programs_hold, methods_are_the_others, written_code_stands};
