@@ -2,7 +2,7 @@
 _mic() {
     local word=${COMP_WORDS[COMP_CWORD]} before=${COMP_WORDS[COMP_CWORD-1]} command=${COMP_WORDS[1]}
     if [ "$COMP_CWORD" -eq 1 ]; then
-        COMPREPLY=($(compgen -W "assemble list verify run trace profile debug reference micro print-micro soak" -- "$word"))
+        COMPREPLY=($(compgen -W "assemble list verify run trace profile debug reference micro print-micro soak cache" -- "$word"))
         return
     fi
     # Where bash divides words at =, as it does unless COMP_WORDBREAKS was changed, --machine=mic1 is three words.
@@ -29,6 +29,7 @@ _mic() {
     debug) options="--machine --bound --micro --input --map" ;;
     reference) options="--machine --bound --map" ;;
     micro | print-micro | soak) options="--machine" ;;
+    cache) options="--bound --map" ;;
     esac
     case $word in
     -*) COMPREPLY=($(compgen -W "$options" -- "$word")) ;;

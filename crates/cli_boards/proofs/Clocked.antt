@@ -18,7 +18,7 @@ use Rattle.verifier_facts.specs.Accepted.{VerifiedView}
 use Rattle.mal_parser.specs.Program.{Program}
 use Rattle.mal_shipped.specs.declared.loaded.Loaded.{Loaded}
 use Rattle.cli_outside.specs.Outside.{OutsideView}
-use Rattle.cli_boards.specs.Reset.{IsAtReset}
+use Rattle.mic_image_board.specs.Reset.{IsAtReset}
 use Rattle.cli_boards.specs.Runs.{RunsThrough}
 use Rattle.cli_watchers.specs.Counted.{AreClockedAfter, IsClockedAfter}
 

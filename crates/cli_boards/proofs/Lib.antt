@@ -1,5 +1,5 @@
 pub mod Reporting
 pub mod Micros
-pub mod Parts
 pub mod Ending
 pub mod Clocked
+pub mod Caching

@@ -1,7 +1,7 @@
-pub mod Reset
 pub mod Own
 pub mod Prepared
 pub mod Runs
 pub mod Traced
 pub mod Profiled
 pub mod OwnRun
+pub mod Cached

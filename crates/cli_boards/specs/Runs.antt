@@ -14,7 +14,7 @@ use Rattle.mic_watched.specs.declared.cycle.Cycle.{Cycle}
 use Rattle.mic_watched.specs.Watched.{ShowsCycles}
 use Rattle.cli_outside.specs.Outside.{OutsideView}
 use Rattle.cli_run_texts.specs.Report.{report as report_of}
-use Rattle.cli_boards.specs.Reset.{IsAtReset}
+use Rattle.mic_image_board.specs.Reset.{IsAtReset}
 
 -- A run that came to this end, or to none, leaves the files, and has failed where its end says so. Where `out` did not fail, it has passed on all.
 pub record IsLeftBy (end : Option End) (old new : OutsideView) : Type 0 where

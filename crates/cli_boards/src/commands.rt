@@ -1,13 +1,15 @@
 //! The commands, from the files that they read to their status.
 
-ghost use Rattle.std.specs.Prelude.{◌≤◌, ◌^◌, option_map};
+ghost use Rattle.std.specs.Prelude.{◌≤◌, ◌<◌, ◌^◌, None, option_map};
 ghost use Rattle.console_port.specs.Map.{IsMap};
 ghost use Rattle.cli_outside.specs.Outside.{Over};
+ghost use Rattle.cli_boards.specs.Cached.{IsCached};
 ghost use Rattle.cli_boards.specs.OwnRun.{IsOwnRun};
 ghost use Rattle.cli_boards.specs.Prepared.{EndsPrepared};
 ghost use Rattle.cli_boards.specs.Profiled.{IsProfiled};
 ghost use Rattle.cli_boards.specs.Traced.{IsTraced};
 
+use crate::cache::cache_program;
 use crate::preparing::prepare;
 use crate::profile::profile_program;
 use crate::run::run_program;
@@ -57,6 +59,27 @@ pub fn profile_file<M: Clocked + Drop, F: Files, S: Source, K: Sink, E: Sink>(
 {
     match prepare(alloc, machine.machine(), file, own, map, outside) {
         Ok(prepared) => profile_program(alloc, machine, prepared, bound, outside),
+        Err(status) => status,
+    }
+}
+
+/// Reads a program, and runs it by the microprogram that ships, with a cache of so many lines.
+pub fn cache_file<M: Clocked + Drop, F: Files, S: Source, K: Sink, E: Sink>(
+    alloc: Global,
+    machine: M,
+    file: &str,
+    lines: u16,
+    bound: u64,
+    map: MemoryMap,
+    outside: &mut Outside<'_, F, S, K, E>,
+) -> Status
+    requires lines { (0 < lines) × (lines ≤ 4096) }
+    requires bound { bound ≤ 2 ^ 61 }
+    requires map { IsMap map.stack_end }
+    ensures { Over (EndsPrepared M.meaning.machine map (IsCached M.state M.meaning lines bound) file.now None) outside.old outside.new result.0 }
+{
+    match prepare(alloc, machine.machine(), file, None, map, outside) {
+        Ok(prepared) => cache_program(alloc, machine, prepared, lines, bound, outside),
         Err(status) => status,
     }
 }

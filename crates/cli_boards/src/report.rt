@@ -12,6 +12,22 @@ use cli_run_texts::{clocked_report, status_of};
 use mic_base::{Sink, SinkFailed};
 use mic_clock::{Board, Clocked, End};
 
+/// Says a text behind what was put, unless that failed.
+pub(crate) fn say_behind<E: Sink>(
+    said: Result<(), SinkFailed>,
+    text: &[u8],
+    code: Status,
+    err: &mut E,
+) -> Status
+    ensures { (old : SinkState) (before : List ℕ) → Puts old.held before said (E.held err.old) → HasCause old.faults (E.faults err.old) said →
+        Says old (sink_of E.held E.passed E.faults err.new) (before ++ text.now) code.0 result.0 }
+{
+    match said {
+        Ok(()) => say(err, text, code),
+        Err(_) => Status::SINK,
+    }
+}
+
 /// Reports behind what was put, unless that failed, and answers the status of the end.
 pub(crate) fn report_behind<M: Clocked, E: Sink>(
     said: Result<(), SinkFailed>,
@@ -24,7 +40,6 @@ pub(crate) fn report_behind<M: Clocked, E: Sink>(
 {
     match said {
         Ok(()) => {
-            let _next = board.mpc();
             let line = clocked_report(end, &board.counts(), &board.registers());
             say(err, line.bytes(), status_of(end))
         }

@@ -6,12 +6,12 @@ ghost use Rattle.cli_boards.specs.OwnRun.{IsOwnRun};
 
 use crate::microprogram::Microprogram;
 use crate::preparing::Prepared;
-use crate::reset::reset_board;
 use cli_outside::{Outside, Status};
 use cli_run_texts::{clocked_report, status_of};
 use mal_shipped::Loaded;
 use mic_base::{Files, Sink, Source};
 use mic_clock::Clocked;
+use mic_image_board::reset_board;
 use std::alloc::Global;
 
 /// Clocks an accepted program with a microprogram to its end, and reports.
@@ -34,7 +34,6 @@ pub fn run_program<M: Clocked + Drop, F: Files, S: Source, K: Sink, E: Sink>(
         Err(_) => return outside.no_memory(),
     };
     let end = board.run(bound, outside.console, outside.out);
-    let _next = board.mpc();
     let line = clocked_report(end, &board.counts(), &board.registers());
     outside.tell(line.bytes(), status_of(end))
 }

@@ -7,12 +7,12 @@ ghost use Rattle.cli_boards.specs.Traced.{IsTraced};
 use crate::microprogram::Microprogram;
 use crate::preparing::Prepared;
 use crate::report::report_behind;
-use crate::reset::reset_board;
 use cli_outside::{Outside, Status};
 use cli_watchers::Tracer;
 use mal_shipped::Loaded;
 use mic_base::{Files, Sink, Source};
 use mic_clock::Clocked;
+use mic_image_board::reset_board;
 use mic_watched::run_watched;
 use std::alloc::Global;
 

@@ -12,6 +12,7 @@ use Rattle.mic_clock.specs.View.{BoardView}
 use Rattle.ijvm_meaning.specs.declared.run.RunEnd.{RunEnd}
 use Rattle.ijvm_meaning.specs.declared.run.RunEnd.TheVariants as defined
 use Rattle.ijvm_meaning.specs.Step.{Outcome, Goes, Halts, Errs, Limits, Stuck, outcome}
+use Rattle.ijvm_meaning.specs.Cost.{timing_of}
 use Rattle.ijvm_meaning.specs.Run.{Program, Point, Finish, EndsBy, finish_from, after_test, after_outcome, first_point, point_after}
 use Rattle.ijvm_reference.specs.declared.plain.PlainReport.{PlainReport}
 use Rattle.ijvm_reference.specs.Plain.{Reports, HasRun as HasPlainRun}
@@ -109,7 +110,7 @@ module _ {M S : Type 0} (state : M → S) (m : Meaning S) (IsReady : ℕ → Lis
   module _ (program : VerifiedView) (bound : ℕ) (input : List ℕ) (old ran told : OutsideView) (status status' : ℕ) where
     -- both ran to their ends
     both : OneEnd → old.console.left ≡ Some input →
-        (board : BoardView M) (run : HasRun state m IsReady IsShipped entry program bound old.console.left old.out.held ran.console.left ran.out.held board) →
+        (board : BoardView M) (run : HasRun state m IsReady IsShipped entry (timing_of m.machine) program bound old.console.left old.out.held ran.console.left ran.out.held board) →
         Says old.err ran.err (report_on state m (board_end run.begins.finish.end) board) (status_of (board_end run.begins.finish.end)) status →
         (r : PlainReport) → HasPlainRun (reference.verified_program program m.machine) program.main_locals bound old.console.left old.out.held told.console.left told.out.held r →
         Says old.err told.err (plain_head r) (status_of (texts.clocked_end r.end)) status' →
@@ -117,16 +118,16 @@ module _ {M S : Type 0} (state : M → S) (m : Meaning S) (IsReady : ℕ → Lis
     both one tells board run says r plainly says' quiet quiet' =
         let f : Finish = run.begins.finish in
         let same : f ≡ plainly.run.finish =
-        one (program_on m.machine program) bound (first_point program.main_locals input) f plainly.run.finish
-        (subst (λ (i : List ℕ). EndsBy (program_on m.machine program) bound (first_point program.main_locals i) f)
+        one (program_on (timing_of m.machine) program) bound (first_point (program_on (timing_of m.machine) program) program.main_locals input) f plainly.run.finish
+        (subst (λ (i : List ℕ). EndsBy (program_on (timing_of m.machine) program) bound (first_point (program_on (timing_of m.machine) program) program.main_locals i) f)
         (told_input old.console.left input run.begins.input tells run.begins.told) run.begins.finishes)
-        (subst (λ (i : List ℕ). EndsBy (program_on m.machine program) bound (first_point program.main_locals i) plainly.run.finish)
+        (subst (λ (i : List ℕ). EndsBy (program_on (timing_of m.machine) program) bound (first_point (program_on (timing_of m.machine) program) program.main_locals i) plainly.run.finish)
         (told_input old.console.left input plainly.run.input tells plainly.run.told) plainly.run.ends) in
         let r_end : r.end ≡ plain.reported_end f.end = plainly.end ∙ ap (λ (g : Finish). plain.reported_end g.end) (sym same) in
         let reports : Reports r f.cycles f.instructions f.last = subst (λ (g : Finish). Reports r g.cycles g.instructions g.last) (sym same) plainly.report in
         let given : IfSome told.out.held (λ h. h ≡ plain.told_of old.out.held ++ f.left.given) =
         subst (λ (g : Finish). IfSome told.out.held (λ h. h ≡ plain.told_of old.out.held ++ g.left.given)) (sym same) plainly.given in
-        let limit : OfLimit f = of_limit (program_on m.machine program) bound run.begins.finishes.0 (first_point program.main_locals run.begins.input) f run.begins.finishes.1 in
+        let limit : OfLimit f = of_limit (program_on (timing_of m.machine) program) bound run.begins.finishes.0 (first_point (program_on (timing_of m.machine) program) program.main_locals run.begins.input) f run.begins.finishes.1 in
         let counts = run.at.counts in
         let heads : clocked_head (board_end f.end) board.counts ≡ plain_head r =
         clocked_is board.counts f limit (λ q. sym (ap (λ (c : Counts). c.cycles) counts) ∙ run.agrees.cycles q)
@@ -144,7 +145,7 @@ module _ {M S : Type 0} (state : M → S) (m : Meaning S) (IsReady : ℕ → Lis
         }
 
     by_reference : OneEnd → old.console.left ≡ Some input →
-        (board : BoardView M) (run : HasRun state m IsReady IsShipped entry program bound old.console.left old.out.held ran.console.left ran.out.held board) →
+        (board : BoardView M) (run : HasRun state m IsReady IsShipped entry (timing_of m.machine) program bound old.console.left old.out.held ran.console.left ran.out.held board) →
         Says old.err ran.err (report_on state m (board_end run.begins.finish.end) board) (status_of (board_end run.begins.finish.end)) status →
         IsReferenceRun m.machine bound program old told status' →
         IsQuiet old ran status → IsQuiet old told status' → Agrees old ran told status status'
@@ -156,7 +157,7 @@ module _ {M S : Type 0} (state : M → S) (m : Meaning S) (IsReady : ℕ → Lis
         absurd (quiet'.memory (said old.err told.err _ _ status' quiet'.err says').0)
 
     pub agree : OneEnd → old.console.left ≡ Some input →
-        ClockedEnd state m IsReady IsShipped entry bound program old ran status →
+        ClockedEnd state m IsReady IsShipped entry (timing_of m.machine) bound program old ran status →
         IsReferenceRun m.machine bound program old told status' →
         IsQuiet old ran status → IsQuiet old told status' → Agrees old ran told status status'
     agree one tells (NoRoom tells') reference quiet quiet' = absurd (quiet.memory (said old.err ran.err _ _ status quiet.err tells'.says).0)

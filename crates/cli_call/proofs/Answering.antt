@@ -8,14 +8,18 @@ use Rattle.mic_clock.specs.declared.end.End.{End}
 use Rattle.mic_clock.specs.declared.end.End.TheVariants as ends
 use Rattle.mic_clock.specs.Meaning.{Meaning}
 use Rattle.mic_clock.specs.View.{BoardView}
-use Rattle.mic_clock.specs.Board.{HasEndCause, NoFault, ShowsRun}
-use Rattle.mic_clock.specs.Run.{start_run}
+use Rattle.mic_clock.specs.Board.{HasEndCause, NoFault}
+use Rattle.mic_image_board.specs.Reset.{IsAtReset}
 use Rattle.mic1_datapath.specs.Mic1.{mic1_meaning, IsReady as IsReady1}
 use Rattle.mic1_datapath.specs.View.{micro_of as micro_of1}
 use Rattle.mic2_datapath.specs.Mic2.{mic2_meaning, IsReady as IsReady2}
 use Rattle.mic2_datapath.specs.View.{micro_of as micro_of2}
 use Rattle.ijvm_meaning.specs.declared.run.RunEnd.{RunEnd}
 use Rattle.ijvm_meaning.specs.declared.run.RunEnd.TheVariants as defined
+use Rattle.mic3_datapath.specs.Mic3.{mic3_meaning, IsReady as IsReady3}
+use Rattle.mic3_datapath.specs.View.{pipeline_of}
+use Rattle.mic3_interpreter.specs.Timing.{mic3_timing}
+use Rattle.ijvm_meaning.specs.Cost.{Timing, timing_of}
 use Rattle.verifier_facts.specs.Accepted.{VerifiedView, IsAccepted}
 use Rattle.ijvm_simulation.specs.Simulates.{board_end}
 use Rattle.ijvm_simulation.specs.Starts.{EndsAsDefined}
@@ -29,7 +33,7 @@ use Rattle.mal_shipped.specs.Shipped.{HasShipped}
 use Rattle.mic_watched.specs.declared.cycle.Cycle.{Cycle}
 use Rattle.mic_watched.specs.Watched.{ShowsCycles}
 use Rattle.mic_base.specs.Causes.{Rose}
-use Rattle.cli_words.specs.Words.{Asked, Assemble, ListOf, Verify, Run, RunOwn, Trace, Profile, Debug, Reference, Micro, PrintMicro, Soak}
+use Rattle.cli_words.specs.Words.{Asked, Assemble, ListOf, Verify, Run, RunPipeline, RunOwn, Trace, Profile, Debug, Reference, Micro, PrintMicro, Soak, Cache}
 use Rattle.cli_outside.specs.Status as exits
 use Rattle.cli_outside.specs.Messages.{out_of_memory}
 use Rattle.cli_outside.specs.Outside.{FilesState, OutsideView, PrintsOnOut, Said, Says, SinkState, SourceState, TellsOnErr, Unsaid, with_files}
@@ -43,6 +47,8 @@ use Rattle.cli_boards.specs.Own.{IsChosenMicroprogram, NoneChosen}
 use Rattle.cli_boards.specs.Prepared.{EndsPrepared, IsUnprepared}
 use Rattle.cli_boards.specs.Prepared as preparing
 use Rattle.cli_boards.specs.Runs.{IsFirstBoard, RunsThrough}
+use Rattle.cli_boards.specs.Cached.{IsCached}
+use Rattle.cli_boards.specs.Cached as cached
 use Rattle.cli_boards.specs.OwnRun.{IsOwnRun}
 use Rattle.cli_boards.specs.OwnRun as own_run
 use Rattle.cli_boards.specs.Profiled.{IsProfiled}
@@ -98,20 +104,15 @@ pub record IsListed : Type 0 where
   pub entry : (machine : Machine) (l : Loaded) → IsLoaded (listed_program machine) l → l.entry ≡ 0x002
 
 -- where the microprogram that ships is clocked, no run ends so
-module _ {M S : Type 0} (state : M → S) (m : Meaning S) (machine : Machine) (listed : IsListed) (law : EndsAsDefined state m (HasShipped machine) 0x002) where
+module _ {M S : Type 0} (state : M → S) (m : Meaning S) (machine : Machine) (listed : IsListed) (timing : Timing) (law : EndsAsDefined state m (HasShipped machine) 0x002 timing) where
   pub shipped_stays : (micro : Program) (program : VerifiedView) (bound : ℕ) (left held left' held' : Option (List ℕ)) (l : Loaded) (first last : BoardView M) (cycles : List Cycle) (end : End) →
-      micro ≡ listed_program machine → IsAccepted program → IsFirstBoard state m micro l program first → ShowsCycles state m bound left held first left' held' last cycles (Some end) →
+      micro ≡ listed_program machine → IsFirstBoard state m micro l program first → ShowsCycles state m bound left held first left' held' last cycles (Some end) →
       (end ≢ ends.WriteFault → last.end ≡ Some end) → IsStray end → ⊥
-  shipped_stays micro program bound left held left' held' l first last cycles end ships accepted start shows ended stray =
+  shipped_stays micro program bound left held left' held' l first last cycles end ships start shows ended stray =
       let loaded : IsLoaded (listed_program machine) l = subst (λ (p : Program). IsLoaded p l) ships start.loaded in
       let has : HasShipped machine first.store.words = subst (λ store. HasShipped machine store.words) (sym start.store) (listed.words machine l loaded) in
-      let so = law program bound left held left' held' first last accepted start.reset.image has
-      (record {
-        start = λ left held w shown. subst (λ (entry : ℕ). ShowsRun state left held first (start_run m entry (0x8000 + program.main_locals - 1) w)) (listed.entry machine l loaded) (start.reset.shows left held w shown);
-        loaded = start.reset.loaded;
-        kept = start.reset.kept;
-        input = start.reset.ended;
-      })
+      let so = law program bound left held left' held' first last has
+      (subst (λ (entry : ℕ). IsAtReset state m entry program first) (listed.entry machine l loaded) start.reset)
       (λ rest untaken.
       let led = shows.run (not_fault end stray) rest untaken in
       (led.0, led.1, λ r shown same. let here = led.2 r shown same in (here.0, here.2)))
@@ -228,15 +229,15 @@ module _ (asks : Option Asked) (old new : OutsideView) (status : ℕ) where
   run_end ends.Adrift runs stray cause files err is = Adrift (stray tt) is
 
   -- `run` and `soak` with the microprogram that ships
-  module _ {M S : Type 0} (state : M → S) (m : Meaning S) (IsReady : ℕ → List ℕ → ℕ → S → Type 0) (IsShipped : List ℕ → Type 0) (entry : ℕ) (runs : Runs asks) where
-    clocked : (bound : ℕ) (program : VerifiedView) → ClockedEnd state m IsReady IsShipped entry bound program old new status → Answer
+  module _ {M S : Type 0} (state : M → S) (m : Meaning S) (IsReady : ℕ → List ℕ → ℕ → S → Type 0) (IsShipped : List ℕ → Type 0) (entry : ℕ) (timing : Timing) (runs : Runs asks) where
+    clocked : (bound : ℕ) (program : VerifiedView) → ClockedEnd state m IsReady IsShipped entry timing bound program old new status → Answer
     clocked bound program (clocking.NoRoom h) = short h
     clocked bound program (clocking.Ran board run files console out flushed says) =
         on_err_well _ _ says (λ err. defined_end run.begins.finish.end runs (record { files = ap (λ (f : FilesState). f.faults) files; console = console; out = out; err = err }))
     clocked bound program (clocking.CutByRead board cut files rose same flushed says) = on_err _ _ says (ConsoleFailed rose)
     clocked bound program (clocking.CutByWrite board cut files same rose says) = on_err _ _ says (SinkFailed (inl rose))
 
-    soaked : (seed size : ℕ) → SoakEnds state m IsReady IsShipped entry seed size old new status → Answer
+    soaked : (seed size : ℕ) → SoakEnds state m IsReady IsShipped entry timing seed size old new status → Answer
     soaked seed size (soaking.NoRoom h) = short h
     soaked seed size (soaking.Ran program is left board run h) = prints_on _ _ old.files refl h (defined_end run.begins.finish.end runs)
 
@@ -265,6 +266,11 @@ module _ (asks : Option Asked) (old new : OutsideView) (status : ℕ) where
     ran_traced stays buses (traced.NoRoom h) = short h
     ran_traced stays buses (traced.Whole l last cycles end lines run are says) = on_err_well _ _ says (run_end end runs (stays l last cycles end run) run.left.cause run.left.files)
     ran_traced stays buses (traced.Stopped l last cycles lines run are front rose is) = SinkFailed (inr rose) is
+
+    ran_cached : Stays asks old new state m bound micro program → (lines : ℕ) → IsCached state m lines bound micro program old new status → Answer
+    ran_cached stays lines (cached.NoRoom h) = short h
+    ran_cached stays lines (cached.Ran l last cycles end run says) =
+        on_err_well _ _ says (run_end end runs (stays l last cycles end run) run.left.cause run.left.files)
 
     ran_profiled : Stays asks old new state m bound micro program → IsProfiled state m bound micro program old new status → Answer
     ran_profiled stays (profiled.NoRoom h) = short h
@@ -317,24 +323,24 @@ module _ (asks : Option Asked) (old new : OutsideView) (status : ℕ) where
 -- both machines end a run by the microprogram that ships as the definition does
 pub record ShippedEnd : Type 0 where
   pub listed : IsListed
-  pub mic1 : EndsAsDefined micro_of1 mic1_meaning (HasShipped Mic1) 0x002
-  pub mic2 : EndsAsDefined micro_of2 mic2_meaning (HasShipped Mic2) 0x002
+  pub mic1 : EndsAsDefined micro_of1 mic1_meaning (HasShipped Mic1) 0x002 (timing_of Mic1)
+  pub mic2 : EndsAsDefined micro_of2 mic2_meaning (HasShipped Mic2) 0x002 (timing_of Mic2)
 
 module _ (listed : IsListed) (old new : OutsideView) (status : ℕ) where
-  module _ {M S : Type 0} (state : M → S) (m : Meaning S) (IsReady : ℕ → List ℕ → ℕ → S → Type 0) (IsShipped : List ℕ → Type 0) (entry : ℕ)
-      (law : EndsAsDefined state m (HasShipped m.machine) 0x002) where
+  module _ {M S : Type 0} (state : M → S) (m : Meaning S) (IsReady : ℕ → List ℕ → ℕ → S → Type 0) (IsShipped : List ℕ → Type 0) (entry : ℕ) (timing : Timing)
+      (law : EndsAsDefined state m (HasShipped m.machine) 0x002 timing) where
     -- Without a file of its own, a trace or a profile clocks the microprogram that ships.
     stays : (asks : Option Asked) (bound : ℕ) (own : Option (List ℕ)) (micro : Program) (program : VerifiedView) → IsAccepted program → IsChosenMicroprogram m.machine own old micro →
         ((name : List ℕ) → own ≡ Some name → RunsOwn asks) → Stays asks old new state m bound micro program
     stays asks bound None micro program accepted chosen owns =
         λ l last cycles end run stray.
-        absurd (shipped_stays state m m.machine listed law micro program bound _ _ _ _ l run.first last cycles end chosen accepted run.begins run.shows run.ends stray)
+        absurd (shipped_stays state m m.machine listed timing law micro program bound _ _ _ _ l run.first last cycles end chosen run.begins run.shows run.ends stray)
     stays asks bound (Some name) micro program accepted chosen owns = λ l last cycles end run stray. owns name refl
 
-    on_machine : (asked : Asked) → EndsOn state m IsReady IsShipped entry asked old new status → IsAnswer (Some asked) old new status
+    on_machine : (asked : Asked) → EndsOn state m IsReady IsShipped entry timing asked old new status → IsAnswer (Some asked) old new status
     on_machine (Run file machine bound map) h =
         over (Some (Run file machine bound map)) old new status _ _ _ file refl h
-        (clocked (Some (Run file machine bound map)) old new status state m IsReady IsShipped entry tt bound)
+        (clocked (Some (Run file machine bound map)) old new status state m IsReady IsShipped entry timing tt bound)
     on_machine (RunOwn file machine bound map own) h =
         prepared (Some (RunOwn file machine bound map own)) old new status m.machine map _ file (Some own) (inl refl) (λ one is. inr (sym (same_Some own one is))) h
         (λ micro program accepted chosen. ran_own (Some (RunOwn file machine bound map own)) old new status state m tt bound micro program tt)
@@ -353,7 +359,9 @@ module _ (listed : IsListed) (old new : OutsideView) (status : ℕ) where
     on_machine (Reference file machine bound map) h =
         over (Some (Reference file machine bound map)) old new status _ _ _ file refl h
         (λ program. defined_run (Some (Reference file machine bound map)) old new status machine bound program tt tt)
-    on_machine (Soak seed size machine) h = soaked (Some (Soak seed size machine)) old new status state m IsReady IsShipped entry tt seed size h
+    on_machine (Soak seed size machine) h = soaked (Some (Soak seed size machine)) old new status state m IsReady IsShipped entry timing tt seed size h
+    on_machine (RunPipeline file bound map) h = absurd h
+    on_machine (Cache file lines bound map) h = absurd h
     on_machine (Assemble source image) h = absurd h
     on_machine (ListOf file map) h = absurd h
     on_machine (Verify file map) h = absurd h
@@ -362,8 +370,8 @@ module _ (listed : IsListed) (old new : OutsideView) (status : ℕ) where
 
 module _ (shipped : ShippedEnd) (old new : OutsideView) (status : ℕ) where
   by_machine : (machine : Machine) (asked : Asked) → EndsOnMachine machine asked old new status → IsAnswer (Some asked) old new status
-  by_machine Mic1 asked h = on_machine shipped.listed old new status micro_of1 mic1_meaning IsReady1 (HasShipped Mic1) 0x002 shipped.mic1 asked h
-  by_machine Mic2 asked h = on_machine shipped.listed old new status micro_of2 mic2_meaning IsReady2 (HasShipped Mic2) 0x002 shipped.mic2 asked h
+  by_machine Mic1 asked h = on_machine shipped.listed old new status micro_of1 mic1_meaning IsReady1 (HasShipped Mic1) 0x002 (timing_of Mic1) shipped.mic1 asked h
+  by_machine Mic2 asked h = on_machine shipped.listed old new status micro_of2 mic2_meaning IsReady2 (HasShipped Mic2) 0x002 (timing_of Mic2) shipped.mic2 asked h
 
   by_words : (asks : Option Asked) → EndsAs asks old new status → IsAnswer asks old new status
   by_words None h = only_told None old new status _ _ h (Misused refl)
@@ -372,6 +380,9 @@ module _ (shipped : ShippedEnd) (old new : OutsideView) (status : ℕ) where
   by_words (Some (ListOf file map)) h = over (Some (ListOf file map)) old new status _ _ _ file refl h (printed (Some (ListOf file map)) old new status _)
   by_words (Some (Verify file map)) h = over (Some (Verify file map)) old new status _ _ _ file refl h (printed (Some (Verify file map)) old new status _)
   by_words (Some (Run file machine bound map)) h = by_machine machine (Run file machine bound map) h
+  by_words (Some (RunPipeline file bound map)) h =
+      over (Some (RunPipeline file bound map)) old new status _ _ _ file refl h
+      (clocked (Some (RunPipeline file bound map)) old new status pipeline_of mic3_meaning IsReady3 (HasShipped Mic2) 0x002 mic3_timing tt bound)
   by_words (Some (RunOwn file machine bound map micro)) h = by_machine machine (RunOwn file machine bound map micro) h
   by_words (Some (Trace file machine bound map micro buses)) h = by_machine machine (Trace file machine bound map micro buses) h
   by_words (Some (Profile file machine bound map micro)) h = by_machine machine (Profile file machine bound map micro) h
@@ -383,6 +394,11 @@ module _ (shipped : ShippedEnd) (old new : OutsideView) (status : ℕ) where
       over (Some (PrintMicro (Some file) machine)) old new status _ _ _ file refl h (λ text h. prints_on (Some (PrintMicro (Some file) machine)) old new status _ _ old.files refl h Done)
   by_words (Some (PrintMicro None machine)) h = prints_on (Some (PrintMicro None machine)) old new status _ _ old.files refl h Done
   by_words (Some (Soak seed size machine)) h = by_machine machine (Soak seed size machine) h
+  by_words (Some (Cache file lines bound map)) h =
+      prepared (Some (Cache file lines bound map)) old new status Mic1 map _ file None refl (λ one is. absurd (let none : None ≡ Some one = is in cc)) h
+      (λ micro program accepted chosen. ran_cached (Some (Cache file lines bound map)) old new status micro_of1 mic1_meaning tt bound micro program
+      (stays shipped.listed old new status micro_of1 mic1_meaning IsReady1 (HasShipped Mic1) 0x002 (timing_of Mic1) shipped.mic1 (Some (Cache file lines bound map)) bound None
+      micro program accepted chosen (λ name is. absurd (let none : None ≡ Some name = is in cc))) lines)
 
   pub answered : (asks : Option Asked) → CallEnds asks old new status → IsAnswer asks old new status
   answered asks (calls.NoRoom h) = short asks old new status h

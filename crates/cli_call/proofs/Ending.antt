@@ -7,6 +7,7 @@ use Rattle.mic_clock.specs.declared.end.End.TheVariants as ends
 use Rattle.mic_clock.specs.Meaning.{Meaning}
 use Rattle.mic_clock.specs.Board.{NoFault, HasEndCause}
 use Rattle.mic_clock.specs.View.{BoardView}
+use Rattle.ijvm_meaning.specs.Cost.{Timing}
 use Rattle.verifier_facts.specs.Accepted.{VerifiedView}
 use Rattle.ijvm_simulation.specs.Simulates.{board_end}
 use Rattle.ijvm_simulation.specs.Headline.{HasRun, IsCutByRead, IsCutByWrite}
@@ -15,37 +16,37 @@ use Rattle.cli_run_texts.specs.Ends.{status_of}
 use Rattle.cli_boards.specs.Runs.{report_on}
 use Rattle.cli_call.specs.ClockedEnd.{ClockedEnd, CutByRead, CutByWrite, Ran}
 
-module _ {M S : Type 0} (state : M → S) (m : Meaning S) (IsReady : ℕ → List ℕ → ℕ → S → Type 0) (IsShipped : List ℕ → Type 0) (entry : ℕ) where
+module _ {M S : Type 0} (state : M → S) (m : Meaning S) (IsReady : ℕ → List ℕ → ℕ → S → Type 0) (IsShipped : List ℕ → Type 0) (entry : ℕ) (timing : Timing) where
   module _ (bound : ℕ) (program : VerifiedView) (old new : OutsideView) (board : BoardView M) where
     -- what is known of a board that was clocked between these
     pub record IsClocked : Type 0 where
       pub files : new.files ≡ old.files
       pub run : NoFault None board.end →
-          HasRun state m IsReady IsShipped entry program bound old.console.left old.out.held new.console.left new.out.held board
+          HasRun state m IsReady IsShipped entry timing program bound old.console.left old.out.held new.console.left new.out.held board
       pub read : board.end ≡ Some ends.ReadFault →
-          IsCutByRead state m IsReady IsShipped entry program bound old.console.left old.out.held new.console.left new.out.held board
+          IsCutByRead state m IsReady IsShipped entry timing program bound old.console.left old.out.held new.console.left new.out.held board
       pub write : board.end ≡ Some ends.WriteFault →
-          IsCutByWrite state m IsReady IsShipped entry program bound old.console.left old.out.held new.console.left new.out.held board
+          IsCutByWrite state m IsReady IsShipped entry timing program bound old.console.left old.out.held new.console.left new.out.held board
       pub flushed : board.end ≢ Some ends.WriteFault → StaysFlushed old.out.held old.out.passed new.out.held new.out.passed
       pub cause : HasEndCause old.console.faults new.console.faults old.out.faults new.out.faults None board.end
 
     -- the end of the definition's run is the board's
-    agrees : (run : HasRun state m IsReady IsShipped entry program bound old.console.left old.out.held new.console.left new.out.held board) →
+    agrees : (run : HasRun state m IsReady IsShipped entry timing program bound old.console.left old.out.held new.console.left new.out.held board) →
         (end : End) → board.end ≡ Some end → end ≡ board_end run.begins.finish.end
     agrees run end e = same_Some end (board_end run.begins.finish.end) (sym e ∙ sym run.end ∙ run.agrees.end)
 
     whole : (end : End) (status : ℕ) → IsClocked → board.end ≡ Some end → NoFault None (Some end) → (Some end ≡ Some ends.ReadFault → ⊥) → (Some end ≡ Some ends.WriteFault → ⊥) →
         Says old.err new.err (report_on state m end board) (status_of end) status →
-        ClockedEnd state m IsReady IsShipped entry bound program old new status
+        ClockedEnd state m IsReady IsShipped entry timing bound program old new status
     whole end status r e none unread unwritten says =
-        let run : HasRun state m IsReady IsShipped entry program bound old.console.left old.out.held new.console.left new.out.held board =
+        let run : HasRun state m IsReady IsShipped entry timing program bound old.console.left old.out.held new.console.left new.out.held board =
         r.run (subst (NoFault None) (sym e) none) in
         Ran board run r.files (r.cause.source_same (λ _ q. unread (sym e ∙ q))) (r.cause.sink_same (λ _ q. unwritten (sym e ∙ q))) (r.flushed (λ q. unwritten (sym e ∙ q)))
         (subst (λ (x : End). Says old.err new.err (report_on state m x board) (status_of x) status) (agrees run end e) says)
 
     pub ends_by : (end : End) (status : ℕ) → IsClocked → board.end ≡ Some end →
         Says old.err new.err (report_on state m end board) (status_of end) status →
-        ClockedEnd state m IsReady IsShipped entry bound program old new status
+        ClockedEnd state m IsReady IsShipped entry timing bound program old new status
     ends_by ends.ReadFault status r e says =
         let unwritten : board.end ≢ Some ends.WriteFault = λ q. let c : Some ends.ReadFault ≡ Some ends.WriteFault = sym e ∙ q in cc in
         CutByRead board (r.read e) r.files (r.cause.read refl e) (r.cause.sink_same (λ _. unwritten)) (r.flushed unwritten) says

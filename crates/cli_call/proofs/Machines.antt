@@ -6,6 +6,7 @@ use Rattle.mic_clock.specs.declared.end.End.{End}
 use Rattle.mic_clock.specs.declared.end.End.TheVariants as clocked
 use Rattle.mic_clock.specs.Meaning.{Meaning}
 use Rattle.mic_clock.specs.View.{BoardView}
+use Rattle.ijvm_meaning.specs.Cost.{Timing}
 use Rattle.verifier_facts.specs.Accepted.{VerifiedView}
 use Rattle.ijvm_simulation.specs.Simulates.{board_end}
 use Rattle.ijvm_simulation.specs.Headline.{HasRun}
@@ -25,22 +26,22 @@ both_tell held held' x y same a b =
     subst (λ (k : Option (List ℕ)). IfSome k (λ h'. x ≡ h')) b (subst (λ (k : Option (List ℕ)). IfSome k (λ h. IfSome held' (λ h'. h ≡ h'))) a same)
 
 -- a machine and another
-module _ {M N S T : Type 0} (state : M → S) (m : Meaning S) (IsReady : ℕ → List ℕ → ℕ → S → Type 0) (IsShipped : List ℕ → Type 0) (entry : ℕ)
-    (state' : N → T) (m' : Meaning T) (IsReady' : ℕ → List ℕ → ℕ → T → Type 0) (IsShipped' : List ℕ → Type 0) (entry' : ℕ) where
+module _ {M N S T : Type 0} (state : M → S) (m : Meaning S) (IsReady : ℕ → List ℕ → ℕ → S → Type 0) (IsShipped : List ℕ → Type 0) (entry : ℕ) (timing : Timing)
+    (state' : N → T) (m' : Meaning T) (IsReady' : ℕ → List ℕ → ℕ → T → Type 0) (IsShipped' : List ℕ → Type 0) (entry' : ℕ) (timing' : Timing) where
   -- their boards end alike
   abbrev pub BoardsAgree : Type 0
   BoardsAgree =
       (v : VerifiedView) (bound bound' : ℕ) (input : List ℕ) (before left held left' held' : Option (List ℕ)) (board : BoardView M) (board' : BoardView N) →
-      HasRun state m IsReady IsShipped entry v bound (Some input) before left held board →
-      HasRun state' m' IsReady' IsShipped' entry' v bound' (Some input) before left' held' board' →
+      HasRun state m IsReady IsShipped entry timing v bound (Some input) before left held board →
+      HasRun state' m' IsReady' IsShipped' entry' timing' v bound' (Some input) before left' held' board' →
       MeetNoBound board board' → boards.EndAlike held held' board board'
 
   module _ (program : VerifiedView) (bound bound' : ℕ) (input : List ℕ) (old one other : OutsideView) (status status' : ℕ) where
     -- both ran to their ends
     both : BoardsAgree → old.console.left ≡ Some input →
-        (board : BoardView M) (run : HasRun state m IsReady IsShipped entry program bound old.console.left old.out.held one.console.left one.out.held board) →
+        (board : BoardView M) (run : HasRun state m IsReady IsShipped entry timing program bound old.console.left old.out.held one.console.left one.out.held board) →
         Says old.err one.err (report_on state m (board_end run.begins.finish.end) board) (status_of (board_end run.begins.finish.end)) status →
-        (board' : BoardView N) (run' : HasRun state' m' IsReady' IsShipped' entry' program bound' old.console.left old.out.held other.console.left other.out.held board') →
+        (board' : BoardView N) (run' : HasRun state' m' IsReady' IsShipped' entry' timing' program bound' old.console.left old.out.held other.console.left other.out.held board') →
         Says old.err other.err (report_on state' m' (board_end run'.begins.finish.end) board') (status_of (board_end run'.begins.finish.end)) status' →
         IsQuiet old one status → IsQuiet old other status' → status ≢ exits.bound → status' ≢ exits.bound → CallsEndAlike old one other status status'
     both agree tells board run says board' run' says' quiet quiet' none none' =
@@ -52,8 +53,8 @@ module _ {M N S T : Type 0} (state : M → S) (m : Meaning S) (IsReady : ℕ →
         let ended' : board'.end ≡ Some end' = sym run'.end ∙ run'.agrees.end in
         let alike : boards.EndAlike one.out.held other.out.held board board' =
         agree program bound bound' input old.out.held one.console.left one.out.held other.console.left other.out.held board board'
-        (subst (λ (left : Option (List ℕ)). HasRun state m IsReady IsShipped entry program bound left old.out.held one.console.left one.out.held board) tells run)
-        (subst (λ (left : Option (List ℕ)). HasRun state' m' IsReady' IsShipped' entry' program bound' left old.out.held other.console.left other.out.held board') tells run') (
+        (subst (λ (left : Option (List ℕ)). HasRun state m IsReady IsShipped entry timing program bound left old.out.held one.console.left one.out.held board) tells run)
+        (subst (λ (left : Option (List ℕ)). HasRun state' m' IsReady' IsShipped' entry' timing' program bound' left old.out.held other.console.left other.out.held board') tells run') (
           λ met. none (one_said.0 ∙ ap status_of (same_Some end clocked.Bound (sym ended ∙ met))),
           λ met. none' (other_said.0 ∙ ap status_of (same_Some end' clocked.Bound (sym ended' ∙ met))),
         ) in
@@ -72,9 +73,9 @@ module _ {M N S T : Type 0} (state : M → S) (m : Meaning S) (IsReady : ℕ →
         }
 
     by_other : BoardsAgree → old.console.left ≡ Some input →
-        (board : BoardView M) (run : HasRun state m IsReady IsShipped entry program bound old.console.left old.out.held one.console.left one.out.held board) →
+        (board : BoardView M) (run : HasRun state m IsReady IsShipped entry timing program bound old.console.left old.out.held one.console.left one.out.held board) →
         Says old.err one.err (report_on state m (board_end run.begins.finish.end) board) (status_of (board_end run.begins.finish.end)) status →
-        ClockedEnd state' m' IsReady' IsShipped' entry' bound' program old other status' →
+        ClockedEnd state' m' IsReady' IsShipped' entry' timing' bound' program old other status' →
         IsQuiet old one status → IsQuiet old other status' → status ≢ exits.bound → status' ≢ exits.bound → CallsEndAlike old one other status status'
     by_other agree tells board run says (Ran board' run' files console out flushed says') quiet quiet' = both agree tells board run says board' run' says' quiet quiet'
     by_other agree tells board run says (NoRoom tells') quiet quiet' = absurd (quiet'.memory (said old.err other.err _ _ status' quiet'.err tells'.says).0)
@@ -82,8 +83,8 @@ module _ {M N S T : Type 0} (state : M → S) (m : Meaning S) (IsReady : ℕ →
     by_other agree tells board run says (CutByWrite board' cut files console rose says') quiet quiet' = absurd (quiet'.out rose)
 
     pub end_alike : BoardsAgree → old.console.left ≡ Some input →
-        ClockedEnd state m IsReady IsShipped entry bound program old one status →
-        ClockedEnd state' m' IsReady' IsShipped' entry' bound' program old other status' →
+        ClockedEnd state m IsReady IsShipped entry timing bound program old one status →
+        ClockedEnd state' m' IsReady' IsShipped' entry' timing' bound' program old other status' →
         IsQuiet old one status → IsQuiet old other status' → status ≢ exits.bound → status' ≢ exits.bound → CallsEndAlike old one other status status'
     end_alike agree tells (Ran board run files console out flushed says) ends quiet quiet' = by_other agree tells board run says ends quiet quiet'
     end_alike agree tells (NoRoom tells') ends quiet quiet' = absurd (quiet.memory (said old.err one.err _ _ status quiet.err tells'.says).0)

@@ -2,7 +2,7 @@
 use Rattle.std.specs.Prelude.{◌≡◌, ◌<◌, ◌≤◌, ◌⊎◌, ℕ, List, length, Option, Some, None}
 use Rattle.mic_base.specs.Causes.{Rose}
 use Rattle.mic_base.specs.Files.{Tells, most_bytes}
-use Rattle.cli_words.specs.Words.{Asked, Assemble, ListOf, Verify, Run, RunOwn, Trace, Profile, Debug, Reference, Micro, PrintMicro, Soak}
+use Rattle.cli_words.specs.Words.{Asked, Assemble, ListOf, Verify, Run, RunPipeline, RunOwn, Trace, Profile, Debug, Reference, Micro, PrintMicro, Soak, Cache}
 use Rattle.cli_outside.specs.Status as exits
 use Rattle.cli_outside.specs.Outside.{OutsideView}
 use Rattle.cli_outside.specs.Work.{IsRead}
@@ -14,6 +14,7 @@ HasFileRead (Some (Assemble source image)) name = name ≡ source
 HasFileRead (Some (ListOf file map)) name = name ≡ file
 HasFileRead (Some (Verify file map)) name = name ≡ file
 HasFileRead (Some (Run file machine bound map)) name = name ≡ file
+HasFileRead (Some (RunPipeline file bound map)) name = name ≡ file
 HasFileRead (Some (RunOwn file machine bound map micro)) name = (name ≡ file) ⊎ (name ≡ micro)
 HasFileRead (Some (Trace file machine bound map micro buses)) name = (name ≡ file) ⊎ (micro ≡ Some name)
 HasFileRead (Some (Profile file machine bound map micro)) name = (name ≡ file) ⊎ (micro ≡ Some name)
@@ -22,15 +23,18 @@ HasFileRead (Some (Reference file machine bound map)) name = name ≡ file
 HasFileRead (Some (Micro mal store machine)) name = name ≡ mal
 HasFileRead (Some (PrintMicro file machine)) name = file ≡ Some name
 HasFileRead (Some (Soak seed size machine)) name = ⊥
+HasFileRead (Some (Cache file lines bound map)) name = name ≡ file
 
 -- they have a program run to its end
 abbrev pub Runs : Option Asked → Type 0
 Runs (Some (Run file machine bound map)) = Unit {0}
+Runs (Some (RunPipeline file bound map)) = Unit {0}
 Runs (Some (RunOwn file machine bound map micro)) = Unit {0}
 Runs (Some (Trace file machine bound map micro buses)) = Unit {0}
 Runs (Some (Profile file machine bound map micro)) = Unit {0}
 Runs (Some (Reference file machine bound map)) = Unit {0}
 Runs (Some (Soak seed size machine)) = Unit {0}
+Runs (Some (Cache file lines bound map)) = Unit {0}
 Runs asks = ⊥
 
 -- they have it run by a person's own microprogram

@@ -8,9 +8,13 @@ use Rattle.mic1_datapath.specs.Mic1.{mic1_meaning, IsReady as IsReady1}
 use Rattle.mic1_datapath.specs.View.{micro_of as micro_of1}
 use Rattle.mic2_datapath.specs.Mic2.{mic2_meaning, IsReady as IsReady2}
 use Rattle.mic2_datapath.specs.View.{micro_of as micro_of2}
+use Rattle.mic3_datapath.specs.Mic3.{mic3_meaning, IsReady as IsReady3}
+use Rattle.mic3_datapath.specs.View.{pipeline_of}
+use Rattle.mic3_interpreter.specs.Timing.{mic3_timing}
+use Rattle.ijvm_meaning.specs.Cost.{Timing, timing_of}
 use Rattle.mal_shipped.specs.Listing.{listed_program}
 use Rattle.mal_shipped.specs.Shipped.{HasShipped}
-use Rattle.cli_words.specs.Words.{Asked, Assemble, ListOf, Verify, Run, RunOwn, Trace, Profile, Debug, Reference, Micro, PrintMicro, Soak}
+use Rattle.cli_words.specs.Words.{Asked, Assemble, ListOf, Verify, Run, RunPipeline, RunOwn, Trace, Profile, Debug, Reference, Micro, PrintMicro, Soak, Cache}
 use Rattle.cli_outside.specs.Status as exits
 use Rattle.cli_outside.specs.Messages.{out_of_memory}
 use Rattle.cli_outside.specs.Outside.{OutsideView, PrintsOnOut, TellsOnErr}
@@ -20,6 +24,7 @@ use Rattle.cli_program_texts.specs.Summary.{Summarizes}
 use Rattle.cli_programs.specs.Answers.{Assembles, EndsOver}
 use Rattle.cli_programs.specs.Reference.{IsReferenceRun}
 use Rattle.cli_micro.specs.Answers.{MicroAnswers, PrintMicroAnswers}
+use Rattle.cli_boards.specs.Cached.{IsCached}
 use Rattle.cli_boards.specs.OwnRun.{IsOwnRun}
 use Rattle.cli_boards.specs.Prepared.{EndsPrepared}
 use Rattle.cli_boards.specs.Profiled.{IsProfiled}
@@ -30,24 +35,24 @@ use Rattle.cli_soak.specs.SoakEnds.{SoakEnds}
 use Rattle.cli_call.specs.ClockedEnd.{ClockedEnd}
 use Rattle.cli_call.specs.Usage.{usage_text}
 
--- A machine: its meaning, when its next instruction is ready, its store that ships, and where that begins.
-module _ {M S : Type 0} (state : M → S) (m : Meaning S) (IsReady : ℕ → List ℕ → ℕ → S → Type 0) (IsShipped : List ℕ → Type 0) (entry : ℕ) where
+-- A machine: its meaning, when its next instruction is ready, its store that ships, where that begins, and what is spent.
+module _ {M S : Type 0} (state : M → S) (m : Meaning S) (IsReady : ℕ → List ℕ → ℕ → S → Type 0) (IsShipped : List ℕ → Type 0) (entry : ℕ) (timing : Timing) where
   -- how what is asked of it ends
   abbrev pub EndsOn : Asked → OutsideView → OutsideView → ℕ → Type 0
-  EndsOn (Run file machine bound map) = EndsOver map (ClockedEnd state m IsReady IsShipped entry bound) file
+  EndsOn (Run file machine bound map) = EndsOver map (ClockedEnd state m IsReady IsShipped entry timing bound) file
   EndsOn (RunOwn file machine bound map micro) = EndsPrepared m.machine map (IsOwnRun state m bound) file (Some micro)
   EndsOn (Trace file machine bound map micro buses) = EndsPrepared m.machine map (IsTraced state m bound buses) file micro
   EndsOn (Profile file machine bound map micro) = EndsPrepared m.machine map (IsProfiled state m bound) file micro
   EndsOn (Debug file machine bound map own input) =
       EndsPrepared m.machine map (λ micro program. EndsWithInput (IsDebugged state m bound micro program) input) file own
   EndsOn (Reference file machine bound map) = EndsOver map (IsReferenceRun machine bound) file
-  EndsOn (Soak seed size machine) = SoakEnds state m IsReady IsShipped entry seed size
+  EndsOn (Soak seed size machine) = SoakEnds state m IsReady IsShipped entry timing seed size
   EndsOn asked = λ old new status. ⊥
 
 -- each machine with the microprogram that ships for it, and Main1 at 0x002
 abbrev pub EndsOnMachine : Machine → Asked → OutsideView → OutsideView → ℕ → Type 0
-EndsOnMachine Mic1 = EndsOn micro_of1 mic1_meaning IsReady1 (HasShipped Mic1) 0x002
-EndsOnMachine Mic2 = EndsOn micro_of2 mic2_meaning IsReady2 (HasShipped Mic2) 0x002
+EndsOnMachine Mic1 = EndsOn micro_of1 mic1_meaning IsReady1 (HasShipped Mic1) 0x002 (timing_of Mic1)
+EndsOnMachine Mic2 = EndsOn micro_of2 mic2_meaning IsReady2 (HasShipped Mic2) 0x002 (timing_of Mic2)
 
 -- Where the words ask for nothing, the usage text says how `mic` is called.
 abbrev pub EndsAs : Option Asked → OutsideView → OutsideView → ℕ → Type 0
@@ -56,6 +61,9 @@ EndsAs (Some (Assemble source image)) = Assembles image source
 EndsAs (Some (ListOf file map)) = EndsOver map (PrintsTextOf Lists) file
 EndsAs (Some (Verify file map)) = EndsOver map (PrintsTextOf Summarizes) file
 EndsAs (Some (Run file machine bound map)) = EndsOnMachine machine (Run file machine bound map)
+-- Mic-3 clocks the microprogram that ships for Mic-2, and spends its own cycles
+EndsAs (Some (RunPipeline file bound map)) =
+    EndsOver map (ClockedEnd pipeline_of mic3_meaning IsReady3 (HasShipped Mic2) 0x002 mic3_timing bound) file
 EndsAs (Some (RunOwn file machine bound map micro)) = EndsOnMachine machine (RunOwn file machine bound map micro)
 EndsAs (Some (Trace file machine bound map micro buses)) = EndsOnMachine machine (Trace file machine bound map micro buses)
 EndsAs (Some (Profile file machine bound map micro)) = EndsOnMachine machine (Profile file machine bound map micro)
@@ -65,6 +73,7 @@ EndsAs (Some (Micro mal store machine)) = MicroAnswers machine store mal
 EndsAs (Some (PrintMicro (Some file) machine)) = PrintMicroAnswers machine file
 EndsAs (Some (PrintMicro None machine)) = PrintsOnOut (canonical_text (listed_program machine)) exits.done
 EndsAs (Some (Soak seed size machine)) = EndsOnMachine machine (Soak seed size machine)
+EndsAs (Some (Cache file lines bound map)) = EndsPrepared Mic1 map (IsCached micro_of1 mic1_meaning lines bound) file None
 
 -- memory is wanting before anything is done, or the call ends as its words ask
 pub data CallEnds (asks : Option Asked) (old new : OutsideView) (status : ℕ) : Type 0 where

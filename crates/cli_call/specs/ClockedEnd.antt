@@ -5,6 +5,7 @@ use Rattle.console_port.specs.Console.{StaysFlushed}
 use Rattle.mic_clock.specs.declared.end.End.TheVariants as ends
 use Rattle.mic_clock.specs.Meaning.{Meaning}
 use Rattle.mic_clock.specs.View.{BoardView}
+use Rattle.ijvm_meaning.specs.Cost.{Timing}
 use Rattle.verifier_facts.specs.Accepted.{VerifiedView}
 use Rattle.ijvm_simulation.specs.Simulates.{board_end}
 use Rattle.ijvm_simulation.specs.Headline.{HasRun, IsCutByRead, IsCutByWrite}
@@ -14,8 +15,8 @@ use Rattle.cli_outside.specs.Outside.{OutsideView, Says, TellsOnErr}
 use Rattle.cli_run_texts.specs.Ends.{status_of}
 use Rattle.cli_boards.specs.Runs.{report_on}
 
--- A machine: its meaning, when its next instruction is ready, its store that ships, and where that begins.
-module _ {M S : Type 0} (state : M → S) (m : Meaning S) (IsReady : ℕ → List ℕ → ℕ → S → Type 0) (IsShipped : List ℕ → Type 0) (entry : ℕ) where
+-- A machine: its meaning, when its next instruction is ready, its store that ships, where that begins, and what is spent.
+module _ {M S : Type 0} (state : M → S) (m : Meaning S) (IsReady : ℕ → List ℕ → ℕ → S → Type 0) (IsShipped : List ℕ → Type 0) (entry : ℕ) (timing : Timing) where
   -- `board` is the machine that was clocked over the program from its reset
   pub data ClockedEnd (bound : ℕ) (program : VerifiedView) (old new : OutsideView) (status : ℕ) : Type 0 where
     -- memory was wanting before the first cycle
@@ -23,19 +24,19 @@ module _ {M S : Type 0} (state : M → S) (m : Meaning S) (IsReady : ℕ → Lis
     -- the clocked run is the definition's, boundary by boundary, and has ended as that does, which the status tells;
     -- `out` has got the definition's output, and has passed on all
     Ran : (board : BoardView M) →
-        (run : HasRun state m IsReady IsShipped entry program bound old.console.left old.out.held new.console.left new.out.held board) →
+        (run : HasRun state m IsReady IsShipped entry timing program bound old.console.left old.out.held new.console.left new.out.held board) →
         new.files ≡ old.files → new.console.faults ≡ old.console.faults → new.out.faults ≡ old.out.faults →
         StaysFlushed old.out.held old.out.passed new.out.held new.out.passed →
         Says old.err new.err (report_on state m (board_end run.begins.finish.end) board) (status_of (board_end run.begins.finish.end)) status →
         ClockedEnd bound program old new status
     -- the console failed, which cut the run; `out` has got all the output before it, and has passed on all
     CutByRead : (board : BoardView M) →
-        IsCutByRead state m IsReady IsShipped entry program bound old.console.left old.out.held new.console.left new.out.held board →
+        IsCutByRead state m IsReady IsShipped entry timing program bound old.console.left old.out.held new.console.left new.out.held board →
         new.files ≡ old.files → Rose old.console.faults new.console.faults → new.out.faults ≡ old.out.faults →
         StaysFlushed old.out.held old.out.passed new.out.held new.out.passed →
         Says old.err new.err (report_on state m ends.ReadFault board) (status_of ends.ReadFault) status → ClockedEnd bound program old new status
     -- `out` failed, which cut the run; `out` has got a front of the output
     CutByWrite : (board : BoardView M) →
-        IsCutByWrite state m IsReady IsShipped entry program bound old.console.left old.out.held new.console.left new.out.held board →
+        IsCutByWrite state m IsReady IsShipped entry timing program bound old.console.left old.out.held new.console.left new.out.held board →
         new.files ≡ old.files → new.console.faults ≡ old.console.faults → Rose old.out.faults new.out.faults →
         Says old.err new.err (report_on state m ends.WriteFault board) (status_of ends.WriteFault) status → ClockedEnd bound program old new status

@@ -15,3 +15,4 @@ usage_text =
     ++ codes "       mic micro MAL STORE [--machine V]\n"
     ++ codes "       mic print-micro [FILE] [--machine V]\n"
     ++ codes "       mic soak SEED SIZE [--machine V]\n"
+    ++ codes "       mic cache FILE LINES [--bound N] [--map W]\n"

@@ -46,7 +46,7 @@ where
     I::Machine: Drop,
     requires bound { job.bound ≤ 2 ^ 62 }
     requires map { IsMap job.map.stack_end }
-    ensures { Over (EndsOn I.Machine.state I.Machine.meaning I.Machine.IsReady I.IsShipped I.entry (asked_run job.entry mode.entry))
+    ensures { Over (EndsOn I.Machine.state I.Machine.meaning I.Machine.IsReady I.IsShipped I.entry I.timing (asked_run job.entry mode.entry))
         outside.old outside.new result.0 }
 {
     let Job {

@@ -3,6 +3,7 @@
 #![tactic(auto)]
 
 mod answers;
+mod cache;
 mod job;
 mod laws;
 mod run;

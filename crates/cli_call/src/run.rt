@@ -27,7 +27,7 @@ where
     I::Machine: Drop,
     requires bound { bound ≤ 2 ^ 62 }
     requires map { IsMap map.stack_end }
-    ensures { Over (EndsOver map (ClockedEnd I.Machine.state I.Machine.meaning I.Machine.IsReady I.IsShipped I.entry bound) file.now)
+    ensures { Over (EndsOver map (ClockedEnd I.Machine.state I.Machine.meaning I.Machine.IsReady I.IsShipped I.entry I.timing bound) file.now)
         outside.old outside.new result.0 }
 {
     match program_in_file(alloc, file, map, outside) {
@@ -46,13 +46,12 @@ fn run_program<I: Interpreter, F: Files, S: Source, K: Sink, E: Sink>(
 where
     I::Machine: Drop,
     requires { bound ≤ 2 ^ 62 }
-    ensures { Over (ClockedEnd I.Machine.state I.Machine.meaning I.Machine.IsReady I.IsShipped I.entry bound program.now)
+    ensures { Over (ClockedEnd I.Machine.state I.Machine.meaning I.Machine.IsReady I.IsShipped I.entry I.timing bound program.now)
         outside.old outside.new result.0 }
 {
     match run_image::<I, S, K>(alloc, program, bound, outside.console, outside.out) {
         Ok(board) => {
             let end = board.ended().unwrap();
-            board.mpc();
             let line = clocked_report(end, &board.counts(), &board.registers());
             outside.tell(line.bytes(), status_of(end))
         }

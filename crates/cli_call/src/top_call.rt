@@ -5,7 +5,9 @@ ghost use Rattle.cli_words.specs.Words.{HasLimits, asked, request_of};
 ghost use Rattle.cli_outside.specs.Outside.{Over};
 ghost use Rattle.cli_call.specs.CallEnds.{CallEnds, EndsAs};
 
+use crate::cache::run_cached;
 use crate::job::run_job;
+use crate::run::run_file;
 use crate::soak::soak_on;
 use crate::usage::misused;
 use cli_micro::{micro, print_micro, print_shipped};
@@ -13,6 +15,7 @@ use cli_outside::{Outside, Status};
 use cli_programs::{assemble_file, list_file, verify_file};
 use cli_words::{Request, WordsError, read_words};
 use mic_base::{Files, Sink, Source};
+use mic3_pipeline::Mic3Interpreter;
 use std::alloc::Global;
 
 /// Does what the words after the program's name ask for.
@@ -44,6 +47,9 @@ fn answer_request<F: Files, S: Source, K: Sink, E: Sink>(
         Request::List { file, map } => list_file(alloc, file, map, outside),
         Request::Verify { file, map } => verify_file(alloc, file, map, outside),
         Request::Run { job, mode } => run_job(alloc, job, mode, outside),
+        Request::RunPipeline { file, bound, map } => {
+            run_file::<Mic3Interpreter, F, S, K, E>(alloc, file, bound, map, outside)
+        }
         Request::Micro {
             mal,
             store,
@@ -62,5 +68,11 @@ fn answer_request<F: Files, S: Source, K: Sink, E: Sink>(
             size,
             machine,
         } => soak_on(alloc, seed, size, machine, outside),
+        Request::Cache {
+            file,
+            lines,
+            bound,
+            map,
+        } => run_cached(alloc, file, lines, bound, map, outside),
     }
 }

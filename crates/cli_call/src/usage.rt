@@ -18,6 +18,7 @@ const USAGE: &[u8] = b"usage: mic assemble SOURCE IMAGE
        mic micro MAL STORE [--machine V]
        mic print-micro [FILE] [--machine V]
        mic soak SEED SIZE [--machine V]
+       mic cache FILE LINES [--bound N] [--map W]
 ";
 
 /// Says how `mic` is called.

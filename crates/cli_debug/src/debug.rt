@@ -6,7 +6,7 @@ ghost use Rattle.cli_run_texts.specs.Report.{left_report};
 ghost use Rattle.cli_debug.specs.Debugged.{IsDebugged, IsStart};
 
 use crate::debugging::Debugging;
-use cli_boards::{Microprogram, Prepared, reset_board};
+use cli_boards::{Microprogram, Prepared};
 use cli_outside::{Outside, Status};
 use cli_run_texts::left_report;
 use cli_session::{Step, do_lines};
@@ -14,6 +14,7 @@ use mal_shipped::Loaded;
 use mic_base::{Files, PlainSource, Sink, Source};
 use mic_clock::{Board, Clocked};
 use mic_debugger::Session;
+use mic_image_board::reset_board;
 use std::alloc::{AllocError, Global};
 
 /// A session over an accepted program at its reset.
@@ -76,7 +77,6 @@ fn report<M: Clocked, F: Files, S: Source, K: Sink, E: Sink>(
     ensures { Over (TellsOnErr (left_report board.now.end board.now.counts (M.meaning.registers (M.state board.now.machine))) status.0)
         outside.old outside.new result.0 }
 {
-    let _next = board.mpc();
     let line = left_report(board.ended(), &board.counts(), &board.registers());
     outside.tell(line.bytes(), status)
 }

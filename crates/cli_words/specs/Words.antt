@@ -27,6 +27,8 @@ pub data Asked : Type 0 where
   ListOf : (file : Text) (map : MemoryMap) → Asked
   Verify : (file : Text) (map : MemoryMap) → Asked
   Run : (file : Text) (machine : Machine) (bound : ℕ) (map : MemoryMap) → Asked
+  -- on Mic-3
+  RunPipeline : (file : Text) (bound : ℕ) (map : MemoryMap) → Asked
   -- with a person's own microprogram
   RunOwn : (file : Text) (machine : Machine) (bound : ℕ) (map : MemoryMap) (micro : Text) → Asked
   -- without a file of its own the microprogram that ships is clocked
@@ -57,6 +59,7 @@ asked (requests.Assemble source image) = Assemble source.now image.now
 asked (requests.List file map) = ListOf file.now map
 asked (requests.Verify file map) = Verify file.now map
 asked (requests.Run job mode) = asked_run job mode
+asked (requests.RunPipeline file bound map) = RunPipeline file.now bound map
 asked (requests.Micro mal store machine) = Micro mal.now store.now machine
 asked (requests.PrintMicro file machine) = PrintMicro (option_map (λ file. file.now) file) machine
 asked (requests.Soak seed size machine) = Soak seed size machine
@@ -100,6 +103,7 @@ abbrev pub HasLimits : Request → Type 0
 HasLimits (requests.List file map) = HasMap map
 HasLimits (requests.Verify file map) = HasMap map
 HasLimits (requests.Run job mode) = HasJobLimits job
+HasLimits (requests.RunPipeline file bound map) = (bound ≤ most_cycles) × HasMap map
 HasLimits (requests.Soak seed size machine) = size ≤ most_blocks
 HasLimits (requests.Cache file lines bound map) = IsLineCount lines × (bound ≤ most_cycles) × HasMap map
 HasLimits request = Unit {0}
@@ -109,6 +113,11 @@ HasLimits request = Unit {0}
 abbrev pub machine_in : Option Text → Option Machine
 machine_in None = Some Mic1
 machine_in (Some word) = if bytes_eq word (codes "mic1") then Some Mic1 else (if bytes_eq word (codes "mic2") then Some Mic2 else None)
+
+-- Mic-3 is named, which is no machine of the other commands
+abbrev pub is_pipeline : Option Text → Bool
+is_pipeline None = false
+is_pipeline (Some word) = bytes_eq word (codes "mic3")
 
 abbrev pub map_in : Option Text → Option MemoryMap
 map_in None = Some STANDARD
@@ -196,6 +205,10 @@ verify_of given = option_and_then (λ file. option_map (λ map. Verify file map)
 abbrev pub run_of : List Entry → Option Asked
 run_of given = option_map (λ (job : AskedJob). Run job.file job.machine job.bound job.map) (job_of given)
 
+abbrev pub run_pipeline_of : List Entry → Option Asked
+run_pipeline_of given = option_and_then (λ file. option_and_then (λ bound. option_map (λ map. RunPipeline file bound map)
+    (map_of given)) (bound_of given)) (text_in (codes "FILE") given)
+
 abbrev pub run_own_of : List Entry → Option Asked
 run_own_of given = option_and_then (λ (job : AskedJob).
     option_map (λ micro. RunOwn job.file job.machine job.bound job.map micro) (text_in (codes "micro") given)) (job_of given)
@@ -233,12 +246,18 @@ cache_of given = option_and_then (λ file. option_and_then (λ lines. option_and
 abbrev pub is_given : Text → List Entry → Bool
 is_given option given = is_some (text_in option given)
 
+-- `run` of a program: by a person's own microprogram, on Mic-3, or on the machine that is named
+abbrev pub any_run_of : List Entry → Option Asked
+any_run_of given =
+    if is_given (codes "micro") given then run_own_of given
+    else (if is_pipeline (text_in (codes "machine") given) then run_pipeline_of given else run_of given)
+
 -- what a command with these entries asks for
 abbrev pub asked_of : CommandName → List Entry → Option Asked
 asked_of name.Assemble given = assemble_of given
 asked_of name.List given = list_of given
 asked_of name.Verify given = verify_of given
-asked_of name.Run given = if is_given (codes "micro") given then run_own_of given else run_of given
+asked_of name.Run given = any_run_of given
 asked_of name.Trace given = trace_of given
 asked_of name.Profile given = profile_of given
 asked_of name.Debug given = debug_of given

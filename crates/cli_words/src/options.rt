@@ -3,7 +3,7 @@
 ghost use Rattle.std.specs.Prelude.{◌≡◌, ◌≤◌, IfSome};
 ghost use Rattle.std.specs.Option.{option_map};
 ghost use Rattle.mic_base.specs.Number.{number_of};
-ghost use Rattle.cli_words.specs.Words.{HasMap, IsLineCount, bound_in, is_true, lines_in, machine_in, map_in, most_blocks, most_cycles, number_within, seed_in, size_in};
+ghost use Rattle.cli_words.specs.Words.{HasMap, IsLineCount, bound_in, is_pipeline, is_true, lines_in, machine_in, map_in, most_blocks, most_cycles, number_within, seed_in, size_in};
 
 use console_port::MemoryMap;
 use mic_base::Number;
@@ -33,6 +33,16 @@ pub(crate) fn machine_in(value: Option<&str>) -> Option<Machine>
         Some("mic1") => Some(Machine::Mic1),
         Some("mic2") => Some(Machine::Mic2),
         Some(_) => None,
+    }
+}
+
+/// Whether Mic-3 is named, which `run` alone takes.
+pub(crate) fn is_pipeline(value: Option<&str>) -> bool
+    ensures { result ≡ is_pipeline (option_map (λ value. value.now) value.entry) }
+{
+    match value {
+        Some("mic3") => true,
+        _ => false,
     }
 }
 

@@ -5,10 +5,12 @@ ghost use Rattle.std.specs.Option.{option_map};
 ghost use Rattle.cli_words.specs.Reading.{Entry};
 ghost use Rattle.cli_words.specs.Table.{form_for};
 ghost use Rattle.cli_words.specs.Taking.{HoldsGiven};
-ghost use Rattle.cli_words.specs.Words.{AnswersAs, HasJobLimits, HasLimits, asked, asked_of, assemble_of, cache_of, debug_of, job_asked, job_in, list_of, micro_of, print_micro_of, profile_of, reference_of, request_of, run_of, run_own_of, soak_of, trace_of, verify_of};
+ghost use Rattle.cli_words.specs.Words.{AnswersAs, HasJobLimits, HasLimits, asked, asked_of, assemble_of, cache_of, debug_of, job_asked, job_in, list_of, micro_of, print_micro_of, profile_of, reference_of, request_of, run_of, run_own_of, run_pipeline_of, soak_of, trace_of, verify_of};
 
 use crate::error::WordsError;
-use crate::options::{bound_in, is_true, lines_in, machine_in, map_in, seed_in, size_in};
+use crate::options::{
+    bound_in, is_pipeline, is_true, lines_in, machine_in, map_in, seed_in, size_in,
+};
 use crate::request::{Job, Mode, Request};
 use crate::table::{CommandName, named};
 use crate::taking::take_command;
@@ -76,6 +78,16 @@ fn run_own<'a>(matches: &ArgMatches<'a>) -> Option<Request<'a>>
     let micro = matches.get_str("micro")?;
     let mode = Mode::Own { micro };
     Some(Request::Run { job, mode })
+}
+
+fn run_pipeline<'a>(matches: &ArgMatches<'a>) -> Option<Request<'a>>
+    ensures limits { IfSome result HasLimits }
+    ensures asks { (g : List Entry) → HoldsGiven (form_for CommandName.Run) g matches.now → option_map asked result ≡ run_pipeline_of g }
+{
+    let file = matches.get_str("FILE")?;
+    let bound = bound_in(matches.get_str("bound"))?;
+    let map = map_in(matches.get_str("map"))?;
+    Some(Request::RunPipeline { file, bound, map })
 }
 
 fn trace<'a>(matches: &ArgMatches<'a>) -> Option<Request<'a>>
@@ -182,6 +194,7 @@ fn request_in<'a>(command: CommandName, matches: &ArgMatches<'a>) -> Option<Requ
         CommandName::List => list(matches),
         CommandName::Verify => verify(matches),
         CommandName::Run if matches.get_str("micro").is_some() => run_own(matches),
+        CommandName::Run if is_pipeline(matches.get_str("machine")) => run_pipeline(matches),
         CommandName::Run => run(matches),
         CommandName::Trace => trace(matches),
         CommandName::Profile => profile(matches),

@@ -57,6 +57,12 @@ pub enum Request<'a> {
         job: Job<'a>,
         mode: Mode<'a>,
     },
+    /// A run on Mic-3, by the microprogram that ships for it.
+    RunPipeline {
+        file: &'a str,
+        bound: u64,
+        map: MemoryMap,
+    },
     Micro {
         mal: &'a str,
         store: &'a str,

@@ -28,7 +28,6 @@ pub fn cycle_of<M: Clocked>(board: &Board<M>, mpc: u16) -> Cycle
     ensures next { result.registers.mpc < 512 }
 {
     let counts = board.counts();
-    let _next = board.mpc();
     Cycle {
         mpc,
         drive: board.last_drive(),

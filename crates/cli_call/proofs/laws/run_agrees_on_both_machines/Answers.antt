@@ -7,6 +7,7 @@ use Rattle.mic1_datapath.specs.View.{micro_of as micro_of1}
 use Rattle.mic2_datapath.specs.Mic2.{mic2_meaning, IsReady as IsReady2}
 use Rattle.mic2_datapath.specs.View.{micro_of as micro_of2}
 use Rattle.mal_shipped.specs.Shipped.{HasShipped}
+use Rattle.ijvm_meaning.specs.Cost.{timing_of}
 use Rattle.verifier_facts.specs.Accepted.{VerifiedView}
 use Rattle.cli_outside.specs.Status as exits
 use Rattle.cli_outside.specs.Outside.{OutsideView}
@@ -19,7 +20,7 @@ use Rattle.cli_call.proofs.Machines.{BoardsAgree, end_alike}
 use Rattle.cli_call.proofs.TwoCalls.{both_end}
 use Rattle.cli_call.proofs.laws.run_agrees_on_both_machines.Goals as goal
 
-module _ (boards : BoardsAgree micro_of1 mic1_meaning IsReady1 (HasShipped Mic1) 0x002 micro_of2 mic2_meaning IsReady2 (HasShipped Mic2) 0x002)
+module _ (boards : BoardsAgree micro_of1 mic1_meaning IsReady1 (HasShipped Mic1) 0x002 (timing_of Mic1) micro_of2 mic2_meaning IsReady2 (HasShipped Mic2) 0x002 (timing_of Mic2))
     (one_program : (map : MemoryMap) (bytes : List ℕ) (p q : VerifiedView) → IsProgram map bytes p → IsProgram map bytes q → p ≡ q)
     (not_both : (map : MemoryMap) (bytes reason : List ℕ) (p : VerifiedView) → IsProgram map bytes p → IsRefusedProgram map bytes reason → ⊥)
     (file : List ℕ) (map : MemoryMap) (bound bound' : ℕ) (input : List ℕ) (contents : Contents) (old one other : OutsideView) (status status' : ℕ)
@@ -32,7 +33,7 @@ module _ (boards : BoardsAgree micro_of1 mic1_meaning IsReady1 (HasShipped Mic1)
   calls_alike (Done ends) (Done ends') =
       both_end (IsRefusedProgram map) (IsProgram map) file old contents tells (one_program map) (not_both map) _ _ one other status status' _
       (λ program does does'.
-      end_alike micro_of1 mic1_meaning IsReady1 (HasShipped Mic1) 0x002 micro_of2 mic2_meaning IsReady2 (HasShipped Mic2) 0x002
+      end_alike micro_of1 mic1_meaning IsReady1 (HasShipped Mic1) 0x002 (timing_of Mic1) micro_of2 mic2_meaning IsReady2 (HasShipped Mic2) 0x002 (timing_of Mic2)
       program bound bound' input old one other status status' boards left does does' quiet quiet' free free') quiet quiet' ends ends'
 
 pub returns : goal.returns

@@ -21,7 +21,7 @@ returns-in-Ok g c =
       names = search rules;
       does =
           rw (← c.outside.view_is)
-          (ends_by g.I.Machine.Clocked.state g.I.Machine.Clocked.meaning g.I.Machine.Clocked.IsReady g.I.Interpreter.IsShipped g.I.Interpreter.entry
+          (ends_by g.I.Machine.Clocked.state g.I.Machine.Clocked.meaning g.I.Machine.Clocked.IsReady g.I.Interpreter.IsShipped g.I.Interpreter.entry g.I.Interpreter.timing
           c.args.bound c.args.program.now _ _ c.in-Ok.board end c.tell.result.0
           (record {
             files = told.files;

@@ -13,6 +13,9 @@ returns-in-Verify g c = rw c.in-Verify.is c.verify_file.ensures
 pub returns-in-Run : goal.returns-in-Run
 returns-in-Run g c = rw c.in-Run.is c.run_job.ensures
 
+pub returns-in-RunPipeline : goal.returns-in-RunPipeline
+returns-in-RunPipeline g c = rw c.in-RunPipeline.is c.run_file.ensures
+
 pub returns-in-Micro : goal.returns-in-Micro
 returns-in-Micro g c = rw c.in-Micro.is c.micro.ensures
 
@@ -30,3 +33,6 @@ returns-in-PrintMicro-None-default g c =
 
 pub returns-in-Soak : goal.returns-in-Soak
 returns-in-Soak g c = rw c.in-Soak.is c.soak_on.ensures
+
+pub returns-in-Cache : goal.returns-in-Cache
+returns-in-Cache g c = rw c.in-Cache.is c.run_cached.ensures

@@ -1,0 +1,60 @@
+-- A memory of either map is whole blocks, and the line of a run with a cache has the counts of its accesses.
+use Rattle.std.proofs.Common.{◌≡◌, ◌∙◌, ℕ, ◌+◌, ◌%◌, ◌^◌, ◌<◌, ◌≤◌, max, List, ◌++◌, length, Some, Option, sym, ap, subst, arith, inl, inr}
+use Rattle.mic_base.specs.Causes.{Rose}
+use Rattle.mic_words.specs.declared.machine.Machine.{Machine}
+use Rattle.console_port.specs.Map.{IsMap}
+use Rattle.mem_cache.specs.declared.counts.CacheCounts.{CacheCounts}
+use Rattle.mic_clock.specs.declared.counts.Counts.{Counts}
+use Rattle.mic_clock.specs.declared.end.End.{End}
+use Rattle.mic_clock.specs.Meaning.{Meaning}
+use Rattle.mic_clock.specs.View.{BoardView}
+use Rattle.mic_watched.specs.declared.cycle.Cycle.{Cycle}
+use Rattle.verifier_facts.specs.Accepted.{VerifiedView}
+use Rattle.mal_parser.specs.Program.{Program}
+use Rattle.mal_shipped.specs.declared.loaded.Loaded.{Loaded}
+use Rattle.cli_watchers.specs.Cached.{CacheKept, accesses_of, cache_line, counts_of, kept_of_cycles}
+use Rattle.cli_outside.specs.Outside.{OutsideView, Says, SinkState}
+use Rattle.cli_run_texts.specs.Ends.{status_of}
+use Rattle.cli_boards.specs.Cached.{IsCached, Ran}
+use Rattle.cli_boards.specs.Runs.{RunsThrough, report_on}
+use Rattle.cli_boards.proofs.Clocked.{clocked_through}
+
+pub whole_blocks : (size stack_end : ℕ) → size ≡ stack_end → IsMap stack_end → size % 4 ≡ 0
+whole_blocks size stack_end is (inl standard) = ap (λ (n : ℕ). n % 4) (is ∙ standard)
+whole_blocks size stack_end is (inr large) = ap (λ (n : ℕ). n % 4) (is ∙ large)
+
+-- a count that stays 0 has not risen
+pub never_rose : Rose 0 0 → ⊥
+never_rose h = omega arith
+
+-- what was said has this code
+pub says_code : {old new : SinkState} {text : List ℕ} {code code' status : ℕ} → code ≡ code' → Says old new text code status → Says old new text code' status
+says_code same says = rw (← same) says
+
+-- the cache of a run counts its accesses
+abbrev pub CountsRuns : Type 0
+CountsRuns =
+    (machine : Machine) (words : List ℕ) (lines size : ℕ) (cs : List Cycle) → 0 < lines → length cs < 2 ^ 62 →
+    (kept_of_cycles machine words lines size cs).tally.counts ≡ counts_of lines size (accesses_of machine words cs)
+
+module _ {M State : Type 0} (state : M → State) (m : Meaning State) (lines bound : ℕ) (micro : Program) (program : VerifiedView) (l : Loaded)
+    (last : BoardView M) (cycles : List Cycle) (end : End) (old new : OutsideView) (through : RunsThrough state m bound micro l program cycles last (Some end) old new)
+    (small : bound ≤ 2 ^ 61) (growth : last.counts.cycles ≤ max bound through.first.counts.cycles + 1024) where
+  short_run : length cycles < 2 ^ 62
+  short_run =
+      let long : length cycles ≡ last.counts.cycles = (clocked_through state m bound micro l program cycles last (Some end) old new through).1 in
+      let start : through.first.counts.cycles ≡ 0 = ap (λ (c : Counts). c.cycles) through.begins.reset.counts in
+      omega (arith, long, start, growth, small)
+
+  -- what the cache counted, after the report
+  pub cached : CountsRuns → 0 < lines → l.store.machine ≡ m.machine → (kept : CacheKept) →
+      kept ≡ kept_of_cycles l.store.machine l.store.words lines program.map.stack_end cycles → (line : List ℕ) → line ≡ cache_line lines kept.tally.counts →
+      (status : ℕ) → Says old.err new.err (report_on state m end last ++ line) (status_of end) status → IsCached state m lines bound micro program old new status
+  cached law some machine kept is line prints status says =
+      let counts : kept.tally.counts ≡ counts_of lines program.map.stack_end (accesses_of m.machine l.store.words cycles) =
+      ap (λ (k : CacheKept). k.tally.counts) is
+      ∙ (law l.store.machine l.store.words lines program.map.stack_end cycles some short_run
+      ∙ ap (λ (x : Machine). counts_of lines program.map.stack_end (accesses_of x l.store.words cycles)) machine) in
+      Ran l last cycles end through
+      (subst (λ (t : List ℕ). Says old.err new.err (report_on state m end last ++ t) (status_of end) status)
+      (prints ∙ ap (λ (c : CacheCounts). cache_line lines c) counts) says)

@@ -1,9 +1,0 @@
-use Rattle.std.proofs.Common.{◌∙◌, ap}
-use Rattle.ijvm_image.specs.Image.{ImageView}
-use Rattle.cli_boards.proofs.Parts.{image_by_parts}
-use Rattle.cli_boards.proofs.reset.is_image.Goals as goal
-
-pub returns : goal.returns
-returns c =
-    image_by_parts c.args.program.now c.text.result.now c.pool.result.now (c.text.ensures.is ∙ ap (λ (x : ImageView). x.text) c.image.ensures.is)
-    (c.pool.ensures.is ∙ ap (λ (x : ImageView). x.pool) c.image-2.ensures.is) c.are_parts.ensures

@@ -1,0 +1,28 @@
+-- How the run of an accepted program ends with a cache beside it: the report, and then what the cache counted; or less, where a fault cut it.
+use Rattle.std.specs.Prelude.{ℕ, List, ◌++◌, Some}
+use Rattle.mic_clock.specs.declared.end.End.{End}
+use Rattle.mic_clock.specs.Meaning.{Meaning}
+use Rattle.mic_clock.specs.View.{BoardView}
+use Rattle.mic_watched.specs.declared.cycle.Cycle.{Cycle}
+use Rattle.verifier_facts.specs.Accepted.{VerifiedView}
+use Rattle.mal_parser.specs.Program.{Program}
+use Rattle.mal_shipped.specs.declared.loaded.Loaded.{Loaded}
+use Rattle.cli_watchers.specs.Cached.{accesses_of, cache_line, counts_of}
+use Rattle.cli_outside.specs.Status as exits
+use Rattle.cli_outside.specs.Messages.{out_of_memory}
+use Rattle.cli_outside.specs.Outside.{OutsideView, Says, TellsOnErr}
+use Rattle.cli_run_texts.specs.Ends.{status_of}
+use Rattle.cli_boards.specs.Runs.{RunsThrough, report_on}
+
+module _ {M State : Type 0} (state : M → State) (m : Meaning State) where
+  -- the run of this microprogram over an accepted program, with a cache of so many lines
+  pub data IsCached (lines bound : ℕ) (micro : Program) (program : VerifiedView) (old new : OutsideView) (status : ℕ) : Type 0 where
+    -- memory was wanting before the first cycle
+    NoRoom : TellsOnErr out_of_memory exits.memory old new status → IsCached lines bound micro program old new status
+    -- The run came to its end, or the console or `out` failed and cut it: `err` has got its report, and then the hits and the misses among the
+    -- accesses of its cycles, by a cache that began empty before as much memory.
+    Ran : (l : Loaded) (last : BoardView M) (cycles : List Cycle) (end : End) →
+        RunsThrough state m bound micro l program cycles last (Some end) old new →
+        Says old.err new.err (report_on state m end last
+        ++ cache_line lines (counts_of lines program.map.stack_end (accesses_of m.machine l.store.words cycles))) (status_of end) status →
+        IsCached lines bound micro program old new status
