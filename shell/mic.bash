@@ -15,8 +15,10 @@ _mic() {
     case $word in
     --*=*) option=${word%%=*} front=${word%%=*}= word=${word#*=} ;;
     esac
+    local machines="mic1 mic2"
+    [ "$command" = run ] && machines="mic1 mic2 mic3"
     case $option in
-    --machine) COMPREPLY=($(compgen -P "$front" -W "mic1 mic2" -- "$word")); return ;;
+    --machine) COMPREPLY=($(compgen -P "$front" -W "$machines" -- "$word")); return ;;
     --map) COMPREPLY=($(compgen -P "$front" -W "standard large" -- "$word")); return ;;
     --micro | --input) COMPREPLY=($(compgen -P "$front" -f -- "$word")); return ;;
     --bound) COMPREPLY=(); return ;;
