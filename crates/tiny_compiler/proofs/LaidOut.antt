@@ -1,0 +1,246 @@
+-- In the image of its code a program is laid out.
+use Rattle.std.proofs.Common.{◌≡◌, ◌≢◌, ◌<◌, ◌≤◌, ℕ, zero, suc, ◌+◌, ◌/◌, ◌%◌, Bool, true, false, List, [], ◌∷◌, ◌++◌, length, Some, refl, sym, ap, ◌∙◌, subst, arith, append_assoc, length-append, pos}
+use Rattle.std.specs.Prelude.{◌==◌, ◌^◌, nat_lt, if◌then◌else◌, slice_get, slice_index, FitsSigned}
+use Rattle.std.specs.Int.{w8}
+use Rattle.std.specs.List.{All, Contains, flat_map, position_or_len}
+use Rattle.std.proofs.lemmas.List.{get_or-append-add}
+use Rattle.std.proofs.lemmas.List.Elements.{All-nil, All-cons, All-head, All-tail, Contains-append_right}
+use Rattle.ijvm_instr.specs.declared.instr.Instr.{Instr}
+use Rattle.ijvm_instr.specs.declared.instr.Instr.TheVariants.{Bipush, Ireturn, Halt as HaltCode}
+use Rattle.ijvm_instr.specs.Instructions.{IsInstr, spelling, two_bytes}
+use Rattle.ijvm_image.specs.Image.{ImageView, params, others}
+use Rattle.tiny_tree.specs.Tree.{Function, Program}
+use Rattle.tiny_tree.specs.Named.{IsNamed, IsNamedFunction, names_count, parameters_seen, vars_of}
+use Rattle.tiny_code.specs.Code.{Places, begins, code_size, function_numbers, main_code, method_code, method_size, methods, numbers, places_of, statements_code}
+use Rattle.tiny_code.specs.Laid.{AreMethodsAt, CodeAt, IsLaidOut, IsMethodAt}
+use Rattle.tiny_compiler.specs.Image.{IsCodeOf, Jump, jumps, method_bytes, method_jumps, methods_bytes, statements_jumps}
+use Rattle.tiny_compiler.proofs.Lists.{AreEntries, entry, Finds, all_found, from_main, get_after, prefix_short}
+use Rattle.tiny_compiler.proofs.Fitting.{Fit, Near, all_near, both, near_back, near_front, one, statements_fit}
+
+-- ---- sizes
+
+size_append : (a b : List Instr) → code_size (a ++ b) ≡ code_size a + code_size b
+size_append [] b = omega arith
+size_append (i ∷ a) b = omega (arith, size_append a b)
+
+code_long : (is : List Instr) → length (flat_map spelling is) ≡ code_size is
+code_long [] = refl
+code_long (i ∷ is) = omega (arith, code_long is, length-append (spelling i) (flat_map spelling is))
+
+begins_long : (p : Places) (begin : ℕ) (ms : List (ℕ × Function)) → length (begins p begin ms) ≡ length ms
+begins_long p begin [] = refl
+begins_long p begin (m ∷ ms) = ap suc (begins_long p (begin + method_size p m.1) ms)
+
+-- ---- positions
+
+get_inside : (gs : List Function) (f : ℕ) (g : Function) → slice_get gs f ≡ Some g → f < length gs
+get_inside [] f g at = cc
+get_inside (x ∷ gs) zero g at = omega arith
+get_inside (x ∷ gs) (suc f) g at = omega (arith, get_inside gs f g at)
+
+entry_short : (main f : ℕ) → entry main f ≤ f + 1
+entry_short main f = by (nat_lt f main)
+  where
+    by : (b : Bool) → (if b then f + 1 else f) ≤ f + 1
+    by true = omega arith
+    by false = omega arith
+
+zero_fits : FitsSigned w8 (pos 0)
+zero_fits = let small : 0 < 2 ^ 7 = omega arith in record { sfits = small }
+
+-- ---- the methods, one after the other
+
+abbrev header : Function → List ℕ
+header g = two_bytes (g.parameters + 1) ++ two_bytes (vars_of g.body)
+
+module _ (stands : (code : List Instr) (before after : List ℕ) → All IsInstr code → length before + code_size code ≤ 65536 →
+    CodeAt (before ++ (flat_map spelling code ++ after)) (length before) code)
+    (image : ImageView) (program : Program) (short : length image.text ≤ 65536) where
+  abbrev p : Places
+  p = places_of program
+
+  abbrev IsFit : ℕ × Function → Type 0
+  IsFit m = Fit (method_code p m.1)
+
+  module _ (front rest : List ℕ) (m : ℕ × Function) (text : image.text ≡ front ++ (method_bytes p m ++ rest)) where
+    abbrev code : List Instr
+    code = method_code p m.1
+
+    abbrev bytes : List ℕ
+    bytes = flat_map spelling code ++ rest
+
+    long : length image.text ≡ length front + 4 + code_size code + length rest
+    long =
+        omega (
+          arith,
+          ap (λ (xs : List ℕ). length xs) text,
+          length-append front (method_bytes p m ++ rest),
+          length-append (method_bytes p m) rest,
+          code_long code,
+        )
+
+    least : 3 ≤ code_size code
+    least = omega (arith, size_append (statements_code p 1 m.1.body) (Bipush (pos 0) ∷ Ireturn ∷ []))
+
+    byte_at : (k : ℕ) → slice_index image.text (length front + k) ≡ slice_index (method_bytes p m ++ rest) k
+    byte_at k = ap (λ (xs : List ℕ). slice_index xs (length front + k)) text ∙ get_or-append-add front (method_bytes p m ++ rest) k 0
+
+    params_are : params image.text (length front) ≡ m.1.parameters + 1
+    unfolding params
+    params_are =
+        let here : slice_index image.text (length front) ≡ (m.1.parameters + 1) / 256 = ap (slice_index image.text) (omega arith) ∙ byte_at 0 in
+        let next : slice_index image.text (length front + 1) ≡ (m.1.parameters + 1) % 256 = byte_at 1 in
+        omega (arith, here, next)
+
+    others_are : others image.text (length front) ≡ vars_of m.1.body
+    unfolding others
+    others_are =
+        let here : slice_index image.text (length front + 2) ≡ vars_of m.1.body / 256 = byte_at 2 in
+        let next : slice_index image.text (length front + 3) ≡ vars_of m.1.body % 256 = byte_at 3 in
+        omega (arith, here, next)
+
+    code_is : IsFit m → CodeAt image.text (length front + 4) code
+    code_is fit =
+        let at : length (front ++ header m.1) ≡ length front + 4 = length-append front (header m.1) in
+        let split : image.text ≡ (front ++ header m.1) ++ bytes = text ∙ sym (append_assoc front (header m.1) bytes) in
+        subst (λ (xs : List ℕ). CodeAt xs (length front + 4) code) (sym split)
+        (subst (λ (k : ℕ). CodeAt ((front ++ header m.1) ++ bytes) k code) at
+        (stands code (front ++ header m.1) rest fit (omega (arith, at, long, short))))
+
+    method_at : IsFit m → slice_get image.pool (p.entry m.0) ≡ Some (length front) → IsMethodAt image p (length front) m.0 m.1
+    method_at fit entry = record {
+      entry = entry;
+      inside = omega (arith, long, least);
+      params = params_are;
+      others = others_are;
+      code = code_is fit;
+    }
+
+  methods_laid : (front earlier : List ℕ) (k : ℕ) (ms : List (ℕ × Function)) → AreEntries program.main k ms → All IsFit ms →
+      image.text ≡ front ++ methods_bytes p ms → image.pool ≡ 0 ∷ (earlier ++ (begins p (length front) ms ++ numbers program)) →
+      length earlier ≡ k → AreMethodsAt image p (length front) ms
+  methods_laid front earlier k [] entries fit text pool at = tt
+  methods_laid front earlier k (m ∷ ms) entries fit text pool at =
+      let begin : ℕ = length front in
+      let bytes : List ℕ = method_bytes p m in
+      let later : List ℕ = begins p (begin + method_size p m.1) ms ++ numbers program in
+      let place : p.entry m.0 ≡ k + 1 = entries.0 in
+      let index : p.entry m.0 ≡ length (0 ∷ earlier) + 0 = omega (arith, place, at) in
+      let entry : slice_get image.pool (p.entry m.0) ≡ Some begin =
+      ap (slice_get image.pool) index ∙ ap (λ (xs : List ℕ). slice_get xs (length (0 ∷ earlier) + 0)) pool
+      ∙ get_after (0 ∷ earlier) (begin ∷ later) 0 in
+      let long : length (front ++ bytes) ≡ begin + method_size p m.1 =
+      omega (arith, length-append front bytes, code_long (method_code p m.1)) in
+      let whole : image.text ≡ front ++ (bytes ++ methods_bytes p ms) = text in
+      let next_text : image.text ≡ (front ++ bytes) ++ methods_bytes p ms = whole ∙ sym (append_assoc front bytes (methods_bytes p ms)) in
+      let next_pool : image.pool ≡ 0 ∷ ((earlier ++ begin ∷ []) ++ (begins p (length (front ++ bytes)) ms ++ numbers program)) =
+      pool ∙ ap (λ (xs : List ℕ). 0 ∷ xs) (sym (append_assoc earlier (begin ∷ []) later))
+      ∙ ap (λ (b : ℕ). 0 ∷ ((earlier ++ begin ∷ []) ++ (begins p b ms ++ numbers program))) (sym long) in
+      let next_at : length (earlier ++ begin ∷ []) ≡ k + 1 = omega (arith, at, length-append earlier (begin ∷ [])) in (
+        method_at front (methods_bytes p ms) m whole (All-head IsFit m ms fit) entry,
+        subst (λ (b : ℕ). AreMethodsAt image p b ms) long
+            (methods_laid (front ++ bytes) (earlier ++ begin ∷ []) (k + 1) ms entries.1 (All-tail IsFit m ms fit) next_text next_pool next_at),
+      )
+
+  module _ (named : IsNamed program) (is : IsCodeOf program image)
+      (sound : (f : ℕ) (g : Function) → Contains (methods program) (f, g) → (slice_get program.functions f ≡ Some g) × (f ≢ program.main)) where
+    abbrev main : Function
+    main = is.main
+
+    -- the bytes of main's code, and where the methods begin
+    abbrev first : ℕ
+    first = code_size (main_code p main)
+
+    abbrev entries_part : List ℕ
+    entries_part = begins p first (methods program)
+
+    main_inside : program.main < length program.functions
+    main_inside = get_inside program.functions program.main main is.main_is
+
+    counted : AreEntries program.main 0 (methods program) × (length (methods program) + 1 ≡ length program.functions)
+    counted = from_main program.main 0 program.functions (omega arith) (omega (arith, main_inside))
+
+    pool_long : length program.functions + length (numbers program) ≤ 16384
+    pool_long =
+        omega (arith, is.pool_fits, length-append entries_part (numbers program), begins_long p first (methods program), counted.1)
+
+    constants : (n : ℕ) → p.constant n < 65536
+    constants n = omega (arith, pool_long, prefix_short (λ m. m == n) (numbers program))
+
+    entries : (f : ℕ) (g : Function) → slice_get program.functions f ≡ Some g → p.entry f < 65536
+    entries f g at =
+        let least : p.entry f ≤ f + 1 = entry_short program.main f in
+        omega (arith, least, get_inside program.functions f g at, pool_long)
+
+    near : Near (jumps program main)
+    near = all_near (jumps program main) is.jumps_fit
+
+    abbrev main_jumps : List Jump
+    main_jumps = statements_jumps p 0 main.body
+
+    -- ---- each function's code has its operands in range
+
+    body_fits : (local f : ℕ) (g : Function) → local ≤ 1 → slice_get program.functions f ≡ Some g → Near (statements_jumps p local g.body) →
+        Fit (statements_code p local g.body)
+    body_fits local f g le at near_body =
+        let n : IsNamedFunction program f g = named.functions f g at in
+        statements_fit program p local (names_count g) (omega (arith, n.few, le)) constants entries
+        (f == program.main) (parameters_seen g) g.body n.body near_body
+
+    main_fits : Fit (main_code p main)
+    main_fits =
+        both (statements_code p 0 main.body) (HaltCode ∷ [])
+        (body_fits 0 program.main main (omega arith) is.main_is (near_front main_jumps (flat_map (method_jumps p) (methods program)) near)) (one HaltCode tt)
+
+    method_fits : (m : ℕ × Function) → slice_get program.functions m.0 ≡ Some m.1 → Near (method_jumps p m) → IsFit m
+    method_fits m at near_body =
+        both (statements_code p 1 m.1.body) (Bipush (pos 0) ∷ Ireturn ∷ []) (body_fits 1 m.0 m.1 (omega arith) at near_body)
+        (All-cons IsInstr (Bipush (pos 0)) (Ireturn ∷ []) zero_fits (one Ireturn tt))
+
+    methods_fit : (ms : List (ℕ × Function)) → ((m : ℕ × Function) → Contains ms m → slice_get program.functions m.0 ≡ Some m.1) →
+        Near (flat_map (method_jumps p) ms) → All IsFit ms
+    methods_fit [] each near_all = All-nil IsFit
+    methods_fit (m ∷ ms) each near_all =
+        All-cons IsFit m ms
+        (method_fits m (each m (0, omega arith, refl)) (near_front (method_jumps p m) (flat_map (method_jumps p) ms) near_all))
+        (methods_fit ms (λ x h. each x (Contains-append_right (m ∷ []) ms x h)) (near_back (method_jumps p m) (flat_map (method_jumps p) ms) near_all))
+
+    -- ---- all of it
+
+    abbrev main_bytes : List ℕ
+    main_bytes = flat_map spelling (main_code p main)
+
+    main_at : CodeAt image.text 0 (main_code p main)
+    main_at =
+        let long = length-append main_bytes (methods_bytes p (methods program)) in
+        subst (λ (xs : List ℕ). CodeAt xs 0 (main_code p main)) (sym is.text)
+        (stands (main_code p main) [] (methods_bytes p (methods program)) main_fits
+        (omega (arith, is.text_fits, long, code_long (main_code p main))))
+
+    methods_at : AreMethodsAt image p first (methods program)
+    methods_at =
+        let long : length main_bytes ≡ first = code_long (main_code p main) in
+        let pool : image.pool ≡ 0 ∷ ([] ++ (begins p (length main_bytes) (methods program) ++ numbers program)) =
+        is.pool ∙ ap (λ (b : ℕ). 0 ∷ (begins p b (methods program) ++ numbers program)) (sym long) in
+        subst (λ (b : ℕ). AreMethodsAt image p b (methods program)) long
+        (methods_laid main_bytes [] 0 (methods program) counted.0
+        (methods_fit (methods program) (λ m h. (sound m.0 m.1 h).0) (near_back main_jumps (flat_map (method_jumps p) (methods program)) near))
+        is.text pool refl)
+
+    number_at : (n : ℕ) → Finds (numbers program) n → slice_get image.pool (p.constant n) ≡ Some n
+    number_at n found =
+        let front : List ℕ = 0 ∷ entries_part in
+        let place : ℕ = position_or_len (λ m. m == n) (numbers program) in
+        let index : p.constant n ≡ length front + place = omega (arith, begins_long p first (methods program), counted.1) in
+        ap (slice_get image.pool) index ∙ ap (λ (xs : List ℕ). slice_get xs (length front + place)) is.pool
+        ∙ get_after front (numbers program) place ∙ found
+
+    pub laid_out : IsLaidOut image p program
+    laid_out = record {
+      object = ap (λ (xs : List ℕ). slice_get xs 0) is.pool;
+      numbers = all_found (flat_map function_numbers program.functions) (λ n. slice_get image.pool (p.constant n) ≡ Some n) number_at;
+      main = main;
+      main_is = is.main_is;
+      main_at = main_at;
+      methods = methods_at;
+    }

@@ -1,0 +1,4 @@
+mod OneProgram
+mod Lists
+mod Fitting
+mod LaidOut

@@ -1,0 +1,157 @@
+-- A text compiles to one program at most, or has one refusal.
+use Rattle.std.proofs.Common.{◌≡◌, inl, inr, ◌≤◌, ◌+◌, ◌∙◌, ℕ, List, Some, None, length, sym, ap, subst, arith}
+use Rattle.std.specs.Prelude.{slice_get}
+use Rattle.ijvm_image.specs.Image.{ImageView}
+use Rattle.verifier_facts.specs.Accepted.{VerifiedView}
+use Rattle.verifier_facts.specs.Facts.{IsMainCount}
+use Rattle.tiny_tree.specs.Tree.{Function, Program}
+use Rattle.tiny_parser.specs.Texts.{IsRefused, Spells}
+use Rattle.tiny_parser.specs.declared.error.TinyError.{TinyError}
+use Rattle.tiny_parser.specs.declared.error.TinyError.TheVariants.{BadCall, BadNumber, BadSyntax, BadToken, DuplicateName, JumpTooFar, NoMain, OutOfMemory, PoolTooLong, ReturnInMain, TextTooLong, TooDeep, TooManyNames, UnknownName}
+use Rattle.tiny_compiler.specs.Compiled.{HasNoCode, IsCompiled, NoProgram, TooLarge}
+use Rattle.tiny_compiler.specs.Image.{ExceedsBy, IsCodeOf, IsTooLarge, Jump, first_far, jumps, pool_of, text_of}
+
+-- ---- main's locals
+
+at_most : (image : ImageView) (m n : ℕ) → IsMainCount image m → IsMainCount image n → m ≤ n
+at_most image m n one other =
+    elim one.least [
+      | inl none ↦ omega (arith, none)
+      | inr some ↦ (let below = other.above some.0 some.1 in let is : m ≡ some.0 + 1 = some.2 in omega (arith, below, is))
+    ]
+
+one_count : (image : ImageView) (m n : ℕ) → IsMainCount image m → IsMainCount image n → m ≡ n
+one_count image m n one other =
+    let le : m ≤ n = at_most image m n one other in
+    let ge : n ≤ m = at_most image n m other one in
+    omega (arith, le, ge)
+
+-- ---- images and limits
+
+some_is : {A : Type 0} → (x y : A) → Some x ≡ Some y → x ≡ y
+some_is x y e = cc
+
+image_once : (program : Program) (p q : ImageView) → IsCodeOf program p → IsCodeOf program q → p ≡ q
+image_once program p q one other =
+    let main : one.main ≡ other.main = some_is one.main other.main (sym one.main_is ∙ other.main_is) in
+    let text : p.text ≡ q.text = one.text ∙ ap (text_of program) main ∙ sym other.text in
+    let pool : p.pool ≡ q.pool = one.pool ∙ ap (pool_of program) main ∙ sym other.pool in
+    λ i. record { text = text i; pool = pool i }
+
+some_apart : {A : Type 0} → (x : A) → None ≡ Some x → ⊥
+some_apart x e = cc
+
+fits : (program : Program) (image : ImageView) (main : Function) (e : TinyError) → IsCodeOf program image →
+    slice_get program.functions program.main ≡ Some main → ExceedsBy program main e → ⊥
+fits program image main (PoolTooLong count) is at exceeds =
+    let same = some_is is.main main (sym is.main_is ∙ at) in
+    omega (arith, exceeds.0, exceeds.1, is.pool_fits, ap (λ (g : Function). length (pool_of program g)) same)
+fits program image main (TextTooLong size) is at exceeds =
+    let same = some_is is.main main (sym is.main_is ∙ at) in
+    omega (arith, exceeds.1, exceeds.2, is.text_fits, ap (λ (g : Function). length (text_of program g)) same)
+fits program image main (JumpTooFar line far) is at exceeds =
+    let same = some_is is.main main (sym is.main_is ∙ at) in
+    some_apart (line, far) (sym is.jumps_fit ∙ ap (λ (g : Function). first_far (jumps program g)) same ∙ exceeds.2)
+fits program image main (BadToken line) is at exceeds = exceeds
+fits program image main (BadNumber line) is at exceeds = exceeds
+fits program image main (BadSyntax line) is at exceeds = exceeds
+fits program image main (TooDeep line) is at exceeds = exceeds
+fits program image main (DuplicateName line) is at exceeds = exceeds
+fits program image main (UnknownName line) is at exceeds = exceeds
+fits program image main (BadCall line) is at exceeds = exceeds
+fits program image main (ReturnInMain line) is at exceeds = exceeds
+fits program image main (TooManyNames line) is at exceeds = exceeds
+fits program image main NoMain is at exceeds = exceeds
+fits program image main OutOfMemory is at exceeds = exceeds
+
+-- ---- the first limit
+
+abbrev OnlyOne : Program → Function → TinyError → TinyError → Type 0
+OnlyOne program main d e = ExceedsBy program main d → ExceedsBy program main e → d ≡ e
+
+one_limit : (program : Program) (main : Function) (d e : TinyError) → OnlyOne program main d e
+one_limit program main (PoolTooLong a) (PoolTooLong b) f g = ap PoolTooLong (f.0 ∙ sym g.0)
+one_limit program main (PoolTooLong a) (TextTooLong b) f g = absurd (omega (arith, f.0, f.1, g.0))
+one_limit program main (PoolTooLong a) (JumpTooFar line far) f g = absurd (omega (arith, f.0, f.1, g.0))
+one_limit program main (TextTooLong a) (PoolTooLong b) f g = absurd (omega (arith, g.0, g.1, f.0))
+one_limit program main (TextTooLong a) (TextTooLong b) f g = ap TextTooLong (f.1 ∙ sym g.1)
+one_limit program main (TextTooLong a) (JumpTooFar line far) f g = absurd (omega (arith, f.1, f.2, g.1))
+one_limit program main (JumpTooFar line far) (PoolTooLong b) f g = absurd (omega (arith, g.0, g.1, f.0))
+one_limit program main (JumpTooFar line far) (TextTooLong b) f g = absurd (omega (arith, g.1, g.2, f.1))
+one_limit program main (JumpTooFar line far) (JumpTooFar other more) f g =
+    ap (λ (j : Jump). JumpTooFar j.0 j.1) (some_is (line, far) (other, more) (sym f.2 ∙ g.2))
+one_limit program main (BadToken line) e f g = absurd f
+one_limit program main (BadNumber line) e f g = absurd f
+one_limit program main (BadSyntax line) e f g = absurd f
+one_limit program main (TooDeep line) e f g = absurd f
+one_limit program main (DuplicateName line) e f g = absurd f
+one_limit program main (UnknownName line) e f g = absurd f
+one_limit program main (BadCall line) e f g = absurd f
+one_limit program main (ReturnInMain line) e f g = absurd f
+one_limit program main (TooManyNames line) e f g = absurd f
+one_limit program main NoMain e f g = absurd f
+one_limit program main OutOfMemory e f g = absurd f
+one_limit program main (PoolTooLong a) (BadToken line) f g = absurd g
+one_limit program main (PoolTooLong a) (BadNumber line) f g = absurd g
+one_limit program main (PoolTooLong a) (BadSyntax line) f g = absurd g
+one_limit program main (PoolTooLong a) (TooDeep line) f g = absurd g
+one_limit program main (PoolTooLong a) (DuplicateName line) f g = absurd g
+one_limit program main (PoolTooLong a) (UnknownName line) f g = absurd g
+one_limit program main (PoolTooLong a) (BadCall line) f g = absurd g
+one_limit program main (PoolTooLong a) (ReturnInMain line) f g = absurd g
+one_limit program main (PoolTooLong a) (TooManyNames line) f g = absurd g
+one_limit program main (PoolTooLong a) NoMain f g = absurd g
+one_limit program main (PoolTooLong a) OutOfMemory f g = absurd g
+one_limit program main (TextTooLong a) (BadToken line) f g = absurd g
+one_limit program main (TextTooLong a) (BadNumber line) f g = absurd g
+one_limit program main (TextTooLong a) (BadSyntax line) f g = absurd g
+one_limit program main (TextTooLong a) (TooDeep line) f g = absurd g
+one_limit program main (TextTooLong a) (DuplicateName line) f g = absurd g
+one_limit program main (TextTooLong a) (UnknownName line) f g = absurd g
+one_limit program main (TextTooLong a) (BadCall line) f g = absurd g
+one_limit program main (TextTooLong a) (ReturnInMain line) f g = absurd g
+one_limit program main (TextTooLong a) (TooManyNames line) f g = absurd g
+one_limit program main (TextTooLong a) NoMain f g = absurd g
+one_limit program main (TextTooLong a) OutOfMemory f g = absurd g
+one_limit program main (JumpTooFar at far) (BadToken line) f g = absurd g
+one_limit program main (JumpTooFar at far) (BadNumber line) f g = absurd g
+one_limit program main (JumpTooFar at far) (BadSyntax line) f g = absurd g
+one_limit program main (JumpTooFar at far) (TooDeep line) f g = absurd g
+one_limit program main (JumpTooFar at far) (DuplicateName line) f g = absurd g
+one_limit program main (JumpTooFar at far) (UnknownName line) f g = absurd g
+one_limit program main (JumpTooFar at far) (BadCall line) f g = absurd g
+one_limit program main (JumpTooFar at far) (ReturnInMain line) f g = absurd g
+one_limit program main (JumpTooFar at far) (TooManyNames line) f g = absurd g
+one_limit program main (JumpTooFar at far) NoMain f g = absurd g
+one_limit program main (JumpTooFar at far) OutOfMemory f g = absurd g
+
+-- ---- texts, by what holds of each
+
+module _
+    (one_program : (text : List ℕ) (p q : Program) → Spells text p → Spells text q → p ≡ q)
+    (unrefused : (text : List ℕ) (p : Program) (e : TinyError) → Spells text p → IsRefused text e → ⊥)
+    (one_refusal : (text : List ℕ) (d e : TinyError) → IsRefused text d → IsRefused text e → d ≡ e) where
+  pub program_once : (text : List ℕ) (v w : VerifiedView) → IsCompiled text v → IsCompiled text w → v ≡ w
+  program_once text v w one other =
+      let same : one.program ≡ other.program = one_program text one.program other.program one.spelled other.spelled in
+      let image : v.image ≡ w.image =
+      image_once other.program v.image w.image (subst (λ (p : Program). IsCodeOf p v.image) same one.code) other.code in
+      let locals : v.main_locals ≡ w.main_locals =
+      one_count w.image v.main_locals w.main_locals (subst (λ (x : ImageView). IsMainCount x v.main_locals) image one.accepted.main) other.accepted.main in
+      λ i. record { image = image i; main_locals = locals i; map = (one.map_is ∙ sym other.map_is) i }
+
+  pub program_unrefused : (text : List ℕ) (v : VerifiedView) (e : TinyError) → IsCompiled text v → HasNoCode text e → ⊥
+  program_unrefused text v e is (NoProgram refused) = unrefused text is.program e is.spelled refused
+  program_unrefused text v e is (TooLarge program spelled large) =
+      let same : is.program ≡ program = one_program text is.program program is.spelled spelled in
+      fits program v.image large.0 e (subst (λ (p : Program). IsCodeOf p v.image) same is.code) large.1 large.2
+
+  pub refused_once : (text : List ℕ) (d e : TinyError) → HasNoCode text d → HasNoCode text e → d ≡ e
+  refused_once text d e (NoProgram f) (NoProgram g) = one_refusal text d e f g
+  refused_once text d e (NoProgram f) (TooLarge program spelled large) = absurd (unrefused text program d spelled f)
+  refused_once text d e (TooLarge program spelled large) (NoProgram g) = absurd (unrefused text program e spelled g)
+  refused_once text d e (TooLarge p spelled f) (TooLarge q spelled' g) =
+      let same : p ≡ q = one_program text p q spelled spelled' in
+      let f' : IsTooLarge q d = subst (λ (x : Program). IsTooLarge x d) same f in
+      let main : f'.0 ≡ g.0 = some_is f'.0 g.0 (sym f'.1 ∙ g.1) in
+      one_limit q g.0 d e (subst (λ (x : Function). ExceedsBy q x d) main f'.2) g.2

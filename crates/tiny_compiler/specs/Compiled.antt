@@ -1,0 +1,21 @@
+-- What compiling a text gives: the accepted image of its program's code, or the first of its refusals.
+use Rattle.std.specs.Prelude.{◌≡◌, ℕ, List}
+use Rattle.console_port.specs.declared.map.TheConstants.MemoryMap.{STANDARD}
+use Rattle.verifier_facts.specs.Accepted.{IsAccepted, VerifiedView}
+use Rattle.tiny_tree.specs.Tree.{Program}
+use Rattle.tiny_parser.specs.Texts.{IsRefused, Spells}
+use Rattle.tiny_parser.specs.declared.error.TinyError.{TinyError}
+use Rattle.tiny_compiler.specs.Image.{IsCodeOf, IsTooLarge}
+
+-- the image of the text's program, accepted on the standard map
+pub record IsCompiled (text : List ℕ) (v : VerifiedView) : Type 0 where
+  pub program : Program
+  pub spelled : Spells text program
+  pub code : IsCodeOf program v.image
+  pub map_is : v.map ≡ STANDARD
+  pub accepted : IsAccepted v
+
+-- the text spells no program, or its code exceeds a limit
+pub data HasNoCode (text : List ℕ) (e : TinyError) : Type 0 where
+  NoProgram : IsRefused text e → HasNoCode text e
+  TooLarge : (program : Program) → Spells text program → IsTooLarge program e → HasNoCode text e

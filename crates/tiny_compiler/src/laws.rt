@@ -1,0 +1,59 @@
+//! What holds of every compiled text.
+
+ghost use Rattle.std.specs.Prelude.{◌≡◌, ℕ, List};
+ghost use Rattle.mic_words.specs.declared.machine.Machine.{Machine};
+ghost use Rattle.ijvm_image.specs.Image.{ImageView};
+ghost use Rattle.console_port.specs.Map.{IsMap};
+ghost use Rattle.verifier_facts.specs.Accepted.{VerifiedView};
+ghost use Rattle.verifier_facts.specs.Facts.{Accepts};
+ghost use Rattle.ijvm_meaning.specs.Cost.{timing_of};
+ghost use Rattle.tiny_code.specs.Code.{places_of};
+ghost use Rattle.tiny_code.specs.Laid.{IsLaidOut};
+ghost use Rattle.tiny_tree.specs.Named.{IsNamed};
+ghost use Rattle.tiny_tree.specs.Tree.{Program};
+ghost use Rattle.tiny_parser.specs.Texts.{Spells};
+ghost use Rattle.tiny_parser.specs.declared.error.TinyError.{TinyError};
+ghost use Rattle.tiny_runs.specs.AsMeant.{RunsAsMeant, runs_of};
+ghost use Rattle.tiny_compiler.specs.Compiled.{HasNoCode, IsCompiled};
+ghost use Rattle.tiny_compiler.specs.Image.{IsCodeOf, IsCoded};
+
+use tiny_code::{methods_are_the_others, written_code_stands};
+use tiny_notes::laid_out_programs_are_accepted;
+use tiny_parser::{programs_are_named, texts_have_one_reading};
+use tiny_runs::images_run_as_meant;
+
+/// A law: in the image of its code a program is laid out.
+pub fn coded_programs_are_laid_out()
+    ensures { (program : Program) (image : ImageView) → IsNamed program → IsCodeOf program image → IsLaidOut image (places_of program) program }
+{
+    methods_are_the_others();
+    written_code_stands();
+}
+
+/// A law: the image of a program's code is accepted, on either map.
+pub fn coded_programs_are_accepted()
+    ensures { (image : ImageView) (end : ℕ) → IsCoded image → IsMap end → Accepts image end }
+{
+    coded_programs_are_laid_out();
+    laid_out_programs_are_accepted();
+}
+
+/// A law: on either machine the runs of a compiled text are as its program means.
+pub fn compiled_programs_run_as_meant()
+    ensures { (text : List ℕ) (program : Program) (v : VerifiedView) (machine : Machine) → Spells text program → IsCompiled text v →
+        RunsAsMeant program (runs_of v.image v.map.stack_end (timing_of machine)) v.main_locals }
+{
+    texts_have_one_reading();
+    programs_are_named();
+    coded_programs_are_laid_out();
+    images_run_as_meant();
+}
+
+/// A law: a text compiles to at most one program, is not refused beside, and has at most one refusal.
+pub fn texts_compile_to_one_program()
+    ensures one_program { (text : List ℕ) (v w : VerifiedView) → IsCompiled text v → IsCompiled text w → v ≡ w }
+    ensures not_both { (text : List ℕ) (v : VerifiedView) (e : TinyError) → IsCompiled text v → HasNoCode text e → ⊥ }
+    ensures one_refusal { (text : List ℕ) (d e : TinyError) → HasNoCode text d → HasNoCode text e → d ≡ e }
+{
+    texts_have_one_reading();
+}
