@@ -1,11 +1,14 @@
 -- What a board that was clocked lets a history keep.
-use Rattle.std.proofs.Common.{◌≡◌, ◌∙◌, sym, ap, subst, refl, ℕ, zero, suc, ◌≤◌, ◌+◌, ◌-◌, ◌++◌, drop, length, arith, rules, Bool, true, false, if◌then◌else◌, List, [], ◌∷◌, Option, Some, None, IsSome, Result, Ok, Err, slice_get}
+use Rattle.std.proofs.Common.{◌≡◌, ◌≢◌, ◌∙◌, sym, ap, subst, refl, ℕ, zero, suc, ◌≤◌, ◌+◌, ◌-◌, ◌++◌, drop, length, arith, rules, Bool, true, false, if◌then◌else◌, List, [], ◌∷◌, Option, Some, None, IsSome, Result, Ok, Err, slice_get}
 use Rattle.std.specs.Prelude.{OnOk}
 use Rattle.console_port.specs.Bus.{ChangesOnly}
+use Rattle.console_port.specs.Console.{StaysFlushed}
+use Rattle.mic_base.specs.Streams.{IsFlushed}
 use Rattle.mic_clock.specs.Meaning.{Meaning}
 use Rattle.mic_clock.specs.View.{BoardView}
 use Rattle.mic_clock.specs.declared.counts.Counts.{Counts}
 use Rattle.mic_clock.specs.declared.end.End.{End}
+use Rattle.mic_clock.specs.declared.end.End.TheVariants as ends
 use Rattle.mic_clock.specs.Board.{EndsUncounted, IsCounted}
 use Rattle.mic_rewind.specs.declared.moment.Moment.{Moment}
 use Rattle.mic_rewind.specs.States.{Snapshot, stored}
@@ -16,6 +19,13 @@ use Rattle.mic_rewind.proofs.Changes.{stored_is}
 pub emptied : (ss : List Snapshot) → length ss ≤ 0 → ss ≡ []
 emptied [] l = refl
 emptied (s ∷ ss) l = grind arith
+
+-- the sink of a board that has ended stays
+pub flushed_by : {K : Type 0} (held passed : K → Option (List ℕ)) (old new : K) (before after : Option End) →
+    (after ≢ Some ends.WriteFault → StaysFlushed (held old) (passed old) (held new) (passed new)) →
+    ((e : End) → before ≡ Some e → new ≡ old) → (before ≡ None → after ≢ Some ends.WriteFault) → StaysFlushed (held old) (passed old) (held new) (passed new)
+flushed_by held passed old new None after flushed same going = flushed (going refl)
+flushed_by held passed old new (Some e) after flushed same going = λ h. subst (λ k. IsFlushed (held k) (passed k)) (sym (same e refl)) h
 
 -- ---- MPC is an address in each state
 

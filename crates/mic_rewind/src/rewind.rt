@@ -90,7 +90,8 @@ impl<M: Clocked> Rewind<M> {
         ensures growth { self.new.board.counts.cycles ≤ self.old.board.counts.cycles + 1 }
         ensures store { self.new.board.store ≡ self.old.board.store }
         ensures sink_keeps { (front : List ℕ) → Holds front (K.held sink.old) → Holds front (K.held sink.new) }
-        ensures flushed { self.new.board.end ≢ Some End.WriteFault → StaysFlushed (K.held sink.old) (K.passed sink.old) (K.held sink.new) (K.passed sink.new) }
+        ensures flushed { (self.old.board.end ≡ None → self.new.board.end ≢ Some End.WriteFault) →
+            StaysFlushed (K.held sink.old) (K.passed sink.old) (K.held sink.new) (K.passed sink.new) }
         ensures cause { self.old.history.after ≡ [] →
             HasEndCause (S.faults source.old) (S.faults source.new) (K.faults sink.old) (K.faults sink.new) self.old.board.end self.new.board.end }
     {

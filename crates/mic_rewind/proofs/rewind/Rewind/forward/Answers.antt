@@ -6,7 +6,7 @@ use Rattle.mic_rewind.specs.declared.moment.Moment.{Moment}
 use Rattle.mic_rewind.specs.States.{Snapshot}
 use Rattle.mic_rewind.specs.View.{HistoryView, appended}
 use Rattle.mic_rewind.specs.Rewind.{HasAddress, HaveAddresses, RewindView, moment_of, state_of, newest}
-use Rattle.mic_rewind.proofs.Keeping.{addresses_kept, emptied, forth_keeps, grown_by, left_by, live, newest_here}
+use Rattle.mic_rewind.proofs.Keeping.{addresses_kept, emptied, flushed_by, forth_keeps, grown_by, left_by, live, newest_here}
 use Rattle.mic_rewind.proofs.rewind.Rewind.forward.Goals as goal
 
 pub append-requires-clause-tick : goal.append-requires-clause-tick
@@ -76,3 +76,15 @@ returns-else-is_none-clause-growth g c =
 pub invariant_of-self : goal.invariant_of-self
 invariant_of-self g c =
     forth_keeps g.M.Clocked.state g.M.Clocked.meaning c.self.inside.board c.self.inside.history c.forward.new.self c.forward.ensures.went c.self.invariant
+
+pub returns-then-is_none-clause-flushed : goal.returns-then-is_none-clause-flushed
+returns-then-is_none-clause-flushed g c =
+    rw (← c.self.view_is)
+    (flushed_by g.K.Sink.held g.K.Sink.passed c.args.sink.now c.cycle-tick.new.sink c.self.inside.board.end c.cycle-tick.new.self.end
+    c.cycle-tick.ensures.flushed (λ e is. (c.cycle-tick.ensures.ended e is).2))
+
+pub returns-else-is_none-clause-flushed : goal.returns-else-is_none-clause-flushed
+returns-else-is_none-clause-flushed g c =
+    rw (← c.self.view_is)
+    (flushed_by g.K.Sink.held g.K.Sink.passed c.args.sink.now c.cycle-tick.new.sink c.self.inside.board.end c.cycle-tick.new.self.end
+    c.cycle-tick.ensures.flushed (λ e is. (c.cycle-tick.ensures.ended e is).2))
