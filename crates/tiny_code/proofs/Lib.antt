@@ -1,3 +1,4 @@
+mod Bytes
 mod Methods
 mod Examples
 mod Written

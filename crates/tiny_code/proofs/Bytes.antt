@@ -1,0 +1,114 @@
+-- Bytes that are appended, part by part.
+use Rattle.std.proofs.Common.{◌≡◌, ◌<◌, ◌≤◌, ℕ, zero, suc, ◌+◌, List, [], ◌∷◌, ◌++◌, length, map, drop, drop-cons, get_or, add-one, Result, Ok, Err, refl, sym, ap, ◌∙◌, append_assoc, arith}
+use Rattle.std.specs.Prelude.{OnOk}
+use Rattle.std.proofs.lemmas.List.{append-nil}
+use Rattle.std.proofs.lemmas.Grind.{flat_map-append}
+use Rattle.ijvm_instr.specs.declared.instr.Instr.{Instr}
+use Rattle.ijvm_instr.specs.declared.instr.Instr.TheVariants.{LdcW, Invokevirtual}
+use Rattle.ijvm_instr.specs.Instructions.{spelling}
+use Rattle.tiny_tree.specs.declared.tree.Operator.{Operator}
+use Rattle.tiny_tree.specs.declared.tree.Term.TheFolds.{fold_out-Expr, fold_out-Step}
+use Rattle.tiny_tree.specs.declared.tree.Expr.{Expr, out-Expr}
+use Rattle.tiny_tree.specs.declared.tree.Step.{Step, out-Step}
+use Rattle.tiny_tree.specs.Tree as tree
+use Rattle.tiny_tree.specs.Tree.{arguments_of, steps_of}
+use Rattle.tiny_tree.specs.View.{expr_level, expr_tree, step_level, step_tree, term_level, term_tree}
+use Rattle.tiny_code.specs.Bytes.{code_bytes}
+use Rattle.tiny_code.specs.Code.{Places, arguments_code, expr_code, operator_code, steps_code, term_code}
+
+pub on_ok : {T E : Type 0} (r : Result T E) (P Q : Type 0) → (P → Q) → OnOk r P → OnOk r Q
+on_ok (Ok x) P Q f h = f h
+on_ok (Err x) P Q f h = h
+
+pub one : (i : Instr) → spelling i ≡ code_bytes (i ∷ [])
+unfolding code_bytes
+one i = sym (append-nil (spelling i))
+
+pub none : code_bytes [] ≡ []
+unfolding code_bytes
+none = refl
+
+pub joined : (a b : List Instr) → code_bytes (a ++ b) ≡ code_bytes a ++ code_bytes b
+unfolding code_bytes
+joined a b = flat_map-append spelling a b
+
+pub then_bytes : (old mid new : List ℕ) (a b : List Instr) → mid ≡ old ++ code_bytes a → new ≡ mid ++ code_bytes b →
+    new ≡ old ++ code_bytes (a ++ b)
+then_bytes old mid new a b h k =
+    k ∙ ap (λ (x : List ℕ). x ++ code_bytes b) h ∙ append_assoc old (code_bytes a) (code_bytes b)
+    ∙ ap (λ (x : List ℕ). old ++ x) (sym (joined a b))
+
+-- ---- the trees of parts
+
+pub expr_tree_out : (e : Expr) → expr_tree e ≡ tree.Sum (term_tree (out-Expr e).first) (steps_of (map step_tree (out-Expr e).rest))
+expr_tree_out e = fold_out-Expr tree.Term tree.Expr (Operator × tree.Term) term_level expr_level step_level e
+
+step_tree_out : (s : Step) → step_tree s ≡ ((out-Step s).operator, term_tree (out-Step s).term)
+step_tree_out s = fold_out-Step tree.Term tree.Expr (Operator × tree.Term) term_level expr_level step_level s
+
+drop_item : {A : Type 0} (xs : List A) (i : ℕ) (x : A) → i < length xs → x ≡ get_or xs i x → drop i xs ≡ x ∷ drop (i + 1) xs
+drop_item xs i x lt is = rw add-one (drop-cons xs i x lt ∙ ap (λ y. y ∷ drop (suc i) xs) (sym is))
+
+drop_none : {A : Type 0} (xs : List A) (i : ℕ) → length xs ≤ i → drop i xs ≡ []
+drop_none [] zero h = refl
+drop_none [] (suc i) h = refl
+drop_none (x ∷ xs) zero h = absurd (omega (arith, h))
+drop_none (x ∷ xs) (suc i) h = drop_none xs i (omega (arith, h))
+
+module _ (p : Places) (local : ℕ) where
+  pub expr_bytes : (old mid new : List ℕ) (e : Expr) (items : List Step) → items ≡ (out-Expr e).rest →
+      mid ≡ old ++ code_bytes (term_code p local (term_tree (out-Expr e).first)) →
+      new ≡ mid ++ code_bytes (steps_code p local (steps_of (map step_tree items))) → new ≡ old ++ code_bytes (expr_code p local (expr_tree e))
+  expr_bytes old mid new e items is first rest =
+      then_bytes old mid new (term_code p local (term_tree (out-Expr e).first))
+      (steps_code p local (steps_of (map step_tree (out-Expr e).rest))) first
+      (rest ∙ ap (λ (l : List Step). mid ++ code_bytes (steps_code p local (steps_of (map step_tree l)))) is)
+      ∙ ap (λ (t : tree.Expr). old ++ code_bytes (expr_code p local t)) (sym (expr_tree_out e))
+
+  pub call_bytes : (old a b new : List ℕ) (f : ℕ) (args : tree.Arguments) (i : Instr) → i ≡ Invokevirtual (p.entry f) →
+      a ≡ old ++ code_bytes (LdcW 0 ∷ []) → b ≡ a ++ code_bytes (arguments_code p local args) → new ≡ b ++ code_bytes (i ∷ []) →
+      new ≡ old ++ code_bytes (term_code p local (tree.Called f args))
+  call_bytes old a b new f args i is first inner last =
+      let code : List Instr = arguments_code p local args in
+      let last' : new ≡ b ++ code_bytes (Invokevirtual (p.entry f) ∷ []) = last ∙ ap (λ (x : Instr). b ++ code_bytes (x ∷ [])) is in
+      then_bytes old a new (LdcW 0 ∷ []) (code ++ Invokevirtual (p.entry f) ∷ []) first
+      (then_bytes a b new code (Invokevirtual (p.entry f) ∷ []) inner last')
+
+  -- one step more
+  pub step_bytes : (old a b new : List ℕ) (ss : List Step) (i : ℕ) (s : Step) → i < length ss → s ≡ get_or ss i s →
+      old ≡ a ++ code_bytes (steps_code p local (steps_of (map step_tree (drop i ss)))) →
+      b ≡ a ++ code_bytes (term_code p local (term_tree (out-Step s).term)) → new ≡ b ++ code_bytes (operator_code (out-Step s).operator ∷ []) →
+      old ≡ new ++ code_bytes (steps_code p local (steps_of (map step_tree (drop (i + 1) ss))))
+  step_bytes old a b new ss i s lt is all first last =
+      let t : List Instr = term_code p local (term_tree (out-Step s).term) in
+      let o : List Instr = operator_code (out-Step s).operator ∷ [] in
+      let rest : List Instr = steps_code p local (steps_of (map step_tree (drop (i + 1) ss))) in
+      all
+      ∙ ap (λ (l : List Step). a ++ code_bytes (steps_code p local (steps_of (map step_tree l)))) (drop_item ss i s lt is)
+      ∙ ap (λ (x : Operator × tree.Term). a ++ code_bytes (term_code p local x.1 ++ (operator_code x.0 ∷ rest))) (step_tree_out s)
+      ∙ sym (then_bytes a b (new ++ code_bytes rest) t (o ++ rest) first (then_bytes b new (new ++ code_bytes rest) o rest last refl))
+
+  -- one argument more
+  pub argument_bytes : (old a new : List ℕ) (es : List Expr) (i : ℕ) (e : Expr) → i < length es → e ≡ get_or es i e →
+      old ≡ a ++ code_bytes (arguments_code p local (arguments_of (map expr_tree (drop i es)))) →
+      new ≡ a ++ code_bytes (expr_code p local (expr_tree e)) →
+      old ≡ new ++ code_bytes (arguments_code p local (arguments_of (map expr_tree (drop (i + 1) es))))
+  argument_bytes old a new es i e lt is all first =
+      let rest : List Instr = arguments_code p local (arguments_of (map expr_tree (drop (i + 1) es))) in
+      all
+      ∙ ap (λ (l : List Expr). a ++ code_bytes (arguments_code p local (arguments_of (map expr_tree l)))) (drop_item es i e lt is)
+      ∙ sym (then_bytes a new (new ++ code_bytes rest) (expr_code p local (expr_tree e)) rest first refl)
+
+  -- no step more
+  pub steps_done : (whole new : List ℕ) (ss : List Step) (i : ℕ) → length ss ≤ i →
+      whole ≡ new ++ code_bytes (steps_code p local (steps_of (map step_tree (drop i ss)))) → new ≡ whole
+  steps_done whole new ss i h all =
+      sym (all ∙ ap (λ (l : List Step). new ++ code_bytes (steps_code p local (steps_of (map step_tree l)))) (drop_none ss i h)
+      ∙ ap (λ (x : List ℕ). new ++ x) none ∙ append-nil new)
+
+  -- no argument more
+  pub arguments_done : (whole new : List ℕ) (es : List Expr) (i : ℕ) → length es ≤ i →
+      whole ≡ new ++ code_bytes (arguments_code p local (arguments_of (map expr_tree (drop i es)))) → new ≡ whole
+  arguments_done whole new es i h all =
+      sym (all ∙ ap (λ (l : List Expr). new ++ code_bytes (arguments_code p local (arguments_of (map expr_tree l)))) (drop_none es i h)
+      ∙ ap (λ (x : List ℕ). new ++ x) none ∙ append-nil new)

@@ -1,0 +1,138 @@
+//! The code of expressions.
+
+ghost use Rattle.std.specs.Prelude.{◌≡◌, ◌+◌, ◌∷◌, ◌++◌, [], OnOk, IfOk, map};
+ghost use Rattle.ijvm_instr.specs.Instructions.{spelling};
+ghost use Rattle.tiny_code.specs.Bytes.{code_bytes, places_in};
+ghost use Rattle.tiny_code.specs.Code.{arguments_code, expr_code, number_code, operator_code, steps_code, term_code};
+ghost use Rattle.tiny_tree.specs.Tree.{Called, arguments_of, steps_of};
+ghost use Rattle.tiny_tree.specs.View.{expr_tree, step_tree, term_tree};
+
+use crate::table::Table;
+use ijvm_instr::{Instr, encode_instr};
+use std::alloc::AllocError;
+use tiny_tree::{Expr, Operator, Step, Term};
+
+fn push(bytes: &mut Vec<u8>, instr: Instr) -> Result<(), AllocError>
+    ensures { OnOk result (bytes.new.items ≡ bytes.old.items ++ spelling instr) }
+{
+    bytes.extend_from_slice(encode_instr(instr).as_slice())?;
+    Ok(())
+}
+
+/// Appends the bytes of an instruction.
+pub(crate) fn put(bytes: &mut Vec<u8>, instr: Instr) -> Result<(), AllocError>
+    ensures { OnOk result (bytes.new.items ≡ bytes.old.items ++ code_bytes (instr ∷ [])) }
+{
+    push(bytes, instr)
+}
+
+fn operator(operator: Operator) -> Instr
+    ensures { result ≡ operator_code operator }
+{
+    match operator {
+        Operator::Plus => Instr::Iadd,
+        Operator::Minus => Instr::Isub,
+        Operator::And => Instr::Iand,
+        Operator::Or => Instr::Ior,
+    }
+}
+
+/// The local of a variable.
+pub(crate) fn local_of(local: u8, place: u32) -> Result<u8, AllocError>
+    ensures { IfOk result (λ k. k ≡ local + place) }
+{
+    if place > 254 || local > 1 {
+        return Err(AllocError);
+    }
+    Ok(local + place as u8)
+}
+
+#[cycle(expr)]
+pub(crate) fn put_term(
+    bytes: &mut Vec<u8>,
+    table: &Table,
+    local: u8,
+    term: &Term,
+) -> Result<(), AllocError>
+    ensures { OnOk result (bytes.new.items ≡ bytes.old.items ++ code_bytes (term_code (places_in table.now) local (term_tree term.now))) }
+{
+    match term {
+        Term::Number(number) => {
+            let instr = table.number(*number)?;
+            put(bytes, instr)
+        }
+        Term::Variable(place) => {
+            let instr = Instr::Iload(local_of(local, *place)?);
+            put(bytes, instr)
+        }
+        Term::Call {
+            function,
+            arguments,
+        } => put_call(bytes, table, local, *function, arguments.items()),
+        Term::Get => put(bytes, Instr::In),
+        Term::Group(inner) => put_expr(bytes, table, local, inner),
+    }
+}
+
+#[cycle(expr)]
+pub(crate) fn put_call(
+    bytes: &mut Vec<u8>,
+    table: &Table,
+    local: u8,
+    function: u32,
+    arguments: &[Expr],
+) -> Result<(), AllocError>
+    ensures { OnOk result (bytes.new.items ≡ bytes.old.items
+        ++ code_bytes (term_code (places_in table.now) local (Called function (arguments_of (map expr_tree arguments.now))))) }
+{
+    let call = table.call(function)?;
+    put(bytes, Instr::LdcW(0))?;
+    put_arguments(bytes, table, local, arguments)?;
+    put(bytes, call)
+}
+
+#[cycle(expr)]
+pub(crate) fn put_expr(
+    bytes: &mut Vec<u8>,
+    table: &Table,
+    local: u8,
+    expr: &Expr,
+) -> Result<(), AllocError>
+    ensures { OnOk result (bytes.new.items ≡ bytes.old.items ++ code_bytes (expr_code (places_in table.now) local (expr_tree expr.now))) }
+{
+    put_term(bytes, table, local, &expr.first)?;
+    put_steps(bytes, table, local, expr.rest.items())
+}
+
+#[cycle(expr)]
+fn put_steps(
+    bytes: &mut Vec<u8>,
+    table: &Table,
+    local: u8,
+    steps: &[Step],
+) -> Result<(), AllocError>
+    ensures { OnOk result (bytes.new.items
+        ≡ bytes.old.items ++ code_bytes (steps_code (places_in table.now) local (steps_of (map step_tree steps.now)))) }
+{
+    for step in steps {
+        put_term(bytes, table, local, &step.term)?;
+        put(bytes, operator(step.operator))?;
+    }
+    Ok(())
+}
+
+#[cycle(expr)]
+fn put_arguments(
+    bytes: &mut Vec<u8>,
+    table: &Table,
+    local: u8,
+    arguments: &[Expr],
+) -> Result<(), AllocError>
+    ensures { OnOk result (bytes.new.items
+        ≡ bytes.old.items ++ code_bytes (arguments_code (places_in table.now) local (arguments_of (map expr_tree arguments.now)))) }
+{
+    for argument in arguments {
+        put_expr(bytes, table, local, argument)?;
+    }
+    Ok(())
+}
