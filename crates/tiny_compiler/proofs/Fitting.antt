@@ -14,7 +14,7 @@ use Rattle.tiny_tree.specs.declared.tree.Operator.TheVariants.{Plus, Minus, And,
 use Rattle.tiny_tree.specs.Tree.{Term, Number, Variable, Called, Get, Group, Expr, Sum, Steps, no_steps, step, Arguments, no_arguments, argument, Cond, Equal, Different, Less, Statement, Var, Assign, Calls, If, While, Return, Put, Halt, Else, no_else, else_block, Statements, no_statements, statement, Function, Program}
 use Rattle.tiny_tree.specs.Named.{Seen, seen_after, IsCallable, IsNamedTerm, IsNamedExpr, AreNamedSteps, AreNamedArguments, IsNamedCond, IsNamedStatement, AreNamed, IsNamedElse, arguments_count}
 use Rattle.tiny_code.specs.Code.{Places, code_size, choice, loop, operator_code, number_code, term_code, expr_code, steps_code, arguments_code, test_code, if_code, leave_code, statement_code, statements_code, else_code}
-use Rattle.tiny_compiler.specs.Image.{Jump, choice_jumps, else_jumps, first_far, if_jumps, is_far, leave_jumps, statement_jumps, statements_jumps, while_jumps}
+use Rattle.tiny_code.specs.Image.{Jump, choice_jumps, else_jumps, first_far, if_jumps, is_far, leave_jumps, statement_jumps, statements_jumps, while_jumps}
 
 -- ---- lists of instructions
 

@@ -13,7 +13,7 @@ use Rattle.tiny_tree.specs.Tree.{Function, Program}
 use Rattle.tiny_tree.specs.Named.{IsNamed, IsNamedFunction, names_count, parameters_seen, vars_of}
 use Rattle.tiny_code.specs.Code.{Places, begins, code_size, function_numbers, main_code, method_code, method_size, methods, numbers, places_of, statements_code}
 use Rattle.tiny_code.specs.Laid.{AreMethodsAt, CodeAt, IsLaidOut, IsMethodAt}
-use Rattle.tiny_compiler.specs.Image.{IsCodeOf, Jump, jumps, method_bytes, method_jumps, methods_bytes, statements_jumps}
+use Rattle.tiny_code.specs.Image.{IsCodeOf, Jump, jumps, method_bytes, method_jumps, methods_bytes, statements_jumps}
 use Rattle.tiny_compiler.proofs.Lists.{AreEntries, entry, Finds, all_found, from_main, get_after, prefix_short}
 use Rattle.tiny_compiler.proofs.Fitting.{Fit, Near, all_near, both, near_back, near_front, one, statements_fit}
 

@@ -9,7 +9,8 @@ use Rattle.tiny_parser.specs.Texts.{IsRefused, Spells}
 use Rattle.tiny_parser.specs.declared.error.TinyError.{TinyError}
 use Rattle.tiny_parser.specs.declared.error.TinyError.TheVariants.{BadCall, BadNumber, BadSyntax, BadToken, DuplicateName, JumpTooFar, NoMain, OutOfMemory, PoolTooLong, ReturnInMain, TextTooLong, TooDeep, TooManyNames, UnknownName}
 use Rattle.tiny_compiler.specs.Compiled.{HasNoCode, IsCompiled, NoProgram, TooLarge}
-use Rattle.tiny_compiler.specs.Image.{ExceedsBy, IsCodeOf, IsTooLarge, Jump, first_far, jumps, pool_of, text_of}
+use Rattle.tiny_code.specs.Image.{IsCodeOf, Jump, first_far, jumps, pool_of, text_of}
+use Rattle.tiny_compiler.specs.Image.{ExceedsBy, IsTooLarge}
 
 -- ---- main's locals
 

@@ -5,7 +5,8 @@ use Rattle.verifier_facts.specs.Accepted.{IsAccepted, VerifiedView}
 use Rattle.tiny_tree.specs.Tree.{Program}
 use Rattle.tiny_parser.specs.Texts.{IsRefused, Spells}
 use Rattle.tiny_parser.specs.declared.error.TinyError.{TinyError}
-use Rattle.tiny_compiler.specs.Image.{IsCodeOf, IsTooLarge}
+use Rattle.tiny_code.specs.Image.{IsCodeOf}
+use Rattle.tiny_compiler.specs.Image.{IsTooLarge}
 
 -- the image of the text's program, accepted on the standard map
 pub record IsCompiled (text : List ℕ) (v : VerifiedView) : Type 0 where

@@ -15,7 +15,7 @@ ghost use Rattle.tiny_parser.specs.Texts.{Spells};
 ghost use Rattle.tiny_parser.specs.declared.error.TinyError.{TinyError};
 ghost use Rattle.tiny_runs.specs.AsMeant.{RunsAsMeant, runs_of};
 ghost use Rattle.tiny_compiler.specs.Compiled.{HasNoCode, IsCompiled};
-ghost use Rattle.tiny_compiler.specs.Image.{IsCodeOf, IsCoded};
+ghost use Rattle.tiny_code.specs.Image.{IsCodeOf, IsCoded};
 
 use tiny_code::{methods_are_the_others, written_code_stands};
 use tiny_notes::laid_out_programs_are_accepted;

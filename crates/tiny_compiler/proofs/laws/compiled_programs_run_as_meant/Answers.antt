@@ -4,7 +4,7 @@ use Rattle.tiny_code.specs.Code.{places_of}
 use Rattle.tiny_code.specs.Laid.{IsLaidOut}
 use Rattle.tiny_tree.specs.Named.{IsNamed}
 use Rattle.tiny_tree.specs.Tree.{Program}
-use Rattle.tiny_compiler.specs.Image.{IsCodeOf}
+use Rattle.tiny_code.specs.Image.{IsCodeOf}
 use Rattle.tiny_compiler.proofs.laws.compiled_programs_run_as_meant.Goals as goal
 
 pub returns : goal.returns
