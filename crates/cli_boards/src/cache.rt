@@ -85,7 +85,6 @@ pub fn cache_program<M: Clocked + Drop, F: Files, S: Source, K: Sink, E: Sink>(
         &mut PlainSink::new(),
     ) {
         Ok(end) => {
-            let _next = board.mpc();
             let report = clocked_report(end, &board.counts(), &board.registers());
             let said = outside.err.put(report.bytes());
             let line = cache_line(lines, watcher.cache.counts());
