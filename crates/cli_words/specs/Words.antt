@@ -44,6 +44,8 @@ pub data Asked : Type 0 where
   Soak : (seed size : ℕ) (machine : Machine) → Asked
   -- a run on Mic-1 with a cache of so many lines
   Cache : (file : Text) (lines bound : ℕ) (map : MemoryMap) → Asked
+  -- a session that goes back by at most so many cycles; its lines and the program's input come as in `Debug`
+  Rewind : (file : Text) (machine : Machine) (input : Option Text) (depth : ℕ) (map : MemoryMap) → Asked
 
 abbrev pub asked_run : Job → Mode → Asked
 asked_run job modes.Shipped = Run job.file.now job.machine job.bound job.map
@@ -64,6 +66,8 @@ asked (requests.Micro mal store machine) = Micro mal.now store.now machine
 asked (requests.PrintMicro file machine) = PrintMicro (option_map (λ file. file.now) file) machine
 asked (requests.Soak seed size machine) = Soak seed size machine
 asked (requests.Cache file lines bound map) = Cache file.now lines bound map
+asked (requests.Rewind file machine input depth map) =
+    Rewind file.now machine (option_map (λ input. input.now) input) depth map
 
 -- The numbers of the command line.
 
@@ -87,6 +91,14 @@ most_blocks = 9000
 abbrev pub most_lines : ℕ
 most_lines = 4096
 
+-- the cycles that a session can go back where no depth is given
+abbrev pub default_depth : ℕ
+default_depth = 4096
+
+-- the greatest depth that may be given
+abbrev pub most_depth : ℕ
+most_depth = 65536
+
 -- one of the two maps
 abbrev pub HasMap : MemoryMap → Type 0
 HasMap map = IsMap map.stack_end
@@ -98,7 +110,12 @@ HasJobLimits job = (job.bound ≤ most_cycles) × HasMap job.map
 abbrev pub IsLineCount : ℕ → Type 0
 IsLineCount lines = (0 < lines) × (lines ≤ most_lines)
 
--- the map of a request is one of the two, its bound or its size at most the greatest, and its lines are those that a cache may have
+-- a session goes back by a cycle, and at most by the most
+abbrev pub IsDepth : ℕ → Type 0
+IsDepth depth = (0 < depth) × (depth ≤ most_depth)
+
+-- the map of a request is one of the two, its bound or its size at most the greatest, its lines are those that a cache may have,
+-- and its depth is one that a session may have
 abbrev pub HasLimits : Request → Type 0
 HasLimits (requests.List file map) = HasMap map
 HasLimits (requests.Verify file map) = HasMap map
@@ -106,6 +123,7 @@ HasLimits (requests.Run job mode) = HasJobLimits job
 HasLimits (requests.RunPipeline file bound map) = (bound ≤ most_cycles) × HasMap map
 HasLimits (requests.Soak seed size machine) = size ≤ most_blocks
 HasLimits (requests.Cache file lines bound map) = IsLineCount lines × (bound ≤ most_cycles) × HasMap map
+HasLimits (requests.Rewind file machine input depth map) = IsDepth depth × HasMap map
 HasLimits request = Unit {0}
 
 -- The value of an option, where it is given, and what holds where it is not.
@@ -132,11 +150,18 @@ abbrev pub bound_in : Option Text → Option ℕ
 bound_in None = Some default_bound
 bound_in (Some word) = number_within 0 most_cycles (number_of word)
 
+abbrev pub depth_in : Option Text → Option ℕ
+depth_in None = Some default_depth
+depth_in (Some word) = number_within 1 most_depth (number_of word)
+
 abbrev pub machine_of : List Entry → Option Machine
 machine_of given = machine_in (text_in (codes "machine") given)
 
 abbrev pub bound_of : List Entry → Option ℕ
 bound_of given = bound_in (text_in (codes "bound") given)
+
+abbrev pub depth_of : List Entry → Option ℕ
+depth_of given = depth_in (text_in (codes "depth") given)
 
 abbrev pub map_of : List Entry → Option MemoryMap
 map_of given = map_in (text_in (codes "map") given)
@@ -243,6 +268,11 @@ abbrev pub cache_of : List Entry → Option Asked
 cache_of given = option_and_then (λ file. option_and_then (λ lines. option_and_then (λ bound. option_map (λ map. Cache file lines bound map)
     (map_of given)) (bound_of given)) (option_and_then lines_in (text_in (codes "LINES") given))) (text_in (codes "FILE") given)
 
+abbrev pub rewind_of : List Entry → Option Asked
+rewind_of given = option_and_then (λ file. option_and_then (λ machine. option_and_then (λ depth.
+    option_map (λ map. Rewind file machine (text_in (codes "input") given) depth map)
+    (map_of given)) (depth_of given)) (machine_of given)) (text_in (codes "FILE") given)
+
 abbrev pub is_given : Text → List Entry → Bool
 is_given option given = is_some (text_in option given)
 
@@ -266,6 +296,7 @@ asked_of name.Micro given = micro_of given
 asked_of name.PrintMicro given = print_micro_of given
 asked_of name.Soak given = soak_of given
 asked_of name.Cache given = cache_of given
+asked_of name.Rewind given = rewind_of given
 
 abbrev pub asked_by : Option CommandName → List Text → Option Asked
 asked_by None words = None

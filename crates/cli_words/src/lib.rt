@@ -11,6 +11,8 @@ mod taking;
 
 pub use error::WordsError;
 pub use laws::each_name_is_given_once;
-pub use options::{DEFAULT_BOUND, MOST_BLOCKS, MOST_CYCLES, MOST_LINES, MOST_SEED};
+pub use options::{
+    DEFAULT_BOUND, DEFAULT_DEPTH, MOST_BLOCKS, MOST_CYCLES, MOST_DEPTH, MOST_LINES, MOST_SEED,
+};
 pub use read::read_words;
 pub use request::{Job, Mode, Request};

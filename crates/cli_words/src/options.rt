@@ -3,7 +3,7 @@
 ghost use Rattle.std.specs.Prelude.{◌≡◌, ◌≤◌, IfSome};
 ghost use Rattle.std.specs.Option.{option_map};
 ghost use Rattle.mic_base.specs.Number.{number_of};
-ghost use Rattle.cli_words.specs.Words.{HasMap, IsLineCount, bound_in, is_pipeline, is_true, lines_in, machine_in, map_in, most_blocks, most_cycles, number_within, seed_in, size_in};
+ghost use Rattle.cli_words.specs.Words.{HasMap, IsDepth, IsLineCount, bound_in, depth_in, is_pipeline, is_true, lines_in, machine_in, map_in, most_blocks, most_cycles, number_within, seed_in, size_in};
 
 use console_port::MemoryMap;
 use mic_base::Number;
@@ -23,6 +23,12 @@ pub const MOST_BLOCKS: u16 = 9_000;
 
 /// The most lines of a cache.
 pub const MOST_LINES: u16 = 4_096;
+
+/// The cycles that a session can go back where no depth is given.
+pub const DEFAULT_DEPTH: u32 = 4_096;
+
+/// The greatest depth that can be given.
+pub const MOST_DEPTH: u32 = 65_536;
 
 /// Mic-1 where no machine is given.
 pub(crate) fn machine_in(value: Option<&str>) -> Option<Machine>
@@ -66,6 +72,17 @@ pub(crate) fn bound_in(value: Option<&str>) -> Option<u64>
         return Some(DEFAULT_BOUND);
     };
     number_within(word, 0, MOST_CYCLES)
+}
+
+pub(crate) fn depth_in(value: Option<&str>) -> Option<u32>
+    ensures value { result ≡ depth_in (option_map (λ value. value.now) value.entry) }
+    ensures within { IfSome result IsDepth }
+{
+    let Some(word) = value else {
+        return Some(DEFAULT_DEPTH);
+    };
+    let depth = number_within(word, 1, u64::from(MOST_DEPTH))?;
+    Some(depth as u32)
 }
 
 pub(crate) fn seed_in(word: &str) -> Option<u32>

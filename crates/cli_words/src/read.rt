@@ -5,11 +5,11 @@ ghost use Rattle.std.specs.Option.{option_map};
 ghost use Rattle.cli_words.specs.Reading.{Entry};
 ghost use Rattle.cli_words.specs.Table.{form_for};
 ghost use Rattle.cli_words.specs.Taking.{HoldsGiven};
-ghost use Rattle.cli_words.specs.Words.{AnswersAs, HasJobLimits, HasLimits, asked, asked_of, assemble_of, cache_of, debug_of, job_asked, job_in, list_of, micro_of, print_micro_of, profile_of, reference_of, request_of, run_of, run_own_of, run_pipeline_of, soak_of, trace_of, verify_of};
+ghost use Rattle.cli_words.specs.Words.{AnswersAs, HasJobLimits, HasLimits, asked, asked_of, assemble_of, cache_of, debug_of, job_asked, job_in, list_of, micro_of, print_micro_of, profile_of, reference_of, request_of, rewind_of, run_of, run_own_of, run_pipeline_of, soak_of, trace_of, verify_of};
 
 use crate::error::WordsError;
 use crate::options::{
-    bound_in, is_pipeline, is_true, lines_in, machine_in, map_in, seed_in, size_in,
+    bound_in, depth_in, is_pipeline, is_true, lines_in, machine_in, map_in, seed_in, size_in,
 };
 use crate::request::{Job, Mode, Request};
 use crate::table::{CommandName, named};
@@ -184,6 +184,24 @@ fn cache<'a>(matches: &ArgMatches<'a>) -> Option<Request<'a>>
     })
 }
 
+fn rewind<'a>(matches: &ArgMatches<'a>) -> Option<Request<'a>>
+    ensures limits { IfSome result HasLimits }
+    ensures asks { (g : List Entry) → HoldsGiven (form_for CommandName.Rewind) g matches.now → option_map asked result ≡ rewind_of g }
+{
+    let file = matches.get_str("FILE")?;
+    let machine = machine_in(matches.get_str("machine"))?;
+    let input = matches.get_str("input");
+    let depth = depth_in(matches.get_str("depth"))?;
+    let map = map_in(matches.get_str("map"))?;
+    Some(Request::Rewind {
+        file,
+        machine,
+        input,
+        depth,
+        map,
+    })
+}
+
 /// What a command asks for, or nothing where a value is none of its option's.
 fn request_in<'a>(command: CommandName, matches: &ArgMatches<'a>) -> Option<Request<'a>>
     ensures limits { IfSome result HasLimits }
@@ -204,6 +222,7 @@ fn request_in<'a>(command: CommandName, matches: &ArgMatches<'a>) -> Option<Requ
         CommandName::PrintMicro => print_micro(matches),
         CommandName::Soak => soak(matches),
         CommandName::Cache => cache(matches),
+        CommandName::Rewind => rewind(matches),
     }
 }
 

@@ -86,4 +86,13 @@ pub enum Request<'a> {
         bound: u64,
         map: MemoryMap,
     },
+    /// A session that goes back by at most so many cycles.
+    /// Its lines come from the console, the program's input from a file, or there is none.
+    Rewind {
+        file: &'a str,
+        machine: Machine,
+        input: Option<&'a str>,
+        depth: u32,
+        map: MemoryMap,
+    },
 }

@@ -19,6 +19,7 @@ pub enum CommandName {
     PrintMicro,
     Soak,
     Cache,
+    Rewind,
 }
 
 /// A command's name, and what it takes: plain words, options with a value, and flags, by name.
@@ -46,7 +47,7 @@ macro_rules! rows {
     };
 }
 
-const COMMANDS: [Row; 12] = rows! {
+const COMMANDS: [Row; 13] = rows! {
     // command  name           plain words          whole  options                                           flags
     Assemble    "assemble"     ["SOURCE", "IMAGE"]  true   []                                                []
     List        "list"         ["FILE"]             true   ["map"]                                           []
@@ -60,6 +61,7 @@ const COMMANDS: [Row; 12] = rows! {
     PrintMicro  "print-micro"  ["FILE"]             false  ["machine"]                                       []
     Soak        "soak"         ["SEED", "SIZE"]     true   ["machine"]                                       []
     Cache       "cache"        ["FILE", "LINES"]    true   ["bound", "map"]                                  []
+    Rewind      "rewind"       ["FILE"]             true   ["machine", "input", "depth", "map"]              []
 };
 
 fn first_named(rows: &[Row], word: &str) -> Option<Row>
