@@ -34,10 +34,13 @@ row_for command.PrintMicro = row "print-micro" ("FILE" ∷ []) false ("machine" 
 row_for command.Soak = row "soak" ("SEED" ∷ "SIZE" ∷ []) true ("machine" ∷ []) []
 row_for command.Cache = row "cache" ("FILE" ∷ "LINES" ∷ []) true ("bound" ∷ "map" ∷ []) []
 row_for command.Rewind = row "rewind" ("FILE" ∷ []) true ("machine" ∷ "input" ∷ "depth" ∷ "map" ∷ []) []
+row_for command.Compile = row "compile" ("TINY" ∷ "IMAGE" ∷ []) true [] []
+row_for command.Tiny = row "tiny" ("TINY" ∷ []) true ("machine" ∷ "bound" ∷ []) []
 
 abbrev pub all_commands : List CommandName
 all_commands = command.Assemble ∷ command.List ∷ command.Verify ∷ command.Run ∷ command.Trace ∷ command.Profile ∷ command.Debug
-    ∷ command.Reference ∷ command.Micro ∷ command.PrintMicro ∷ command.Soak ∷ command.Cache ∷ command.Rewind ∷ []
+    ∷ command.Reference ∷ command.Micro ∷ command.PrintMicro ∷ command.Soak ∷ command.Cache ∷ command.Rewind ∷ command.Compile
+    ∷ command.Tiny ∷ []
 
 -- the command of a list that a word names
 abbrev pub named_in : Text → List CommandName → Option CommandName

@@ -46,6 +46,10 @@ pub data Asked : Type 0 where
   Cache : (file : Text) (lines bound : ℕ) (map : MemoryMap) → Asked
   -- a session that goes back by at most so many cycles; its lines and the program's input come as in `Debug`
   Rewind : (file : Text) (machine : Machine) (input : Option Text) (depth : ℕ) (map : MemoryMap) → Asked
+  -- the image of a Tiny program
+  Compile : (tiny image : Text) → Asked
+  -- a run of a Tiny program
+  Tiny : (tiny : Text) (machine : Machine) (bound : ℕ) → Asked
 
 abbrev pub asked_run : Job → Mode → Asked
 asked_run job modes.Shipped = Run job.file.now job.machine job.bound job.map
@@ -68,6 +72,8 @@ asked (requests.Soak seed size machine) = Soak seed size machine
 asked (requests.Cache file lines bound map) = Cache file.now lines bound map
 asked (requests.Rewind file machine input depth map) =
     Rewind file.now machine (option_map (λ input. input.now) input) depth map
+asked (requests.Compile tiny image) = Compile tiny.now image.now
+asked (requests.Tiny tiny machine bound) = Tiny tiny.now machine bound
 
 -- The numbers of the command line.
 
@@ -124,6 +130,7 @@ HasLimits (requests.RunPipeline file bound map) = (bound ≤ most_cycles) × Has
 HasLimits (requests.Soak seed size machine) = size ≤ most_blocks
 HasLimits (requests.Cache file lines bound map) = IsLineCount lines × (bound ≤ most_cycles) × HasMap map
 HasLimits (requests.Rewind file machine input depth map) = IsDepth depth × HasMap map
+HasLimits (requests.Tiny tiny machine bound) = bound ≤ most_cycles
 HasLimits request = Unit {0}
 
 -- The value of an option, where it is given, and what holds where it is not.
@@ -273,6 +280,14 @@ rewind_of given = option_and_then (λ file. option_and_then (λ machine. option_
     option_map (λ map. Rewind file machine (text_in (codes "input") given) depth map)
     (map_of given)) (depth_of given)) (machine_of given)) (text_in (codes "FILE") given)
 
+abbrev pub compile_of : List Entry → Option Asked
+compile_of given = option_and_then (λ tiny. option_map (λ image. Compile tiny image)
+    (text_in (codes "IMAGE") given)) (text_in (codes "TINY") given)
+
+abbrev pub tiny_of : List Entry → Option Asked
+tiny_of given = option_and_then (λ tiny. option_and_then (λ machine. option_map (λ bound. Tiny tiny machine bound)
+    (bound_of given)) (machine_of given)) (text_in (codes "TINY") given)
+
 abbrev pub is_given : Text → List Entry → Bool
 is_given option given = is_some (text_in option given)
 
@@ -297,6 +312,8 @@ asked_of name.PrintMicro given = print_micro_of given
 asked_of name.Soak given = soak_of given
 asked_of name.Cache given = cache_of given
 asked_of name.Rewind given = rewind_of given
+asked_of name.Compile given = compile_of given
+asked_of name.Tiny given = tiny_of given
 
 abbrev pub asked_by : Option CommandName → List Text → Option Asked
 asked_by None words = None

@@ -5,7 +5,7 @@ ghost use Rattle.std.specs.Option.{option_map};
 ghost use Rattle.cli_words.specs.Reading.{Entry};
 ghost use Rattle.cli_words.specs.Table.{form_for};
 ghost use Rattle.cli_words.specs.Taking.{HoldsGiven};
-ghost use Rattle.cli_words.specs.Words.{AnswersAs, HasJobLimits, HasLimits, asked, asked_of, assemble_of, cache_of, debug_of, job_asked, job_in, list_of, micro_of, print_micro_of, profile_of, reference_of, request_of, rewind_of, run_of, run_own_of, run_pipeline_of, soak_of, trace_of, verify_of};
+ghost use Rattle.cli_words.specs.Words.{AnswersAs, HasJobLimits, HasLimits, asked, asked_of, assemble_of, cache_of, compile_of, debug_of, job_asked, job_in, list_of, micro_of, print_micro_of, profile_of, reference_of, request_of, rewind_of, run_of, run_own_of, run_pipeline_of, soak_of, tiny_of, trace_of, verify_of};
 
 use crate::error::WordsError;
 use crate::options::{
@@ -202,6 +202,29 @@ fn rewind<'a>(matches: &ArgMatches<'a>) -> Option<Request<'a>>
     })
 }
 
+fn compile<'a>(matches: &ArgMatches<'a>) -> Option<Request<'a>>
+    ensures limits { IfSome result HasLimits }
+    ensures asks { (g : List Entry) → HoldsGiven (form_for CommandName.Compile) g matches.now → option_map asked result ≡ compile_of g }
+{
+    let tiny = matches.get_str("TINY")?;
+    let image = matches.get_str("IMAGE")?;
+    Some(Request::Compile { tiny, image })
+}
+
+fn tiny<'a>(matches: &ArgMatches<'a>) -> Option<Request<'a>>
+    ensures limits { IfSome result HasLimits }
+    ensures asks { (g : List Entry) → HoldsGiven (form_for CommandName.Tiny) g matches.now → option_map asked result ≡ tiny_of g }
+{
+    let tiny = matches.get_str("TINY")?;
+    let machine = machine_in(matches.get_str("machine"))?;
+    let bound = bound_in(matches.get_str("bound"))?;
+    Some(Request::Tiny {
+        tiny,
+        machine,
+        bound,
+    })
+}
+
 /// What a command asks for, or nothing where a value is none of its option's.
 fn request_in<'a>(command: CommandName, matches: &ArgMatches<'a>) -> Option<Request<'a>>
     ensures limits { IfSome result HasLimits }
@@ -223,6 +246,8 @@ fn request_in<'a>(command: CommandName, matches: &ArgMatches<'a>) -> Option<Requ
         CommandName::Soak => soak(matches),
         CommandName::Cache => cache(matches),
         CommandName::Rewind => rewind(matches),
+        CommandName::Compile => compile(matches),
+        CommandName::Tiny => tiny(matches),
     }
 }
 

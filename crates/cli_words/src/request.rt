@@ -95,4 +95,15 @@ pub enum Request<'a> {
         depth: u32,
         map: MemoryMap,
     },
+    /// The image of a Tiny program.
+    Compile {
+        tiny: &'a str,
+        image: &'a str,
+    },
+    /// A run of a Tiny program, compiled for the standard map.
+    Tiny {
+        tiny: &'a str,
+        machine: Machine,
+        bound: u64,
+    },
 }

@@ -20,6 +20,8 @@ pub enum CommandName {
     Soak,
     Cache,
     Rewind,
+    Compile,
+    Tiny,
 }
 
 /// A command's name, and what it takes: plain words, options with a value, and flags, by name.
@@ -47,7 +49,7 @@ macro_rules! rows {
     };
 }
 
-const COMMANDS: [Row; 13] = rows! {
+const COMMANDS: [Row; 15] = rows! {
     // command  name           plain words          whole  options                                           flags
     Assemble    "assemble"     ["SOURCE", "IMAGE"]  true   []                                                []
     List        "list"         ["FILE"]             true   ["map"]                                           []
@@ -62,6 +64,8 @@ const COMMANDS: [Row; 13] = rows! {
     Soak        "soak"         ["SEED", "SIZE"]     true   ["machine"]                                       []
     Cache       "cache"        ["FILE", "LINES"]    true   ["bound", "map"]                                  []
     Rewind      "rewind"       ["FILE"]             true   ["machine", "input", "depth", "map"]              []
+    Compile     "compile"      ["TINY", "IMAGE"]    true   []                                                []
+    Tiny        "tiny"         ["TINY"]             true   ["machine", "bound"]                              []
 };
 
 fn first_named(rows: &[Row], word: &str) -> Option<Row>
