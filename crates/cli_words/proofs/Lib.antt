@@ -7,3 +7,6 @@ pub mod Getting
 pub mod Naming
 pub mod Jobs
 pub mod Once
+pub mod Spelled
+pub mod Taken
+pub mod Tidy

@@ -10,7 +10,7 @@ mod table;
 mod taking;
 
 pub use error::WordsError;
-pub use laws::each_name_is_given_once;
+pub use laws::{each_name_is_given_once, what_is_given_is_written};
 pub use options::{
     DEFAULT_BOUND, DEFAULT_DEPTH, MOST_BLOCKS, MOST_CYCLES, MOST_DEPTH, MOST_LINES, MOST_SEED,
 };
