@@ -1,4 +1,3 @@
-mod Bytes
 mod Methods
 mod Examples
 mod Written

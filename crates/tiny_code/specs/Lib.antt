@@ -1,4 +1,3 @@
 pub mod Code
 pub mod Laid
-pub mod Bytes
 pub mod Image

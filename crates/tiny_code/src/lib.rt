@@ -1,9 +1,6 @@
 //! The code of a Tiny program, and the image that holds it.
 #![tactic(auto)]
 
-mod expr;
 mod laws;
-mod table;
 
 pub use laws::{laid_out_programs_hold, methods_are_the_others, written_code_stands};
-pub use table::Table;

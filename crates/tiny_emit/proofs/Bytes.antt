@@ -13,7 +13,7 @@ use Rattle.tiny_tree.specs.declared.tree.Step.{Step, out-Step}
 use Rattle.tiny_tree.specs.Tree as tree
 use Rattle.tiny_tree.specs.Tree.{arguments_of, steps_of}
 use Rattle.tiny_tree.specs.View.{expr_level, expr_tree, step_level, step_tree, term_level, term_tree}
-use Rattle.tiny_code.specs.Bytes.{code_bytes}
+use Rattle.tiny_emit.specs.Bytes.{code_bytes}
 use Rattle.tiny_code.specs.Code.{Places, arguments_code, expr_code, operator_code, steps_code, term_code}
 
 pub on_ok : {T E : Type 0} (r : Result T E) (P Q : Type 0) → (P → Q) → OnOk r P → OnOk r Q

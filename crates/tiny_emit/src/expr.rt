@@ -2,14 +2,15 @@
 
 ghost use Rattle.std.specs.Prelude.{◌≡◌, ◌+◌, ◌∷◌, ◌++◌, [], OnOk, IfOk, map};
 ghost use Rattle.ijvm_instr.specs.Instructions.{spelling};
-ghost use Rattle.tiny_code.specs.Bytes.{code_bytes, places_in};
+ghost use Rattle.tiny_emit.specs.Bytes.{code_bytes};
+ghost use Rattle.tiny_pool.specs.Places.{places_in};
 ghost use Rattle.tiny_code.specs.Code.{arguments_code, expr_code, number_code, operator_code, steps_code, term_code};
 ghost use Rattle.tiny_tree.specs.Tree.{Called, arguments_of, steps_of};
 ghost use Rattle.tiny_tree.specs.View.{expr_tree, step_tree, term_tree};
 
-use crate::table::Table;
 use ijvm_instr::{Instr, encode_instr};
 use std::alloc::AllocError;
+use tiny_pool::Table;
 use tiny_tree::{Expr, Operator, Step, Term};
 
 fn push(bytes: &mut Vec<u8>, instr: Instr) -> Result<(), AllocError>

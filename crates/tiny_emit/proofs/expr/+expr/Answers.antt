@@ -1,9 +1,10 @@
 use Rattle.std.proofs.Common.{◌∷◌, ◌++◌, [], map, ap, ◌∙◌}
 use Rattle.tiny_tree.specs.Tree.{arguments_of}
 use Rattle.tiny_tree.specs.View.{expr_tree}
-use Rattle.tiny_code.specs.Bytes.{code_bytes, places_in}
-use Rattle.tiny_code.proofs.Bytes.{on_ok, call_bytes, expr_bytes, steps_done, step_bytes, arguments_done, argument_bytes}
-use Rattle.tiny_code.proofs.expr.+expr.Goals as goal
+use Rattle.tiny_emit.specs.Bytes.{code_bytes}
+use Rattle.tiny_pool.specs.Places.{places_in}
+use Rattle.tiny_emit.proofs.Bytes.{on_ok, call_bytes, expr_bytes, steps_done, step_bytes, arguments_done, argument_bytes}
+use Rattle.tiny_emit.proofs.expr.+expr.Goals as goal
 
 pub put_expr-returns : goal.put_expr-returns
 put_expr-returns t c =

@@ -2,18 +2,19 @@
 
 ghost use Rattle.std.specs.Prelude.{◌≡◌, IfOk};
 ghost use Rattle.ijvm_instr.specs.declared.instr.Instr.TheVariants.{Invokevirtual};
-ghost use Rattle.tiny_code.specs.Bytes.{or_zero, places_in};
+ghost use Rattle.tiny_pool.specs.Places.{places_in};
 ghost use Rattle.tiny_code.specs.Code.{number_code};
 
 use ijvm_instr::Instr;
 use std::alloc::AllocError;
 use std::collections::BTreeMap;
 
-/// Which function is main, and the place of each number of the pool.
+/// Which function is main, the place of each number of the pool, and how long the pool is.
 #[derive(Drop)]
 pub struct Table {
-    pub(crate) main: u32,
-    pub(crate) constants: BTreeMap<u32, u32>,
+    main: u32,
+    end: u32,
+    constants: BTreeMap<u32, u32>,
 }
 
 impl Table {
@@ -22,12 +23,12 @@ impl Table {
     {
         match self.constants.get(&number) {
             Some(place) => *place,
-            None => 0,
+            None => self.end,
         }
     }
 
     /// The instruction that pushes a number.
-    pub(crate) fn number(&self, number: u32) -> Result<Instr, AllocError>
+    pub fn number(&self, number: u32) -> Result<Instr, AllocError>
         ensures { IfOk result (λ i. i ≡ number_code (places_in self.now) 0 number) }
     {
         if number <= 127 {
@@ -41,7 +42,7 @@ impl Table {
     }
 
     /// The instruction that calls a function.
-    pub(crate) fn call(&self, function: u32) -> Result<Instr, AllocError>
+    pub fn call(&self, function: u32) -> Result<Instr, AllocError>
         ensures { IfOk result (λ i. i ≡ Invokevirtual ((places_in self.now).entry function)) }
     {
         if function >= 65535 {

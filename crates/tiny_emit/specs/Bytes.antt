@@ -1,0 +1,9 @@
+-- Code as bytes.
+use Rattle.std.specs.Prelude.{ℕ, List}
+use Rattle.std.specs.List.{flat_map}
+use Rattle.ijvm_instr.specs.declared.instr.Instr.{Instr}
+use Rattle.ijvm_instr.specs.Instructions.{spelling}
+
+-- the instructions as they are written, one after the other
+unfoldable pub code_bytes : List Instr → List ℕ
+code_bytes code = flat_map spelling code

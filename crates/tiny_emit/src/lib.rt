@@ -1,0 +1,4 @@
+//! The code of a Tiny program as bytes.
+#![tactic(auto)]
+
+mod expr;
