@@ -46,10 +46,10 @@ expr_tree_out e = fold_out-Expr tree.Term tree.Expr (Operator × tree.Term) term
 step_tree_out : (s : Step) → step_tree s ≡ ((out-Step s).operator, term_tree (out-Step s).term)
 step_tree_out s = fold_out-Step tree.Term tree.Expr (Operator × tree.Term) term_level expr_level step_level s
 
-drop_item : {A : Type 0} (xs : List A) (i : ℕ) (x : A) → i < length xs → x ≡ get_or xs i x → drop i xs ≡ x ∷ drop (i + 1) xs
+pub drop_item : {A : Type 0} (xs : List A) (i : ℕ) (x : A) → i < length xs → x ≡ get_or xs i x → drop i xs ≡ x ∷ drop (i + 1) xs
 drop_item xs i x lt is = rw add-one (drop-cons xs i x lt ∙ ap (λ y. y ∷ drop (suc i) xs) (sym is))
 
-drop_none : {A : Type 0} (xs : List A) (i : ℕ) → length xs ≤ i → drop i xs ≡ []
+pub drop_none : {A : Type 0} (xs : List A) (i : ℕ) → length xs ≤ i → drop i xs ≡ []
 drop_none [] zero h = refl
 drop_none [] (suc i) h = refl
 drop_none (x ∷ xs) zero h = absurd (omega (arith, h))

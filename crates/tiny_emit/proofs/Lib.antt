@@ -1,1 +1,5 @@
 mod Bytes
+mod Adding
+mod Sides
+mod Lists
+mod Texts

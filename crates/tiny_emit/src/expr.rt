@@ -55,7 +55,8 @@ pub(crate) fn put_term(
     local: u8,
     term: &Term,
 ) -> Result<(), AllocError>
-    ensures { OnOk result (bytes.new.items ≡ bytes.old.items ++ code_bytes (term_code (places_in table.now) local (term_tree term.now))) }
+    ensures { OnOk result (bytes.new.items
+        ≡ bytes.old.items ++ code_bytes (term_code (places_in table.now) local (term_tree term.now))) }
 {
     match term {
         Term::Number(number) => {
@@ -84,7 +85,8 @@ pub(crate) fn put_call(
     arguments: &[Expr],
 ) -> Result<(), AllocError>
     ensures { OnOk result (bytes.new.items ≡ bytes.old.items
-        ++ code_bytes (term_code (places_in table.now) local (Called function (arguments_of (map expr_tree arguments.now))))) }
+        ++ code_bytes (term_code (places_in table.now) local
+        (Called function (arguments_of (map expr_tree arguments.now))))) }
 {
     let call = table.call(function)?;
     put(bytes, Instr::LdcW(0))?;
@@ -99,7 +101,8 @@ pub(crate) fn put_expr(
     local: u8,
     expr: &Expr,
 ) -> Result<(), AllocError>
-    ensures { OnOk result (bytes.new.items ≡ bytes.old.items ++ code_bytes (expr_code (places_in table.now) local (expr_tree expr.now))) }
+    ensures { OnOk result (bytes.new.items
+        ≡ bytes.old.items ++ code_bytes (expr_code (places_in table.now) local (expr_tree expr.now))) }
 {
     put_term(bytes, table, local, &expr.first)?;
     put_steps(bytes, table, local, expr.rest.items())
@@ -113,7 +116,8 @@ fn put_steps(
     steps: &[Step],
 ) -> Result<(), AllocError>
     ensures { OnOk result (bytes.new.items
-        ≡ bytes.old.items ++ code_bytes (steps_code (places_in table.now) local (steps_of (map step_tree steps.now)))) }
+        ≡ bytes.old.items
+        ++ code_bytes (steps_code (places_in table.now) local (steps_of (map step_tree steps.now)))) }
 {
     for step in steps {
         put_term(bytes, table, local, &step.term)?;
@@ -130,7 +134,8 @@ fn put_arguments(
     arguments: &[Expr],
 ) -> Result<(), AllocError>
     ensures { OnOk result (bytes.new.items
-        ≡ bytes.old.items ++ code_bytes (arguments_code (places_in table.now) local (arguments_of (map expr_tree arguments.now)))) }
+        ≡ bytes.old.items
+        ++ code_bytes (arguments_code (places_in table.now) local (arguments_of (map expr_tree arguments.now)))) }
 {
     for argument in arguments {
         put_expr(bytes, table, local, argument)?;

@@ -1,0 +1,162 @@
+-- The texts of functions, one after the other.
+use Rattle.std.proofs.Common.{◌≡◌, ◌≢◌, ◌<◌, ◌≤◌, ⊎_elim, ℕ, pos, ◌+◌, Bool, List, [], ◌∷◌, ◌++◌, length, map, drop, get_or, Some, None, refl, sym, ap, ◌∙◌, subst, append_assoc, length-append}
+use Rattle.std.specs.Prelude.{not, ◌==◌, cond, slice_get}
+use Rattle.std.specs.List.{filter, flat_map, enumerate_from}
+use Rattle.std.specs.Option.{option_map}
+use Rattle.std.proofs.lemmas.List.{append-nil}
+use Rattle.std.proofs.lemmas.Option.{same_Some, slice_get-map, slice_get_read}
+use Rattle.std.proofs.lemmas.Bool.Decides.{eqb_tells}
+use Rattle.ijvm_instr.specs.declared.instr.Instr.{Instr}
+use Rattle.ijvm_instr.specs.declared.instr.Instr.TheVariants.{Bipush, Ireturn, Halt}
+use Rattle.ijvm_instr.specs.Instructions.{two_bytes}
+use Rattle.tiny_tree.specs.declared.tree.Function as declared
+use Rattle.tiny_tree.specs.Named.{vars_of}
+use Rattle.tiny_tree.specs.Tree.{Function, Program}
+use Rattle.tiny_tree.specs.View.{function_tree}
+use Rattle.tiny_code.specs.Code.{Places, begins, code_size, main_code, method_code, method_size, methods, places_of, statements_code}
+use Rattle.tiny_code.specs.Image.{Jump, first_far, method_bytes, method_jumps, methods_bytes, statements_jumps}
+use Rattle.tiny_emit.specs.declared.part.Part.{Part}
+use Rattle.tiny_emit.specs.declared.program.Emitted.{Emitted}
+use Rattle.tiny_emit.specs.declared.program.Methods.{Methods}
+use Rattle.tiny_emit.specs.Adds.{Adds, IsPart, far_of}
+use Rattle.tiny_emit.specs.Bytes.{code_bytes}
+use Rattle.tiny_emit.specs.Emitted.{AddsMethods, IsEmitted, program_of}
+use Rattle.tiny_emit.proofs.Bytes.{drop_item, drop_none}
+use Rattle.tiny_emit.proofs.Adding.{bytes_size, is_part, nothing, then}
+use Rattle.tiny_emit.proofs.Sides.{then_code}
+
+-- with no jump at the end
+straight_end : (a b c : Part) (x y : List Instr) (i : List Jump) → Adds a b (code_bytes x) i → Adds b c (code_bytes y) [] →
+    Adds a c (code_bytes (x ++ y)) i
+straight_end a b c x y i h k = subst (Adds a c (code_bytes (x ++ y))) (append-nil i) (then_code a b c x y i [] h k)
+
+module _ (p : Places) where
+  pub main_added : (a b c : Part) (g : Function) → Adds a b (code_bytes (statements_code p 0 g.body)) (statements_jumps p 0 g.body) →
+      Adds b c (code_bytes (Halt ∷ [])) [] → Adds a c (code_bytes (main_code p g)) (statements_jumps p 0 g.body)
+  main_added a b c g h k = straight_end a b c (statements_code p 0 g.body) (Halt ∷ []) (statements_jumps p 0 g.body) h k
+
+  method_is : (m : ℕ × Function) →
+      (two_bytes (m.1.parameters + 1) ++ two_bytes (vars_of m.1.body)) ++ code_bytes (method_code p m.1) ≡ method_bytes p m
+  unfolding code_bytes
+  method_is m = refl
+
+  pub method_added : (a b c d e : Part) (m : ℕ × Function) → Adds a b (two_bytes (m.1.parameters + 1) ++ two_bytes (vars_of m.1.body)) [] →
+      Adds b c (code_bytes (statements_code p 1 m.1.body)) (statements_jumps p 1 m.1.body) →
+      Adds c d (code_bytes (Bipush (pos 0) ∷ [])) [] → Adds d e (code_bytes (Ireturn ∷ [])) [] → Adds a e (method_bytes p m) (method_jumps p m)
+  method_added a b c d e m header body push return =
+      let last : Adds c e (code_bytes (Bipush (pos 0) ∷ Ireturn ∷ [])) [] =
+      then_code c d e (Bipush (pos 0) ∷ []) (Ireturn ∷ []) [] [] push return in
+      let code : Adds b e (code_bytes (method_code p m.1)) (method_jumps p m) =
+      straight_end b c e (statements_code p 1 m.1.body) (Bipush (pos 0) ∷ Ireturn ∷ []) (statements_jumps p 1 m.1.body) body last in
+      subst (λ (l : List ℕ). Adds a e l (method_jumps p m)) (method_is m)
+      (then a b e (two_bytes (m.1.parameters + 1) ++ two_bytes (vars_of m.1.body)) (code_bytes (method_code p m.1)) [] (method_jumps p m) header code)
+
+  method_length : (m : ℕ × Function) → length (method_bytes p m) ≡ method_size p m.1
+  method_length m =
+      ap length (sym (method_is m))
+      ∙ length-append (two_bytes (m.1.parameters + 1) ++ two_bytes (vars_of m.1.body)) (code_bytes (method_code p m.1))
+      ∙ ap (λ (n : ℕ). 4 + n) (bytes_size (method_code p m.1))
+
+  pub no_methods : (a : Methods) → AddsMethods p a a []
+  no_methods a = record { part = nothing a.part; begins = sym (append-nil a.begins.items) }
+
+  -- a method's code does not tell its position
+  pub at_any : (a b : Methods) (i j : ℕ) (g : Function) → AddsMethods p a b ((i, g) ∷ []) → AddsMethods p a b ((j, g) ∷ [])
+  at_any a b i j g h = record { part = h.part; begins = h.begins }
+
+  -- one method more
+  pub methods_added : (a b c : Methods) (m : ℕ × Function) (ms : List (ℕ × Function)) → AddsMethods p a b (m ∷ []) → AddsMethods p b c ms →
+      AddsMethods p a c (m ∷ ms)
+  methods_added a b c m ms h k =
+      let size : length b.part.bytes.items ≡ length a.part.bytes.items + method_size p m.1 =
+      h.part.size ∙ ap (λ (n : ℕ). length a.part.bytes.items + n) (ap length (append-nil (method_bytes p m)) ∙ method_length m) in
+      record {
+        part = one_more;
+        begins = k.begins ∙ ap (λ (l : List ℕ). l ++ begins p (length b.part.bytes.items) ms) h.begins
+            ∙ append_assoc a.begins.items (length a.part.bytes.items ∷ []) (begins p (length b.part.bytes.items) ms)
+            ∙ ap (λ (n : ℕ). a.begins.items ++ (length a.part.bytes.items ∷ begins p n ms)) size;
+      }
+    where
+      one_more : Adds a.part c.part (methods_bytes p (m ∷ ms)) (flat_map (method_jumps p) (m ∷ ms))
+      one_more =
+          subst (λ (l : List ℕ). Adds a.part c.part (l ++ methods_bytes p ms) (flat_map (method_jumps p) (m ∷ ms))) (append-nil (method_bytes p m))
+          (subst (λ (l : List Jump). Adds a.part c.part ((method_bytes p m ++ []) ++ methods_bytes p ms) (l ++ flat_map (method_jumps p) ms))
+          (append-nil (method_jumps p m))
+          (then a.part b.part c.part (method_bytes p m ++ []) (methods_bytes p ms) (method_jumps p m ++ []) (flat_map (method_jumps p) ms) h.part k.part))
+
+-- ---- the functions but main
+
+abbrev pub Others : ℕ → ℕ → List declared.Function → List (ℕ × Function)
+Others main n gs = filter (λ m. not (m.0 == main)) (enumerate_from n (map function_tree gs))
+
+pub skipped : (main i : ℕ) (gs : List declared.Function) (g : declared.Function) → i < length gs → g ≡ get_or gs i g → i ≡ main →
+    Others main i (drop i gs) ≡ Others main (i + 1) (drop (i + 1) gs)
+skipped main i gs g lt is same =
+    ap (Others main i) (drop_item gs i g lt is)
+    ∙ ap (λ (b : Bool). cond (not b) ((i, function_tree g) ∷ Others main (i + 1) (drop (i + 1) gs)) (Others main (i + 1) (drop (i + 1) gs)))
+    (⊎_elim (λ e. e.0) (λ e. absurd (e.1 same)) (eqb_tells i main))
+
+pub taken : (main i : ℕ) (gs : List declared.Function) (g : declared.Function) → i < length gs → g ≡ get_or gs i g → i ≢ main →
+    Others main i (drop i gs) ≡ (i, function_tree g) ∷ Others main (i + 1) (drop (i + 1) gs)
+taken main i gs g lt is other =
+    ap (Others main i) (drop_item gs i g lt is)
+    ∙ ap (λ (b : Bool). cond (not b) ((i, function_tree g) ∷ Others main (i + 1) (drop (i + 1) gs)) (Others main (i + 1) (drop (i + 1) gs)))
+    (⊎_elim (λ e. absurd (other e.1)) (λ e. e.0) (eqb_tells i main))
+
+pub no_others : (main i : ℕ) (gs : List declared.Function) → length gs ≤ i → Others main i (drop i gs) ≡ []
+no_others main i gs h = ap (Others main i) (drop_none gs i h)
+
+-- ---- the whole
+
+module _ (p : Places) (program : Program) (g : Function) (e : Emitted) where
+  abbrev text_in : List ℕ
+  text_in = code_bytes (main_code p g) ++ methods_bytes p (methods program)
+
+  abbrev jumps_in : List Jump
+  jumps_in = statements_jumps p 0 g.body ++ flat_map (method_jumps p) (methods program)
+
+  pub record IsEmittedIn : Type 0 where
+    pub size : length e.text.items ≡ length text_in
+    pub begins : e.begins.items ≡ begins p (code_size (main_code p g)) (methods program)
+    pub far : far_of e.far ≡ first_far jumps_in
+    pub text : first_far jumps_in ≡ None → e.text.items ≡ text_in
+
+emitted_in : (p : Places) (program : Program) (g : Function) (a b : Part) (start end : Methods) → a.bytes.items ≡ [] → a.far ≡ None →
+    Adds a b (code_bytes (main_code p g)) (statements_jumps p 0 g.body) → start.part ≡ b → start.begins.items ≡ [] →
+    AddsMethods p start end (methods program) →
+    IsEmittedIn p program g (record { text = end.part.bytes; begins = end.begins; far = end.part.far })
+emitted_in p program g a b start end empty near first begun none others =
+    let ms = methods program in
+    let rest : Adds b end.part (methods_bytes p ms) (flat_map (method_jumps p) ms) =
+    subst (λ (x : Part). Adds x end.part (methods_bytes p ms) (flat_map (method_jumps p) ms)) begun others.part in
+    let all : IsPart end.part (code_bytes (main_code p g) ++ methods_bytes p ms) (statements_jumps p 0 g.body ++ flat_map (method_jumps p) ms) =
+    is_part a end.part _ _ empty near
+    (then a b end.part (code_bytes (main_code p g)) (methods_bytes p ms) (statements_jumps p 0 g.body) (flat_map (method_jumps p) ms) first rest) in
+    let size : length start.part.bytes.items ≡ code_size (main_code p g) =
+    ap (λ (x : Part). length x.bytes.items) begun ∙ (is_part a b _ _ empty near first).size ∙ bytes_size (main_code p g) in
+    record {
+      size = all.size;
+      begins = others.begins ∙ ap (λ (l : List ℕ). l ++ begins p (length start.part.bytes.items) ms) none ∙ ap (λ (n : ℕ). begins p n ms) size;
+      far = all.far;
+      text = λ near_all. all.bytes (all.far ∙ near_all);
+    }
+
+of_program : (program : Program) (g : Function) (e : Emitted) → IsEmittedIn (places_of program) program g e → IsEmitted program g e
+unfolding code_bytes
+of_program program g e h = record { size = h.size; begins = h.begins; far = h.far; text = h.text }
+
+pub emitted : (p : Places) (fs : List declared.Function) (main : ℕ) (f : declared.Function) (g : Function) (a b : Part) (start end : Methods) →
+    p ≡ places_of (program_of fs main) → main < length fs → f ≡ get_or fs main f → slice_get (map function_tree fs) main ≡ Some g →
+    a.bytes.items ≡ [] → a.far ≡ None →
+    Adds a b (code_bytes (main_code p (function_tree f))) (statements_jumps p 0 (function_tree f).body) → start.part ≡ b → start.begins.items ≡ [] →
+    AddsMethods p start end (methods (program_of fs main)) →
+    IsEmitted (program_of fs main) g (record { text = end.part.bytes; begins = end.begins; far = end.part.far })
+emitted p fs main f g a b start end placed known is found empty near first begun none others =
+    let e : Emitted = record { text = end.part.bytes; begins = end.begins; far = end.part.far } in
+    let at : slice_get fs main ≡ Some f = slice_get_read fs (length fs) main f refl known is in
+    let same : function_tree f ≡ g =
+    same_Some (function_tree f) g (ap (option_map function_tree) (sym at) ∙ sym (slice_get-map function_tree fs main) ∙ found) in
+    of_program (program_of fs main) g e
+    (subst (λ (q : Places). IsEmittedIn q (program_of fs main) g e) placed
+    (subst (λ (h : Function). IsEmittedIn p (program_of fs main) h e) same
+    (emitted_in p (program_of fs main) (function_tree f) a b start end empty near first begun none others)))

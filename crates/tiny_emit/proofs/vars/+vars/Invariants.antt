@@ -1,0 +1,10 @@
+use Rattle.std.proofs.Common.{◌≡◌, ◌+◌, drop, map}
+use Rattle.tiny_tree.specs.Named.{vars_of}
+use Rattle.tiny_tree.specs.Tree.{statements_of}
+use Rattle.tiny_tree.specs.View.{statement_tree}
+use Rattle.tiny_emit.proofs.vars.+vars.Given as goal
+
+abbrev pub invariant-vars_of_all-loop-statement : goal.invariant-vars_of_all-loop-statement
+invariant-vars_of_all-loop-statement l =
+    l.count + vars_of (statements_of (map statement_tree (drop l.statement-index l.statements)))
+    ≡ vars_of (statements_of (map statement_tree l.statements))

@@ -1,0 +1,151 @@
+//! The code of a program.
+
+ghost use Rattle.std.specs.Prelude.{◌≡◌, ◌<◌, ◌+◌, ◌∷◌, ◌++◌, [], IfOk, OnOk, Some, length, slice_get};
+ghost use Rattle.ijvm_instr.specs.Instructions.{two_bytes};
+ghost use Rattle.tiny_code.specs.Code.{main_code, methods, places_of};
+ghost use Rattle.tiny_code.specs.Image.{method_bytes, method_jumps, statements_jumps};
+ghost use Rattle.tiny_emit.specs.Adds.{Adds};
+ghost use Rattle.tiny_emit.specs.Bytes.{code_bytes};
+ghost use Rattle.tiny_emit.specs.Emitted.{AddsMethods, IsEmitted, program_of};
+ghost use Rattle.tiny_pool.specs.Places.{places_in};
+ghost use Rattle.tiny_tree.specs.Named.{vars_of};
+ghost use Rattle.tiny_tree.specs.Tree as tree;
+ghost use Rattle.tiny_tree.specs.View.{block_tree, function_tree};
+
+use crate::block::add_block;
+use crate::part::{Jump, Part};
+use crate::vars::{sum, vars_of};
+use ijvm_instr::Instr;
+use std::alloc::{AllocError, Global};
+use tiny_pool::Table;
+use tiny_tree::Function;
+
+/// The text of a program, the address of each method's header, and the first jump that is too far. With such a jump
+/// the text has its length, but not its bytes.
+#[derive(Drop)]
+pub struct Emitted {
+    pub text: Vec<u8>,
+    pub begins: Vec<u32>,
+    pub far: Option<Jump>,
+}
+
+/// A text, and where each of its methods begins.
+#[derive(Drop)]
+struct Methods {
+    part: Part,
+    begins: Vec<u32>,
+}
+
+fn put_two_bytes(bytes: &mut Vec<u8>, number: u32) -> Result<(), AllocError>
+    ensures { OnOk result (bytes.new.items ≡ bytes.old.items ++ two_bytes number) }
+{
+    if number > 65535 {
+        return Err(AllocError);
+    }
+    bytes.push((number / 256) as u8)?;
+    bytes.push((number % 256) as u8)?;
+    Ok(())
+}
+
+fn put_header(bytes: &mut Vec<u8>, parameters: u32, vars: u32) -> Result<(), AllocError>
+    ensures { OnOk result (bytes.new.items ≡ bytes.old.items ++ (two_bytes (parameters + 1) ++ two_bytes vars)) }
+{
+    put_two_bytes(bytes, sum(parameters, 1)?)?;
+    put_two_bytes(bytes, vars)
+}
+
+fn add_header(part: &mut Part, function: &Function) -> Result<(), AllocError>
+    ensures { OnOk result (Adds part.old part.new
+        (two_bytes (function.now.parameters + 1) ++ two_bytes (vars_of (block_tree function.now.body))) []) }
+{
+    let vars = vars_of(&function.body)?;
+    put_header(&mut part.bytes, function.parameters, vars)
+}
+
+/// Appends main's code.
+fn add_main(
+    part: &mut Part,
+    alloc: Global,
+    table: &Table,
+    function: &Function,
+) -> Result<(), AllocError>
+    ensures { OnOk result (Adds part.old part.new
+        (code_bytes (main_code (places_in table.now) (function_tree function.now)))
+        (statements_jumps (places_in table.now) 0 (block_tree function.now.body))) }
+{
+    add_block(part, alloc, table, 0, &function.body)?;
+    part.add(Instr::Halt)
+}
+
+/// Appends a function's code, after its header.
+fn add_method(
+    part: &mut Part,
+    alloc: Global,
+    table: &Table,
+    function: &Function,
+) -> Result<(), AllocError>
+    ensures { OnOk result (Adds part.old part.new (method_bytes (places_in table.now) (0, function_tree function.now))
+        (method_jumps (places_in table.now) (0, function_tree function.now))) }
+{
+    add_header(part, function)?;
+    add_block(part, alloc, table, 1, &function.body)?;
+    part.add(Instr::Bipush(0))?;
+    part.add(Instr::Ireturn)
+}
+
+impl Methods {
+    fn add(&mut self, alloc: Global, table: &Table, function: &Function) -> Result<(), AllocError>
+        ensures { OnOk result (AddsMethods (places_in table.now) self.old self.new
+            ((0, function_tree function.now) ∷ [])) }
+    {
+        self.begins.push(self.part.size()?)?;
+        add_method(&mut self.part, alloc, table, function)
+    }
+
+    fn add_all(
+        &mut self,
+        alloc: Global,
+        table: &Table,
+        functions: &[Function],
+        main: u32,
+    ) -> Result<(), AllocError>
+        ensures { OnOk result (AddsMethods (places_in table.now) self.old self.new
+            (methods (program_of functions.now main))) }
+    {
+        for (position, function) in functions.iter().enumerate() {
+            if position != main as usize {
+                self.add(alloc, table, function)?;
+            }
+        }
+        Ok(())
+    }
+}
+
+/// The code of the program of these functions. A text of 2^30 bytes or more may count as too long for the memory.
+pub fn emit(
+    alloc: Global,
+    table: &Table,
+    functions: &[Function],
+    main: u32,
+) -> Result<Emitted, AllocError>
+    requires known { main < length functions.now }
+    requires placed { places_in table.now ≡ places_of (program_of functions.now main) }
+    ensures { IfOk result (λ e. (g : tree.Function) →
+        slice_get (program_of functions.now main).functions main ≡ Some g →
+        IsEmitted (program_of functions.now main) g e) }
+{
+    let mut part = Part::new(alloc);
+    add_main(&mut part, alloc, table, &functions[main as usize])?;
+    let mut methods = Methods {
+        part,
+        begins: Vec::new(alloc),
+    };
+    methods.add_all(alloc, table, functions, main)?;
+    let Methods { part, begins } = methods;
+    let Part { bytes, far } = part;
+    Ok(Emitted {
+        text: bytes,
+        begins,
+        far,
+    })
+}
