@@ -1,30 +1,53 @@
 //! Where the pool has what instructions name.
 
-ghost use Rattle.std.specs.Prelude.{◌≡◌, IfOk};
+ghost use Rattle.std.specs.Prelude.{◌≡◌, IfOk, Some, length, map, slice_get};
 ghost use Rattle.ijvm_instr.specs.declared.instr.Instr.TheVariants.{Invokevirtual};
-ghost use Rattle.tiny_pool.specs.Places.{places_in};
+ghost use Rattle.tiny_tree.specs.Tree as tree;
+ghost use Rattle.tiny_tree.specs.Tree.{Program};
+ghost use Rattle.tiny_tree.specs.View.{function_tree};
 ghost use Rattle.tiny_code.specs.Code.{number_code};
+ghost use Rattle.tiny_code.specs.Image.{pool_of};
+ghost use Rattle.tiny_pool.specs.Places.{IsTableOf, numbers_in, places_in};
 
+use crate::constants::Constants;
+use crate::numbers::add_functions;
 use ijvm_instr::Instr;
-use std::alloc::AllocError;
-use std::collections::BTreeMap;
+use std::alloc::{AllocError, Global};
+use tiny_tree::Function;
 
-/// Which function is main, the place of each number of the pool, and how long the pool is.
+/// The places of a program's pool, and its numbers.
 #[derive(Drop)]
 pub struct Table {
     main: u32,
-    end: u32,
-    constants: BTreeMap<u32, u32>,
+    constants: Constants,
 }
 
 impl Table {
-    fn constant(&self, number: u32) -> u32
-        ensures { result ≡ (places_in self.now).constant number }
+    /// The table of the program that has these functions, of which main is at this position.
+    pub fn new(alloc: Global, functions: &[Function], main: u32) -> Result<Table, AllocError>
+        ensures { IfOk result (λ t. IsTableOf t (record { functions = map function_tree functions.now; main = main })) }
     {
-        match self.constants.get(&number) {
-            Some(place) => *place,
-            None => self.end,
-        }
+        let Ok(count) = u32::try_from(functions.len()) else {
+            return Err(AllocError);
+        };
+        let mut constants = Constants::new(alloc, count);
+        add_functions(&mut constants, functions)?;
+        Ok(Table { main, constants })
+    }
+
+    /// The numbers of the pool.
+    pub fn numbers(&self) -> &[u32]
+        ensures { result.now ≡ numbers_in self.now }
+    {
+        &self.constants.numbers
+    }
+
+    /// How many words the pool has.
+    pub fn pool_length(&self) -> u32
+        ensures { (program : Program) (main : tree.Function) → IsTableOf self.now program →
+            slice_get program.functions program.main ≡ Some main → result ≡ length (pool_of program main) }
+    {
+        self.constants.end
     }
 
     /// The instruction that pushes a number.
@@ -34,7 +57,7 @@ impl Table {
         if number <= 127 {
             return Ok(Instr::Bipush(number as i8));
         }
-        let place = self.constant(number);
+        let place = self.constants.place(number);
         if place >= 65536 {
             return Err(AllocError);
         }

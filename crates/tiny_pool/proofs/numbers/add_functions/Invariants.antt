@@ -1,0 +1,11 @@
+use Rattle.std.proofs.Common.{drop, map}
+use Rattle.std.specs.List.{flat_map}
+use Rattle.tiny_tree.specs.View.{function_tree}
+use Rattle.tiny_code.specs.Code.{function_numbers}
+use Rattle.tiny_pool.proofs.Walks.{IsOnTheWay}
+use Rattle.tiny_pool.proofs.numbers.add_functions.Given as goal
+
+abbrev pub invariant-loop-function : goal.invariant-loop-function
+invariant-loop-function l =
+    IsOnTheWay l.fn.constants l.constants (flat_map function_numbers (map function_tree (drop l.function-index l.functions)))
+    (flat_map function_numbers (map function_tree l.functions))
