@@ -2,3 +2,4 @@ mod OneProgram
 mod Lists
 mod Fitting
 mod LaidOut
+mod CodeImages

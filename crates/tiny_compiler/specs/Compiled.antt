@@ -2,11 +2,20 @@
 use Rattle.std.specs.Prelude.{◌≡◌, ℕ, List}
 use Rattle.console_port.specs.declared.map.TheConstants.MemoryMap.{STANDARD}
 use Rattle.verifier_facts.specs.Accepted.{IsAccepted, VerifiedView}
+use Rattle.ijvm_image.specs.Image.{ImageView}
+use Rattle.tiny_tree.specs.Named.{IsNamed}
 use Rattle.tiny_tree.specs.Tree.{Program}
 use Rattle.tiny_parser.specs.Texts.{IsRefused, Spells}
 use Rattle.tiny_parser.specs.declared.error.TinyError.{TinyError}
 use Rattle.tiny_code.specs.Image.{IsCodeOf}
 use Rattle.tiny_compiler.specs.Image.{IsTooLarge}
+
+-- the image of the code of the text's program, in which names fit
+pub record IsImageOf (text : List ℕ) (image : ImageView) : Type 0 where
+  pub program : Program
+  pub spelled : Spells text program
+  pub named : IsNamed program
+  pub code : IsCodeOf program image
 
 -- the image of the text's program, accepted on the standard map
 pub record IsCompiled (text : List ℕ) (v : VerifiedView) : Type 0 where
