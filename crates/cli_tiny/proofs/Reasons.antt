@@ -1,0 +1,32 @@
+-- Why no compiled program is had.
+use Rattle.std.proofs.Common.{◌≡◌, ℕ, List, Some, refl, sym, subst, false}
+use Rattle.cli_outside.specs.declared.refusal.Refusal.{Refusal}
+use Rattle.cli_outside.specs.Work.{IsRefusal, refusal_by}
+use Rattle.cli_outside.specs.Ways.{by_reason}
+use Rattle.tiny_parser.specs.Errors.{is_memory}
+use Rattle.tiny_parser.specs.declared.error.TinyError.{TinyError}
+use Rattle.tiny_parser.specs.declared.error.TinyError.TheVariants as errors
+use Rattle.tiny_compiler.specs.Compiled.{HasNoCode}
+use Rattle.cli_tiny.specs.Refusals.{IsRefusedTiny, tiny_reason}
+
+-- a refusal that is told is not want of memory
+is_told : (e : TinyError) (said : List ℕ) → tiny_reason e ≡ Some said → is_memory e ≡ false
+is_told (errors.BadToken line) said h = refl
+is_told (errors.BadNumber line) said h = refl
+is_told (errors.BadSyntax line) said h = refl
+is_told (errors.TooDeep line) said h = refl
+is_told (errors.DuplicateName line) said h = refl
+is_told (errors.UnknownName line) said h = refl
+is_told (errors.BadCall line) said h = refl
+is_told (errors.ReturnInMain line) said h = refl
+is_told (errors.TooManyNames line) said h = refl
+is_told errors.NoMain said h = refl
+is_told (errors.PoolTooLong count) said h = refl
+is_told (errors.TextTooLong size) said h = refl
+is_told (errors.JumpTooFar line far) said h = refl
+is_told errors.OutOfMemory said h = cc
+
+pub no_code : (text : List ℕ) (e : TinyError) (u : Refusal) → (is_memory e ≡ false → HasNoCode text e) → u ≡ refusal_by (tiny_reason e) → IsRefusal IsRefusedTiny text u
+no_code text e u refused is =
+    subst (IsRefusal IsRefusedTiny text) (sym is)
+    (by_reason IsRefusedTiny text (tiny_reason e) (λ said h. record { error = e; refused = refused (is_told e said h); said = h }))
