@@ -2,7 +2,7 @@
 _mic() {
     local word=${COMP_WORDS[COMP_CWORD]} before=${COMP_WORDS[COMP_CWORD-1]} command=${COMP_WORDS[1]}
     if [ "$COMP_CWORD" -eq 1 ]; then
-        COMPREPLY=($(compgen -W "assemble list verify run trace profile debug reference micro print-micro soak cache" -- "$word"))
+        COMPREPLY=($(compgen -W "assemble list verify run trace profile debug reference micro print-micro soak cache rewind" -- "$word"))
         return
     fi
     # Where bash divides words at =, as it does unless COMP_WORDBREAKS was changed, --machine=mic1 is three words.
@@ -21,7 +21,7 @@ _mic() {
     --machine) COMPREPLY=($(compgen -P "$front" -W "$machines" -- "$word")); return ;;
     --map) COMPREPLY=($(compgen -P "$front" -W "standard large" -- "$word")); return ;;
     --micro | --input) COMPREPLY=($(compgen -P "$front" -f -- "$word")); return ;;
-    --bound) COMPREPLY=(); return ;;
+    --bound | --depth) COMPREPLY=(); return ;;
     esac
     local options
     case $command in
@@ -32,6 +32,7 @@ _mic() {
     reference) options="--machine --bound --map" ;;
     micro | print-micro | soak) options="--machine" ;;
     cache) options="--bound --map" ;;
+    rewind) options="--machine --input --depth --map" ;;
     esac
     case $word in
     -*) COMPREPLY=($(compgen -W "$options" -- "$word")) ;;

@@ -33,7 +33,7 @@ use Rattle.mal_shipped.specs.Shipped.{HasShipped}
 use Rattle.mic_watched.specs.declared.cycle.Cycle.{Cycle}
 use Rattle.mic_watched.specs.Watched.{ShowsCycles}
 use Rattle.mic_base.specs.Causes.{Rose}
-use Rattle.cli_words.specs.Words.{Asked, Assemble, ListOf, Verify, Run, RunPipeline, RunOwn, Trace, Profile, Debug, Reference, Micro, PrintMicro, Soak, Cache}
+use Rattle.cli_words.specs.Words.{Asked, Assemble, ListOf, Verify, Run, RunPipeline, RunOwn, Trace, Profile, Debug, Reference, Micro, PrintMicro, Soak, Cache, Rewind}
 use Rattle.cli_outside.specs.Status as exits
 use Rattle.cli_outside.specs.Messages.{out_of_memory}
 use Rattle.cli_outside.specs.Outside.{FilesState, OutsideView, PrintsOnOut, Said, Says, SinkState, SourceState, TellsOnErr, Unsaid, with_files}
@@ -57,8 +57,16 @@ use Rattle.cli_boards.specs.Traced.{IsTraced}
 use Rattle.cli_boards.specs.Traced as traced
 use Rattle.cli_debug.specs.Debugged.{IsDebugged}
 use Rattle.cli_debug.specs.Debugged as debugging
+use Rattle.cli_rewind.specs.Rewinding.{RewindingView, rewinding}
+use Rattle.cli_rewind.specs.Rewound.{IsRewound, status_after}
+use Rattle.cli_rewind.specs.Rewound as rewound_by
+use Rattle.cli_session.specs.declared.lines.Step.{Step}
+use Rattle.cli_session.specs.Goes.{Goes}
+use Rattle.cli_session.specs.Goes as lines_of
 use Rattle.cli_session.specs.Input.{EndsWithInput, IsNoInput}
 use Rattle.cli_session.specs.Input as inputs
+use Rattle.cli_session.specs.Lines.{most_lines}
+use Rattle.cli_session.specs.Meaning.{Gone, place}
 use Rattle.cli_soak.specs.SoakEnds.{SoakEnds}
 use Rattle.cli_soak.specs.SoakEnds as soaking
 use Rattle.cli_call.specs.ClockedEnd.{ClockedEnd}
@@ -277,7 +285,7 @@ module _ (asks : Option Asked) (old new : OutsideView) (status : ℕ) where
     ran_profiled stays (profiled.Whole l last cycles end rows run are says) = on_err_well _ _ says (run_end end runs (stays l last cycles end run) run.left.cause run.left.files)
     ran_profiled stays (profiled.Stopped l last cycles run got rose is) = SinkFailed (inr rose) is
 
-  -- `debug`
+  -- `debug` and `rewind`
   no_input : (name : Option (List ℕ)) → ((one : List ℕ) → name ≡ Some one → HasFileRead asks one) → IsNoInput name old new status → Answer
   no_input None reads h = absurd h
   no_input (Some one) reads h = unread one (reads one refl) h
@@ -301,6 +309,25 @@ module _ (asks : Option Asked) (old new : OutsideView) (status : ℕ) where
   debugged state m bound micro program input (debugging.Cut l first lines last start gone cut rose h) = behind_err last.seen.err _ _ gone.err h.says (ConsoleFailed rose)
   debugged state m bound micro program input (debugging.Stopped l first lines line mid start gone front cut same is) =
       SinkFailed (either_of mid.seen.out.faults old.out.faults mid.seen.err.faults old.err.faults new.out.faults new.err.faults gone.out gone.err cut.rose) is
+
+  -- lines were done whole, and nothing after them
+  gone_well : {M S : Type 0} (state : M → S) (m : Meaning S) (first last : RewindingView M) (lines : List (List ℕ)) →
+      Gone (rewinding state m) lines (place first old) (place last new) → new.console.faults ≡ old.console.faults → status ≡ exits.done → Answer
+  gone_well state m first last lines gone same =
+      Done (record { files = ap (λ (f : FilesState). f.faults) gone.files; console = same; out = gone.out; err = gone.err })
+
+  went : {M S : Type 0} (state : M → S) (m : Meaning S) (first last : RewindingView M) (step : Step) →
+      Goes (rewinding state m) most_lines 0 (place first old) (place last new) step → status ≡ status_after step → Answer
+  went state m first last _ (lines_of.On lines gone same left) is = gone_well state m first last lines gone same is
+  went state m first last _ (lines_of.Over lines gone same left) is = gone_well state m first last lines gone same is
+  went state m first last _ (lines_of.ConsoleFailed lines gone rose left) is = ConsoleFailed rose is
+  went state m first last _ (lines_of.SinkFailed lines line mid gone same left cut) is =
+      SinkFailed (either_of mid.seen.out.faults old.out.faults mid.seen.err.faults old.err.faults new.out.faults new.err.faults gone.out gone.err cut.rose) is
+
+  rewound : {M S : Type 0} (state : M → S) (m : Meaning S) (depth : ℕ) (micro : Program) (program : VerifiedView) (input : List ℕ) →
+      IsRewound state m depth micro program input old new status → Answer
+  rewound state m depth micro program input (rewound_by.NoRoom h) = short h
+  rewound state m depth micro program input (rewound_by.Went l first last step start is goes left) = went state m first last step goes left
 
   -- `reference`
   reported : (machine : Machine) (bound : ℕ) (program : VerifiedView) (r : PlainReport) → Runs asks →
@@ -360,6 +387,10 @@ module _ (listed : IsListed) (old new : OutsideView) (status : ℕ) where
         over (Some (Reference file machine bound map)) old new status _ _ _ file refl h
         (λ program. defined_run (Some (Reference file machine bound map)) old new status machine bound program tt tt)
     on_machine (Soak seed size machine) h = soaked (Some (Soak seed size machine)) old new status state m IsReady IsShipped entry timing tt seed size h
+    on_machine (Rewind file machine input depth map) h =
+        prepared (Some (Rewind file machine input depth map)) old new status m.machine map _ file None (inl refl) (λ one is. absurd (let none : None ≡ Some one = is in cc)) h
+        (λ micro program accepted chosen ended. with_input (Some (Rewind file machine input depth map)) old new status _ input (λ one is. inr is) ended
+        (rewound (Some (Rewind file machine input depth map)) old new status state m depth micro program))
     on_machine (RunPipeline file bound map) h = absurd h
     on_machine (Cache file lines bound map) h = absurd h
     on_machine (Assemble source image) h = absurd h
@@ -394,6 +425,7 @@ module _ (shipped : ShippedEnd) (old new : OutsideView) (status : ℕ) where
       over (Some (PrintMicro (Some file) machine)) old new status _ _ _ file refl h (λ text h. prints_on (Some (PrintMicro (Some file) machine)) old new status _ _ old.files refl h Done)
   by_words (Some (PrintMicro None machine)) h = prints_on (Some (PrintMicro None machine)) old new status _ _ old.files refl h Done
   by_words (Some (Soak seed size machine)) h = by_machine machine (Soak seed size machine) h
+  by_words (Some (Rewind file machine input depth map)) h = by_machine machine (Rewind file machine input depth map) h
   by_words (Some (Cache file lines bound map)) h =
       prepared (Some (Cache file lines bound map)) old new status Mic1 map _ file None refl (λ one is. absurd (let none : None ≡ Some one = is in cc)) h
       (λ micro program accepted chosen. ran_cached (Some (Cache file lines bound map)) old new status micro_of1 mic1_meaning tt bound micro program

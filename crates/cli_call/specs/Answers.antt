@@ -2,7 +2,7 @@
 use Rattle.std.specs.Prelude.{◌≡◌, ◌<◌, ◌≤◌, ◌⊎◌, ℕ, List, length, Option, Some, None}
 use Rattle.mic_base.specs.Causes.{Rose}
 use Rattle.mic_base.specs.Files.{Tells, most_bytes}
-use Rattle.cli_words.specs.Words.{Asked, Assemble, ListOf, Verify, Run, RunPipeline, RunOwn, Trace, Profile, Debug, Reference, Micro, PrintMicro, Soak, Cache}
+use Rattle.cli_words.specs.Words.{Asked, Assemble, ListOf, Verify, Run, RunPipeline, RunOwn, Trace, Profile, Debug, Reference, Micro, PrintMicro, Soak, Cache, Rewind}
 use Rattle.cli_outside.specs.Status as exits
 use Rattle.cli_outside.specs.Outside.{OutsideView}
 use Rattle.cli_outside.specs.Work.{IsRead}
@@ -24,6 +24,7 @@ HasFileRead (Some (Micro mal store machine)) name = name ≡ mal
 HasFileRead (Some (PrintMicro file machine)) name = file ≡ Some name
 HasFileRead (Some (Soak seed size machine)) name = ⊥
 HasFileRead (Some (Cache file lines bound map)) name = name ≡ file
+HasFileRead (Some (Rewind file machine input depth map)) name = (name ≡ file) ⊎ (input ≡ Some name)
 
 -- they have a program run to its end
 abbrev pub Runs : Option Asked → Type 0

@@ -16,3 +16,4 @@ usage_text =
     ++ codes "       mic print-micro [FILE] [--machine V]\n"
     ++ codes "       mic soak SEED SIZE [--machine V]\n"
     ++ codes "       mic cache FILE LINES [--bound N] [--map W]\n"
+    ++ codes "       mic rewind FILE [--machine V] [--input INPUT] [--depth D] [--map W]\n"

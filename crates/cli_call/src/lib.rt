@@ -6,6 +6,7 @@ mod answers;
 mod cache;
 mod job;
 mod laws;
+mod rewind;
 mod run;
 mod soak;
 mod top_call;

@@ -7,6 +7,7 @@ ghost use Rattle.cli_call.specs.CallEnds.{CallEnds, EndsAs};
 
 use crate::cache::run_cached;
 use crate::job::run_job;
+use crate::rewind::rewind_on;
 use crate::run::run_file;
 use crate::soak::soak_on;
 use crate::usage::misused;
@@ -74,5 +75,12 @@ fn answer_request<F: Files, S: Source, K: Sink, E: Sink>(
             bound,
             map,
         } => run_cached(alloc, file, lines, bound, map, outside),
+        Request::Rewind {
+            file,
+            machine,
+            input,
+            depth,
+            map,
+        } => rewind_on(alloc, file, machine, input, depth, map, outside),
     }
 }

@@ -19,6 +19,7 @@ const USAGE: &[u8] = b"usage: mic assemble SOURCE IMAGE
        mic print-micro [FILE] [--machine V]
        mic soak SEED SIZE [--machine V]
        mic cache FILE LINES [--bound N] [--map W]
+       mic rewind FILE [--machine V] [--input INPUT] [--depth D] [--map W]
 ";
 
 /// Says how `mic` is called.

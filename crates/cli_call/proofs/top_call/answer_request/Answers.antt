@@ -36,3 +36,6 @@ returns-in-Soak g c = rw c.in-Soak.is c.soak_on.ensures
 
 pub returns-in-Cache : goal.returns-in-Cache
 returns-in-Cache g c = rw c.in-Cache.is c.run_cached.ensures
+
+pub returns-in-Rewind : goal.returns-in-Rewind
+returns-in-Rewind g c = rw c.in-Rewind.is c.rewind_on.ensures
