@@ -2,7 +2,7 @@
 _mic() {
     local word=${COMP_WORDS[COMP_CWORD]} before=${COMP_WORDS[COMP_CWORD-1]} command=${COMP_WORDS[1]}
     if [ "$COMP_CWORD" -eq 1 ]; then
-        COMPREPLY=($(compgen -W "assemble list verify run trace profile debug reference micro print-micro soak cache rewind" -- "$word"))
+        COMPREPLY=($(compgen -W "assemble list verify run trace profile debug reference micro print-micro soak cache rewind compile tiny" -- "$word"))
         return
     fi
     # Where bash divides words at =, as it does unless COMP_WORDBREAKS was changed, --machine=mic1 is three words.
@@ -33,6 +33,7 @@ _mic() {
     micro | print-micro | soak) options="--machine" ;;
     cache) options="--bound --map" ;;
     rewind) options="--machine --input --depth --map" ;;
+    tiny) options="--machine --bound" ;;
     esac
     case $word in
     -*) COMPREPLY=($(compgen -W "$options" -- "$word")) ;;

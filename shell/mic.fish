@@ -1,5 +1,5 @@
 # Completion of mic for fish: put this file into ~/.config/fish/completions.
-set -l commands assemble list verify run trace profile debug reference micro print-micro soak cache rewind
+set -l commands assemble list verify run trace profile debug reference micro print-micro soak cache rewind compile tiny
 complete -c mic -f -n "not __fish_seen_subcommand_from $commands" -a assemble -d 'write the linked image of a source'
 complete -c mic -f -n "not __fish_seen_subcommand_from $commands" -a list -d 'print pool and text of an accepted program'
 complete -c mic -f -n "not __fish_seen_subcommand_from $commands" -a verify -d 'print whether a program is accepted'
@@ -13,10 +13,12 @@ complete -c mic -f -n "not __fish_seen_subcommand_from $commands" -a print-micro
 complete -c mic -f -n "not __fish_seen_subcommand_from $commands" -a soak -d 'generate a program, run it, and print a summary'
 complete -c mic -f -n "not __fish_seen_subcommand_from $commands" -a cache -d 'run a program, and count the hits and misses of a cache'
 complete -c mic -f -n "not __fish_seen_subcommand_from $commands" -a rewind -d 'run a program cycle by cycle, forward and back'
+complete -c mic -f -n "not __fish_seen_subcommand_from $commands" -a compile -d 'write the image of a Tiny program'
+complete -c mic -f -n "not __fish_seen_subcommand_from $commands" -a tiny -d 'compile a Tiny program, and run it'
 complete -c mic -f -n '__fish_seen_subcommand_from soak'
 complete -c mic -n '__fish_seen_subcommand_from run' -l machine -x -a 'mic1 mic2 mic3' -d 'the machine'
-complete -c mic -n '__fish_seen_subcommand_from trace profile debug reference micro print-micro soak rewind' -l machine -x -a 'mic1 mic2' -d 'the machine'
-complete -c mic -n '__fish_seen_subcommand_from run trace profile debug reference cache' -l bound -x -d 'the bound on cycles'
+complete -c mic -n '__fish_seen_subcommand_from trace profile debug reference micro print-micro soak rewind tiny' -l machine -x -a 'mic1 mic2' -d 'the machine'
+complete -c mic -n '__fish_seen_subcommand_from run trace profile debug reference cache tiny' -l bound -x -d 'the bound on cycles'
 complete -c mic -n '__fish_seen_subcommand_from list verify run trace profile debug reference cache rewind' -l map -x -a 'standard large' -d 'the memory map'
 complete -c mic -n '__fish_seen_subcommand_from run trace profile debug' -l micro -r -d 'a microprogram of your own'
 complete -c mic -n '__fish_seen_subcommand_from trace' -l buses -d 'print the buses of each cycle'

@@ -33,7 +33,7 @@ use Rattle.mal_shipped.specs.Shipped.{HasShipped}
 use Rattle.mic_watched.specs.declared.cycle.Cycle.{Cycle}
 use Rattle.mic_watched.specs.Watched.{ShowsCycles}
 use Rattle.mic_base.specs.Causes.{Rose}
-use Rattle.cli_words.specs.Words.{Asked, Assemble, ListOf, Verify, Run, RunPipeline, RunOwn, Trace, Profile, Debug, Reference, Micro, PrintMicro, Soak, Cache, Rewind}
+use Rattle.cli_words.specs.Words.{Asked, Assemble, ListOf, Verify, Run, RunPipeline, RunOwn, Trace, Profile, Debug, Reference, Micro, PrintMicro, Soak, Cache, Rewind, Compile, Tiny}
 use Rattle.cli_outside.specs.Status as exits
 use Rattle.cli_outside.specs.Messages.{out_of_memory}
 use Rattle.cli_outside.specs.Outside.{FilesState, OutsideView, PrintsOnOut, Said, Says, SinkState, SourceState, TellsOnErr, Unsaid, with_files}
@@ -391,9 +391,13 @@ module _ (listed : IsListed) (old new : OutsideView) (status : ℕ) where
         prepared (Some (Rewind file machine input depth map)) old new status m.machine map _ file None (inl refl) (λ one is. absurd (let none : None ≡ Some one = is in cc)) h
         (λ micro program accepted chosen ended. with_input (Some (Rewind file machine input depth map)) old new status _ input (λ one is. inr is) ended
         (rewound (Some (Rewind file machine input depth map)) old new status state m depth micro program))
+    on_machine (Tiny tiny machine bound) h =
+        over (Some (Tiny tiny machine bound)) old new status _ _ _ tiny refl h
+        (clocked (Some (Tiny tiny machine bound)) old new status state m IsReady IsShipped entry timing tt bound)
     on_machine (RunPipeline file bound map) h = absurd h
     on_machine (Cache file lines bound map) h = absurd h
     on_machine (Assemble source image) h = absurd h
+    on_machine (Compile tiny image) h = absurd h
     on_machine (ListOf file map) h = absurd h
     on_machine (Verify file map) h = absurd h
     on_machine (Micro mal store machine) h = absurd h
@@ -426,6 +430,9 @@ module _ (shipped : ShippedEnd) (old new : OutsideView) (status : ℕ) where
   by_words (Some (PrintMicro None machine)) h = prints_on (Some (PrintMicro None machine)) old new status _ _ old.files refl h Done
   by_words (Some (Soak seed size machine)) h = by_machine machine (Soak seed size machine) h
   by_words (Some (Rewind file machine input depth map)) h = by_machine machine (Rewind file machine input depth map) h
+  by_words (Some (Compile tiny image)) h =
+      over (Some (Compile tiny image)) old new status _ _ _ tiny refl h (λ program. written (Some (Compile tiny image)) old new status _ _ _)
+  by_words (Some (Tiny tiny machine bound)) h = by_machine machine (Tiny tiny machine bound) h
   by_words (Some (Cache file lines bound map)) h =
       prepared (Some (Cache file lines bound map)) old new status Mic1 map _ file None refl (λ one is. absurd (let none : None ≡ Some one = is in cc)) h
       (λ micro program accepted chosen. ran_cached (Some (Cache file lines bound map)) old new status micro_of1 mic1_meaning tt bound micro program

@@ -2,7 +2,7 @@
 use Rattle.std.specs.Prelude.{◌≡◌, ◌<◌, ◌≤◌, ◌⊎◌, ℕ, List, length, Option, Some, None}
 use Rattle.mic_base.specs.Causes.{Rose}
 use Rattle.mic_base.specs.Files.{Tells, most_bytes}
-use Rattle.cli_words.specs.Words.{Asked, Assemble, ListOf, Verify, Run, RunPipeline, RunOwn, Trace, Profile, Debug, Reference, Micro, PrintMicro, Soak, Cache, Rewind}
+use Rattle.cli_words.specs.Words.{Asked, Assemble, ListOf, Verify, Run, RunPipeline, RunOwn, Trace, Profile, Debug, Reference, Micro, PrintMicro, Soak, Cache, Rewind, Compile, Tiny}
 use Rattle.cli_outside.specs.Status as exits
 use Rattle.cli_outside.specs.Outside.{OutsideView}
 use Rattle.cli_outside.specs.Work.{IsRead}
@@ -25,6 +25,8 @@ HasFileRead (Some (PrintMicro file machine)) name = file ≡ Some name
 HasFileRead (Some (Soak seed size machine)) name = ⊥
 HasFileRead (Some (Cache file lines bound map)) name = name ≡ file
 HasFileRead (Some (Rewind file machine input depth map)) name = (name ≡ file) ⊎ (input ≡ Some name)
+HasFileRead (Some (Compile tiny image)) name = name ≡ tiny
+HasFileRead (Some (Tiny tiny machine bound)) name = name ≡ tiny
 
 -- they have a program run to its end
 abbrev pub Runs : Option Asked → Type 0
@@ -36,6 +38,7 @@ Runs (Some (Profile file machine bound map micro)) = Unit {0}
 Runs (Some (Reference file machine bound map)) = Unit {0}
 Runs (Some (Soak seed size machine)) = Unit {0}
 Runs (Some (Cache file lines bound map)) = Unit {0}
+Runs (Some (Tiny tiny machine bound)) = Unit {0}
 Runs asks = ⊥
 
 -- they have it run by a person's own microprogram

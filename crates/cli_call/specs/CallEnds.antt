@@ -14,7 +14,7 @@ use Rattle.mic3_interpreter.specs.Timing.{mic3_timing}
 use Rattle.ijvm_meaning.specs.Cost.{Timing, timing_of}
 use Rattle.mal_shipped.specs.Listing.{listed_program}
 use Rattle.mal_shipped.specs.Shipped.{HasShipped}
-use Rattle.cli_words.specs.Words.{Asked, Assemble, ListOf, Verify, Run, RunPipeline, RunOwn, Trace, Profile, Debug, Reference, Micro, PrintMicro, Soak, Cache, Rewind}
+use Rattle.cli_words.specs.Words.{Asked, Assemble, ListOf, Verify, Run, RunPipeline, RunOwn, Trace, Profile, Debug, Reference, Micro, PrintMicro, Soak, Cache, Rewind, Compile, Tiny}
 use Rattle.cli_outside.specs.Status as exits
 use Rattle.cli_outside.specs.Messages.{out_of_memory}
 use Rattle.cli_outside.specs.Outside.{OutsideView, PrintsOnOut, TellsOnErr}
@@ -33,6 +33,7 @@ use Rattle.cli_debug.specs.Debugged.{IsDebugged}
 use Rattle.cli_rewind.specs.Rewound.{IsRewound}
 use Rattle.cli_session.specs.Input.{EndsWithInput}
 use Rattle.cli_soak.specs.SoakEnds.{SoakEnds}
+use Rattle.cli_tiny.specs.Answers.{Compiles, EndsOverTiny}
 use Rattle.cli_call.specs.ClockedEnd.{ClockedEnd}
 use Rattle.cli_call.specs.Usage.{usage_text}
 
@@ -48,6 +49,7 @@ module _ {M S : Type 0} (state : M → S) (m : Meaning S) (IsReady : ℕ → Lis
       EndsPrepared m.machine map (λ micro program. EndsWithInput (IsDebugged state m bound micro program) input) file own
   EndsOn (Reference file machine bound map) = EndsOver map (IsReferenceRun machine bound) file
   EndsOn (Soak seed size machine) = SoakEnds state m IsReady IsShipped entry timing seed size
+  EndsOn (Tiny tiny machine bound) = EndsOverTiny (ClockedEnd state m IsReady IsShipped entry timing bound) tiny
   EndsOn (Rewind file machine input depth map) =
       EndsPrepared m.machine map (λ micro program. EndsWithInput (IsRewound state m depth micro program) input) file None
   EndsOn asked = λ old new status. ⊥
@@ -78,6 +80,8 @@ EndsAs (Some (PrintMicro None machine)) = PrintsOnOut (canonical_text (listed_pr
 EndsAs (Some (Soak seed size machine)) = EndsOnMachine machine (Soak seed size machine)
 EndsAs (Some (Cache file lines bound map)) = EndsPrepared Mic1 map (IsCached micro_of1 mic1_meaning lines bound) file None
 EndsAs (Some (Rewind file machine input depth map)) = EndsOnMachine machine (Rewind file machine input depth map)
+EndsAs (Some (Compile tiny image)) = Compiles image tiny
+EndsAs (Some (Tiny tiny machine bound)) = EndsOnMachine machine (Tiny tiny machine bound)
 
 -- memory is wanting before anything is done, or the call ends as its words ask
 pub data CallEnds (asks : Option Asked) (old new : OutsideView) (status : ℕ) : Type 0 where

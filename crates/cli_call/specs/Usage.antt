@@ -17,3 +17,5 @@ usage_text =
     ++ codes "       mic soak SEED SIZE [--machine V]\n"
     ++ codes "       mic cache FILE LINES [--bound N] [--map W]\n"
     ++ codes "       mic rewind FILE [--machine V] [--input INPUT] [--depth D] [--map W]\n"
+    ++ codes "       mic compile TINY IMAGE\n"
+    ++ codes "       mic tiny TINY [--machine V] [--bound N]\n"

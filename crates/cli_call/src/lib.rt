@@ -9,6 +9,7 @@ mod laws;
 mod rewind;
 mod run;
 mod soak;
+mod tiny;
 mod top_call;
 mod usage;
 

@@ -37,7 +37,7 @@ where
 }
 
 /// Clocks an accepted program, and reports.
-fn run_program<I: Interpreter, F: Files, S: Source, K: Sink, E: Sink>(
+pub(crate) fn run_program<I: Interpreter, F: Files, S: Source, K: Sink, E: Sink>(
     alloc: Global,
     program: &VerifiedImage,
     bound: u64,

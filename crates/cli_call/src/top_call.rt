@@ -10,10 +10,12 @@ use crate::job::run_job;
 use crate::rewind::rewind_on;
 use crate::run::run_file;
 use crate::soak::soak_on;
+use crate::tiny::tiny_on;
 use crate::usage::misused;
 use cli_micro::{micro, print_micro, print_shipped};
 use cli_outside::{Outside, Status};
 use cli_programs::{assemble_file, list_file, verify_file};
+use cli_tiny::compile_file;
 use cli_words::{Request, WordsError, read_words};
 use mic_base::{Files, Sink, Source};
 use mic3_pipeline::Mic3Interpreter;
@@ -82,5 +84,11 @@ fn answer_request<F: Files, S: Source, K: Sink, E: Sink>(
             depth,
             map,
         } => rewind_on(alloc, file, machine, input, depth, map, outside),
+        Request::Compile { tiny, image } => compile_file(alloc, tiny, image, outside),
+        Request::Tiny {
+            tiny,
+            machine,
+            bound,
+        } => tiny_on(alloc, tiny, machine, bound, outside),
     }
 }

@@ -20,6 +20,8 @@ const USAGE: &[u8] = b"usage: mic assemble SOURCE IMAGE
        mic soak SEED SIZE [--machine V]
        mic cache FILE LINES [--bound N] [--map W]
        mic rewind FILE [--machine V] [--input INPUT] [--depth D] [--map W]
+       mic compile TINY IMAGE
+       mic tiny TINY [--machine V] [--bound N]
 ";
 
 /// Says how `mic` is called.

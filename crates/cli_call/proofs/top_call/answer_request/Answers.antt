@@ -39,3 +39,9 @@ returns-in-Cache g c = rw c.in-Cache.is c.run_cached.ensures
 
 pub returns-in-Rewind : goal.returns-in-Rewind
 returns-in-Rewind g c = rw c.in-Rewind.is c.rewind_on.ensures
+
+pub returns-in-Compile : goal.returns-in-Compile
+returns-in-Compile g c = rw c.in-Compile.is c.compile_file.ensures
+
+pub returns-in-Tiny : goal.returns-in-Tiny
+returns-in-Tiny g c = rw c.in-Tiny.is c.tiny_on.ensures

@@ -1,0 +1,53 @@
+//! `tiny`: the program of a Tiny text, clocked on the machine that is named with the microprogram that ships for it.
+
+ghost use Rattle.std.specs.Prelude.{◌≤◌, ◌^◌, Some};
+ghost use Rattle.cli_words.specs.Words.{Tiny, most_cycles};
+ghost use Rattle.cli_outside.specs.Outside.{Over};
+ghost use Rattle.cli_tiny.specs.Answers.{EndsOverTiny};
+ghost use Rattle.cli_call.specs.CallEnds.{EndsAs};
+ghost use Rattle.cli_call.specs.ClockedEnd.{ClockedEnd};
+
+use crate::run::run_program;
+use cli_outside::{Outside, Status};
+use cli_tiny::program_in_tiny;
+use ijvm_simulation::Interpreter;
+use mic_base::{Files, Sink, Source};
+use mic_words::Machine;
+use shipped_microcode::{Mic1Interpreter, Mic2Interpreter};
+use std::alloc::Global;
+
+/// Compiles the text, and clocks its program.
+pub(crate) fn tiny_on<F: Files, S: Source, K: Sink, E: Sink>(
+    alloc: Global,
+    tiny: &str,
+    machine: Machine,
+    bound: u64,
+    outside: &mut Outside<'_, F, S, K, E>,
+) -> Status
+    requires { bound ≤ most_cycles }
+    ensures { Over (EndsAs (Some (Tiny tiny.now machine bound))) outside.old outside.new result.0 }
+{
+    match machine {
+        Machine::Mic1 => run_tiny::<Mic1Interpreter, F, S, K, E>(alloc, tiny, bound, outside),
+        Machine::Mic2 => run_tiny::<Mic2Interpreter, F, S, K, E>(alloc, tiny, bound, outside),
+    }
+}
+
+/// Compiles the text, and clocks its program on this machine.
+fn run_tiny<I: Interpreter, F: Files, S: Source, K: Sink, E: Sink>(
+    alloc: Global,
+    tiny: &str,
+    bound: u64,
+    outside: &mut Outside<'_, F, S, K, E>,
+) -> Status
+where
+    I::Machine: Drop,
+    requires { bound ≤ 2 ^ 62 }
+    ensures { Over (EndsOverTiny (ClockedEnd I.Machine.state I.Machine.meaning I.Machine.IsReady I.IsShipped I.entry I.timing bound) tiny.now)
+        outside.old outside.new result.0 }
+{
+    match program_in_tiny(alloc, tiny, outside) {
+        Ok(program) => run_program::<I, F, S, K, E>(alloc, &program, bound, outside),
+        Err(status) => status,
+    }
+}
