@@ -8,6 +8,8 @@ let current_compiler = "mic"
 let s:machine = exists("b:mic_machine") ? '\ --machine\ ' . b:mic_machine : ''
 if &filetype ==# 'mal'
   execute 'CompilerSet makeprg=mic\ micro' . s:machine . '\ --\ %:S\ /dev/null'
+elseif &filetype ==# 'tiny'
+  CompilerSet makeprg=mic\ compile\ --\ %:S\ /dev/null
 else
   CompilerSet makeprg=mic\ verify\ --\ %:S
 endif
