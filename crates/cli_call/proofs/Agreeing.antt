@@ -96,7 +96,7 @@ said old new text code status none (Said is got flushed same) = (is, got)
 said old new text code status none (Unsaid is got rose) = absurd (none rose)
 
 -- what a source tells is what a run of it takes
-told_input : (left : Option (List ℕ)) (input taken : List ℕ) → left ≡ Some input → Untaken left false taken → taken ≡ input
+pub told_input : (left : Option (List ℕ)) (input taken : List ℕ) → left ≡ Some input → Untaken left false taken → taken ≡ input
 told_input left input taken e told = subst (λ (l : Option (List ℕ)). Untaken l false taken) e told
 
 held_is : (held : Option (List ℕ)) (one given : List ℕ) → held ≡ Some one → IfSome held (λ h. h ≡ given) → one ≡ given

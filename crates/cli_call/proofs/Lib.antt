@@ -5,3 +5,5 @@ pub mod Machines
 pub mod Answering
 pub mod Giving
 pub mod TwoCalls
+pub mod AtLimit
+pub mod TinyCalls

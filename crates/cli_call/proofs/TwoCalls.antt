@@ -10,7 +10,7 @@ use Rattle.cli_call.specs.Agree.{BothRan, CallsAgree, IsQuiet, NoneHad}
 use Rattle.cli_call.proofs.Agreeing.{said}
 
 -- what files tell of a file is one
-same_bytes : (told : Option Contents) (contents : Contents) (name a b : List ℕ) → told ≡ Some contents → Tells told name a → Tells told name b → a ≡ b
+pub same_bytes : (told : Option Contents) (contents : Contents) (name a b : List ℕ) → told ≡ Some contents → Tells told name a → Tells told name b → a ≡ b
 same_bytes told contents name a b tells one other =
     let here : file_in contents name ≡ Some a = subst (λ (t : Option Contents). Tells t name a) tells one in
     let there : file_in contents name ≡ Some b = subst (λ (t : Option Contents). Tells t name b) tells other in
@@ -18,13 +18,13 @@ same_bytes told contents name a b tells one other =
 
 module _ {V : Type 0} (Refuses : List ℕ → List ℕ → Type 0) (Is : List ℕ → V → Type 0) (file : List ℕ) (old : OutsideView) where
   -- the file is refused; it is too long; it holds a value, over which this was done
-  abbrev IsRefusal : ℕ → Type 0
+  abbrev pub IsRefusal : ℕ → Type 0
   IsRefusal status = (bytes reason : List ℕ) × IsRead file bytes old × Refuses bytes reason × (status ≡ exits.refused)
 
-  abbrev IsLong : ℕ → Type 0
+  abbrev pub IsLong : ℕ → Type 0
   IsLong status = (bytes : List ℕ) × Tells old.files.contents file bytes × (most_bytes < length bytes) × (status ≡ exits.too_long)
 
-  abbrev IsDone : (V → OutsideView → OutsideView → ℕ → Type 0) → OutsideView → ℕ → Type 0
+  abbrev pub IsDone : (V → OutsideView → OutsideView → ℕ → Type 0) → OutsideView → ℕ → Type 0
   IsDone Does new status = (value : V) × IsHad Is file old value × Does value old new status
 
   module _ (Does : V → OutsideView → OutsideView → ℕ → Type 0) (new : OutsideView) (status : ℕ) (quiet : IsQuiet old new status) where
@@ -38,7 +38,7 @@ module _ {V : Type 0} (Refuses : List ℕ → List ℕ → Type 0) (Is : List �
     not_had (work.Refused bytes reason read refuses tells) = inl (bytes, reason, read, refuses, (said old.err new.err _ _ status quiet.err tells.says).0)
     not_had (work.Short tells) = absurd (quiet.memory (said old.err new.err _ _ status quiet.err tells.says).0)
 
-    outcome : Ends Refuses Is Does file old new status → IsRefusal status ⊎ (IsLong status ⊎ IsDone Does new status)
+    pub outcome : Ends Refuses Is Does file old new status → IsRefusal status ⊎ (IsLong status ⊎ IsDone Does new status)
     outcome (NotHad h) = not_had h
     outcome (Did value had does) = inr (inr (value, had, does))
 

@@ -2,4 +2,5 @@ pub mod Usage
 pub mod ClockedEnd
 pub mod CallEnds
 pub mod Agree
+pub mod Meant
 pub mod Answers

@@ -1,23 +1,29 @@
 //! What holds between two commands.
 
-ghost use Rattle.std.specs.Prelude.{◌≡◌, ◌≢◌, ℕ, List, Some};
-ghost use Rattle.mic_base.specs.Files.{Contents};
+ghost use Rattle.std.specs.Prelude.{◌≡◌, ◌≢◌, ◌≤◌, ℕ, List, Some, length};
+ghost use Rattle.mic_base.specs.Files.{Contents, most_bytes};
 ghost use Rattle.mic_words.specs.declared.machine.Machine.{Machine};
 ghost use Rattle.mic_words.specs.declared.machine.Machine.TheVariants.{Mic1, Mic2};
 ghost use Rattle.console_port.specs.declared.map.MemoryMap.{MemoryMap};
 ghost use Rattle.mic1_datapath.specs.Mic1.{mic1_meaning};
 ghost use Rattle.mic2_datapath.specs.Mic2.{mic2_meaning};
+ghost use Rattle.verifier_facts.specs.Accepted.{VerifiedView};
+ghost use Rattle.tiny_tree.specs.Tree.{Program};
+ghost use Rattle.tiny_parser.specs.Texts.{Spells};
+ghost use Rattle.tiny_compiler.specs.Compiled.{IsCompiled};
 ghost use Rattle.cli_debug.specs.Stand.{OnlyGives};
 ghost use Rattle.cli_outside.specs.Status as exits;
 ghost use Rattle.cli_outside.specs.Outside.{OutsideView};
 ghost use Rattle.cli_words.specs.Words.{Reference, Run};
 ghost use Rattle.cli_call.specs.CallEnds.{CallEnds};
 ghost use Rattle.cli_call.specs.Agree.{Agrees, CallsAgree, CallsEndAlike, IsQuiet};
+ghost use Rattle.cli_call.specs.Meant.{CallsAreAsMeant};
 
 use cli_programs::a_file_has_one_program;
 use ijvm_meaning::runs_end_once;
 use ijvm_simulation::interpreters_agree;
 use shipped_microcode::{Mic1Interpreter, Mic2Interpreter};
+use tiny_compiler::{compiled_programs_run_as_meant, texts_compile_to_one_program};
 
 /// Two calls over one file, `run` and `reference`, on the same machine and map, with the same bound and input, agree where no fault comes and neither is out of memory.
 pub fn run_agrees_with_reference()
@@ -40,6 +46,16 @@ pub fn run_agrees_on_both_machines()
 {
     interpreters_agree::<Mic1Interpreter, Mic2Interpreter>();
     a_file_has_one_program();
+}
+
+/// Calls of `tiny` over a file whose text compiles do what its program means, where no fault comes and none is out of memory.
+pub fn tiny_does_what_is_meant()
+    ensures { (text input : List ℕ) (program : Program) (v : VerifiedView) (machine : Machine) → length text ≤ most_bytes →
+        Spells text program → IsCompiled text v → CallsAreAsMeant text program input machine }
+{
+    compiled_programs_run_as_meant();
+    texts_compile_to_one_program();
+    runs_end_once();
 }
 
 /// No step of Mic-1 or of Mic-2 takes back what was given. So where a sink fails in a session, standard output holds a front of what its line gives, done whole.

@@ -14,5 +14,8 @@ mod top_call;
 mod usage;
 
 pub use answers::{each_answer_has_its_cause, mic_main};
-pub use laws::{machines_only_give, run_agrees_on_both_machines, run_agrees_with_reference};
+pub use laws::{
+    machines_only_give, run_agrees_on_both_machines, run_agrees_with_reference,
+    tiny_does_what_is_meant,
+};
 pub use usage::misused;
