@@ -1,0 +1,6 @@
+pub mod Turning
+pub mod Snapshots
+pub mod Stepping
+pub mod Composing
+pub mod Returning
+pub mod Answering

@@ -1,0 +1,25 @@
+use Rattle.std.proofs.Common.{◌≤◌, ◌^◌, ◌∙◌, ap, arith}
+use Rattle.mic_base.specs.Plain.{plain_left}
+use Rattle.micro_word.specs.ControlStore.{ControlStore}
+use Rattle.mic_rewind.specs.States.{Snapshot}
+use Rattle.cli_rewind.specs.Lines.{forward_text}
+use Rattle.cli_rewind.proofs.Composing.{here_at, went_as}
+use Rattle.cli_rewind.proofs.replies.micro.Goals as goal
+use Rattle.std.proofs.Common.{Some}
+
+pub returns-clause-went : goal.returns-clause-went
+returns-clause-went g c =
+    let v = c.args.rewind.now in
+    let v' = c.go_forward.new.rewind in
+    let went = c.in_ok-end.ensures.went in
+    let fits = c.ranges.times in
+    let few : c.args.times ≤ 2 ^ 32 = omega (arith, fits) in
+    went_as c.args.times (2 ^ 32) went few
+    (λ s t here p. (
+      c.in_ok-end.end,
+      p,
+      c.forward_text.ensures
+          ∙ ap (λ (x : Snapshot). forward_text c.in_ok-end.end x.moment)
+          (here_at g.M.Clocked.state g.M.Clocked.meaning (Some (plain_left c.go_forward.new.input)) (g.K.Sink.held c.go_forward.new.out) v' t v.board.store.words here
+          (ap (λ (x : ControlStore). x.words) went.moved.store)),
+    ))

@@ -1,0 +1,27 @@
+use Rattle.cli_rewind.proofs.Answering.{lost_at, passes}
+use Rattle.cli_rewind.proofs.telling.pass_on.Goals as goal
+
+pub returns-in-Err-clause-err : goal.returns-in-Err-clause-err
+returns-in-Err-clause-err g c =
+    let v = c.args.rewind.now in
+    let v' = c.flush.new.self in
+    let failed = c.in-Err.ensures in
+    record {
+      front = λ left s here.
+          lost_at g.M.Clocked.state g.M.Clocked.meaning left (g.K.Sink.held c.args.out.now) v s here (g.K.Sink.held c.flush.new.sink) v'.board.bus.console.kept
+          ((failed.err left).lost failed.fault);
+      keeps = c.flush.ensures.sink_keeps;
+    }
+
+pub returns-in-Ok-clause-ok : goal.returns-in-Ok-clause-ok
+returns-in-Ok-clause-ok g c =
+    let done = c.in-Ok.ensures in
+    record {
+      shows = passes g.M.Clocked.state g.M.Clocked.meaning c.args.rewind.now c.flush.new.self (g.K.Sink.held c.args.out.now) (g.K.Sink.held c.flush.new.sink) done.history done.board done.ok;
+      history = done.history;
+      board = done.board;
+      kept = done.kept;
+      flushed = done.flushed;
+      faults = done.cause.sink_same (λ e. cc);
+      keeps = done.sink_keeps;
+    }

@@ -1,0 +1,6 @@
+pub mod Commands
+pub mod Lines
+pub mod Stand
+pub mod Moves
+pub mod Rewinding
+pub mod Rewound

@@ -1,0 +1,77 @@
+-- How a call moves a rewind and its cursor, between what its input has left and what `out` holds.
+use Rattle.std.specs.Prelude.{◌≡◌, ◌≢◌, ◌≤◌, ◌⊎◌, ◌+◌, ℕ, List, [], Option, Some}
+use Rattle.console_port.specs.Console.{StaysFlushed}
+use Rattle.mic_base.specs.Causes.{Rose}
+use Rattle.mic_base.specs.Streams.{Holds, IsFlushed}
+use Rattle.mic_clock.specs.declared.end.End.TheVariants as ends
+use Rattle.mic_clock.specs.Meaning.{Meaning}
+use Rattle.mic_rewind.specs.Rewind.{RewindView}
+use Rattle.cli_outside.specs.Outside.{Got, GotInPart, SinkState}
+use Rattle.cli_session.specs.Meaning.{IsFrontOf}
+use Rattle.cli_rewind.specs.Stand.{Stand, StandsAt, run_at}
+
+pub record Scene (M : Type 0) : Type 0 where
+  pub rewind : RewindView M
+  pub input : List ℕ
+  pub out : SinkState
+
+abbrev pub scene : {M : Type 0} → RewindView M → List ℕ → SinkState → Scene M
+scene rewind input out = record { rewind = rewind; input = input; out = out }
+
+-- what a session goes by stays; the board clocked at most so many cycles, and came to no fault of `out`
+pub record IsMoved {M : Type 0} (most : ℕ) (old new : RewindView M) : Type 0 where
+  pub store : new.board.store ≡ old.board.store
+  pub depth : new.history.depth ≡ old.history.depth
+  pub cycles : new.board.counts.cycles ≤ old.board.counts.cycles + most
+  pub well : new.board.end ≢ Some ends.WriteFault
+
+module _ {M State : Type 0} (state : M → State) (m : Meaning State) where
+  abbrev pub IsShown : Scene M → Stand State → Type 0
+  IsShown c s = StandsAt state m (Some c.input) c.out.held c.rewind s
+
+  -- `out` did not fail. Each stand that was shown is followed by one that is shown now; at most so many cycles were clocked.
+  pub record Went (most : ℕ) (old new : Scene M) (Follows : Stand State → Stand State → Type 0) : Type 0 where
+    pub leads : (s : Stand State) → IsShown old s → (s' : Stand State) × Follows s s' × IsShown new s'
+    pub moved : IsMoved most old.rewind new.rewind
+    pub flushed : StaysFlushed old.out.held old.out.passed new.out.held new.out.passed
+    pub faults : new.out.faults ≡ old.out.faults
+    pub keeps : (front : List ℕ) → Holds front old.out.held → Holds front new.out.held
+
+  -- `out` failed, and holds what it held before and more. Of each stand that was shown this holds, by what `out` holds now.
+  pub record WasCut (old new : Scene M) (Cuts : Stand State → Option (List ℕ) → Type 0) : Type 0 where
+    pub cuts : (s : Stand State) → IsShown old s → Cuts s new.out.held
+    pub keeps : (front : List ℕ) → Holds front old.out.held → Holds front new.out.held
+    pub rose : Rose old.out.faults new.out.faults
+
+-- ---- an answer is put to `err`, and both sinks pass on what they have
+
+module _ {M State : Type 0} (state : M → State) (m : Meaning State) where
+  -- the console's bytes were put to `out`, and nothing waits
+  pub record IsPassedOn (old new : RewindView M) (out out' : SinkState) : Type 0 where
+    pub shows : (left : Option (List ℕ)) (s : Stand State) → StandsAt state m left out.held old s → StandsAt state m left out'.held new s
+    pub history : new.history ≡ old.history
+    pub board : new.board ≡ record old.board { bus = new.board.bus }
+    pub kept : new.board.bus.console.kept ≡ []
+    pub flushed : StaysFlushed out.held out.passed out'.held out'.passed
+    pub faults : out'.faults ≡ out.faults
+    pub keeps : (front : List ℕ) → Holds front out.held → Holds front out'.held
+
+  -- `out` holds a front of what was given, and what it held before
+  pub record IsFront (old : RewindView M) (out out' : SinkState) : Type 0 where
+    pub front : (left : Option (List ℕ)) (s : Stand State) → StandsAt state m left out.held old s →
+        IsFrontOf out'.held (run_at m old.board.store.words s.start s.clocked).world.given
+    pub keeps : (front : List ℕ) → Holds front out.held → Holds front out'.held
+
+  -- the answer was put whole
+  pub record IsTold (text : List ℕ) (old new : RewindView M) (out out' err err' : SinkState) : Type 0 where
+    pub passed : IsPassedOn old new out out'
+    pub got : Got err.held text err'.held
+    pub flushed : IsFlushed err'.held err'.passed
+    pub faults : err'.faults ≡ err.faults
+
+  -- `out` or `err` failed
+  pub record IsToldInPart (text : List ℕ) (old : RewindView M) (out out' err err' : SinkState) : Type 0 where
+    pub out_front : IsFront old out out'
+    pub got : GotInPart err.held text err'.held
+    pub keeps : (front : List ℕ) → Holds front err.held → Holds front err'.held
+    pub rose : Rose out.faults out'.faults ⊎ Rose err.faults err'.faults

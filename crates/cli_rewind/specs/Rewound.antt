@@ -1,0 +1,44 @@
+-- How rewinding an accepted program ends: what the lines of the console print; or less, where a fault stopped it.
+use Rattle.std.specs.Prelude.{◌≡◌, ℕ, List, Option}
+use Rattle.console_port.specs.World.{World}
+use Rattle.console_port.specs.Bus.{Shows}
+use Rattle.mic_clock.specs.Meaning.{Meaning}
+use Rattle.verifier_facts.specs.Accepted.{VerifiedView}
+use Rattle.mal_parser.specs.Program.{Program}
+use Rattle.mal_shipped.specs.declared.loaded.Loaded.{Loaded}
+use Rattle.mic_image_board.specs.Reset.{reset_run}
+use Rattle.cli_outside.specs.Status as exits
+use Rattle.cli_outside.specs.Messages.{out_of_memory}
+use Rattle.cli_outside.specs.Outside.{OutsideView, TellsOnErr}
+use Rattle.cli_boards.specs.Runs.{IsFirstBoard}
+use Rattle.cli_session.specs.declared.lines.Step.{Step}
+use Rattle.cli_session.specs.declared.lines.Step.TheVariants as steps
+use Rattle.cli_session.specs.Lines.{most_lines}
+use Rattle.cli_session.specs.Meaning.{place}
+use Rattle.cli_session.specs.Goes.{Goes}
+use Rattle.cli_rewind.specs.Stand.{StandsAt, at_reset}
+use Rattle.cli_rewind.specs.Rewinding.{RewindingView, rewinding}
+
+-- the status by how a session was left
+abbrev pub status_after : Step → ℕ
+status_after steps.On = exits.done
+status_after steps.Over = exits.done
+status_after steps.ConsoleFailed = exits.console
+status_after steps.SinkFailed = exits.sink
+
+module _ {M State : Type 0} (state : M → State) (m : Meaning State) where
+  -- a session over an accepted program at its reset, which stands there whatever its input has left and `out` holds
+  pub record IsStart (depth : ℕ) (micro : Program) (l : Loaded) (program : VerifiedView) (d : RewindingView M) : Type 0 where
+    pub reset : IsFirstBoard state m micro l program d.rewind.board
+    pub depth_is : d.rewind.history.depth ≡ depth
+    pub memory : d.memory ≡ program.map.stack_end
+    pub stands : (left held : Option (List ℕ)) (w : World) → Shows left held d.rewind.board.bus w →
+        StandsAt state m left held d.rewind (at_reset (reset_run m l.entry program.main_locals w))
+
+  pub data IsRewound (depth : ℕ) (micro : Program) (program : VerifiedView) (input : List ℕ) (old new : OutsideView) (status : ℕ) : Type 0 where
+    -- memory was wanting before the first line
+    NoRoom : TellsOnErr out_of_memory exits.memory old new status → IsRewound depth micro program input old new status
+    -- the lines of the console were done, as far as they go
+    Went : (l : Loaded) (first last : RewindingView M) (step : Step) → IsStart depth micro l program first → first.input ≡ input →
+        Goes (rewinding state m) most_lines 0 (place first old) (place last new) step → status ≡ status_after step →
+        IsRewound depth micro program input old new status

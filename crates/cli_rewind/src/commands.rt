@@ -1,0 +1,44 @@
+//! The command, from the files that it reads to its status.
+
+ghost use Rattle.std.specs.Prelude.{◌≤◌, ◌<◌, None, option_map};
+ghost use Rattle.console_port.specs.Map.{IsMap};
+ghost use Rattle.cli_outside.specs.Outside.{Over};
+ghost use Rattle.cli_boards.specs.Prepared.{EndsPrepared};
+ghost use Rattle.cli_session.specs.Input.{EndsWithInput};
+ghost use Rattle.cli_rewind.specs.Rewound.{IsRewound};
+
+use crate::rewind::rewind_program;
+use cli_boards::prepare;
+use cli_outside::{Outside, Status};
+use cli_session::chosen_input;
+use console_port::MemoryMap;
+use mic_base::{Files, Sink, Source};
+use mic_clock::Clocked;
+use std::alloc::Global;
+
+/// Reads a program and its input, and steps its run by the microprogram that ships forward and back, as the lines of the
+/// console ask. The last `depth` cycles are kept, of which there are 1 to 65,536.
+pub fn rewind_file<M: Clocked + Drop, F: Files, S: Source, K: Sink, E: Sink>(
+    alloc: Global,
+    machine: M,
+    file: &str,
+    input: Option<&str>,
+    depth: u32,
+    map: MemoryMap,
+    outside: &mut Outside<'_, F, S, K, E>,
+) -> Status
+    requires depth { (0 < depth) × (depth ≤ 65536) }
+    requires map { IsMap map.stack_end }
+    ensures { Over (EndsPrepared M.meaning.machine map
+        (λ micro program. EndsWithInput (IsRewound M.state M.meaning depth micro program) (option_map (λ name. name.now) input.entry))
+        file.now None) outside.old outside.new result.0 }
+{
+    let prepared = match prepare(alloc, machine.machine(), file, None, map, outside) {
+        Ok(prepared) => prepared,
+        Err(status) => return status,
+    };
+    match chosen_input(alloc, input, outside) {
+        Ok(input) => rewind_program(alloc, machine, prepared, depth, input, outside),
+        Err(status) => status,
+    }
+}

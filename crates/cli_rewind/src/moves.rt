@@ -1,0 +1,99 @@
+//! The cursor's moves, over as many cycles as a line asks for.
+
+ghost use Rattle.std.specs.Prelude.{◌≡◌, ◌≢◌, ◌≤◌, ◌+◌, ◌^◌, List, ℕ, Option, Some, OnErr, IfOk, nat_le, true, false};
+ghost use Rattle.mic_base.specs.Plain.{plain_left};
+ghost use Rattle.mic_clock.specs.Board.{tick_of};
+ghost use Rattle.mic_clock.specs.declared.counts.Counts.{Counts};
+ghost use Rattle.cli_outside.specs.Outside.{sink_of};
+ghost use Rattle.cli_rewind.specs.Stand.{GoesForward, IsCutForward, Stand, StandsAt, back, kept};
+ghost use Rattle.cli_rewind.specs.Moves.{WasCut, Went, scene};
+
+use mic_base::{PlainSource, Sink, SinkFailed};
+use mic_clock::{Clocked, End, Tick};
+use mic_rewind::Rewind;
+
+/// The end that a cycle answers, if it does.
+fn met(tick: Tick) -> Option<End>
+    ensures { (old new : Counts) (end : Option End) → tick ≡ tick_of old new end → result ≡ end }
+{
+    match tick {
+        Tick::Clocked => None,
+        Tick::Stalled => None,
+        Tick::Ended(end) => Some(end),
+    }
+}
+
+/// Whether `out` failed in a cycle that came to this end.
+fn sink_failed(end: Option<End>) -> bool
+    ensures yes { result ≡ true → end ≡ Some End.WriteFault }
+    ensures no { result ≡ false → end ≢ Some End.WriteFault }
+{
+    end == Some(End::WriteFault)
+}
+
+/// Goes forward by a cycle, and answers the end that it came to, if it did.
+fn step<M: Clocked, K: Sink>(
+    rewind: &mut Rewind<M>,
+    input: &mut PlainSource,
+    out: &mut K,
+) -> Result<Option<End>, SinkFailed>
+    requires cycles { rewind.old.board.counts.cycles ≤ 2 ^ 62 }
+    requires well { rewind.old.board.end ≢ Some End.WriteFault }
+    ensures went { IfOk result (λ end. Went M.state M.meaning 1
+        (scene rewind.old (plain_left input.old) (sink_of K.held K.passed K.faults out.old))
+        (scene rewind.new (plain_left input.new) (sink_of K.held K.passed K.faults out.new))
+        (GoesForward M.meaning rewind.old.board.store.words 1 end)) }
+    ensures cut { OnErr result (WasCut M.state M.meaning
+        (scene rewind.old (plain_left input.old) (sink_of K.held K.passed K.faults out.old))
+        (scene rewind.new (plain_left input.new) (sink_of K.held K.passed K.faults out.new))
+        (IsCutForward M.meaning rewind.old.board.store.words 1)) }
+{
+    let end = met(rewind.forward(input, out));
+    if sink_failed(end) {
+        return Err(SinkFailed);
+    }
+    Ok(end)
+}
+
+/// Goes forward by so many cycles, or to an end, which it answers.
+pub(crate) fn go_forward<M: Clocked, K: Sink>(
+    rewind: &mut Rewind<M>,
+    times: u32,
+    input: &mut PlainSource,
+    out: &mut K,
+) -> Result<Option<End>, SinkFailed>
+    requires cycles { rewind.old.board.counts.cycles + 2 ^ 32 ≤ 2 ^ 62 }
+    requires well { rewind.old.board.end ≢ Some End.WriteFault }
+    ensures went { IfOk result (λ end. Went M.state M.meaning times
+        (scene rewind.old (plain_left input.old) (sink_of K.held K.passed K.faults out.old))
+        (scene rewind.new (plain_left input.new) (sink_of K.held K.passed K.faults out.new))
+        (GoesForward M.meaning rewind.old.board.store.words times end)) }
+    ensures cut { OnErr result (WasCut M.state M.meaning
+        (scene rewind.old (plain_left input.old) (sink_of K.held K.passed K.faults out.old))
+        (scene rewind.new (plain_left input.new) (sink_of K.held K.passed K.faults out.new))
+        (IsCutForward M.meaning rewind.old.board.store.words times)) }
+{
+    'cycles: for _made in 0..times {
+        let end = step(rewind, input, out)?;
+        if end.is_some() {
+            return Ok(end);
+        }
+    }
+    Ok(None)
+}
+
+/// Goes back by so many cycles, or by all that are kept; answers whether these were as many.
+pub(crate) fn go_back<M: Clocked>(rewind: &mut Rewind<M>, times: u32) -> bool
+    ensures goes { (left held : Option (List ℕ)) (s : Stand M.State) → StandsAt M.state M.meaning left held rewind.old s →
+        StandsAt M.state M.meaning left held rewind.new (back rewind.old.history.depth times s)
+        × (result ≡ nat_le times (kept rewind.old.history.depth s)) }
+    ensures board { rewind.new.board ≡ rewind.old.board }
+    ensures depth { rewind.new.history.depth ≡ rewind.old.history.depth }
+{
+    'cycles: for _made in 0..times {
+        if !rewind.back() {
+            return false;
+        }
+    }
+    true
+}

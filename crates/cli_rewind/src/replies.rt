@@ -1,0 +1,140 @@
+//! What a line does, and its answer.
+
+ghost use Rattle.std.specs.Prelude.{◌≡◌, ◌≢◌, ◌≤◌, ◌+◌, ◌^◌, ℕ, List, Option, Some, OnErr, IfOk};
+ghost use Rattle.mic_base.specs.Plain.{plain_left};
+ghost use Rattle.cli_outside.specs.Outside.{sink_of};
+ghost use Rattle.cli_session.specs.Texts.{state_text, word_line};
+ghost use Rattle.cli_rewind.specs.Lines.{back_text};
+ghost use Rattle.cli_rewind.specs.Stand.{Follows, IsCutBy, IsCutForward, IsCutIn, Obeys, Stand, StandsAt};
+ghost use Rattle.cli_rewind.specs.Moves.{WasCut, Went, scene};
+
+use crate::moves::{go_back, go_forward};
+use crate::table::Verb;
+use crate::texts::{back_text, forward_text, refusal_text};
+use cli_session::{Command, CommandError, state_text, word_text};
+use mic_base::{Line, PlainSource, Sink, SinkFailed};
+use mic_clock::{Clocked, End};
+use mic_rewind::Rewind;
+
+/// Goes forward, and says where that came to.
+fn micro<M: Clocked, K: Sink>(
+    rewind: &mut Rewind<M>,
+    times: u32,
+    input: &mut PlainSource,
+    out: &mut K,
+) -> Result<Line, SinkFailed>
+    requires cycles { rewind.old.board.counts.cycles + 2 ^ 32 ≤ 2 ^ 62 }
+    requires well { rewind.old.board.end ≢ Some End.WriteFault }
+    ensures went { IfOk result (λ line. Went M.state M.meaning (2 ^ 32)
+        (scene rewind.old (plain_left input.old) (sink_of K.held K.passed K.faults out.old))
+        (scene rewind.new (plain_left input.new) (sink_of K.held K.passed K.faults out.new))
+        (λ s s'. Obeys M.meaning rewind.old.board.store.words rewind.old.history.depth Verb.Micro times s line s')) }
+    ensures cut { OnErr result (WasCut M.state M.meaning
+        (scene rewind.old (plain_left input.old) (sink_of K.held K.passed K.faults out.old))
+        (scene rewind.new (plain_left input.new) (sink_of K.held K.passed K.faults out.new))
+        (IsCutForward M.meaning rewind.old.board.store.words times)) }
+{
+    let end = go_forward(rewind, times, input, out)?;
+    Ok(forward_text(rewind, end))
+}
+
+/// A memory word at the cursor.
+fn word<M: Clocked>(rewind: &Rewind<M>, at: u32) -> Line
+    ensures { result ≡ word_line rewind.now.history.here.words at }
+{
+    word_text(at, rewind.peek(at).unwrap_or(0))
+}
+
+/// The registers at the cursor.
+fn regs<M: Clocked>(rewind: &Rewind<M>) -> Line
+    ensures { result ≡ state_text rewind.now.history.here.moment.registers }
+{
+    state_text(&rewind.registers())
+}
+
+/// Goes back, and says where that came to.
+fn back<M: Clocked>(rewind: &mut Rewind<M>, times: u32) -> Line
+    ensures leads { (left held : Option (List ℕ)) (s : Stand M.State) → StandsAt M.state M.meaning left held rewind.old s → (s' : Stand M.State)
+        × Obeys M.meaning rewind.old.board.store.words rewind.old.history.depth Verb.Back times s result s'
+        × StandsAt M.state M.meaning left held rewind.new s' }
+    ensures board { rewind.new.board ≡ rewind.old.board }
+    ensures depth { rewind.new.history.depth ≡ rewind.old.history.depth }
+{
+    let all = go_back(rewind, times);
+    back_text(rewind, all)
+}
+
+/// Carries out a command.
+fn obey<M: Clocked, K: Sink>(
+    rewind: &mut Rewind<M>,
+    command: Command<Verb>,
+    input: &mut PlainSource,
+    out: &mut K,
+) -> Result<Line, SinkFailed>
+    requires cycles { rewind.old.board.counts.cycles + 2 ^ 32 ≤ 2 ^ 62 }
+    requires well { rewind.old.board.end ≢ Some End.WriteFault }
+    ensures went { IfOk result (λ line. Went M.state M.meaning (2 ^ 32)
+        (scene rewind.old (plain_left input.old) (sink_of K.held K.passed K.faults out.old))
+        (scene rewind.new (plain_left input.new) (sink_of K.held K.passed K.faults out.new))
+        (λ s s'. Obeys M.meaning rewind.old.board.store.words rewind.old.history.depth command.verb command.number s line s')) }
+    ensures cut { OnErr result (WasCut M.state M.meaning
+        (scene rewind.old (plain_left input.old) (sink_of K.held K.passed K.faults out.old))
+        (scene rewind.new (plain_left input.new) (sink_of K.held K.passed K.faults out.new))
+        (IsCutBy M.meaning rewind.old.board.store.words command.verb command.number)) }
+{
+    match command.verb {
+        Verb::Micro => micro(rewind, command.number, input, out),
+        Verb::Back => Ok(back(rewind, command.number)),
+        Verb::Word => Ok(word(rewind, command.number)),
+        Verb::Regs => Ok(regs(rewind)),
+        Verb::Quit => Ok(Line::new()),
+    }
+}
+
+/// Carries out a command, if there is one.
+fn obey_one<M: Clocked, K: Sink>(
+    rewind: &mut Rewind<M>,
+    command: Option<Command<Verb>>,
+    input: &mut PlainSource,
+    out: &mut K,
+) -> Result<Line, SinkFailed>
+    requires cycles { rewind.old.board.counts.cycles + 2 ^ 32 ≤ 2 ^ 62 }
+    requires well { rewind.old.board.end ≢ Some End.WriteFault }
+    ensures went { IfOk result (λ line. Went M.state M.meaning (2 ^ 32)
+        (scene rewind.old (plain_left input.old) (sink_of K.held K.passed K.faults out.old))
+        (scene rewind.new (plain_left input.new) (sink_of K.held K.passed K.faults out.new))
+        (λ s s'. Follows M.meaning rewind.old.board.store.words rewind.old.history.depth (Ok command) s line s')) }
+    ensures cut { OnErr result (WasCut M.state M.meaning
+        (scene rewind.old (plain_left input.old) (sink_of K.held K.passed K.faults out.old))
+        (scene rewind.new (plain_left input.new) (sink_of K.held K.passed K.faults out.new))
+        (IsCutIn M.meaning rewind.old.board.store.words (Ok command))) }
+{
+    match command {
+        Some(command) => obey(rewind, command, input, out),
+        None => Ok(Line::new()),
+    }
+}
+
+/// Does what was read of a line.
+pub(crate) fn follow<M: Clocked, K: Sink>(
+    rewind: &mut Rewind<M>,
+    read: Result<Option<Command<Verb>>, CommandError>,
+    input: &mut PlainSource,
+    out: &mut K,
+) -> Result<Line, SinkFailed>
+    requires cycles { rewind.old.board.counts.cycles + 2 ^ 32 ≤ 2 ^ 62 }
+    requires well { rewind.old.board.end ≢ Some End.WriteFault }
+    ensures went { IfOk result (λ line. Went M.state M.meaning (2 ^ 32)
+        (scene rewind.old (plain_left input.old) (sink_of K.held K.passed K.faults out.old))
+        (scene rewind.new (plain_left input.new) (sink_of K.held K.passed K.faults out.new))
+        (λ s s'. Follows M.meaning rewind.old.board.store.words rewind.old.history.depth read s line s')) }
+    ensures cut { OnErr result (WasCut M.state M.meaning
+        (scene rewind.old (plain_left input.old) (sink_of K.held K.passed K.faults out.old))
+        (scene rewind.new (plain_left input.new) (sink_of K.held K.passed K.faults out.new))
+        (IsCutIn M.meaning rewind.old.board.store.words read)) }
+{
+    match read {
+        Ok(command) => obey_one(rewind, command, input, out),
+        Err(error) => Ok(refusal_text(error)),
+    }
+}
