@@ -53,6 +53,12 @@ impl Name {
         })
     }
 
+    fn text_bytes(&self) -> &[u8]
+        ensures { result.now ≡ self.now }
+    {
+        &self.bytes[..usize::from(self.len)]
+    }
+
     /// The text of the name.
     pub fn text(&self) -> &str
         ensures value { result.now ≡ self.now }
@@ -68,7 +74,7 @@ impl PartialEq for Name {
     ghost laws = { partial_equiv_from_equiv nat_list_eq_equiv };
 
     fn eq(&self, other: &Name) -> bool {
-        self.text() == other.text()
+        self.text_bytes() == other.text_bytes()
     }
 }
 

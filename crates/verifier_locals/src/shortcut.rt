@@ -8,7 +8,7 @@ ghost use Rattle.verifier_locals.specs.Shortcut.{IsPlain, first_way, IsEnd, IsPa
 use crate::graph::Node;
 use std::alloc::{AllocError, Global};
 
-/// Each round at least doubles how far a way goes, up to the longest text.
+/// So many at most: each round at least doubles how far a way goes, up to the longest text.
 const ROUNDS: u32 = 16;
 
 /// The address to which the node leads, if that is one alone.
@@ -68,18 +68,26 @@ fn past(graph: &[Node], short: &[Node], way: Option<u32>) -> Option<u32>
     }
 }
 
-/// Each way goes on past the node to which it leads, as far as the way from there.
-fn shorten(graph: &[Node], short: &mut Vec<Node>)
+/// One of the node's ways is another than these.
+fn leads_elsewhere(node: Node, next: Option<u32>, jump: Option<u32>) -> bool {
+    next != node.next || jump != node.jump
+}
+
+/// Each way goes on past the node to which it leads, as far as the way from there. Answers whether one did.
+fn shorten(graph: &[Node], short: &mut Vec<Node>) -> bool
     requires inside { IsInside graph.now }
     requires short { IsShort graph.now short.old.items }
     ensures { IsShort graph.now short.new.items }
 {
+    let mut changed = false;
     for at in 0..graph.len() {
         let node = short[at];
         let next = past(graph, short, node.next);
         let jump = past(graph, short, node.jump);
+        changed |= leads_elsewhere(node, next, jump);
         short[at] = Node { next, jump, ..node };
     }
+    changed
 }
 
 /// The graph with shortcuts.
@@ -89,7 +97,9 @@ pub fn shortened(alloc: Global, graph: &[Node]) -> Result<Vec<Node>, AllocError>
 {
     let mut short = Vec::from_slice(alloc, graph)?;
     for _round in 0..ROUNDS {
-        shorten(graph, &mut short);
+        if !shorten(graph, &mut short) {
+            return Ok(short);
+        }
     }
     Ok(short)
 }
