@@ -11,6 +11,7 @@ use Rattle.mic_rewind.specs.View.{HistoryView}
 use Rattle.mic_rewind.specs.Rewind.{RewindView}
 use Rattle.cli_outside.specs.Outside.{SinkState}
 use Rattle.cli_rewind.specs.Stand.{GoesForward, IsCutForward, Stand, StandsAt, run_at, state_here}
+use Rattle.cli_rewind.proofs.Giving.{cut_whole}
 use Rattle.cli_rewind.specs.Moves.{IsShown, Scene, WasCut, Went, scene}
 
 module _ {State : Type 0} (m : Meaning State) (words : List ℕ) where
@@ -54,12 +55,15 @@ module _ {State : Type 0} (m : Meaning State) (words : List ℕ) where
   pub cut_later : (a n : ℕ) (s t : Stand State) (held : Option (List ℕ)) → GoesForward m words a None s t → a < n → IsCutForward m words 1 t held → IsCutForward m words n s held
   cut_later a n s t held p less q =
       let few = q.few in
+      let gone = goes_more a q.made s t q.mid p q.gone in
+      let below : a + q.made < n = omega (arith, few, less) in
       record {
         made = a + q.made;
         mid = q.mid;
-        gone = goes_more a q.made s t q.mid p q.gone;
-        few = omega (arith, few, less);
+        gone = gone;
+        few = below;
         out = q.out;
+        whole = cut_whole m words (a + q.made) n s q.mid held gone below q.out;
       }
 
 module _ {M State : Type 0} {state : M → State} {m : Meaning State} where

@@ -18,6 +18,7 @@ use Rattle.cli_session.specs.Meaning.{IsFrontOf}
 use Rattle.cli_rewind.specs.Stand.{GoesForward, IsCutForward, Stand, StandsAt, history_at, kept, run_at, shown_run, state_at, states_from}
 use Rattle.cli_rewind.specs.Moves.{IsMoved}
 use Rattle.cli_rewind.proofs.Turning.{earlier, stays, turned}
+use Rattle.cli_rewind.proofs.Giving.{cut_whole}
 use Rattle.cli_rewind.proofs.Snapshots.{latest, same_states, states_kept, states_more, states_none, states_split}
 
 -- a count that stays did not rise
@@ -324,10 +325,13 @@ module _ {M State : Type 0} (state : M → State) (m : Meaning State) (left left
   step_cuts none cut fault s here =
       let shown = subst (λ (o : Option End). ShowsRun state (Some left) held v.board (shown_run m words s o)) none here.run in
       let lost = (cut faults.WriteFault none tt fault).world.lost refl in
+      let front : IsFrontOf held' (run_at m words s.start s.clocked).world.given =
+      front_lost held held' v.board.bus.console.kept v'.board.bus.console.kept (run_at m words s.start s.clocked).world.given lost shown.world.given in
       record {
         made = 0;
         mid = s;
         gone = goes_nowhere s here;
         few = omega arith;
-        out = front_lost held held' v.board.bus.console.kept v'.board.bus.console.kept (run_at m words s.start s.clocked).world.given lost shown.world.given;
+        out = front;
+        whole = cut_whole m words 0 1 s s held' (goes_nowhere s here) (omega arith) front;
       }

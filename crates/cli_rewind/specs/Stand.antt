@@ -1,7 +1,8 @@
 -- Where a session stands, and what a line does there: the definition of rewinding.
-use Rattle.std.specs.Prelude.{◌≡◌, ◌<◌, ◌≤◌, ℕ, zero, suc, ◌+◌, ◌-◌, min, max, nat_le, List, [], ◌∷◌, Option, Some, None, Result, Ok, Err}
+use Rattle.std.specs.Prelude.{◌≡◌, ◌<◌, ◌≤◌, ℕ, zero, suc, ◌+◌, ◌-◌, min, max, nat_le, List, [], ◌∷◌, ◌++◌, Option, Some, None, Result, Ok, Err}
+use Rattle.console_port.specs.World.{World}
 use Rattle.mic_clock.specs.declared.end.End.{End}
-use Rattle.mic_clock.specs.Meaning.{Meaning}
+use Rattle.mic_clock.specs.Meaning.{Meaning, Done}
 use Rattle.mic_clock.specs.Run.{MicroRun, turns}
 use Rattle.mic_clock.specs.Board.{ShowsRun}
 use Rattle.mic_rewind.specs.States.{Snapshot}
@@ -36,6 +37,10 @@ kept depth s = s.cursor - (s.clocked - depth)
 -- n cycles back, or as many as are kept
 abbrev pub back : {State : Type 0} → ℕ → ℕ → Stand State → Stand State
 back depth n s = record { start = s.start; clocked = s.clocked; cursor = s.cursor - min n (kept depth s) }
+
+-- a machine that only adds to what it has given
+abbrev pub OnlyGives : {State : Type 0} → Meaning State → Type 0
+OnlyGives {State} m = (word : ℕ) (s s' : State) (w w' : World) → m.step word s w ≡ Done s' w' → (more : List ℕ) × (w'.given ≡ w.given ++ more)
 
 -- ---- forward, and what is seen there, over the words of a control store
 
@@ -110,13 +115,14 @@ module _ {State : Type 0} (m : Meaning State) (words : List ℕ) where
 
   -- ---- what a failing sink leaves of a line
 
-  -- `out` failed in a cycle that n cycles forward came to: it holds a front of what was given before it
+  -- `out` failed in a cycle that n cycles forward came to: it holds a front of what was given before it. So that is a front too of what is given where all is done whole.
   pub record IsCutForward (n : ℕ) (s : Stand State) (held : Option (List ℕ)) : Type 0 where
     pub made : ℕ
     pub mid : Stand State
     pub gone : GoesForward made None s mid
     pub few : made < n
     pub out : IsFrontOf held (run_at mid.start mid.clocked).world.given
+    pub whole : OnlyGives m → (end : Option End) (s' : Stand State) → GoesForward n end s s' → IsFrontOf held (run_at s'.start s'.clocked).world.given
 
   abbrev pub IsCutBy : Verb → ℕ → Stand State → Option (List ℕ) → Type 0
   IsCutBy verbs.Micro n = IsCutForward n
