@@ -29,7 +29,7 @@ module _ {M State : Type 0} (state : M → State) (m : Meaning State) where
   abbrev pub IsShown : Scene M → Stand State → Type 0
   IsShown c s = StandsAt state m (Some c.input) c.out.held c.rewind s
 
-  -- `out` did not fail. Each stand that was shown is followed by one that is shown now; at most so many cycles were clocked.
+  -- `out` did not fail. Each stand that was shown is followed by one that is shown now.
   pub record Went (most : ℕ) (old new : Scene M) (Follows : Stand State → Stand State → Type 0) : Type 0 where
     pub leads : (s : Stand State) → IsShown old s → (s' : Stand State) × Follows s s' × IsShown new s'
     pub moved : IsMoved most old.rewind new.rewind
@@ -37,7 +37,7 @@ module _ {M State : Type 0} (state : M → State) (m : Meaning State) where
     pub faults : new.out.faults ≡ old.out.faults
     pub keeps : (front : List ℕ) → Holds front old.out.held → Holds front new.out.held
 
-  -- `out` failed, and holds what it held before and more. Of each stand that was shown this holds, by what `out` holds now.
+  -- `out` failed. Of each stand that was shown this holds, by what `out` holds now.
   pub record WasCut (old new : Scene M) (Cuts : Stand State → Option (List ℕ) → Type 0) : Type 0 where
     pub cuts : (s : Stand State) → IsShown old s → Cuts s new.out.held
     pub keeps : (front : List ℕ) → Holds front old.out.held → Holds front new.out.held
@@ -48,7 +48,8 @@ module _ {M State : Type 0} (state : M → State) (m : Meaning State) where
 module _ {M State : Type 0} (state : M → State) (m : Meaning State) where
   -- the console's bytes were put to `out`, and nothing waits
   pub record IsPassedOn (old new : RewindView M) (out out' : SinkState) : Type 0 where
-    pub shows : (left : Option (List ℕ)) (s : Stand State) → StandsAt state m left out.held old s → StandsAt state m left out'.held new s
+    pub shows : (left : Option (List ℕ)) (s : Stand State) → StandsAt state m left out.held old s →
+        StandsAt state m left out'.held new s
     pub history : new.history ≡ old.history
     pub board : new.board ≡ record old.board { bus = new.board.bus }
     pub kept : new.board.bus.console.kept ≡ []

@@ -25,12 +25,13 @@ pub record RewindingRules : Type 0 where
 abbrev pub rules_of : {M : Type 0} → RewindingView M → RewindingRules
 rules_of d = record { words = d.rewind.board.store.words; memory = d.memory; depth = d.rewind.history.depth }
 
--- the board has come to no fault of `out`, and so many lines, each of fewer than 2^32 cycles, stay within the bound of its counts
+-- the board has come to no fault of `out`, and its counts have room for so many lines, each of fewer than 2^32 cycles
 pub record Lasts {M : Type 0} (n : ℕ) (d : RewindingView M) : Type 0 where
   pub cycles : d.rewind.board.counts.cycles + n * 2 ^ 32 ≤ 2 ^ 62
   pub well : d.rewind.board.end ≢ Some ends.WriteFault
 
-abbrev pub rewinding : {M State : Type 0} → (M → State) → Meaning State → SessionMeaning (RewindingView M) RewindingRules (Stand State)
+abbrev pub rewinding : {M State : Type 0} → (M → State) → Meaning State →
+    SessionMeaning (RewindingView M) RewindingRules (Stand State)
 rewinding state m =
     record {
       quits = λ d. is_quit d.memory;

@@ -28,17 +28,20 @@ status_after steps.SinkFailed = exits.sink
 
 module _ {M State : Type 0} (state : M → State) (m : Meaning State) where
   -- a session over an accepted program at its reset, which stands there whatever its input has left and `out` holds
-  pub record IsStart (depth : ℕ) (micro : Program) (l : Loaded) (program : VerifiedView) (d : RewindingView M) : Type 0 where
+  pub record IsStart (depth : ℕ) (micro : Program) (l : Loaded) (program : VerifiedView)
+      (d : RewindingView M) : Type 0 where
     pub reset : IsFirstBoard state m micro l program d.rewind.board
     pub depth_is : d.rewind.history.depth ≡ depth
     pub memory : d.memory ≡ program.map.stack_end
     pub stands : (left held : Option (List ℕ)) (w : World) → Shows left held d.rewind.board.bus w →
         StandsAt state m left held d.rewind (at_reset (reset_run m l.entry program.main_locals w))
 
-  pub data IsRewound (depth : ℕ) (micro : Program) (program : VerifiedView) (input : List ℕ) (old new : OutsideView) (status : ℕ) : Type 0 where
+  pub data IsRewound (depth : ℕ) (micro : Program) (program : VerifiedView) (input : List ℕ)
+      (old new : OutsideView) (status : ℕ) : Type 0 where
     -- memory was wanting before the first line
     NoRoom : TellsOnErr out_of_memory exits.memory old new status → IsRewound depth micro program input old new status
     -- the lines of the console were done, as far as they go
-    Went : (l : Loaded) (first last : RewindingView M) (step : Step) → IsStart depth micro l program first → first.input ≡ input →
+    Went : (l : Loaded) (first last : RewindingView M) (step : Step) → IsStart depth micro l program first →
+        first.input ≡ input →
         Goes (rewinding state m) most_lines 0 (place first old) (place last new) step → status ≡ status_after step →
         IsRewound depth micro program input old new status

@@ -40,7 +40,8 @@ back depth n s = record { start = s.start; clocked = s.clocked; cursor = s.curso
 
 -- a machine that only adds to what it has given
 abbrev pub OnlyGives : {State : Type 0} → Meaning State → Type 0
-OnlyGives {State} m = (word : ℕ) (s s' : State) (w w' : World) → m.step word s w ≡ Done s' w' → (more : List ℕ) × (w'.given ≡ w.given ++ more)
+OnlyGives {State} m =
+    (word : ℕ) (s s' : State) (w w' : World) → m.step word s w ≡ Done s' w' → (more : List ℕ) × (w'.given ≡ w.given ++ more)
 
 -- ---- forward, and what is seen there, over the words of a control store
 
@@ -97,8 +98,10 @@ module _ {State : Type 0} (m : Meaning State) (words : List ℕ) where
   module _ (depth : ℕ) where
     -- this command, with this number, leads from one stand to the next and prints this text
     abbrev pub Obeys : Verb → ℕ → Stand State → List ℕ → Stand State → Type 0
-    Obeys verbs.Micro n s text s' = (end : Option End) × GoesForward n end s s' × (text ≡ forward_text end (state_here s').moment)
-    Obeys verbs.Back n s text s' = (s' ≡ back depth n s) × (text ≡ back_text (nat_le n (kept depth s)) (state_here s').moment)
+    Obeys verbs.Micro n s text s' =
+        (end : Option End) × GoesForward n end s s' × (text ≡ forward_text end (state_here s').moment)
+    Obeys verbs.Back n s text s' =
+        (s' ≡ back depth n s) × (text ≡ back_text (nat_le n (kept depth s)) (state_here s').moment)
     Obeys verbs.Word at s text s' = (s' ≡ s) × (text ≡ word_line (state_here s).words at)
     Obeys verbs.Regs n s text s' = (s' ≡ s) × (text ≡ state_text (state_here s).moment.registers)
     Obeys verbs.Quit n s text s' = (s' ≡ s) × (text ≡ [])
@@ -115,14 +118,15 @@ module _ {State : Type 0} (m : Meaning State) (words : List ℕ) where
 
   -- ---- what a failing sink leaves of a line
 
-  -- `out` failed in a cycle that n cycles forward came to: it holds a front of what was given before it. So that is a front too of what is given where all is done whole.
+  -- `out` failed in a cycle of n cycles forward: it holds a front of what was given before that, and so of what all give.
   pub record IsCutForward (n : ℕ) (s : Stand State) (held : Option (List ℕ)) : Type 0 where
     pub made : ℕ
     pub mid : Stand State
     pub gone : GoesForward made None s mid
     pub few : made < n
     pub out : IsFrontOf held (run_at mid.start mid.clocked).world.given
-    pub whole : OnlyGives m → (end : Option End) (s' : Stand State) → GoesForward n end s s' → IsFrontOf held (run_at s'.start s'.clocked).world.given
+    pub whole : OnlyGives m → (end : Option End) (s' : Stand State) → GoesForward n end s s' →
+        IsFrontOf held (run_at s'.start s'.clocked).world.given
 
   abbrev pub IsCutBy : Verb → ℕ → Stand State → Option (List ℕ) → Type 0
   IsCutBy verbs.Micro n = IsCutForward n
@@ -133,15 +137,18 @@ module _ {State : Type 0} (m : Meaning State) (words : List ℕ) where
   IsCutIn (Ok None) = λ s held. ⊥
   IsCutIn (Err e) = λ s held. ⊥
 
-  pub data IsBrokenOff (depth memory : ℕ) (line : List ℕ) (s : Stand State) (held said said' : Option (List ℕ)) : Type 0 where
+  pub data IsBrokenOff (depth memory : ℕ) (line : List ℕ) (s : Stand State)
+      (held said said' : Option (List ℕ)) : Type 0 where
     -- a cycle was cut, and nothing was printed
     Cut : IsCutIn (command_of memory line) s held → said' ≡ said → IsBrokenOff depth memory line s held said said'
     -- the line was done, and then `out` or `err` failed: they hold fronts of what was given and printed
-    Told : (text : List ℕ) (s' : Stand State) → Does depth memory line s text s' → IsFrontOf held (run_at s'.start s'.clocked).world.given →
+    Told : (text : List ℕ) (s' : Stand State) → Does depth memory line s text s' →
+        IsFrontOf held (run_at s'.start s'.clocked).world.given →
         GotInPart said text said' → IsBrokenOff depth memory line s held said said'
 
--- A rewind between what its input has left and what `out` holds shows a stand. Its states are those of the one run, and the run has not ended before the board did.
-pub record StandsAt {M State : Type 0} (state : M → State) (m : Meaning State) (left held : Option (List ℕ)) (v : RewindView M) (s : Stand State) : Type 0 where
+-- A rewind between what its input has left and what `out` holds shows a stand: its states are those of the one run.
+pub record StandsAt {M State : Type 0} (state : M → State) (m : Meaning State) (left held : Option (List ℕ))
+    (v : RewindView M) (s : Stand State) : Type 0 where
   pub run : ShowsRun state left held v.board (shown_run m v.board.store.words s v.board.end)
   pub running : (run_at m v.board.store.words s.start s.clocked).end ≡ None
   pub history : v.history ≡ history_at m v.board.store.words v.history.depth s

@@ -16,8 +16,8 @@ use mic_base::{Files, Sink, Source};
 use mic_clock::Clocked;
 use std::alloc::Global;
 
-/// Reads a program and its input, and steps its run by the microprogram that ships forward and back, as the lines of the
-/// console ask. The last `depth` cycles are kept, of which there are 1 to 65,536.
+/// Reads a program and its input, and steps its run by the microprogram that ships forward and back, as the console's
+/// lines ask. So many of the last cycles are kept, 1 to 65,536, to go back over.
 pub fn rewind_file<M: Clocked + Drop, F: Files, S: Source, K: Sink, E: Sink>(
     alloc: Global,
     machine: M,
@@ -30,7 +30,8 @@ pub fn rewind_file<M: Clocked + Drop, F: Files, S: Source, K: Sink, E: Sink>(
     requires depth { (0 < depth) × (depth ≤ 65536) }
     requires map { IsMap map.stack_end }
     ensures { Over (EndsPrepared M.meaning.machine map
-        (λ micro program. EndsWithInput (IsRewound M.state M.meaning depth micro program) (option_map (λ name. name.now) input.entry))
+        (λ micro program. EndsWithInput (IsRewound M.state M.meaning depth micro program)
+        (option_map (λ name. name.now) input.entry))
         file.now None) outside.old outside.new result.0 }
 {
     let prepared = match prepare(alloc, machine.machine(), file, None, map, outside) {

@@ -84,7 +84,8 @@ pub(crate) fn go_forward<M: Clocked, K: Sink>(
 
 /// Goes back by so many cycles, or by all that are kept; answers whether these were as many.
 pub(crate) fn go_back<M: Clocked>(rewind: &mut Rewind<M>, times: u32) -> bool
-    ensures goes { (left held : Option (List ℕ)) (s : Stand M.State) → StandsAt M.state M.meaning left held rewind.old s →
+    ensures goes { (left held : Option (List ℕ)) (s : Stand M.State) →
+        StandsAt M.state M.meaning left held rewind.old s →
         StandsAt M.state M.meaning left held rewind.new (back rewind.old.history.depth times s)
         × (result ≡ nat_le times (kept rewind.old.history.depth s)) }
     ensures board { rewind.new.board ≡ rewind.old.board }

@@ -54,7 +54,8 @@ fn regs<M: Clocked>(rewind: &Rewind<M>) -> Line
 
 /// Goes back, and says where that came to.
 fn back<M: Clocked>(rewind: &mut Rewind<M>, times: u32) -> Line
-    ensures leads { (left held : Option (List ℕ)) (s : Stand M.State) → StandsAt M.state M.meaning left held rewind.old s → (s' : Stand M.State)
+    ensures leads { (left held : Option (List ℕ)) (s : Stand M.State) →
+        StandsAt M.state M.meaning left held rewind.old s → (s' : Stand M.State)
         × Obeys M.meaning rewind.old.board.store.words rewind.old.history.depth Verb.Back times s result s'
         × StandsAt M.state M.meaning left held rewind.new s' }
     ensures board { rewind.new.board ≡ rewind.old.board }
@@ -76,7 +77,8 @@ fn obey<M: Clocked, K: Sink>(
     ensures went { IfOk result (λ line. Went M.state M.meaning (2 ^ 32)
         (scene rewind.old (plain_left input.old) (sink_of K.held K.passed K.faults out.old))
         (scene rewind.new (plain_left input.new) (sink_of K.held K.passed K.faults out.new))
-        (λ s s'. Obeys M.meaning rewind.old.board.store.words rewind.old.history.depth command.verb command.number s line s')) }
+        (λ s s'. Obeys M.meaning rewind.old.board.store.words rewind.old.history.depth
+        command.verb command.number s line s')) }
     ensures cut { OnErr result (WasCut M.state M.meaning
         (scene rewind.old (plain_left input.old) (sink_of K.held K.passed K.faults out.old))
         (scene rewind.new (plain_left input.new) (sink_of K.held K.passed K.faults out.new))

@@ -27,8 +27,8 @@ fn begun<M: Clocked + Drop>(
 ) -> Result<Rewinding<M>, AllocError>
     requires machine { prepared.micro.program.machine ≡ M.meaning.machine }
     requires depth { (0 < depth) × (depth ≤ 65536) }
-    ensures start { IfOk result (λ d. IsStart M.state M.meaning depth prepared.micro.program prepared.micro.loaded prepared.program
-        (rewinding_view d.rewind d.words (plain_left d.input))) }
+    ensures start { IfOk result (λ d. IsStart M.state M.meaning depth
+        prepared.micro.program prepared.micro.loaded prepared.program (rewinding_view d.rewind d.words (plain_left d.input))) }
     ensures input { IfOk result (λ d. plain_left d.input ≡ input.items) }
 {
     let Prepared { program, micro } = prepared;
@@ -55,7 +55,7 @@ fn status_after(step: Step) -> Status
     }
 }
 
-/// Steps the run of an accepted program forward and back, as the lines of the console ask. The program's input is given whole.
+/// Steps the run of an accepted program forward and back, as the console's lines ask. The program's input is given whole.
 pub fn rewind_program<M: Clocked + Drop, F: Files, S: Source, K: Sink, E: Sink>(
     alloc: Global,
     machine: M,
@@ -66,7 +66,8 @@ pub fn rewind_program<M: Clocked + Drop, F: Files, S: Source, K: Sink, E: Sink>(
 ) -> Status
     requires machine { prepared.micro.program.machine ≡ M.meaning.machine }
     requires depth { (0 < depth) × (depth ≤ 65536) }
-    ensures { Over (IsRewound M.state M.meaning depth prepared.micro.program prepared.program input.items) outside.old outside.new result.0 }
+    ensures { Over (IsRewound M.state M.meaning depth prepared.micro.program prepared.program input.items)
+        outside.old outside.new result.0 }
 {
     let mut rewinding = match begun(alloc, machine, prepared, depth, input) {
         Ok(rewinding) => rewinding,

@@ -37,15 +37,21 @@ fn do_line<M: Clocked, K: Sink, E: Sink>(
     ensures lasts { OnOk result ((n : ℕ) → Lasts (suc n) (rewinding_view rewind.old words (plain_left input.old)) →
         Lasts n (rewinding_view rewind.new words (plain_left input.new))) }
     ensures quits { IfOk result (λ quits. quits ≡ is_quit words line.now) }
-    ensures done { OnOk result ((files : FilesState) (console : SourceState) → Gone (rewinding M.state M.meaning) (line.now ∷ [])
+    ensures done { OnOk result ((files : FilesState) (console : SourceState) →
+        Gone (rewinding M.state M.meaning) (line.now ∷ [])
         (place (rewinding_view rewind.old words (plain_left input.old))
-        (outside_view files console (sink_of K.held K.passed K.faults out.old) (sink_of E.held E.passed E.faults err.old)))
+        (outside_view files console (sink_of K.held K.passed K.faults out.old)
+        (sink_of E.held E.passed E.faults err.old)))
         (place (rewinding_view rewind.new words (plain_left input.new))
-        (outside_view files console (sink_of K.held K.passed K.faults out.new) (sink_of E.held E.passed E.faults err.new)))) }
-    ensures broken { OnErr result ((files : FilesState) (console : SourceState) → IsCutShort (rewinding M.state M.meaning) line.now
+        (outside_view files console (sink_of K.held K.passed K.faults out.new)
+        (sink_of E.held E.passed E.faults err.new)))) }
+    ensures broken { OnErr result ((files : FilesState) (console : SourceState) →
+        IsCutShort (rewinding M.state M.meaning) line.now
         (place (rewinding_view rewind.old words (plain_left input.old))
-        (outside_view files console (sink_of K.held K.passed K.faults out.old) (sink_of E.held E.passed E.faults err.old)))
-        (outside_view files console (sink_of K.held K.passed K.faults out.new) (sink_of E.held E.passed E.faults err.new))) }
+        (outside_view files console (sink_of K.held K.passed K.faults out.old)
+        (sink_of E.held E.passed E.faults err.old)))
+        (outside_view files console (sink_of K.held K.passed K.faults out.new)
+        (sink_of E.held E.passed E.faults err.new))) }
 {
     let read = read_command(line, words);
     let answer = follow(rewind, read, input, out)?;
