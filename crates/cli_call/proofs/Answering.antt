@@ -1,5 +1,5 @@
 -- Each end of a call is one of its answers.
-use Rattle.std.proofs.Common.{◌≡◌, ◌≢◌, ◌∙◌, ◌+◌, ◌-◌, ◌⊎◌, ℕ, Bool, List, Option, Some, None, refl, sym, ap, subst, arith, inl, inr}
+use Rattle.std.proofs.Common.{◌≡◌, ◌≢◌, ◌∙◌, ◌⊎◌, ℕ, Bool, List, Option, Some, None, refl, sym, ap, subst, arith, inl, inr}
 use Rattle.std.proofs.lemmas.Option.{same_Some}
 use Rattle.mic_words.specs.declared.machine.Machine.{Machine}
 use Rattle.mic_words.specs.declared.machine.Machine.TheVariants.{Mic1, Mic2}

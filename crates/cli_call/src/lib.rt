@@ -1,5 +1,5 @@
 //! One call of the program `mic`: its words, its files and its streams.
-//! It assembles, verifies, lists and runs programs of IJVM, and places and prints microprograms.
+//! It assembles, verifies, lists and runs programs of IJVM, compiles those of Tiny, and places and prints microprograms.
 #![tactic(auto)]
 
 mod answers;
