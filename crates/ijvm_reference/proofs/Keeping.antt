@@ -5,7 +5,7 @@ use Rattle.console_port.specs.View.{ConsoleView}
 use Rattle.console_port.specs.Console.{Untaken, Asks, TellsLeft}
 use Rattle.ijvm_instr.specs.declared.instr.Instr.{Instr}
 use Rattle.ijvm_instr.specs.declared.instr.Instr.TheVariants.{In, Out}
-use Rattle.ijvm_reference.specs.Kept.{is_empty, WritesOut, HasRead, HasKept}
+use Rattle.ijvm_reference.specs.Kept.{is_empty, ReadsIn, WritesOut, Keeps, HasRead, HasKept}
 
 -- the source, asked for a byte
 abbrev pub AsksOf : Option (List ℕ) → Option (List ℕ) → ConsoleView → ConsoleView → Type 0
@@ -64,3 +64,28 @@ kept_same left i c not_in not_out = λ told untaken tell here. record {
   write = λ e. absurd (not_out e);
   other = λ n m. refl;
 }
+
+-- The console after an instruction: each instruction leaves one, whatever console meets it.
+
+read_next : (told : Bool) (untaken : List ℕ) (c : ConsoleView) → (c' : ConsoleView) × ReadsIn told untaken c c'
+read_next told untaken c = by_end c.ended refl
+  where
+    by_end : (b : Bool) → c.ended ≡ b → (c' : ConsoleView) × ReadsIn told untaken c c'
+    by_end true e = (c, record { later = λ h. refl; emptied = λ h. absurd (let differ : true ≡ false = sym e ∙ h in cc); end = λ h is. absurd (let differ : true ≡ false = sym e ∙ h in cc) })
+    by_end false e = (record { kept = []; ended = is_empty untaken }, record { later = λ h. absurd (let differ : true ≡ false = sym h ∙ e in cc); emptied = λ h. refl; end = λ h is. refl })
+
+write_next : (c : ConsoleView) → (c' : ConsoleView) × WritesOut c c'
+write_next c = by_room (nat_lt (length c.kept) 4096) refl
+  where
+    by_room : (b : Bool) → nat_lt (length c.kept) 4096 ≡ b → (c' : ConsoleView) × WritesOut c c'
+    by_room true e = (record { kept = 0 ∷ c.kept; ended = c.ended }, record { ended = refl; more = λ h. grind (arith); full = λ h. absurd (grind (arith, nat_tests)) })
+    by_room false e = (record { kept = 0 ∷ []; ended = c.ended }, record { ended = refl; more = λ h. absurd (grind (arith, nat_tests)); full = λ h. refl })
+
+pub next_kept : (told : Bool) (i : Option Instr) (untaken : List ℕ) (c : ConsoleView) → (c' : ConsoleView) × Keeps told i untaken c c'
+next_kept told (Some In) untaken c =
+    let next = read_next told untaken c in
+    (next.0, record { read = λ e. next.1; write = λ e. absurd (cc); other = λ n m. absurd (n refl) })
+next_kept told (Some Out) untaken c =
+    let next = write_next c in
+    (next.0, record { read = λ e. absurd (cc); write = λ e. next.1; other = λ n m. absurd (m refl) })
+next_kept told i untaken c = (c, record { read = λ e. absurd (cc); write = λ e. absurd (cc); other = λ n m. refl })

@@ -17,7 +17,7 @@ use Rattle.mic_base.specs.Streams.{Holds}
 use Rattle.ijvm_reference.specs.declared.plain.Counts.{Counts}
 use Rattle.ijvm_image.specs.Image.{ImageView}
 use Rattle.ijvm_meaning.specs.Frames.{State}
-use Rattle.ijvm_meaning.specs.Step.{Outcome, Halts, Errs, Limits, outcome}
+use Rattle.ijvm_meaning.specs.Step.{Outcome, Goes, Halts, Errs, Limits, outcome}
 use Rattle.ijvm_meaning.specs.Cost.{timing_of, next_cost}
 use Rattle.ijvm_meaning.specs.Run.{Program, Point, Finish, point_after, completed, stopped, after_outcome, after_test, finish_from, EndsBy, Passes, Start, More}
 use Rattle.ijvm_reference.specs.Machine.{MachineView, KeepsProgram, state_of}
@@ -26,6 +26,7 @@ use Rattle.ijvm_reference.proofs.Costs.{next_cost-least}
 use Rattle.ijvm_reference.proofs.SafeLemmas.{some_untaken, some_given}
 use Rattle.ijvm_reference.proofs.Limited.{limits-same, same_frames}
 use Rattle.ijvm_reference.specs.Kept.{HasKept}
+use Rattle.ijvm_reference.proofs.Keeping.{next_kept}
 use Rattle.ijvm_reference.specs.Runs.{program_of, point_at, RunEndsWith, IsAllBut, IsCut, StoppedBy, IsShown, LedTo, GoesOn, Reaches, Begins, Onward, cut_by}
 
 -- what a step leads to, told in other words
@@ -218,6 +219,15 @@ finish_passes p bound from at f (More b next to first under goes is) e =
 pub passed : (told : Bool) (p : Program) (bound : ℕ) (from : Point) (c0 : ConsoleView) (at : Point) (c : ConsoleView) → Reaches told p bound from c0 at c → Passes p bound from at
 passed told p bound from c0 at c (Begins a d same is) = Start a same
 passed told p bound from c0 at c (Onward b next d d' first on) = More b next next.state (passed told p bound from c0 b d first) on.under on.goes on.counts
+
+-- and it reaches each boundary that it passes
+pub reached : (told : Bool) (p : Program) (bound : ℕ) (from : Point) (c0 : ConsoleView) (at : Point) → Passes p bound from at → (c : ConsoleView) × Reaches told p bound from c0 at c
+reached told p bound from c0 at (Start a same) = (c0, Begins at c0 same refl)
+reached told p bound from c0 at (More b next to before under goes is) =
+    let first = reached told p bound from c0 b before in
+    let kept = next_kept told (instr_at p.image.text b.state.at) b.state.untaken first.0 in
+    let state : to ≡ next.state = sym (ap (λ (q : Point). q.state) is) in
+    (kept.0, Onward b next first.0 kept.0 first.1 (record { under = under; goes = goes ∙ ap Goes state; counts = is ∙ ap (point_after p b) state; keeps = kept.1 }))
 
 reaches_on : (told : Bool) (p : Program) (bound : ℕ) (from : Point) (c0 : ConsoleView) (at : Point) (c : ConsoleView) (to : Point) (d : ConsoleView) → Reaches told p bound from c0 at c → Reaches told p bound at c to d → Reaches told p bound from c0 to d
 reaches_on told p bound from c0 at c to d first (Begins a b same is) =
