@@ -1,4 +1,5 @@
-//! Runs the cases that `index.txt` names: each is a call of `mic` in memory, and what must come of it. `cases show FILE` prints a case with what comes of it now.
+//! Runs the cases that `index.txt` names: each is a call of `mic` in memory, and what must come of it.
+//! `cases show FILE` prints a case with what comes of it now.
 #![tactic(auto)]
 
 mod answer;

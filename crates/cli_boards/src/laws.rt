@@ -13,8 +13,10 @@ ghost use Rattle.cli_boards.specs.Runs.{RunsThrough};
 
 use mic_clock::Clocked;
 
-/// The cycles of a run from its reset are clocked one after the other, and they are as many as the board counts. So the profile of a run counts what the run completed.
+/// The cycles of a run from its reset are clocked one after the other, and they are as many as the board counts. So
+/// the profile of a run counts what the run completed.
 pub fn runs_are_clocked_from_reset<M: Clocked>()
-    ensures { (bound : ℕ) (micro : Program) (l : Loaded) (program : VerifiedView) (cycles : List Cycle) (last : BoardView M) (end : Option End) (old new : OutsideView) →
+    ensures { (bound : ℕ) (micro : Program) (l : Loaded) (program : VerifiedView) (cycles : List Cycle)
+        (last : BoardView M) (end : Option End) (old new : OutsideView) →
         RunsThrough M.state M.meaning bound micro l program cycles last end old new → AreClockedAfter 0 cycles × (length cycles ≡ last.counts.cycles) }
 {}

@@ -1,4 +1,5 @@
--- That `run` and `reference` of one program agree: the same output, the same status, and the same first three lines of their reports. That `run` agrees on two machines: the same output, status, end and number of instructions.
+-- That `run` and `reference` of one program agree: the same output, the same status, and the same first three lines
+-- of their reports. That `run` agrees on two machines: the same output, status, end and number of instructions.
 use Rattle.std.specs.Prelude.{◌≡◌, ◌≢◌, ◌⊎◌, ℕ, List, ◌++◌, Some, codes}
 use Rattle.mic_base.specs.Causes.{Rose}
 use Rattle.mic_clock.specs.declared.counts.Counts.{Counts}

@@ -38,7 +38,8 @@ use Rattle.cli_call.specs.ClockedEnd.{ClockedEnd}
 use Rattle.cli_call.specs.Usage.{usage_text}
 
 -- A machine: its meaning, when its next instruction is ready, its store that ships, where that begins, and what is spent.
-module _ {M S : Type 0} (state : M → S) (m : Meaning S) (IsReady : ℕ → List ℕ → ℕ → S → Type 0) (IsShipped : List ℕ → Type 0) (entry : ℕ) (timing : Timing) where
+module _ {M S : Type 0} (state : M → S) (m : Meaning S) (IsReady : ℕ → List ℕ → ℕ → S → Type 0)
+    (IsShipped : List ℕ → Type 0) (entry : ℕ) (timing : Timing) where
   -- how what is asked of it ends
   abbrev pub EndsOn : Asked → OutsideView → OutsideView → ℕ → Type 0
   EndsOn (Run file machine bound map) = EndsOver map (ClockedEnd state m IsReady IsShipped entry timing bound) file

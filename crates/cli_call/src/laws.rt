@@ -25,9 +25,11 @@ use ijvm_simulation::interpreters_agree;
 use shipped_microcode::{Mic1Interpreter, Mic2Interpreter};
 use tiny_compiler::{compiled_programs_run_as_meant, texts_compile_to_one_program};
 
-/// Two calls over one file, `run` and `reference`, on the same machine and map, with the same bound and input, agree where no fault comes and neither is out of memory.
+/// Two calls over one file, `run` and `reference`, on the same machine and map, with the same bound and input, agree
+/// where no fault comes and neither is out of memory.
 pub fn run_agrees_with_reference()
-    ensures { (machine : Machine) (file : List ℕ) (map : MemoryMap) (bound : ℕ) (input : List ℕ) (contents : Contents) (old ran told : OutsideView) (status status' : ℕ) →
+    ensures { (machine : Machine) (file : List ℕ) (map : MemoryMap) (bound : ℕ) (input : List ℕ)
+        (contents : Contents) (old ran told : OutsideView) (status status' : ℕ) →
         old.console.left ≡ Some input → old.files.contents ≡ Some contents →
         CallEnds (Some (Run file machine bound map)) old ran status → CallEnds (Some (Reference file machine bound map)) old told status' →
         IsQuiet old ran status → IsQuiet old told status' → CallsAgree (Agrees old ran told status status') status status' }
@@ -36,7 +38,8 @@ pub fn run_agrees_with_reference()
     a_file_has_one_program();
 }
 
-/// Two calls of `run` over one file, on Mic-1 and on Mic-2, with the same map and input, give the same output and the same end where no fault comes, neither is out of memory and neither meets its bound.
+/// Two calls of `run` over one file, on Mic-1 and on Mic-2, with the same map and input, give the same output and the
+/// same end where no fault comes, neither is out of memory and neither meets its bound.
 pub fn run_agrees_on_both_machines()
     ensures { (file : List ℕ) (map : MemoryMap) (bound bound' : ℕ) (input : List ℕ) (contents : Contents) (old one other : OutsideView) (status status' : ℕ) →
         old.console.left ≡ Some input → old.files.contents ≡ Some contents →
@@ -58,7 +61,8 @@ pub fn tiny_does_what_is_meant()
     runs_end_once();
 }
 
-/// No step of Mic-1 or of Mic-2 takes back what was given. So where a sink fails in a session, standard output holds a front of what its line gives, done whole.
+/// No step of Mic-1 or of Mic-2 takes back what was given. So where a sink fails in a session, standard output holds
+/// a front of what its line gives, done whole.
 pub fn machines_only_give()
     ensures mic1 { OnlyGives mic1_meaning }
     ensures mic2 { OnlyGives mic2_meaning }

@@ -88,7 +88,8 @@ Got old text new = new ≡ option_map (λ held. held ++ text) old
 abbrev pub GotInPart : Option (List ℕ) → List ℕ → Option (List ℕ) → Type 0
 GotInPart old text new = (n : ℕ) × (new ≡ option_map (λ held. held ++ take n text) old)
 
--- The sink got the text and has passed on all that it holds, and the status is the text's. Or the sink failed: it got a front of the text, and the status is a failed sink's.
+-- The sink got the text and has passed on all that it holds, and the status is the text's. Or the sink failed: it got
+-- a front of the text, and the status is a failed sink's.
 pub data Says (old new : SinkState) (text : List ℕ) (code status : ℕ) : Type 0 where
   Said : status ≡ code → Got old.held text new.held → IsFlushed new.held new.passed → new.faults ≡ old.faults → Says old new text code status
   Unsaid : status ≡ exits.sink → GotInPart old.held text new.held → Rose old.faults new.faults → Says old new text code status

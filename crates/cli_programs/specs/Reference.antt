@@ -26,11 +26,13 @@ pub data IsReported (machine : Machine) (bound : ℕ) (program : VerifiedView) (
       new.console.faults ≡ old.console.faults → new.out.faults ≡ old.out.faults → StaysFlushed old.out.held old.out.passed new.out.held new.out.passed →
       IsReported machine bound program old new r
   -- the console failed, which cut the run at an IN; `out` has got all the output before it, and has passed on all
-  CutByRead : r.end ≡ ends.ReadFault → IsCutByRead (verified_program program machine) program.main_locals bound old.console.left old.out.held new.console.left new.out.held r →
+  CutByRead : r.end ≡ ends.ReadFault →
+      IsCutByRead (verified_program program machine) program.main_locals bound old.console.left old.out.held new.console.left new.out.held r →
       Rose old.console.faults new.console.faults → new.out.faults ≡ old.out.faults → StaysFlushed old.out.held old.out.passed new.out.held new.out.passed →
       IsReported machine bound program old new r
   -- `out` failed, which cut the run at an IN or an OUT, or at its end; `out` has got a front of the output
-  CutByWrite : r.end ≡ ends.WriteFault → IsCutByWrite (verified_program program machine) program.main_locals bound old.console.left old.out.held new.console.left new.out.held r →
+  CutByWrite : r.end ≡ ends.WriteFault →
+      IsCutByWrite (verified_program program machine) program.main_locals bound old.console.left old.out.held new.console.left new.out.held r →
       new.console.faults ≡ old.console.faults → Rose old.out.faults new.out.faults → IsReported machine bound program old new r
 
 -- A run of the program, and what is said of it on `err`.

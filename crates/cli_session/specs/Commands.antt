@@ -61,7 +61,8 @@ module _ {V : Type 0} where
   with_row words None word = Err BadCommand
   with_row words (Some form) word = with_argument words form word
 
-  -- What a line says by a table, over a memory of so many words. It has at most 255 bytes; a line without a word says nothing; behind a command's word stands at most its argument.
+  -- What a line says by a table, over a memory of so many words. It has at most 255 bytes; a line without a word says
+  -- nothing; behind a command's word stands at most its argument.
   unfoldable pub command_in : List (CommandForm V) → ℕ → List ℕ → Result (Option (Command V)) CommandError
   command_in forms words line =
       if nat_lt 255 (length line) then Err BadCommand else

@@ -25,7 +25,8 @@ pub record IsGenerated (seed size : ℕ) (program : VerifiedView) : Type 0 where
   pub accepted : IsAccepted program
 
 -- A machine: its meaning, when its next instruction is ready, its store that ships, where that begins, and what is spent.
-module _ {M S : Type 0} (state : M → S) (m : Meaning S) (IsReady : ℕ → List ℕ → ℕ → S → Type 0) (IsShipped : List ℕ → Type 0) (entry : ℕ) (timing : Timing) where
+module _ {M S : Type 0} (state : M → S) (m : Meaning S) (IsReady : ℕ → List ℕ → ℕ → S → Type 0)
+    (IsShipped : List ℕ → Type 0) (entry : ℕ) (timing : Timing) where
   pub data SoakEnds (seed size : ℕ) (old new : OutsideView) (status : ℕ) : Type 0 where
     NoRoom : TellsOnErr out_of_memory exits.memory old new status → SoakEnds seed size old new status
     -- the clocked run is the definition's, boundary by boundary, and has ended as that does; `board` is the machine that was clocked

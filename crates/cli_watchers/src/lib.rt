@@ -1,4 +1,6 @@
-//! The watchers of a clocked run. One prints each cycle: its word by label and text, its buses, the registers after it, and the instruction whose boundary it reached. Another counts how often each instruction was completed, and in how many cycles. A third repeats the accesses of memory on a cache.
+//! The watchers of a clocked run. One prints each cycle: its word by label and text, its buses, the registers after
+//! it, and the instruction whose boundary it reached. Another counts how often each instruction was completed, and in
+//! how many cycles. A third repeats the accesses of memory on a cache.
 #![tactic(auto)]
 
 pub mod cache;

@@ -45,7 +45,8 @@ abbrev pub bare : Text → App
 bare name = record { top = record (new_shape name) { no_binary_name = true; disable_help_flag = true; disable_version_flag = true }; subs = [] }
 
 abbrev pub app_for : Text → Form → App
-app_for name f = with_rules (with_rules (with_rules (bare name) (rules_in (kind.Plain f.is_whole) f.plain)) (rules_in kind.Valued f.options)) (rules_in kind.Flag f.flags)
+app_for name f = with_rules (with_rules (with_rules (bare name) (rules_in (kind.Plain f.is_whole) f.plain))
+    (rules_in kind.Valued f.options)) (rules_in kind.Flag f.flags)
 
 -- each name reads as the text that the words gave it, and a flag that they do not give as `false`
 pub record HoldsGiven (f : Form) (given : List Entry) (m : ArgMatches) : Type 0 where

@@ -32,7 +32,8 @@ defined (Some c ∷ items) = c ∷ defined items
 -- no name comes twice: each is that of no method, and of no constant before it
 abbrev pub AreConstants : List (List ℕ) → List (List ℕ) → List Constant → Type 0
 AreConstants methods seen [] = ⊤
-AreConstants methods seen (c ∷ cs) = (names.place_of seen c.name ≡ None) × (names.place_of methods c.name ≡ None) × AreConstants methods (seen ++ c.name ∷ []) cs
+AreConstants methods seen (c ∷ cs) = (names.place_of seen c.name ≡ None) × (names.place_of methods c.name ≡ None)
+    × AreConstants methods (seen ++ c.name ∷ []) cs
 
 -- it is the only section of constants, its names are new, and it adds them in order with their values
 pub record AddsConstants (d : Declarations) (items : List (Option Constant)) (e : Declarations) : Type 0 where

@@ -38,8 +38,10 @@ IsLabel u label position = (place : ℕ) × (place_of u.labels label ≡ Some pl
 abbrev pub StandsFor : List (List ℕ) → List (List ℕ) → DraftView → Instruction → Operation → Type 0
 StandsFor constants methods u (instructions.Plain instr) operation = operation ≡ operations.Plain instr
 StandsFor constants methods u (instructions.Constant name) operation = (i : ℕ) × (place_of constants name ≡ Some i) × (operation ≡ operations.Constant i)
-StandsFor constants methods u (instructions.Local access wide name) operation = (i : ℕ) × IsLocal u name i × (operation ≡ operations.Plain (access_instr access wide i))
-StandsFor constants methods u (instructions.Increment wide name by) operation = (i : ℕ) × IsLocal u name i × (operation ≡ operations.Plain (increment_instr wide i by))
+StandsFor constants methods u (instructions.Local access wide name) operation = (i : ℕ) × IsLocal u name i
+    × (operation ≡ operations.Plain (access_instr access wide i))
+StandsFor constants methods u (instructions.Increment wide name by) operation = (i : ℕ) × IsLocal u name i
+    × (operation ≡ operations.Plain (increment_instr wide i by))
 StandsFor constants methods u (instructions.Jump jump label) operation = (i : ℕ) × IsLabel u label i × (operation ≡ operations.To jump i)
 StandsFor constants methods u (instructions.Call name) operation = (i : ℕ) × (place_of methods name ≡ Some i) × (operation ≡ operations.Call i)
 

@@ -32,8 +32,10 @@ label_of u label = option_and_then (λ place. slice_get u.label_positions place)
 abbrev pub operation_of : List (List ℕ) → List (List ℕ) → DraftView → Instruction → Option Operation
 operation_of constants methods u (instructions.Plain instr) = Some (operations.Plain instr)
 operation_of constants methods u (instructions.Constant name) = option_map (λ place. operations.Constant place) (place_of constants name)
-operation_of constants methods u (instructions.Local access wide name) = option_map (λ index. operations.Plain (access_instr access wide index)) (index_of u name)
-operation_of constants methods u (instructions.Increment wide name by) = option_map (λ index. operations.Plain (increment_instr wide index by)) (index_of u name)
+operation_of constants methods u (instructions.Local access wide name) =
+    option_map (λ index. operations.Plain (access_instr access wide index)) (index_of u name)
+operation_of constants methods u (instructions.Increment wide name by) =
+    option_map (λ index. operations.Plain (increment_instr wide index by)) (index_of u name)
 operation_of constants methods u (instructions.Jump jump label) = option_map (λ position. operations.To jump position) (label_of u label)
 operation_of constants methods u (instructions.Call name) = option_map (λ place. operations.Call place) (place_of methods name)
 
@@ -69,7 +71,8 @@ unknown s = unknown_units s.constants s.methods (unknown_main s.constants s.meth
 abbrev pub lines_from : List (List ℕ) → List (List ℕ) → DraftView → List CodeLine → List DraftLine → Option (List CodeLine)
 lines_from constants methods u done [] = Some done
 lines_from constants methods u done (d ∷ ds) =
-    option_and_then (λ o. lines_from constants methods u (done ++ (record { line = d.line; operation = o }) ∷ []) ds) (operation_of constants methods u d.instruction)
+    option_and_then (λ o. lines_from constants methods u (done ++ (record { line = d.line; operation = o }) ∷ []) ds)
+        (operation_of constants methods u d.instruction)
 
 abbrev pub unit_with : DraftView → List CodeLine → UnitView
 unit_with u lines =
@@ -104,7 +107,9 @@ or_no_main (Some p) = Ok p
 
 abbrev pub by_main : Source → Option DraftView → Result ProgramView AsmError
 by_main s None = Err errors.NoMain
-by_main s (Some u) = or_no_main (program_with (constants_of (declarations_of s)) (unit_of s.constants s.methods u) (units_from s.constants s.methods [] s.units))
+by_main s (Some u) = or_no_main
+    (program_with (constants_of (declarations_of s)) (unit_of s.constants s.methods u)
+    (units_from s.constants s.methods [] s.units))
 
 abbrev pub by_unknown : Source → Option ℕ → Result ProgramView AsmError
 by_unknown s (Some k) = Err (errors.UnknownName k)

@@ -26,8 +26,10 @@ IsStatement ts (statements.Plain instr) = Begins (kinds.Alone instr) [] ts
 IsStatement ts (statements.Push value) = Begins kinds.Push (tokens.Number value ∷ []) ts
 IsStatement ts (statements.Constant constant) = Begins kinds.Constant (operand_token constant ∷ []) ts
 IsStatement ts (statements.Local access false local) = Begins (kinds.Local access) (operand_token local ∷ []) ts
-IsStatement ts (statements.Local access true local) = (rest : List Token) × Begins kinds.Wide rest ts × Begins (kinds.Local access) (operand_token local ∷ []) rest
+IsStatement ts (statements.Local access true local) = (rest : List Token) × Begins kinds.Wide rest ts
+    × Begins (kinds.Local access) (operand_token local ∷ []) rest
 IsStatement ts (statements.Increment false local by) = Begins kinds.Increment (operand_token local ∷ tokens.Number by ∷ []) ts
-IsStatement ts (statements.Increment true local by) = (rest : List Token) × Begins kinds.Wide rest ts × Begins kinds.Increment (operand_token local ∷ tokens.Number by ∷ []) rest
+IsStatement ts (statements.Increment true local by) = (rest : List Token) × Begins kinds.Wide rest ts
+    × Begins kinds.Increment (operand_token local ∷ tokens.Number by ∷ []) rest
 IsStatement ts (statements.Jump jump label) = Begins (kinds.Jump jump) (tokens.Name label ∷ []) ts
 IsStatement ts (statements.Call method) = Begins kinds.Call (tokens.Name method ∷ []) ts

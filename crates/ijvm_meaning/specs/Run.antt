@@ -77,7 +77,8 @@ EndsBy p bound at f = (points : ℕ) × (finish_from p bound points at ≡ Some 
 -- the boundaries that the run from this one passes before it ends
 pub data Passes (p : Program) (bound : ℕ) (from : Point) : Point → Type 0 where
   Start : (at : Point) → at ≡ from → Passes p bound from at
-  More : (at next : Point) (to : State) → Passes p bound from at → at.cycles < bound → outcome p.image p.stack_end at.state ≡ Goes to → next ≡ point_after p at to →
+  More : (at next : Point) (to : State) → Passes p bound from at → at.cycles < bound →
+      outcome p.image p.stack_end at.state ≡ Goes to → next ≡ point_after p at to →
       Passes p bound from next
 
 abbrev pub after : (State → Option State) → Outcome → Option State

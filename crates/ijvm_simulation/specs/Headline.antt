@@ -1,4 +1,5 @@
--- The headline of a machine that was clocked over a verified image from its reset, with the store that ships: its run stands for the definition's run, and the board that is left shows where that run ended, or where a fault cut it.
+-- The headline of a machine that was clocked over a verified image from its reset, with the store that ships: its run
+-- stands for the definition's run, and the board that is left shows where that run ended, or where a fault cut it.
 use Rattle.std.specs.Prelude.{◌≡◌, ◌⊎◌, ℕ, List, [], ◌++◌, replicate, Option, Some, IfSome, IsSome, unwrap_or, false}
 use Rattle.console_port.specs.Loading.{IsLoaded}
 use Rattle.console_port.specs.Console.{Untaken, LosesLast}
@@ -23,16 +24,19 @@ abbrev pub Leaves : Option (List ℕ) → Option (List ℕ) → List ℕ → Typ
 Leaves left left' untaken = (bytes : List ℕ) → left ≡ Some bytes → left' ≡ Some untaken
 
 -- A machine: its meaning, when its next instruction is ready, its store that ships, where that begins, and what is spent.
-module _ {M S : Type 0} (state : M → S) (m : Meaning S) (IsReady : ℕ → List ℕ → ℕ → S → Type 0) (IsShipped : List ℕ → Type 0) (entry : ℕ) (timing : Timing) where
+module _ {M S : Type 0} (state : M → S) (m : Meaning S) (IsReady : ℕ → List ℕ → ℕ → S → Type 0)
+    (IsShipped : List ℕ → Type 0) (entry : ℕ) (timing : Timing) where
   module _ (v : VerifiedView) (bound : ℕ) where
-    -- How a run begins with a control store and a source: the store is the one that ships, the image was loaded into a memory of its map, and the bytes that are left are untaken, where the source tells them.
+    -- How a run begins with a control store and a source: the store is the one that ships, the image was loaded into
+    -- a memory of its map, and the bytes that are left are untaken, where the source tells them.
     pub record Begins (store : List ℕ) (left : Option (List ℕ)) (before : List ℕ) : Type 0 where
       pub shipped : IsShipped store
       pub words : List ℕ
       pub loaded : IsLoaded v.image.text v.image.pool (replicate v.map.stack_end 0) words
       pub input : List ℕ
       pub told : Untaken left false input
-      pub simulates : Simulates m (IsAt m IsReady entry (record { words = words; given = before })) store bound (program timing v) (first_point (program timing v) v.main_locals input) before
+      pub simulates : Simulates m (IsAt m IsReady entry (record { words = words; given = before })) store bound
+          (program timing v) (first_point (program timing v) v.main_locals input) before
           (reset_run m entry v.main_locals (record { words = words; untaken = input; given = before }))
       -- the definition's run
       pub finish : Finish
@@ -41,7 +45,8 @@ module _ {M S : Type 0} (state : M → S) (m : Meaning S) (IsReady : ℕ → Lis
     module _ (left held left' held' : Option (List ℕ)) (board : BoardView M) where
       -- the moment so many turns behind the reset
       abbrev pub moment : Begins board.store.words left (told_of held) → ℕ → MicroRun S
-      moment b n = turns m board.store.words (Some bound) n (reset_run m entry v.main_locals (record { words = b.words; untaken = b.input; given = told_of held }))
+      moment b n = turns m board.store.words (Some bound) n
+          (reset_run m entry v.main_locals (record { words = b.words; untaken = b.input; given = told_of held }))
 
       -- the board shows this moment's registers, memory and counts, and what it left of the input is left
       pub record IsAtMoment (r : MicroRun S) : Type 0 where
@@ -71,7 +76,9 @@ module _ {M S : Type 0} (state : M → S) (m : Meaning S) (IsReady : ℕ → Lis
         pub given : IfSome held' (λ h. h ≡ (moment begins n).world.given)
         pub front : Grows (moment begins n).world.given (told_of held ++ begins.finish.left.given)
 
-      -- The sink failed: the run was cut before an access of the console, or at its end, where the last bytes that were given waited. The sink holds a front of what the cut run gave, which is a front of the definition's output.
+      -- The sink failed: the run was cut before an access of the console, or at its end, where the last bytes that
+      -- were given waited. The sink holds a front of what the cut run gave, which is a front of the definition's
+      -- output.
       pub record IsCutByWrite : Type 0 where
         pub begins : Begins board.store.words left (told_of held)
         pub n : ℕ

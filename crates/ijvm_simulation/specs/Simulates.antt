@@ -49,7 +49,8 @@ module _ {S : Type 0} (IsAt : State → S → World → Type 0) where
     pub boundary : r.counts.boundary ≡ Some (boundary_of at)
     pub not_ended : r.end ≡ None
 
--- A clocked run has ended as the definition's, where the bytes in `before` had been given before it began. A stack limit is met inside an instruction, whose cycles are not the definition's.
+-- A clocked run has ended as the definition's, where the bytes in `before` had been given before it began. A stack
+-- limit is met inside an instruction, whose cycles are not the definition's.
 pub record IsEnd {S : Type 0} (before : List ℕ) (f : Finish) (r : MicroRun S) : Type 0 where
   pub end : r.end ≡ Some (board_end f.end)
   pub cycles : f.end ≢ defined.StackLimit → r.counts.cycles ≡ f.cycles
@@ -59,7 +60,8 @@ pub record IsEnd {S : Type 0} (before : List ℕ) (f : Finish) (r : MicroRun S) 
   pub given : r.world.given ≡ before ++ f.left.given
 
 -- The clocked run over this control store from its reset is the definition's run of a program from its first boundary.
-pub record Simulates {S : Type 0} (m : Meaning S) (IsAt : State → S → World → Type 0) (words : List ℕ) (bound : ℕ) (p : Program) (first : Point) (before : List ℕ) (start : MicroRun S) : Type 0 where
+pub record Simulates {S : Type 0} (m : Meaning S) (IsAt : State → S → World → Type 0) (words : List ℕ) (bound : ℕ)
+    (p : Program) (first : Point) (before : List ℕ) (start : MicroRun S) : Type 0 where
   -- each boundary of the definition's run is one of the clocked run, after its cycles
   pub reaches : (i : ℕ) (at : Point) → point_behind p bound i first ≡ Some at → IsBoundary IsAt at (turns m words (Some bound) at.cycles start)
   -- the clocked run has no other boundary

@@ -1,4 +1,5 @@
--- What a machine at a boundary knows of its memory and its stack, and that it stands for the state behind an instruction once its registers and its memory have become what the instruction makes of them.
+-- What a machine at a boundary knows of its memory and its stack, and that it stands for the state behind an
+-- instruction once its registers and its memory have become what the instruction makes of them.
 use Rattle.std.specs.Prelude.{◌≡◌, ℕ, suc, ◌+◌, ◌-◌, ◌*◌, ◌%◌, ◌<◌, ◌≤◌, true, List, [], ◌∷◌, ◌++◌, length, take, drop, replicate, slice_index, slice_set, slice_get, Some, None, ℤ}
 use Rattle.mic_words.specs.Arithmetic.{plus, next, before, signed_pair}
 use Rattle.console_port.specs.World.{World, StackLimit, next_byte, read_value, untaken_after, given_after, read_refusal, write_refusal, byte_in}
@@ -147,7 +148,8 @@ module _ (o : Origin) (s : State) (sp lv cpp tos : ℕ) (w : World) where
         w'.words ≡ linked_words w.words (place_behind s rest) (length ps + 1 + more) back (base s.callers) → w'.untaken ≡ s.untaken → w'.given ≡ w.given →
         RegistersStand o (record s { running = called ps more back; callers = frame_with s rest ∷ s.callers; at = to }) sp' lv' cpp' tos' w'
     -- behind a return of y to the caller f
-    pub returns : (y : ℕ) (rest : List ℕ) (f : Frame) (fs : List Frame) (to sp' lv' cpp' tos' : ℕ) (w' : World) → s.running.operands ≡ y ∷ rest → s.callers ≡ f ∷ fs →
+    pub returns : (y : ℕ) (rest : List ℕ) (f : Frame) (fs : List Frame) (to sp' lv' cpp' tos' : ℕ) (w' : World) →
+        s.running.operands ≡ y ∷ rest → s.callers ≡ f ∷ fs →
         lv' ≡ base fs → cpp' ≡ cpp → sp' ≡ base (f ∷ fs) → tos' ≡ y →
         w'.words ≡ slice_set w.words (base (f ∷ fs)) y → w'.untaken ≡ s.untaken → w'.given ≡ w.given →
         RegistersStand o (record s { running = record f { operands = y ∷ f.operands }; callers = fs; at = to }) sp' lv' cpp' tos' w'
@@ -160,7 +162,8 @@ pub record StackLaw : Type 0 where
   -- the frames stand above the text and the pool
   pub above : (fs : List Frame) → 0x8000 ≤ base fs
   pub constant : (v : VerifiedView) (o : Origin) → Loads v o → (k x : ℕ) → slice_get v.image.pool k ≡ Some x → IsConstant o k x
-  pub method : (v : VerifiedView) (o : Origin) → Loads v o → (k : ℕ) (m : Method) → method_at v.image.text (slice_get v.image.pool k) ≡ Some m → IsMethod v o k m
+  pub method : (v : VerifiedView) (o : Origin) → Loads v o → (k : ℕ) (m : Method) →
+      method_at v.image.text (slice_get v.image.pool k) ≡ Some m → IsMethod v o k m
   pub arguments : (n : ℕ) (xs : List ℕ) → n < length xs → Arguments n xs
   -- the locals of a method behind its object reference
   pub locals : (ps : List ℕ) (more : ℕ) → length (onto ps (replicate more None)) ≡ length ps + more
@@ -175,4 +178,5 @@ pub record StackLaw : Type 0 where
   -- words, and that the console is no word below the stack
   pub words : WordLaw
   pub console : 0x8000 ≤ console_address
-  pub boundary : (o : Origin) (s : State) (sp lv cpp tos : ℕ) (w : World) → IsMapEnd (length o.words) → RegistersStand o s sp lv cpp tos w → AtBoundary o s sp lv cpp tos w
+  pub boundary : (o : Origin) (s : State) (sp lv cpp tos : ℕ) (w : World) → IsMapEnd (length o.words) →
+      RegistersStand o s sp lv cpp tos w → AtBoundary o s sp lv cpp tos w

@@ -38,7 +38,8 @@ module _ {S : Type 0} (m : Meaning S) (words : List ℕ) (IsAt : State → S →
         Overran v.image v.map.stack_end s left i → OverrunsWithStalls q (stalls_of v.image i) left
 
 -- from its reset a machine with a microprogram at this entry comes to the first boundary, with so many stalls
-abbrev pub BootsWithStalls : {S : Type 0} → Meaning S → List ℕ → (Origin → State → S → World → Type 0) → ℕ → Timing → ℕ → VerifiedView → Origin → List ℕ → Type 0
+abbrev pub BootsWithStalls : {S : Type 0} → Meaning S → List ℕ → (Origin → State → S → World → Type 0) → ℕ → Timing →
+    ℕ → VerifiedView → Origin → List ℕ → Type 0
 BootsWithStalls m words IsAt entry timing stalls v o input =
     MovesWithStalls m words (IsAt o) o.given (reset_moment m entry v.main_locals o input) timing.boot stalls (start_of v.main_locals input)
 
@@ -56,22 +57,29 @@ pub record StoppedWithin {S : Type 0} (stalls : ℕ) (r : MicroRun S) : Type 0 w
 
 -- A machine: its meaning, when its next instruction is ready, its store that ships, where that begins, and what is spent.
 module _ {S : Type 0} (m : Meaning S) (IsReady : ℕ → List ℕ → ℕ → S → Type 0) (IsShipped : List ℕ → Type 0) (entry : ℕ) (timing : Timing) where
-  -- Stalls add up: where its boot and each instruction stall as often as is said, the clock has counted at each boundary of a run the stalls of the boot and of the instructions passed, and no other.
+  -- Stalls add up: where its boot and each instruction stall as often as is said, the clock has counted at each
+  -- boundary of a run the stalls of the boot and of the instructions passed, and no other.
   abbrev pub StallsAddUp : Type 0
   StallsAddUp =
-      (booting : ℕ) (stalls_of : ImageView → Instr → ℕ) (store : List ℕ) (o : Origin) (v : VerifiedView) (input : List ℕ) (bound : ℕ) → IsShipped store → Loads v o →
+      (booting : ℕ) (stalls_of : ImageView → Instr → ℕ) (store : List ℕ) (o : Origin) (v : VerifiedView)
+          (input : List ℕ) (bound : ℕ) → IsShipped store → Loads v o →
       BootsWithStalls m store (IsAt m IsReady entry) entry timing booting v o input →
       TakesWithStalls m store (IsAt m IsReady entry o) o.given timing stalls_of v o (λ i. Unit {0}) →
       (at : Point) (stalls : ℕ) → HasStalled booting stalls_of (program timing v) bound (first_point (program timing v) v.main_locals input) at stalls →
-      (turns m store (Some bound) at.cycles (reset_run m entry v.main_locals (record { words = o.words; untaken = input; given = o.given }))).counts.stalls ≡ stalls
+      (turns m store (Some bound) at.cycles
+          (reset_run m entry v.main_locals
+          (record { words = o.words; untaken = input; given = o.given }))).counts.stalls ≡ stalls
 
   -- Where the stack's end then cuts an instruction short, its cycles have stalled no more often than the whole instruction does.
   abbrev pub CutShort : Type 0
   CutShort =
-      (booting : ℕ) (stalls_of : ImageView → Instr → ℕ) (store : List ℕ) (o : Origin) (v : VerifiedView) (input : List ℕ) (bound : ℕ) → IsShipped store → Loads v o →
+      (booting : ℕ) (stalls_of : ImageView → Instr → ℕ) (store : List ℕ) (o : Origin) (v : VerifiedView)
+          (input : List ℕ) (bound : ℕ) → IsShipped store → Loads v o →
       BootsWithStalls m store (IsAt m IsReady entry) entry timing booting v o input →
       TakesWithStalls m store (IsAt m IsReady entry o) o.given timing stalls_of v o (λ i. Unit {0}) →
       (at : Point) (stalls : ℕ) (i : Instr) (left : State) →
       HasStalled booting stalls_of (program timing v) bound (first_point (program timing v) v.main_locals input) at stalls →
       at.cycles < bound → instr_at v.image.text at.state.at ≡ Some i → outcome v.image v.map.stack_end at.state ≡ Limits left →
-      (n : ℕ) × StoppedWithin (stalls + stalls_of v.image i) (turns m store (Some bound) n (reset_run m entry v.main_locals (record { words = o.words; untaken = input; given = o.given })))
+      (n : ℕ) × StoppedWithin (stalls + stalls_of v.image i)
+          (turns m store (Some bound) n (reset_run m entry v.main_locals
+          (record { words = o.words; untaken = input; given = o.given })))

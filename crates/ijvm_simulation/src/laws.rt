@@ -25,7 +25,8 @@ pub fn counted_boundaries_are_passed()
     ensures counted { (p : Program) (bound : ℕ) (from at : Point) → Passes p bound from at → (i : ℕ) × (point_behind p bound i from ≡ Some at) }
 {}
 
-/// A run over the store that ships, from its reset over a verified image, ends as the definition's run where no fault cuts it. So it is never adrift, and never out of the memory map.
+/// A run over the store that ships, from its reset over a verified image, ends as the definition's run where no fault
+/// cuts it. So it is never adrift, and never out of the memory map.
 pub fn shipped_runs_end_as_defined<I: Interpreter>()
     ensures { EndsAsDefined I.Machine.state I.Machine.meaning I.IsShipped I.entry I.timing }
 {
@@ -34,7 +35,8 @@ pub fn shipped_runs_end_as_defined<I: Interpreter>()
     I::law();
 }
 
-/// At each boundary of a run from its reset the clock has counted the stalls of the boot and those of the instructions passed, and no other, where the boot and each instruction stall as often as is said of them.
+/// At each boundary of a run from its reset the clock has counted the stalls of the boot and those of the
+/// instructions passed, and no other, where the boot and each instruction stall as often as is said of them.
 pub fn stalls_add_up<I: Interpreter>()
     ensures boundaries { StallsAddUp I.Machine.meaning I.Machine.IsReady I.IsShipped I.entry I.timing }
     ensures limit { CutShort I.Machine.meaning I.Machine.IsReady I.IsShipped I.entry I.timing }
@@ -44,14 +46,16 @@ pub fn stalls_add_up<I: Interpreter>()
     I::law();
 }
 
-/// What a machine at a boundary knows of its memory and its stack, and that it stands for the state behind an instruction once its registers and its memory have become what the instruction makes of them.
+/// What a machine at a boundary knows of its memory and its stack, and that it stands for the state behind an
+/// instruction once its registers and its memory have become what the instruction makes of them.
 pub fn stack_law()
     ensures { StackLaw }
 {}
 
 /// What is shown of each group of instructions holds of every instruction.
 pub fn groups_are_all<C: Clocked>()
-    ensures takes { (store : List ℕ) (entry : ℕ) (timing : Timing) (v : VerifiedView) (o : Origin) → ByGroups (Takes C.meaning store (IsAt C.meaning C.IsReady entry o) o.given timing v o) }
+    ensures takes { (store : List ℕ) (entry : ℕ) (timing : Timing) (v : VerifiedView) (o : Origin) →
+        ByGroups (Takes C.meaning store (IsAt C.meaning C.IsReady entry o) o.given timing v o) }
     ensures stalls { (store : List ℕ) (entry : ℕ) (timing : Timing) (stalls_of : ImageView → Instr → ℕ) (v : VerifiedView) (o : Origin) →
         ByGroups (TakesWithStalls C.meaning store (IsAt C.meaning C.IsReady entry o) o.given timing stalls_of v o) }
 {}

@@ -50,7 +50,8 @@ where
     ensures write { IfOk result (λ board. board.end ≡ Some End.WriteFault →
         IsCutByWrite I.Machine.state I.Machine.meaning I.Machine.IsReady I.IsShipped I.entry I.timing image.now bound
         (S.left source.old) (K.held sink.old) (S.left source.new) (K.held sink.new) board) }
-    ensures flushed { IfOk result (λ board. board.end ≢ Some End.WriteFault → StaysFlushed (K.held sink.old) (K.passed sink.old) (K.held sink.new) (K.passed sink.new)) }
+    ensures flushed { IfOk result (λ board. board.end ≢ Some End.WriteFault →
+        StaysFlushed (K.held sink.old) (K.passed sink.old) (K.held sink.new) (K.passed sink.new)) }
     ensures cause { IfOk result (λ board. HasEndCause (S.faults source.old) (S.faults source.new) (K.faults sink.old) (K.faults sink.new) None board.end) }
     ensures none { OnErr result ((source.new ≡ source.old) × (sink.new ≡ sink.old)) }
 {

@@ -19,7 +19,8 @@ sign_text signs.Var = codes ".var"
 sign_text signs.EndVar = codes ".end-var"
 
 abbrev pub all_signs : List Sign
-all_signs = signs.Open ∷ signs.Close ∷ signs.Comma ∷ signs.Colon ∷ signs.Constant ∷ signs.EndConstant ∷ signs.Main ∷ signs.EndMain ∷ signs.Method ∷ signs.EndMethod ∷ signs.Var ∷ signs.EndVar ∷ []
+all_signs = signs.Open ∷ signs.Close ∷ signs.Comma ∷ signs.Colon ∷ signs.Constant ∷ signs.EndConstant ∷ signs.Main
+    ∷ signs.EndMain ∷ signs.Method ∷ signs.EndMethod ∷ signs.Var ∷ signs.EndVar ∷ []
 
 -- the sign that is spelled so
 abbrev pub find_sign : List ℕ → Option Sign

@@ -1,4 +1,5 @@
-//! Which images are accepted: no run of them can go astray. Every reached instruction is whole and inside the text, finds its operands, its constant and its locals set, and all paths to it agree in their depth.
+//! Which images are accepted: no run of them can go astray. Every reached instruction is whole and inside the text,
+//! finds its operands, its constant and its locals set, and all paths to it agree in their depth.
 #![tactic(auto)]
 
 pub mod accept;

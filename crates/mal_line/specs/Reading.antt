@@ -55,7 +55,9 @@ tail_of _ = None
 
 abbrev pub assigned : Machine → ℕ → List Token → Option Assignment
 assigned machine dests ts = if length (take (prefix_len is_expr ts) ts) == 0 then None
-    else option_map (λ tail. record { dests = dests; operation = coding_of machine (take (prefix_len is_expr ts) ts) tail }) (tail_of (drop (prefix_len is_expr ts) ts))
+    else option_map
+        (λ tail. record { dests = dests; operation = coding_of machine (take (prefix_len is_expr ts) ts) tail })
+        (tail_of (drop (prefix_len is_expr ts) ts))
 
 abbrev pub last : Machine → Bool → ℕ → List Token → Option Assignment
 last machine some dests ts = if some then assigned machine dests ts else None
@@ -68,7 +70,8 @@ on_dest (Some w) f x = f w
 unfoldable pub chain_at : Machine → Bool → ℕ → List Token → Option Assignment
 chain_at machine some dests [] = last machine some dests []
 chain_at machine some dests (t ∷ []) = last machine some dests (t ∷ [])
-chain_at machine some dests (t ∷ u ∷ rest) = on_dest (dest_of t u) (λ w. chain_at machine true (bit_or dests (bit w)) rest) (last machine some dests (t ∷ u ∷ rest))
+chain_at machine some dests (t ∷ u ∷ rest) = on_dest (dest_of t u)
+    (λ w. chain_at machine true (bit_or dests (bit w)) rest) (last machine some dests (t ∷ u ∷ rest))
 
 -- ---- what stands between two semicolons
 
@@ -115,7 +118,9 @@ alone piece _ = None
 abbrev pub goto_of : List Token → Option Piece
 goto_of (label ∷ []) = option_map (λ n. found.Goto n) (name_of label)
 goto_of (open_sign ∷ word ∷ close_sign ∷ []) = if is_byte_in open_sign word close_sign then Some (found.Dispatch (Some false)) else None
-goto_of (open_sign ∷ word ∷ or_word ∷ number ∷ close_sign ∷ []) = if is_byte_in open_sign word close_sign then (if is_or or_word then option_map (λ high. found.Dispatch high) (offset_of number) else None) else None
+goto_of (open_sign ∷ word ∷ or_word ∷ number ∷ close_sign ∷ []) =
+    if is_byte_in open_sign word close_sign then
+    (if is_or or_word then option_map (λ high. found.Dispatch high) (offset_of number) else None) else None
 goto_of _ = None
 
 abbrev pub is_test_in : Token → Token → Token → Bool
@@ -128,7 +133,8 @@ branch_on _ _ = None
 
 -- what stands behind `if`
 abbrev pub if_of : List Token → Option Piece
-if_of (open_sign ∷ test ∷ close_sign ∷ goto_word ∷ label ∷ []) = if is_test_in open_sign close_sign goto_word then branch_on (test_of test) (name_of label) else None
+if_of (open_sign ∷ test ∷ close_sign ∷ goto_word ∷ label ∷ []) =
+    if is_test_in open_sign close_sign goto_word then branch_on (test_of test) (name_of label) else None
 if_of _ = None
 
 -- what stands behind `else`

@@ -148,7 +148,8 @@ goto_part to = word words.Goto ∷ target to ∷ []
 
 abbrev pub dispatch_part : Machine → Bool → List Piece
 dispatch_part machine false = word words.Goto ∷ spaced (sign signs.Open) ∷ word (byte_word machine) ∷ sign signs.Close ∷ []
-dispatch_part machine true = word words.Goto ∷ spaced (sign signs.Open) ∷ word (byte_word machine) ∷ spaced (word words.Or) ∷ spaced (number (pos 256) (codes "0x100")) ∷ sign signs.Close ∷ []
+dispatch_part machine true = word words.Goto ∷ spaced (sign signs.Open) ∷ word (byte_word machine)
+    ∷ spaced (word words.Or) ∷ spaced (number (pos 256) (codes "0x100")) ∷ sign signs.Close ∷ []
 
 abbrev pub if_part : Test → Target → List Piece
 if_part test to = word words.If ∷ spaced (sign signs.Open) ∷ word (test_word test) ∷ sign signs.Close ∷ spaced (word words.Goto) ∷ target to ∷ []

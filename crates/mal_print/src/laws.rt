@@ -14,7 +14,8 @@ use mic_base::hex_is_read_back;
 
 /// A canonical line spells what it was printed from.
 pub fn lines_spell_what_is_printed()
-    ensures statements { (machine : Machine) (label : Option (List ℕ)) (parts : Parts) → IsTrue (is_part machine parts.part) → IfSome label IsLabelText → HasLabels parts.next
+    ensures statements { (machine : Machine) (label : Option (List ℕ)) (parts : Parts) →
+        IsTrue (is_part machine parts.part) → IfSome label IsLabelText → HasLabels parts.next
         → IsLineOf machine (printed (statement machine label parts.part (labelled parts.next))) (contents.Statement label parts) }
     ensures fallbacks { (machine : Machine) (parts : Parts) → IsTrue (is_part machine parts.part) → HasLabels parts.next
         → IsLineOf machine (printed (fallback machine parts.part (labelled parts.next))) (contents.Fallback parts) }

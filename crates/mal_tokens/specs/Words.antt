@@ -49,10 +49,13 @@ sign_text signs.Label = codes ".label"
 sign_text signs.Default = codes ".default"
 
 abbrev pub all_words : List Word
-all_words = words.Mar ∷ words.Mdr ∷ words.Pc ∷ words.Sp ∷ words.Lv ∷ words.Cpp ∷ words.Tos ∷ words.Opc ∷ words.H ∷ words.Mbr ∷ words.Mbru ∷ words.Mbr1 ∷ words.Mbr1u ∷ words.Mbr2 ∷ words.Mbr2u ∷ words.N ∷ words.Z ∷ words.And ∷ words.Or ∷ words.Not ∷ words.Rd ∷ words.Wr ∷ words.Fetch ∷ words.Goto ∷ words.If ∷ words.Else ∷ []
+all_words = words.Mar ∷ words.Mdr ∷ words.Pc ∷ words.Sp ∷ words.Lv ∷ words.Cpp ∷ words.Tos ∷ words.Opc ∷ words.H
+    ∷ words.Mbr ∷ words.Mbru ∷ words.Mbr1 ∷ words.Mbr1u ∷ words.Mbr2 ∷ words.Mbr2u ∷ words.N ∷ words.Z ∷ words.And
+    ∷ words.Or ∷ words.Not ∷ words.Rd ∷ words.Wr ∷ words.Fetch ∷ words.Goto ∷ words.If ∷ words.Else ∷ []
 
 abbrev pub all_signs : List Sign
-all_signs = signs.Equals ∷ signs.Plus ∷ signs.Minus ∷ signs.Semicolon ∷ signs.Colon ∷ signs.Open ∷ signs.Close ∷ signs.Left ∷ signs.Right ∷ signs.Label ∷ signs.Default ∷ []
+all_signs = signs.Equals ∷ signs.Plus ∷ signs.Minus ∷ signs.Semicolon ∷ signs.Colon ∷ signs.Open ∷ signs.Close
+    ∷ signs.Left ∷ signs.Right ∷ signs.Label ∷ signs.Default ∷ []
 
 -- the reserved word that is spelled so
 abbrev pub find_word : List ℕ → Option Word

@@ -18,7 +18,8 @@ pub fn pool_size(program: &Program) -> u32
 
 /// Appends the entries of the methods.
 fn push_entries(pool: &mut Vec<u32>, program: &Program) -> Result<(), AllocError>
-    ensures { OnOk result (pool.new.items ≡ pool.old.items ++ map (entry_of program.now.main program.now.methods) (range_with_len 0 (length program.now.methods))) }
+    ensures { OnOk result (pool.new.items ≡ pool.old.items
+        ++ map (entry_of program.now.main program.now.methods) (range_with_len 0 (length program.now.methods))) }
 {
     let methods = program.methods();
     let mut entry = code_size(program.main().lines());

@@ -1,4 +1,5 @@
--- The microstep of Mic-2 (chapter 4; the order of events at the clock edge is this profile's). A statement assigns whole words, or waits for the bytes that it names.
+-- The microstep of Mic-2 (chapter 4; the order of events at the clock edge is this profile's). A statement assigns
+-- whole words, or waits for the bytes that it names.
 use Rattle.std.specs.Prelude.{ℕ, zero, suc, ◌+◌, ◌*◌, ◌/◌, ◌||◌, Bool, true, false, not, nat_lt, if◌then◌else◌, List, length, slice_index, Option, Some}
 use Rattle.mic_words.specs.Arithmetic.{plus, signed_byte, signed_pair}
 use Rattle.micro_word.specs.Words.{is_byte, is_pair}

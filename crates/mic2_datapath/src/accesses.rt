@@ -64,7 +64,8 @@ pub fn access<S: Source, K: Sink>(
     ensures others { OnOk result (ChangesOnly ports.now.mar bus.old.words bus.new.words) }
     ensures size { length bus.new.words ≡ length bus.old.words }
     ensures refusal { (e : BusFault) →
-        refused_by (first_refusal (memory_refusal (length bus.old.words) mem ports.now.mar) (sample_refusal (length bus.old.words) at)) ≡ Some e → result ≡ Err e }
+        refused_by (first_refusal (memory_refusal (length bus.old.words) mem ports.now.mar)
+            (sample_refusal (length bus.old.words) at)) ≡ Some e → result ≡ Err e }
     ensures behind { IfErr result (λ e. IsFault e → length bus.old.words ≤ ports.now.mar) }
     ensures refused { IfErr result (λ e. (IsFault e → ⊥) →
         refused_by (first_refusal (memory_refusal (length bus.old.words) mem ports.now.mar) (sample_refusal (length bus.old.words) at)) ≡ Some e) }
@@ -72,7 +73,8 @@ pub fn access<S: Source, K: Sink>(
     ensures reads { IsErrOf result BusFault.ReadFault → IsTrue (is_read mem && ports.now.mar == console_at) }
     ensures uses { IsErrOf result BusFault.WriteFault → IsTrue (is_access mem && ports.now.mar == console_at) }
     ensures waits { LetsBytesWait (length bus.old.words) mem ports.now.mar
-        (first_refusal (memory_refusal (length bus.old.words) mem ports.now.mar) (sample_refusal (length bus.old.words) at)) bus.old.console.kept sink.old sink.new }
+        (first_refusal (memory_refusal (length bus.old.words) mem ports.now.mar)
+            (sample_refusal (length bus.old.words) at)) bus.old.console.kept sink.old sink.new }
     ensures keeps { (front : List ℕ) → Holds front (K.held sink.old) → Holds front (K.held sink.new) }
     ensures asked_no_more { AsksNoMore bus.old.console.ended source.old bus.new.console.ended source.new }
     ensures tells_left { StillTells (S.left source.old) bus.old.console.ended (S.left source.new) bus.new.console.ended }

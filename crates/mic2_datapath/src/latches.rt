@@ -228,7 +228,8 @@ impl Latches {
 
     /// What the memory's ports are given: their registers as they become.
     pub fn ports(&self, c: u16, value: u32, taken: u8) -> Ports
-        ensures { result ≡ ports_given (loaded c value self.now.word (record (registers_at self.now.places) { pc = advanced taken (registers_at self.now.places).pc })) }
+        ensures { result ≡ ports_given (loaded c value self.now.word
+            (record (registers_at self.now.places) { pc = advanced taken (registers_at self.now.places).pc })) }
     {
         let mar = self.mar_port(c, value);
         let mdr = self.mdr_port(c, value);

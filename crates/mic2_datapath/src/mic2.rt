@@ -77,7 +77,8 @@ impl Mic2 {
         sink: &mut K,
     ) -> Result<(), BusFault>
         requires phase { phase self.old ≡ AtRest }
-        requires computed { HasComputed (statement_of Mic2Machine self.old.control.word) (micro_in self.old.latches) self.old.stalled self.old.value self.old.c }
+        requires computed { HasComputed (statement_of Mic2Machine self.old.control.word)
+            (micro_in self.old.latches) self.old.stalled self.old.value self.old.c }
         ensures phase { phase self.new ≡ AtRest }
         ensures ok { OnOk result (IsStep mic2_meaning (microinstruction_of self.old) (micro_of self.old) (S.left source.old) (K.held sink.old) bus.old
             (micro_of self.new) (S.left source.new) (K.held sink.new) bus.new) }
@@ -86,7 +87,8 @@ impl Mic2 {
         ensures err { IfErr result (IsErrOfStep mic2_meaning (microinstruction_of self.old) (micro_of self.old) (S.left source.old) (K.held sink.old) bus.old) }
         ensures state { OnErr result (micro_of self.new ≡ micro_of self.old) }
         ensures stands { IfErr result (Stands (S.left source.old) (K.held sink.old) bus.old (S.left source.new) (K.held sink.new) bus.new) }
-        ensures waits { LetsBytesWait mic2_meaning (microinstruction_of self.old) (micro_of self.old) (S.left source.old) (K.held sink.old) bus.old sink.old sink.new }
+        ensures waits { LetsBytesWait mic2_meaning (microinstruction_of self.old) (micro_of self.old)
+            (S.left source.old) (K.held sink.old) bus.old sink.old sink.new }
         ensures keeps { (front : List ℕ) → Holds front (K.held sink.old) → Holds front (K.held sink.new) }
         ensures asked_no_more { AsksNoMore bus.old.console.ended source.old bus.new.console.ended source.new }
         ensures tells_left { StillTells (S.left source.old) bus.old.console.ended (S.left source.new) bus.new.console.ended }

@@ -138,7 +138,8 @@ impl FetchUnit {
         }
     }
 
-    /// The edge where it is not refused: so many bytes leave the queue, a pending word enters it, and where few bytes are there the word at this address is sampled.
+    /// The edge where it is not refused: so many bytes leave the queue, a pending word enters it, and where few bytes
+    /// are there the word at this address is sampled.
     #[inline(always)]
     fn go_on(&mut self, taken: u8, at: Option<u32>, bus: &Bus)
         requires within { taken ≤ length self.old.bytes }

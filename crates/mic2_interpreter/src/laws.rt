@@ -76,7 +76,8 @@ pub(crate) fn ends_law()
         HaltsAndErrs mic2_meaning store (Stands o) o.given (timing_of Mic2) v o }
 {}
 
-/// How a run boots, and what every instruction takes. Behind the boot, whose one stall waits for the first word of the text, only a call stalls: once, or twice where its method's entry is the last byte of a word.
+/// How a run boots, and what every instruction takes. Behind the boot, whose one stall waits for the first word of
+/// the text, only a call stalls: once, or twice where its method's entry is the last byte of a word.
 pub fn stalls_law()
     ensures boots { (store : List ℕ) (o : Origin) (v : VerifiedView) (input : List ℕ) → HasShipped Mic2 store → Loads v o → BootsWithStall store o v input }
     ensures takes { (store : List ℕ) (o : Origin) (v : VerifiedView) → HasShipped Mic2 store → Loads v o → TakesWithStalls store o v (λ i. Unit {0}) }
@@ -91,11 +92,14 @@ pub fn stalls_law()
     groups_are_all::<mic2_datapath::Mic2>();
 }
 
-/// So at each boundary of a run the clock has counted the stall of the boot and those of the calls, and no other; nor has it counted another where the stack's end cuts the last instruction short.
+/// So at each boundary of a run the clock has counted the stall of the boot and those of the calls, and no other; nor
+/// has it counted another where the stack's end cuts the last instruction short.
 pub fn runs_stall_at_calls()
     ensures boundaries { (store : List ℕ) (o : Origin) (v : VerifiedView) (input : List ℕ) (bound : ℕ) → HasShipped Mic2 store → Loads v o →
         (at : Point) (stalls : ℕ) → HasStalled (program (timing_of Mic2) v) bound (first_point (program (timing_of Mic2) v) v.main_locals input) at stalls →
-        (turns mic2_meaning store (Some bound) at.cycles (reset_run mic2_meaning 0x002 v.main_locals (record { words = o.words; untaken = input; given = o.given }))).counts.stalls ≡ stalls }
+        (turns mic2_meaning store (Some bound) at.cycles
+            (reset_run mic2_meaning 0x002 v.main_locals
+            (record { words = o.words; untaken = input; given = o.given }))).counts.stalls ≡ stalls }
     ensures limit { (store : List ℕ) (o : Origin) (v : VerifiedView) (input : List ℕ) (bound : ℕ) → HasShipped Mic2 store → Loads v o →
         (at : Point) (stalls : ℕ) (i : Instr) (left : State) →
         HasStalled (program (timing_of Mic2) v) bound (first_point (program (timing_of Mic2) v) v.main_locals input) at stalls →

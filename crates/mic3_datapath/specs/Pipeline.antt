@@ -1,4 +1,5 @@
--- The state of Mic-3 between cycles (chapter 4): that of Mic-2, and the latches of its operand buses and of its C bus, each with the statement that filled them.
+-- The state of Mic-3 between cycles (chapter 4): that of Mic-2, and the latches of its operand buses and of its C
+-- bus, each with the statement that filled them.
 use Rattle.std.specs.Prelude.{ℕ, Option}
 use Rattle.micro_word.specs.declared.statement.Placed.{Placed}
 use Rattle.mic2_datapath.specs.Micro.{Micro}

@@ -1,4 +1,5 @@
-//! Mic-3: the datapath of Mic-2 with latches on its operand buses and on its C bus. A statement issues in one cycle, computes in the next and retires in the third.
+//! Mic-3: the datapath of Mic-2 with latches on its operand buses and on its C bus. A statement issues in one cycle,
+//! computes in the next and retires in the third.
 #![tactic(auto)]
 
 mod hazards;

@@ -1,4 +1,5 @@
--- How a text is read as a number: decimal digits, or `0x` with hexadecimal digits, either behind a `-`, of a magnitude of at most 4,294,967,295; or one printable byte in single quotes.
+-- How a text is read as a number: decimal digits, or `0x` with hexadecimal digits, either behind a `-`, of a
+-- magnitude of at most 4,294,967,295; or one printable byte in single quotes.
 use Rattle.std.specs.Prelude.{ℕ, ℤ, pos, neg_ℤ, ◌+◌, ◌-◌, ◌==◌, ◌&&◌, Bool, false, not, List, [], ◌∷◌, length, drop, nat_le, nat_lt, if◌then◌else◌, Option, Some, None, Result, Ok, Err}
 use Rattle.std.specs.Char.{is_digit}
 use Rattle.std.specs.List.{position}

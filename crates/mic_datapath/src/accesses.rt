@@ -70,7 +70,8 @@ pub fn transfer<S: Source, K: Sink>(
     ensures stands { IfErr result (Stands (S.left source.old) (K.held sink.old) bus.old (S.left source.new) (K.held sink.new) bus.new) }
     ensures reads { IsErrOf result BusFault.ReadFault → IsTrue (is_read mem && ports.now.mar == console_at) }
     ensures uses { IsErrOf result BusFault.WriteFault → IsTrue (is_access mem && ports.now.mar == console_at) }
-    ensures waits { LetsBytesWait (length bus.old.words) mem ports.now.mar (memory_refusal (length bus.old.words) mem ports.now.mar) bus.old.console.kept sink.old sink.new }
+    ensures waits { LetsBytesWait (length bus.old.words) mem ports.now.mar
+        (memory_refusal (length bus.old.words) mem ports.now.mar) bus.old.console.kept sink.old sink.new }
     ensures keeps { (front : List ℕ) → Holds front (K.held sink.old) → Holds front (K.held sink.new) }
     ensures asked_no_more { AsksNoMore bus.old.console.ended source.old bus.new.console.ended source.new }
     ensures tells_left { StillTells (S.left source.old) bus.old.console.ended (S.left source.new) bus.new.console.ended }
@@ -127,7 +128,9 @@ fn access_tested<S: Source, K: Sink>(
     ensures stands { IfErr result (Stands (S.left source.old) (K.held sink.old) bus.old (S.left source.new) (K.held sink.new) bus.new) }
     ensures reads { IsErrOf result BusFault.ReadFault → IsTrue (is_read mem && mar == console_at) }
     ensures uses { IsErrOf result BusFault.WriteFault → IsTrue (is_access mem && mar == console_at) }
-    ensures waits { LetsBytesWait (length bus.old.words) mem mar (access_refusal (length bus.old.words) mem fetch (ports_with mar mdr pc)) bus.old.console.kept sink.old sink.new }
+    ensures waits { LetsBytesWait (length bus.old.words) mem mar
+        (access_refusal (length bus.old.words) mem fetch
+        (ports_with mar mdr pc)) bus.old.console.kept sink.old sink.new }
     ensures keeps { (front : List ℕ) → Holds front (K.held sink.old) → Holds front (K.held sink.new) }
     ensures asked_no_more { AsksNoMore bus.old.console.ended source.old bus.new.console.ended source.new }
     ensures tells_left { StillTells (S.left source.old) bus.old.console.ended (S.left source.new) bus.new.console.ended }
@@ -164,7 +167,8 @@ pub fn access<S: Source, K: Sink>(
     ensures stands { IfErr result (Stands (S.left source.old) (K.held sink.old) bus.old (S.left source.new) (K.held sink.new) bus.new) }
     ensures reads { IsErrOf result BusFault.ReadFault → IsTrue (is_read mem && ports.now.mar == console_at) }
     ensures uses { IsErrOf result BusFault.WriteFault → IsTrue (is_access mem && ports.now.mar == console_at) }
-    ensures waits { LetsBytesWait (length bus.old.words) mem ports.now.mar (access_refusal (length bus.old.words) mem fetch ports.now) bus.old.console.kept sink.old sink.new }
+    ensures waits { LetsBytesWait (length bus.old.words) mem ports.now.mar
+        (access_refusal (length bus.old.words) mem fetch ports.now) bus.old.console.kept sink.old sink.new }
     ensures keeps { (front : List ℕ) → Holds front (K.held sink.old) → Holds front (K.held sink.new) }
     ensures asked_no_more { AsksNoMore bus.old.console.ended source.old bus.new.console.ended source.new }
     ensures tells_left { StillTells (S.left source.old) bus.old.console.ended (S.left source.new) bus.new.console.ended }

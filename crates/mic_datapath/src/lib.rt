@@ -1,4 +1,5 @@
-//! What the datapaths of Mic-1 and Mic-2 share: nine registers and the buses between them, the ALU by its control lines, the memory's ports, the next address, and the order of a cycle's calls.
+//! What the datapaths of Mic-1 and Mic-2 share: nine registers and the buses between them, the ALU by its control
+//! lines, the memory's ports, the next address, and the order of a cycle's calls.
 #![tactic(auto)]
 
 pub mod accesses;

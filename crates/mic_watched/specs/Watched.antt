@@ -16,7 +16,8 @@ module _ {M State : Type 0} (state : M → State) (m : Meaning State) (bound : �
   abbrev pub LeadsOver : List Cycle → (MicroRun State → Type 0) → Type 0
   LeadsOver cs IsHere =
       IsLedTo state left held board left' board'
-      (λ r rest. (n : ℕ) × (cycles_of m board.store.words (Some bound) n r ≡ cs) × Leads state m board.store.words (Some bound) board' board.buses rest n r IsHere)
+      (λ r rest. (n : ℕ) × (cycles_of m board.store.words (Some bound) n r ≡ cs)
+          × Leads state m board.store.words (Some bound) board' board.buses rest n r IsHere)
 
   -- The run to the second board shows these cycles: it stands there, or a fault cuts it there.
   pub record ShowsCycles (cs : List Cycle) (end : Option End) : Type 0 where
@@ -42,7 +43,8 @@ module _ {Kept : Type 0} (keeps : Kept → Cycle → Kept) (Prints : Kept → Cy
     pub says : PrintsOf k cs text
     pub said : Puts err text result err'
 
-module _ {M State Kept : Type 0} (state : M → State) (m : Meaning State) (bound : ℕ) (keeps : Kept → Cycle → Kept) (Prints : Kept → Cycle → List ℕ → Type 0) where
+module _ {M State Kept : Type 0} (state : M → State) (m : Meaning State) (bound : ℕ) (keeps : Kept → Cycle → Kept)
+    (Prints : Kept → Cycle → List ℕ → Type 0) where
   -- The run of a board that comes to this end, or has none yet where `err` failed: it shows some cycles, and a watcher saw them.
   pub record IsWatched {E : Type 0} (left held : Option (List ℕ)) (board : BoardView M) (left' held' : Option (List ℕ)) (board' : BoardView M)
       (k k' : Kept) (err err' : Option (List ℕ)) (end : Option End) (result : Result Unit E) : Type 0 where

@@ -24,7 +24,8 @@ fn show<M: Clocked, W: Watcher, E: Sink>(
     err: &mut E,
 ) -> Result<(), SinkFailed>
     requires { mpc < 512 }
-    ensures saw { Saw W.keeps W.Prints (W.kept watcher.old) (W.kept watcher.new) (E.held err.old) (E.held err.new) (shown_on M.state M.meaning mpc board.now) result }
+    ensures saw { Saw W.keeps W.Prints (W.kept watcher.old) (W.kept watcher.new) (E.held err.old) (E.held err.new)
+        (shown_on M.state M.meaning mpc board.now) result }
     ensures not_ended { OnErr result (board.now.end ≡ None) }
     ensures cause { HasCause (E.faults err.old) (E.faults err.new) result }
 {
@@ -51,7 +52,8 @@ fn watch_turns<M: Clocked, W: Watcher, S: Source, K: Sink, E: Sink>(
     requires ordered { last_cycles board.old.counts.boundary ≤ board.old.counts.cycles }
     requires near { board.old.counts.cycles ≤ last_cycles board.old.counts.boundary + 1024 }
     requires not_ended { board.old.end ≡ None }
-    ensures watched { IsWatched M.state M.meaning bound W.keeps W.Prints (S.left source.old) (K.held sink.old) board.old (S.left source.new) (K.held sink.new) board.new
+    ensures watched { IsWatched M.state M.meaning bound W.keeps W.Prints (S.left source.old)
+        (K.held sink.old) board.old (S.left source.new) (K.held sink.new) board.new
         (W.kept watcher.old) (W.kept watcher.new) (E.held err.old) (E.held err.new) board.new.end result }
     ensures ended { OnOk result (IsSome board.new.end) }
     ensures growth { board.new.counts.cycles ≤ max bound board.old.counts.cycles + 1024 }
@@ -88,7 +90,8 @@ pub fn run_watched<M: Clocked, W: Watcher, S: Source, K: Sink, E: Sink>(
     requires ordered { last_cycles board.old.counts.boundary ≤ board.old.counts.cycles }
     requires near { board.old.counts.cycles ≤ last_cycles board.old.counts.boundary + 1024 }
     requires not_ended { board.old.end ≡ None }
-    ensures watched { IsWatched M.state M.meaning bound W.keeps W.Prints (S.left source.old) (K.held sink.old) board.old (S.left source.new) (K.held sink.new) board.new
+    ensures watched { IsWatched M.state M.meaning bound W.keeps W.Prints (S.left source.old)
+        (K.held sink.old) board.old (S.left source.new) (K.held sink.new) board.new
         (W.kept watcher.old) (W.kept watcher.new) (E.held err.old) (E.held err.new) (end_in result) (done result) }
     ensures end { IfOk result (λ e. e ≢ End.WriteFault → board.new.end ≡ Some e) }
     ensures kept { IfOk result (λ e. board.new.bus.console.kept ≡ []) }

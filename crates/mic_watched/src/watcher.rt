@@ -22,7 +22,8 @@ pub trait Watcher {
 
     /// Whether it has anything to do with cycles that reach a boundary, or with those that do not.
     fn wants(&self, boundary: bool) -> bool
-        ensures { result ≡ false → (cycle : Cycle) → is_some cycle.boundary ≡ boundary → (keeps (kept self.now) cycle ≡ kept self.now) × Prints (kept self.now) cycle [] }
+        ensures { result ≡ false → (cycle : Cycle) → is_some cycle.boundary ≡ boundary →
+            (keeps (kept self.now) cycle ≡ kept self.now) × Prints (kept self.now) cycle [] }
     {
         true
     }

@@ -15,7 +15,8 @@ AreCanonical machine words = (address : ℕ) → address < 512 → IsTrue (is_ca
 
 -- beside each word its lines
 abbrev pub AreDecoded : Machine → List ℕ → List Lines → Type 0
-AreDecoded machine words lines = (address : ℕ) → address < 512 → (d : Lines) → AreLines machine (fields_of machine (slice_index words address)) (get_or lines address d)
+AreDecoded machine words lines = (address : ℕ) → address < 512 → (d : Lines) →
+    AreLines machine (fields_of machine (slice_index words address)) (get_or lines address d)
 
 -- what a store keeps
 pub record IsKept (machine : Machine) (words : List ℕ) (lines : List Lines) : Type 0 where

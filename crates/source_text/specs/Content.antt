@@ -1,4 +1,5 @@
--- What a line says: what stands before its comment, which `//` begins. Lines are those of std: a carriage return before a newline is no part of its line, and the last newline may be missing.
+-- What a line says: what stands before its comment, which `//` begins. Lines are those of std: a carriage return
+-- before a newline is no part of its line, and the last newline may be missing.
 use Rattle.std.specs.Prelude.{ℕ, ◌==◌, ◌&&◌, Bool, false, List, [], ◌∷◌, map, if◌then◌else◌}
 use Rattle.std.specs.Str.Lines.{lines}
 

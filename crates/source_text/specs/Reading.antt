@@ -18,8 +18,10 @@ lex X zero (b ∷ rest) = if is_blank b then lex X 0 rest
 pub record Agrees {T : Type 0} (L : Lexicon T) (X : Lexer T) : Type 0 where
   pub far : (t : T) (text rest : List ℕ) → L.IsLexeme t text → L.EndsLexeme text rest → X.extent (text ++ rest) ≡ length text
   pub read : (t : T) (text rest : List ℕ) → L.IsLexeme t text → L.EndsLexeme text rest → X.token text ≡ Some t
-  pub spelled : (b : ℕ) (rest : List ℕ) (t : T) → X.token (take (X.extent (b ∷ rest)) (b ∷ rest)) ≡ Some t → L.IsLexeme t (take (X.extent (b ∷ rest)) (b ∷ rest))
-  pub ends : (b : ℕ) (rest : List ℕ) (t : T) → X.token (take (X.extent (b ∷ rest)) (b ∷ rest)) ≡ Some t → L.EndsLexeme (take (X.extent (b ∷ rest)) (b ∷ rest)) (drop (X.extent (b ∷ rest)) (b ∷ rest))
+  pub spelled : (b : ℕ) (rest : List ℕ) (t : T) → X.token (take (X.extent (b ∷ rest)) (b ∷ rest)) ≡ Some t →
+      L.IsLexeme t (take (X.extent (b ∷ rest)) (b ∷ rest))
+  pub ends : (b : ℕ) (rest : List ℕ) (t : T) → X.token (take (X.extent (b ∷ rest)) (b ∷ rest)) ≡ Some t →
+      L.EndsLexeme (take (X.extent (b ∷ rest)) (b ∷ rest)) (drop (X.extent (b ∷ rest)) (b ∷ rest))
   pub some : (b : ℕ) (rest : List ℕ) → 0 < X.extent (b ∷ rest)
   pub none_from_nothing : X.token [] ≡ None
   pub not_blank : (b : ℕ) (rest : List ℕ) (t : T) → X.token (b ∷ rest) ≡ Some t → is_blank b ≡ false

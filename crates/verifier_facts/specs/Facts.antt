@@ -19,13 +19,16 @@ IsWrongAt image a (BadCode at) = (at ≡ a.at) × (instr_at image.text a.at ≡ 
 IsWrongAt image a (FallsOff at) = (at ≡ a.at) × (r : Row) × HasRow image.text a.at r × HasNext r.flow × (a.at + size_of r ≡ length image.text)
 IsWrongAt image a (BadTarget at) = (at ≡ a.at) × (r : Row) × HasRow image.text a.at r × (o : ℤ) × HasJump r.flow o × (length image.text ≤ target a.at o)
 IsWrongAt image a (BadConstant at k) = (at ≡ a.at) × (r : Row) × HasRow image.text a.at r × (r.constant ≡ Some k) × (slice_get image.pool k ≡ None)
-IsWrongAt image a (BadEntry k) = (r : Row) × HasRow image.text a.at r × (r.flow ≡ Call k) × (e : ℕ) × (slice_get image.pool k ≡ Some e) × (length image.text ≤ e + 4)
+IsWrongAt image a (BadEntry k) = (r : Row) × HasRow image.text a.at r × (r.flow ≡ Call k) × (e : ℕ)
+    × (slice_get image.pool k ≡ Some e) × (length image.text ≤ e + 4)
 IsWrongAt image a (BadHeader e) = (a.unit ≡ Some e) × (params image.text e ≡ 0)
 IsWrongAt image a (LinkSlot at) = (at ≡ a.at) × (r : Row) × HasRow image.text a.at r × (e : ℕ) × (a.unit ≡ Some e) × Names r 0
-IsWrongAt image a (BadLocal at k) = (at ≡ a.at) × (r : Row) × HasRow image.text a.at r × (e : ℕ) × (a.unit ≡ Some e) × Names r k × (params image.text e + others image.text e ≤ k)
+IsWrongAt image a (BadLocal at k) = (at ≡ a.at) × (r : Row) × HasRow image.text a.at r × (e : ℕ) × (a.unit ≡ Some e)
+    × Names r k × (params image.text e + others image.text e ≤ k)
 IsWrongAt image a (UnsetLocal at k) = (at ≡ a.at) × (r : Row) × HasRow image.text a.at r × (a.unset ≡ Some k) × (r.reads ≡ Some k)
 IsWrongAt image a (TooFewArguments at have need) =
-    (at ≡ a.at) × (r : Row) × HasRow image.text a.at r × (k : ℕ) × (r.flow ≡ Call k) × (need_of image r.needs r.flow ≡ Some need) × (have ≡ a.depth) × (have < need)
+    (at ≡ a.at) × (r : Row) × HasRow image.text a.at r × (k : ℕ) × (r.flow ≡ Call k)
+        × (need_of image r.needs r.flow ≡ Some need) × (have ≡ a.depth) × (have < need)
 IsWrongAt image a (Underflow at) = (at ≡ a.at) × (r : Row) × HasRow image.text a.at r × IsNoCall r.flow × (a.depth < r.needs)
 IsWrongAt image a (ReturnInMain at) = (at ≡ a.at) × (r : Row) × HasRow image.text a.at r × (a.unit ≡ None) × (r.flow ≡ Return)
 IsWrongAt image a (DepthDiffers at d e) = ⊥
@@ -48,13 +51,15 @@ pub data Piece : Type 0 where
   Header : (entry : ℕ) → Piece
 
 abbrev pub Covers : ImageView → Piece → ℕ → Type 0
-Covers image (Code u at) byte = (a : Arrival) × Reached image a × (a.unit ≡ u) × (a.at ≡ at) × (r : Row) × HasRow image.text at r × (at ≤ byte) × (byte < at + size_of r)
+Covers image (Code u at) byte = (a : Arrival) × Reached image a × (a.unit ≡ u) × (a.at ≡ at) × (r : Row)
+    × HasRow image.text at r × (at ≤ byte) × (byte < at + size_of r)
 Covers image (Header e) byte = IsReachedMethod image e × (e ≤ byte) × (byte < e + 4)
 
 -- a refusal is true of an image, for a stack that ends here
 abbrev pub IsTrueOf : ImageView → ℕ → VerifyError → Type 0
 IsTrueOf image stack_end (Overlap byte) = (p q : Piece) × (p ≢ q) × Covers image p byte × Covers image q byte
-IsTrueOf image stack_end (DepthDiffers at d e) = (a b : Arrival) × Reached image a × Reached image b × (a.at ≡ at) × (b.at ≡ at) × (a.depth ≡ d) × (b.depth ≡ e) × (d < e)
+IsTrueOf image stack_end (DepthDiffers at d e) = (a b : Arrival) × Reached image a × Reached image b × (a.at ≡ at)
+    × (b.at ≡ at) × (a.depth ≡ d) × (b.depth ≡ e) × (d < e)
 IsTrueOf image stack_end (MainFrame count) = IsMainCount image count × (stack_end < 0x8000 + count)
 IsTrueOf image stack_end e = (a : Arrival) × Reached image a × IsWrongAt image a e
 

@@ -50,7 +50,8 @@ pub record Finds (image : ImageView) (s : State) (i : Instr) : Type 0 where
   -- wherever the unit goes on is inside the text
   pub inside : (to : ℕ) → GoesOn (row_of i).flow s.at (s.at + size_of (row_of i)) to → to < length image.text
   pub calls : (k : ℕ) → (row_of i).flow ≡ Call k → (m : Method) × (callee image k ≡ Some m) × (0 < m.params) × (m.entry + 4 < length image.text)
-  pub returns : (row_of i).flow ≡ Return → (to : ℕ) × (f : Frame) × (fs : List Frame) × (s.running.back ≡ Some to) × (s.callers ≡ f ∷ fs) × (to < length image.text)
+  pub returns : (row_of i).flow ≡ Return → (to : ℕ) × (f : Frame) × (fs : List Frame) × (s.running.back ≡ Some to)
+      × (s.callers ≡ f ∷ fs) × (to < length image.text)
 
 -- every run of the image, with so many locals of main, is sound, and never gets stuck
 pub record KeepsSound (image : ImageView) (stack_end main_locals : ℕ) : Type 0 where

@@ -32,4 +32,5 @@ IsInside graph = (at to : ℕ) (node : Node) → slice_get graph at ≡ Some nod
 -- a way in the graph from a start to this address that passes no store to the local
 pub data Carries (graph : List Node) (start k : ℕ) : ℕ → Type 0 where
   Begin : Carries graph start k start
-  Pass : (at to : ℕ) (node : Node) → Carries graph start k at → slice_get graph at ≡ Some node → node.stores ≢ Some k → LeadsTo node to → Carries graph start k to
+  Pass : (at to : ℕ) (node : Node) → Carries graph start k at → slice_get graph at ≡ Some node →
+      node.stores ≢ Some k → LeadsTo node to → Carries graph start k to

@@ -52,7 +52,8 @@ IsMarked search marks group at k = (k / 64 ≡ group) × IsHeld search marks at 
 -- the local is not read here, and where it is not stored it is marked wherever the node leads
 abbrev pub IsPassed : List Node → ℕ → List Mark → ℕ → ℕ → ℕ → Type 0
 IsPassed graph search marks group at k =
-    (node : Node) × (slice_get graph at ≡ Some node) × (node.reads ≢ Some k) × (node.stores ≢ Some k → (to : ℕ) → LeadsTo node to → IsMarked search marks group to k)
+    (node : Node) × (slice_get graph at ≡ Some node) × (node.reads ≢ Some k)
+        × (node.stores ≢ Some k → (to : ℕ) → LeadsTo node to → IsMarked search marks group to k)
 
 -- a marked local goes on with the node, which does not store it
 abbrev pub Passes : List Node → ℕ → List Mark → ℕ → ℕ → ℕ → ℕ → Type 0
@@ -69,7 +70,8 @@ AllPass graph search group at marks new = (k : ℕ) → IsMarked search marks gr
 
 -- what is newly marked has gone on from the address
 abbrev pub OnlyPass : List Node → ℕ → ℕ → ℕ → List Mark → List Mark → Type 0
-OnlyPass graph search group at marks new = (to k : ℕ) → IsMarked search new group to k → IsMarked search marks group to k ⊎ Passes graph search marks group at to k
+OnlyPass graph search group at marks new = (to k : ℕ) → IsMarked search new group to k →
+    IsMarked search marks group to k ⊎ Passes graph search marks group at to k
 
 -- the local is marked at the address, and read there
 abbrev pub ReadsMarked : List Node → ℕ → ℕ → ℕ → List Mark → ℕ → Type 0
@@ -94,4 +96,5 @@ pub record ReadsUnset (graph : List Node) (group start : ℕ) (locals : LocalSet
 
 -- no way carries a local of the set to a read of it
 abbrev pub ReadsNone : List Node → ℕ → ℕ → LocalSet → Type 0
-ReadsNone graph group start locals = (at k : ℕ) (node : Node) → IsIn group locals k → Carries graph start k at → slice_get graph at ≡ Some node → node.reads ≢ Some k
+ReadsNone graph group start locals = (at k : ℕ) (node : Node) → IsIn group locals k → Carries graph start k at →
+    slice_get graph at ≡ Some node → node.reads ≢ Some k

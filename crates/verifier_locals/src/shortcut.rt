@@ -1,4 +1,5 @@
-//! Shortcuts past the instructions that name no local and lead to one address alone, so that no search comes to them again and again. Ways to instructions that read no local and lead nowhere are left out.
+//! Shortcuts past the instructions that name no local and lead to one address alone, so that no search comes to them
+//! again and again. Ways to instructions that read no local and lead nowhere are left out.
 
 ghost use Rattle.std.specs.Prelude.{◌≡◌, ◌<◌, length, Option, ℕ, IsTrue, IfOk, IfSome};
 ghost use Rattle.verifier_locals.specs.declared.graph.Node.{Node};

@@ -70,7 +70,9 @@ impl Files for MemFiles {
         ensures reads { Reads (Some (files_contents self.old)) name.now result }
         ensures cause { HasFileCause (files_faults self.old) (files_faults self.new) result }
 
-        ensures failing { IsErrOf result FileError.Failed ↔ (Contains (files_failing self.old) (files_number self.old) ⊎ (file_in (files_contents self.old) name.now ≡ None)) }
+        ensures failing { IsErrOf result FileError.Failed ↔
+            (Contains (files_failing self.old) (files_number self.old)
+            ⊎ (file_in (files_contents self.old) name.now ≡ None)) }
         ensures number { files_number self.new ≡ next_number (files_number self.old) }
         ensures kept { files_failing self.new ≡ files_failing self.old }
     {

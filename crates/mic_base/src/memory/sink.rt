@@ -72,7 +72,9 @@ impl Sink for MemSink {
         ensures passed { sink_passed self.new ≡ sink_passed self.old }
         ensures cause { HasCause (sink_faults self.old) (sink_faults self.new) result }
 
-        ensures failing { IsErr result ↔ (Contains (sink_failing self.old) (sink_number self.old) ⊎ (sink_room self.old < length (sink_bytes self.old) + length piece.now)) }
+        ensures failing { IsErr result ↔
+            (Contains (sink_failing self.old) (sink_number self.old)
+            ⊎ (sink_room self.old < length (sink_bytes self.old) + length piece.now)) }
         ensures nothing { OnErr result (sink_bytes self.new ≡ sink_bytes self.old) }
         ensures number { sink_number self.new ≡ next_number (sink_number self.old) }
         ensures same { IsSameSink self.old self.new }
