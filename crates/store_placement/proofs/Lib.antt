@@ -9,6 +9,7 @@ pub mod FillingLemmas
 pub mod ForcedBy
 pub mod ForcedLemmas
 pub mod ListedLemmas
+pub mod Marks
 pub mod NoPlacement
 pub mod OneRefusal
 pub mod OpenPairs

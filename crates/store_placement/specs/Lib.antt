@@ -8,3 +8,4 @@ pub mod Program
 pub mod Reading
 pub mod Refusals
 pub mod StoreFile
+pub mod Taken

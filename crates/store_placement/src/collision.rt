@@ -4,9 +4,11 @@ ghost use Rattle.store_placement.specs.Demands.{AreWithin};
 ghost use Rattle.store_placement.specs.First.{NeverWith, IsFirstWith, NeverTwo, IsFirstTwo};
 ghost use Rattle.store_placement.specs.Forced.{all_forced, forced};
 ghost use Rattle.store_placement.specs.Refusals.{are_split, collide, is_pair_of, split_apart};
+ghost use Rattle.store_placement.specs.Taken.{has_split};
 
 use crate::forced::{all_forced, same_address};
 use crate::pair::Pair;
+use crate::taken::are_apart;
 
 fn are_split(yes: Option<u16>, no: Option<u16>) -> bool
     requires { IfSome no (λ b. b < 512) }
@@ -31,6 +33,16 @@ fn split_apart(fixed: &[Option<u16>], pairs: &[Pair], s: u16, t: u16) -> bool
 {
     pairs.iter().any(|p| is_pair_of(s, t, p)
         && are_split(fixed[p.yes as usize], fixed[p.no as usize]))
+}
+
+/// Whether a pair is fixed apart.
+fn has_split(fixed: &[Option<u16>], pairs: &[Pair]) -> bool
+    requires { AreWithin fixed.now pairs.now }
+    ensures { result ≡ has_split fixed.now pairs.now }
+{
+    pairs
+        .iter()
+        .any(|p| are_split(fixed[p.yes as usize], fixed[p.no as usize]))
 }
 
 #[tactic(auto, using(crate::proofs::ForcedLemmas::all_forceds), unfolding(crate::specs::Refusals::collide))]
@@ -74,6 +86,9 @@ pub fn first_collision(
     requires forced { addresses.now ≡ all_forced fixed.now pairs.now }
     ensures { MatchOption result (NeverTwo (collide fixed.now pairs.now) (length fixed.now)) (λ x. IsFirstTwo (collide fixed.now pairs.now) (length fixed.now) x.0 x.1) }
 {
+    if are_apart(addresses) && !has_split(fixed, pairs) {
+        return None;
+    }
     for s in 0..fixed.len() as u16 {
         if let Some(t) = collides_with(fixed, pairs, addresses, s) {
             return Some((s, t));

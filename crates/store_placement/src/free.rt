@@ -1,22 +1,17 @@
 //! Free addresses of the store.
-ghost use Rattle.std.specs.Prelude.{◌≡◌, ◌<◌};
-ghost use Rattle.store_placement.specs.Chosen.{is_taken, is_free_low, free_lows, free_addresses};
+ghost use Rattle.std.specs.Prelude.{◌≡◌, ◌<◌, ◌+◌, ◌&&◌, not};
+ghost use Rattle.store_placement.specs.Chosen.{free_lows, free_addresses};
+ghost use Rattle.store_placement.specs.Taken.{is_marked};
 
-use crate::forced::same_address;
+use crate::taken::taken_addresses;
 use arrayvec::ArrayVec;
 
-#[tactic(auto, unfolding(crate::specs::Chosen::is_taken))]
-fn is_taken(placed: &[Option<u16>], a: u16) -> bool
-    ensures { result ≡ is_taken placed.now a }
-{
-    placed.iter().any(|o| same_address(*o, Some(a)))
-}
-
-fn is_free_low(placed: &[Option<u16>], a: u16) -> bool
+/// Whether the low address and its partner are free.
+fn is_free_low(taken: &[bool; 512], a: u16) -> bool
     requires { a < 256 }
-    ensures { result ≡ is_free_low placed.now a }
+    ensures { result ≡ (not (is_marked taken.now a) && not (is_marked taken.now (a + 256))) }
 {
-    !is_taken(placed, a) && !is_taken(placed, a + 256)
+    !taken[a as usize] && !taken[a as usize + 256]
 }
 
 /// The low addresses that are free and whose partners are free too, lowest first.
@@ -24,9 +19,10 @@ fn is_free_low(placed: &[Option<u16>], a: u16) -> bool
 pub fn free_lows(placed: &[Option<u16>]) -> ArrayVec<u16, 256>
     ensures { result.items ≡ free_lows placed.now }
 {
+    let taken = taken_addresses(placed);
     let mut lows = ArrayVec::new();
     for a in 0..256 {
-        if is_free_low(placed, a) {
+        if is_free_low(&taken, a) {
             lows.push(a);
         }
     }
@@ -38,9 +34,10 @@ pub fn free_lows(placed: &[Option<u16>]) -> ArrayVec<u16, 256>
 pub fn free_addresses(placed: &[Option<u16>]) -> ArrayVec<u16, 512>
     ensures { result.items ≡ free_addresses placed.now }
 {
+    let taken = taken_addresses(placed);
     let mut free = ArrayVec::new();
     for a in 0..512 {
-        if !is_taken(placed, a) {
+        if !taken[a as usize] {
             free.push(a);
         }
     }

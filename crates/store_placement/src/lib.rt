@@ -17,6 +17,7 @@ mod refusal;
 mod steps;
 mod store_error;
 mod store_file;
+mod taken;
 
 pub use chosen::place;
 pub use constraints::Constraints;
