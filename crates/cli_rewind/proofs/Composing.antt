@@ -7,6 +7,7 @@ use Rattle.mic_clock.specs.Meaning.{Meaning}
 use Rattle.mic_clock.specs.Run.{MicroRun}
 use Rattle.mic_clock.specs.View.{BoardView}
 use Rattle.micro_word.specs.ControlStore.{ControlStore}
+use Rattle.mic_rewind.specs.States.{Snapshot}
 use Rattle.mic_rewind.specs.View.{HistoryView}
 use Rattle.mic_rewind.specs.Rewind.{RewindView}
 use Rattle.cli_outside.specs.Outside.{SinkState}
@@ -159,3 +160,15 @@ none_by (Some e) is = absurd (cc)
 pub here_at : {M State : Type 0} (state : M → State) (m : Meaning State) (left held : Option (List ℕ)) (v : RewindView M) (s : Stand State) (words : List ℕ) →
     StandsAt state m left held v s → v.board.store.words ≡ words → v.history.here ≡ state_here m words s
 here_at state m left held v s words here is = ap (λ (h : HistoryView). h.here) here.history ∙ ap (λ (w : List ℕ). state_here m w s) is
+
+-- what is said of the state at the cursor
+pub said_here : {M State : Type 0} (state : M → State) (m : Meaning State) (left held : Option (List ℕ)) (v : RewindView M) (s : Stand State) (words : List ℕ)
+    (says : Snapshot → List ℕ) (text : List ℕ) → StandsAt state m left held v s → v.board.store.words ≡ words → text ≡ says v.history.here → text ≡ says (state_here m words s)
+said_here state m left held v s words says text here is said = said ∙ ap says (here_at state m left held v s words here is)
+
+-- the control store that stays has the same words
+pub same_words : {M : Type 0} (v v' : RewindView M) → v'.board.store ≡ v.board.store → v'.board.store.words ≡ v.board.store.words
+same_words v v' is = ap (λ (s : ControlStore). s.words) is
+
+pub same_board_words : {M : Type 0} (v v' : RewindView M) → v'.board ≡ v.board → v'.board.store.words ≡ v.board.store.words
+same_board_words v v' is = ap (λ (b : BoardView _). b.store.words) is

@@ -1,8 +1,9 @@
-use Rattle.std.proofs.Common.{◌∙◌, refl, ap}
-use Rattle.mic_clock.specs.View.{BoardView}
+use Rattle.std.proofs.Common.{Bool, ◌∙◌, refl, ap}
+use Rattle.std.specs.Prelude.{nat_le}
+use Rattle.mic_rewind.specs.States.{Snapshot}
 use Rattle.cli_rewind.specs.Lines.{back_text}
-use Rattle.cli_rewind.specs.Stand.{back}
-use Rattle.cli_rewind.proofs.Composing.{here_at}
+use Rattle.cli_rewind.specs.Stand.{back, kept}
+use Rattle.cli_rewind.proofs.Composing.{said_here, same_board_words}
 use Rattle.cli_rewind.proofs.replies.back.Goals as goal
 
 pub returns-clause-leads : goal.returns-clause-leads
@@ -13,5 +14,13 @@ returns-clause-leads g c =
     λ left held s here.
     let at = c.go_back-all.ensures.goes left held s here in
     let s' = back d c.args.times s in
-    let now = here_at g.M.Clocked.state g.M.Clocked.meaning left held v' s' v.board.store.words at.0 (ap (λ (b : BoardView g.row.M.Denot). b.store.words) c.go_back-all.ensures.board) in
-    (s', (refl, c.back_text.ensures ∙ (λ i. back_text (at.1 i) (now i).moment)), at.0)
+    let words_are = same_board_words v v' c.go_back-all.ensures.board in
+    let said = c.back_text.ensures ∙ ap (λ (all : Bool). back_text all v'.history.here.moment) at.1 in (
+      s',
+      (
+        refl,
+        said_here g.M.Clocked.state g.M.Clocked.meaning left held v' s' v.board.store.words
+            (λ (x : Snapshot). back_text (nat_le c.args.times (kept d s)) x.moment) c.back_text.result at.0 words_are said,
+      ),
+      at.0,
+    )

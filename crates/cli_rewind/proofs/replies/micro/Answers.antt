@@ -1,11 +1,9 @@
-use Rattle.std.proofs.Common.{◌≤◌, ◌^◌, ◌∙◌, ap, arith}
+use Rattle.std.proofs.Common.{◌≤◌, ◌^◌, Some, arith}
 use Rattle.mic_base.specs.Plain.{plain_left}
-use Rattle.micro_word.specs.ControlStore.{ControlStore}
 use Rattle.mic_rewind.specs.States.{Snapshot}
 use Rattle.cli_rewind.specs.Lines.{forward_text}
-use Rattle.cli_rewind.proofs.Composing.{here_at, went_as}
+use Rattle.cli_rewind.proofs.Composing.{said_here, same_words, went_as}
 use Rattle.cli_rewind.proofs.replies.micro.Goals as goal
-use Rattle.std.proofs.Common.{Some}
 
 pub returns-clause-went : goal.returns-clause-went
 returns-clause-went g c =
@@ -18,8 +16,6 @@ returns-clause-went g c =
     (λ s t here p. (
       c.in_ok-end.end,
       p,
-      c.forward_text.ensures
-          ∙ ap (λ (x : Snapshot). forward_text c.in_ok-end.end x.moment)
-          (here_at g.M.Clocked.state g.M.Clocked.meaning (Some (plain_left c.go_forward.new.input)) (g.K.Sink.held c.go_forward.new.out) v' t v.board.store.words here
-          (ap (λ (x : ControlStore). x.words) went.moved.store)),
+      said_here g.M.Clocked.state g.M.Clocked.meaning (Some (plain_left c.go_forward.new.input)) (g.K.Sink.held c.go_forward.new.out) v' t v.board.store.words
+          (λ (x : Snapshot). forward_text c.in_ok-end.end x.moment) c.forward_text.result here (same_words v v' went.moved.store) c.forward_text.ensures,
     ))

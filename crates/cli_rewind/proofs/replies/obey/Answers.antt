@@ -1,9 +1,9 @@
-use Rattle.std.proofs.Common.{◌^◌, ◌∙◌, Some, refl, ap}
+use Rattle.std.proofs.Common.{◌^◌, Some, refl}
 use Rattle.mic_base.specs.Plain.{plain_left}
 use Rattle.mic_rewind.specs.States.{Snapshot}
 use Rattle.cli_outside.specs.Outside.{sink_of, SinkState}
 use Rattle.cli_session.specs.Texts.{state_text, word_line}
-use Rattle.cli_rewind.proofs.Composing.{here_at, went_still}
+use Rattle.cli_rewind.proofs.Composing.{said_here, went_still}
 use Rattle.cli_rewind.proofs.replies.obey.Given.{Over}
 use Rattle.cli_rewind.proofs.replies.obey.Goals as goal
 
@@ -35,8 +35,8 @@ returns-in-Word-clause-went g c =
       s,
       (
         refl,
-        c.word.ensures ∙ ap (λ (x : Snapshot). word_line x.words c.args.command.number)
-            (here_at g.M.Clocked.state g.M.Clocked.meaning (Some left) held v s v.board.store.words here refl),
+        said_here g.M.Clocked.state g.M.Clocked.meaning (Some left) held v s v.board.store.words
+            (λ (x : Snapshot). word_line x.words c.args.command.number) c.word.result here refl c.word.ensures,
       ),
       here,
     )))
@@ -52,8 +52,8 @@ returns-in-Regs-clause-went g c =
       s,
       (
         refl,
-        c.regs.ensures ∙ ap (λ (x : Snapshot). state_text x.moment.registers)
-            (here_at g.M.Clocked.state g.M.Clocked.meaning (Some left) held v s v.board.store.words here refl),
+        said_here g.M.Clocked.state g.M.Clocked.meaning (Some left) held v s v.board.store.words
+            (λ (x : Snapshot). state_text x.moment.registers) c.regs.result here refl c.regs.ensures,
       ),
       here,
     )))
