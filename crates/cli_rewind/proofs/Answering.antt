@@ -64,16 +64,20 @@ module _ {M State : Type 0} (state : M → State) (m : Meaning State) where
 
     -- it is a front of what was given
     pub front_at : IsFrontOf held (run_at m words s.start s.clocked).world.given
-    front_at = subst (λ (g : List ℕ). IsFrontOf held g) given_at (front_given held v.board.bus.console.kept (shown_run m words s v.board.end).world.given here.run.world.given)
+    front_at = subst (λ (g : List ℕ). IsFrontOf held g) given_at (front_given held v.board.bus.console.kept
+        (shown_run m words s v.board.end).world.given here.run.world.given)
 
     -- so it is where the last bytes were lost
-    pub lost_at : (held' : Option (List ℕ)) (kept' : List ℕ) → IsLost held v.board.bus.console.kept held' kept' → IsFrontOf held' (run_at m words s.start s.clocked).world.given
+    pub lost_at : (held' : Option (List ℕ)) (kept' : List ℕ) → IsLost held v.board.bus.console.kept held' kept' →
+        IsFrontOf held' (run_at m words s.start s.clocked).world.given
     lost_at held' kept' lost =
-        subst (λ (g : List ℕ). IsFrontOf held' g) given_at (front_lost held held' v.board.bus.console.kept kept' (shown_run m words s v.board.end).world.given lost here.run.world.given)
+        subst (λ (g : List ℕ). IsFrontOf held' g) given_at (front_lost held held' v.board.bus.console.kept kept'
+        (shown_run m words s v.board.end).world.given lost here.run.world.given)
 
   -- a flush leaves the stand
   pub passes : (v v' : RewindView M) (held held' : Option (List ℕ)) → v'.history ≡ v.history → v'.board ≡ record v.board { bus = v'.board.bus } →
-      ShowsAs state held v.board held' v'.board (λ r. r) → (left : Option (List ℕ)) (s : Stand State) → StandsAt state m left held v s → StandsAt state m left held' v' s
+      ShowsAs state held v.board held' v'.board (λ r. r) → (left : Option (List ℕ)) (s : Stand State) → StandsAt state m left held v s →
+      StandsAt state m left held' v' s
   passes v v' held held' history board shows left s here =
       let words = v.board.store.words in
       let end : v'.board.end ≡ v.board.end = ap (λ (b : BoardView M). b.end) board in
@@ -81,7 +85,8 @@ module _ {M State : Type 0} (state : M → State) (m : Meaning State) where
       (subst (λ (o : Option End). ShowsRun state left held' v'.board (shown_run m words s o)) (sym end) (shows left (shown_run m words s v.board.end) here.run))
       here.running (history ∙ here.history) here.cursor here.oldest
 
-  pub unmoved : (v v' : RewindView M) → v'.history ≡ v.history → v'.board ≡ record v.board { bus = v'.board.bus } → v.board.end ≢ Some ends.WriteFault → IsMoved 0 v v'
+  pub unmoved : (v v' : RewindView M) → v'.history ≡ v.history → v'.board ≡ record v.board { bus = v'.board.bus } → v.board.end ≢ Some ends.WriteFault →
+      IsMoved 0 v v'
   unmoved v v' history board well =
       let cycles : v'.board.counts.cycles ≡ v.board.counts.cycles = ap (λ (b : BoardView M). b.counts.cycles) board in
       record {
@@ -104,8 +109,10 @@ module _ {M State : Type 0} (state : M → State) (m : Meaning State) where
   -- ---- an answer that was put, and then passed on or not
 
   module _ (text : List ℕ) (v v' : RewindView M) (out out' err put err' : SinkState) (passed : IsPassedOn state m v v' out out')
-      (got : Got err.held text put.held) (keeps : (front : List ℕ) → Holds front err.held → Holds front put.held) (quiet : put.faults ≡ err.faults) (same : err'.held ≡ put.held) where
-    pub told_whole : {T E : Type 0} (r : Result T E) → OnOk r (IsFlushed err'.held err'.passed) → HasCause put.faults err'.faults r → OnOk r (IsTold state m text v v' out out' err err')
+      (got : Got err.held text put.held) (keeps : (front : List ℕ) → Holds front err.held →
+      Holds front put.held) (quiet : put.faults ≡ err.faults) (same : err'.held ≡ put.held) where
+    pub told_whole : {T E : Type 0} (r : Result T E) → OnOk r (IsFlushed err'.held err'.passed) → HasCause put.faults err'.faults r →
+        OnOk r (IsTold state m text v v' out out' err err')
     told_whole (Ok u) flushed cause = record { passed = passed; got = same ∙ got; flushed = flushed; faults = cause.quiet ∙ quiet }
     told_whole (Err e) flushed cause = tt
 
@@ -121,7 +128,8 @@ module _ {M State : Type 0} (state : M → State) (m : Meaning State) where
 
   -- ---- a line
 
-  module _ (line : List ℕ) (memory : ℕ) (read : Result (Option (Command Verb)) CommandError) (read_is : read ≡ command_of memory line) (files : FilesState) (console : SourceState)
+  module _ (line : List ℕ) (memory : ℕ) (read : Result (Option (Command Verb)) CommandError) (read_is : read ≡ command_of memory line)
+      (files : FilesState) (console : SourceState)
       (v v' : RewindView M) (left left' : List ℕ) (out out' err err' : SinkState) where
     abbrev old : RewindingView M
     old = rewinding_view v memory left
@@ -129,7 +137,8 @@ module _ {M State : Type 0} (state : M → State) (m : Meaning State) where
     abbrev Followed : List ℕ → Stand State → Stand State → Type 0
     Followed text s s' = Follows m v.board.store.words v.history.depth read s text s'
 
-    does : (rules : RewindingRules) → rules ≡ rules_of old → (text : List ℕ) (s s' : Stand State) → Followed text s s' → Does m rules.words rules.depth rules.memory line s text s'
+    does : (rules : RewindingRules) → rules ≡ rules_of old → (text : List ℕ) (s s' : Stand State) → Followed text s s' →
+        Does m rules.words rules.depth rules.memory line s text s'
     does rules is text s s' p =
         subst (λ (r : RewindingRules). Does m r.words r.depth r.memory line s text s') (sym is)
         (subst (λ (x : Result (Option (Command Verb)) CommandError). Follows m v.board.store.words v.history.depth x s text s') read_is p)
@@ -148,16 +157,20 @@ module _ {M State : Type 0} (state : M → State) (m : Meaning State) where
           rose = inl cut.rose;
         }
 
-  module _ (line : List ℕ) (memory : ℕ) (read : Result (Option (Command Verb)) CommandError) (read_is : read ≡ command_of memory line) (files : FilesState) (console : SourceState)
+  module _ (line : List ℕ) (memory : ℕ) (read : Result (Option (Command Verb)) CommandError) (read_is : read ≡ command_of memory line)
+      (files : FilesState) (console : SourceState)
       (v mid last : RewindView M) (left left' : List ℕ) (out between out' err err' : SinkState) (text : List ℕ)
-      (went : Went state m (2 ^ 32) (scene v left out) (scene mid left' between) (Followed line memory read read_is files console v mid left left' out between err err' text)) where
+      (went : Went state m (2 ^ 32) (scene v left out) (scene mid left' between)
+      (Followed line memory read read_is files console v mid left left' out between err err' text)) where
     done : (rules : RewindingRules) → rules ≡ rules_of (rewinding_view v memory left) → (s s' : Stand State) →
-        Followed line memory read read_is files console v mid left left' out between err err' text s s' → Does m rules.words rules.depth rules.memory line s text s'
+        Followed line memory read read_is files console v mid left left' out between err err' text s s' →
+        Does m rules.words rules.depth rules.memory line s text s'
     done rules is s s' p = does line memory read read_is files console v mid left left' out between err err' rules is text s s' p
 
     -- it was done whole
     pub gone : IsTold state m text mid last between out' err err' →
-        Gone (rewinding state m) (line ∷ []) (place (rewinding_view v memory left) (outside_view files console out err)) (place (rewinding_view last memory left') (outside_view files console out' err'))
+        Gone (rewinding state m) (line ∷ []) (place (rewinding_view v memory left) (outside_view files console out err)) (place
+        (rewinding_view last memory left') (outside_view files console out' err'))
     gone told =
         let same = unmoved mid last told.passed.history told.passed.board went.moved.well in
         record {
@@ -205,7 +218,8 @@ module _ {M State : Type 0} (state : M → State) (m : Meaning State) where
         }
 
     -- and so many lines may follow
-    pub lasts : IsTold state m text mid last between out' err err' → (n : ℕ) → Lasts (suc n) (rewinding_view v memory left) → Lasts n (rewinding_view last memory left')
+    pub lasts : IsTold state m text mid last between out' err err' → (n : ℕ) → Lasts (suc n) (rewinding_view v memory left) →
+        Lasts n (rewinding_view last memory left')
     lasts told n before =
         let same = unmoved mid last told.passed.history told.passed.board went.moved.well in
         let a = same.cycles in
@@ -228,5 +242,10 @@ module _ {M State : Type 0} (state : M → State) (m : Meaning State) where
       (subst (λ (b : BoardView M). ShowsRun state left held b (shown_run m words (at_reset r) b.end)) (sym board_is)
       (subst (λ (o : Option End). ShowsRun state left held board (shown_run m words (at_reset r) o)) (sym live) shows))
       (shows.its_end ∙ live)
-      (history ∙ (λ i. record { before = states_from m words r (zero - depth) (none i); here = snap i; after = states_from m words r 1 (none' i); depth = depth }))
+      (history ∙ (λ i. record {
+        before = states_from m words r (zero - depth) (none i);
+        here = snap i;
+        after = states_from m words r 1 (none' i);
+        depth = depth;
+      }))
       (omega arith) (omega arith)

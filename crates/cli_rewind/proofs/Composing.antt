@@ -36,7 +36,8 @@ module _ {State : Type 0} (m : Meaning State) (words : List ℕ) where
         stops = omega (arith, n, n');
       }
 
-  pub goes_to_end : (a n : ℕ) (e : End) (s t u : Stand State) → GoesForward m words a None s t → a < n → GoesForward m words 1 (Some e) t u → GoesForward m words n (Some e) s u
+  pub goes_to_end : (a n : ℕ) (e : End) (s t u : Stand State) → GoesForward m words a None s t → a < n → GoesForward m words 1 (Some e) t u →
+      GoesForward m words n (Some e) s u
   goes_to_end a n e s t u p less q =
       let c = p.cursor in
       let c' = q.cursor in
@@ -53,7 +54,8 @@ module _ {State : Type 0} (m : Meaning State) (words : List ℕ) where
         stops = (omega (arith, made, made', less), ap (λ (r : MicroRun State). r.end) (same_run s t p.start (suc u.cursor)) ∙ q.stops.1);
       }
 
-  pub cut_later : (a n : ℕ) (s t : Stand State) (held : Option (List ℕ)) → GoesForward m words a None s t → a < n → IsCutForward m words 1 t held → IsCutForward m words n s held
+  pub cut_later : (a n : ℕ) (s t : Stand State) (held : Option (List ℕ)) → GoesForward m words a None s t → a < n → IsCutForward m words 1 t held →
+      IsCutForward m words n s held
   cut_later a n s t held p less q =
       let few = q.few in
       let gone = goes_more a q.made s t q.mid p q.gone in
@@ -75,13 +77,19 @@ module _ {M State : Type 0} {state : M → State} {m : Meaning State} where
       let rest = q.moved.cycles in
       record {
         leads = λ s here. let x = p.leads s here in let y = q.leads x.0 x.2 in (y.0, f s x.0 y.0 x.1 y.1, y.2);
-        moved = record { store = q.moved.store ∙ p.moved.store; depth = q.moved.depth ∙ p.moved.depth; cycles = omega (arith, first, rest, le); well = q.moved.well };
+        moved = record {
+          store = q.moved.store ∙ p.moved.store;
+          depth = q.moved.depth ∙ p.moved.depth;
+          cycles = omega (arith, first, rest, le);
+          well = q.moved.well;
+        };
         flushed = λ h. q.flushed (p.flushed h);
         faults = q.faults ∙ p.faults;
         keeps = λ front h. q.keeps front (p.keeps front h);
       }
 
-  pub cut_then : {a : ℕ} {c d e : Scene M} {P : Stand State → Stand State → Type 0} {Q R : Stand State → Option (List ℕ) → Type 0} → Went state m a c d P → WasCut state m d e Q →
+  pub cut_then : {a : ℕ} {c d e : Scene M} {P : Stand State → Stand State → Type 0} {Q R : Stand State → Option (List ℕ) → Type 0} →
+      Went state m a c d P → WasCut state m d e Q →
       ((s t : Stand State) → P s t → Q t e.out.held → R s e.out.held) → WasCut state m c e R
   cut_then {e = e} p q f =
       record {
@@ -132,7 +140,8 @@ module _ {M State : Type 0} {state : M → State} {m : Meaning State} where
         Went state m (made + 1) c e (GoesForward m c.rewind.board.store.words (made + 1) None)
     goes_next q is =
         went_then made 1 (made + 1) p
-        (subst (λ (w : List ℕ). Went state m 1 d e (GoesForward m w 1 None)) words_are (subst (λ (o : Option End). Went state m 1 d e (GoesForward m d.rewind.board.store.words 1 o)) is q))
+        (subst (λ (w : List ℕ). Went state m 1 d e (GoesForward m w 1 None)) words_are (subst (λ (o : Option End). Went state m 1 d e
+        (GoesForward m d.rewind.board.store.words 1 o)) is q))
         (omega arith) (λ s t u. goes_more m c.rewind.board.store.words made 1 s t u)
 
     ends_by : (o : Option End) → is_some o ≡ true → made < n → Went state m 1 d e (GoesForward m d.rewind.board.store.words 1 o) →
@@ -146,7 +155,8 @@ module _ {M State : Type 0} {state : M → State} {m : Meaning State} where
         Went state m n c e (GoesForward m c.rewind.board.store.words n end)
     goes_end q is less = ends_by end is less q
 
-    pub goes_cut : WasCut state m d e (IsCutForward m d.rewind.board.store.words 1) → made < n → WasCut state m c e (IsCutForward m c.rewind.board.store.words n)
+    pub goes_cut : WasCut state m d e (IsCutForward m d.rewind.board.store.words 1) → made < n →
+        WasCut state m c e (IsCutForward m c.rewind.board.store.words n)
     goes_cut q less =
         cut_then p (subst (λ (w : List ℕ). WasCut state m d e (IsCutForward m w 1)) words_are q)
         (λ s t a b. cut_later m c.rewind.board.store.words made n s t e.out.held a less b)
@@ -163,7 +173,8 @@ here_at state m left held v s words here is = ap (λ (h : HistoryView). h.here) 
 
 -- what is said of the state at the cursor
 pub said_here : {M State : Type 0} (state : M → State) (m : Meaning State) (left held : Option (List ℕ)) (v : RewindView M) (s : Stand State) (words : List ℕ)
-    (says : Snapshot → List ℕ) (text : List ℕ) → StandsAt state m left held v s → v.board.store.words ≡ words → text ≡ says v.history.here → text ≡ says (state_here m words s)
+    (says : Snapshot → List ℕ) (text : List ℕ) → StandsAt state m left held v s → v.board.store.words ≡ words → text ≡ says v.history.here →
+    text ≡ says (state_here m words s)
 said_here state m left held v s words says text here is said = said ∙ ap says (here_at state m left held v s words here is)
 
 -- the control store that stays has the same words

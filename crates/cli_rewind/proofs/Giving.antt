@@ -24,7 +24,8 @@ held_front (Some h) a b p q = front_then h a b p q
 
 module _ {State : Type 0} (m : Meaning State) (words : List ℕ) where
   module _ (only : OnlyGives m) where
-    stepped_gives : (r : MicroRun State) (o : Outcome State) → m.step (word_at m words r.state) r.state r.world ≡ o → IsFront r.world.given (after_step m words r o).world.given
+    stepped_gives : (r : MicroRun State) (o : Outcome State) → m.step (word_at m words r.state) r.state r.world ≡ o →
+        IsFront r.world.given (after_step m words r o).world.given
     stepped_gives r (Done s w) is = only (word_at m words r.state) r.state s r.world w is
     stepped_gives r (Refused why) is = front_same r.world.given
 
@@ -37,7 +38,8 @@ module _ {State : Type 0} (m : Meaning State) (words : List ℕ) where
     turn_gives None r = gone_gives (end_before m r.state r.counts) r
 
     more_given : (k n : ℕ) (r : MicroRun State) → k ≤ n → IsFront (run_at m words r k).world.given (run_at m words r n).world.given
-    more_given k zero r le = let e : zero ≡ k = omega (arith, le) in subst (λ (j : ℕ). IsFront (run_at m words r j).world.given r.world.given) e (front_same r.world.given)
+    more_given k zero r le = let e : zero ≡ k = omega (arith, le) in subst (λ (j : ℕ). IsFront (run_at m words r j).world.given r.world.given) e
+        (front_same r.world.given)
     more_given k (suc n) r le =
         elim (cases_lt k (suc n)) [
           | inl below ↦
@@ -46,11 +48,13 @@ module _ {State : Type 0} (m : Meaning State) (words : List ℕ) where
               (subst (λ (x : MicroRun State). IsFront before.world.given x.world.given) (sym (turned m words n r)) (turn_gives before.end before)))
           | inr above ↦
               (let e : suc n ≡ k = omega (arith, le, above) in
-              subst (λ (j : ℕ). IsFront (run_at m words r j).world.given (run_at m words r (suc n)).world.given) e (front_same (run_at m words r (suc n)).world.given))
+              subst (λ (j : ℕ). IsFront (run_at m words r j).world.given (run_at m words r (suc n)).world.given) e (front_same (run_at m words r
+              (suc n)).world.given))
         ]
 
   module _ (made n : ℕ) (s mid : Stand State) (gone : GoesForward m words made None s mid) (few : made < n) where
-    not_before : (end : Option End) (s' : Stand State) (its : GoesForward m words n end s s') → StopsBy n its.made end (run_at m words s.start (suc s'.cursor)).end →
+    not_before : (end : Option End) (s' : Stand State) (its : GoesForward m words n end s s') →
+        StopsBy n its.made end (run_at m words s.start (suc s'.cursor)).end →
         s'.cursor < mid.cursor → ⊥
     not_before None s' its stops less =
         let c = gone.cursor in
@@ -76,5 +80,6 @@ module _ {State : Type 0} (m : Meaning State) (words : List ℕ) where
       IsFrontOf held (run_at m words s'.start s'.clocked).world.given
   cut_whole made n s mid held gone few out only end s' its =
       held_front held (run_at m words mid.start mid.clocked).world.given (run_at m words s'.start s'.clocked).world.given out
-      (subst (λ (r : MicroRun State). IsFront (run_at m words mid.start mid.clocked).world.given (run_at m words r s'.clocked).world.given) (gone.start ∙ sym its.start)
+      (subst (λ (r : MicroRun State). IsFront (run_at m words mid.start mid.clocked).world.given (run_at m words r s'.clocked).world.given) (gone.start
+      ∙ sym its.start)
       (more_given only mid.clocked s'.clocked mid.start (clocked_more made n s mid gone few end s' its)))

@@ -25,7 +25,8 @@ back_all depth n times s is le =
     let e : (back depth n s).cursor ≡ (back depth times s).cursor = omega (arith, is, le) in
     λ i. record { start = s.start; clocked = s.clocked; cursor = e i }
 
-module _ {M State : Type 0} (state : M → State) (m : Meaning State) (left held : Option (List ℕ)) (v v' : RewindView M) (s : Stand State) (here : StandsAt state m left held v s) where
+module _ {M State : Type 0} (state : M → State) (m : Meaning State) (left held : Option (List ℕ)) (v v' : RewindView M) (s : Stand State)
+    (here : StandsAt state m left held v s) where
   abbrev words : List ℕ
   words = v.board.store.words
 
@@ -37,16 +38,25 @@ module _ {M State : Type 0} (state : M → State) (m : Meaning State) (left held
       let le = here.cursor in
       let old = here.oldest in
       let d = v.history.depth in
-      let last = states_last m words s.start first (kept d s) v'.history.here v'.history.before (ap (λ (h : HistoryView). h.before) (sym here.history) ∙ went.before) in
+      let last = states_last m words s.start first (kept d s) v'.history.here v'.history.before (ap (λ (h : HistoryView). h.before) (sym here.history)
+      ∙ went.before) in
       let some : s.cursor - first ≡ suc last.0 = last.1 in
       let now = s.cursor - min 1 (kept d s) in
       let at : first + last.0 ≡ now = omega (arith, some, old) in
-      let before_is : v'.history.before ≡ states_from m words s.start first (now - first) = last.3 ∙ same_states m words s.start first first last.0 (now - first) refl (omega (arith, some, old)) in
+      let before_is : v'.history.before ≡ states_from m words s.start first (now - first) = last.3
+      ∙ same_states m words s.start first first last.0 (now - first) refl (omega (arith, some, old)) in
       let here_is : v'.history.here ≡ state_at m words s.start now = last.2 ∙ ap (λ (j : ℕ). state_at m words s.start j) at in
       let after_is : v'.history.after ≡ states_from m words s.start (suc now) (s.clocked - now) =
       went.after ∙ (λ i. (here.history i).here ∷ (here.history i).after)
-      ∙ same_states m words s.start s.cursor (suc now) (suc (s.clocked - s.cursor)) (s.clocked - now) (omega (arith, some, old)) (omega (arith, some, old, le)) in
-      let whole : v'.history ≡ history_at m words d (back d 1 s) = λ i. record { before = before_is i; here = here_is i; after = after_is i; depth = went.depth i } in (
+      ∙ same_states m words s.start s.cursor (suc now) (suc (s.clocked - s.cursor)) (s.clocked - now) (omega (arith, some, old)) (omega
+      (arith, some, old, le)) in
+      let whole : v'.history ≡ history_at m words d (back d 1 s) = λ i. record {
+        before = before_is i;
+        here = here_is i;
+        after = after_is i;
+        depth =
+            went.depth i;
+      } in (
         omega (arith, some),
         stands_with state m left held v' (back d 1 s) words d (ap (λ (b : BoardView M). b.store.words) board) went.depth
             (subst (λ (b : BoardView M). ShowsRun state left held b (shown_run m words (back d 1 s) b.end)) (sym board) here.run) here.running whole

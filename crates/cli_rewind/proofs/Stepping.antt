@@ -69,12 +69,17 @@ front_given (Some h) kept given is = (kept, is)
 pub front_lost : (held held' : Option (List ℕ)) (kept kept' given : List ℕ) → IsLost held kept held' kept' → Given held kept given → IsFrontOf held' given
 front_lost None held' kept kept' given lost is = subst (λ (o : Option (List ℕ)). IsFrontOf o given) (sym lost.prefix.1) tt
 front_lost (Some h) held' kept kept' given lost is =
-    subst (λ (o : Option (List ℕ)). IsFrontOf o given) (sym lost.prefix.1)
-    (drop lost.prefix.0 kept, is ∙ ap (λ (k : List ℕ). h ++ k) (sym (take-append-drop lost.prefix.0 kept)) ∙ sym (append_assoc h (take lost.prefix.0 kept) (drop lost.prefix.0 kept)))
+    subst (λ (o : Option (List ℕ)). IsFrontOf o given) (sym lost.prefix.1) (
+      drop lost.prefix.0 kept,
+      is ∙ ap (λ (k : List ℕ). h ++ k) (sym (take-append-drop lost.prefix.0 kept))
+          ∙ sym (append_assoc h (take lost.prefix.0 kept) (drop lost.prefix.0 kept)),
+    )
 
 -- a rewind stands where its states and its run say, over the words and the depth that it has
-pub stands_with : {M State : Type 0} (state : M → State) (m : Meaning State) (left held : Option (List ℕ)) (v : RewindView M) (s : Stand State) (words : List ℕ) (depth : ℕ) →
-    v.board.store.words ≡ words → v.history.depth ≡ depth → ShowsRun state left held v.board (shown_run m words s v.board.end) → (run_at m words s.start s.clocked).end ≡ None →
+pub stands_with : {M State : Type 0} (state : M → State) (m : Meaning State) (left held : Option (List ℕ)) (v : RewindView M) (s : Stand State)
+    (words : List ℕ) (depth : ℕ) →
+    v.board.store.words ≡ words → v.history.depth ≡ depth → ShowsRun state left held v.board (shown_run m words s v.board.end) →
+    (run_at m words s.start s.clocked).end ≡ None →
     v.history ≡ history_at m words depth s → s.cursor ≤ s.clocked → s.clocked - depth ≤ s.cursor → StandsAt state m left held v s
 stands_with state m left held v s words depth words_is depth_is run running history cursor oldest =
     record {
@@ -93,7 +98,8 @@ module _ {M State : Type 0} (state : M → State) (m : Meaning State) (left left
   Turned = IsTurned state m (Some left) held v.board (Some left') held' v'.board None
 
   -- a run that is shown is led on
-  leads_on : (r : MicroRun State) → ShowsRun state (Some left) held v.board r → NoFault v.board.end v'.board.end → Turned → ShowsRun state (Some left') held' v'.board (turn m words r)
+  leads_on : (r : MicroRun State) → ShowsRun state (Some left) held v.board r → NoFault v.board.end v'.board.end → Turned →
+      ShowsRun state (Some left') held' v'.board (turn m words r)
   leads_on r here well is =
       let rest = untaken_of left' v'.board.bus.console.ended in
       let far = is well rest (told left' v'.board.bus.console.ended) in
@@ -177,7 +183,8 @@ module _ {M State : Type 0} (state : M → State) (m : Meaning State) (left left
     moved_on = record { start = s.start; clocked = s.clocked; cursor = suc s.cursor }
 
     -- a cycle that was clocked
-    clocked_step : v'.board.end ≡ None → v.history.after ≡ [] → NoFault v.board.end v'.board.end → Turned → Keeps state m v v' → v'.board.store ≡ v.board.store →
+    clocked_step : v'.board.end ≡ None → v.history.after ≡ [] → NoFault v.board.end v'.board.end → Turned → Keeps state m v v' →
+        v'.board.store ≡ v.board.store →
         GoesForward m words 1 None s clocked_on × StandsAt state m (Some left') held' v' clocked_on
     clocked_step none after well turned_so keeps store =
         let now = shows_next well turned_so in
@@ -195,7 +202,12 @@ module _ {M State : Type 0} (state : M → State) (m : Meaning State) (left left
         let zero_is : zero ≡ suc s.clocked - suc s.clocked = omega arith in
         let whole : v'.history ≡ history_at m words d clocked_on =
         is ∙ (λ i. appended (here.history i) (snap i))
-        ∙ (λ i. record { before = before_is i; here = state_at m words s.start (suc s.clocked); after = states_from m words s.start (suc (suc s.clocked)) (zero_is i); depth = d }) in
+        ∙ (λ i. record {
+          before = before_is i;
+          here = state_at m words s.start (suc s.clocked);
+          after = states_from m words s.start (suc (suc s.clocked)) (zero_is i);
+          depth = d;
+        }) in
         let running : next.end ≡ None = now.its_end ∙ none in (
           record {
             start = refl;
@@ -206,11 +218,13 @@ module _ {M State : Type 0} (state : M → State) (m : Meaning State) (left left
             stops = refl;
           },
           stands_with state m (Some left') held' v' clocked_on words d (ap (λ (x : ControlStore). x.words) store) (ap (λ (h : HistoryView). h.depth) is)
-              (subst (λ (o : Option End). ShowsRun state (Some left') held' v'.board (shown_run m words clocked_on o)) (sym none) now) running whole (omega arith) (omega arith),
+              (subst (λ (o : Option End). ShowsRun state (Some left') held' v'.board (shown_run m words clocked_on o)) (sym none) now) running whole
+              (omega arith) (omega arith),
         )
 
     -- an end, which keeps the stand
-    ended_step : (e : End) → v'.board.end ≡ Some e → v.history.after ≡ [] → NoFault v.board.end v'.board.end → Turned → Keeps state m v v' → v'.board.store ≡ v.board.store →
+    ended_step : (e : End) → v'.board.end ≡ Some e → v.history.after ≡ [] → NoFault v.board.end v'.board.end → Turned → Keeps state m v v' →
+        v'.board.store ≡ v.board.store →
         GoesForward m words 1 (Some e) s s × StandsAt state m (Some left') held' v' s
     ended_step e ended after well turned_so keeps store =
         let now = shows_next well turned_so in
@@ -226,7 +240,8 @@ module _ {M State : Type 0} (state : M → State) (m : Meaning State) (left left
             stops = (omega arith, ap (λ (j : ℕ). (run_at m words s.start (suc j)).end) at ∙ now.its_end ∙ ended);
           },
           stands_with state m (Some left') held' v' s words v.history.depth (ap (λ (x : ControlStore). x.words) store) (ap (λ (h : HistoryView). h.depth) is)
-              (subst (λ (o : Option End). ShowsRun state (Some left') held' v'.board (shown_run m words s o)) (sym ended) now) here.running (is ∙ here.history) le here.oldest,
+              (subst (λ (o : Option End). ShowsRun state (Some left') held' v'.board (shown_run m words s o)) (sym ended) now) here.running (is
+              ∙ here.history) le here.oldest,
         )
 
     -- a step over a kept cycle
@@ -236,16 +251,25 @@ module _ {M State : Type 0} (state : M → State) (m : Meaning State) (left left
         let old = here.oldest in
         let d = v.history.depth in
         let first = s.clocked - d in
-        let split = states_split m words s.start (suc s.cursor) (s.clocked - s.cursor) v'.history.here v'.history.after (ap (λ (h : HistoryView). h.after) (sym here.history) ∙ moves.went.after) in
+        let split = states_split m words s.start (suc s.cursor) (s.clocked - s.cursor) v'.history.here v'.history.after (ap (λ (h : HistoryView). h.after)
+        (sym here.history) ∙ moves.went.after) in
         let some : s.clocked - s.cursor ≡ suc split.0 = split.1 in
         let at : s.cursor ≡ first + kept d s = omega (arith, old) in
         let before_is : v'.history.before ≡ states_from m words s.start first (suc s.cursor - first) =
         moves.went.before ∙ (λ i. (here.history i).before ++ (here.history i).here ∷ [])
         ∙ ap (λ (j : ℕ). states_from m words s.start first (kept d s) ++ state_at m words s.start j ∷ []) at
-        ∙ states_more m words s.start first (kept d s) ∙ same_states m words s.start first first (suc (kept d s)) (suc s.cursor - first) refl (omega (arith, old)) in
-        let after_is = split.3 ∙ same_states m words s.start (suc (suc s.cursor)) (suc (suc s.cursor)) split.0 (s.clocked - suc s.cursor) refl (omega (arith, some)) in
+        ∙ states_more m words s.start first (kept d s) ∙ same_states m words s.start first first (suc (kept d s)) (suc s.cursor - first) refl (omega
+        (arith, old)) in
+        let after_is = split.3 ∙ same_states m words s.start (suc (suc s.cursor)) (suc (suc s.cursor)) split.0 (s.clocked - suc s.cursor) refl (omega
+        (arith, some)) in
         let depth_is : v'.history.depth ≡ d = sym moves.went.depth in
-        let whole : v'.history ≡ history_at m words d moved_on = λ i. record { before = before_is i; here = split.2 i; after = after_is i; depth = depth_is i } in (
+        let whole : v'.history ≡ history_at m words d moved_on = λ i. record {
+          before = before_is i;
+          here = split.2 i;
+          after = after_is i;
+          depth =
+              depth_is i;
+        } in (
           record {
             start = refl;
             made = 1;
@@ -255,10 +279,12 @@ module _ {M State : Type 0} (state : M → State) (m : Meaning State) (left left
             stops = refl;
           },
           stands_with state m (Some left) held v' moved_on words d (ap (λ (b : BoardView M). b.store.words) moves.board) depth_is
-              (subst (λ (b : BoardView M). ShowsRun state (Some left) held b (shown_run m words moved_on b.end)) (sym moves.board) here.run) here.running whole (omega (arith, some)) (omega (arith, old)),
+              (subst (λ (b : BoardView M). ShowsRun state (Some left) held b (shown_run m words moved_on b.end))
+              (sym moves.board) here.run) here.running whole (omega (arith, some)) (omega (arith, old)),
         )
 
-    clocked_by : (o : Option End) → v'.board.end ≡ o → v.history.after ≡ [] → NoFault v.board.end v'.board.end → Turned → Keeps state m v v' → v'.board.store ≡ v.board.store →
+    clocked_by : (o : Option End) → v'.board.end ≡ o → v.history.after ≡ [] → NoFault v.board.end v'.board.end → Turned → Keeps state m v v' →
+        v'.board.store ≡ v.board.store →
         (s' : Stand State) × GoesForward m words 1 o s s' × StandsAt state m (Some left') held' v' s'
     clocked_by None is after well turned_so keeps store = let at = clocked_step is after well turned_so keeps store in (clocked_on, at.0, at.1)
     clocked_by (Some e) is after well turned_so keeps store = let at = ended_step e is after well turned_so keeps store in (s, at.0, at.1)
@@ -268,10 +294,12 @@ module _ {M State : Type 0} (state : M → State) (m : Meaning State) (left left
   list_case (x ∷ xs) = inr (λ e. cc)
 
   -- a step forward, to an end or to none
-  pub step_leads : (end : Option End) → (v.history.after ≢ [] → MovesOn state m v v') → (v.history.after ≢ [] → (end ≡ None) × (left' ≡ left) × (held' ≡ held)) →
+  pub step_leads : (end : Option End) → (v.history.after ≢ [] → MovesOn state m v v') → (v.history.after ≢ [] →
+      (end ≡ None) × (left' ≡ left) × (held' ≡ held)) →
       (v.history.after ≡ [] → Turned) → (v.history.after ≡ [] → Keeps state m v v') → (v.history.after ≡ [] → end ≡ v'.board.end) →
       (v.history.after ≡ [] → v.board.end ≡ None → v'.board.end ≢ Some ends.ReadFault) → end ≢ Some ends.WriteFault → v'.board.store ≡ v.board.store →
-      (s : Stand State) → StandsAt state m (Some left) held v s → (s' : Stand State) × GoesForward m words 1 end s s' × StandsAt state m (Some left') held' v' s'
+      (s : Stand State) → StandsAt state m (Some left) held v s → (s' : Stand State) × GoesForward m words 1 end s s' × StandsAt state m
+      (Some left') held' v' s'
   step_leads end moves still turned_so keeps end_is read write store s here =
       elim (list_case v.history.after) [
         | inl none ↦
@@ -301,8 +329,10 @@ module _ {M State : Type 0} (state : M → State) (m : Meaning State) (left left
   kept_depth (Some e) is keeps = ap (λ (h : HistoryView). h.depth) (keeps.ended (subst IsSome (sym is) refl))
 
   -- a step forward moves
-  pub step_moved : (end : Option End) → (v.history.after ≢ [] → MovesOn state m v v') → (v.history.after ≡ [] → Keeps state m v v') → (v.history.after ≡ [] → end ≡ v'.board.end) →
-      v.board.end ≢ Some ends.WriteFault → end ≢ Some ends.WriteFault → v'.board.store ≡ v.board.store → v'.board.counts.cycles ≤ v.board.counts.cycles + 1 → IsMoved 1 v v'
+  pub step_moved : (end : Option End) → (v.history.after ≢ [] → MovesOn state m v v') → (v.history.after ≡ [] → Keeps state m v v') →
+      (v.history.after ≡ [] → end ≡ v'.board.end) →
+      v.board.end ≢ Some ends.WriteFault → end ≢ Some ends.WriteFault → v'.board.store ≡ v.board.store →
+      v'.board.counts.cycles ≤ v.board.counts.cycles + 1 → IsMoved 1 v v'
   step_moved end moves keeps end_is well write store growth =
       record {
         store = store;
@@ -312,7 +342,8 @@ module _ {M State : Type 0} (state : M → State) (m : Meaning State) (left left
       }
 
   -- a fault of `out` comes where the cursor is at the board, which had not ended
-  pub step_faulted : (end : Option End) → end ≡ Some ends.WriteFault → (v.history.after ≢ [] → end ≡ None) → (v.history.after ≡ [] → Turned) → (v.history.after ≡ [] → end ≡ v'.board.end) →
+  pub step_faulted : (end : Option End) → end ≡ Some ends.WriteFault → (v.history.after ≢ [] → end ≡ None) → (v.history.after ≡ [] → Turned) →
+      (v.history.after ≡ [] → end ≡ v'.board.end) →
       v.board.end ≢ Some ends.WriteFault → (v.history.after ≡ []) × (v.board.end ≡ None) × (v'.board.end ≡ Some ends.WriteFault)
   step_faulted end fault none_before turned_so end_is well =
       either_way

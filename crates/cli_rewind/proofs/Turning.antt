@@ -53,7 +53,8 @@ module _ {State : Type 0} (m : Meaning State) (words : List ℕ) where
   turn_world None r e is = gone_world (end_before m r.state r.counts) r e is
 
   -- a turn that ends changes nothing of the world
-  pub end_leaves : (n : ℕ) (r : MicroRun State) (e : End) → (turns m words None (suc n) r).end ≡ Some e → (turns m words None (suc n) r).world ≡ (turns m words None n r).world
+  pub end_leaves : (n : ℕ) (r : MicroRun State) (e : End) → (turns m words None (suc n) r).end ≡ Some e →
+      (turns m words None (suc n) r).world ≡ (turns m words None n r).world
   end_leaves n r e is =
       let last = turns m words None n r in
       ap (λ (x : MicroRun State). x.world) (turned n r) ∙ turn_world last.end last e (subst (λ (x : MicroRun State). x.end ≡ Some e) (turned n r) is)

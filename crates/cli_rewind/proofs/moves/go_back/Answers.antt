@@ -33,7 +33,8 @@ pub cycles-init : goal.cycles-init
 cycles-init g c =
     record {
       goes = λ left held s here. (
-        subst (λ (x : Stand g.M.Clocked.State). StandsAt g.M.Clocked.state g.M.Clocked.meaning left held c.args.rewind.now x) (sym (back_none c.args.rewind.now.history.depth s)) here,
+        subst (λ (x : Stand g.M.Clocked.State). StandsAt g.M.Clocked.state g.M.Clocked.meaning left held c.args.rewind.now x) (sym
+            (back_none c.args.rewind.now.history.depth s)) here,
         omega arith,
       );
       board = refl;

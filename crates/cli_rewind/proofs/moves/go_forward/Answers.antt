@@ -45,4 +45,5 @@ returns-clause-went g c =
     let most = c.cycles.auto._made-end in
     let all : c.cycles._made ≡ c.args.times = omega (arith, over, most) in
     subst (λ (n : ℕ). Went g.M.Clocked.state g.M.Clocked.meaning n (scene c.args.rewind.now (plain_left c.args.input.now) (sink g c.args.out.now))
-    (scene c.cycles.rewind (plain_left c.cycles.input) (sink g c.cycles.out)) (GoesForward g.M.Clocked.meaning c.args.rewind.now.board.store.words n None)) all c.cycles.invariant
+    (scene c.cycles.rewind (plain_left c.cycles.input) (sink g c.cycles.out))
+    (GoesForward g.M.Clocked.meaning c.args.rewind.now.board.store.words n None)) all c.cycles.invariant

@@ -17,7 +17,8 @@ returns-then-sink_failed-clause-cut g c =
     let does = c.forward.ensures in
     let fault : c.met-end.result ≡ Some ends.WriteFault = c.sink_failed.ensures.yes c.if-sink_failed.true in
     let at =
-    step_faulted state m left left' held held' v v' c.met-end.result fault (λ some. c.met-end.ensures v.history.here.moment.counts v'.history.here.moment.counts None (does.again some)) does.turn
+    step_faulted state m left left' held held' v v' c.met-end.result fault
+    (λ some. c.met-end.ensures v.history.here.moment.counts v'.history.here.moment.counts None (does.again some)) does.turn
     (λ none. c.met-end.ensures v.board.counts v'.board.counts v'.board.end (does.tick none)) c.requires.well in
     record {
       cuts = step_cuts state m left left' held held' v v' at.1 (does.cut at.0) at.2;
@@ -37,16 +38,23 @@ returns-clause-went g c =
     let held' = g.K.Sink.held c.forward.new.sink in
     let does = c.forward.ensures in
     let well : c.met-end.result ≢ Some ends.WriteFault = c.sink_failed.ensures.no c.if-sink_failed.false in
-    let end_is : v.history.after ≡ [] → c.met-end.result ≡ v'.board.end = λ none. c.met-end.ensures v.board.counts v'.board.counts v'.board.end (does.tick none) in
+    let end_is : v.history.after ≡ [] → c.met-end.result ≡ v'.board.end = λ none. c.met-end.ensures v.board.counts v'.board.counts v'.board.end
+    (does.tick none) in
     let moved = step_moved state m left left' held held' v v' c.met-end.result does.moves does.keeps end_is c.requires.well well does.store does.growth in
     record {
       leads =
           step_leads state m left left' held held' v v' c.met-end.result does.moves
-          (λ some. (c.met-end.ensures v.history.here.moment.counts v'.history.here.moment.counts None (does.again some), ap plain_left (does.untouched some).0, ap g.K.Sink.held (does.untouched some).1))
+          (λ some. (
+            c.met-end.ensures v.history.here.moment.counts v'.history.here.moment.counts None (does.again some),
+            ap plain_left
+                (does.untouched some).0,
+            ap g.K.Sink.held (does.untouched some).1,
+          ))
           does.turn does.keeps end_is (λ none live e. no_rise ((does.cause none).read live e)) well does.store;
       moved = moved;
       flushed = does.flushed (λ live. moved.well);
       faults =
-          either_way state m left left' held held' v v' (λ none. (does.cause none).sink_same (λ live. moved.well)) (λ some. ap g.K.Sink.faults (does.untouched some).1);
+          either_way state m left left' held held' v v' (λ none. (does.cause none).sink_same (λ live. moved.well)) (λ some. ap g.K.Sink.faults
+          (does.untouched some).1);
       keeps = does.sink_keeps;
     }

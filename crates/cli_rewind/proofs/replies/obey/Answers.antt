@@ -62,5 +62,6 @@ pub returns-in-Quit-clause-went : goal.returns-in-Quit-clause-went
 returns-in-Quit-clause-went g c =
     let v = c.args.rewind.now in
     rw c.in-Quit.is
-    (went_still {state = g.M.Clocked.state} {m = g.M.Clocked.meaning} (2 ^ 32) v v (plain_left c.args.input.now) (sink g c.args.out.now) refl refl c.requires.well
+    (went_still {state = g.M.Clocked.state} {m = g.M.Clocked.meaning} (2 ^ 32) v v (plain_left c.args.input.now)
+    (sink g c.args.out.now) refl refl c.requires.well
     (λ s here. (s, (refl, c.new.ensures), here)))

@@ -25,6 +25,7 @@ returns g c =
     record {
       names = c.do_lines.ensures.names;
       does =
-          Went c.args.prepared.micro.loaded (rewinding_view first.rewind first.words (plain_left first.input)) (rewinding_view last.rewind last.words (plain_left last.input))
+          Went c.args.prepared.micro.loaded (rewinding_view first.rewind first.words (plain_left first.input)) (rewinding_view last.rewind last.words
+          (plain_left last.input))
           c.do_lines.result c.in-Ok.ensures.start c.in-Ok.ensures.input c.do_lines.ensures.goes c.status_after.ensures;
     }

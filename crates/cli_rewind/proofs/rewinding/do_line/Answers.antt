@@ -16,7 +16,8 @@ returns-in_err-answer-clause-broken g c =
     on_err_of _ c.from_residual.result
     (λ files console.
     cut_short g.M.Clocked.state g.M.Clocked.meaning c.args.line.now c.args.words c.read_command-read.result c.read_command-read.ensures files console
-    c.args.rewind.now c.follow.new.rewind (plain_left c.args.input.now) (plain_left c.follow.new.input) (out_sink g c.args.out.now) (out_sink g c.follow.new.out)
+    c.args.rewind.now c.follow.new.rewind (plain_left c.args.input.now) (plain_left c.follow.new.input) (out_sink g c.args.out.now)
+    (out_sink g c.follow.new.out)
     (err_sink g c.args.err.now) (err_sink g c.args.err.now) c.in_err-answer.ensures.cut)
 
 pub returns-in_err-tell-clause-broken : goal.returns-in_err-tell-clause-broken
@@ -30,7 +31,8 @@ returns-in_err-tell-clause-broken g c =
 
 pub returns-clause-lasts : goal.returns-clause-lasts
 returns-clause-lasts g c =
-    lasts g.M.Clocked.state g.M.Clocked.meaning c.args.line.now c.args.words c.read_command-read.result c.read_command-read.ensures (files_state None 0) (source_state None 0)
+    lasts g.M.Clocked.state g.M.Clocked.meaning c.args.line.now c.args.words c.read_command-read.result c.read_command-read.ensures (files_state None 0)
+    (source_state None 0)
     c.args.rewind.now c.follow.new.rewind c.tell.new.rewind (plain_left c.args.input.now) (plain_left c.follow.new.input)
     (out_sink g c.args.out.now) (out_sink g c.follow.new.out) (out_sink g c.tell.new.out) (err_sink g c.args.err.now) (err_sink g c.tell.new.err)
     c.in_ok-answer.answer c.in_ok-answer.ensures.went (rw c.bytes.ensures.value at c.in_ok-tell.ensures.ok)

@@ -17,7 +17,8 @@ pub returns-in-Ok-clause-ok : goal.returns-in-Ok-clause-ok
 returns-in-Ok-clause-ok g c =
     let done = c.in-Ok.ensures in
     record {
-      shows = passes g.M.Clocked.state g.M.Clocked.meaning c.args.rewind.now c.flush.new.self (g.K.Sink.held c.args.out.now) (g.K.Sink.held c.flush.new.sink) done.history done.board done.ok;
+      shows = passes g.M.Clocked.state g.M.Clocked.meaning c.args.rewind.now c.flush.new.self (g.K.Sink.held c.args.out.now)
+          (g.K.Sink.held c.flush.new.sink) done.history done.board done.ok;
       history = done.history;
       board = done.board;
       kept = done.kept;

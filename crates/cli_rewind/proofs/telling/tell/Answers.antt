@@ -35,12 +35,16 @@ returns-in_err-pass_on-clause-err g c =
 
 pub returns-clause-ok : goal.returns-clause-ok
 returns-clause-ok g c =
-    told_whole g.M.Clocked.state g.M.Clocked.meaning c.args.answer.now c.args.rewind.now c.pass_on.new.rewind (out_sink g c.args.out.now) (out_sink g c.pass_on.new.out)
-    (err_sink g c.args.err.now) (err_sink g c.put.new.self) (err_sink g c.flush.new.self) c.in_ok-pass_on.ensures.ok c.in_ok-put.ensures.puts c.put.ensures.keeps
+    told_whole g.M.Clocked.state g.M.Clocked.meaning c.args.answer.now c.args.rewind.now c.pass_on.new.rewind (out_sink g c.args.out.now)
+    (out_sink g c.pass_on.new.out)
+    (err_sink g c.args.err.now) (err_sink g c.put.new.self) (err_sink g c.flush.new.self) c.in_ok-pass_on.ensures.ok c.in_ok-put.ensures.puts
+    c.put.ensures.keeps
     c.in_ok-put.ensures.cause.quiet c.flush.ensures.held c.flush.result c.flush.ensures.passed c.flush.ensures.cause
 
 pub returns-clause-err : goal.returns-clause-err
 returns-clause-err g c =
-    told_part g.M.Clocked.state g.M.Clocked.meaning c.args.answer.now c.args.rewind.now c.pass_on.new.rewind (out_sink g c.args.out.now) (out_sink g c.pass_on.new.out)
-    (err_sink g c.args.err.now) (err_sink g c.put.new.self) (err_sink g c.flush.new.self) c.in_ok-pass_on.ensures.ok c.in_ok-put.ensures.puts c.put.ensures.keeps
+    told_part g.M.Clocked.state g.M.Clocked.meaning c.args.answer.now c.args.rewind.now c.pass_on.new.rewind (out_sink g c.args.out.now)
+    (out_sink g c.pass_on.new.out)
+    (err_sink g c.args.err.now) (err_sink g c.put.new.self) (err_sink g c.flush.new.self) c.in_ok-pass_on.ensures.ok c.in_ok-put.ensures.puts
+    c.put.ensures.keeps
     c.in_ok-put.ensures.cause.quiet c.flush.ensures.held c.flush.result c.flush.ensures.cause
