@@ -7,14 +7,13 @@ use Rattle.std.proofs.Math.Seq.{take-suc, drop-cons}
 use Rattle.std.proofs.lemmas.Option.{get_or_from_slice_get, slice_get_within}
 use Rattle.circular_buffer.specs.Buffer.{Buffer, buffer, keep_last}
 use Rattle.mic_clock.specs.Board.{tick_of}
-use Rattle.mic_rewind.specs.declared.kept_cycle.KeptCycle.{KeptCycle}
 use Rattle.mic_rewind.specs.declared.moment.Moment.{Moment}
-use Rattle.mic_rewind.specs.States.{undone, redone, states_before, states_after, Fits, LeadTo, LeadFrom}
+use Rattle.mic_rewind.specs.States.{Cycle, undone, redone, states_before, states_after, Fits, LeadTo, LeadFrom}
 use Rattle.mic_rewind.specs.View.{GoesBack, appended, past, future, view_of, IsHistory}
 use Rattle.mic_rewind.proofs.Tracks.{states_before-snoc, states_before-length, states_after-length, states_before-drop, LeadTo-drop, LeadTo-last, LeadTo-front, LeadTo-snoc, back-before, back-after, back-leads}
 
 -- the items around the cycle at a place
-taken : (cs : List KeptCycle) (k : ℕ) (c : KeptCycle) → slice_get cs k ≡ Some c → take (k + 1) cs ≡ take k cs ++ c ∷ []
+taken : (cs : List Cycle) (k : ℕ) (c : Cycle) → slice_get cs k ≡ Some c → take (k + 1) cs ≡ take k cs ++ c ∷ []
 taken cs k c h =
     let inside : k < length cs = slice_get_within cs k c h in
     let e : get_or cs k c ≡ c = get_or_from_slice_get cs k c c h in
@@ -22,7 +21,7 @@ taken cs k c h =
     let s : k + 1 ≡ suc k = omega arith in
     rw (s, t, e) refl
 
-dropped : (cs : List KeptCycle) (k : ℕ) (c : KeptCycle) → slice_get cs k ≡ Some c → drop k cs ≡ c ∷ drop (k + 1) cs
+dropped : (cs : List Cycle) (k : ℕ) (c : Cycle) → slice_get cs k ≡ Some c → drop k cs ≡ c ∷ drop (k + 1) cs
 dropped cs k c h =
     let inside : k < length cs = slice_get_within cs k c h in
     let e : get_or cs k c ≡ c = get_or_from_slice_get cs k c c h in
@@ -30,7 +29,7 @@ dropped cs k c h =
     let s : k + 1 ≡ suc k = omega arith in
     rw (s, t, e) refl
 
-module _ (b : Buffer KeptCycle) (behind : ℕ) (m : Moment) (words : List ℕ) (c : KeptCycle) where
+module _ (b : Buffer Cycle) (behind : ℕ) (m : Moment) (words : List ℕ) (c : Cycle) where
   -- going back over the cycle before the cursor
   module _ (h : IsHistory b behind m words) (some : 0 < length b.items - behind) (is : slice_get b.items (length b.items - behind - 1) ≡ Some c) where
     past_is : past b behind ≡ past b (behind + 1) ++ c ∷ []
@@ -48,12 +47,12 @@ module _ (b : Buffer KeptCycle) (behind : ℕ) (m : Moment) (words : List ℕ) (
         rw (← k) (rw (← j) t)
 
     fits_back : Fits c c.before m (undone c.written words) words
-    fits_back = LeadTo-last (past b (behind + 1)) c m words (subst (λ (cs : List KeptCycle). LeadTo cs m words) past_is h.led)
+    fits_back = LeadTo-last (past b (behind + 1)) c m words (subst (λ (cs : List Cycle). LeadTo cs m words) past_is h.led)
 
     pub went_back : GoesBack (view_of b behind m words) (view_of b (behind + 1) c.before (undone c.written words))
     went_back = record {
-      before = ap (λ (cs : List KeptCycle). states_before cs words) past_is ∙ back-before (past b (behind + 1)) c words;
-      after = ap (λ (cs : List KeptCycle). states_after cs (undone c.written words)) future_is ∙ back-after (future b behind) c m words fits_back;
+      before = ap (λ (cs : List Cycle). states_before cs words) past_is ∙ back-before (past b (behind + 1)) c words;
+      after = ap (λ (cs : List Cycle). states_after cs (undone c.written words)) future_is ∙ back-after (future b behind) c m words fits_back;
       depth = refl;
     }
 
@@ -63,8 +62,8 @@ module _ (b : Buffer KeptCycle) (behind : ℕ) (m : Moment) (words : List ℕ) (
       few = h.few;
       within = h.within;
       cursor = omega (arith, h.cursor);
-      led = LeadTo-front (past b (behind + 1)) c m words (subst (λ (cs : List KeptCycle). LeadTo cs m words) past_is h.led);
-      leads = subst (λ (cs : List KeptCycle). LeadFrom cs c.before (undone c.written words)) (sym future_is) (back-leads (future b behind) c m words fits_back h.leads);
+      led = LeadTo-front (past b (behind + 1)) c m words (subst (λ (cs : List Cycle). LeadTo cs m words) past_is h.led);
+      leads = subst (λ (cs : List Cycle). LeadFrom cs c.before (undone c.written words)) (sym future_is) (back-leads (future b behind) c m words fits_back h.leads);
     }
 
   -- going on over the cycle behind the cursor
@@ -82,7 +81,7 @@ module _ (b : Buffer KeptCycle) (behind : ℕ) (m : Moment) (words : List ℕ) (
         rw (k) (taken b.items (length b.items - behind) c is)
 
     led_on : LeadFrom (c ∷ future b (behind - 1)) m words
-    led_on = subst (λ (cs : List KeptCycle). LeadFrom cs m words) future_was h.leads
+    led_on = subst (λ (cs : List Cycle). LeadFrom cs m words) future_was h.leads
 
     undoes : undone c.written (redone c.written words) ≡ words
     undoes = led_on.0.undoes
@@ -90,11 +89,11 @@ module _ (b : Buffer KeptCycle) (behind : ℕ) (m : Moment) (words : List ℕ) (
     pub went_on : GoesBack (view_of b (behind - 1) c.after (redone c.written words)) (view_of b behind m words)
     went_on =
         let e : states_before (past b (behind - 1)) (redone c.written words) ≡ states_before (past b behind ++ c ∷ []) (redone c.written words) =
-        ap (λ (cs : List KeptCycle). states_before cs (redone c.written words)) past_was in
+        ap (λ (cs : List Cycle). states_before cs (redone c.written words)) past_was in
         let s = states_before-snoc (past b behind) c (redone c.written words) in
         record {
           before = e ∙ (s ∙ rw (undoes, led_on.0.before_is) refl);
-          after = ap (λ (cs : List KeptCycle). states_after cs words) future_was;
+          after = ap (λ (cs : List Cycle). states_after cs words) future_was;
           depth = refl;
         }
 
@@ -114,25 +113,25 @@ module _ (b : Buffer KeptCycle) (behind : ℕ) (m : Moment) (words : List ℕ) (
           few = h.few;
           within = h.within;
           cursor = omega (arith, h.cursor);
-          led = subst (λ (cs : List KeptCycle). LeadTo cs c.after (redone c.written words)) (sym past_was)
+          led = subst (λ (cs : List Cycle). LeadTo cs c.after (redone c.written words)) (sym past_was)
               (LeadTo-snoc (past b behind) c c.after (redone c.written words) led fits);
           leads = led_on.1;
         }
 
-past_none : (b : Buffer KeptCycle) → past b 0 ≡ b.items
+past_none : (b : Buffer Cycle) → past b 0 ≡ b.items
 past_none b = grind (arith, common_steps)
 
-future_none : (b : Buffer KeptCycle) → future b 0 ≡ []
+future_none : (b : Buffer Cycle) → future b 0 ≡ []
 future_none b = grind (arith, common_steps)
 
 -- a cycle that leads on from the newest state
-module _ (b : Buffer KeptCycle) (m m' : Moment) (words words' : List ℕ) (c : KeptCycle) (h : IsHistory b 0 m words) (f : Fits c m m' words words') where
+module _ (b : Buffer Cycle) (m m' : Moment) (words words' : List ℕ) (c : Cycle) (h : IsHistory b 0 m words) (f : Fits c m m' words words') where
   states_are : states_before (b.items ++ c ∷ []) words' ≡ states_before b.items words ++ record { moment = m; words = words } ∷ []
   states_are = states_before-snoc b.items c words' ∙ rw (f.undoes, f.before_is) refl
 
   led_by : LeadTo (b.items ++ c ∷ []) m' words'
   led_by =
-      let led : LeadTo b.items m words = subst (λ (cs : List KeptCycle). LeadTo cs m words) (past_none b) h.led in
+      let led : LeadTo b.items m words = subst (λ (cs : List Cycle). LeadTo cs m words) (past_none b) h.led in
       let led' : LeadTo b.items c.before (undone c.written words') =
       subst (λ (x : Moment). LeadTo b.items x (undone c.written words')) (sym f.before_is) (subst (λ (ws : List ℕ). LeadTo b.items m ws) (sym f.undoes) led) in
       let fits : Fits c c.before m' (undone c.written words') words' =
@@ -160,14 +159,14 @@ module _ (b : Buffer KeptCycle) (m m' : Moment) (words words' : List ℕ) (c : K
     leads = rw (future_none (buffer (keep_last b.capacity (b.items ++ c ∷ [])) b.capacity)) tt;
   }
 
-pub kept-length : (b : Buffer KeptCycle) (behind : ℕ) (words : List ℕ) → length (states_before (past b behind) words) ≡ length b.items - behind
+pub kept-length : (b : Buffer Cycle) (behind : ℕ) (words : List ℕ) → length (states_before (past b behind) words) ≡ length b.items - behind
 kept-length b behind words = let e = states_before-length (past b behind) words in let l : length (past b behind) ≡ length b.items - behind = grind (arith, common_steps) in e ∙ l
 
-pub behind-length : (b : Buffer KeptCycle) (behind : ℕ) (words : List ℕ) → behind ≤ length b.items → length (states_after (future b behind) words) ≡ behind
+pub behind-length : (b : Buffer Cycle) (behind : ℕ) (words : List ℕ) → behind ≤ length b.items → length (states_after (future b behind) words) ≡ behind
 behind-length b behind words h =
     let e = states_after-length (future b behind) words in let l : length (future b behind) ≡ behind = let d = length-drop (length b.items - behind) b.items in omega arith in e ∙ l
 
-pub is_there : (cs : List KeptCycle) (i : ℕ) → i < length cs → IsSome (slice_get cs i)
+pub is_there : {X : Type 0} (cs : List X) (i : ℕ) → i < length cs → IsSome (slice_get cs i)
 is_there [] i h = grind arith
 is_there (c ∷ cs) zero h = refl
 is_there (c ∷ cs) (suc i) h = is_there cs i (omega arith)

@@ -1,9 +1,9 @@
 -- What contracts see of a history: the states that are kept, with a cursor at one of them.
 use Rattle.std.specs.Prelude.{◌≡◌, ◌≤◌, ◌<◌, ℕ, ◌-◌, List, [], ◌∷◌, ◌++◌, length, take, drop}
-use Rattle.circular_buffer.specs.Buffer.{Buffer, keep_last}
+use Rattle.circular_buffer.specs.Buffer.{Buffer, buffer, keep_last}
 use Rattle.mic_rewind.specs.declared.kept_cycle.KeptCycle.{KeptCycle}
 use Rattle.mic_rewind.specs.declared.moment.Moment.{Moment}
-use Rattle.mic_rewind.specs.States.{Snapshot, states_before, states_after, LeadTo, LeadFrom}
+use Rattle.mic_rewind.specs.States.{Cycle, Snapshot, cycles_from, led_from, states_before, states_after, LeadTo, LeadFrom}
 
 pub record HistoryView : Type 0 where
   -- the states before the cursor's, the oldest first
@@ -29,13 +29,13 @@ abbrev pub appended : HistoryView → Snapshot → HistoryView
 appended h s = record { before = keep_last h.depth (h.before ++ h.here ∷ []); here = s; after = []; depth = h.depth }
 
 -- How it is kept: the cycles up to the cursor, with so many of them after it.
-abbrev pub past : Buffer KeptCycle → ℕ → List KeptCycle
+abbrev pub past : Buffer Cycle → ℕ → List Cycle
 past b behind = take (length b.items - behind) b.items
 
-abbrev pub future : Buffer KeptCycle → ℕ → List KeptCycle
+abbrev pub future : Buffer Cycle → ℕ → List Cycle
 future b behind = drop (length b.items - behind) b.items
 
-abbrev pub view_of : Buffer KeptCycle → ℕ → Moment → List ℕ → HistoryView
+abbrev pub view_of : Buffer Cycle → ℕ → Moment → List ℕ → HistoryView
 view_of b behind m words =
     record {
       before = states_before (past b behind) words;
@@ -44,10 +44,18 @@ view_of b behind m words =
       depth = b.capacity;
     }
 
-pub record IsHistory (b : Buffer KeptCycle) (behind : ℕ) (m : Moment) (words : List ℕ) : Type 0 where
+pub record IsHistory (b : Buffer Cycle) (behind : ℕ) (m : Moment) (words : List ℕ) : Type 0 where
   pub some : 0 < b.capacity
   pub few : b.capacity ≤ 65536
   pub within : length b.items ≤ b.capacity
   pub cursor : behind ≤ length b.items
   pub led : LeadTo (past b behind) m words
   pub leads : LeadFrom (future b behind) m words
+
+-- the kept cycles, the first of which began there
+abbrev pub begun_at : Moment → Buffer KeptCycle → Buffer Cycle
+begun_at first b = buffer (cycles_from first b.items) b.capacity
+
+-- where the cycles up to the cursor led
+abbrev pub moment_at : Moment → List KeptCycle → ℕ → Moment
+moment_at first cs behind = led_from first (take (length cs - behind) cs)

@@ -2,7 +2,7 @@
 
 ghost use Rattle.std.specs.Prelude.{◌≡◌, ◌≤◌, ◌<◌, [], ◌∷◌, length, slice_get, true, false, None, IfOk};
 ghost use Rattle.mic_clock.specs.Board.{tick_of};
-ghost use Rattle.mic_rewind.specs.States.{stored};
+ghost use Rattle.mic_rewind.specs.States.{begin_behind, stored};
 ghost use Rattle.mic_rewind.specs.View.{GoesBack, appended};
 
 use crate::kept_cycle::KeptCycle;
@@ -12,7 +12,6 @@ use circular_buffer::HeapCircularBuffer;
 use mic_clock::Tick;
 use std::alloc::{AllocError, Global};
 use std::marker::Model;
-use std::mem::replace;
 
 /// The most cycles that a history keeps.
 pub const MOST_DEPTH: u32 = 65_536;
@@ -20,21 +19,31 @@ pub const MOST_DEPTH: u32 = 65_536;
 /// The last cycles, and a memory of its own, as it was at the cursor.
 #[derive(Drop)]
 pub struct History {
+    /// Where the first of the cycles began.
+    first: Moment,
     cycles: HeapCircularBuffer<KeptCycle>,
     /// The cycles from the cursor to the newest state.
     behind: usize,
-    here: Moment,
     memory: Vec<u32>,
 }
 
 impl Model for History {
-    ghost use Rattle.mic_rewind.specs.View.{HistoryView, IsHistory, view_of};
+    ghost use Rattle.mic_rewind.specs.View.{HistoryView, IsHistory, begun_at, moment_at, view_of};
 
     ghost Value = { HistoryView };
 
-    ghost view = { λ h. view_of h.cycles h.behind h.here h.memory.items };
+    ghost view = { λ h. view_of (begun_at h.first h.cycles) h.behind (moment_at h.first h.cycles.items h.behind) h.memory.items };
 
-    ghost invariant = { λ h. IsHistory h.cycles h.behind h.here h.memory.items };
+    ghost invariant = { λ h. IsHistory (begun_at h.first h.cycles) h.behind (moment_at h.first h.cycles.items h.behind) h.memory.items };
+}
+
+/// Begins the kept cycles where the dropped one led, if one was dropped.
+fn begin_behind(first: &mut Moment, dropped: Option<KeptCycle>)
+    ensures { first.new ≡ begin_behind dropped first.old }
+{
+    if let Some(dropped) = dropped {
+        *first = dropped.after;
+    }
 }
 
 impl History {
@@ -49,9 +58,9 @@ impl History {
         ensures { IfOk result (λ h. h ≡ record { before = []; here = record { moment = here; words = memory.items }; after = []; depth = depth }) }
     {
         Ok(History {
+            first: here,
             cycles: HeapCircularBuffer::with_capacity(alloc, depth as usize)?,
             behind: 0,
-            here,
             memory,
         })
     }
@@ -76,7 +85,11 @@ impl History {
     pub fn here(&self) -> &Moment
         ensures { result.now ≡ self.now.here.moment }
     {
-        &self.here
+        let kept = self.cycles.len() - self.behind;
+        if kept == 0 {
+            return &self.first;
+        }
+        &self.cycles.get(kept - 1).unwrap().after
     }
 
     /// The memory word at the cursor, or none where no memory is.
@@ -93,13 +106,12 @@ impl History {
         ensures { self.new ≡ appended self.old (record { moment = after; words = stored after.registers.mar word self.old.here.words }) }
     {
         let written = take_over(&mut self.memory, after.registers.mar, word);
-        let before = replace(&mut self.here, after.again());
-        self.cycles.push_back(KeptCycle {
-            before,
+        let dropped = self.cycles.push_back(KeptCycle {
             after,
             tick,
             written,
         });
+        begin_behind(&mut self.first, dropped);
     }
 
     /// Goes back over the kept cycle before the cursor; answers whether there was one.
@@ -113,7 +125,6 @@ impl History {
         }
         let cycle = self.cycles.get(kept - 1).unwrap();
         undo(&mut self.memory, cycle.written);
-        self.here = cycle.before.again();
         self.behind += 1;
         true
     }
@@ -126,7 +137,6 @@ impl History {
     {
         let cycle = self.cycles.get(self.cycles.len() - self.behind).unwrap();
         redo(&mut self.memory, cycle.written);
-        self.here = cycle.after.again();
         self.behind -= 1;
         cycle.tick
     }

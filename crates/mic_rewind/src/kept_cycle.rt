@@ -11,10 +11,9 @@ pub struct WrittenWord {
     pub new: u32,
 }
 
-/// A clocked cycle, with all that it takes to undo it and to repeat it.
+/// A clocked cycle: where it led, and what it takes to undo it and to repeat it. It began where the one before it led.
 #[derive(Debug, Drop)]
 pub struct KeptCycle {
-    pub before: Moment,
     pub after: Moment,
     pub tick: Tick,
     /// The memory word at MAR, where there is one.

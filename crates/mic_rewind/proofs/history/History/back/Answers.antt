@@ -1,8 +1,39 @@
-use Rattle.std.proofs.Common.{◌≡◌, ◌∙◌, sym, ap, subst, ℕ, ◌+◌, ◌-◌, ◌<◌, List, length, arith, Some, option_copied, slice_get}
-use Rattle.mic_rewind.specs.declared.moment.Moment.{Moment}
-use Rattle.mic_rewind.specs.View.{HistoryView, GoesBack, IsHistory, view_of}
-use Rattle.mic_rewind.proofs.Zipping.{is_back, went_back}
+use Rattle.std.proofs.Common.{◌≡◌, ◌∙◌, sym, ap, subst, refl, ℕ, ◌+◌, ◌-◌, ◌<◌, ◌≤◌, List, [], length, arith, Some, Option, option_copied, slice_get, rules}
+use Rattle.std.specs.Option.{IsSome}
+use Rattle.mic_rewind.specs.declared.kept_cycle.KeptCycle.{KeptCycle}
+use Rattle.mic_rewind.specs.View.{HistoryView, GoesBack, IsHistory, begun_at, moment_at, view_of}
+use Rattle.mic_rewind.proofs.Begun.{begun-length}
+use Rattle.mic_rewind.proofs.Zipping.{is_there, kept-length}
+use Rattle.mic_rewind.proofs.Keeping.{emptied}
+use Rattle.mic_rewind.proofs.Placed.{placed_back, goes_back}
 use Rattle.mic_rewind.proofs.history.History.back.Goals as goal
+
+pub overflow_sub-kept : goal.overflow_sub-kept
+overflow_sub-kept c =
+    let h = c.self.inside in
+    let n = begun-length h.first h.cycles.items in
+    omega (arith, n, c.len.ensures.len, c.self.invariant.cursor)
+
+pub returns-then-kept-eq0-clause-stayed : goal.returns-then-kept-eq0-clause-stayed
+returns-then-kept-eq0-clause-stayed c =
+    let h = c.self.inside in
+    let v = view_of (begun_at h.first h.cycles) h.behind (moment_at h.first h.cycles.items h.behind) h.memory.items in
+    let n = begun-length h.first h.cycles.items in
+    let k : length v.before ≡ length (begun_at h.first h.cycles).items - h.behind = kept-length (begun_at h.first h.cycles) h.behind h.memory.items in
+    let len = c.len.ensures.len in
+    let none = c.if-kept-eq0.true in
+    let no : length v.before ≤ 0 = omega arith in
+    λ _. (subst (λ (v : HistoryView). v.before ≡ []) c.self.view_is (emptied v.before no), refl)
+
+pub unwrap-cycle-requires : goal.unwrap-cycle-requires
+unwrap-cycle-requires c =
+    let h = c.self.inside in
+    let len = c.len.ensures.len in
+    let some : 0 < c.len.result - h.behind = omega arith in
+    let inside : c.len.result - h.behind - 1 < length h.cycles.items = omega arith in
+    let there = is_there h.cycles.items (c.len.result - h.behind - 1) inside in
+    let copied : IsSome (option_copied c.get.result) = subst (λ (o : Option KeptCycle). IsSome o) (sym c.get.ensures) there in
+    search rules
 
 pub invariant_of-self : goal.invariant_of-self
 invariant_of-self c =
@@ -12,9 +43,8 @@ invariant_of-self c =
     let got : slice_get h.cycles.items (length h.cycles.items - h.behind - 1) ≡ Some cycle =
     subst (λ (n : ℕ). slice_get h.cycles.items (n - h.behind - 1) ≡ Some cycle) len (sym c.get.ensures ∙ ap option_copied c.unwrap-cycle.ensures) in
     let some : 0 < length h.cycles.items - h.behind = omega arith in
-    let is = is_back h.cycles h.behind h.here h.memory.items cycle c.self.invariant some got in
-    subst (λ (m : Moment). IsHistory h.cycles (h.behind + 1) m c.undo.new.memory.items) (sym c.again-self-inside.ensures)
-    (subst (λ (ws : List ℕ). IsHistory h.cycles (h.behind + 1) cycle.before ws) (sym c.undo.ensures) is)
+    let is = placed_back h.first h.cycles h.behind h.memory.items cycle c.self.invariant some got in
+    subst (λ (ws : List ℕ). IsHistory (begun_at h.first h.cycles) (h.behind + 1) (moment_at h.first h.cycles.items (h.behind + 1)) ws) (sym c.undo.ensures) is
 
 pub returns-clause-went : goal.returns-clause-went
 returns-clause-went c =
@@ -24,8 +54,8 @@ returns-clause-went c =
     let got : slice_get h.cycles.items (length h.cycles.items - h.behind - 1) ≡ Some cycle =
     subst (λ (n : ℕ). slice_get h.cycles.items (n - h.behind - 1) ≡ Some cycle) len (sym c.get.ensures ∙ ap option_copied c.unwrap-cycle.ensures) in
     let some : 0 < length h.cycles.items - h.behind = omega arith in
-    let went = went_back h.cycles h.behind h.here h.memory.items cycle c.self.invariant some got in
+    let went = goes_back h.first h.cycles h.behind h.memory.items cycle c.self.invariant some got in
+    let b = begun_at h.first h.cycles in
     λ e.
-    subst (λ (v : HistoryView). GoesBack v (view_of h.cycles (h.behind + 1) c.again-self-inside.result c.undo.new.memory.items)) c.self.view_is
-    (subst (λ (m : Moment). GoesBack (view_of h.cycles h.behind h.here h.memory.items) (view_of h.cycles (h.behind + 1) m c.undo.new.memory.items)) (sym c.again-self-inside.ensures)
-    (subst (λ (ws : List ℕ). GoesBack (view_of h.cycles h.behind h.here h.memory.items) (view_of h.cycles (h.behind + 1) cycle.before ws)) (sym c.undo.ensures) went))
+    subst (λ (v : HistoryView). GoesBack v (view_of b (h.behind + 1) (moment_at h.first h.cycles.items (h.behind + 1)) c.undo.new.memory.items)) c.self.view_is
+    (subst (λ (ws : List ℕ). GoesBack (view_of b h.behind (moment_at h.first h.cycles.items h.behind) h.memory.items) (view_of b (h.behind + 1) (moment_at h.first h.cycles.items (h.behind + 1)) ws)) (sym c.undo.ensures) went)

@@ -2,16 +2,25 @@ use Rattle.std.proofs.Common.{◌≡◌, ◌∙◌, sym, ap, subst, ℕ, ◌-◌
 use Rattle.std.specs.Option.{IsSome}
 use Rattle.mic_rewind.specs.declared.kept_cycle.KeptCycle.{KeptCycle}
 use Rattle.mic_clock.specs.Board.{tick_of}
-use Rattle.mic_rewind.specs.declared.moment.Moment.{Moment}
-use Rattle.mic_rewind.specs.View.{HistoryView, GoesBack, IsHistory, view_of}
-use Rattle.mic_rewind.proofs.Zipping.{behind-length, is_there, is_on, went_on, ticked}
+use Rattle.mic_rewind.specs.View.{HistoryView, GoesBack, IsHistory, begun_at, moment_at, view_of}
+use Rattle.mic_rewind.proofs.Begun.{begun-length}
+use Rattle.mic_rewind.proofs.Zipping.{behind-length, is_there}
+use Rattle.mic_rewind.proofs.Placed.{placed_on, goes_on, tick_on}
 use Rattle.mic_rewind.proofs.history.History.forward.Goals as goal
+
+pub overflow_sub-len : goal.overflow_sub-len
+overflow_sub-len c =
+    let h = c.self.inside in
+    let n = begun-length h.first h.cycles.items in
+    omega (arith, n, c.len.ensures.len, c.self.invariant.cursor)
 
 pub unwrap-cycle-requires : goal.unwrap-cycle-requires
 unwrap-cycle-requires c =
     let h = c.self.inside in
-    let was : 0 < length (view_of h.cycles h.behind h.here h.memory.items).after = subst (λ (v : HistoryView). 0 < length v.after) (sym c.self.view_is) c.requires in
-    let l = behind-length h.cycles h.behind h.memory.items c.self.invariant.cursor in
+    let b = begun_at h.first h.cycles in
+    let was : 0 < length (view_of b h.behind (moment_at h.first h.cycles.items h.behind) h.memory.items).after = subst (λ (v : HistoryView). 0 < length v.after) (sym c.self.view_is) c.requires in
+    let l = behind-length b h.behind h.memory.items c.self.invariant.cursor in
+    let n = begun-length h.first h.cycles.items in
     let len = c.len.ensures.len in
     let cursor = c.self.invariant.cursor in
     let some : 0 < h.behind = omega arith in
@@ -23,39 +32,39 @@ unwrap-cycle-requires c =
 pub invariant_of-self : goal.invariant_of-self
 invariant_of-self c =
     let h = c.self.inside in
+    let b = begun_at h.first h.cycles in
     let cycle = c.unwrap-cycle.result.now in
     let got : slice_get h.cycles.items (length h.cycles.items - h.behind) ≡ Some cycle =
     subst (λ (n : ℕ). slice_get h.cycles.items (n - h.behind) ≡ Some cycle) c.len.ensures.len (sym c.get.ensures ∙ ap option_copied c.unwrap-cycle.ensures) in
-    let was : 0 < length (view_of h.cycles h.behind h.here h.memory.items).after = subst (λ (v : HistoryView). 0 < length v.after) (sym c.self.view_is) c.requires in
-    let l = behind-length h.cycles h.behind h.memory.items c.self.invariant.cursor in
+    let was : 0 < length (view_of b h.behind (moment_at h.first h.cycles.items h.behind) h.memory.items).after = subst (λ (v : HistoryView). 0 < length v.after) (sym c.self.view_is) c.requires in
+    let l = behind-length b h.behind h.memory.items c.self.invariant.cursor in
     let some : 0 < h.behind = omega arith in
-    let is = is_on h.cycles h.behind h.here h.memory.items cycle c.self.invariant some got in
-    subst (λ (m : Moment). IsHistory h.cycles (h.behind - 1) m c.redo.new.memory.items) (sym c.again-self-inside.ensures)
-    (subst (λ (ws : List ℕ). IsHistory h.cycles (h.behind - 1) cycle.after ws) (sym c.redo.ensures) is)
+    let is = placed_on h.first h.cycles h.behind h.memory.items cycle c.self.invariant some got in
+    subst (λ (ws : List ℕ). IsHistory b (h.behind - 1) (moment_at h.first h.cycles.items (h.behind - 1)) ws) (sym c.redo.ensures) is
 
 pub returns-clause-went : goal.returns-clause-went
 returns-clause-went c =
     let h = c.self.inside in
+    let b = begun_at h.first h.cycles in
     let cycle = c.unwrap-cycle.result.now in
     let got : slice_get h.cycles.items (length h.cycles.items - h.behind) ≡ Some cycle =
     subst (λ (n : ℕ). slice_get h.cycles.items (n - h.behind) ≡ Some cycle) c.len.ensures.len (sym c.get.ensures ∙ ap option_copied c.unwrap-cycle.ensures) in
-    let was : 0 < length (view_of h.cycles h.behind h.here h.memory.items).after = subst (λ (v : HistoryView). 0 < length v.after) (sym c.self.view_is) c.requires in
-    let l = behind-length h.cycles h.behind h.memory.items c.self.invariant.cursor in
+    let was : 0 < length (view_of b h.behind (moment_at h.first h.cycles.items h.behind) h.memory.items).after = subst (λ (v : HistoryView). 0 < length v.after) (sym c.self.view_is) c.requires in
+    let l = behind-length b h.behind h.memory.items c.self.invariant.cursor in
     let some : 0 < h.behind = omega arith in
-    let went = went_on h.cycles h.behind h.here h.memory.items cycle c.self.invariant some got in
-    subst (λ (v : HistoryView). GoesBack (view_of h.cycles (h.behind - 1) c.again-self-inside.result c.redo.new.memory.items) v) c.self.view_is
-    (subst (λ (m : Moment). GoesBack (view_of h.cycles (h.behind - 1) m c.redo.new.memory.items) (view_of h.cycles h.behind h.here h.memory.items)) (sym c.again-self-inside.ensures)
-    (subst (λ (ws : List ℕ). GoesBack (view_of h.cycles (h.behind - 1) cycle.after ws) (view_of h.cycles h.behind h.here h.memory.items)) (sym c.redo.ensures) went))
+    let went = goes_on h.first h.cycles h.behind h.memory.items cycle c.self.invariant some got in
+    subst (λ (v : HistoryView). GoesBack (view_of b (h.behind - 1) (moment_at h.first h.cycles.items (h.behind - 1)) c.redo.new.memory.items) v) c.self.view_is
+    (subst (λ (ws : List ℕ). GoesBack (view_of b (h.behind - 1) (moment_at h.first h.cycles.items (h.behind - 1)) ws) (view_of b h.behind (moment_at h.first h.cycles.items h.behind) h.memory.items)) (sym c.redo.ensures) went)
 
 pub returns-clause-tick : goal.returns-clause-tick
 returns-clause-tick c =
     let h = c.self.inside in
+    let b = begun_at h.first h.cycles in
     let cycle = c.unwrap-cycle.result.now in
     let got : slice_get h.cycles.items (length h.cycles.items - h.behind) ≡ Some cycle =
     subst (λ (n : ℕ). slice_get h.cycles.items (n - h.behind) ≡ Some cycle) c.len.ensures.len (sym c.get.ensures ∙ ap option_copied c.unwrap-cycle.ensures) in
-    let was : 0 < length (view_of h.cycles h.behind h.here h.memory.items).after = subst (λ (v : HistoryView). 0 < length v.after) (sym c.self.view_is) c.requires in
-    let l = behind-length h.cycles h.behind h.memory.items c.self.invariant.cursor in
+    let was : 0 < length (view_of b h.behind (moment_at h.first h.cycles.items h.behind) h.memory.items).after = subst (λ (v : HistoryView). 0 < length v.after) (sym c.self.view_is) c.requires in
+    let l = behind-length b h.behind h.memory.items c.self.invariant.cursor in
     let some : 0 < h.behind = omega arith in
-    let t = ticked h.cycles h.behind h.here h.memory.items cycle c.self.invariant some got in
-    t ∙ (ap (λ (v : HistoryView). tick_of v.here.moment.counts cycle.after.counts None) c.self.view_is
-    ∙ ap (λ (m : Moment). tick_of c.args.self.now.here.moment.counts m.counts None) (sym c.again-self-inside.ensures))
+    let t = tick_on h.first h.cycles h.behind h.memory.items cycle c.self.invariant some got in
+    t ∙ ap (λ (v : HistoryView). tick_of v.here.moment.counts (moment_at h.first h.cycles.items (h.behind - 1)).counts None) c.self.view_is
