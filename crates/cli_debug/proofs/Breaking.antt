@@ -1,30 +1,28 @@
 -- What a failing sink leaves of a line, as the definition has it.
-use Rattle.std.proofs.Common.{◌≡◌, ◌≢◌, ◌⊎◌, inl, inr, ◌∙◌, ℕ, zero, suc, ◌≤◌, Bool, true, false, List, [], ◌++◌, length, take, min, if◌then◌else◌, Option, Some, None, IsSome, Result, Ok, Err, refl, sym, ap, subst, append_assoc, arith}
+use Rattle.std.proofs.Common.{◌≡◌, inl, inr, ◌∙◌, ℕ, zero, suc, ◌≤◌, Bool, true, false, List, [], ◌++◌, length, take, min, if◌then◌else◌, Option, Some, None, IsSome, Result, Ok, Err, refl, sym, ap, subst, append_assoc, arith}
 use Rattle.std.specs.Prelude.{OnErr, nat_le}
 use Rattle.std.specs.Option.{option_map}
 use Rattle.std.proofs.lemmas.Bool.{cases_lt}
 use Rattle.std.proofs.lemmas.List.{append-nil, take_min, take-append-le}
 use Rattle.console_port.specs.World.{World}
 use Rattle.mic_clock.specs.declared.end.End.{End}
-use Rattle.mic_clock.specs.declared.end.End.TheVariants as ends
 use Rattle.mic_clock.specs.Meaning.{Meaning, Outcome, Done, Refused}
 use Rattle.mic_clock.specs.Run.{MicroRun, bounded, bounded_by, end_before, after_end_or_step, after_step, turn, turn_by, word_at}
-use Rattle.mic_clock.specs.View.{BoardView}
 use Rattle.mic_debugger.specs.declared.plan.Plan.{Plan}
 use Rattle.mic_debugger.specs.declared.plan.Plan.TheVariants as plans
 use Rattle.mic_debugger.specs.declared.until.Until.{Until}
-use Rattle.mic_debugger.specs.Book.{Book, IsBook}
-use Rattle.mic_debugger.specs.Clocking.{IsDone, IsGoing, after, printed, turn_lines}
-use Rattle.mic_debugger.specs.Obeys.{IsBrokenIn, IsSaidInPart, plan_in}
-use Rattle.mic_debugger.specs.Session.{HasReadCause, StandsAfter}
-use Rattle.cli_session.specs.Meaning.{BreaksOff, IsCutShort, IsFrontOf, Place, place}
+use Rattle.mic_debugger.specs.Book.{Book}
+use Rattle.mic_debugger.specs.Clocking.{IsDone, IsGoing, IsTold, after, printed, turn_lines}
+use Rattle.mic_debugger.specs.Obeys.{IsLineBroken}
+use Rattle.mic_debugger.specs.Session.{HasReadCause}
+use Rattle.mic_debugger.specs.Stand.{Carries, IsPart, IsWhole, Rules, Stand, plan_at, rules_of, stand_in}
+use Rattle.mic_debugger.specs.Outcome.{KeepFronts}
+use Rattle.cli_session.specs.Meaning.{IsCutShort, IsFrontOf, place}
 use Rattle.mic_debugger.specs.View.{SessionView}
-use Rattle.mic_base.specs.Causes.{Rose}
-use Rattle.mic_base.specs.Streams.{Holds}
 use Rattle.cli_outside.specs.Outside.{GotInPart, OutsideView}
-use Rattle.cli_debug.specs.Stand.{Carries, HasBegun, IsBrokenOff, OnlyGives, OnlyShows, Stand, StandsAt, plan_at, shown_at}
-use Rattle.cli_debug.specs.Debugging.{DebuggingRules, DebuggingView, debugging, debugging_view, rules_of}
-use Rattle.cli_debug.proofs.Standing.{leads_on, no_rise, same_plan, shown_same}
+use Rattle.cli_debug.specs.Stand.{IsBrokenOff, OnlyGives}
+use Rattle.cli_debug.specs.Debugging.{debugging, debugging_view}
+use Rattle.cli_debug.proofs.Standing.{leads_on, no_rise, same_stand, streams_at}
 
 -- ---- fronts
 
@@ -128,36 +126,31 @@ module _ {State : Type 0} (m : Meaning State) (book : Book) (words breaks : List
 
 -- ---- a line
 
-module _ {State : Type 0} (m : Meaning State) (book : Book) (words : List ℕ) (memory bound : ℕ) (s : Stand State) where
+module _ {State : Type 0} (m : Meaning State) (rules : Rules) (s : Stand State) where
+  -- a part of a plan, whatever else is known of its turns
+  part_of : (P : Stand State → Until → ℕ → Type 0) (plan : Plan) (text : List ℕ) (run : MicroRun State) → Carries m rules (λ x u times n. IsPart m rules x u times n × P x u n) plan s text run →
+      Carries m rules (IsPart m rules) plan s text run
+  part_of P (plans.Clock u times) text run c = (c.0, c.1.0, c.2, c.3)
+  part_of P (plans.Show shown) text run c = c
+
   -- what a plan has given and printed at a moment is a front of what it gives and prints whole
-  printed_first : (plan : Plan) (text whole : List ℕ) (run last : MicroRun State) → HasBegun m book words memory bound plan s text run → Carries m book words memory bound plan s whole last → IsFront text whole
+
+  printed_first : (plan : Plan) (text whole : List ℕ) (run last : MicroRun State) → Carries m rules (IsPart m rules) plan s text run → Carries m rules (IsWhole m rules) plan s whole last → IsFront text whole
   printed_first (plans.Clock u times) text whole run last b c =
-      subst (λ (x : List ℕ). IsFront x whole) (sym b.3) (subst (λ (x : List ℕ). IsFront (printed m book words s.breaks bound u b.0 s.run) x) (sym c.3)
-      (more_printed m book words s.breaks bound u b.0 c.0 s.run (none_behind m book words s.breaks bound u times b.0 c.0 s.run b.1 c.1)))
-  printed_first (plans.Refuse reply) text whole run last b c = subst (IsFront text) (b.1 ∙ sym c.1) (front_same text)
-  printed_first plans.Registers text whole run last b c = subst (IsFront text) (b.1 ∙ sym c.1) (front_same text)
-  printed_first plans.Stack text whole run last b c = subst (IsFront text) (b.1 ∙ sym c.1) (front_same text)
-  printed_first plans.Where text whole run last b c = subst (IsFront text) (b.1 ∙ sym c.1) (front_same text)
-  printed_first plans.Nothing text whole run last b c = subst (IsFront text) (b.1 ∙ sym c.1) (front_same text)
-  printed_first plans.Quit text whole run last b c = subst (IsFront text) (b.1 ∙ sym c.1) (front_same text)
+      subst (λ (x : List ℕ). IsFront x whole) (sym b.3) (subst (λ (x : List ℕ). IsFront (printed m rules.book rules.words s.breaks rules.bound u b.0 s.run) x) (sym c.3)
+      (more_printed m rules.book rules.words s.breaks rules.bound u b.0 c.0 s.run (none_behind m rules.book rules.words s.breaks rules.bound u times b.0 c.0 s.run b.1 c.1)))
+  printed_first (plans.Show shown) text whole run last b c = subst (IsFront text) (b.1 ∙ sym c.1) (front_same text)
 
-  stays : (run last : MicroRun State) → run ≡ s.run → last ≡ s.run → IsFront run.world.given last.world.given
-  stays run last b c = subst (λ (x : MicroRun State). IsFront run.world.given x.world.given) (b ∙ sym c) (front_same run.world.given)
-
-  given_first : OnlyGives m → (plan : Plan) (text whole : List ℕ) (run last : MicroRun State) → HasBegun m book words memory bound plan s text run → Carries m book words memory bound plan s whole last →
+  given_first : OnlyGives m → (plan : Plan) (text whole : List ℕ) (run last : MicroRun State) → Carries m rules (IsPart m rules) plan s text run → Carries m rules (IsWhole m rules) plan s whole last →
       IsFront run.world.given last.world.given
   given_first only (plans.Clock u times) text whole run last b c =
-      subst (λ (x : MicroRun State). IsFront x.world.given last.world.given) (sym b.2) (subst (λ (x : MicroRun State). IsFront (after m book words s.breaks bound u b.0 s.run).world.given x.world.given) (sym c.2)
-      (more_given m book words s.breaks bound u only b.0 c.0 s.run (none_behind m book words s.breaks bound u times b.0 c.0 s.run b.1 c.1)))
-  given_first only (plans.Refuse reply) text whole run last b c = stays run last b.0 c.0
-  given_first only plans.Registers text whole run last b c = stays run last b.0 c.0
-  given_first only plans.Stack text whole run last b c = stays run last b.0 c.0
-  given_first only plans.Where text whole run last b c = stays run last b.0 c.0
-  given_first only plans.Nothing text whole run last b c = stays run last b.0 c.0
-  given_first only plans.Quit text whole run last b c = stays run last b.0 c.0
+      subst (λ (x : MicroRun State). IsFront x.world.given last.world.given) (sym b.2) (subst (λ (x : MicroRun State). IsFront (after m rules.book rules.words s.breaks rules.bound u b.0 s.run).world.given x.world.given) (sym c.2)
+      (more_given m rules.book rules.words s.breaks rules.bound u only b.0 c.0 s.run (none_behind m rules.book rules.words s.breaks rules.bound u times b.0 c.0 s.run b.1 c.1)))
+  given_first only (plans.Show shown) text whole run last b c =
+      subst (λ (x : MicroRun State). IsFront run.world.given x.world.given) (b.0 ∙ sym c.0) (front_same run.world.given)
 
-  broken_off : (line : List ℕ) (held said said' : Option (List ℕ)) (text : List ℕ) (run : MicroRun State) → HasBegun m book words memory bound (plan_at m book words memory bound s line) s text run →
-      IsFrontOf held run.world.given → GotInPart said text said' → IsBrokenOff m book words memory bound line s held said said'
+  broken_off : (line : List ℕ) (held said said' : Option (List ℕ)) (text : List ℕ) (run : MicroRun State) → Carries m rules (IsPart m rules) (plan_at m rules s line) s text run →
+      IsFrontOf held run.world.given → GotInPart said text said' → IsBrokenOff m rules line s held said said'
   broken_off line held said said' text run begun out err =
       record {
         run = run;
@@ -165,67 +158,29 @@ module _ {State : Type 0} (m : Meaning State) (book : Book) (words : List ℕ) (
         begun = begun;
         out = out;
         err = err;
-        whole_out = λ only whole s' does. held_front held run.world.given s'.run.world.given out (given_first only (plan_at m book words memory bound s line) text whole run s'.run begun does.carries);
-        whole_err = λ whole s' does. got_front said said' text whole err (printed_first (plan_at m book words memory bound s line) text whole run s'.run begun does.carries);
+        whole_out = λ only whole s' does. held_front held run.world.given s'.run.world.given out (given_first only (plan_at m rules s line) text whole run s'.run begun does.carries);
+        whole_err = λ whole s' does. got_front said said' text whole err (printed_first (plan_at m rules s line) text whole run s'.run begun does.carries);
       }
 
 -- ---- what a call of the library leaves
 
-module _ {M State : Type 0} (state : M → State) (m : Meaning State) (book : Book) (left left' : List ℕ) (held held' said said' : Option (List ℕ)) (v : SessionView M) (board' : BoardView M)
-    (s : Stand State) (here : StandsAt state (Some left) held v s) where
-  -- it leaves each stand so, where its plan is broken off so
-  abbrev Left : Plan → Type 0
-  Left plan =
-      (text : List ℕ) × (run : MicroRun State) × HasBegun m book v.board.store.words v.listing.memory v.bound plan s text run × IsFrontOf held' run.world.given × GotInPart said text said'
-
-  abbrev Stayed : Plan → Type 0
-  Stayed plan =
-      (text : List ℕ) × (run : MicroRun State) × OnlyShows m book v.board.store.words v.listing.memory v.bound s plan text run × IsFrontOf held' run.world.given × GotInPart said text said'
-
-  stayed : (plan : Plan) → IsSaidInPart state m book (Some left) held said v (Some left') held' said' board' plan → Stayed plan
-  stayed plan part =
-      let at = leads_on state m book left left' held held' v board' [] s here (λ r rest. StandsAfter state board' r × IsFrontOf held' r.world.given) part.0 in (
-        shown_at m book v.board.store.words v.listing.memory v.bound s plan,
-        s.run,
-        (refl, refl),
-        at.1.1,
-        subst (λ (t : List ℕ). GotInPart said t said') (shown_same state m book left left' held held' v board' [] s here plan) part.1,
-      )
-
-  left_by : (plan : Plan) → IsBrokenIn state m book (Some left) held said v (Some left') held' said' board' plan → Left plan
-  left_by (plans.Clock u times) led =
-      let at = leads_on state m book left left' held held' v board' [] s here _ led in
-      let n = at.1.0 in
-      let broken = at.1.1 in
-      subst (λ (breaks : List ℕ). (text : List ℕ) × (run : MicroRun State)
-      × ((k : ℕ) × IsGoing m book v.board.store.words breaks v.bound u times k s.run × (run ≡ after m book v.board.store.words breaks v.bound u k s.run)
-      × (text ≡ printed m book v.board.store.words breaks v.bound u k s.run)) × IsFrontOf held' run.world.given × GotInPart said text said') (sym here.breaks)
-      (printed m book v.board.store.words v.breaks v.bound u n s.run, after m book v.board.store.words v.breaks v.bound u n s.run, (n, broken.going, refl, refl), broken.out, broken.err)
-  left_by (plans.Refuse reply) part = stayed (plans.Refuse reply) part
-  left_by plans.Registers part = stayed plans.Registers part
-  left_by plans.Stack part = stayed plans.Stack part
-  left_by plans.Where part = stayed plans.Where part
-  left_by plans.Nothing part = stayed plans.Nothing part
-  left_by plans.Quit part = stayed plans.Quit part
-
-pub breaks_by : {M State T E : Type 0} (state : M → State) (m : Meaning State) (left left' : List ℕ) (o o' : OutsideView) (v v' : SessionView M) (line : List ℕ) (r : Result T E) →
-    OnErr r ((v.board.end ≡ None → v'.board.end ≢ Some ends.ReadFault) → (book : Book) → IsBook v.listing.program v.listing.placement v.listing.image book →
-    IsBrokenIn state m book (Some left) o.out.held o.err.held v (Some left') o'.out.held o'.err.held v'.board (plan_in v line)) →
-    (v.board.end ≡ None → HasReadCause 0 0 v'.board.end) → OnErr r (BreaksOff (debugging state m) line (place (debugging_view v left) o) o')
-breaks_by state m left left' o o' v v' line (Ok reply) broken input = tt
-breaks_by state m left left' o o' v v' line (Err e) broken input =
-    λ rules goes_by s here.
-    let book = rules.book in
-    let at = left_by state m book left left' o.out.held o'.out.held o.err.held o'.err.held v v'.board s here (plan_in v line) (broken (λ none read. no_rise ((input none).rose read)) book goes_by.0) in
-    subst (λ (r : DebuggingRules). IsBrokenOff m r.book r.words r.memory r.bound line s o'.out.held o.err.held o'.err.held) (sym goes_by.1)
-    (broken_off m book v.board.store.words v.listing.memory v.bound s line o'.out.held o.err.held o'.err.held at.0 at.1
-    (subst (λ (p : Plan). HasBegun m book v.board.store.words v.listing.memory v.bound p s at.0 at.1) (same_plan state m book left left' o.out.held o'.out.held v v'.board [] s here line) at.2) at.3 at.4)
-
--- so it is cut short
-pub cut_by : {M State T E : Type 0} (state : M → State) (m : Meaning State) (old : Place (DebuggingView M)) (new : OutsideView) (line : List ℕ) (r : Result T E) →
-    OnErr r (BreaksOff (debugging state m) line old new) → ((front : List ℕ) → Holds front old.seen.out.held → Holds front new.out.held) →
-    ((front : List ℕ) → Holds front old.seen.err.held → Holds front new.err.held) → new.files ≡ old.seen.files →
-    OnErr r (Rose old.seen.out.faults new.out.faults ⊎ Rose old.seen.err.faults new.err.faults) → OnErr r (IsCutShort (debugging state m) line old new)
-cut_by state m old new line (Ok reply) breaks keeps_out keeps_err files rose = tt
-cut_by state m old new line (Err e) breaks keeps_out keeps_err files rose =
-    record { breaks = breaks; keeps_out = keeps_out; keeps_err = keeps_err; files = files; rose = rose }
+-- a line that a failing sink broke off is cut short
+pub cut_by : {M State T E : Type 0} (state : M → State) (m : Meaning State) (left left' : List ℕ) (o o' : OutsideView) (v v' : SessionView M) (line : List ℕ) (r : Result T E) →
+    OnErr r (IsLineBroken state m line v v' (streams_at left o) (streams_at left' o')) → (v.board.end ≡ None → HasReadCause 0 0 v'.board.end) →
+    KeepFronts o.out.held o'.out.held o.err.held o'.err.held → o'.files ≡ o.files → OnErr r (IsCutShort (debugging state m) line (place (debugging_view v left) o) o')
+cut_by state m left left' o o' v v' line (Ok reply) broken input keeps files = tt
+cut_by state m left left' o o' v v' line (Err e) broken input keeps files =
+    record {
+      breaks = λ rules goes_by s here.
+          let own = rules_of v rules.book in
+          let x = stand_in v s.run in
+          let at = (leads_on state left left' o.out.held v v'.board s here _ (broken.broken.breaks (λ none read. no_rise ((input none).rose read)) rules.book goes_by.0)).1 in
+          subst (λ (r : Rules). IsBrokenOff m r line s o'.out.held o.err.held o'.err.held) (sym goes_by.1)
+          (subst (λ (y : Stand _). IsBrokenOff m own line y o'.out.held o.err.held o'.err.held) (same_stand state left left' o.out.held v v'.board s here)
+          (broken_off m own x line o'.out.held o.err.held o'.err.held at.text at.run
+          (part_of m own x (λ y u n. IsTold m own.book own.words y.breaks own.bound u o.err.held o'.err.held n y.run) (plan_at m own x line) at.text at.run at.begun) at.out at.err));
+      keeps_out = keeps.out;
+      keeps_err = keeps.err;
+      files = files;
+      rose = broken.broken.failed;
+    }

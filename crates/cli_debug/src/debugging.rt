@@ -49,12 +49,12 @@ fn answer_line<M: Clocked, F: Files, S: Source, K: Sink, E: Sink>(
 
 impl<M: Clocked> LineSession for Debugging<M> {
     ghost use Rattle.mic_base.specs.Plain.{plain_left};
-    ghost use Rattle.cli_debug.specs.Debugging.{DebuggingRules, DebuggingView, debugging, debugging_view};
-    ghost use Rattle.cli_debug.specs.Stand.{Stand};
+    ghost use Rattle.mic_debugger.specs.Stand.{Rules, Stand};
+    ghost use Rattle.cli_debug.specs.Debugging.{DebuggingView, debugging, debugging_view};
 
     ghost Seen = { DebuggingView M };
 
-    ghost Rules = { DebuggingRules };
+    ghost Rules = { Rules };
 
     ghost Stand = { Stand M.State };
 

@@ -1,5 +1,5 @@
 -- Where a failing sink breaks a line off.
-use Rattle.std.proofs.Common.{◌≡◌, ◌≢◌, ◌⊎◌, inl, inr, zero, suc, ℕ, ◌+◌, ◌-◌, ◌<◌, List, ◌++◌, take, drop, append_assoc, Option, Some, None, IsSome, refl, sym, ◌∙◌, ap, subst, arith, Result, Ok, Err}
+use Rattle.std.proofs.Common.{◌≡◌, ◌≢◌, ◌⊎◌, inl, inr, zero, suc, ℕ, ◌+◌, ◌<◌, List, ◌++◌, take, drop, append_assoc, Option, Some, None, IsSome, refl, sym, ◌∙◌, ap, subst, arith, Result, Ok, Err}
 use Rattle.std.specs.Prelude.{OnOk, OnErr, IfErr}
 use Rattle.std.proofs.Math.ListN.{take-append-drop}
 use Rattle.console_port.specs.Console.{Given, IsLost}
@@ -13,17 +13,22 @@ use Rattle.mic_clock.specs.Meaning.{Meaning}
 use Rattle.mic_clock.specs.Run.{MicroRun, bounded, turn, turns, word_at}
 use Rattle.mic_clock.specs.View.{BoardView}
 use Rattle.mic_clock.specs.Board.{ShowsRun, ShowsAs, IsLedTo, IsTurned, RunIsCutByWrite, NoFault, EndsUncounted}
-use Rattle.cli_outside.specs.Outside.{Got, GotInPart}
+use Rattle.mic_base.specs.Causes.{Rose}
+use Rattle.cli_outside.specs.Outside.{Got, GotInPart, SinkState}
 use Rattle.mic_debugger.specs.declared.plan.Plan.{Plan}
 use Rattle.mic_debugger.specs.declared.plan.Plan.TheVariants as plans
+use Rattle.mic_debugger.specs.declared.plan.Shown.{Shown}
 use Rattle.mic_debugger.specs.declared.until.Until.{Until}
-use Rattle.mic_debugger.specs.Book.{Book}
-use Rattle.mic_debugger.specs.Clocking.{after, passed, printed, turn_lines, turn_text}
-use Rattle.mic_debugger.specs.Obeys.{IsBrokenIn, IsSaid, IsSaidInPart, Obeys}
+use Rattle.mic_debugger.specs.Book.{Book, IsBookOf}
+use Rattle.mic_debugger.specs.Clocking.{IsTold, after, passed, printed, turn_lines, turn_text}
+use Rattle.mic_debugger.specs.Obeys.{IsBrokenAt, IsCarriedOut, IsPlanBroken, plan_in}
+use Rattle.mic_debugger.specs.Outcome.{IsBrokenOff, SinkFailed, Streams}
+use Rattle.mic_debugger.specs.Plans.{shown_text}
+use Rattle.mic_debugger.specs.Stand.{Carries, IsPart, IsWhole, Rules, Stand, plan_at, rules_of, stand_in}
 use Rattle.cli_session.specs.Meaning.{IsFrontOf}
 use Rattle.mic_debugger.specs.Session.{IsBroken, IsUnderway, StandsAfter, text_between}
 use Rattle.mic_debugger.specs.View.{SessionView}
-use Rattle.mic_debugger.proofs.Flushing.{led_on}
+use Rattle.mic_debugger.proofs.Carrying.{led_on, same_plan, same_shown}
 use Rattle.mic_debugger.proofs.Putting.{puts_first, puts_nothing, puts_passed, puts_then}
 use Rattle.mic_debugger.proofs.Uncounted.{uncounted}
 use Rattle.mic_debugger.proofs.Underway.{after-suc, going_more}
@@ -218,42 +223,105 @@ module _ {M State : Type 0} (state : M → State) (m : Meaning State) (book : Bo
 
 -- ---- plans
 
--- a plan that was carried out, and then the flush failed
-module _ {M State : Type 0} (state : M → State) (m : Meaning State) (book : Book) (left held said : Option (List ℕ)) (old : SessionView M) (left' held' held'' said' : Option (List ℕ)) (board' board'' : BoardView M)
-    (text : List ℕ) (prints : Got said text said') (same : board''.bus.console.ended ≡ board'.bus.console.ended)
-    (stands : (r : MicroRun State) → ShowsRun state left' held' board' r → StandsAfter state board'' r)
-    (front : (r : MicroRun State) → ShowsRun state left' held' board' r → IsFrontOf held'' r.world.given) where
-  said_broken : (plan : Plan) → IsSaid state m book left held old left' held' board' text plan → IsSaidInPart state m book left held said old left' held'' said' board'' plan
-  said_broken plan is = (
-    led_on state left held old.board left' board' board'' (λ r rest. ShowsRun state left' held' board' r × (r.world.untaken ≡ rest)) (λ r rest. StandsAfter state board'' r × IsFrontOf held'' r.world.given) same
-        (λ r rest at. (stands r at.0, front r at.0)) is.0,
-    subst (λ (t : List ℕ). GotInPart said t said') is.1 (in_part said said' text prints),
-  )
+-- a plan that was carried out whole was begun
+begun_whole : {State : Type 0} (m : Meaning State) (rules : Rules) (said said' : Option (List ℕ)) (plan : Plan) (s : Stand State) (text : List ℕ) (run : MicroRun State) →
+    Got said text said' → Carries m rules (IsWhole m rules) plan s text run →
+    Carries m rules (λ s u times n. IsPart m rules s u times n × IsTold m rules.book rules.words s.breaks rules.bound u said said' n s.run) plan s text run
+begun_whole m rules said said' (plans.Clock u times) s text run got c = (
+  c.0,
+  (
+    c.1.going,
+    λ k e. told_all m rules.book rules.words s.breaks rules.bound u s.run said said' k c.0 e (subst (λ (t : List ℕ). Got said t said') c.3 got),
+  ),
+  c.2,
+  c.3,
+)
+begun_whole m rules said said' (plans.Show shown) s text run got c = c
 
-  pub obeys_broken : (plan : Plan) → Obeys state m book left held old left' held' board' text plan → IsBrokenIn state m book left held said old left' held'' said' board'' plan
-  obeys_broken (plans.Clock u times) led =
-      led_on state left held old.board left' board' board'' _ _ same
-      (λ r rest at. (
-        at.0,
-        record {
-          here = stands _ at.1.here;
-          going = at.1.done.going;
-          out = front _ at.1.here;
-          err = subst (λ (t : List ℕ). GotInPart said t said') at.1.lines (in_part said said' text prints);
-          told = λ k e. told_all m book old.board.store.words old.breaks old.bound u r said said' k at.0 e (subst (λ (t : List ℕ). Got said t said') at.1.lines prints);
-        },
-      )) led
-  obeys_broken (plans.Refuse reply) is = said_broken (plans.Refuse reply) is
-  obeys_broken plans.Registers is = said_broken plans.Registers is
-  obeys_broken plans.Stack is = said_broken plans.Stack is
-  obeys_broken plans.Where is = said_broken plans.Where is
-  obeys_broken plans.Nothing is = said_broken plans.Nothing is
-  obeys_broken plans.Quit is = said_broken plans.Quit is
+module _ {M State : Type 0} (state : M → State) (m : Meaning State) (line : List ℕ) (old : SessionView M) (at at' : Streams) (board' : BoardView M) where
+  abbrev BreaksLine : Type 0
+  BreaksLine =
+      IsBrokenOff state old.listing at at' old.board board'
+      (λ book r rest. IsBrokenAt state m old board' at at' (rules_of old book) (plan_at m (rules_of old book) (stand_in old r) line) (stand_in old r))
 
--- what an Err says behind a premise holds behind one from which that follows
-pub on_err_given : {T E : Type 0} (P A B : Type 0) (r : Result T E) → (B → A) → OnErr r (A → P) → OnErr r (B → P)
-on_err_given P A B (Ok v) f h = tt
-on_err_given P A B (Err e) f h = λ x. h (f x)
+  -- a line whose plan was broken off
+  pub plan_broken : IsPlanBroken state m old board' at at' (plan_in old line) → BreaksLine
+  plan_broken broken =
+      record {
+        breaks = λ unread book is_book.
+            led_on state at.input.left at.out.held old.board at'.input.left board' board' _ _ refl
+            (λ r rest here b.
+            subst (λ (p : Plan). IsBrokenAt state m old board' at at' (rules_of old book) p (stand_in old r)) (same_plan state m line book old at.input.left at.out.held r here) b)
+            (broken.breaks unread book is_book);
+        failed = broken.failed;
+      }
+
+  -- one whose plan was carried out, and then the flush failed
+  pub flush_broken : (board : BoardView M) (mid : Streams) → IsCarriedOut state m old board at mid (plan_in old line) → at'.input.left ≡ mid.input.left → at'.err.held ≡ mid.err.held →
+      board'.bus.console.ended ≡ board.bus.console.ended → board'.end ≡ board.end →
+      ((r : MicroRun State) → ShowsRun state mid.input.left mid.out.held board r → StandsAfter state board' r) →
+      ((r : MicroRun State) → ShowsRun state mid.input.left mid.out.held board r → IsFrontOf at'.out.held r.world.given) → SinkFailed at at' → BreaksLine
+  flush_broken board mid done input held same end stands front failed =
+      record {
+        breaks = λ unread book is_book.
+            let rules = rules_of old book in
+            let far = done.led (λ none read. unread none (end ∙ read)) book is_book in
+            let got : Got at.err.held far.0 at'.err.held = held ∙ far.1 in
+            subst
+            (λ (left : Option (List ℕ)). IsLedTo state at.input.left at.out.held old.board left board'
+            (λ r rest. IsBrokenAt state m old board' at at' rules (plan_at m rules (stand_in old r) line) (stand_in old r))) (sym input)
+            (led_on state at.input.left at.out.held old.board mid.input.left board board' _ _ same
+            (λ r rest here c.
+            record {
+              run = c.0;
+              text = far.0;
+              begun = begun_whole m rules at.err.held at'.err.held (plan_at m rules (stand_in old r) line) (stand_in old r) far.0 c.0 got
+                  (subst (λ (p : Plan). Carries m rules (IsWhole m rules) p (stand_in old r) far.0 c.0) (same_plan state m line book old at.input.left at.out.held r here) c.1);
+              here = stands c.0 c.2;
+              out = front c.0 c.2;
+              err = in_part at.err.held at'.err.held far.0 got;
+            }) far.2);
+        failed = failed;
+      }
+
+module _ {M State : Type 0} (state : M → State) (m : Meaning State) (v : SessionView M) (at : Streams) (err : SinkState) (shown : Shown) where
+  -- what is shown carries its plan out
+  pub shown_carried : ((book : Book) → IsBookOf v.listing book →
+      Got at.err.held (shown_text book v.listing.memory (m.registers (state v.board.machine)) v.board.counts v.board.bus.words shown) err.held) → err.faults ≡ at.err.faults →
+      IsCarriedOut state m v v.board at (record at { err = err }) (plans.Show shown)
+  shown_carried puts quiet =
+      record {
+        led = λ well book is_book. (
+          shown_text book v.listing.memory (m.registers (state v.board.machine)) v.board.counts v.board.bus.words shown,
+          puts book is_book,
+          λ rest fits. (rest, fits, λ r here e. (r, (refl, same_shown state m book v at.input.left at.out.held r here shown), here, e)),
+        );
+        stopped = λ none read. absurd (cc);
+        unbroken = λ none write. cc;
+        sinks = record { flushed = λ h. h; out = refl; err = quiet };
+      }
+
+  -- where `err` fails, it breaks it off
+  pub shown_broken : ((book : Book) → IsBookOf v.listing book →
+      GotInPart at.err.held (shown_text book v.listing.memory (m.registers (state v.board.machine)) v.board.counts v.board.bus.words shown) err.held) → Rose at.err.faults err.faults →
+      IsPlanBroken state m v v.board at (record at { err = err }) (plans.Show shown)
+  shown_broken puts rose =
+      record {
+        breaks = λ unread book is_book rest fits. (
+          rest,
+          fits,
+          λ r here e.
+              record {
+                run = r;
+                text = shown_text book v.listing.memory (m.registers r.state) r.counts r.world.words shown;
+                begun = (refl, refl);
+                here = stands_shown at.input.left at.out.held state v.board r here;
+                out = front_shown at.input.left at.out.held state v.board r here;
+                err = subst (λ (t : List ℕ). GotInPart at.err.held t err.held) (same_shown state m book v at.input.left at.out.held r here shown) (puts book is_book);
+              },
+        );
+        failed = inr rose;
+      }
 
 -- a flush leaves a board where it stood
 pub stands_flushed : {M State : Type 0} (state : M → State) (left held : Option (List ℕ)) (board board' : BoardView M) → state board'.machine ≡ state board.machine → board'.bus.words ≡ board.bus.words →

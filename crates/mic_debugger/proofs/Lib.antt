@@ -3,7 +3,7 @@ pub mod Placing
 pub mod Putting
 pub mod Timing
 pub mod Underway
-pub mod Flushing
+pub mod Carrying
 pub mod InputCauses
 pub mod Uncounted
 pub mod Breaking

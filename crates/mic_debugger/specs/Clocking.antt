@@ -7,6 +7,7 @@ use Rattle.mic_clock.specs.declared.end.End.{End}
 use Rattle.mic_clock.specs.declared.registers.Registers.{Registers}
 use Rattle.mic_clock.specs.Meaning.{Meaning}
 use Rattle.mic_clock.specs.Run.{MicroRun, since, number_of, word_at, turns}
+use Rattle.cli_outside.specs.Outside.{Got, GotInPart}
 use Rattle.mic_debugger.specs.declared.until.Until.{Until}
 use Rattle.mic_debugger.specs.declared.until.Until.TheVariants as until
 use Rattle.mic_debugger.specs.declared.until.Watched.{Watched}
@@ -101,3 +102,8 @@ module _ {State : Type 0} (m : Meaning State) (book : Book) (words : List ℕ) (
   pub record IsDone (times n : ℕ) (r : MicroRun State) : Type 0 where
     pub going : IsGoing times n r
     pub over : IsSome (after n r).end ⊎ (passed n r ≡ times)
+
+  -- `err` got the lines of all turns but the last whole, and what it got of those of the last: so no turn was made after one of whose lines it got less
+  abbrev pub IsTold : Option (List ℕ) → Option (List ℕ) → ℕ → MicroRun State → Type 0
+  IsTold said said' n r =
+      (k : ℕ) → suc k ≡ n → (mid : Option (List ℕ)) × Got said (printed k r) mid × GotInPart mid (turn_lines (after k r) (after n r)) said'

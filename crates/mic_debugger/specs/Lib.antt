@@ -3,7 +3,9 @@ pub mod View
 pub mod Book
 pub mod Lines
 pub mod Clocking
+pub mod Outcome
 pub mod Session
 pub mod Plans
 pub mod InTime
+pub mod Stand
 pub mod Obeys

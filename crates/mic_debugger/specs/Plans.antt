@@ -1,7 +1,12 @@
--- What a line of a session comes to, and what it leaves of breakpoints and the watched word.
+-- What a line of a session comes to, what is shown, and what it leaves of breakpoints and the watched word.
 use Rattle.std.specs.Prelude.{ℕ, ◌==◌, ◌&&◌, Bool, not, List, [], ◌∷◌, ◌++◌, length, filter, nat_lt, slice_get, if◌then◌else◌, Option, Some, None, option_map, is_some, Result, Ok, Err, codes}
 use Rattle.std.specs.List.{list_any}
+use Rattle.mic_clock.specs.declared.counts.Counts.{Counts}
 use Rattle.mic_clock.specs.declared.end.End.{End}
+use Rattle.mic_clock.specs.declared.registers.Registers.{Registers}
+use Rattle.mic_clock.specs.State.{state_line}
+use Rattle.mic_debugger.specs.Book.{Book}
+use Rattle.mic_debugger.specs.Lines.{stack_text, where_line}
 use Rattle.mic_debugger.specs.declared.table.Verb.{Verb}
 use Rattle.mic_debugger.specs.declared.table.Verb.TheVariants as verbs
 use Rattle.cli_session.specs.declared.reading.Command.{Command}
@@ -9,6 +14,8 @@ use Rattle.cli_session.specs.declared.reading.CommandError.{CommandError}
 use Rattle.cli_session.specs.declared.reading.CommandError.TheVariants.{BadCommand, BadNumber}
 use Rattle.mic_debugger.specs.declared.plan.Plan.{Plan}
 use Rattle.mic_debugger.specs.declared.plan.Plan.TheVariants as plans
+use Rattle.mic_debugger.specs.declared.plan.Shown.{Shown}
+use Rattle.mic_debugger.specs.declared.plan.Shown.TheVariants as shown
 use Rattle.mic_debugger.specs.declared.reply.Reply.{Reply}
 use Rattle.mic_debugger.specs.declared.reply.Reply.TheVariants as replies
 use Rattle.mic_debugger.specs.declared.until.Until.{Until}
@@ -58,40 +65,43 @@ watched_after watched (Err e) = watched
 module _ (end : Option End) (breaks : List ℕ) (watched : Option ℕ) (memory : List ℕ) where
   -- an ended board is clocked no more
   abbrev pub clocking : Until → ℕ → Plan
-  clocking u times = if is_some end then plans.Refuse replies.Ended else plans.Clock u times
+  clocking u times = if is_some end then plans.Show (shown.Reply replies.Ended) else plans.Clock u times
 
   abbrev pub plan_by : Verb → ℕ → Plan
   plan_by verbs.Micro n = clocking until.Cycle n
   plan_by verbs.Step n = clocking until.Boundary n
   plan_by verbs.Go n = clocking (until.Cause (watched_now watched memory)) 1
-  plan_by verbs.Break n = if is_full_for breaks n then plans.Refuse replies.TooManyBreaks else plans.Nothing
-  plan_by verbs.Clear n = plans.Nothing
-  plan_by verbs.Watch n = plans.Nothing
-  plan_by verbs.Regs n = plans.Registers
-  plan_by verbs.Stack n = plans.Stack
-  plan_by verbs.Where n = plans.Where
-  plan_by verbs.Quit n = plans.Quit
+  plan_by verbs.Break n = plans.Show (shown.Reply (if is_full_for breaks n then replies.TooManyBreaks else replies.Done))
+  plan_by verbs.Clear n = plans.Show (shown.Reply replies.Done)
+  plan_by verbs.Watch n = plans.Show (shown.Reply replies.Done)
+  plan_by verbs.Regs n = plans.Show shown.Registers
+  plan_by verbs.Stack n = plans.Show shown.Stack
+  plan_by verbs.Where n = plans.Show shown.Where
+  plan_by verbs.Quit n = plans.Show (shown.Reply replies.Quit)
 
   abbrev pub plan_of : Result (Option (Command Verb)) CommandError → Plan
-  plan_of (Ok None) = plans.Nothing
+  plan_of (Ok None) = plans.Show (shown.Reply replies.Done)
   plan_of (Ok (Some c)) = plan_by c.verb c.number
-  plan_of (Err BadCommand) = plans.Refuse replies.BadCommand
-  plan_of (Err BadNumber) = plans.Refuse replies.BadNumber
+  plan_of (Err BadCommand) = plans.Show (shown.Reply replies.BadCommand)
+  plan_of (Err BadNumber) = plans.Show (shown.Reply replies.BadNumber)
 
 abbrev pub reply_of : Plan → Reply
-reply_of (plans.Refuse reply) = reply
-reply_of plans.Quit = replies.Quit
-reply_of (plans.Clock u times) = replies.Done
-reply_of plans.Registers = replies.Done
-reply_of plans.Stack = replies.Done
-reply_of plans.Where = replies.Done
-reply_of plans.Nothing = replies.Done
+reply_of (plans.Show (shown.Reply reply)) = reply
+reply_of plan = replies.Done
 
--- what a refusal prints
-abbrev pub refusal_text : Reply → List ℕ
-refusal_text replies.Done = []
-refusal_text replies.Quit = []
-refusal_text replies.BadCommand = codes "? bad command\n"
-refusal_text replies.BadNumber = codes "? bad number\n"
-refusal_text replies.TooManyBreaks = codes "? too many breaks\n"
-refusal_text replies.Ended = codes "? ended\n"
+-- ---- what is shown where nothing is clocked
+
+abbrev pub reply_text : Reply → List ℕ
+reply_text replies.Done = []
+reply_text replies.Quit = []
+reply_text replies.BadCommand = codes "? bad command\n"
+reply_text replies.BadNumber = codes "? bad number\n"
+reply_text replies.TooManyBreaks = codes "? too many breaks\n"
+reply_text replies.Ended = codes "? ended\n"
+
+-- over so many of these memory words
+abbrev pub shown_text : Book → ℕ → Registers → Counts → List ℕ → Shown → List ℕ
+shown_text book memory r c words (shown.Reply reply) = reply_text reply
+shown_text book memory r c words shown.Registers = state_line r ++ codes "\n"
+shown_text book memory r c words shown.Stack = stack_text words memory r.lv r.sp
+shown_text book memory r c words shown.Where = where_line book c r.mpc

@@ -1,5 +1,5 @@
 -- Where a session leads a board, and what it prints.
-use Rattle.std.specs.Prelude.{◌≡◌, ◌≢◌, ◌⊎◌, ℕ, suc, ◌+◌, ◌<◌, List, ◌++◌, Option, Some}
+use Rattle.std.specs.Prelude.{◌≡◌, ◌≢◌, ◌⊎◌, ℕ, ◌+◌, ◌<◌, List, ◌++◌, Option, Some}
 use Rattle.mic_base.specs.Causes.{Rose}
 use Rattle.mic_clock.specs.declared.end.End.{End}
 use Rattle.mic_clock.specs.Meaning.{Meaning}
@@ -7,12 +7,14 @@ use Rattle.mic_clock.specs.Run.{MicroRun, word_at, turns}
 use Rattle.mic_clock.specs.View.{BoardView}
 use Rattle.mic_clock.specs.Board.{ShowsRun, IsCutByRead}
 use Rattle.mic_clock.specs.declared.end.End.TheVariants as ends
-use Rattle.cli_outside.specs.Outside.{Got, GotInPart}
+use Rattle.cli_outside.specs.Outside.{GotInPart}
 use Rattle.cli_session.specs.Meaning.{IsFrontOf}
 use Rattle.mic_debugger.specs.declared.until.Until.{Until}
 use Rattle.mic_debugger.specs.Book.{Book}
 use Rattle.cli_session.specs.Texts.{end_line}
-use Rattle.mic_debugger.specs.Clocking.{turn_lines, turn_text, after, printed, passed, IsGoing, IsDone}
+use Rattle.mic_debugger.specs.Clocking.{turn_text, after, printed, passed, IsGoing, IsDone, IsTold}
+use Rattle.mic_debugger.specs.Outcome.{GoesThrough, IsBrokenOff, Streams}
+use Rattle.mic_debugger.specs.View.{ListingView}
 
 -- a failing source ends a board, and only that raises its count
 pub record HasReadCause (before now : ℕ) (end : Option End) : Type 0 where
@@ -62,6 +64,19 @@ module _ {M State : Type 0} (state : M → State) (m : Meaning State) (book : Bo
     pub going : IsGoing m book words breaks bound u times n r
     pub out : IsFrontOf held (after m book words breaks bound u n r).world.given
     pub err : GotInPart said (printed m book words breaks bound u n r) said'
-    -- all but the lines of the last turn it got whole, so no turn was made after those of which it got less
-    pub told : (k : ℕ) → suc k ≡ n → (mid : Option (List ℕ)) × Got said (printed m book words breaks bound u k r) mid
-        × GotInPart mid (turn_lines m book words breaks bound u (after m book words breaks bound u k r) (after m book words breaks bound u n r)) said'
+    pub told : IsTold m book words breaks bound u said said' n r
+
+module _ {M State : Type 0} (state : M → State) (m : Meaning State) (listing : ListingView) (breaks : List ℕ) (bound : ℕ) (u : Until) (times : ℕ)
+    (board board' : BoardView M) (at at' : Streams) where
+  -- a clocking command was done
+  abbrev pub ClocksThrough : Type 0
+  ClocksThrough =
+      GoesThrough state listing at at' board board'
+      (λ book text r rest. (n : ℕ) × IsClocked state m book board.store.words breaks bound u times at'.input.left at'.out.held board' rest text n r)
+      (λ book text r rest. (n : ℕ) × (k : ℕ) × IsStopped state m book board.store.words breaks bound u times at'.input.left at'.out.held board' rest text n k r)
+
+  -- it was broken off
+  abbrev pub ClocksInPart : Type 0
+  ClocksInPart =
+      IsBrokenOff state listing at at' board board'
+      (λ book r rest. (n : ℕ) × IsBroken state m book board.store.words breaks bound u times at'.out.held board' at.err.held at'.err.held n r)

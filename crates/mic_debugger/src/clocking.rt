@@ -6,12 +6,13 @@ ghost use Rattle.mic_base.specs.Causes.{HasCause, Rose};
 ghost use Rattle.mic_base.specs.Streams.{Holds, Puts};
 ghost use Rattle.console_port.specs.Console.{StaysFlushed};
 ghost use Rattle.mic_clock.specs.Run.{number_of};
-ghost use Rattle.mic_clock.specs.Board.{IsTurned, RunIsCutByRead, RunIsCutByWrite, IsCounted, EndsUncounted, HasRoom, NoFault, IsLedTo};
+ghost use Rattle.mic_clock.specs.Board.{IsTurned, RunIsCutByRead, RunIsCutByWrite, IsCounted, EndsUncounted, HasRoom};
 ghost use Rattle.mic_debugger.specs.Book.{Book, IsBookOf};
 ghost use Rattle.mic_debugger.specs.InTime.{InTime};
 ghost use Rattle.cli_session.specs.Texts.{end_line};
 ghost use Rattle.mic_debugger.specs.Clocking.{comes, counted_turn, first_piece, has_break, has_changed, is_at_boundary, second_piece, turn_text};
-ghost use Rattle.mic_debugger.specs.Session.{HasReadCause, IsBroken, IsClocked, IsStopped, text_between};
+ghost use Rattle.mic_debugger.specs.Session.{ClocksInPart, ClocksThrough, HasReadCause, text_between};
+ghost use Rattle.mic_debugger.specs.Outcome.{KeepFronts, streams};
 ghost use Rattle.cli_outside.specs.Outside.{Got, GotInPart};
 
 use crate::fault::SessionFault;
@@ -201,29 +202,18 @@ impl Clocking<'_> {
         requires live { board.old.end ≡ None }
         requires bound { self.now.bound ≤ 2 ^ 62 }
         requires in_time { InTime (2 ^ 62) board.old.counts (M.meaning.is_boundary (M.state board.old.machine)) board.old.end }
-        ensures done { OnOk result (NoFault None board.new.end → (book : Book) → IsBookOf self.now.listing.now book →
-            (text : List ℕ) × Got (E.held err.old) text (E.held err.new) ×
-            IsLedTo M.state (S.left input.old) (K.held out.old) board.old (S.left input.new) board.new
-            (λ r rest. (n : ℕ) × IsClocked M.state M.meaning book board.old.store.words self.now.breaks.now self.now.bound self.now.until times
-            (S.left input.new) (K.held out.new) board.new rest text n r)) }
-        ensures read { OnOk result (board.new.end ≡ Some End.ReadFault → (book : Book) → IsBookOf self.now.listing.now book →
-            (text : List ℕ) × Got (E.held err.old) text (E.held err.new) ×
-            IsLedTo M.state (S.left input.old) (K.held out.old) board.old (S.left input.new) board.new
-            (λ r rest. (n : ℕ) × (k : ℕ) × IsStopped M.state M.meaning book board.old.store.words self.now.breaks.now self.now.bound self.now.until times
-            (S.left input.new) (K.held out.new) board.new rest text n k r)) }
-        ensures broken { OnErr result (board.new.end ≢ Some End.ReadFault → (book : Book) → IsBookOf self.now.listing.now book →
-            IsLedTo M.state (S.left input.old) (K.held out.old) board.old (S.left input.new) board.new
-            (λ r rest. (n : ℕ) × IsBroken M.state M.meaning book board.old.store.words self.now.breaks.now self.now.bound self.now.until times
-            (K.held out.new) board.new (E.held err.old) (E.held err.new) n r)) }
-        ensures fault { OnOk result (board.new.end ≢ Some End.WriteFault) }
+        ensures done { OnOk result (ClocksThrough M.state M.meaning self.now.listing.now
+            self.now.breaks.now self.now.bound self.now.until times board.old board.new
+            (streams S.left S.faults input.old K.held K.passed K.faults out.old E.held E.passed E.faults err.old)
+            (streams S.left S.faults input.new K.held K.passed K.faults out.new E.held E.passed E.faults err.new)) }
+        ensures broken { OnErr result (ClocksInPart M.state M.meaning self.now.listing.now
+            self.now.breaks.now self.now.bound self.now.until times board.old board.new
+            (streams S.left S.faults input.old K.held K.passed K.faults out.old E.held E.passed E.faults err.old)
+            (streams S.left S.faults input.new K.held K.passed K.faults out.new E.held E.passed E.faults err.new)) }
         ensures input { HasReadCause (S.faults input.old) (S.faults input.new) board.new.end }
         ensures store { board.new.store ≡ board.old.store }
         ensures in_time { InTime (2 ^ 62) board.new.counts (M.meaning.is_boundary (M.state board.new.machine)) board.new.end }
-        ensures flushed { OnOk result (StaysFlushed (K.held out.old) (K.passed out.old) (K.held out.new) (K.passed out.new)) }
-        ensures keeps_out { (front : List ℕ) → Holds front (K.held out.old) → Holds front (K.held out.new) }
-        ensures keeps_err { (front : List ℕ) → Holds front (E.held err.old) → Holds front (E.held err.new) }
-        ensures quiet { OnOk result ((K.faults out.new ≡ K.faults out.old) × (E.faults err.new ≡ E.faults err.old)) }
-        ensures rose { OnErr result (Rose (K.faults out.old) (K.faults out.new) ⊎ Rose (E.faults err.old) (E.faults err.new)) }
+        ensures keeps { KeepFronts (K.held out.old) (K.held out.new) (E.held err.old) (E.held err.new) }
     {
         let mut left = times;
         'turns: while waits(left, board) {

@@ -11,17 +11,20 @@ use crate::until::Until;
 pub enum Plan {
     /// The board is clocked until so many turns were waited for.
     Clock { until: Until, times: u32 },
-    /// The line is refused.
-    Refuse(Reply),
-    /// The registers are shown.
+    /// Nothing is clocked, and this is shown.
+    Show(Shown),
+}
+
+/// What is shown where nothing is clocked.
+#[derive(Clone, Copy, Debug, PartialEq, Eq)]
+pub enum Shown {
+    /// What a reply prints.
+    Reply(Reply),
     Registers,
-    /// The memory words from LV up to SP are shown.
+    /// The memory words from LV up to SP.
     Stack,
-    /// It is shown where the run stands.
+    /// Where the run stands.
     Where,
-    /// Nothing is shown.
-    Nothing,
-    Quit,
 }
 
 impl Plan {
@@ -30,13 +33,8 @@ impl Plan {
         ensures { result ≡ reply_of self }
     {
         match self {
-            Plan::Refuse(reply) => reply,
-            Plan::Quit => Reply::Quit,
-            Plan::Clock { .. } => Reply::Done,
-            Plan::Registers => Reply::Done,
-            Plan::Stack => Reply::Done,
-            Plan::Where => Reply::Done,
-            Plan::Nothing => Reply::Done,
+            Plan::Show(Shown::Reply(reply)) => reply,
+            _ => Reply::Done,
         }
     }
 }

@@ -6,24 +6,24 @@ ghost use Rattle.mic_base.specs.Streams.{Holds, IsFlushed, Puts};
 ghost use Rattle.store_placement.specs.Placement.{Places};
 ghost use Rattle.store_placement.specs.Program.{demands_of, IsFilled};
 ghost use Rattle.console_port.specs.Console.{StaysFlushed};
-ghost use Rattle.mic_clock.specs.Board.{AreCounts, NoFault, ShowsAs, ShowsRun};
+ghost use Rattle.mic_clock.specs.Board.{AreCounts, ShowsAs, ShowsRun};
 ghost use Rattle.mic_clock.specs.Run.{MicroRun};
 ghost use Rattle.mic_clock.specs.State.{state_line};
-ghost use Rattle.cli_outside.specs.Outside.{Got};
+ghost use Rattle.mic_debugger.specs.Outcome.{KeepFronts, streams};
 ghost use Rattle.mic_debugger.specs.Book.{Book, IsBookOf};
 ghost use Rattle.mic_debugger.specs.Commands.{command_of};
 ghost use Rattle.mic_debugger.specs.Lines.{stack_text, where_line};
-ghost use Rattle.mic_debugger.specs.Obeys.{Obeys, IsBrokenIn, IsStoppedIn, plan_in, shown_text};
+ghost use Rattle.mic_debugger.specs.Obeys.{IsLineBroken, IsCarriedOut, IsPlanBroken, KeepsRules, Obeys, plan_in};
 ghost use Rattle.cli_session.specs.Meaning.{IsFrontOf};
 ghost use Rattle.mic_debugger.specs.Session.{HasReadCause};
-ghost use Rattle.mic_debugger.specs.Plans.{breaks_after, clocking, plan_by, plan_of, refusal_text, reply_of, watched_after, watched_now};
+ghost use Rattle.mic_debugger.specs.Plans.{breaks_after, clocking, plan_by, plan_of, reply_of, reply_text, shown_text, watched_after, watched_now};
 
 use crate::breakpoints::Breakpoints;
 use crate::clocking::Clocking;
 use crate::fault::SessionFault;
 use crate::listing::Listing;
 use crate::pieces::{put_two, put_words};
-use crate::plan::Plan;
+use crate::plan::{Plan, Shown};
 use crate::reply::Reply;
 use crate::table::{Verb, read_command};
 use crate::until::{Until, Watched};
@@ -95,12 +95,11 @@ impl<M: Clocked> Session<M> {
         &self.board
     }
 
-    /// The number of memory words.
-    fn memory_words(&self) -> u32
-        ensures value { result ≡ self.now.listing.memory }
-        ensures some { 0 < result }
+    /// Reads a line.
+    fn read(&self, line: &[u8]) -> Result<Option<Command<Verb>>, CommandError>
+        ensures { result ≡ command_of self.now.listing.memory line.now }
     {
-        self.listing.memory_words()
+        read_command(line, self.listing.memory_words())
     }
 
     /// The watched word, and its value now.
@@ -117,7 +116,7 @@ impl<M: Clocked> Session<M> {
         ensures { result ≡ clocking self.now.board.end self.now.breaks self.now.watched self.now.board.bus.words until times }
     {
         if self.board.ended().is_some() {
-            Plan::Refuse(Reply::Ended)
+            Plan::Show(Shown::Reply(Reply::Ended))
         } else {
             Plan::Clock { until, times }
         }
@@ -132,17 +131,17 @@ impl<M: Clocked> Session<M> {
             Verb::Go => self.clocking(Until::Cause(self.watched_now()), 1),
             Verb::Break => {
                 if self.breaks.is_full_for(number) {
-                    Plan::Refuse(Reply::TooManyBreaks)
+                    Plan::Show(Shown::Reply(Reply::TooManyBreaks))
                 } else {
-                    Plan::Nothing
+                    Plan::Show(Shown::Reply(Reply::Done))
                 }
             }
-            Verb::Clear => Plan::Nothing,
-            Verb::Watch => Plan::Nothing,
-            Verb::Regs => Plan::Registers,
-            Verb::Stack => Plan::Stack,
-            Verb::Where => Plan::Where,
-            Verb::Quit => Plan::Quit,
+            Verb::Clear => Plan::Show(Shown::Reply(Reply::Done)),
+            Verb::Watch => Plan::Show(Shown::Reply(Reply::Done)),
+            Verb::Regs => Plan::Show(Shown::Registers),
+            Verb::Stack => Plan::Show(Shown::Stack),
+            Verb::Where => Plan::Show(Shown::Where),
+            Verb::Quit => Plan::Show(Shown::Reply(Reply::Quit)),
         }
     }
 
@@ -151,10 +150,10 @@ impl<M: Clocked> Session<M> {
         ensures { result ≡ plan_of self.now.board.end self.now.breaks self.now.watched self.now.board.bus.words read }
     {
         match read {
-            Ok(None) => Plan::Nothing,
+            Ok(None) => Plan::Show(Shown::Reply(Reply::Done)),
             Ok(Some(command)) => self.plan_by(command.verb, command.number),
-            Err(CommandError::BadCommand) => Plan::Refuse(Reply::BadCommand),
-            Err(CommandError::BadNumber) => Plan::Refuse(Reply::BadNumber),
+            Err(CommandError::BadCommand) => Plan::Show(Shown::Reply(Reply::BadCommand)),
+            Err(CommandError::BadNumber) => Plan::Show(Shown::Reply(Reply::BadNumber)),
         }
     }
 
@@ -213,61 +212,20 @@ impl<M: Clocked> Session<M> {
         put_words(self.board.bus(), first, over.saturating_sub(first), err)
     }
 
-    /// Puts what is shown by a plan that clocks nothing.
-    #[tactic(auto, using(crate::proofs::Putting::puts_nothing))]
-    fn show<E: Sink>(&self, plan: Plan, err: &mut E) -> Result<(), SinkFailed>
-        ensures puts { (book : Book) → IsBookOf self.now.listing book →
-            Puts (E.held err.old) (shown_text M.state M.meaning book self.now plan) result (E.held err.new) }
+    /// Puts what is shown where nothing is clocked.
+    fn show<E: Sink>(&self, shown: Shown, err: &mut E) -> Result<(), SinkFailed>
+        ensures puts { (book : Book) → IsBookOf self.now.listing book → Puts (E.held err.old)
+            (shown_text book self.now.listing.memory (M.meaning.registers (M.state self.now.board.machine)) self.now.board.counts self.now.board.bus.words shown)
+            result (E.held err.new) }
         ensures keeps { (front : List ℕ) → Holds front (E.held err.old) → Holds front (E.held err.new) }
         ensures cause { HasCause (E.faults err.old) (E.faults err.new) result }
     {
-        match plan {
-            Plan::Clock { .. } => Ok(()),
-            Plan::Refuse(reply) => err.put(refusal_text(reply).as_bytes()),
-            Plan::Registers => self.put_registers(err),
-            Plan::Stack => self.put_stack(err),
-            Plan::Where => self.put_where(err),
-            Plan::Nothing => Ok(()),
-            Plan::Quit => Ok(()),
+        match shown {
+            Shown::Reply(reply) => err.put(reply_text(reply).as_bytes()),
+            Shown::Registers => self.put_registers(err),
+            Shown::Stack => self.put_stack(err),
+            Shown::Where => self.put_where(err),
         }
-    }
-
-    /// Clocks the board.
-    fn clock<S: Source, K: Sink, E: Sink>(
-        &mut self,
-        until: Until,
-        times: u32,
-        input: &mut S,
-        out: &mut K,
-        err: &mut E,
-    ) -> Result<(), SessionFault>
-        requires { self.old.board.end ≡ None }
-        ensures done { OnOk result (NoFault None self.new.board.end → (book : Book) → IsBookOf self.old.listing book →
-            (text : List ℕ) × Got (E.held err.old) text (E.held err.new) ×
-            Obeys M.state M.meaning book (S.left input.old) (K.held out.old) self.old (S.left input.new) (K.held out.new) self.new.board text (Plan.Clock until times)) }
-        ensures read { OnOk result (self.new.board.end ≡ Some End.ReadFault → (book : Book) → IsBookOf self.old.listing book →
-            (text : List ℕ) × Got (E.held err.old) text (E.held err.new) ×
-            IsStoppedIn M.state M.meaning book (S.left input.old) (K.held out.old) self.old (S.left input.new) (K.held out.new) self.new.board text (Plan.Clock until times)) }
-        ensures broken { OnErr result (self.new.board.end ≢ Some End.ReadFault → (book : Book) → IsBookOf self.old.listing book →
-            IsBrokenIn M.state M.meaning book (S.left input.old) (K.held out.old) (E.held err.old) self.old
-            (S.left input.new) (K.held out.new) (E.held err.new) self.new.board (Plan.Clock until times)) }
-        ensures fault { OnOk result (self.new.board.end ≢ Some End.WriteFault) }
-        ensures input { HasReadCause (S.faults input.old) (S.faults input.new) self.new.board.end }
-        ensures same { self.new ≡ record self.old { board = self.new.board } }
-        ensures store { self.new.board.store ≡ self.old.board.store }
-        ensures flushed { OnOk result (StaysFlushed (K.held out.old) (K.passed out.old) (K.held out.new) (K.passed out.new)) }
-        ensures keeps_out { (front : List ℕ) → Holds front (K.held out.old) → Holds front (K.held out.new) }
-        ensures keeps_err { (front : List ℕ) → Holds front (E.held err.old) → Holds front (E.held err.new) }
-        ensures quiet { OnOk result ((K.faults out.new ≡ K.faults out.old) × (E.faults err.new ≡ E.faults err.old)) }
-        ensures rose { OnErr result (Rose (K.faults out.old) (K.faults out.new) ⊎ Rose (E.faults err.old) (E.faults err.new)) }
-    {
-        let clocking = Clocking {
-            until,
-            bound: self.bound,
-            breaks: self.breaks.as_slice(),
-            listing: &self.listing,
-        };
-        clocking.clock(times, &mut self.board, input, out, err)
     }
 
     /// Carries out a plan.
@@ -279,34 +237,31 @@ impl<M: Clocked> Session<M> {
         err: &mut E,
     ) -> Result<(), SessionFault>
         requires { (u : Until) (times : ℕ) → plan ≡ Plan.Clock u times → self.old.board.end ≡ None }
-        ensures obeys { OnOk result (NoFault self.old.board.end self.new.board.end → (book : Book) →
-            IsBookOf self.old.listing book →
-            (text : List ℕ) × Got (E.held err.old) text (E.held err.new) ×
-            Obeys M.state M.meaning book (S.left input.old) (K.held out.old) self.old (S.left input.new) (K.held out.new) self.new.board text plan) }
-        ensures read { OnOk result (self.old.board.end ≡ None → self.new.board.end ≡ Some End.ReadFault → (book : Book) →
-            IsBookOf self.old.listing book →
-            (text : List ℕ) × Got (E.held err.old) text (E.held err.new) ×
-            IsStoppedIn M.state M.meaning book (S.left input.old) (K.held out.old) self.old (S.left input.new) (K.held out.new) self.new.board text plan) }
-        ensures broken { OnErr result ((self.old.board.end ≡ None → self.new.board.end ≢ Some End.ReadFault) → (book : Book) →
-            IsBookOf self.old.listing book →
-            IsBrokenIn M.state M.meaning book (S.left input.old) (K.held out.old) (E.held err.old) self.old
-            (S.left input.new) (K.held out.new) (E.held err.new) self.new.board plan) }
-        ensures fault { OnOk result (self.old.board.end ≡ None → self.new.board.end ≢ Some End.WriteFault) }
+        ensures done { OnOk result (IsCarriedOut M.state M.meaning self.old self.new.board
+            (streams S.left S.faults input.old K.held K.passed K.faults out.old E.held E.passed E.faults err.old)
+            (streams S.left S.faults input.new K.held K.passed K.faults out.new E.held E.passed E.faults err.new) plan) }
+        ensures broken { OnErr result (IsPlanBroken M.state M.meaning self.old self.new.board
+            (streams S.left S.faults input.old K.held K.passed K.faults out.old E.held E.passed E.faults err.old)
+            (streams S.left S.faults input.new K.held K.passed K.faults out.new E.held E.passed E.faults err.new) plan) }
         ensures input { self.old.board.end ≡ None → HasReadCause (S.faults input.old) (S.faults input.new) self.new.board.end }
         ensures same { self.new ≡ record self.old { board = self.new.board } }
         ensures store { self.new.board.store ≡ self.old.board.store }
-        ensures flushed { OnOk result (StaysFlushed (K.held out.old) (K.passed out.old) (K.held out.new) (K.passed out.new)) }
-        ensures keeps_out { (front : List ℕ) → Holds front (K.held out.old) → Holds front (K.held out.new) }
-        ensures keeps_err { (front : List ℕ) → Holds front (E.held err.old) → Holds front (E.held err.new) }
-        ensures quiet { OnOk result ((K.faults out.new ≡ K.faults out.old) × (E.faults err.new ≡ E.faults err.old)) }
-        ensures rose { OnErr result (Rose (K.faults out.old) (K.faults out.new) ⊎ Rose (E.faults err.old) (E.faults err.new)) }
+        ensures keeps { KeepFronts (K.held out.old) (K.held out.new) (E.held err.old) (E.held err.new) }
     {
-        if let Plan::Clock { until, times } = plan {
-            return self.clock(until, times, input, out, err);
-        }
-        match self.show(plan, err) {
-            Ok(()) => Ok(()),
-            Err(_) => Err(SessionFault::WriteFault),
+        match plan {
+            Plan::Clock { until, times } => {
+                let clocking = Clocking {
+                    until,
+                    bound: self.bound,
+                    breaks: self.breaks.as_slice(),
+                    listing: &self.listing,
+                };
+                clocking.clock(times, &mut self.board, input, out, err)
+            }
+            Plan::Show(shown) => match self.show(shown, err) {
+                Ok(()) => Ok(()),
+                Err(_) => Err(SessionFault::WriteFault),
+            },
         }
     }
 
@@ -344,34 +299,17 @@ impl<M: Clocked> Session<M> {
         err: &mut E,
     ) -> Result<Reply, SessionFault>
         ensures reply { IfOk result (λ reply. reply ≡ reply_of (plan_in self.old line.now)) }
-        ensures obeys { OnOk result (NoFault self.old.board.end self.new.board.end → (book : Book) →
-            IsBookOf self.old.listing book →
-            (text : List ℕ) × Got (E.held err.old) text (E.held err.new) ×
-            Obeys M.state M.meaning book (S.left input.old) (K.held out.old) self.old (S.left input.new) (K.held out.new) self.new.board text (plan_in self.old line.now)) }
-        ensures read { OnOk result (self.old.board.end ≡ None → self.new.board.end ≡ Some End.ReadFault → (book : Book) →
-            IsBookOf self.old.listing book →
-            (text : List ℕ) × Got (E.held err.old) text (E.held err.new) ×
-            IsStoppedIn M.state M.meaning book (S.left input.old) (K.held out.old) self.old (S.left input.new) (K.held out.new) self.new.board text (plan_in self.old line.now)) }
-        ensures broken { OnErr result ((self.old.board.end ≡ None → self.new.board.end ≢ Some End.ReadFault) → (book : Book) →
-            IsBookOf self.old.listing book →
-            IsBrokenIn M.state M.meaning book (S.left input.old) (K.held out.old) (E.held err.old) self.old
-            (S.left input.new) (K.held out.new) (E.held err.new) self.new.board (plan_in self.old line.now)) }
-        ensures fault { OnOk result (self.old.board.end ≡ None → self.new.board.end ≢ Some End.WriteFault) }
+        ensures obeys { OnOk result (Obeys M.state M.meaning line.now self.old self.new
+            (streams S.left S.faults input.old K.held K.passed K.faults out.old E.held E.passed E.faults err.old)
+            (streams S.left S.faults input.new K.held K.passed K.faults out.new E.held E.passed E.faults err.new)) }
+        ensures broken { OnErr result (IsLineBroken M.state M.meaning line.now self.old self.new
+            (streams S.left S.faults input.old K.held K.passed K.faults out.old E.held E.passed E.faults err.old)
+            (streams S.left S.faults input.new K.held K.passed K.faults out.new E.held E.passed E.faults err.new)) }
         ensures input { self.old.board.end ≡ None → HasReadCause (S.faults input.old) (S.faults input.new) self.new.board.end }
-        ensures kept { OnOk result (self.new.board.bus.console.kept ≡ []) }
-        ensures passed { OnOk result (IsFlushed (E.held err.new) (E.passed err.new)) }
-        ensures flushed { OnOk result (StaysFlushed (K.held out.old) (K.passed out.old) (K.held out.new) (K.passed out.new)) }
-        ensures breaks { OnOk result (self.new.breaks ≡ breaks_after self.old.breaks (command_of self.old.listing.memory line.now)) }
-        ensures watched { OnOk result (self.new.watched ≡ watched_after self.old.watched (command_of self.old.listing.memory line.now)) }
-        ensures err { OnErr result ((self.new.breaks ≡ self.old.breaks) × (self.new.watched ≡ self.old.watched)) }
-        ensures same { (self.new.listing ≡ self.old.listing) × (self.new.bound ≡ self.old.bound) }
-        ensures store { self.new.board.store ≡ self.old.board.store }
-        ensures keeps_out { (front : List ℕ) → Holds front (K.held out.old) → Holds front (K.held out.new) }
-        ensures keeps_err { (front : List ℕ) → Holds front (E.held err.old) → Holds front (E.held err.new) }
-        ensures quiet { OnOk result ((K.faults out.new ≡ K.faults out.old) × (E.faults err.new ≡ E.faults err.old)) }
-        ensures rose { OnErr result (Rose (K.faults out.old) (K.faults out.new) ⊎ Rose (E.faults err.old) (E.faults err.new)) }
+        ensures same { KeepsRules self.old self.new }
+        ensures keeps { KeepFronts (K.held out.old) (K.held out.new) (E.held err.old) (E.held err.new) }
     {
-        let read = read_command(line, self.memory_words());
+        let read = self.read(line);
         let plan = self.plan(read);
         self.carry_out(plan, input, out, err)?;
         self.flush(out, err)?;
@@ -387,9 +325,9 @@ fn over_stack(sp: u32, words: u32) -> u32
     if sp < words { sp + 1 } else { words }
 }
 
-/// What a refusal prints.
-fn refusal_text(reply: Reply) -> &'static str
-    ensures { result.now ≡ refusal_text reply }
+/// What a reply prints.
+fn reply_text(reply: Reply) -> &'static str
+    ensures { result.now ≡ reply_text reply }
 {
     match reply {
         Reply::Done => "",

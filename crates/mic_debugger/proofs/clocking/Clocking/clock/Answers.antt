@@ -1,13 +1,12 @@
-use Rattle.std.proofs.Common.{◌≡◌, ◌⊎◌, ◌+◌, ◌<◌, ◌++◌, ◌∙◌, ◌^◌, ℕ, [], Option, None, Ok, IsSome, refl, sym, ap, subst, rules}
+use Rattle.std.proofs.Common.{◌≡◌, ◌⊎◌, ◌+◌, ◌<◌, ◌++◌, ◌∙◌, ◌^◌, ℕ, [], None, Ok, IsSome, refl, sym, ap, rules}
 use Rattle.micro_word.specs.ControlStore.{ControlStore}
-use Rattle.mic_clock.specs.declared.end.End.{End}
 use Rattle.mic_clock.specs.Run.{word_at}
-use Rattle.mic_clock.specs.Board.{NoFault}
 use Rattle.mic_debugger.specs.Session.{text_between}
 use Rattle.mic_debugger.proofs.Putting.{puts_nothing, puts_then}
 use Rattle.mic_debugger.proofs.Timing.{InTime-step}
-use Rattle.mic_debugger.proofs.Breaking.{broken_more, on_err_of}
+use Rattle.mic_debugger.proofs.Breaking.{broken_more, no_fault, on_err_of}
 use Rattle.mic_debugger.proofs.Underway.{underway_start, underway_more, underway_stopped, clocked_of}
+use Rattle.mic_debugger.proofs.Carrying.{failed_after}
 use Rattle.mic_debugger.proofs.InputCauses.{cause_start, cause_more}
 use Rattle.mic_debugger.proofs.clocking.Clocking.clock.Goals as goal
 
@@ -18,21 +17,20 @@ turns-init g c =
     let board = c.args.board.now in
     let live : board.end ≡ None = c.requires.live in
     record {
-      run = λ q book is_book. (
-        [],
-        puts_nothing (g.E.Sink.held c.args.err.now),
-        underway_start state m book board.store.words c.args.self.now.breaks.now c.args.self.now.bound c.args.self.now.until c.args.times
-            (g.S.Source.left c.args.input.now) (g.K.Sink.held c.args.out.now) board,
-      );
-      read = λ p. absurd (cc);
-      fault = λ e. cc;
+      through = record {
+        led = λ q book is_book. (
+          [],
+          puts_nothing (g.E.Sink.held c.args.err.now),
+          underway_start state m book board.store.words c.args.self.now.breaks.now c.args.self.now.bound c.args.self.now.until c.args.times
+              (g.S.Source.left c.args.input.now) (g.K.Sink.held c.args.out.now) board,
+        );
+        stopped = λ none p. absurd (cc);
+        unbroken = λ none e. cc;
+        sinks = record { flushed = λ h. h; out = refl; err = refl };
+      };
       input = cause_start (g.S.Source.faults c.args.input.now) board.end live;
       store = refl;
-      flushed = λ h. h;
-      keeps_out = λ front h. h;
-      keeps_err = λ front h. h;
-      quiet_out = refl;
-      quiet_err = refl;
+      keeps = record { out = λ front h. h; err = λ front h. h };
       in_time = c.requires.in_time;
     }
 
@@ -58,33 +56,38 @@ turns-preserved g c =
     let some : 0 < c.turns.left = search rules in
     let program : old.store.words ≡ first.store.words = ap (λ (s : ControlStore). s.words) inv.store in
     let quiet = c.in_ok-came.ensures.quiet in
-    let going : NoFault None old.end = subst (λ (e : Option End). NoFault None e) (sym live) tt in
     record {
-      run = λ q book is_book.
-          let before = inv.run going book is_book in
-          let text = text_between state m book self.breaks.now self.until old new in (
-            before.0 ++ text,
-            puts_then {E = ℕ} said0 said said' before.0 text (Ok tt) before.1 (c.in_ok-came.ensures.text book is_book),
-            underway_more state m book first.store.words self.breaks.now self.bound self.until c.args.times left0 held0 first left held old left' held' new
-                before.0 c.turns.left program live some before.2 c.less-rest.result (ap (λ (n : ℕ). n + c.less-rest.result) (sym c.in_ok-came.ensures.came) ∙ c.less-rest.ensures)
-                (c.turn.ensures.turn (subst (λ (e : Option End). NoFault e new.end) (sym live) q)),
-          );
-      read = λ p book is_book.
-          let before = inv.run going book is_book in
-          let text = text_between state m book self.breaks.now self.until old new in (
-            before.0 ++ text,
-            puts_then {E = ℕ} said0 said said' before.0 text (Ok tt) before.1 (c.in_ok-came.ensures.text book is_book),
-            underway_stopped state m book first.store.words self.breaks.now self.bound self.until c.args.times left0 held0 first left held old left' held' new
-                before.0 c.turns.left program live some before.2 p (c.turn.ensures.read live p),
-          );
-      fault = c.in_ok-came.ensures.fault;
+      through = record {
+        led = λ q book is_book.
+            let before = inv.through.led (λ _ e. cc) book is_book in
+            let text = text_between state m book self.breaks.now self.until old new in (
+              before.0 ++ text,
+              puts_then {E = ℕ} said0 said said' before.0 text (Ok tt) before.1 (c.in_ok-came.ensures.text book is_book),
+              underway_more state m book first.store.words self.breaks.now self.bound self.until c.args.times left0 held0 first left held old left' held' new
+                  before.0 c.turns.left program live some before.2 c.less-rest.result (ap (λ (n : ℕ). n + c.less-rest.result) (sym c.in_ok-came.ensures.came) ∙ c.less-rest.ensures)
+                  (c.turn.ensures.turn (no_fault old.end new.end (λ _. q c.requires.live) (λ _. c.in_ok-came.ensures.fault))),
+            );
+        stopped = λ none p book is_book.
+            let before = inv.through.led (λ _ e. cc) book is_book in
+            let text = text_between state m book self.breaks.now self.until old new in (
+              before.0 ++ text,
+              puts_then {E = ℕ} said0 said said' before.0 text (Ok tt) before.1 (c.in_ok-came.ensures.text book is_book),
+              underway_stopped state m book first.store.words self.breaks.now self.bound self.until c.args.times left0 held0 first left held old left' held' new
+                  before.0 c.turns.left program live some before.2 p (c.turn.ensures.read live p),
+            );
+        unbroken = λ none. c.in_ok-came.ensures.fault;
+        sinks = record {
+          flushed = λ h. c.in_ok-came.ensures.flushed (inv.through.sinks.flushed h);
+          out = quiet.0 ∙ inv.through.sinks.out;
+          err = quiet.1 ∙ inv.through.sinks.err;
+        };
+      };
       input = cause_more (g.S.Source.faults c.args.input.now) (g.S.Source.faults c.turns.input) (g.S.Source.faults c.turn.new.input) old.end new.end live inv.input c.turn.ensures.input;
       store = c.turn.ensures.store ∙ inv.store;
-      flushed = λ h. c.in_ok-came.ensures.flushed (inv.flushed h);
-      keeps_out = λ front h. c.turn.ensures.keeps_out front (inv.keeps_out front h);
-      keeps_err = λ front h. c.turn.ensures.keeps_err front (inv.keeps_err front h);
-      quiet_out = quiet.0 ∙ inv.quiet_out;
-      quiet_err = quiet.1 ∙ inv.quiet_err;
+      keeps = record {
+        out = λ front h. c.turn.ensures.keeps_out front (inv.keeps.out front h);
+        err = λ front h. c.turn.ensures.keeps_err front (inv.keeps.err front h);
+      };
       in_time = InTime-step m (2 ^ 62) self.bound old.counts new.counts (m.is_boundary (state old.machine)) (m.drives (word_at m old.store.words (state old.machine)) (state old.machine)).stalled (state new.machine) old.end new.end live c.requires.bound inv.in_time
           c.turn.ensures.still c.turn.ensures.room (λ q. (c.turn.ensures.clocked q).1) c.turn.ensures.below;
     }
@@ -97,13 +100,19 @@ returns-clause-done g c =
     let first = c.args.board.now in
     let board = c.turns.board in
     let over : IsSome board.end ⊎ (c.turns.left ≡ 0) = search rules in
-    λ q book is_book.
-    let at = c.turns.invariant.run q book is_book in (
-      at.0,
-      at.1,
-      clocked_of state m book first.store.words self.breaks.now self.bound self.until c.args.times (g.S.Source.left c.args.input.now) (g.K.Sink.held c.args.out.now) first
-          (g.S.Source.left c.turns.input) (g.K.Sink.held c.turns.out) board at.0 c.turns.left over at.2,
-    )
+    let through = c.turns.invariant.through in
+    record {
+      led = λ q book is_book.
+          let at = through.led q book is_book in (
+            at.0,
+            at.1,
+            clocked_of state m book first.store.words self.breaks.now self.bound self.until c.args.times (g.S.Source.left c.args.input.now) (g.K.Sink.held c.args.out.now) first
+                (g.S.Source.left c.turns.input) (g.K.Sink.held c.turns.out) board at.0 c.turns.left over at.2,
+          );
+      stopped = through.stopped;
+      unbroken = through.unbroken;
+      sinks = through.sinks;
+    }
 
 pub returns-in_err-came-clause-broken : goal.returns-in_err-came-clause-broken
 returns-in_err-came-clause-broken g c =
@@ -117,11 +126,19 @@ returns-in_err-came-clause-broken g c =
     let live : old.end ≡ None = search rules in
     let some : 0 < c.turns.left = search rules in
     let program : old.store.words ≡ first.store.words = ap (λ (s : ControlStore). s.words) inv.store in
-    let going : NoFault None old.end = subst (λ (e : Option End). NoFault None e) (sym live) tt in
     on_err_of _ c.from_residual.result
-    (λ unread book is_book.
-    let before = inv.run going book is_book in
-    broken_more state m book first.store.words self.breaks.now self.bound self.until c.args.times (g.S.Source.left c.args.input.now) (g.K.Sink.held c.args.out.now) first
-    (g.S.Source.left c.turns.input) (g.K.Sink.held c.turns.out) old (g.S.Source.left c.turn.new.input) (g.K.Sink.held c.turn.new.out) new
-    before.0 c.turns.left program live some before.2 (g.E.Sink.held c.args.err.now) (g.E.Sink.held c.turns.err) (g.E.Sink.held c.turn.new.err) before.1
-    c.turn.ensures.still unread c.turn.ensures.turn c.turn.ensures.write (λ well. c.in_err-came.ensures.front well book is_book) c.turn.ensures.silent)
+    (record {
+      breaks = λ unread book is_book.
+          let before = inv.through.led (λ _ e. cc) book is_book in
+          broken_more state m book first.store.words self.breaks.now self.bound self.until c.args.times (g.S.Source.left c.args.input.now) (g.K.Sink.held c.args.out.now) first
+          (g.S.Source.left c.turns.input) (g.K.Sink.held c.turns.out) old (g.S.Source.left c.turn.new.input) (g.K.Sink.held c.turn.new.out) new
+          before.0 c.turns.left program live some before.2 (g.E.Sink.held c.args.err.now) (g.E.Sink.held c.turns.err) (g.E.Sink.held c.turn.new.err) before.1
+          c.turn.ensures.still (unread c.requires.live) c.turn.ensures.turn c.turn.ensures.write (λ well. c.in_err-came.ensures.front well book is_book) c.turn.ensures.silent;
+      failed = failed_after (g.K.Sink.faults c.args.out.now) (g.K.Sink.faults c.turns.out) (g.K.Sink.faults c.turn.new.out)
+          (g.E.Sink.faults c.args.err.now) (g.E.Sink.faults c.turns.err) (g.E.Sink.faults c.turn.new.err) inv.through.sinks.out inv.through.sinks.err c.in_err-came.ensures.rose;
+    })
+
+pub returns-in_err-came-clause-keeps : goal.returns-in_err-came-clause-keeps
+returns-in_err-came-clause-keeps g c =
+    let keeps = c.turns.invariant.keeps in
+    record { out = λ front h. c.turn.ensures.keeps_out front (keeps.out front h); err = λ front h. c.turn.ensures.keeps_err front (keeps.err front h) }

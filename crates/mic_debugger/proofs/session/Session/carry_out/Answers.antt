@@ -1,26 +1,55 @@
-use Rattle.std.proofs.Common.{◌≡◌, ◌≢◌, None, Some, Option, subst}
-use Rattle.mic_clock.specs.declared.end.End.{End}
-use Rattle.mic_clock.specs.declared.end.End.TheVariants as ends
-use Rattle.mic_clock.specs.Board.{NoFault}
-use Rattle.mic_debugger.proofs.Breaking.{on_err_given}
-use Rattle.mic_debugger.proofs.Flushing.{on_ok_after, on_ok_given}
+use Rattle.std.proofs.Common.{subst}
+use Rattle.cli_outside.specs.Outside.{sink_of}
+use Rattle.mic_debugger.specs.Outcome.{Streams, streams}
+use Rattle.mic_debugger.specs.Session.{ClocksInPart, ClocksThrough}
+use Rattle.mic_debugger.specs.View.{SessionView}
+use Rattle.mic_debugger.proofs.Breaking.{shown_broken, shown_carried}
+use Rattle.mic_debugger.proofs.Carrying.{clocked_broken, clocked_carried, on_err_map, on_ok_map}
+use Rattle.mic_debugger.proofs.session.Session.carry_out.Given.{Over}
 use Rattle.mic_debugger.proofs.session.Session.carry_out.Goals as goal
 
-pub returns-in-Clock-clause-obeys : goal.returns-in-Clock-clause-obeys
-returns-in-Clock-clause-obeys g c =
-    let end = c.args.self.now.board.end in
-    let end' = c.clock.new.self.board.end in
-    let live : end ≡ None = c.requires c.in-Clock.until c.in-Clock.times c.in-Clock.is in
-    rw c.in-Clock.is
-    (on_ok_given _ (NoFault None end') (NoFault end end') c.clock.result (subst (λ (e : Option End). NoFault e end') live) c.clock.ensures.done)
+abbrev between : (g : Over) → g.row.S.Denot → g.row.K.Denot → g.row.E.Denot → Streams
+between g input out err =
+    streams g.S.Source.left g.S.Source.faults input g.K.Sink.held g.K.Sink.passed g.K.Sink.faults out g.E.Sink.held g.E.Sink.passed g.E.Sink.faults err
 
-pub returns-in-Clock-clause-read : goal.returns-in-Clock-clause-read
-returns-in-Clock-clause-read g c = rw c.in-Clock.is (on_ok_after _ (c.args.self.now.board.end ≡ None) c.clock.result c.clock.ensures.read)
+pub returns-in-Clock-clause-done : goal.returns-in-Clock-clause-done
+returns-in-Clock-clause-done g c =
+    let state = g.M.Clocked.state in
+    let m = g.M.Clocked.meaning in
+    let at = between g c.args.input.now c.args.out.now c.args.err.now in
+    let at' = between g c.clock.new.input c.clock.new.out c.clock.new.err in
+    let u = c.in-Clock.until in
+    let times = c.in-Clock.times in
+    let board' = c.clock.new.board in
+    let done = rw c.as_slice.ensures at c.clock.ensures.done in
+    rw c.in-Clock.is
+    (on_ok_map _ _ c.clock.result
+    (λ through. clocked_carried state m c.args.self.now board' at at' u times
+    (subst (λ (v : SessionView g.row.M.Denot). ClocksThrough state m v.listing v.breaks v.bound u times v.board board' at at') c.self.view_is through)) done)
 
 pub returns-in-Clock-clause-broken : goal.returns-in-Clock-clause-broken
 returns-in-Clock-clause-broken g c =
-    let end = c.args.self.now.board.end in
-    let end' = c.clock.new.self.board.end in
-    let live : end ≡ None = c.requires c.in-Clock.until c.in-Clock.times c.in-Clock.is in
+    let state = g.M.Clocked.state in
+    let m = g.M.Clocked.meaning in
+    let at = between g c.args.input.now c.args.out.now c.args.err.now in
+    let at' = between g c.clock.new.input c.clock.new.out c.clock.new.err in
+    let u = c.in-Clock.until in
+    let times = c.in-Clock.times in
+    let board' = c.clock.new.board in
+    let broken = rw c.as_slice.ensures at c.clock.ensures.broken in
     rw c.in-Clock.is
-    (on_err_given _ (end' ≢ Some ends.ReadFault) (end ≡ None → end' ≢ Some ends.ReadFault) c.clock.result (λ h. h live) c.clock.ensures.broken)
+    (on_err_map _ _ c.clock.result
+    (λ part. clocked_broken state m c.args.self.now board' at at' u times
+    (subst (λ (v : SessionView g.row.M.Denot). ClocksInPart state m v.listing v.breaks v.bound u times v.board board' at at') c.self.view_is part)) broken)
+
+pub returns-in-Ok-clause-done : goal.returns-in-Ok-clause-done
+returns-in-Ok-clause-done g c =
+    rw c.in-Show.is
+    (shown_carried g.M.Clocked.state g.M.Clocked.meaning c.args.self.now (between g c.args.input.now c.args.out.now c.args.err.now)
+    (sink_of g.E.Sink.held g.E.Sink.passed g.E.Sink.faults c.show.new.err) c.in-Show.shown c.in-Ok.ensures.puts c.in-Ok.ensures.cause.quiet)
+
+pub returns-in-Err-clause-broken : goal.returns-in-Err-clause-broken
+returns-in-Err-clause-broken g c =
+    rw c.in-Show.is
+    (shown_broken g.M.Clocked.state g.M.Clocked.meaning c.args.self.now (between g c.args.input.now c.args.out.now c.args.err.now)
+    (sink_of g.E.Sink.held g.E.Sink.passed g.E.Sink.faults c.show.new.err) c.in-Show.shown c.in-Err.ensures.puts c.in-Err.ensures.cause.failed)

@@ -1,18 +1,28 @@
-use Rattle.std.proofs.Common.{◌≡◌, ℕ, Result, Option, sym, ◌∙◌, ap, subst}
-use Rattle.mic_clock.specs.declared.end.End.{End}
+use Rattle.std.proofs.Common.{◌≡◌, ℕ, List, Option, Result, refl, sym, ◌∙◌, ap, subst}
 use Rattle.mic_clock.specs.View.{BoardView}
-use Rattle.mic_clock.specs.Board.{NoFault}
+use Rattle.mic_clock.specs.Board.{ShowsAs}
 use Rattle.cli_session.specs.declared.reading.Command.{Command}
 use Rattle.cli_session.specs.declared.reading.CommandError.{CommandError}
 use Rattle.mic_debugger.specs.declared.plan.Plan.{Plan}
 use Rattle.mic_debugger.specs.declared.table.Verb.{Verb}
 use Rattle.mic_debugger.specs.Commands.{command_of}
-use Rattle.mic_debugger.specs.Plans.{plan_of}
+use Rattle.mic_debugger.specs.Obeys.{IsCarriedOut, IsPlanBroken, plan_in}
+use Rattle.mic_debugger.specs.Outcome.{Streams, streams}
+use Rattle.mic_debugger.specs.Plans.{breaks_after, plan_of, watched_after}
 use Rattle.mic_debugger.specs.View.{SessionView}
-use Rattle.mic_debugger.specs.Obeys.{Obeys, IsBrokenIn, IsStoppedIn, plan_in}
-use Rattle.mic_debugger.proofs.Breaking.{no_fault, obeys_broken, on_err_of, stands_flushed}
-use Rattle.mic_debugger.proofs.Flushing.{obeys_flushed, stopped_flushed}
+use Rattle.mic_debugger.proofs.Breaking.{flush_broken, on_err_of, plan_broken, stands_flushed}
+use Rattle.mic_debugger.proofs.Carrying.{failed_after, through_flushed}
+use Rattle.mic_debugger.proofs.session.Session.command.Given.{Over}
 use Rattle.mic_debugger.proofs.session.Session.command.Goals as goal
+
+abbrev between : (g : Over) → g.row.S.Denot → g.row.K.Denot → g.row.E.Denot → Streams
+between g input out err =
+    streams g.S.Source.left g.S.Source.faults input g.K.Sink.held g.K.Sink.passed g.K.Sink.faults out g.E.Sink.held g.E.Sink.passed g.E.Sink.faults err
+
+-- a plan by what was read is that of the line
+planned : {M : Type 0} (v : SessionView M) (line : List ℕ) {read : Result (Option (Command Verb)) CommandError} {plan : Plan} →
+    read ≡ command_of v.listing.memory line → plan ≡ plan_of v.board.end v.breaks v.watched v.board.bus.words read → plan ≡ plan_in v line
+planned v line read_is is = is ∙ ap (λ (x : Result (Option (Command Verb)) CommandError). plan_of v.board.end v.breaks v.watched v.board.bus.words x) read_is
 
 pub returns-clause-obeys : goal.returns-clause-obeys
 returns-clause-obeys g c =
@@ -20,97 +30,83 @@ returns-clause-obeys g c =
     let m = g.M.Clocked.meaning in
     let v = c.args.self.now in
     let line = c.args.line.now in
-    let left0 = g.S.Source.left c.args.input.now in
-    let held0 = g.K.Sink.held c.args.out.now in
-    let left = g.S.Source.left c.carry_out.new.input in
-    let held = g.K.Sink.held c.carry_out.new.out in
-    let held' = g.K.Sink.held c.flush.new.out in
-    let read_is : c.read_command-read.result ≡ command_of v.listing.memory line = c.read_command-read.ensures ∙ ap (λ (n : ℕ). command_of n line) c.memory_words.ensures.value in
-    let plan_is : c.plan-plan.result ≡ plan_in v line =
-    c.plan-plan.ensures ∙ ap (λ (x : Result (Option (Command Verb)) CommandError). plan_of v.board.end v.breaks v.watched v.board.bus.words x) read_is in
+    let at = between g c.args.input.now c.args.out.now c.args.err.now in
+    let mid = between g c.carry_out.new.input c.carry_out.new.out c.carry_out.new.err in
+    let at' = between g c.carry_out.new.input c.flush.new.out c.flush.new.err in
+    let board = c.carry_out.new.self.board in
+    let plan_is = planned v c.args.line.now c.read-read.ensures c.plan-plan.ensures in
+    let done = subst (λ (p : Plan). IsCarriedOut state m v board at mid p) plan_is c.in_ok-carry_out.ensures.done in
+    let same = c.in_ok-carry_out.ensures.same in
     let flushed = c.in_ok-flush.ensures in
     let board_is : c.note.new.self.board ≡ c.flush.new.self.board = ap (λ (s : SessionView g.row.M.Denot). s.board) c.note.ensures.same in
-    let end_is : c.flush.new.self.board.end ≡ c.carry_out.new.self.board.end = ap (λ (s : SessionView g.row.M.Denot). s.board.end) flushed.same in
-    λ q book is_book.
-    let at = c.in_ok-carry_out.ensures.obeys (subst (λ (e : Option End). NoFault v.board.end e) (ap (λ (b : BoardView g.row.M.Denot). b.end) board_is ∙ end_is) q) book is_book in
-    let led = obeys_flushed state m book left0 held0 v left held held' c.carry_out.new.self.board c.flush.new.self.board at.0 flushed.input flushed.shows c.plan-plan.result at.2 in (
-      at.0,
-      flushed.held ∙ at.1,
-      subst (λ (b : BoardView g.row.M.Denot). Obeys state m book left0 held0 v left held' b at.0 (plan_in v line)) (sym board_is)
-          (subst (λ (p : Plan). Obeys state m book left0 held0 v left held' c.flush.new.self.board at.0 p) plan_is led),
-    )
-
-pub returns-clause-read : goal.returns-clause-read
-returns-clause-read g c =
-    let state = g.M.Clocked.state in
-    let m = g.M.Clocked.meaning in
-    let v = c.args.self.now in
-    let line = c.args.line.now in
-    let left0 = g.S.Source.left c.args.input.now in
-    let held0 = g.K.Sink.held c.args.out.now in
-    let left = g.S.Source.left c.carry_out.new.input in
-    let held = g.K.Sink.held c.carry_out.new.out in
-    let held' = g.K.Sink.held c.flush.new.out in
-    let read_is : c.read_command-read.result ≡ command_of v.listing.memory line = c.read_command-read.ensures ∙ ap (λ (n : ℕ). command_of n line) c.memory_words.ensures.value in
-    let plan_is : c.plan-plan.result ≡ plan_in v line =
-    c.plan-plan.ensures ∙ ap (λ (x : Result (Option (Command Verb)) CommandError). plan_of v.board.end v.breaks v.watched v.board.bus.words x) read_is in
-    let flushed = c.in_ok-flush.ensures in
-    let board_is : c.note.new.self.board ≡ c.flush.new.self.board = ap (λ (s : SessionView g.row.M.Denot). s.board) c.note.ensures.same in
-    let end_is : c.flush.new.self.board.end ≡ c.carry_out.new.self.board.end = ap (λ (s : SessionView g.row.M.Denot). s.board.end) flushed.same in
-    let state_is = ap (λ (s : SessionView g.row.M.Denot). state s.board.machine) flushed.same in
-    let counts_are = ap (λ (s : SessionView g.row.M.Denot). s.board.counts) flushed.same in
-    λ none p book is_book.
-    let at = c.in_ok-carry_out.ensures.read none (sym (ap (λ (b : BoardView g.row.M.Denot). b.end) board_is ∙ end_is) ∙ p) book is_book in
-    let led = stopped_flushed state m book left0 held0 v left held held' c.carry_out.new.self.board c.flush.new.self.board at.0 flushed.input flushed.shows flushed.kept state_is counts_are c.plan-plan.result at.2 in (
-      at.0,
-      flushed.held ∙ at.1,
-      subst (λ (b : BoardView g.row.M.Denot). IsStoppedIn state m book left0 held0 v left held' b at.0 (plan_in v line)) (sym board_is)
-          (subst (λ (p : Plan). IsStoppedIn state m book left0 held0 v left held' c.flush.new.self.board at.0 p) plan_is led),
-    )
+    let breaks_stay : c.flush.new.self.breaks ≡ v.breaks =
+    ap (λ (s : SessionView g.row.M.Denot). s.breaks) flushed.same ∙ ap (λ (s : SessionView g.row.M.Denot). s.breaks) same in
+    let watched_stays : c.flush.new.self.watched ≡ v.watched =
+    ap (λ (s : SessionView g.row.M.Denot). s.watched) flushed.same ∙ ap (λ (s : SessionView g.row.M.Denot). s.watched) same in
+    let breaks = c.note.ensures.breaks ∙ (λ i. breaks_after (breaks_stay i) (c.read-read.ensures i)) in
+    let watched = c.note.ensures.watched ∙ (λ i. watched_after (watched_stays i) (c.read-read.ensures i)) in
+    let kept = ap (λ (b : BoardView g.row.M.Denot). b.bus.console.kept) board_is ∙ flushed.kept in
+    record {
+      through = through_flushed state m line v c.note.new.self board at mid at'.out at'.err
+          (ap (λ (b : BoardView g.row.M.Denot). b.bus.console.ended) board_is ∙ flushed.input)
+          (subst (λ (b : BoardView g.row.M.Denot). ShowsAs state mid.out.held board at'.out.held b (λ r. r)) (sym board_is) flushed.shows)
+          breaks watched kept
+          (ap (λ (b : BoardView g.row.M.Denot). state b.machine) board_is ∙ ap (λ (s : SessionView g.row.M.Denot). state s.board.machine) flushed.same)
+          (ap (λ (b : BoardView g.row.M.Denot). b.counts) board_is ∙ ap (λ (s : SessionView g.row.M.Denot). s.board.counts) flushed.same)
+          (ap (λ (b : BoardView g.row.M.Denot). b.end) board_is ∙ ap (λ (s : SessionView g.row.M.Denot). s.board.end) flushed.same)
+          flushed.held
+          (record {
+            flushed = λ h. flushed.flushed (done.sinks.flushed h);
+            out = flushed.quiet.0 ∙ done.sinks.out;
+            err = flushed.quiet.1 ∙ done.sinks.err;
+          })
+          done;
+      breaks = breaks;
+      watched = watched;
+      kept = kept;
+      passed = flushed.passed;
+    }
 
 pub returns-in_err-carry_out-clause-broken : goal.returns-in_err-carry_out-clause-broken
 returns-in_err-carry_out-clause-broken g c =
     let state = g.M.Clocked.state in
     let m = g.M.Clocked.meaning in
     let v = c.args.self.now in
-    let line = c.args.line.now in
-    let left0 = g.S.Source.left c.args.input.now in
-    let held0 = g.K.Sink.held c.args.out.now in
-    let said0 = g.E.Sink.held c.args.err.now in
-    let left = g.S.Source.left c.carry_out.new.input in
-    let held = g.K.Sink.held c.carry_out.new.out in
-    let said = g.E.Sink.held c.carry_out.new.err in
-    let read_is : c.read_command-read.result ≡ command_of v.listing.memory line = c.read_command-read.ensures ∙ ap (λ (n : ℕ). command_of n line) c.memory_words.ensures.value in
-    let plan_is : c.plan-plan.result ≡ plan_in v line =
-    c.plan-plan.ensures ∙ ap (λ (x : Result (Option (Command Verb)) CommandError). plan_of v.board.end v.breaks v.watched v.board.bus.words x) read_is in
+    let at = between g c.args.input.now c.args.out.now c.args.err.now in
+    let mid = between g c.carry_out.new.input c.carry_out.new.out c.carry_out.new.err in
+    let board = c.carry_out.new.self.board in
+    let plan_is = planned v c.args.line.now c.read-read.ensures c.plan-plan.ensures in
+    let same = c.in_err-carry_out.ensures.same in
     on_err_of _ c.from_residual.result
-    (λ unread book is_book.
-    subst (λ (p : Plan). IsBrokenIn state m book left0 held0 said0 v left held said c.carry_out.new.self.board p) plan_is (c.in_err-carry_out.ensures.broken unread book is_book))
+    (record {
+      broken = plan_broken state m c.args.line.now v at mid board
+          (subst (λ (p : Plan). IsPlanBroken state m v board at mid p) plan_is c.in_err-carry_out.ensures.broken);
+      breaks = ap (λ (s : SessionView g.row.M.Denot). s.breaks) same;
+      watched = ap (λ (s : SessionView g.row.M.Denot). s.watched) same;
+    })
 
 pub returns-in_err-flush-clause-broken : goal.returns-in_err-flush-clause-broken
 returns-in_err-flush-clause-broken g c =
     let state = g.M.Clocked.state in
     let m = g.M.Clocked.meaning in
     let v = c.args.self.now in
-    let line = c.args.line.now in
-    let left0 = g.S.Source.left c.args.input.now in
-    let held0 = g.K.Sink.held c.args.out.now in
-    let said0 = g.E.Sink.held c.args.err.now in
-    let left = g.S.Source.left c.carry_out.new.input in
-    let held = g.K.Sink.held c.carry_out.new.out in
-    let held' = g.K.Sink.held c.flush.new.out in
-    let said' = g.E.Sink.held c.flush.new.err in
-    let read_is : c.read_command-read.result ≡ command_of v.listing.memory line = c.read_command-read.ensures ∙ ap (λ (n : ℕ). command_of n line) c.memory_words.ensures.value in
-    let plan_is : c.plan-plan.result ≡ plan_in v line =
-    c.plan-plan.ensures ∙ ap (λ (x : Result (Option (Command Verb)) CommandError). plan_of v.board.end v.breaks v.watched v.board.bus.words x) read_is in
+    let at = between g c.args.input.now c.args.out.now c.args.err.now in
+    let mid = between g c.carry_out.new.input c.carry_out.new.out c.carry_out.new.err in
+    let at' = between g c.carry_out.new.input c.flush.new.out c.flush.new.err in
+    let board = c.carry_out.new.self.board in
+    let board' = c.flush.new.self.board in
+    let plan_is = planned v c.args.line.now c.read-read.ensures c.plan-plan.ensures in
+    let done = subst (λ (p : Plan). IsCarriedOut state m v board at mid p) plan_is c.in_ok-carry_out.ensures.done in
+    let same = c.in_ok-carry_out.ensures.same in
     let flushed = c.in_err-flush.ensures in
-    let end_is : c.flush.new.self.board.end ≡ c.carry_out.new.self.board.end = ap (λ (s : SessionView g.row.M.Denot). s.board.end) flushed.same in
+    let end_is : board'.end ≡ board.end = ap (λ (s : SessionView g.row.M.Denot). s.board.end) flushed.same in
     on_err_of _ c.from_residual-in_err-flush.result
-    (λ unread book is_book.
-    let well = no_fault v.board.end c.carry_out.new.self.board.end (λ none read. unread none (end_is ∙ read)) c.in_ok-carry_out.ensures.fault in
-    let at = c.in_ok-carry_out.ensures.obeys well book is_book in
-    subst (λ (p : Plan). IsBrokenIn state m book left0 held0 said0 v left held' said' c.flush.new.self.board p) plan_is
-    (obeys_broken state m book left0 held0 said0 v left held held' said' c.carry_out.new.self.board c.flush.new.self.board at.0 (flushed.held ∙ at.1) flushed.input
-    (stands_flushed state left held c.carry_out.new.self.board c.flush.new.self.board (ap (λ (s : SessionView g.row.M.Denot). state s.board.machine) flushed.same) flushed.memory
-    (ap (λ (s : SessionView g.row.M.Denot). s.board.counts) flushed.same) end_is)
-    (λ r here. flushed.front left r here) c.plan-plan.result at.2))
+    (record {
+      broken = flush_broken state m c.args.line.now v at at' board' board mid done refl flushed.held flushed.input end_is
+          (stands_flushed state mid.input.left mid.out.held board board' (ap (λ (s : SessionView g.row.M.Denot). state s.board.machine) flushed.same) flushed.memory
+          (ap (λ (s : SessionView g.row.M.Denot). s.board.counts) flushed.same) end_is)
+          (λ r here. flushed.front mid.input.left r here)
+          (failed_after at.out.faults mid.out.faults at'.out.faults at.err.faults mid.err.faults at'.err.faults done.sinks.out done.sinks.err flushed.rose);
+      breaks = ap (λ (s : SessionView g.row.M.Denot). s.breaks) flushed.same ∙ ap (λ (s : SessionView g.row.M.Denot). s.breaks) same;
+      watched = ap (λ (s : SessionView g.row.M.Denot). s.watched) flushed.same ∙ ap (λ (s : SessionView g.row.M.Denot). s.watched) same;
+    })

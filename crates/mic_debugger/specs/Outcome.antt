@@ -1,0 +1,57 @@
+-- How a call on the board of a session comes out, between the input of its program and the two sinks.
+use Rattle.std.specs.Prelude.{◌≡◌, ◌≢◌, ◌⊎◌, ℕ, List, Option, None, Some}
+use Rattle.mic_base.specs.Causes.{Rose}
+use Rattle.mic_base.specs.Streams.{Holds}
+use Rattle.console_port.specs.Console.{StaysFlushed}
+use Rattle.mic_clock.specs.declared.end.End.TheVariants as ends
+use Rattle.mic_clock.specs.Run.{MicroRun}
+use Rattle.mic_clock.specs.View.{BoardView}
+use Rattle.mic_clock.specs.Board.{IsLedTo}
+use Rattle.cli_outside.specs.Outside.{Got, SinkState, SourceState, sink_of, source_of}
+use Rattle.mic_debugger.specs.Book.{Book, IsBookOf}
+use Rattle.mic_debugger.specs.View.{ListingView}
+
+pub record Streams : Type 0 where
+  pub input : SourceState
+  pub out : SinkState
+  pub err : SinkState
+
+-- by what a source and two sinks tell of themselves
+abbrev pub streams : {S K E : Type 0} → (S → Option (List ℕ)) → (S → ℕ) → S → (K → Option (List ℕ)) → (K → Option (List ℕ)) → (K → ℕ) → K →
+    (E → Option (List ℕ)) → (E → Option (List ℕ)) → (E → ℕ) → E → Streams
+streams left fails input held passed faults out held' passed' faults' err =
+    record { input = source_of left fails input; out = sink_of held passed faults out; err = sink_of held' passed' faults' err }
+
+-- what both sinks held stays in front
+pub record KeepFronts (out_old out_new err_old err_new : Option (List ℕ)) : Type 0 where
+  pub out : (front : List ℕ) → Holds front out_old → Holds front out_new
+  pub err : (front : List ℕ) → Holds front err_old → Holds front err_new
+
+-- no sink failed, and `out` has passed on all that it holds, where it had before
+pub record NoSinkFailed (old new : Streams) : Type 0 where
+  pub flushed : StaysFlushed old.out.held old.out.passed new.out.held new.out.passed
+  pub out : new.out.faults ≡ old.out.faults
+  pub err : new.err.faults ≡ old.err.faults
+
+abbrev pub SinkFailed : Streams → Streams → Type 0
+SinkFailed old new = Rose old.out.faults new.out.faults ⊎ Rose old.err.faults new.err.faults
+
+module _ {M State : Type 0} (state : M → State) (listing : ListingView) (old new : Streams) (board board' : BoardView M) where
+  -- By its book, `err` got a text, and each run that the first board shows is led on so.
+  abbrev pub Prints : (Book → List ℕ → MicroRun State → List ℕ → Type 0) → Type 0
+  Prints Leads =
+      (book : Book) → IsBookOf listing book → (text : List ℕ) × Got old.err.held text new.err.held ×
+      IsLedTo state old.input.left old.out.held board new.input.left board' (Leads book text)
+
+  -- No sink failed: each run is led on, or a failing source stops it.
+  pub record GoesThrough (Leads Stops : Book → List ℕ → MicroRun State → List ℕ → Type 0) : Type 0 where
+    pub led : (board.end ≡ None → board'.end ≢ Some ends.ReadFault) → Prints Leads
+    pub stopped : board.end ≡ None → board'.end ≡ Some ends.ReadFault → Prints Stops
+    pub unbroken : board.end ≡ None → board'.end ≢ Some ends.WriteFault
+    pub sinks : NoSinkFailed old new
+
+  -- A sink failed: unless the source did too, each run is broken off.
+  pub record IsBrokenOff (Breaks : Book → MicroRun State → List ℕ → Type 0) : Type 0 where
+    pub breaks : (board.end ≡ None → board'.end ≢ Some ends.ReadFault) → (book : Book) → IsBookOf listing book →
+        IsLedTo state old.input.left old.out.held board new.input.left board' (Breaks book)
+    pub failed : SinkFailed old new
