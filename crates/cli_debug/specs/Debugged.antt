@@ -42,7 +42,9 @@ module _ {M State : Type 0} (state : M → State) (m : Meaning State) where
     -- the lines of the console were done, none after them was asked for, and then it was reported where the session stands
     Left : (l : Loaded) (first : SessionView M) (lines : List (List ℕ)) (last : Place (DebuggingView M)) →
         IsStart bound micro l program first → Gone (debugging state m) lines (place (debugging_view first input) old) last →
-        IfSome old.console.left (λ bytes. IsReadOut (is_quit program.map.stack_end) most_lines bytes lines new.console.left) → new.console.faults ≡ old.console.faults →
+        IfSome old.console.left (λ bytes.
+            IsReadOut (is_quit program.map.stack_end) most_lines bytes lines new.console.left) →
+        new.console.faults ≡ old.console.faults →
         TellsOnErr (report_in last.session.session) exits.done last.seen new status → IsDebugged bound micro program input old new status
     -- the console failed: so it was reported behind the whole lines before that
     Cut : (l : Loaded) (first : SessionView M) (lines : List (List ℕ)) (last : Place (DebuggingView M)) →

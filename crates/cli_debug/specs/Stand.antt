@@ -37,7 +37,8 @@ is_quit_reply reply = false
 abbrev pub OnlyGives : {State : Type 0} → Meaning State → Type 0
 OnlyGives {State} m = (word : ℕ) (s s' : State) (w w' : World) → m.step word s w ≡ Done s' w' → (more : List ℕ) × (w'.given ≡ w.given ++ more)
 
--- A failing sink broke a line off at a moment: `out` holds a front of what was given by then, and `err` got a front of what was printed. So they are fronts too of what the line gives and prints where it is done whole.
+-- A failing sink broke a line off at a moment: `out` holds a front of what was given by then, and `err` got a front
+-- of what was printed. So they are fronts too of what the line gives and prints where it is done whole.
 pub record IsBrokenOff {State : Type 0} (m : Meaning State) (rules : Rules) (line : List ℕ) (s : Stand State) (held said said' : Option (List ℕ)) : Type 0 where
   pub run : MicroRun State
   pub text : List ℕ

@@ -42,7 +42,8 @@ fn begun<M: Clocked + Drop>(
     Ok(Session::new(board, listing, placement, program, bound))
 }
 
-/// Debugs an accepted program with a microprogram: the lines come from the console, the program's input is given whole. Then it is reported where the run stands.
+/// Debugs an accepted program with a microprogram: the lines come from the console, the program's input is given
+/// whole. Then it is reported where the run stands.
 pub fn debug_program<M: Clocked + Drop, F: Files, S: Source, K: Sink, E: Sink>(
     alloc: Global,
     machine: M,

@@ -56,7 +56,8 @@ pub data Reaches (told : Bool) (p : Program) (bound : ℕ) (from : Point) (c0 : 
 
 -- The run that goes on so passes a boundary with these counts, frames and bytes, and its instruction there meets this. After a write that
 -- failed the sink holds all that was given there but the last of what the console kept.
-pub record IsCut (e : StepError) (told : Bool) (c0 : ConsoleView) (held : Option (List ℕ)) (p : Program) (bound : ℕ) (from : Point) (c : Counts) (new : MachineView) (untaken given : List ℕ) : Type 0 where
+pub record IsCut (e : StepError) (told : Bool) (c0 : ConsoleView) (held : Option (List ℕ)) (p : Program) (bound : ℕ)
+    (from : Point) (c : Counts) (new : MachineView) (untaken given : List ℕ) : Type 0 where
   pub at : Point
   pub console : ConsoleView
   pub reaches : Reaches told p bound from c0 at console
@@ -99,7 +100,8 @@ ShownBy None held kept given = Given held kept given
 ShownBy (Some stop) held kept given = IsShown stop held kept given
 
 -- Whatever is left untaken after, something may have been left before it from which a run leads there; the given bytes are shown so after it.
-abbrev pub LedTo : (Option (List ℕ) → List ℕ → List ℕ → Type 0) → Option (List ℕ) → Option (List ℕ) → ConsoleView → Option (List ℕ) → Option (List ℕ) → ConsoleView →
+abbrev pub LedTo : (Option (List ℕ) → List ℕ → List ℕ → Type 0) → Option (List ℕ) → Option (List ℕ) → ConsoleView →
+    Option (List ℕ) → Option (List ℕ) → ConsoleView →
     (List ℕ → List ℕ → List ℕ → List ℕ → Type 0) → Type 0
 LedTo shown left held c left' held' c' leads =
     (rest : List ℕ) → Untaken left' c'.ended rest →
@@ -107,15 +109,18 @@ LedTo shown left held c left' held' c' leads =
     ((given : List ℕ) → Given held c.kept given → (more : List ℕ) × shown held' c'.kept more × leads untaken given rest more)
 
 -- a turn of the run: on to the next boundary, or to its stop
-abbrev pub TurnsTo : Bool → Option (Result PlainEnd AllocError) → ℕ → Machine → Counts → Counts → ConsoleView → ConsoleView → Option (List ℕ) → MachineView → MachineView →
+abbrev pub TurnsTo : Bool → Option (Result PlainEnd AllocError) → ℕ → Machine → Counts → Counts → ConsoleView →
+    ConsoleView → Option (List ℕ) → MachineView → MachineView →
     List ℕ → List ℕ → List ℕ → List ℕ → Type 0
 TurnsTo told None bound machine old_counts counts c c' held' old new untaken given untaken' given' =
-    GoesOn told (program_of old machine) bound (point_at old old_counts.cycles old_counts.instructions untaken given) (point_at new counts.cycles counts.instructions untaken' given') c c'
+    GoesOn told (program_of old machine) bound (point_at old old_counts.cycles old_counts.instructions untaken given)
+        (point_at new counts.cycles counts.instructions untaken' given') c c'
 TurnsTo told (Some stop) bound machine old_counts counts c c' held' old new untaken given untaken' given' =
     StoppedBy told c held' stop (program_of old machine) bound (point_at old old_counts.cycles old_counts.instructions untaken given) counts new untaken' given'
 
 -- Frames are driven over a console, a source and a sink, by a turn or by turns up to a stop, whether or not the source tells what it has left.
-abbrev pub IsDriven : Option (Result PlainEnd AllocError) → ℕ → Machine → Counts → Counts → Option (List ℕ) → Option (List ℕ) → ConsoleView → Option (List ℕ) → Option (List ℕ) → ConsoleView →
+abbrev pub IsDriven : Option (Result PlainEnd AllocError) → ℕ → Machine → Counts → Counts → Option (List ℕ) →
+    Option (List ℕ) → ConsoleView → Option (List ℕ) → Option (List ℕ) → ConsoleView →
     MachineView → MachineView → Type 0
 IsDriven stop bound machine old_counts counts left held c left' held' c' old new =
     (told : Bool) → (told ≡ true → TellsLeft left c.ended) →

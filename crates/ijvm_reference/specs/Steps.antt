@@ -27,7 +27,8 @@ IsLedOn left held c left' held' c' leads =
     ((given : List ℕ) → Given held c.kept given → (more : List ℕ) × Given held' c'.kept more × leads untaken given rest more)
 
 -- what comes of an instruction over the console
-abbrev pub LedBy : (State → Outcome) → Option (List ℕ) → Option (List ℕ) → ConsoleView → Option (List ℕ) → Option (List ℕ) → ConsoleView → MachineView → MachineView → Effect → Type 0
+abbrev pub LedBy : (State → Outcome) → Option (List ℕ) → Option (List ℕ) → ConsoleView → Option (List ℕ) →
+    Option (List ℕ) → ConsoleView → MachineView → MachineView → Effect → Type 0
 LedBy does left held c left' held' c' old new effect =
     IsLedOn left held c left' held' c' (λ u g u' g'. does (state_of old u g) ≡ outcome_of effect (state_of new u' g'))
 

@@ -246,7 +246,8 @@ pub fn branch_if_equal(machine: &mut PlainMachine, offset: i16) -> Effect
 /// Calls a method with the last operands.
 pub fn call(machine: &mut PlainMachine, index: u16) -> Result<Effect, AllocError>
     requires { machine.old.at + 3 < 2 ^ 32 }
-    ensures ok { LeadsBy result (λ s. called_at machine.old.stack_end s (method_at machine.old.image.text (slice_get machine.old.image.pool index))) machine.old machine.new }
+    ensures ok { LeadsBy result (λ s. called_at machine.old.stack_end s
+        (method_at machine.old.image.text (slice_get machine.old.image.pool index))) machine.old machine.new }
     ensures err { OnErr result (machine.new ≡ machine.old) }
     ensures program { KeepsProgram machine.old machine.new }
 {

@@ -162,7 +162,8 @@ pub fn run_plain<S: Source, K: Sink>(
         (S.left source.old) (K.held sink.old) (S.left source.new) (K.held sink.new)) }
     ensures write { IfOk result (FailsToWrite (program image.now map machine) main_locals bound
         (S.left source.old) (K.held sink.old) (S.left source.new) (K.held sink.new)) }
-    ensures flushed { IfOk result (λ r. r.end ≢ PlainEnd.WriteFault) → StaysFlushed (K.held sink.old) (K.passed sink.old) (K.held sink.new) (K.passed sink.new) }
+    ensures flushed { IfOk result (λ r. r.end ≢ PlainEnd.WriteFault) →
+        StaysFlushed (K.held sink.old) (K.passed sink.old) (K.held sink.new) (K.passed sink.new) }
     ensures cause { IfOk result (λ r. HasRunCause (S.faults source.old) (S.faults source.new) (K.faults sink.old) (K.faults sink.new) (Some (Ok r.end))) }
     ensures short { OnErr result (IsShort (program image.now map machine) main_locals bound
         (S.left source.old) (K.held sink.old) (S.left source.new) (K.held sink.new)) }

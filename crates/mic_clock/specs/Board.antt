@@ -67,8 +67,10 @@ module _ {M State : Type 0} (state : M → State) where
       pub buses : board'.buses ≡ board.buses
       pub world : Stands left held board.bus left' held' board'.bus e
       pub no_end : end_before m (state board.machine) board.counts ≡ None
-      pub reads : e ≡ ReadFault → (w : World) → Shows left held board.bus w → ReadsConsole m (word_at m board.store.words (state board.machine)) (state board.machine) w
-      pub uses : e ≡ WriteFault → (w : World) → Shows left held board.bus w → UsesConsole m (word_at m board.store.words (state board.machine)) (state board.machine) w
+      pub reads : e ≡ ReadFault → (w : World) → Shows left held board.bus w →
+          ReadsConsole m (word_at m board.store.words (state board.machine)) (state board.machine) w
+      pub uses : e ≡ WriteFault → (w : World) → Shows left held board.bus w →
+          UsesConsole m (word_at m board.store.words (state board.machine)) (state board.machine) w
 
     module _ (words : List ℕ) (bound : Option ℕ) where
       -- a failing source cut the run: its next step is not refused, and reads the console
@@ -80,7 +82,8 @@ module _ {M State : Type 0} (state : M → State) where
         pub next : IsClocking m words bound r
         pub reads : ReadsConsole m (word_at m words r.state) r.state r.world
 
-      -- A failing sink cut the run: its next step is not refused, and reads or writes the console; or it has ended, and the last bytes that were given waited. The sink has a front of what was given.
+      -- A failing sink cut the run: its next step is not refused, and reads or writes the console; or it has ended,
+      -- and the last bytes that were given waited. The sink has a front of what was given.
       pub record IsCutByWrite (left held : Option (List ℕ)) (board : BoardView M) (r : MicroRun State) : Type 0 where
         pub its_state : r.state ≡ state board.machine
         pub memory : r.world.words ≡ board.bus.words
@@ -102,7 +105,8 @@ module _ {M State : Type 0} (state : M → State) where
       abbrev pub IsTurned : Option ℕ → Type 0
       IsTurned bound =
           NoFault board.end board'.end → IsLedTo left held board left' board'
-          (λ r rest. ShowsRun left' held' board' (turn m board.store.words (bounded m bound r)) × ((turn m board.store.words (bounded m bound r)).world.untaken ≡ rest))
+          (λ r rest. ShowsRun left' held' board' (turn m board.store.words (bounded m bound r))
+              × ((turn m board.store.words (bounded m bound r)).world.untaken ≡ rest))
 
       -- a fault cuts the cycle
       abbrev pub IsCutByFault : Type 0
@@ -146,13 +150,17 @@ module _ {M State : Type 0} (state : M → State) where
       abbrev pub LegIsCutByRead : Type 0
       LegIsCutByRead =
           board.end ≡ None → board'.end ≡ Some ends.ReadFault → IsLedTo left held board left' board'
-          (λ r rest. (n : ℕ) × IsLeg m board.store.words (suc n) r × Leads board.store.words None board' board.buses rest n r (IsCutByRead board.store.words None left' held' board'))
+          (λ r rest. (n : ℕ) × IsLeg m board.store.words (suc n) r
+              × Leads board.store.words None board' board.buses rest n r
+              (IsCutByRead board.store.words None left' held' board'))
 
       -- a failing sink cuts the turn behind them
       abbrev pub LegIsCutByWrite : Type 0
       LegIsCutByWrite =
           board.end ≡ None → board'.end ≡ Some ends.WriteFault → IsLedTo left held board left' board'
-          (λ r rest. (n : ℕ) × IsLeg m board.store.words (suc n) r × Leads board.store.words None board' board.buses rest n r (IsCutByWrite board.store.words None left' held' board'))
+          (λ r rest. (n : ℕ) × IsLeg m board.store.words (suc n) r
+              × Leads board.store.words None board' board.buses rest n r
+              (IsCutByWrite board.store.words None left' held' board'))
 
     -- What a turn between two boards counts, also over a source that does not tell what it has left.
     module _ (board board' : BoardView M) where
@@ -166,7 +174,9 @@ module _ {M State : Type 0} (state : M → State) where
       abbrev pub IsCounted : Type 0
       IsCounted =
           board'.end ≡ None → (end_before m (state board.machine) board.counts ≡ None)
-          × (board'.counts ≡ counts_after m board.counts (m.drives (word_at m board.store.words (state board.machine)) (state board.machine)).stalled (state board'.machine))
+          × (board'.counts ≡ counts_after m board.counts
+              (m.drives (word_at m board.store.words (state board.machine)) (state board.machine)).stalled
+              (state board'.machine))
 
       -- a clocked cycle changes no memory word but the one at MAR as it is after its edge
       abbrev pub ChangesAtMar : Type 0

@@ -45,11 +45,13 @@ module _ {State : Type 0} (m : Meaning State) where
     pub counts : CountsCycle r.counts stalled s q.counts
 
   module _ (words : List ℕ) where
-    -- One turn of a run without the test of a bound: an ended run stays; else it ends before a cycle; else its microstep is refused, which ends it uncounted; else the microstep is done.
+    -- One turn of a run without the test of a bound: an ended run stays; else it ends before a cycle; else its
+    -- microstep is refused, which ends it uncounted; else the microstep is done.
     pub record IsTurn (r q : MicroRun State) : Type 0 where
       pub ended : IsSome r.end → q ≡ r
       pub ends : r.end ≡ None → (e : End) → EndsBefore (m.registers r.state).mpc r.counts (Some e) → EndsAt r e q × CountsEnd r.counts e q.counts
       pub refused : r.end ≡ None → EndsBefore (m.registers r.state).mpc r.counts None →
           (why : Refusal) → m.step (word_at m words r.state) r.state r.world ≡ Refused why → EndsAt r (end_by (fault_of why)) q × (q.counts ≡ r.counts)
       pub done : r.end ≡ None → EndsBefore (m.registers r.state).mpc r.counts None →
-          (s : State) (w : World) → m.step (word_at m words r.state) r.state r.world ≡ Done s w → StepsTo r (m.drives (word_at m words r.state) r.state).stalled s w q
+          (s : State) (w : World) → m.step (word_at m words r.state) r.state r.world ≡ Done s w →
+              StepsTo r (m.drives (word_at m words r.state) r.state).stalled s w q

@@ -45,7 +45,8 @@ impl<M: Clocked> Model for Board<M> {
 
     ghost Value = { BoardView M };
 
-    ghost view = { λ b. record { machine = b.machine; store = b.store; bus = b.bus; counts = b.counts; end = b.end; buses = record { drive = b.drive; computed = b.computed } } };
+    ghost view = { λ b. record { machine = b.machine; store = b.store; bus = b.bus; counts = b.counts; end = b.end;
+        buses = record { drive = b.drive; computed = b.computed } } };
 
     ghost invariant = { λ b. (M.phase b.machine ≡ AtRest) × (b.store.machine ≡ M.meaning.machine) × AreCounts b.counts b.end × IsLimit b.counts b.limit };
 }
@@ -231,7 +232,8 @@ impl<M: Clocked> Board<M> {
     /// The test of the bound alone, with the flush where it ends the board.
     #[inline(always)]
     pub fn stop_at<K: Sink>(&mut self, bound: u64, sink: &mut K) -> Option<End>
-        ensures run { NoFault self.old.end self.new.end → ShowsAs M.state (K.held sink.old) self.old (K.held sink.new) self.new (bounded M.meaning (Some bound)) }
+        ensures run { NoFault self.old.end self.new.end →
+            ShowsAs M.state (K.held sink.old) self.old (K.held sink.new) self.new (bounded M.meaning (Some bound)) }
         ensures write { (left : Option (List ℕ)) → BoundIsCutByWrite M.state M.meaning left (K.held sink.old) self.old left (K.held sink.new) self.new bound }
         ensures value { result ≡ self.new.end }
         ensures below { result ≡ None → M.meaning.is_boundary (M.state self.old.machine) ≡ true → self.old.counts.cycles < bound }
@@ -268,8 +270,10 @@ impl<M: Clocked> Board<M> {
     ) -> Option<End>
         requires { self.old.counts.cycles ≤ 2 ^ 62 + 4096 }
         ensures turn { IsTurned M.state M.meaning (S.left source.old) (K.held sink.old) self.old (S.left source.new) (K.held sink.new) self.new (Some bound) }
-        ensures read { RunIsCutByRead M.state M.meaning (S.left source.old) (K.held sink.old) self.old (S.left source.new) (K.held sink.new) self.new (Some bound) }
-        ensures write { RunIsCutByWrite M.state M.meaning (S.left source.old) (K.held sink.old) self.old (S.left source.new) (K.held sink.new) self.new (Some bound) }
+        ensures read { RunIsCutByRead M.state M.meaning (S.left source.old) (K.held sink.old) self.old
+            (S.left source.new) (K.held sink.new) self.new (Some bound) }
+        ensures write { RunIsCutByWrite M.state M.meaning (S.left source.old) (K.held sink.old) self.old
+            (S.left source.new) (K.held sink.new) self.new (Some bound) }
         ensures value { result ≡ self.new.end }
         ensures ended { (e : End) → self.old.end ≡ Some e → (self.new ≡ self.old) × (source.new ≡ source.old) × (sink.new ≡ sink.old) }
         ensures kept { (e : BusFault) → self.old.end ≡ None → IsFault e → self.new.end ≡ Some (end_by e) → self.new.bus.console.kept ≡ [] }
@@ -299,9 +303,13 @@ impl<M: Clocked> Board<M> {
     fn stride<S: Source, K: Sink>(&mut self, bound: u64, source: &mut S, sink: &mut K)
         requires running { self.old.end ≡ None }
         requires cycles { self.old.counts.cycles ≤ 2 ^ 62 + 2048 }
-        ensures run { NoFault None self.new.end → IsReached M.state M.meaning (S.left source.old) (K.held sink.old) self.old (S.left source.new) (K.held sink.new) self.new (Some bound) }
-        ensures read { RunIsCutByRead M.state M.meaning (S.left source.old) (K.held sink.old) self.old (S.left source.new) (K.held sink.new) self.new (Some bound) }
-        ensures write { RunIsCutByWrite M.state M.meaning (S.left source.old) (K.held sink.old) self.old (S.left source.new) (K.held sink.new) self.new (Some bound) }
+        ensures run { NoFault None self.new.end →
+            IsReached M.state M.meaning (S.left source.old) (K.held sink.old) self.old (S.left source.new)
+            (K.held sink.new) self.new (Some bound) }
+        ensures read { RunIsCutByRead M.state M.meaning (S.left source.old) (K.held sink.old) self.old
+            (S.left source.new) (K.held sink.new) self.new (Some bound) }
+        ensures write { RunIsCutByWrite M.state M.meaning (S.left source.old) (K.held sink.old) self.old
+            (S.left source.new) (K.held sink.new) self.new (Some bound) }
         ensures kept { (e : BusFault) → IsFault e → self.new.end ≡ Some (end_by e) → self.new.bus.console.kept ≡ [] }
         ensures below { self.new.end ≡ None → M.meaning.is_boundary (M.state self.old.machine) ≡ true → self.old.counts.cycles < bound }
         ensures within { self.new.counts.cycles ≤ last_cycles self.old.counts.boundary + 1024 }
@@ -328,8 +336,10 @@ impl<M: Clocked> Board<M> {
         requires bound { bound ≤ 2 ^ 62 }
         requires cycles { self.old.counts.cycles ≤ 2 ^ 62 + 1024 }
         ensures run { IsRun M.state M.meaning (S.left source.old) (K.held sink.old) self.old (S.left source.new) (K.held sink.new) self.new (Some bound) }
-        ensures read { RunIsCutByRead M.state M.meaning (S.left source.old) (K.held sink.old) self.old (S.left source.new) (K.held sink.new) self.new (Some bound) }
-        ensures write { RunIsCutByWrite M.state M.meaning (S.left source.old) (K.held sink.old) self.old (S.left source.new) (K.held sink.new) self.new (Some bound) }
+        ensures read { RunIsCutByRead M.state M.meaning (S.left source.old) (K.held sink.old) self.old
+            (S.left source.new) (K.held sink.new) self.new (Some bound) }
+        ensures write { RunIsCutByWrite M.state M.meaning (S.left source.old) (K.held sink.old) self.old
+            (S.left source.new) (K.held sink.new) self.new (Some bound) }
         ensures end { self.new.end ≡ Some result }
         ensures growth { self.new.counts.cycles ≤ max bound self.old.counts.cycles + 1024 }
         ensures near { self.new.counts.cycles ≤ last_cycles self.new.counts.boundary + 1024 }

@@ -42,7 +42,8 @@ module _ {M State : Type 0} (state : M → State) (m : Meaning State) (old : Ses
       (u : Until) × (times : ℕ) × (plan ≡ plans.Clock u times) × (n : ℕ) × (k : ℕ)
       × IsStopped state m book old.board.store.words old.breaks old.bound u times at'.input.left at'.out.held board' rest text n k r
 
-  -- A failing sink breaks a plan off at a moment of its way: the board stands there, `out` holds a front of what was given by then, and `err` got a front of what was printed by then, all but the lines of the last turn whole.
+  -- A failing sink breaks a plan off at a moment of its way: the board stands there, `out` holds a front of what was
+  -- given by then, and `err` got a front of what was printed by then, all but the lines of the last turn whole.
   pub record IsBrokenAt (rules : Rules) (plan : Plan) (s : Stand State) : Type 0 where
     pub run : MicroRun State
     pub text : List ℕ

@@ -58,7 +58,8 @@ module _ {M State : Type 0} (state : M → State) (m : Meaning State) (book : Bo
     pub waiting : passed m book words breaks bound u n r < times
     pub lines : text ≡ printed m book words breaks bound u n r ++ end_line ends.ReadFault
 
-  -- A failing sink broke it off at a moment of its way: the turns that were made stay, `out` holds a front of what was given by then, and `err` got a front of what is printed by then.
+  -- A failing sink broke it off at a moment of its way: the turns that were made stay, `out` holds a front of what
+  -- was given by then, and `err` got a front of what is printed by then.
   pub record IsBroken (held : Option (List ℕ)) (board : BoardView M) (said said' : Option (List ℕ)) (n : ℕ) (r : MicroRun State) : Type 0 where
     pub here : StandsAfter state board (after m book words breaks bound u n r)
     pub going : IsGoing m book words breaks bound u times n r

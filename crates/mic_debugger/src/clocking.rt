@@ -155,16 +155,20 @@ impl Clocking<'_> {
     ) -> Result<bool, SessionFault>
         requires live { board.old.end ≡ None }
         requires cycles { board.old.counts.cycles ≤ 2 ^ 62 + 4096 }
-        ensures turn { IsTurned M.state M.meaning (S.left input.old) (K.held out.old) board.old (S.left input.new) (K.held out.new) board.new (Some self.now.bound) }
-        ensures read { RunIsCutByRead M.state M.meaning (S.left input.old) (K.held out.old) board.old (S.left input.new) (K.held out.new) board.new (Some self.now.bound) }
-        ensures write { RunIsCutByWrite M.state M.meaning (S.left input.old) (K.held out.old) board.old (S.left input.new) (K.held out.new) board.new (Some self.now.bound) }
+        ensures turn { IsTurned M.state M.meaning (S.left input.old) (K.held out.old) board.old (S.left input.new)
+            (K.held out.new) board.new (Some self.now.bound) }
+        ensures read { RunIsCutByRead M.state M.meaning (S.left input.old) (K.held out.old) board.old
+            (S.left input.new) (K.held out.new) board.new (Some self.now.bound) }
+        ensures write { RunIsCutByWrite M.state M.meaning (S.left input.old) (K.held out.old) board.old
+            (S.left input.new) (K.held out.new) board.new (Some self.now.bound) }
         ensures text { OnOk result ((book : Book) → IsBookOf self.now.listing.now book →
             Got (E.held err.old) (text_between M.state M.meaning book self.now.breaks.now self.now.until board.old board.new) (E.held err.new)) }
         ensures front { OnErr result (board.new.end ≢ Some End.WriteFault → (book : Book) →
             IsBookOf self.now.listing.now book →
             GotInPart (E.held err.old) (text_between M.state M.meaning book self.now.breaks.now self.now.until board.old board.new) (E.held err.new)) }
         ensures silent { board.new.end ≡ Some End.WriteFault → E.held err.new ≡ E.held err.old }
-        ensures came { IfOk result (λ came. number_of came ≡ counted_turn self.now.breaks.now self.now.until board.new.counts board.new.bus.words board.new.end) }
+        ensures came { IfOk result (λ came. number_of came
+            ≡ counted_turn self.now.breaks.now self.now.until board.new.counts board.new.bus.words board.new.end) }
         ensures fault { OnOk result (board.new.end ≢ Some End.WriteFault) }
         ensures input { HasReadCause (S.faults input.old) (S.faults input.new) board.new.end }
         ensures store { board.new.store ≡ board.old.store }

@@ -201,7 +201,9 @@ impl<M: Clocked> Session<M> {
     /// Puts the memory words from LV up to SP, at most the 64 highest of them.
     #[tactic(auto, unfolding(crate::specs::Lines::stack_text))]
     fn put_stack<E: Sink>(&self, err: &mut E) -> Result<(), SinkFailed>
-        ensures puts { Puts (E.held err.old) (stack_text self.now.board.bus.words self.now.listing.memory (M.meaning.registers (M.state self.now.board.machine)).lv
+        ensures puts { Puts (E.held err.old)
+            (stack_text self.now.board.bus.words self.now.listing.memory
+            (M.meaning.registers (M.state self.now.board.machine)).lv
             (M.meaning.registers (M.state self.now.board.machine)).sp) result (E.held err.new) }
         ensures keeps { (front : List ℕ) → Holds front (E.held err.old) → Holds front (E.held err.new) }
         ensures cause { HasCause (E.faults err.old) (E.faults err.new) result }
@@ -215,7 +217,8 @@ impl<M: Clocked> Session<M> {
     /// Puts what is shown where nothing is clocked.
     fn show<E: Sink>(&self, shown: Shown, err: &mut E) -> Result<(), SinkFailed>
         ensures puts { (book : Book) → IsBookOf self.now.listing book → Puts (E.held err.old)
-            (shown_text book self.now.listing.memory (M.meaning.registers (M.state self.now.board.machine)) self.now.board.counts self.now.board.bus.words shown)
+            (shown_text book self.now.listing.memory
+                (M.meaning.registers (M.state self.now.board.machine)) self.now.board.counts self.now.board.bus.words shown)
             result (E.held err.new) }
         ensures keeps { (front : List ℕ) → Holds front (E.held err.old) → Holds front (E.held err.new) }
         ensures cause { HasCause (E.faults err.old) (E.faults err.new) result }

@@ -83,8 +83,12 @@ impl<M: Clocked> Rewind<M> {
         ensures moves { self.old.history.after ≢ [] → MovesOn M.state M.meaning self.old self.new }
         ensures again { self.old.history.after ≢ [] → result ≡ tick_of self.old.history.here.moment.counts self.new.history.here.moment.counts None }
         ensures untouched { self.old.history.after ≢ [] → (source.new ≡ source.old) × (sink.new ≡ sink.old) }
-        ensures turn { self.old.history.after ≡ [] → IsTurned M.state M.meaning (S.left source.old) (K.held sink.old) self.old.board (S.left source.new) (K.held sink.new) self.new.board None }
-        ensures cut { self.old.history.after ≡ [] → IsCutByFault M.state M.meaning (S.left source.old) (K.held sink.old) self.old.board (S.left source.new) (K.held sink.new) self.new.board }
+        ensures turn { self.old.history.after ≡ [] →
+            IsTurned M.state M.meaning (S.left source.old) (K.held sink.old) self.old.board (S.left source.new)
+            (K.held sink.new) self.new.board None }
+        ensures cut { self.old.history.after ≡ [] →
+            IsCutByFault M.state M.meaning (S.left source.old) (K.held sink.old) self.old.board (S.left source.new)
+            (K.held sink.new) self.new.board }
         ensures tick { self.old.history.after ≡ [] → result ≡ tick_of self.old.board.counts self.new.board.counts self.new.board.end }
         ensures keeps { self.old.history.after ≡ [] → Keeps M.state M.meaning self.old self.new }
         ensures growth { self.new.board.counts.cycles ≤ self.old.board.counts.cycles + 1 }

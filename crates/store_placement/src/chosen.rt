@@ -22,7 +22,8 @@ use arrayvec::ArrayVec;
 /// The chosen addresses of the statements, in order.
 fn addresses_for(fixed: &[Option<u16>], pairs: &[Pair]) -> Result<ArrayVec<u16, 512>, PlaceError>
     requires { AreWithin fixed.now pairs.now }
-    ensures { MatchResult result (λ v. IsChosenList (record { fixed = fixed.now; pairs = pairs.now }) v.items) (λ e. Refuses (record { fixed = fixed.now; pairs = pairs.now }) e) }
+    ensures { MatchResult result (λ v. IsChosenList (record { fixed = fixed.now; pairs = pairs.now }) v.items)
+        (λ e. Refuses (record { fixed = fixed.now; pairs = pairs.now }) e) }
 {
     if let Some(s) = first_clash(pairs, fixed.len() as u16) {
         return Err(PlaceError::PairClash(s));

@@ -74,7 +74,8 @@ fn in_wrong_half(fixed: &[Option<u16>], pairs: &[Pair], s: u16) -> bool
 /// The lowest statement that is fixed in the wrong half of the store.
 pub fn first_in_wrong_half(fixed: &[Option<u16>], pairs: &[Pair]) -> Option<u16>
     requires { length fixed.now ≤ 512 }
-    ensures { MatchOption result (Never (in_wrong_half fixed.now pairs.now) (length fixed.now)) (IsFirst (in_wrong_half fixed.now pairs.now) (length fixed.now)) }
+    ensures { MatchOption result (Never (in_wrong_half fixed.now pairs.now) (length fixed.now))
+        (IsFirst (in_wrong_half fixed.now pairs.now) (length fixed.now)) }
 {
     for s in 0..fixed.len() as u16 {
         if in_wrong_half(fixed, pairs, s) {

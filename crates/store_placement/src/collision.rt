@@ -66,7 +66,8 @@ fn collides_with(
     requires within { AreWithin fixed.now pairs.now }
     requires forced { addresses.now ≡ all_forced fixed.now pairs.now }
     requires inside { s < length fixed.now }
-    ensures { MatchOption result (NeverWith (collide fixed.now pairs.now) (length fixed.now) s) (IsFirstWith (collide fixed.now pairs.now) (length fixed.now) s) }
+    ensures { MatchOption result (NeverWith (collide fixed.now pairs.now) (length fixed.now) s)
+        (IsFirstWith (collide fixed.now pairs.now) (length fixed.now) s) }
 {
     for t in s + 1..fixed.len() as u16 {
         if collide(fixed, pairs, addresses, s, t) {
@@ -84,7 +85,8 @@ pub fn first_collision(
 ) -> Option<(u16, u16)>
     requires within { AreWithin fixed.now pairs.now }
     requires forced { addresses.now ≡ all_forced fixed.now pairs.now }
-    ensures { MatchOption result (NeverTwo (collide fixed.now pairs.now) (length fixed.now)) (λ x. IsFirstTwo (collide fixed.now pairs.now) (length fixed.now) x.0 x.1) }
+    ensures { MatchOption result (NeverTwo (collide fixed.now pairs.now) (length fixed.now))
+        (λ x. IsFirstTwo (collide fixed.now pairs.now) (length fixed.now) x.0 x.1) }
 {
     if are_apart(addresses) && !has_split(fixed, pairs) {
         return None;

@@ -74,7 +74,8 @@ fn number_at(bytes: &[u8], k: usize) -> u64
 }
 
 fn decode(machine: Machine, word: u64) -> Option<Placed>
-    ensures { MatchOption result (is_canonical machine word ≡ false) (λ p. IsTrue (is_canonical machine word) × IsTrue (is_valid machine p) × (word_of machine p ≡ word)) }
+    ensures { MatchOption result (is_canonical machine word ≡ false)
+        (λ p. IsTrue (is_canonical machine word) × IsTrue (is_valid machine p) × (word_of machine p ≡ word)) }
 {
     word_law(machine);
     match machine {
