@@ -26,7 +26,7 @@ module _ {M State : Type 0} (state : M → State) (m : Meaning State) where
     Whole : (l : Loaded) (last : BoardView M) (cycles : List Cycle) (end : End) (rows : List ℕ) →
         RunsThrough state m bound micro l program cycles last (Some end) old new → AreRowsUpTo program.image (length program.image.text) rows →
         Says old.err new.err (profile_text (profile_of_cycles rows cycles) (unwrap_or last.end end) last.counts
-            ++ report_on state m end last) (status_of end) status →
+        ++ report_on state m end last) (status_of end) status →
         IsProfiled bound micro program old new status
     -- `err` failed before the profile was put, and the run was stopped there: `err` has got nothing
     Stopped : (l : Loaded) (last : BoardView M) (cycles : List Cycle) → RunsThrough state m bound micro l program cycles last None old new →

@@ -43,7 +43,7 @@ module _ {M State : Type 0} (state : M → State) (m : Meaning State) where
     Left : (l : Loaded) (first : SessionView M) (lines : List (List ℕ)) (last : Place (DebuggingView M)) →
         IsStart bound micro l program first → Gone (debugging state m) lines (place (debugging_view first input) old) last →
         IfSome old.console.left (λ bytes.
-            IsReadOut (is_quit program.map.stack_end) most_lines bytes lines new.console.left) →
+        IsReadOut (is_quit program.map.stack_end) most_lines bytes lines new.console.left) →
         new.console.faults ≡ old.console.faults →
         TellsOnErr (report_in last.session.session) exits.done last.seen new status → IsDebugged bound micro program input old new status
     -- the console failed: so it was reported behind the whole lines before that

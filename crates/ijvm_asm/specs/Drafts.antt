@@ -20,8 +20,15 @@ pub record DraftView : Type 0 where
 
 -- a unit with these parameters, before its first line
 abbrev pub begun : Option (List ℕ) → List (List ℕ) → DraftView
-begun name parameters = record { name = name; names = parameters; parameters = length parameters; labels = [];
-    label_positions = []; lines = []; pending = false }
+begun name parameters = record {
+  name = name;
+  names = parameters;
+  parameters = length parameters;
+  labels = [];
+  label_positions = [];
+  lines = [];
+  pending = false;
+}
 
 abbrev pub is_memory : AsmError → Bool
 is_memory errors.OutOfMemory = true

@@ -72,7 +72,7 @@ abbrev pub lines_from : List (List ℕ) → List (List ℕ) → DraftView → Li
 lines_from constants methods u done [] = Some done
 lines_from constants methods u done (d ∷ ds) =
     option_and_then (λ o. lines_from constants methods u (done ++ (record { line = d.line; operation = o }) ∷ []) ds)
-        (operation_of constants methods u d.instruction)
+    (operation_of constants methods u d.instruction)
 
 abbrev pub unit_with : DraftView → List CodeLine → UnitView
 unit_with u lines =

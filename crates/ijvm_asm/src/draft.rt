@@ -46,8 +46,15 @@ impl Model for Draft {
 
     ghost Value = { DraftView };
 
-    ghost view = { λ d. record { name = d.name; names = d.names; parameters = d.parameters; labels = d.labels;
-        label_positions = d.label_positions.items; lines = d.lines.items; pending = d.pending } };
+    ghost view = { λ d. record {
+      name = d.name;
+      names = d.names;
+      parameters = d.parameters;
+      labels = d.labels;
+      label_positions = d.label_positions.items;
+      lines = d.lines.items;
+      pending = d.pending;
+    } };
 
     ghost invariant = { λ d. length d.names ≤ most_names };
 }

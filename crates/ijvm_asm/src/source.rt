@@ -47,9 +47,20 @@ impl Model for SourceReader {
 
     ghost Value = { Source };
 
-    ghost view = { λ r. record { place = r.place; section = r.section; inner = r.inner; may_declare = r.may_declare;
-        seen_constants = r.seen_constants; seen_main = r.seen_main; constants = r.constants; values = r.values.items;
-        methods = r.methods; unit = r.unit; main = r.main; units = r.units.items } };
+    ghost view = { λ r. record {
+      place = r.place;
+      section = r.section;
+      inner = r.inner;
+      may_declare = r.may_declare;
+      seen_constants = r.seen_constants;
+      seen_main = r.seen_main;
+      constants = r.constants;
+      values = r.values.items;
+      methods = r.methods;
+      unit = r.unit;
+      main = r.main;
+      units = r.units.items;
+    } };
 }
 
 /// The names as a list, unless one comes twice.

@@ -53,9 +53,7 @@ fn constants_of(reader: &SourceReader) -> Result<Vec<Constant>, AllocError>
 }
 
 /// The program that the lines make, or the first refusal of the whole source.
-#[tactic(auto, unfolding(crate::specs::ReadingNames::whole_program),
-    using(crate::proofs::Known::main_known, crate::proofs::Known::units_known,
-    crate::proofs::WholeSource::memory_only))]
+#[tactic(auto, unfolding(crate::specs::ReadingNames::whole_program), using(crate::proofs::Known::main_known, crate::proofs::Known::units_known, crate::proofs::WholeSource::memory_only))]
 pub(crate) fn whole_program(reader: &SourceReader) -> Result<Program, AsmError>
     requires { IsRead reader.now }
     ensures ok { IfOk result (λ p. whole_program reader.now ≡ Ok p) }

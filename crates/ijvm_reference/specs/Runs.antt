@@ -114,7 +114,7 @@ abbrev pub TurnsTo : Bool → Option (Result PlainEnd AllocError) → ℕ → Ma
     List ℕ → List ℕ → List ℕ → List ℕ → Type 0
 TurnsTo told None bound machine old_counts counts c c' held' old new untaken given untaken' given' =
     GoesOn told (program_of old machine) bound (point_at old old_counts.cycles old_counts.instructions untaken given)
-        (point_at new counts.cycles counts.instructions untaken' given') c c'
+    (point_at new counts.cycles counts.instructions untaken' given') c c'
 TurnsTo told (Some stop) bound machine old_counts counts c c' held' old new untaken given untaken' given' =
     StoppedBy told c held' stop (program_of old machine) bound (point_at old old_counts.cycles old_counts.instructions untaken given) counts new untaken' given'
 

@@ -65,8 +65,7 @@ fn step_end(effect: Effect) -> Option<StepEnd>
 }
 
 /// Does one instruction of the machine; none where it is stuck.
-#[tactic(auto, using(crate::proofs::Turned::is_computed, crate::proofs::Keeping::kept_read,
-    crate::proofs::Keeping::kept_written, crate::proofs::Keeping::kept_same))]
+#[tactic(auto, using(crate::proofs::Turned::is_computed, crate::proofs::Keeping::kept_read, crate::proofs::Keeping::kept_written, crate::proofs::Keeping::kept_same))]
 pub fn turn<S: Source, K: Sink>(
     machine: &mut PlainMachine,
     console: &mut Console,

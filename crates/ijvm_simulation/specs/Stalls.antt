@@ -62,24 +62,24 @@ module _ {S : Type 0} (m : Meaning S) (IsReady : ℕ → List ℕ → ℕ → S 
   abbrev pub StallsAddUp : Type 0
   StallsAddUp =
       (booting : ℕ) (stalls_of : ImageView → Instr → ℕ) (store : List ℕ) (o : Origin) (v : VerifiedView)
-          (input : List ℕ) (bound : ℕ) → IsShipped store → Loads v o →
+      (input : List ℕ) (bound : ℕ) → IsShipped store → Loads v o →
       BootsWithStalls m store (IsAt m IsReady entry) entry timing booting v o input →
       TakesWithStalls m store (IsAt m IsReady entry o) o.given timing stalls_of v o (λ i. Unit {0}) →
       (at : Point) (stalls : ℕ) → HasStalled booting stalls_of (program timing v) bound (first_point (program timing v) v.main_locals input) at stalls →
       (turns m store (Some bound) at.cycles
-          (reset_run m entry v.main_locals
-          (record { words = o.words; untaken = input; given = o.given }))).counts.stalls ≡ stalls
+      (reset_run m entry v.main_locals
+      (record { words = o.words; untaken = input; given = o.given }))).counts.stalls ≡ stalls
 
   -- Where the stack's end then cuts an instruction short, its cycles have stalled no more often than the whole instruction does.
   abbrev pub CutShort : Type 0
   CutShort =
       (booting : ℕ) (stalls_of : ImageView → Instr → ℕ) (store : List ℕ) (o : Origin) (v : VerifiedView)
-          (input : List ℕ) (bound : ℕ) → IsShipped store → Loads v o →
+      (input : List ℕ) (bound : ℕ) → IsShipped store → Loads v o →
       BootsWithStalls m store (IsAt m IsReady entry) entry timing booting v o input →
       TakesWithStalls m store (IsAt m IsReady entry o) o.given timing stalls_of v o (λ i. Unit {0}) →
       (at : Point) (stalls : ℕ) (i : Instr) (left : State) →
       HasStalled booting stalls_of (program timing v) bound (first_point (program timing v) v.main_locals input) at stalls →
       at.cycles < bound → instr_at v.image.text at.state.at ≡ Some i → outcome v.image v.map.stack_end at.state ≡ Limits left →
       (n : ℕ) × StoppedWithin (stalls + stalls_of v.image i)
-          (turns m store (Some bound) n (reset_run m entry v.main_locals
-          (record { words = o.words; untaken = input; given = o.given })))
+      (turns m store (Some bound) n (reset_run m entry v.main_locals
+      (record { words = o.words; untaken = input; given = o.given })))

@@ -56,8 +56,8 @@ tail_of _ = None
 abbrev pub assigned : Machine → ℕ → List Token → Option Assignment
 assigned machine dests ts = if length (take (prefix_len is_expr ts) ts) == 0 then None
     else option_map
-        (λ tail. record { dests = dests; operation = coding_of machine (take (prefix_len is_expr ts) ts) tail })
-        (tail_of (drop (prefix_len is_expr ts) ts))
+    (λ tail. record { dests = dests; operation = coding_of machine (take (prefix_len is_expr ts) ts) tail })
+    (tail_of (drop (prefix_len is_expr ts) ts))
 
 abbrev pub last : Machine → Bool → ℕ → List Token → Option Assignment
 last machine some dests ts = if some then assigned machine dests ts else None

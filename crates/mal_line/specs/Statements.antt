@@ -62,7 +62,7 @@ test_word tests.Z = words.Z
 abbrev pub IsIf : List Token → Test → List ℕ → Type 0
 IsIf ts test label =
     ts ≡ tokens.Word words.If ∷ tokens.Sign signs.Open ∷ tokens.Word (test_word test) ∷ tokens.Sign signs.Close
-        ∷ tokens.Word words.Goto ∷ tokens.Name label ∷ []
+    ∷ tokens.Word words.Goto ∷ tokens.Name label ∷ []
 
 abbrev pub IsElse : List Token → List ℕ → Type 0
 IsElse ts label = ts ≡ tokens.Word words.Else ∷ tokens.Word words.Goto ∷ tokens.Name label ∷ []

@@ -102,7 +102,7 @@ impl CachedBus {
         ensures allowed { OnOk result (read_refusal (length self.old.bus.words) at ≡ None) }
         ensures ok { IfOk result (λ value.
             IsLed (S.left source.old) (K.held sink.old) self.old.bus (S.left source.new)
-                (K.held sink.new) self.new.bus (IsRead (length self.old.bus.words) at value)) }
+            (K.held sink.new) self.new.bus (IsRead (length self.old.bus.words) at value)) }
         ensures access { IsAccess S.left S.faults K.held K.passed K.faults (λ w e. refused_by (read_refusal (length self.old.bus.words) at) ≡ Some e)
             (at == console_at) (at == console_at) source.old source.new sink.old sink.new self.old.bus self.new.bus result }
         ensures ended { self.old.bus.console.ended ≡ true → self.new.bus.console.ended ≡ true }

@@ -65,7 +65,7 @@ pub fn access<S: Source, K: Sink>(
     ensures size { length bus.new.words ≡ length bus.old.words }
     ensures refusal { (e : BusFault) →
         refused_by (first_refusal (memory_refusal (length bus.old.words) mem ports.now.mar)
-            (sample_refusal (length bus.old.words) at)) ≡ Some e → result ≡ Err e }
+        (sample_refusal (length bus.old.words) at)) ≡ Some e → result ≡ Err e }
     ensures behind { IfErr result (λ e. IsFault e → length bus.old.words ≤ ports.now.mar) }
     ensures refused { IfErr result (λ e. (IsFault e → ⊥) →
         refused_by (first_refusal (memory_refusal (length bus.old.words) mem ports.now.mar) (sample_refusal (length bus.old.words) at)) ≡ Some e) }
@@ -74,7 +74,7 @@ pub fn access<S: Source, K: Sink>(
     ensures uses { IsErrOf result BusFault.WriteFault → IsTrue (is_access mem && ports.now.mar == console_at) }
     ensures waits { LetsBytesWait (length bus.old.words) mem ports.now.mar
         (first_refusal (memory_refusal (length bus.old.words) mem ports.now.mar)
-            (sample_refusal (length bus.old.words) at)) bus.old.console.kept sink.old sink.new }
+        (sample_refusal (length bus.old.words) at)) bus.old.console.kept sink.old sink.new }
     ensures keeps { (front : List ℕ) → Holds front (K.held sink.old) → Holds front (K.held sink.new) }
     ensures asked_no_more { AsksNoMore bus.old.console.ended source.old bus.new.console.ended source.new }
     ensures tells_left { StillTells (S.left source.old) bus.old.console.ended (S.left source.new) bus.new.console.ended }

@@ -98,8 +98,8 @@ pub fn runs_stall_at_calls()
     ensures boundaries { (store : List ℕ) (o : Origin) (v : VerifiedView) (input : List ℕ) (bound : ℕ) → HasShipped Mic2 store → Loads v o →
         (at : Point) (stalls : ℕ) → HasStalled (program (timing_of Mic2) v) bound (first_point (program (timing_of Mic2) v) v.main_locals input) at stalls →
         (turns mic2_meaning store (Some bound) at.cycles
-            (reset_run mic2_meaning 0x002 v.main_locals
-            (record { words = o.words; untaken = input; given = o.given }))).counts.stalls ≡ stalls }
+        (reset_run mic2_meaning 0x002 v.main_locals
+        (record { words = o.words; untaken = input; given = o.given }))).counts.stalls ≡ stalls }
     ensures limit { (store : List ℕ) (o : Origin) (v : VerifiedView) (input : List ℕ) (bound : ℕ) → HasShipped Mic2 store → Loads v o →
         (at : Point) (stalls : ℕ) (i : Instr) (left : State) →
         HasStalled (program (timing_of Mic2) v) bound (first_point (program (timing_of Mic2) v) v.main_locals input) at stalls →

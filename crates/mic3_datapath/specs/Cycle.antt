@@ -189,7 +189,7 @@ abbrev pub refusal : ℕ → Option Issued → Pipeline → Option Refusal
 refusal stack_end to_issue p =
     let r = settled to_issue p in
     first_refusal (memory_refusal stack_end (mem_in p.result) r.mar)
-        (unit_refusal (is_jump_coming (computed_in p.result)) stack_end r.pc (taken to_issue) p.micro.unit)
+    (unit_refusal (is_jump_coming (computed_in p.result)) stack_end r.pc (taken to_issue) p.micro.unit)
 
 -- the cycle in which this issues, and the cycle of the statement at MPC
 abbrev pub cycle_with : ℕ → Option Issued → Pipeline → World → Outcome Pipeline

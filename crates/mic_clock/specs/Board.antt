@@ -106,7 +106,7 @@ module _ {M State : Type 0} (state : M → State) where
       IsTurned bound =
           NoFault board.end board'.end → IsLedTo left held board left' board'
           (λ r rest. ShowsRun left' held' board' (turn m board.store.words (bounded m bound r))
-              × ((turn m board.store.words (bounded m bound r)).world.untaken ≡ rest))
+          × ((turn m board.store.words (bounded m bound r)).world.untaken ≡ rest))
 
       -- a fault cuts the cycle
       abbrev pub IsCutByFault : Type 0
@@ -151,16 +151,16 @@ module _ {M State : Type 0} (state : M → State) where
       LegIsCutByRead =
           board.end ≡ None → board'.end ≡ Some ends.ReadFault → IsLedTo left held board left' board'
           (λ r rest. (n : ℕ) × IsLeg m board.store.words (suc n) r
-              × Leads board.store.words None board' board.buses rest n r
-              (IsCutByRead board.store.words None left' held' board'))
+          × Leads board.store.words None board' board.buses rest n r
+          (IsCutByRead board.store.words None left' held' board'))
 
       -- a failing sink cuts the turn behind them
       abbrev pub LegIsCutByWrite : Type 0
       LegIsCutByWrite =
           board.end ≡ None → board'.end ≡ Some ends.WriteFault → IsLedTo left held board left' board'
           (λ r rest. (n : ℕ) × IsLeg m board.store.words (suc n) r
-              × Leads board.store.words None board' board.buses rest n r
-              (IsCutByWrite board.store.words None left' held' board'))
+          × Leads board.store.words None board' board.buses rest n r
+          (IsCutByWrite board.store.words None left' held' board'))
 
     -- What a turn between two boards counts, also over a source that does not tell what it has left.
     module _ (board board' : BoardView M) where
@@ -175,8 +175,8 @@ module _ {M State : Type 0} (state : M → State) where
       IsCounted =
           board'.end ≡ None → (end_before m (state board.machine) board.counts ≡ None)
           × (board'.counts ≡ counts_after m board.counts
-              (m.drives (word_at m board.store.words (state board.machine)) (state board.machine)).stalled
-              (state board'.machine))
+          (m.drives (word_at m board.store.words (state board.machine)) (state board.machine)).stalled
+          (state board'.machine))
 
       -- a clocked cycle changes no memory word but the one at MAR as it is after its edge
       abbrev pub ChangesAtMar : Type 0

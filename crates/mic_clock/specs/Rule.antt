@@ -54,4 +54,4 @@ module _ {State : Type 0} (m : Meaning State) where
           (why : Refusal) → m.step (word_at m words r.state) r.state r.world ≡ Refused why → EndsAt r (end_by (fault_of why)) q × (q.counts ≡ r.counts)
       pub done : r.end ≡ None → EndsBefore (m.registers r.state).mpc r.counts None →
           (s : State) (w : World) → m.step (word_at m words r.state) r.state r.world ≡ Done s w →
-              StepsTo r (m.drives (word_at m words r.state) r.state).stalled s w q
+          StepsTo r (m.drives (word_at m words r.state) r.state).stalled s w q

@@ -45,8 +45,14 @@ impl<M: Clocked> Model for Board<M> {
 
     ghost Value = { BoardView M };
 
-    ghost view = { λ b. record { machine = b.machine; store = b.store; bus = b.bus; counts = b.counts; end = b.end;
-        buses = record { drive = b.drive; computed = b.computed } } };
+    ghost view = { λ b. record {
+      machine = b.machine;
+      store = b.store;
+      bus = b.bus;
+      counts = b.counts;
+      end = b.end;
+      buses = record { drive = b.drive; computed = b.computed };
+    } };
 
     ghost invariant = { λ b. (M.phase b.machine ≡ AtRest) × (b.store.machine ≡ M.meaning.machine) × AreCounts b.counts b.end × IsLimit b.counts b.limit };
 }

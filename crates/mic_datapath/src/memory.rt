@@ -96,9 +96,7 @@ pub fn write_alone(mar: u32, mdr: u32, bus: &mut Bus)
 }
 
 /// Stores MDR at MAR, or takes the word there.
-#[tactic(auto, unfolding(console_port::specs::World::read_refusal, console_port::specs::World::write_refusal,
-    console_port::specs::World::read_value, console_port::specs::World::untaken_after,
-    console_port::specs::World::given_after))]
+#[tactic(auto, unfolding(console_port::specs::World::read_refusal, console_port::specs::World::write_refusal, console_port::specs::World::read_value, console_port::specs::World::untaken_after, console_port::specs::World::given_after))]
 fn transfer_memory(mem: Mem, ports: &Ports, bus: &mut Bus) -> Option<u32>
     requires { is_access mem ≡ true → ports.now.mar < length bus.old.words }
     ensures clear { memory_refusal (length bus.old.words) mem ports.now.mar ≡ None }

@@ -218,7 +218,7 @@ impl<M: Clocked> Session<M> {
     fn show<E: Sink>(&self, shown: Shown, err: &mut E) -> Result<(), SinkFailed>
         ensures puts { (book : Book) → IsBookOf self.now.listing book → Puts (E.held err.old)
             (shown_text book self.now.listing.memory
-                (M.meaning.registers (M.state self.now.board.machine)) self.now.board.counts self.now.board.bus.words shown)
+            (M.meaning.registers (M.state self.now.board.machine)) self.now.board.counts self.now.board.bus.words shown)
             result (E.held err.new) }
         ensures keeps { (front : List ℕ) → Holds front (E.held err.old) → Holds front (E.held err.new) }
         ensures cause { HasCause (E.faults err.old) (E.faults err.new) result }

@@ -13,7 +13,7 @@ use Rattle.mic_rewind.proofs.Begun.{begun-length, begun-get, led-get, begun-snoc
 use Rattle.mic_rewind.proofs.Zipping.{is_back, went_back, is_on, went_on, ticked, is_ahead, went_ahead}
 
 module _ (first : Moment) (b : Buffer KeptCycle) (behind : ℕ) (words : List ℕ) (c : KeptCycle)
-  (h : IsHistory (begun_at first b) behind (moment_at first b.items behind) words) where
+    (h : IsHistory (begun_at first b) behind (moment_at first b.items behind) words) where
   found : (k : ℕ) → slice_get b.items (length b.items - k) ≡ Some c →
       slice_get (cycles_from first b.items) (length (cycles_from first b.items) - k) ≡ Some (begun (led_from first (take (length b.items - k) b.items)) c)
   found k got =
@@ -84,9 +84,9 @@ begins first cs c room false e within =
 
 -- a cycle that leads on from the newest state, and what it drops
 module _ (first : Moment) (b : Buffer KeptCycle) (words words' : List ℕ) (c : KeptCycle)
-  (h : IsHistory (begun_at first b) 0 (moment_at first b.items 0) words)
-  (f : Fits (begun (moment_at first b.items 0) c) (moment_at first b.items 0) c.after words words')
-  (first' : Moment) (e : first' ≡ begin_behind (if nat_lt (length b.items) b.capacity then None else slice_get (b.items ++ c ∷ []) 0) first) where
+    (h : IsHistory (begun_at first b) 0 (moment_at first b.items 0) words)
+    (f : Fits (begun (moment_at first b.items 0) c) (moment_at first b.items 0) c.after words words')
+    (first' : Moment) (e : first' ≡ begin_behind (if nat_lt (length b.items) b.capacity then None else slice_get (b.items ++ c ∷ []) 0) first) where
   abbrev pub kept : List KeptCycle
   kept = keep_last b.capacity (b.items ++ c ∷ [])
 

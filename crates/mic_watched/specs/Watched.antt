@@ -17,7 +17,7 @@ module _ {M State : Type 0} (state : M → State) (m : Meaning State) (bound : �
   LeadsOver cs IsHere =
       IsLedTo state left held board left' board'
       (λ r rest. (n : ℕ) × (cycles_of m board.store.words (Some bound) n r ≡ cs)
-          × Leads state m board.store.words (Some bound) board' board.buses rest n r IsHere)
+      × Leads state m board.store.words (Some bound) board' board.buses rest n r IsHere)
 
   -- The run to the second board shows these cycles: it stands there, or a fault cuts it there.
   pub record ShowsCycles (cs : List Cycle) (end : Option End) : Type 0 where

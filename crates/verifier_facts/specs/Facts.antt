@@ -28,7 +28,7 @@ IsWrongAt image a (BadLocal at k) = (at ≡ a.at) × (r : Row) × HasRow image.t
 IsWrongAt image a (UnsetLocal at k) = (at ≡ a.at) × (r : Row) × HasRow image.text a.at r × (a.unset ≡ Some k) × (r.reads ≡ Some k)
 IsWrongAt image a (TooFewArguments at have need) =
     (at ≡ a.at) × (r : Row) × HasRow image.text a.at r × (k : ℕ) × (r.flow ≡ Call k)
-        × (need_of image r.needs r.flow ≡ Some need) × (have ≡ a.depth) × (have < need)
+    × (need_of image r.needs r.flow ≡ Some need) × (have ≡ a.depth) × (have < need)
 IsWrongAt image a (Underflow at) = (at ≡ a.at) × (r : Row) × HasRow image.text a.at r × IsNoCall r.flow × (a.depth < r.needs)
 IsWrongAt image a (ReturnInMain at) = (at ≡ a.at) × (r : Row) × HasRow image.text a.at r × (a.unit ≡ None) × (r.flow ≡ Return)
 IsWrongAt image a (DepthDiffers at d e) = ⊥

@@ -53,7 +53,7 @@ IsMarked search marks group at k = (k / 64 ≡ group) × IsHeld search marks at 
 abbrev pub IsPassed : List Node → ℕ → List Mark → ℕ → ℕ → ℕ → Type 0
 IsPassed graph search marks group at k =
     (node : Node) × (slice_get graph at ≡ Some node) × (node.reads ≢ Some k)
-        × (node.stores ≢ Some k → (to : ℕ) → LeadsTo node to → IsMarked search marks group to k)
+    × (node.stores ≢ Some k → (to : ℕ) → LeadsTo node to → IsMarked search marks group to k)
 
 -- a marked local goes on with the node, which does not store it
 abbrev pub Passes : List Node → ℕ → List Mark → ℕ → ℕ → ℕ → ℕ → Type 0

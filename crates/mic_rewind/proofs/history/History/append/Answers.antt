@@ -33,7 +33,7 @@ invariant_of-self c =
     let ahead = placed_ahead h.first h.cycles h.memory.items c.take_over-written.new.memory.items cycle is fits c.begin_behind.new.first first in
     subst (λ (b : Buffer KeptCycle). IsHistory (begun_at c.begin_behind.new.first b) h.behind (moment_at c.begin_behind.new.first b.items h.behind) c.take_over-written.new.memory.items) (sym c.push_back-dropped.ensures.items)
     (subst (λ (n : ℕ). IsHistory (begun_at c.begin_behind.new.first (buffer (keep_last h.cycles.capacity (h.cycles.items ++ cycle ∷ [])) h.cycles.capacity)) n
-        (moment_at c.begin_behind.new.first (keep_last h.cycles.capacity (h.cycles.items ++ cycle ∷ [])) n) c.take_over-written.new.memory.items) (sym none) ahead)
+    (moment_at c.begin_behind.new.first (keep_last h.cycles.capacity (h.cycles.items ++ cycle ∷ [])) n) c.take_over-written.new.memory.items) (sym none) ahead)
 
 pub returns : goal.returns
 returns c =
@@ -62,7 +62,7 @@ returns c =
     c.take_over-written.ensures.words ∙ ap (λ (v : HistoryView). stored c.args.after.registers.mar c.args.word v.here.words) c.self.view_is in
     ap (λ (b : Buffer KeptCycle). view_of (begun_at c.begin_behind.new.first b) h.behind (moment_at c.begin_behind.new.first b.items h.behind) c.take_over-written.new.memory.items) c.push_back-dropped.ensures.items
     ∙ (ap (λ (n : ℕ). view_of (begun_at c.begin_behind.new.first (buffer (keep_last h.cycles.capacity (h.cycles.items ++ cycle ∷ [])) h.cycles.capacity)) n
-        (moment_at c.begin_behind.new.first (keep_last h.cycles.capacity (h.cycles.items ++ cycle ∷ [])) n) c.take_over-written.new.memory.items) none
+    (moment_at c.begin_behind.new.first (keep_last h.cycles.capacity (h.cycles.items ++ cycle ∷ [])) n) c.take_over-written.new.memory.items) none
     ∙ (ahead
     ∙ (ap (λ (v : HistoryView). appended v (record { moment = c.args.after; words = c.take_over-written.new.memory.items }))
     (ap (λ (n : ℕ). view_of b n (moment_at h.first h.cycles.items n) h.memory.items) (sym none) ∙ c.self.view_is)
