@@ -150,7 +150,7 @@ module _ {M State : Type 0} (state : M → State) (m : Meaning State) (bound ent
   clocked_to : (end : Option End) → ShowsCycles state m bound left held first left' held' last cycles end → Counted
   clocked_to None shows = led_clocked _ (shows.run tt) (λ r here. here.counts)
   clocked_to (Some ends.ReadFault) shows = led_clocked _ (shows.read refl) (λ r here. here.counts)
-  clocked_to (Some ends.WriteFault) shows = led_clocked _ (shows.write refl) (λ r here. here.counts)
+  clocked_to (Some ends.WriteFault) shows = led_clocked _ (shows.write refl) (λ r here. here.cut.counts)
   clocked_to (Some ends.Halt) shows = led_clocked _ (shows.run tt) (λ r here. here.counts)
   clocked_to (Some ends.Err) shows = led_clocked _ (shows.run tt) (λ r here. here.counts)
   clocked_to (Some ends.Bound) shows = led_clocked _ (shows.run tt) (λ r here. here.counts)

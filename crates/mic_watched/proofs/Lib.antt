@@ -3,3 +3,4 @@ pub mod Shown
 pub mod Saying
 pub mod InTime
 pub mod Causes
+pub mod OneTurn

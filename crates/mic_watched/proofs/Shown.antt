@@ -1,5 +1,5 @@
 -- The cycles between boards of a run.
-use Rattle.std.proofs.Common.{◌≡◌, ◌≢◌, ◌≤◌, inr, ℕ, zero, suc, ◌+◌, List, [], ◌∷◌, ◌++◌, Bool, Option, Some, None, IsSome, refl, sym, ◌∙◌, ap, subst, take, drop, append_assoc}
+use Rattle.std.proofs.Common.{◌≡◌, ◌≢◌, ◌≤◌, inl, inr, ℕ, zero, suc, ◌+◌, List, [], ◌∷◌, ◌++◌, Bool, Option, Some, None, IsSome, refl, sym, ◌∙◌, ap, subst, take, drop, append_assoc}
 use Rattle.std.proofs.Math.ListN.{take-append-drop}
 use Rattle.std.specs.Prelude.{IfSome}
 use Rattle.console_port.specs.Console.{IsLost, Given, LosesLast, Untaken}
@@ -9,10 +9,10 @@ use Rattle.mic_clock.specs.declared.end.End.TheVariants as ends
 use Rattle.mic_clock.specs.Meaning.{Meaning}
 use Rattle.mic_clock.specs.View.{BoardView}
 use Rattle.mic_clock.specs.Run.{MicroRun, Buses, last_cycles, word_at, turn, turns, buses, bounded, buses_of}
-use Rattle.mic_clock.specs.Board.{ShowsRun, ShowsAs, IsLedTo, IsCutByRead, IsCutByWrite, Leads, NoFault, IsTurned, RunIsCutByRead, RunIsCutByWrite, EndsUncounted, IsCounted, ShowsBuses}
+use Rattle.mic_clock.specs.Board.{ShowsRun, ShowsAs, IsLedTo, IsCutByRead, Leads, NoFault, IsTurned, RunIsCutByRead, EndsUncounted, IsCounted, ShowsBuses}
 use Rattle.mic_watched.specs.declared.cycle.Cycle.{Cycle}
 use Rattle.mic_watched.specs.Cycles.{shown_where, cycle_between, shown, cycles_of, boundary_in, boundary_of, cycle_on, shown_on}
-use Rattle.mic_watched.specs.Watched.{LeadsOver, ShowsCycles}
+use Rattle.mic_watched.specs.Watched.{IsCutAt, LeadsOver, ShowsCycles, TurnIsCut}
 use Rattle.mic_watched.proofs.Turns.{turns-plus, buses-plus, cycles-plus, cycles-none, boundary-counted}
 
 where_same : (end : Option End) (c d : Cycle) → (end ≡ None → c ≡ d) → shown_where end c ≡ shown_where end d
@@ -94,7 +94,7 @@ module _ {M State : Type 0} (state : M → State) (m : Meaning State) (bound : �
         IsCounted state m board board' → ShowsBuses state m board board' → EndsUncounted board board' →
         IsTurned state m left held board left' held' board' (Some bound) →
         RunIsCutByRead state m left held board left' held' board' (Some bound) →
-        RunIsCutByWrite state m left held board left' held' board' (Some bound) →
+        TurnIsCut state m bound left held board left' held' board' →
         ShowsCycles state m bound left held board left' held' board' (shown_on state m mpc board') board'.end
     one-turn mpc is ordered not_ended counted seen still turned read write =
         let words = board.store.words in
@@ -105,9 +105,9 @@ module _ {M State : Type 0} (state : M → State) (m : Meaning State) (bound : �
           read = λ p. let H = IsCutByRead state m words (Some bound) left' held' board' in
               subst (λ (cs : List Cycle). LeadsOver state m bound left held board left' held' board' cs H) (sym (none ends.ReadFault p))
               (still_over H (λ r h. h.counts) (same ends.ReadFault p) (read not_ended p));
-          write = λ p. let H = IsCutByWrite state m words (Some bound) left' held' board' in
+          write = λ p. let H = IsCutAt state m words bound left' held' board' in
               subst (λ (cs : List Cycle). LeadsOver state m bound left held board left' held' board' cs H) (sym (none ends.WriteFault p))
-              (still_over H (λ r h. h.counts) (same ends.WriteFault p) (write not_ended p));
+              (still_over H (λ r h. h.cut.counts) (same ends.WriteFault p) (write p));
         }
 
 module _ {M State : Type 0} (state : M → State) (m : Meaning State) (bound : ℕ) (left0 held0 : Option (List ℕ)) (board0 : BoardView M)
@@ -150,11 +150,11 @@ module _ {M State : Type 0} (state : M → State) (m : Meaning State) (bound : �
       record {
         run = λ q. over_then (λ (ws : List ℕ) (r : MicroRun State). ShowsRun state left' held' board' r) cs ds program led (next.run q);
         read = λ p. over_then (λ (ws : List ℕ) (r : MicroRun State). IsCutByRead state m ws (Some bound) left' held' board' r) cs ds program led (next.read p);
-        write = λ p. over_then (λ (ws : List ℕ) (r : MicroRun State). IsCutByWrite state m ws (Some bound) left' held' board' r) cs ds program led (next.write p);
+        write = λ p. over_then (λ (ws : List ℕ) (r : MicroRun State). IsCutAt state m ws bound left' held' board' r) cs ds program led (next.write p);
       }
 
 -- a sink that lost the end of what was kept has a front of what was given
-front_lost : (held held' : Option (List ℕ)) (kept kept' given : List ℕ) → IsLost held kept held' kept' → Given held kept given →
+pub front_lost : (held held' : Option (List ℕ)) (kept kept' given : List ℕ) → IsLost held kept held' kept' → Given held kept given →
     IfSome held' (λ h. (more : List ℕ) × (given ≡ h ++ more))
 front_lost None held' kept kept' given lost told = subst (λ o. IfSome o (λ h. (more : List ℕ) × (given ≡ h ++ more))) (sym lost.prefix.1) tt
 front_lost (Some h) held' kept kept' given lost told =
@@ -204,15 +204,18 @@ module _ {M State : Type 0} (state : M → State) (m : Meaning State) (bound : �
       record {
         run = λ q. absurd q;
         read = λ p. cc;
-        write = λ p. over_flush (ShowsRun state left held board) (IsCutByWrite state m board0.store.words (Some bound) left held' board')
+        write = λ p. over_flush (ShowsRun state left held board) (IsCutAt state m board0.store.words bound left held' board')
             (λ r s. record {
-              its_state = s.its_state ∙ sym (its State (λ b. state b.machine));
-              memory = s.world.words ∙ sym memory;
-              untaken = subst (λ (b : Bool). Untaken left b r.world.untaken) (sym input) s.world.untaken;
-              counts = s.counts ∙ sym (its Counts (λ b. b.counts));
-              kept = lost.emptied;
-              front = front_lost held held' board.bus.console.kept board'.bus.console.kept r.world.given lost s.world.given;
-              next = inr (subst IsSome (sym s.its_end) over, last_lost held held' board.bus.console.kept board'.bus.console.kept r.world.given some lost s.world.given);
+              cut = record {
+                its_state = s.its_state ∙ sym (its State (λ b. state b.machine));
+                memory = s.world.words ∙ sym memory;
+                untaken = subst (λ (b : Bool). Untaken left b r.world.untaken) (sym input) s.world.untaken;
+                counts = s.counts ∙ sym (its Counts (λ b. b.counts));
+                kept = lost.emptied;
+                front = front_lost held held' board.bus.console.kept board'.bus.console.kept r.world.given lost s.world.given;
+                next = inr (subst IsSome (sym s.its_end) over, last_lost held held' board.bus.console.kept board'.bus.console.kept r.world.given some lost s.world.given);
+              };
+              its_end = inl (s.its_end ∙ sym (its (Option End) (λ b. b.end)));
             }) (first.run plain);
       }
 

@@ -10,6 +10,7 @@ ghost use Rattle.mic_watched.specs.Cycles.{shown_on};
 ghost use Rattle.mic_watched.specs.Watched.{IsWatched, Saw, end_in, done};
 
 use crate::cycle::{cycle_of, reached_boundary};
+use crate::turning::turn_once;
 use crate::watcher::Watcher;
 use console_port::BusFault;
 use mic_base::{Sink, SinkFailed, Source};
@@ -67,7 +68,7 @@ fn watch_turns<M: Clocked, W: Watcher, S: Source, K: Sink, E: Sink>(
 {
     'turns: while board.ended().is_none() {
         let mpc = board.mpc();
-        board.turn(bound, source, sink);
+        turn_once(board, bound, source, sink);
         match show(board, mpc, watcher, err) {
             Ok(()) => {}
             Err(failed) => return Err(failed),

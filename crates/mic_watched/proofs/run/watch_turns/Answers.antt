@@ -40,13 +40,13 @@ turns-preserved g c =
     let m = g.M.Clocked.meaning in
     let first = c.args.board.now in
     let old = c.turns.board in
-    let new = c.turn.new.self in
+    let new = c.turn_once.new.board in
     let left0 = g.S.Source.left c.args.source.now in
     let held0 = g.K.Sink.held c.args.sink.now in
     let left = g.S.Source.left c.turns.source in
     let held = g.K.Sink.held c.turns.sink in
-    let left' = g.S.Source.left c.turn.new.source in
-    let held' = g.K.Sink.held c.turn.new.sink in
+    let left' = g.S.Source.left c.turn_once.new.source in
+    let held' = g.K.Sink.held c.turn_once.new.sink in
     let inv = c.turns.invariant in
     let not_ended : old.end ≡ None = search rules in
     let program : old.store.words ≡ first.store.words = ap (λ (s : ControlStore). s.words) inv.store in
@@ -58,18 +58,18 @@ turns-preserved g c =
         cycles = cs ++ ds;
         run = shows-then state m c.args.bound left0 held0 first left held old left' held' new cs ds program not_ended inv.watched.run
             (one-turn state m c.args.bound left held old left' held' new c.mpc-mpc.result c.mpc-mpc.ensures.value inv.in_time.ordered not_ended
-            c.turn.ensures.clocked c.turn.ensures.buses c.turn.ensures.still c.turn.ensures.turn c.turn.ensures.read c.turn.ensures.write);
+            c.turn_once.ensures.clocked c.turn_once.ensures.buses c.turn_once.ensures.still c.turn_once.ensures.turn c.turn_once.ensures.read c.turn_once.ensures.write);
         saw = saw-then g.W.Watcher.keeps g.W.Watcher.Prints (g.W.Watcher.kept c.args.watcher.now) (g.W.Watcher.kept c.turns.watcher) (g.W.Watcher.kept c.show.new.watcher)
             (g.E.Sink.held c.args.err.now) (g.E.Sink.held c.turns.err) (g.E.Sink.held c.show.new.err) cs ds (Ok (tt {0})) inv.watched.saw c.in-Ok.ensures.saw;
       };
-      kept = λ e f p. c.turn.ensures.kept e not_ended f p;
-      keeps = λ front h. c.turn.ensures.keeps front (inv.keeps front h);
-      flushed = λ q h. c.turn.ensures.flushed q (inv.flushed (λ w. cc) h);
-      cause = HasEndCause-step _ _ _ _ _ _ old.end new.end not_ended inv.cause c.turn.ensures.cause;
+      kept = λ e f p. c.turn_once.ensures.kept e f p;
+      keeps = λ front h. c.turn_once.ensures.keeps front (inv.keeps front h);
+      flushed = λ q h. c.turn_once.ensures.flushed q (inv.flushed (λ w. cc) h);
+      cause = HasEndCause-step _ _ _ _ _ _ old.end new.end not_ended inv.cause c.turn_once.ensures.cause;
       said = cause-then (g.E.Sink.faults c.args.err.now) (g.E.Sink.faults c.turns.err) (g.E.Sink.faults c.show.new.err) tt (Ok (tt {0})) inv.said c.in-Ok.ensures.cause;
-      store = c.turn.ensures.store ∙ inv.store;
+      store = c.turn_once.ensures.store ∙ inv.store;
       in_time = InTime-step m top c.args.bound old.counts new.counts (m.is_boundary (state old.machine)) (m.drives (word_at m old.store.words (state old.machine)) (state old.machine)).stalled (state new.machine) old.end new.end not_ended (omega arith) inv.in_time
-          c.turn.ensures.still c.turn.ensures.room (λ q. (c.turn.ensures.clocked q).1) c.turn.ensures.below;
+          c.turn_once.ensures.still c.turn_once.ensures.room (λ q. (c.turn_once.ensures.clocked q).1) c.turn_once.ensures.below;
     }
 
 pub returns-in-Err-clause-watched : goal.returns-in-Err-clause-watched
@@ -78,13 +78,13 @@ returns-in-Err-clause-watched g c =
     let m = g.M.Clocked.meaning in
     let first = c.args.board.now in
     let old = c.turns.board in
-    let new = c.turn.new.self in
+    let new = c.turn_once.new.board in
     let left0 = g.S.Source.left c.args.source.now in
     let held0 = g.K.Sink.held c.args.sink.now in
     let left = g.S.Source.left c.turns.source in
     let held = g.K.Sink.held c.turns.sink in
-    let left' = g.S.Source.left c.turn.new.source in
-    let held' = g.K.Sink.held c.turn.new.sink in
+    let left' = g.S.Source.left c.turn_once.new.source in
+    let held' = g.K.Sink.held c.turn_once.new.sink in
     let inv = c.turns.invariant in
     let not_ended : old.end ≡ None = search rules in
     let program : old.store.words ≡ first.store.words = ap (λ (s : ControlStore). s.words) inv.store in
@@ -94,7 +94,7 @@ returns-in-Err-clause-watched g c =
       cycles = cs ++ ds;
       run = shows-then state m c.args.bound left0 held0 first left held old left' held' new cs ds program not_ended inv.watched.run
           (one-turn state m c.args.bound left held old left' held' new c.mpc-mpc.result c.mpc-mpc.ensures.value inv.in_time.ordered not_ended
-          c.turn.ensures.clocked c.turn.ensures.buses c.turn.ensures.still c.turn.ensures.turn c.turn.ensures.read c.turn.ensures.write);
+          c.turn_once.ensures.clocked c.turn_once.ensures.buses c.turn_once.ensures.still c.turn_once.ensures.turn c.turn_once.ensures.read c.turn_once.ensures.write);
       saw = saw-then g.W.Watcher.keeps g.W.Watcher.Prints (g.W.Watcher.kept c.args.watcher.now) (g.W.Watcher.kept c.turns.watcher) (g.W.Watcher.kept c.show.new.watcher)
           (g.E.Sink.held c.args.err.now) (g.E.Sink.held c.turns.err) (g.E.Sink.held c.show.new.err) cs ds (Err c.in-Err.failed) inv.watched.saw c.in-Err.ensures.saw;
     }
