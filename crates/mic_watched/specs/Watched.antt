@@ -17,12 +17,14 @@ is_completed (Some e) = completes e
 
 -- A failing sink cut the run. The board has the end that the run came to, and only its last bytes were lost; or the write fault itself, and then the
 -- run came to no end that completes an instruction.
-pub record IsCutAt {M State : Type 0} (state : M → State) (m : Meaning State) (words : List ℕ) (bound : ℕ) (left held : Option (List ℕ)) (board : BoardView M) (r : MicroRun State) : Type 0 where
+pub record IsCutAt {M State : Type 0} (state : M → State) (m : Meaning State) (words : List ℕ) (bound : ℕ)
+    (left held : Option (List ℕ)) (board : BoardView M) (r : MicroRun State) : Type 0 where
   pub cut : IsCutByWrite state m words (Some bound) left held board r
   pub its_end : (r.end ≡ board.end) ⊎ ((board.end ≡ Some ends.WriteFault) × (is_completed r.end ≡ false))
 
 -- A turn between two boards, in which a failing sink cut the run.
-abbrev pub TurnIsCut : {M State : Type 0} → (M → State) → Meaning State → ℕ → Option (List ℕ) → Option (List ℕ) → BoardView M → Option (List ℕ) → Option (List ℕ) → BoardView M → Type 0
+abbrev pub TurnIsCut : {M State : Type 0} → (M → State) → Meaning State → ℕ → Option (List ℕ) → Option (List ℕ) →
+    BoardView M → Option (List ℕ) → Option (List ℕ) → BoardView M → Type 0
 TurnIsCut state m bound left held board left' held' board' =
     board'.end ≡ Some ends.WriteFault → IsLedTo state left held board left' board'
     (λ r rest. (n : ℕ) × Leads state m board.store.words (Some bound) board' board.buses rest n r (IsCutAt state m board.store.words bound left' held' board'))

@@ -22,7 +22,8 @@ pub(crate) fn turn_once<M: Clocked, S: Source, K: Sink>(
     requires cycles { board.old.counts.cycles ≤ 2 ^ 62 + 4096 }
     requires not_ended { board.old.end ≡ None }
     ensures turn { IsTurned M.state M.meaning (S.left source.old) (K.held sink.old) board.old (S.left source.new) (K.held sink.new) board.new (Some bound) }
-    ensures read { RunIsCutByRead M.state M.meaning (S.left source.old) (K.held sink.old) board.old (S.left source.new) (K.held sink.new) board.new (Some bound) }
+    ensures read { RunIsCutByRead M.state M.meaning (S.left source.old) (K.held sink.old) board.old
+        (S.left source.new) (K.held sink.new) board.new (Some bound) }
     ensures write { TurnIsCut M.state M.meaning bound (S.left source.old) (K.held sink.old) board.old (S.left source.new) (K.held sink.new) board.new }
     ensures kept { (e : BusFault) → IsFault e → board.new.end ≡ Some (end_by e) → board.new.bus.console.kept ≡ [] }
     ensures store { board.new.store ≡ board.old.store }
