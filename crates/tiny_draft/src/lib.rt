@@ -6,4 +6,6 @@ mod token;
 mod tree;
 
 pub use token::{Kind, Sign, Token};
-pub use tree::{Block, Comparison, Cond, Expr, Function, Statement, Step, Term, Word};
+pub use tree::{
+    Block, Branches, Call, Comparison, Cond, Expr, Function, Statement, Step, Sum, Term, Word,
+};

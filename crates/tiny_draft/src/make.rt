@@ -1,11 +1,13 @@
 //! Trees from their parts.
 
-ghost use Rattle.std.specs.Prelude.{◌≡◌, IfOk, map, option_map};
+ghost use Rattle.std.specs.Prelude.{◌≡◌, ◌∷◌, [], IfErr, IfOk, map, option_map};
 ghost use Rattle.tiny_draft.specs.Tree as tree;
 ghost use Rattle.tiny_draft.specs.Tree.{arguments_of, else_of, statements_of, steps_of};
 ghost use Rattle.tiny_draft.specs.View.{block_tree, cond_tree, expr_tree, function_tree, statement_tree, step_tree, term_tree};
 
-use crate::tree::{Block, Comparison, Cond, Expr, Function, Statement, Step, Term, Word};
+use crate::tree::{
+    Block, Branches, Call, Comparison, Cond, Expr, Function, Statement, Step, Sum, Term, Word,
+};
 use std::alloc::{AllocError, Global};
 use tiny_tree::{Items, Operator};
 
@@ -33,14 +35,15 @@ impl Term {
         }
     }
 
-    pub fn call(word: Word, arguments: Items<Expr>) -> Term
-        ensures { term_tree result ≡ tree.Called word (arguments_of (map expr_tree arguments)) }
+    pub fn call(alloc: Global, word: Word, arguments: Items<Expr>) -> Result<Term, AllocError>
+        ensures { IfOk result (λ t. term_tree t ≡ tree.Called word (arguments_of (map expr_tree arguments))) }
     {
-        Term::Call {
+        let call = Call {
             name: word.name,
             line: word.line,
             arguments,
-        }
+        };
+        Ok(Term::Call(Box::new(alloc, call)?))
     }
 
     pub fn get() -> Term
@@ -65,10 +68,13 @@ impl Step {
 }
 
 impl Expr {
-    pub fn new(first: Term, rest: Items<Step>) -> Expr
-        ensures { expr_tree result ≡ tree.Sum (term_tree first) (steps_of (map step_tree rest)) }
+    pub fn new(alloc: Global, first: Term, rest: Items<Step>) -> Result<Expr, AllocError>
+        ensures { IfOk result (λ e. expr_tree e ≡ tree.Sum (term_tree first) (steps_of (map step_tree rest))) }
     {
-        Expr { first, rest }
+        if rest.items().is_empty() {
+            return Ok(Expr::Alone(first));
+        }
+        Ok(Expr::Sum(Box::new(alloc, Sum { first, rest })?))
     }
 }
 
@@ -81,6 +87,21 @@ impl Cond {
             left,
             right,
         }
+    }
+}
+
+/// The one argument, or the arguments as they are.
+fn only(arguments: Items<Expr>) -> Result<Expr, Items<Expr>>
+    ensures one { IfOk result (λ e. arguments ≡ e ∷ []) }
+    ensures others { IfErr result (λ es. es ≡ arguments) }
+{
+    let mut given = arguments.into_vec();
+    if given.len() != 1 {
+        return Err(Items::from_vec(given));
+    }
+    match given.pop() {
+        Some(argument) => Ok(argument),
+        None => Err(Items::from_vec(given)),
     }
 }
 
@@ -108,10 +129,17 @@ impl Statement {
     pub fn call(word: Word, arguments: Items<Expr>) -> Statement
         ensures { statement_tree result ≡ tree.Calls word (arguments_of (map expr_tree arguments)) }
     {
-        Statement::Call {
-            name: word.name,
-            line: word.line,
-            arguments,
+        match only(arguments) {
+            Ok(argument) => Statement::CallWithOne {
+                name: word.name,
+                line: word.line,
+                argument,
+            },
+            Err(arguments) => Statement::Call {
+                name: word.name,
+                line: word.line,
+                arguments,
+            },
         }
     }
 
@@ -126,11 +154,11 @@ impl Statement {
             statement_tree s ≡ tree.If line (cond_tree cond) (block_tree taken) (else_of (option_map block_tree otherwise))) }
     {
         let cond = Box::new(alloc, cond)?;
+        let branches = Box::new(alloc, Branches { taken, otherwise })?;
         Ok(Statement::If {
             line,
             cond,
-            taken,
-            otherwise,
+            branches,
         })
     }
 

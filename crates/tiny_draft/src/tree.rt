@@ -13,17 +13,19 @@ pub struct Word {
 #[derive(Drop)]
 pub enum Term {
     Number(u32),
-    Variable {
-        name: u32,
-        line: u32,
-    },
-    Call {
-        name: u32,
-        line: u32,
-        arguments: Items<Expr>,
-    },
+    Variable { name: u32, line: u32 },
+    Call(Box<Call>),
     Get,
     Group(Box<Expr>),
+}
+
+/// A call that is a term.
+#[cycle(expr)]
+#[derive(Drop)]
+pub struct Call {
+    pub name: u32,
+    pub line: u32,
+    pub arguments: Items<Expr>,
 }
 
 #[cycle(expr)]
@@ -33,9 +35,18 @@ pub struct Step {
     pub term: Term,
 }
 
+/// Most expressions are one term, and they are small.
 #[cycle(expr)]
 #[derive(Drop)]
-pub struct Expr {
+pub enum Expr {
+    Alone(Term),
+    Sum(Box<Sum>),
+}
+
+/// An expression with operators.
+#[cycle(expr)]
+#[derive(Drop)]
+pub struct Sum {
     pub first: Term,
     pub rest: Items<Step>,
 }
@@ -60,7 +71,15 @@ pub struct Block {
     pub statements: Items<Statement>,
 }
 
-/// Conditions are boxed, so that a statement is small.
+/// The blocks of an `if`.
+#[cycle(block)]
+#[derive(Drop)]
+pub struct Branches {
+    pub taken: Block,
+    pub otherwise: Option<Block>,
+}
+
+/// The parts of an `if` are boxed, so that a statement is small.
 #[cycle(block)]
 #[derive(Drop)]
 pub enum Statement {
@@ -79,11 +98,16 @@ pub enum Statement {
         line: u32,
         arguments: Items<Expr>,
     },
+    /// A call with one argument, which takes no list.
+    CallWithOne {
+        name: u32,
+        line: u32,
+        argument: Expr,
+    },
     If {
         line: u32,
         cond: Box<Cond>,
-        taken: Block,
-        otherwise: Option<Block>,
+        branches: Box<Branches>,
     },
     While {
         line: u32,

@@ -32,7 +32,10 @@ fn term(alloc: Global, levels: u32, tokens: &[Token]) -> Result<(Term, &[Token])
     }
     let (word, after_name) = name(tokens)?;
     match call(alloc, levels, after_name)? {
-        Some((arguments, last)) => Ok((Term::call(word, arguments), last)),
+        Some((arguments, last)) => {
+            let called = Term::call(alloc, word, arguments)?;
+            Ok((called, last))
+        }
         None => Ok((Term::variable(word), after_name)),
     }
 }
@@ -120,7 +123,8 @@ fn expr(alloc: Global, levels: u32, tokens: &[Token]) -> Result<(Expr, &[Token])
         steps.push(Step::new(operator, term))?;
         rest = after;
     }
-    Ok((Expr::new(first, steps), rest))
+    let whole = Expr::new(alloc, first, steps)?;
+    Ok((whole, rest))
 }
 
 /// The condition at the front.

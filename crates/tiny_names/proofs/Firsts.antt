@@ -4,10 +4,10 @@ use Rattle.std.specs.Prelude.{Option, Some, None}
 use Rattle.tiny_draft.specs.declared.tree.Expr.{Expr}
 use Rattle.tiny_draft.specs.declared.tree.Step.{Step, out-Step}
 use Rattle.tiny_draft.specs.Tree.{arguments_of, steps_of}
-use Rattle.tiny_draft.specs.declared.tree.Term.TheFolds.{fold_out-Step}
+use Rattle.tiny_draft.specs.declared.tree.Expr.TheFolds.{fold_out-Step}
 use Rattle.tiny_tree.specs.declared.tree.Operator.{Operator}
 use Rattle.tiny_draft.specs.Tree as tree
-use Rattle.tiny_draft.specs.View.{expr_level, expr_tree, step_level, step_tree, term_level, term_tree}
+use Rattle.tiny_draft.specs.View.{call_level, expr_level, expr_tree, step_level, step_tree, sum_level, term_level, term_tree}
 use Rattle.tiny_names.specs.declared.fault.Fault.{Fault}
 use Rattle.tiny_names.specs.declared.functions.Signature.{Signature}
 use Rattle.tiny_names.specs.Faults.{count, first, step_faults, term_faults}
@@ -28,7 +28,7 @@ pub drop_item : {A : Type 0} (xs : List A) (i : ℕ) (x : A) → i < length xs �
 drop_item xs i x lt is = rw add-one (drop-cons xs i x lt ∙ ap (λ y. y ∷ drop (suc i) xs) (sym is))
 
 step_tree_out : (s : Step) → step_tree s ≡ ((out-Step s).operator, term_tree (out-Step s).term)
-step_tree_out s = fold_out-Step tree.Term tree.Expr (Operator × tree.Term) term_level expr_level step_level s
+step_tree_out s = fold_out-Step tree.Expr tree.Term tree.Term (Operator × tree.Term) tree.Expr expr_level term_level call_level step_level sum_level s
 
 pub steps_at : (known : ℕ → Option Signature) (seen : List ℕ) (ss : List Step) (i : ℕ) (s : Step) → i < length ss → s ≡ get_or ss i s
     → step_faults known seen (steps_of (map step_tree (drop i ss)))

@@ -7,7 +7,7 @@ use Rattle.tiny_draft.specs.declared.tree.Block.{Block, out-Block}
 use Rattle.tiny_draft.specs.declared.tree.Statement.{Statement}
 use Rattle.tiny_draft.specs.declared.tree.Statement.TheFolds.{fold_out-Block}
 use Rattle.tiny_draft.specs.Tree as draft
-use Rattle.tiny_draft.specs.View.{block_level, block_tree, statement_level, statement_tree}
+use Rattle.tiny_draft.specs.View.{block_level, block_tree, branches_level, statement_level, statement_tree}
 use Rattle.tiny_tree.specs.Tree as tree
 use Rattle.tiny_names.specs.declared.functions.Signature.{Signature}
 use Rattle.tiny_names.specs.Resolved.{arguments, expr, statement, statements, steps, term}
@@ -29,7 +29,7 @@ module _ (known : ℕ → Option Signature) (names : List ℕ) where
   statements_of_map (s ∷ ss) = ap (tree.statement (statement known names s)) (statements_of_map ss)
 
 block_out : (b : Block) → block_tree b ≡ draft.statements_of (map statement_tree (out-Block b).statements)
-block_out b = fold_out-Block draft.Statement draft.Statements statement_level block_level b
+block_out b = fold_out-Block draft.Statement draft.Statements (draft.Statements × draft.Else) statement_level block_level branches_level b
 
 module _ (known : ℕ → Option Signature) (names : List ℕ) where
   pub block_resolved : (b : Block) (items : List Statement) (i : ℕ) (found : List tree.Statement) → items ≡ (out-Block b).statements → length items ≤ i

@@ -2,13 +2,13 @@
 
 ghost use Rattle.std.specs.Prelude.{◌≡◌, ◌++◌, map};
 ghost use Rattle.tiny_draft.specs.Tree.{arguments_of};
-ghost use Rattle.tiny_draft.specs.View.{at, cond_tree, expr_tree, term_tree};
+ghost use Rattle.tiny_draft.specs.View.{at, cond_tree, expr_tree, sum_tree, term_tree};
 ghost use Rattle.tiny_names.specs.Faults.{argument_faults, call_faults, cond_faults, count, expr_faults, first, term_faults, use_faults};
 ghost use Rattle.tiny_names.specs.Names.{has, lookup};
 
 use crate::fault::Fault;
 use crate::functions::{Signature, called};
-use tiny_draft::{Cond, Expr, Term};
+use tiny_draft::{Cond, Expr, Sum, Term};
 
 /// The number of the name `main`.
 pub(crate) const MAIN: u32 = 0;
@@ -59,13 +59,9 @@ fn term_fault(functions: &[Option<Signature>], seen: &[u32], term: &Term) -> Opt
     match term {
         Term::Number(_) | Term::Get => None,
         Term::Variable { name, line } => use_fault(seen, *name, *line),
-        Term::Call {
-            name,
-            line,
-            arguments,
-        } => {
-            let items = arguments.items();
-            if let Some(fault) = name_fault(functions, *name, *line, items) {
+        Term::Call(call) => {
+            let items = call.arguments.items();
+            if let Some(fault) = name_fault(functions, call.name, call.line, items) {
                 return Some(fault);
             }
             argument_fault(functions, seen, items)
@@ -82,10 +78,20 @@ pub(crate) fn expr_fault(
 ) -> Option<Fault>
     ensures { result ≡ first (expr_faults (lookup functions.now) seen.now (expr_tree expr.now)) }
 {
-    if let Some(fault) = term_fault(functions, seen, &expr.first) {
+    match expr {
+        Expr::Alone(term) => term_fault(functions, seen, term),
+        Expr::Sum(sum) => sum_fault(functions, seen, sum),
+    }
+}
+
+#[cycle(faults)]
+fn sum_fault(functions: &[Option<Signature>], seen: &[u32], sum: &Sum) -> Option<Fault>
+    ensures { result ≡ first (expr_faults (lookup functions.now) seen.now (sum_tree sum.now)) }
+{
+    if let Some(fault) = term_fault(functions, seen, &sum.first) {
         return Some(fault);
     }
-    for step in expr.rest.items() {
+    for step in sum.rest.items() {
         if let Some(fault) = term_fault(functions, seen, &step.term) {
             return Some(fault);
         }

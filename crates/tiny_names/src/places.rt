@@ -10,9 +10,10 @@ ghost use Rattle.tiny_names.specs.Resolved.{arguments, cond, expr, function_plac
 
 use crate::functions::{Signature, called};
 use std::alloc::{AllocError, Global};
+use std::slice::from_ref;
 use tiny_draft::{
     Block as WrittenBlock, Comparison, Cond as WrittenCond, Expr as WrittenExpr,
-    Statement as WrittenStatement, Step as WrittenStep, Term as WrittenTerm,
+    Statement as WrittenStatement, Step as WrittenStep, Sum as WrittenSum, Term as WrittenTerm,
 };
 use tiny_tree::{Block, Cond, Expr, Items, Statement, Step, Term};
 
@@ -55,13 +56,9 @@ fn term(
     match written {
         WrittenTerm::Number(value) => Ok(Term::number(*value)),
         WrittenTerm::Variable { name, line: _ } => Ok(Term::variable(place_in(names, *name))),
-        WrittenTerm::Call {
-            name,
-            line: _,
-            arguments: given,
-        } => {
-            let passed = arguments(alloc, functions, names, given.items())?;
-            Ok(Term::call(function_place(functions, *name), passed))
+        WrittenTerm::Call(call) => {
+            let passed = arguments(alloc, functions, names, call.arguments.items())?;
+            Ok(Term::call(function_place(functions, call.name), passed))
         }
         WrittenTerm::Get => Ok(Term::get()),
         WrittenTerm::Group(inside) => {
@@ -81,6 +78,28 @@ fn expr(
 ) -> Result<Expr, AllocError>
     requires { length names.now ≤ 255 }
     ensures { IfOk result (λ e. expr_tree e ≡ expr (lookup functions.now) names.now (draft_view.expr_tree written.now)) }
+{
+    match written {
+        WrittenExpr::Alone(only) => {
+            let first = term(alloc, functions, names, only)?;
+            Ok(Expr::new(first, Items::new(alloc)))
+        }
+        WrittenExpr::Sum(whole) => {
+            let found = sum(alloc, functions, names, whole)?;
+            Ok(found)
+        }
+    }
+}
+
+#[cycle(places)]
+fn sum(
+    alloc: Global,
+    functions: &[Option<Signature>],
+    names: &[u32],
+    written: &WrittenSum,
+) -> Result<Expr, AllocError>
+    requires { length names.now ≤ 255 }
+    ensures { IfOk result (λ e. expr_tree e ≡ expr (lookup functions.now) names.now (draft_view.sum_tree written.now)) }
 {
     let first = term(alloc, functions, names, &written.first)?;
     let rest = steps(alloc, functions, names, written.rest.items())?;
@@ -178,15 +197,22 @@ fn statement(
             let passed = arguments(alloc, functions, names, given.items())?;
             Ok(Statement::call(function_place(functions, *name), passed))
         }
+        WrittenStatement::CallWithOne {
+            name,
+            line: _,
+            argument,
+        } => {
+            let passed = arguments(alloc, functions, names, from_ref(argument))?;
+            Ok(Statement::call(function_place(functions, *name), passed))
+        }
         WrittenStatement::If {
             line,
             cond: test,
-            taken,
-            otherwise: other,
+            branches,
         } => {
             let decided = cond(alloc, functions, names, test)?;
-            let first = block(alloc, functions, names, taken)?;
-            let second = otherwise(alloc, functions, names, other)?;
+            let first = block(alloc, functions, names, &branches.taken)?;
+            let second = otherwise(alloc, functions, names, &branches.otherwise)?;
             Ok(Statement::choice(*line, decided, first, second))
         }
         WrittenStatement::While {

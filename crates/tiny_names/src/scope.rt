@@ -10,6 +10,7 @@ use crate::expr::{call_fault, cond_fault, expr_fault, has, use_fault};
 use crate::fault::Fault;
 use crate::functions::Signature;
 use std::alloc::AllocError;
+use std::slice::from_ref;
 use tiny_draft::{Block, Statement};
 
 /// How many names a function may declare.
@@ -83,19 +84,23 @@ fn statement_fault(
             line,
             arguments,
         } => Ok(call_fault(functions, seen, *name, *line, arguments.items())),
+        Statement::CallWithOne {
+            name,
+            line,
+            argument,
+        } => Ok(call_fault(functions, seen, *name, *line, from_ref(argument))),
         Statement::If {
             line: _,
             cond,
-            taken,
-            otherwise,
+            branches,
         } => {
             if let Some(fault) = cond_fault(functions, seen, cond) {
                 return Ok(Some(fault));
             }
-            if let Some(fault) = block_fault(functions, in_main, declared, seen, taken)? {
+            if let Some(fault) = block_fault(functions, in_main, declared, seen, &branches.taken)? {
                 return Ok(Some(fault));
             }
-            else_fault(functions, in_main, declared, seen, otherwise)
+            else_fault(functions, in_main, declared, seen, &branches.otherwise)
         }
         Statement::While {
             line: _,

@@ -63,9 +63,14 @@ impl<T> Items<T> {
 }
 
 impl<T: Drop> Items<T> {
+    /// It grows by a quarter, so that a short list has no room to spare.
     pub fn push(&mut self, item: T) -> Result<(), AllocError>
         ensures ok { OnOk result (self.new ≡ self.old ++ item ∷ []) }
     {
+        let count = self.items.len();
+        if count == self.items.capacity() {
+            self.items.reserve_exact(count / 4 + 1)?;
+        }
         self.items.push(item)?;
         Ok(())
     }

@@ -87,7 +87,7 @@ expr-loop-operator-preserved t c =
 
 pub expr-returns-clause-ok : goal.expr-returns-clause-ok
 expr-returns-clause-ok t c =
-    rw c.new-2.ensures (skipping Steps [] c.loop-operator.invariant (skip_at c.args.levels Steps c.loop-operator.rest.now refl
+    rw c.in_ok-whole.ensures (skipping Steps [] c.loop-operator.invariant (skip_at c.args.levels Steps c.loop-operator.rest.now refl
     (ap (option_map (λ o. ATerm ∷ Steps ∷ [])) (c.in_default.ensures.none refl))))
 
 pub group-returns-then-levels-eq0-clause-err : goal.group-returns-then-levels-eq0-clause-err
@@ -146,10 +146,10 @@ term-returns-in_err-arguments-clause-err t c =
     (name_at c.args.levels ATerm (MaybeCall ∷ []) c.args.tokens.now c.in_ok-word.word c.in_ok-word.after_name.now c.in_ok-word.ensures.ok refl)
     (c.in_err-arguments.ensures.err m))
 
-pub term-returns-in-Some-2-clause-ok : goal.term-returns-in-Some-2-clause-ok
-term-returns-in-Some-2-clause-ok t c =
+pub term-returns-in_ok-called-in-Some-2-clause-ok : goal.term-returns-in_ok-called-in-Some-2-clause-ok
+term-returns-in_ok-called-in-Some-2-clause-ok t c =
     let found = rw c.in-Some-2.is at c.in_ok-arguments.ensures.ok in
-    rw c.call-in-Some-2.ensures (then (name_at c.args.levels ATerm (MaybeCall ∷ []) c.args.tokens.now c.in_ok-word.word c.in_ok-word.after_name.now c.in_ok-word.ensures.ok refl) found)
+    rw c.in_ok-called-in-Some-2.ensures (then (name_at c.args.levels ATerm (MaybeCall ∷ []) c.args.tokens.now c.in_ok-word.word c.in_ok-word.after_name.now c.in_ok-word.ensures.ok refl) found)
 
 pub term-returns-in-None-clause-ok : goal.term-returns-in-None-clause-ok
 term-returns-in-None-clause-ok t c =

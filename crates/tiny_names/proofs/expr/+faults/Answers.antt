@@ -5,8 +5,8 @@ use Rattle.tiny_names.specs.Names.{lookup}
 use Rattle.tiny_names.proofs.Firsts.{first_none, first_some, steps_at}
 use Rattle.tiny_names.proofs.expr.+faults.Goals as goal
 
-pub expr_fault-returns-in-Some-term_fault : goal.expr_fault-returns-in-Some-term_fault
-expr_fault-returns-in-Some-term_fault t c =
+pub sum_fault-returns-in-Some-term_fault : goal.sum_fault-returns-in-Some-term_fault
+sum_fault-returns-in-Some-term_fault t c =
     let known = lookup c.args.functions.now in
     let seen = c.args.seen.now in
     let s = c.step-item.result in
@@ -14,8 +14,8 @@ expr_fault-returns-in-Some-term_fault t c =
     first_some (term_faults known seen (term_tree s.term)) _ _ (sym c.in-Some-term_fault.is ∙ c.term_fault-in-loop-step.ensures)
     ∙ (sym (ap first at) ∙ sym c.loop-step.invariant)
 
-pub expr_fault-loop-step-preserved : goal.expr_fault-loop-step-preserved
-expr_fault-loop-step-preserved t c =
+pub sum_fault-loop-step-preserved : goal.sum_fault-loop-step-preserved
+sum_fault-loop-step-preserved t c =
     let known = lookup c.args.functions.now in
     let seen = c.args.seen.now in
     let s = c.step-item.result in

@@ -1,6 +1,6 @@
 use Rattle.std.proofs.Common.{◌≡◌, drop, map}
 use Rattle.tiny_draft.specs.Tree.{arguments_of, steps_of}
-use Rattle.tiny_draft.specs.View.{expr_tree, step_tree}
+use Rattle.tiny_draft.specs.View.{expr_tree, step_tree, sum_tree}
 use Rattle.tiny_names.specs.Faults.{argument_faults, expr_faults, first, step_faults}
 use Rattle.tiny_names.specs.Names.{lookup}
 use Rattle.tiny_names.proofs.expr.+faults.Given as goal
@@ -10,7 +10,7 @@ invariant-argument_fault-loop-argument l =
     first (argument_faults (lookup l.functions) l.seen (arguments_of (map expr_tree l.arguments)))
     ≡ first (argument_faults (lookup l.functions) l.seen (arguments_of (map expr_tree (drop l.argument-index l.arguments))))
 
-abbrev pub invariant-expr_fault-loop-step : goal.invariant-expr_fault-loop-step
-invariant-expr_fault-loop-step l =
-    first (expr_faults (lookup l.functions) l.seen (expr_tree l.expr))
+abbrev pub invariant-sum_fault-loop-step : goal.invariant-sum_fault-loop-step
+invariant-sum_fault-loop-step l =
+    first (expr_faults (lookup l.functions) l.seen (sum_tree l.sum))
     ≡ first (step_faults (lookup l.functions) l.seen (steps_of (map step_tree (drop l.step-index l.step-items))))
