@@ -1,5 +1,6 @@
 pub mod Options
 pub mod Naming
+pub mod Numbers
 pub mod Resolved
 pub mod Fixing
 pub mod Saying

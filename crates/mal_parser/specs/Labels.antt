@@ -1,9 +1,10 @@
 -- Labels of statements and of `.label` lines.
 use Rattle.std.specs.Prelude.{◌≡◌, ℕ, ℤ, pos, negsuc, Bool, false, List, [], ◌∷◌, Option, Some, None, if◌then◌else◌, nat_lt}
-use Rattle.std.specs.List.{filter_map, list_any}
+use Rattle.std.specs.List.{filter_map, list_any, position}
 use Rattle.std.specs.Str.{bytes_eq}
 use Rattle.std.specs.Ordering.{nat_cmp}
 use Rattle.std.specs.Cmp.Lexicographic.{slice_cmp}
+use Rattle.std.specs.BTreeMap.{BTreeMap, get}
 use Rattle.std.specs.BTreeSet.{BTreeSet, contains}
 use Rattle.mal_parser.specs.declared.source.Draft.{Draft}
 use Rattle.mal_parser.specs.declared.source.Fix.{Fix}
@@ -46,3 +47,11 @@ address_of (negsuc n) = None
 -- the set has the labels of the lines
 abbrev pub AreLabels : List Fix → BTreeSet (List ℕ) → Type 0
 AreLabels fs set = (label : List ℕ) → contains (slice_cmp nat_cmp) set label ≡ has_fix fs label
+
+-- the map has the number of the statement with each label
+abbrev pub AreNumbers : List Draft → BTreeMap (List ℕ) ℕ → Type 0
+AreNumbers ds map = (label : List ℕ) → get (slice_cmp nat_cmp) map label ≡ position (is_labelled label) ds
+
+-- the number kept for a label, where one more has this number
+abbrev pub with_number : Option (List ℕ) → ℕ → List ℕ → Option ℕ → Option ℕ
+with_number own number label kept = if is_label label own then Some number else kept

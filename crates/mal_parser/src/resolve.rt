@@ -6,43 +6,45 @@ ghost use Rattle.mal_parser.specs.Labels.{has_label, is_labelled};
 ghost use Rattle.mal_parser.specs.Text.{falls};
 ghost use Rattle.mal_parser.specs.Reading.{address_at, earlier, FailsBy, falling, first_falling, first_unknown, fixed_of, IsSound, knows, main1, resolved_next, number_of, resolved_program, resolved, target, unknown_draft, unknown_fix, unknown_in};
 
+use crate::drafts::Drafts;
 use crate::error::MalError;
 use crate::program::MalProgram;
-use crate::source::{Draft, Fix, SourceReader, has_label, is_labelled};
+use crate::source::{Draft, Fix, SourceReader};
 use crate::statement::{MalNext, Statement};
 use mal_line::Next;
 use mic_base::Name;
 use std::alloc::AllocError;
 
-fn knows(drafts: &[Draft], next: &Next<Name>) -> bool
+fn knows(drafts: &Drafts, next: &Next<Name>) -> bool
     ensures { result ≡ knows drafts.now next.now }
 {
     match next {
-        Next::Goto(label) => has_label(drafts, label),
-        Next::Branch { yes, no, .. } => has_label(drafts, yes) && has_label(drafts, no),
+        Next::Goto(label) => drafts.has_label(label),
+        Next::Branch { yes, no, .. } => drafts.has_label(yes) && drafts.has_label(no),
         Next::Following | Next::Dispatch { .. } => true,
     }
 }
 
-fn unknown_draft(drafts: &[Draft]) -> Option<u32>
+fn unknown_draft(drafts: &Drafts) -> Option<u32>
     ensures { result ≡ unknown_draft drafts.now drafts.now }
 {
     drafts
+        .as_slice()
         .iter()
         .find(|draft| !knows(drafts, &draft.parts.next))
         .map(|draft| draft.line)
 }
 
-fn unknown_fix(drafts: &[Draft], fixes: &[Fix]) -> Option<u32>
+fn unknown_fix(drafts: &Drafts, fixes: &[Fix]) -> Option<u32>
     ensures { result ≡ unknown_fix drafts.now fixes.now }
 {
     fixes
         .iter()
-        .find(|fix| !has_label(drafts, &fix.label))
+        .find(|fix| !drafts.has_label(&fix.label))
         .map(|fix| fix.line)
 }
 
-fn unknown_in(drafts: &[Draft], fallback: &Option<Draft>) -> Option<u32>
+fn unknown_in(drafts: &Drafts, fallback: &Option<Draft>) -> Option<u32>
     ensures { result ≡ unknown_in drafts.now fallback.now }
 {
     match fallback {
@@ -89,26 +91,20 @@ fn falling(draft: Option<Draft>) -> Option<u32>
     }
 }
 
-fn last_of(drafts: &[Draft]) -> Option<Draft>
+fn last_of(drafts: &Drafts) -> Option<Draft>
     ensures { result ≡ slice_get drafts.now (length drafts.now - 1) }
 {
-    drafts.last().copied()
+    drafts.as_slice().last().copied()
 }
 
-fn number_of(drafts: &[Draft], label: &Name) -> Option<usize>
-    ensures { result ≡ number_of drafts.now label.now }
-{
-    drafts.iter().position(|draft| is_labelled(draft, label))
-}
-
-fn target(drafts: &[Draft], label: &Name) -> u16
+fn target(drafts: &Drafts, label: &Name) -> u16
     requires { length drafts.now ≤ 512 }
     ensures { result ≡ target drafts.now label.now }
 {
-    number_of(drafts, label).unwrap_or(0) as u16
+    drafts.number_of(label).unwrap_or(0) as u16
 }
 
-fn resolved_next(drafts: &[Draft], next: &Next<Name>) -> MalNext
+fn resolved_next(drafts: &Drafts, next: &Next<Name>) -> MalNext
     requires { length drafts.now ≤ 512 }
     ensures { result ≡ resolved_next drafts.now next.now }
 {
@@ -142,7 +138,7 @@ fn fixed_of(fixes: &[Fix], label: &Option<Name>) -> Option<u16>
     }
 }
 
-fn resolved(drafts: &[Draft], fixes: &[Fix], draft: &Draft) -> Statement
+fn resolved(drafts: &Drafts, fixes: &[Fix], draft: &Draft) -> Statement
     requires { length drafts.now ≤ 512 }
     ensures { result ≡ resolved drafts.now fixes.now draft.now }
 {
@@ -159,9 +155,10 @@ fn all_resolved(reader: &SourceReader) -> Result<Vec<Statement>, AllocError>
     requires { length reader.now.statements ≤ 512 }
     ensures { IfOk result (λ v. v.items ≡ map (resolved reader.now.statements reader.now.fixes) reader.now.statements) }
 {
-    let drafts = reader.statements.as_slice();
+    let drafts = &reader.statements;
     let fixes = reader.fixes.as_slice();
     drafts
+        .as_slice()
         .iter()
         .map(|draft| resolved(drafts, fixes, draft))
         .collect(reader.alloc)
@@ -213,7 +210,7 @@ pub(crate) fn resolved_program(reader: &SourceReader) -> Result<MalProgram, MalE
     if let Some(line) = first_falling(reader) {
         return Err(MalError::LastFalls(line));
     }
-    let Some(entry) = number_of(&reader.statements, &main1()) else {
+    let Some(entry) = reader.statements.number_of(&main1()) else {
         return Err(MalError::NoEntry);
     };
     let Ok(statements) = all_resolved(reader) else {

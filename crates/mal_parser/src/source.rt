@@ -2,9 +2,10 @@
 
 ghost use Rattle.std.specs.Prelude.{◌≡◌, ◌<◌, false, Ok, Err, OnOk, OnErr, IfOk, IfErr, is_some};
 ghost use Rattle.mal_parser.specs.declared.error.MalError.TheVariants.{OutOfMemory};
-ghost use Rattle.mal_parser.specs.Labels.{address_of, has_label, has_name, is_labelled};
+ghost use Rattle.mal_parser.specs.Labels.{address_of};
 ghost use Rattle.mal_parser.specs.Reading.{at_line, content_at, FailsBy};
 
+use crate::drafts::Drafts;
 use crate::error::MalError;
 use crate::laws::reads_lines;
 use mal_line::{Content, LineFault, Parts, line_from};
@@ -32,30 +33,6 @@ pub struct Fix {
     pub address: u16,
 }
 
-pub(crate) fn is_labelled(draft: &Draft, label: &Name) -> bool
-    ensures { result ≡ is_labelled label.now draft.now }
-{
-    match draft.label {
-        Some(own) => own == *label,
-        None => false,
-    }
-}
-
-pub(crate) fn has_label(drafts: &[Draft], label: &Name) -> bool
-    ensures { result ≡ has_label drafts.now label.now }
-{
-    drafts.iter().any(|draft| is_labelled(draft, label))
-}
-
-fn has_name(drafts: &[Draft], label: &Option<Name>) -> bool
-    ensures { result ≡ has_name drafts.now label.now }
-{
-    match label {
-        Some(label) => has_label(drafts, label),
-        None => false,
-    }
-}
-
 fn address_of(number: i64) -> Option<u16>
     ensures { result ≡ address_of number }
 {
@@ -71,7 +48,7 @@ fn address_of(number: i64) -> Option<u16>
 pub(crate) struct SourceReader {
     pub(crate) alloc: Global,
     pub(crate) machine: Machine,
-    pub(crate) statements: Vec<Draft>,
+    pub(crate) statements: Drafts,
     pub(crate) fixes: Vec<Fix>,
     /// The labels of `fixes`.
     fixed: BTreeSet<Name>,
@@ -84,7 +61,7 @@ impl Model for SourceReader {
 
     ghost Value = { Sketch };
 
-    ghost view = { λ r. record { machine = r.machine; statements = r.statements.items; fixes = r.fixes.items; fallback = r.fallback } };
+    ghost view = { λ r. record { machine = r.machine; statements = r.statements; fixes = r.fixes.items; fallback = r.fallback } };
 
     ghost invariant = { λ r. AreLabels r.fixes.items r.fixed };
 }
@@ -99,7 +76,7 @@ impl SourceReader {
         SourceReader {
             alloc,
             machine,
-            statements: Vec::new(alloc),
+            statements: Drafts::new(alloc),
             fixes: Vec::new(alloc),
             fixed: BTreeSet::new(alloc),
             fallback: None,
@@ -154,13 +131,15 @@ impl SourceReader {
         ensures err { IfErr result (λ e. FailsBy e (add_statement line self.old label parts)) }
         ensures left { OnErr result (self.new ≡ self.old) }
     {
-        if has_name(&self.statements, &label) {
+        if self.statements.has_name(&label) {
             return Err(MalError::DuplicateLabel(line));
         }
-        if self.statements.len() >= 512 {
+        if self.statements.as_slice().len() >= 512 {
             return Err(MalError::TooMany(line));
         }
-        self.statements.push(Draft { label, line, parts })?;
+        self.statements
+            .push(label, line, parts)
+            .map_err(|_| MalError::OutOfMemory)?;
         Ok(())
     }
 

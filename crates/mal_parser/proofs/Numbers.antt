@@ -1,0 +1,74 @@
+-- The numbers of labelled statements, and one more.
+use Rattle.std.proofs.Common.{◌≡◌, ℕ, ◌+◌, Bool, true, false, List, [], ◌∷◌, ◌++◌, Option, Some, None, length, refl, sym, ap, ◌∙◌, cond, arith}
+use Rattle.std.specs.Prelude.{is_some, ◌||◌}
+use Rattle.std.specs.List.{list_any, position, position_from}
+use Rattle.std.specs.Option.{option_or}
+use Rattle.std.specs.Str.{bytes_eq}
+use Rattle.std.specs.Ordering.{nat_cmp}
+use Rattle.std.specs.Cmp.Lexicographic.{slice_cmp, texts_ties}
+use Rattle.std.specs.BTreeMap.{BTreeMap, get, is_at}
+use Rattle.std.proofs.lemmas.Iterator.Adapters.{position_from-zero}
+use Rattle.mal_parser.specs.declared.source.Draft.{Draft}
+use Rattle.mal_parser.specs.Labels.{AreNumbers, has_label, has_name, is_label, is_labelled, with_number}
+use Rattle.mal_parser.specs.Reading.{number_of}
+use Rattle.mal_parser.proofs.Resolved.{same_text}
+
+some_from : {X : Type 0} (p : X → Bool) (i : ℕ) (xs : List X) → is_some (position_from p i xs) ≡ list_any p xs
+some_from p i [] = refl
+some_from p i (x ∷ xs) = go (p x) (some_from p (i + 1) xs)
+  where
+    go : (b : Bool) → is_some (position_from p (i + 1) xs) ≡ list_any p xs → is_some (cond b (Some i) (position_from p (i + 1) xs)) ≡ (b || list_any p xs)
+    go true rec = refl
+    go false rec = rec
+
+-- a label that has a number is one of the statements'
+pub some_number : (ds : List Draft) (label : List ℕ) → is_some (number_of ds label) ≡ has_label ds label
+some_number ds label = ap is_some (position_from-zero (is_labelled label) ds) ∙ some_from (is_labelled label) 0 ds
+
+from_push : {X : Type 0} (p : X → Bool) (i : ℕ) (xs : List X) (x : X) → position_from p i (xs ++ x ∷ []) ≡ option_or (position_from p i xs) (cond (p x) (Some (i + length xs)) None)
+from_push p i [] x = ap (λ n. cond (p x) (Some n) None) (omega arith)
+from_push {X} p i (y ∷ xs) x = go (p y) (from_push p (i + 1) xs x)
+  where
+    same : i + 1 + length xs ≡ i + length (y ∷ xs)
+    same = omega arith
+    go : (b : Bool) → position_from p (i + 1) (xs ++ x ∷ []) ≡ option_or (position_from p (i + 1) xs) (cond (p x) (Some (i + 1 + length xs)) None)
+        → cond b (Some i) (position_from p (i + 1) (xs ++ x ∷ [])) ≡ option_or (cond b (Some i) (position_from p (i + 1) xs)) (cond (p x) (Some (i + length (y ∷ xs))) None)
+    go true rec = refl
+    go false rec = rec ∙ ap (λ n. option_or (position_from p (i + 1) xs) (cond (p x) (Some n) None)) same
+
+number_push : (ds : List Draft) (d : Draft) (q : List ℕ) → number_of (ds ++ d ∷ []) q ≡ option_or (number_of ds q) (cond (is_labelled q d) (Some (length ds)) None)
+number_push ds d q =
+    position_from-zero (is_labelled q) (ds ++ d ∷ [])
+    ∙ (from_push (is_labelled q) 0 ds d
+    ∙ (ap (λ n. option_or (position_from (is_labelled q) 0 ds) (cond (is_labelled q d) (Some n) None)) (omega arith)
+    ∙ ap (λ o. option_or o (cond (is_labelled q d) (Some (length ds)) None)) (sym (position_from-zero (is_labelled q) ds))))
+
+-- a label that no statement has gets no number
+unnumbered : (ds : List Draft) (own : Option (List ℕ)) (q : List ℕ) → has_name ds own ≡ false → is_label q own ≡ true → number_of ds q ≡ None
+unnumbered ds None q fresh is = absurd (cc)
+unnumbered ds (Some own) q fresh is =
+    let same : own ≡ q = same_text own q is in
+    go (number_of ds q) (some_number ds q ∙ (ap (has_label ds) (sym same) ∙ fresh))
+  where
+    go : (o : Option ℕ) → is_some o ≡ false → o ≡ None
+    go None h = refl
+    go (Some n) h = absurd (cc)
+
+last_number : (b : Bool) (o : Option ℕ) (n : ℕ) → (b ≡ true → o ≡ None) → cond b (Some n) o ≡ option_or o (cond b (Some n) None)
+last_number true None n h = refl
+last_number true (Some k) n h = absurd (let e = h refl in cc)
+last_number false None n h = refl
+last_number false (Some k) n h = refl
+
+-- a map with one more key
+pub kept_more : (own : Option (List ℕ)) (label : List ℕ) (n : ℕ) (old new : BTreeMap (List ℕ) ℕ) → own ≡ Some label
+    → ((q : List ℕ) → get (slice_cmp nat_cmp) new q ≡ cond (is_at (slice_cmp nat_cmp label) q) (Some n) (get (slice_cmp nat_cmp) old q))
+    → (q : List ℕ) → get (slice_cmp nat_cmp) new q ≡ with_number own n q (get (slice_cmp nat_cmp) old q)
+kept_more own label n old new is h q =
+    h q ∙ (ap (λ b. cond b (Some n) (get (slice_cmp nat_cmp) old q)) (sym (texts_ties label q)) ∙ ap (λ o. with_number o n q (get (slice_cmp nat_cmp) old q)) (sym is))
+
+pub numbers_push : (ds : List Draft) (d : Draft) (n : ℕ) (old new : BTreeMap (List ℕ) ℕ) → n ≡ length ds → AreNumbers ds old → has_name ds d.label ≡ false
+    → ((q : List ℕ) → get (slice_cmp nat_cmp) new q ≡ with_number d.label n q (get (slice_cmp nat_cmp) old q)) → AreNumbers (ds ++ d ∷ []) new
+numbers_push ds d n old new count are fresh kept q =
+    kept q ∙ (ap (with_number d.label n q) (are q) ∙ (ap (λ k. with_number d.label k q (number_of ds q)) count
+    ∙ (last_number (is_label q d.label) (number_of ds q) (length ds) (unnumbered ds d.label q fresh) ∙ sym (number_push ds d q))))
