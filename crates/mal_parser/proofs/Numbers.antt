@@ -31,6 +31,7 @@ from_push {X} p i (y ∷ xs) x = go (p y) (from_push p (i + 1) xs x)
   where
     same : i + 1 + length xs ≡ i + length (y ∷ xs)
     same = omega arith
+
     go : (b : Bool) → position_from p (i + 1) (xs ++ x ∷ []) ≡ option_or (position_from p (i + 1) xs) (cond (p x) (Some (i + 1 + length xs)) None)
         → cond b (Some i) (position_from p (i + 1) (xs ++ x ∷ [])) ≡ option_or (cond b (Some i) (position_from p (i + 1) xs)) (cond (p x) (Some (i + length (y ∷ xs))) None)
     go true rec = refl

@@ -43,7 +43,9 @@ statements_from k (_ ∷ cs) = statements_from (k + 1) cs
 -- the `.label` lines
 abbrev pub fixes_from : ℕ → List Content → List Fix
 fixes_from k [] = []
-fixes_from k (said.Fix label number ∷ cs) = cons_option (option_map (λ address. record { label = label; line = k; address = address }) (address_of number)) (fixes_from (k + 1) cs)
+fixes_from k (said.Fix label number ∷ cs) = cons_option
+    (option_map (λ address. record { label = label; line = k; address = address }) (address_of number))
+    (fixes_from (k + 1) cs)
 fixes_from k (_ ∷ cs) = fixes_from (k + 1) cs
 
 -- the `.default` lines

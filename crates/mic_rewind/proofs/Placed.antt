@@ -7,13 +7,13 @@ use Rattle.circular_buffer.specs.Buffer.{Buffer, buffer, keep_last}
 use Rattle.mic_clock.specs.Board.{tick_of}
 use Rattle.mic_rewind.specs.declared.kept_cycle.KeptCycle.{KeptCycle}
 use Rattle.mic_rewind.specs.declared.moment.Moment.{Moment}
-use Rattle.mic_rewind.specs.States.{Cycle, Fits, undone, redone, begun, cycles_from, led_from, begin_behind}
-use Rattle.mic_rewind.specs.View.{GoesBack, IsHistory, appended, begun_at, moment_at, view_of}
+use Rattle.mic_rewind.specs.States.{Cycle, Fits, undone, redone, begun, cycles_from, led_from, begin_after}
+use Rattle.mic_rewind.specs.View.{AreKept, GoesBack, IsHistory, appended, begun_at, moment_at, view_from, view_of}
 use Rattle.mic_rewind.proofs.Begun.{begun-length, begun-get, led-get, begun-snoc, led-snoc, begun-drop, led-drop}
 use Rattle.mic_rewind.proofs.Zipping.{is_back, went_back, is_on, went_on, ticked, is_ahead, went_ahead}
 
 module _ (first : Moment) (b : Buffer KeptCycle) (behind : ℕ) (words : List ℕ) (c : KeptCycle)
-    (h : IsHistory (begun_at first b) behind (moment_at first b.items behind) words) where
+    (h : AreKept first b behind words) where
   found : (k : ℕ) → slice_get b.items (length b.items - k) ≡ Some c →
       slice_get (cycles_from first b.items) (length (cycles_from first b.items) - k) ≡ Some (begun (led_from first (take (length b.items - k) b.items)) c)
   found k got =
@@ -34,11 +34,11 @@ module _ (first : Moment) (b : Buffer KeptCycle) (behind : ℕ) (words : List �
         subst (λ (k : ℕ). slice_get (cycles_from first b.items) k ≡ Some (begun (moment_at first b.items (behind + 1)) c))
         (sym (place_back (length (cycles_from first b.items)))) (found (behind + 1) got')
 
-    pub placed_back : IsHistory (begun_at first b) (behind + 1) (moment_at first b.items (behind + 1)) (undone c.written words)
+    pub placed_back : AreKept first b (behind + 1) (undone c.written words)
     placed_back = is_back (begun_at first b) behind (moment_at first b.items behind) words (begun (moment_at first b.items (behind + 1)) c) h some_there got_back
 
-    pub goes_back : GoesBack (view_of (begun_at first b) behind (moment_at first b.items behind) words)
-        (view_of (begun_at first b) (behind + 1) (moment_at first b.items (behind + 1)) (undone c.written words))
+    pub goes_back : GoesBack (view_from first b behind words)
+        (view_from first b (behind + 1) (undone c.written words))
     goes_back = went_back (begun_at first b) behind (moment_at first b.items behind) words (begun (moment_at first b.items (behind + 1)) c) h some_there got_back
 
   -- going on over the cycle behind the cursor
@@ -50,13 +50,13 @@ module _ (first : Moment) (b : Buffer KeptCycle) (behind : ℕ) (words : List �
         let k : suc (length b.items - behind) ≡ length b.items - (behind - 1) = omega arith in
         sym (led-get first b.items (length b.items - behind) c got) ∙ ap (λ (j : ℕ). led_from first (take j b.items)) k
 
-    pub placed_on : IsHistory (begun_at first b) (behind - 1) (moment_at first b.items (behind - 1)) (redone c.written words)
+    pub placed_on : AreKept first b (behind - 1) (redone c.written words)
     placed_on = subst (λ (m : Moment). IsHistory (begun_at first b) (behind - 1) m (redone c.written words)) led_on
         (is_on (begun_at first b) behind (moment_at first b.items behind) words (begun (moment_at first b.items behind) c) h some (found behind got))
 
-    pub goes_on : GoesBack (view_of (begun_at first b) (behind - 1) (moment_at first b.items (behind - 1)) (redone c.written words))
-        (view_of (begun_at first b) behind (moment_at first b.items behind) words)
-    goes_on = subst (λ (m : Moment). GoesBack (view_of (begun_at first b) (behind - 1) m (redone c.written words)) (view_of (begun_at first b) behind (moment_at first b.items behind) words)) led_on
+    pub goes_on : GoesBack (view_from first b (behind - 1) (redone c.written words))
+        (view_from first b behind words)
+    goes_on = subst (λ (m : Moment). GoesBack (view_of (begun_at first b) (behind - 1) m (redone c.written words)) (view_from first b behind words)) led_on
         (went_on (begun_at first b) behind (moment_at first b.items behind) words (begun (moment_at first b.items behind) c) h some (found behind got))
 
     pub tick_on : c.tick ≡ tick_of (moment_at first b.items behind).counts (moment_at first b.items (behind - 1)).counts None
@@ -67,12 +67,12 @@ take_all : (cs : List KeptCycle) → take (length cs - 0) cs ≡ cs
 take_all cs = grind (arith, common_steps)
 
 -- the first of the items, if they are more than there may be
-one_taken : (first : Moment) (cs : List KeptCycle) (c : KeptCycle) → led_from first (take 1 (cs ++ c ∷ [])) ≡ begin_behind (slice_get (cs ++ c ∷ []) 0) first
+one_taken : (first : Moment) (cs : List KeptCycle) (c : KeptCycle) → led_from first (take 1 (cs ++ c ∷ [])) ≡ begin_after (slice_get (cs ++ c ∷ []) 0) first
 one_taken first [] c = refl
 one_taken first (d ∷ ds) c = refl
 
 begins : (first : Moment) (cs : List KeptCycle) (c : KeptCycle) (room : ℕ) (is : Bool) → nat_lt (length cs) room ≡ is → length cs ≤ room →
-    begin_behind (if is then None else slice_get (cs ++ c ∷ []) 0) first ≡ led_from first (take (length (cs ++ c ∷ []) - room) (cs ++ c ∷ []))
+    begin_after (if is then None else slice_get (cs ++ c ∷ []) 0) first ≡ led_from first (take (length (cs ++ c ∷ []) - room) (cs ++ c ∷ []))
 begins first cs c room true e within =
     let l = ltb-true (length cs) room e in
     let k : length (cs ++ c ∷ []) - room ≡ 0 = grind (arith, common_steps) in
@@ -84,9 +84,9 @@ begins first cs c room false e within =
 
 -- a cycle that leads on from the newest state, and what it drops
 module _ (first : Moment) (b : Buffer KeptCycle) (words words' : List ℕ) (c : KeptCycle)
-    (h : IsHistory (begun_at first b) 0 (moment_at first b.items 0) words)
+    (h : AreKept first b 0 words)
     (f : Fits (begun (moment_at first b.items 0) c) (moment_at first b.items 0) c.after words words')
-    (first' : Moment) (e : first' ≡ begin_behind (if nat_lt (length b.items) b.capacity then None else slice_get (b.items ++ c ∷ []) 0) first) where
+    (first' : Moment) (e : first' ≡ begin_after (if nat_lt (length b.items) b.capacity then None else slice_get (b.items ++ c ∷ []) 0) first) where
   abbrev pub kept : List KeptCycle
   kept = keep_last b.capacity (b.items ++ c ∷ [])
 
@@ -111,14 +111,14 @@ module _ (first : Moment) (b : Buffer KeptCycle) (words words' : List ℕ) (c : 
       ∙ (ap (λ (m : Moment). led_from m kept) first_is
       ∙ (led-drop (length (b.items ++ c ∷ []) - b.capacity) first (b.items ++ c ∷ []) ∙ led-snoc first b.items c))
 
-  pub placed_ahead : IsHistory (begun_at first' (buffer kept b.capacity)) 0 (moment_at first' kept 0) words'
+  pub placed_ahead : AreKept first' (buffer kept b.capacity) 0 words'
   placed_ahead =
       subst (λ (m : Moment). IsHistory (buffer (cycles_from first' kept) b.capacity) 0 m words') (sym moment_is)
       (subst (λ (xs : List Cycle). IsHistory (buffer xs b.capacity) 0 c.after words') (sym cycles_are)
       (is_ahead (begun_at first b) (moment_at first b.items 0) c.after words words' (begun (moment_at first b.items 0) c) h f))
 
-  pub goes_ahead : view_of (begun_at first' (buffer kept b.capacity)) 0 (moment_at first' kept 0) words'
-      ≡ appended (view_of (begun_at first b) 0 (moment_at first b.items 0) words) (record { moment = c.after; words = words' })
+  pub goes_ahead : view_from first' (buffer kept b.capacity) 0 words'
+      ≡ appended (view_from first b 0 words) (record { moment = c.after; words = words' })
   goes_ahead =
       ap (λ (m : Moment). view_of (buffer (cycles_from first' kept) b.capacity) 0 m words') moment_is
       ∙ (ap (λ (xs : List Cycle). view_of (buffer xs b.capacity) 0 c.after words') cycles_are

@@ -59,3 +59,10 @@ begun_at first b = buffer (cycles_from first b.items) b.capacity
 -- where the cycles up to the cursor led
 abbrev pub moment_at : Moment → List KeptCycle → ℕ → Moment
 moment_at first cs behind = led_from first (take (length cs - behind) cs)
+
+-- what is seen of kept cycles, the first of which began there, and how they are kept
+abbrev pub view_from : Moment → Buffer KeptCycle → ℕ → List ℕ → HistoryView
+view_from first b behind words = view_of (begun_at first b) behind (moment_at first b.items behind) words
+
+abbrev pub AreKept : Moment → Buffer KeptCycle → ℕ → List ℕ → Type 0
+AreKept first b behind words = IsHistory (begun_at first b) behind (moment_at first b.items behind) words

@@ -2,7 +2,7 @@
 
 ghost use Rattle.std.specs.Prelude.{◌≡◌, ◌≤◌, ◌<◌, [], ◌∷◌, length, slice_get, true, false, None, IfOk};
 ghost use Rattle.mic_clock.specs.Board.{tick_of};
-ghost use Rattle.mic_rewind.specs.States.{begin_behind, stored};
+ghost use Rattle.mic_rewind.specs.States.{begin_after, stored};
 ghost use Rattle.mic_rewind.specs.View.{GoesBack, appended};
 
 use crate::kept_cycle::KeptCycle;
@@ -19,7 +19,7 @@ pub const MOST_DEPTH: u32 = 65_536;
 /// The last cycles, and a memory of its own, as it was at the cursor.
 #[derive(Drop)]
 pub struct History {
-    /// Where the first of the cycles began.
+    /// Where the oldest of the cycles began; with none, the newest state.
     first: Moment,
     cycles: HeapCircularBuffer<KeptCycle>,
     /// The cycles from the cursor to the newest state.
@@ -28,18 +28,18 @@ pub struct History {
 }
 
 impl Model for History {
-    ghost use Rattle.mic_rewind.specs.View.{HistoryView, IsHistory, begun_at, moment_at, view_of};
+    ghost use Rattle.mic_rewind.specs.View.{AreKept, HistoryView, view_from};
 
     ghost Value = { HistoryView };
 
-    ghost view = { λ h. view_of (begun_at h.first h.cycles) h.behind (moment_at h.first h.cycles.items h.behind) h.memory.items };
+    ghost view = { λ h. view_from h.first h.cycles h.behind h.memory.items };
 
-    ghost invariant = { λ h. IsHistory (begun_at h.first h.cycles) h.behind (moment_at h.first h.cycles.items h.behind) h.memory.items };
+    ghost invariant = { λ h. AreKept h.first h.cycles h.behind h.memory.items };
 }
 
-/// Begins the kept cycles where the dropped one led, if one was dropped.
-fn begin_behind(first: &mut Moment, dropped: Option<KeptCycle>)
-    ensures { first.new ≡ begin_behind dropped first.old }
+/// Where a cycle was dropped, those after it begin where it led.
+fn begin_after(first: &mut Moment, dropped: Option<KeptCycle>)
+    ensures { first.new ≡ begin_after dropped first.old }
 {
     if let Some(dropped) = dropped {
         *first = dropped.after;
@@ -111,7 +111,7 @@ impl History {
             tick,
             written,
         });
-        begin_behind(&mut self.first, dropped);
+        begin_after(&mut self.first, dropped);
     }
 
     /// Goes back over the kept cycle before the cursor; answers whether there was one.

@@ -86,7 +86,8 @@ abbrev mutual
   spell_statement (Var w e) = sign signs.Var ∷ (word w ∷ (sign signs.Assign ∷ (spell_expr e ++ end)))
   spell_statement (Assign w e) = word w ∷ (sign signs.Assign ∷ (spell_expr e ++ end))
   spell_statement (Calls w es) = word w ∷ (sign signs.Open ∷ (spell_arguments es ++ end))
-  spell_statement (If l c b other) = sign_at signs.If l ∷ (spell_cond c ++ ((sign signs.Begin ∷ (spell_statements b ++ (sign signs.End ∷ []))) ++ spell_else other))
+  spell_statement (If l c b other) = sign_at signs.If l
+      ∷ (spell_cond c ++ ((sign signs.Begin ∷ (spell_statements b ++ (sign signs.End ∷ []))) ++ spell_else other))
   spell_statement (While l c b) = sign_at signs.While l ∷ (spell_cond c ++ (sign signs.Begin ∷ (spell_statements b ++ (sign signs.End ∷ []))))
   spell_statement (Return l e) = sign_at signs.Return l ∷ (spell_expr e ++ end)
   spell_statement (Put e) = sign signs.Put ∷ (spell_expr e ++ end)

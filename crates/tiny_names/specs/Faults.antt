@@ -1,4 +1,5 @@
--- The faults of names, in the order of the text. A variable is seen from after its `var` to the end of its block; each name is declared once in a function, and at most 255 are.
+-- The faults of names, in the order of the text. A variable is seen from after its `var` to the end of its block;
+-- each name is declared once in a function, and at most 255 are.
 use Rattle.std.specs.Prelude.{ℕ, ◌+◌, ◌==◌, Bool, List, [], ◌∷◌, ◌++◌, length, map, Option, Some, None, if◌then◌else◌, nat_le}
 use Rattle.tiny_draft.specs.declared.tree.Word.{Word}
 use Rattle.tiny_draft.specs.Tree.{Function, Term, Number, Variable, Called, Get, Group, Expr, Sum, Steps, no_steps, step, Arguments, no_arguments, argument, Cond, Compare, Statement, Var, Assign, Calls, If, While, Return, Put, Halt, Else, no_else, else_block, Statements, no_statements, statement}
@@ -91,7 +92,8 @@ parameter_faults declared (w ∷ ws) = declare_faults declared w ++ parameter_fa
 -- of a function's own name: the first function of it stands here, and `main` has no parameters
 abbrev pub own_faults : Option Signature → ℕ → Function → List Fault
 own_faults None place f = faults.DuplicateName f.name.line ∷ []
-own_faults (Some s) place f = if s.place == place then (if is_main f.name.name then (if length f.parameters == 0 then [] else faults.BadCall f.name.line ∷ []) else [])
+own_faults (Some s) place f = if s.place == place then
+    (if is_main f.name.name then (if length f.parameters == 0 then [] else faults.BadCall f.name.line ∷ []) else [])
     else faults.DuplicateName f.name.line ∷ []
 
 module _ (known : ℕ → Option Signature) where

@@ -1,4 +1,5 @@
--- The tokens of a text: those of its lines in order, each with its line. A name has the number of its place among the different names of the text, of which `main` is the first.
+-- The tokens of a text: those of its lines in order, each with its line. A name has the number of its place among the
+-- different names of the text, of which `main` is the first.
 use Rattle.std.specs.Prelude.{◌≡◌, ℕ, ◌+◌, List, [], ◌∷◌, ◌++◌, length, map, codes, Option, Some, None}
 use Rattle.source_text.specs.Content.{contents}
 use Rattle.source_names.specs.Places.{place_of}

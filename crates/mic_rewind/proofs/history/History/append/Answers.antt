@@ -2,8 +2,8 @@ use Rattle.std.proofs.Common.{◌≡◌, ◌∙◌, sym, ap, subst, refl, ℕ, L
 use Rattle.circular_buffer.specs.Buffer.{Buffer, buffer, keep_last}
 use Rattle.mic_clock.specs.Board.{tick_of}
 use Rattle.mic_rewind.specs.declared.kept_cycle.KeptCycle.{KeptCycle}
-use Rattle.mic_rewind.specs.States.{Fits, begin_behind, begun, stored}
-use Rattle.mic_rewind.specs.View.{HistoryView, IsHistory, appended, begun_at, moment_at, view_of}
+use Rattle.mic_rewind.specs.States.{Fits, begin_after, begun, stored}
+use Rattle.mic_rewind.specs.View.{AreKept, HistoryView, appended, begun_at, moment_at, view_from}
 use Rattle.mic_rewind.proofs.Zipping.{behind-length}
 use Rattle.mic_rewind.proofs.Placed.{placed_ahead, goes_ahead}
 use Rattle.mic_rewind.proofs.history.History.append.Goals as goal
@@ -13,11 +13,11 @@ invariant_of-self c =
     let h = c.self.inside in
     let b = begun_at h.first h.cycles in
     let cycle : KeptCycle = record { after = c.args.after; tick = c.args.tick; written = c.take_over-written.result } in
-    let no : length (view_of b h.behind (moment_at h.first h.cycles.items h.behind) h.memory.items).after ≡ 0 =
+    let no : length (view_from h.first h.cycles h.behind h.memory.items).after ≡ 0 =
     ap (λ (v : HistoryView). length v.after) c.self.view_is ∙ ap length c.requires.newest in
     let l = behind-length b h.behind h.memory.items c.self.invariant.cursor in
     let none : h.behind ≡ 0 = omega arith in
-    let is : IsHistory b 0 (moment_at h.first h.cycles.items 0) h.memory.items = subst (λ (n : ℕ). IsHistory b n (moment_at h.first h.cycles.items n) h.memory.items) none c.self.invariant in
+    let is : AreKept h.first h.cycles 0 h.memory.items = subst (λ (n : ℕ). AreKept h.first h.cycles n h.memory.items) none c.self.invariant in
     let ticks : c.args.tick ≡ tick_of (moment_at h.first h.cycles.items 0).counts c.args.after.counts None =
     subst (λ (n : ℕ). c.args.tick ≡ tick_of (moment_at h.first h.cycles.items n).counts c.args.after.counts None) none
     (c.requires.tick ∙ ap (λ (v : HistoryView). tick_of v.here.moment.counts c.args.after.counts None) (sym c.self.view_is)) in
@@ -28,23 +28,22 @@ invariant_of-self c =
       redoes = c.take_over-written.ensures.redoes;
       tick = ticks;
     } in
-    let first : c.begin_behind.new.first ≡ begin_behind (if nat_lt (length h.cycles.items) h.cycles.capacity then None else slice_get (h.cycles.items ++ cycle ∷ []) 0) h.first =
-    c.begin_behind.ensures ∙ ap (λ (o : Option KeptCycle). begin_behind o h.first) c.push_back-dropped.ensures.value in
-    let ahead = placed_ahead h.first h.cycles h.memory.items c.take_over-written.new.memory.items cycle is fits c.begin_behind.new.first first in
-    subst (λ (b : Buffer KeptCycle). IsHistory (begun_at c.begin_behind.new.first b) h.behind (moment_at c.begin_behind.new.first b.items h.behind) c.take_over-written.new.memory.items) (sym c.push_back-dropped.ensures.items)
-    (subst (λ (n : ℕ). IsHistory (begun_at c.begin_behind.new.first (buffer (keep_last h.cycles.capacity (h.cycles.items ++ cycle ∷ [])) h.cycles.capacity)) n
-    (moment_at c.begin_behind.new.first (keep_last h.cycles.capacity (h.cycles.items ++ cycle ∷ [])) n) c.take_over-written.new.memory.items) (sym none) ahead)
+    let first : c.begin_after.new.first ≡ begin_after (if nat_lt (length h.cycles.items) h.cycles.capacity then None else slice_get (h.cycles.items ++ cycle ∷ []) 0) h.first =
+    c.begin_after.ensures ∙ ap (λ (o : Option KeptCycle). begin_after o h.first) c.push_back-dropped.ensures.value in
+    let ahead = placed_ahead h.first h.cycles h.memory.items c.take_over-written.new.memory.items cycle is fits c.begin_after.new.first first in
+    subst (λ (b : Buffer KeptCycle). AreKept c.begin_after.new.first b h.behind c.take_over-written.new.memory.items) (sym c.push_back-dropped.ensures.items)
+    (subst (λ (n : ℕ). AreKept c.begin_after.new.first (buffer (keep_last h.cycles.capacity (h.cycles.items ++ cycle ∷ [])) h.cycles.capacity) n c.take_over-written.new.memory.items) (sym none) ahead)
 
 pub returns : goal.returns
 returns c =
     let h = c.self.inside in
     let b = begun_at h.first h.cycles in
     let cycle : KeptCycle = record { after = c.args.after; tick = c.args.tick; written = c.take_over-written.result } in
-    let no : length (view_of b h.behind (moment_at h.first h.cycles.items h.behind) h.memory.items).after ≡ 0 =
+    let no : length (view_from h.first h.cycles h.behind h.memory.items).after ≡ 0 =
     ap (λ (v : HistoryView). length v.after) c.self.view_is ∙ ap length c.requires.newest in
     let l = behind-length b h.behind h.memory.items c.self.invariant.cursor in
     let none : h.behind ≡ 0 = omega arith in
-    let is : IsHistory b 0 (moment_at h.first h.cycles.items 0) h.memory.items = subst (λ (n : ℕ). IsHistory b n (moment_at h.first h.cycles.items n) h.memory.items) none c.self.invariant in
+    let is : AreKept h.first h.cycles 0 h.memory.items = subst (λ (n : ℕ). AreKept h.first h.cycles n h.memory.items) none c.self.invariant in
     let ticks : c.args.tick ≡ tick_of (moment_at h.first h.cycles.items 0).counts c.args.after.counts None =
     subst (λ (n : ℕ). c.args.tick ≡ tick_of (moment_at h.first h.cycles.items n).counts c.args.after.counts None) none
     (c.requires.tick ∙ ap (λ (v : HistoryView). tick_of v.here.moment.counts c.args.after.counts None) (sym c.self.view_is)) in
@@ -55,15 +54,14 @@ returns c =
       redoes = c.take_over-written.ensures.redoes;
       tick = ticks;
     } in
-    let first : c.begin_behind.new.first ≡ begin_behind (if nat_lt (length h.cycles.items) h.cycles.capacity then None else slice_get (h.cycles.items ++ cycle ∷ []) 0) h.first =
-    c.begin_behind.ensures ∙ ap (λ (o : Option KeptCycle). begin_behind o h.first) c.push_back-dropped.ensures.value in
-    let ahead = goes_ahead h.first h.cycles h.memory.items c.take_over-written.new.memory.items cycle is fits c.begin_behind.new.first first in
+    let first : c.begin_after.new.first ≡ begin_after (if nat_lt (length h.cycles.items) h.cycles.capacity then None else slice_get (h.cycles.items ++ cycle ∷ []) 0) h.first =
+    c.begin_after.ensures ∙ ap (λ (o : Option KeptCycle). begin_after o h.first) c.push_back-dropped.ensures.value in
+    let ahead = goes_ahead h.first h.cycles h.memory.items c.take_over-written.new.memory.items cycle is fits c.begin_after.new.first first in
     let words : c.take_over-written.new.memory.items ≡ stored c.args.after.registers.mar c.args.word c.args.self.now.here.words =
     c.take_over-written.ensures.words ∙ ap (λ (v : HistoryView). stored c.args.after.registers.mar c.args.word v.here.words) c.self.view_is in
-    ap (λ (b : Buffer KeptCycle). view_of (begun_at c.begin_behind.new.first b) h.behind (moment_at c.begin_behind.new.first b.items h.behind) c.take_over-written.new.memory.items) c.push_back-dropped.ensures.items
-    ∙ (ap (λ (n : ℕ). view_of (begun_at c.begin_behind.new.first (buffer (keep_last h.cycles.capacity (h.cycles.items ++ cycle ∷ [])) h.cycles.capacity)) n
-    (moment_at c.begin_behind.new.first (keep_last h.cycles.capacity (h.cycles.items ++ cycle ∷ [])) n) c.take_over-written.new.memory.items) none
+    ap (λ (b : Buffer KeptCycle). view_from c.begin_after.new.first b h.behind c.take_over-written.new.memory.items) c.push_back-dropped.ensures.items
+    ∙ (ap (λ (n : ℕ). view_from c.begin_after.new.first (buffer (keep_last h.cycles.capacity (h.cycles.items ++ cycle ∷ [])) h.cycles.capacity) n c.take_over-written.new.memory.items) none
     ∙ (ahead
     ∙ (ap (λ (v : HistoryView). appended v (record { moment = c.args.after; words = c.take_over-written.new.memory.items }))
-    (ap (λ (n : ℕ). view_of b n (moment_at h.first h.cycles.items n) h.memory.items) (sym none) ∙ c.self.view_is)
+    (ap (λ (n : ℕ). view_from h.first h.cycles n h.memory.items) (sym none) ∙ c.self.view_is)
     ∙ ap (λ (ws : List ℕ). appended c.args.self.now (record { moment = c.args.after; words = ws })) words)))

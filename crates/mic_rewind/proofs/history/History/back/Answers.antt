@@ -1,7 +1,7 @@
 use Rattle.std.proofs.Common.{◌≡◌, ◌∙◌, sym, ap, subst, refl, ℕ, ◌+◌, ◌-◌, ◌<◌, ◌≤◌, List, [], length, arith, Some, Option, option_copied, slice_get, rules}
 use Rattle.std.specs.Option.{IsSome}
 use Rattle.mic_rewind.specs.declared.kept_cycle.KeptCycle.{KeptCycle}
-use Rattle.mic_rewind.specs.View.{HistoryView, GoesBack, IsHistory, begun_at, moment_at, view_of}
+use Rattle.mic_rewind.specs.View.{AreKept, GoesBack, HistoryView, begun_at, view_from}
 use Rattle.mic_rewind.proofs.Begun.{begun-length}
 use Rattle.mic_rewind.proofs.Zipping.{is_there, kept-length}
 use Rattle.mic_rewind.proofs.Keeping.{emptied}
@@ -17,7 +17,7 @@ overflow_sub-kept c =
 pub returns-then-kept-eq0-clause-stayed : goal.returns-then-kept-eq0-clause-stayed
 returns-then-kept-eq0-clause-stayed c =
     let h = c.self.inside in
-    let v = view_of (begun_at h.first h.cycles) h.behind (moment_at h.first h.cycles.items h.behind) h.memory.items in
+    let v = view_from h.first h.cycles h.behind h.memory.items in
     let n = begun-length h.first h.cycles.items in
     let k : length v.before ≡ length (begun_at h.first h.cycles).items - h.behind = kept-length (begun_at h.first h.cycles) h.behind h.memory.items in
     let len = c.len.ensures.len in
@@ -44,7 +44,7 @@ invariant_of-self c =
     subst (λ (n : ℕ). slice_get h.cycles.items (n - h.behind - 1) ≡ Some cycle) len (sym c.get.ensures ∙ ap option_copied c.unwrap-cycle.ensures) in
     let some : 0 < length h.cycles.items - h.behind = omega arith in
     let is = placed_back h.first h.cycles h.behind h.memory.items cycle c.self.invariant some got in
-    subst (λ (ws : List ℕ). IsHistory (begun_at h.first h.cycles) (h.behind + 1) (moment_at h.first h.cycles.items (h.behind + 1)) ws) (sym c.undo.ensures) is
+    subst (λ (ws : List ℕ). AreKept h.first h.cycles (h.behind + 1) ws) (sym c.undo.ensures) is
 
 pub returns-clause-went : goal.returns-clause-went
 returns-clause-went c =
@@ -57,5 +57,5 @@ returns-clause-went c =
     let went = goes_back h.first h.cycles h.behind h.memory.items cycle c.self.invariant some got in
     let b = begun_at h.first h.cycles in
     λ e.
-    subst (λ (v : HistoryView). GoesBack v (view_of b (h.behind + 1) (moment_at h.first h.cycles.items (h.behind + 1)) c.undo.new.memory.items)) c.self.view_is
-    (subst (λ (ws : List ℕ). GoesBack (view_of b h.behind (moment_at h.first h.cycles.items h.behind) h.memory.items) (view_of b (h.behind + 1) (moment_at h.first h.cycles.items (h.behind + 1)) ws)) (sym c.undo.ensures) went)
+    subst (λ (v : HistoryView). GoesBack v (view_from h.first h.cycles (h.behind + 1) c.undo.new.memory.items)) c.self.view_is
+    (subst (λ (ws : List ℕ). GoesBack (view_from h.first h.cycles h.behind h.memory.items) (view_from h.first h.cycles (h.behind + 1) ws)) (sym c.undo.ensures) went)

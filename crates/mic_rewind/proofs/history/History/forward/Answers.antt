@@ -2,7 +2,7 @@ use Rattle.std.proofs.Common.{◌≡◌, ◌∙◌, sym, ap, subst, ℕ, ◌-◌
 use Rattle.std.specs.Option.{IsSome}
 use Rattle.mic_rewind.specs.declared.kept_cycle.KeptCycle.{KeptCycle}
 use Rattle.mic_clock.specs.Board.{tick_of}
-use Rattle.mic_rewind.specs.View.{HistoryView, GoesBack, IsHistory, begun_at, moment_at, view_of}
+use Rattle.mic_rewind.specs.View.{AreKept, GoesBack, HistoryView, begun_at, moment_at, view_from}
 use Rattle.mic_rewind.proofs.Begun.{begun-length}
 use Rattle.mic_rewind.proofs.Zipping.{behind-length, is_there}
 use Rattle.mic_rewind.proofs.Placed.{placed_on, goes_on, tick_on}
@@ -18,7 +18,7 @@ pub unwrap-cycle-requires : goal.unwrap-cycle-requires
 unwrap-cycle-requires c =
     let h = c.self.inside in
     let b = begun_at h.first h.cycles in
-    let was : 0 < length (view_of b h.behind (moment_at h.first h.cycles.items h.behind) h.memory.items).after = subst (λ (v : HistoryView). 0 < length v.after) (sym c.self.view_is) c.requires in
+    let was : 0 < length (view_from h.first h.cycles h.behind h.memory.items).after = subst (λ (v : HistoryView). 0 < length v.after) (sym c.self.view_is) c.requires in
     let l = behind-length b h.behind h.memory.items c.self.invariant.cursor in
     let n = begun-length h.first h.cycles.items in
     let len = c.len.ensures.len in
@@ -36,11 +36,11 @@ invariant_of-self c =
     let cycle = c.unwrap-cycle.result.now in
     let got : slice_get h.cycles.items (length h.cycles.items - h.behind) ≡ Some cycle =
     subst (λ (n : ℕ). slice_get h.cycles.items (n - h.behind) ≡ Some cycle) c.len.ensures.len (sym c.get.ensures ∙ ap option_copied c.unwrap-cycle.ensures) in
-    let was : 0 < length (view_of b h.behind (moment_at h.first h.cycles.items h.behind) h.memory.items).after = subst (λ (v : HistoryView). 0 < length v.after) (sym c.self.view_is) c.requires in
+    let was : 0 < length (view_from h.first h.cycles h.behind h.memory.items).after = subst (λ (v : HistoryView). 0 < length v.after) (sym c.self.view_is) c.requires in
     let l = behind-length b h.behind h.memory.items c.self.invariant.cursor in
     let some : 0 < h.behind = omega arith in
     let is = placed_on h.first h.cycles h.behind h.memory.items cycle c.self.invariant some got in
-    subst (λ (ws : List ℕ). IsHistory b (h.behind - 1) (moment_at h.first h.cycles.items (h.behind - 1)) ws) (sym c.redo.ensures) is
+    subst (λ (ws : List ℕ). AreKept h.first h.cycles (h.behind - 1) ws) (sym c.redo.ensures) is
 
 pub returns-clause-went : goal.returns-clause-went
 returns-clause-went c =
@@ -49,12 +49,12 @@ returns-clause-went c =
     let cycle = c.unwrap-cycle.result.now in
     let got : slice_get h.cycles.items (length h.cycles.items - h.behind) ≡ Some cycle =
     subst (λ (n : ℕ). slice_get h.cycles.items (n - h.behind) ≡ Some cycle) c.len.ensures.len (sym c.get.ensures ∙ ap option_copied c.unwrap-cycle.ensures) in
-    let was : 0 < length (view_of b h.behind (moment_at h.first h.cycles.items h.behind) h.memory.items).after = subst (λ (v : HistoryView). 0 < length v.after) (sym c.self.view_is) c.requires in
+    let was : 0 < length (view_from h.first h.cycles h.behind h.memory.items).after = subst (λ (v : HistoryView). 0 < length v.after) (sym c.self.view_is) c.requires in
     let l = behind-length b h.behind h.memory.items c.self.invariant.cursor in
     let some : 0 < h.behind = omega arith in
     let went = goes_on h.first h.cycles h.behind h.memory.items cycle c.self.invariant some got in
-    subst (λ (v : HistoryView). GoesBack (view_of b (h.behind - 1) (moment_at h.first h.cycles.items (h.behind - 1)) c.redo.new.memory.items) v) c.self.view_is
-    (subst (λ (ws : List ℕ). GoesBack (view_of b (h.behind - 1) (moment_at h.first h.cycles.items (h.behind - 1)) ws) (view_of b h.behind (moment_at h.first h.cycles.items h.behind) h.memory.items)) (sym c.redo.ensures) went)
+    subst (λ (v : HistoryView). GoesBack (view_from h.first h.cycles (h.behind - 1) c.redo.new.memory.items) v) c.self.view_is
+    (subst (λ (ws : List ℕ). GoesBack (view_from h.first h.cycles (h.behind - 1) ws) (view_from h.first h.cycles h.behind h.memory.items)) (sym c.redo.ensures) went)
 
 pub returns-clause-tick : goal.returns-clause-tick
 returns-clause-tick c =
@@ -63,7 +63,7 @@ returns-clause-tick c =
     let cycle = c.unwrap-cycle.result.now in
     let got : slice_get h.cycles.items (length h.cycles.items - h.behind) ≡ Some cycle =
     subst (λ (n : ℕ). slice_get h.cycles.items (n - h.behind) ≡ Some cycle) c.len.ensures.len (sym c.get.ensures ∙ ap option_copied c.unwrap-cycle.ensures) in
-    let was : 0 < length (view_of b h.behind (moment_at h.first h.cycles.items h.behind) h.memory.items).after = subst (λ (v : HistoryView). 0 < length v.after) (sym c.self.view_is) c.requires in
+    let was : 0 < length (view_from h.first h.cycles h.behind h.memory.items).after = subst (λ (v : HistoryView). 0 < length v.after) (sym c.self.view_is) c.requires in
     let l = behind-length b h.behind h.memory.items c.self.invariant.cursor in
     let some : 0 < h.behind = omega arith in
     let t = tick_on h.first h.cycles h.behind h.memory.items cycle c.self.invariant some got in
