@@ -1,8 +1,9 @@
 -- How a plan leads the runs of a session on.
-use Rattle.std.proofs.Common.{◌≡◌, ◌⊎◌, ℕ, List, [], Bool, Option, Result, Ok, Err, refl, sym, ◌∙◌, subst}
+use Rattle.std.proofs.Common.{◌≡◌, ◌≢◌, ◌⊎◌, ℕ, List, [], Bool, Option, None, Some, Result, Ok, Err, refl, sym, ◌∙◌, subst}
 use Rattle.std.specs.Prelude.{OnOk, OnErr}
 use Rattle.mic_base.specs.Causes.{Rose}
 use Rattle.console_port.specs.Console.{Untaken}
+use Rattle.mic_clock.specs.declared.end.End.TheVariants as ends
 use Rattle.mic_clock.specs.Meaning.{Meaning}
 use Rattle.mic_clock.specs.Run.{MicroRun}
 use Rattle.mic_clock.specs.View.{BoardView}
@@ -12,14 +13,14 @@ use Rattle.mic_debugger.specs.declared.plan.Plan.{Plan}
 use Rattle.mic_debugger.specs.declared.plan.Plan.TheVariants as plans
 use Rattle.mic_debugger.specs.declared.plan.Shown.{Shown}
 use Rattle.mic_debugger.specs.declared.until.Until.{Until}
-use Rattle.mic_debugger.specs.Book.{Book}
+use Rattle.mic_debugger.specs.Book.{Book, IsBookOf}
 use Rattle.mic_debugger.specs.Clocking.{after, printed}
 use Rattle.mic_debugger.specs.Commands.{command_of}
 use Rattle.mic_debugger.specs.Obeys.{DoesTo, IsCarriedOut, IsPlanBroken, StopsTo, plan_in}
 use Rattle.mic_debugger.specs.Plans.{breaks_after, plan_of, shown_text, watched_after}
-use Rattle.mic_debugger.specs.Session.{ClocksInPart, ClocksThrough}
+use Rattle.mic_debugger.specs.Session.{IsBroken}
 use Rattle.mic_debugger.specs.Stand.{Carries, IsWhole, plan_at, rules_of, stand_in}
-use Rattle.mic_debugger.specs.Outcome.{GoesThrough, NoSinkFailed, Streams}
+use Rattle.mic_debugger.specs.Outcome.{GoesThrough, NoSinkFailed, SinkFailed, Streams}
 use Rattle.mic_debugger.specs.View.{SessionView}
 
 -- what holds where a call answers Ok or Err
@@ -58,30 +59,12 @@ module _ {M State : Type 0} (state : M → State) where
       λ i. shown_text book v.listing.memory (m.registers (sym here.its_state i)) (sym here.counts i) (sym here.world.words i) shown
 
   module _ (m : Meaning State) (v : SessionView M) (board : BoardView M) (at at' : Streams) (u : Until) (times : ℕ) where
-    -- a clocking command that was done carries its plan out
-    pub clocked_carried : ClocksThrough state m v.listing v.breaks v.bound u times v.board board at at' → IsCarriedOut state m v board at at' (plans.Clock u times)
-    clocked_carried through =
-        record {
-          led = λ well book is_book.
-              let far = through.led well book is_book in (
-                far.0,
-                far.1,
-                led_on at.input.left at.out.held v.board at'.input.left board board _ _ refl
-                    (λ r rest here c. (after m book v.board.store.words v.breaks v.bound u c.0 r, (c.0, c.1.done, refl, c.1.lines), c.1.here, c.1.untaken)) far.2,
-              );
-          stopped = λ none read book is_book.
-              let far = through.stopped none read book is_book in (
-                far.0,
-                far.1,
-                led_on at.input.left at.out.held v.board at'.input.left board board _ _ refl (λ r rest here s. (u, times, refl, s.0, s.1, s.2)) far.2,
-              );
-          unbroken = through.unbroken;
-          sinks = through.sinks;
-        }
-
-    -- one that was broken off breaks it off
-    pub clocked_broken : ClocksInPart state m v.listing v.breaks v.bound u times v.board board at at' → IsPlanBroken state m v board at at' (plans.Clock u times)
-    clocked_broken broken =
+    -- a clocking command that was broken off breaks its plan off
+    pub clocked_broken : ((v.board.end ≡ None → board.end ≢ Some ends.ReadFault) → (book : Book) → IsBookOf v.listing book →
+        IsLedTo state at.input.left at.out.held v.board at'.input.left board
+        (λ r rest. (n : ℕ) × IsBroken state m book v.board.store.words v.breaks v.bound u times at'.out.held board at.err.held at'.err.held n r)) →
+        SinkFailed at at' → IsPlanBroken state m v board at at' (plans.Clock u times)
+    clocked_broken broken failed =
         record {
           breaks = λ unread book is_book.
               led_on at.input.left at.out.held v.board at'.input.left board board _ _ refl
@@ -93,8 +76,8 @@ module _ {M State : Type 0} (state : M → State) where
                 here = b.1.here;
                 out = b.1.out;
                 err = b.1.err;
-              }) (broken.breaks unread book is_book);
-          failed = broken.failed;
+              }) (broken unread book is_book);
+          failed = failed;
         }
 
 -- ---- a flush after a plan

@@ -6,10 +6,11 @@ use Rattle.mic_clock.specs.Meaning.{Meaning}
 use Rattle.mic_clock.specs.Run.{MicroRun, word_at, turn, turns, bounded}
 use Rattle.mic_clock.specs.View.{BoardView}
 use Rattle.mic_clock.specs.Board.{ShowsRun, IsLedTo, IsCutByRead, Leads}
+use Rattle.mic_debugger.specs.declared.plan.Plan.TheVariants as plans
 use Rattle.mic_debugger.specs.declared.until.Until.{Until}
 use Rattle.mic_debugger.specs.Book.{Book}
-use Rattle.mic_debugger.specs.Clocking.{turn_text, counted_turn, after, turn_lines, passed, IsGoing}
-use Rattle.mic_debugger.specs.Session.{text_between, IsUnderway, IsClocked, IsStopped}
+use Rattle.mic_debugger.specs.Clocking.{turn_text, counted_turn, after, turn_lines, passed, printed, IsDone, IsGoing}
+use Rattle.mic_debugger.specs.Session.{text_between, IsUnderway, IsStopped}
 
 module _ {M State : Type 0} (state : M → State) (m : Meaning State) (book : Book) (words breaks : List ℕ) (bound : ℕ) (u : Until) (times : ℕ) where
   -- one turn more
@@ -93,7 +94,8 @@ module _ {M State : Type 0} (state : M → State) (m : Meaning State) (book : Bo
         IsLedTo state left held board left' board'
         (λ r rest. (k : ℕ) × Leads state m board.store.words (Some bound) board' board.buses rest k r (IsCutByRead state m board.store.words (Some bound) left' held' board')) →
         IsLedTo state left0 held0 board0 left' board'
-        (λ r rest. (n : ℕ) × (k : ℕ) × IsStopped state m book words breaks bound u times left' held' board' rest (text ++ text_between state m book breaks u board board') n k r)
+        (λ r rest. (u' : Until) × (times' : ℕ) × (plans.Clock u times ≡ plans.Clock u' times') × (n : ℕ) × (k : ℕ)
+        × IsStopped state m book words breaks bound u' times' left' held' board' rest (text ++ text_between state m book breaks u board board') n k r)
     underway_stopped ended cut rest fits =
         let one = cut rest fits in
         let far = led one.0 one.1 in (
@@ -106,6 +108,9 @@ module _ {M State : Type 0} (state : M → State) (m : Meaning State) (book : Bo
               let next = one.2 before at.1.here at.1.untaken in
               let k = next.0 in
               let so_far : passed m book words breaks bound u n r + w ≡ times = at.1.count in (
+                u,
+                times,
+                refl,
                 n,
                 k,
                 record {
@@ -122,7 +127,9 @@ module _ {M State : Type 0} (state : M → State) (m : Meaning State) (book : Bo
   pub clocked_of : (left0 held0 : Option (List ℕ)) (board0 : BoardView M) (left held : Option (List ℕ)) (board : BoardView M) (text : List ℕ) (w : ℕ) →
       IsSome board.end ⊎ (w ≡ 0) →
       IsLedTo state left0 held0 board0 left board (λ r rest. (n : ℕ) × IsUnderway state m book words breaks bound u times left held board rest text w n r) →
-      IsLedTo state left0 held0 board0 left board (λ r rest. (n : ℕ) × IsClocked state m book words breaks bound u times left held board rest text n r)
+      IsLedTo state left0 held0 board0 left board
+      (λ r rest. (run : MicroRun State) × ((n : ℕ) × IsDone m book words breaks bound u times n r × (run ≡ after m book words breaks bound u n r) × (text ≡ printed m book words breaks bound u n r))
+      × ShowsRun state left held board run × (run.world.untaken ≡ rest))
   clocked_of left0 held0 board0 left held board text w over led rest fits =
       let far = led rest fits in (
         far.0,
@@ -130,18 +137,20 @@ module _ {M State : Type 0} (state : M → State) (m : Meaning State) (book : Bo
         λ r s e.
             let at = far.2 r s e in
             let so_far : passed m book words breaks bound u at.0 r + w ≡ times = at.1.count in (
-              at.0,
-              record {
-                here = at.1.here;
-                untaken = at.1.untaken;
-                done = record {
+              after m book words breaks bound u at.0 r,
+              (
+                at.0,
+                record {
                   going = at.1.going;
                   over = elim over [
                     | inl ended ↦ inl (subst IsSome (sym at.1.here.its_end) ended)
                     | inr none ↦ inr (omega arith)
                   ];
-                };
-                lines = at.1.lines;
-              },
+                },
+                refl,
+                at.1.lines,
+              ),
+              at.1.here,
+              at.1.untaken,
             ),
       )

@@ -1,5 +1,5 @@
 -- What a session does with a line.
-use Rattle.std.specs.Prelude.{◌≡◌, ℕ, List, []}
+use Rattle.std.specs.Prelude.{◌≡◌, ℕ, List, [], Option}
 use Rattle.mic_base.specs.Streams.{IsFlushed}
 use Rattle.mic_clock.specs.Meaning.{Meaning}
 use Rattle.mic_clock.specs.Run.{MicroRun}
@@ -17,11 +17,16 @@ use Rattle.mic_debugger.specs.Outcome.{GoesThrough, IsBrokenOff, Streams}
 use Rattle.mic_debugger.specs.Plans.{breaks_after, plan_of, watched_after}
 use Rattle.mic_debugger.specs.Session.{IsStopped, StandsAfter}
 use Rattle.mic_debugger.specs.Stand.{Carries, Does, IsPart, IsWhole, Rules, Stand, StandsAt, plan_at, rules_of, stand_in}
-use Rattle.mic_debugger.specs.View.{SessionView}
+use Rattle.mic_debugger.specs.View.{ListingView, SessionView}
 
 -- what a line comes to in a session
 abbrev pub plan_in : {M : Type 0} → SessionView M → List ℕ → Plan
 plan_in v line = plan_of v.board.end v.breaks v.watched v.board.bus.words (command_of v.listing.memory line)
+
+-- a session over a board
+abbrev pub session_at : {M : Type 0} → BoardView M → ListingView → ℕ → List ℕ → Option ℕ → SessionView M
+session_at board listing bound breaks watched =
+    record { board = board; listing = listing; bound = bound; breaks = breaks; watched = watched }
 
 -- no line changes what a session lists, its bound and its control store
 pub record KeepsRules {M : Type 0} (old new : SessionView M) : Type 0 where

@@ -12,9 +12,7 @@ use Rattle.cli_session.specs.Meaning.{IsFrontOf}
 use Rattle.mic_debugger.specs.declared.until.Until.{Until}
 use Rattle.mic_debugger.specs.Book.{Book}
 use Rattle.cli_session.specs.Texts.{end_line}
-use Rattle.mic_debugger.specs.Clocking.{turn_text, after, printed, passed, IsGoing, IsDone, IsTold}
-use Rattle.mic_debugger.specs.Outcome.{GoesThrough, IsBrokenOff, Streams}
-use Rattle.mic_debugger.specs.View.{ListingView}
+use Rattle.mic_debugger.specs.Clocking.{turn_text, after, printed, passed, IsGoing, IsTold}
 
 -- a failing source ends a board, and only that raises its count
 pub record HasReadCause (before now : ℕ) (end : Option End) : Type 0 where
@@ -43,13 +41,6 @@ module _ {M State : Type 0} (state : M → State) (m : Meaning State) (book : Bo
     pub count : passed m book words breaks bound u n r + left_over ≡ times
     pub lines : text ≡ printed m book words breaks bound u n r
 
-  -- It is done, and led to this board, with this text.
-  pub record IsClocked (left held : Option (List ℕ)) (board : BoardView M) (rest text : List ℕ) (n : ℕ) (r : MicroRun State) : Type 0 where
-    pub here : ShowsRun state left held board (after m book words breaks bound u n r)
-    pub untaken : (after m book words breaks bound u n r).world.untaken ≡ rest
-    pub done : IsDone m book words breaks bound u times n r
-    pub lines : text ≡ printed m book words breaks bound u n r
-
   -- A failing source stopped it: the run is cut k turns behind the n that were made, and the end line is printed.
   pub record IsStopped (left held : Option (List ℕ)) (board : BoardView M) (rest text : List ℕ) (n k : ℕ) (r : MicroRun State) : Type 0 where
     pub cut : IsCutByRead state m words (Some bound) left held board (turns m words (Some bound) k (after m book words breaks bound u n r))
@@ -66,18 +57,3 @@ module _ {M State : Type 0} (state : M → State) (m : Meaning State) (book : Bo
     pub out : IsFrontOf held (after m book words breaks bound u n r).world.given
     pub err : GotInPart said (printed m book words breaks bound u n r) said'
     pub told : IsTold m book words breaks bound u said said' n r
-
-module _ {M State : Type 0} (state : M → State) (m : Meaning State) (listing : ListingView) (breaks : List ℕ) (bound : ℕ) (u : Until) (times : ℕ)
-    (board board' : BoardView M) (at at' : Streams) where
-  -- a clocking command was done
-  abbrev pub ClocksThrough : Type 0
-  ClocksThrough =
-      GoesThrough state listing at at' board board'
-      (λ book text r rest. (n : ℕ) × IsClocked state m book board.store.words breaks bound u times at'.input.left at'.out.held board' rest text n r)
-      (λ book text r rest. (n : ℕ) × (k : ℕ) × IsStopped state m book board.store.words breaks bound u times at'.input.left at'.out.held board' rest text n k r)
-
-  -- it was broken off
-  abbrev pub ClocksInPart : Type 0
-  ClocksInPart =
-      IsBrokenOff state listing at at' board board'
-      (λ book r rest. (n : ℕ) × IsBroken state m book board.store.words breaks bound u times at'.out.held board' at.err.held at'.err.held n r)

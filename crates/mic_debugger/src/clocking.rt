@@ -11,8 +11,10 @@ ghost use Rattle.mic_debugger.specs.Book.{Book, IsBookOf};
 ghost use Rattle.mic_debugger.specs.InTime.{InTime};
 ghost use Rattle.cli_session.specs.Texts.{end_line};
 ghost use Rattle.mic_debugger.specs.Clocking.{comes, counted_turn, first_piece, has_break, has_changed, is_at_boundary, second_piece, turn_text};
-ghost use Rattle.mic_debugger.specs.Session.{ClocksInPart, ClocksThrough, HasReadCause, text_between};
+ghost use Rattle.mic_debugger.specs.Session.{HasReadCause, text_between};
+ghost use Rattle.mic_debugger.specs.Obeys.{IsCarriedOut, IsPlanBroken, session_at};
 ghost use Rattle.mic_debugger.specs.Outcome.{KeepFronts, streams};
+ghost use Rattle.mic_debugger.specs.declared.plan.Plan.TheVariants as plans;
 ghost use Rattle.cli_outside.specs.Outside.{Got, GotInPart};
 
 use crate::fault::SessionFault;
@@ -206,14 +208,16 @@ impl Clocking<'_> {
         requires live { board.old.end ≡ None }
         requires bound { self.now.bound ≤ 2 ^ 62 }
         requires in_time { InTime (2 ^ 62) board.old.counts (M.meaning.is_boundary (M.state board.old.machine)) board.old.end }
-        ensures done { OnOk result (ClocksThrough M.state M.meaning self.now.listing.now
-            self.now.breaks.now self.now.bound self.now.until times board.old board.new
+        ensures done { OnOk result ((watched : Option ℕ) → IsCarriedOut M.state M.meaning
+            (session_at board.old self.now.listing.now self.now.bound self.now.breaks.now watched) board.new
             (streams S.left S.faults input.old K.held K.passed K.faults out.old E.held E.passed E.faults err.old)
-            (streams S.left S.faults input.new K.held K.passed K.faults out.new E.held E.passed E.faults err.new)) }
-        ensures broken { OnErr result (ClocksInPart M.state M.meaning self.now.listing.now
-            self.now.breaks.now self.now.bound self.now.until times board.old board.new
+            (streams S.left S.faults input.new K.held K.passed K.faults out.new E.held E.passed E.faults err.new)
+            (plans.Clock self.now.until times)) }
+        ensures broken { OnErr result ((watched : Option ℕ) → IsPlanBroken M.state M.meaning
+            (session_at board.old self.now.listing.now self.now.bound self.now.breaks.now watched) board.new
             (streams S.left S.faults input.old K.held K.passed K.faults out.old E.held E.passed E.faults err.old)
-            (streams S.left S.faults input.new K.held K.passed K.faults out.new E.held E.passed E.faults err.new)) }
+            (streams S.left S.faults input.new K.held K.passed K.faults out.new E.held E.passed E.faults err.new)
+            (plans.Clock self.now.until times)) }
         ensures input { HasReadCause (S.faults input.old) (S.faults input.new) board.new.end }
         ensures store { board.new.store ≡ board.old.store }
         ensures in_time { InTime (2 ^ 62) board.new.counts (M.meaning.is_boundary (M.state board.new.machine)) board.new.end }

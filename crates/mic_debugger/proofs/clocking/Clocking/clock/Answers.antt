@@ -1,12 +1,14 @@
 use Rattle.std.proofs.Common.{◌≡◌, ◌⊎◌, ◌+◌, ◌<◌, ◌++◌, ◌∙◌, ◌^◌, ℕ, [], None, Ok, IsSome, refl, sym, ap, rules}
 use Rattle.micro_word.specs.ControlStore.{ControlStore}
 use Rattle.mic_clock.specs.Run.{word_at}
+use Rattle.mic_debugger.specs.Obeys.{session_at}
+use Rattle.mic_debugger.specs.Outcome.{streams}
 use Rattle.mic_debugger.specs.Session.{text_between}
 use Rattle.mic_debugger.proofs.Putting.{puts_nothing, puts_then}
 use Rattle.mic_debugger.proofs.Timing.{InTime-step}
 use Rattle.mic_debugger.proofs.Breaking.{broken_more, no_fault, on_err_of}
 use Rattle.mic_debugger.proofs.Underway.{underway_start, underway_more, underway_stopped, clocked_of}
-use Rattle.mic_debugger.proofs.Carrying.{failed_after}
+use Rattle.mic_debugger.proofs.Carrying.{clocked_broken, failed_after}
 use Rattle.mic_debugger.proofs.InputCauses.{cause_start, cause_more}
 use Rattle.mic_debugger.proofs.clocking.Clocking.clock.Goals as goal
 
@@ -101,6 +103,7 @@ returns-clause-done g c =
     let board = c.turns.board in
     let over : IsSome board.end ⊎ (c.turns.left ≡ 0) = search rules in
     let through = c.turns.invariant.through in
+    λ watched.
     record {
       led = λ q book is_book.
           let at = through.led q book is_book in (
@@ -126,17 +129,18 @@ returns-in_err-came-clause-broken g c =
     let live : old.end ≡ None = search rules in
     let some : 0 < c.turns.left = search rules in
     let program : old.store.words ≡ first.store.words = ap (λ (s : ControlStore). s.words) inv.store in
+    let at = streams g.S.Source.left g.S.Source.faults c.args.input.now g.K.Sink.held g.K.Sink.passed g.K.Sink.faults c.args.out.now g.E.Sink.held g.E.Sink.passed g.E.Sink.faults c.args.err.now in
+    let at' = streams g.S.Source.left g.S.Source.faults c.turn.new.input g.K.Sink.held g.K.Sink.passed g.K.Sink.faults c.turn.new.out g.E.Sink.held g.E.Sink.passed g.E.Sink.faults c.turn.new.err in
     on_err_of _ c.from_residual.result
-    (record {
-      breaks = λ unread book is_book.
-          let before = inv.through.led (λ _ e. cc) book is_book in
-          broken_more state m book first.store.words self.breaks.now self.bound self.until c.args.times (g.S.Source.left c.args.input.now) (g.K.Sink.held c.args.out.now) first
-          (g.S.Source.left c.turns.input) (g.K.Sink.held c.turns.out) old (g.S.Source.left c.turn.new.input) (g.K.Sink.held c.turn.new.out) new
-          before.0 c.turns.left program live some before.2 (g.E.Sink.held c.args.err.now) (g.E.Sink.held c.turns.err) (g.E.Sink.held c.turn.new.err) before.1
-          c.turn.ensures.still (unread c.requires.live) c.turn.ensures.turn c.turn.ensures.write (λ well. c.in_err-came.ensures.front well book is_book) c.turn.ensures.silent;
-      failed = failed_after (g.K.Sink.faults c.args.out.now) (g.K.Sink.faults c.turns.out) (g.K.Sink.faults c.turn.new.out)
-          (g.E.Sink.faults c.args.err.now) (g.E.Sink.faults c.turns.err) (g.E.Sink.faults c.turn.new.err) inv.through.sinks.out inv.through.sinks.err c.in_err-came.ensures.rose;
-    })
+    (λ watched.
+    clocked_broken state m (session_at first self.listing.now self.bound self.breaks.now watched) new at at' self.until c.args.times
+    (λ unread book is_book.
+    let before = inv.through.led (λ _ e. cc) book is_book in
+    broken_more state m book first.store.words self.breaks.now self.bound self.until c.args.times (g.S.Source.left c.args.input.now) (g.K.Sink.held c.args.out.now) first
+    (g.S.Source.left c.turns.input) (g.K.Sink.held c.turns.out) old (g.S.Source.left c.turn.new.input) (g.K.Sink.held c.turn.new.out) new
+    before.0 c.turns.left program live some before.2 (g.E.Sink.held c.args.err.now) (g.E.Sink.held c.turns.err) (g.E.Sink.held c.turn.new.err) before.1
+    c.turn.ensures.still (unread c.requires.live) c.turn.ensures.turn c.turn.ensures.write (λ well. c.in_err-came.ensures.front well book is_book) c.turn.ensures.silent)
+    (failed_after at.out.faults (g.K.Sink.faults c.turns.out) at'.out.faults at.err.faults (g.E.Sink.faults c.turns.err) at'.err.faults inv.through.sinks.out inv.through.sinks.err c.in_err-came.ensures.rose))
 
 pub returns-in_err-came-clause-keeps : goal.returns-in_err-came-clause-keeps
 returns-in_err-came-clause-keeps g c =

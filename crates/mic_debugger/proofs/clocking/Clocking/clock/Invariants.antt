@@ -1,6 +1,8 @@
-use Rattle.std.proofs.Common.{◌≡◌, ℕ, ◌+◌, ◌-◌, ◌^◌, is_some, if◌then◌else◌}
+use Rattle.std.proofs.Common.{◌≡◌, ℕ, ◌+◌, ◌-◌, ◌^◌, None, is_some, if◌then◌else◌}
+use Rattle.mic_debugger.specs.declared.plan.Plan.TheVariants as plans
+use Rattle.mic_debugger.specs.Obeys.{StopsTo, session_at}
 use Rattle.mic_debugger.specs.Outcome.{GoesThrough, KeepFronts, streams}
-use Rattle.mic_debugger.specs.Session.{HasReadCause, IsUnderway, IsStopped}
+use Rattle.mic_debugger.specs.Session.{HasReadCause, IsUnderway}
 use Rattle.mic_debugger.specs.InTime.{InTime}
 use Rattle.mic_debugger.proofs.clocking.Clocking.clock.Given as goal
 
@@ -12,13 +14,12 @@ invariant-turns g l =
     let left = g.S.Source.left l.input in
     let held = g.K.Sink.held l.out in
     let words = l.fn.board.store.words in
+    let at = streams g.S.Source.left g.S.Source.faults l.fn.input g.K.Sink.held g.K.Sink.passed g.K.Sink.faults l.fn.out g.E.Sink.held g.E.Sink.passed g.E.Sink.faults l.fn.err in
+    let at' = streams g.S.Source.left g.S.Source.faults l.input g.K.Sink.held g.K.Sink.passed g.K.Sink.faults l.out g.E.Sink.held g.E.Sink.passed g.E.Sink.faults l.err in
     record {
-      through : GoesThrough state l.self.listing.now
-          (streams g.S.Source.left g.S.Source.faults l.fn.input g.K.Sink.held g.K.Sink.passed g.K.Sink.faults l.fn.out g.E.Sink.held g.E.Sink.passed g.E.Sink.faults l.fn.err)
-          (streams g.S.Source.left g.S.Source.faults l.input g.K.Sink.held g.K.Sink.passed g.K.Sink.faults l.out g.E.Sink.held g.E.Sink.passed g.E.Sink.faults l.err)
-          l.fn.board l.board
+      through : GoesThrough state l.self.listing.now at at' l.fn.board l.board
           (λ book text r rest. (n : ℕ) × IsUnderway state m book words l.self.breaks.now l.self.bound l.self.until l.times left held l.board rest text l.left n r)
-          (λ book text r rest. (n : ℕ) × (k : ℕ) × IsStopped state m book words l.self.breaks.now l.self.bound l.self.until l.times left held l.board rest text n k r);
+          (StopsTo state m (session_at l.fn.board l.self.listing.now l.self.bound l.self.breaks.now None) l.board at at' (plans.Clock l.self.until l.times));
       input : HasReadCause (g.S.Source.faults l.fn.input) (g.S.Source.faults l.input) l.board.end;
       store : l.board.store ≡ l.fn.board.store;
       keeps : KeepFronts (g.K.Sink.held l.fn.out) held (g.E.Sink.held l.fn.err) (g.E.Sink.held l.err);

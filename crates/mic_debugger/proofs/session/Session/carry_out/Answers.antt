@@ -1,10 +1,12 @@
 use Rattle.std.proofs.Common.{subst}
 use Rattle.cli_outside.specs.Outside.{sink_of}
+use Rattle.mic_debugger.specs.declared.plan.Plan.{Plan}
+use Rattle.mic_debugger.specs.declared.plan.Plan.TheVariants as plans
+use Rattle.mic_debugger.specs.Obeys.{IsCarriedOut, IsPlanBroken}
 use Rattle.mic_debugger.specs.Outcome.{Streams, streams}
-use Rattle.mic_debugger.specs.Session.{ClocksInPart, ClocksThrough}
 use Rattle.mic_debugger.specs.View.{SessionView}
 use Rattle.mic_debugger.proofs.Breaking.{shown_broken, shown_carried}
-use Rattle.mic_debugger.proofs.Carrying.{clocked_broken, clocked_carried, on_err_map, on_ok_map}
+use Rattle.mic_debugger.proofs.Carrying.{on_err_map, on_ok_map}
 use Rattle.mic_debugger.proofs.session.Session.carry_out.Given.{Over}
 use Rattle.mic_debugger.proofs.session.Session.carry_out.Goals as goal
 
@@ -14,33 +16,23 @@ between g input out err =
 
 pub returns-in-Clock-clause-done : goal.returns-in-Clock-clause-done
 returns-in-Clock-clause-done g c =
-    let state = g.M.Clocked.state in
-    let m = g.M.Clocked.meaning in
     let at = between g c.args.input.now c.args.out.now c.args.err.now in
     let at' = between g c.clock.new.input c.clock.new.out c.clock.new.err in
-    let u = c.in-Clock.until in
-    let times = c.in-Clock.times in
-    let board' = c.clock.new.board in
+    let plan : Plan = plans.Clock c.in-Clock.until c.in-Clock.times in
     let done = rw c.as_slice.ensures at c.clock.ensures.done in
     rw c.in-Clock.is
     (on_ok_map _ _ c.clock.result
-    (λ through. clocked_carried state m c.args.self.now board' at at' u times
-    (subst (λ (v : SessionView g.row.M.Denot). ClocksThrough state m v.listing v.breaks v.bound u times v.board board' at at') c.self.view_is through)) done)
+    (λ by. subst (λ (v : SessionView g.row.M.Denot). IsCarriedOut g.M.Clocked.state g.M.Clocked.meaning v c.clock.new.board at at' plan) c.self.view_is (by c.self.inside.watched)) done)
 
 pub returns-in-Clock-clause-broken : goal.returns-in-Clock-clause-broken
 returns-in-Clock-clause-broken g c =
-    let state = g.M.Clocked.state in
-    let m = g.M.Clocked.meaning in
     let at = between g c.args.input.now c.args.out.now c.args.err.now in
     let at' = between g c.clock.new.input c.clock.new.out c.clock.new.err in
-    let u = c.in-Clock.until in
-    let times = c.in-Clock.times in
-    let board' = c.clock.new.board in
+    let plan : Plan = plans.Clock c.in-Clock.until c.in-Clock.times in
     let broken = rw c.as_slice.ensures at c.clock.ensures.broken in
     rw c.in-Clock.is
     (on_err_map _ _ c.clock.result
-    (λ part. clocked_broken state m c.args.self.now board' at at' u times
-    (subst (λ (v : SessionView g.row.M.Denot). ClocksInPart state m v.listing v.breaks v.bound u times v.board board' at at') c.self.view_is part)) broken)
+    (λ by. subst (λ (v : SessionView g.row.M.Denot). IsPlanBroken g.M.Clocked.state g.M.Clocked.meaning v c.clock.new.board at at' plan) c.self.view_is (by c.self.inside.watched)) broken)
 
 pub returns-in-Ok-clause-done : goal.returns-in-Ok-clause-done
 returns-in-Ok-clause-done g c =
