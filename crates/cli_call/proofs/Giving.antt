@@ -18,7 +18,7 @@ use Rattle.mic2_fetch_unit.specs.FetchUnit.{edge_refusal}
 use Rattle.mic2_datapath.specs.Mic2.{mic2_meaning, step_of_word as step_of_word2}
 use Rattle.mic2_datapath.specs.Micro.{Micro}
 use Rattle.mic2_datapath.specs.Microstep as mic2
-use Rattle.cli_debug.specs.Stand.{OnlyGives}
+use Rattle.cli_session.specs.Giving.{OnlyGives}
 
 abbrev Gives : World → World → Type 0
 Gives w v = (more : List ℕ) × (v.given ≡ w.given ++ more)

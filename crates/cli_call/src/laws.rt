@@ -11,7 +11,7 @@ ghost use Rattle.verifier_facts.specs.Accepted.{VerifiedView};
 ghost use Rattle.tiny_tree.specs.Tree.{Program};
 ghost use Rattle.tiny_parser.specs.Texts.{Spells};
 ghost use Rattle.tiny_compiler.specs.Compiled.{IsCompiled};
-ghost use Rattle.cli_debug.specs.Stand.{OnlyGives};
+ghost use Rattle.cli_session.specs.Giving.{OnlyGives};
 ghost use Rattle.cli_outside.specs.Status as exits;
 ghost use Rattle.cli_outside.specs.Outside.{OutsideView};
 ghost use Rattle.cli_words.specs.Words.{Reference, Run};

@@ -20,7 +20,8 @@ use Rattle.mic_debugger.specs.Outcome.{KeepFronts}
 use Rattle.cli_session.specs.Meaning.{IsCutShort, IsFrontOf, place}
 use Rattle.mic_debugger.specs.View.{SessionView}
 use Rattle.cli_outside.specs.Outside.{GotInPart, OutsideView}
-use Rattle.cli_debug.specs.Stand.{IsBrokenOff, OnlyGives}
+use Rattle.cli_session.specs.Giving.{OnlyGives}
+use Rattle.cli_debug.specs.Stand.{IsBrokenOff}
 use Rattle.cli_debug.specs.Debugging.{debugging, debugging_view}
 use Rattle.cli_debug.proofs.Standing.{leads_on, no_rise, same_stand, streams_at}
 

@@ -1,7 +1,6 @@
 -- What a failing sink leaves of a line of the debugger, and which line ends it.
-use Rattle.std.specs.Prelude.{◌≡◌, ℕ, Bool, true, false, List, ◌++◌, Option, Some, None, Result, Ok, Err}
-use Rattle.console_port.specs.World.{World}
-use Rattle.mic_clock.specs.Meaning.{Meaning, Done}
+use Rattle.std.specs.Prelude.{ℕ, Bool, true, false, List, Option, Some, None, Result, Ok, Err}
+use Rattle.mic_clock.specs.Meaning.{Meaning}
 use Rattle.mic_clock.specs.Run.{MicroRun}
 use Rattle.cli_session.specs.declared.reading.Command.{Command}
 use Rattle.cli_session.specs.declared.reading.CommandError.{CommandError}
@@ -11,6 +10,7 @@ use Rattle.mic_debugger.specs.declared.table.Verb.{Verb}
 use Rattle.mic_debugger.specs.declared.table.Verb.TheVariants as verbs
 use Rattle.mic_debugger.specs.Commands.{command_of}
 use Rattle.mic_debugger.specs.Stand.{Carries, Does, IsPart, Rules, Stand, plan_at}
+use Rattle.cli_session.specs.Giving.{OnlyGives}
 use Rattle.cli_session.specs.Meaning.{IsFrontOf}
 use Rattle.cli_outside.specs.Outside.{GotInPart}
 
@@ -32,10 +32,6 @@ is_quit memory line = is_quit_in (command_of memory line)
 abbrev pub is_quit_reply : Reply → Bool
 is_quit_reply replies.Quit = true
 is_quit_reply reply = false
-
--- a machine that only adds to what it has given
-abbrev pub OnlyGives : {State : Type 0} → Meaning State → Type 0
-OnlyGives {State} m = (word : ℕ) (s s' : State) (w w' : World) → m.step word s w ≡ Done s' w' → (more : List ℕ) × (w'.given ≡ w.given ++ more)
 
 -- A failing sink broke a line off at a moment: `out` holds a front of what was given by then, and `err` got a front
 -- of what was printed. So they are fronts too of what the line gives and prints where it is done whole.

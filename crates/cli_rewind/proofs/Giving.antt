@@ -6,7 +6,8 @@ use Rattle.mic_clock.specs.declared.end.End.{End}
 use Rattle.mic_clock.specs.Meaning.{Meaning, Outcome, Done, Refused}
 use Rattle.mic_clock.specs.Run.{MicroRun, after_end_or_step, after_step, end_before, turn_by, word_at}
 use Rattle.cli_session.specs.Meaning.{IsFrontOf}
-use Rattle.cli_rewind.specs.Stand.{GoesForward, OnlyGives, Stand, StopsBy, run_at}
+use Rattle.cli_session.specs.Giving.{OnlyGives}
+use Rattle.cli_rewind.specs.Stand.{GoesForward, Stand, StopsBy, run_at}
 use Rattle.cli_rewind.proofs.Turning.{earlier, turned}
 
 abbrev IsFront : List ℕ → List ℕ → Type 0

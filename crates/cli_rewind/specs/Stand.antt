@@ -1,8 +1,7 @@
 -- Where a session stands, and what a line does there: the definition of rewinding.
-use Rattle.std.specs.Prelude.{◌≡◌, ◌<◌, ◌≤◌, ℕ, zero, suc, ◌+◌, ◌-◌, min, max, nat_le, List, [], ◌∷◌, ◌++◌, Option, Some, None, Result, Ok, Err}
-use Rattle.console_port.specs.World.{World}
+use Rattle.std.specs.Prelude.{◌≡◌, ◌<◌, ◌≤◌, ℕ, zero, suc, ◌+◌, ◌-◌, min, max, nat_le, List, [], ◌∷◌, Option, Some, None, Result, Ok, Err}
 use Rattle.mic_clock.specs.declared.end.End.{End}
-use Rattle.mic_clock.specs.Meaning.{Meaning, Done}
+use Rattle.mic_clock.specs.Meaning.{Meaning}
 use Rattle.mic_clock.specs.Run.{MicroRun, turns}
 use Rattle.mic_clock.specs.Board.{ShowsRun}
 use Rattle.mic_rewind.specs.States.{Snapshot}
@@ -10,6 +9,7 @@ use Rattle.mic_rewind.specs.View.{HistoryView}
 use Rattle.mic_rewind.specs.Rewind.{RewindView, snapshot_of}
 use Rattle.cli_session.specs.declared.reading.Command.{Command}
 use Rattle.cli_session.specs.declared.reading.CommandError.{CommandError}
+use Rattle.cli_session.specs.Giving.{OnlyGives}
 use Rattle.cli_session.specs.Meaning.{IsFrontOf}
 use Rattle.cli_session.specs.Texts.{state_text, word_line}
 use Rattle.cli_outside.specs.Outside.{GotInPart}
@@ -37,11 +37,6 @@ kept depth s = s.cursor - (s.clocked - depth)
 -- n cycles back, or as many as are kept
 abbrev pub back : {State : Type 0} → ℕ → ℕ → Stand State → Stand State
 back depth n s = record { start = s.start; clocked = s.clocked; cursor = s.cursor - min n (kept depth s) }
-
--- a machine that only adds to what it has given
-abbrev pub OnlyGives : {State : Type 0} → Meaning State → Type 0
-OnlyGives {State} m =
-    (word : ℕ) (s s' : State) (w w' : World) → m.step word s w ≡ Done s' w' → (more : List ℕ) × (w'.given ≡ w.given ++ more)
 
 -- ---- forward, and what is seen there, over the words of a control store
 

@@ -1,6 +1,7 @@
 pub mod Told
 pub mod Lines
 pub mod Meaning
+pub mod Giving
 pub mod Goes
 pub mod Table
 pub mod Commands
