@@ -103,7 +103,7 @@ impl Ord for Name {
     ghost matches_eq = { texts_ties };
 
     fn cmp(&self, other: &Name) -> Ordering {
-        self.text().cmp(other.text())
+        self.text_bytes().cmp(other.text_bytes())
     }
 }
 
