@@ -1,12 +1,18 @@
--- What an access of a machine to its bus says: when it is refused, what an Err leaves, and what becomes of the source and the sink.
-use Rattle.std.specs.Prelude.{◌≡◌, ◌≢◌, ◌⊎◌, ℕ, Bool, true, List, Option, Some, IsSome, Result, Err, OnOk, IfErr, IsErrOf, IsTrue}
-use Rattle.mic_base.specs.Streams.{Holds}
+-- What an access of a machine to its bus says: what the map decides, when it is refused, what an Err leaves, and what becomes of the source and the sink.
+use Rattle.std.specs.Prelude.{◌≡◌, ◌⊎◌, ℕ, Bool, List, Option, Some, None, Result, Err, OnOk, IfErr, IsErrOf, IsTrue}
 use Rattle.console_port.specs.View.{BusView}
-use Rattle.console_port.specs.World.{World}
-use Rattle.console_port.specs.Console.{Asks, IsFault, HasFaultCause, StaysFlushed}
+use Rattle.console_port.specs.World.{World, Refusal, fault_of, console_at}
+use Rattle.console_port.specs.Console.{Asks, IsFault, HasFaultCause}
 use Rattle.console_port.specs.Bus.{Shows, Stands}
+use Rattle.console_port.specs.Streams.{SinkGoesOn, SourceGoesOn}
 use Rattle.console_port.specs.declared.fault.BusFault.{BusFault}
 use Rattle.console_port.specs.declared.fault.BusFault.TheVariants.{ReadFault, WriteFault}
+
+-- The map decides first. What it refuses is answered by that refusal and `Leaves` all; what it allows fails at the console alone.
+pub record IsByMap {T : Type 0} (refusal : Option Refusal) (at : ℕ) (Leaves : Type 0) (IsItsFault : BusFault → Type 0) (result : Result T BusFault) : Type 0 where
+  pub refused : (r : Refusal) → refusal ≡ Some r → (result ≡ Err (fault_of r)) × Leaves
+  pub allowed : OnOk result (refusal ≡ None)
+  pub fault : IfErr result (λ e. refusal ≡ None → (at ≡ console_at) × IsItsFault e)
 
 module _ {S K : Type 0} (left : S → Option (List ℕ)) (source_faults : S → ℕ) (held passed : K → Option (List ℕ)) (sink_faults : K → ℕ) where
   -- `Refuses w e` says that the access is refused with e in the world w.
@@ -23,8 +29,5 @@ module _ {S K : Type 0} (left : S → Option (List ℕ)) (source_faults : S → 
     -- the source is asked once at most, and no more after the end was met
     pub asked : (bytes : List ℕ) → left source ≡ Some bytes →
         OnOk result ((source' ≡ source) × (bus'.console.ended ≡ bus.console.ended) ⊎ Asks bytes (left source') bus'.console.ended)
-    pub asked_no_more : bus.console.ended ≡ true → source' ≡ source
-    -- what the sink held it holds in front and tells, and unless it failed it has passed on all where it had before
-    pub keeps : (front : List ℕ) → Holds front (held sink) → Holds front (held sink')
-    pub tells : IsSome (held sink) → IsSome (held sink')
-    pub flushed : result ≢ Err WriteFault → StaysFlushed (held sink) (passed sink) (held sink') (passed sink')
+    pub source_goes_on : SourceGoesOn left bus.console.ended source bus'.console.ended source'
+    pub sink_goes_on : SinkGoesOn held passed (result ≡ Err WriteFault) sink sink'

@@ -3,6 +3,7 @@ use Rattle.std.specs.Prelude.{◌≡◌, ◌≢◌, ℕ, ◌≤◌, Bool, true, 
 use Rattle.std.specs.Option.{option_map}
 use Rattle.mic_base.specs.Causes.{Rose}
 use Rattle.mic_base.specs.Streams.{IsFlushed}
+use Rattle.console_port.specs.View.{ConsoleView}
 use Rattle.console_port.specs.declared.fault.BusFault.{BusFault}
 use Rattle.console_port.specs.declared.fault.BusFault.TheVariants.{ReadFault, WriteFault, StackLimit, OutOfMap}
 
@@ -62,3 +63,11 @@ pub record HasFaultCause {T : Type 0} (source source' sink sink' : ℕ) (result 
   pub write : IsErrOf result WriteFault → Rose sink sink'
   pub source_same : result ≢ Err ReadFault → source' ≡ source
   pub sink_same : result ≢ Err WriteFault → sink' ≡ sink
+
+-- after a take that failed: what was left is left, nothing is kept, and a write that failed has lost what was kept
+pub record TakeFails (left held : Option (List ℕ)) (console : ConsoleView) (left' held' : Option (List ℕ)) (console' : ConsoleView) (e : BusFault) : Type 0 where
+  pub fault : IsFault e
+  pub untaken : left' ≡ left
+  pub ended : console'.ended ≡ console.ended
+  pub emptied : console'.kept ≡ []
+  pub lost : e ≡ WriteFault → IsLost held console.kept held' console'.kept

@@ -1,12 +1,13 @@
 //! Memory and console behind one address: what the wires of a machine reach.
 
-ghost use Rattle.mic_base.specs.Streams.{Holds, IsFlushed};
+ghost use Rattle.mic_base.specs.Streams.{IsFlushed};
 ghost use Rattle.std.specs.Prelude.{◌/◌, ◌==◌, ◌≡◌, ◌≢◌, ◌≤◌, ◌<◌, [], ℕ, List, Option, Some, None, Ok, Err, true, false, length, replicate, IsTrue, ◌↔◌, IsSome, slice_get, slice_index, slice_set, IsOk, IfOk, OnOk, OnErr, IfErr};
-ghost use Rattle.console_port.specs.Access.{IsAccess};
+ghost use Rattle.console_port.specs.Access.{IsAccess, IsByMap};
 ghost use Rattle.console_port.specs.Bus.{Shows, Stands, IsLed, ChangesOnly, refused_by, IsRead};
-ghost use Rattle.console_port.specs.Console.{IsLost, IsFault, HasFaultCause, StaysFlushed, StillTells, most_kept};
+ghost use Rattle.console_port.specs.Console.{IsFault, HasFaultCause, most_kept};
 ghost use Rattle.console_port.specs.Loading.{IsLoaded};
-ghost use Rattle.console_port.specs.World.{World, Refusal, fault_of, console_at, read_refusal, write_refusal, word_refusal, fetch_refusal, byte_in, read_value, after_write};
+ghost use Rattle.console_port.specs.Streams.{SinkGoesOn};
+ghost use Rattle.console_port.specs.World.{World, console_at, read_refusal, write_refusal, word_refusal, fetch_refusal, byte_in, read_value, after_write};
 
 use crate::console::Console;
 use crate::fault::BusFault;
@@ -117,17 +118,12 @@ impl Bus {
         source: &mut S,
         sink: &mut K,
     ) -> Result<u32, BusFault>
-        ensures refused { (r : Refusal) → read_refusal (length self.old.words) at ≡ Some r →
-            (result ≡ Err (fault_of r)) × (self.new ≡ self.old) × (source.new ≡ source.old) × (sink.new ≡ sink.old) }
-        ensures allowed { OnOk result (read_refusal (length self.old.words) at ≡ None) }
+        ensures map { IsByMap (read_refusal (length self.old.words) at) at ((self.new ≡ self.old) × (source.new ≡ source.old) × (sink.new ≡ sink.old)) IsFault result }
         ensures ok { IfOk result (λ value.
             IsLed (S.left source.old) (K.held sink.old) self.old (S.left source.new) (K.held sink.new) self.new (IsRead (length self.old.words) at value)) }
         ensures access { IsAccess S.left S.faults K.held K.passed K.faults (λ w e. refused_by (read_refusal (length self.old.words) at) ≡ Some e)
             (at == console_at) (at == console_at) source.old source.new sink.old sink.new self.old self.new result }
-        ensures fault { IfErr result (λ e. read_refusal (length self.old.words) at ≡ None → (at ≡ console_at) × IsFault e) }
-        ensures ended { self.old.console.ended ≡ true → self.new.console.ended ≡ true }
         ensures empty { self.old.console.kept ≡ [] → sink.new ≡ sink.old }
-        ensures tells_left { StillTells (S.left source.old) self.old.console.ended (S.left source.new) self.new.console.ended }
         ensures words { self.new.words ≡ self.old.words }
         ensures memory { at < length self.old.words →
             (result ≡ Ok (slice_index self.old.words at)) × (self.new ≡ self.old) × (source.new ≡ source.old) × (sink.new ≡ sink.old) }
@@ -144,22 +140,15 @@ impl Bus {
 
     #[tactic(auto, unfolding(crate::specs::World::write_refusal, crate::specs::World::given_after))]
     pub fn write_word<K: Sink>(&mut self, at: u32, value: u32, sink: &mut K) -> Result<(), BusFault>
-        ensures refused { (r : Refusal) → write_refusal (length self.old.words) at ≡ Some r →
-            (result ≡ Err (fault_of r)) × (self.new ≡ self.old) × (sink.new ≡ sink.old) }
-        ensures allowed { OnOk result (write_refusal (length self.old.words) at ≡ None) }
+        ensures map { IsByMap (write_refusal (length self.old.words) at) at ((self.new ≡ self.old) × (sink.new ≡ sink.old)) (λ e. e ≡ BusFault.WriteFault) result }
         ensures ok { OnOk result ((left : Option (List ℕ)) (w : World) →
             Shows left (K.held sink.old) self.old w → Shows left (K.held sink.new) self.new (after_write (length self.old.words) w at value)) }
-        ensures words { OnOk result (self.new.words ≡ slice_set self.old.words at value) }
-        ensures ended { self.new.console.ended ≡ self.old.console.ended }
         ensures err { (left : Option (List ℕ)) → IfErr result (Stands left (K.held sink.old) self.old left (K.held sink.new) self.new) }
-        ensures fault { IfErr result (λ e. write_refusal (length self.old.words) at ≡ None → (at ≡ console_at) × (e ≡ BusFault.WriteFault)) }
-        ensures size { length self.new.words ≡ length self.old.words }
-        ensures others { ChangesOnly at self.old.words self.new.words }
+        ensures words { OnOk result (self.new.words ≡ slice_set self.old.words at value) }
+        ensures others { ChangesOnly at self.old.words self.new.words × (self.new.console.ended ≡ self.old.console.ended) }
         ensures memory { at < length self.old.words → IsOk result × (self.new.console ≡ self.old.console) × (sink.new ≡ sink.old) }
         ensures waits { length self.old.console.kept < most_kept → sink.new ≡ sink.old }
-        ensures keeps { (front : List ℕ) → Holds front (K.held sink.old) → Holds front (K.held sink.new) }
-        ensures tells { IsSome (K.held sink.old) → IsSome (K.held sink.new) }
-        ensures flushed { result ≢ Err BusFault.WriteFault → StaysFlushed (K.held sink.old) (K.passed sink.old) (K.held sink.new) (K.passed sink.new) }
+        ensures sink { SinkGoesOn K.held K.passed (result ≡ Err BusFault.WriteFault) sink.old sink.new }
         ensures cause { HasFaultCause 0 0 (K.faults sink.old) (K.faults sink.new) result }
     {
         if self.has(at) {
@@ -232,15 +221,12 @@ impl Bus {
     /// Puts the console's kept bytes to the sink.
     pub fn flush<K: Sink>(&mut self, sink: &mut K) -> Result<(), BusFault>
         ensures kept { self.new.console.kept ≡ [] }
-        ensures ended { self.new.console.ended ≡ self.old.console.ended }
-        ensures words { self.new.words ≡ self.old.words }
+        ensures others { (self.new.words ≡ self.old.words) × (self.new.console.ended ≡ self.old.console.ended) }
         ensures ok { OnOk result ((left : Option (List ℕ)) (w : World) → Shows left (K.held sink.old) self.old w → Shows left (K.held sink.new) self.new w) }
-        ensures empty { self.old.console.kept ≡ [] → IsOk result × (self.new ≡ self.old) × (sink.new ≡ sink.old) }
         ensures err { (left : Option (List ℕ)) → IfErr result (Stands left (K.held sink.old) self.old left (K.held sink.new) self.new) }
-        ensures lost { OnErr result (IsLost (K.held sink.old) self.old.console.kept (K.held sink.new) self.new.console.kept) }
+        ensures empty { self.old.console.kept ≡ [] → IsOk result × (self.new ≡ self.old) × (sink.new ≡ sink.old) }
         ensures fault { IfErr result (λ e. e ≡ BusFault.WriteFault) }
-        ensures keeps { (front : List ℕ) → Holds front (K.held sink.old) → Holds front (K.held sink.new) }
-        ensures tells { IsSome (K.held sink.old) → IsSome (K.held sink.new) }
+        ensures sink { SinkGoesOn K.held K.passed (result ≡ Err BusFault.WriteFault) sink.old sink.new }
         ensures flushed { OnOk result ((self.old.console.kept ≡ [] →
             IsFlushed (K.held sink.old) (K.passed sink.old)) → IsFlushed (K.held sink.new) (K.passed sink.new)) }
         ensures cause { HasFaultCause 0 0 (K.faults sink.old) (K.faults sink.new) result }

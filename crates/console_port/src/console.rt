@@ -1,9 +1,10 @@
 //! The console: bytes given wait in a buffer, and bytes taken come from a source.
 
 ghost use Rattle.mic_base.specs.Causes.{HasCause};
-ghost use Rattle.mic_base.specs.Streams.{Holds, IsFlushed, PutsAndFlushes};
-ghost use Rattle.std.specs.Prelude.{◌≡◌, ◌≢◌, ◌<◌, ◌+◌, [], ◌∷◌, ◌++◌, ℕ, List, false, true, drop, length, Ok, IsOk, IfOk, OnOk, OnErr, IfErr, IsErrOf, IsSome, Some, Err};
-ghost use Rattle.console_port.specs.Console.{Asks, Untaken, Given, IsLost, IsFault, HasFaultCause, StaysFlushed, StillTells, most_kept};
+ghost use Rattle.mic_base.specs.Streams.{IsFlushed, PutsAndFlushes};
+ghost use Rattle.std.specs.Prelude.{◌≡◌, ◌≢◌, ◌<◌, ◌+◌, [], ◌∷◌, ◌++◌, ℕ, List, false, true, drop, length, Ok, IsOk, IsErr, IfOk, OnOk, OnErr, IfErr, IsErrOf, Some, Err};
+ghost use Rattle.console_port.specs.Console.{Asks, Untaken, Given, IsLost, TakeFails, HasFaultCause, most_kept};
+ghost use Rattle.console_port.specs.Streams.{SinkGoesOn, SourceGoesOn};
 ghost use Rattle.console_port.specs.World.{next_byte};
 
 use crate::fault::BusFault;
@@ -45,25 +46,15 @@ impl Console {
     pub fn take<S: Source, K: Sink>(&mut self, source: &mut S, sink: &mut K) -> Result<u8, BusFault>
         ensures ok { IfOk result (λ byte. (rest : List ℕ) → Untaken (S.left source.new) self.new.ended rest →
             (untaken : List ℕ) × Untaken (S.left source.old) self.old.ended untaken × (byte ≡ next_byte untaken) × (drop 1 untaken ≡ rest)) }
-        ensures left { OnErr result (S.left source.new ≡ S.left source.old) }
-        ensures ended { OnErr result (self.new.ended ≡ self.old.ended) }
         ensures given { (IsErrOf result BusFault.WriteFault → ⊥) →
             (given : List ℕ) → Given (K.held sink.old) self.old.kept given → Given (K.held sink.new) self.new.kept given }
-        ensures lost { IsErrOf result BusFault.WriteFault → IsLost (K.held sink.old) self.old.kept (K.held sink.new) self.new.kept }
-        ensures fault { IfErr result IsFault }
-
-        ensures emptied { OnErr result (self.new.kept ≡ []) }
-        ensures asked { self.old.ended ≡ false → self.new.kept ≡ [] }
-        ensures told { (bytes : List ℕ) → self.old.ended ≡ false → S.left source.old ≡ Some bytes →
-            OnOk result (Asks bytes (S.left source.new) self.new.ended) }
-        ensures tells_left { StillTells (S.left source.old) self.old.ended (S.left source.new) self.new.ended }
-        ensures asked_no_more { self.old.ended ≡ true → (result ≡ Ok 0) × (self.new ≡ self.old) × (source.new ≡ source.old) × (sink.new ≡ sink.old) }
-        ensures nothing_kept { self.old.kept ≡ [] → sink.new ≡ sink.old }
-        ensures empty { self.old.kept ≡ [] → sink.new ≡ sink.old }
-        ensures put { result ≡ Err BusFault.WriteFault → self.old.kept ≢ [] }
-        ensures keeps { (front : List ℕ) → Holds front (K.held sink.old) → Holds front (K.held sink.new) }
-        ensures tells { IsSome (K.held sink.old) → IsSome (K.held sink.new) }
-        ensures flushed { result ≢ Err BusFault.WriteFault → StaysFlushed (K.held sink.old) (K.passed sink.old) (K.held sink.new) (K.passed sink.new) }
+        ensures err { IfErr result (TakeFails (S.left source.old) (K.held sink.old) self.old (S.left source.new) (K.held sink.new) self.new) }
+        ensures told { self.old.ended ≡ false → (self.new.kept ≡ []) × ((bytes : List ℕ) → S.left source.old ≡ Some bytes →
+            OnOk result (Asks bytes (S.left source.new) self.new.ended)) }
+        ensures at_end { self.old.ended ≡ true → (result ≡ Ok 0) × (self.new ≡ self.old) × (source.new ≡ source.old) × (sink.new ≡ sink.old) }
+        ensures empty { self.old.kept ≡ [] → (sink.new ≡ sink.old) × (result ≢ Err BusFault.WriteFault) }
+        ensures source { SourceGoesOn S.left self.old.ended source.old self.new.ended source.new }
+        ensures sink { SinkGoesOn K.held K.passed (result ≡ Err BusFault.WriteFault) sink.old sink.new }
         ensures cause { HasFaultCause (S.faults source.old) (S.faults source.new) (K.faults sink.old) (K.faults sink.new) result }
     {
         if self.ended {
@@ -89,9 +80,7 @@ impl Console {
 
         ensures roomy { length self.old.kept < most_kept → IsOk result × (self.new.kept ≡ self.old.kept ++ byte ∷ []) × (sink.new ≡ sink.old) }
         ensures full { length self.old.kept ≡ most_kept → OnOk result (self.new.kept ≡ byte ∷ []) }
-        ensures keeps { (front : List ℕ) → Holds front (K.held sink.old) → Holds front (K.held sink.new) }
-        ensures tells { IsSome (K.held sink.old) → IsSome (K.held sink.new) }
-        ensures flushed { result ≢ Err BusFault.WriteFault → StaysFlushed (K.held sink.old) (K.passed sink.old) (K.held sink.new) (K.passed sink.new) }
+        ensures sink { SinkGoesOn K.held K.passed (result ≡ Err BusFault.WriteFault) sink.old sink.new }
         ensures cause { HasFaultCause 0 0 (K.faults sink.old) (K.faults sink.new) result }
     {
         if self.buffer.is_full() {
@@ -109,8 +98,7 @@ impl Console {
         ensures empty { self.old.kept ≡ [] → IsOk result × (self.new ≡ self.old) × (sink.new ≡ sink.old) }
         ensures lost { OnErr result (IsLost (K.held sink.old) self.old.kept (K.held sink.new) self.new.kept) }
         ensures fault { IfErr result (λ e. e ≡ BusFault.WriteFault) }
-        ensures keeps { (front : List ℕ) → Holds front (K.held sink.old) → Holds front (K.held sink.new) }
-        ensures tells { IsSome (K.held sink.old) → IsSome (K.held sink.new) }
+        ensures sink { SinkGoesOn K.held K.passed (result ≡ Err BusFault.WriteFault) sink.old sink.new }
         ensures flushed { OnOk result ((self.old.kept ≡ [] →
             IsFlushed (K.held sink.old) (K.passed sink.old)) → IsFlushed (K.held sink.new) (K.passed sink.new)) }
         ensures cause { HasFaultCause 0 0 (K.faults sink.old) (K.faults sink.new) result }
@@ -130,8 +118,7 @@ impl Console {
 #[tactic(auto, using(crate::proofs::Put::flushed_put))]
 fn put_and_flush<K: Sink>(sink: &mut K, piece: &[u8]) -> Result<(), SinkFailed>
     ensures puts { PutsAndFlushes (K.held sink.old) piece.now result (K.held sink.new) (K.passed sink.new) }
-    ensures keeps { (front : List ℕ) → Holds front (K.held sink.old) → Holds front (K.held sink.new) }
-    ensures tells { IsSome (K.held sink.old) → IsSome (K.held sink.new) }
+    ensures sink { SinkGoesOn K.held K.passed (IsErr result) sink.old sink.new }
     ensures cause { HasCause (K.faults sink.old) (K.faults sink.new) result }
 {
     sink.put(piece)?;
