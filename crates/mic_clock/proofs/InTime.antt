@@ -5,9 +5,6 @@ use Rattle.mic_clock.specs.declared.end.End.{End}
 use Rattle.mic_clock.specs.declared.registers.Registers.{Registers}
 use Rattle.mic_clock.specs.Meaning.{Meaning}
 use Rattle.mic_clock.specs.Run.{last_cycles, counts_at, counts_between, counts_after}
-use Rattle.mic_base.specs.Causes.{Rose}
-use Rattle.mic_clock.specs.declared.end.End.TheVariants as ends
-use Rattle.mic_clock.specs.Board.{HasEndCause, NoFault}
 
 -- none of the cycles is more than 1,024 after the last boundary, which is not past the top
 pub record InTime (top : ℕ) (c : Counts) (is_boundary : Bool) (end : Option End) : Type 0 where
@@ -75,24 +72,3 @@ InLeg-step m first c c' stalled s (Some e) within same later still room counted 
 InLeg-step m first c c' stalled s None within same later still room counted =
     subst (λ x. InLeg first x (m.is_boundary s) None) (sym (counted refl))
     (clocked_inside (m.is_boundary s) first c stalled (m.address s) (m.registers s) (room refl) same later)
-
--- causes of one call after another
-pub HasEndCause-step : (a b c d e f : ℕ) (end end' : Option End) → end ≡ None → HasEndCause a b c d None end → HasEndCause b e d f end end' → HasEndCause a e c f None end'
-HasEndCause-step a b c d e f end end' not_ended first next =
-    let source_same : b ≡ a = first.source_same (λ n q. cc) in
-    let sink_same : d ≡ c = first.sink_same (λ n q. cc) in
-    subst (λ x. HasEndCause x e c f None end') source_same (subst (λ x. HasEndCause b e x f None end') sink_same (subst (λ x. HasEndCause b e d f x end') not_ended next))
-
--- the last flush of an ended run failed
-pub HasEndCause-lost : (a a' b b' b'' : ℕ) (end : Option End) → NoFault None end → HasEndCause a a' b b' None end → Rose b' b'' → b' ≤ b'' →
-    HasEndCause a a' b b'' None (Some ends.WriteFault)
-HasEndCause-lost a a' b b' b'' end plain first rose later =
-    let same : b' ≡ b = first.sink_same (λ n q. subst (λ (e : Option End). NoFault None e) q plain) in
-    record {
-      source_later = first.source_later;
-      sink_later = omega (arith, same, later);
-      read = λ n p. absurd (cc);
-      write = λ n p. subst (λ (x : ℕ). Rose x b'') same rose;
-      source_same = λ h. first.source_same (λ n q. subst (λ (e : Option End). NoFault None e) q plain);
-      sink_same = λ h. absurd (h refl refl);
-    }

@@ -1,4 +1,5 @@
 -- How a run goes on on a board, and where a fault cuts it.
+use Rattle.std.specs.Prelude.{Result, Ok, Err, IsOk, OnOk, IfErr}
 use Rattle.std.proofs.Common.{◌≡◌, ◌≢◌, ◌⊎◌, inl, inr, zero, suc, ℕ, ◌+◌, List, [], Bool, Option, Some, None, IsSome, refl, sym, ◌∙◌, ap, subst}
 use Rattle.console_port.specs.Console.{IsLost, Untaken}
 use Rattle.console_port.specs.declared.fault.BusFault.TheVariants as faults
@@ -7,7 +8,7 @@ use Rattle.mic_clock.specs.declared.end.End.TheVariants as ends
 use Rattle.mic_clock.specs.Meaning.{Meaning, ReadsConsole, UsesConsole}
 use Rattle.mic_clock.specs.View.{BoardView}
 use Rattle.mic_clock.specs.Run.{MicroRun, Buses, end_before, word_at, turn, turns, buses, bounded, buses_of}
-use Rattle.mic_clock.specs.Board.{ShowsRun, IsLedTo, IsCut, IsCutByRead, IsCutByWrite, Leads, NoFault, IsReached, IsTurned, ShowsAs, BoundIsCutByWrite}
+use Rattle.mic_clock.specs.Board.{ShowsRun, IsLedTo, IsCut, IsCutByRead, IsCutByWrite, Leads, NoFault, IsReached, IsTurned, ShowsAs, BoundIsCutByWrite, IsCutAt, TurnIsCut, RunIsCutByWrite, is_completed}
 use Rattle.mic_clock.proofs.Front.{front_lost, last_lost}
 use Rattle.mic_clock.proofs.Turns.{turns-suc, turns-plus, buses-plus, turn_by_ended, bounded-world}
 
@@ -46,6 +47,17 @@ IsCutByWrite-lost state m words bound left left' held held' board board' r s ove
       front = front_lost held held' board.bus.console.kept board'.bus.console.kept r.world.given lost s.world.given;
       next = inr (subst IsSome (sym s.its_end) over, last_lost held held' board.bus.console.kept board'.bus.console.kept r.world.given some lost s.world.given);
     }
+
+pub by_done : {T E A C : Type 0} {B : E → Type 0} (result : Result T E) → OnOk result A → IfErr result B →
+    ((x : T) → result ≡ Ok x → A → C) → ((e : E) → result ≡ Err e → B e → C) → C
+by_done (Ok x) a b done failed = done x refl a
+by_done (Err e) a b done failed = failed e refl b
+
+pub if_err : {T E : Type 0} (B : E → Type 0) (result : Result T E) (e : E) → result ≡ Err e → IfErr result B → B e
+if_err B result e is b = subst (λ r. IfErr r B) is b
+
+pub no_err : {T E : Type 0} (result : Result T E) (e : E) → result ≡ Err e → IsOk result → ⊥
+no_err result e is ok = cc
 
 pub fault_cases : (end : Option End) → NoFault None end ⊎ ((end ≡ Some ends.ReadFault) ⊎ (end ≡ Some ends.WriteFault))
 fault_cases None = inl tt
@@ -250,22 +262,44 @@ module _ {M State : Type 0} (state : M → State) (m : Meaning State) (bound : �
     )
 
     -- the flush at the bound fails
-    pub Leads-bound : board.end ≡ None → board'.end ≡ Some ends.WriteFault → board'.buses ≡ board.buses → BoundIsCutByWrite state m left held board left held' board' bound →
+    pub bound-cut : board.end ≡ None → board'.end ≡ Some ends.WriteFault → board'.buses ≡ board.buses → BoundIsCutByWrite state m left held board left held' board' bound →
         IsLedTo state left held board left board'
-        (λ r rest. (n : ℕ) × Leads state m board.store.words (Some bound) board' board.buses rest n r (IsCutByWrite state m board.store.words (Some bound) left held' board'))
-    Leads-bound not_ended failed same_buses cut rest fits = (
+        (λ r rest. (n : ℕ) × Leads state m board.store.words (Some bound) board' board.buses rest n r (IsCutAt state m board.store.words bound left held' board'))
+    bound-cut not_ended failed same_buses cut rest fits = (
       rest,
       fitting rest fits,
       λ r s e.
           let words = board.store.words in
           let b = bounded m (Some bound) r in
           let c = cut not_ended failed r s in
-          let still : turns m words (Some bound) (suc zero) r ≡ b = turn_by_ended m words b.end b (subst IsSome (sym c.0) refl) in (
+          let still : turns m words (Some bound) (suc zero) r ≡ b = turn_by_ended m words b.end b (subst IsSome (sym c.0) refl) in
+          let at_end : (turns m words (Some bound) (suc zero) r).end ≡ Some ends.Bound = ap (λ (x : MicroRun State). x.end) still ∙ c.0 in (
             suc zero,
             record {
-              here = subst (λ (x : MicroRun State). IsCutByWrite state m words (Some bound) left held' board' x) (sym still) c.1;
+              here = record { cut = subst (λ (x : MicroRun State). IsCutByWrite state m words (Some bound) left held' board' x) (sym still) c.1; its_end = inr (failed, ap is_completed at_end) };
               untaken = ap (λ (x : MicroRun State). x.world.untaken) still ∙ untaken_same r rest e;
-              buses = same_buses ∙ sym (λ i. buses_of m words r.state board.buses ((ap (λ (x : MicroRun State). x.end) still ∙ c.0) i));
+              buses = same_buses ∙ sym (λ i. buses_of m words r.state board.buses (at_end i));
             },
           ),
     )
+
+  module _ (left' held' : Option (List ℕ)) (board' : BoardView M) where
+    -- a failing sink cuts the cycle that follows
+    pub cycle-cut : board.end ≡ None → board'.end ≡ Some ends.WriteFault → ShowsAs state held board held board (bounded m (Some bound)) →
+        IsCut state m left held board left' held' board' faults.WriteFault →
+        IsLedTo state left held board left' board'
+        (λ r rest. (n : ℕ) × Leads state m board.store.words (Some bound) board' board.buses rest n r (IsCutAt state m board.store.words bound left' held' board'))
+    cycle-cut not_ended failed shows cut =
+        let words = board.store.words in
+        let Along : ℕ → MicroRun State → Type 0 = λ n r. (turns m words (Some bound) n r).end ≡ None in
+        IsLedTo-map state left held board left' board' _ _
+        (λ r rest at. (at.0, record { here = record { cut = at.2.here; its_end = inr (failed, ap is_completed at.1) }; untaken = at.2.untaken; buses = at.2.buses }))
+        (Leads-write state m words (Some bound) left held board Along left held board left' held' board' refl
+        (λ rest fits. (rest, fits, λ r s e. (0, s.its_end ∙ not_ended, record { here = s; untaken = e; buses = refl })))
+        not_ended cut (λ r s. (shows left r s).its_end ∙ not_ended))
+
+    -- a cut turn is a cut run
+    pub TurnIsCut-run : TurnIsCut state m bound left held board left' held' board' → RunIsCutByWrite state m left held board left' held' board' (Some bound)
+    TurnIsCut-run cut not_ended failed =
+        IsLedTo-map state left held board left' board' _ _
+        (λ r rest at. (at.0, record { here = at.1.here.cut; untaken = at.1.untaken; buses = at.1.buses })) (cut not_ended failed)

@@ -1,8 +1,9 @@
 -- A board between a source and a sink shows where a run stands; how the run goes on, and where a fault cuts it.
-use Rattle.std.specs.Prelude.{◌≡◌, ◌≢◌, ◌⊎◌, ℕ, suc, ◌+◌, ◌<◌, ◌≤◌, ◌==◌, if◌then◌else◌, List, [], ◌++◌, Option, Some, None, IfSome, IsSome, is_some}
+use Rattle.std.specs.Prelude.{◌≡◌, ◌≢◌, ◌⊎◌, ℕ, suc, ◌+◌, ◌<◌, ◌≤◌, ◌==◌, if◌then◌else◌, Bool, true, false, List, [], ◌++◌, Option, Some, None, IfSome, IsSome, is_some}
 use Rattle.console_port.specs.View.{BusView}
 use Rattle.console_port.specs.Bus.{Shows, Stands, ChangesOnly}
 use Rattle.console_port.specs.Console.{Untaken, LosesLast, IsFault}
+use Rattle.console_port.specs.Streams.{SinkGoesOn, SourceGoesOn}
 use Rattle.console_port.specs.World.{World}
 use Rattle.console_port.specs.declared.fault.BusFault.{BusFault}
 use Rattle.console_port.specs.declared.fault.BusFault.TheVariants.{ReadFault, WriteFault}
@@ -13,7 +14,7 @@ use Rattle.mic_clock.specs.declared.end.End.TheVariants as ends
 use Rattle.mic_clock.specs.declared.end.Tick.{Tick}
 use Rattle.mic_clock.specs.declared.end.Tick.TheVariants as ticks
 use Rattle.mic_clock.specs.Meaning.{Meaning, ReadsConsole, UsesConsole}
-use Rattle.mic_clock.specs.Run.{MicroRun, Buses, start_run, number_of, last_cycles, word_at, end_by, end_before, counts_ended, counts_after, turn, turns, bounded, buses, buses_of, IsClocking, IsLeg}
+use Rattle.mic_clock.specs.Run.{MicroRun, Buses, start_run, number_of, last_cycles, word_at, completes, end_by, end_before, counts_ended, counts_after, turn, turns, bounded, buses, buses_of, IsClocking, IsLeg}
 use Rattle.mic_clock.specs.View.{BoardView}
 
 -- no fault ended a board between these two
@@ -208,3 +209,55 @@ pub record AreCounts (c : Counts) (end : Option End) : Type 0 where
   pub stalls : c.stalls ≤ c.cycles
   pub boundary : last_cycles c.boundary ≤ c.cycles
   pub since : c.cycles ≤ last_cycles c.boundary + 1024
+
+-- as it was, but for what the console keeps and the end
+pub record IsOnlyFlushed {M : Type 0} (board board' : BoardView M) : Type 0 where
+  pub same : board' ≡ record board { bus = board'.bus; end = board'.end }
+  pub memory : board'.bus.words ≡ board.bus.words
+  pub input : board'.bus.console.ended ≡ board.bus.console.ended
+
+-- What every call of a board over a source and a sink leaves of the three: an ended board stays with both, a fault leaves nothing in the
+-- console, the control store stays, and a board ends by a fault only where its source or its sink failed.
+pub record GoesOn {S K M : Type 0} (left : S → Option (List ℕ)) (source_faults : S → ℕ) (held passed : K → Option (List ℕ)) (sink_faults : K → ℕ)
+    (source : S) (sink : K) (board : BoardView M) (source' : S) (sink' : K) (board' : BoardView M) : Type 0 where
+  pub ended : (e : End) → board.end ≡ Some e → (board' ≡ board) × (source' ≡ source) × (sink' ≡ sink)
+  pub kept : (e : BusFault) → board.end ≡ None → IsFault e → board'.end ≡ Some (end_by e) → board'.bus.console.kept ≡ []
+  pub store : board'.store ≡ board.store
+  pub source_goes_on : SourceGoesOn left board.bus.console.ended source board'.bus.console.ended source'
+  pub sink_goes_on : SinkGoesOn held passed (board'.end ≡ Some ends.WriteFault) sink sink'
+  pub cause : HasEndCause (source_faults source) (source_faults source') (sink_faults sink) (sink_faults sink') board.end board'.end
+
+module _ {M State : Type 0} (state : M → State) (m : Meaning State) (board board' : BoardView M) where
+  -- What a turn counts and shows, also over a source that does not tell what it has left.
+  pub record IsCountedTurn : Type 0 where
+    pub clocked : IsCounted state m board board'
+    pub room : HasRoom board board'
+    pub still : EndsUncounted board board'
+    pub buses : ShowsBuses state m board board'
+
+  -- Turns that do not end come to a boundary behind at least one cycle, and none clocks on for more than 1,024 cycles without one.
+  pub record ComesInTime : Type 0 where
+    pub within : board'.counts.cycles ≤ last_cycles board.counts.boundary + 1024
+    pub near : board'.counts.cycles ≤ last_cycles board'.counts.boundary + 1024
+    pub ordered : last_cycles board'.counts.boundary ≤ board'.counts.cycles
+    pub onward : board.end ≡ None → board'.end ≡ None → board.counts.cycles < board'.counts.cycles
+    pub boundary : board'.end ≡ None → m.is_boundary (state board'.machine) ≡ true
+
+-- HALT and ERR complete an instruction
+abbrev pub is_completed : Option End → Bool
+is_completed None = false
+is_completed (Some e) = completes e
+
+-- A failing sink cut the run. The board has the end that the run came to, and only its last bytes were lost; or the write fault itself, and then the
+-- run came to no end that completes an instruction.
+pub record IsCutAt {M State : Type 0} (state : M → State) (m : Meaning State) (words : List ℕ) (bound : ℕ)
+    (left held : Option (List ℕ)) (board : BoardView M) (r : MicroRun State) : Type 0 where
+  pub cut : IsCutByWrite state m words (Some bound) left held board r
+  pub its_end : (r.end ≡ board.end) ⊎ ((board.end ≡ Some ends.WriteFault) × (is_completed r.end ≡ false))
+
+-- A turn between two boards, in which a failing sink cut the run.
+abbrev pub TurnIsCut : {M State : Type 0} → (M → State) → Meaning State → ℕ → Option (List ℕ) → Option (List ℕ) →
+    BoardView M → Option (List ℕ) → Option (List ℕ) → BoardView M → Type 0
+TurnIsCut state m bound left held board left' held' board' =
+    board.end ≡ None → board'.end ≡ Some ends.WriteFault → IsLedTo state left held board left' board'
+    (λ r rest. (n : ℕ) × Leads state m board.store.words (Some bound) board' board.buses rest n r (IsCutAt state m board.store.words bound left' held' board'))

@@ -1,8 +1,8 @@
 -- What a clock edge comes to between a source and a sink, by the step of the word that was set up.
-use Rattle.std.specs.Prelude.{◌≡◌, ◌≢◌, ◌⊎◌, ◌<◌, ℕ, List, [], length, Option, Some, Result, Err, Bool, true}
+use Rattle.std.specs.Prelude.{◌≡◌, ◌≢◌, ◌⊎◌, ◌<◌, ℕ, List, [], length, Option, Some, Result, Err, OnOk, OnErr, IfErr}
 use Rattle.console_port.specs.View.{BusView}
 use Rattle.console_port.specs.World.{World}
-use Rattle.console_port.specs.Bus.{Shows, IsLed}
+use Rattle.console_port.specs.Bus.{Shows, Stands, IsLed, ChangesOnly}
 use Rattle.console_port.specs.Console.{IsFault, most_kept}
 use Rattle.console_port.specs.declared.fault.BusFault.{BusFault}
 use Rattle.console_port.specs.declared.fault.BusFault.TheVariants.{ReadFault, WriteFault}
@@ -23,11 +23,17 @@ module _ {State : Type 0} (m : Meaning State) (word : ℕ) (s : State) (left hel
     pub reads : e ≡ ReadFault → (w : World) → Shows left held bus w → ReadsConsole m word s w
     pub uses : e ≡ WriteFault → (w : World) → Shows left held bus w → UsesConsole m word s w
 
+  -- What an edge says: done, it led where the step does, and changed no memory word but the one at MAR as it is after it;
+  -- an Err is the step's refusal or a failing source or sink, and leaves the state.
+  pub record IsEdge {T : Type 0} (s' : State) (left' held' : Option (List ℕ)) (bus' : BusView) (result : Result T BusFault) : Type 0 where
+    pub ok : OnOk result (IsStep s' left' held' bus')
+    pub others : OnOk result (ChangesOnly (m.registers s').mar bus.words bus'.words)
+    pub refusal : AnswersRefusal result
+    pub err : IfErr result IsErrOfStep
+    pub state : OnErr result (s' ≡ s)
+    pub stands : IfErr result (Stands left held bus left' held' bus')
+
   -- While the console has room for one byte more, the sink is left as it is, unless bytes wait and the step reads the console.
   abbrev pub LetsBytesWait : {K : Type 0} → K → K → Type 0
   LetsBytesWait sink sink' =
       length bus.console.kept < most_kept → (sink' ≡ sink) ⊎ ((bus.console.kept ≢ []) × ((w : World) → Shows left held bus w → ReadsConsole m word s w))
-
--- the end of input, once met, stays met, and the source is asked no more
-abbrev pub AsksNoMore : {S : Type 0} → Bool → S → Bool → S → Type 0
-AsksNoMore ended source ended' source' = ended ≡ true → (ended' ≡ true) × (source' ≡ source)

@@ -1,14 +1,14 @@
 //! A machine with its control store and its bus, clocked, counted and ended.
 
-ghost use Rattle.mic_base.specs.Causes.{Rose};
-ghost use Rattle.mic_base.specs.Streams.{Holds, IsFlushed};
-ghost use Rattle.std.specs.Prelude.{◌≡◌, ◌≢◌, [], ◌<◌, ◌≤◌, ◌+◌, ◌^◌, ℕ, List, Option, None, Some, IsOk, OnOk, IfErr, IsSome, true, false, length, max};
+ghost use Rattle.mic_base.specs.Streams.{IsFlushed};
+ghost use Rattle.std.specs.Prelude.{◌≡◌, [], ◌<◌, ◌≤◌, ◌+◌, ◌^◌, ℕ, List, Option, None, Some, Err, IsOk, OnOk, IfErr, IsSome, true, false, length, max};
 ghost use Rattle.console_port.specs.Bus.{Stands};
-ghost use Rattle.console_port.specs.Console.{IsFault, IsLost, HasFaultCause, StaysFlushed, StillTells};
-ghost use Rattle.mic_clock.specs.Edge.{AsksNoMore, LetsBytesWait};
-ghost use Rattle.mic_clock.specs.Run.{MicroRun, start_counts, start_buses, bounded, word_at, last_cycles, end_by};
+ghost use Rattle.console_port.specs.Console.{HasFaultCause};
+ghost use Rattle.console_port.specs.Streams.{SinkGoesOn};
+ghost use Rattle.mic_clock.specs.Edge.{LetsBytesWait};
+ghost use Rattle.mic_clock.specs.Run.{MicroRun, start_counts, start_buses, bounded, word_at, last_cycles};
 ghost use Rattle.mic_clock.specs.Board.{ShowsAs, IsReset, NoFault, HasEndCause, tick_of, IsTurned, IsCutByFault, IsReached, IsRun, RunIsCutByRead, RunIsCutByWrite, BoundIsCutByWrite, IsLegRun, LegIsCutByRead, LegIsCutByWrite};
-ghost use Rattle.mic_clock.specs.Board.{EndsInTime, IsCounted, ShowsBuses, EndsUncounted, HasRoom, ChangesAtMar, EndsUnwritten};
+ghost use Rattle.mic_clock.specs.Board.{EndsInTime, ChangesAtMar, EndsUnwritten, IsOnlyFlushed, GoesOn, IsCountedTurn, ComesInTime, TurnIsCut};
 
 use crate::buses::{Computed, Drive};
 use crate::clocked::Clocked;
@@ -97,27 +97,13 @@ impl<M: Clocked> Board<M> {
         requires { self.old.counts.cycles ≤ 2 ^ 62 + 4096 }
         ensures turn { IsTurned M.state M.meaning (S.left source.old) (K.held sink.old) self.old (S.left source.new) (K.held sink.new) self.new None }
         ensures cut { IsCutByFault M.state M.meaning (S.left source.old) (K.held sink.old) self.old (S.left source.new) (K.held sink.new) self.new }
-        ensures kept { (e : BusFault) → self.old.end ≡ None → IsFault e → self.new.end ≡ Some (end_by e) → self.new.bus.console.kept ≡ [] }
         ensures tick { result ≡ tick_of self.old.counts self.new.counts self.new.end }
-        ensures ended { (e : End) → self.old.end ≡ Some e → (self.new ≡ self.old) × (source.new ≡ source.old) × (sink.new ≡ sink.old) }
-        ensures store { self.new.store ≡ self.old.store }
-        ensures keeps { (front : List ℕ) → Holds front (K.held sink.old) → Holds front (K.held sink.new) }
-        ensures asked_no_more { AsksNoMore self.old.bus.console.ended source.old self.new.bus.console.ended source.new }
-        ensures tells_left { StillTells (S.left source.old) self.old.bus.console.ended (S.left source.new) self.new.bus.console.ended }
-        ensures tells { IsSome (K.held sink.old) → IsSome (K.held sink.new) }
-        ensures flushed { self.new.end ≢ Some End.WriteFault → StaysFlushed (K.held sink.old) (K.passed sink.old) (K.held sink.new) (K.passed sink.new) }
-        ensures cause { HasEndCause (S.faults source.old) (S.faults source.new) (K.faults sink.old) (K.faults sink.new) self.old.end self.new.end }
-
-        // These hold also of a source that does not tell what it has left.
+        ensures goes_on { GoesOn S.left S.faults K.held K.passed K.faults source.old sink.old self.old source.new sink.new self.new }
         ensures before { EndsInTime M.state M.meaning self.old self.new }
-        ensures clocked { IsCounted M.state M.meaning self.old self.new }
-        ensures room { HasRoom self.old self.new }
-        ensures still { EndsUncounted self.old self.new }
-        ensures writes { ChangesAtMar M.state M.meaning self.old self.new }
-        ensures memory { EndsUnwritten self.old self.new }
+        ensures counted { IsCountedTurn M.state M.meaning self.old self.new }
+        ensures writes { ChangesAtMar M.state M.meaning self.old self.new × EndsUnwritten self.old self.new }
         ensures waits { LetsBytesWait M.meaning (word_at M.meaning self.old.store.words (M.state self.old.machine)) (M.state self.old.machine)
             (S.left source.old) (K.held sink.old) self.old.bus sink.old sink.new }
-        ensures buses { ShowsBuses M.state M.meaning self.old self.new }
     {
         if let Some(end) = self.end {
             return Tick::Ended(end);
@@ -165,21 +151,9 @@ impl<M: Clocked> Board<M> {
         ensures read { LegIsCutByRead M.state M.meaning (S.left source.old) (K.held sink.old) self.old (S.left source.new) (K.held sink.new) self.new }
         ensures write { LegIsCutByWrite M.state M.meaning (S.left source.old) (K.held sink.old) self.old (S.left source.new) (K.held sink.new) self.new }
         ensures value { result ≡ self.new.end }
-        ensures boundary { result ≡ None → M.meaning.is_boundary (M.state self.new.machine) ≡ true }
         ensures growth { self.new.counts.cycles ≤ self.old.counts.cycles + 1024 }
-        ensures near { self.new.counts.cycles ≤ last_cycles self.new.counts.boundary + 1024 }
-        ensures within { self.new.counts.cycles ≤ last_cycles self.old.counts.boundary + 1024 }
-        ensures ordered { last_cycles self.new.counts.boundary ≤ self.new.counts.cycles }
-        ensures onward { self.old.end ≡ None → self.new.end ≡ None → self.old.counts.cycles < self.new.counts.cycles }
-        ensures ended { (e : End) → self.old.end ≡ Some e → (self.new ≡ self.old) × (source.new ≡ source.old) × (sink.new ≡ sink.old) }
-        ensures kept { (e : BusFault) → self.old.end ≡ None → IsFault e → self.new.end ≡ Some (end_by e) → self.new.bus.console.kept ≡ [] }
-        ensures store { self.new.store ≡ self.old.store }
-        ensures keeps { (front : List ℕ) → Holds front (K.held sink.old) → Holds front (K.held sink.new) }
-        ensures asked_no_more { AsksNoMore self.old.bus.console.ended source.old self.new.bus.console.ended source.new }
-        ensures tells_left { StillTells (S.left source.old) self.old.bus.console.ended (S.left source.new) self.new.bus.console.ended }
-        ensures tells { IsSome (K.held sink.old) → IsSome (K.held sink.new) }
-        ensures flushed { self.new.end ≢ Some End.WriteFault → StaysFlushed (K.held sink.old) (K.passed sink.old) (K.held sink.new) (K.passed sink.new) }
-        ensures cause { HasEndCause (S.faults source.old) (S.faults source.new) (K.faults sink.old) (K.faults sink.new) self.old.end self.new.end }
+        ensures goes_on { GoesOn S.left S.faults K.held K.passed K.faults source.old sink.old self.old source.new sink.new self.new }
+        ensures in_time { ComesInTime M.state M.meaning self.old self.new }
     {
         if self.end.is_some() {
             return self.end;
@@ -209,51 +183,40 @@ impl<M: Clocked> Board<M> {
         self.end.is_none()
     }
 
-    // Flushes the console, and tells whether that was done. Where it fails, the end is a write fault.
-    fn finish<K: Sink>(&mut self, sink: &mut K) -> bool
+    // Flushes the console. Where that fails, the end is a write fault.
+    fn finish<K: Sink>(&mut self, sink: &mut K) -> Result<(), BusFault>
         requires { IsSome self.old.end }
-        ensures done { result ≡ true → self.new.end ≡ self.old.end }
-        ensures shows { result ≡ true → ShowsAs M.state (K.held sink.old) self.old (K.held sink.new) self.new (λ r. r) }
-        ensures failed { result ≡ false → self.new.end ≡ Some End.WriteFault }
-        ensures lost { result ≡ false → IsLost (K.held sink.old) self.old.bus.console.kept (K.held sink.new) self.new.bus.console.kept }
-        ensures empty { self.old.bus.console.kept ≡ [] → (result ≡ true) × (self.new ≡ self.old) × (sink.new ≡ sink.old) }
-        ensures same { self.new ≡ record self.old { bus = self.new.bus; end = self.new.end } }
-        ensures memory { self.new.bus.words ≡ self.old.bus.words }
-        ensures input { self.new.bus.console.ended ≡ self.old.bus.console.ended }
+        ensures ok { OnOk result ((self.new.end ≡ self.old.end) × ShowsAs M.state (K.held sink.old) self.old (K.held sink.new) self.new (λ r. r)) }
+        ensures err { (left : Option (List ℕ)) → IfErr result (Stands left (K.held sink.old) self.old.bus left (K.held sink.new) self.new.bus) }
+        ensures fault { IfErr result (λ e. (e ≡ BusFault.WriteFault) × (self.new.end ≡ Some End.WriteFault)) }
+        ensures empty { self.old.bus.console.kept ≡ [] → IsOk result × (self.new ≡ self.old) × (sink.new ≡ sink.old) }
         ensures kept { self.new.bus.console.kept ≡ [] }
-        ensures keeps { (front : List ℕ) → Holds front (K.held sink.old) → Holds front (K.held sink.new) }
-        ensures tells { IsSome (K.held sink.old) → IsSome (K.held sink.new) }
-        ensures flushed { result ≡ true → StaysFlushed (K.held sink.old) (K.passed sink.old) (K.held sink.new) (K.passed sink.new) }
-        ensures rose { result ≡ false → Rose (K.faults sink.old) (K.faults sink.new) }
-        ensures quiet { result ≡ true → K.faults sink.new ≡ K.faults sink.old }
-        ensures later { K.faults sink.old ≤ K.faults sink.new }
+        ensures same { IsOnlyFlushed self.old self.new }
+        ensures sink { SinkGoesOn K.held K.passed (result ≡ Err BusFault.WriteFault) sink.old sink.new }
+        ensures cause { HasFaultCause 0 0 (K.faults sink.old) (K.faults sink.new) result }
     {
-        let done = self.bus.flush(sink).is_ok();
-        if !done {
+        let flushed = self.bus.flush(sink);
+        if flushed.is_err() {
             self.end = Some(End::WriteFault);
         }
-        done
+        flushed
     }
 
-    /// The test of the bound alone, with the flush where it ends the board.
+    // The test of the bound alone, with the flush where it ends the board.
     #[inline(always)]
-    pub fn stop_at<K: Sink>(&mut self, bound: u64, sink: &mut K) -> Option<End>
+    fn stop_at<K: Sink>(&mut self, bound: u64, sink: &mut K) -> Option<End>
         ensures run { NoFault self.old.end self.new.end →
             ShowsAs M.state (K.held sink.old) self.old (K.held sink.new) self.new (bounded M.meaning (Some bound)) }
         ensures write { (left : Option (List ℕ)) → BoundIsCutByWrite M.state M.meaning left (K.held sink.old) self.old left (K.held sink.new) self.new bound }
         ensures value { result ≡ self.new.end }
-        ensures below { result ≡ None → M.meaning.is_boundary (M.state self.old.machine) ≡ true → self.old.counts.cycles < bound }
-        ensures stays { result ≡ None → (self.new ≡ self.old) × (sink.new ≡ sink.old) }
-        ensures ended { (e : End) → self.old.end ≡ Some e → (self.new ≡ self.old) × (sink.new ≡ sink.old) }
+        ensures in_time { (result ≡ None → M.meaning.is_boundary (M.state self.old.machine) ≡ true → self.old.counts.cycles < bound)
+            × (self.new.counts.cycles ≤ last_cycles self.new.counts.boundary + 1024)
+            × (last_cycles self.new.counts.boundary ≤ self.new.counts.cycles) }
+        ensures stays { (result ≡ None → (self.new ≡ self.old) × (sink.new ≡ sink.old))
+            × ((e : End) → self.old.end ≡ Some e → (self.new ≡ self.old) × (sink.new ≡ sink.old)) }
         ensures kept { self.old.end ≡ None → IsSome self.new.end → self.new.bus.console.kept ≡ [] }
-        ensures same { self.new ≡ record self.old { bus = self.new.bus; end = self.new.end } }
-        ensures memory { self.new.bus.words ≡ self.old.bus.words }
-        ensures near { self.new.counts.cycles ≤ last_cycles self.new.counts.boundary + 1024 }
-        ensures ordered { last_cycles self.new.counts.boundary ≤ self.new.counts.cycles }
-        ensures input { self.new.bus.console.ended ≡ self.old.bus.console.ended }
-        ensures keeps { (front : List ℕ) → Holds front (K.held sink.old) → Holds front (K.held sink.new) }
-        ensures tells { IsSome (K.held sink.old) → IsSome (K.held sink.new) }
-        ensures flushed { self.new.end ≢ Some End.WriteFault → StaysFlushed (K.held sink.old) (K.passed sink.old) (K.held sink.new) (K.passed sink.new) }
+        ensures same { IsOnlyFlushed self.old self.new }
+        ensures sink { SinkGoesOn K.held K.passed (self.new.end ≡ Some End.WriteFault) sink.old sink.new }
         ensures cause { HasEndCause 0 0 (K.faults sink.old) (K.faults sink.new) self.old.end self.new.end }
     {
         if self.end.is_some() {
@@ -262,7 +225,7 @@ impl<M: Clocked> Board<M> {
         if self.goes_on(bound) {
             return None;
         }
-        self.finish(sink);
+        let _ = self.finish(sink);
         self.end
     }
 
@@ -278,25 +241,11 @@ impl<M: Clocked> Board<M> {
         ensures turn { IsTurned M.state M.meaning (S.left source.old) (K.held sink.old) self.old (S.left source.new) (K.held sink.new) self.new (Some bound) }
         ensures read { RunIsCutByRead M.state M.meaning (S.left source.old) (K.held sink.old) self.old
             (S.left source.new) (K.held sink.new) self.new (Some bound) }
-        ensures write { RunIsCutByWrite M.state M.meaning (S.left source.old) (K.held sink.old) self.old
-            (S.left source.new) (K.held sink.new) self.new (Some bound) }
+        ensures write { TurnIsCut M.state M.meaning bound (S.left source.old) (K.held sink.old) self.old (S.left source.new) (K.held sink.new) self.new }
         ensures value { result ≡ self.new.end }
-        ensures ended { (e : End) → self.old.end ≡ Some e → (self.new ≡ self.old) × (source.new ≡ source.old) × (sink.new ≡ sink.old) }
-        ensures kept { (e : BusFault) → self.old.end ≡ None → IsFault e → self.new.end ≡ Some (end_by e) → self.new.bus.console.kept ≡ [] }
-        ensures store { self.new.store ≡ self.old.store }
-        ensures keeps { (front : List ℕ) → Holds front (K.held sink.old) → Holds front (K.held sink.new) }
-        ensures asked_no_more { AsksNoMore self.old.bus.console.ended source.old self.new.bus.console.ended source.new }
-        ensures tells_left { StillTells (S.left source.old) self.old.bus.console.ended (S.left source.new) self.new.bus.console.ended }
-        ensures tells { IsSome (K.held sink.old) → IsSome (K.held sink.new) }
-        ensures flushed { self.new.end ≢ Some End.WriteFault → StaysFlushed (K.held sink.old) (K.passed sink.old) (K.held sink.new) (K.passed sink.new) }
-        ensures cause { HasEndCause (S.faults source.old) (S.faults source.new) (K.faults sink.old) (K.faults sink.new) self.old.end self.new.end }
-
-        // These hold also of a source that does not tell what it has left.
+        ensures goes_on { GoesOn S.left S.faults K.held K.passed K.faults source.old sink.old self.old source.new sink.new self.new }
         ensures below { self.new.end ≡ None → M.meaning.is_boundary (M.state self.old.machine) ≡ true → self.old.counts.cycles < bound }
-        ensures clocked { IsCounted M.state M.meaning self.old self.new }
-        ensures room { HasRoom self.old self.new }
-        ensures still { EndsUncounted self.old self.new }
-        ensures buses { ShowsBuses M.state M.meaning self.old self.new }
+        ensures counted { IsCountedTurn M.state M.meaning self.old self.new }
     {
         if let Some(end) = self.stop_at(bound, sink) {
             return Some(end);
@@ -316,20 +265,10 @@ impl<M: Clocked> Board<M> {
             (S.left source.new) (K.held sink.new) self.new (Some bound) }
         ensures write { RunIsCutByWrite M.state M.meaning (S.left source.old) (K.held sink.old) self.old
             (S.left source.new) (K.held sink.new) self.new (Some bound) }
-        ensures kept { (e : BusFault) → IsFault e → self.new.end ≡ Some (end_by e) → self.new.bus.console.kept ≡ [] }
         ensures below { self.new.end ≡ None → M.meaning.is_boundary (M.state self.old.machine) ≡ true → self.old.counts.cycles < bound }
-        ensures within { self.new.counts.cycles ≤ last_cycles self.old.counts.boundary + 1024 }
-        ensures ordered { last_cycles self.new.counts.boundary ≤ self.new.counts.cycles }
         ensures growth { M.meaning.is_boundary (M.state self.old.machine) ≡ true → self.new.counts.cycles ≤ max (bound + 1024) self.old.counts.cycles }
-        ensures onward { self.new.end ≡ None → self.old.counts.cycles < self.new.counts.cycles }
-        ensures boundary { self.new.end ≡ None → M.meaning.is_boundary (M.state self.new.machine) ≡ true }
-        ensures store { self.new.store ≡ self.old.store }
-        ensures keeps { (front : List ℕ) → Holds front (K.held sink.old) → Holds front (K.held sink.new) }
-        ensures asked_no_more { AsksNoMore self.old.bus.console.ended source.old self.new.bus.console.ended source.new }
-        ensures tells_left { StillTells (S.left source.old) self.old.bus.console.ended (S.left source.new) self.new.bus.console.ended }
-        ensures tells { IsSome (K.held sink.old) → IsSome (K.held sink.new) }
-        ensures flushed { self.new.end ≢ Some End.WriteFault → StaysFlushed (K.held sink.old) (K.passed sink.old) (K.held sink.new) (K.passed sink.new) }
-        ensures cause { HasEndCause (S.faults source.old) (S.faults source.new) (K.faults sink.old) (K.faults sink.new) None self.new.end }
+        ensures goes_on { GoesOn S.left S.faults K.held K.passed K.faults source.old sink.old self.old source.new sink.new self.new }
+        ensures in_time { ComesInTime M.state M.meaning self.old self.new }
     {
         if self.stop_at(bound, sink).is_some() {
             return;
@@ -347,17 +286,10 @@ impl<M: Clocked> Board<M> {
         ensures write { RunIsCutByWrite M.state M.meaning (S.left source.old) (K.held sink.old) self.old
             (S.left source.new) (K.held sink.new) self.new (Some bound) }
         ensures end { self.new.end ≡ Some result }
-        ensures growth { self.new.counts.cycles ≤ max bound self.old.counts.cycles + 1024 }
-        ensures near { self.new.counts.cycles ≤ last_cycles self.new.counts.boundary + 1024 }
-        ensures ended { (e : End) → self.old.end ≡ Some e → (self.new ≡ self.old) × (source.new ≡ source.old) × (sink.new ≡ sink.old) }
+        ensures times { (self.new.counts.cycles ≤ max bound self.old.counts.cycles + 1024)
+            × (self.new.counts.cycles ≤ last_cycles self.new.counts.boundary + 1024) }
         ensures kept { self.old.end ≡ None → self.new.bus.console.kept ≡ [] }
-        ensures store { self.new.store ≡ self.old.store }
-        ensures keeps { (front : List ℕ) → Holds front (K.held sink.old) → Holds front (K.held sink.new) }
-        ensures asked_no_more { AsksNoMore self.old.bus.console.ended source.old self.new.bus.console.ended source.new }
-        ensures tells_left { StillTells (S.left source.old) self.old.bus.console.ended (S.left source.new) self.new.bus.console.ended }
-        ensures tells { IsSome (K.held sink.old) → IsSome (K.held sink.new) }
-        ensures flushed { self.new.end ≢ Some End.WriteFault → StaysFlushed (K.held sink.old) (K.passed sink.old) (K.held sink.new) (K.passed sink.new) }
-        ensures cause { HasEndCause (S.faults source.old) (S.faults source.new) (K.faults sink.old) (K.faults sink.new) self.old.end self.new.end }
+        ensures goes_on { GoesOn S.left S.faults K.held K.passed K.faults source.old sink.old self.old source.new sink.new self.new }
     {
         if let Some(end) = self.end {
             return end;
@@ -365,22 +297,20 @@ impl<M: Clocked> Board<M> {
         'strides: while self.end.is_none() {
             self.stride(bound, source, sink);
         }
-        self.finish(sink);
+        let _ = self.finish(sink);
         self.end.unwrap()
     }
 
     /// Puts what the console keeps to the sink, at any time.
     pub fn flush<K: Sink>(&mut self, sink: &mut K) -> Result<(), BusFault>
-        ensures same { self.new ≡ record self.old { bus = self.new.bus } }
+        ensures same { (self.new ≡ record self.old { bus = self.new.bus }) × (self.new.bus.words ≡ self.old.bus.words)
+            × (self.new.bus.console.ended ≡ self.old.bus.console.ended) }
         ensures ok { OnOk result (ShowsAs M.state (K.held sink.old) self.old (K.held sink.new) self.new (λ r. r)) }
         ensures err { (left : Option (List ℕ)) → IfErr result (Stands left (K.held sink.old) self.old.bus left (K.held sink.new) self.new.bus) }
         ensures fault { IfErr result (λ e. e ≡ BusFault.WriteFault) }
         ensures kept { self.new.bus.console.kept ≡ [] }
         ensures empty { self.old.bus.console.kept ≡ [] → IsOk result × (self.new ≡ self.old) × (sink.new ≡ sink.old) }
-        ensures memory { self.new.bus.words ≡ self.old.bus.words }
-        ensures input { self.new.bus.console.ended ≡ self.old.bus.console.ended }
-        ensures keeps { (front : List ℕ) → Holds front (K.held sink.old) → Holds front (K.held sink.new) }
-        ensures tells { IsSome (K.held sink.old) → IsSome (K.held sink.new) }
+        ensures sink { SinkGoesOn K.held K.passed (result ≡ Err BusFault.WriteFault) sink.old sink.new }
         ensures flushed { OnOk result ((self.old.bus.console.kept ≡ [] →
             IsFlushed (K.held sink.old) (K.passed sink.old)) → IsFlushed (K.held sink.new) (K.passed sink.new)) }
         ensures cause { HasFaultCause 0 0 (K.faults sink.old) (K.faults sink.new) result }

@@ -1,10 +1,9 @@
 //! What a board asks of a machine.
 
-ghost use Rattle.mic_base.specs.Streams.{Holds};
-ghost use Rattle.std.specs.Prelude.{◌≡◌, ◌≢◌, IsSome, Err, ◌<◌, ℕ, List, slice_index, OnOk, OnErr, IfErr};
-ghost use Rattle.console_port.specs.Bus.{Stands, ChangesOnly};
-ghost use Rattle.console_port.specs.Console.{HasFaultCause, StaysFlushed, StillTells};
-ghost use Rattle.mic_clock.specs.Edge.{IsStep, AnswersRefusal, IsErrOfStep, LetsBytesWait, AsksNoMore};
+ghost use Rattle.std.specs.Prelude.{◌≡◌, Err, ◌<◌, ℕ, List, slice_index};
+ghost use Rattle.console_port.specs.Console.{HasFaultCause};
+ghost use Rattle.console_port.specs.Streams.{SinkGoesOn, SourceGoesOn};
+ghost use Rattle.mic_clock.specs.Edge.{IsEdge, LetsBytesWait};
 ghost use Rattle.mic_clock.specs.Meaning.{Meaning, Phase, AtRest, SetUp, Driven, AtEdge};
 
 use crate::buses::{Computed, Drive};
@@ -76,19 +75,11 @@ pub trait Clocked {
     ) -> Result<(), BusFault>
         requires { phase self.old ≡ AtEdge }
         ensures phase { phase self.new ≡ AtRest }
-        ensures ok { OnOk result (IsStep meaning (word self.old) (state self.old) (S.left source.old) (K.held sink.old) bus.old
-            (state self.new) (S.left source.new) (K.held sink.new) bus.new) }
-        ensures others { OnOk result (ChangesOnly (meaning.registers (state self.new)).mar bus.old.words bus.new.words) }
-        ensures refusal { AnswersRefusal meaning (word self.old) (state self.old) (S.left source.old) (K.held sink.old) bus.old result }
-        ensures err { IfErr result (IsErrOfStep meaning (word self.old) (state self.old) (S.left source.old) (K.held sink.old) bus.old) }
-        ensures state { OnErr result (state self.new ≡ state self.old) }
-        ensures stands { IfErr result (Stands (S.left source.old) (K.held sink.old) bus.old (S.left source.new) (K.held sink.new) bus.new) }
+        ensures edge { IsEdge meaning (word self.old) (state self.old) (S.left source.old) (K.held sink.old) bus.old
+            (state self.new) (S.left source.new) (K.held sink.new) bus.new result }
         ensures waits { LetsBytesWait meaning (word self.old) (state self.old) (S.left source.old) (K.held sink.old) bus.old sink.old sink.new }
-        ensures keeps { (front : List ℕ) → Holds front (K.held sink.old) → Holds front (K.held sink.new) }
-        ensures asked_no_more { AsksNoMore bus.old.console.ended source.old bus.new.console.ended source.new }
-        ensures tells_left { StillTells (S.left source.old) bus.old.console.ended (S.left source.new) bus.new.console.ended }
-        ensures tells { IsSome (K.held sink.old) → IsSome (K.held sink.new) }
-        ensures flushed { result ≢ Err BusFault.WriteFault → StaysFlushed (K.held sink.old) (K.passed sink.old) (K.held sink.new) (K.passed sink.new) }
+        ensures source { SourceGoesOn S.left bus.old.console.ended source.old bus.new.console.ended source.new }
+        ensures sink { SinkGoesOn K.held K.passed (result ≡ Err BusFault.WriteFault) sink.old sink.new }
         ensures cause { HasFaultCause (S.faults source.old) (S.faults source.new) (K.faults sink.old) (K.faults sink.new) result };
 
     fn registers(&self) -> Registers

@@ -1,10 +1,10 @@
-use Rattle.std.proofs.Common.{◌≡◌, ◌∙◌, subst}
-use Rattle.mic_clock.specs.Edge.{IsStep, LetsBytesWait}
+use Rattle.std.proofs.Common.{◌≡◌, ◌∙◌, subst, Ok}
+use Rattle.mic_clock.specs.Edge.{IsEdge, LetsBytesWait}
 use Rattle.mic_clock.specs.Run.{word_at}
 use Rattle.mic_clock.proofs.cycle.clock_once.Goals as goal
 
-pub returns-clause-ok : goal.returns-clause-ok
-returns-clause-ok g c =
+pub returns-clause-edge : goal.returns-clause-edge
+returns-clause-edge g c =
     let state = g.M.Clocked.state in
     let m = g.M.Clocked.meaning in
     let before = state c.args.machine.now in
@@ -16,8 +16,9 @@ returns-clause-ok g c =
     let word_is : g.M.Clocked.word c.compute-computed.new.self ≡ word_at m c.args.store.now.words before =
     c.compute-computed.ensures.word ∙ (c.drive-drive.ensures.word ∙ c.setup.ensures.word) in
     let state_is : state c.compute-computed.new.self ≡ before = c.compute-computed.ensures.state ∙ (c.drive-drive.ensures.state ∙ c.setup.ensures.state) in
-    subst (λ w. IsStep m w before left held c.args.bus.now after left' held' c.edge.new.bus) word_is
-    (subst (λ s. IsStep m (g.M.Clocked.word c.compute-computed.new.self) s left held c.args.bus.now after left' held' c.edge.new.bus) state_is c.in_ok-edge.ensures.ok)
+    let edge = subst (λ w. IsEdge m w before left held c.args.bus.now after left' held' c.edge.new.bus (Ok tt)) word_is
+    (subst (λ s. IsEdge m (g.M.Clocked.word c.compute-computed.new.self) s left held c.args.bus.now after left' held' c.edge.new.bus (Ok tt)) state_is c.in_ok-edge.ensures.edge) in
+    record { ok = edge.ok; others = edge.others; refusal = λ w e s r. absurd (let is = edge.refusal w e s r in cc); err = tt; state = tt; stands = tt }
 
 pub returns-in_err-edge-clause-waits : goal.returns-in_err-edge-clause-waits
 returns-in_err-edge-clause-waits g c =

@@ -44,8 +44,8 @@ returns-after-drive-clause-turn g c =
     let not_ended : inside.end ≡ None = search rules in
     let counted = counted_as_ruled m _ _ _ _ c.count.ensures.counts in
     rw (← c.self.view_is)
-    (λ q. led-done state m _ _ _ _ _ _ not_ended no_end c.in-Ok.ensures.ok
-    (counted ∙ ap (λ (d : Drive). counts_after m inside.counts d.stalled (state c.clock_once.new.machine)) c.in-Ok.ensures.drive) (search rules))
+    (λ q. led-done state m _ _ _ _ _ _ not_ended no_end c.in-Ok.ensures.edge.ok
+    (counted ∙ ap (λ (d : Drive). counts_after m inside.counts d.stalled (state c.clock_once.new.machine)) c.in-Ok.ensures.seen.0) (search rules))
 
 pub returns-after-drive-clause-waits : goal.returns-after-drive-clause-waits
 returns-after-drive-clause-waits g c = rw (← c.self.view_is) c.in-Ok.ensures.waits

@@ -3,7 +3,8 @@ use Rattle.console_port.specs.declared.fault.BusFault.TheVariants as faults
 use Rattle.micro_word.specs.ControlStore.{ControlStore}
 use Rattle.mic_clock.specs.Run.{MicroRun, IsLeg, word_at, last_cycles}
 use Rattle.mic_clock.specs.Board.{NoFault}
-use Rattle.mic_clock.proofs.InTime.{InTime, InTime-step, InLeg-step, HasEndCause-step}
+use Rattle.mic_clock.proofs.InTime.{InTime, InTime-step, InLeg-step}
+use Rattle.mic_clock.proofs.GoesOn.{GoesOn-step}
 use Rattle.mic_clock.proofs.Legs.{leg-start, leg-inside}
 use Rattle.mic_clock.proofs.Reach.{IsLedTo-map, Leads-turn, Leads-read, Leads-write}
 use Rattle.mic_clock.proofs.board.Board.instruction.Goals as goal
@@ -30,24 +31,16 @@ inside-init g c =
     record {
       run = λ q. IsLedTo-map state left0 held0 first left' new _ _ (λ r rest at. (suc at.0, at.1, at.2))
           (Leads-turn state m words None left0 held0 first Along left0 held0 first left' held' new refl led
-          (c.cycle.ensures.turn (subst (λ (e : Option _). NoFault e new.end) (sym not_ended) q)) c.cycle.ensures.buses);
+          (c.cycle.ensures.turn (subst (λ (e : Option _). NoFault e new.end) (sym not_ended) q)) c.cycle.ensures.counted.buses);
       read = λ p. Leads-read state m words None left0 held0 first Along left0 held0 first left' held' new refl led
           not_ended (c.cycle.ensures.cut faults.ReadFault not_ended tt p) (λ r s. s.its_end ∙ not_ended);
       write = λ p. Leads-write state m words None left0 held0 first Along left0 held0 first left' held' new refl led
           not_ended (c.cycle.ensures.cut faults.WriteFault not_ended tt p) (λ r s. s.its_end ∙ not_ended);
-      keeps = c.cycle.ensures.keeps;
-      asked_no_more = c.cycle.ensures.asked_no_more;
-      tells_left = c.cycle.ensures.tells_left;
-      tells = c.cycle.ensures.tells;
-      flushed = c.cycle.ensures.flushed;
-      cause = rw not_ended at c.cycle.ensures.cause;
-      store = c.cycle.ensures.store;
-      empty_read = λ p. c.cycle.ensures.kept faults.ReadFault not_ended tt p;
-      empty_write = λ p. c.cycle.ensures.kept faults.WriteFault not_ended tt p;
+      goes_on = c.cycle.ensures.goes_on;
       in_leg = InLeg-step m first.counts first.counts new.counts (m.drives (word_at m words (state first.machine)) (state first.machine)).stalled (state new.machine) new.end (search rules) refl (omega arith)
-          c.cycle.ensures.still c.cycle.ensures.room (λ q. (c.cycle.ensures.clocked q).1);
+          c.cycle.ensures.counted.still c.cycle.ensures.counted.room (λ q. (c.cycle.ensures.counted.clocked q).1);
       in_time = InTime-step m top top first.counts new.counts false (m.drives (word_at m words (state first.machine)) (state first.machine)).stalled (state new.machine) first.end new.end not_ended (omega arith) in_time
-          c.cycle.ensures.still c.cycle.ensures.room (λ q. (c.cycle.ensures.clocked q).1) (λ _ here. absurd (cc));
+          c.cycle.ensures.counted.still c.cycle.ensures.counted.room (λ q. (c.cycle.ensures.counted.clocked q).1) (λ _ here. absurd (cc));
     }
 
 pub inside-preserved : goal.inside-preserved
@@ -65,9 +58,10 @@ inside-preserved g c =
     let left' = g.S.Source.left c.cycle-in-inside.new.source in
     let held' = g.K.Sink.held c.cycle-in-inside.new.sink in
     let Along : ℕ → MicroRun g.M.Clocked.State → Type 0 = λ n r. IsLeg m words (suc n) r in
+    let first_not_ended : first.end ≡ None = search rules in
     let not_ended : old.end ≡ None = search rules in
     let no_boundary : m.is_boundary (state old.machine) ≡ false = search rules in
-    let program : old.store.words ≡ words = ap (λ (s : ControlStore). s.words) c.inside.invariant.store in
+    let program : old.store.words ≡ words = ap (λ (s : ControlStore). s.words) c.inside.invariant.goes_on.store in
     let top : ℕ = first.counts.cycles in
     let past = c.inside.invariant.in_leg.onward not_ended in
     let later : first.counts.cycles ≤ old.counts.cycles = omega arith in
@@ -75,23 +69,15 @@ inside-preserved g c =
     record {
       run = λ q. IsLedTo-map state left0 held0 first left' new _ _ (λ r rest at. (suc at.0, at.1, at.2))
           (Leads-turn state m words None left0 held0 first Along left held old left' held' new program led
-          (c.cycle-in-inside.ensures.turn (subst (λ (e : Option _). NoFault e new.end) (sym not_ended) q)) c.cycle-in-inside.ensures.buses);
+          (c.cycle-in-inside.ensures.turn (subst (λ (e : Option _). NoFault e new.end) (sym not_ended) q)) c.cycle-in-inside.ensures.counted.buses);
       read = λ p. Leads-read state m words None left0 held0 first Along left held old left' held' new program led
           not_ended (c.cycle-in-inside.ensures.cut faults.ReadFault not_ended tt p) (λ r s. s.its_end ∙ not_ended);
       write = λ p. Leads-write state m words None left0 held0 first Along left held old left' held' new program led
           not_ended (c.cycle-in-inside.ensures.cut faults.WriteFault not_ended tt p) (λ r s. s.its_end ∙ not_ended);
-      keeps = λ front h. c.cycle-in-inside.ensures.keeps front (c.inside.invariant.keeps front h);
-      asked_no_more = λ e. let first = c.inside.invariant.asked_no_more e in let next = c.cycle-in-inside.ensures.asked_no_more first.0 in (next.0, next.1 ∙ first.1);
-      tells_left = λ t. c.cycle-in-inside.ensures.tells_left (c.inside.invariant.tells_left t);
-      tells = λ h. c.cycle-in-inside.ensures.tells (c.inside.invariant.tells h);
-      flushed = λ q h. c.cycle-in-inside.ensures.flushed q (c.inside.invariant.flushed (λ w. cc) h);
-      cause = HasEndCause-step _ _ _ _ _ _ old.end new.end not_ended c.inside.invariant.cause c.cycle-in-inside.ensures.cause;
-      store = c.cycle-in-inside.ensures.store ∙ c.inside.invariant.store;
-      empty_read = λ p. c.cycle-in-inside.ensures.kept faults.ReadFault not_ended tt p;
-      empty_write = λ p. c.cycle-in-inside.ensures.kept faults.WriteFault not_ended tt p;
+      goes_on = GoesOn-step _ _ _ _ _ _ _ first _ _ old _ _ new first_not_ended not_ended c.inside.invariant.goes_on c.cycle-in-inside.ensures.goes_on;
       in_leg = InLeg-step m first.counts old.counts new.counts (m.drives (word_at m old.store.words (state old.machine)) (state old.machine)).stalled (state new.machine) new.end
           c.inside.invariant.in_leg.within (c.inside.invariant.in_leg.same not_ended no_boundary) later
-          c.cycle-in-inside.ensures.still c.cycle-in-inside.ensures.room (λ q. (c.cycle-in-inside.ensures.clocked q).1);
+          c.cycle-in-inside.ensures.counted.still c.cycle-in-inside.ensures.counted.room (λ q. (c.cycle-in-inside.ensures.counted.clocked q).1);
       in_time = InTime-step m top top old.counts new.counts (m.is_boundary (state old.machine)) (m.drives (word_at m old.store.words (state old.machine)) (state old.machine)).stalled (state new.machine) old.end new.end not_ended (omega arith) c.inside.invariant.in_time
-          c.cycle-in-inside.ensures.still c.cycle-in-inside.ensures.room (λ q. (c.cycle-in-inside.ensures.clocked q).1) (λ _ here. absurd (cc));
+          c.cycle-in-inside.ensures.counted.still c.cycle-in-inside.ensures.counted.room (λ q. (c.cycle-in-inside.ensures.counted.clocked q).1) (λ _ here. absurd (cc));
     }

@@ -1,8 +1,8 @@
-use Rattle.std.proofs.Common.{◌≡◌, ℕ, None, Some, IsSome, Option, List, suc, ◌∙◌, ap, subst, sym, refl, rules, arith}
+use Rattle.std.proofs.Common.{◌≡◌, ◌≤◌, ◌+◌, ℕ, None, Some, IsSome, Option, List, suc, ◌∙◌, ap, subst, sym, refl, rules}
 use Rattle.mic_clock.specs.View.{BoardView}
 use Rattle.mic_clock.specs.Run.{MicroRun, bounded, last_cycles}
 use Rattle.mic_clock.specs.Board.{ShowsAs, NoFault, IsLegRun, LegIsCutByRead, LegIsCutByWrite}
-use Rattle.mic_clock.proofs.Reach.{IsLedTo-map, Leads-start, Leads-turn, Leads-bound, IsTurned-ended, buses_of-ended}
+use Rattle.mic_clock.proofs.Reach.{IsLedTo-map, Leads-start, Leads-turn, bound-cut, TurnIsCut-run, IsTurned-ended, buses_of-ended}
 use Rattle.mic_clock.proofs.Strides.{stride-run, stride-read, stride-write}
 use Rattle.mic_clock.proofs.board.Board.stride.Goals as goal
 
@@ -23,19 +23,26 @@ returns-then-is_some-clause-run g c = λ plain.
     let plain_turn : NoFault board.end new.end = subst (λ (e : Option _). NoFault e new.end) (sym not_ended) plain in
     IsLedTo-map state left held board left new _ _ (λ r rest at. (suc at.0, at.2))
     (Leads-turn state m board.store.words (Some c.args.bound) left held board Along left held board left held' new refl (Leads-start state m c.args.bound left held board)
-    (IsTurned-ended state m c.args.bound left held board held' new c.stop_at.ensures.input over c.stop_at.ensures.run plain_turn)
-    (ap (λ (b : BoardView g.row.M.Denot). b.buses) c.stop_at.ensures.same ∙ sym (buses_of-ended m board.store.words (state board.machine) board.buses new.end over)))
+    (IsTurned-ended state m c.args.bound left held board held' new c.stop_at.ensures.same.input over c.stop_at.ensures.run plain_turn)
+    (ap (λ (b : BoardView g.row.M.Denot). b.buses) c.stop_at.ensures.same.same ∙ sym (buses_of-ended m board.store.words (state board.machine) board.buses new.end over)))
 
 pub returns-then-is_some-clause-write : goal.returns-then-is_some-clause-write
-returns-then-is_some-clause-write g c = λ not_ended p.
-    Leads-bound g.M.Clocked.state g.M.Clocked.meaning c.args.bound _ _ c.args.self.now _ c.stop_at.new.self c.stop_at.ensures.input not_ended p
-    (ap (λ (b : BoardView g.row.M.Denot). b.buses) c.stop_at.ensures.same) (c.stop_at.ensures.write _)
+returns-then-is_some-clause-write g c =
+    let state = g.M.Clocked.state in
+    let m = g.M.Clocked.meaning in
+    TurnIsCut-run state m c.args.bound _ _ c.args.self.now _ _ c.stop_at.new.self
+    (λ not_ended p. bound-cut state m c.args.bound _ _ c.args.self.now _ c.stop_at.new.self c.stop_at.ensures.same.input not_ended p
+    (ap (λ (b : BoardView g.row.M.Denot). b.buses) c.stop_at.ensures.same.same) (c.stop_at.ensures.write _))
 
-pub returns-then-is_some-clause-within : goal.returns-then-is_some-clause-within
-returns-then-is_some-clause-within g c =
-    let same = ap (λ (b : BoardView g.row.M.Denot). last_cycles b.counts.boundary) c.stop_at.ensures.same in
-    let near = c.stop_at.ensures.near in
-    omega (arith, same, near)
+pub returns-then-is_some-clause-in_time : goal.returns-then-is_some-clause-in_time
+returns-then-is_some-clause-in_time g c =
+    let board = c.args.self.now in
+    let new = c.stop_at.new.self in
+    let over : IsSome new.end = search rules in
+    let boundary : new.counts.boundary ≡ board.counts.boundary = ap (λ (b : BoardView g.row.M.Denot). b.counts.boundary) c.stop_at.ensures.same.same in
+    let near : new.counts.cycles ≤ last_cycles board.counts.boundary + 1024 = rw (← boundary) c.stop_at.ensures.in_time.1 in
+    let late : new.end ≡ None → ⊥ = λ q. absurd (let still = subst IsSome q over in cc) in
+    record { within = near; near = c.stop_at.ensures.in_time.1; ordered = c.stop_at.ensures.in_time.2; onward = λ _ q. absurd (late q); boundary = λ q. absurd (late q) }
 
 -- it does not, and an instruction follows
 
@@ -50,7 +57,7 @@ returns-clause-run g c = λ plain.
     let held' = g.K.Sink.held c.instruction.new.sink in
     let new = c.instruction.new.self in
     let none : c.stop_at.result ≡ None = search rules in
-    let stays = c.stop_at.ensures.stays none in
+    let stays = c.stop_at.ensures.stays.0 none in
     let same_held : g.K.Sink.held c.stop_at.new.sink ≡ held = ap g.K.Sink.held stays.1 in
     let here : (P : BoardView g.row.M.Denot → Option (List ℕ) → Type 0) → P c.stop_at.new.self (g.K.Sink.held c.stop_at.new.sink) → P board held =
     λ P p. subst (λ b. P b held) stays.0 (subst (λ h. P c.stop_at.new.self h) same_held p) in
@@ -71,7 +78,7 @@ returns-clause-read g c = λ not_ended p.
     let held' = g.K.Sink.held c.instruction.new.sink in
     let new = c.instruction.new.self in
     let none : c.stop_at.result ≡ None = search rules in
-    let stays = c.stop_at.ensures.stays none in
+    let stays = c.stop_at.ensures.stays.0 none in
     let same_held : g.K.Sink.held c.stop_at.new.sink ≡ held = ap g.K.Sink.held stays.1 in
     let here : (P : BoardView g.row.M.Denot → Option (List ℕ) → Type 0) → P c.stop_at.new.self (g.K.Sink.held c.stop_at.new.sink) → P board held =
     λ P p. subst (λ b. P b held) stays.0 (subst (λ h. P c.stop_at.new.self h) same_held p) in
@@ -91,7 +98,7 @@ returns-clause-write g c = λ not_ended p.
     let held' = g.K.Sink.held c.instruction.new.sink in
     let new = c.instruction.new.self in
     let none : c.stop_at.result ≡ None = search rules in
-    let stays = c.stop_at.ensures.stays none in
+    let stays = c.stop_at.ensures.stays.0 none in
     let same_held : g.K.Sink.held c.stop_at.new.sink ≡ held = ap g.K.Sink.held stays.1 in
     let here : (P : BoardView g.row.M.Denot → Option (List ℕ) → Type 0) → P c.stop_at.new.self (g.K.Sink.held c.stop_at.new.sink) → P board held =
     λ P p. subst (λ b. P b held) stays.0 (subst (λ h. P c.stop_at.new.self h) same_held p) in

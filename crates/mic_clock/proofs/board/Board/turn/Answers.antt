@@ -3,13 +3,13 @@ use Rattle.console_port.specs.declared.fault.BusFault.TheVariants as faults
 use Rattle.mic_clock.specs.View.{BoardView}
 use Rattle.mic_clock.specs.Run.{MicroRun, bounded}
 use Rattle.mic_clock.specs.Board.{ShowsAs, IsTurned, IsCutByFault, NoFault}
-use Rattle.mic_clock.proofs.Reach.{IsLedTo-map, Leads-start, Leads-read, Leads-write, Leads-bound, IsTurned-bounded}
+use Rattle.mic_clock.proofs.Reach.{IsLedTo-map, Leads-start, Leads-read, bound-cut, cycle-cut, IsTurned-bounded}
 use Rattle.mic_clock.proofs.board.Board.turn.Goals as goal
 
 pub returns-in-Some-clause-write : goal.returns-in-Some-clause-write
 returns-in-Some-clause-write g c = λ not_ended p.
-    Leads-bound g.M.Clocked.state g.M.Clocked.meaning c.args.bound _ _ c.args.self.now _ c.stop_at.new.self c.stop_at.ensures.input not_ended p
-    (ap (λ (b : BoardView g.row.M.Denot). b.buses) c.stop_at.ensures.same) (c.stop_at.ensures.write _)
+    bound-cut g.M.Clocked.state g.M.Clocked.meaning c.args.bound _ _ c.args.self.now _ c.stop_at.new.self c.stop_at.ensures.same.input not_ended p
+    (ap (λ (b : BoardView g.row.M.Denot). b.buses) c.stop_at.ensures.same.same) (c.stop_at.ensures.write _)
 
 pub returns-clause-turn : goal.returns-clause-turn
 returns-clause-turn g c =
@@ -22,7 +22,7 @@ returns-clause-turn g c =
     let held' = g.K.Sink.held c.cycle.new.sink in
     let new = c.cycle.new.self in
     let none : c.stop_at.result ≡ None = search rules in
-    let stays = c.stop_at.ensures.stays none in
+    let stays = c.stop_at.ensures.stays.0 none in
     let same_held : g.K.Sink.held c.stop_at.new.sink ≡ held = ap g.K.Sink.held stays.1 in
     let here : (P : BoardView g.row.M.Denot → Option (List ℕ) → Type 0) → P c.stop_at.new.self (g.K.Sink.held c.stop_at.new.sink) → P board held =
     λ P p. subst (λ b. P b held) stays.0 (subst (λ h. P c.stop_at.new.self h) same_held p) in
@@ -42,7 +42,7 @@ returns-clause-read g c = λ not_ended p.
     let held' = g.K.Sink.held c.cycle.new.sink in
     let new = c.cycle.new.self in
     let none : c.stop_at.result ≡ None = search rules in
-    let stays = c.stop_at.ensures.stays none in
+    let stays = c.stop_at.ensures.stays.0 none in
     let same_held : g.K.Sink.held c.stop_at.new.sink ≡ held = ap g.K.Sink.held stays.1 in
     let here : (P : BoardView g.row.M.Denot → Option (List ℕ) → Type 0) → P c.stop_at.new.self (g.K.Sink.held c.stop_at.new.sink) → P board held =
     λ P p. subst (λ b. P b held) stays.0 (subst (λ h. P c.stop_at.new.self h) same_held p) in
@@ -65,14 +65,11 @@ returns-clause-write g c = λ not_ended p.
     let held' = g.K.Sink.held c.cycle.new.sink in
     let new = c.cycle.new.self in
     let none : c.stop_at.result ≡ None = search rules in
-    let stays = c.stop_at.ensures.stays none in
+    let stays = c.stop_at.ensures.stays.0 none in
     let same_held : g.K.Sink.held c.stop_at.new.sink ≡ held = ap g.K.Sink.held stays.1 in
     let here : (P : BoardView g.row.M.Denot → Option (List ℕ) → Type 0) → P c.stop_at.new.self (g.K.Sink.held c.stop_at.new.sink) → P board held =
     λ P p. subst (λ b. P b held) stays.0 (subst (λ h. P c.stop_at.new.self h) same_held p) in
     let shows : NoFault board.end board.end → ShowsAs state held board held board (bounded m (Some c.args.bound)) =
     here (λ b h. NoFault board.end b.end → ShowsAs state held board h b (bounded m (Some c.args.bound))) c.stop_at.ensures.run in
     let cut = here (λ b h. IsCutByFault state m left h b left' held' new) c.cycle.ensures.cut faults.WriteFault not_ended tt p in
-    let Along : ℕ → MicroRun g.M.Clocked.State → Type 0 = λ n r. Unit {0} in
-    IsLedTo-map state left held board left' new _ _ (λ r rest at. (at.0, at.2))
-    (Leads-write state m board.store.words (Some c.args.bound) left held board Along left held board left' held' new refl (Leads-start state m c.args.bound left held board)
-    not_ended cut (λ r s. (shows (search rules) left r s).its_end ∙ not_ended))
+    cycle-cut state m c.args.bound left held board left' held' new not_ended p (shows (search rules)) cut
