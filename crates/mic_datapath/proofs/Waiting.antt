@@ -22,18 +22,18 @@ some_or_none [] = inl refl
 some_or_none (x ∷ xs) = inr (λ e. cc)
 
 read_lets : {K : Type 0} (n at : ℕ) (kept : List ℕ) (sink sink' : K) → read_refusal n at ≡ None → (at < n → sink' ≡ sink) → (kept ≡ [] → sink' ≡ sink) →
-    LetsBytesWait n mems.Read at (read_refusal n at) kept sink sink'
+    LetsBytesWait n mems.Read at None kept sink sink'
 read_lets n at kept sink sink' clear memory empty = λ room.
     elim (cases_lt at n) [
       | inl inside ↦ inl (memory inside)
       | inr behind ↦ elim (some_or_none kept) [
         | inl none ↦ inl (empty none)
-        | inr some ↦ inr (record { some = some; reads = at_console n at clear behind; behind = behind; clear = clear })
+        | inr some ↦ inr (record { some = some; reads = at_console n at clear behind; behind = behind; clear = refl })
       ]
     ]
 
 pub read_waits : {K : Type 0} (n at : ℕ) (kept : List ℕ) (sink sink' : K) (mem : Mem) → mem ≡ mems.Read → memory_refusal n mem at ≡ None →
-    (at < n → sink' ≡ sink) → (kept ≡ [] → sink' ≡ sink) → LetsBytesWait n mem at (memory_refusal n mem at) kept sink sink'
+    (at < n → sink' ≡ sink) → (kept ≡ [] → sink' ≡ sink) → LetsBytesWait n mem at None kept sink sink'
 read_waits n at kept sink sink' mem is clear memory empty =
-    subst (λ (x : Mem). LetsBytesWait n x at (memory_refusal n x at) kept sink sink') (sym is)
+    subst (λ (x : Mem). LetsBytesWait n x at None kept sink sink') (sym is)
     (read_lets n at kept sink sink' (subst (λ (x : Mem). memory_refusal n x at ≡ None) is clear) memory empty)

@@ -1,7 +1,11 @@
 -- What the accesses of a cycle come to, by what the ports are given.
-use Rattle.std.specs.Prelude.{◌≡◌, ◌≢◌, ◌⊎◌, ◌<◌, ◌≤◌, ◌/◌, ◌==◌, ◌&&◌, ℕ, Bool, true, false, List, [], length, Option, None, IsTrue}
-use Rattle.console_port.specs.Console.{most_kept}
+use Rattle.std.specs.Prelude.{◌≡◌, ◌≢◌, ◌⊎◌, ◌<◌, ◌≤◌, ◌/◌, ◌==◌, ◌&&◌, ℕ, Bool, true, false, List, [], length, Option, Some, None, Result, Err, OnOk, IfOk, IfErr, IsErrOf, IsTrue}
+use Rattle.console_port.specs.Bus.{ChangesOnly, IsLed, Stands, refused_by}
+use Rattle.console_port.specs.Console.{IsFault, most_kept}
+use Rattle.console_port.specs.View.{BusView}
 use Rattle.console_port.specs.World.{World, Refusal, console_at}
+use Rattle.console_port.specs.declared.fault.BusFault.{BusFault}
+use Rattle.console_port.specs.declared.fault.BusFault.TheVariants.{ReadFault, WriteFault}
 use Rattle.micro_word.specs.declared.statement.Mem.{Mem}
 use Rattle.micro_word.specs.declared.statement.Mem.TheVariants as mems
 use Rattle.mic_datapath.specs.Memory.{written, sampled, word_under_way, byte_under_way}
@@ -29,6 +33,20 @@ abbrev pub is_access : Mem → Bool
 is_access mems.Read = true
 is_access mems.Write = true
 is_access mems.None = false
+
+-- What accesses come to between a source and a sink, where `Does x w v` says that they lead the world w to v with x sampled.
+-- Where they are refused, that is the answer. A fault comes past the memory's words alone, where the console is accessed.
+pub record HasAccessed {T : Type 0} (why : Option Refusal) (mem : Mem) (mar : ℕ) (Does : T → World → World → Type 0)
+    (left held : Option (List ℕ)) (bus : BusView) (left' held' : Option (List ℕ)) (bus' : BusView) (result : Result T BusFault) : Type 0 where
+  pub allowed : OnOk result (why ≡ None)
+  pub ok : IfOk result (λ x. IsLed left held bus left' held' bus' (Does x))
+  pub others : OnOk result (ChangesOnly mar bus.words bus'.words)
+  pub refusal : (e : BusFault) → refused_by why ≡ Some e → result ≡ Err e
+  pub refused : IfErr result (λ e. (IsFault e → ⊥) → refused_by why ≡ Some e)
+  pub behind : IfErr result (λ e. IsFault e → length bus.words ≤ mar)
+  pub stands : IfErr result (Stands left held bus left' held' bus')
+  pub reads : IsErrOf result ReadFault → IsTrue (is_read mem && mar == console_at)
+  pub uses : IsErrOf result WriteFault → IsTrue (is_access mem && mar == console_at)
 
 -- a read of the console that is not refused, where bytes wait
 pub record ReadsWaiting (stack_end : ℕ) (mem : Mem) (mar : ℕ) (refusal : Option Refusal) (kept : List ℕ) : Type 0 where

@@ -1,13 +1,12 @@
 //! The accesses of a cycle: their addresses are tested before anything is changed.
 
-ghost use Rattle.std.specs.Prelude.{◌≡◌, ◌≢◌, IsSome, ◌==◌, ◌&&◌, ◌≤◌, ℕ, List, Some, None, Err, is_some, length, OnOk, IfOk, OnErr, IfErr, IsErrOf, IsTrue};
-ghost use Rattle.mic_base.specs.Streams.{Holds};
-ghost use Rattle.console_port.specs.World.{World, console_at};
-ghost use Rattle.console_port.specs.Bus.{Stands, IsLed, ChangesOnly, refused_by};
-ghost use Rattle.console_port.specs.Console.{IsFault, HasFaultCause, StaysFlushed, StillTells};
-ghost use Rattle.mic_clock.specs.Edge.{AsksNoMore};
+ghost use Rattle.std.specs.Prelude.{◌≡◌, Some, None, Err, ℕ, is_some, length, OnOk, IfOk, IfErr};
+ghost use Rattle.console_port.specs.World.{World};
+ghost use Rattle.console_port.specs.Bus.{refused_by};
+ghost use Rattle.console_port.specs.Console.{HasFaultCause};
+ghost use Rattle.console_port.specs.Streams.{SinkGoesOn, SourceGoesOn};
 ghost use Rattle.mic_datapath.specs.Memory.{memory_refusal, byte_refusal, access_refusal, byte_under_way, ports_with};
-ghost use Rattle.mic_datapath.specs.Access.{IsAccess, IsTransfer, LetsBytesWait, is_read, is_access};
+ghost use Rattle.mic_datapath.specs.Access.{HasAccessed, IsAccess, IsTransfer, LetsBytesWait, is_read};
 
 use crate::memory::{access_memory, is_in_memory, is_quiet, no_access};
 use crate::ports::Ports;
@@ -60,23 +59,12 @@ pub fn transfer<S: Source, K: Sink>(
     sink: &mut K,
 ) -> Result<Option<u32>, BusFault>
     requires { memory_refusal (length bus.old.words) mem ports.now.mar ≡ None }
-    ensures ok { IfOk result (λ word. IsLed (S.left source.old) (K.held sink.old) bus.old (S.left source.new) (K.held sink.new) bus.new
-        (λ w v. IsTransfer (length bus.old.words) mem ports.now w word v)) }
-    ensures others { OnOk result (ChangesOnly ports.now.mar bus.old.words bus.new.words) }
+    ensures access { HasAccessed None mem ports.now.mar (λ word w v. IsTransfer (length bus.old.words) mem ports.now w word v)
+        (S.left source.old) (K.held sink.old) bus.old (S.left source.new) (K.held sink.new) bus.new result }
     ensures sampled { IfOk result (λ word. is_some word ≡ is_read mem) }
-    ensures size { length bus.new.words ≡ length bus.old.words }
-    ensures fault { IfErr result IsFault }
-    ensures behind { OnErr result (length bus.old.words ≤ ports.now.mar) }
-    ensures stands { IfErr result (Stands (S.left source.old) (K.held sink.old) bus.old (S.left source.new) (K.held sink.new) bus.new) }
-    ensures reads { IsErrOf result BusFault.ReadFault → IsTrue (is_read mem && ports.now.mar == console_at) }
-    ensures uses { IsErrOf result BusFault.WriteFault → IsTrue (is_access mem && ports.now.mar == console_at) }
-    ensures waits { LetsBytesWait (length bus.old.words) mem ports.now.mar
-        (memory_refusal (length bus.old.words) mem ports.now.mar) bus.old.console.kept sink.old sink.new }
-    ensures keeps { (front : List ℕ) → Holds front (K.held sink.old) → Holds front (K.held sink.new) }
-    ensures asked_no_more { AsksNoMore bus.old.console.ended source.old bus.new.console.ended source.new }
-    ensures tells_left { StillTells (S.left source.old) bus.old.console.ended (S.left source.new) bus.new.console.ended }
-    ensures tells { IsSome (K.held sink.old) → IsSome (K.held sink.new) }
-    ensures flushed { result ≢ Err BusFault.WriteFault → StaysFlushed (K.held sink.old) (K.passed sink.old) (K.held sink.new) (K.passed sink.new) }
+    ensures waits { LetsBytesWait (length bus.old.words) mem ports.now.mar None bus.old.console.kept sink.old sink.new }
+    ensures source { SourceGoesOn S.left bus.old.console.ended source.old bus.new.console.ended source.new }
+    ensures sink { SinkGoesOn K.held K.passed (result ≡ Err BusFault.WriteFault) sink.old sink.new }
     ensures cause { HasFaultCause (S.faults source.old) (S.faults source.new) (K.faults sink.old) (K.faults sink.new) result }
 {
     match mem {
@@ -116,26 +104,14 @@ fn access_tested<S: Source, K: Sink>(
     source: &mut S,
     sink: &mut K,
 ) -> Result<Sampled, BusFault>
-    ensures allowed { OnOk result (access_refusal (length bus.old.words) mem fetch (ports_with mar mdr pc) ≡ None) }
-    ensures ok { IfOk result (λ x. IsLed (S.left source.old) (K.held sink.old) bus.old (S.left source.new) (K.held sink.new) bus.new
-        (λ w v. IsAccess (length bus.old.words) mem fetch (ports_with mar mdr pc) w x.word x.byte v)) }
-    ensures others { OnOk result (ChangesOnly mar bus.old.words bus.new.words) }
-    ensures word { IfOk result (λ x. is_some x.word ≡ is_read mem) }
-    ensures byte { IfOk result (λ x. is_some x.byte ≡ fetch) }
-    ensures refusal { (e : BusFault) → refused_by (access_refusal (length bus.old.words) mem fetch (ports_with mar mdr pc)) ≡ Some e → result ≡ Err e }
-    ensures behind { IfErr result (λ e. IsFault e → length bus.old.words ≤ mar) }
-    ensures refused { IfErr result (λ e. (IsFault e → ⊥) → refused_by (access_refusal (length bus.old.words) mem fetch (ports_with mar mdr pc)) ≡ Some e) }
-    ensures stands { IfErr result (Stands (S.left source.old) (K.held sink.old) bus.old (S.left source.new) (K.held sink.new) bus.new) }
-    ensures reads { IsErrOf result BusFault.ReadFault → IsTrue (is_read mem && mar == console_at) }
-    ensures uses { IsErrOf result BusFault.WriteFault → IsTrue (is_access mem && mar == console_at) }
+    ensures access { HasAccessed (access_refusal (length bus.old.words) mem fetch (ports_with mar mdr pc)) mem mar
+        (λ x w v. IsAccess (length bus.old.words) mem fetch (ports_with mar mdr pc) w x.word x.byte v)
+        (S.left source.old) (K.held sink.old) bus.old (S.left source.new) (K.held sink.new) bus.new result }
+    ensures sampled { IfOk result (λ x. (is_some x.word ≡ is_read mem) × (is_some x.byte ≡ fetch)) }
     ensures waits { LetsBytesWait (length bus.old.words) mem mar
-        (access_refusal (length bus.old.words) mem fetch
-        (ports_with mar mdr pc)) bus.old.console.kept sink.old sink.new }
-    ensures keeps { (front : List ℕ) → Holds front (K.held sink.old) → Holds front (K.held sink.new) }
-    ensures asked_no_more { AsksNoMore bus.old.console.ended source.old bus.new.console.ended source.new }
-    ensures tells_left { StillTells (S.left source.old) bus.old.console.ended (S.left source.new) bus.new.console.ended }
-    ensures tells { IsSome (K.held sink.old) → IsSome (K.held sink.new) }
-    ensures flushed { result ≢ Err BusFault.WriteFault → StaysFlushed (K.held sink.old) (K.passed sink.old) (K.held sink.new) (K.passed sink.new) }
+        (access_refusal (length bus.old.words) mem fetch (ports_with mar mdr pc)) bus.old.console.kept sink.old sink.new }
+    ensures source { SourceGoesOn S.left bus.old.console.ended source.old bus.new.console.ended source.new }
+    ensures sink { SinkGoesOn K.held K.passed (result ≡ Err BusFault.WriteFault) sink.old sink.new }
     ensures cause { HasFaultCause (S.faults source.old) (S.faults source.new) (K.faults sink.old) (K.faults sink.new) result }
 {
     let ports = Ports { mar, mdr, pc };
@@ -155,25 +131,14 @@ pub fn access<S: Source, K: Sink>(
     source: &mut S,
     sink: &mut K,
 ) -> Result<Sampled, BusFault>
-    ensures allowed { OnOk result (access_refusal (length bus.old.words) mem fetch ports.now ≡ None) }
-    ensures ok { IfOk result (λ x. IsLed (S.left source.old) (K.held sink.old) bus.old (S.left source.new) (K.held sink.new) bus.new
-        (λ w v. IsAccess (length bus.old.words) mem fetch ports.now w x.word x.byte v)) }
-    ensures others { OnOk result (ChangesOnly ports.now.mar bus.old.words bus.new.words) }
-    ensures word { IfOk result (λ x. is_some x.word ≡ is_read mem) }
-    ensures byte { IfOk result (λ x. is_some x.byte ≡ fetch) }
-    ensures refusal { (e : BusFault) → refused_by (access_refusal (length bus.old.words) mem fetch ports.now) ≡ Some e → result ≡ Err e }
-    ensures behind { IfErr result (λ e. IsFault e → length bus.old.words ≤ ports.now.mar) }
-    ensures refused { IfErr result (λ e. (IsFault e → ⊥) → refused_by (access_refusal (length bus.old.words) mem fetch ports.now) ≡ Some e) }
-    ensures stands { IfErr result (Stands (S.left source.old) (K.held sink.old) bus.old (S.left source.new) (K.held sink.new) bus.new) }
-    ensures reads { IsErrOf result BusFault.ReadFault → IsTrue (is_read mem && ports.now.mar == console_at) }
-    ensures uses { IsErrOf result BusFault.WriteFault → IsTrue (is_access mem && ports.now.mar == console_at) }
+    ensures access { HasAccessed (access_refusal (length bus.old.words) mem fetch ports.now) mem ports.now.mar
+        (λ x w v. IsAccess (length bus.old.words) mem fetch ports.now w x.word x.byte v)
+        (S.left source.old) (K.held sink.old) bus.old (S.left source.new) (K.held sink.new) bus.new result }
+    ensures sampled { IfOk result (λ x. (is_some x.word ≡ is_read mem) × (is_some x.byte ≡ fetch)) }
     ensures waits { LetsBytesWait (length bus.old.words) mem ports.now.mar
         (access_refusal (length bus.old.words) mem fetch ports.now) bus.old.console.kept sink.old sink.new }
-    ensures keeps { (front : List ℕ) → Holds front (K.held sink.old) → Holds front (K.held sink.new) }
-    ensures asked_no_more { AsksNoMore bus.old.console.ended source.old bus.new.console.ended source.new }
-    ensures tells_left { StillTells (S.left source.old) bus.old.console.ended (S.left source.new) bus.new.console.ended }
-    ensures tells { IsSome (K.held sink.old) → IsSome (K.held sink.new) }
-    ensures flushed { result ≢ Err BusFault.WriteFault → StaysFlushed (K.held sink.old) (K.passed sink.old) (K.held sink.new) (K.passed sink.new) }
+    ensures source { SourceGoesOn S.left bus.old.console.ended source.old bus.new.console.ended source.new }
+    ensures sink { SinkGoesOn K.held K.passed (result ≡ Err BusFault.WriteFault) sink.old sink.new }
     ensures cause { HasFaultCause (S.faults source.old) (S.faults source.new) (K.faults sink.old) (K.faults sink.new) result }
 {
     if is_quiet(mem, fetch) {
