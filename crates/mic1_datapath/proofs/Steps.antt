@@ -1,10 +1,11 @@
 -- What is asked of the bus for a statement, with its accesses, is its microstep or its refusal.
-use Rattle.std.proofs.Common.{◌≡◌, ℕ, ◌%◌, ◌≤◌, ◌==◌, ◌&&◌, Bool, true, false, IsTrue, [], ◌∷◌, ◌++◌, drop, Option, Some, None, Result, Err, length, inl, inr, refl, sym, ap, subst, ◌∙◌, arith}
-use Rattle.std.specs.Prelude.{nat_lt}
+use Rattle.std.proofs.Common.{◌≡◌, ℕ, ◌%◌, ◌≤◌, ◌==◌, ◌&&◌, Bool, true, false, IsTrue, List, [], ◌∷◌, ◌++◌, drop, Option, Some, None, Result, Ok, Err, length, inl, inr, refl, sym, ap, subst, ◌∙◌, arith}
+use Rattle.std.specs.Prelude.{⊤, nat_lt}
 use Rattle.std.proofs.lemmas.Bool.Decides.{nat_tests}
 use Rattle.console_port.specs.World.{World, Refusal, StackLimit, OutOfMap, fault_of, console_at, untaken_after, given_after}
-use Rattle.console_port.specs.Bus.{refused_by}
+use Rattle.console_port.specs.Bus.{ChangesOnly, IsLed, Shows, refused_by}
 use Rattle.console_port.specs.Console.{IsFault}
+use Rattle.console_port.specs.View.{BusView}
 use Rattle.console_port.specs.declared.fault.BusFault.{BusFault}
 use Rattle.mic_words.specs.declared.machine.Machine.TheVariants as machines
 use Rattle.micro_word.specs.Coding.{statement_of, mem_of}
@@ -13,10 +14,11 @@ use Rattle.micro_word.specs.Operation.{shifted}
 use Rattle.micro_word.specs.declared.statement.Mem.{Mem}
 use Rattle.micro_word.specs.declared.statement.Mem.TheVariants as mems
 use Rattle.micro_word.specs.declared.statement.Placed.{Placed}
+use Rattle.mic_clock.specs.Edge.{IsEdge, LetsBytesWait}
 use Rattle.mic_clock.specs.Meaning.{Outcome, Done, refusal_in, untaken_by, given_by, ReadsConsole, WritesConsole, UsesConsole}
 use Rattle.mic_datapath.specs.Memory.{access_refusal, word_under_way, byte_under_way, written, sampled, outcome}
 use Rattle.mic1_datapath.specs.Microstep.{assigned, ports_of, result_of, settled, moved, refusal, clock, world_after}
-use Rattle.mic_datapath.specs.Access.{IsAccess, is_read, is_access}
+use Rattle.mic_datapath.specs.Access.{HasAccessed, IsAccess, is_read, is_access, LetsBytesWait as LetsWait}
 use Rattle.mic1_datapath.specs.Mic1.{microstep, step_of_word, mic1_meaning}
 use Rattle.mic1_datapath.specs.Micro.{Micro}
 use Rattle.mic_datapath.specs.declared.ports.Ports.{Ports}
@@ -153,3 +155,66 @@ module _ (word : ℕ) (m : Micro) (p : Asked) (h : IsAsked (statement_of machine
       by_mem mems.Read is a = inl (reads_by (ap is_read is))
       by_mem mems.Write is a = inr (writes_by is)
       by_mem mems.None is a = absurd (cc)
+
+-- what the accesses of a word come to is what its edge does
+module _ (word : ℕ) (m : Micro) (p : Asked) (h : IsAsked (statement_of machines.Mic1 word) m p) (left held : Option (List ℕ)) (bus : BusView) where
+  abbrev why : Option Refusal
+  why = access_refusal (length bus.words) p.mem p.fetch p.ports
+
+  size_of : (w : World) → Shows left held bus w → length w.words ≡ length bus.words
+  size_of w shows = ap (λ (ws : List ℕ). length ws) shows.words
+
+  module _ (left' held' : Option (List ℕ)) (bus' : BusView) where
+    pub edge_done : (read byte : Option ℕ) → why ≡ None →
+        IsLed left held bus left' held' bus' (λ w v. IsAccess (length bus.words) p.mem p.fetch p.ports w read byte v) → ChangesOnly p.ports.mar bus.words bus'.words →
+        (t : Micro) → t ≡ moved_on (statement_of machines.Mic1 word) m read byte → IsEdge mic1_meaning word m left held bus {T = ⊤} t left' held' bus' (Ok tt)
+    unfolding step_of_word
+    edge_done read byte clear led others t moves =
+        let s = statement_of machines.Mic1 word in
+        record {
+          ok = λ rest fits.
+              let l = led rest fits in (
+                l.0,
+                l.1,
+                λ w shows same. let to = l.2 w shows same in (to.0, is_done s m p h w to.0 _ (size_of w shows) read byte clear to.1 t moves, to.2, to.3),
+              );
+          others =
+              subst (λ (at : ℕ). ChangesOnly at bus.words bus'.words) (ap (λ (q : Ports). q.mar) h.given ∙ sym (ap (λ (n : Micro). n.mar) moves)) others;
+          refusal = λ w e shows refused.
+              let none = sym refused ∙ step_refusal s m p h _ w (size_of w shows) ∙ ap refused_by clear in absurd (cc);
+          err = tt;
+          state = tt;
+          stands = tt;
+        }
+
+    pub edge_fails : {T : Type 0} (Does : T → World → World → Type 0) (e : BusFault) →
+        HasAccessed why p.mem p.ports.mar Does left held bus left' held' bus' (Err e) → IsEdge mic1_meaning word m left held bus {T = ⊤} m left' held' bus' (Err e)
+    unfolding step_of_word
+    edge_fails Does e a =
+        let s = statement_of machines.Mic1 word in
+        let clear = λ (fault : IsFault e). not_refused why (Err e) e refl fault a.refusal in
+        record {
+          ok = tt;
+          others = tt;
+          refusal = λ w f shows refused.
+              let answer = a.refusal f (sym (step_refusal s m p h _ w (size_of w shows)) ∙ refused) in cc;
+          err = record {
+            refused = λ no_fault w shows. step_refusal s m p h _ w (size_of w shows) ∙ a.refused no_fault;
+            reads = λ is w shows.
+                let fault : IsFault e = subst IsFault (sym is) tt in
+                reads_console word m p h _ w (size_of w shows) (clear fault) (a.behind fault) (a.reads (cc));
+            uses = λ is w shows.
+                let fault : IsFault e = subst IsFault (sym is) tt in
+                uses_console word m p h _ w (size_of w shows) (clear fault) (a.behind fault) (a.uses (cc));
+          };
+          state = refl;
+          stands = a.stands;
+        }
+
+  pub edge_waits : {K : Type 0} (sink sink' : K) → LetsWait (length bus.words) p.mem p.ports.mar why bus.console.kept sink sink' →
+      LetsBytesWait mic1_meaning word m left held bus sink sink'
+  edge_waits sink sink' lets room =
+      elim (lets room) [
+        | inl same ↦ inl same
+        | inr asks ↦ inr (asks.some, λ w shows. reads_console word m p h _ w (size_of w shows) asks.clear asks.behind asks.reads)
+      ]
