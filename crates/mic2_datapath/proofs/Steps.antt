@@ -2,8 +2,9 @@
 use Rattle.std.proofs.Common.{◌≡◌, ℕ, ◌%◌, ◌≤◌, ◌==◌, ◌&&◌, Bool, true, false, if◌then◌else◌, IsTrue, List, [], ◌∷◌, ◌++◌, drop, Option, Some, None, Result, Ok, Err, length, inl, inr, refl, sym, ap, subst, ◌∙◌}
 use Rattle.std.specs.Prelude.{⊤, IfErr, OnOk}
 use Rattle.console_port.specs.World.{World, Refusal, StackLimit, OutOfMap, fault_of, console_at}
-use Rattle.console_port.specs.Bus.{refused_by}
+use Rattle.console_port.specs.Bus.{ChangesOnly, IsLed, Shows, Stands, refused_by}
 use Rattle.console_port.specs.Console.{IsFault}
+use Rattle.console_port.specs.View.{BusView}
 use Rattle.console_port.specs.declared.fault.BusFault.{BusFault}
 use Rattle.mic_words.specs.declared.machine.Machine.TheVariants as machines
 use Rattle.micro_word.specs.Coding.{statement_of, mem_of}
@@ -13,15 +14,17 @@ use Rattle.micro_word.specs.Operation.{shifted}
 use Rattle.micro_word.specs.declared.statement.Mem.{Mem}
 use Rattle.micro_word.specs.declared.statement.Mem.TheVariants as mems
 use Rattle.micro_word.specs.declared.statement.Placed.{Placed}
+use Rattle.mic_clock.specs.Edge.{IsEdge, LetsBytesWait}
 use Rattle.mic_clock.specs.Meaning.{Outcome, Done, refusal_in, untaken_by, given_by, ReadsConsole, WritesConsole, UsesConsole}
-use Rattle.mic_datapath.specs.Access.{IsTransfer, is_read, is_access}
+use Rattle.mic_datapath.specs.Access.{HasAccessed, IsTransfer, is_read, is_access, LetsBytesWait as LetsWait}
 use Rattle.mic_datapath.specs.Memory.{first_refusal, memory_refusal, word_under_way, written, sampled, outcome}
 use Rattle.mic_datapath.specs.Next.{target}
 use Rattle.mic_datapath.specs.Registers.{loaded, ports_given}
 use Rattle.mic_datapath.specs.declared.ports.Ports.{Ports}
 use Rattle.mic2_fetch_unit.specs.FetchUnit.{Prefetch, edge_refusal, sample_refusal}
 use Rattle.mic2_datapath.proofs.Demands.{same_sample, same_unit}
-use Rattle.mic2_datapath.specs.Microstep.{advanced, byte_at, clock, demand, is_stalled, is_to_instruction, jumps, microstep, moved, operand_bytes, refusal, registers_in, result_of, settled, stalled, step_if, unit_after, unit_refusal, unit_samples, world_after}
+use Rattle.mic2_datapath.proofs.Inside.{led_same}
+use Rattle.mic2_datapath.specs.Microstep.{access_refusal, advanced, byte_at, clock, demand, is_stalled, is_to_instruction, jumps, microstep, moved, operand_bytes, refusal, registers_in, result_of, settled, stalled, step_if, unit_after, unit_refusal, unit_samples, world_after}
 use Rattle.mic2_datapath.specs.Latches.{HasComputed}
 use Rattle.mic2_datapath.specs.Mic2.{mic2_meaning, step_of_word}
 use Rattle.mic2_datapath.specs.Micro.{Micro}
@@ -114,7 +117,7 @@ is_for s m mem goes memory =
     }
 
 abbrev pub refusal_on : ℕ → Asked → Option Refusal
-refusal_on n p = first_refusal (memory_refusal n p.mem p.ports.mar) (sample_refusal n p.at)
+refusal_on n p = access_refusal n p.mem p.ports.mar p.at
 
 same_refusal : (s : Placed) (m : Micro) (p : Asked) → IsAsked s m p → (n : ℕ) → refusal n s m ≡ refusal_on n p
 same_refusal s m p h n =
@@ -271,3 +274,135 @@ stall_done s m w n waits size clear words shown t moves =
 pub stall_refusal : (s : Placed) (m : Micro) (w : World) (n : ℕ) → is_stalled s m ≡ true → length w.words ≡ n →
     refusal_in (microstep s m w) ≡ refused_by (edge_refusal n 0 m.unit)
 stall_refusal s m w n waits size = ap refusal_in (waits_on s m w n waits size) ∙ answered (edge_refusal n 0 m.unit) (stalled w.words m) w
+
+-- an edge is what its step's accesses come to
+
+module _ (word : ℕ) (m : Micro) (left held : Option (List ℕ)) (bus : BusView) where
+  abbrev Edges : Micro → Option (List ℕ) → Option (List ℕ) → BusView → Result ⊤ BusFault → Type 0
+  Edges t left' held' bus' result = IsEdge mic2_meaning word m left held bus {T = ⊤} t left' held' bus' result
+
+  size_of : (w : World) → Shows left held bus w → length w.words ≡ length bus.words
+  size_of w shows = ap (λ (ws : List ℕ). length ws) shows.words
+
+  -- an edge over a bus is one over the same bus
+  pub over_same : (b : BusView) → b ≡ bus → (t : Micro) (left' held' : Option (List ℕ)) (bus' : BusView) (result : Result ⊤ BusFault) →
+      IsEdge mic2_meaning word m left held b {T = ⊤} t left' held' bus' result → Edges t left' held' bus' result
+  over_same b same t left' held' bus' result edge =
+      subst (λ (x : BusView). IsEdge mic2_meaning word m left held x {T = ⊤} t left' held' bus' result) same edge
+
+  -- what is refused leaves all
+  refused_edge : (why : Option Refusal) → ((w : World) → Shows left held bus w → refusal_in (step_of_word word m w) ≡ refused_by why) →
+      (bus' : BusView) → bus' ≡ bus → (t : Micro) → t ≡ m → (e : BusFault) → refused_by why ≡ Some e → Edges t left held bus' (Err e)
+  refused_edge why step bus' same t stays e fails =
+      let never = refused_no_fault why e fails in
+      record {
+        ok = tt;
+        others = tt;
+        refusal = λ w f shows refused. let its = sym fails ∙ (sym (step w shows) ∙ refused) in cc;
+        err = record {
+          refused = λ no_fault w shows. step w shows ∙ fails;
+          reads = λ is w shows. absurd (never (subst IsFault (sym is) tt));
+          uses = λ is w shows. absurd (never (subst IsFault (sym is) tt));
+        };
+        state = stays;
+        stands =
+            subst (λ (b : BusView). Stands left held bus left held b e) (sym same)
+            (record {
+              words = refl;
+              same = λ no_fault w shows. shows;
+              untaken = refl;
+              ended = refl;
+              emptied = λ fault. absurd (never fault);
+              lost = λ is. absurd (never (subst IsFault (sym is) tt));
+            });
+      }
+
+  -- an edge of a cycle that stalls
+  module _ (waits : is_stalled (statement_of machines.Mic2 word) m ≡ true) where
+    pub stall_goes : edge_refusal (length bus.words) 0 m.unit ≡ None → (t : Micro) → t ≡ stalled bus.words m → Edges t left held bus (Ok tt)
+    unfolding step_of_word
+    stall_goes clear t moves =
+        let s = statement_of machines.Mic2 word in
+        record {
+          ok = led_same left held bus _ (λ w shows. stall_done s m w _ waits (size_of w shows) clear _ shows.words t moves);
+          others = (refl, λ a other. refl);
+          refusal = λ w e shows refused.
+              let none = sym refused ∙ stall_refusal s m w _ waits (size_of w shows) ∙ ap refused_by clear in absurd (cc);
+          err = tt;
+          state = tt;
+          stands = tt;
+        }
+
+    pub stall_fails : (t : Micro) → t ≡ m → (e : BusFault) → refused_by (edge_refusal (length bus.words) 0 m.unit) ≡ Some e → Edges t left held bus (Err e)
+    unfolding step_of_word
+    stall_fails t stays e fails =
+        refused_edge (edge_refusal (length bus.words) 0 m.unit)
+        (λ w shows. stall_refusal (statement_of machines.Mic2 word) m w _ waits (size_of w shows)) bus refl t stays e fails
+
+  -- and of any other
+  module _ (p : Asked) (h : IsAsked (statement_of machines.Mic2 word) m p) where
+    abbrev why : Option Refusal
+    why = refusal_on (length bus.words) p
+
+    pub edge_done : (left' held' : Option (List ℕ)) (bus' : BusView) (read : Option ℕ) → why ≡ None →
+        IsLed left held bus left' held' bus' (λ w v. IsTransfer (length bus.words) p.mem p.ports w read v) → ChangesOnly p.ports.mar bus.words bus'.words →
+        (t : Micro) → t ≡ moved_on (statement_of machines.Mic2 word) m (result_of (statement_of machines.Mic2 word).part m) bus'.words read →
+        Edges t left' held' bus' (Ok tt)
+    unfolding step_of_word
+    edge_done left' held' bus' read clear led others t moves =
+        let s = statement_of machines.Mic2 word in
+        record {
+          ok = λ rest fits.
+              let l = led rest fits in (
+                l.0,
+                l.1,
+                λ w shows same.
+                    let to = l.2 w shows same in
+                    (to.0, is_done s m p h w to.0 _ (size_of w shows) read bus'.words clear to.1 to.2.words t moves, to.2, to.3),
+              );
+          others =
+              subst (λ (at : ℕ). ChangesOnly at bus.words bus'.words) (ap (λ (q : Ports). q.mar) h.given ∙ sym (ap (λ (n : Micro). n.mar) moves)) others;
+          refusal = λ w e shows refused.
+              let none = sym refused ∙ step_refusal s m p h _ w (size_of w shows) ∙ ap refused_by clear in absurd (cc);
+          err = tt;
+          state = tt;
+          stands = tt;
+        }
+
+    pub edge_refused : (bus' : BusView) → bus' ≡ bus → (t : Micro) → t ≡ m → (e : BusFault) → refused_by why ≡ Some e → Edges t left held bus' (Err e)
+    unfolding step_of_word
+    edge_refused bus' same t stays e fails =
+        refused_edge why (λ w shows. step_refusal (statement_of machines.Mic2 word) m p h _ w (size_of w shows)) bus' same t stays e fails
+
+    module _ (law : AtConsole) where
+      pub edge_fails : {T : Type 0} (Does : T → World → World → Type 0) (left' held' : Option (List ℕ)) (bus' : BusView) (e : BusFault) →
+          HasAccessed why p.mem p.ports.mar Does left held bus left' held' bus' (Err e) → Edges m left' held' bus' (Err e)
+      unfolding step_of_word
+      edge_fails Does left' held' bus' e a =
+          let s = statement_of machines.Mic2 word in
+          let clear = λ (fault : IsFault e). not_refused why (Err e) e refl fault a.refusal in
+          record {
+            ok = tt;
+            others = tt;
+            refusal = λ w f shows refused.
+                let answer = a.refusal f (sym (step_refusal s m p h _ w (size_of w shows)) ∙ refused) in cc;
+            err = record {
+              refused = λ no_fault w shows. step_refusal s m p h _ w (size_of w shows) ∙ a.refused no_fault;
+              reads = λ is w shows.
+                  let fault : IsFault e = subst IsFault (sym is) tt in
+                  reads_console law word m p h _ w (size_of w shows) (clear fault) (a.behind fault) (a.reads (cc));
+              uses = λ is w shows.
+                  let fault : IsFault e = subst IsFault (sym is) tt in
+                  uses_console law word m p h _ w (size_of w shows) (clear fault) (a.behind fault) (a.uses (cc));
+            };
+            state = refl;
+            stands = a.stands;
+          }
+
+      pub edge_waits : {K : Type 0} (sink sink' : K) → LetsWait (length bus.words) p.mem p.ports.mar why bus.console.kept sink sink' →
+          LetsBytesWait mic2_meaning word m left held bus sink sink'
+      edge_waits sink sink' lets room =
+          elim (lets room) [
+            | inl same ↦ inl same
+            | inr asks ↦ inr (asks.some, λ w shows. reads_console law word m p h _ w (size_of w shows) asks.clear asks.behind asks.reads)
+          ]

@@ -6,6 +6,7 @@ use Rattle.micro_word.specs.Words.{is_byte, is_pair}
 use Rattle.micro_word.specs.Destinations.{loads}
 use Rattle.micro_word.specs.Operation.{alu, shifted}
 use Rattle.micro_word.specs.declared.destination.Destination.TheVariants as registers
+use Rattle.micro_word.specs.declared.statement.Mem.{Mem}
 use Rattle.micro_word.specs.declared.statement.BusSource.{BusSource}
 use Rattle.micro_word.specs.declared.statement.BusSource.TheVariants as sources
 use Rattle.micro_word.specs.declared.statement.PlacedNext.{PlacedNext}
@@ -17,7 +18,7 @@ use Rattle.mic_clock.specs.Meaning.{Outcome}
 use Rattle.mic_datapath.specs.Registers.{NineRegisters, on_bus, loaded, ports_given}
 use Rattle.mic_datapath.specs.Memory.{written, sampled, word_under_way, memory_refusal, first_refusal, outcome}
 use Rattle.mic_datapath.specs.Next.{target}
-use Rattle.mic2_fetch_unit.specs.FetchUnit.{Prefetch, edge, jump, sampled_at, edge_refusal, jump_refusal}
+use Rattle.mic2_fetch_unit.specs.FetchUnit.{Prefetch, edge, jump, sampled_at, edge_refusal, jump_refusal, sample_refusal}
 use Rattle.mic2_datapath.specs.Micro.{Micro}
 
 -- A statement demands one byte of the queue where it names MBR1 or MBR1U, two where it names MBR2 or MBR2U, and for a dispatch one more behind them.
@@ -142,6 +143,10 @@ abbrev pub refusal : ℕ → Placed → Micro → Option Refusal
 refusal stack_end s m =
     let r = settled s m in
     first_refusal (memory_refusal stack_end s.part.mem r.mar) (unit_refusal (jumps s.part) stack_end r.pc (demand s) m.unit)
+
+-- the same by the word address that the unit samples, if it samples one
+abbrev pub access_refusal : ℕ → Mem → ℕ → Option ℕ → Option Refusal
+access_refusal stack_end mem mar at = first_refusal (memory_refusal stack_end mem mar) (sample_refusal stack_end at)
 
 abbrev pub step_if : Bool → ℕ → Placed → Micro → World → Outcome Micro
 step_if true stack_end s m w = outcome (edge_refusal stack_end 0 m.unit) (stalled w.words m) w

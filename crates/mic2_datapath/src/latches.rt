@@ -297,7 +297,6 @@ impl Latches {
         ensures read { IfSome result (λ read. is_some read ≡ true → bus.new ≡ bus.old) }
         ensures none { IfNone result (bus.new ≡ bus.old) }
         ensures others { ChangesOnly (loaded_in word c self.now).mar bus.old.words bus.new.words }
-        ensures size { length bus.new.words ≡ length bus.old.words }
         ensures console { bus.new.console ≡ bus.old.console }
     {
         let destinations = bits::destinations(Machine::Mic2, word);

@@ -1,6 +1,6 @@
 //! The machine: its four calls, which are the book's subcycles.
 
-ghost use Rattle.std.specs.Prelude.{◌≡◌, ◌≢◌, Err, IfErr, IsSome, List, OnErr, OnOk, refl, ℕ};
+ghost use Rattle.std.specs.Prelude.{◌≡◌, Err, refl};
 ghost use Rattle.mic_words.specs.declared.machine.Machine.TheVariants.{Mic2 as Mic2Machine};
 ghost use Rattle.micro_word.specs.Coding.{statement_of};
 ghost use Rattle.mic_clock.specs.Meaning.{Driven, AtEdge};
@@ -39,10 +39,9 @@ pub struct Mic2 {
 }
 
 impl Mic2 {
-    ghost use Rattle.mic_base.specs.Streams.{Holds};
-    ghost use Rattle.console_port.specs.Bus.{ChangesOnly, Stands};
-    ghost use Rattle.console_port.specs.Console.{HasFaultCause, StaysFlushed, StillTells};
-    ghost use Rattle.mic_clock.specs.Edge.{AnswersRefusal, AsksNoMore, IsErrOfStep, IsStep, LetsBytesWait};
+    ghost use Rattle.console_port.specs.Console.{HasFaultCause};
+    ghost use Rattle.console_port.specs.Streams.{SinkGoesOn, SourceGoesOn};
+    ghost use Rattle.mic_clock.specs.Edge.{IsEdge, LetsBytesWait};
     ghost use Rattle.mic_clock.specs.Meaning.{AtRest};
     ghost use Rattle.mic2_datapath.specs.Mic2.{at_zero, initial as initial_of, mic2_meaning};
     ghost use Rattle.mic2_datapath.specs.View.{micro_of, microinstruction_of, phase};
@@ -80,20 +79,12 @@ impl Mic2 {
         requires computed { HasComputed (statement_of Mic2Machine self.old.control.word)
             (micro_in self.old.latches) self.old.stalled self.old.value self.old.c }
         ensures phase { phase self.new ≡ AtRest }
-        ensures ok { OnOk result (IsStep mic2_meaning (microinstruction_of self.old) (micro_of self.old) (S.left source.old) (K.held sink.old) bus.old
-            (micro_of self.new) (S.left source.new) (K.held sink.new) bus.new) }
-        ensures others { OnOk result (ChangesOnly (micro_of self.new).mar bus.old.words bus.new.words) }
-        ensures refusal { AnswersRefusal mic2_meaning (microinstruction_of self.old) (micro_of self.old) (S.left source.old) (K.held sink.old) bus.old result }
-        ensures err { IfErr result (IsErrOfStep mic2_meaning (microinstruction_of self.old) (micro_of self.old) (S.left source.old) (K.held sink.old) bus.old) }
-        ensures state { OnErr result (micro_of self.new ≡ micro_of self.old) }
-        ensures stands { IfErr result (Stands (S.left source.old) (K.held sink.old) bus.old (S.left source.new) (K.held sink.new) bus.new) }
+        ensures edge { IsEdge mic2_meaning (microinstruction_of self.old) (micro_of self.old) (S.left source.old) (K.held sink.old) bus.old
+            (micro_of self.new) (S.left source.new) (K.held sink.new) bus.new result }
         ensures waits { LetsBytesWait mic2_meaning (microinstruction_of self.old) (micro_of self.old)
             (S.left source.old) (K.held sink.old) bus.old sink.old sink.new }
-        ensures keeps { (front : List ℕ) → Holds front (K.held sink.old) → Holds front (K.held sink.new) }
-        ensures asked_no_more { AsksNoMore bus.old.console.ended source.old bus.new.console.ended source.new }
-        ensures tells_left { StillTells (S.left source.old) bus.old.console.ended (S.left source.new) bus.new.console.ended }
-        ensures tells { IsSome (K.held sink.old) → IsSome (K.held sink.new) }
-        ensures flushed { result ≢ Err BusFault.WriteFault → StaysFlushed (K.held sink.old) (K.passed sink.old) (K.held sink.new) (K.passed sink.new) }
+        ensures source { SourceGoesOn S.left bus.old.console.ended source.old bus.new.console.ended source.new }
+        ensures sink { SinkGoesOn K.held K.passed (result ≡ Err BusFault.WriteFault) sink.old sink.new }
         ensures cause { HasFaultCause (S.faults source.old) (S.faults source.new) (K.faults sink.old) (K.faults sink.new) result }
     {
         console_law();

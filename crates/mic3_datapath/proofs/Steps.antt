@@ -3,22 +3,24 @@ use Rattle.std.proofs.Common.{arith, ◌≡◌, ℕ, ◌%◌, ◌≤◌, ◌==�
 use Rattle.std.specs.Prelude.{⊤, IfErr, OnOk, nat_lt, ◌||◌}
 use Rattle.std.proofs.lemmas.Bool.Decides.{nat_tests}
 use Rattle.console_port.specs.World.{World, Refusal, StackLimit, OutOfMap, fault_of, console_at}
-use Rattle.console_port.specs.Bus.{refused_by}
+use Rattle.console_port.specs.Bus.{ChangesOnly, IsLed, Shows, refused_by}
 use Rattle.console_port.specs.Console.{IsFault}
+use Rattle.console_port.specs.View.{BusView}
 use Rattle.console_port.specs.declared.fault.BusFault.{BusFault}
 use Rattle.mic_words.specs.declared.machine.Machine.TheVariants as machines
 use Rattle.micro_word.specs.Coding.{statement_of}
 use Rattle.micro_word.specs.declared.statement.Mem.{Mem}
 use Rattle.micro_word.specs.declared.statement.Mem.TheVariants as mems
 use Rattle.micro_word.specs.declared.statement.Placed.{Placed}
+use Rattle.mic_clock.specs.Edge.{IsEdge, LetsBytesWait}
 use Rattle.mic_clock.specs.Meaning.{Done, refusal_in, untaken_by, given_by, ReadsConsole, WritesConsole, UsesConsole}
-use Rattle.mic_datapath.specs.Access.{IsTransfer, is_read, is_access}
+use Rattle.mic_datapath.specs.Access.{HasAccessed, IsTransfer, is_read, is_access, LetsBytesWait as LetsWait}
 use Rattle.mic_datapath.specs.Memory.{first_refusal, memory_refusal, word_under_way, written, sampled, outcome}
 use Rattle.mic_datapath.specs.Places.{registers_at}
 use Rattle.mic_datapath.specs.Registers.{NineRegisters, ports_given}
 use Rattle.mic_datapath.specs.declared.ports.Ports.{Ports}
 use Rattle.mic2_fetch_unit.specs.FetchUnit.{sample_refusal}
-use Rattle.mic2_datapath.specs.Microstep.{advanced, demand, moved, unit_after, unit_refusal, unit_samples}
+use Rattle.mic2_datapath.specs.Microstep.{access_refusal, advanced, demand, moved, unit_after, unit_refusal, unit_samples}
 use Rattle.mic3_datapath.specs.declared.pipeline.Pipeline.{Pipeline as Latched}
 use Rattle.mic3_datapath.specs.Pipeline.{Pipeline, Issued, Computed}
 use Rattle.mic3_datapath.specs.Cycle.{begins, clock, computed, computed_in, cycle, cycle_with, is_held_up, is_jump_coming, issued, issued_by, issued_in, mem_in, mpc_after, refusal, retired, settled, taken, waits, word_after, world_after}
@@ -55,7 +57,7 @@ is_asked l i t ports mem jump at t_is ports_are mem_is jump_is samples its =
     }
 
 abbrev pub refusal_on : ℕ → Asked → Option Refusal
-refusal_on n q = first_refusal (memory_refusal n q.mem q.ports.mar) (sample_refusal n q.at)
+refusal_on n q = access_refusal n q.mem q.ports.mar q.at
 
 same_refusal : (i : Option Issued) (p : Pipeline) (q : Asked) → IsAsked i p q → (n : ℕ) → refusal n i p ≡ refusal_on n q
 same_refusal i p q h n =
@@ -179,6 +181,75 @@ module _ (law : AtConsole) (word : ℕ) (i : Option Issued) (p : Pipeline) (q : 
       by_mem mems.Read e a = inl (reads_by (ap is_read e))
       by_mem mems.Write e a = inr (writes_by e)
       by_mem mems.None e a = absurd (cc)
+
+-- an edge is what its cycle's accesses come to
+module _ (word : ℕ) (i : Option Issued) (p : Pipeline) (q : Asked) (is : issued (statement_of machines.Mic2 word) p ≡ i) (h : IsAsked i p q)
+    (left held : Option (List ℕ)) (bus : BusView) where
+  abbrev Edges : Pipeline → Option (List ℕ) → Option (List ℕ) → BusView → Result ⊤ BusFault → Type 0
+  Edges t left' held' bus' result = IsEdge mic3_meaning word p left held bus {T = ⊤} t left' held' bus' result
+
+  abbrev why : Option Refusal
+  why = refusal_on (length bus.words) q
+
+  size_of : (w : World) → Shows left held bus w → length w.words ≡ length bus.words
+  size_of w shows = ap (λ (ws : List ℕ). length ws) shows.words
+
+  pub edge_done : (left' held' : Option (List ℕ)) (bus' : BusView) (read : Option ℕ) → why ≡ None →
+      IsLed left held bus left' held' bus' (λ w v. IsTransfer (length bus.words) q.mem q.ports w read v) → ChangesOnly q.ports.mar bus.words bus'.words →
+      (t : Pipeline) → t ≡ edged i p bus'.words read → Edges t left' held' bus' (Ok tt)
+  unfolding step_of_word
+  edge_done left' held' bus' read clear led others t moves =
+      let s = statement_of machines.Mic2 word in
+      record {
+        ok = λ rest fits.
+            let l = led rest fits in (
+              l.0,
+              l.1,
+              λ w shows same.
+                  let to = l.2 w shows same in
+                  (to.0, is_done s i p q is h w to.0 _ (size_of w shows) read bus'.words clear to.1 to.2.words t moves, to.2, to.3),
+            );
+        others =
+            subst (λ (at : ℕ). ChangesOnly at bus.words bus'.words) (ap (λ (x : Ports). x.mar) h.given ∙ sym (ap (λ (x : Pipeline). x.micro.mar) moves)) others;
+        refusal = λ w e shows refused.
+            let none = sym refused ∙ (step_refusal s i p q is h _ w (size_of w shows) ∙ ap refused_by clear) in absurd (cc);
+        err = tt;
+        state = tt;
+        stands = tt;
+      }
+
+  module _ (law : AtConsole) where
+    pub edge_fails : {T : Type 0} (Does : T → World → World → Type 0) (left' held' : Option (List ℕ)) (bus' : BusView) (e : BusFault) →
+        HasAccessed why q.mem q.ports.mar Does left held bus left' held' bus' (Err e) → Edges p left' held' bus' (Err e)
+    unfolding step_of_word
+    edge_fails Does left' held' bus' e a =
+        let s = statement_of machines.Mic2 word in
+        let clear = λ (fault : IsFault e). not_refused why (Err e) e refl fault a.refusal in
+        record {
+          ok = tt;
+          others = tt;
+          refusal = λ w f shows refused.
+              let answer = a.refusal f (sym (step_refusal s i p q is h _ w (size_of w shows)) ∙ refused) in cc;
+          err = record {
+            refused = λ no_fault w shows. step_refusal s i p q is h _ w (size_of w shows) ∙ a.refused no_fault;
+            reads = λ same w shows.
+                let fault : IsFault e = subst IsFault (sym same) tt in
+                reads_console law word i p q is h _ w (size_of w shows) (clear fault) (a.behind fault) (a.reads (cc));
+            uses = λ same w shows.
+                let fault : IsFault e = subst IsFault (sym same) tt in
+                uses_console law word i p q is h _ w (size_of w shows) (clear fault) (a.behind fault) (a.uses (cc));
+          };
+          state = refl;
+          stands = a.stands;
+        }
+
+    pub edge_waits : {K : Type 0} (sink sink' : K) → LetsWait (length bus.words) q.mem q.ports.mar why bus.console.kept sink sink' →
+        LetsBytesWait mic3_meaning word p left held bus sink sink'
+    edge_waits sink sink' lets room =
+        elim (lets room) [
+          | inl same ↦ inl same
+          | inr asks ↦ inr (asks.some, λ w shows. reads_console law word i p q is h _ w (size_of w shows) asks.clear asks.behind asks.reads)
+        ]
 
 -- what issues finds the bytes that it takes
 

@@ -1,11 +1,10 @@
-use Rattle.std.proofs.Common.{[], ℕ, length, refl, sym, ap, ◌∙◌}
-use Rattle.console_port.specs.World.{World}
+use Rattle.std.proofs.Common.{ℕ, length, refl, sym, ap, ◌∙◌}
 use Rattle.micro_word.specs.declared.statement.Mem.TheVariants as mems
 use Rattle.mic_datapath.specs.Memory.{memory_refusal, ports_with}
 use Rattle.mic_datapath.specs.Places.{registers_at}
 use Rattle.mic_datapath.specs.Registers.{loaded}
 use Rattle.mic2_datapath.specs.Latches.{access_by}
-use Rattle.mic2_datapath.proofs.Inside.{first_clear, size_is}
+use Rattle.mic2_datapath.proofs.Inside.{first_clear}
 use Rattle.mic2_datapath.proofs.latches.Latches.access_inside.Goals as goal
 
 pub returns-then-is_read-clause-clear : goal.returns-then-is_read-clause-clear
@@ -21,8 +20,3 @@ returns-clause-clear c =
     let at = c.mar_port-mar.ensures ∙ ap (λ (d : ℕ). (loaded d c.args.c l.word (registers_at l.places)).mar) c.destinations-destinations.ensures.value in
     (λ i. memory_refusal (length c.args.bus.now.words) mems.Write (sym at i))
     ∙ first_clear _ _ (c.write_alone.ensures.clear (ports_with c.mar_port-mar.result 0 0) refl)
-
-pub returns-clause-size : goal.returns-clause-size
-returns-clause-size c =
-    let w : World = record { words = c.args.bus.now.words; untaken = []; given = [] } in
-    size_is _ _ _ w _ _ _ (c.write_alone.ensures.access (ports_with c.mar_port-mar.result c.mdr_port-mdr.result 0) refl refl w refl)

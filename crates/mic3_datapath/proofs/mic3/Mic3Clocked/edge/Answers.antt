@@ -42,9 +42,8 @@ advance-requires-clause-pc g c =
     c.taken-taken.ensures c.ports-ports.ensures c.mem_in-mem.ensures c.jumps_now-jumps.ensures c.will_fetch-at.ensures.refusal c.will_fetch-at.ensures.value in
     ap (λ (q : Ports). q.pc) h.given
 
-pub returns-in-Ok-clause-ok : goal.returns-in-Ok-clause-ok
-unfolding step_of_word
-returns-in-Ok-clause-ok g c =
+pub returns-in-Ok-clause-edge : goal.returns-in-Ok-clause-edge
+returns-in-Ok-clause-edge g c =
     let old = c.args.self.now in
     let s : Placed = statement_of machines.Mic2 old.control.word in
     let p : Pipeline = pipeline_in old.pipeline in
@@ -54,55 +53,11 @@ returns-in-Ok-clause-ok g c =
     let h : IsAsked i p asked =
     is_asked old.pipeline i c.taken-taken.result c.ports-ports.result c.mem_in-mem.result c.jumps_now-jumps.result c.will_fetch-at.result
     c.taken-taken.ensures c.ports-ports.ensures c.mem_in-mem.ensures c.jumps_now-jumps.ensures c.will_fetch-at.ensures.refusal c.will_fetch-at.ensures.value in
-    let moves = unrefused _ _ c.advance.ensures.err (samples_clear i p asked h _ _ c.in-Ok.ensures.size c.in-Ok.ensures.allowed) c.advance.ensures.ok in
-    λ rest fits.
-    let led = c.in-Ok.ensures.ok rest fits in (
-      led.0,
-      led.1,
-      λ w shows same.
-          let to = led.2 w shows same in (
-            to.0,
-            is_done s i p asked is h w to.0 _ (ap (λ (ws : List ℕ). length ws) shows.words) _ _ c.in-Ok.ensures.allowed to.1 to.2.words _ moves,
-            to.2,
-            to.3,
-          ),
-    )
-
-pub returns-in-Ok-clause-others : goal.returns-in-Ok-clause-others
-returns-in-Ok-clause-others g c =
-    let old = c.args.self.now in
-    let s : Placed = statement_of machines.Mic2 old.control.word in
-    let p : Pipeline = pipeline_in old.pipeline in
-    let i : Option Issued = in_operand old.to_issue in
-    let is : issued s p ≡ i = sym (old.computed c.requires).issues in
-    let asked : Asked = record { ports = c.ports-ports.result; mem = c.mem_in-mem.result; at = c.will_fetch-at.result } in
-    let h : IsAsked i p asked =
-    is_asked old.pipeline i c.taken-taken.result c.ports-ports.result c.mem_in-mem.result c.jumps_now-jumps.result c.will_fetch-at.result
-    c.taken-taken.ensures c.ports-ports.ensures c.mem_in-mem.ensures c.jumps_now-jumps.ensures c.will_fetch-at.ensures.refusal c.will_fetch-at.ensures.value in
-    let moves = unrefused _ _ c.advance.ensures.err (samples_clear i p asked h _ _ c.in-Ok.ensures.size c.in-Ok.ensures.allowed) c.advance.ensures.ok in
-    let mar = ap (λ (q : Ports). q.mar) h.given ∙ sym (ap (λ (x : Pipeline). x.micro.mar) moves) in
-    subst (λ (at : ℕ). ChangesOnly at c.args.bus.now.words c.access.new.bus.words) mar c.in-Ok.ensures.others
-
-pub returns-in-Ok-clause-refusal : goal.returns-in-Ok-clause-refusal
-unfolding step_of_word
-returns-in-Ok-clause-refusal g c =
-    let old = c.args.self.now in
-    let s : Placed = statement_of machines.Mic2 old.control.word in
-    let p : Pipeline = pipeline_in old.pipeline in
-    let i : Option Issued = in_operand old.to_issue in
-    let is : issued s p ≡ i = sym (old.computed c.requires).issues in
-    let asked : Asked = record { ports = c.ports-ports.result; mem = c.mem_in-mem.result; at = c.will_fetch-at.result } in
-    let h : IsAsked i p asked =
-    is_asked old.pipeline i c.taken-taken.result c.ports-ports.result c.mem_in-mem.result c.jumps_now-jumps.result c.will_fetch-at.result
-    c.taken-taken.ensures c.ports-ports.ensures c.mem_in-mem.ensures c.jumps_now-jumps.ensures c.will_fetch-at.ensures.refusal c.will_fetch-at.ensures.value in
-    λ w e shows refused.
-    let why = step_refusal s i p asked is h _ w (ap (λ (ws : List ℕ). length ws) shows.words) in
-    let clear = ap refused_by c.in-Ok.ensures.allowed in
-    let none = sym refused ∙ why ∙ clear in
-    absurd (cc)
+    let a = c.in-Ok.ensures.access in
+    edge_done old.control.word i p asked is h _ _ c.args.bus.now _ _ c.access.new.bus _ a.allowed a.ok a.others _
+    (unrefused _ _ c.advance.ensures.err (samples_clear i p asked h _ _ a.others.0 a.allowed) c.advance.ensures.ok)
 
 pub returns-in-Ok-clause-waits : goal.returns-in-Ok-clause-waits
-unfolding step_of_word
 returns-in-Ok-clause-waits g c =
     let old = c.args.self.now in
     let s : Placed = statement_of machines.Mic2 old.control.word in
@@ -114,31 +69,10 @@ returns-in-Ok-clause-waits g c =
     is_asked old.pipeline i c.taken-taken.result c.ports-ports.result c.mem_in-mem.result c.jumps_now-jumps.result c.will_fetch-at.result
     c.taken-taken.ensures c.ports-ports.ensures c.mem_in-mem.ensures c.jumps_now-jumps.ensures c.will_fetch-at.ensures.refusal c.will_fetch-at.ensures.value in
     let law : AtConsole = record { takes = c.console_law.ensures.takes; gives = c.console_law.ensures.gives } in
-    λ room. elim (c.in-Ok.ensures.waits room) [
-      | inl same ↦ inl same
-      | inr asks ↦ inr (asks.some, λ w shows. reads_console law old.control.word i p asked is h _ w (ap (λ (ws : List ℕ). length ws) shows.words) asks.clear asks.behind asks.reads)
-    ]
+    edge_waits old.control.word i p asked is h _ _ c.args.bus.now law _ _ c.in-Ok.ensures.waits
 
-pub returns-in-Err-clause-refusal : goal.returns-in-Err-clause-refusal
-unfolding step_of_word
-returns-in-Err-clause-refusal g c =
-    let old = c.args.self.now in
-    let s : Placed = statement_of machines.Mic2 old.control.word in
-    let p : Pipeline = pipeline_in old.pipeline in
-    let i : Option Issued = in_operand old.to_issue in
-    let is : issued s p ≡ i = sym (old.computed c.requires).issues in
-    let asked : Asked = record { ports = c.ports-ports.result; mem = c.mem_in-mem.result; at = c.will_fetch-at.result } in
-    let h : IsAsked i p asked =
-    is_asked old.pipeline i c.taken-taken.result c.ports-ports.result c.mem_in-mem.result c.jumps_now-jumps.result c.will_fetch-at.result
-    c.taken-taken.ensures c.ports-ports.ensures c.mem_in-mem.ensures c.jumps_now-jumps.ensures c.will_fetch-at.ensures.refusal c.will_fetch-at.ensures.value in
-    λ w e shows refused.
-    let why = step_refusal s i p asked is h _ w (ap (λ (ws : List ℕ). length ws) shows.words) in
-    let answer = c.in-Err.ensures.refusal e (sym why ∙ refused) in
-    cc
-
-pub returns-in-Err-clause-err : goal.returns-in-Err-clause-err
-unfolding step_of_word
-returns-in-Err-clause-err g c =
+pub returns-in-Err-clause-edge : goal.returns-in-Err-clause-edge
+returns-in-Err-clause-edge g c =
     let old = c.args.self.now in
     let s : Placed = statement_of machines.Mic2 old.control.word in
     let p : Pipeline = pipeline_in old.pipeline in
@@ -149,24 +83,9 @@ returns-in-Err-clause-err g c =
     is_asked old.pipeline i c.taken-taken.result c.ports-ports.result c.mem_in-mem.result c.jumps_now-jumps.result c.will_fetch-at.result
     c.taken-taken.ensures c.ports-ports.ensures c.mem_in-mem.ensures c.jumps_now-jumps.ensures c.will_fetch-at.ensures.refusal c.will_fetch-at.ensures.value in
     let law : AtConsole = record { takes = c.console_law.ensures.takes; gives = c.console_law.ensures.gives } in
-    let clear = λ (fault : IsFault c.in-Err.fault).
-    not_refused (refusal_on (length c.args.bus.now.words) asked) (Err c.in-Err.fault) c.in-Err.fault refl fault c.in-Err.ensures.refusal in
-    record {
-      refused = λ no_fault w shows.
-          step_refusal s i p asked is h _ w (ap (λ (ws : List ℕ). length ws) shows.words)
-          ∙ c.in-Err.ensures.refused no_fault;
-      reads = λ e w shows.
-          let fault : IsFault c.in-Err.fault = subst IsFault (sym e) tt in
-          reads_console law old.control.word i p asked is h _ w (ap (λ (ws : List ℕ). length ws) shows.words) (clear fault)
-          (c.in-Err.ensures.behind fault) (c.in-Err.ensures.reads (cc));
-      uses = λ e w shows.
-          let fault : IsFault c.in-Err.fault = subst IsFault (sym e) tt in
-          uses_console law old.control.word i p asked is h _ w (ap (λ (ws : List ℕ). length ws) shows.words) (clear fault)
-          (c.in-Err.ensures.behind fault) (c.in-Err.ensures.uses (cc));
-    }
+    edge_fails old.control.word i p asked is h _ _ c.args.bus.now law _ _ _ c.access.new.bus c.in-Err.fault c.in-Err.ensures.access
 
 pub returns-in-Err-clause-waits : goal.returns-in-Err-clause-waits
-unfolding step_of_word
 returns-in-Err-clause-waits g c =
     let old = c.args.self.now in
     let s : Placed = statement_of machines.Mic2 old.control.word in
@@ -178,10 +97,7 @@ returns-in-Err-clause-waits g c =
     is_asked old.pipeline i c.taken-taken.result c.ports-ports.result c.mem_in-mem.result c.jumps_now-jumps.result c.will_fetch-at.result
     c.taken-taken.ensures c.ports-ports.ensures c.mem_in-mem.ensures c.jumps_now-jumps.ensures c.will_fetch-at.ensures.refusal c.will_fetch-at.ensures.value in
     let law : AtConsole = record { takes = c.console_law.ensures.takes; gives = c.console_law.ensures.gives } in
-    λ room. elim (c.in-Err.ensures.waits room) [
-      | inl same ↦ inl same
-      | inr asks ↦ inr (asks.some, λ w shows. reads_console law old.control.word i p asked is h _ w (ap (λ (ws : List ℕ). length ws) shows.words) asks.clear asks.behind asks.reads)
-    ]
+    edge_waits old.control.word i p asked is h _ _ c.args.bus.now law _ _ c.in-Err.ensures.waits
 
 pub returns-in-Err-clause-cause : goal.returns-in-Err-clause-cause
 returns-in-Err-clause-cause g c =
