@@ -1,6 +1,4 @@
-use Rattle.std.proofs.Common.{◌≡◌, ◌≤◌, inl, inr, length, List, ℕ, Err, Option, refl, sym, ◌∙◌, ap, subst}
-use Rattle.console_port.specs.Bus.{refused_by, ChangesOnly}
-use Rattle.console_port.specs.Console.{IsFault}
+use Rattle.std.proofs.Common.{◌≡◌, ◌≤◌, length, ℕ, Option, sym, ap, subst}
 use Rattle.console_port.specs.declared.fault.BusFault.TheVariants as faults
 use Rattle.mic_words.specs.declared.machine.Machine.TheVariants as machines
 use Rattle.micro_word.specs.Coding.{statement_of}
@@ -8,9 +6,8 @@ use Rattle.micro_word.specs.declared.statement.Placed.{Placed}
 use Rattle.mic_datapath.specs.declared.ports.Ports.{Ports}
 use Rattle.mic3_datapath.specs.Pipeline.{Pipeline, Issued}
 use Rattle.mic3_datapath.specs.Cycle.{issued, taken}
-use Rattle.mic3_datapath.specs.Mic3.{step_of_word}
 use Rattle.mic3_datapath.specs.Slots.{in_operand, pipeline_in}
-use Rattle.mic3_datapath.proofs.Steps.{Asked, AtConsole, IsAsked, is_asked, is_done, issued_there, not_refused, reads_console, refusal_on, samples_clear, step_refusal, unrefused, uses_console}
+use Rattle.mic3_datapath.proofs.Steps.{Asked, AtConsole, IsAsked, edge_done, edge_fails, edge_waits, is_asked, issued_there, samples_clear, unrefused}
 use Rattle.mic3_datapath.proofs.mic3.Mic3Clocked.edge.Goals as goal
 
 pub will_fetch-at-requires : goal.will_fetch-at-requires
