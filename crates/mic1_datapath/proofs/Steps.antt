@@ -59,7 +59,7 @@ step_on n s m w = outcome (refusal n s m) (clock n s m w) (world_after n s m w)
 abbrev moved_on : Placed → Micro → Option ℕ → Option ℕ → Micro
 moved_on s m word byte = moved s.next (result_of s.part m) (settled s.part m) word byte
 
-pub is_done : (s : Placed) (m : Micro) (p : Asked) → IsAsked s m p → (w v : World) (n : ℕ) → length w.words ≡ n → (word byte : Option ℕ) →
+is_done : (s : Placed) (m : Micro) (p : Asked) → IsAsked s m p → (w v : World) (n : ℕ) → length w.words ≡ n → (word byte : Option ℕ) →
     access_refusal n p.mem p.fetch p.ports ≡ None → IsAccess n p.mem p.fetch p.ports w word byte v →
     (t : Micro) → t ≡ moved_on s m word byte → microstep s m w ≡ Done t v
 is_done s m p h w v n size word byte clear a t moves =
@@ -80,7 +80,7 @@ answered None m w = refl
 
 module _ (s : Placed) (m : Micro) (p : Asked) (h : IsAsked s m p) (n : ℕ) (w : World) (size : length w.words ≡ n) where
   -- the step's refusal is that of its accesses
-  pub step_refusal : refusal_in (microstep s m w) ≡ refused_by (access_refusal n p.mem p.fetch p.ports)
+  step_refusal : refusal_in (microstep s m w) ≡ refused_by (access_refusal n p.mem p.fetch p.ports)
   step_refusal =
       ap (λ (k : ℕ). refusal_in (step_on k s m w)) size
       ∙ answered (refusal n s m) (clock n s m w) (world_after n s m w) ∙ ap refused_by (same_refusal s m p h n)
@@ -92,7 +92,7 @@ module _ (s : Placed) (m : Micro) (p : Asked) (h : IsAsked s m p) (n : ℕ) (w :
       ∙ sym (λ i. Done (clock n s m w) (sampled n (h.memory i) (h.given i) (written n (h.memory i) (h.given i) w))))
 
 -- an access that is answered by a fault is not refused
-pub not_refused : {T : Type 0} (r : Option Refusal) (result : Result T BusFault) (e : BusFault) → result ≡ Err e → IsFault e →
+not_refused : {T : Type 0} (r : Option Refusal) (result : Result T BusFault) (e : BusFault) → result ≡ Err e → IsFault e →
     ((f : BusFault) → refused_by r ≡ Some f → result ≡ Err f) → r ≡ None
 not_refused None result e is fault answers = refl
 not_refused (Some why) result e is fault answers = absurd (no_fault why (subst IsFault same fault))
@@ -144,11 +144,11 @@ module _ (word : ℕ) (m : Micro) (p : Asked) (h : IsAsked (statement_of machine
       }
 
   -- a failed read of the console is of a step that reads it
-  pub reads_console : IsTrue (is_read p.mem && p.ports.mar == console_at) → ReadsConsole mic1_meaning word m w
+  reads_console : IsTrue (is_read p.mem && p.ports.mar == console_at) → ReadsConsole mic1_meaning word m w
   reads_console t = reads_by (both _ _ t)
 
   -- a failed access of the console is of a step that reads or writes it
-  pub uses_console : IsTrue (is_access p.mem && p.ports.mar == console_at) → UsesConsole mic1_meaning word m w
+  uses_console : IsTrue (is_access p.mem && p.ports.mar == console_at) → UsesConsole mic1_meaning word m w
   uses_console t = by_mem p.mem refl (both _ _ t)
     where
       by_mem : (mem : Mem) → p.mem ≡ mem → is_access mem ≡ true → UsesConsole mic1_meaning word m w
@@ -166,8 +166,9 @@ module _ (word : ℕ) (m : Micro) (p : Asked) (h : IsAsked (statement_of machine
 
   module _ (left' held' : Option (List ℕ)) (bus' : BusView) where
     pub edge_done : (read byte : Option ℕ) → why ≡ None →
-        IsLed left held bus left' held' bus' (λ w v. IsAccess (length bus.words) p.mem p.fetch p.ports w read byte v) → ChangesOnly p.ports.mar bus.words bus'.words →
-        (t : Micro) → t ≡ moved_on (statement_of machines.Mic1 word) m read byte → IsEdge mic1_meaning word m left held bus {T = ⊤} t left' held' bus' (Ok tt)
+        IsLed left held bus left' held' bus' (λ w v. IsAccess (length bus.words) p.mem p.fetch p.ports w read byte v) →
+        ChangesOnly p.ports.mar bus.words bus'.words → (t : Micro) → t ≡ moved_on (statement_of machines.Mic1 word) m read byte →
+        IsEdge mic1_meaning word m left held bus {T = ⊤} t left' held' bus' (Ok tt)
     unfolding step_of_word
     edge_done read byte clear led others t moves =
         let s = statement_of machines.Mic1 word in
@@ -188,7 +189,8 @@ module _ (word : ℕ) (m : Micro) (p : Asked) (h : IsAsked (statement_of machine
         }
 
     pub edge_fails : {T : Type 0} (Does : T → World → World → Type 0) (e : BusFault) →
-        HasAccessed why p.mem p.ports.mar Does left held bus left' held' bus' (Err e) → IsEdge mic1_meaning word m left held bus {T = ⊤} m left' held' bus' (Err e)
+        HasAccessed why p.mem p.ports.mar Does left held bus left' held' bus' (Err e) →
+        IsEdge mic1_meaning word m left held bus {T = ⊤} m left' held' bus' (Err e)
     unfolding step_of_word
     edge_fails Does e a =
         let s = statement_of machines.Mic1 word in

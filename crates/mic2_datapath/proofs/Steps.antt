@@ -116,7 +116,7 @@ is_for s m mem goes memory =
       its = refl;
     }
 
-abbrev pub refusal_on : ℕ → Asked → Option Refusal
+abbrev refusal_on : ℕ → Asked → Option Refusal
 refusal_on n p = access_refusal n p.mem p.ports.mar p.at
 
 same_refusal : (s : Placed) (m : Micro) (p : Asked) → IsAsked s m p → (n : ℕ) → refusal n s m ≡ refusal_on n p
@@ -142,7 +142,7 @@ moved_on s m x words word =
     moved r (target s.next x (byte_at m.unit (operand_bytes s.part))) word (unit_after (jumps s.part) words r.pc (demand s) m.unit)
     (is_to_instruction s.next)
 
-pub is_done : (s : Placed) (m : Micro) (p : Asked) → IsAsked s m p → (w v : World) (n : ℕ) → length w.words ≡ n → (word : Option ℕ) (words : List ℕ) →
+is_done : (s : Placed) (m : Micro) (p : Asked) → IsAsked s m p → (w v : World) (n : ℕ) → length w.words ≡ n → (word : Option ℕ) (words : List ℕ) →
     refusal_on n p ≡ None → IsTransfer n p.mem p.ports w word v → v.words ≡ words →
     (t : Micro) → t ≡ moved_on s m (result_of s.part m) words word → microstep s m w ≡ Done t v
 is_done s m p h w v n size word words clear a shown t moves =
@@ -163,7 +163,7 @@ answered None m w = refl
 
 module _ (s : Placed) (m : Micro) (p : Asked) (h : IsAsked s m p) (n : ℕ) (w : World) (size : length w.words ≡ n) where
   -- the step's refusal is that of its accesses
-  pub step_refusal : refusal_in (microstep s m w) ≡ refused_by (refusal_on n p)
+  step_refusal : refusal_in (microstep s m w) ≡ refused_by (refusal_on n p)
   step_refusal =
       ap refusal_in (goes_on s m p h n w size)
       ∙ answered (refusal n s m) (clock n s m w) (world_after n s m w) ∙ ap refused_by (same_refusal s m p h n)
@@ -175,7 +175,7 @@ module _ (s : Placed) (m : Micro) (p : Asked) (h : IsAsked s m p) (n : ℕ) (w :
       ∙ sym (λ i. Done (clock n s m w) (sampled n (h.memory i) (h.given i) (written n (h.memory i) (h.given i) w))))
 
 -- an access that is answered by a fault is not refused
-pub not_refused : {T : Type 0} (r : Option Refusal) (result : Result T BusFault) (e : BusFault) → result ≡ Err e → IsFault e →
+not_refused : {T : Type 0} (r : Option Refusal) (result : Result T BusFault) (e : BusFault) → result ≡ Err e → IsFault e →
     ((f : BusFault) → refused_by r ≡ Some f → result ≡ Err f) → r ≡ None
 not_refused None result e is fault answers = refl
 not_refused (Some why) result e is fault answers = absurd (no_fault why (subst IsFault same fault))
@@ -246,11 +246,11 @@ module _ (law : AtConsole) (word : ℕ) (m : Micro) (p : Asked) (h : IsAsked (st
       }
 
   -- a failed read of the console is of a step that reads it
-  pub reads_console : IsTrue (is_read p.mem && p.ports.mar == console_at) → ReadsConsole mic2_meaning word m w
+  reads_console : IsTrue (is_read p.mem && p.ports.mar == console_at) → ReadsConsole mic2_meaning word m w
   reads_console t = reads_by (both _ _ t)
 
   -- a failed access of the console is of a step that reads or writes it
-  pub uses_console : IsTrue (is_access p.mem && p.ports.mar == console_at) → UsesConsole mic2_meaning word m w
+  uses_console : IsTrue (is_access p.mem && p.ports.mar == console_at) → UsesConsole mic2_meaning word m w
   uses_console t = by_mem p.mem refl (both _ _ t)
     where
       by_mem : (mem : Mem) → p.mem ≡ mem → is_access mem ≡ true → UsesConsole mic2_meaning word m w
@@ -264,14 +264,14 @@ waits_on : (s : Placed) (m : Micro) (w : World) (n : ℕ) → is_stalled s m ≡
     microstep s m w ≡ outcome (edge_refusal n 0 m.unit) (stalled w.words m) w
 waits_on s m w n waits size = λ i. step_if (waits i) (size i) s m w
 
-pub stall_done : (s : Placed) (m : Micro) (w : World) (n : ℕ) → is_stalled s m ≡ true → length w.words ≡ n → edge_refusal n 0 m.unit ≡ None →
+stall_done : (s : Placed) (m : Micro) (w : World) (n : ℕ) → is_stalled s m ≡ true → length w.words ≡ n → edge_refusal n 0 m.unit ≡ None →
     (words : List ℕ) → w.words ≡ words → (t : Micro) → t ≡ stalled words m → microstep s m w ≡ Done t w
 stall_done s m w n waits size clear words shown t moves =
     waits_on s m w n waits size
     ∙ (λ i. outcome (clear i) (stalled (shown i) m) w)
     ∙ ap (λ (x : Micro). Done x w) (sym moves)
 
-pub stall_refusal : (s : Placed) (m : Micro) (w : World) (n : ℕ) → is_stalled s m ≡ true → length w.words ≡ n →
+stall_refusal : (s : Placed) (m : Micro) (w : World) (n : ℕ) → is_stalled s m ≡ true → length w.words ≡ n →
     refusal_in (microstep s m w) ≡ refused_by (edge_refusal n 0 m.unit)
 stall_refusal s m w n waits size = ap refusal_in (waits_on s m w n waits size) ∙ answered (edge_refusal n 0 m.unit) (stalled w.words m) w
 
@@ -333,7 +333,8 @@ module _ (word : ℕ) (m : Micro) (left held : Option (List ℕ)) (bus : BusView
           stands = tt;
         }
 
-    pub stall_fails : (t : Micro) → t ≡ m → (e : BusFault) → refused_by (edge_refusal (length bus.words) 0 m.unit) ≡ Some e → Edges t left held bus (Err e)
+    pub stall_fails : (t : Micro) → t ≡ m → (e : BusFault) → refused_by (edge_refusal (length bus.words) 0 m.unit) ≡ Some e →
+        Edges t left held bus (Err e)
     unfolding step_of_word
     stall_fails t stays e fails =
         refused_edge (edge_refusal (length bus.words) 0 m.unit)

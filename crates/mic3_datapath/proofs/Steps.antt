@@ -56,7 +56,7 @@ is_asked l i t ports mem jump at t_is ports_are mem_is jump_is samples its =
       its = its ∙ (λ j. unit_samples (jump_is j) ports.pc (t_is j) l.latches.unit);
     }
 
-abbrev pub refusal_on : ℕ → Asked → Option Refusal
+abbrev refusal_on : ℕ → Asked → Option Refusal
 refusal_on n q = access_refusal n q.mem q.ports.mar q.at
 
 same_refusal : (i : Option Issued) (p : Pipeline) (q : Asked) → IsAsked i p q → (n : ℕ) → refusal n i p ≡ refusal_on n q
@@ -73,7 +73,7 @@ word_is : (c : Option Computed) (word under : Option ℕ) (n : ℕ) (r : NineReg
 word_is None word under n r v e = refl
 word_is (Some c) word under n r v e = sym e
 
-pub is_done : (s : Placed) (i : Option Issued) (p : Pipeline) (q : Asked) → issued s p ≡ i → IsAsked i p q → (w v : World) (n : ℕ) → length w.words ≡ n → (word : Option ℕ) (words : List ℕ) →
+is_done : (s : Placed) (i : Option Issued) (p : Pipeline) (q : Asked) → issued s p ≡ i → IsAsked i p q → (w v : World) (n : ℕ) → length w.words ≡ n → (word : Option ℕ) (words : List ℕ) →
     refusal_on n q ≡ None → IsTransfer n q.mem q.ports w word v → v.words ≡ words →
     (t : Pipeline) → t ≡ edged i p words word → cycle s p w ≡ Done t v
 is_done s i p q is h w v n size word words clear a shown t moves =
@@ -101,7 +101,7 @@ answered None p w = refl
 
 module _ (s : Placed) (i : Option Issued) (p : Pipeline) (q : Asked) (is : issued s p ≡ i) (h : IsAsked i p q) (n : ℕ) (w : World) (size : length w.words ≡ n) where
   -- the cycle's refusal is that of its accesses
-  pub step_refusal : refusal_in (cycle s p w) ≡ refused_by (refusal_on n q)
+  step_refusal : refusal_in (cycle s p w) ≡ refused_by (refusal_on n q)
   step_refusal =
       ap refusal_in (goes_on s i p is n w size)
       ∙ (answered (refusal n i p) (clock n i p w) (world_after n i p w) ∙ ap refused_by (same_refusal i p q h n))
@@ -113,7 +113,7 @@ module _ (s : Placed) (i : Option Issued) (p : Pipeline) (q : Asked) (is : issue
       ∙ sym (λ j. Done (clock n i p w) (sampled n (h.memory j) (h.given j) (written n (h.memory j) (h.given j) w))))
 
 -- an access that is answered by a fault is not refused
-pub not_refused : {T : Type 0} (r : Option Refusal) (result : Result T BusFault) (e : BusFault) → result ≡ Err e → IsFault e →
+not_refused : {T : Type 0} (r : Option Refusal) (result : Result T BusFault) (e : BusFault) → result ≡ Err e → IsFault e →
     ((f : BusFault) → refused_by r ≡ Some f → result ≡ Err f) → r ≡ None
 not_refused None result e is fault answers = refl
 not_refused (Some why) result e is fault answers = absurd (no_fault why (subst IsFault same fault))
@@ -170,11 +170,11 @@ module _ (law : AtConsole) (word : ℕ) (i : Option Issued) (p : Pipeline) (q : 
       }
 
   -- a failed read of the console is of a cycle that reads it
-  pub reads_console : IsTrue (is_read q.mem && q.ports.mar == console_at) → ReadsConsole mic3_meaning word p w
+  reads_console : IsTrue (is_read q.mem && q.ports.mar == console_at) → ReadsConsole mic3_meaning word p w
   reads_console t = reads_by (both _ _ t)
 
   -- a failed access of the console is of a cycle that reads or writes it
-  pub uses_console : IsTrue (is_access q.mem && q.ports.mar == console_at) → UsesConsole mic3_meaning word p w
+  uses_console : IsTrue (is_access q.mem && q.ports.mar == console_at) → UsesConsole mic3_meaning word p w
   uses_console t = by_mem q.mem refl (both _ _ t)
     where
       by_mem : (mem : Mem) → q.mem ≡ mem → is_access mem ≡ true → UsesConsole mic3_meaning word p w
@@ -210,7 +210,8 @@ module _ (word : ℕ) (i : Option Issued) (p : Pipeline) (q : Asked) (is : issue
                   (to.0, is_done s i p q is h w to.0 _ (size_of w shows) read bus'.words clear to.1 to.2.words t moves, to.2, to.3),
             );
         others =
-            subst (λ (at : ℕ). ChangesOnly at bus.words bus'.words) (ap (λ (x : Ports). x.mar) h.given ∙ sym (ap (λ (x : Pipeline). x.micro.mar) moves)) others;
+            subst (λ (at : ℕ). ChangesOnly at bus.words bus'.words)
+            (ap (λ (x : Ports). x.mar) h.given ∙ sym (ap (λ (x : Pipeline). x.micro.mar) moves)) others;
         refusal = λ w e shows refused.
             let none = sym refused ∙ (step_refusal s i p q is h _ w (size_of w shows) ∙ ap refused_by clear) in absurd (cc);
         err = tt;
