@@ -1,5 +1,5 @@
 -- What contracts see of a cached bus, and what calls of it come to, one after the other.
-use Rattle.std.specs.Prelude.{◌≡◌, ℕ, List, [], ◌∷◌, length, Option, Some, None}
+use Rattle.std.specs.Prelude.{◌≡◌, List, [], ◌∷◌, length, Option, Some, None}
 use Rattle.console_port.specs.View.{BusView}
 use Rattle.mem_cache.specs.Accesses.{Access}
 use Rattle.mem_cache.specs.Tally.{Tally, counted}

@@ -1,11 +1,11 @@
 //! A bus behind a direct-mapped cache.
 
 ghost use Rattle.std.specs.Prelude.{◌==◌, ◌≡◌, ◌≢◌, ◌≤◌, ◌<◌, ◌%◌, ◌^◌, ℕ, List, Option, Some, None, Ok, Err, true, [], length, slice_index, slice_set, slice_get, map, nat_lt, IsOk, IsSome, IfOk, OnOk, OnErr, IfErr};
-ghost use Rattle.mic_base.specs.Streams.{Holds};
-ghost use Rattle.console_port.specs.Access.{IsAccess};
+ghost use Rattle.console_port.specs.Access.{IsAccess, IsByMap};
 ghost use Rattle.console_port.specs.Bus.{ChangesOnly, Shows, Stands, IsLed, IsRead, refused_by};
-ghost use Rattle.console_port.specs.Console.{HasFaultCause, IsFault, StaysFlushed, StillTells, most_kept};
-ghost use Rattle.console_port.specs.World.{World, Refusal, after_write, byte_in, console_at, fault_of, fetch_refusal, read_refusal, write_refusal};
+ghost use Rattle.console_port.specs.Console.{HasFaultCause, IsFault, most_kept};
+ghost use Rattle.console_port.specs.Streams.{SinkGoesOn};
+ghost use Rattle.console_port.specs.World.{World, after_write, byte_in, console_at, fetch_refusal, read_refusal, write_refusal};
 ghost use Rattle.mem_cache.specs.Accesses.{Access};
 ghost use Rattle.mem_cache.specs.Tally.{empty_tally};
 ghost use Rattle.mem_cache.specs.View.{Counts};
@@ -97,18 +97,14 @@ impl CachedBus {
         sink: &mut K,
     ) -> Result<u32, BusFault>
         requires { (self.old.tally.counts.hits < 2 ^ 63) × (self.old.tally.counts.misses < 2 ^ 63) }
-        ensures refused { (r : Refusal) → read_refusal (length self.old.bus.words) at ≡ Some r →
-            (result ≡ Err (fault_of r)) × (self.new.bus ≡ self.old.bus) × (source.new ≡ source.old) × (sink.new ≡ sink.old) }
-        ensures allowed { OnOk result (read_refusal (length self.old.bus.words) at ≡ None) }
+        ensures map { IsByMap (read_refusal (length self.old.bus.words) at) at
+            ((self.new.bus ≡ self.old.bus) × (source.new ≡ source.old) × (sink.new ≡ sink.old)) IsFault result }
         ensures ok { IfOk result (λ value.
             IsLed (S.left source.old) (K.held sink.old) self.old.bus (S.left source.new)
             (K.held sink.new) self.new.bus (IsRead (length self.old.bus.words) at value)) }
         ensures access { IsAccess S.left S.faults K.held K.passed K.faults (λ w e. refused_by (read_refusal (length self.old.bus.words) at) ≡ Some e)
             (at == console_at) (at == console_at) source.old source.new sink.old sink.new self.old.bus self.new.bus result }
-        ensures ended { self.old.bus.console.ended ≡ true → self.new.bus.console.ended ≡ true }
         ensures empty { self.old.bus.console.kept ≡ [] → sink.new ≡ sink.old }
-        ensures tells_left { StillTells (S.left source.old) self.old.bus.console.ended (S.left source.new) self.new.bus.console.ended }
-        ensures fault { IfErr result (λ e. read_refusal (length self.old.bus.words) at ≡ None → (at ≡ console_at) × IsFault e) }
         ensures words { self.new.bus.words ≡ self.old.bus.words }
         ensures memory { at < length self.old.bus.words →
             (result ≡ Ok (slice_index self.old.bus.words at)) × (self.new.bus ≡ self.old.bus) × (source.new ≡ source.old) × (sink.new ≡ sink.old) }
@@ -141,23 +137,16 @@ impl CachedBus {
     /// Writes as the bus does: through to memory, and into a line that holds the block.
     #[tactic(auto, unfolding(console_port::specs::World::write_refusal, console_port::specs::World::given_after))]
     pub fn write_word<K: Sink>(&mut self, at: u32, value: u32, sink: &mut K) -> Result<(), BusFault>
-        ensures refused { (r : Refusal) → write_refusal (length self.old.bus.words) at ≡ Some r →
-            (result ≡ Err (fault_of r)) × (self.new ≡ self.old) × (sink.new ≡ sink.old) }
-        ensures allowed { OnOk result (write_refusal (length self.old.bus.words) at ≡ None) }
+        ensures map { IsByMap (write_refusal (length self.old.bus.words) at) at ((self.new ≡ self.old) × (sink.new ≡ sink.old)) (λ e. e ≡ BusFault.WriteFault) result }
         ensures ok { OnOk result ((left : Option (List ℕ)) (w : World) →
             Shows left (K.held sink.old) self.old.bus w → Shows left (K.held sink.new) self.new.bus (after_write (length self.old.bus.words) w at value)) }
-        ensures words { OnOk result (self.new.bus.words ≡ slice_set self.old.bus.words at value) }
         ensures err { (left : Option (List ℕ)) → IfErr result (Stands left (K.held sink.old) self.old.bus left (K.held sink.new) self.new.bus) }
-        ensures fault { IfErr result (λ e. write_refusal (length self.old.bus.words) at ≡ None → (at ≡ console_at) × (e ≡ BusFault.WriteFault)) }
-        ensures ended { self.new.bus.console.ended ≡ self.old.bus.console.ended }
-        ensures size { length self.new.bus.words ≡ length self.old.bus.words }
-        ensures others { ChangesOnly at self.old.bus.words self.new.bus.words }
+        ensures words { OnOk result (self.new.bus.words ≡ slice_set self.old.bus.words at value) }
+        ensures others { ChangesOnly at self.old.bus.words self.new.bus.words
+            × (self.new.bus.console.ended ≡ self.old.bus.console.ended) × (self.new.tally ≡ self.old.tally) }
         ensures memory { at < length self.old.bus.words → IsOk result × (self.new.bus.console ≡ self.old.bus.console) × (sink.new ≡ sink.old) }
         ensures waits { length self.old.bus.console.kept < most_kept → sink.new ≡ sink.old }
-        ensures keeps { (front : List ℕ) → Holds front (K.held sink.old) → Holds front (K.held sink.new) }
-        ensures tells { IsSome (K.held sink.old) → IsSome (K.held sink.new) }
-        ensures flushed { result ≢ Err BusFault.WriteFault → StaysFlushed (K.held sink.old) (K.passed sink.old) (K.held sink.new) (K.passed sink.new) }
-        ensures uncounted { self.new.tally ≡ self.old.tally }
+        ensures sink { SinkGoesOn K.held K.passed (result ≡ Err BusFault.WriteFault) sink.old sink.new }
         ensures cause { HasFaultCause 0 0 (K.faults sink.old) (K.faults sink.new) result }
     {
         self.bus.write_word(at, value, sink)?;

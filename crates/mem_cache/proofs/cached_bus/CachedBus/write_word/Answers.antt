@@ -10,10 +10,16 @@ invariant_of-self g c =
     let same = (c.in_err-write_word.ensures.err None).words in
     subst (λ (ws : List ℕ). AreLines ws c.self.inside.lines.items) (sym same) c.self.invariant
 
-pub returns-in_err-write_word-clause-refused : goal.returns-in_err-write_word-clause-refused
-returns-in_err-write_word-clause-refused g c =
+pub returns-in_err-write_word-clause-map : goal.returns-in_err-write_word-clause-map
+returns-in_err-write_word-clause-map g c =
     let h = c.self.inside in
     let bus = ap (λ (v : CacheView). v.bus) c.self.view_is in
-    λ r e.
-    let x = c.write_word.ensures.refused r (subst (λ (b : BusView). write_refusal (length b.words) c.args.at ≡ Some r) (sym bus) e) in
-    (search rules, ap (λ (b : BusView). record { bus = b; tally = record { held = map block_in h.lines.items; counts = h.counts } }) x.1 ∙ c.self.view_is, x.2)
+    record {
+      refused = λ r e.
+          let x = c.write_word.ensures.map.refused r (subst (λ (b : BusView). write_refusal (length b.words) c.args.at ≡ Some r) (sym bus) e) in (
+            search rules,
+            (ap (λ (b : BusView). record { bus = b; tally = record { held = map block_in h.lines.items; counts = h.counts } }) x.1.0 ∙ c.self.view_is, x.1.1),
+          );
+      allowed = search rules;
+      fault = search rules;
+    }
