@@ -1,10 +1,13 @@
 -- What the console keeps, from what its own calls promise.
-use Rattle.std.proofs.Common.{◌≡◌, ◌≢◌, ◌<◌, ◌≤◌, ℕ, Bool, true, false, nat_lt, List, [], ◌∷◌, ◌++◌, length, length-append, Option, Some, IfSome, refl, sym, ap, subst, ◌∙◌, arith}
+use Rattle.std.proofs.Common.{◌≡◌, ◌≢◌, ◌<◌, ◌≤◌, ℕ, Bool, true, false, nat_lt, List, [], ◌∷◌, ◌++◌, length, length-append, Option, Some, IfSome, inl, inr, refl, sym, ap, subst, ◌∙◌, arith}
 use Rattle.std.proofs.lemmas.Bool.Decides.{nat_tests}
 use Rattle.console_port.specs.View.{ConsoleView}
 use Rattle.console_port.specs.Console.{Untaken, Asks, TellsLeft}
 use Rattle.ijvm_instr.specs.declared.instr.Instr.{Instr}
 use Rattle.ijvm_instr.specs.declared.instr.Instr.TheVariants.{In, Out}
+use Rattle.ijvm_reference.specs.declared.frames.StepError.{StepError}
+use Rattle.ijvm_reference.specs.declared.frames.StepError.TheVariants as errors
+use Rattle.ijvm_reference.specs.Steps.{IsMetBy}
 use Rattle.ijvm_reference.specs.Kept.{is_empty, ReadsIn, WritesOut, Keeps, HasRead, HasKept}
 
 -- the source, asked for a byte
@@ -43,6 +46,17 @@ not_roomy n full = by_test (nat_lt n 4096) refl
     by_test : (t : Bool) → nat_lt n 4096 ≡ t → 4096 ≤ n
     by_test true e = absurd (full (grind (arith, nat_tests)))
     by_test false e = grind (arith, nat_tests)
+
+-- An instruction that meets an Err, from what its call of the console promises.
+
+pub met_read : (e : StepError) (c : ConsoleView) → c.ended ≡ false → (e ≡ errors.WriteFault → c.kept ≢ []) → IsMetBy e (Some In) c
+met_read e c ended put = record { read = λ is. (refl, ended); write = λ is. inl (refl, ended, put is) }
+
+pub met_full : (e : StepError) (c : ConsoleView) → e ≢ errors.ReadFault → 4096 ≤ length c.kept → IsMetBy e (Some Out) c
+met_full e c write full = record { read = λ is. absurd (write is); write = λ is. inr (refl, full) }
+
+pub short_met : (i : Option Instr) (c : ConsoleView) → IsMetBy errors.OutOfMemory i c
+short_met i c = record { read = λ is. cc; write = λ is. cc }
 
 pub kept_read : (left : Option (List ℕ)) (i : Option Instr) (c c' : ConsoleView) → i ≡ Some In → HasRead left c c' → HasKept left i c c'
 kept_read left i c c' is reads = λ told untaken tell here. record {

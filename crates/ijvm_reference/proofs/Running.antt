@@ -1,19 +1,21 @@
 -- A turn of a run, from the step of its frames.
-use Rattle.std.proofs.Common.{◌≡◌, ◌<◌, ◌≤◌, ℕ, zero, suc, ◌+◌, Bool, true, List, [], ◌++◌, take, drop, append_assoc, Option, Some, None, IfSome, Result, Ok, Err, refl, sym, ap, ap₂, subst, ◌∙◌}
+use Rattle.std.proofs.Common.{◌≡◌, ◌<◌, ◌≤◌, ℕ, zero, suc, ◌+◌, Bool, true, List, [], ◌++◌, take, drop, append_assoc, Option, Some, None, IfNone, IfSome, Result, Ok, Err, refl, sym, ap, ap₂, subst, ◌∙◌, arith}
 use Rattle.std.specs.declared.alloc.AllocError.{AllocError}
 use Rattle.std.proofs.lemmas.List.{take-append-drop}
 use Rattle.std.proofs.lemmas.Bool.{lt-leb, le-leb}
 use Rattle.mic_words.specs.declared.machine.Machine.{Machine}
 use Rattle.console_port.specs.View.{ConsoleView}
 use Rattle.console_port.specs.Console.{Untaken, Given, IsLost, TellsLeft}
+use Rattle.ijvm_reference.specs.declared.frames.StepEnd.{StepEnd}
 use Rattle.ijvm_reference.specs.declared.frames.StepEnd.TheVariants as steps
 use Rattle.ijvm_reference.specs.declared.frames.StepError.{StepError}
 use Rattle.ijvm_reference.specs.declared.frames.StepError.TheVariants as errors
+use Rattle.ijvm_meaning.specs.declared.run.RunEnd.{RunEnd}
 use Rattle.ijvm_meaning.specs.declared.run.RunEnd.TheVariants as defined
 use Rattle.ijvm_reference.specs.declared.plain.PlainEnd.{PlainEnd}
 use Rattle.ijvm_reference.specs.declared.plain.PlainEnd.TheVariants as ends
 use Rattle.ijvm_instr.specs.Instructions.{instr_at}
-use Rattle.mic_base.specs.Streams.{Holds}
+use Rattle.console_port.specs.Streams.{SinkGoesOn, SourceGoesOn}
 use Rattle.ijvm_reference.specs.declared.plain.Counts.{Counts}
 use Rattle.ijvm_image.specs.Image.{ImageView}
 use Rattle.ijvm_meaning.specs.Frames.{State}
@@ -27,7 +29,7 @@ use Rattle.ijvm_reference.proofs.SafeLemmas.{some_untaken, some_given}
 use Rattle.ijvm_reference.proofs.Limited.{limits-same, same_frames}
 use Rattle.ijvm_reference.specs.Kept.{HasKept}
 use Rattle.ijvm_reference.proofs.Keeping.{next_kept}
-use Rattle.ijvm_reference.specs.Runs.{program_of, point_at, RunEndsWith, IsAllBut, IsCut, StoppedBy, IsShown, LedTo, GoesOn, Reaches, Begins, Onward, cut_by}
+use Rattle.ijvm_reference.specs.Runs.{program_of, point_at, RunEndsWith, EndsIn, IsAllBut, IsAtBoundary, IsCut, ComesFurther, StoppedBy, IsShown, ShownBy, LedTo, TurnsTo, GoesOn, counts_after, stop_by, Reaches, Begins, Onward, cut_by}
 
 -- what a step leads to, told in other words
 pub led_as : (left held : Option (List ℕ)) (c : ConsoleView) (left' held' : Option (List ℕ)) (c' : ConsoleView) (P Q : List ℕ → List ℕ → List ℕ → List ℕ → Type 0) →
@@ -41,78 +43,73 @@ led_as left held c left' held' c' P Q led told = λ rest here.
           (next.0, next.1, told first.0 given rest next.0 first.1 next.2),
     )
 
-pub goes_on : (told : Bool) (left : Option (List ℕ)) (c c' : ConsoleView) (bound : ℕ) (machine : Machine) (old new : MachineView) (cycles instructions cycles' instructions' cost : ℕ) (u g u' g' : List ℕ) →
-    (told ≡ true → TellsLeft left c.ended) → HasKept left (instr_at old.image.text old.at) c c' → cycles < bound →
-    cost ≡ next_cost old.image (timing_of machine) (state_of old [] []) → cycles' ≡ cycles + cost → instructions' ≡ instructions + 1 → Untaken left c.ended u → Does steps.Went old new u g u' g' →
-    GoesOn told (program_of old machine) bound (point_at old cycles instructions u g) (point_at new cycles' instructions' u' g') c c'
-goes_on told left c c' bound machine old new cycles instructions cycles' instructions' cost u g u' g' tell kept under is more one here does =
-    record {
-      under = under;
-      goes = does;
-      counts = ap₂ (λ (k n : ℕ). point_at new k n u' g') (more ∙ ap (λ (k : ℕ). cycles + k) is) one;
-      keeps = kept told u tell here;
-    }
-
 -- the run ends at this boundary, by the outcome of its instruction
 ends_by : (p : Program) (bound : ℕ) (at : Point) (o : Outcome) (f : Finish) → at.cycles < bound → outcome p.image p.stack_end at.state ≡ o →
     after_outcome (finish_from p bound zero) p at o ≡ Some f → EndsBy p bound at f
 ends_by p bound at o f under is then_ =
     (suc zero, ap (after_test (finish_from p bound zero) p at) (lt-leb bound at.cycles under) ∙ ap (after_outcome (finish_from p bound zero) p at) is ∙ then_)
 
-pub halt_ends : (told : Bool) (c : ConsoleView) (held : Option (List ℕ)) (bound : ℕ) (machine : Machine) (old new : MachineView) (cycles instructions cost : ℕ) (r : Counts) (u g u' g' : List ℕ) → cycles < bound →
-    cost ≡ next_cost old.image (timing_of machine) (state_of old [] []) → r.boundary ≡ cycles → r.cycles ≡ cycles + cost → r.instructions ≡ instructions + 1 → Does steps.Halt old new u g u' g' →
-    StoppedBy told c held (Ok ends.Halt) (program_of old machine) bound (point_at old cycles instructions u g) r new u' g'
-halt_ends told c held bound machine old new cycles instructions cost r u g u' g' under is boundary all one does =
+-- and that instruction is completed
+completed_ends : (o : Outcome) (end : RunEnd) (bound : ℕ) (machine : Machine) (old new : MachineView) (counts : Counts) (cost : ℕ) (u g u' g' : List ℕ) →
+    counts.cycles < bound → counts.boundary ≡ counts.cycles → cost ≡ next_cost old.image (timing_of machine) (state_of old [] []) →
+    ((p : Program) (at : Point) → after_outcome (finish_from p bound zero) p at o ≡ Some (completed p at end)) →
+    outcome old.image old.stack_end (state_of old u g) ≡ o → state_of new u' g' ≡ state_of old u g →
+    EndsIn end (program_of old machine) bound (point_at old counts.cycles counts.instructions u g) (counts_after steps.Halt cost counts) new u' g'
+completed_ends o end bound machine old new counts cost u g u' g' under boundary is then_ does same =
     let p : Program = program_of old machine in
-    let at : Point = point_at old cycles instructions u g in (
+    let at : Point = point_at old counts.cycles counts.instructions u g in (
       record {
-        finish = completed p at defined.Halt;
-        ends = ends_by p bound at Halts (completed p at defined.Halt) under does.0 refl;
+        finish = completed p at end;
+        ends = ends_by p bound at o (completed p at end) under does (then_ p at);
         boundary = sym boundary;
-        cycles = ap (λ (k : ℕ). cycles + k) (sym is) ∙ sym all;
-        instructions = sym one;
+        cycles = ap (λ (k : ℕ). counts.cycles + k) (sym is);
+        instructions = refl;
         last = same_frames at.state;
-        left = sym does.1;
+        left = sym same;
       },
       refl,
     )
 
-pub err_ends : (told : Bool) (c : ConsoleView) (held : Option (List ℕ)) (bound : ℕ) (machine : Machine) (old new : MachineView) (cycles instructions cost : ℕ) (r : Counts) (u g u' g' : List ℕ) → cycles < bound →
-    cost ≡ next_cost old.image (timing_of machine) (state_of old [] []) → r.boundary ≡ cycles → r.cycles ≡ cycles + cost → r.instructions ≡ instructions + 1 → Does steps.Err old new u g u' g' →
-    StoppedBy told c held (Ok ends.Err) (program_of old machine) bound (point_at old cycles instructions u g) r new u' g'
-err_ends told c held bound machine old new cycles instructions cost r u g u' g' under is boundary all one does =
+limit_ends : (bound : ℕ) (machine : Machine) (old new : MachineView) (counts : Counts) (u g u' g' : List ℕ) → counts.cycles < bound → counts.boundary ≡ counts.cycles →
+    Does steps.StackLimit old new u g u' g' → EndsIn defined.StackLimit (program_of old machine) bound (point_at old counts.cycles counts.instructions u g) counts new u' g'
+limit_ends bound machine old new counts u g u' g' under boundary does =
     let p : Program = program_of old machine in
-    let at : Point = point_at old cycles instructions u g in (
-      record {
-        finish = completed p at defined.Err;
-        ends = ends_by p bound at Errs (completed p at defined.Err) under does.0 refl;
-        boundary = sym boundary;
-        cycles = ap (λ (k : ℕ). cycles + k) (sym is) ∙ sym all;
-        instructions = sym one;
-        last = same_frames at.state;
-        left = sym does.1;
-      },
-      refl,
-    )
-
-pub limit_ends : (told : Bool) (c : ConsoleView) (held : Option (List ℕ)) (bound : ℕ) (machine : Machine) (old new : MachineView) (cycles instructions : ℕ) (r : Counts) (u g u' g' : List ℕ) → cycles < bound →
-    r.boundary ≡ cycles → r.cycles ≡ cycles → r.instructions ≡ instructions → Does steps.StackLimit old new u g u' g' →
-    StoppedBy told c held (Ok ends.StackLimit) (program_of old machine) bound (point_at old cycles instructions u g) r new u' g'
-limit_ends told c held bound machine old new cycles instructions r u g u' g' under boundary all one does =
-    let p : Program = program_of old machine in
-    let at : Point = point_at old cycles instructions u g in
+    let at : Point = point_at old counts.cycles counts.instructions u g in
     let left : State = state_of new u' g' in (
       record {
         finish = stopped at defined.StackLimit left;
         ends = ends_by p bound at (Limits left) (stopped at defined.StackLimit left) under does refl;
         boundary = sym boundary;
-        cycles = sym all;
-        instructions = sym one;
+        cycles = refl;
+        instructions = refl;
         last = limits-same p.image p.stack_end at.state left does;
         left = refl;
       },
       refl,
     )
+
+-- what a step makes of the run, by its end
+pub step_led : (end : StepEnd) (told : Bool) (left held : Option (List ℕ)) (c : ConsoleView) (left' held' : Option (List ℕ)) (c' : ConsoleView) (bound : ℕ) (machine : Machine) (old new : MachineView)
+    (counts : Counts) (cost : ℕ) → (told ≡ true → TellsLeft left c.ended) → HasKept left (instr_at old.image.text old.at) c c' → counts.cycles < bound → counts.boundary ≡ counts.cycles →
+    cost ≡ next_cost old.image (timing_of machine) (state_of old [] []) → IsLedOn left held c left' held' c' (Does end old new) →
+    LedTo (ShownBy (stop_by end)) left held c left' held' c' (TurnsTo told (stop_by end) bound machine counts (counts_after end cost counts) c c' held' old new)
+step_led steps.Went told left held c left' held' c' bound machine old new counts cost tell kept under boundary is led =
+    led_as left held c left' held' c' (Does steps.Went old new) (TurnsTo told None bound machine counts (counts_after steps.Went cost counts) c c' held' old new) led
+    (λ u g u' g' here does. record {
+      under = under;
+      goes = does;
+      counts = ap (λ (k : ℕ). point_at new (counts.cycles + k) (counts.instructions + 1) u' g') is;
+      keeps = kept told u tell here;
+    })
+step_led steps.Halt told left held c left' held' c' bound machine old new counts cost tell kept under boundary is led =
+    led_as left held c left' held' c' (Does steps.Halt old new) (TurnsTo told (stop_by steps.Halt) bound machine counts (counts_after steps.Halt cost counts) c c' held' old new) led
+    (λ u g u' g' here does. completed_ends Halts defined.Halt bound machine old new counts cost u g u' g' under boundary is (λ p at. refl) does.0 does.1)
+step_led steps.Err told left held c left' held' c' bound machine old new counts cost tell kept under boundary is led =
+    led_as left held c left' held' c' (Does steps.Err old new) (TurnsTo told (stop_by steps.Err) bound machine counts (counts_after steps.Err cost counts) c c' held' old new) led
+    (λ u g u' g' here does. completed_ends Errs defined.Err bound machine old new counts cost u g u' g' under boundary is (λ p at. refl) does.0 does.1)
+step_led steps.StackLimit told left held c left' held' c' bound machine old new counts cost tell kept under boundary is led =
+    led_as left held c left' held' c' (Does steps.StackLimit old new) (TurnsTo told (stop_by steps.StackLimit) bound machine counts counts c c' held' old new) led
+    (λ u g u' g' here does. limit_ends bound machine old new counts u g u' g' under boundary does)
 
 pub bound_ends : (told : Bool) (c : ConsoleView) (held : Option (List ℕ)) (bound : ℕ) (machine : Machine) (m : MachineView) (cycles instructions : ℕ) (r : Counts) (u g : List ℕ) → bound ≤ cycles →
     r.boundary ≡ cycles → r.cycles ≡ cycles → r.instructions ≡ instructions → StoppedBy told c held (Ok ends.Bound) (program_of m machine) bound (point_at m cycles instructions u g) r m u g
@@ -197,7 +194,7 @@ cut_led e told left held c left' held' c' bound machine old new cycles instructi
     )
 
 -- a step that goes on costs at least a cycle
-pub went_cost : (left held : Option (List ℕ)) (c : ConsoleView) (left' held' : Option (List ℕ)) (c' : ConsoleView) (machine : Machine) (old new : MachineView) →
+went_cost : (left held : Option (List ℕ)) (c : ConsoleView) (left' held' : Option (List ℕ)) (c' : ConsoleView) (machine : Machine) (old new : MachineView) →
     IsLedOn left held c left' held' c' (Does steps.Went old new) → 1 ≤ next_cost old.image (timing_of machine) (state_of old [] [])
 went_cost left held c left' held' c' machine old new led =
     let rest = some_untaken left' c'.ended in
@@ -205,6 +202,16 @@ went_cost left held c left' held' c' machine old new led =
     let given = some_given held c.kept in
     let next = first.2 given.0 given.1 in
     next_cost-least old.image old.stack_end machine (state_of old first.0 given.0) (state_of new rest.0 next.0) next.2
+
+pub step_further : (end : StepEnd) (left held : Option (List ℕ)) (c : ConsoleView) (left' held' : Option (List ℕ)) (c' : ConsoleView) (bound : ℕ) (machine : Machine) (old new : MachineView)
+    (counts : Counts) (cost : ℕ) → counts.cycles < bound → IsAtBoundary counts → cost ≡ next_cost old.image (timing_of machine) (state_of old [] []) →
+    IsLedOn left held c left' held' c' (Does end old new) → IfNone (stop_by end) (ComesFurther bound counts (counts_after end cost counts))
+step_further steps.Went left held c left' held' c' bound machine old new counts cost under at is led =
+    let some : 1 ≤ cost = subst (λ (k : ℕ). 1 ≤ k) (sym is) (went_cost left held c left' held' c' machine old new led) in
+    record { under = under; more = omega arith; next = record { boundary = refl; few = omega (arith, at.few) } }
+step_further steps.Halt left held c left' held' c' bound machine old new counts cost under at is led = tt
+step_further steps.Err left held c left' held' c' bound machine old new counts cost under at is led = tt
+step_further steps.StackLimit left held c left' held' c' bound machine old new counts cost under at is led = tt
 
 -- Whole runs.
 
@@ -331,11 +338,34 @@ passed_end end told l0 h0 c0 l1 h1 c1 l2 h2 c2 bound machine cycles instructions
 pub record IsRunning (l0 h0 : Option (List ℕ)) (c0 : ConsoleView) (l1 h1 : Option (List ℕ)) (c1 : ConsoleView) (bound : ℕ) (machine : Machine) (counts0 counts1 : Counts) (old new : MachineView) : Type 0 where
   pub passed : (told : Bool) → (told ≡ true → TellsLeft l0 c0.ended) →
       LedTo Given l0 h0 c0 l1 h1 c1 (HasPassed told bound machine counts0.cycles counts0.instructions counts1.cycles counts1.instructions c0 c1 old new)
-  pub tells : TellsLeft l0 c0.ended → TellsLeft l1 c1.ended
   pub program : KeepsProgram old new
-  pub boundary : counts1.boundary ≡ counts1.cycles
-  pub few : counts1.instructions ≤ counts1.cycles
-  pub keeps : (front : List ℕ) → Holds front h0 → Holds front h1
+  pub boundary : IsAtBoundary counts1
+
+-- one call after another over a source and a sink
+
+pub source_on : {S : Type 0} (left : S → Option (List ℕ)) (e0 e1 e2 : Bool) (s0 s1 s2 : S) → SourceGoesOn left e0 s0 e1 s1 → SourceGoesOn left e1 s1 e2 s2 → SourceGoesOn left e0 s0 e2 s2
+source_on left e0 e1 e2 s0 s1 s2 first then_ =
+    record {
+      asked_no_more = λ ended.
+          let a = first.asked_no_more ended in
+          let b = then_.asked_no_more a.0 in
+          (b.0, b.1 ∙ a.1);
+      tells_left = λ tells. then_.tells_left (first.tells_left tells);
+    }
+
+pub sink_on : {K : Type 0} (held passed : K → Option (List ℕ)) (E F G : Type 0) (k0 k1 k2 : K) → (E → G) → (F → G) → SinkGoesOn held passed E k0 k1 → SinkGoesOn held passed F k1 k2 → SinkGoesOn held passed G k0 k2
+sink_on held passed E F G k0 k1 k2 early late first then_ =
+    record {
+      keeps = λ front h. then_.keeps front (first.keeps front h);
+      tells = λ t. then_.tells (first.tells t);
+      flushed = λ none f. then_.flushed (λ e. none (late e)) (first.flushed (λ e. none (early e)) f);
+    }
+
+pub source_stays : {S : Type 0} (left : S → Option (List ℕ)) (ended : Bool) (s : S) → SourceGoesOn left ended s ended s
+source_stays left ended s = record { asked_no_more = λ e. (e, refl); tells_left = λ t. t }
+
+pub sink_stays : {K : Type 0} (held passed : K → Option (List ℕ)) (G : Type 0) (k : K) → SinkGoesOn held passed G k k
+sink_stays held passed G k = record { keeps = λ front h. h; tells = λ t. t; flushed = λ none f. f }
 
 pub program_stays : (m : MachineView) → KeepsProgram m m
 program_stays m = record { image = refl; stack_end = refl }

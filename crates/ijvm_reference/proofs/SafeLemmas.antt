@@ -1,16 +1,17 @@
 -- A run that never gets stuck goes on so after each step.
-use Rattle.std.proofs.Common.{◌≡◌, ℕ, List, [], ◌++◌, Bool, true, false, Option, Some, None, Result, Ok, Err, IfOk, OnErr, refl, sym, subst, ◌∙◌}
+use Rattle.std.proofs.Common.{◌≡◌, ℕ, List, [], ◌++◌, Bool, true, false, Option, Some, None, Result, Ok, Err, IfOk, IfErr, refl, sym, subst, ◌∙◌}
 use Rattle.console_port.specs.View.{ConsoleView}
 use Rattle.console_port.specs.Console.{Untaken, Given}
 use Rattle.ijvm_reference.specs.declared.frames.StepEnd.{StepEnd}
 use Rattle.ijvm_reference.specs.declared.frames.StepEnd.TheVariants as ends
 use Rattle.ijvm_reference.specs.declared.frames.StepError.{StepError}
+use Rattle.ijvm_instr.specs.declared.instr.Instr.{Instr}
 use Rattle.ijvm_image.specs.Image.{ImageView}
 use Rattle.ijvm_meaning.specs.Frames.{State}
 use Rattle.ijvm_meaning.specs.Step.{Goes, outcome}
 use Rattle.ijvm_meaning.specs.Safe.{SameFrames, ComesTo, Here, On, NeverStuck}
 use Rattle.ijvm_reference.specs.Machine.{MachineView, KeepsProgram, state_of}
-use Rattle.ijvm_reference.specs.Steps.{IsLedOn, Does, Turns}
+use Rattle.ijvm_reference.specs.Steps.{IsLedOn, Does, Turns, StepFails}
 use Rattle.ijvm_reference.proofs.Limited.{limits-same}
 
 same_on : (s t u : State) → SameFrames s t → SameFrames t u → SameFrames s u
@@ -86,10 +87,11 @@ never_after left held c left' held' c' end old new never led keeps =
     subst (λ (n : ℕ). NeverStuck new.image n (state_of new [] [])) (sym keeps.stack_end) (subst (λ (image : ImageView). NeverStuck image old.stack_end (state_of new [] [])) (sym keeps.image) same)
 
 -- whatever a turn of the machine answers
-pub never_turned : (left held : Option (List ℕ)) (c : ConsoleView) (left' held' : Option (List ℕ)) (c' : ConsoleView) (r : Result (Option StepEnd) StepError) (old new : MachineView) →
-    NeverStuck old.image old.stack_end (state_of old [] []) → IfOk r (λ end. IsLedOn left held c left' held' c' (Turns end old new)) → OnErr r (new ≡ old) → KeepsProgram old new →
+pub never_turned : (left held : Option (List ℕ)) (c : ConsoleView) (left' held' : Option (List ℕ)) (c' : ConsoleView) (i : Option Instr) (r : Result (Option StepEnd) StepError) (old new : MachineView) →
+    NeverStuck old.image old.stack_end (state_of old [] []) → IfOk r (λ end. IsLedOn left held c left' held' c' (Turns end old new)) →
+    IfErr r (StepFails i left held c left' held' c' old new) → KeepsProgram old new →
     NeverStuck new.image new.stack_end (state_of new [] [])
-never_turned left held c left' held' c' (Ok None) old new never led same keeps = absurd (never_none left held c left' held' c' old new never led)
-never_turned left held c left' held' c' (Ok (Some end)) old new never led same keeps = never_after left held c left' held' c' end old new never led keeps
-never_turned left held c left' held' c' (Err e) old new never led same keeps =
-    subst (λ (m : MachineView). NeverStuck m.image m.stack_end (state_of m [] [])) (sym same) never
+never_turned left held c left' held' c' i (Ok None) old new never led failed keeps = absurd (never_none left held c left' held' c' old new never led)
+never_turned left held c left' held' c' i (Ok (Some end)) old new never led failed keeps = never_after left held c left' held' c' end old new never led keeps
+never_turned left held c left' held' c' i (Err e) old new never led failed keeps =
+    subst (λ (m : MachineView). NeverStuck m.image m.stack_end (state_of m [] [])) (sym failed.frames) never

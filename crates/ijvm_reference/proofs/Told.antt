@@ -25,19 +25,10 @@ use Rattle.ijvm_reference.specs.Machine.{MachineView, state_of, started}
 use Rattle.ijvm_reference.specs.Steps.{IsMetBy}
 use Rattle.ijvm_reference.specs.Kept.{fresh}
 use Rattle.ijvm_reference.specs.Runs.{program_of, point_at, IsAllBut, IsCut, EndsIn, StoppedBy, IsShown, IsDriven, Reaches, Begins}
-use Rattle.ijvm_reference.specs.Plain.{told_of, reported_end, Reports, Leaves, GotFront, Finishes, Stops, HasRun, IsCutByRead, IsCutInside, IsCutAtEnd, IsShort}
+use Rattle.ijvm_reference.specs.Plain.{told_of, reported_end, IsReportOf, Reports, Leaves, GotFront, Finishes, Stops, HasRun, IsCutByRead, IsCutInside, IsCutAtEnd, IsShort}
 use Rattle.ijvm_reference.proofs.SafeLemmas.{some_untaken}
 use Rattle.ijvm_reference.proofs.Running.{lost_shown}
 use Rattle.ijvm_reference.proofs.Behind.{behind, point_behind, finish_behind, ended_behind, reached_behind}
-
--- a report of these counts and of these frames' places
-pub record IsReportOf (r : PlainReport) (c : Counts) (new : MachineView) : Type 0 where
-  pub cycles : r.cycles ≡ c.cycles
-  pub instructions : r.instructions ≡ c.instructions
-  pub boundary : r.boundary ≡ c.boundary
-  pub address : r.address ≡ new.at
-  pub sp : r.sp + 1 ≡ base (new.running ∷ new.callers)
-  pub lv : r.lv ≡ base new.callers
 
 reports : (r : PlainReport) (c : Counts) (new : MachineView) (u g : List ℕ) (cycles instructions : ℕ) (last : Point) → IsReportOf r c new →
     cycles ≡ c.cycles → instructions ≡ c.instructions → last.cycles ≡ c.boundary → SameFrames last.state (state_of new u g) → Reports r cycles instructions last

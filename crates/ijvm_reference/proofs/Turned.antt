@@ -1,13 +1,15 @@
 -- What comes of an instruction on the machine.
-use Rattle.std.proofs.Common.{◌≡◌, ◌≢◌, ℕ, List, Some, refl, ap}
+use Rattle.std.proofs.Common.{◌≡◌, ◌≢◌, ℕ, List, Option, Some, refl, sym, ap, subst}
 use Rattle.ijvm_instr.specs.declared.instr.Instr.{Instr}
 use Rattle.ijvm_instr.specs.declared.instr.Instr.TheVariants.{Nop, Bipush, LdcW, Iload, Istore, Pop, Dup, Swap, Iadd, Isub, Iand, Iinc, Ifeq, Iflt, IfIcmpeq, Goto, Ireturn, Ior, Invokevirtual, WideIload, WideIstore, WideIinc, In, Out, Err, Halt}
+use Rattle.console_port.specs.View.{ConsoleView}
+use Rattle.ijvm_reference.specs.declared.frames.StepError.{StepError}
 use Rattle.ijvm_reference.specs.declared.compute.Effect.{Effect}
 use Rattle.ijvm_reference.specs.declared.compute.Effect.TheVariants as effects
 use Rattle.ijvm_instr.specs.Instructions.{instr_at}
 use Rattle.ijvm_meaning.specs.Step.{outcome, step, step_if_any}
 use Rattle.ijvm_reference.specs.Machine.{MachineView, IsComputed, state_of, outcome_of}
-use Rattle.ijvm_reference.specs.Steps.{Turns, step_end}
+use Rattle.ijvm_reference.specs.Steps.{StepFails, Turns, step_end}
 
 pub is_computed : (i : Instr) → i ≢ Halt → i ≢ Err → i ≢ In → i ≢ Out → IsComputed i
 is_computed In h e n m = n refl
@@ -42,6 +44,10 @@ pub effect-turns : (effect : Effect) (old new : MachineView) (u g u' g' : List �
 effect-turns effects.Went old new u g u' g' e = e
 effect-turns effects.StackLimit old new u g u' g' e = e
 effect-turns effects.Stuck old new u g u' g' e = e
+
+pub failed_at : (i j : Option Instr) (left held : Option (List ℕ)) (c : ConsoleView) (left' held' : Option (List ℕ)) (c' : ConsoleView) (old new : MachineView) (e : StepError) → j ≡ i →
+    StepFails i left held c left' held' c' old new e → StepFails j left held c left' held' c' old new e
+failed_at i j left held c left' held' c' old new e is = subst (λ (k : Option Instr). StepFails k left held c left' held' c' old new e) (sym is)
 
 -- the instruction at the address, as it is decoded
 pub outcome-at : (old : MachineView) (i : Instr) (u g : List ℕ) → instr_at old.image.text old.at ≡ Some i →

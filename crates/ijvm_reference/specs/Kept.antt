@@ -4,8 +4,6 @@ use Rattle.console_port.specs.View.{ConsoleView}
 use Rattle.console_port.specs.Console.{Untaken, TellsLeft}
 use Rattle.ijvm_instr.specs.declared.instr.Instr.{Instr}
 use Rattle.ijvm_instr.specs.declared.instr.Instr.TheVariants.{In, Out}
-use Rattle.ijvm_reference.specs.declared.frames.StepError.{StepError}
-use Rattle.ijvm_reference.specs.declared.frames.StepError.TheVariants as errors
 
 abbrev pub is_empty : List ℕ → Bool
 is_empty [] = true
@@ -31,11 +29,6 @@ pub record Keeps (told : Bool) (i : Option Instr) (untaken : List ℕ) (c c' : C
 -- the instruction puts what the console keeps: an IN that asks the source, or an OUT that finds the console full
 abbrev pub PutsKept : Option Instr → ConsoleView → Type 0
 PutsKept i c = ((i ≡ Some In) × (c.ended ≡ false) × (c.kept ≢ [])) ⊎ ((i ≡ Some Out) × (4096 ≤ length c.kept))
-
--- an IN that failed: the end of input was not met before it, and where the sink failed something was kept
-pub record HasAsked (e : StepError) (c : ConsoleView) : Type 0 where
-  pub ended : c.ended ≡ false
-  pub put : e ≡ errors.WriteFault → c.kept ≢ []
 
 -- after an IN, and after any instruction, whatever the source may have left
 

@@ -1,5 +1,6 @@
 -- What a run of the plain machine over a source and a sink reports: the definition's run to its end, or to the boundary at which a fault cut it.
-use Rattle.std.specs.Prelude.{◌≡◌, ◌≢◌, ◌⊎◌, ℕ, ◌<◌, false, List, [], ◌++◌, Option, Some, IfSome, is_some, unwrap_or}
+use Rattle.std.specs.Prelude.{◌≡◌, ◌≢◌, ◌⊎◌, ℕ, ◌<◌, ◌+◌, false, List, [], ◌∷◌, ◌++◌, Option, Some, IfSome, Result, Ok, Err, is_some, unwrap_or}
+use Rattle.std.specs.declared.alloc.AllocError.{AllocError}
 use Rattle.mic_words.specs.declared.machine.Machine.{Machine}
 use Rattle.console_port.specs.View.{ConsoleView}
 use Rattle.console_port.specs.Console.{Untaken, LosesLast}
@@ -10,12 +11,14 @@ use Rattle.ijvm_meaning.specs.declared.run.RunEnd.TheVariants as defined
 use Rattle.ijvm_reference.specs.declared.plain.PlainEnd.{PlainEnd}
 use Rattle.ijvm_reference.specs.declared.plain.PlainEnd.TheVariants as ends
 use Rattle.ijvm_reference.specs.declared.plain.PlainReport.{PlainReport}
+use Rattle.ijvm_reference.specs.declared.plain.Counts.{Counts}
 use Rattle.ijvm_instr.specs.Instructions.{instr_at}
 use Rattle.ijvm_image.specs.Image.{ImageView}
-use Rattle.ijvm_meaning.specs.Frames.{sp_of, lv_of}
+use Rattle.ijvm_meaning.specs.Frames.{base, sp_of, lv_of}
 use Rattle.ijvm_meaning.specs.Cost.{timing_of}
 use Rattle.ijvm_meaning.specs.Run.{Program, Point, Finish, first_point, EndsBy}
 use Rattle.ijvm_reference.specs.Kept.{PutsKept, fresh}
+use Rattle.ijvm_reference.specs.Machine.{MachineView}
 use Rattle.ijvm_reference.specs.Runs.{Reaches, IsAllBut}
 
 -- what a source or a sink tells, or nothing
@@ -32,6 +35,20 @@ reported_end defined.Halt = ends.Halt
 reported_end defined.Err = ends.Err
 reported_end defined.Bound = ends.Bound
 reported_end defined.StackLimit = ends.StackLimit
+
+-- how a run ended, or that memory was short
+abbrev pub end_of : Result PlainReport AllocError → Result PlainEnd AllocError
+end_of (Ok r) = Ok r.end
+end_of (Err e) = Err e
+
+-- a report of these counts and of these frames' places
+pub record IsReportOf (r : PlainReport) (c : Counts) (new : MachineView) : Type 0 where
+  pub cycles : r.cycles ≡ c.cycles
+  pub instructions : r.instructions ≡ c.instructions
+  pub boundary : r.boundary ≡ c.boundary
+  pub address : r.address ≡ new.at
+  pub sp : r.sp + 1 ≡ base (new.running ∷ new.callers)
+  pub lv : r.lv ≡ base new.callers
 
 -- the counts of a report, and its last boundary
 pub record Reports (r : PlainReport) (cycles instructions : ℕ) (last : Point) : Type 0 where
@@ -114,12 +131,7 @@ module _ (p : Program) (main_locals bound : ℕ) (left held left' held' : Option
     pub given : GotFront held held' run.at.state.given
 
   -- which of these a report says, by its end
-
-  abbrev pub RunsWhole : PlainReport → Type 0
-  RunsWhole r = r.end ≢ ends.ReadFault → r.end ≢ ends.WriteFault → HasRun r
-
-  abbrev pub FailsToRead : PlainReport → Type 0
-  FailsToRead r = r.end ≡ ends.ReadFault → IsCutByRead r
-
-  abbrev pub FailsToWrite : PlainReport → Type 0
-  FailsToWrite r = r.end ≡ ends.WriteFault → IsCutByWrite r
+  pub record IsRunReport (r : PlainReport) : Type 0 where
+    pub run : r.end ≢ ends.ReadFault → r.end ≢ ends.WriteFault → HasRun r
+    pub read : r.end ≡ ends.ReadFault → IsCutByRead r
+    pub write : r.end ≡ ends.WriteFault → IsCutByWrite r

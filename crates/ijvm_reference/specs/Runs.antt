@@ -1,10 +1,12 @@
 -- How frames are driven over a console, a source and a sink, from boundary to boundary.
-use Rattle.std.specs.Prelude.{◌≡◌, ◌≢◌, ℕ, ◌≤◌, ◌<◌, List, [], ◌++◌, drop, Bool, true, Option, Some, None, IfSome, Result, Ok, Err, alloc_error}
+use Rattle.std.specs.Prelude.{◌≡◌, ◌≢◌, ℕ, ◌+◌, ◌≤◌, ◌<◌, List, [], ◌++◌, drop, Bool, true, Option, Some, None, IfSome, Result, Ok, Err, alloc_error}
 use Rattle.std.specs.declared.alloc.AllocError.{AllocError}
 use Rattle.mic_base.specs.Causes.{Rose}
 use Rattle.mic_words.specs.declared.machine.Machine.{Machine}
 use Rattle.console_port.specs.View.{ConsoleView}
 use Rattle.console_port.specs.Console.{Untaken, Given, TellsLeft}
+use Rattle.ijvm_reference.specs.declared.frames.StepEnd.{StepEnd}
+use Rattle.ijvm_reference.specs.declared.frames.StepEnd.TheVariants as steps
 use Rattle.ijvm_reference.specs.declared.frames.StepError.{StepError}
 use Rattle.ijvm_reference.specs.declared.frames.StepError.TheVariants as errors
 use Rattle.ijvm_meaning.specs.declared.run.RunEnd.{RunEnd}
@@ -125,6 +127,30 @@ abbrev pub IsDriven : Option (Result PlainEnd AllocError) → ℕ → Machine �
 IsDriven stop bound machine old_counts counts left held c left' held' c' old new =
     (told : Bool) → (told ≡ true → TellsLeft left c.ended) →
     LedTo (ShownBy stop) left held c left' held' c' (TurnsTo told stop bound machine old_counts counts c c' held' old new)
+
+-- the counts at a boundary
+pub record IsAtBoundary (c : Counts) : Type 0 where
+  pub boundary : c.boundary ≡ c.cycles
+  pub few : c.instructions ≤ c.cycles
+
+-- from one boundary to the next
+pub record ComesFurther (bound : ℕ) (c c' : Counts) : Type 0 where
+  pub under : c.cycles < bound
+  pub more : c.cycles + 1 ≤ c'.cycles
+  pub next : IsAtBoundary c'
+
+-- the counts after a step of this cost that ended so
+abbrev pub counts_after : StepEnd → ℕ → Counts → Counts
+counts_after steps.Went cost c = record { boundary = c.cycles + cost; cycles = c.cycles + cost; instructions = c.instructions + 1 }
+counts_after steps.StackLimit cost c = c
+counts_after end cost c = record c { cycles = c.cycles + cost; instructions = c.instructions + 1 }
+
+-- the stop that it makes
+abbrev pub stop_by : StepEnd → Option (Result PlainEnd AllocError)
+stop_by steps.Went = None
+stop_by steps.Halt = Some (Ok ends.Halt)
+stop_by steps.Err = Some (Ok ends.Err)
+stop_by steps.StackLimit = Some (Ok ends.StackLimit)
 
 -- after a fault nothing is kept
 pub record IsEmptied (stop : Option (Result PlainEnd AllocError)) (c : ConsoleView) : Type 0 where

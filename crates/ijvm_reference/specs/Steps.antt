@@ -70,6 +70,13 @@ pub record IsMetBy (e : StepError) (i : Option Instr) (c : ConsoleView) : Type 0
   pub read : e ≡ errors.ReadFault → (i ≡ Some In) × (c.ended ≡ false)
   pub write : e ≡ errors.WriteFault → PutsKept i c
 
+-- a step that failed at this instruction, over this console: the machine is as it was
+pub record StepFails (i : Option Instr) (left held : Option (List ℕ)) (c : ConsoleView) (left' held' : Option (List ℕ)) (c' : ConsoleView)
+    (old new : MachineView) (e : StepError) : Type 0 where
+  pub met : IsMetBy e i c
+  pub frames : new ≡ old
+  pub cut : IsCutOff left held c left' held' c' e
+
 -- a fault comes only where its object's count rose, and each count stays otherwise
 pub record HasStepCause {T : Type 0} (source source' sink sink' : ℕ) (result : Result T StepError) : Type 0 where
   pub source_later : source ≤ source'

@@ -1,15 +1,14 @@
 //! The plain machine, which computes the definition's run step by step.
 
-ghost use Rattle.std.specs.Prelude.{◌≡◌, ◌≢◌, ◌+◌, ◌≤◌, [], ◌∷◌, ℕ, List, Err, IsSome, IfOk, OnOk, IfErr, OnErr};
-ghost use Rattle.mic_base.specs.Streams.{Holds};
-ghost use Rattle.console_port.specs.Console.{StaysFlushed, StillTells};
+ghost use Rattle.std.specs.Prelude.{◌≡◌, ◌+◌, ◌≤◌, [], ◌∷◌, Err, IsSome, IfOk, OnOk, IfErr};
+ghost use Rattle.console_port.specs.Streams.{SinkGoesOn, SourceGoesOn};
 ghost use Rattle.ijvm_instr.specs.Instructions.{instr_at};
 ghost use Rattle.ijvm_meaning.specs.Cost.{timing_of, next_cost};
 ghost use Rattle.ijvm_meaning.specs.Frames.{base, top_of};
 ghost use Rattle.ijvm_meaning.specs.Safe.{NeverStuck, IsSafe};
 ghost use Rattle.ijvm_reference.specs.Machine.{MachineView, KeepsProgram, state_of, started};
 ghost use Rattle.ijvm_reference.specs.Kept.{HasKept};
-ghost use Rattle.ijvm_reference.specs.Steps.{IsLedOn, step_end, Does, Turns, IsCutOff, IsMetBy, HasStepCause};
+ghost use Rattle.ijvm_reference.specs.Steps.{IsLedOn, step_end, Does, Turns, StepFails, HasStepCause};
 
 use crate::compute::{Effect, compute};
 use crate::cost::cost_of;
@@ -65,7 +64,7 @@ fn step_end(effect: Effect) -> Option<StepEnd>
 }
 
 /// Does one instruction of the machine; none where it is stuck.
-#[tactic(auto, using(crate::proofs::Turned::is_computed, crate::proofs::Keeping::kept_read, crate::proofs::Keeping::kept_written, crate::proofs::Keeping::kept_same))]
+#[tactic(auto, using(crate::proofs::Turned::is_computed, crate::proofs::Keeping::short_met, crate::proofs::Keeping::kept_read, crate::proofs::Keeping::kept_written, crate::proofs::Keeping::kept_same))]
 pub fn turn<S: Source, K: Sink>(
     machine: &mut PlainMachine,
     console: &mut Console,
@@ -74,13 +73,11 @@ pub fn turn<S: Source, K: Sink>(
 ) -> Result<Option<StepEnd>, StepError>
     ensures ok { IfOk result (λ end. IsLedOn (S.left source.old) (K.held sink.old) console.old (S.left source.new) (K.held sink.new) console.new
         (Turns end machine.old machine.new)) }
-    ensures frames { OnErr result (machine.new ≡ machine.old) }
-    ensures err { IfErr result (IsCutOff (S.left source.old) (K.held sink.old) console.old (S.left source.new) (K.held sink.new) console.new) }
-    ensures keeps { (front : List ℕ) → Holds front (K.held sink.old) → Holds front (K.held sink.new) }
-    ensures flushed { result ≢ Err StepError.WriteFault → StaysFlushed (K.held sink.old) (K.passed sink.old) (K.held sink.new) (K.passed sink.new) }
-    ensures met { IfErr result (λ e. IsMetBy e (instr_at machine.old.image.text machine.old.at) console.old) }
+    ensures err { IfErr result (StepFails (instr_at machine.old.image.text machine.old.at) (S.left source.old) (K.held sink.old) console.old
+        (S.left source.new) (K.held sink.new) console.new machine.old machine.new) }
     ensures kept { IfOk result (λ end. IsSome end → HasKept (S.left source.old) (instr_at machine.old.image.text machine.old.at) console.old console.new) }
-    ensures tells { StillTells (S.left source.old) console.old.ended (S.left source.new) console.new.ended }
+    ensures source { SourceGoesOn S.left console.old.ended source.old console.new.ended source.new }
+    ensures sink { SinkGoesOn K.held K.passed (result ≡ Err StepError.WriteFault) sink.old sink.new }
     ensures cause { HasStepCause (S.faults source.old) (S.faults source.new) (K.faults sink.old) (K.faults sink.new) result }
     ensures program { KeepsProgram machine.old machine.new }
 {
@@ -146,13 +143,11 @@ impl Frames {
         ensures ok { IfOk result (λ end. IsLedOn (S.left source.old) (K.held sink.old) console.old (S.left source.new) (K.held sink.new) console.new
             (Does end self.old self.new)) }
         ensures program { KeepsProgram self.old self.new }
-        ensures frames { OnErr result (self.new ≡ self.old) }
-        ensures err { IfErr result (IsCutOff (S.left source.old) (K.held sink.old) console.old (S.left source.new) (K.held sink.new) console.new) }
-        ensures keeps { (front : List ℕ) → Holds front (K.held sink.old) → Holds front (K.held sink.new) }
-        ensures flushed { result ≢ Err StepError.WriteFault → StaysFlushed (K.held sink.old) (K.passed sink.old) (K.held sink.new) (K.passed sink.new) }
-        ensures met { IfErr result (λ e. IsMetBy e (instr_at self.old.image.text self.old.at) console.old) }
+        ensures err { IfErr result (StepFails (instr_at self.old.image.text self.old.at) (S.left source.old) (K.held sink.old) console.old
+            (S.left source.new) (K.held sink.new) console.new self.old self.new) }
         ensures kept { OnOk result (HasKept (S.left source.old) (instr_at self.old.image.text self.old.at) console.old console.new) }
-        ensures tells { StillTells (S.left source.old) console.old.ended (S.left source.new) console.new.ended }
+        ensures source { SourceGoesOn S.left console.old.ended source.old console.new.ended source.new }
+        ensures sink { SinkGoesOn K.held K.passed (result ≡ Err StepError.WriteFault) sink.old sink.new }
         ensures cause { HasStepCause (S.faults source.old) (S.faults source.new) (K.faults sink.old) (K.faults sink.new) result }
     {
         match turn(&mut self.machine, console, source, sink) {

@@ -1,12 +1,11 @@
 //! A run of the plain machine over a source and a sink.
 
-ghost use Rattle.std.specs.Prelude.{◌≡◌, ◌≢◌, ◌≤◌, ◌<◌, ◌+◌, ◌^◌, ℕ, List, Some, Ok, IfNone, IfOk, OnErr};
-ghost use Rattle.mic_base.specs.Streams.{Holds};
-ghost use Rattle.console_port.specs.Console.{StaysFlushed, StillTells};
+ghost use Rattle.std.specs.Prelude.{◌≡◌, ◌≤◌, ◌<◌, ◌+◌, ◌^◌, Some, Ok, IfNone, IfOk, OnErr};
+ghost use Rattle.console_port.specs.Streams.{SinkGoesOn, SourceGoesOn};
 ghost use Rattle.ijvm_reference.specs.Machine.{KeepsProgram};
 ghost use Rattle.ijvm_meaning.specs.Safe.{IsSafe};
-ghost use Rattle.ijvm_reference.specs.Runs.{IsDriven, IsEmptied, HasRunCause, cut_by};
-ghost use Rattle.ijvm_reference.specs.Plain.{program, RunsWhole, FailsToRead, FailsToWrite, IsShort};
+ghost use Rattle.ijvm_reference.specs.Runs.{IsDriven, IsAtBoundary, ComesFurther, IsEmptied, HasRunCause, counts_after, stop_by, cut_by};
+ghost use Rattle.ijvm_reference.specs.Plain.{program, end_of, IsReportOf, IsRunReport, IsShort};
 
 use crate::frames::{Frames, StepEnd, StepError};
 use console_port::{Console, MemoryMap};
@@ -49,6 +48,40 @@ struct Counts {
     instructions: u64,
 }
 
+impl Counts {
+    fn complete(&mut self, cost: u64)
+        requires { (self.old.cycles + cost < 2 ^ 64) × (self.old.instructions + 1 < 2 ^ 64) }
+        ensures { self.new ≡ record self.old { cycles = self.old.cycles + cost; instructions = self.old.instructions + 1 } }
+    {
+        self.cycles += cost;
+        self.instructions += 1;
+    }
+
+    /// Counts a step by its end; none where the run goes on.
+    fn count(&mut self, end: StepEnd, cost: u64) -> Option<Result<PlainEnd, AllocError>>
+        requires { (self.old.cycles + cost < 2 ^ 64) × (self.old.instructions + 1 < 2 ^ 64) }
+        ensures counts { self.new ≡ counts_after end cost self.old }
+        ensures stop { result ≡ stop_by end }
+    {
+        match end {
+            StepEnd::Went => {
+                self.complete(cost);
+                self.boundary = self.cycles;
+                None
+            }
+            StepEnd::Halt => {
+                self.complete(cost);
+                Some(Ok(PlainEnd::Halt))
+            }
+            StepEnd::Err => {
+                self.complete(cost);
+                Some(Ok(PlainEnd::Err))
+            }
+            StepEnd::StackLimit => Some(Ok(PlainEnd::StackLimit)),
+        }
+    }
+}
+
 /// The end of a run whose step cannot be done.
 fn cut_by(error: StepError) -> Result<PlainEnd, AllocError>
     ensures { result ≡ cut_by error }
@@ -71,19 +104,14 @@ fn pass<S: Source, K: Sink>(
     sink: &mut K,
 ) -> Option<Result<PlainEnd, AllocError>>
     requires bound { bound ≤ 2 ^ 62 }
-    requires boundary { counts.old.boundary ≡ counts.old.cycles }
-    requires few { counts.old.instructions ≤ counts.old.cycles }
+    requires boundary { IsAtBoundary counts.old }
     ensures led { IsDriven result bound machine counts.old counts.new (S.left source.old) (K.held sink.old) console.old
         (S.left source.new) (K.held sink.new) console.new frames.old frames.new }
-    ensures tells { StillTells (S.left source.old) console.old.ended (S.left source.new) console.new.ended }
+    ensures further { IfNone result (ComesFurther bound counts.old counts.new) }
     ensures program { KeepsProgram frames.old frames.new }
-    ensures boundary { IfNone result (counts.new.boundary ≡ counts.new.cycles) }
-    ensures few { IfNone result (counts.new.instructions ≤ counts.new.cycles) }
-    ensures more { IfNone result (counts.old.cycles + 1 ≤ counts.new.cycles) }
-    ensures under { IfNone result (counts.old.cycles < bound) }
     ensures emptied { IsEmptied result console.new }
-    ensures keeps { (front : List ℕ) → Holds front (K.held sink.old) → Holds front (K.held sink.new) }
-    ensures flushed { result ≢ Some (Ok PlainEnd.WriteFault) → StaysFlushed (K.held sink.old) (K.passed sink.old) (K.held sink.new) (K.passed sink.new) }
+    ensures source { SourceGoesOn S.left console.old.ended source.old console.new.ended source.new }
+    ensures sink { SinkGoesOn K.held K.passed (result ≡ Some (Ok PlainEnd.WriteFault)) sink.old sink.new }
     ensures cause { HasRunCause (S.faults source.old) (S.faults source.new) (K.faults sink.old) (K.faults sink.new) result }
 {
     if counts.cycles >= bound {
@@ -91,23 +119,7 @@ fn pass<S: Source, K: Sink>(
     }
     let cost = frames.cost(machine);
     match frames.step(console, source, sink) {
-        Ok(StepEnd::Went) => {
-            counts.cycles += cost;
-            counts.instructions += 1;
-            counts.boundary = counts.cycles;
-            None
-        }
-        Ok(StepEnd::Halt) => {
-            counts.cycles += cost;
-            counts.instructions += 1;
-            Some(Ok(PlainEnd::Halt))
-        }
-        Ok(StepEnd::Err) => {
-            counts.cycles += cost;
-            counts.instructions += 1;
-            Some(Ok(PlainEnd::Err))
-        }
-        Ok(StepEnd::StackLimit) => Some(Ok(PlainEnd::StackLimit)),
+        Ok(end) => counts.count(end, cost),
         Err(error) => Some(cut_by(error)),
     }
 }
@@ -123,15 +135,13 @@ fn drive<S: Source, K: Sink>(
     sink: &mut K,
 ) -> Result<PlainEnd, AllocError>
     requires bound { bound ≤ 2 ^ 62 }
-    requires boundary { counts.old.boundary ≡ counts.old.cycles }
-    requires few { counts.old.instructions ≤ counts.old.cycles }
+    requires boundary { IsAtBoundary counts.old }
     ensures led { IsDriven (Some result) bound machine counts.old counts.new (S.left source.old) (K.held sink.old) console.old
         (S.left source.new) (K.held sink.new) console.new frames.old frames.new }
-    ensures tells { StillTells (S.left source.old) console.old.ended (S.left source.new) console.new.ended }
     ensures program { KeepsProgram frames.old frames.new }
     ensures emptied { IsEmptied (Some result) console.new }
-    ensures keeps { (front : List ℕ) → Holds front (K.held sink.old) → Holds front (K.held sink.new) }
-    ensures flushed { result ≢ Ok PlainEnd.WriteFault → StaysFlushed (K.held sink.old) (K.passed sink.old) (K.held sink.new) (K.passed sink.new) }
+    ensures source { SourceGoesOn S.left console.old.ended source.old console.new.ended source.new }
+    ensures sink { SinkGoesOn K.held K.passed (result ≡ Ok PlainEnd.WriteFault) sink.old sink.new }
     ensures cause { HasRunCause (S.faults source.old) (S.faults source.new) (K.faults sink.old) (K.faults sink.new) (Some result) }
 {
     'run: loop {
@@ -139,6 +149,21 @@ fn drive<S: Source, K: Sink>(
             Some(end) => return end,
             None => {}
         }
+    }
+}
+
+fn report(frames: &Frames, counts: Counts, end: PlainEnd) -> PlainReport
+    ensures end { result.end ≡ end }
+    ensures report { IsReportOf result counts frames.now }
+{
+    PlainReport {
+        end,
+        cycles: counts.cycles,
+        instructions: counts.instructions,
+        boundary: counts.boundary,
+        address: frames.address(),
+        sp: frames.sp(),
+        lv: frames.lv(),
     }
 }
 
@@ -156,18 +181,12 @@ pub fn run_plain<S: Source, K: Sink>(
     requires room { 0x8000 + main_locals ≤ map.stack_end }
     requires safe { IsSafe image.now map.stack_end main_locals }
     requires bound { bound ≤ 2 ^ 62 }
-    ensures run { IfOk result (RunsWhole (program image.now map machine) main_locals bound
+    ensures report { IfOk result (IsRunReport (program image.now map machine) main_locals bound
         (S.left source.old) (K.held sink.old) (S.left source.new) (K.held sink.new)) }
-    ensures read { IfOk result (FailsToRead (program image.now map machine) main_locals bound
-        (S.left source.old) (K.held sink.old) (S.left source.new) (K.held sink.new)) }
-    ensures write { IfOk result (FailsToWrite (program image.now map machine) main_locals bound
-        (S.left source.old) (K.held sink.old) (S.left source.new) (K.held sink.new)) }
-    ensures flushed { IfOk result (λ r. r.end ≢ PlainEnd.WriteFault) →
-        StaysFlushed (K.held sink.old) (K.passed sink.old) (K.held sink.new) (K.passed sink.new) }
-    ensures cause { IfOk result (λ r. HasRunCause (S.faults source.old) (S.faults source.new) (K.faults sink.old) (K.faults sink.new) (Some (Ok r.end))) }
     ensures short { OnErr result (IsShort (program image.now map machine) main_locals bound
         (S.left source.old) (K.held sink.old) (S.left source.new) (K.held sink.new)) }
-    ensures quiet { OnErr result ((S.faults source.new ≡ S.faults source.old) × (K.faults sink.new ≡ K.faults sink.old)) }
+    ensures sink { SinkGoesOn K.held K.passed (end_of result ≡ Ok PlainEnd.WriteFault) sink.old sink.new }
+    ensures cause { HasRunCause (S.faults source.old) (S.faults source.new) (K.faults sink.old) (K.faults sink.new) (Some (end_of result)) }
 {
     let mut frames = Frames::new(alloc, image, main_locals, map)?;
     let mut console = Console::new();
@@ -189,13 +208,5 @@ pub fn run_plain<S: Source, K: Sink>(
         Ok(()) => driven,
         Err(_) => PlainEnd::WriteFault,
     };
-    Ok(PlainReport {
-        end,
-        cycles: counts.cycles,
-        instructions: counts.instructions,
-        boundary: counts.boundary,
-        address: frames.address(),
-        sp: frames.sp(),
-        lv: frames.lv(),
-    })
+    Ok(report(&frames, counts, end))
 }

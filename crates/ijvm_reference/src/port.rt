@@ -1,18 +1,19 @@
 //! IN and OUT, which need the console.
 
-ghost use Rattle.std.specs.Prelude.{◌≡◌, ◌≢◌, ◌+◌, ◌<◌, ◌≤◌, ◌^◌, length, ◌∷◌, [], ℕ, List, drop, IfOk, OnOk, IfErr, OnErr, Option, Err};
-ghost use Rattle.mic_base.specs.Streams.{Holds};
-ghost use Rattle.console_port.specs.Console.{Untaken, Given, IsFault, StaysFlushed, StillTells};
+ghost use Rattle.std.specs.Prelude.{◌≡◌, ◌≢◌, ◌+◌, ◌<◌, ◌^◌, ◌∷◌, [], ℕ, List, drop, IfOk, OnOk, IfErr, Option, Some, Err};
+ghost use Rattle.console_port.specs.Console.{Untaken, Given, IsFault};
+ghost use Rattle.console_port.specs.Streams.{SinkGoesOn, SourceGoesOn};
 ghost use Rattle.console_port.specs.World.{next_byte};
 ghost use Rattle.ijvm_meaning.specs.Step.{read_in, given_out};
 ghost use Rattle.ijvm_reference.specs.Machine.{KeepsProgram, state_of, outcome_of};
-ghost use Rattle.ijvm_reference.specs.Kept.{HasRead, HasAsked, WritesOut};
-ghost use Rattle.ijvm_reference.specs.Steps.{IsLedOn, LedBy, Gives, IsCutOff, HasStepCause};
+ghost use Rattle.ijvm_reference.specs.Kept.{HasRead, WritesOut};
+ghost use Rattle.ijvm_reference.specs.Steps.{IsLedOn, LedBy, Gives, IsCutOff, IsMetBy, StepFails, HasStepCause};
 
 use crate::compute::Effect;
 use crate::frames::StepError;
 use crate::machine::PlainMachine;
 use console_port::{BusFault, Console};
+use ijvm_instr::Instr;
 use mic_base::{Sink, Source};
 
 /// A console's fault as a step's.
@@ -28,7 +29,7 @@ fn step_error(fault: BusFault) -> StepError
     }
 }
 
-#[tactic(auto, using(crate::proofs::Keeping::take_reads))]
+#[tactic(auto, using(crate::proofs::Keeping::take_reads, crate::proofs::Keeping::met_read))]
 fn take_byte<S: Source, K: Sink>(
     console: &mut Console,
     source: &mut S,
@@ -40,10 +41,9 @@ fn take_byte<S: Source, K: Sink>(
         Given (K.held sink.old) console.old.kept given → Given (K.held sink.new) console.new.kept given) }
     ensures err { IfErr result (IsCutOff (S.left source.old) (K.held sink.old) console.old (S.left source.new) (K.held sink.new) console.new) }
     ensures kept { OnOk result (HasRead (S.left source.old) console.old console.new) }
-    ensures tells { StillTells (S.left source.old) console.old.ended (S.left source.new) console.new.ended }
-    ensures asked { IfErr result (λ e. HasAsked e console.old) }
-    ensures keeps { (front : List ℕ) → Holds front (K.held sink.old) → Holds front (K.held sink.new) }
-    ensures flushed { result ≢ Err StepError.WriteFault → StaysFlushed (K.held sink.old) (K.passed sink.old) (K.held sink.new) (K.passed sink.new) }
+    ensures met { IfErr result (λ e. IsMetBy e (Some Instr.In) console.old) }
+    ensures source { SourceGoesOn S.left console.old.ended source.old console.new.ended source.new }
+    ensures sink { SinkGoesOn K.held K.passed (result ≡ Err StepError.WriteFault) sink.old sink.new }
     ensures cause { HasStepCause (S.faults source.old) (S.faults source.new) (K.faults sink.old) (K.faults sink.new) result }
 {
     match console.take(source, sink) {
@@ -52,15 +52,14 @@ fn take_byte<S: Source, K: Sink>(
     }
 }
 
-#[tactic(auto, using(crate::proofs::Keeping::give_writes, crate::proofs::Keeping::not_roomy))]
+#[tactic(auto, using(crate::proofs::Keeping::give_writes, crate::proofs::Keeping::not_roomy, crate::proofs::Keeping::met_full))]
 fn give_byte<K: Sink>(console: &mut Console, byte: u8, sink: &mut K) -> Result<(), StepError>
     ensures ended { console.new.ended ≡ console.old.ended }
     ensures ok { OnOk result (Gives (byte ∷ []) (K.held sink.old) console.old.kept (K.held sink.new) console.new.kept) }
     ensures err { (left : Option (List ℕ)) → IfErr result (IsCutOff left (K.held sink.old) console.old left (K.held sink.new) console.new) }
     ensures kept { OnOk result (WritesOut console.old console.new) }
-    ensures full { OnErr result (4096 ≤ length console.old.kept) }
-    ensures keeps { (front : List ℕ) → Holds front (K.held sink.old) → Holds front (K.held sink.new) }
-    ensures flushed { result ≢ Err StepError.WriteFault → StaysFlushed (K.held sink.old) (K.passed sink.old) (K.held sink.new) (K.passed sink.new) }
+    ensures met { IfErr result (λ e. IsMetBy e (Some Instr.Out) console.old) }
+    ensures sink { SinkGoesOn K.held K.passed (result ≡ Err StepError.WriteFault) sink.old sink.new }
     ensures cause { HasStepCause 0 0 (K.faults sink.old) (K.faults sink.new) result }
 {
     match console.give(byte, sink) {
@@ -70,6 +69,7 @@ fn give_byte<K: Sink>(console: &mut Console, byte: u8, sink: &mut K) -> Result<(
 }
 
 /// Takes a byte of the console, and pushes it where the stack has room.
+#[tactic(auto, using(crate::proofs::Keeping::short_met))]
 pub fn read_in<S: Source, K: Sink>(
     machine: &mut PlainMachine,
     console: &mut Console,
@@ -79,15 +79,13 @@ pub fn read_in<S: Source, K: Sink>(
     requires { machine.old.at + 1 < 2 ^ 32 }
     ensures ok { IfOk result (λ e. IsLedOn (S.left source.old) (K.held sink.old) console.old (S.left source.new) (K.held sink.new) console.new
         (λ u g u' g'. read_in machine.old.stack_end (state_of machine.old u g) ≡ outcome_of e (state_of machine.new u' g'))) }
-    ensures frames { OnErr result (machine.new ≡ machine.old) }
-    ensures err { IfErr result (IsCutOff (S.left source.old) (K.held sink.old) console.old (S.left source.new) (K.held sink.new) console.new) }
-    ensures keeps { (front : List ℕ) → Holds front (K.held sink.old) → Holds front (K.held sink.new) }
-    ensures flushed { result ≢ Err StepError.WriteFault → StaysFlushed (K.held sink.old) (K.passed sink.old) (K.held sink.new) (K.passed sink.new) }
-    ensures cause { HasStepCause (S.faults source.old) (S.faults source.new) (K.faults sink.old) (K.faults sink.new) result }
+    ensures err { IfErr result (StepFails (Some Instr.In) (S.left source.old) (K.held sink.old) console.old
+        (S.left source.new) (K.held sink.new) console.new machine.old machine.new) }
     ensures program { KeepsProgram machine.old machine.new }
     ensures kept { OnOk result (HasRead (S.left source.old) console.old console.new) }
-    ensures tells { StillTells (S.left source.old) console.old.ended (S.left source.new) console.new.ended }
-    ensures asked { IfErr result (λ e. e ≢ StepError.OutOfMemory → HasAsked e console.old) }
+    ensures source { SourceGoesOn S.left console.old.ended source.old console.new.ended source.new }
+    ensures sink { SinkGoesOn K.held K.passed (result ≡ Err StepError.WriteFault) sink.old sink.new }
+    ensures cause { HasStepCause (S.faults source.old) (S.faults source.new) (K.faults sink.old) (K.faults sink.new) result }
 {
     if !machine.has_room(1) {
         take_byte(console, source, sink)?;
@@ -117,15 +115,13 @@ pub fn write_out<K: Sink>(
     requires { machine.old.at + 1 < 2 ^ 32 }
     ensures ok { (left : Option (List ℕ)) → IfOk result (LedBy (λ s. given_out s machine.old.running.operands)
         left (K.held sink.old) console.old left (K.held sink.new) console.new machine.old machine.new) }
-    ensures frames { OnErr result (machine.new ≡ machine.old) }
-    ensures err { (left : Option (List ℕ)) → IfErr result (IsCutOff left (K.held sink.old) console.old left (K.held sink.new) console.new) }
-    ensures keeps { (front : List ℕ) → Holds front (K.held sink.old) → Holds front (K.held sink.new) }
-    ensures flushed { result ≢ Err StepError.WriteFault → StaysFlushed (K.held sink.old) (K.passed sink.old) (K.held sink.new) (K.passed sink.new) }
-    ensures cause { HasStepCause 0 0 (K.faults sink.old) (K.faults sink.new) result }
+    ensures err { (left : Option (List ℕ)) → IfErr result (StepFails (Some Instr.Out) left (K.held sink.old) console.old
+        left (K.held sink.new) console.new machine.old machine.new) }
     ensures program { KeepsProgram machine.old machine.new }
     ensures kept { IfOk result (λ e. e ≢ Effect.Stuck → WritesOut console.old console.new) }
     ensures ended { console.new.ended ≡ console.old.ended }
-    ensures full { OnErr result (4096 ≤ length console.old.kept) }
+    ensures sink { SinkGoesOn K.held K.passed (result ≡ Err StepError.WriteFault) sink.old sink.new }
+    ensures cause { HasStepCause 0 0 (K.faults sink.old) (K.faults sink.new) result }
 {
     let Some(value) = machine.top() else {
         return Ok(Effect::Stuck);

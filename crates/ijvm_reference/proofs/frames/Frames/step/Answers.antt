@@ -16,8 +16,8 @@ unreachable-requires g c =
 pub invariant_of-self : goal.invariant_of-self
 invariant_of-self g c =
     never_turned (g.S.Source.left c.args.source.now) (g.K.Sink.held c.args.sink.now) c.args.console.now
-    (g.S.Source.left c.turn.new.source) (g.K.Sink.held c.turn.new.sink) c.turn.new.console c.turn.result c.self.inside.machine c.turn.new.machine
-    c.self.invariant c.turn.ensures.ok c.turn.ensures.frames c.turn.ensures.program
+    (g.S.Source.left c.turn.new.source) (g.K.Sink.held c.turn.new.sink) c.turn.new.console _ c.turn.result c.self.inside.machine c.turn.new.machine
+    c.self.invariant c.turn.ensures.ok c.turn.ensures.err c.turn.ensures.program
 
 pub returns-clause-ok : goal.returns-clause-ok
 returns-clause-ok g c =
