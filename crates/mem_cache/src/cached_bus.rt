@@ -137,7 +137,8 @@ impl CachedBus {
     /// Writes as the bus does: through to memory, and into a line that holds the block.
     #[tactic(auto, unfolding(console_port::specs::World::write_refusal, console_port::specs::World::given_after))]
     pub fn write_word<K: Sink>(&mut self, at: u32, value: u32, sink: &mut K) -> Result<(), BusFault>
-        ensures map { IsByMap (write_refusal (length self.old.bus.words) at) at ((self.new ≡ self.old) × (sink.new ≡ sink.old)) (λ e. e ≡ BusFault.WriteFault) result }
+        ensures map { IsByMap (write_refusal (length self.old.bus.words) at) at
+            ((self.new ≡ self.old) × (sink.new ≡ sink.old)) (λ e. e ≡ BusFault.WriteFault) result }
         ensures ok { OnOk result ((left : Option (List ℕ)) (w : World) →
             Shows left (K.held sink.old) self.old.bus w → Shows left (K.held sink.new) self.new.bus (after_write (length self.old.bus.words) w at value)) }
         ensures err { (left : Option (List ℕ)) → IfErr result (Stands left (K.held sink.old) self.old.bus left (K.held sink.new) self.new.bus) }
