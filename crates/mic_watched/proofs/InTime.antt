@@ -5,7 +5,6 @@ use Rattle.mic_clock.specs.declared.end.End.{End}
 use Rattle.mic_clock.specs.declared.registers.Registers.{Registers}
 use Rattle.mic_clock.specs.Meaning.{Meaning}
 use Rattle.mic_clock.specs.Run.{last_cycles, counts_at, counts_between, counts_after}
-use Rattle.mic_clock.specs.Board.{HasEndCause}
 
 -- none of the cycles is more than 1,024 after the last boundary, which is not past the top
 pub record InTime (top : ℕ) (c : Counts) (is_boundary : Bool) (end : Option End) : Type 0 where
@@ -37,10 +36,3 @@ InTime-step m top bound c c' was stalled s end (Some e) not_ended le t still roo
 InTime-step m top bound c c' was stalled s end None not_ended le t still room counted below =
     subst (λ x. InTime top x (m.is_boundary s) None) (sym (counted refl))
     (clocked (m.is_boundary s) c stalled (m.address s) (m.registers s) was top bound (room refl) t.ordered le (below refl) (t.last not_ended))
-
--- causes of one call after another
-pub HasEndCause-step : (a b c d e f : ℕ) (end end' : Option End) → end ≡ None → HasEndCause a b c d None end → HasEndCause b e d f end end' → HasEndCause a e c f None end'
-HasEndCause-step a b c d e f end end' not_ended first next =
-    let source_same : b ≡ a = first.source_same (λ n q. cc) in
-    let sink_same : d ≡ c = first.sink_same (λ n q. cc) in
-    subst (λ x. HasEndCause x e c f None end') source_same (subst (λ x. HasEndCause b e x f None end') sink_same (subst (λ x. HasEndCause b e d f x end') not_ended next))

@@ -2,5 +2,4 @@ pub mod Turns
 pub mod Shown
 pub mod Saying
 pub mod InTime
-pub mod Causes
-pub mod OneTurn
+pub mod GoesOn

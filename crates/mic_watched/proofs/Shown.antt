@@ -9,10 +9,10 @@ use Rattle.mic_clock.specs.declared.end.End.TheVariants as ends
 use Rattle.mic_clock.specs.Meaning.{Meaning}
 use Rattle.mic_clock.specs.View.{BoardView}
 use Rattle.mic_clock.specs.Run.{MicroRun, Buses, last_cycles, word_at, turn, turns, buses, bounded, buses_of}
-use Rattle.mic_clock.specs.Board.{ShowsRun, ShowsAs, IsLedTo, IsCutByRead, Leads, NoFault, IsTurned, RunIsCutByRead, EndsUncounted, IsCounted, ShowsBuses}
+use Rattle.mic_clock.specs.Board.{ShowsRun, ShowsAs, IsLedTo, IsCutAt, IsCutByRead, Leads, NoFault, IsTurned, RunIsCutByRead, TurnIsCut, IsCountedTurn}
 use Rattle.mic_watched.specs.declared.cycle.Cycle.{Cycle}
 use Rattle.mic_watched.specs.Cycles.{shown_where, cycle_between, shown, cycles_of, boundary_in, boundary_of, cycle_on, shown_on}
-use Rattle.mic_watched.specs.Watched.{IsCutAt, LeadsOver, ShowsCycles, TurnIsCut}
+use Rattle.mic_watched.specs.Watched.{LeadsOver, ShowsCycles}
 use Rattle.mic_watched.proofs.Turns.{turns-plus, buses-plus, cycles-plus, cycles-none, boundary-counted}
 
 where_same : (end : Option End) (c d : Cycle) → (end ≡ None → c ≡ d) → shown_where end c ≡ shown_where end d
@@ -27,15 +27,15 @@ module _ {M State : Type 0} (state : M → State) (m : Meaning State) (bound : �
   module _ (left' held' : Option (List ℕ)) (board' : BoardView M) where
     -- the cycle that a turn between two boards shows
     turn_shows : (mpc : ℕ) → mpc ≡ (m.registers (state board.machine)).mpc → last_cycles board.counts.boundary ≤ board.counts.cycles →
-        IsCounted state m board board' → ShowsBuses state m board board' → board'.end ≡ None →
+        IsCountedTurn state m board board' → board'.end ≡ None →
         cycle_between m board.store.words (state board.machine) (state board'.machine) board'.counts ≡ cycle_on state m mpc board'
-    turn_shows mpc is ordered counted seen not_ended =
+    turn_shows mpc is ordered counted not_ended =
         let words = board.store.words in
         let s = state board.machine in
         let driven : board'.buses ≡ record { drive = m.drives (word_at m words s) s; computed = m.computes (word_at m words s) s } =
-        seen ∙ ap (λ (e : Option End). buses_of m words s board.buses e) not_ended in
+        counted.buses ∙ ap (λ (e : Option End). buses_of m words s board.buses e) not_ended in
         let reached : boundary_in board'.counts ≡ boundary_of m words (state board'.machine) =
-        boundary-counted m board.counts board'.counts (m.drives (word_at m words s) s).stalled (state board'.machine) ordered (counted not_ended).1 in
+        boundary-counted m board.counts board'.counts (m.drives (word_at m words s) s).stalled (state board'.machine) ordered (counted.clocked not_ended).1 in
         λ i. record {
           mpc = sym is i;
           drive = (sym driven i).drive;
@@ -47,11 +47,11 @@ module _ {M State : Type 0} (state : M → State) (m : Meaning State) (bound : �
 
     -- a turn without a fault
     turn_over : (mpc : ℕ) → mpc ≡ (m.registers (state board.machine)).mpc → last_cycles board.counts.boundary ≤ board.counts.cycles →
-        IsCounted state m board board' → ShowsBuses state m board board' →
+        IsCountedTurn state m board board' →
         IsLedTo state left held board left' board'
         (λ r rest. ShowsRun state left' held' board' (turn m board.store.words (bounded m (Some bound) r)) × ((turn m board.store.words (bounded m (Some bound) r)).world.untaken ≡ rest)) →
         LeadsOver state m bound left held board left' held' board' (shown_on state m mpc board') (ShowsRun state left' held' board')
-    turn_over mpc is ordered counted seen turned rest fits =
+    turn_over mpc is ordered counted turned rest fits =
         let words = board.store.words in
         let one = turned rest fits in (
           one.0,
@@ -62,11 +62,11 @@ module _ {M State : Type 0} (state : M → State) (m : Meaning State) (bound : �
               let by_board : shown m words r (turn m words (bounded m (Some bound) r)) ≡ shown_where board'.end cycle =
               λ i. shown_where (at.0.its_end i) (cycle_between m words (s.its_state i) (at.0.its_state i) (at.0.counts i)) in (
                 suc zero,
-                by_board ∙ where_same board'.end cycle (cycle_on state m mpc board') (turn_shows mpc is ordered counted seen),
+                by_board ∙ where_same board'.end cycle (cycle_on state m mpc board') (turn_shows mpc is ordered counted),
                 record {
                   here = at.0;
                   untaken = at.1;
-                  buses = seen ∙ (λ i. buses_of m words (sym s.its_state i) board.buses (sym at.0.its_end i));
+                  buses = counted.buses ∙ (λ i. buses_of m words (sym s.its_state i) board.buses (sym at.0.its_end i));
                 },
               ),
         )
@@ -91,23 +91,23 @@ module _ {M State : Type 0} (state : M → State) (m : Meaning State) (bound : �
 
     -- one turn, by what a board says of it
     pub one-turn : (mpc : ℕ) → mpc ≡ (m.registers (state board.machine)).mpc → last_cycles board.counts.boundary ≤ board.counts.cycles → board.end ≡ None →
-        IsCounted state m board board' → ShowsBuses state m board board' → EndsUncounted board board' →
+        IsCountedTurn state m board board' →
         IsTurned state m left held board left' held' board' (Some bound) →
         RunIsCutByRead state m left held board left' held' board' (Some bound) →
         TurnIsCut state m bound left held board left' held' board' →
         ShowsCycles state m bound left held board left' held' board' (shown_on state m mpc board') board'.end
-    one-turn mpc is ordered not_ended counted seen still turned read write =
+    one-turn mpc is ordered not_ended counted turned read write =
         let words = board.store.words in
         let none : (e : End) → board'.end ≡ Some e → shown_on state m mpc board' ≡ [] = λ e p. ap (λ (x : Option End). shown_where x (cycle_on state m mpc board')) p in
-        let same : (e : End) → board'.end ≡ Some e → board'.counts.cycles ≡ board.counts.cycles = λ e p. (still (subst IsSome (sym p) refl)).0 in
+        let same : (e : End) → board'.end ≡ Some e → board'.counts.cycles ≡ board.counts.cycles = λ e p. (counted.still (subst IsSome (sym p) refl)).0 in
         record {
-          run = λ q. turn_over mpc is ordered counted seen (turned (subst (λ (e : Option End). NoFault e board'.end) (sym not_ended) q));
+          run = λ q. turn_over mpc is ordered counted (turned (subst (λ (e : Option End). NoFault e board'.end) (sym not_ended) q));
           read = λ p. let H = IsCutByRead state m words (Some bound) left' held' board' in
               subst (λ (cs : List Cycle). LeadsOver state m bound left held board left' held' board' cs H) (sym (none ends.ReadFault p))
               (still_over H (λ r h. h.counts) (same ends.ReadFault p) (read not_ended p));
           write = λ p. let H = IsCutAt state m words bound left' held' board' in
               subst (λ (cs : List Cycle). LeadsOver state m bound left held board left' held' board' cs H) (sym (none ends.WriteFault p))
-              (still_over H (λ r h. h.cut.counts) (same ends.WriteFault p) (write p));
+              (still_over H (λ r h. h.cut.counts) (same ends.WriteFault p) (write not_ended p));
         }
 
 module _ {M State : Type 0} (state : M → State) (m : Meaning State) (bound : ℕ) (left0 held0 : Option (List ℕ)) (board0 : BoardView M)

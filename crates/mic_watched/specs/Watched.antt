@@ -1,33 +1,21 @@
 -- A run between two boards with the cycles that it shows, and what a watcher makes of them.
-use Rattle.std.specs.Prelude.{◌≡◌, ◌⊎◌, ℕ, Bool, false, List, [], ◌∷◌, ◌++◌, Option, Some, None, Result, Ok, Err}
+use Rattle.std.specs.Prelude.{◌≡◌, ◌≤◌, ◌+◌, ◌^◌, ℕ, List, [], ◌∷◌, ◌++◌, Option, Some, None, Result, Ok, Err}
 use Rattle.mic_base.specs.Streams.{Puts}
 use Rattle.mic_clock.specs.declared.end.End.{End}
 use Rattle.mic_clock.specs.declared.end.End.TheVariants as ends
 use Rattle.mic_clock.specs.Meaning.{Meaning}
-use Rattle.mic_clock.specs.Run.{MicroRun, completes}
+use Rattle.mic_clock.specs.Run.{MicroRun, last_cycles}
 use Rattle.mic_clock.specs.View.{BoardView}
-use Rattle.mic_clock.specs.Board.{ShowsRun, IsLedTo, IsCutByRead, IsCutByWrite, Leads, NoFault}
+use Rattle.mic_clock.specs.Board.{ShowsRun, IsLedTo, IsCutAt, IsCutByRead, Leads, NoFault}
 use Rattle.mic_watched.specs.declared.cycle.Cycle.{Cycle}
 use Rattle.mic_watched.specs.Cycles.{cycles_of}
 
--- HALT and ERR complete an instruction
-abbrev pub is_completed : Option End → Bool
-is_completed None = false
-is_completed (Some e) = completes e
-
--- A failing sink cut the run. The board has the end that the run came to, and only its last bytes were lost; or the write fault itself, and then the
--- run came to no end that completes an instruction.
-pub record IsCutAt {M State : Type 0} (state : M → State) (m : Meaning State) (words : List ℕ) (bound : ℕ)
-    (left held : Option (List ℕ)) (board : BoardView M) (r : MicroRun State) : Type 0 where
-  pub cut : IsCutByWrite state m words (Some bound) left held board r
-  pub its_end : (r.end ≡ board.end) ⊎ ((board.end ≡ Some ends.WriteFault) × (is_completed r.end ≡ false))
-
--- A turn between two boards, in which a failing sink cut the run.
-abbrev pub TurnIsCut : {M State : Type 0} → (M → State) → Meaning State → ℕ → Option (List ℕ) → Option (List ℕ) →
-    BoardView M → Option (List ℕ) → Option (List ℕ) → BoardView M → Type 0
-TurnIsCut state m bound left held board left' held' board' =
-    board'.end ≡ Some ends.WriteFault → IsLedTo state left held board left' board'
-    (λ r rest. (n : ℕ) × Leads state m board.store.words (Some bound) board' board.buses rest n r (IsCutAt state m board.store.words bound left' held' board'))
+-- A board that can be run: it has not ended, and clocked no cycle too many.
+pub record CanRun {M : Type 0} (board : BoardView M) : Type 0 where
+  pub not_ended : board.end ≡ None
+  pub cycles : board.counts.cycles ≤ 2 ^ 62 + 1024
+  pub ordered : last_cycles board.counts.boundary ≤ board.counts.cycles
+  pub near : board.counts.cycles ≤ last_cycles board.counts.boundary + 1024
 
 module _ {M State : Type 0} (state : M → State) (m : Meaning State) (bound : ℕ)
     (left held : Option (List ℕ)) (board : BoardView M) (left' held' : Option (List ℕ)) (board' : BoardView M) where

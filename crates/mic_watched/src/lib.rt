@@ -3,7 +3,6 @@
 
 pub mod cycle;
 pub mod run;
-mod turning;
 pub mod watcher;
 
 pub use cycle::{Cycle, cycle_of};

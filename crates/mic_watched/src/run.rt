@@ -1,18 +1,13 @@
 //! A board is clocked to its end, and a watcher sees each cycle.
 
-ghost use Rattle.std.specs.Prelude.{◌≡◌, ◌≢◌, ◌≤◌, ◌<◌, ◌+◌, ◌^◌, max, ℕ, List, [], Some, None, IsSome, IfOk, OnOk, OnErr};
+ghost use Rattle.std.specs.Prelude.{◌≡◌, ◌≢◌, ◌≤◌, ◌<◌, ◌+◌, ◌^◌, max, [], None, IsSome, IfOk, OnOk, OnErr};
 ghost use Rattle.mic_base.specs.Causes.{HasCause};
-ghost use Rattle.mic_base.specs.Streams.{Holds};
-ghost use Rattle.console_port.specs.Console.{IsFault, StaysFlushed};
-ghost use Rattle.mic_clock.specs.Run.{end_by, last_cycles};
-ghost use Rattle.mic_clock.specs.Board.{HasEndCause};
+ghost use Rattle.mic_clock.specs.Board.{GoesOn};
 ghost use Rattle.mic_watched.specs.Cycles.{shown_on};
-ghost use Rattle.mic_watched.specs.Watched.{IsWatched, Saw, end_in, done};
+ghost use Rattle.mic_watched.specs.Watched.{CanRun, IsWatched, Saw, end_in, done};
 
 use crate::cycle::{cycle_of, reached_boundary};
-use crate::turning::turn_once;
 use crate::watcher::Watcher;
-use console_port::BusFault;
 use mic_base::{Sink, SinkFailed, Source};
 use mic_clock::{Board, Clocked, End};
 
@@ -49,26 +44,19 @@ fn watch_turns<M: Clocked, W: Watcher, S: Source, K: Sink, E: Sink>(
     err: &mut E,
 ) -> Result<(), SinkFailed>
     requires bound { bound ≤ 2 ^ 62 }
-    requires cycles { board.old.counts.cycles ≤ 2 ^ 62 + 1024 }
-    requires ordered { last_cycles board.old.counts.boundary ≤ board.old.counts.cycles }
-    requires near { board.old.counts.cycles ≤ last_cycles board.old.counts.boundary + 1024 }
-    requires not_ended { board.old.end ≡ None }
+    requires board { CanRun board.old }
     ensures watched { IsWatched M.state M.meaning bound W.keeps W.Prints (S.left source.old)
         (K.held sink.old) board.old (S.left source.new) (K.held sink.new) board.new
         (W.kept watcher.old) (W.kept watcher.new) (E.held err.old) (E.held err.new) board.new.end result }
     ensures ended { OnOk result (IsSome board.new.end) }
-    ensures growth { board.new.counts.cycles ≤ max bound board.old.counts.cycles + 1024 }
     ensures not_ended { OnErr result (board.new.end ≡ None) }
-    ensures store { board.new.store ≡ board.old.store }
-    ensures kept { (e : BusFault) → IsFault e → board.new.end ≡ Some (end_by e) → board.new.bus.console.kept ≡ [] }
-    ensures keeps { (front : List ℕ) → Holds front (K.held sink.old) → Holds front (K.held sink.new) }
-    ensures flushed { board.new.end ≢ Some End.WriteFault → StaysFlushed (K.held sink.old) (K.passed sink.old) (K.held sink.new) (K.passed sink.new) }
-    ensures cause { HasEndCause (S.faults source.old) (S.faults source.new) (K.faults sink.old) (K.faults sink.new) None board.new.end }
+    ensures growth { board.new.counts.cycles ≤ max bound board.old.counts.cycles + 1024 }
+    ensures goes_on { GoesOn S.left S.faults K.held K.passed K.faults source.old sink.old board.old source.new sink.new board.new }
     ensures said { HasCause (E.faults err.old) (E.faults err.new) result }
 {
     'turns: while board.ended().is_none() {
         let mpc = board.mpc();
-        turn_once(board, bound, source, sink);
+        board.turn(bound, source, sink);
         match show(board, mpc, watcher, err) {
             Ok(()) => {}
             Err(failed) => return Err(failed),
@@ -87,20 +75,15 @@ pub fn run_watched<M: Clocked, W: Watcher, S: Source, K: Sink, E: Sink>(
     err: &mut E,
 ) -> Result<End, SinkFailed>
     requires bound { bound ≤ 2 ^ 62 }
-    requires cycles { board.old.counts.cycles ≤ 2 ^ 62 + 1024 }
-    requires ordered { last_cycles board.old.counts.boundary ≤ board.old.counts.cycles }
-    requires near { board.old.counts.cycles ≤ last_cycles board.old.counts.boundary + 1024 }
-    requires not_ended { board.old.end ≡ None }
+    requires board { CanRun board.old }
     ensures watched { IsWatched M.state M.meaning bound W.keeps W.Prints (S.left source.old)
         (K.held sink.old) board.old (S.left source.new) (K.held sink.new) board.new
         (W.kept watcher.old) (W.kept watcher.new) (E.held err.old) (E.held err.new) (end_in result) (done result) }
     ensures end { IfOk result (λ e. e ≢ End.WriteFault → board.new.end ≡ Some e) }
     ensures kept { IfOk result (λ e. board.new.bus.console.kept ≡ []) }
     ensures growth { board.new.counts.cycles ≤ max bound board.old.counts.cycles + 1024 }
-    ensures store { board.new.store ≡ board.old.store }
-    ensures keeps { (front : List ℕ) → Holds front (K.held sink.old) → Holds front (K.held sink.new) }
-    ensures flushed { IfOk result (λ e. e ≢ End.WriteFault → StaysFlushed (K.held sink.old) (K.passed sink.old) (K.held sink.new) (K.passed sink.new)) }
-    ensures cause { HasEndCause (S.faults source.old) (S.faults source.new) (K.faults sink.old) (K.faults sink.new) None (end_in result) }
+    ensures goes_on { GoesOn S.left S.faults K.held K.passed K.faults source.old sink.old board.old source.new sink.new
+        (record board.new { end = end_in result }) }
     ensures said { HasCause (E.faults err.old) (E.faults err.new) result }
 {
     if let Err(failed) = watch_turns(board, bound, watcher, source, sink, err) {

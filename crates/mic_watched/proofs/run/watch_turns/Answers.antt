@@ -1,12 +1,12 @@
-use Rattle.std.proofs.Common.{◌≡◌, ◌++◌, ◌∙◌, ℕ, max, List, [], None, Ok, Err, inl, refl, ap, rules, arith}
+use Rattle.std.proofs.Common.{◌≡◌, ◌++◌, ℕ, max, List, [], None, Ok, Err, inl, refl, ap, rules, arith}
 use Rattle.micro_word.specs.ControlStore.{ControlStore}
 use Rattle.mic_clock.specs.Run.{last_cycles, word_at}
 use Rattle.mic_watched.specs.declared.cycle.Cycle.{Cycle}
 use Rattle.mic_watched.specs.Cycles.{shown_on}
 use Rattle.mic_watched.proofs.Shown.{over-start, one-turn, shows-then}
 use Rattle.mic_watched.proofs.Saying.{saw-nothing, saw-then, cause-then}
-use Rattle.mic_watched.proofs.InTime.{InTime-step, HasEndCause-step}
-use Rattle.mic_watched.proofs.Causes.{cause-start}
+use Rattle.mic_watched.proofs.InTime.{InTime-step}
+use Rattle.mic_watched.proofs.GoesOn.{goes-nowhere, goes-then}
 use Rattle.mic_watched.proofs.run.watch_turns.Goals as goal
 
 pub turns-init : goal.turns-init
@@ -14,7 +14,7 @@ turns-init g c =
     let state = g.M.Clocked.state in
     let m = g.M.Clocked.meaning in
     let board = c.args.board.now in
-    let not_ended : board.end ≡ None = c.requires.not_ended in
+    let not_ended : board.end ≡ None = c.requires.board.not_ended in
     record {
       watched = record {
         cycles = [];
@@ -25,13 +25,9 @@ turns-init g c =
         };
         saw = saw-nothing g.W.Watcher.keeps g.W.Watcher.Prints (g.W.Watcher.kept c.args.watcher.now) (g.E.Sink.held c.args.err.now);
       };
-      kept = λ e f p. absurd (cc);
-      keeps = λ front h. h;
-      flushed = λ q h. h;
-      cause = cause-start (g.S.Source.faults c.args.source.now) (g.K.Sink.faults c.args.sink.now) board.end not_ended;
+      goes_on = goes-nowhere not_ended;
       said = record { later = omega arith; failed = tt; quiet = refl };
-      store = refl;
-      in_time = record { cycles = omega arith; ordered = c.requires.ordered; last = λ _. inl (omega arith) };
+      in_time = record { cycles = omega arith; ordered = c.requires.board.ordered; last = λ _. inl (omega arith) };
     }
 
 pub turns-preserved : goal.turns-preserved
@@ -40,16 +36,16 @@ turns-preserved g c =
     let m = g.M.Clocked.meaning in
     let first = c.args.board.now in
     let old = c.turns.board in
-    let new = c.turn_once.new.board in
+    let new = c.turn.new.self in
     let left0 = g.S.Source.left c.args.source.now in
     let held0 = g.K.Sink.held c.args.sink.now in
     let left = g.S.Source.left c.turns.source in
     let held = g.K.Sink.held c.turns.sink in
-    let left' = g.S.Source.left c.turn_once.new.source in
-    let held' = g.K.Sink.held c.turn_once.new.sink in
+    let left' = g.S.Source.left c.turn.new.source in
+    let held' = g.K.Sink.held c.turn.new.sink in
     let inv = c.turns.invariant in
     let not_ended : old.end ≡ None = search rules in
-    let program : old.store.words ≡ first.store.words = ap (λ (s : ControlStore). s.words) inv.store in
+    let program : old.store.words ≡ first.store.words = ap (λ (s : ControlStore). s.words) inv.goes_on.store in
     let top : ℕ = max c.args.bound (last_cycles first.counts.boundary) in
     let cs : List Cycle = inv.watched.cycles in
     let ds : List Cycle = shown_on state m c.mpc-mpc.result new in
@@ -58,18 +54,14 @@ turns-preserved g c =
         cycles = cs ++ ds;
         run = shows-then state m c.args.bound left0 held0 first left held old left' held' new cs ds program not_ended inv.watched.run
             (one-turn state m c.args.bound left held old left' held' new c.mpc-mpc.result c.mpc-mpc.ensures.value inv.in_time.ordered not_ended
-            c.turn_once.ensures.clocked c.turn_once.ensures.buses c.turn_once.ensures.still c.turn_once.ensures.turn c.turn_once.ensures.read c.turn_once.ensures.write);
+            c.turn.ensures.counted c.turn.ensures.turn c.turn.ensures.read c.turn.ensures.write);
         saw = saw-then g.W.Watcher.keeps g.W.Watcher.Prints (g.W.Watcher.kept c.args.watcher.now) (g.W.Watcher.kept c.turns.watcher) (g.W.Watcher.kept c.show.new.watcher)
             (g.E.Sink.held c.args.err.now) (g.E.Sink.held c.turns.err) (g.E.Sink.held c.show.new.err) cs ds (Ok (tt {0})) inv.watched.saw c.in-Ok.ensures.saw;
       };
-      kept = λ e f p. c.turn_once.ensures.kept e f p;
-      keeps = λ front h. c.turn_once.ensures.keeps front (inv.keeps front h);
-      flushed = λ q h. c.turn_once.ensures.flushed q (inv.flushed (λ w. cc) h);
-      cause = HasEndCause-step _ _ _ _ _ _ old.end new.end not_ended inv.cause c.turn_once.ensures.cause;
+      goes_on = goes-then c.requires.board.not_ended inv.goes_on not_ended c.turn.ensures.goes_on;
       said = cause-then (g.E.Sink.faults c.args.err.now) (g.E.Sink.faults c.turns.err) (g.E.Sink.faults c.show.new.err) tt (Ok (tt {0})) inv.said c.in-Ok.ensures.cause;
-      store = c.turn_once.ensures.store ∙ inv.store;
       in_time = InTime-step m top c.args.bound old.counts new.counts (m.is_boundary (state old.machine)) (m.drives (word_at m old.store.words (state old.machine)) (state old.machine)).stalled (state new.machine) old.end new.end not_ended (omega arith) inv.in_time
-          c.turn_once.ensures.still c.turn_once.ensures.room (λ q. (c.turn_once.ensures.clocked q).1) c.turn_once.ensures.below;
+          c.turn.ensures.counted.still c.turn.ensures.counted.room (λ q. (c.turn.ensures.counted.clocked q).1) c.turn.ensures.below;
     }
 
 pub returns-in-Err-clause-watched : goal.returns-in-Err-clause-watched
@@ -78,23 +70,28 @@ returns-in-Err-clause-watched g c =
     let m = g.M.Clocked.meaning in
     let first = c.args.board.now in
     let old = c.turns.board in
-    let new = c.turn_once.new.board in
+    let new = c.turn.new.self in
     let left0 = g.S.Source.left c.args.source.now in
     let held0 = g.K.Sink.held c.args.sink.now in
     let left = g.S.Source.left c.turns.source in
     let held = g.K.Sink.held c.turns.sink in
-    let left' = g.S.Source.left c.turn_once.new.source in
-    let held' = g.K.Sink.held c.turn_once.new.sink in
+    let left' = g.S.Source.left c.turn.new.source in
+    let held' = g.K.Sink.held c.turn.new.sink in
     let inv = c.turns.invariant in
     let not_ended : old.end ≡ None = search rules in
-    let program : old.store.words ≡ first.store.words = ap (λ (s : ControlStore). s.words) inv.store in
+    let program : old.store.words ≡ first.store.words = ap (λ (s : ControlStore). s.words) inv.goes_on.store in
     let cs : List Cycle = inv.watched.cycles in
     let ds : List Cycle = shown_on state m c.mpc-mpc.result new in
     record {
       cycles = cs ++ ds;
       run = shows-then state m c.args.bound left0 held0 first left held old left' held' new cs ds program not_ended inv.watched.run
           (one-turn state m c.args.bound left held old left' held' new c.mpc-mpc.result c.mpc-mpc.ensures.value inv.in_time.ordered not_ended
-          c.turn_once.ensures.clocked c.turn_once.ensures.buses c.turn_once.ensures.still c.turn_once.ensures.turn c.turn_once.ensures.read c.turn_once.ensures.write);
+          c.turn.ensures.counted c.turn.ensures.turn c.turn.ensures.read c.turn.ensures.write);
       saw = saw-then g.W.Watcher.keeps g.W.Watcher.Prints (g.W.Watcher.kept c.args.watcher.now) (g.W.Watcher.kept c.turns.watcher) (g.W.Watcher.kept c.show.new.watcher)
           (g.E.Sink.held c.args.err.now) (g.E.Sink.held c.turns.err) (g.E.Sink.held c.show.new.err) cs ds (Err c.in-Err.failed) inv.watched.saw c.in-Err.ensures.saw;
     }
+
+pub returns-in-Err-clause-goes_on : goal.returns-in-Err-clause-goes_on
+returns-in-Err-clause-goes_on g c =
+    let not_ended : c.turns.board.end ≡ None = search rules in
+    goes-then c.requires.board.not_ended c.turns.invariant.goes_on not_ended c.turn.ensures.goes_on

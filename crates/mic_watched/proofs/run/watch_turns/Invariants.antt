@@ -1,12 +1,8 @@
-use Rattle.std.proofs.Common.{◌≡◌, ◌≢◌, List, [], ℕ, ◌+◌, ◌-◌, max, None, Some, is_some, if◌then◌else◌, Ok}
+use Rattle.std.proofs.Common.{◌+◌, ◌-◌, max, is_some, if◌then◌else◌, Ok}
 use Rattle.mic_base.specs.Causes.{HasCause}
-use Rattle.mic_base.specs.Streams.{Holds}
 use Rattle.mic_base.specs.declared.sink.SinkFailed.{SinkFailed}
-use Rattle.console_port.specs.declared.fault.BusFault.{BusFault}
-use Rattle.console_port.specs.Console.{IsFault, StaysFlushed}
-use Rattle.mic_clock.specs.declared.end.End.TheVariants as ends
-use Rattle.mic_clock.specs.Run.{end_by, last_cycles}
-use Rattle.mic_clock.specs.Board.{HasEndCause}
+use Rattle.mic_clock.specs.Run.{last_cycles}
+use Rattle.mic_clock.specs.Board.{GoesOn}
 use Rattle.mic_watched.specs.Watched.{IsWatched}
 use Rattle.mic_watched.proofs.InTime.{InTime}
 use Rattle.mic_watched.proofs.run.watch_turns.Given as goal
@@ -19,12 +15,8 @@ invariant-turns g l =
     record {
       watched : IsWatched state m l.bound g.W.Watcher.keeps g.W.Watcher.Prints {E = SinkFailed} (g.S.Source.left l.fn.source) (g.K.Sink.held l.fn.sink) l.fn.board
           (g.S.Source.left l.source) (g.K.Sink.held l.sink) l.board (g.W.Watcher.kept l.fn.watcher) (g.W.Watcher.kept l.watcher) (g.E.Sink.held l.fn.err) (g.E.Sink.held l.err) l.board.end (Ok (tt {0}));
-      kept : (e : BusFault) → IsFault e → l.board.end ≡ Some (end_by e) → l.board.bus.console.kept ≡ [];
-      keeps : (front : List ℕ) → Holds front (g.K.Sink.held l.fn.sink) → Holds front (g.K.Sink.held l.sink);
-      flushed : l.board.end ≢ Some ends.WriteFault → StaysFlushed (g.K.Sink.held l.fn.sink) (g.K.Sink.passed l.fn.sink) (g.K.Sink.held l.sink) (g.K.Sink.passed l.sink);
-      cause : HasEndCause (g.S.Source.faults l.fn.source) (g.S.Source.faults l.source) (g.K.Sink.faults l.fn.sink) (g.K.Sink.faults l.sink) None l.board.end;
+      goes_on : GoesOn g.S.Source.left g.S.Source.faults g.K.Sink.held g.K.Sink.passed g.K.Sink.faults l.fn.source l.fn.sink l.fn.board l.source l.sink l.board;
       said : HasCause {E = SinkFailed} (g.E.Sink.faults l.fn.err) (g.E.Sink.faults l.err) (Ok (tt {0}));
-      store : l.board.store ≡ l.fn.board.store;
       in_time : InTime (max l.bound (last_cycles l.fn.board.counts.boundary)) l.board.counts (m.is_boundary (state l.board.machine)) l.board.end;
     }
 
