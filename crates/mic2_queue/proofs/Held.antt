@@ -1,6 +1,6 @@
 -- What is known of the number of bytes, over an edge and over a cycle that lacks some.
-use Rattle.std.proofs.Common.{◌≡◌, ℕ, zero, suc, ◌+◌, ◌-◌, ◌%◌, ◌<◌, ◌≤◌, inl, inr, true, false, ◌==◌, arith}
-use Rattle.std.specs.Prelude.{nat_le, if◌then◌else◌}
+use Rattle.std.proofs.Common.{◌≡◌, ℕ, zero, suc, ◌+◌, ◌-◌, ◌%◌, ◌<◌, ◌≤◌, inl, inr, Bool, true, false, ◌==◌, arith}
+use Rattle.std.specs.Prelude.{nat_le, ◌||◌, if◌then◌else◌}
 use Rattle.std.proofs.lemmas.Bool.{cases_Bool}
 use Rattle.std.proofs.lemmas.Bool.Decides.{nat_tests}
 use Rattle.mic2_queue.specs.Units.{have_after}
@@ -67,3 +67,17 @@ wait_held WaitsLate Jumped p d have i h =
     rw h (omega arith, omega arith)
 wait_held WaitsOn One p d have i h = rw (h.0) (record { least = omega (arith, h.0, h.1); few = omega (arith, h.0, h.1); aligned = omega (arith, h.0, h.1) })
 wait_held b q p d have i h = absurd i
+
+-- both sides of an operation are within what it demands
+pub wants_within : (pa pb ba bb : Bool) →
+    ((if pa then 2 else if ba then 1 else 0) ≤ (if pa || pb then 2 else if ba || bb then 1 else 0))
+    × ((if pb then 2 else if bb then 1 else 0) ≤ (if pa || pb then 2 else if ba || bb then 1 else 0))
+wants_within true true ba bb = (omega arith, omega arith)
+wants_within true false ba true = (omega arith, omega arith)
+wants_within true false ba false = (omega arith, omega arith)
+wants_within false true true bb = (omega arith, omega arith)
+wants_within false true false bb = (omega arith, omega arith)
+wants_within false false true true = (omega arith, omega arith)
+wants_within false false true false = (omega arith, omega arith)
+wants_within false false false true = (omega arith, omega arith)
+wants_within false false false false = (omega arith, omega arith)

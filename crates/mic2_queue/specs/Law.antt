@@ -1,5 +1,5 @@
 -- What a symbolic run of a machine with Mic-2's fetch unit needs of it.
-use Rattle.std.specs.Prelude.{◌≡◌, ℕ, ◌+◌, ◌<◌, ◌≤◌, List, length, slice_index, true, None}
+use Rattle.std.specs.Prelude.{◌≡◌, ℕ, ◌+◌, ◌<◌, ◌≤◌, List, length, slice_index, Bool, true, ◌||◌, if◌then◌else◌, None}
 use Rattle.mic2_fetch_unit.specs.FetchUnit.{Prefetch, edge, jump, edge_refusal, jump_refusal, at_start}
 use Rattle.mic2_fetch_unit.specs.Place.{StandsAt}
 use Rattle.mic2_queue.specs.Units.{unit_at, have_after, text_from}
@@ -30,3 +30,7 @@ pub record QueueLaw : Type 0 where
   pub after_edge : (t : ℕ) (q : Held) (p have : ℕ) → is_enough t q ≡ true → IsHeld q p have → IsHeld (held_after t q) (p + t) (have_after p have t)
   pub short : (b : Lack) (q : Held) (p d have : ℕ) → IsWait b q p d → IsHeld q p have → have < d
   pub after_wait : (b : Lack) (q : Held) (p d have : ℕ) → IsWait b q p d → IsHeld q p have → IsHeld (held_waited b) p (have_after p have 0)
+  -- the two sides of an operation that name a pair or a byte name no more bytes than the operation demands
+  pub wants : (pair_a pair_b byte_a byte_b : Bool) →
+      ((if pair_a then 2 else if byte_a then 1 else 0) ≤ (if pair_a || pair_b then 2 else if byte_a || byte_b then 1 else 0))
+      × ((if pair_b then 2 else if byte_b then 1 else 0) ≤ (if pair_a || pair_b then 2 else if byte_a || byte_b then 1 else 0))

@@ -1,5 +1,5 @@
 use Rattle.mic2_queue.proofs.Units.{edge_stands, edge_allowed, jump_stands, jump_allowed}
-use Rattle.mic2_queue.proofs.Held.{held_few, held_enough, held_edge, wait_short, wait_held}
+use Rattle.mic2_queue.proofs.Held.{held_few, held_enough, held_edge, wait_short, wait_held, wants_within}
 use Rattle.mic2_queue.proofs.Places.{unit_there, bounds_there, stands_there, many_there, front_is, starts}
 use Rattle.mic2_queue.proofs.laws.queue_law.Goals as goal
 
@@ -21,4 +21,5 @@ returns c =
       after_edge = held_edge;
       short = wait_short;
       after_wait = wait_held;
+      wants = wants_within;
     }
