@@ -1,7 +1,7 @@
 //! The run of a verified image on a machine, from its reset to its end.
 
-ghost use Rattle.std.specs.Prelude.{◌≡◌, ◌≢◌, ◌≤◌, ◌^◌, Some, None, IfOk, OnErr, IsSome};
-ghost use Rattle.console_port.specs.Console.{StaysFlushed};
+ghost use Rattle.std.specs.Prelude.{◌≡◌, ◌≤◌, ◌^◌, Some, None, IfOk, OnErr, IsSome};
+ghost use Rattle.console_port.specs.Streams.{SinkGoesOn};
 ghost use Rattle.mic_clock.specs.Board.{NoFault, HasEndCause};
 ghost use Rattle.mic_image_board.specs.Reset.{IsAtReset};
 ghost use Rattle.ijvm_simulation.specs.Headline.{HasRun, IsCutByRead, IsCutByWrite};
@@ -50,8 +50,7 @@ where
     ensures write { IfOk result (λ board. board.end ≡ Some End.WriteFault →
         IsCutByWrite I.Machine.state I.Machine.meaning I.Machine.IsReady I.IsShipped I.entry I.timing image.now bound
         (S.left source.old) (K.held sink.old) (S.left source.new) (K.held sink.new) board) }
-    ensures flushed { IfOk result (λ board. board.end ≢ Some End.WriteFault →
-        StaysFlushed (K.held sink.old) (K.passed sink.old) (K.held sink.new) (K.passed sink.new)) }
+    ensures sink { IfOk result (λ board. SinkGoesOn K.held K.passed (board.end ≡ Some End.WriteFault) sink.old sink.new) }
     ensures cause { IfOk result (λ board. HasEndCause (S.faults source.old) (S.faults source.new) (K.faults sink.old) (K.faults sink.new) None board.end) }
     ensures none { OnErr result ((source.new ≡ source.old) × (sink.new ≡ sink.old)) }
 {

@@ -28,7 +28,7 @@ returns-in-Ok g c =
             run = rw (told.console, told.out) c.in-Ok.ensures.run;
             read = rw (told.console, told.out) c.in-Ok.ensures.read;
             write = rw (told.console, told.out) c.in-Ok.ensures.write;
-            flushed = rw told.out c.in-Ok.ensures.flushed;
+            flushed = rw told.out c.in-Ok.ensures.sink.flushed;
             cause = rw (told.console, told.out) c.in-Ok.ensures.cause;
           })
           ended (rw (printed, c.status_of.ensures) at told.says));
