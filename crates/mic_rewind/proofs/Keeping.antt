@@ -1,15 +1,13 @@
 -- What a board that was clocked lets a history keep.
-use Rattle.std.proofs.Common.{◌≡◌, ◌≢◌, ◌∙◌, sym, ap, subst, refl, ℕ, zero, suc, ◌≤◌, ◌+◌, ◌-◌, ◌++◌, drop, length, arith, rules, Bool, true, false, if◌then◌else◌, List, [], ◌∷◌, Option, Some, None, IsSome, Result, Ok, Err, slice_get}
-use Rattle.std.specs.Prelude.{OnOk}
+use Rattle.std.proofs.Common.{◌≡◌, ◌∙◌, sym, ap, subst, refl, ℕ, zero, suc, ◌≤◌, ◌+◌, ◌-◌, ◌++◌, drop, length, arith, rules, Bool, true, false, if◌then◌else◌, List, [], ◌∷◌, Option, Some, None, IsSome, slice_get}
 use Rattle.console_port.specs.Bus.{ChangesOnly}
-use Rattle.console_port.specs.Console.{StaysFlushed}
-use Rattle.mic_base.specs.Streams.{IsFlushed}
 use Rattle.mic_clock.specs.Meaning.{Meaning}
 use Rattle.mic_clock.specs.View.{BoardView}
 use Rattle.mic_clock.specs.declared.counts.Counts.{Counts}
 use Rattle.mic_clock.specs.declared.end.End.{End}
 use Rattle.mic_clock.specs.declared.end.End.TheVariants as ends
-use Rattle.mic_clock.specs.Board.{EndsUncounted, IsCounted}
+use Rattle.mic_clock.specs.Run.{end_by}
+use Rattle.mic_clock.specs.Board.{EndsUncounted, GoesOn, IsCounted}
 use Rattle.mic_rewind.specs.declared.moment.Moment.{Moment}
 use Rattle.mic_rewind.specs.States.{Snapshot, stored}
 use Rattle.mic_rewind.specs.View.{GoesBack, HistoryView, appended}
@@ -20,12 +18,25 @@ pub emptied : (ss : List Snapshot) → length ss ≤ 0 → ss ≡ []
 emptied [] l = refl
 emptied (s ∷ ss) l = grind arith
 
--- the sink of a board that has ended stays
-pub flushed_by : {K : Type 0} (held passed : K → Option (List ℕ)) (old new : K) (before after : Option End) →
-    (after ≢ Some ends.WriteFault → StaysFlushed (held old) (passed old) (held new) (passed new)) →
-    ((e : End) → before ≡ Some e → new ≡ old) → (before ≡ None → after ≢ Some ends.WriteFault) → StaysFlushed (held old) (passed old) (held new) (passed new)
-flushed_by held passed old new None after flushed same going = flushed (going refl)
-flushed_by held passed old new (Some e) after flushed same going = λ h. subst (λ k. IsFlushed (held k) (passed k)) (sym (same e refl)) h
+-- a board that is left alone goes on, with its source and its sink
+pub still : {S K M : Type 0} (left : S → Option (List ℕ)) (source_faults : S → ℕ) (held passed : K → Option (List ℕ)) (sink_faults : K → ℕ)
+    (source : S) (sink : K) (board : BoardView M) → GoesOn left source_faults held passed sink_faults source sink board source sink board
+still left source_faults held passed sink_faults source sink board =
+    record {
+      ended = λ e is. (refl, refl, refl);
+      kept = λ e none fault is. let no : None ≡ Some (end_by e) = sym none ∙ is in absurd (cc);
+      store = refl;
+      source_goes_on = record { asked_no_more = λ is. (is, refl); tells_left = λ h. h };
+      sink_goes_on = record { keeps = λ front h. h; tells = λ h. h; flushed = λ fails h. h };
+      cause = record {
+        source_later = omega arith;
+        sink_later = omega arith;
+        read = λ none is. let no : None ≡ Some ends.ReadFault = sym none ∙ is in absurd (cc);
+        write = λ none is. let no : None ≡ Some ends.WriteFault = sym none ∙ is in absurd (cc);
+        source_same = λ h. refl;
+        sink_same = λ h. refl;
+      };
+    }
 
 -- ---- MPC is an address in each state
 
@@ -66,11 +77,6 @@ newest_here h e = ap (λ (ss : List Snapshot). last_of h.here ss) e
 live_by : {M : Type 0} (old new : BoardView M) (o : Option End) → old.end ≡ o → ((e : End) → old.end ≡ Some e → new ≡ old) → new.end ≡ None → old.end ≡ None
 live_by old new None e same none = e
 live_by old new (Some x) e same none = ap (λ (b : BoardView _). b.end) (sym (same x e)) ∙ none
-
--- what holds after an Ok wherever something held before it holds so too where more held before it
-pub where_more : {T E : Type 0} (r : Result T E) (A P Q : Type 0) → OnOk r ((A → P) → Q) → OnOk r (P → Q)
-where_more (Ok t) A P Q h = λ p. h (λ a. p)
-where_more (Err e) A P Q h = tt
 
 -- a board that has not ended had not
 pub live : {M : Type 0} (old new : BoardView M) → ((e : End) → old.end ≡ Some e → new ≡ old) → new.end ≡ None → old.end ≡ None

@@ -1,8 +1,10 @@
 -- What clauses see of a rewind, and how its calls change that.
-use Rattle.std.specs.Prelude.{◌≡◌, ◌<◌, List, [], ◌∷◌, None, IsSome}
+use Rattle.std.specs.Prelude.{◌≡◌, ◌<◌, ℕ, List, [], ◌∷◌, Option, None, IsSome}
+use Rattle.mic_clock.specs.Board.{IsTurned, IsCutByFault, tick_of}
 use Rattle.mic_clock.specs.Meaning.{Meaning}
 use Rattle.mic_clock.specs.Run.{MicroRun}
 use Rattle.mic_clock.specs.View.{BoardView}
+use Rattle.mic_clock.specs.declared.end.Tick.{Tick}
 use Rattle.mic_rewind.specs.declared.moment.Moment.{Moment}
 use Rattle.mic_rewind.specs.States.{Snapshot}
 use Rattle.mic_rewind.specs.View.{HistoryView, GoesBack, appended}
@@ -28,6 +30,14 @@ abbrev pub HaveAddresses : List Snapshot → Type 0
 HaveAddresses [] = Unit {0}
 HaveAddresses (s ∷ ss) = HasAddress s × HaveAddresses ss
 
+-- The cursor went on over a kept cycle, and its tick is answered: the board stays, with its source and its sink.
+pub record MovesOn {S K M : Type 0} (source : S) (sink : K) (old : RewindView M) (source' : S) (sink' : K) (new : RewindView M) (answer : Tick) : Type 0 where
+  pub went : GoesBack new.history old.history
+  pub tick : answer ≡ tick_of old.history.here.moment.counts new.history.here.moment.counts None
+  pub board : new.board ≡ old.board
+  pub source_same : source' ≡ source
+  pub sink_same : sink' ≡ sink
+
 module _ {M State : Type 0} (state : M → State) (m : Meaning State) where
   -- where a board stands
   abbrev pub moment_of : BoardView M → Moment
@@ -40,15 +50,18 @@ module _ {M State : Type 0} (state : M → State) (m : Meaning State) where
   abbrev pub snapshot_of : MicroRun State → Snapshot
   snapshot_of r = record { moment = record { registers = m.registers r.state; counts = r.counts }; words = r.world.words }
 
-  -- the cursor went on by one kept state, and the board stays
-  pub record MovesOn (old new : RewindView M) : Type 0 where
-    pub went : GoesBack new.history old.history
-    pub board : new.board ≡ old.board
-
   -- A board that was clocked appends the state where it stands now; one that ended keeps what there was.
   pub record Keeps (old new : RewindView M) : Type 0 where
     pub clocked : new.board.end ≡ None → new.history ≡ appended old.history (state_of new.board)
     pub ended : IsSome new.board.end → new.history ≡ old.history
+
+  -- The board made a turn, with the cursor at it: where that led, what the board answered, and what is kept of it.
+  pub record ClocksOn {S K : Type 0} (left : S → Option (List ℕ)) (held : K → Option (List ℕ))
+      (source : S) (sink : K) (old : RewindView M) (source' : S) (sink' : K) (new : RewindView M) (answer : Tick) : Type 0 where
+    pub turn : IsTurned state m (left source) (held sink) old.board (left source') (held sink') new.board None
+    pub cut : IsCutByFault state m (left source) (held sink) old.board (left source') (held sink') new.board
+    pub tick : answer ≡ tick_of old.board.counts new.board.counts new.board.end
+    pub keeps : Keeps old new
 
   -- The newest state is where the board stands; behind an end, its memory. MPC is an address in each state.
   pub record IsRewind (board : BoardView M) (h : HistoryView) : Type 0 where

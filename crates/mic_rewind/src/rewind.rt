@@ -1,12 +1,12 @@
 //! A board with a cursor at it, or some cycles before it.
 
-ghost use Rattle.std.specs.Prelude.{◌≡◌, ◌≢◌, ◌≤◌, ◌<◌, ◌+◌, ◌^◌, ℕ, List, [], Option, Some, None, IsSome, IfOk, IfErr, OnOk, true, false, length, slice_get};
+ghost use Rattle.std.specs.Prelude.{◌≡◌, ◌≢◌, ◌≤◌, ◌<◌, ◌+◌, ◌^◌, ℕ, List, [], Option, Err, IfOk, IfErr, OnOk, true, false, length, slice_get};
 ghost use Rattle.console_port.specs.Bus.{Stands};
-ghost use Rattle.console_port.specs.Console.{HasFaultCause, StaysFlushed};
-ghost use Rattle.mic_base.specs.Streams.{Holds};
-ghost use Rattle.mic_clock.specs.Board.{IsTurned, IsCutByFault, HasEndCause, ShowsAs, tick_of};
+ghost use Rattle.console_port.specs.Console.{HasFaultCause};
+ghost use Rattle.console_port.specs.Streams.{SinkGoesOn};
+ghost use Rattle.mic_clock.specs.Board.{GoesOn, ShowsAs};
 ghost use Rattle.mic_rewind.specs.View.{GoesBack};
-ghost use Rattle.mic_rewind.specs.Rewind.{MovesOn, Keeps, moment_of, state_of};
+ghost use Rattle.mic_rewind.specs.Rewind.{ClocksOn, MovesOn, moment_of, state_of};
 
 use crate::history::History;
 use crate::moment::Moment;
@@ -80,24 +80,11 @@ impl<M: Clocked> Rewind<M> {
     /// Goes forward by a cycle: over the kept one after the cursor, or else by one that the board clocks.
     pub fn forward<S: Source, K: Sink>(&mut self, source: &mut S, sink: &mut K) -> Tick
         requires { self.old.history.after ≡ [] → self.old.board.counts.cycles ≤ 2 ^ 62 + 4096 }
-        ensures moves { self.old.history.after ≢ [] → MovesOn M.state M.meaning self.old self.new }
-        ensures again { self.old.history.after ≢ [] → result ≡ tick_of self.old.history.here.moment.counts self.new.history.here.moment.counts None }
-        ensures untouched { self.old.history.after ≢ [] → (source.new ≡ source.old) × (sink.new ≡ sink.old) }
-        ensures turn { self.old.history.after ≡ [] →
-            IsTurned M.state M.meaning (S.left source.old) (K.held sink.old) self.old.board (S.left source.new)
-            (K.held sink.new) self.new.board None }
-        ensures cut { self.old.history.after ≡ [] →
-            IsCutByFault M.state M.meaning (S.left source.old) (K.held sink.old) self.old.board (S.left source.new)
-            (K.held sink.new) self.new.board }
-        ensures tick { self.old.history.after ≡ [] → result ≡ tick_of self.old.board.counts self.new.board.counts self.new.board.end }
-        ensures keeps { self.old.history.after ≡ [] → Keeps M.state M.meaning self.old self.new }
+        ensures moves { self.old.history.after ≢ [] → MovesOn source.old sink.old self.old source.new sink.new self.new result }
+        ensures clocks { self.old.history.after ≡ [] →
+            ClocksOn M.state M.meaning S.left K.held source.old sink.old self.old source.new sink.new self.new result }
         ensures growth { self.new.board.counts.cycles ≤ self.old.board.counts.cycles + 1 }
-        ensures store { self.new.board.store ≡ self.old.board.store }
-        ensures sink_keeps { (front : List ℕ) → Holds front (K.held sink.old) → Holds front (K.held sink.new) }
-        ensures flushed { (self.old.board.end ≡ None → self.new.board.end ≢ Some End.WriteFault) →
-            StaysFlushed (K.held sink.old) (K.passed sink.old) (K.held sink.new) (K.passed sink.new) }
-        ensures cause { self.old.history.after ≡ [] →
-            HasEndCause (S.faults source.old) (S.faults source.new) (K.faults sink.old) (K.faults sink.new) self.old.board.end self.new.board.end }
+        ensures goes_on { GoesOn S.left S.faults K.held K.passed K.faults source.old sink.old self.old.board source.new sink.new self.new.board }
     {
         if self.history.behind() > 0 {
             return self.history.forward();
@@ -123,14 +110,13 @@ impl<M: Clocked> Rewind<M> {
     pub fn flush<K: Sink>(&mut self, sink: &mut K) -> Result<(), BusFault>
         ensures history { self.new.history ≡ self.old.history }
         ensures board { self.new.board ≡ record self.old.board { bus = self.new.board.bus } }
-        ensures memory { self.new.board.bus.words ≡ self.old.board.bus.words }
+        ensures others { (self.new.board.bus.words ≡ self.old.board.bus.words)
+            × (self.new.board.bus.console.ended ≡ self.old.board.bus.console.ended) }
         ensures ok { OnOk result (ShowsAs M.state (K.held sink.old) self.old.board (K.held sink.new) self.new.board (λ r. r)) }
         ensures err { (left : Option (List ℕ)) → IfErr result (Stands left (K.held sink.old) self.old.board.bus left (K.held sink.new) self.new.board.bus) }
-        ensures kept { self.new.board.bus.console.kept ≡ [] }
         ensures fault { IfErr result (λ e. e ≡ BusFault.WriteFault) }
-        ensures input { self.new.board.bus.console.ended ≡ self.old.board.bus.console.ended }
-        ensures sink_keeps { (front : List ℕ) → Holds front (K.held sink.old) → Holds front (K.held sink.new) }
-        ensures flushed { OnOk result (StaysFlushed (K.held sink.old) (K.passed sink.old) (K.held sink.new) (K.passed sink.new)) }
+        ensures kept { self.new.board.bus.console.kept ≡ [] }
+        ensures sink { SinkGoesOn K.held K.passed (result ≡ Err BusFault.WriteFault) sink.old sink.new }
         ensures cause { HasFaultCause 0 0 (K.faults sink.old) (K.faults sink.new) result }
     {
         self.board.flush(sink)

@@ -1,12 +1,13 @@
-use Rattle.std.proofs.Common.{◌≡◌, ◌<◌, ◌∙◌, sym, ap, subst, [], arith, Option, None, slice_get, rules}
+use Rattle.std.proofs.Common.{◌≡◌, ◌<◌, ◌∙◌, refl, sym, ap, subst, List, [], length, arith, Option, None, slice_get, rules}
 use Rattle.console_port.specs.View.{BusView}
 use Rattle.mic_clock.specs.Board.{tick_of}
 use Rattle.mic_clock.specs.declared.end.End.{End}
 use Rattle.mic_rewind.specs.declared.moment.Moment.{Moment}
 use Rattle.mic_rewind.specs.States.{Snapshot}
 use Rattle.mic_rewind.specs.View.{HistoryView, appended}
-use Rattle.mic_rewind.specs.Rewind.{HasAddress, HaveAddresses, RewindView, moment_of, state_of, newest}
-use Rattle.mic_rewind.proofs.Keeping.{addresses_kept, emptied, flushed_by, forth_keeps, grown_by, left_by, live, newest_here}
+use Rattle.mic_rewind.specs.Rewind.{HasAddress, HaveAddresses, moment_of, state_of, newest}
+use Rattle.mic_rewind.proofs.Keeping.{addresses_kept, emptied, forth_keeps, grown_by, left_by, live, newest_here, still}
+use Rattle.mic_rewind.proofs.rewind.Rewind.forward.Given.{Over}
 use Rattle.mic_rewind.proofs.rewind.Rewind.forward.Goals as goal
 
 pub append-requires-clause-tick : goal.append-requires-clause-tick
@@ -16,7 +17,7 @@ append-requires-clause-tick g c =
     let h = c.self.inside.history in
     let new = c.cycle-tick.new.self in
     let none : new.end ≡ None = search rules in
-    let was : c.self.inside.board.end ≡ None = live c.self.inside.board new (λ e is. (c.cycle-tick.ensures.ended e is).0) none in
+    let was : c.self.inside.board.end ≡ None = live c.self.inside.board new (λ e is. (c.cycle-tick.ensures.goes_on.ended e is).0) none in
     let nothing : h.after ≡ [] = let b = c.behind.ensures.is in let f = c.if-behind-gt0.false in emptied h.after (omega arith) in
     let here : h.here.moment ≡ moment_of state m c.self.inside.board = ap (λ (s : Snapshot). s.moment) (sym (newest_here h nothing)) ∙ c.self.invariant.moment was in
     c.cycle-tick.ensures.tick
@@ -24,8 +25,9 @@ append-requires-clause-tick g c =
     ∙ (ap (λ (x : Moment). tick_of x.counts new.counts None) (sym here)
     ∙ ap (λ (x : Moment). tick_of h.here.moment.counts x.counts None) (sym c.moment_of-after.ensures.value)))
 
-pub invariant_of-self-then-is_none : goal.invariant_of-self-then-is_none
-invariant_of-self-then-is_none g c =
+-- the history goes on to where the board stands now
+goes_on_to : (g : Over) → (c : goal.After-append g) → c.append.new.self ≡ appended c.self.inside.history (state_of g.M.Clocked.state g.M.Clocked.meaning c.cycle-tick.new.self)
+goes_on_to g c =
     let m = g.M.Clocked.meaning in
     let state = g.M.Clocked.state in
     let h = c.self.inside.history in
@@ -35,8 +37,16 @@ invariant_of-self-then-is_none g c =
     let words : h.here.words ≡ c.self.inside.board.bus.words = ap (λ (s : Snapshot). s.words) (sym (newest_here h nothing)) ∙ c.self.invariant.words in
     let word : c.peek-word.result ≡ slice_get new.bus.words c.moment_of-after.result.registers.mar =
     c.peek-word.ensures ∙ ap (λ (b : BusView). slice_get b.words c.moment_of-after.result.registers.mar) c.bus.ensures in
-    let left = left_by state m c.self.inside.board new h.here.words c.moment_of-after.result c.peek-word.result c.moment_of-after.ensures.value word words (c.cycle-tick.ensures.writes none) in
-    let is : c.append.new.self ≡ appended h (state_of state m new) = c.append.ensures ∙ ap (λ (s : Snapshot). appended h s) left in
+    let left = left_by state m c.self.inside.board new h.here.words c.moment_of-after.result c.peek-word.result c.moment_of-after.ensures.value word words (c.cycle-tick.ensures.writes.0 none) in
+    c.append.ensures ∙ ap (λ (s : Snapshot). appended h s) left
+
+pub invariant_of-self-then-is_none : goal.invariant_of-self-then-is_none
+invariant_of-self-then-is_none g c =
+    let m = g.M.Clocked.meaning in
+    let state = g.M.Clocked.state in
+    let h = c.self.inside.history in
+    let new = c.cycle-tick.new.self in
+    let is = goes_on_to g c in
     let small = subst (λ (x : Moment). x.registers.mpc < 512) c.moment_of-after.ensures.value c.moment_of-after.ensures.mpc in
     let kept = addresses_kept h (state_of state m new) c.self.invariant.before c.self.invariant.here in
     record {
@@ -47,44 +57,53 @@ invariant_of-self-then-is_none g c =
       after = subst (λ (v : HistoryView). HaveAddresses v.after) (sym is) tt;
     }
 
-pub returns-then-is_none-clause-keeps : goal.returns-then-is_none-clause-keeps
-returns-then-is_none-clause-keeps g c =
-    let m = g.M.Clocked.meaning in
-    let state = g.M.Clocked.state in
-    let h = c.self.inside.history in
-    let new = c.cycle-tick.new.self in
-    let none : new.end ≡ None = search rules in
-    let nothing : h.after ≡ [] = let b = c.behind.ensures.is in let f = c.if-behind-gt0.false in emptied h.after (omega arith) in
-    let words : h.here.words ≡ c.self.inside.board.bus.words = ap (λ (s : Snapshot). s.words) (sym (newest_here h nothing)) ∙ c.self.invariant.words in
-    let word : c.peek-word.result ≡ slice_get new.bus.words c.moment_of-after.result.registers.mar =
-    c.peek-word.ensures ∙ ap (λ (b : BusView). slice_get b.words c.moment_of-after.result.registers.mar) c.bus.ensures in
-    let left = left_by state m c.self.inside.board new h.here.words c.moment_of-after.result c.peek-word.result c.moment_of-after.ensures.value word words (c.cycle-tick.ensures.writes none) in
-    let is : c.append.new.self ≡ appended h (state_of state m new) = c.append.ensures ∙ ap (λ (s : Snapshot). appended h s) left in
-    λ e. record {
-      clocked = λ n. is ∙ ap (λ (v : RewindView g.row.M.Denot). appended v.history (state_of state m new)) c.self.view_is;
-      ended = λ some. absurd (search rules);
-    }
+pub returns-then-is_none-clause-clocks : goal.returns-then-is_none-clause-clocks
+returns-then-is_none-clause-clocks g c =
+    rw (← c.self.view_is)
+    (λ after. record {
+      turn = c.cycle-tick.ensures.turn;
+      cut = c.cycle-tick.ensures.cut;
+      tick = c.cycle-tick.ensures.tick;
+      keeps = record { clocked = λ none. goes_on_to g c; ended = λ some. absurd (search rules) };
+    })
+
+pub returns-else-is_none-clause-clocks : goal.returns-else-is_none-clause-clocks
+returns-else-is_none-clause-clocks g c =
+    rw (← c.self.view_is)
+    (λ after. record {
+      turn = c.cycle-tick.ensures.turn;
+      cut = c.cycle-tick.ensures.cut;
+      tick = c.cycle-tick.ensures.tick;
+      keeps = record { clocked = λ n. absurd (search rules); ended = λ some. refl };
+    })
 
 pub returns-then-is_none-clause-growth : goal.returns-then-is_none-clause-growth
 returns-then-is_none-clause-growth g c =
-    rw (← c.self.view_is) (grown_by g.M.Clocked.state g.M.Clocked.meaning c.self.inside.board c.cycle-tick.new.self c.cycle-tick.ensures.clocked c.cycle-tick.ensures.still)
+    rw (← c.self.view_is) (grown_by g.M.Clocked.state g.M.Clocked.meaning c.self.inside.board c.cycle-tick.new.self c.cycle-tick.ensures.counted.clocked c.cycle-tick.ensures.counted.still)
 
 pub returns-else-is_none-clause-growth : goal.returns-else-is_none-clause-growth
 returns-else-is_none-clause-growth g c =
-    rw (← c.self.view_is) (grown_by g.M.Clocked.state g.M.Clocked.meaning c.self.inside.board c.cycle-tick.new.self c.cycle-tick.ensures.clocked c.cycle-tick.ensures.still)
+    rw (← c.self.view_is) (grown_by g.M.Clocked.state g.M.Clocked.meaning c.self.inside.board c.cycle-tick.new.self c.cycle-tick.ensures.counted.clocked c.cycle-tick.ensures.counted.still)
 
 pub invariant_of-self : goal.invariant_of-self
 invariant_of-self g c =
     forth_keeps g.M.Clocked.state g.M.Clocked.meaning c.self.inside.board c.self.inside.history c.forward.new.self c.forward.ensures.went c.self.invariant
 
-pub returns-then-is_none-clause-flushed : goal.returns-then-is_none-clause-flushed
-returns-then-is_none-clause-flushed g c =
+pub returns-then-behind-gt0-clause-moves : goal.returns-then-behind-gt0-clause-moves
+returns-then-behind-gt0-clause-moves g c =
     rw (← c.self.view_is)
-    (flushed_by g.K.Sink.held g.K.Sink.passed c.args.sink.now c.cycle-tick.new.sink c.self.inside.board.end c.cycle-tick.new.self.end
-    c.cycle-tick.ensures.flushed (λ e is. (c.cycle-tick.ensures.ended e is).2))
+    (λ some. record { went = c.forward.ensures.went; tick = c.forward.ensures.tick; board = refl; source_same = refl; sink_same = refl })
 
-pub returns-else-is_none-clause-flushed : goal.returns-else-is_none-clause-flushed
-returns-else-is_none-clause-flushed g c =
+pub returns-then-behind-gt0-clause-clocks : goal.returns-then-behind-gt0-clause-clocks
+returns-then-behind-gt0-clause-clocks g c =
     rw (← c.self.view_is)
-    (flushed_by g.K.Sink.held g.K.Sink.passed c.args.sink.now c.cycle-tick.new.sink c.self.inside.board.end c.cycle-tick.new.self.end
-    c.cycle-tick.ensures.flushed (λ e is. (c.cycle-tick.ensures.ended e is).2))
+    (λ none.
+    let b = c.behind.ensures.is in
+    let more = c.if-behind-gt0.true in
+    let is : length c.self.inside.history.after ≡ 0 = ap (λ (ss : List Snapshot). length ss) none in
+    absurd (omega (arith, b, more, is)))
+
+pub returns-then-behind-gt0-clause-goes_on : goal.returns-then-behind-gt0-clause-goes_on
+returns-then-behind-gt0-clause-goes_on g c =
+    rw (← c.self.view_is)
+    (still g.S.Source.left g.S.Source.faults g.K.Sink.held g.K.Sink.passed g.K.Sink.faults c.args.source.now c.args.sink.now c.self.inside.board)
