@@ -12,8 +12,8 @@ use Rattle.mic_clock.specs.View.{BoardView}
 use Rattle.micro_word.specs.ControlStore.{ControlStore}
 use Rattle.mic_clock.specs.Board.{IsCutByFault, IsTurned, NoFault, ShowsRun}
 use Rattle.mic_rewind.specs.States.{Snapshot}
-use Rattle.mic_rewind.specs.View.{HistoryView, appended}
-use Rattle.mic_rewind.specs.Rewind.{Keeps, MovesOn, RewindView, state_of}
+use Rattle.mic_rewind.specs.View.{GoesBack, HistoryView, appended}
+use Rattle.mic_rewind.specs.Rewind.{Keeps, RewindView, state_of}
 use Rattle.cli_session.specs.Meaning.{IsFrontOf}
 use Rattle.cli_rewind.specs.Stand.{GoesForward, IsCutForward, Stand, StandsAt, history_at, kept, run_at, shown_run, state_at, states_from}
 use Rattle.cli_rewind.specs.Moves.{IsMoved}
@@ -51,15 +51,6 @@ one : (left : List ℕ) (ended : Bool) (a b : List ℕ) → Untaken (Some left) 
 one left true a b x y = x ∙ sym y
 one left false a b x y = x ∙ sym y
 
--- what may have been given over a sink
-abbrev given_of : Option (List ℕ) → List ℕ → List ℕ
-given_of None kept = kept
-given_of (Some h) kept = h ++ kept
-
-given_so : (held : Option (List ℕ)) (kept : List ℕ) → Given held kept (given_of held kept)
-given_so None kept = tt
-given_so (Some h) kept = refl
-
 -- ---- what `out` holds is a front of what was given
 
 pub front_given : (held : Option (List ℕ)) (kept given : List ℕ) → Given held kept given → IsFrontOf held given
@@ -94,6 +85,9 @@ module _ {M State : Type 0} (state : M → State) (m : Meaning State) (left left
   abbrev words : List ℕ
   words = v.board.store.words
 
+  abbrev Moved : Type 0
+  Moved = GoesBack v'.history v.history × (v'.board ≡ v.board)
+
   abbrev Turned : Type 0
   Turned = IsTurned state m (Some left) held v.board (Some left') held' v'.board None
 
@@ -105,38 +99,15 @@ module _ {M State : Type 0} (state : M → State) (m : Meaning State) (left left
       let far = is well rest (told left' v'.board.bus.console.ended) in
       (far.2 r here (one left v.board.bus.console.ended r.world.untaken far.0 here.world.untaken far.1)).0
 
-  -- some run is shown
-  abbrev a_run : MicroRun State
-  a_run =
-      record {
-        state = state v.board.machine;
-        world = record { words = v.board.bus.words; untaken = untaken_of left v.board.bus.console.ended; given = given_of held v.board.bus.console.kept };
-        counts = v.board.counts;
-        end = v.board.end;
-      }
+  abbrev Ended : Type 0
+  Ended = (e : End) → v.board.end ≡ Some e → v'.board ≡ v.board
 
-  shown_so : ShowsRun state (Some left) held v.board a_run
-  shown_so =
-      record {
-        its_state = refl;
-        world = record { words = refl; untaken = told left v.board.bus.console.ended; given = given_so held v.board.bus.console.kept };
-        counts = refl;
-        its_end = refl;
-      }
-
-  -- a board that has ended stays so
-  stays_ended : (e : End) → v.board.end ≡ Some e → Turned → v'.board.end ≡ Some e
-  stays_ended e is turned_so =
-      let well : NoFault v.board.end v'.board.end = subst (λ (o : Option End). NoFault o v'.board.end) (sym is) tt in
-      let here = leads_on a_run shown_so well turned_so in
-      sym here.its_end ∙ (ap (λ (r : MicroRun State). r.end) (stays m words a_run e is) ∙ is)
-
-  live_by : (o : Option End) → v.board.end ≡ o → v.board.end ≢ Some ends.WriteFault → v'.board.end ≡ Some ends.WriteFault → Turned → v.board.end ≡ None
-  live_by None is well fault turned_so = is
-  live_by (Some e) is well fault turned_so = absurd (well (is ∙ (sym (stays_ended e is turned_so) ∙ fault)))
+  live_by : (o : Option End) → v.board.end ≡ o → v.board.end ≢ Some ends.WriteFault → v'.board.end ≡ Some ends.WriteFault → Ended → v.board.end ≡ None
+  live_by None is well fault ended = is
+  live_by (Some e) is well fault ended = absurd (well (ap (λ (b : BoardView M). b.end) (sym (ended e is)) ∙ fault))
 
   -- a board that came to a fault of `out` had not ended
-  pub live : v.board.end ≢ Some ends.WriteFault → v'.board.end ≡ Some ends.WriteFault → Turned → v.board.end ≡ None
+  pub live : v.board.end ≢ Some ends.WriteFault → v'.board.end ≡ Some ends.WriteFault → Ended → v.board.end ≡ None
   live = live_by v.board.end refl
 
   -- ---- at a stand
@@ -245,24 +216,24 @@ module _ {M State : Type 0} (state : M → State) (m : Meaning State) (left left
         )
 
     -- a step over a kept cycle
-    moved_step : MovesOn state m v v' → GoesForward m words 1 None s moved_on × StandsAt state m (Some left) held v' moved_on
+    moved_step : Moved → GoesForward m words 1 None s moved_on × StandsAt state m (Some left) held v' moved_on
     moved_step moves =
         let le = here.cursor in
         let old = here.oldest in
         let d = v.history.depth in
         let first = s.clocked - d in
         let split = states_split m words s.start (suc s.cursor) (s.clocked - s.cursor) v'.history.here v'.history.after (ap (λ (h : HistoryView). h.after)
-        (sym here.history) ∙ moves.went.after) in
+        (sym here.history) ∙ moves.0.after) in
         let some : s.clocked - s.cursor ≡ suc split.0 = split.1 in
         let at : s.cursor ≡ first + kept d s = omega (arith, old) in
         let before_is : v'.history.before ≡ states_from m words s.start first (suc s.cursor - first) =
-        moves.went.before ∙ (λ i. (here.history i).before ++ (here.history i).here ∷ [])
+        moves.0.before ∙ (λ i. (here.history i).before ++ (here.history i).here ∷ [])
         ∙ ap (λ (j : ℕ). states_from m words s.start first (kept d s) ++ state_at m words s.start j ∷ []) at
         ∙ states_more m words s.start first (kept d s) ∙ same_states m words s.start first first (suc (kept d s)) (suc s.cursor - first) refl (omega
         (arith, old)) in
         let after_is = split.3 ∙ same_states m words s.start (suc (suc s.cursor)) (suc (suc s.cursor)) split.0 (s.clocked - suc s.cursor) refl (omega
         (arith, some)) in
-        let depth_is : v'.history.depth ≡ d = sym moves.went.depth in
+        let depth_is : v'.history.depth ≡ d = sym moves.0.depth in
         let whole : v'.history ≡ history_at m words d moved_on = λ i. record {
           before = before_is i;
           here = split.2 i;
@@ -278,9 +249,9 @@ module _ {M State : Type 0} (state : M → State) (m : Meaning State) (left left
             running = earlier m words s.clocked (suc s.cursor) s.start (omega (arith, some)) here.running;
             stops = refl;
           },
-          stands_with state m (Some left) held v' moved_on words d (ap (λ (b : BoardView M). b.store.words) moves.board) depth_is
+          stands_with state m (Some left) held v' moved_on words d (ap (λ (b : BoardView M). b.store.words) moves.1) depth_is
               (subst (λ (b : BoardView M). ShowsRun state (Some left) held b (shown_run m words moved_on b.end))
-              (sym moves.board) here.run) here.running whole (omega (arith, some)) (omega (arith, old)),
+              (sym moves.1) here.run) here.running whole (omega (arith, some)) (omega (arith, old)),
         )
 
     clocked_by : (o : Option End) → v'.board.end ≡ o → v.history.after ≡ [] → NoFault v.board.end v'.board.end → Turned → Keeps state m v v' →
@@ -294,7 +265,7 @@ module _ {M State : Type 0} (state : M → State) (m : Meaning State) (left left
   list_case (x ∷ xs) = inr (λ e. cc)
 
   -- a step forward, to an end or to none
-  pub step_leads : (end : Option End) → (v.history.after ≢ [] → MovesOn state m v v') → (v.history.after ≢ [] →
+  pub step_leads : (end : Option End) → (v.history.after ≢ [] → Moved) → (v.history.after ≢ [] →
       (end ≡ None) × (left' ≡ left) × (held' ≡ held)) →
       (v.history.after ≡ [] → Turned) → (v.history.after ≡ [] → Keeps state m v v') → (v.history.after ≡ [] → end ≡ v'.board.end) →
       (v.history.after ≡ [] → v.board.end ≡ None → v'.board.end ≢ Some ends.ReadFault) → end ≢ Some ends.WriteFault → v'.board.store ≡ v.board.store →
@@ -329,25 +300,25 @@ module _ {M State : Type 0} (state : M → State) (m : Meaning State) (left left
   kept_depth (Some e) is keeps = ap (λ (h : HistoryView). h.depth) (keeps.ended (subst IsSome (sym is) refl))
 
   -- a step forward moves
-  pub step_moved : (end : Option End) → (v.history.after ≢ [] → MovesOn state m v v') → (v.history.after ≡ [] → Keeps state m v v') →
+  pub step_moved : (end : Option End) → (v.history.after ≢ [] → Moved) → (v.history.after ≡ [] → Keeps state m v v') →
       (v.history.after ≡ [] → end ≡ v'.board.end) →
       v.board.end ≢ Some ends.WriteFault → end ≢ Some ends.WriteFault → v'.board.store ≡ v.board.store →
       v'.board.counts.cycles ≤ v.board.counts.cycles + 1 → IsMoved 1 v v'
   step_moved end moves keeps end_is well write store growth =
       record {
         store = store;
-        depth = either_way (λ none. kept_depth v'.board.end refl (keeps none)) (λ some. sym (moves some).went.depth);
+        depth = either_way (λ none. kept_depth v'.board.end refl (keeps none)) (λ some. sym (moves some).0.depth);
         cycles = growth;
-        well = either_way (λ none e. write (end_is none ∙ e)) (λ some e. well (sym (ap (λ (b : BoardView M). b.end) (moves some).board) ∙ e));
+        well = either_way (λ none e. write (end_is none ∙ e)) (λ some e. well (sym (ap (λ (b : BoardView M). b.end) (moves some).1) ∙ e));
       }
 
   -- a fault of `out` comes where the cursor is at the board, which had not ended
-  pub step_faulted : (end : Option End) → end ≡ Some ends.WriteFault → (v.history.after ≢ [] → end ≡ None) → (v.history.after ≡ [] → Turned) →
+  pub step_faulted : (end : Option End) → end ≡ Some ends.WriteFault → (v.history.after ≢ [] → end ≡ None) → Ended →
       (v.history.after ≡ [] → end ≡ v'.board.end) →
       v.board.end ≢ Some ends.WriteFault → (v.history.after ≡ []) × (v.board.end ≡ None) × (v'.board.end ≡ Some ends.WriteFault)
-  step_faulted end fault none_before turned_so end_is well =
+  step_faulted end fault none_before ended end_is well =
       either_way
-      (λ none. let is : v'.board.end ≡ Some ends.WriteFault = sym (end_is none) ∙ fault in (none, live well is (turned_so none), is))
+      (λ none. let is : v'.board.end ≡ Some ends.WriteFault = sym (end_is none) ∙ fault in (none, live well is ended, is))
       (λ some. let no : Some ends.WriteFault ≡ None = sym fault ∙ none_before some in absurd (cc))
 
   -- a fault of `out` in a cycle

@@ -1,14 +1,20 @@
 -- How a call moves a rewind and its cursor, between what its input has left and what `out` holds.
-use Rattle.std.specs.Prelude.{◌≡◌, ◌≢◌, ◌≤◌, ◌⊎◌, ◌+◌, ℕ, List, [], Option, Some}
+use Rattle.std.specs.Prelude.{◌≡◌, ◌≢◌, ◌≤◌, ◌⊎◌, ◌+◌, ◌^◌, ℕ, List, [], Option, Some, Result}
 use Rattle.console_port.specs.Console.{StaysFlushed}
 use Rattle.mic_base.specs.Causes.{Rose}
+use Rattle.mic_base.specs.Plain.{plain_left}
 use Rattle.mic_base.specs.Streams.{Holds, IsFlushed}
+use Rattle.mic_base.specs.declared.plain.source.PlainSource.{PlainSource}
+use Rattle.mic_clock.specs.declared.end.End.{End}
 use Rattle.mic_clock.specs.declared.end.End.TheVariants as ends
 use Rattle.mic_clock.specs.Meaning.{Meaning}
 use Rattle.mic_rewind.specs.Rewind.{RewindView}
-use Rattle.cli_outside.specs.Outside.{Got, GotInPart, SinkState}
+use Rattle.cli_outside.specs.Outside.{Got, GotInPart, SinkState, sink_of}
 use Rattle.cli_session.specs.Meaning.{IsFrontOf}
-use Rattle.cli_rewind.specs.Stand.{Stand, StandsAt, run_at}
+use Rattle.cli_session.specs.declared.reading.Command.{Command}
+use Rattle.cli_session.specs.declared.reading.CommandError.{CommandError}
+use Rattle.cli_rewind.specs.declared.table.Verb.{Verb}
+use Rattle.cli_rewind.specs.Stand.{Follows, GoesForward, IsCutForward, IsCutIn, Stand, StandsAt, run_at}
 
 pub record Scene (M : Type 0) : Type 0 where
   pub rewind : RewindView M
@@ -42,6 +48,30 @@ module _ {M State : Type 0} (state : M → State) (m : Meaning State) where
     pub cuts : (s : Stand State) → IsShown old s → Cuts s new.out.held
     pub keeps : (front : List ℕ) → Holds front old.out.held → Holds front new.out.held
     pub rose : Rose old.out.faults new.out.faults
+
+-- ---- a call between the program's input and `out`
+
+module _ {M State K : Type 0} (state : M → State) (m : Meaning State) (held passed : K → Option (List ℕ)) (faults : K → ℕ) where
+  abbrev pub scene_at : RewindView M → PlainSource → K → Scene M
+  scene_at rewind input out = scene rewind (plain_left input) (sink_of held passed faults out)
+
+  module _ (n : ℕ) (old : RewindView M) (input : PlainSource) (out : K) (new : RewindView M) (input' : PlainSource) (out' : K) where
+    -- it went forward by n cycles, or to this end
+    abbrev pub WentForward : Option End → Type 0
+    WentForward end = Went state m n (scene_at old input out) (scene_at new input' out') (GoesForward m old.board.store.words n end)
+
+    abbrev pub WasCutForward : Type 0
+    WasCutForward = WasCut state m (scene_at old input out) (scene_at new input' out') (IsCutForward m old.board.store.words n)
+
+  module _ (read : Result (Option (Command Verb)) CommandError)
+      (old : RewindView M) (input : PlainSource) (out : K) (new : RewindView M) (input' : PlainSource) (out' : K) where
+    -- it did what was read of a line, and answers this text
+    abbrev pub WentBy : List ℕ → Type 0
+    WentBy text =
+        Went state m (2 ^ 32) (scene_at old input out) (scene_at new input' out') (λ s s'. Follows m old.board.store.words old.history.depth read s text s')
+
+    abbrev pub WasCutBy : Type 0
+    WasCutBy = WasCut state m (scene_at old input out) (scene_at new input' out') (IsCutIn m old.board.store.words read)
 
 -- ---- an answer is put to `err`, and both sinks pass on what they have
 

@@ -28,6 +28,10 @@ pub record Stand (State : Type 0) : Type 0 where
 abbrev pub at_reset : {State : Type 0} → MicroRun State → Stand State
 at_reset r = record { start = r; clocked = 0; cursor = 0 }
 
+-- a line was read as this command
+abbrev pub as_read : Verb → ℕ → Result (Option (Command Verb)) CommandError
+as_read verb number = Ok (Some (record { verb = verb; number = number }))
+
 -- ---- back, where so many cycles are kept
 
 -- the kept cycles before the cursor: of the last `depth` that were clocked

@@ -1,12 +1,10 @@
 //! The cursor's moves, over as many cycles as a line asks for.
 
 ghost use Rattle.std.specs.Prelude.{◌≡◌, ◌≢◌, ◌≤◌, ◌+◌, ◌^◌, List, ℕ, Option, Some, OnErr, IfOk, nat_le, true, false};
-ghost use Rattle.mic_base.specs.Plain.{plain_left};
 ghost use Rattle.mic_clock.specs.Board.{tick_of};
 ghost use Rattle.mic_clock.specs.declared.counts.Counts.{Counts};
-ghost use Rattle.cli_outside.specs.Outside.{sink_of};
-ghost use Rattle.cli_rewind.specs.Stand.{GoesForward, IsCutForward, Stand, StandsAt, back, kept};
-ghost use Rattle.cli_rewind.specs.Moves.{WasCut, Went, scene};
+ghost use Rattle.cli_rewind.specs.Stand.{Stand, StandsAt, back, kept};
+ghost use Rattle.cli_rewind.specs.Moves.{WasCutForward, WentForward};
 
 use mic_base::{PlainSource, Sink, SinkFailed};
 use mic_clock::{Clocked, End, Tick};
@@ -39,14 +37,8 @@ fn step<M: Clocked, K: Sink>(
 ) -> Result<Option<End>, SinkFailed>
     requires cycles { rewind.old.board.counts.cycles ≤ 2 ^ 62 }
     requires well { rewind.old.board.end ≢ Some End.WriteFault }
-    ensures went { IfOk result (λ end. Went M.state M.meaning 1
-        (scene rewind.old (plain_left input.old) (sink_of K.held K.passed K.faults out.old))
-        (scene rewind.new (plain_left input.new) (sink_of K.held K.passed K.faults out.new))
-        (GoesForward M.meaning rewind.old.board.store.words 1 end)) }
-    ensures cut { OnErr result (WasCut M.state M.meaning
-        (scene rewind.old (plain_left input.old) (sink_of K.held K.passed K.faults out.old))
-        (scene rewind.new (plain_left input.new) (sink_of K.held K.passed K.faults out.new))
-        (IsCutForward M.meaning rewind.old.board.store.words 1)) }
+    ensures went { IfOk result (WentForward M.state M.meaning K.held K.passed K.faults 1 rewind.old input.old out.old rewind.new input.new out.new) }
+    ensures cut { OnErr result (WasCutForward M.state M.meaning K.held K.passed K.faults 1 rewind.old input.old out.old rewind.new input.new out.new) }
 {
     let end = met(rewind.forward(input, out));
     if sink_failed(end) {
@@ -64,14 +56,8 @@ pub(crate) fn go_forward<M: Clocked, K: Sink>(
 ) -> Result<Option<End>, SinkFailed>
     requires cycles { rewind.old.board.counts.cycles + 2 ^ 32 ≤ 2 ^ 62 }
     requires well { rewind.old.board.end ≢ Some End.WriteFault }
-    ensures went { IfOk result (λ end. Went M.state M.meaning times
-        (scene rewind.old (plain_left input.old) (sink_of K.held K.passed K.faults out.old))
-        (scene rewind.new (plain_left input.new) (sink_of K.held K.passed K.faults out.new))
-        (GoesForward M.meaning rewind.old.board.store.words times end)) }
-    ensures cut { OnErr result (WasCut M.state M.meaning
-        (scene rewind.old (plain_left input.old) (sink_of K.held K.passed K.faults out.old))
-        (scene rewind.new (plain_left input.new) (sink_of K.held K.passed K.faults out.new))
-        (IsCutForward M.meaning rewind.old.board.store.words times)) }
+    ensures went { IfOk result (WentForward M.state M.meaning K.held K.passed K.faults times rewind.old input.old out.old rewind.new input.new out.new) }
+    ensures cut { OnErr result (WasCutForward M.state M.meaning K.held K.passed K.faults times rewind.old input.old out.old rewind.new input.new out.new) }
 {
     'cycles: for _made in 0..times {
         let end = step(rewind, input, out)?;

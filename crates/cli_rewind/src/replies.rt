@@ -1,12 +1,10 @@
 //! What a line does, and its answer.
 
-ghost use Rattle.std.specs.Prelude.{◌≡◌, ◌≢◌, ◌≤◌, ◌+◌, ◌^◌, ℕ, List, Option, Some, OnErr, IfOk};
-ghost use Rattle.mic_base.specs.Plain.{plain_left};
-ghost use Rattle.cli_outside.specs.Outside.{sink_of};
+ghost use Rattle.std.specs.Prelude.{◌≡◌, ◌≢◌, ◌≤◌, ◌+◌, ◌^◌, ℕ, List, Option, Some, Ok, OnErr, IfOk};
 ghost use Rattle.cli_session.specs.Texts.{state_text, word_line};
 ghost use Rattle.cli_rewind.specs.Lines.{back_text};
-ghost use Rattle.cli_rewind.specs.Stand.{Follows, IsCutBy, IsCutForward, IsCutIn, Obeys, Stand, StandsAt};
-ghost use Rattle.cli_rewind.specs.Moves.{WasCut, Went, scene};
+ghost use Rattle.cli_rewind.specs.Stand.{Obeys, Stand, StandsAt, as_read};
+ghost use Rattle.cli_rewind.specs.Moves.{WasCutBy, WentBy};
 
 use crate::moves::{go_back, go_forward};
 use crate::table::Verb;
@@ -25,14 +23,10 @@ fn micro<M: Clocked, K: Sink>(
 ) -> Result<Line, SinkFailed>
     requires cycles { rewind.old.board.counts.cycles + 2 ^ 32 ≤ 2 ^ 62 }
     requires well { rewind.old.board.end ≢ Some End.WriteFault }
-    ensures went { IfOk result (λ line. Went M.state M.meaning (2 ^ 32)
-        (scene rewind.old (plain_left input.old) (sink_of K.held K.passed K.faults out.old))
-        (scene rewind.new (plain_left input.new) (sink_of K.held K.passed K.faults out.new))
-        (λ s s'. Obeys M.meaning rewind.old.board.store.words rewind.old.history.depth Verb.Micro times s line s')) }
-    ensures cut { OnErr result (WasCut M.state M.meaning
-        (scene rewind.old (plain_left input.old) (sink_of K.held K.passed K.faults out.old))
-        (scene rewind.new (plain_left input.new) (sink_of K.held K.passed K.faults out.new))
-        (IsCutForward M.meaning rewind.old.board.store.words times)) }
+    ensures went { IfOk result (WentBy M.state M.meaning K.held K.passed K.faults (as_read Verb.Micro times)
+        rewind.old input.old out.old rewind.new input.new out.new) }
+    ensures cut { OnErr result (WasCutBy M.state M.meaning K.held K.passed K.faults (as_read Verb.Micro times)
+        rewind.old input.old out.old rewind.new input.new out.new) }
 {
     let end = go_forward(rewind, times, input, out)?;
     Ok(forward_text(rewind, end))
@@ -74,15 +68,10 @@ fn obey<M: Clocked, K: Sink>(
 ) -> Result<Line, SinkFailed>
     requires cycles { rewind.old.board.counts.cycles + 2 ^ 32 ≤ 2 ^ 62 }
     requires well { rewind.old.board.end ≢ Some End.WriteFault }
-    ensures went { IfOk result (λ line. Went M.state M.meaning (2 ^ 32)
-        (scene rewind.old (plain_left input.old) (sink_of K.held K.passed K.faults out.old))
-        (scene rewind.new (plain_left input.new) (sink_of K.held K.passed K.faults out.new))
-        (λ s s'. Obeys M.meaning rewind.old.board.store.words rewind.old.history.depth
-        command.verb command.number s line s')) }
-    ensures cut { OnErr result (WasCut M.state M.meaning
-        (scene rewind.old (plain_left input.old) (sink_of K.held K.passed K.faults out.old))
-        (scene rewind.new (plain_left input.new) (sink_of K.held K.passed K.faults out.new))
-        (IsCutBy M.meaning rewind.old.board.store.words command.verb command.number)) }
+    ensures went { IfOk result (WentBy M.state M.meaning K.held K.passed K.faults (as_read command.verb command.number)
+        rewind.old input.old out.old rewind.new input.new out.new) }
+    ensures cut { OnErr result (WasCutBy M.state M.meaning K.held K.passed K.faults (as_read command.verb command.number)
+        rewind.old input.old out.old rewind.new input.new out.new) }
 {
     match command.verb {
         Verb::Micro => micro(rewind, command.number, input, out),
@@ -102,14 +91,10 @@ fn obey_one<M: Clocked, K: Sink>(
 ) -> Result<Line, SinkFailed>
     requires cycles { rewind.old.board.counts.cycles + 2 ^ 32 ≤ 2 ^ 62 }
     requires well { rewind.old.board.end ≢ Some End.WriteFault }
-    ensures went { IfOk result (λ line. Went M.state M.meaning (2 ^ 32)
-        (scene rewind.old (plain_left input.old) (sink_of K.held K.passed K.faults out.old))
-        (scene rewind.new (plain_left input.new) (sink_of K.held K.passed K.faults out.new))
-        (λ s s'. Follows M.meaning rewind.old.board.store.words rewind.old.history.depth (Ok command) s line s')) }
-    ensures cut { OnErr result (WasCut M.state M.meaning
-        (scene rewind.old (plain_left input.old) (sink_of K.held K.passed K.faults out.old))
-        (scene rewind.new (plain_left input.new) (sink_of K.held K.passed K.faults out.new))
-        (IsCutIn M.meaning rewind.old.board.store.words (Ok command))) }
+    ensures went { IfOk result (WentBy M.state M.meaning K.held K.passed K.faults (Ok command)
+        rewind.old input.old out.old rewind.new input.new out.new) }
+    ensures cut { OnErr result (WasCutBy M.state M.meaning K.held K.passed K.faults (Ok command)
+        rewind.old input.old out.old rewind.new input.new out.new) }
 {
     match command {
         Some(command) => obey(rewind, command, input, out),
@@ -126,14 +111,10 @@ pub(crate) fn follow<M: Clocked, K: Sink>(
 ) -> Result<Line, SinkFailed>
     requires cycles { rewind.old.board.counts.cycles + 2 ^ 32 ≤ 2 ^ 62 }
     requires well { rewind.old.board.end ≢ Some End.WriteFault }
-    ensures went { IfOk result (λ line. Went M.state M.meaning (2 ^ 32)
-        (scene rewind.old (plain_left input.old) (sink_of K.held K.passed K.faults out.old))
-        (scene rewind.new (plain_left input.new) (sink_of K.held K.passed K.faults out.new))
-        (λ s s'. Follows M.meaning rewind.old.board.store.words rewind.old.history.depth read s line s')) }
-    ensures cut { OnErr result (WasCut M.state M.meaning
-        (scene rewind.old (plain_left input.old) (sink_of K.held K.passed K.faults out.old))
-        (scene rewind.new (plain_left input.new) (sink_of K.held K.passed K.faults out.new))
-        (IsCutIn M.meaning rewind.old.board.store.words read)) }
+    ensures went { IfOk result (WentBy M.state M.meaning K.held K.passed K.faults read
+        rewind.old input.old out.old rewind.new input.new out.new) }
+    ensures cut { OnErr result (WasCutBy M.state M.meaning K.held K.passed K.faults read
+        rewind.old input.old out.old rewind.new input.new out.new) }
 {
     match read {
         Ok(command) => obey_one(rewind, command, input, out),

@@ -1,7 +1,9 @@
 use Rattle.std.proofs.Common.{◌≡◌, ◌≢◌, [], Some, None, ap}
 use Rattle.mic_base.specs.Plain.{plain_left}
 use Rattle.mic_clock.specs.declared.end.End.TheVariants as ends
-use Rattle.cli_rewind.proofs.Stepping.{either_way, no_rise, step_cuts, step_faulted, step_leads, step_moved}
+use Rattle.mic_rewind.specs.View.{GoesBack}
+use Rattle.mic_rewind.specs.Rewind.{Keeps}
+use Rattle.cli_rewind.proofs.Stepping.{no_rise, step_cuts, step_faulted, step_leads, step_moved}
 use Rattle.cli_rewind.proofs.moves.step.Goals as goal
 
 pub returns-then-sink_failed-clause-cut : goal.returns-then-sink_failed-clause-cut
@@ -18,12 +20,12 @@ returns-then-sink_failed-clause-cut g c =
     let fault : c.met-end.result ≡ Some ends.WriteFault = c.sink_failed.ensures.yes c.if-sink_failed.true in
     let at =
     step_faulted state m left left' held held' v v' c.met-end.result fault
-    (λ some. c.met-end.ensures v.history.here.moment.counts v'.history.here.moment.counts None (does.again some)) does.turn
-    (λ none. c.met-end.ensures v.board.counts v'.board.counts v'.board.end (does.tick none)) c.requires.well in
+    (λ some. c.met-end.ensures v.history.here.moment.counts v'.history.here.moment.counts None (does.moves some).tick) (λ e is. (does.goes_on.ended e is).0)
+    (λ none. c.met-end.ensures v.board.counts v'.board.counts v'.board.end (does.clocks none).tick) c.requires.well in
     record {
-      cuts = step_cuts state m left left' held held' v v' at.1 (does.cut at.0) at.2;
-      keeps = does.sink_keeps;
-      rose = (does.cause at.0).write at.1 at.2;
+      cuts = step_cuts state m left left' held held' v v' at.1 (does.clocks at.0).cut at.2;
+      keeps = does.goes_on.sink_goes_on.keeps;
+      rose = does.goes_on.cause.write at.1 at.2;
     }
 
 pub returns-clause-went : goal.returns-clause-went
@@ -39,22 +41,21 @@ returns-clause-went g c =
     let does = c.forward.ensures in
     let well : c.met-end.result ≢ Some ends.WriteFault = c.sink_failed.ensures.no c.if-sink_failed.false in
     let end_is : v.history.after ≡ [] → c.met-end.result ≡ v'.board.end = λ none. c.met-end.ensures v.board.counts v'.board.counts v'.board.end
-    (does.tick none) in
-    let moved = step_moved state m left left' held held' v v' c.met-end.result does.moves does.keeps end_is c.requires.well well does.store does.growth in
+    (does.clocks none).tick in
+    let moves : v.history.after ≢ [] → GoesBack v'.history v.history × (v'.board ≡ v.board) = λ some. ((does.moves some).went, (does.moves some).board) in
+    let keeps : v.history.after ≡ [] → Keeps state m v v' = λ none. (does.clocks none).keeps in
+    let moved = step_moved state m left left' held held' v v' c.met-end.result moves keeps end_is c.requires.well well does.goes_on.store does.growth in
     record {
       leads =
-          step_leads state m left left' held held' v v' c.met-end.result does.moves
+          step_leads state m left left' held held' v v' c.met-end.result moves
           (λ some. (
-            c.met-end.ensures v.history.here.moment.counts v'.history.here.moment.counts None (does.again some),
-            ap plain_left
-                (does.untouched some).0,
-            ap g.K.Sink.held (does.untouched some).1,
+            c.met-end.ensures v.history.here.moment.counts v'.history.here.moment.counts None (does.moves some).tick,
+            ap plain_left (does.moves some).source_same,
+            ap g.K.Sink.held (does.moves some).sink_same,
           ))
-          does.turn does.keeps end_is (λ none live e. no_rise ((does.cause none).read live e)) well does.store;
+          (λ none. (does.clocks none).turn) keeps end_is (λ none live e. no_rise (does.goes_on.cause.read live e)) well does.goes_on.store;
       moved = moved;
-      flushed = does.flushed (λ live. moved.well);
-      faults =
-          either_way state m left left' held held' v v' (λ none. (does.cause none).sink_same (λ live. moved.well)) (λ some. ap g.K.Sink.faults
-          (does.untouched some).1);
-      keeps = does.sink_keeps;
+      flushed = does.goes_on.sink_goes_on.flushed moved.well;
+      faults = does.goes_on.cause.sink_same (λ live. moved.well);
+      keeps = does.goes_on.sink_goes_on.keeps;
     }

@@ -10,7 +10,7 @@ returns-in-Err-clause-err g c =
       front = λ left s here.
           lost_at g.M.Clocked.state g.M.Clocked.meaning left (g.K.Sink.held c.args.out.now) v s here (g.K.Sink.held c.flush.new.sink) v'.board.bus.console.kept
           ((failed.err left).lost failed.fault);
-      keeps = c.flush.ensures.sink_keeps;
+      keeps = c.flush.ensures.sink.keeps;
     }
 
 pub returns-in-Ok-clause-ok : goal.returns-in-Ok-clause-ok
@@ -22,7 +22,7 @@ returns-in-Ok-clause-ok g c =
       history = done.history;
       board = done.board;
       kept = done.kept;
-      flushed = done.flushed;
+      flushed = done.sink.flushed (λ e. cc);
       faults = done.cause.sink_same (λ e. cc);
-      keeps = done.sink_keeps;
+      keeps = done.sink.keeps;
     }
