@@ -12,7 +12,7 @@ use Rattle.mic_clock.specs.declared.end.End.TheVariants as ends
 use Rattle.mic_clock.specs.Meaning.{Meaning}
 use Rattle.mic_clock.specs.Run.{MicroRun, bounded, turn, turns, word_at}
 use Rattle.mic_clock.specs.View.{BoardView}
-use Rattle.mic_clock.specs.Board.{ShowsRun, ShowsAs, IsLedTo, IsTurned, RunIsCutByWrite, NoFault, EndsUncounted}
+use Rattle.mic_clock.specs.Board.{ShowsRun, ShowsAs, IsLedTo, IsTurned, TurnIsCut, NoFault, EndsUncounted}
 use Rattle.mic_base.specs.Causes.{Rose}
 use Rattle.cli_outside.specs.Outside.{Got, GotInPart, SinkState}
 use Rattle.mic_debugger.specs.declared.plan.Plan.{Plan}
@@ -26,7 +26,7 @@ use Rattle.mic_debugger.specs.Outcome.{IsBrokenOff, SinkFailed, Streams}
 use Rattle.mic_debugger.specs.Plans.{shown_text}
 use Rattle.mic_debugger.specs.Stand.{Carries, IsPart, IsWhole, Rules, Stand, plan_at, rules_of, stand_in}
 use Rattle.cli_session.specs.Meaning.{IsFrontOf}
-use Rattle.mic_debugger.specs.Session.{IsBroken, IsUnderway, StandsAfter, text_between}
+use Rattle.mic_debugger.specs.Session.{HoldsFront, IsBroken, IsUnderway, StandsAfter, text_between}
 use Rattle.mic_debugger.specs.View.{SessionView}
 use Rattle.mic_debugger.proofs.Carrying.{led_on, same_plan, same_shown}
 use Rattle.mic_debugger.proofs.Putting.{puts_first, puts_nothing, puts_passed, puts_then}
@@ -58,6 +58,13 @@ write_or_not (Some ends.ReadFault) = inr (λ p. cc)
 write_or_not (Some ends.WriteFault) = inl refl
 write_or_not (Some (ends.OutOfMap at)) = inr (λ p. cc)
 write_or_not (Some ends.Adrift) = inr (λ p. cc)
+
+-- what holds where a failing `out` ended a board, and what holds where it did not
+pub either_end : {P Q : Type 0} (end : Option End) → (end ≡ Some ends.WriteFault → P) → (end ≢ Some ends.WriteFault → Q) → P ⊎ Q
+either_end end f g = elim (write_or_not end) [
+  | inl ended ↦ inl (f ended)
+  | inr well ↦ inr (g well)
+]
 
 -- ---- fronts
 
@@ -188,7 +195,7 @@ module _ {M State : Type 0} (state : M → State) (m : Meaning State) (book : Bo
           },
         )
 
-    broken_in : EndsUncounted board board' → board'.end ≡ Some ends.WriteFault → RunIsCutByWrite state m left held board left' held' board' (Some bound) → said' ≡ said →
+    broken_in : EndsUncounted board board' → board'.end ≡ Some ends.WriteFault → TurnIsCut state m bound left held board left' held' board' → said' ≡ said →
         IsLedTo state left0 held0 board0 left' board' (λ r rest. (n : ℕ) × IsBroken state m book words breaks bound u times held' board' said0 said' n r)
     broken_in still ended write silent rest fits =
         let one = write live ended rest fits in
@@ -198,21 +205,23 @@ module _ {M State : Type 0} (state : M → State) (m : Meaning State) (book : Bo
           λ r s e.
               let at = far.2 r s e in
               let before = after m book words breaks bound u at.0 r in
-              let cut = one.2 before at.1.here at.1.untaken in
-              let here : turns m board.store.words (Some bound) cut.0 before ≡ turns m words (Some bound) cut.0 before =
-              ap (λ (ws : List ℕ). turns m ws (Some bound) cut.0 before) program in
+              let leads = one.2 before at.1.here at.1.untaken in
+              let k = leads.0 in
+              let cut = leads.1.here.cut in
+              let here : turns m board.store.words (Some bound) k before ≡ turns m words (Some bound) k before =
+              ap (λ (ws : List ℕ). turns m ws (Some bound) k before) program in
               let cycles : board'.counts.cycles ≡ before.counts.cycles =
               (still (subst IsSome (sym ended) refl)).0 ∙ ap (λ (c : Counts). c.cycles) (sym at.1.here.counts) in
-              let stands : StandsAfter state board' (turns m words (Some bound) cut.0 before) =
+              let stands : StandsAfter state board' (turns m words (Some bound) k before) =
               subst (λ (x : MicroRun State). StandsAfter state board' x) here
-              (record { its_state = cut.1.here.its_state; memory = cut.1.here.memory; counts = cut.1.here.counts; its_end = inr ended }) in
-              broken_at r one.0 at.0 cut.0 at.1 silent stands (subst (λ (x : MicroRun State). IsFrontOf held' x.world.given) here cut.1.here.front)
-              (ap (λ (x : MicroRun State). x.counts.cycles) (sym here) ∙ ap (λ (c : Counts). c.cycles) cut.1.here.counts ∙ cycles),
+              (record { its_state = cut.its_state; memory = cut.memory; counts = cut.counts; its_end = inr ended }) in
+              broken_at r one.0 at.0 k at.1 silent stands (subst (λ (x : MicroRun State). IsFrontOf held' x.world.given) here cut.front)
+              (ap (λ (x : MicroRun State). x.counts.cycles) (sym here) ∙ ap (λ (c : Counts). c.cycles) cut.counts ∙ cycles),
         )
 
     -- in a turn more
     pub broken_more : EndsUncounted board board' → board'.end ≢ Some ends.ReadFault →
-        IsTurned state m left held board left' held' board' (Some bound) → RunIsCutByWrite state m left held board left' held' board' (Some bound) →
+        IsTurned state m left held board left' held' board' (Some bound) → TurnIsCut state m bound left held board left' held' board' →
         (board'.end ≢ Some ends.WriteFault → GotInPart said (text_between state m book breaks u board board') said') → (board'.end ≡ Some ends.WriteFault → said' ≡ said) →
         IsLedTo state left0 held0 board0 left' board' (λ r rest. (n : ℕ) × IsBroken state m book words breaks bound u times held' board' said0 said' n r)
     broken_more still unread turned write front silent =
@@ -337,7 +346,7 @@ stands_flushed state left held board board' machine words counts end r shows =
 -- a flush leaves a front of what was given
 pub front_flushed : {M State : Type 0} (state : M → State) (held held' : Option (List ℕ)) (board board' : BoardView M) (result : Result Unit BusFault) →
     OnOk result (ShowsAs state held board held' board' (λ r. r)) → ((left : Option (List ℕ)) → IfErr result (Stands left held board.bus left held' board'.bus)) →
-    IfErr result (λ e. e ≡ faults.WriteFault) → (left : Option (List ℕ)) (r : MicroRun State) → ShowsRun state left held board r → IsFrontOf held' r.world.given
+    IfErr result (λ e. e ≡ faults.WriteFault) → HoldsFront state held board held'
 front_flushed state held held' board board' (Ok done) shows err is left r here = front_shown left held' state board' r (shows left r here)
 front_flushed state held held' board board' (Err e) shows err is left r here =
     front_lost held held' board.bus.console.kept board'.bus.console.kept r.world.given ((err left).lost is) here.world.given

@@ -1,6 +1,7 @@
 -- Why the count of the input rose.
 use Rattle.std.proofs.Common.{◌≡◌, ℕ, Option, None, refl, subst, ◌∙◌}
 use Rattle.mic_base.specs.Causes.{Rose}
+use Rattle.mic_clock.specs.Board.{HasEndCause}
 use Rattle.mic_clock.specs.declared.end.End.{End}
 use Rattle.mic_debugger.specs.Session.{HasReadCause}
 
@@ -9,7 +10,7 @@ pub cause_start : (n : ℕ) (end : Option End) → end ≡ None → HasReadCause
 cause_start n end live = record { rose = λ p. absurd (cc); same = λ q. refl }
 
 -- a turn more
-pub cause_more : (a b c : ℕ) (end end' : Option End) → end ≡ None → HasReadCause a b end → HasReadCause b c end' → HasReadCause a c end'
-cause_more a b c end end' live before now =
+pub cause_more : {a b c k k' : ℕ} {end end' : Option End} → end ≡ None → HasReadCause a b end → HasEndCause b c k k' end end' → HasReadCause a c end'
+cause_more {a = a} {b = b} {c = c} live before now =
     let still : b ≡ a = before.same (λ p. cc) in
-    record { rose = λ p. subst (λ (n : ℕ). Rose n c) still (now.rose p); same = λ q. now.same q ∙ still }
+    record { rose = λ p. subst (λ (n : ℕ). Rose n c) still (now.read live p); same = λ q. now.source_same (λ _. q) ∙ still }

@@ -1,5 +1,5 @@
 -- How a call on the board of a session comes out, between the input of its program and the two sinks.
-use Rattle.std.specs.Prelude.{◌≡◌, ◌≢◌, ◌⊎◌, ℕ, List, Option, None, Some}
+use Rattle.std.specs.Prelude.{◌≡◌, ◌≢◌, ◌⊎◌, ℕ, List, Option, None, Some, Result, OnOk, OnErr}
 use Rattle.mic_base.specs.Causes.{Rose}
 use Rattle.mic_base.specs.Streams.{Holds}
 use Rattle.console_port.specs.Console.{StaysFlushed}
@@ -35,6 +35,11 @@ pub record NoSinkFailed (old new : Streams) : Type 0 where
 
 abbrev pub SinkFailed : Streams → Streams → Type 0
 SinkFailed old new = Rose old.out.faults new.out.faults ⊎ Rose old.err.faults new.err.faults
+
+-- a call fails only where the count of one of its two sinks rose, and every other answer leaves both
+pub record HasSinkCause {T E : Type 0} (out out' err err' : ℕ) (result : Result T E) : Type 0 where
+  pub quiet : OnOk result ((out' ≡ out) × (err' ≡ err))
+  pub rose : OnErr result (Rose out out' ⊎ Rose err err')
 
 module _ {M State : Type 0} (state : M → State) (listing : ListingView) (old new : Streams) (board board' : BoardView M) where
   -- By its book, `err` got a text, and each run that the first board shows is led on so.

@@ -1,18 +1,20 @@
 -- Where a session leads a board, and what it prints.
-use Rattle.std.specs.Prelude.{◌≡◌, ◌≢◌, ◌⊎◌, ℕ, ◌+◌, ◌<◌, List, ◌++◌, Option, Some}
-use Rattle.mic_base.specs.Causes.{Rose}
+use Rattle.std.specs.Prelude.{◌≡◌, ◌≢◌, ◌⊎◌, ℕ, ◌+◌, ◌<◌, Bool, List, ◌++◌, Option, Some, Result, OnOk, OnErr, IfOk}
+use Rattle.mic_base.specs.Causes.{HasCause, Rose}
+use Rattle.mic_base.specs.Streams.{Holds}
 use Rattle.mic_clock.specs.declared.end.End.{End}
 use Rattle.mic_clock.specs.Meaning.{Meaning}
-use Rattle.mic_clock.specs.Run.{MicroRun, word_at, turns}
+use Rattle.mic_clock.specs.Run.{MicroRun, number_of, word_at, turns}
 use Rattle.mic_clock.specs.View.{BoardView}
 use Rattle.mic_clock.specs.Board.{ShowsRun, IsCutByRead}
 use Rattle.mic_clock.specs.declared.end.End.TheVariants as ends
-use Rattle.cli_outside.specs.Outside.{GotInPart}
+use Rattle.cli_outside.specs.Outside.{Got, GotInPart}
 use Rattle.cli_session.specs.Meaning.{IsFrontOf}
 use Rattle.mic_debugger.specs.declared.until.Until.{Until}
-use Rattle.mic_debugger.specs.Book.{Book}
+use Rattle.mic_debugger.specs.Book.{Book, IsBookOf}
 use Rattle.cli_session.specs.Texts.{end_line}
-use Rattle.mic_debugger.specs.Clocking.{turn_text, after, printed, passed, IsGoing, IsTold}
+use Rattle.mic_debugger.specs.Clocking.{turn_text, counted_turn, after, printed, passed, IsGoing, IsTold}
+use Rattle.mic_debugger.specs.View.{ListingView}
 
 -- a failing source ends a board, and only that raises its count
 pub record HasReadCause (before now : ℕ) (end : Option End) : Type 0 where
@@ -24,6 +26,23 @@ abbrev pub text_between : {M State : Type 0} → (M → State) → Meaning State
 text_between state m book breaks u board board' =
     turn_text book breaks u (m.registers (state board.machine)).mpc (m.drives (word_at m board.store.words (state board.machine)) (state board.machine)).stalled
     board'.counts (m.registers (state board'.machine)) board'.bus.words board'.end
+
+-- A turn from one board to the next is printed: `err` gets its text, or a front of it where it fails, and nothing where a failing
+-- `out` ended the board. The answer says whether the turn is one that is waited for.
+pub record IsPrinted {M State E X : Type 0} (state : M → State) (m : Meaning State) (held : E → Option (List ℕ)) (faults : E → ℕ)
+    (listing : ListingView) (breaks : List ℕ) (u : Until) (board board' : BoardView M) (err err' : E) (result : Result Bool X) : Type 0 where
+  pub came : IfOk result (λ came. number_of came ≡ counted_turn breaks u board'.counts board'.bus.words board'.end)
+  pub unbroken : OnOk result (board'.end ≢ Some ends.WriteFault)
+  pub text : OnOk result ((book : Book) → IsBookOf listing book → Got (held err) (text_between state m book breaks u board board') (held err'))
+  pub front : OnErr result (board'.end ≢ Some ends.WriteFault → (book : Book) → IsBookOf listing book →
+      GotInPart (held err) (text_between state m book breaks u board board') (held err'))
+  pub silent : board'.end ≡ Some ends.WriteFault → err' ≡ err
+  pub keeps : (front : List ℕ) → Holds front (held err) → Holds front (held err')
+  pub cause : board'.end ≢ Some ends.WriteFault → HasCause (faults err) (faults err') result
+
+-- what a sink holds is a front of what each run gave that a board showed
+abbrev pub HoldsFront : {M State : Type 0} → (M → State) → Option (List ℕ) → BoardView M → Option (List ℕ) → Type 0
+HoldsFront {State = State} state held board held' = (left : Option (List ℕ)) (r : MicroRun State) → ShowsRun state left held board r → IsFrontOf held' r.world.given
 
 -- A board stands where a run stands. If a failing sink ended the board in its last turn, the board has that end.
 pub record StandsAfter {M State : Type 0} (state : M → State) (board : BoardView M) (r : MicroRun State) : Type 0 where

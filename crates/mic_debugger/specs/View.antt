@@ -3,6 +3,7 @@ use Rattle.std.specs.Prelude.{ℕ, List, Option}
 use Rattle.ijvm_image.specs.Image.{ImageView}
 use Rattle.mal_parser.specs.Program.{Program}
 use Rattle.mic_clock.specs.View.{BoardView}
+use Rattle.verifier_facts.specs.Accepted.{VerifiedView}
 
 pub record ListingView : Type 0 where
   pub program : Program
@@ -10,6 +11,11 @@ pub record ListingView : Type 0 where
   pub image : ImageView
   -- the number of memory words
   pub memory : ℕ
+
+-- what is listed of a placed program and of an accepted image
+abbrev pub listing_of : Program → List ℕ → VerifiedView → ListingView
+listing_of program placement accepted =
+    record { program = program; placement = placement; image = accepted.image; memory = accepted.map.stack_end }
 
 pub record SessionView (M : Type 0) : Type 0 where
   pub board : BoardView M

@@ -1,21 +1,19 @@
 //! The clocking commands, turn by turn.
 
-ghost use Rattle.std.specs.Prelude.{◌≡◌, ◌≢◌, ◌⊎◌, ◌<◌, ◌≤◌, ◌+◌, ◌^◌, ◌==◌, ◌-◌, ℕ, List, Option, Some, None, OnOk, OnErr, IfOk, IsSome, false, true};
+ghost use Rattle.std.specs.Prelude.{◌≡◌, ◌⊎◌, ◌<◌, ◌≤◌, ◌+◌, ◌^◌, ◌==◌, ◌-◌, ℕ, List, Option, Some, None, OnOk, OnErr, IsSome, false, true};
 ghost use Rattle.std.specs.List.{list_any};
-ghost use Rattle.mic_base.specs.Causes.{HasCause, Rose};
+ghost use Rattle.mic_base.specs.Causes.{HasCause};
 ghost use Rattle.mic_base.specs.Streams.{Holds, Puts};
-ghost use Rattle.console_port.specs.Console.{StaysFlushed};
 ghost use Rattle.mic_clock.specs.Run.{number_of};
-ghost use Rattle.mic_clock.specs.Board.{IsTurned, RunIsCutByRead, RunIsCutByWrite, IsCounted, EndsUncounted, HasRoom};
+ghost use Rattle.mic_clock.specs.Board.{GoesOn, IsCountedTurn, IsTurned, RunIsCutByRead, TurnIsCut};
 ghost use Rattle.mic_debugger.specs.Book.{Book, IsBookOf};
 ghost use Rattle.mic_debugger.specs.InTime.{InTime};
 ghost use Rattle.cli_session.specs.Texts.{end_line};
-ghost use Rattle.mic_debugger.specs.Clocking.{comes, counted_turn, first_piece, has_break, has_changed, is_at_boundary, second_piece, turn_text};
-ghost use Rattle.mic_debugger.specs.Session.{HasReadCause, text_between};
+ghost use Rattle.mic_debugger.specs.Clocking.{comes, first_piece, has_break, has_changed, is_at_boundary, second_piece, turn_text};
+ghost use Rattle.mic_debugger.specs.Session.{HasReadCause, IsPrinted};
 ghost use Rattle.mic_debugger.specs.Obeys.{IsCarriedOut, IsPlanBroken, session_at};
 ghost use Rattle.mic_debugger.specs.Outcome.{KeepFronts, streams};
 ghost use Rattle.mic_debugger.specs.declared.plan.Plan.TheVariants as plans;
-ghost use Rattle.cli_outside.specs.Outside.{Got, GotInPart};
 
 use crate::fault::SessionFault;
 use crate::listing::Listing;
@@ -161,28 +159,13 @@ impl Clocking<'_> {
             (K.held out.new) board.new (Some self.now.bound) }
         ensures read { RunIsCutByRead M.state M.meaning (S.left input.old) (K.held out.old) board.old
             (S.left input.new) (K.held out.new) board.new (Some self.now.bound) }
-        ensures write { RunIsCutByWrite M.state M.meaning (S.left input.old) (K.held out.old) board.old
-            (S.left input.new) (K.held out.new) board.new (Some self.now.bound) }
-        ensures text { OnOk result ((book : Book) → IsBookOf self.now.listing.now book →
-            Got (E.held err.old) (text_between M.state M.meaning book self.now.breaks.now self.now.until board.old board.new) (E.held err.new)) }
-        ensures front { OnErr result (board.new.end ≢ Some End.WriteFault → (book : Book) →
-            IsBookOf self.now.listing.now book →
-            GotInPart (E.held err.old) (text_between M.state M.meaning book self.now.breaks.now self.now.until board.old board.new) (E.held err.new)) }
-        ensures silent { board.new.end ≡ Some End.WriteFault → E.held err.new ≡ E.held err.old }
-        ensures came { IfOk result (λ came. number_of came
-            ≡ counted_turn self.now.breaks.now self.now.until board.new.counts board.new.bus.words board.new.end) }
-        ensures fault { OnOk result (board.new.end ≢ Some End.WriteFault) }
-        ensures input { HasReadCause (S.faults input.old) (S.faults input.new) board.new.end }
-        ensures store { board.new.store ≡ board.old.store }
+        ensures write { TurnIsCut M.state M.meaning self.now.bound (S.left input.old) (K.held out.old) board.old (S.left input.new)
+            (K.held out.new) board.new }
+        ensures goes_on { GoesOn S.left S.faults K.held K.passed K.faults input.old out.old board.old input.new out.new board.new }
         ensures below { board.new.end ≡ None → M.meaning.is_boundary (M.state board.old.machine) ≡ true → board.old.counts.cycles < self.now.bound }
-        ensures clocked { IsCounted M.state M.meaning board.old board.new }
-        ensures room { HasRoom board.old board.new }
-        ensures still { EndsUncounted board.old board.new }
-        ensures flushed { OnOk result (StaysFlushed (K.held out.old) (K.passed out.old) (K.held out.new) (K.passed out.new)) }
-        ensures keeps_out { (front : List ℕ) → Holds front (K.held out.old) → Holds front (K.held out.new) }
-        ensures keeps_err { (front : List ℕ) → Holds front (E.held err.old) → Holds front (E.held err.new) }
-        ensures quiet { OnOk result ((K.faults out.new ≡ K.faults out.old) × (E.faults err.new ≡ E.faults err.old)) }
-        ensures rose { OnErr result (Rose (K.faults out.old) (K.faults out.new) ⊎ Rose (E.faults err.old) (E.faults err.new)) }
+        ensures counted { IsCountedTurn M.state M.meaning board.old board.new }
+        ensures printed { IsPrinted M.state M.meaning E.held E.faults self.now.listing.now self.now.breaks.now self.now.until
+            board.old board.new err.old err.new result }
     {
         let mpc = board.mpc();
         board.turn(self.bound, input, out);

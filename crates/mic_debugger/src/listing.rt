@@ -8,6 +8,7 @@ ghost use Rattle.verifier_facts.specs.Kinds.{IsKind};
 ghost use Rattle.mic_base.specs.Digits.{hex_text};
 ghost use Rattle.mic_debugger.specs.Book.{Book, IsBookOf, unused_text};
 ghost use Rattle.mic_debugger.specs.Lines.{clocked_line, cycle_text, place_line, place_text, next_line};
+ghost use Rattle.mic_debugger.specs.View.{listing_of};
 
 use cli_outside::number;
 use ijvm_instr::{Instr, decode_at, print_instr};
@@ -27,13 +28,13 @@ pub struct Listing {
 }
 
 impl Model for Listing {
-    ghost use Rattle.mic_debugger.specs.View.{ListingView};
+    ghost use Rattle.mic_debugger.specs.View.{ListingView, listing_of};
     ghost use Rattle.store_placement.specs.Placement.{Places};
     ghost use Rattle.store_placement.specs.Program.{demands_of};
 
     ghost Value = { ListingView };
 
-    ghost view = { λ l. record { program = l.program; placement = l.placement; image = l.image.image; memory = l.image.map.stack_end } };
+    ghost view = { λ l. listing_of l.program l.placement l.image };
 
     ghost invariant = { λ l. Places (demands_of l.program) l.placement };
 }
@@ -53,10 +54,7 @@ fn reached(program: &VerifiedImage, at: u32) -> Option<Instr>
 impl Listing {
     pub fn new(program: MalProgram, placement: Placement, image: VerifiedImage) -> Listing
         requires { Places (demands_of program) placement }
-        ensures program { result.program ≡ program }
-        ensures placement { result.placement ≡ placement }
-        ensures image { result.image ≡ image.image }
-        ensures memory { result.memory ≡ image.map.stack_end }
+        ensures { result ≡ listing_of program placement image }
     {
         Listing {
             program,

@@ -1,21 +1,20 @@
 //! A session: a board, what names its words and instructions, and what the student has set.
 
-ghost use Rattle.std.specs.Prelude.{◌≡◌, ◌≢◌, ◌⊎◌, ◌≤◌, ◌<◌, ◌+◌, ◌^◌, ◌++◌, ℕ, List, [], Option, Some, None, OnOk, OnErr, IfOk, min, codes};
-ghost use Rattle.mic_base.specs.Causes.{HasCause, Rose};
+ghost use Rattle.std.specs.Prelude.{◌≡◌, ◌≤◌, ◌+◌, ◌^◌, ◌++◌, ℕ, List, [], Some, None, OnOk, OnErr, IfOk, IsErr, min, codes};
+ghost use Rattle.mic_base.specs.Causes.{HasCause};
 ghost use Rattle.mic_base.specs.Streams.{Holds, IsFlushed, Puts};
 ghost use Rattle.store_placement.specs.Placement.{Places};
 ghost use Rattle.store_placement.specs.Program.{demands_of, IsFilled};
-ghost use Rattle.console_port.specs.Console.{StaysFlushed};
-ghost use Rattle.mic_clock.specs.Board.{AreCounts, ShowsAs, ShowsRun};
-ghost use Rattle.mic_clock.specs.Run.{MicroRun};
+ghost use Rattle.console_port.specs.Streams.{SinkGoesOn};
+ghost use Rattle.mic_clock.specs.Board.{AreCounts, ShowsAs};
 ghost use Rattle.mic_clock.specs.State.{state_line};
-ghost use Rattle.mic_debugger.specs.Outcome.{KeepFronts, streams};
+ghost use Rattle.mic_debugger.specs.Outcome.{HasSinkCause, KeepFronts, streams};
 ghost use Rattle.mic_debugger.specs.Book.{Book, IsBookOf};
 ghost use Rattle.mic_debugger.specs.Commands.{command_of};
 ghost use Rattle.mic_debugger.specs.Lines.{stack_text, where_line};
-ghost use Rattle.mic_debugger.specs.Obeys.{IsLineBroken, IsCarriedOut, IsPlanBroken, KeepsRules, Obeys, plan_in};
-ghost use Rattle.cli_session.specs.Meaning.{IsFrontOf};
-ghost use Rattle.mic_debugger.specs.Session.{HasReadCause};
+ghost use Rattle.mic_debugger.specs.Obeys.{IsLineBroken, IsCarriedOut, IsPlanBroken, KeepsRules, Obeys, plan_in, session_at};
+ghost use Rattle.mic_debugger.specs.Session.{HasReadCause, HoldsFront};
+ghost use Rattle.mic_debugger.specs.View.{listing_of};
 ghost use Rattle.mic_debugger.specs.Plans.{breaks_after, clocking, plan_by, plan_of, reply_of, reply_text, shown_text, watched_after, watched_now};
 
 use crate::breakpoints::Breakpoints;
@@ -71,14 +70,7 @@ impl<M: Clocked> Session<M> {
         requires bound { bound ≤ 2 ^ 62 }
         requires cycles { board.counts.cycles ≤ 2 ^ 62 }
         requires counts { AreCounts board.counts board.end }
-        ensures board { result.board ≡ board }
-        ensures program { result.listing.program ≡ program }
-        ensures placement { result.listing.placement ≡ placement }
-        ensures image { result.listing.image ≡ image.image }
-        ensures memory { result.listing.memory ≡ image.map.stack_end }
-        ensures bound { result.bound ≡ bound }
-        ensures breaks { result.breaks ≡ [] }
-        ensures watched { result.watched ≡ None }
+        ensures { result ≡ session_at board (listing_of program placement image) bound [] None }
     {
         Session {
             board,
@@ -271,18 +263,14 @@ impl<M: Clocked> Session<M> {
     /// Puts what the console keeps, and passes the answers on.
     fn flush<K: Sink, E: Sink>(&mut self, out: &mut K, err: &mut E) -> Result<(), SessionFault>
         ensures shows { OnOk result (ShowsAs M.state (K.held out.old) self.old.board (K.held out.new) self.new.board (λ r. r)) }
-        ensures front { OnErr result ((left : Option (List ℕ)) (r : MicroRun M.State) → ShowsRun M.state left (K.held out.old) self.old.board r →
-            IsFrontOf (K.held out.new) r.world.given) }
+        ensures front { OnErr result (HoldsFront M.state (K.held out.old) self.old.board (K.held out.new)) }
         ensures kept { self.new.board.bus.console.kept ≡ [] }
         ensures same { self.new ≡ record self.old { board = record self.old.board { bus = self.new.board.bus } } }
-        ensures input { self.new.board.bus.console.ended ≡ self.old.board.bus.console.ended }
-        ensures memory { self.new.board.bus.words ≡ self.old.board.bus.words }
-        ensures flushed { OnOk result (StaysFlushed (K.held out.old) (K.passed out.old) (K.held out.new) (K.passed out.new)) }
+        ensures others { (self.new.board.bus.words ≡ self.old.board.bus.words) × (self.new.board.bus.console.ended ≡ self.old.board.bus.console.ended) }
+        ensures out { SinkGoesOn K.held K.passed (IsErr result) out.old out.new }
         ensures held { E.held err.new ≡ E.held err.old }
         ensures passed { OnOk result (IsFlushed (E.held err.new) (E.passed err.new)) }
-        ensures keeps_out { (front : List ℕ) → Holds front (K.held out.old) → Holds front (K.held out.new) }
-        ensures quiet { OnOk result ((K.faults out.new ≡ K.faults out.old) × (E.faults err.new ≡ E.faults err.old)) }
-        ensures rose { OnErr result (Rose (K.faults out.old) (K.faults out.new) ⊎ Rose (E.faults err.old) (E.faults err.new)) }
+        ensures cause { HasSinkCause (K.faults out.old) (K.faults out.new) (E.faults err.old) (E.faults err.new) result }
     {
         match self.board.flush(out) {
             Ok(()) => match err.flush() {

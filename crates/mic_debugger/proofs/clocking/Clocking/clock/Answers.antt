@@ -6,7 +6,7 @@ use Rattle.mic_debugger.specs.Outcome.{streams}
 use Rattle.mic_debugger.specs.Session.{text_between}
 use Rattle.mic_debugger.proofs.Putting.{puts_nothing, puts_then}
 use Rattle.mic_debugger.proofs.Timing.{InTime-step}
-use Rattle.mic_debugger.proofs.Breaking.{broken_more, no_fault, on_err_of}
+use Rattle.mic_debugger.proofs.Breaking.{broken_more, either_end, no_fault, on_err_of}
 use Rattle.mic_debugger.proofs.Underway.{underway_start, underway_more, underway_stopped, clocked_of}
 use Rattle.mic_debugger.proofs.Carrying.{clocked_broken, failed_after}
 use Rattle.mic_debugger.proofs.InputCauses.{cause_start, cause_more}
@@ -57,41 +57,42 @@ turns-preserved g c =
     let live : old.end ≡ None = search rules in
     let some : 0 < c.turns.left = search rules in
     let program : old.store.words ≡ first.store.words = ap (λ (s : ControlStore). s.words) inv.store in
-    let quiet = c.in_ok-came.ensures.quiet in
+    let goes_on = c.turn.ensures.goes_on in
+    let printed = c.in_ok-came.ensures.printed in
     record {
       through = record {
         led = λ q book is_book.
             let before = inv.through.led (λ _ e. cc) book is_book in
             let text = text_between state m book self.breaks.now self.until old new in (
               before.0 ++ text,
-              puts_then {E = ℕ} said0 said said' before.0 text (Ok tt) before.1 (c.in_ok-came.ensures.text book is_book),
+              puts_then {E = ℕ} said0 said said' before.0 text (Ok tt) before.1 (printed.text book is_book),
               underway_more state m book first.store.words self.breaks.now self.bound self.until c.args.times left0 held0 first left held old left' held' new
-                  before.0 c.turns.left program live some before.2 c.less-rest.result (ap (λ (n : ℕ). n + c.less-rest.result) (sym c.in_ok-came.ensures.came) ∙ c.less-rest.ensures)
-                  (c.turn.ensures.turn (no_fault old.end new.end (λ _. q c.requires.live) (λ _. c.in_ok-came.ensures.fault))),
+                  before.0 c.turns.left program live some before.2 c.less-rest.result (ap (λ (n : ℕ). n + c.less-rest.result) (sym printed.came) ∙ c.less-rest.ensures)
+                  (c.turn.ensures.turn (no_fault old.end new.end (λ _. q c.requires.live) (λ _. printed.unbroken))),
             );
         stopped = λ none p book is_book.
             let before = inv.through.led (λ _ e. cc) book is_book in
             let text = text_between state m book self.breaks.now self.until old new in (
               before.0 ++ text,
-              puts_then {E = ℕ} said0 said said' before.0 text (Ok tt) before.1 (c.in_ok-came.ensures.text book is_book),
+              puts_then {E = ℕ} said0 said said' before.0 text (Ok tt) before.1 (printed.text book is_book),
               underway_stopped state m book first.store.words self.breaks.now self.bound self.until c.args.times left0 held0 first left held old left' held' new
                   before.0 c.turns.left program live some before.2 p (c.turn.ensures.read live p),
             );
-        unbroken = λ none. c.in_ok-came.ensures.fault;
+        unbroken = λ none. printed.unbroken;
         sinks = record {
-          flushed = λ h. c.in_ok-came.ensures.flushed (inv.through.sinks.flushed h);
-          out = quiet.0 ∙ inv.through.sinks.out;
-          err = quiet.1 ∙ inv.through.sinks.err;
+          flushed = λ h. goes_on.sink_goes_on.flushed printed.unbroken (inv.through.sinks.flushed h);
+          out = goes_on.cause.sink_same (λ _. printed.unbroken) ∙ inv.through.sinks.out;
+          err = (printed.cause printed.unbroken).quiet ∙ inv.through.sinks.err;
         };
       };
-      input = cause_more (g.S.Source.faults c.args.input.now) (g.S.Source.faults c.turns.input) (g.S.Source.faults c.turn.new.input) old.end new.end live inv.input c.turn.ensures.input;
-      store = c.turn.ensures.store ∙ inv.store;
+      input = cause_more live inv.input goes_on.cause;
+      store = goes_on.store ∙ inv.store;
       keeps = record {
-        out = λ front h. c.turn.ensures.keeps_out front (inv.keeps.out front h);
-        err = λ front h. c.turn.ensures.keeps_err front (inv.keeps.err front h);
+        out = λ front h. goes_on.sink_goes_on.keeps front (inv.keeps.out front h);
+        err = λ front h. printed.keeps front (inv.keeps.err front h);
       };
       in_time = InTime-step m (2 ^ 62) self.bound old.counts new.counts (m.is_boundary (state old.machine)) (m.drives (word_at m old.store.words (state old.machine)) (state old.machine)).stalled (state new.machine) old.end new.end live c.requires.bound inv.in_time
-          c.turn.ensures.still c.turn.ensures.room (λ q. (c.turn.ensures.clocked q).1) c.turn.ensures.below;
+          c.turn.ensures.counted.still c.turn.ensures.counted.room (λ q. (c.turn.ensures.counted.clocked q).1) c.turn.ensures.below;
     }
 
 pub returns-clause-done : goal.returns-clause-done
@@ -131,6 +132,8 @@ returns-in_err-came-clause-broken g c =
     let program : old.store.words ≡ first.store.words = ap (λ (s : ControlStore). s.words) inv.store in
     let at = streams g.S.Source.left g.S.Source.faults c.args.input.now g.K.Sink.held g.K.Sink.passed g.K.Sink.faults c.args.out.now g.E.Sink.held g.E.Sink.passed g.E.Sink.faults c.args.err.now in
     let at' = streams g.S.Source.left g.S.Source.faults c.turn.new.input g.K.Sink.held g.K.Sink.passed g.K.Sink.faults c.turn.new.out g.E.Sink.held g.E.Sink.passed g.E.Sink.faults c.turn.new.err in
+    let goes_on = c.turn.ensures.goes_on in
+    let printed = c.in_err-came.ensures.printed in
     on_err_of _ c.from_residual.result
     (λ watched.
     clocked_broken state m (session_at first self.listing.now self.bound self.breaks.now watched) new at at' self.until c.args.times
@@ -139,10 +142,11 @@ returns-in_err-came-clause-broken g c =
     broken_more state m book first.store.words self.breaks.now self.bound self.until c.args.times (g.S.Source.left c.args.input.now) (g.K.Sink.held c.args.out.now) first
     (g.S.Source.left c.turns.input) (g.K.Sink.held c.turns.out) old (g.S.Source.left c.turn.new.input) (g.K.Sink.held c.turn.new.out) new
     before.0 c.turns.left program live some before.2 (g.E.Sink.held c.args.err.now) (g.E.Sink.held c.turns.err) (g.E.Sink.held c.turn.new.err) before.1
-    c.turn.ensures.still (unread c.requires.live) c.turn.ensures.turn c.turn.ensures.write (λ well. c.in_err-came.ensures.front well book is_book) c.turn.ensures.silent)
-    (failed_after at.out.faults (g.K.Sink.faults c.turns.out) at'.out.faults at.err.faults (g.E.Sink.faults c.turns.err) at'.err.faults inv.through.sinks.out inv.through.sinks.err c.in_err-came.ensures.rose))
+    c.turn.ensures.counted.still (unread c.requires.live) c.turn.ensures.turn c.turn.ensures.write (λ well. printed.front well book is_book) (λ ended. ap g.E.Sink.held (printed.silent ended)))
+    (failed_after at.out.faults (g.K.Sink.faults c.turns.out) at'.out.faults at.err.faults (g.E.Sink.faults c.turns.err) at'.err.faults inv.through.sinks.out inv.through.sinks.err
+    (either_end new.end (goes_on.cause.write live) (λ well. (printed.cause well).failed))))
 
 pub returns-in_err-came-clause-keeps : goal.returns-in_err-came-clause-keeps
 returns-in_err-came-clause-keeps g c =
     let keeps = c.turns.invariant.keeps in
-    record { out = λ front h. c.turn.ensures.keeps_out front (keeps.out front h); err = λ front h. c.turn.ensures.keeps_err front (keeps.err front h) }
+    record { out = λ front h. c.turn.ensures.goes_on.sink_goes_on.keeps front (keeps.out front h); err = λ front h. c.turn.ensures.printed.keeps front (keeps.err front h) }

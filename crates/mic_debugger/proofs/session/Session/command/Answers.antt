@@ -48,7 +48,7 @@ returns-clause-obeys g c =
     let kept = ap (λ (b : BoardView g.row.M.Denot). b.bus.console.kept) board_is ∙ flushed.kept in
     record {
       through = through_flushed state m line v c.note.new.self board at mid at'.out at'.err
-          (ap (λ (b : BoardView g.row.M.Denot). b.bus.console.ended) board_is ∙ flushed.input)
+          (ap (λ (b : BoardView g.row.M.Denot). b.bus.console.ended) board_is ∙ flushed.others.1)
           (subst (λ (b : BoardView g.row.M.Denot). ShowsAs state mid.out.held board at'.out.held b (λ r. r)) (sym board_is) flushed.shows)
           breaks watched kept
           (ap (λ (b : BoardView g.row.M.Denot). state b.machine) board_is ∙ ap (λ (s : SessionView g.row.M.Denot). state s.board.machine) flushed.same)
@@ -56,9 +56,9 @@ returns-clause-obeys g c =
           (ap (λ (b : BoardView g.row.M.Denot). b.end) board_is ∙ ap (λ (s : SessionView g.row.M.Denot). s.board.end) flushed.same)
           flushed.held
           (record {
-            flushed = λ h. flushed.flushed (done.sinks.flushed h);
-            out = flushed.quiet.0 ∙ done.sinks.out;
-            err = flushed.quiet.1 ∙ done.sinks.err;
+            flushed = λ h. flushed.out.flushed (λ e. cc) (done.sinks.flushed h);
+            out = flushed.cause.quiet.0 ∙ done.sinks.out;
+            err = flushed.cause.quiet.1 ∙ done.sinks.err;
           })
           done;
       breaks = breaks;
@@ -102,11 +102,11 @@ returns-in_err-flush-clause-broken g c =
     let end_is : board'.end ≡ board.end = ap (λ (s : SessionView g.row.M.Denot). s.board.end) flushed.same in
     on_err_of _ c.from_residual-in_err-flush.result
     (record {
-      broken = flush_broken state m c.args.line.now v at at' board' board mid done refl flushed.held flushed.input end_is
-          (stands_flushed state mid.input.left mid.out.held board board' (ap (λ (s : SessionView g.row.M.Denot). state s.board.machine) flushed.same) flushed.memory
+      broken = flush_broken state m c.args.line.now v at at' board' board mid done refl flushed.held flushed.others.1 end_is
+          (stands_flushed state mid.input.left mid.out.held board board' (ap (λ (s : SessionView g.row.M.Denot). state s.board.machine) flushed.same) flushed.others.0
           (ap (λ (s : SessionView g.row.M.Denot). s.board.counts) flushed.same) end_is)
           (λ r here. flushed.front mid.input.left r here)
-          (failed_after at.out.faults mid.out.faults at'.out.faults at.err.faults mid.err.faults at'.err.faults done.sinks.out done.sinks.err flushed.rose);
+          (failed_after at.out.faults mid.out.faults at'.out.faults at.err.faults mid.err.faults at'.err.faults done.sinks.out done.sinks.err flushed.cause.rose);
       breaks = ap (λ (s : SessionView g.row.M.Denot). s.breaks) flushed.same ∙ ap (λ (s : SessionView g.row.M.Denot). s.breaks) same;
       watched = ap (λ (s : SessionView g.row.M.Denot). s.watched) flushed.same ∙ ap (λ (s : SessionView g.row.M.Denot). s.watched) same;
     })
