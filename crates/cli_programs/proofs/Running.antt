@@ -6,7 +6,7 @@ use Rattle.ijvm_reference.specs.declared.plain.PlainEnd.{PlainEnd}
 use Rattle.ijvm_reference.specs.declared.plain.PlainEnd.TheVariants as ends
 use Rattle.ijvm_reference.specs.declared.plain.PlainReport.{PlainReport}
 use Rattle.ijvm_reference.specs.Runs.{HasRunCause}
-use Rattle.ijvm_reference.specs.Plain.{HasRun, IsCutByRead, IsCutByWrite}
+use Rattle.ijvm_reference.specs.Plain.{IsRunReport}
 use Rattle.verifier_facts.specs.Accepted.{VerifiedView}
 use Rattle.cli_outside.specs.Outside.{OutsideView}
 use Rattle.cli_programs.specs.Reference.{CutByRead, CutByWrite, IsReported, Ran, verified_program}
@@ -14,14 +14,12 @@ use Rattle.cli_programs.specs.Reference.{CutByRead, CutByWrite, IsReported, Ran,
 module _ (machine : Machine) (bound : ℕ) (program : VerifiedView) (old new : OutsideView) where
   -- what is known of a run
   pub record IsKnown (r : PlainReport) : Type 0 where
-    pub run : r.end ≢ ends.ReadFault → r.end ≢ ends.WriteFault → HasRun (verified_program program machine) program.main_locals bound old.console.left old.out.held new.console.left new.out.held r
-    pub read : r.end ≡ ends.ReadFault → IsCutByRead (verified_program program machine) program.main_locals bound old.console.left old.out.held new.console.left new.out.held r
-    pub write : r.end ≡ ends.WriteFault → IsCutByWrite (verified_program program machine) program.main_locals bound old.console.left old.out.held new.console.left new.out.held r
+    pub report : IsRunReport (verified_program program machine) program.main_locals bound old.console.left old.out.held new.console.left new.out.held r
     pub flushed : r.end ≢ ends.WriteFault → StaysFlushed old.out.held old.out.passed new.out.held new.out.passed
     pub cause : HasRunCause old.console.faults new.console.faults old.out.faults new.out.faults (Some (Ok r.end))
 
   whole : (r : PlainReport) → IsKnown r → r.end ≢ ends.ReadFault → r.end ≢ ends.WriteFault → IsReported machine bound program old new r
-  whole r k unread unwritten = Ran (k.run unread unwritten) (k.cause.source_same (λ e. unread (cc))) (k.cause.sink_same (λ e. unwritten (cc))) (k.flushed unwritten)
+  whole r k unread unwritten = Ran (k.report.run unread unwritten) (k.cause.source_same (λ e. unread (cc))) (k.cause.sink_same (λ e. unwritten (cc))) (k.flushed unwritten)
 
   by_end : (r : PlainReport) (end : PlainEnd) → r.end ≡ end → IsKnown r → IsReported machine bound program old new r
   by_end r ends.Halt e k = whole r k (λ q. cc) (λ q. cc)
@@ -29,9 +27,9 @@ module _ (machine : Machine) (bound : ℕ) (program : VerifiedView) (old new : O
   by_end r ends.Bound e k = whole r k (λ q. cc) (λ q. cc)
   by_end r ends.StackLimit e k = whole r k (λ q. cc) (λ q. cc)
   by_end r ends.ReadFault e k =
-      CutByRead e (k.read e) (k.cause.read (ap (λ (x : PlainEnd). Some (Ok x)) e)) (k.cause.sink_same (λ q. cc)) (k.flushed (λ q. let c : ends.ReadFault ≡ ends.WriteFault = sym e ∙ q in cc))
+      CutByRead e (k.report.read e) (k.cause.read (ap (λ (x : PlainEnd). Some (Ok x)) e)) (k.cause.sink_same (λ q. cc)) (k.flushed (λ q. let c : ends.ReadFault ≡ ends.WriteFault = sym e ∙ q in cc))
   by_end r ends.WriteFault e k =
-      CutByWrite e (k.write e) (k.cause.source_same (λ q. cc)) (k.cause.write (ap (λ (x : PlainEnd). Some (Ok x)) e))
+      CutByWrite e (k.report.write e) (k.cause.source_same (λ q. cc)) (k.cause.write (ap (λ (x : PlainEnd). Some (Ok x)) e))
 
   pub reported : (r : PlainReport) → IsKnown r → IsReported machine bound program old new r
   reported r k = by_end r r.end refl k

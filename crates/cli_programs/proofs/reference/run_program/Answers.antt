@@ -12,10 +12,8 @@ returns-in-Ok g c =
           rw (← c.outside.view_is)
           (Reported c.in-Ok.run'
           (reported c.args.machine c.args.bound c.args.program.now _ _ c.in-Ok.run' (record {
-            run = rw (told.console, told.out) (rw (c.main_locals-locals.ensures.is, c.image-image.ensures.is, c.map-map.ensures.is) at c.in-Ok.ensures.run);
-            read = rw (told.console, told.out) (rw (c.main_locals-locals.ensures.is, c.image-image.ensures.is, c.map-map.ensures.is) at c.in-Ok.ensures.read);
-            write = rw (told.console, told.out) (rw (c.main_locals-locals.ensures.is, c.image-image.ensures.is, c.map-map.ensures.is) at c.in-Ok.ensures.write);
-            flushed = rw told.out c.in-Ok.ensures.flushed;
+            report = rw (told.console, told.out) (rw (c.main_locals-locals.ensures.is, c.image-image.ensures.is, c.map-map.ensures.is) at c.in-Ok.ensures.report);
+            flushed = λ unwritten. rw told.out (c.in-Ok.ensures.sink.flushed (λ e. unwritten (cc)));
             cause = rw (told.console, told.out) c.in-Ok.ensures.cause;
           }))
           told.files
@@ -30,5 +28,5 @@ returns-in-Err g c =
       does =
           rw (← c.outside.view_is)
           (Short (rw (told.console, told.out) (rw (c.main_locals-locals.ensures.is, c.image-image.ensures.is, c.map-map.ensures.is) at c.in-Err.ensures.short))
-          (rw told.console c.in-Err.ensures.quiet.0) (rw told.out c.in-Err.ensures.quiet.1) (rw told.out (c.in-Err.ensures.flushed tt)) told.files told.says);
+          (rw told.console (c.in-Err.ensures.cause.source_same (λ e. cc))) (rw told.out (c.in-Err.ensures.cause.sink_same (λ e. cc))) (rw told.out (c.in-Err.ensures.sink.flushed (λ e. cc))) told.files told.says);
     }
