@@ -1,6 +1,6 @@
 -- Symbolic runs of Mic-2 over the shipped microprogram: a run along a plan of stalls and guessed next addresses, and what makes it the machine's.
 use Rattle.std.proofs.Common.{◌≢◌, get_or-set_other, length-set, ap, ap₂, ◌∙◌, ◌≡◌, ℕ, zero, suc, ◌+◌, ◌*◌, ◌<◌, ◌≤◌, Option, Some, None, Bool, true, false, List, [], ◌∷◌, length, arith, refl, sym, subst, add-zero}
-use Rattle.std.specs.Prelude.{slice_set, nat_lt, if◌then◌else◌, ◌||◌}
+use Rattle.std.specs.Prelude.{slice_set, nat_lt, if◌then◌else◌}
 use Rattle.std.proofs.lemmas.Bool.Decides.{nat_tests}
 use Rattle.mic_words.specs.Arithmetic.{wrap, signed_byte, signed_pair}
 use Rattle.console_port.specs.World.{World, Refusal}
@@ -76,25 +76,13 @@ source_same f g (Some sources.Mbr1u) m h = h 0 (omega arith)
 source_same f g (Some sources.Mbr2) m h = ap₂ signed_pair (h 0 (omega arith)) (h 1 (omega arith))
 source_same f g (Some sources.Mbr2u) m h = ap₂ (λ (i : ℕ) (j : ℕ). 256 * i + j) (h 0 (omega arith)) (h 1 (omega arith))
 
--- both sides are within what the statement demands
-wants_within : (pa pb ba bb : Bool) → ((if pa then 2 else if ba then 1 else 0) ≤ (if pa || pb then 2 else if ba || bb then 1 else 0)) × ((if pb then 2 else if bb then 1 else 0) ≤ (if pa || pb then 2 else if ba || bb then 1 else 0))
-wants_within true true ba bb = (omega arith, omega arith)
-wants_within true false ba true = (omega arith, omega arith)
-wants_within true false ba false = (omega arith, omega arith)
-wants_within false true true bb = (omega arith, omega arith)
-wants_within false true false bb = (omega arith, omega arith)
-wants_within false false true true = (omega arith, omega arith)
-wants_within false false true false = (omega arith, omega arith)
-wants_within false false false true = (omega arith, omega arith)
-wants_within false false false false = (omega arith, omega arith)
-
 -- the result where the unit stands at PC
 abbrev pub text_result : List ℕ → Part → Micro → ℕ
 text_result origin part m = alu part.op (source_of (text_from origin m.pc) part.a m) (source_of (text_from origin m.pc) part.b m)
 
 result_same : (queue : QueueLaw) (origin : List ℕ) (part : Part) (m : Micro) (have : ℕ) → operand_bytes part ≤ have → result_of part (standing origin m have) ≡ text_result origin part m
 result_same queue origin part m have h =
-    let both = wants_within (is_pair part.a) (is_pair part.b) (is_byte part.a) (is_byte part.b) in
+    let both = queue.wants (is_pair part.a) (is_pair part.b) (is_byte part.a) (is_byte part.b) in
     let la : wants part.a ≤ operand_bytes part = both.0 in
     let lb : wants part.b ≤ operand_bytes part = both.1 in
     ap₂ (alu part.op)
