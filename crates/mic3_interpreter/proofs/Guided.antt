@@ -74,20 +74,6 @@ source_same f g (Some sources.Mbr1u) m h = h 0 (omega arith)
 source_same f g (Some sources.Mbr2) m h = ap₂ signed_pair (h 0 (omega arith)) (h 1 (omega arith))
 source_same f g (Some sources.Mbr2u) m h = ap₂ (λ (i : ℕ) (j : ℕ). 256 * i + j) (h 0 (omega arith)) (h 1 (omega arith))
 
--- both sides are within what the statement demands
-wants_within : (pa pb ba bb : Bool) →
-    ((if pa then 2 else if ba then 1 else 0) ≤ (if pa || pb then 2 else if ba || bb then 1 else 0)) ×
-    ((if pb then 2 else if bb then 1 else 0) ≤ (if pa || pb then 2 else if ba || bb then 1 else 0))
-wants_within true true ba bb = (omega arith, omega arith)
-wants_within true false ba true = (omega arith, omega arith)
-wants_within true false ba false = (omega arith, omega arith)
-wants_within false true true bb = (omega arith, omega arith)
-wants_within false true false bb = (omega arith, omega arith)
-wants_within false false true true = (omega arith, omega arith)
-wants_within false false true false = (omega arith, omega arith)
-wants_within false false false true = (omega arith, omega arith)
-wants_within false false false false = (omega arith, omega arith)
-
 -- Guesses: the byte of a dispatch, taken when it issues, and the address behind a branch, taken when it computes.
 
 abbrev pub guessed : PlacedNext → List ℕ → ℕ
@@ -285,7 +271,7 @@ module _ (origin : List ℕ) where
         let m : Micro = p.micro in
         let les : demand s ≤ have = queue.enough (demand s) t.queue m.pc have c.1 held in
         let l : nat_lt have (demand s) ≡ false = grind (arith, nat_tests) in
-        let both = wants_within (is_pair s.part.a) (is_pair s.part.b) (is_byte s.part.a) (is_byte s.part.b) in
+        let both = queue.wants (is_pair s.part.a) (is_pair s.part.b) (is_byte s.part.a) (is_byte s.part.b) in
         let la : wants s.part.a ≤ operand_bytes s.part = both.0 in
         let lb : wants s.part.b ≤ operand_bytes s.part = both.1 in
         let a : source s.part.a (standing origin p have).micro ≡ source_of (text_from origin m.pc) s.part.a m =

@@ -1,8 +1,8 @@
 //! Mic-3 as an interpreter of IJVM.
 
-ghost use Rattle.std.specs.Prelude.{◌≡◌, ◌≢◌, ◌≤◌, ◌^◌, Some, None, IfOk, OnErr, IsSome};
+ghost use Rattle.std.specs.Prelude.{◌≡◌, ◌≤◌, ◌^◌, Some, None, IfOk, OnErr, IsSome};
 ghost use Rattle.mic_words.specs.declared.machine.Machine.TheVariants as machines;
-ghost use Rattle.console_port.specs.Console.{StaysFlushed};
+ghost use Rattle.console_port.specs.Streams.{SinkGoesOn};
 ghost use Rattle.mic_clock.specs.Board.{NoFault, HasEndCause};
 ghost use Rattle.mic3_datapath.specs.Mic3.{mic3_meaning, IsReady};
 ghost use Rattle.mic3_datapath.specs.View.{pipeline_of};
@@ -92,8 +92,7 @@ pub fn run_image3<S: Source, K: Sink>(
     ensures write { IfOk result (λ board. board.end ≡ Some End.WriteFault →
         IsCutByWrite pipeline_of mic3_meaning IsReady (HasShipped machines.Mic2) 0x002 mic3_timing image.now bound
         (S.left source.old) (K.held sink.old) (S.left source.new) (K.held sink.new) board) }
-    ensures flushed { IfOk result (λ board. board.end ≢ Some End.WriteFault →
-        StaysFlushed (K.held sink.old) (K.passed sink.old) (K.held sink.new) (K.passed sink.new)) }
+    ensures sink { IfOk result (λ board. SinkGoesOn K.held K.passed (board.end ≡ Some End.WriteFault) sink.old sink.new) }
     ensures cause { IfOk result (λ board. HasEndCause (S.faults source.old) (S.faults source.new) (K.faults sink.old) (K.faults sink.new) None board.end) }
     ensures none { OnErr result ((source.new ≡ source.old) × (sink.new ≡ sink.old)) }
 {
