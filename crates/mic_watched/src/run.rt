@@ -82,6 +82,8 @@ pub fn run_watched<M: Clocked, W: Watcher, S: Source, K: Sink, E: Sink>(
     ensures end { IfOk result (λ e. e ≢ End.WriteFault → board.new.end ≡ Some e) }
     ensures kept { IfOk result (λ e. board.new.bus.console.kept ≡ []) }
     ensures growth { board.new.counts.cycles ≤ max bound board.old.counts.cycles + 1024 }
+
+    // The board is taken with the end of the run: it stays at the end before, where the last flush failed.
     ensures goes_on { GoesOn S.left S.faults K.held K.passed K.faults source.old sink.old board.old source.new sink.new
         (record board.new { end = end_in result }) }
     ensures said { HasCause (E.faults err.old) (E.faults err.new) result }
