@@ -1,5 +1,5 @@
 -- The accesses of a run, in the order of its cycles, and what a cache counts of them.
-use Rattle.std.specs.Prelude.{◌≡◌, ℕ, ◌&&◌, ◌++◌, nat_lt, if◌then◌else◌, Bool, false, List, [], ◌∷◌, Option, codes, length, map, slice_get, slice_index, unwrap_or}
+use Rattle.std.specs.Prelude.{◌≡◌, ℕ, ◌&&◌, ◌++◌, nat_lt, if◌then◌else◌, Bool, false, List, [], ◌∷◌, codes, length, map, slice_get, slice_index, unwrap_or}
 use Rattle.std.specs.Fmt.{decimal}
 use Rattle.mic_words.specs.declared.machine.Machine.{Machine}
 use Rattle.micro_word.specs.declared.statement.Mem.{Mem}
