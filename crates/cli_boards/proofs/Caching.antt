@@ -1,5 +1,5 @@
 -- A memory of either map is whole blocks, and the line of a run with a cache has the counts of its accesses.
-use Rattle.std.proofs.Common.{◌≡◌, ◌∙◌, ℕ, ◌+◌, ◌%◌, ◌^◌, ◌<◌, ◌≤◌, max, List, ◌++◌, length, Some, Option, sym, ap, subst, arith, inl, inr}
+use Rattle.std.proofs.Common.{◌≡◌, ◌∙◌, ℕ, ◌+◌, ◌%◌, ◌^◌, ◌<◌, ◌≤◌, max, List, ◌++◌, length, Some, ap, subst, arith, inl, inr}
 use Rattle.mic_base.specs.Causes.{Rose}
 use Rattle.mic_words.specs.declared.machine.Machine.{Machine}
 use Rattle.console_port.specs.Map.{IsMap}

@@ -3,3 +3,4 @@ pub mod Micros
 pub mod Ending
 pub mod Clocked
 pub mod Caching
+pub mod Watching

@@ -1,4 +1,4 @@
-use Rattle.std.proofs.Common.{◌≡◌, ◌∙◌, List, length, ap, refl, rules}
+use Rattle.std.proofs.Common.{◌≡◌, ◌∙◌, length, ap, refl, rules}
 use Rattle.mem_cache.specs.declared.counts.CacheCounts.{CacheCounts}
 use Rattle.mic_clock.specs.declared.counts.Counts.{Counts}
 use Rattle.mic_clock.specs.declared.registers.Registers.{Registers}
@@ -7,7 +7,11 @@ use Rattle.cli_run_texts.specs.Report.{report as report_of}
 use Rattle.cli_watchers.specs.Cached.{CacheKept, SaysNothing, cache_line, kept_after}
 use Rattle.cli_boards.specs.Runs.{report_on}
 use Rattle.cli_boards.proofs.Caching.{cached, says_code}
+use Rattle.cli_boards.proofs.Watching.{can_run, cause_of, flushed_of}
 use Rattle.cli_boards.proofs.cache.cache_program.Goals as goal
+
+pub run_watched-requires-clause-board : goal.run_watched-requires-clause-board
+run_watched-requires-clause-board g c = can_run g.M.Clocked.state g.M.Clocked.meaning _ _ _ c.in-Ok-reset_board.ensures.reset
 
 pub returns : goal.returns
 returns g c =
@@ -34,7 +38,7 @@ returns g c =
             shows = watched.run;
             ends = c.in-Ok-run_watched.ensures.end;
             kept = c.in-Ok-run_watched.ensures.kept;
-            left = record { files = refl; cause = c.in-Ok-run_watched.ensures.cause; flushed = c.in-Ok-run_watched.ensures.flushed };
+            left = record { files = refl; cause = cause_of c.in-Ok-run_watched.ensures.goes_on c.in-Ok-reset_board.ensures.reset.end; flushed = flushed_of c.in-Ok-run_watched.ensures.goes_on end refl };
           })
           c.requires.bound c.in-Ok-run_watched.ensures.growth c.a_cache_counts_the_run.ensures c.requires.lines.0
           (c.args.prepared.micro.is_loaded.machine ∙ c.requires.machine) kept

@@ -5,7 +5,11 @@ use Rattle.cli_watchers.specs.Profile.{Profile, profile_of_cycles, profile_text,
 use Rattle.mic_watched.specs.Watched.{kept_of}
 use Rattle.cli_boards.specs.Profiled.{Stopped, Whole}
 use Rattle.cli_boards.proofs.Micros.{nothing_put, nothing_put_of, silent_says}
+use Rattle.cli_boards.proofs.Watching.{can_run, cause_of, flushed_of}
 use Rattle.cli_boards.proofs.profile.profile_program.Goals as goal
+
+pub run_watched-requires-clause-board : goal.run_watched-requires-clause-board
+run_watched-requires-clause-board g c = can_run g.M.Clocked.state g.M.Clocked.meaning _ _ _ c.in-Ok-reset_board.ensures.reset
 
 pub returns-in-Ok-run_watched : goal.returns-in-Ok-run_watched
 returns-in-Ok-run_watched g c =
@@ -36,7 +40,7 @@ returns-in-Ok-run_watched g c =
             shows = watched.run;
             ends = c.in-Ok-run_watched.ensures.end;
             kept = c.in-Ok-run_watched.ensures.kept;
-            left = record { files = refl; cause = c.in-Ok-run_watched.ensures.cause; flushed = c.in-Ok-run_watched.ensures.flushed };
+            left = record { files = refl; cause = cause_of c.in-Ok-run_watched.ensures.goes_on c.in-Ok-reset_board.ensures.reset.end; flushed = flushed_of c.in-Ok-run_watched.ensures.goes_on end refl };
           })
           c.in-Ok.ensures (c.report_behind.ensures _ (profile_text (profile_of_cycles rows watched.cycles) (unwrap_or last.end end) last.counts) put cause));
     }
@@ -56,7 +60,7 @@ returns g c =
             shows = watched.run;
             ends = tt;
             kept = tt;
-            left = record { files = refl; cause = c.in-Err-run_watched.ensures.cause; flushed = tt };
+            left = record { files = refl; cause = cause_of c.in-Err-run_watched.ensures.goes_on c.in-Ok-reset_board.ensures.reset.end; flushed = tt };
           })
           held c.in-Err-run_watched.ensures.said.failed refl);
     }

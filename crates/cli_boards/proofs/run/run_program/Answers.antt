@@ -1,11 +1,11 @@
-use Rattle.std.proofs.Common.{◌≡◌, ◌∙◌, ap, sym, rules, Option}
-use Rattle.std.specs.Prelude.{unwrap_or}
+use Rattle.std.proofs.Common.{◌≡◌, ◌∙◌, ap, rules}
 use Rattle.mic_clock.specs.declared.counts.Counts.{Counts}
 use Rattle.mic_clock.specs.declared.end.End.{End}
 use Rattle.mic_clock.specs.declared.registers.Registers.{Registers}
 use Rattle.cli_run_texts.specs.Report.{report as report_of}
 use Rattle.cli_boards.specs.OwnRun.{Ran}
 use Rattle.cli_boards.specs.Runs.{report_on}
+use Rattle.cli_boards.proofs.Watching.{flushed_of}
 use Rattle.cli_boards.proofs.run.run_program.Goals as goal
 
 pub returns : goal.returns
@@ -25,8 +25,8 @@ returns g c =
           c.run-end.ensures.end (c.run-end.ensures.kept c.in-Ok.ensures.reset.end) (rw (told.console, told.out) c.run-end.ensures.run) (rw (told.console, told.out) c.run-end.ensures.read) (rw (told.console, told.out) c.run-end.ensures.write)
           (record {
             files = told.files;
-            cause = rw (told.console, told.out) (rw (c.in-Ok.ensures.reset.end, c.run-end.ensures.end) at c.run-end.ensures.cause);
-            flushed = λ other. rw told.out (c.run-end.ensures.flushed (λ is. other (ap (λ (e : Option End). unwrap_or e end) (sym c.run-end.ensures.end ∙ is))));
+            cause = rw (told.console, told.out) (rw (c.in-Ok.ensures.reset.end, c.run-end.ensures.end) at c.run-end.ensures.goes_on.cause);
+            flushed = λ other. rw told.out (flushed_of c.run-end.ensures.goes_on end c.run-end.ensures.end other);
           })
           (rw (printed, c.status_of.ensures) at told.says));
     }

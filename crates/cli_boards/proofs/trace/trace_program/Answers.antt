@@ -1,6 +1,10 @@
 use Rattle.std.proofs.Common.{refl, rules}
 use Rattle.cli_boards.specs.Traced.{Stopped, Whole}
+use Rattle.cli_boards.proofs.Watching.{can_run, cause_of, flushed_of}
 use Rattle.cli_boards.proofs.trace.trace_program.Goals as goal
+
+pub run_watched-requires-clause-board : goal.run_watched-requires-clause-board
+run_watched-requires-clause-board g c = can_run g.M.Clocked.state g.M.Clocked.meaning _ _ _ c.in-Ok.ensures.reset
 
 pub returns-in-Ok-run_watched : goal.returns-in-Ok-run_watched
 returns-in-Ok-run_watched g c =
@@ -17,7 +21,7 @@ returns-in-Ok-run_watched g c =
             shows = watched.run;
             ends = c.in-Ok-run_watched.ensures.end;
             kept = c.in-Ok-run_watched.ensures.kept;
-            left = record { files = refl; cause = c.in-Ok-run_watched.ensures.cause; flushed = c.in-Ok-run_watched.ensures.flushed };
+            left = record { files = refl; cause = cause_of c.in-Ok-run_watched.ensures.goes_on c.in-Ok.ensures.reset.end; flushed = flushed_of c.in-Ok-run_watched.ensures.goes_on c.in-Ok-run_watched.end refl };
           })
           watched.saw.says
           (c.report_behind.ensures _ watched.saw.text watched.saw.said (record { later = said.later; failed = tt; quiet = said.quiet })));
@@ -37,7 +41,7 @@ returns g c =
             shows = watched.run;
             ends = tt;
             kept = tt;
-            left = record { files = refl; cause = c.in-Err-run_watched.ensures.cause; flushed = tt };
+            left = record { files = refl; cause = cause_of c.in-Err-run_watched.ensures.goes_on c.in-Ok.ensures.reset.end; flushed = tt };
           })
           watched.saw.says watched.saw.said c.in-Err-run_watched.ensures.said.failed refl);
     }
