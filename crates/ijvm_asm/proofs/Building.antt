@@ -1,22 +1,13 @@
 -- What lines make, one by one, where each says something at its place; lines in two parts.
 use Rattle.std.proofs.Common.{◌≡◌, ℕ, suc, ◌+◌, List, [], ◌∷◌, ◌++◌, length, refl, sym, subst, arith}
-use Rattle.std.specs.Prelude.{Result, Ok}
-use Rattle.ijvm_asm.specs.declared.error.AsmError.{AsmError}
-use Rattle.ijvm_asm.specs.Said.{Heads, line_meant, place_of, Said}
+use Rattle.source_text.specs.Parsing.{Makes}
+use Rattle.ijvm_asm.specs.Said.{Said}
 use Rattle.ijvm_asm.specs.Source.{Source}
-use Rattle.ijvm_asm.specs.Adding.{add_line}
-
-abbrev pub parameters_of : Said → List (List ℕ)
-parameters_of (Heads name ps) = ps
-parameters_of _ = []
-
-abbrev pub add : ℕ → Source → Said → Result Source AsmError
-add k s x = add_line k s (parameters_of x) (line_meant x)
+use Rattle.ijvm_asm.specs.Adding.{parser}
 
 -- what lines from line `k` on say, each at its place, makes the one source of the other
 abbrev pub Build : ℕ → Source → List Said → Source → Type 0
-Build k s [] t = s ≡ t
-Build k s (x ∷ xs) t = (u : Source) × (s.place ≡ place_of x) × (add k s x ≡ Ok u) × Build (k + 1) u xs t
+Build = Makes parser
 
 pub moved : (k n : ℕ) → (k + 1) + n ≡ k + suc n
 moved k n = omega arith

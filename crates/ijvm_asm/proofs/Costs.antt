@@ -17,14 +17,16 @@ use Rattle.ijvm_line.specs.declared.instruction.Instruction.{Instruction}
 use Rattle.ijvm_line.specs.declared.instruction.Instruction.TheVariants as instructions
 use Rattle.ijvm_line.specs.Ranges as ranges
 use Rattle.ijvm_line.specs.declared.line.LineFault.{LineFault}
-use Rattle.ijvm_line.specs.declared.line.Line.{Line}
-use Rattle.ijvm_line.specs.declared.line.Line.TheVariants as says
+use Rattle.ijvm_line.specs.declared.content.Content.{Content}
+use Rattle.ijvm_line.specs.declared.content.Content.TheVariants as contents
 use Rattle.ijvm_line.specs.declared.place.Place.{Place}
 use Rattle.ijvm_line.specs.declared.form.Form.{Form}
 use Rattle.ijvm_line.specs.declared.form.Form.TheVariants as forms
 use Rattle.ijvm_line.specs.Forms.{IsForm}
 use Rattle.ijvm_line.specs.Lines as lines
-use Rattle.ijvm_asm.specs.Said.{line_meant, place_of, Said, SayAll, SaysLine}
+use Rattle.source_text.specs.Text.{SayAll, SaysLine}
+use Rattle.ijvm_asm.specs.Said.{line_meant, place_of, Said}
+use Rattle.ijvm_asm.specs.Text.{grammar}
 use Rattle.ijvm_asm.proofs.Bytes.{bytes_of}
 use Rattle.ijvm_asm.proofs.Tokens.{behind_word, instr_size, some_size, spelled_size, tokens_size, word_bytes}
 
@@ -40,14 +42,14 @@ instruction_size (instructions.Jump jump label) = 3
 instruction_size (instructions.Call name) = 3
 
 -- main counts as one entry; a method has an entry and a header of four bytes
-abbrev pub cost_of : Line → ℕ
-cost_of says.Nothing = 0
-cost_of (says.Mark mark) = 1
-cost_of (says.Method name) = 5
-cost_of (says.Constant name value) = 1
-cost_of (says.Local name) = 0
-cost_of (says.Code label None) = 0
-cost_of (says.Code label (Some instruction)) = instruction_size instruction
+abbrev pub cost_of : Content → ℕ
+cost_of contents.Nothing = 0
+cost_of (contents.Mark mark) = 1
+cost_of (contents.Method name) = 5
+cost_of (contents.Constant name value) = 1
+cost_of (contents.Local name) = 0
+cost_of (contents.Code label None) = 0
+cost_of (contents.Code label (Some instruction)) = instruction_size instruction
 
 abbrev pub costs : List Said → ℕ
 costs [] = 0
@@ -155,31 +157,31 @@ statement_size (statements.Call method) ts i b h =
 
 -- ---- the bytes of a line
 
-abbrev Costs : ℕ → Line → Type 0
+abbrev Costs : ℕ → Content → Type 0
 Costs n m = cost_of m ≤ n
 
-form_size : (p : Place) (ts : List Token) (f : Form) (m : Line) → IsForm p ts f → lines.line_by f ≡ Ok m → Costs (tokens_size ts + 1) m
-form_size p ts forms.Nothing m h e = same_ok (Costs (tokens_size ts + 1)) says.Nothing m e (omega arith)
-form_size p ts (forms.Mark mark) m h e = same_ok (Costs (tokens_size ts + 1)) (says.Mark mark) m e (omega arith)
-form_size p ts (forms.Method n) m h e = let a = ap tokens_size h.1.1 in same_ok (Costs (tokens_size ts + 1)) (says.Method n) m e (omega (arith, a))
-form_size p ts (forms.Constant n v) m h e = of_made (Costs (tokens_size ts + 1)) (λ w. says.Constant n w) m (ranges.word v) e (λ w f. omega arith)
-form_size p ts (forms.Local n) m h e = same_ok (Costs (tokens_size ts + 1)) (says.Local n) m e (omega arith)
-form_size p ts (forms.Code l None) m h e = same_ok (Costs (tokens_size ts + 1)) (says.Code l None) m e (omega arith)
+form_size : (p : Place) (ts : List Token) (f : Form) (m : Content) → IsForm p ts f → lines.content_of f ≡ Ok m → Costs (tokens_size ts + 1) m
+form_size p ts forms.Nothing m h e = same_ok (Costs (tokens_size ts + 1)) contents.Nothing m e (omega arith)
+form_size p ts (forms.Mark mark) m h e = same_ok (Costs (tokens_size ts + 1)) (contents.Mark mark) m e (omega arith)
+form_size p ts (forms.Method n) m h e = let a = ap tokens_size h.1.1 in same_ok (Costs (tokens_size ts + 1)) (contents.Method n) m e (omega (arith, a))
+form_size p ts (forms.Constant n v) m h e = of_made (Costs (tokens_size ts + 1)) (λ w. contents.Constant n w) m (ranges.word v) e (λ w f. omega arith)
+form_size p ts (forms.Local n) m h e = same_ok (Costs (tokens_size ts + 1)) (contents.Local n) m e (omega arith)
+form_size p ts (forms.Code l None) m h e = same_ok (Costs (tokens_size ts + 1)) (contents.Code l None) m e (omega arith)
 form_size p ts (forms.Code None (Some st)) m h e =
-    of_made (Costs (tokens_size ts + 1)) (λ i. says.Code None (Some i)) m (ranges.instruction_of st) e (λ i f. statement_size st ts i h.1 f)
+    of_made (Costs (tokens_size ts + 1)) (λ i. contents.Code None (Some i)) m (ranges.instruction_of st) e (λ i f. statement_size st ts i h.1 f)
 form_size p ts (forms.Code (Some l) (Some st)) m h e =
     let b = h.1 in
     let a = ap tokens_size b.1 in
-    of_made (Costs (tokens_size ts + 1)) (λ i. says.Code (Some l) (Some i)) m (ranges.instruction_of st) e (λ i f. let s = statement_size st b.0 i b.2 f in omega (arith, a, s))
+    of_made (Costs (tokens_size ts + 1)) (λ i. contents.Code (Some l) (Some i)) m (ranges.instruction_of st) e (λ i f. let s = statement_size st b.0 i b.2 f in omega (arith, a, s))
 
-says_cost : (line : List ℕ) (x : Said) → SaysLine line x → cost_of (line_meant x) ≤ length line + 1
+says_cost : (line : List ℕ) (x : Said) → SaysLine grammar line x → cost_of (line_meant x) ≤ length line + 1
 says_cost line x w =
-    let a = form_size (place_of x) w.sequence w.means.form (line_meant x) w.means.has w.means.says in
+    let a = form_size (place_of x) w.sequence w.means.0.form (line_meant x) w.means.0.has w.means.0.says in
     let b = spelled_size w.sequence line w.spelled in
     omega (arith, a, b)
 
 -- lines cost no more than they have bytes
-pub all_cost : (ls : List (List ℕ)) (xs : List Said) → SayAll ls xs → costs xs ≤ bytes_of ls
+pub all_cost : (ls : List (List ℕ)) (xs : List Said) → SayAll grammar ls xs → costs xs ≤ bytes_of ls
 all_cost [] [] w = omega arith
 all_cost (l ∷ ls) (x ∷ xs) w = let a = says_cost l x w.0 in let b = all_cost ls xs w.1 in omega (arith, a, b)
 all_cost [] (x ∷ xs) w = absurd w

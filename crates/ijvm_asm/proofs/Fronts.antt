@@ -12,9 +12,9 @@ use Rattle.ijvm_asm.specs.declared.error.AsmError.TheVariants as errors
 use Rattle.ijvm_asm.specs.Said.{BlankAt, Codes, Dotted, place_of, Said}
 use Rattle.ijvm_asm.specs.Sections.{lines_of, Section}
 use Rattle.ijvm_asm.specs.Source.{declarations_of, empty, Source}
-use Rattle.ijvm_asm.specs.Adding.{add_instruction}
+use Rattle.ijvm_asm.specs.Adding.{add_instruction, add_line}
 use Rattle.ijvm_asm.specs.Refusals.{IsFront, StandsAt}
-use Rattle.ijvm_asm.proofs.Building.{add, Build, join, split}
+use Rattle.ijvm_asm.proofs.Building.{Build, join, split}
 use Rattle.ijvm_asm.proofs.Conditions.{ok, ok_if}
 use Rattle.ijvm_asm.proofs.Declaring.{declared_make, sections_declare}
 use Rattle.ijvm_asm.proofs.InOrder.{from_order, in_order}
@@ -94,23 +94,23 @@ of_front xs f =
 
 -- ---- one line more
 
-same_end : (xs : List Said) (k : ℕ) (s t u : Source) → Build k s xs t → Build k s xs u → t ≡ u
+pub same_end : (xs : List Said) (k : ℕ) (s t u : Source) → Build k s xs t → Build k s xs u → t ≡ u
 same_end [] k s t u a b = sym a ∙ b
 same_end (x ∷ xs) k s t u (v, p, h, more) (w, q, g, rest) =
     let e : v ≡ w = cc in
     same_end xs (k + 1) w t u (subst (λ z. Build (k + 1) z xs t) e more) rest
 
 module _ (xs : List Said) (s : Source) (b : Build 1 empty xs s) where
-  pub fits : (x : Said) (u : Source) → s.place ≡ place_of x → add (1 + length xs) s x ≡ Ok u → IsFront (xs ++ x ∷ [])
+  pub fits : (x : Said) (u : Source) → s.place ≡ place_of x → add_line (1 + length xs) s x ≡ Ok u → IsFront (xs ++ x ∷ [])
   fits x u e h = front_of (xs ++ x ∷ []) u (join xs (x ∷ []) 1 empty s u b (u, e, h, refl))
 
-  pub fitting : (x : Said) → IsFront (xs ++ x ∷ []) → (u : Source) × (s.place ≡ place_of x) × (add (1 + length xs) s x ≡ Ok u)
+  pub fitting : (x : Said) → IsFront (xs ++ x ∷ []) → (u : Source) × (s.place ≡ place_of x) × (add_line (1 + length xs) s x ≡ Ok u)
   fitting x f =
       let r = of_front (xs ++ x ∷ []) f in
       let q = split xs (x ∷ []) 1 empty r.0 r.1 in
       let e : s ≡ q.0 = same_end xs 1 empty s q.0 b q.1 in
       let one = q.2 in
-      (one.0, ap (λ w. w.place) e ∙ one.1, ap (λ w. add (1 + length xs) w x) e ∙ one.2)
+      (one.0, ap (λ w. w.place) e ∙ one.1, ap (λ w. add_line (1 + length xs) w x) e ∙ one.2)
 
   pub stands : (p : Place) → StandsAt xs p → s.place ≡ p
   stands p f = (fitting (BlankAt p) f).1

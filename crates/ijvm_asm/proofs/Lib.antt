@@ -1,6 +1,5 @@
 pub mod Conditions
 pub mod Building
-pub mod Saying
 pub mod Outcome
 pub mod Constants
 pub mod Units
@@ -14,7 +13,6 @@ pub mod Sections
 pub mod Fronts
 pub mod Reasons
 pub mod Opened
-pub mod Misfits
 pub mod Bytes
 pub mod Tokens
 pub mod Costs

@@ -10,10 +10,10 @@ use Rattle.source_names.specs.Places as names
 use Rattle.ijvm_asm.specs.declared.error.AsmError.TheVariants as errors
 use Rattle.ijvm_asm.specs.Said.{BlankAt, Codes, Declares, Defines, Dotted, Heads, place_of, Said}
 use Rattle.ijvm_asm.specs.Source.{Source}
-use Rattle.ijvm_asm.specs.Adding.{add_mark, gather, is_declared, method_by}
+use Rattle.ijvm_asm.specs.Adding.{add_line, add_mark, gather, is_declared, method_by}
 use Rattle.ijvm_asm.specs.ReadingNames.{missing, missing_at}
 use Rattle.ijvm_asm.specs.Refusals.{opened_by, open_lines}
-use Rattle.ijvm_asm.proofs.Building.{add, Build}
+use Rattle.ijvm_asm.proofs.Building.{Build}
 use Rattle.ijvm_asm.proofs.Conditions.{if_ok, ok}
 use Rattle.ijvm_asm.proofs.Mains.{main_ended, main_opened}
 use Rattle.ijvm_asm.proofs.Methods.{begins, ended, opened}
@@ -59,7 +59,7 @@ mark_opens k s u marks.EndLocals at h =
     let w : Source = record s { place = places.Code } in
     by w u (s.section ∷ []) h (placed places.Code w refl) ∙ sym (ap (opened_by k (Dotted marks.EndLocals)) (placed places.Locals s at))
 
-line_opens : (k : ℕ) (s u : Source) (x : Said) → s.place ≡ place_of x → add k s x ≡ Ok u → opened_in u ≡ opened_by k x (opened_in s)
+line_opens : (k : ℕ) (s u : Source) (x : Said) → s.place ≡ place_of x → add_line k s x ≡ Ok u → opened_in u ≡ opened_by k x (opened_in s)
 line_opens k s u (BlankAt p) at h = by s u (opened_in s) h refl
 line_opens k s u (Dotted m) at h = mark_opens k s u m at h
 line_opens k s u (Heads n ps) at h =

@@ -12,11 +12,11 @@ use Rattle.ijvm_asm.specs.declared.error.AsmError.TheVariants as errors
 use Rattle.ijvm_asm.specs.Said.{BlankAt, Codes, Declares, Defines, Dotted, Heads, place_of, Said}
 use Rattle.ijvm_asm.specs.Drafts.{DraftView}
 use Rattle.ijvm_asm.specs.Source.{empty, Source}
-use Rattle.ijvm_asm.specs.Adding.{add_mark, gather, is_declared, method_by, with_unit}
+use Rattle.ijvm_asm.specs.Adding.{add_line, add_mark, gather, is_declared, method_by, with_unit}
 use Rattle.ijvm_asm.specs.Refusals.{IsMisfit, IsReason, names_behind, open_names}
-use Rattle.ijvm_asm.proofs.Building.{add, Build}
+use Rattle.ijvm_asm.proofs.Building.{Build}
 use Rattle.ijvm_asm.proofs.Conditions.{if_ok, ok, ok_if}
-use Rattle.ijvm_asm.proofs.Fronts.{fits, fitting}
+use Rattle.ijvm_asm.proofs.Fronts.{fits, fitting, stands_at}
 use Rattle.ijvm_asm.proofs.Mains.{main_ended, main_opened}
 use Rattle.ijvm_asm.proofs.Methods.{begins, ended, gathered, gathers, opened}
 use Rattle.ijvm_asm.proofs.Units.{after, line_made, with_both, with_local}
@@ -45,7 +45,7 @@ mark_names k s u marks.BeginLocals h =
     (if_ok (not s.may_declare) (errors.BadLine k) (ok (record s { place = places.Locals; inner = k; may_declare = false })) u h).1 refl
 mark_names k s u marks.EndLocals h = names_of (record s { place = places.Code }) u s.unit.names h refl
 
-line_names : (k : ℕ) (s u : Source) (x : Said) → add k s x ≡ Ok u → u.unit.names ≡ names_behind s.unit.names x
+line_names : (k : ℕ) (s u : Source) (x : Said) → add_line k s x ≡ Ok u → u.unit.names ≡ names_behind s.unit.names x
 line_names k s u (BlankAt p) h = names_of s u s.unit.names h refl
 line_names k s u (Dotted m) h = mark_names k s u m h
 line_names k s u (Heads n ps) h =
@@ -82,7 +82,7 @@ with_err : (f : DraftView → Source) (b : Bool) (g e : AsmError) (v : DraftView
 with_err f true g e v h = cc
 with_err f false g e v h = absurd (cc)
 
-code_reason : (k : ℕ) (s : Source) (l : Option (List ℕ)) (i : Option Instruction) (e : AsmError) → add k s (Codes l i) ≡ Err e → e ≡ errors.DuplicateName k
+code_reason : (k : ℕ) (s : Source) (l : Option (List ℕ)) (i : Option Instruction) (e : AsmError) → add_line k s (Codes l i) ≡ Err e → e ≡ errors.DuplicateName k
 code_reason k s None i e h = absurd (cc)
 code_reason k s (Some l) i e h = with_err _ (is_some (names.place_of s.unit.labels l)) (errors.DuplicateName k) e _ h
 
@@ -90,7 +90,7 @@ module _ (xs : List Said) (s : Source) (b : Build 1 empty xs s) where
   abbrev k : ℕ
   k = 1 + length xs
 
-  local_reason : (n : List ℕ) (e : AsmError) → add k s (Declares n) ≡ Err e → IsReason k xs (Declares n) e
+  local_reason : (n : List ℕ) (e : AsmError) → add_line k s (Declares n) ≡ Err e → IsReason k xs (Declares n) e
   local_reason n e h = go (names.place_of s.unit.names n) (nat_le most_names (length s.unit.names)) refl h
     where
       same : s.unit.names ≡ open_names [] xs
@@ -103,7 +103,7 @@ module _ (xs : List Said) (s : Source) (b : Build 1 empty xs s) where
       go None true f h = inr (cc, subst (λ ns. names.place_of ns n ≡ None) same f)
       go None false f h = absurd (cc)
 
-  method_reason : (n : List ℕ) (ps : List (List ℕ)) (e : AsmError) → s.place ≡ places.Outside → add k s (Heads n ps) ≡ Err e → IsReason k xs (Heads n ps) e
+  method_reason : (n : List ℕ) (ps : List (List ℕ)) (e : AsmError) → s.place ≡ places.Outside → add_line k s (Heads n ps) ≡ Err e → IsReason k xs (Heads n ps) e
   method_reason n ps e at h = go (is_declared s n) refl h
     where
       by_list : (o : Option (List (List ℕ))) → is_declared s n ≡ false → gather [] ps ≡ o → method_by k s n o ≡ Err e → IsReason k xs (Heads n ps) e
@@ -118,7 +118,7 @@ module _ (xs : List Said) (s : Source) (b : Build 1 empty xs s) where
       go true f h = inl (cc, inl (λ w. let g = fitting xs s b (Heads n []) w in let i = if_ok (is_declared s n) (errors.DuplicateName k) (ok (opened k s n [])) g.0 g.2 in absurd (let z = i.0 in cc)))
       go false f h = by_list (gather [] ps) f refl h
 
-  reason_is : (x : Said) (e : AsmError) → s.place ≡ place_of x → add k s x ≡ Err e → IsReason k xs x e
+  reason_is : (x : Said) (e : AsmError) → s.place ≡ place_of x → add_line k s x ≡ Err e → IsReason k xs x e
   reason_is (BlankAt p) e at h = absurd (cc)
   reason_is (Dotted m) e at h = mark_reason k s m e h
   reason_is (Heads n ps) e at h = method_reason n ps e at h
@@ -142,12 +142,12 @@ module _ (xs : List Said) (s : Source) (b : Build 1 empty xs s) where
   reason_same (Declares n) e f (inr v) (inl w) = absurd (let z = subst IsSome v.1 w.1 in cc)
   reason_same (Codes l i) e f v w = v ∙ sym w
 
-  pub misfit_is : (x : Said) (e : AsmError) → s.place ≡ place_of x → add k s x ≡ Err e → IsMisfit k xs x e
-  misfit_is x e at h = record { misfit = λ f. let g = fitting xs s b x f in absurd (let z = g.2 in cc); reason = reason_is x e at h }
+  pub misfit_is : (x : Said) (e : AsmError) → s.place ≡ place_of x → add_line k s x ≡ Err e → IsMisfit k xs x e
+  misfit_is x e at h = record { stands = stands_at xs s b (place_of x) at; misfit = λ f. let g = fitting xs s b x f in absurd (let z = g.2 in cc); reason = reason_is x e at h }
 
-  pub misfit_again : (x : Said) (e : AsmError) → s.place ≡ place_of x → IsMisfit k xs x e → add k s x ≡ Err e
-  misfit_again x e at m = go (add k s x) refl
+  pub misfit_again : (x : Said) (e : AsmError) → s.place ≡ place_of x → IsMisfit k xs x e → add_line k s x ≡ Err e
+  misfit_again x e at m = go (add_line k s x) refl
     where
-      go : (r : Result Source AsmError) → add k s x ≡ r → r ≡ Err e
+      go : (r : Result Source AsmError) → add_line k s x ≡ r → r ≡ Err e
       go (Ok u) h = absurd (m.misfit (fits xs s b x u at h))
       go (Err f) h = ap Err (reason_same x f e (reason_is x f at h) m.reason)

@@ -15,8 +15,8 @@ use Rattle.ijvm_asm.specs.Said.{BlankAt, Codes, Declares, Defines, Dotted, Heads
 use Rattle.ijvm_asm.specs.Sections.{Between, Body, body_lines, code_line, CodeItem, constant_line, Constants, lines_of, local_line, Locals, locals_lines, Main, Method, Section}
 use Rattle.ijvm_asm.specs.Drafts.{begun, DraftView}
 use Rattle.ijvm_asm.specs.Source.{Source}
-use Rattle.ijvm_asm.specs.Adding.{add_code, add_constant, add_instruction, add_method, begin_constants, begin_locals, begin_main, end_main, end_method, gather, is_declared, method_by, on_local, with_unit}
-use Rattle.ijvm_asm.proofs.Building.{add, Build}
+use Rattle.ijvm_asm.specs.Adding.{add_code, add_constant, add_instruction, add_line, add_method, begin_constants, begin_locals, begin_main, end_main, end_method, gather, is_declared, method_by, on_local, with_unit}
+use Rattle.ijvm_asm.proofs.Building.{Build}
 use Rattle.ijvm_asm.proofs.Conditions.{if_ok, ok}
 
 -- ---- what is left at each place
@@ -228,7 +228,7 @@ module _ (k : ℕ) (s u : Source) (xs : List Said) (left : RestOf u xs) where
       let v : DraftView = record s.unit { labels = s.unit.labels ++ l ∷ []; label_positions = s.unit.label_positions ++ length s.unit.lines ∷ []; pending = true } in
       by_instruction (Some l) i v refl e (with_label (λ w. record s { unit = add_instruction k w i; may_declare = false }) (is_some (names.place_of s.unit.labels l)) v (errors.DuplicateName k) u h)
 
-  by_mark : (m : Mark) → s.place ≡ place_of (Dotted m) → add k s (Dotted m) ≡ Ok u → RestOf s (Dotted m ∷ xs)
+  by_mark : (m : Mark) → s.place ≡ place_of (Dotted m) → add_line k s (Dotted m) ≡ Ok u → RestOf s (Dotted m ∷ xs)
   by_mark marks.BeginConstants e h = by_constants e h
   by_mark marks.EndConstants e h = by_end_constants e h
   by_mark marks.BeginMain e h = by_main e h
@@ -237,7 +237,7 @@ module _ (k : ℕ) (s u : Source) (xs : List Said) (left : RestOf u xs) where
   by_mark marks.BeginLocals e h = by_locals e h
   by_mark marks.EndLocals e h = by_end_locals e h
 
-  by_line : (x : Said) → s.place ≡ place_of x → add k s x ≡ Ok u → RestOf s (x ∷ xs)
+  by_line : (x : Said) → s.place ≡ place_of x → add_line k s x ≡ Ok u → RestOf s (x ∷ xs)
   by_line (BlankAt p) e h = by_blank p e h
   by_line (Dotted m) e h = by_mark m e h
   by_line (Heads n ps) e h = by_method n ps e h

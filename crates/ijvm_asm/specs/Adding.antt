@@ -1,9 +1,11 @@
 -- What the reader's record becomes by a line, or its refusal. Computes, line by line, what sections declare (`SectionsDeclare`), and which line
--- is refused (`IsRefusedAtLine`).
+-- is refused.
 use Rattle.std.specs.Prelude.{◌≡◌, ◌↔◌, ◌<◌, ◌^◌, ℕ, ◌||◌, Bool, true, false, not, List, [], ◌∷◌, ◌++◌, Option, Some, None, Result, Ok, Err, if◌then◌else◌, is_some, length, nat_le, nat_lt}
 use Rattle.source_text.specs.Content.{contents}
-use Rattle.source_text.specs.Walk.{Leads}
-use Rattle.ijvm_program.specs.Program.{most_names}
+use Rattle.source_text.specs.Parsing as parsing
+use Rattle.source_text.specs.Parsing.{add_said, Parser}
+use Rattle.source_text.specs.Walk.{Leads, Step}
+use Rattle.ijvm_program.specs.Program.{most_names, ProgramView}
 use Rattle.ijvm_tokens.specs.declared.token.Token.{Token}
 use Rattle.ijvm_tokens.specs.Reading.{read}
 use Rattle.ijvm_tokens.specs.Tokens as tokens
@@ -11,18 +13,21 @@ use Rattle.ijvm_line.specs.declared.place.Place.{Place}
 use Rattle.ijvm_line.specs.declared.place.Place.TheVariants as places
 use Rattle.ijvm_line.specs.declared.place.Mark.{Mark}
 use Rattle.ijvm_line.specs.declared.place.Mark.TheVariants as marks
-use Rattle.ijvm_line.specs.declared.line.Line.{Line}
-use Rattle.ijvm_line.specs.declared.line.Line.TheVariants as lines
+use Rattle.ijvm_line.specs.declared.content.Content.{Content}
 use Rattle.ijvm_line.specs.declared.line.LineFault.{LineFault}
 use Rattle.ijvm_line.specs.declared.instruction.Instruction.{Instruction}
 use Rattle.ijvm_line.specs.Lines as spelled
 use Rattle.ijvm_line.specs.Reading.{line_from}
 use Rattle.ijvm_line.specs.Parameters.{parameters}
+use Rattle.ijvm_line.specs.Ranges.{made}
 use Rattle.source_names.specs.Places.{place_of}
 use Rattle.ijvm_asm.specs.declared.error.AsmError.{AsmError}
 use Rattle.ijvm_asm.specs.declared.error.AsmError.TheVariants as errors
 use Rattle.ijvm_asm.specs.Drafts.{begun, DraftView}
-use Rattle.ijvm_asm.specs.Refusals.{at_line}
+use Rattle.ijvm_asm.specs.ReadingNames.{whole_program}
+use Rattle.ijvm_asm.specs.Refusals.{refusals}
+use Rattle.ijvm_asm.specs.Said as says
+use Rattle.ijvm_asm.specs.Said.{BlankAt, Codes, Declares, Defines, Dotted, Heads, Said, said_at}
 use Rattle.ijvm_asm.specs.Source.{empty, Source}
 
 -- ---- units
@@ -112,28 +117,33 @@ add_code k s label instruction = with_unit (λ u. record s { unit = add_instruct
 
 -- ---- lines
 
--- what line `k` adds, which names these parameters where it begins a method
-abbrev pub add_line : ℕ → Source → List (List ℕ) → Line → Result Source AsmError
-add_line k s ps lines.Nothing = Ok s
-add_line k s ps (lines.Mark mark) = add_mark k s mark
-add_line k s ps (lines.Method name) = add_method k s name ps
-add_line k s ps (lines.Constant name value) = add_constant k s name value
-add_line k s ps (lines.Local name) = on_local k s name
-add_line k s ps (lines.Code label instruction) = add_code k s label instruction
+-- what line `k` adds
+abbrev pub add_line : ℕ → Source → Said → Result Source AsmError
+add_line k s (BlankAt place) = Ok s
+add_line k s (Dotted mark) = add_mark k s mark
+add_line k s (Heads name ps) = add_method k s name ps
+add_line k s (Defines name value) = add_constant k s name value
+add_line k s (Declares name) = on_local k s name
+add_line k s (Codes label instruction) = add_code k s label instruction
 
-abbrev pub add_said : ℕ → Source → List (List ℕ) → Result Line LineFault → Result Source AsmError
-add_said k s ps (Ok line) = add_line k s ps line
-add_said k s ps (Err fault) = Err (at_line k fault)
+-- what tokens say at the place of the next line
+abbrev pub said_next : Source → List Token → Result Said LineFault
+said_next s ts = made (said_at s.place (parameters ts)) (line_from s.place ts)
+
+abbrev pub parser : Parser Token LineFault Said ProgramView AsmError Source
+parser = record {
+  tokens = read;
+  said = said_next;
+  Stands = λ s x. s.place ≡ says.place_of x;
+  add = add_line;
+  whole = whole_program;
+}
 
 abbrev pub add_tokens : ℕ → Source → List Token → Result Source AsmError
-add_tokens k s ts = add_said k s (parameters ts) (line_from s.place ts)
+add_tokens k s ts = add_said refusals parser k s (said_next s ts)
 
-abbrev pub add_read : ℕ → Source → Option (List Token) → Result Source AsmError
-add_read k s None = Err (errors.BadToken k)
-add_read k s (Some ts) = add_tokens k s ts
-
-abbrev pub step : ℕ → Source → List ℕ → Result Source AsmError
-step k s line = add_read k s (read line)
+abbrev pub step : Step Source AsmError
+step = parsing.step refusals parser
 
 -- the lines of a text lead to this
 abbrev pub IsRead : Source → Type 0
@@ -142,5 +152,5 @@ IsRead s = (text : List ℕ) × (length text < 2 ^ 32) × Leads step 1 empty (co
 -- a line is read as what it spells, as the crates below say by their laws
 pub record ReadsLines : Type 0 where
   pub tokens_read : (line : List ℕ) (ts : List Token) → (read line ≡ Some ts) ↔ tokens.SpellsTokens line ts
-  pub said : (place : Place) (ts : List Token) (line : Line) → (line_from place ts ≡ Ok line) ↔ spelled.SpellsLine place ts line
+  pub said : (place : Place) (ts : List Token) (content : Content) → (line_from place ts ≡ Ok content) ↔ spelled.SpellsLine place ts content
   pub refused : (place : Place) (ts : List Token) (fault : LineFault) → (line_from place ts ≡ Err fault) ↔ spelled.IsRefused place ts fault

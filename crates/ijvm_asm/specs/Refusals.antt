@@ -1,8 +1,7 @@
--- Which line of a text is refused first, and why: the lines before it are the first lines of some sections, and with this line they are not.
-use Rattle.std.specs.Prelude.{◌≡◌, ◌⊎◌, ℕ, ◌+◌, List, [], ◌∷◌, ◌++◌, length, None, IsSome}
-use Rattle.source_text.specs.Content.{contents}
+-- Why a line is refused behind others: they are the first lines of some sections, and with this line they are not.
+use Rattle.std.specs.Prelude.{◌≡◌, ◌⊎◌, ℕ, ◌+◌, List, [], ◌∷◌, ◌++◌, None, IsSome}
+use Rattle.source_text.specs.Text.{LineRefusals}
 use Rattle.ijvm_tokens.specs.declared.token.Token.{Token}
-use Rattle.ijvm_tokens.specs.Tokens as tokens
 use Rattle.ijvm_line.specs.declared.place.Place.{Place}
 use Rattle.ijvm_line.specs.declared.place.Mark.TheVariants as marks
 use Rattle.ijvm_line.specs.declared.line.LineFault.{LineFault}
@@ -11,7 +10,7 @@ use Rattle.ijvm_line.specs.Lines as lines
 use Rattle.source_names.specs.Places as names
 use Rattle.ijvm_asm.specs.declared.error.AsmError.{AsmError}
 use Rattle.ijvm_asm.specs.declared.error.AsmError.TheVariants as errors
-use Rattle.ijvm_asm.specs.Said.{BlankAt, Codes, Declares, Defines, Dotted, Heads, line_meant, Lists, place_of, Said, SayAll}
+use Rattle.ijvm_asm.specs.Said.{BlankAt, Codes, Declares, Defines, Dotted, Heads, place_of, Said}
 use Rattle.ijvm_asm.specs.Sections.{lines_of, Section}
 use Rattle.ijvm_asm.specs.Units.{AreNew}
 use Rattle.ijvm_asm.specs.Making.{Declarations, nothing, SectionsDeclare}
@@ -84,46 +83,22 @@ IsReason k before (Declares name) e = ((e ≡ errors.DuplicateName k) × IsSome 
     ⊎ ((e ≡ errors.TooManyNames k) × (names.place_of (open_names [] before) name ≡ None))
 IsReason k before (Codes label instruction) e = e ≡ errors.DuplicateName k
 
--- what line `k` says does not fit behind these lines, for this reason
+-- what line `k` says at its place does not fit behind these lines, for this reason
 pub record IsMisfit (k : ℕ) (before : List Said) (x : Said) (e : AsmError) : Type 0 where
+  pub stands : StandsAt before (place_of x)
   pub misfit : IsFront (before ++ x ∷ []) → ⊥
   pub reason : IsReason k before x e
 
--- ---- the first refusal
+-- ---- the refusals of a line for itself
 
 abbrev pub at_line : ℕ → LineFault → AsmError
 at_line k faults.BadLine = errors.BadLine k
 at_line k faults.BadNumber = errors.BadNumber k
 at_line k faults.OutOfRange = errors.OutOfRange k
 
--- the tokens of line `k` have a refusal at its place
-pub record HasFault (k : ℕ) (before : List Said) (ts : List Token) (e : AsmError) : Type 0 where
-  pub place : Place
-  pub stands : StandsAt before place
-  pub fault : LineFault
-  pub has : lines.IsRefused place ts fault
-  pub is : e ≡ at_line k fault
+abbrev pub refusals : LineRefusals LineFault AsmError
+refusals = record { bad_token = errors.BadToken; at_line = at_line }
 
--- they say something at its place which does not fit
-pub record SaysMisfit (k : ℕ) (before : List Said) (ts : List Token) (e : AsmError) : Type 0 where
-  pub said : Said
-  pub stands : StandsAt before (place_of said)
-  pub means : lines.SpellsLine (place_of said) ts (line_meant said)
-  pub lists : Lists ts said
-  pub misfit : IsMisfit k before said e
-
--- line `k` spells no tokens, or its tokens are refused
-abbrev pub IsRefusedBehind : ℕ → List Said → List ℕ → AsmError → Type 0
-IsRefusedBehind k before line e = (((ts : List Token) → tokens.SpellsTokens line ts → ⊥) × (e ≡ errors.BadToken k))
-    ⊎ ((ts : List Token) × tokens.SpellsTokens line ts × (HasFault k before ts e ⊎ SaysMisfit k before ts e))
-
--- a line is refused behind the first lines of some sections
-pub record IsRefusedAtLine (text : List ℕ) (e : AsmError) : Type 0 where
-  pub front : List (List ℕ)
-  pub line : List ℕ
-  pub others : List (List ℕ)
-  pub split : contents text ≡ front ++ line ∷ others
-  pub before : List Said
-  pub say : SayAll front before
-  pub fits : IsFront before
-  pub refused : IsRefusedBehind (1 + length front) before line e
+-- the tokens have this fault at the place behind these lines
+abbrev pub HasFault : List Said → List Token → LineFault → Type 0
+HasFault before ts fault = (place : Place) × StandsAt before place × lines.IsRefused place ts fault

@@ -1,12 +1,11 @@
--- What a line of a source says, and that lines say it.
-use Rattle.std.specs.Prelude.{◌≡◌, ℕ, List, [], ◌∷◌, Option, ⊤}
+-- What a line of a source says, by its tokens.
+use Rattle.std.specs.Prelude.{◌≡◌, ℕ, List, Option, ⊤}
 use Rattle.ijvm_tokens.specs.declared.token.Token.{Token}
-use Rattle.ijvm_tokens.specs.Tokens as tokens
 use Rattle.ijvm_line.specs.declared.place.Place.{Place}
 use Rattle.ijvm_line.specs.declared.place.Place.TheVariants as places
 use Rattle.ijvm_line.specs.declared.place.Mark.{Mark}
-use Rattle.ijvm_line.specs.declared.line.Line.{Line}
-use Rattle.ijvm_line.specs.declared.line.Line.TheVariants as says
+use Rattle.ijvm_line.specs.declared.content.Content.{Content}
+use Rattle.ijvm_line.specs.declared.content.Content.TheVariants as contents
 use Rattle.ijvm_line.specs.declared.instruction.Instruction.{Instruction}
 use Rattle.ijvm_line.specs.Lines as lines
 use Rattle.ijvm_line.specs.Parameters.{parameters}
@@ -35,29 +34,28 @@ place_of (Defines name value) = places.Constants
 place_of (Declares name) = places.Locals
 place_of (Codes label instruction) = places.Code
 
-abbrev pub line_meant : Said → Line
-line_meant (BlankAt place) = says.Nothing
-line_meant (Dotted mark) = says.Mark mark
-line_meant (Heads name ps) = says.Method name
-line_meant (Defines name value) = says.Constant name value
-line_meant (Declares name) = says.Local name
-line_meant (Codes label instruction) = says.Code label instruction
+abbrev pub line_meant : Said → Content
+line_meant (BlankAt place) = contents.Nothing
+line_meant (Dotted mark) = contents.Mark mark
+line_meant (Heads name ps) = contents.Method name
+line_meant (Defines name value) = contents.Constant name value
+line_meant (Declares name) = contents.Local name
+line_meant (Codes label instruction) = contents.Code label instruction
 
 -- the tokens name the parameters, where they begin a method
 abbrev pub Lists : List Token → Said → Type 0
 Lists ts (Heads name ps) = parameters ts ≡ ps
 Lists ts _ = ⊤
 
--- a line says this, by its tokens at its place
-pub record SaysLine (line : List ℕ) (said : Said) : Type 0 where
-  pub sequence : List Token
-  pub spelled : tokens.SpellsTokens line sequence
-  pub means : lines.SpellsLine (place_of said) sequence (line_meant said)
-  pub lists : Lists sequence said
+-- the tokens say this, at its place
+abbrev pub Says : List Token → Said → Type 0
+Says ts said = lines.SpellsLine (place_of said) ts (line_meant said) × Lists ts said
 
--- the lines say these, one each
-abbrev pub SayAll : List (List ℕ) → List Said → Type 0
-SayAll [] [] = ⊤
-SayAll (l ∷ ls) (x ∷ xs) = SaysLine l x × SayAll ls xs
-SayAll [] (x ∷ xs) = ⊥
-SayAll (l ∷ ls) [] = ⊥
+-- what says this at the place, with these parameters where it begins a method
+abbrev pub said_at : Place → List (List ℕ) → Content → Said
+said_at place ps contents.Nothing = BlankAt place
+said_at place ps (contents.Mark mark) = Dotted mark
+said_at place ps (contents.Method name) = Heads name ps
+said_at place ps (contents.Constant name value) = Defines name value
+said_at place ps (contents.Local name) = Declares name
+said_at place ps (contents.Code label instruction) = Codes label instruction

@@ -3,18 +3,27 @@
 ghost use Rattle.std.specs.Prelude.{◌≡◌, ℕ, List};
 ghost use Rattle.ijvm_program.specs.Program.{ProgramView};
 ghost use Rattle.ijvm_asm.specs.declared.error.AsmError.{AsmError};
-ghost use Rattle.ijvm_asm.specs.Adding.{ReadsLines};
-ghost use Rattle.ijvm_asm.specs.Text.{IsRefused, SpellsProgram};
+ghost use Rattle.source_text.specs.Parsing.{IsReadAsSpelled};
+ghost use Rattle.ijvm_asm.specs.Adding.{parser, ReadsLines};
+ghost use Rattle.ijvm_asm.specs.Source.{empty};
+ghost use Rattle.ijvm_asm.specs.Text.{grammar, IsRefused, SpellsProgram};
 
 use crate::source::SourceReader;
-use source_text::lines_lead_one_way;
 
 /// What the laws of the crates below say of one line.
-pub(crate) fn reads_lines()
+fn reads_lines()
     ensures { ReadsLines }
 {
     ijvm_tokens::reads_what_is_spelled();
     ijvm_line::reads_what_is_spelled();
+}
+
+/// A text is read as what it spells.
+pub(crate) fn reads_texts()
+    ensures { IsReadAsSpelled grammar parser empty }
+{
+    reads_lines();
+    source_text::a_text_says_one_thing::<SourceReader>();
 }
 
 /// A text spells at most one program, or else has at most one first refusal, and never both.
@@ -23,6 +32,5 @@ pub fn a_text_says_one_thing()
     ensures one_refusal { (text : List ℕ) (e f : AsmError) → IsRefused text e → IsRefused text f → e ≡ f }
     ensures not_both { (text : List ℕ) (p : ProgramView) (e : AsmError) → SpellsProgram text p → IsRefused text e → ⊥ }
 {
-    reads_lines();
-    lines_lead_one_way::<SourceReader>();
+    reads_texts();
 }

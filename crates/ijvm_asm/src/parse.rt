@@ -5,7 +5,7 @@ ghost use Rattle.ijvm_asm.specs.Drafts.{is_memory};
 ghost use Rattle.ijvm_asm.specs.Text.{IsRefused, SpellsProgram};
 
 use crate::error::AsmError;
-use crate::laws::reads_lines;
+use crate::laws::reads_texts;
 use crate::source::SourceReader;
 use crate::whole::whole_program;
 use ijvm_program::Program;
@@ -19,7 +19,7 @@ pub fn parse_source(alloc: Global, text: &[u8]) -> Result<Program, AsmError>
     ensures ok { IfOk result (SpellsProgram text.now) }
     ensures err { IfErr result (λ e. is_memory e ≡ false → IsRefused text.now e) }
 {
-    reads_lines();
+    reads_texts();
     let mut reader = SourceReader::new(alloc);
     match read_lines(&mut reader, text) {
         Ok(()) => whole_program(&reader),

@@ -7,12 +7,12 @@ ghost use Rattle.ijvm_asm.specs.Refusals.{at_line};
 
 use crate::draft::{Draft, MOST};
 use crate::error::AsmError;
-use crate::laws::reads_lines;
-use ijvm_line::{Instruction, Line, LineFault, Mark, Place, line_from, parameters_of};
+use crate::laws::reads_texts;
+use ijvm_line::{Content, Instruction, LineFault, Mark, Place, line_from, parameters_of};
 use ijvm_tokens::{Token, tokens_of};
 use mic_base::Name;
 use source_names::NameList;
-use source_text::{Reader, TokenError};
+use source_text::{LineLanguage, Reader, TokenError};
 use std::alloc::Global;
 use std::marker::Model;
 use std::mem;
@@ -92,6 +92,7 @@ fn at_line(fault: LineFault, line: u32) -> AsmError
 
 impl SourceReader {
     ghost use Rattle.ijvm_asm.specs.Adding.{add_code, add_constant, add_line, add_mark, add_method, add_tokens, begin_constants, begin_locals, begin_main, end_main, end_method, is_declared, on_local};
+    ghost use Rattle.ijvm_asm.specs.Said.{said_at};
     ghost use Rattle.ijvm_asm.specs.Source.{empty};
     ghost use Rattle.ijvm_line.specs.Reading.{line_from};
     ghost use Rattle.ijvm_line.specs.Parameters.{parameters};
@@ -296,23 +297,23 @@ impl SourceReader {
         }
     }
 
-    fn add(&mut self, number: u32, tokens: &[Token], line: Line) -> Result<(), AsmError>
-        ensures ok { OnOk result (add_line number self.old (parameters tokens.now) line ≡ Ok self.new) }
-        ensures err { IfErr result (λ e. FailsBy e (add_line number self.old (parameters tokens.now) line)) }
+    fn add(&mut self, number: u32, tokens: &[Token], content: Content) -> Result<(), AsmError>
+        ensures ok { OnOk result (add_line number self.old (said_at self.old.place (parameters tokens.now) content) ≡ Ok self.new) }
+        ensures err { IfErr result (λ e. FailsBy e (add_line number self.old (said_at self.old.place (parameters tokens.now) content))) }
         ensures left { IfErr result (λ e. StaysBy e self.old self.new) }
     {
-        match line {
-            Line::Nothing => Ok(()),
-            Line::Mark(mark) => self.add_mark(number, mark),
-            Line::Method(name) => {
+        match content {
+            Content::Nothing => Ok(()),
+            Content::Mark(mark) => self.add_mark(number, mark),
+            Content::Method(name) => {
                 let Ok(parameters) = parameters_of(self.alloc, tokens) else {
                     return Err(AsmError::OutOfMemory);
                 };
                 self.add_method(number, name, &parameters)
             }
-            Line::Constant(name, value) => self.add_constant(number, name, value),
-            Line::Local(name) => self.add_local(number, name),
-            Line::Code(label, instruction) => self.add_code(number, label, instruction),
+            Content::Constant(name, value) => self.add_constant(number, name, value),
+            Content::Local(name) => self.add_local(number, name),
+            Content::Code(label, instruction) => self.add_code(number, label, instruction),
         }
     }
 
@@ -322,7 +323,7 @@ impl SourceReader {
         ensures left { IfErr result (λ e. StaysBy e self.old self.new) }
     {
         match line_from(self.place, tokens) {
-            Ok(line) => self.add(number, tokens, line),
+            Ok(content) => self.add(number, tokens, content),
             Err(fault) => Err(at_line(fault, number)),
         }
     }
@@ -344,11 +345,43 @@ impl Reader for SourceReader {
     ghost is_memory = { is_memory };
 
     fn line(&mut self, number: u32, line: &[u8]) -> Result<(), AsmError> {
-        reads_lines();
+        reads_texts();
         match tokens_of(self.alloc, line) {
             Ok(tokens) => self.read(number, &tokens),
             Err(TokenError::BadToken) => Err(AsmError::BadToken(number)),
             Err(TokenError::OutOfMemory) => Err(AsmError::OutOfMemory),
         }
     }
+}
+
+impl LineLanguage for SourceReader {
+    ghost use Rattle.std.specs.Prelude.{⊤};
+    ghost use Rattle.ijvm_program.specs.Program.{ProgramView};
+    ghost use Rattle.ijvm_tokens.specs.declared.token.Token.{Token};
+    ghost use Rattle.ijvm_line.specs.declared.line.LineFault.{LineFault};
+    ghost use Rattle.ijvm_asm.specs.declared.error.AsmError.{AsmError};
+    ghost use Rattle.ijvm_asm.specs.Said.{Said};
+    ghost use Rattle.ijvm_asm.specs.Source.{empty, Source};
+    ghost use Rattle.ijvm_asm.specs.Adding.{parser};
+    ghost use Rattle.ijvm_asm.specs.Text.{grammar};
+
+    ghost Setting = { ⊤ };
+
+    ghost Token = { Token };
+
+    ghost Fault = { LineFault };
+
+    ghost Content = { Said };
+
+    ghost Program = { ProgramView };
+
+    ghost Refusal = { AsmError };
+
+    ghost State = { Source };
+
+    ghost grammar = { λ _. grammar };
+
+    ghost parser = { parser };
+
+    ghost start = { λ _. empty };
 }

@@ -8,7 +8,7 @@ ghost use Rattle.ijvm_asm.specs.Adding.{IsRead};
 ghost use Rattle.ijvm_asm.specs.Source.{declarations_of};
 
 use crate::error::AsmError;
-use crate::laws::reads_lines;
+use crate::laws::reads_texts;
 use crate::resolve::{unit_of, units_of, unknown_lines, unknown_units};
 use crate::source::SourceReader;
 use ijvm_line::Place;
@@ -59,7 +59,7 @@ pub(crate) fn whole_program(reader: &SourceReader) -> Result<Program, AsmError>
     ensures ok { IfOk result (λ p. whole_program reader.now ≡ Ok p) }
     ensures err { IfErr result (λ e. RefusesBy e (whole_program reader.now)) }
 {
-    reads_lines();
+    reads_texts();
     if let Some(line) = missing(reader) {
         return Err(AsmError::MissingEnd(line));
     }

@@ -4,17 +4,17 @@ use Rattle.std.specs.Prelude.{Result, Ok, Err}
 use Rattle.ijvm_tokens.specs.declared.token.Token.{Token}
 use Rattle.ijvm_line.specs.declared.place.Place.{Place}
 use Rattle.ijvm_line.specs.declared.form.Form.{Form}
-use Rattle.ijvm_line.specs.declared.line.Line.{Line}
+use Rattle.ijvm_line.specs.declared.content.Content.{Content}
 use Rattle.ijvm_line.specs.declared.line.LineFault.{LineFault}
 use Rattle.ijvm_line.specs.declared.line.LineFault.TheVariants as faults
 use Rattle.ijvm_line.specs.Forms.{IsForm}
 use Rattle.ijvm_line.specs.Reading.{form_of, line_from, said_by}
-use Rattle.ijvm_line.specs.Lines.{IsRefused, line_by, SpellsLine}
+use Rattle.ijvm_line.specs.Lines.{IsRefused, content_of, SpellsLine}
 use Rattle.ijvm_line.proofs.Forming.{form_again, form_is}
 use Rattle.ijvm_line.proofs.Ranging.{no_bad_line}
 
 -- what the outcome says
-Says : Place → List Token → Result Line LineFault → Type 0
+Says : Place → List Token → Result Content LineFault → Type 0
 Says p ts (Ok l) = SpellsLine p ts l
 Says p ts (Err e) = IsRefused p ts e
 
@@ -22,17 +22,17 @@ line_says : (p : Place) (ts : List Token) → Says p ts (line_from p ts)
 unfolding Says line_from
 line_says p ts = by_form (form_of p ts) refl
   where
-    by_line : (f : Form) (r : Result Line LineFault) → IsForm p ts f → line_by f ≡ r → Says p ts r
-    by_line f (Ok l) is e = record { form = f; has = is; says = e }
-    by_line f (Err faults.BadLine) is e = absurd (no_bad_line f e)
-    by_line f (Err faults.BadNumber) is e = (f, is, e)
-    by_line f (Err faults.OutOfRange) is e = (f, is, e)
+    by_content : (f : Form) (r : Result Content LineFault) → IsForm p ts f → content_of f ≡ r → Says p ts r
+    by_content f (Ok l) is e = record { form = f; has = is; says = e }
+    by_content f (Err faults.BadLine) is e = absurd (no_bad_line f e)
+    by_content f (Err faults.BadNumber) is e = (f, is, e)
+    by_content f (Err faults.OutOfRange) is e = (f, is, e)
 
     by_form : (o : Option Form) → form_of p ts ≡ o → Says p ts (said_by o)
     by_form None e = λ f is. absurd (let k = form_again p ts f is in cc)
-    by_form (Some f) e = by_line f (line_by f) (form_is p ts f e) refl
+    by_form (Some f) e = by_content f (content_of f) (form_is p ts f e) refl
 
-pub line_spells : (p : Place) (ts : List Token) (l : Line) → line_from p ts ≡ Ok l → SpellsLine p ts l
+pub line_spells : (p : Place) (ts : List Token) (l : Content) → line_from p ts ≡ Ok l → SpellsLine p ts l
 unfolding Says
 line_spells p ts l h = subst (Says p ts) h (line_says p ts)
 
@@ -40,7 +40,7 @@ pub line_refused : (p : Place) (ts : List Token) (e : LineFault) → line_from p
 unfolding Says
 line_refused p ts e h = subst (Says p ts) h (line_says p ts)
 
-pub spells_line : (p : Place) (ts : List Token) (l : Line) → SpellsLine p ts l → line_from p ts ≡ Ok l
+pub spells_line : (p : Place) (ts : List Token) (l : Content) → SpellsLine p ts l → line_from p ts ≡ Ok l
 unfolding line_from
 spells_line p ts l s = ap said_by (form_again p ts s.form s.has) ∙ s.says
 

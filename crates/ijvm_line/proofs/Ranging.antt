@@ -9,7 +9,7 @@ use Rattle.ijvm_line.specs.declared.form.Form.TheVariants as forms
 use Rattle.ijvm_line.specs.declared.line.LineFault.{LineFault}
 use Rattle.ijvm_line.specs.declared.line.LineFault.TheVariants as faults
 use Rattle.ijvm_line.specs.Ranges.{addend, byte, in_range, increment_by, index, instruction_of, made, number, word}
-use Rattle.ijvm_line.specs.Lines.{line_by}
+use Rattle.ijvm_line.specs.Lines.{content_of}
 
 in_fault : {A : Type 0} (o : Option A) → in_range o ≡ Err faults.BadLine → ⊥
 in_fault (Some a) h = cc
@@ -39,7 +39,7 @@ statement_fault (statements.Increment wide (operands.Number v) by) h = increment
 statement_fault (statements.Jump j n) h = cc
 statement_fault (statements.Call n) h = cc
 
-pub no_bad_line : (f : Form) → line_by f ≡ Err faults.BadLine → ⊥
+pub no_bad_line : (f : Form) → content_of f ≡ Err faults.BadLine → ⊥
 no_bad_line forms.Nothing h = cc
 no_bad_line (forms.Mark m) h = cc
 no_bad_line (forms.Method n) h = cc

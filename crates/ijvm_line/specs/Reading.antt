@@ -20,11 +20,11 @@ use Rattle.ijvm_line.specs.declared.statement.Statement.{Statement}
 use Rattle.ijvm_line.specs.declared.statement.Statement.TheVariants as statements
 use Rattle.ijvm_line.specs.declared.form.Form.{Form}
 use Rattle.ijvm_line.specs.declared.form.Form.TheVariants as forms
-use Rattle.ijvm_line.specs.declared.line.Line.{Line}
+use Rattle.ijvm_line.specs.declared.content.Content.{Content}
 use Rattle.ijvm_line.specs.declared.line.LineFault.{LineFault}
 use Rattle.ijvm_line.specs.declared.line.LineFault.TheVariants as faults
 use Rattle.ijvm_line.specs.Mnemonics.{find_kind}
-use Rattle.ijvm_line.specs.Lines.{line_by}
+use Rattle.ijvm_line.specs.Lines.{content_of}
 
 -- ---- a list of parameters
 
@@ -173,9 +173,9 @@ form_of place (tokens.Number value ∷ rest) = None
 
 -- ---- what a line says
 
-abbrev pub said_by : Option Form → Result Line LineFault
+abbrev pub said_by : Option Form → Result Content LineFault
 said_by None = Err faults.BadLine
-said_by (Some form) = line_by form
+said_by (Some form) = content_of form
 
-unfoldable pub line_from : Place → List Token → Result Line LineFault
+unfoldable pub line_from : Place → List Token → Result Content LineFault
 line_from place ts = said_by (form_of place ts)

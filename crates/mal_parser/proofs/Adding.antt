@@ -7,31 +7,20 @@ use Rattle.std.proofs.lemmas.List.{append-nil, map-append}
 use Rattle.std.proofs.lemmas.Bool.Decides.{nat_tests}
 use Rattle.std.proofs.lemmas.List.Folds.{list_any-append}
 use Rattle.std.proofs.lemmas.Bool.{or_from, or_parts}
-use Rattle.source_text.specs.Walk.{Leads}
+use Rattle.source_text.specs.Parsing.{Makes}
 use Rattle.mic_words.specs.declared.machine.Machine.{Machine}
 use Rattle.mal_line.specs.declared.content.Content.{Content}
 use Rattle.mal_line.specs.declared.content.Content.TheVariants as said
 use Rattle.mal_line.specs.declared.content.Parts.{Parts}
-use Rattle.mal_parser.specs.declared.error.MalError.{MalError}
 use Rattle.mal_parser.specs.declared.error.MalError.TheVariants as errors
 use Rattle.mal_parser.specs.declared.source.Draft.{Draft}
 use Rattle.mal_parser.specs.declared.source.Fix.{Fix}
 use Rattle.mal_parser.specs.Labels.{address_of, AreDistinct, has_fix, has_label, has_name, is_among, is_label, labels_of}
-use Rattle.mal_parser.specs.Text.{AreAddresses, fallbacks_from, fixes_from, IsFine, SayAll, statements_from}
-use Rattle.mal_parser.specs.Reading.{add_content, add_fix, add_said, content_at, empty, first, ReadsLines, Sketch, sketch_of, step}
+use Rattle.mal_parser.specs.Text.{AreAddresses, fallbacks_from, fixes_from, IsFine, statements_from}
+use Rattle.mal_parser.specs.Reading.{add_content, add_fix, empty, first, parser, Sketch, sketch_of}
 use Rattle.mal_parser.proofs.Resolved.{same_text, text_same}
-use Rattle.mal_parser.proofs.Saying.{content_says, says_content}
 
 -- ---- adding what the lines say
-
-pub and_then : {A B E : Type 0} → (A → Result B E) → Result A E → Result B E
-and_then f (Ok a) = f a
-and_then f (Err e) = Err e
-
--- what lines from this one on say is added
-pub adds : ℕ → Sketch → List Content → Result Sketch MalError
-adds k s [] = Ok s
-adds k s (c ∷ cs) = and_then (λ t. adds (k + 1) t cs) (add_content k s c)
 
 pub picked : {A E : Type 0} (b : Bool) (x y z : Result A E) → cond b x y ≡ z → ((b ≡ true) × (x ≡ z)) ⊎ ((b ≡ false) × (y ≡ z))
 picked true x y z h = inl (refl, h)
@@ -84,38 +73,6 @@ adds_content k s (said.Fallback parts) u (f, g) = ap (λ b. cond b (Err (errors.
 adds_content k s (said.Statement label parts) u (f, n, g) =
     ap (λ b. cond b (Err (errors.DuplicateLabel k)) (cond (nat_le 512 (length s.statements)) (Err (errors.TooMany k)) (Ok (with_statement k s label parts)))) f
     ∙ (ap (λ b. cond b (Err (errors.TooMany k)) (Ok (with_statement k s label parts))) n ∙ ap Ok g)
-
-keeps_machine : (k : ℕ) (s : Sketch) (c : Content) (u : Sketch) → AddsTo k s c u → u.machine ≡ s.machine
-unfolding AddsTo with_fix with_fallback with_statement
-keeps_machine k s said.Nothing u e = ap (λ (x : Sketch). x.machine) (sym e)
-keeps_machine k s (said.Fix label number) u a = ap (λ (x : Sketch). x.machine) (sym a.3)
-keeps_machine k s (said.Fallback parts) u a = ap (λ (x : Sketch). x.machine) (sym a.1)
-keeps_machine k s (said.Statement label parts) u a = ap (λ (x : Sketch). x.machine) (sym a.2)
-
--- ---- the walk over lines adds what they say
-
-pub leads_adds : ReadsLines → (ls : List (List ℕ)) (k : ℕ) (s t : Sketch) → Leads step k s ls t → (cs : List Content) × SayAll s.machine ls cs × (adds k s cs ≡ Ok t)
-unfolding adds and_then
-leads_adds laws [] k s t e = ([], tt, ap Ok e)
-leads_adds laws (l ∷ ls) k s t (u, h, more) = by_content (content_at s.machine k l) refl h (leads_adds laws ls (k + 1) u t more)
-  where
-    by_content : (r : Result Content MalError) → content_at s.machine k l ≡ r → add_said k s r ≡ Ok u → (cs : List Content) × SayAll u.machine ls cs × (adds (k + 1) u cs ≡ Ok t)
-        → (cs : List Content) × SayAll s.machine (l ∷ ls) cs × (adds k s cs ≡ Ok t)
-    by_content (Err x) e h rest = absurd (cc)
-    by_content (Ok c) e h rest = (c ∷ rest.0, (says_content laws s.machine k l c e, subst (λ m. SayAll m ls rest.0) (keeps_machine k s c u (content_adds k s c u h)) rest.1), ap (and_then (λ t. adds (k + 1) t rest.0)) h ∙ rest.2)
-
-pub adds_leads : ReadsLines → (ls : List (List ℕ)) (cs : List Content) (k : ℕ) (s t : Sketch) → SayAll s.machine ls cs → adds k s cs ≡ Ok t → Leads step k s ls t
-unfolding adds and_then
-adds_leads laws [] [] k s t say h = cc
-adds_leads laws [] (c ∷ cs) k s t say h = absurd say
-adds_leads laws (l ∷ ls) [] k s t say h = absurd say
-adds_leads laws (l ∷ ls) (c ∷ cs) k s t say h = go (add_content k s c) refl h (λ u e. adds_leads laws ls cs (k + 1) u t e)
-  where
-    go : (r : Result Sketch MalError) → add_content k s c ≡ r → and_then (λ t. adds (k + 1) t cs) r ≡ Ok t
-        → ((u : Sketch) → SayAll u.machine ls cs → adds (k + 1) u cs ≡ Ok t → Leads step (k + 1) u ls t) → Leads step k s (l ∷ ls) t
-    go (Err x) e h rec = absurd (cc)
-    go (Ok u) e h rec =
-        (u, ap (add_said k s) (content_says laws s.machine k l c say.0) ∙ e, rec u (subst (λ m. SayAll m ls cs) (sym (keeps_machine k s c u (content_adds k s c u e))) say.1) h)
 
 -- ---- no name stands twice
 
@@ -316,18 +273,12 @@ grows k s (said.Statement label parts) u h (f, n, g) =
     let m = one_more k s label (record { label = label; line = k; parts = parts }) refl h f n in
     subst IsFineAlone g (record { labels = m.0; few = m.1; fixed = h.fixed })
 
-pub adds_fine : (cs : List Content) (k : ℕ) (s t : Sketch) → IsFineAlone s → adds k s cs ≡ Ok t → IsFineFrom s k cs × (joined s k cs ≡ t)
-unfolding adds and_then
-adds_fine [] k s t h e = (alone_fine s k h, joined_none s k ∙ cc)
-adds_fine (c ∷ cs) k s t h e = go (add_content k s c) refl e (λ u g f. adds_fine cs (k + 1) u t g f)
-  where
-    go : (r : Result Sketch MalError) → add_content k s c ≡ r → and_then (λ t. adds (k + 1) t cs) r ≡ Ok t
-        → ((u : Sketch) → IsFineAlone u → adds (k + 1) u cs ≡ Ok t → IsFineFrom u (k + 1) cs × (joined u (k + 1) cs ≡ t)) → IsFineFrom s k (c ∷ cs) × (joined s k (c ∷ cs) ≡ t)
-    go (Err x) a e rec = absurd (cc)
-    go (Ok u) a e rec =
-        let add = content_adds k s c u a in
-        let r = rec u (grows k s c u h add) e in
-        (back k s c u cs add r.0, sym (join_step k s c u cs (steps k s c u cs add)) ∙ r.1)
+pub adds_fine : (cs : List Content) (k : ℕ) (s t : Sketch) → IsFineAlone s → Makes parser k s cs t → IsFineFrom s k cs × (joined s k cs ≡ t)
+adds_fine [] k s t h e = (alone_fine s k h, joined_none s k ∙ e)
+adds_fine (c ∷ cs) k s t h (u, at, e, more) =
+    let add = content_adds k s c u e in
+    let r = adds_fine cs (k + 1) u t (grows k s c u h add) more in
+    (back k s c u cs add r.0, sym (join_step k s c u cs (steps k s c u cs add)) ∙ r.1)
 
 -- ---- fine lines are added
 
@@ -368,26 +319,24 @@ fine_step k s (said.Statement label parts) cs h =
     let r : length s.statements + suc (length (statements_from (k + 1) cs)) ≤ 512 = omega (arith, l, few) in
     (with_statement k s label parts, (free_before s.statements (statements_from (k + 1) cs) new label refl h.labels, not_full (length s.statements) (length (statements_from (k + 1) cs)) r, refl))
 
-pub fine_adds : (cs : List Content) (k : ℕ) (s : Sketch) → IsFineFrom s k cs → adds k s cs ≡ Ok (joined s k cs)
-unfolding adds and_then
-fine_adds [] k s h = ap Ok (sym (joined_none s k))
+pub fine_adds : (cs : List Content) (k : ℕ) (s : Sketch) → IsFineFrom s k cs → Makes parser k s cs (joined s k cs)
+fine_adds [] k s h = sym (joined_none s k)
 fine_adds (c ∷ cs) k s h =
     let u = fine_step k s c cs h in
-    ap (and_then (λ t. adds (k + 1) t cs)) (adds_content k s c u.0 u.1) ∙ (fine_adds cs (k + 1) u.0 (forth k s c u.0 cs u.1 h) ∙ ap Ok (join_step k s c u.0 cs (steps k s c u.0 cs u.1)))
+    (u.0, tt, adds_content k s c u.0 u.1, subst (Makes parser (k + 1) u.0 cs) (join_step k s c u.0 cs (steps k s c u.0 cs u.1)) (fine_adds cs (k + 1) u.0 (forth k s c u.0 cs u.1 h)))
 
 -- ---- from the first line on
 
 empty_alone : (m : Machine) → IsFineAlone (empty m)
 empty_alone m = record { labels = tt; few = omega arith; fixed = tt }
 
-pub lead_fine : ReadsLines → (m : Machine) (ls : List (List ℕ)) (t : Sketch) → Leads step 1 (empty m) ls t → (cs : List Content) × SayAll m ls cs × IsFine cs × (sketch_of m cs ≡ t)
+pub made_fine : (m : Machine) (cs : List Content) (t : Sketch) → Makes parser 1 (empty m) cs t → IsFine cs × (sketch_of m cs ≡ t)
 unfolding joined
-lead_fine laws m ls t h =
-    let a = leads_adds laws ls 1 (empty m) t h in
-    let f = adds_fine a.0 1 (empty m) t (empty_alone m) a.2 in
-    (a.0, a.1, record { labels = f.0.labels; few = f.0.few; addresses = f.0.addresses; fixed = f.0.fixed; one_default = f.0.one_default }, f.1)
+made_fine m cs t h =
+    let f = adds_fine cs 1 (empty m) t (empty_alone m) h in
+    (record { labels = f.0.labels; few = f.0.few; addresses = f.0.addresses; fixed = f.0.fixed; one_default = f.0.one_default }, f.1)
 
-pub fine_leads : ReadsLines → (m : Machine) (ls : List (List ℕ)) (cs : List Content) → SayAll m ls cs → IsFine cs → Leads step 1 (empty m) ls (sketch_of m cs)
+pub fine_made : (m : Machine) (cs : List Content) → IsFine cs → Makes parser 1 (empty m) cs (sketch_of m cs)
 unfolding joined
-fine_leads laws m ls cs say fine =
-    adds_leads laws ls cs 1 (empty m) (sketch_of m cs) say (fine_adds cs 1 (empty m) (record { labels = fine.labels; few = fine.few; addresses = fine.addresses; fixed = fine.fixed; one_default = fine.one_default }))
+fine_made m cs fine =
+    fine_adds cs 1 (empty m) (record { labels = fine.labels; few = fine.few; addresses = fine.addresses; fixed = fine.fixed; one_default = fine.one_default })

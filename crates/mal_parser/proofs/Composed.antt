@@ -5,6 +5,7 @@ use Rattle.std.specs.List.{cons_option, filter_map, list_all}
 use Rattle.std.specs.Str.{bytes_eq}
 use Rattle.std.proofs.lemmas.Bool.Decides.{nat_tests}
 use Rattle.std.proofs.lemmas.Bool.{or_from, or_right}
+use Rattle.source_text.specs.Text.{SayAll}
 use Rattle.mal_line.specs.declared.content.Content.{Content}
 use Rattle.mal_line.specs.declared.next.Next.{Next}
 use Rattle.mal_line.specs.declared.next.Next.TheVariants as nexts
@@ -14,7 +15,7 @@ use Rattle.mal_parser.specs.declared.source.Draft.{Draft}
 use Rattle.mal_parser.specs.declared.source.Fix.{Fix}
 use Rattle.mal_parser.specs.declared.statement.Statement.{Statement}
 use Rattle.mal_parser.specs.Labels.{address_of, AreDistinct, has_label, is_among, is_label, is_labelled, labels_of}
-use Rattle.mal_parser.specs.Text.{AreAddresses, AreResolved, fallbacks, fallbacks_from, fixes, fixes_from, IsFine, IsFixedBy, IsProgramOf, Leads, SayAll, SpellsProgram, statements, statements_from}
+use Rattle.mal_parser.specs.Text.{AreAddresses, AreResolved, fallbacks, fallbacks_from, fixes, fixes_from, grammar, IsFine, IsFixedBy, IsProgramOf, Leads, SpellsProgram, statements, statements_from}
 use Rattle.mal_parser.specs.Reading.{address_at, fixed_of}
 use Rattle.mal_parser.specs.Program.{HasTargets, IsFallback, IsLabelled, IsProgram, label_at, Program}
 use Rattle.mal_parser.specs.ProgramText.{canonical_text, canonical_lines, fix_count, fix_line, on_line, on_lines, relined}
@@ -361,7 +362,7 @@ module _ (p : Program) (h : IsProgram p) where
   pub text_spells : LinesSpell → SpellsProgram p.machine (canonical_text p) (relined p)
   text_spells laws = record {
     content = content_of p;
-    says = subst (λ ls. SayAll p.machine ls (content_of p)) (sym (contents_text (canonical_lines p) (lines_plain laws p h))) (lines_say laws p h);
-    fine = is_fine;
-    makes = makes_it;
+    say = subst (λ ls. SayAll (grammar p.machine) ls (content_of p)) (sym (contents_text (canonical_lines p) (lines_plain laws p h))) (lines_say laws p h);
+    fit = is_fine;
+    program = makes_it;
   }

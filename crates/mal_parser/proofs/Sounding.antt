@@ -4,17 +4,18 @@ use Rattle.std.specs.Prelude.{IfSome, All, nat_lt, option_map, ℤ, pos, negsuc}
 use Rattle.std.specs.List.{cons_option}
 use Rattle.std.proofs.lemmas.Bool.Decides.{nat_tests}
 use Rattle.std.proofs.lemmas.List.Elements.{All-cons, All-nil}
+use Rattle.source_text.specs.Text.{SayAll}
 use Rattle.mic_words.specs.declared.machine.Machine.{Machine}
 use Rattle.mal_line.specs.declared.content.Content.{Content}
 use Rattle.mal_line.specs.declared.content.Content.TheVariants as said
 use Rattle.mal_parser.specs.declared.source.Fix.{Fix}
 use Rattle.mal_parser.specs.Labels.{address_of}
-use Rattle.mal_parser.specs.Text.{fallbacks_from, fixes_from, IsFine, SayAll, statements_from}
+use Rattle.mal_parser.specs.Text.{fallbacks_from, fixes_from, grammar, IsFine, statements_from}
 use Rattle.mal_parser.specs.Reading.{first, IsDraft, IsSound, ReadsLines, sketch_of}
 use Rattle.mal_parser.proofs.Saying.{free_label}
 
 module _ (laws : ReadsLines) (m : Machine) where
-  drafts : (ls : List (List ℕ)) (cs : List Content) (k : ℕ) → SayAll m ls cs → All (IsDraft m) (statements_from k cs)
+  drafts : (ls : List (List ℕ)) (cs : List Content) (k : ℕ) → SayAll (grammar m) ls cs → All (IsDraft m) (statements_from k cs)
   drafts [] [] k say = All-nil (IsDraft m)
   drafts [] (c ∷ cs) k say = absurd say
   drafts (l ∷ ls) [] k say = absurd say
@@ -25,7 +26,7 @@ module _ (laws : ReadsLines) (m : Machine) where
       All-cons (IsDraft m) (record { label = label; line = k; parts = parts }) (statements_from (k + 1) cs)
       (record { part = laws.stands m say.0.sequence (said.Statement label parts) say.0.means; label = free_label m l label parts say.0 }) (drafts ls cs (k + 1) say.1)
 
-  fallback : (ls : List (List ℕ)) (cs : List Content) (k : ℕ) → SayAll m ls cs → IfSome (first (fallbacks_from k cs)) (λ d. IsDraft m d × (d.label ≡ None))
+  fallback : (ls : List (List ℕ)) (cs : List Content) (k : ℕ) → SayAll (grammar m) ls cs → IfSome (first (fallbacks_from k cs)) (λ d. IsDraft m d × (d.label ≡ None))
   fallback [] [] k say = tt
   fallback [] (c ∷ cs) k say = absurd say
   fallback (l ∷ ls) [] k say = absurd say
@@ -54,7 +55,7 @@ addresses (said.Fix label number ∷ cs) k = go (address_of number) refl (addres
 addresses (said.Fallback parts ∷ cs) k = addresses cs (k + 1)
 addresses (said.Statement label parts ∷ cs) k = addresses cs (k + 1)
 
-pub sound : ReadsLines → (m : Machine) (ls : List (List ℕ)) (cs : List Content) → SayAll m ls cs → IsFine cs → IsSound (sketch_of m cs)
+pub sound : ReadsLines → (m : Machine) (ls : List (List ℕ)) (cs : List Content) → SayAll (grammar m) ls cs → IsFine cs → IsSound (sketch_of m cs)
 sound laws m ls cs say fine = record {
   few = fine.few;
   labels = fine.labels;

@@ -2,6 +2,7 @@
 use Rattle.std.proofs.Common.{◌≡◌, ℕ, zero, suc, ◌<◌, true, List, [], ◌∷◌, ◌++◌, Option, Some, None, refl, ap, subst}
 use Rattle.std.specs.Prelude.{IfSome, IsSome, IsTrue, pos, map, slice_get, unwrap_or, option_map, option_and_then, option_to_list}
 use Rattle.std.specs.List.{cons_option, filter_map}
+use Rattle.source_text.specs.Text.{SayAll}
 use Rattle.mic_words.specs.declared.machine.Machine.{Machine}
 use Rattle.micro_word.specs.Words.{is_part}
 use Rattle.mal_tokens.specs.Words.{IsLabelText}
@@ -17,7 +18,7 @@ use Rattle.mal_print.specs.Lines.{IsLineOf}
 use Rattle.mal_parser.specs.declared.statement.Statement.{Statement}
 use Rattle.mal_parser.specs.Program.{HasTargets, IsFallback, IsLabelled, IsProgram, label_at, Program}
 use Rattle.mal_parser.specs.ProgramText.{by_labels, canonical_lines, default_line, fix_line, labelled_line}
-use Rattle.mal_parser.specs.Text.{SayAll}
+use Rattle.mal_parser.specs.Text.{grammar}
 use Rattle.mal_parser.proofs.Printed.{ArePlain, plain_append}
 
 -- ---- what is said
@@ -57,10 +58,10 @@ same_next ss (nexts.Branch test high low) = refl
 
 -- lines that say this and are plain
 record AreSaid (m : Machine) (ls : List (List ℕ)) (cs : List Content) : Type 0 where
-  says : SayAll m ls cs
+  says : SayAll (grammar m) ls cs
   plain : ArePlain ls
 
-says_append : (m : Machine) (ls ms : List (List ℕ)) (cs ds : List Content) → SayAll m ls cs → SayAll m ms ds → SayAll m (ls ++ ms) (cs ++ ds)
+says_append : (m : Machine) (ls ms : List (List ℕ)) (cs ds : List Content) → SayAll (grammar m) ls cs → SayAll (grammar m) ms ds → SayAll (grammar m) (ls ++ ms) (cs ++ ds)
 says_append m [] ms [] ds h g = g
 says_append m [] ms (c ∷ cs) ds h g = absurd h
 says_append m (l ∷ ls) ms [] ds h g = absurd h
@@ -172,7 +173,7 @@ module _ (laws : LinesSpell) (p : Program) (h : IsProgram p) where
       (said_default p.fallback h.fallback)
       (said_statements p.statements e))
 
-  pub lines_say : SayAll p.machine (canonical_lines p) (content_of p)
+  pub lines_say : SayAll (grammar p.machine) (canonical_lines p) (content_of p)
   lines_say = all_said.says
 
   pub lines_plain : ArePlain (canonical_lines p)

@@ -1,8 +1,11 @@
 -- Computes which program a text spells, or its first refusal (`SpellsProgram` and `IsRefused` of `Text`): its lines one after the other, then its labels.
-use Rattle.std.specs.Prelude.{◌≡◌, ◌<◌, ◌≤◌, ◌↔◌, ℕ, ◌-◌, ◌&&◌, Bool, true, false, not, List, [], ◌∷◌, ◌++◌, Option, Some, None, Result, Ok, Err, if◌then◌else◌, nat_le, min, length, map, find, slice_get, is_some, option_map, option_and_then, unwrap_or, codes, All, IsTrue, IfSome}
+use Rattle.std.specs.Prelude.{◌≡◌, ◌<◌, ◌≤◌, ◌↔◌, ℕ, ◌-◌, ◌&&◌, Bool, true, false, not, List, [], ◌∷◌, ◌++◌, Option, Some, None, Result, Ok, Err, if◌then◌else◌, nat_le, min, length, map, find, slice_get, is_some, option_map, option_and_then, unwrap_or, codes, All, IsTrue, IfSome, ⊤}
 use Rattle.std.specs.List.{position}
 use Rattle.std.specs.Str.{bytes_eq}
 use Rattle.mic_words.specs.declared.machine.Machine.{Machine}
+use Rattle.source_text.specs.Parsing as parsing
+use Rattle.source_text.specs.Parsing.{add_said, Parser}
+use Rattle.source_text.specs.Walk.{Step}
 use Rattle.micro_word.specs.Words.{is_part}
 use Rattle.mal_tokens.specs.declared.token.Token.{Token}
 use Rattle.mal_tokens.specs.Reading.{read}
@@ -12,7 +15,6 @@ use Rattle.mal_line.specs.declared.content.Content.{Content}
 use Rattle.mal_line.specs.declared.content.Content.TheVariants as contents
 use Rattle.mal_line.specs.declared.content.Parts.{Parts}
 use Rattle.mal_line.specs.declared.line.LineFault.{LineFault}
-use Rattle.mal_line.specs.declared.line.LineFault.TheVariants as faults
 use Rattle.mal_line.specs.declared.next.Next.{Next}
 use Rattle.mal_line.specs.declared.next.Next.TheVariants as nexts
 use Rattle.mal_line.specs.Lines as lines
@@ -26,7 +28,7 @@ use Rattle.mal_parser.specs.declared.source.Fix.{Fix}
 use Rattle.mal_parser.specs.declared.statement.Statement.{Statement}
 use Rattle.mal_parser.specs.Labels.{address_of, AreDistinct, has_fix, has_label, has_name, is_labelled, labels_of}
 use Rattle.mal_parser.specs.Program.{Program}
-use Rattle.mal_parser.specs.Text.{fallbacks, falls, fixes, is_memory, statements}
+use Rattle.mal_parser.specs.Text.{fallbacks, falls, fixes, is_memory, refusals, statements}
 
 -- a line is read as what it spells, as the crates below say by their laws
 pub record ReadsLines : Type 0 where
@@ -35,7 +37,7 @@ pub record ReadsLines : Type 0 where
   pub refused : (machine : Machine) (ts : List Token) (fault : LineFault) → (line_from machine ts ≡ Err fault) ↔ lines.IsRefused machine ts fault
   pub stands : (machine : Machine) (ts : List Token) (content : Content) → lines.SpellsLine machine ts content → HasPart machine content
 
--- ---- computes what the lines say together (`SayAll` and `IsFine`), or which line is refused (`IsRefusedAtLine`)
+-- ---- computes what the lines say together, or which line is refused
 
 pub record Sketch : Type 0 where
   pub machine : Machine
@@ -66,30 +68,6 @@ add_content k s contents.Nothing = Ok s
 add_content k s (contents.Fix label number) = add_fix k s label (address_of number)
 add_content k s (contents.Fallback parts) = add_fallback k s parts
 add_content k s (contents.Statement label parts) = add_statement k s label parts
-
-abbrev pub at_line : ℕ → LineFault → MalError
-at_line k faults.BadStatement = errors.BadStatement k
-at_line k faults.WrongMachine = errors.WrongMachine k
-at_line k faults.NoSuchOperation = errors.NoSuchOperation k
-
-abbrev pub placed_at : ℕ → Result Content LineFault → Result Content MalError
-placed_at k (Ok content) = Ok content
-placed_at k (Err fault) = Err (at_line k fault)
-
-abbrev pub said_by : Machine → ℕ → Option (List Token) → Result Content MalError
-said_by machine k None = Err (errors.BadToken k)
-said_by machine k (Some ts) = placed_at k (line_from machine ts)
-
--- what line `k` says
-abbrev pub content_at : Machine → ℕ → List ℕ → Result Content MalError
-content_at machine k line = said_by machine k (read line)
-
-abbrev pub add_said : ℕ → Sketch → Result Content MalError → Result Sketch MalError
-add_said k s (Ok content) = add_content k s content
-add_said k s (Err e) = Err e
-
-abbrev pub step : ℕ → Sketch → List ℕ → Result Sketch MalError
-step k s line = add_said k s (content_at s.machine k line)
 
 -- a refusal is the one that is there, unless memory ran out
 abbrev pub FailsBy : {A : Type 0} → MalError → Result A MalError → Type 0
@@ -202,3 +180,20 @@ by_unknown s None = by_falling s (first_falling s)
 -- the program, or the first refusal of the whole source
 unfoldable pub resolved_program : Sketch → Result Program MalError
 resolved_program s = by_unknown s (first_unknown s)
+
+-- ---- how a text is read
+
+abbrev pub parser : Parser Token LineFault Content Program MalError Sketch
+parser = record {
+  tokens = read;
+  said = λ s ts. line_from s.machine ts;
+  Stands = λ _ _. ⊤;
+  add = add_content;
+  whole = resolved_program;
+}
+
+abbrev pub add_tokens : ℕ → Sketch → List Token → Result Sketch MalError
+add_tokens k s ts = add_said refusals parser k s (line_from s.machine ts)
+
+abbrev pub step : Step Sketch MalError
+step = parsing.step refusals parser

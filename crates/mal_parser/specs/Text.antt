@@ -2,9 +2,10 @@
 use Rattle.std.specs.Prelude.{◌≡◌, ◌⊎◌, ◌+◌, ◌≤◌, ◌<◌, ℕ, Bool, true, false, not, ◌&&◌, List, [], ◌∷◌, ◌++◌, Option, Some, None, IsSome, length, map, slice_get, option_map, option_to_list, codes}
 use Rattle.std.specs.List.{cons_option, list_all, list_any}
 use Rattle.mic_words.specs.declared.machine.Machine.{Machine}
-use Rattle.source_text.specs.Content.{contents}
+use Rattle.source_text.specs.Text as text
+use Rattle.source_text.specs.Text.{Grammar, LineRefusals}
 use Rattle.mal_tokens.specs.declared.token.Token.{Token}
-use Rattle.mal_tokens.specs.Tokens as tokens
+use Rattle.mal_tokens.specs.Tokens.{mal}
 use Rattle.mal_line.specs.declared.content.Content.{Content}
 use Rattle.mal_line.specs.declared.content.Content.TheVariants as said
 use Rattle.mal_line.specs.declared.line.LineFault.{LineFault}
@@ -21,18 +22,6 @@ use Rattle.mal_parser.specs.Labels.{address_of, AreDistinct, has_fix, has_label,
 use Rattle.mal_parser.specs.Program.{IsProgram, label_at, Program}
 
 -- ---- what the lines say
-
--- the line spells this on the machine
-pub record SaysLine (machine : Machine) (line : List ℕ) (content : Content) : Type 0 where
-  pub sequence : List Token
-  pub spelled : tokens.SpellsTokens line sequence
-  pub means : lines.SpellsLine machine sequence content
-
--- so does each line, one by one
-abbrev pub SayAll : Machine → List (List ℕ) → List Content → Type 0
-SayAll machine [] [] = Unit {0}
-SayAll machine (line ∷ ls) (content ∷ cs) = SaysLine machine line content × SayAll machine ls cs
-SayAll machine _ _ = ⊥
 
 -- the statements, in order, of lines that are counted from this one on
 abbrev pub statements_from : ℕ → List Content → List Draft
@@ -112,45 +101,24 @@ pub record IsProgramOf (machine : Machine) (cs : List Content) (p : Program) : T
   pub fixes_known : list_all (λ f. has_label (statements cs) f.label) (fixes cs) ≡ true
   pub whole : IsProgram p
 
--- a text spells a program where its lines, one by one, spell the statements, and each name stands for the number of the statement with that label
-pub record SpellsProgram (machine : Machine) (text : List ℕ) (p : Program) : Type 0 where
-  pub content : List Content
-  pub says : SayAll machine (contents text) content
-  pub fine : IsFine content
-  pub makes : IsProgramOf machine content p
-
 -- ---- refusals
 
--- `.label` with an address above 511 or a second time, or a second `.default`
-abbrev pub IsBadFix : List Content → Content → Type 0
-IsBadFix cs (said.Fix label number) = (address_of number ≡ None) ⊎ (has_fix (fixes cs) label ≡ true)
-IsBadFix cs (said.Fallback parts) = 0 < length (fallbacks cs)
-IsBadFix cs _ = ⊥
+-- behind lines that say this, line `k` may not say that: `.label` with an address above 511 or a second time, a second `.default`, a statement with
+-- the label of an earlier one, or the 513th statement
+abbrev pub IsMisfit : ℕ → List Content → Content → MalError → Type 0
+IsMisfit k cs said.Nothing e = ⊥
+IsMisfit k cs (said.Fix label number) e = (e ≡ errors.BadFix k) × ((address_of number ≡ None) ⊎ (has_fix (fixes cs) label ≡ true))
+IsMisfit k cs (said.Fallback parts) e = (e ≡ errors.BadFix k) × (0 < length (fallbacks cs))
+IsMisfit k cs (said.Statement label parts) e = ((e ≡ errors.DuplicateLabel k) × (has_name (statements cs) label ≡ true))
+    ⊎ ((e ≡ errors.TooMany k) × (has_name (statements cs) label ≡ false) × (512 ≤ length (statements cs)))
 
--- a statement with the label of an earlier one
-abbrev pub IsDuplicate : List Content → Content → Type 0
-IsDuplicate cs (said.Statement label parts) = has_name (statements cs) label ≡ true
-IsDuplicate cs _ = ⊥
+abbrev pub at_line : ℕ → LineFault → MalError
+at_line k faults.BadStatement = errors.BadStatement k
+at_line k faults.WrongMachine = errors.WrongMachine k
+at_line k faults.NoSuchOperation = errors.NoSuchOperation k
 
--- the 513th statement
-abbrev pub IsOneTooMany : List Content → Content → Type 0
-IsOneTooMany cs (said.Statement label parts) = (has_name (statements cs) label ≡ false) × (512 ≤ length (statements cs))
-IsOneTooMany cs _ = ⊥
-
--- the tokens of the line have this refusal
-abbrev pub HasFault : Machine → List ℕ → LineFault → Type 0
-HasFault machine line fault = (ts : List Token) × tokens.SpellsTokens line ts × lines.IsRefused machine ts fault
-
--- behind lines that say this, line `k` has the refusal, and none that is looked for before it
-abbrev pub IsRefusedBehind : Machine → List Content → ℕ → List ℕ → MalError → Type 0
-IsRefusedBehind machine cs k line (errors.BadToken n) = (n ≡ k) × ((ts : List Token) → tokens.SpellsTokens line ts → ⊥)
-IsRefusedBehind machine cs k line (errors.BadStatement n) = (n ≡ k) × HasFault machine line faults.BadStatement
-IsRefusedBehind machine cs k line (errors.WrongMachine n) = (n ≡ k) × HasFault machine line faults.WrongMachine
-IsRefusedBehind machine cs k line (errors.NoSuchOperation n) = (n ≡ k) × HasFault machine line faults.NoSuchOperation
-IsRefusedBehind machine cs k line (errors.DuplicateLabel n) = (n ≡ k) × ((c : Content) × SaysLine machine line c × IsDuplicate cs c)
-IsRefusedBehind machine cs k line (errors.BadFix n) = (n ≡ k) × ((c : Content) × SaysLine machine line c × IsBadFix cs c)
-IsRefusedBehind machine cs k line (errors.TooMany n) = (n ≡ k) × ((c : Content) × SaysLine machine line c × IsOneTooMany cs c)
-IsRefusedBehind machine cs k line _ = ⊥
+abbrev pub refusals : LineRefusals LineFault MalError
+refusals = record { bad_token = errors.BadToken; at_line = at_line }
 
 -- of lines that are counted from `k` on, line `n` says what passes the test with what the lines behind it say
 pub record IsAt (test : Content → List Content → Bool) (k : ℕ) (cs : List Content) (n : ℕ) : Type 0 where
@@ -213,27 +181,27 @@ AreRefused cs (errors.LastFalls n) = Never (NamesUnknown cs) × IsFirst (FallsOf
 AreRefused cs errors.NoEntry = Never (NamesUnknown cs) × Never (FallsOff cs) × (has_label (statements cs) (codes "Main1") ≡ false)
 AreRefused cs _ = ⊥
 
--- a line is refused, and none before it is
-pub record IsRefusedAtLine (machine : Machine) (text : List ℕ) (e : MalError) : Type 0 where
-  pub front : List (List ℕ)
-  pub line : List ℕ
-  pub others : List (List ℕ)
-  pub split : contents text ≡ front ++ line ∷ others
-  pub content : List Content
-  pub says : SayAll machine front content
-  pub fine : IsFine content
-  pub refused : IsRefusedBehind machine content (length front + 1) line e
+-- ---- the language
 
--- no line is refused, but all together are
-pub record IsRefusedAtEnd (machine : Machine) (text : List ℕ) (e : MalError) : Type 0 where
-  pub content : List Content
-  pub says : SayAll machine (contents text) content
-  pub fine : IsFine content
-  pub refused : AreRefused content e
+abbrev pub grammar : Machine → Grammar Token LineFault Content Program MalError
+grammar machine = record {
+  lexicon = mal;
+  refusals = refusals;
+  Says = lines.SpellsLine machine;
+  HasFault = λ _ ts fault. lines.IsRefused machine ts fault;
+  IsMisfit = IsMisfit;
+  Fit = IsFine;
+  IsProgramOf = IsProgramOf machine;
+  AreRefused = AreRefused;
+}
+
+-- a text spells a program where its lines, one by one, spell the statements, and each name stands for the number of the statement with that label
+abbrev pub SpellsProgram : Machine → List ℕ → Program → Type 0
+SpellsProgram machine = text.SpellsProgram (grammar machine)
 
 -- the first refusal of a text
 abbrev pub IsRefused : Machine → List ℕ → MalError → Type 0
-IsRefused machine text e = IsRefusedAtLine machine text e ⊎ IsRefusedAtEnd machine text e
+IsRefused machine = text.IsRefused (grammar machine)
 
 -- want of memory, which may come at any time
 abbrev pub is_memory : MalError → Bool

@@ -5,12 +5,12 @@ ghost use Rattle.mic_words.specs.declared.machine.Machine.{Machine};
 ghost use Rattle.mal_parser.specs.declared.error.MalError.{MalError};
 ghost use Rattle.mal_parser.specs.ProgramText.{canonical_text, relined};
 ghost use Rattle.mal_parser.specs.Program.{IsProgram, Program};
-ghost use Rattle.mal_parser.specs.Reading.{ReadsLines};
-ghost use Rattle.mal_parser.specs.Text.{IsRefused, SpellsProgram};
+ghost use Rattle.mal_parser.specs.Reading.{empty, parser, ReadsLines};
+ghost use Rattle.mal_parser.specs.Text.{grammar, IsRefused, SpellsProgram};
+ghost use Rattle.source_text.specs.Parsing.{IsReadAsSpelled};
 
 use crate::source::SourceReader;
 use mal_print::lines_spell_what_is_printed;
-use source_text::{Reader, lines_lead_one_way};
 
 /// What the laws of the crates below say of one line.
 pub(crate) fn reads_lines()
@@ -20,14 +20,21 @@ pub(crate) fn reads_lines()
     mal_line::reads_what_is_spelled();
 }
 
+/// A text is read as what it spells.
+pub(crate) fn reads_texts()
+    ensures { (machine : Machine) → IsReadAsSpelled (grammar machine) parser (empty machine) }
+{
+    reads_lines();
+    source_text::a_text_says_one_thing::<SourceReader>();
+}
+
 /// A text spells at most one program, and not also a refusal, of which it has at most one.
 pub fn reads_what_is_spelled()
     ensures one { (machine : Machine) (text : List ℕ) (p q : Program) → SpellsProgram machine text p → SpellsProgram machine text q → p ≡ q }
     ensures apart { (machine : Machine) (text : List ℕ) (p : Program) (e : MalError) → SpellsProgram machine text p → IsRefused machine text e → ⊥ }
     ensures first { (machine : Machine) (text : List ℕ) (e f : MalError) → IsRefused machine text e → IsRefused machine text f → e ≡ f }
 {
-    reads_lines();
-    lines_lead_one_way::<SourceReader>();
+    reads_texts();
 }
 
 /// The canonical text of a program spells that program, with the lines of that text as its line numbers.

@@ -5,7 +5,7 @@ ghost use Rattle.mal_parser.specs.Program.{Program};
 ghost use Rattle.mal_parser.specs.Text.{IsRefused, is_memory, SpellsProgram};
 
 use crate::error::MalError;
-use crate::laws::{reads_lines, reads_what_is_spelled};
+use crate::laws::{reads_lines, reads_texts};
 use crate::program::MalProgram;
 use crate::resolve::resolved_program;
 use crate::source::SourceReader;
@@ -19,6 +19,7 @@ fn read(alloc: Global, machine: Machine, text: &[u8]) -> Result<MalProgram, MalE
     ensures err { IfErr result (λ e. is_memory e ≡ false → IsRefused machine text.now e) }
 {
     reads_lines();
+    reads_texts();
     let mut reader = SourceReader::new(alloc, machine);
     match read_lines(&mut reader, text) {
         Ok(()) => resolved_program(&reader),
@@ -35,6 +36,6 @@ pub fn parse_mal(alloc: Global, machine: Machine, text: &[u8]) -> Result<MalProg
     ensures spelled { (p : Program) → SpellsProgram machine text.now p → (result ≡ Ok p) ⊎ (result ≡ Err MalError.OutOfMemory) }
     ensures refused { (e : MalError) → IsRefused machine text.now e → (result ≡ Err e) ⊎ (result ≡ Err MalError.OutOfMemory) }
 {
-    reads_what_is_spelled();
+    reads_texts();
     read(alloc, machine, text)
 }

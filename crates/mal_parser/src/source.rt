@@ -1,18 +1,18 @@
 //! The lines of a source, kept as drafts.
 
-ghost use Rattle.std.specs.Prelude.{◌≡◌, ◌<◌, false, Ok, Err, OnOk, OnErr, IfOk, IfErr, is_some};
+ghost use Rattle.std.specs.Prelude.{◌≡◌, ◌<◌, false, Ok, Err, OnOk, OnErr, IfErr, is_some};
 ghost use Rattle.mal_parser.specs.declared.error.MalError.TheVariants.{OutOfMemory};
 ghost use Rattle.mal_parser.specs.Labels.{address_of};
-ghost use Rattle.mal_parser.specs.Reading.{at_line, content_at, FailsBy};
+ghost use Rattle.mal_parser.specs.Text.{at_line};
 
 use crate::drafts::Drafts;
 use crate::error::MalError;
-use crate::laws::reads_lines;
+use crate::laws::{reads_lines, reads_texts};
 use mal_line::{Content, LineFault, Parts, line_from};
-use mal_tokens::tokens_of;
+use mal_tokens::{Token, tokens_of};
 use mic_base::Name;
 use micro_word::Machine;
-use source_text::{Reader, TokenError};
+use source_text::{LineLanguage, Reader, TokenError};
 use std::alloc::Global;
 use std::collections::BTreeSet;
 use std::marker::Model;
@@ -67,7 +67,7 @@ impl Model for SourceReader {
 }
 
 impl SourceReader {
-    ghost use Rattle.mal_parser.specs.Reading.{add_content, add_fallback, add_fix, add_statement, content_at, empty, FailsBy};
+    ghost use Rattle.mal_parser.specs.Reading.{add_content, add_fallback, add_fix, add_statement, add_tokens, empty, FailsBy};
     ghost use Rattle.mal_line.specs.declared.content.Content.{Content};
 
     pub fn new(alloc: Global, machine: Machine) -> SourceReader
@@ -155,6 +155,17 @@ impl SourceReader {
             Content::Statement { label, parts } => self.add_statement(line, label, parts),
         }
     }
+
+    fn read(&mut self, number: u32, tokens: &[Token]) -> Result<(), MalError>
+        ensures ok { OnOk result (add_tokens number self.old tokens.now ≡ Ok self.new) }
+        ensures err { IfErr result (λ e. FailsBy e (add_tokens number self.old tokens.now)) }
+        ensures left { OnErr result (self.new ≡ self.old) }
+    {
+        match line_from(self.machine, tokens) {
+            Ok(content) => self.add(number, content),
+            Err(fault) => Err(at_line(fault, number)),
+        }
+    }
 }
 
 fn at_line(fault: LineFault, line: u32) -> MalError
@@ -164,26 +175,6 @@ fn at_line(fault: LineFault, line: u32) -> MalError
         LineFault::BadStatement => MalError::BadStatement(line),
         LineFault::WrongMachine => MalError::WrongMachine(line),
         LineFault::NoSuchOperation => MalError::NoSuchOperation(line),
-    }
-}
-
-fn content_at(
-    alloc: Global,
-    machine: Machine,
-    number: u32,
-    line: &[u8],
-) -> Result<Content, MalError>
-    ensures ok { IfOk result (λ content. content_at machine number line.now ≡ Ok content) }
-    ensures err { IfErr result (λ e. FailsBy e (content_at machine number line.now)) }
-{
-    reads_lines();
-    match tokens_of(alloc, line) {
-        Ok(tokens) => match line_from(machine, &tokens) {
-            Ok(content) => Ok(content),
-            Err(fault) => Err(at_line(fault, number)),
-        },
-        Err(TokenError::BadToken) => Err(MalError::BadToken(number)),
-        Err(TokenError::OutOfMemory) => Err(MalError::OutOfMemory),
     }
 }
 
@@ -202,9 +193,43 @@ impl Reader for SourceReader {
     ghost is_memory = { is_memory };
 
     fn line(&mut self, number: u32, line: &[u8]) -> Result<(), MalError> {
-        match content_at(self.alloc, self.machine, number, line) {
-            Ok(content) => self.add(number, content),
-            Err(refusal) => Err(refusal),
+        reads_lines();
+        reads_texts();
+        match tokens_of(self.alloc, line) {
+            Ok(tokens) => self.read(number, &tokens),
+            Err(TokenError::BadToken) => Err(MalError::BadToken(number)),
+            Err(TokenError::OutOfMemory) => Err(MalError::OutOfMemory),
         }
     }
+}
+
+impl LineLanguage for SourceReader {
+    ghost use Rattle.mic_words.specs.declared.machine.Machine.{Machine};
+    ghost use Rattle.mal_tokens.specs.declared.token.Token.{Token};
+    ghost use Rattle.mal_line.specs.declared.line.LineFault.{LineFault};
+    ghost use Rattle.mal_line.specs.declared.content.Content.{Content};
+    ghost use Rattle.mal_parser.specs.declared.error.MalError.{MalError};
+    ghost use Rattle.mal_parser.specs.Program.{Program};
+    ghost use Rattle.mal_parser.specs.Reading.{empty, parser, Sketch};
+    ghost use Rattle.mal_parser.specs.Text.{grammar};
+
+    ghost Setting = { Machine };
+
+    ghost Token = { Token };
+
+    ghost Fault = { LineFault };
+
+    ghost Content = { Content };
+
+    ghost Program = { Program };
+
+    ghost Refusal = { MalError };
+
+    ghost State = { Sketch };
+
+    ghost grammar = { grammar };
+
+    ghost parser = { parser };
+
+    ghost start = { empty };
 }

@@ -2,3 +2,4 @@ pub mod Lexing
 pub mod Walking
 pub mod Cutting
 pub mod Comments
+pub mod Texts

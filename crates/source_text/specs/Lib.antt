@@ -2,4 +2,6 @@ pub mod Content
 pub mod Tokens
 pub mod Reading
 pub mod Walk
+pub mod Text
+pub mod Parsing
 pub mod Runs

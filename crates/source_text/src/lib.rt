@@ -1,12 +1,14 @@
-//! Sources of lines: what their lines say, which tokens a line has, and which line is refused first.
+//! Sources of lines: which tokens a line has, what a text says, and which line is refused first.
 #![tactic(auto)]
 
 mod content;
 mod runs;
+mod text;
 mod tokens;
 mod walk;
 
 pub use content::{first_line, without_comment};
 pub use runs::{is_name_byte, name_len};
+pub use text::{LineLanguage, a_text_says_one_thing};
 pub use tokens::{Language, TokenError, reads_what_is_spelled, tokens_of};
-pub use walk::{Reader, lines_lead_one_way, read_lines};
+pub use walk::{Reader, read_lines};

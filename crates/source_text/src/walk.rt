@@ -1,8 +1,8 @@
 //! The lines of a source, one after the other.
 
-ghost use Rattle.std.specs.Prelude.{◌≡◌, ◌<◌, ◌^◌, ℕ, List, length, false, Ok, Err, OnOk, IfErr};
+ghost use Rattle.std.specs.Prelude.{◌≡◌, ◌<◌, ◌^◌, length, false, Ok, Err, OnOk, IfErr};
 ghost use Rattle.source_text.specs.Content.{contents};
-ghost use Rattle.source_text.specs.Walk.{FirstRefused, Leads, StopsAt};
+ghost use Rattle.source_text.specs.Walk.{Leads, StopsAt};
 
 use crate::content::{first_line, without_comment};
 
@@ -50,10 +50,3 @@ pub fn read_lines<R: Reader>(reader: &mut R, text: &[u8]) -> Result<(), R::Refus
     }
     Ok(())
 }
-
-/// Lines lead to one state at most, and not also to a refusal, of which they have one at most.
-pub fn lines_lead_one_way<R: Reader>()
-    ensures one { (k : ℕ) (s t u : R.State) (ls : List (List ℕ)) → Leads R.step k s ls t → Leads R.step k s ls u → t ≡ u }
-    ensures apart { (k : ℕ) (s t : R.State) (ls : List (List ℕ)) (e : R.Refusal) → Leads R.step k s ls t → FirstRefused R.step k s ls e → ⊥ }
-    ensures first { (k : ℕ) (s : R.State) (ls : List (List ℕ)) (e f : R.Refusal) → FirstRefused R.step k s ls e → FirstRefused R.step k s ls f → e ≡ f }
-{}

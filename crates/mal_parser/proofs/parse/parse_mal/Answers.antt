@@ -3,10 +3,8 @@ use Rattle.mal_parser.proofs.parse.parse_mal.Goals as goal
 
 pub returns-clause-spelled : goal.returns-clause-spelled
 returns-clause-spelled c = λ p s.
-    answers_program c.args.machine c.args.text.now c.read.result p (λ q. c.reads_what_is_spelled.ensures.one c.args.machine c.args.text.now p q)
-    (λ e. c.reads_what_is_spelled.ensures.apart c.args.machine c.args.text.now p e) c.read.ensures.ok c.read.ensures.err s
+    answers_program c.args.machine (c.reads_texts.ensures c.args.machine) c.args.text.now c.read.result p c.read.ensures.ok c.read.ensures.err s
 
 pub returns-clause-refused : goal.returns-clause-refused
 returns-clause-refused c = λ e s.
-    answers_refusal c.args.machine c.args.text.now c.read.result e (λ p. c.reads_what_is_spelled.ensures.apart c.args.machine c.args.text.now p e)
-    (λ f. c.reads_what_is_spelled.ensures.first c.args.machine c.args.text.now e f) c.read.ensures.ok c.read.ensures.err s
+    answers_refusal c.args.machine (c.reads_texts.ensures c.args.machine) c.args.text.now c.read.result e c.read.ensures.ok c.read.ensures.err s
