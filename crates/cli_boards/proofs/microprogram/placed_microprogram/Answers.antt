@@ -18,4 +18,4 @@ returns-in-Err-load_micro-clause-err c =
     ((c.in-Err-load_micro.ensures.err c.in-Err-load_micro.error).0 refl) c.place_reason.ensures
 
 pub returns-in-Ok-load_micro-clause-machine : goal.returns-in-Ok-load_micro-clause-machine
-returns-in-Ok-load_micro-clause-machine c = c.in-Ok.ensures.ok.makes.machine_is
+returns-in-Ok-load_micro-clause-machine c = c.in-Ok.ensures.ok.program.machine_is
