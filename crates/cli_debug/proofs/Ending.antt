@@ -22,6 +22,11 @@ told_as : (left : Option (List ℕ)) (P Q : List ℕ → Type 0) → IfSome left
 told_as None P Q p f = tt
 told_as (Some bytes) P Q p f = f bytes p
 
+-- by its start, a session ends at the lines that end it over the program's memory
+same_quits : {M State : Type 0} {state : M → State} {m : Meaning State} {bound : ℕ} {micro : Program} {l : Loaded} {program : VerifiedView} {first : SessionView M} →
+    IsStart state m bound micro l program first → is_quit first.listing.memory ≡ is_quit program.map.stack_end
+same_quits {M = M} start = ap (λ (v : SessionView M). is_quit v.listing.memory) start.begun
+
 module _ {M State : Type 0} {state : M → State} {m : Meaning State} {bound : ℕ} {micro : Program} {l : Loaded} {program : VerifiedView} {input : List ℕ}
     {first : SessionView M} {old : OutsideView} {last : Place (DebuggingView M)} (start : IsStart state m bound micro l program first) where
   -- it was left, or its lines are at their end
@@ -31,12 +36,12 @@ module _ {M State : Type 0} {state : M → State} {m : Meaning State} {bound : �
   left_by _ p q (On lines done quiet told) tells =
       Left l first lines last start done
       (rw tells.console (told_as old.console.left _ _ told
-      (λ bytes t. subst (λ (k : List ℕ → Bool). IsReadOut k most_lines bytes lines last.seen.console.left) (ap is_quit start.begun.memory)
+      (λ bytes t. subst (λ (k : List ℕ → Bool). IsReadOut k most_lines bytes lines last.seen.console.left) (same_quits start)
       (record { whole = sym (t.2.whole ∙ append-nil lines); left_is = t.1 ∙ ap Some (sym t.2.rest_is) }))))
       (rw tells.console quiet) tells
   left_by _ p q (Over lines done quiet told) tells =
       Left l first lines last start done
-      (rw tells.console (told_as old.console.left _ _ told (λ bytes t. subst (λ (k : List ℕ → Bool). IsReadOut k most_lines bytes lines last.seen.console.left) (ap is_quit start.begun.memory) t)))
+      (rw tells.console (told_as old.console.left _ _ told (λ bytes t. subst (λ (k : List ℕ → Bool). IsReadOut k most_lines bytes lines last.seen.console.left) (same_quits start) t)))
       (rw tells.console quiet) tells
   left_by _ p q (ConsoleFailed lines done rose told) tells = absurd (p refl)
   left_by _ p q (SinkFailed lines line mid done quiet told cut) tells = absurd (q refl)
@@ -49,7 +54,7 @@ module _ {M State : Type 0} {state : M → State} {m : Meaning State} {bound : �
   cut_by _ p (Over lines done quiet told) tells = absurd (cc)
   cut_by _ p (ConsoleFailed lines done rose told) tells =
       Cut l first lines last start done
-      (rw tells.console (told_as old.console.left _ _ told (λ bytes t. subst (λ (k : List ℕ → Bool). IsCutIn k most_lines bytes lines last.seen.console.left) (ap is_quit start.begun.memory) t)))
+      (rw tells.console (told_as old.console.left _ _ told (λ bytes t. subst (λ (k : List ℕ → Bool). IsCutIn k most_lines bytes lines last.seen.console.left) (same_quits start) t)))
       (rw tells.console rose) tells
   cut_by _ p (SinkFailed lines line mid done quiet told cut) tells = absurd (cc)
 
@@ -61,5 +66,5 @@ module _ {M State : Type 0} {state : M → State} {m : Meaning State} {bound : �
   stopped_by _ p (ConsoleFailed lines done rose told) is = absurd (cc)
   stopped_by _ p (SinkFailed lines line mid done quiet told cut) is =
       Stopped l first lines line mid start done
-      (told_as old.console.left _ _ told (λ bytes t. subst (λ (k : List ℕ → Bool). IsNext k most_lines bytes lines line) (ap is_quit start.begun.memory) t))
+      (told_as old.console.left _ _ told (λ bytes t. subst (λ (k : List ℕ → Bool). IsNext k most_lines bytes lines line) (same_quits start) t))
       cut quiet is

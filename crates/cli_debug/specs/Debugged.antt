@@ -5,7 +5,8 @@ use Rattle.mic_clock.specs.Meaning.{Meaning}
 use Rattle.verifier_facts.specs.Accepted.{VerifiedView}
 use Rattle.mal_parser.specs.Program.{Program}
 use Rattle.mal_shipped.specs.declared.loaded.Loaded.{Loaded}
-use Rattle.mic_debugger.specs.View.{SessionView}
+use Rattle.mic_debugger.specs.Obeys.{session_at}
+use Rattle.mic_debugger.specs.View.{SessionView, listing_of}
 use Rattle.cli_outside.specs.Status as exits
 use Rattle.cli_outside.specs.Messages.{out_of_memory}
 use Rattle.cli_outside.specs.Outside.{OutsideView, TellsOnErr}
@@ -16,16 +17,6 @@ use Rattle.cli_session.specs.Meaning.{Gone, IsCutShort, Place, place}
 use Rattle.cli_debug.specs.Stand.{is_quit}
 use Rattle.cli_debug.specs.Debugging.{DebuggingView, debugging, debugging_view}
 
--- what a session has before its first line
-pub record IsBegun {M : Type 0} (micro : Program) (l : Loaded) (program : VerifiedView) (bound : ℕ) (v : SessionView M) : Type 0 where
-  pub program_is : v.listing.program ≡ micro
-  pub placement : v.listing.placement ≡ l.placement
-  pub image : v.listing.image ≡ program.image
-  pub memory : v.listing.memory ≡ program.map.stack_end
-  pub bound_is : v.bound ≡ bound
-  pub breaks : v.breaks ≡ []
-  pub watched : v.watched ≡ None
-
 module _ {M State : Type 0} (state : M → State) (m : Meaning State) where
   -- the report of where a session's board stands
   abbrev pub report_in : SessionView M → List ℕ
@@ -34,7 +25,7 @@ module _ {M State : Type 0} (state : M → State) (m : Meaning State) where
   -- a session over an accepted program at its reset, before its first line
   pub record IsStart (bound : ℕ) (micro : Program) (l : Loaded) (program : VerifiedView) (v : SessionView M) : Type 0 where
     pub reset : IsFirstBoard state m micro l program v.board
-    pub begun : IsBegun micro l program bound v
+    pub begun : v ≡ session_at v.board (listing_of micro l.placement program) bound [] None
 
   pub data IsDebugged (bound : ℕ) (micro : Program) (program : VerifiedView) (input : List ℕ) (old new : OutsideView) (status : ℕ) : Type 0 where
     -- memory was wanting before the first line
