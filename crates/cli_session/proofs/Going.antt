@@ -11,7 +11,7 @@ use Rattle.cli_session.specs.declared.line.Read.TheVariants as reads
 use Rattle.cli_session.specs.declared.lines.Step.{Step}
 use Rattle.cli_session.specs.declared.lines.Step.TheVariants as steps
 use Rattle.cli_session.specs.Told.{IsCutLine, IsFirstLine, ReadsLineOf, behind_line, line_in}
-use Rattle.cli_session.specs.Lines.{IsNext, IsReadOn, IsReadOut, MayGoOn, left_after, lines_of}
+use Rattle.cli_session.specs.Lines.{IsReadOn, IsReadOut, MayGoOn, left_after, lines_of}
 use Rattle.cli_session.specs.Meaning.{DoesAll, Gone, IsCutShort, Place, SessionMeaning}
 use Rattle.cli_session.specs.Goes.{ConsoleFailed, Goes, On, Over, SinkFailed, step_behind}
 

@@ -42,7 +42,8 @@ pub record IsPrinted {M State E X : Type 0} (state : M → State) (m : Meaning S
 
 -- what a sink holds is a front of what each run gave that a board showed
 abbrev pub HoldsFront : {M State : Type 0} → (M → State) → Option (List ℕ) → BoardView M → Option (List ℕ) → Type 0
-HoldsFront {State = State} state held board held' = (left : Option (List ℕ)) (r : MicroRun State) → ShowsRun state left held board r → IsFrontOf held' r.world.given
+HoldsFront {State = State} state held board held' =
+    (left : Option (List ℕ)) (r : MicroRun State) → ShowsRun state left held board r → IsFrontOf held' r.world.given
 
 -- A board stands where a run stands. If a failing sink ended the board in its last turn, the board has that end.
 pub record StandsAfter {M State : Type 0} (state : M → State) (board : BoardView M) (r : MicroRun State) : Type 0 where
