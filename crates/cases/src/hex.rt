@@ -1,4 +1,4 @@
-//! Hexadecimal digits.
+//! Two hexadecimal digits for each byte that a case cannot write as text.
 
 ghost use Rattle.std.specs.Prelude.{◌<◌};
 

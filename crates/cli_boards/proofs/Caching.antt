@@ -10,7 +10,7 @@ use Rattle.mic_clock.specs.Meaning.{Meaning}
 use Rattle.mic_clock.specs.View.{BoardView}
 use Rattle.mic_watched.specs.declared.cycle.Cycle.{Cycle}
 use Rattle.verifier_facts.specs.Accepted.{VerifiedView}
-use Rattle.mal_parser.specs.Program.{Program}
+use Rattle.mal_parser.specs.Program.{MalView}
 use Rattle.mal_shipped.specs.declared.loaded.Loaded.{Loaded}
 use Rattle.cli_watchers.specs.Cached.{CacheKept, accesses_of, cache_line, counts_of, kept_of_cycles}
 use Rattle.cli_outside.specs.Outside.{OutsideView, Says, SinkState}
@@ -37,7 +37,7 @@ CountsRuns =
     (machine : Machine) (words : List ℕ) (lines size : ℕ) (cs : List Cycle) → 0 < lines → length cs < 2 ^ 62 →
     (kept_of_cycles machine words lines size cs).tally.counts ≡ counts_of lines size (accesses_of machine words cs)
 
-module _ {M State : Type 0} (state : M → State) (m : Meaning State) (lines bound : ℕ) (micro : Program) (program : VerifiedView) (l : Loaded)
+module _ {M State : Type 0} (state : M → State) (m : Meaning State) (lines bound : ℕ) (micro : MalView) (program : VerifiedView) (l : Loaded)
     (last : BoardView M) (cycles : List Cycle) (end : End) (old new : OutsideView) (through : RunsThrough state m bound micro l program cycles last (Some end) old new)
     (small : bound ≤ 2 ^ 61) (growth : last.counts.cycles ≤ max bound through.first.counts.cycles + 1024) where
   short_run : length cycles < 2 ^ 62

@@ -15,7 +15,7 @@ use Rattle.mic_watched.specs.Cycles.{cycle_between, cycles_of, shown, shown_wher
 use Rattle.mic_watched.specs.Watched.{LeadsOver, ShowsCycles}
 use Rattle.console_port.specs.declared.map.TheConstants.{FRAME}
 use Rattle.verifier_facts.specs.Accepted.{VerifiedView}
-use Rattle.mal_parser.specs.Program.{Program}
+use Rattle.mal_parser.specs.Program.{MalView}
 use Rattle.mal_shipped.specs.declared.loaded.Loaded.{Loaded}
 use Rattle.cli_outside.specs.Outside.{OutsideView}
 use Rattle.mic_image_board.specs.Reset.{IsAtReset}
@@ -158,7 +158,7 @@ module _ {M State : Type 0} (state : M → State) (m : Meaning State) (bound ent
   clocked_to (Some (ends.OutOfMap at)) shows = led_clocked _ (shows.run tt) (λ r here. here.counts)
   clocked_to (Some ends.Adrift) shows = led_clocked _ (shows.run tt) (λ r here. here.counts)
 
-pub clocked_through : {M State : Type 0} (state : M → State) (m : Meaning State) (bound : ℕ) (micro : Program) (l : Loaded) (program : VerifiedView) (cycles : List Cycle) (last : BoardView M)
+pub clocked_through : {M State : Type 0} (state : M → State) (m : Meaning State) (bound : ℕ) (micro : MalView) (l : Loaded) (program : VerifiedView) (cycles : List Cycle) (last : BoardView M)
     (end : Option End) (old new : OutsideView) → RunsThrough state m bound micro l program cycles last end old new → AreClockedAfter 0 cycles × (length cycles ≡ last.counts.cycles)
 clocked_through state m bound micro l program cycles last end old new through =
     clocked_to state m bound l.entry program through.first last old.console.left old.out.held new.console.left new.out.held through.begins.reset cycles end through.shows

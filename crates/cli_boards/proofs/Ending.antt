@@ -3,10 +3,10 @@ use Rattle.std.proofs.Common.{ℕ, List, Option}
 use Rattle.mic_words.specs.declared.machine.Machine.{Machine}
 use Rattle.console_port.specs.declared.map.MemoryMap.{MemoryMap}
 use Rattle.verifier_facts.specs.Accepted.{VerifiedView}
-use Rattle.mal_parser.specs.Program.{Program}
+use Rattle.mal_parser.specs.Program.{MalView}
 use Rattle.cli_outside.specs.Outside.{LentView, OutsideView, Over}
 use Rattle.cli_outside.specs.Work.{IsHad, IsNotHad}
-use Rattle.cli_programs.specs.Program.{IsProgram, IsRefusedProgram}
+use Rattle.cli_programs.specs.Program.{IsAcceptedProgram, IsRefusedProgram}
 use Rattle.cli_boards.specs.Own.{NoneChosen}
 use Rattle.cli_boards.specs.Prepared.{Clocked, EndsPrepared, IsPrepared, IsUnprepared, NoMicroprogram, NoProgram, Unprepared}
 
@@ -14,14 +14,14 @@ module _ {machine : Machine} {map : MemoryMap} {file : List ℕ} {own : Option (
   pub no_program : Over (IsNotHad (IsRefusedProgram map) file) old new status → Over (IsUnprepared machine map file own) old new status
   no_program over = record { names = over.names; does = NoProgram over.does }
 
-  pub no_microprogram : (program : VerifiedView) → IsHad (IsProgram map) file old.seen program → Over (NoneChosen machine own) old new status →
+  pub no_microprogram : (program : VerifiedView) → IsHad (IsAcceptedProgram map) file old.seen program → Over (NoneChosen machine own) old new status →
       Over (IsUnprepared machine map file own) old new status
   no_microprogram program had over = record { names = over.names; does = NoMicroprogram program had over.does }
 
-  module _ {Runs : Program → VerifiedView → OutsideView → OutsideView → ℕ → Type 0} where
+  module _ {Runs : MalView → VerifiedView → OutsideView → OutsideView → ℕ → Type 0} where
     pub unprepared : Over (IsUnprepared machine map file own) old new status → Over (EndsPrepared machine map Runs file own) old new status
     unprepared over = record { names = over.names; does = Unprepared over.does }
 
-    pub clocked : (micro : Program) (program : VerifiedView) → IsPrepared machine map file own old.seen micro program → Over (Runs micro program) old new status →
+    pub clocked : (micro : MalView) (program : VerifiedView) → IsPrepared machine map file own old.seen micro program → Over (Runs micro program) old new status →
         Over (EndsPrepared machine map Runs file own) old new status
     clocked micro program prepared over = record { names = over.names; does = Clocked micro program prepared over.does }

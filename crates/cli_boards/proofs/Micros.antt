@@ -16,7 +16,7 @@ use Rattle.std.specs.Prelude.{Option, None, option_map}
 use Rattle.mal_parser.specs.declared.error.MalError.{MalError}
 use Rattle.mal_parser.specs.declared.error.MalError.TheVariants as mal
 use Rattle.mal_parser.specs.declared.statement.Statement.{Statement}
-use Rattle.mal_parser.specs.Program.{Program}
+use Rattle.mal_parser.specs.Program.{MalView}
 use Rattle.mal_parser.specs.Text.{IsRefused, is_memory}
 use Rattle.store_placement.specs.declared.refusal.PlaceError.{PlaceError}
 use Rattle.store_placement.specs.declared.refusal.PlaceError.TheVariants as place
@@ -48,24 +48,24 @@ no_program machine bytes e refusal refused is = subst (IsRefusal (IsRefusedText 
     by (Some reason) h = NoProgram e (refused (is_refusal e reason (sym h))) h
 
 -- each statement has its demand
-length_fixed : (program : Program) → length (demands_of program).fixed ≡ length program.statements
+length_fixed : (program : MalView) → length (demands_of program).fixed ≡ length program.statements
 unfolding demands_of
 length_fixed program = length-map program.statements (λ (s : Statement). s.fixed)
 
-refused_inside : (program : Program) (e : PlaceError) → placing.Refuses (demands_of program) e → NamesStatements (length (demands_of program).fixed) e
+refused_inside : (program : MalView) (e : PlaceError) → placing.Refuses (demands_of program) e → NamesStatements (length (demands_of program).fixed) e
 refused_inside program (place.PairClash s) h = h.inside
 refused_inside program (place.FixedWrongHalf s) h = h.1.inside
 refused_inside program (place.FixedClash s t) h = (omega (arith, h.2.first.ordered, h.2.first.inside), h.2.first.inside)
 refused_inside program place.NoRoom h = tt
 
 -- the statements that a refusal names are those of the program
-pub names_inside : (program : Program) (e : PlaceError) → placing.Refuses (demands_of program) e → NamesStatements (length program.statements) e
+pub names_inside : (program : MalView) (e : PlaceError) → placing.Refuses (demands_of program) e → NamesStatements (length program.statements) e
 names_inside program e h = let P : ℕ → Type 0 = λ n. NamesStatements n e in subst P (length_fixed program) (refused_inside program e h)
 
 -- each shipped microprogram is its machine's
-pub shipped_machine : (machine : Machine) (p : Program) → p ≡ listed_program machine → p.machine ≡ machine
+pub shipped_machine : (machine : Machine) (p : MalView) → p ≡ listed_program machine → p.machine ≡ machine
 unfolding program1 program2
-shipped_machine machine p e = ap (λ (q : Program). q.machine) e ∙ of_machine machine
+shipped_machine machine p e = ap (λ (q : MalView). q.machine) e ∙ of_machine machine
   where
     of_machine : (machine : Machine) → (listed_program machine).machine ≡ machine
     of_machine Mic1 = refl

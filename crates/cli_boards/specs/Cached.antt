@@ -5,7 +5,7 @@ use Rattle.mic_clock.specs.Meaning.{Meaning}
 use Rattle.mic_clock.specs.View.{BoardView}
 use Rattle.mic_watched.specs.declared.cycle.Cycle.{Cycle}
 use Rattle.verifier_facts.specs.Accepted.{VerifiedView}
-use Rattle.mal_parser.specs.Program.{Program}
+use Rattle.mal_parser.specs.Program.{MalView}
 use Rattle.mal_shipped.specs.declared.loaded.Loaded.{Loaded}
 use Rattle.cli_watchers.specs.Cached.{accesses_of, cache_line, counts_of}
 use Rattle.cli_outside.specs.Status as exits
@@ -16,7 +16,7 @@ use Rattle.cli_boards.specs.Runs.{RunsThrough, report_on}
 
 module _ {M State : Type 0} (state : M → State) (m : Meaning State) where
   -- the run of this microprogram over an accepted program, with a cache of so many lines
-  pub data IsCached (lines bound : ℕ) (micro : Program) (program : VerifiedView) (old new : OutsideView) (status : ℕ) : Type 0 where
+  pub data IsCached (lines bound : ℕ) (micro : MalView) (program : VerifiedView) (old new : OutsideView) (status : ℕ) : Type 0 where
     -- memory was wanting before the first cycle
     NoRoom : TellsOnErr out_of_memory exits.memory old new status → IsCached lines bound micro program old new status
     -- The run came to its end, or the console or `out` failed and cut it: `err` has got its report, and then the hits and the misses among the

@@ -1,7 +1,7 @@
 -- The microprogram that a command clocks: that of a file, or the one that ships; and why there is none.
 use Rattle.std.specs.Prelude.{◌≡◌, ℕ, List, Option, Some, None}
 use Rattle.mic_words.specs.declared.machine.Machine.{Machine}
-use Rattle.mal_parser.specs.Program.{Program}
+use Rattle.mal_parser.specs.Program.{MalView}
 use Rattle.mal_parser.specs.Text.{SpellsProgram}
 use Rattle.cli_outside.specs.Status as exits
 use Rattle.cli_outside.specs.Messages.{out_of_memory}
@@ -11,7 +11,7 @@ use Rattle.mal_shipped.specs.Listing.{listed_program}
 use Rattle.cli_micro.specs.Answers.{IsRefusedText}
 
 -- where a file is named it is that file's, and else the one that ships for the machine
-abbrev pub IsChosenMicroprogram : Machine → Option (List ℕ) → OutsideView → Program → Type 0
+abbrev pub IsChosenMicroprogram : Machine → Option (List ℕ) → OutsideView → MalView → Type 0
 IsChosenMicroprogram machine None o micro = micro ≡ listed_program machine
 IsChosenMicroprogram machine (Some name) o micro = IsHad (SpellsProgram machine) name o micro
 

@@ -5,7 +5,7 @@ use Rattle.mic_clock.specs.Meaning.{Meaning}
 use Rattle.mic_clock.specs.View.{BoardView}
 use Rattle.mic_clock.specs.Board.{IsRun, RunIsCutByRead, RunIsCutByWrite}
 use Rattle.verifier_facts.specs.Accepted.{VerifiedView}
-use Rattle.mal_parser.specs.Program.{Program}
+use Rattle.mal_parser.specs.Program.{MalView}
 use Rattle.mal_shipped.specs.declared.loaded.Loaded.{Loaded}
 use Rattle.cli_outside.specs.Status as exits
 use Rattle.cli_outside.specs.Messages.{out_of_memory}
@@ -14,7 +14,7 @@ use Rattle.cli_run_texts.specs.Ends.{status_of}
 use Rattle.cli_boards.specs.Runs.{IsFirstBoard, IsLeftBy, report_on}
 
 module _ {M State : Type 0} (state : M → State) (m : Meaning State) where
-  pub data IsOwnRun (bound : ℕ) (micro : Program) (program : VerifiedView) (old new : OutsideView) (status : ℕ) : Type 0 where
+  pub data IsOwnRun (bound : ℕ) (micro : MalView) (program : VerifiedView) (old new : OutsideView) (status : ℕ) : Type 0 where
     -- memory was wanting before the first cycle
     NoRoom : TellsOnErr out_of_memory exits.memory old new status → IsOwnRun bound micro program old new status
     -- turns from the reset lead to the end, or a fault cuts them; then nothing waits for `out`

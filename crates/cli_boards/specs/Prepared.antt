@@ -3,27 +3,27 @@ use Rattle.std.specs.Prelude.{ℕ, List, Option}
 use Rattle.mic_words.specs.declared.machine.Machine.{Machine}
 use Rattle.console_port.specs.declared.map.MemoryMap.{MemoryMap}
 use Rattle.verifier_facts.specs.Accepted.{VerifiedView}
-use Rattle.mal_parser.specs.Program.{Program}
+use Rattle.mal_parser.specs.Program.{MalView}
 use Rattle.cli_outside.specs.Outside.{OutsideView}
 use Rattle.cli_outside.specs.Work.{IsHad, IsNotHad}
-use Rattle.cli_programs.specs.Program.{IsProgram, IsRefusedProgram}
+use Rattle.cli_programs.specs.Program.{IsAcceptedProgram, IsRefusedProgram}
 use Rattle.cli_boards.specs.Own.{IsChosenMicroprogram, NoneChosen}
 
 module _ (machine : Machine) (map : MemoryMap) where
   -- both are had
-  pub record IsPrepared (file : List ℕ) (own : Option (List ℕ)) (o : OutsideView) (micro : Program) (program : VerifiedView) : Type 0 where
-    pub had : IsHad (IsProgram map) file o program
+  pub record IsPrepared (file : List ℕ) (own : Option (List ℕ)) (o : OutsideView) (micro : MalView) (program : VerifiedView) : Type 0 where
+    pub had : IsHad (IsAcceptedProgram map) file o program
     pub chosen : IsChosenMicroprogram machine own o micro
 
   -- one is not, and it is told why: the program's file is looked at first, then the microprogram's
   pub data IsUnprepared (file : List ℕ) (own : Option (List ℕ)) (old new : OutsideView) (status : ℕ) : Type 0 where
     NoProgram : IsNotHad (IsRefusedProgram map) file old new status → IsUnprepared file own old new status
-    NoMicroprogram : (program : VerifiedView) → IsHad (IsProgram map) file old program → NoneChosen machine own old new status →
+    NoMicroprogram : (program : VerifiedView) → IsHad (IsAcceptedProgram map) file old program → NoneChosen machine own old new status →
         IsUnprepared file own old new status
 
   -- `Runs micro program old new status` says how the run of the one by the other went.
-  pub data EndsPrepared (Runs : Program → VerifiedView → OutsideView → OutsideView → ℕ → Type 0)
+  pub data EndsPrepared (Runs : MalView → VerifiedView → OutsideView → OutsideView → ℕ → Type 0)
       (file : List ℕ) (own : Option (List ℕ)) (old new : OutsideView) (status : ℕ) : Type 0 where
     Unprepared : IsUnprepared file own old new status → EndsPrepared Runs file own old new status
-    Clocked : (micro : Program) (program : VerifiedView) → IsPrepared file own old micro program → Runs micro program old new status →
+    Clocked : (micro : MalView) (program : VerifiedView) → IsPrepared file own old micro program → Runs micro program old new status →
         EndsPrepared Runs file own old new status

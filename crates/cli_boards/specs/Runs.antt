@@ -7,7 +7,7 @@ use Rattle.mic_clock.specs.Meaning.{Meaning}
 use Rattle.mic_clock.specs.View.{BoardView}
 use Rattle.mic_clock.specs.Board.{HasEndCause}
 use Rattle.verifier_facts.specs.Accepted.{VerifiedView}
-use Rattle.mal_parser.specs.Program.{Program}
+use Rattle.mal_parser.specs.Program.{MalView}
 use Rattle.mal_shipped.specs.declared.loaded.Loaded.{Loaded}
 use Rattle.mal_shipped.specs.Loaded.{IsLoaded}
 use Rattle.mic_watched.specs.declared.cycle.Cycle.{Cycle}
@@ -28,13 +28,13 @@ module _ {M State : Type 0} (state : M → State) (m : Meaning State) where
   report_on end board = report_of end board.counts (m.registers (state board.machine))
 
   -- the board at its reset from which a microprogram runs an accepted program
-  pub record IsFirstBoard (micro : Program) (l : Loaded) (program : VerifiedView) (board : BoardView M) : Type 0 where
+  pub record IsFirstBoard (micro : MalView) (l : Loaded) (program : VerifiedView) (board : BoardView M) : Type 0 where
     pub loaded : IsLoaded micro l
     pub store : board.store ≡ l.store
     pub reset : IsAtReset state m l.entry program board
 
   -- a run from there to this board, that shows these cycles; it has no end where it was stopped
-  pub record RunsThrough (bound : ℕ) (micro : Program) (l : Loaded) (program : VerifiedView) (cycles : List Cycle) (last : BoardView M) (end : Option End)
+  pub record RunsThrough (bound : ℕ) (micro : MalView) (l : Loaded) (program : VerifiedView) (cycles : List Cycle) (last : BoardView M) (end : Option End)
       (old new : OutsideView) : Type 0 where
     pub first : BoardView M
     pub begins : IsFirstBoard micro l program first

@@ -5,7 +5,7 @@ use Rattle.mic_clock.specs.declared.end.End.{End}
 use Rattle.mic_clock.specs.Meaning.{Meaning}
 use Rattle.mic_clock.specs.View.{BoardView}
 use Rattle.verifier_facts.specs.Accepted.{VerifiedView}
-use Rattle.mal_parser.specs.Program.{Program}
+use Rattle.mal_parser.specs.Program.{MalView}
 use Rattle.mal_shipped.specs.declared.loaded.Loaded.{Loaded}
 use Rattle.mic_watched.specs.declared.cycle.Cycle.{Cycle}
 use Rattle.mic_watched.specs.Watched.{PrintsOf}
@@ -21,12 +21,12 @@ abbrev pub AreTraceLines : Traced → List Cycle → List ℕ → Type 0
 AreTraceLines = PrintsOf (λ t c. t) AreLinesOf
 
 -- what is traced of a microprogram at its addresses, over an accepted program
-abbrev pub traced_of : Program → Loaded → VerifiedView → Bool → Traced
+abbrev pub traced_of : MalView → Loaded → VerifiedView → Bool → Traced
 traced_of micro l program buses = record { program = micro; addresses = l.placement; image = program.image; buses = buses }
 
 module _ {M State : Type 0} (state : M → State) (m : Meaning State) where
   -- the run of this microprogram over an accepted program, traced
-  pub data IsTraced (bound : ℕ) (buses : Bool) (micro : Program) (program : VerifiedView) (old new : OutsideView) (status : ℕ) : Type 0 where
+  pub data IsTraced (bound : ℕ) (buses : Bool) (micro : MalView) (program : VerifiedView) (old new : OutsideView) (status : ℕ) : Type 0 where
     -- memory was wanting before the first cycle
     NoRoom : TellsOnErr out_of_memory exits.memory old new status → IsTraced bound buses micro program old new status
     -- the run came to its end, or the console or `out` failed and cut it: `err` has got the lines of its cycles, and its report

@@ -11,9 +11,9 @@ use Rattle.mic_clock.specs.Meaning.{Meaning}
 use Rattle.mic_clock.specs.View.{BoardView}
 use Rattle.ijvm_meaning.specs.declared.run.RunEnd.{RunEnd}
 use Rattle.ijvm_meaning.specs.declared.run.RunEnd.TheVariants as defined
-use Rattle.ijvm_meaning.specs.Step.{Outcome, Goes, Halts, Errs, Limits, Stuck, outcome}
+use Rattle.ijvm_meaning.specs.Step.{StepOutcome, Goes, Halts, Errs, Limits, Stuck, step_outcome}
 use Rattle.ijvm_meaning.specs.Cost.{timing_of}
-use Rattle.ijvm_meaning.specs.Run.{Program, Point, Finish, EndsBy, finish_from, after_test, after_outcome, first_point, point_after}
+use Rattle.ijvm_meaning.specs.Run.{TimedImage, Point, Finish, EndsBy, finish_from, after_test, after_outcome, first_point, point_after}
 use Rattle.ijvm_reference.specs.declared.plain.PlainReport.{PlainReport}
 use Rattle.ijvm_reference.specs.Plain.{Reports, HasRun as HasPlainRun}
 use Rattle.ijvm_reference.specs.Plain as plain
@@ -37,7 +37,7 @@ use Rattle.cli_call.specs.Agree.{Agrees, IsQuiet}
 abbrev OfLimit : Finish → Type 0
 OfLimit f = f.end ≡ defined.StackLimit → f.cycles ≡ f.last.cycles
 
-by_outcome : (p : Program) (bound points : ℕ) (at : Point) (o : Outcome) (f : Finish) →
+by_outcome : (p : TimedImage) (bound points : ℕ) (at : Point) (o : StepOutcome) (f : Finish) →
     ((next : Point) → finish_from p bound points next ≡ Some f → OfLimit f) →
     after_outcome (finish_from p bound points) p at o ≡ Some f → OfLimit f
 by_outcome p bound points at (Goes to) f more e = more (point_after p at to) e
@@ -46,13 +46,13 @@ by_outcome p bound points at Errs f more e = subst OfLimit (same_Some _ f e) (λ
 by_outcome p bound points at (Limits left) f more e = subst OfLimit (same_Some _ f e) (λ q. refl)
 by_outcome p bound points at Stuck f more e = absurd (cc)
 
-by_test : (p : Program) (bound points : ℕ) (at : Point) (t : Bool) (f : Finish) →
+by_test : (p : TimedImage) (bound points : ℕ) (at : Point) (t : Bool) (f : Finish) →
     ((next : Point) → finish_from p bound points next ≡ Some f → OfLimit f) →
     after_test (finish_from p bound points) p at t ≡ Some f → OfLimit f
 by_test p bound points at true f more e = subst OfLimit (same_Some _ f e) (λ q. cc)
-by_test p bound points at false f more e = by_outcome p bound points at (outcome p.image p.stack_end at.state) f more e
+by_test p bound points at false f more e = by_outcome p bound points at (step_outcome p.image p.stack_end at.state) f more e
 
-of_limit : (p : Program) (bound points : ℕ) (at : Point) (f : Finish) → finish_from p bound points at ≡ Some f → OfLimit f
+of_limit : (p : TimedImage) (bound points : ℕ) (at : Point) (f : Finish) → finish_from p bound points at ≡ Some f → OfLimit f
 of_limit p bound zero at f e = absurd (cc)
 of_limit p bound (suc points) at f e = by_test p bound points at (nat_le bound at.cycles) f (λ next. of_limit p bound points next f) e
 
@@ -104,7 +104,7 @@ held_is held one given e is = subst (λ (h : Option (List ℕ)). IfSome h (λ x.
 
 -- a run has one end
 abbrev pub OneEnd : Type 0
-OneEnd = (p : Program) (n : ℕ) (from : Point) (f g : Finish) → EndsBy p n from f → EndsBy p n from g → f ≡ g
+OneEnd = (p : TimedImage) (n : ℕ) (from : Point) (f g : Finish) → EndsBy p n from f → EndsBy p n from g → f ≡ g
 
 module _ {M S : Type 0} (state : M → S) (m : Meaning S) (IsReady : ℕ → List ℕ → ℕ → S → Type 0) (IsShipped : List ℕ → Type 0) (entry : ℕ) where
   module _ (program : VerifiedView) (bound : ℕ) (input : List ℕ) (old ran told : OutsideView) (status status' : ℕ) where

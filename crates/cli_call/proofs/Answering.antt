@@ -23,7 +23,7 @@ use Rattle.ijvm_meaning.specs.Cost.{Timing, timing_of}
 use Rattle.verifier_facts.specs.Accepted.{VerifiedView, IsAccepted}
 use Rattle.ijvm_simulation.specs.Simulates.{board_end}
 use Rattle.ijvm_simulation.specs.Starts.{EndsAsDefined}
-use Rattle.mal_parser.specs.Program.{Program}
+use Rattle.mal_parser.specs.Program.{MalView}
 use Rattle.ijvm_reference.specs.declared.plain.PlainReport.{PlainReport}
 use Rattle.ijvm_reference.specs.Plain as plain
 use Rattle.mal_shipped.specs.declared.loaded.Loaded.{Loaded}
@@ -113,11 +113,11 @@ pub record IsListed : Type 0 where
 
 -- where the microprogram that ships is clocked, no run ends so
 module _ {M S : Type 0} (state : M → S) (m : Meaning S) (machine : Machine) (listed : IsListed) (timing : Timing) (law : EndsAsDefined state m (HasShipped machine) 0x002 timing) where
-  pub shipped_stays : (micro : Program) (program : VerifiedView) (bound : ℕ) (left held left' held' : Option (List ℕ)) (l : Loaded) (first last : BoardView M) (cycles : List Cycle) (end : End) →
+  pub shipped_stays : (micro : MalView) (program : VerifiedView) (bound : ℕ) (left held left' held' : Option (List ℕ)) (l : Loaded) (first last : BoardView M) (cycles : List Cycle) (end : End) →
       micro ≡ listed_program machine → IsFirstBoard state m micro l program first → ShowsCycles state m bound left held first left' held' last cycles (Some end) →
       (end ≢ ends.WriteFault → last.end ≡ Some end) → IsStray end → ⊥
   shipped_stays micro program bound left held left' held' l first last cycles end ships start shows ended stray =
-      let loaded : IsLoaded (listed_program machine) l = subst (λ (p : Program). IsLoaded p l) ships start.loaded in
+      let loaded : IsLoaded (listed_program machine) l = subst (λ (p : MalView). IsLoaded p l) ships start.loaded in
       let has : HasShipped machine first.store.words = subst (λ store. HasShipped machine store.words) (sym start.store) (listed.words machine l loaded) in
       let so = law program bound left held left' held' first last has
       (subst (λ (entry : ℕ). IsAtReset state m entry program first) (listed.entry machine l loaded) start.reset)
@@ -137,7 +137,7 @@ profiles_own : (file : List ℕ) (machine : Machine) (bound : ℕ) (map : Memory
 profiles_own file machine bound map own name is = rw is tt
 
 -- a run ends out of the map or adrift only by a microprogram of one's own
-abbrev pub Stays : Option Asked → OutsideView → OutsideView → {M S : Type 0} → (M → S) → Meaning S → ℕ → Program → VerifiedView → Type 0
+abbrev pub Stays : Option Asked → OutsideView → OutsideView → {M S : Type 0} → (M → S) → Meaning S → ℕ → MalView → VerifiedView → Type 0
 Stays asks old new {M} {S} state m bound micro program =
     (l : Loaded) (last : BoardView M) (cycles : List Cycle) (end : End) → RunsThrough state m bound micro l program cycles last (Some end) old new → IsStray end → RunsOwn asks
 
@@ -259,13 +259,13 @@ module _ (asks : Option Asked) (old new : OutsideView) (status : ℕ) where
   unprepared machine map file own reads owns (preparing.NoProgram h) = not_had _ file reads h
   unprepared machine map file own reads owns (preparing.NoMicroprogram program had h) = none_chosen machine own owns h
 
-  prepared : (machine : Machine) (map : MemoryMap) (Ran : Program → VerifiedView → OutsideView → OutsideView → ℕ → Type 0) (file : List ℕ) (own : Option (List ℕ)) →
+  prepared : (machine : Machine) (map : MemoryMap) (Ran : MalView → VerifiedView → OutsideView → OutsideView → ℕ → Type 0) (file : List ℕ) (own : Option (List ℕ)) →
       HasFileRead asks file → ((one : List ℕ) → own ≡ Some one → HasFileRead asks one) → EndsPrepared machine map Ran file own old new status →
-      ((micro : Program) (program : VerifiedView) → IsAccepted program → IsChosenMicroprogram machine own old micro → Ran micro program old new status → Answer) → Answer
+      ((micro : MalView) (program : VerifiedView) → IsAccepted program → IsChosenMicroprogram machine own old micro → Ran micro program old new status → Answer) → Answer
   prepared machine map Ran file own reads owns (preparing.Unprepared h) ran = unprepared machine map file own reads owns h
   prepared machine map Ran file own reads owns (preparing.Clocked micro program both h) ran = ran micro program both.had.is.accepted both.chosen h
 
-  module _ {M S : Type 0} (state : M → S) (m : Meaning S) (runs : Runs asks) (bound : ℕ) (micro : Program) (program : VerifiedView) where
+  module _ {M S : Type 0} (state : M → S) (m : Meaning S) (runs : Runs asks) (bound : ℕ) (micro : MalView) (program : VerifiedView) where
     ran_own : RunsOwn asks → IsOwnRun state m bound micro program old new status → Answer
     ran_own owns (own_run.NoRoom h) = short h
     ran_own owns (own_run.Ran l first last end start ended kept run read write left says) = on_err_well _ _ says (run_end end runs (λ stray. owns) left.cause left.files)
@@ -295,7 +295,7 @@ module _ (asks : Option Asked) (old new : OutsideView) (status : ℕ) where
   with_input Debugs name reads (inputs.NoInput h) debugs = no_input name reads h
   with_input Debugs name reads (inputs.HasInput input is h) debugs = debugs input h
 
-  debugged : {M S : Type 0} (state : M → S) (m : Meaning S) (bound : ℕ) (micro : Program) (program : VerifiedView) (input : List ℕ) →
+  debugged : {M S : Type 0} (state : M → S) (m : Meaning S) (bound : ℕ) (micro : MalView) (program : VerifiedView) (input : List ℕ) →
       IsDebugged state m bound micro program input old new status → Answer
   debugged state m bound micro program input (debugging.NoRoom h) = short h
   debugged state m bound micro program input (debugging.Left l first lines last start gone all same h) =
@@ -324,7 +324,7 @@ module _ (asks : Option Asked) (old new : OutsideView) (status : ℕ) where
   went state m first last _ (lines_of.SinkFailed lines line mid gone same left cut) is =
       SinkFailed (either_of mid.seen.out.faults old.out.faults mid.seen.err.faults old.err.faults new.out.faults new.err.faults gone.out gone.err cut.rose) is
 
-  rewound : {M S : Type 0} (state : M → S) (m : Meaning S) (depth : ℕ) (micro : Program) (program : VerifiedView) (input : List ℕ) →
+  rewound : {M S : Type 0} (state : M → S) (m : Meaning S) (depth : ℕ) (micro : MalView) (program : VerifiedView) (input : List ℕ) →
       IsRewound state m depth micro program input old new status → Answer
   rewound state m depth micro program input (rewound_by.NoRoom h) = short h
   rewound state m depth micro program input (rewound_by.Went l first last step start is goes left) = went state m first last step goes left
@@ -357,7 +357,7 @@ module _ (listed : IsListed) (old new : OutsideView) (status : ℕ) where
   module _ {M S : Type 0} (state : M → S) (m : Meaning S) (IsReady : ℕ → List ℕ → ℕ → S → Type 0) (IsShipped : List ℕ → Type 0) (entry : ℕ) (timing : Timing)
       (law : EndsAsDefined state m (HasShipped m.machine) 0x002 timing) where
     -- Without a file of its own, a trace or a profile clocks the microprogram that ships.
-    stays : (asks : Option Asked) (bound : ℕ) (own : Option (List ℕ)) (micro : Program) (program : VerifiedView) → IsAccepted program → IsChosenMicroprogram m.machine own old micro →
+    stays : (asks : Option Asked) (bound : ℕ) (own : Option (List ℕ)) (micro : MalView) (program : VerifiedView) → IsAccepted program → IsChosenMicroprogram m.machine own old micro →
         ((name : List ℕ) → own ≡ Some name → RunsOwn asks) → Stays asks old new state m bound micro program
     stays asks bound None micro program accepted chosen owns =
         λ l last cycles end run stray.

@@ -10,11 +10,11 @@ use Rattle.ijvm_instr.specs.Instructions.{instr_at, word_of}
 use Rattle.ijvm_image.specs.declared.method.Method.{Method}
 use Rattle.ijvm_image.specs.Image.{ImageView, method_at}
 use Rattle.ijvm_meaning.specs.Frames.{Frame, State, base, frames_of}
-use Rattle.ijvm_meaning.specs.Step.{Outcome, Goes, Halts, Errs, Limits, Stuck, moved, limited, pushed_constant, loaded, stored, with_local, is_own, increased, popped, doubled, swapped, combined, branched, compared, returned, in_method, entered, called_at, taken, given_out, step, step_if_any, outcome}
-use Rattle.ijvm_meaning.specs.Run.{Program, Point, Finish, EndsBy, finish_from, after_test, after_outcome, point_after}
+use Rattle.ijvm_meaning.specs.Step.{StepOutcome, Goes, Halts, Errs, Limits, Stuck, moved, limited, pushed_constant, loaded, stored, with_local, is_own, increased, popped, doubled, swapped, combined, branched, compared, returned, in_method, entered, called_at, taken, given_out, step, step_if_any, step_outcome}
+use Rattle.ijvm_meaning.specs.Run.{TimedImage, Point, Finish, EndsBy, finish_from, after_test, after_outcome, point_after}
 
 -- where the stack's end was met, as much was given as before
-abbrev Keeps : List ℕ → Outcome → Type 0
+abbrev Keeps : List ℕ → StepOutcome → Type 0
 Keeps given (Goes to) = Unit {0}
 Keeps given Halts = Unit {0}
 Keeps given Errs = Unit {0}
@@ -132,7 +132,7 @@ keeps_by : (image : ImageView) (n : ℕ) (s : State) (i : Option Instr) → Keep
 keeps_by image n s None = tt
 keeps_by image n s (Some i) = step_keeps image n i s
 
-keeps : (image : ImageView) (n : ℕ) (s : State) → Keeps s.given (outcome image n s)
+keeps : (image : ImageView) (n : ℕ) (s : State) → Keeps s.given (step_outcome image n s)
 keeps image n s = keeps_by image n s (instr_at image.text s.at)
 
 -- ---- along a run
@@ -140,7 +140,7 @@ keeps image n s = keeps_by image n s (instr_at image.text s.at)
 abbrev Kept : Finish → Type 0
 Kept f = f.left.given ≡ f.last.state.given
 
-by_outcome : (p : Program) (bound points : ℕ) (at : Point) (o : Outcome) (f : Finish) →
+by_outcome : (p : TimedImage) (bound points : ℕ) (at : Point) (o : StepOutcome) (f : Finish) →
     ((next : Point) → finish_from p bound points next ≡ Some f → Kept f) → Keeps at.state.given o →
     after_outcome (finish_from p bound points) p at o ≡ Some f → Kept f
 by_outcome p bound points at (Goes to) f more keeps e = more (point_after p at to) e
@@ -149,15 +149,15 @@ by_outcome p bound points at Errs f more keeps e = subst Kept (same_Some _ f e) 
 by_outcome p bound points at (Limits left) f more keeps e = subst Kept (same_Some _ f e) keeps
 by_outcome p bound points at Stuck f more keeps e = absurd (cc)
 
-by_test : (p : Program) (bound points : ℕ) (at : Point) (t : Bool) (f : Finish) →
+by_test : (p : TimedImage) (bound points : ℕ) (at : Point) (t : Bool) (f : Finish) →
     ((next : Point) → finish_from p bound points next ≡ Some f → Kept f) →
     after_test (finish_from p bound points) p at t ≡ Some f → Kept f
 by_test p bound points at true f more e = subst Kept (same_Some _ f e) refl
-by_test p bound points at false f more e = by_outcome p bound points at (outcome p.image p.stack_end at.state) f more (keeps p.image p.stack_end at.state) e
+by_test p bound points at false f more e = by_outcome p bound points at (step_outcome p.image p.stack_end at.state) f more (keeps p.image p.stack_end at.state) e
 
-kept_from : (p : Program) (bound points : ℕ) (at : Point) (f : Finish) → finish_from p bound points at ≡ Some f → Kept f
+kept_from : (p : TimedImage) (bound points : ℕ) (at : Point) (f : Finish) → finish_from p bound points at ≡ Some f → Kept f
 kept_from p bound zero at f e = absurd (cc)
 kept_from p bound (suc points) at f e = by_test p bound points at (nat_le bound at.cycles) f (λ next. kept_from p bound points next f) e
 
-pub given_at_last : (p : Program) (bound : ℕ) (at : Point) (f : Finish) → EndsBy p bound at f → f.left.given ≡ f.last.state.given
+pub given_at_last : (p : TimedImage) (bound : ℕ) (at : Point) (f : Finish) → EndsBy p bound at f → f.left.given ≡ f.last.state.given
 given_at_last p bound at f ends = kept_from p bound ends.0 at f ends.1

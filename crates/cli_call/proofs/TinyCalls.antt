@@ -12,7 +12,7 @@ use Rattle.mal_shipped.specs.Shipped.{HasShipped}
 use Rattle.ijvm_meaning.specs.declared.run.RunEnd.{RunEnd}
 use Rattle.ijvm_meaning.specs.declared.run.RunEnd.TheVariants as defined
 use Rattle.ijvm_meaning.specs.Cost.{Timing, timing_of}
-use Rattle.ijvm_meaning.specs.Run.{Program as Runs, Point, Finish, EndsBy, Passes, first_point}
+use Rattle.ijvm_meaning.specs.Run.{TimedImage, Point, Finish, EndsBy, Passes, first_point}
 use Rattle.verifier_facts.specs.Accepted.{VerifiedView}
 use Rattle.ijvm_simulation.specs.Simulates.{board_end}
 use Rattle.tiny_tree.specs.Tree.{Program}
@@ -43,10 +43,10 @@ same_text told contents name text bytes tells has other =
 -- ---- the runs of a program
 
 abbrev LastIsPassed : Type 0
-LastIsPassed = (p : Runs) (bound : ℕ) (from : Point) (f : Finish) → EndsBy p bound from f → Passes p bound from f.last
+LastIsPassed = (p : TimedImage) (bound : ℕ) (from : Point) (f : Finish) → EndsBy p bound from f → Passes p bound from f.last
 
 module _ (program : Program) (v : VerifiedView) (timing : Timing) (input : List ℕ) where
-  abbrev runs : Runs
+  abbrev runs : TimedImage
   runs = runs_of v.image v.map.stack_end timing
 
   abbrev EndsSo : ℕ → Finish → Type 0

@@ -4,7 +4,7 @@ use Rattle.std.proofs.lemmas.Option.{same_Some}
 use Rattle.mic_base.specs.Files.{Contents, Tells, file_in, most_bytes}
 use Rattle.cli_outside.specs.Status as exits
 use Rattle.cli_outside.specs.Outside.{OutsideView}
-use Rattle.cli_outside.specs.Work.{Did, Ends, IsHad, IsNotHad, IsRead, IsUnread, NotHad}
+use Rattle.cli_outside.specs.Work.{Did, Ends, IsHad, IsNotHad, IsFileRead, IsUnread, NotHad}
 use Rattle.cli_outside.specs.Work as work
 use Rattle.cli_call.specs.Agree.{BothRan, CallsAgree, IsQuiet, NoneHad}
 use Rattle.cli_call.proofs.Agreeing.{said}
@@ -19,7 +19,7 @@ same_bytes told contents name a b tells one other =
 module _ {V : Type 0} (Refuses : List ℕ → List ℕ → Type 0) (Is : List ℕ → V → Type 0) (file : List ℕ) (old : OutsideView) where
   -- the file is refused; it is too long; it holds a value, over which this was done
   abbrev pub IsRefusal : ℕ → Type 0
-  IsRefusal status = (bytes reason : List ℕ) × IsRead file bytes old × Refuses bytes reason × (status ≡ exits.refused)
+  IsRefusal status = (bytes reason : List ℕ) × IsFileRead file bytes old × Refuses bytes reason × (status ≡ exits.refused)
 
   abbrev pub IsLong : ℕ → Type 0
   IsLong status = (bytes : List ℕ) × Tells old.files.contents file bytes × (most_bytes < length bytes) × (status ≡ exits.too_long)
@@ -43,13 +43,13 @@ module _ {V : Type 0} (Refuses : List ℕ → List ℕ → Type 0) (Is : List �
     outcome (Did value had does) = inr (inr (value, had, does))
 
   module _ (contents : Contents) (tells : old.files.contents ≡ Some contents) where
-    not_long : (bytes long : List ℕ) → IsRead file bytes old → Tells old.files.contents file long → most_bytes < length long → ⊥
+    not_long : (bytes long : List ℕ) → IsFileRead file bytes old → Tells old.files.contents file long → most_bytes < length long → ⊥
     not_long bytes long read has above =
         let short : length long ≤ most_bytes = subst (λ (b : List ℕ). length b ≤ most_bytes) (same_bytes old.files.contents contents file bytes long tells read.has has) read.short in
         absurd (omega (arith, short, above))
 
     module _ (one_value : (bytes : List ℕ) (p q : V) → Is bytes p → Is bytes q → p ≡ q) (not_both : (bytes reason : List ℕ) (p : V) → Is bytes p → Refuses bytes reason → ⊥) where
-      not_refused : (bytes reason : List ℕ) (value : V) → IsRead file bytes old → Refuses bytes reason → IsHad Is file old value → ⊥
+      not_refused : (bytes reason : List ℕ) (value : V) → IsFileRead file bytes old → Refuses bytes reason → IsHad Is file old value → ⊥
       not_refused bytes reason value read refuses had =
           not_both had.bytes reason value had.is
           (subst (λ (b : List ℕ). Refuses b reason) (same_bytes old.files.contents contents file bytes had.bytes tells read.has had.read.has) refuses)

@@ -5,7 +5,7 @@ use Rattle.mic_base.specs.Files.{Tells, most_bytes}
 use Rattle.cli_words.specs.Words.{Asked, Assemble, ListOf, Verify, Run, RunPipeline, RunOwn, Trace, Profile, Debug, Reference, Micro, PrintMicro, Soak, Cache, Rewind, Compile, Tiny}
 use Rattle.cli_outside.specs.Status as exits
 use Rattle.cli_outside.specs.Outside.{OutsideView}
-use Rattle.cli_outside.specs.Work.{IsRead}
+use Rattle.cli_outside.specs.Work.{IsFileRead}
 
 -- the words have this file read
 abbrev pub HasFileRead : Option Asked → List ℕ → Type 0
@@ -79,7 +79,8 @@ pub data IsAnswer (asks : Option Asked) (old new : OutsideView) (status : ℕ) :
   -- 64
   Misused : asks ≡ None → IsOnlyTold old new → status ≡ exits.usage → IsAnswer asks old new status
   -- 65: a file that the words have read has these bytes, and is refused for a reason
-  Refused : (name bytes : List ℕ) → HasFileRead asks name → IsRead name bytes old → IsOnlyTold old new → status ≡ exits.refused → IsAnswer asks old new status
+  Refused : (name bytes : List ℕ) → HasFileRead asks name → IsFileRead name bytes old → IsOnlyTold old new → status ≡ exits.refused →
+      IsAnswer asks old new status
   -- 66
   FileFailed : Rose old.files.faults new.files.faults → IsUntouched old new → status ≡ exits.file → IsAnswer asks old new status
   -- 67

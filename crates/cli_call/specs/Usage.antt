@@ -1,4 +1,4 @@
--- How `mic` is called.
+-- The text that answers a faulty command line, byte by byte.
 use Rattle.std.specs.Prelude.{ℕ, List, ◌++◌, codes}
 
 -- the text that a faulty command line is answered with

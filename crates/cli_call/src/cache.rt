@@ -1,4 +1,4 @@
-//! `cache`, on Mic-1.
+//! `mic cache`: a program runs on Mic-1 with a data cache.
 
 ghost use Rattle.std.specs.Prelude.{◌≤◌, Some};
 ghost use Rattle.console_port.specs.Map.{IsMap};

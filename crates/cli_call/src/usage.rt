@@ -1,4 +1,4 @@
-//! How `mic` is called.
+//! Prints the usage text where the command line is faulty.
 
 ghost use Rattle.cli_call.specs.Usage.{usage_text};
 ghost use Rattle.cli_outside.specs.Status as exits;

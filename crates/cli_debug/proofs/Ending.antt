@@ -4,7 +4,7 @@ use Rattle.std.specs.Prelude.{IfSome}
 use Rattle.std.proofs.lemmas.List.{append-nil}
 use Rattle.mic_clock.specs.Meaning.{Meaning}
 use Rattle.verifier_facts.specs.Accepted.{VerifiedView}
-use Rattle.mal_parser.specs.Program.{Program}
+use Rattle.mal_parser.specs.Program.{MalView}
 use Rattle.mal_shipped.specs.declared.loaded.Loaded.{Loaded}
 use Rattle.mic_debugger.specs.View.{SessionView}
 use Rattle.cli_outside.specs.Status as exits
@@ -23,11 +23,11 @@ told_as None P Q p f = tt
 told_as (Some bytes) P Q p f = f bytes p
 
 -- by its start, a session ends at the lines that end it over the program's memory
-same_quits : {M State : Type 0} {state : M → State} {m : Meaning State} {bound : ℕ} {micro : Program} {l : Loaded} {program : VerifiedView} {first : SessionView M} →
+same_quits : {M State : Type 0} {state : M → State} {m : Meaning State} {bound : ℕ} {micro : MalView} {l : Loaded} {program : VerifiedView} {first : SessionView M} →
     IsStart state m bound micro l program first → is_quit first.listing.memory ≡ is_quit program.map.stack_end
 same_quits {M = M} start = ap (λ (v : SessionView M). is_quit v.listing.memory) start.begun
 
-module _ {M State : Type 0} {state : M → State} {m : Meaning State} {bound : ℕ} {micro : Program} {l : Loaded} {program : VerifiedView} {input : List ℕ}
+module _ {M State : Type 0} {state : M → State} {m : Meaning State} {bound : ℕ} {micro : MalView} {l : Loaded} {program : VerifiedView} {input : List ℕ}
     {first : SessionView M} {old : OutsideView} {last : Place (DebuggingView M)} (start : IsStart state m bound micro l program first) where
   -- it was left, or its lines are at their end
   pub left_by : {new : OutsideView} {status : ℕ} (step : Step) → step ≢ steps.ConsoleFailed → step ≢ steps.SinkFailed →

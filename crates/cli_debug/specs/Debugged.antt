@@ -3,7 +3,7 @@ use Rattle.std.specs.Prelude.{◌≡◌, ℕ, List, [], None, IfSome}
 use Rattle.mic_base.specs.Causes.{Rose}
 use Rattle.mic_clock.specs.Meaning.{Meaning}
 use Rattle.verifier_facts.specs.Accepted.{VerifiedView}
-use Rattle.mal_parser.specs.Program.{Program}
+use Rattle.mal_parser.specs.Program.{MalView}
 use Rattle.mal_shipped.specs.declared.loaded.Loaded.{Loaded}
 use Rattle.mic_debugger.specs.Obeys.{session_at}
 use Rattle.mic_debugger.specs.View.{SessionView, listing_of}
@@ -23,11 +23,11 @@ module _ {M State : Type 0} (state : M → State) (m : Meaning State) where
   report_in v = left_report v.board.end v.board.counts (m.registers (state v.board.machine))
 
   -- a session over an accepted program at its reset, before its first line
-  pub record IsStart (bound : ℕ) (micro : Program) (l : Loaded) (program : VerifiedView) (v : SessionView M) : Type 0 where
+  pub record IsStart (bound : ℕ) (micro : MalView) (l : Loaded) (program : VerifiedView) (v : SessionView M) : Type 0 where
     pub reset : IsFirstBoard state m micro l program v.board
     pub begun : v ≡ session_at v.board (listing_of micro l.placement program) bound [] None
 
-  pub data IsDebugged (bound : ℕ) (micro : Program) (program : VerifiedView) (input : List ℕ) (old new : OutsideView) (status : ℕ) : Type 0 where
+  pub data IsDebugged (bound : ℕ) (micro : MalView) (program : VerifiedView) (input : List ℕ) (old new : OutsideView) (status : ℕ) : Type 0 where
     -- memory was wanting before the first line
     NoRoom : TellsOnErr out_of_memory exits.memory old new status → IsDebugged bound micro program input old new status
     -- the lines of the console were done, none after them was asked for, and then it was reported where the session stands

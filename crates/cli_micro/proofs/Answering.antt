@@ -8,7 +8,7 @@ use Rattle.cli_outside.specs.Ways.{by_reason}
 use Rattle.mal_parser.specs.declared.error.MalError.{MalError}
 use Rattle.mal_parser.specs.declared.error.MalError.TheVariants as mal
 use Rattle.mal_parser.specs.declared.statement.Statement.{Statement}
-use Rattle.mal_parser.specs.Program.{Program}
+use Rattle.mal_parser.specs.Program.{MalView}
 use Rattle.mal_parser.specs.Text.{is_memory, IsRefused}
 use Rattle.store_placement.specs.declared.refusal.PlaceError.{PlaceError}
 use Rattle.store_placement.specs.declared.refusal.PlaceError.TheVariants as place
@@ -38,26 +38,26 @@ is_refusal mal.NoEntry reason h = refl
 is_refusal mal.OutOfMemory reason h = cc
 
 -- each statement has its demand
-pub length_fixed : (program : Program) → length (demands_of program).fixed ≡ length program.statements
+pub length_fixed : (program : MalView) → length (demands_of program).fixed ≡ length program.statements
 unfolding demands_of
 length_fixed program = length-map program.statements (λ (s : Statement). s.fixed)
 
-refused_inside : (program : Program) (e : PlaceError) → placing.Refuses (demands_of program) e → NamesStatements (length (demands_of program).fixed) e
+refused_inside : (program : MalView) (e : PlaceError) → placing.Refuses (demands_of program) e → NamesStatements (length (demands_of program).fixed) e
 refused_inside program (place.PairClash s) h = h.inside
 refused_inside program (place.FixedWrongHalf s) h = h.1.inside
 refused_inside program (place.FixedClash s t) h = (omega (arith, h.2.first.ordered, h.2.first.inside), h.2.first.inside)
 refused_inside program place.NoRoom h = tt
 
 -- the statements that a refusal names are those of the program
-pub names_inside : (program : Program) (e : PlaceError) → placing.Refuses (demands_of program) e → NamesStatements (length program.statements) e
+pub names_inside : (program : MalView) (e : PlaceError) → placing.Refuses (demands_of program) e → NamesStatements (length program.statements) e
 names_inside program e h = let P : ℕ → Type 0 = λ n. NamesStatements n e in subst P (length_fixed program) (refused_inside program e h)
 
 -- the same, where the constraints are the program's
-pub refused_by : (program : Program) (constraints : Demands) (e : PlaceError) → constraints ≡ demands_of program → placing.Refuses constraints e →
+pub refused_by : (program : MalView) (constraints : Demands) (e : PlaceError) → constraints ≡ demands_of program → placing.Refuses constraints e →
     placing.Refuses (demands_of program) e
 refused_by program constraints e same h = let P : Demands → Type 0 = λ d. placing.Refuses d e in subst P same h
 
-pub chosen_by : (program : Program) (constraints : Demands) (addresses : List ℕ) → constraints ≡ demands_of program → IsChosenList constraints addresses →
+pub chosen_by : (program : MalView) (constraints : Demands) (addresses : List ℕ) → constraints ≡ demands_of program → IsChosenList constraints addresses →
     IsChosenList (demands_of program) addresses
 chosen_by program constraints addresses same h = let P : Demands → Type 0 = λ d. IsChosenList d addresses in subst P same h
 

@@ -6,7 +6,7 @@ use Rattle.cli_outside.specs.Status as exits
 use Rattle.cli_outside.specs.Outside.{OutsideView, PrintsOnOut}
 use Rattle.cli_outside.specs.Work.{Ends, WritesThenPrints}
 use Rattle.mal_parser.specs.declared.error.MalError.{MalError}
-use Rattle.mal_parser.specs.Program.{Program}
+use Rattle.mal_parser.specs.Program.{MalView}
 use Rattle.mal_parser.specs.Text.{IsRefused, SpellsProgram}
 use Rattle.mal_parser.specs.ProgramText.{canonical_text}
 use Rattle.store_placement.specs.declared.refusal.PlaceError.{PlaceError}
@@ -19,7 +19,7 @@ use Rattle.cli_micro.specs.Reasons.{mal_reason, place_reason, store_reason}
 use Rattle.cli_micro.specs.Texts.{listing, placement_text}
 
 -- the control store of a program at these addresses
-pub record IsStoreOf (program : Program) (addresses : List ℕ) (s : ControlStore) : Type 0 where
+pub record IsStoreOf (program : MalView) (addresses : List ℕ) (s : ControlStore) : Type 0 where
   pub machine : s.machine ≡ program.machine
   pub store : IsStore s
   pub filled : IsFilled program addresses s.words
@@ -27,12 +27,12 @@ pub record IsStoreOf (program : Program) (addresses : List ℕ) (s : ControlStor
 -- the text spells no microprogram, or one that has no placement, for this reason
 pub data IsRefusedText (machine : Machine) (bytes reason : List ℕ) : Type 0 where
   NoProgram : (e : MalError) → IsRefused machine bytes e → mal_reason e ≡ Some reason → IsRefusedText machine bytes reason
-  NoPlacement : (program : Program) (e : PlaceError) → SpellsProgram machine bytes program → placing.Refuses (demands_of program) e →
+  NoPlacement : (program : MalView) (e : PlaceError) → SpellsProgram machine bytes program → placing.Refuses (demands_of program) e →
       reason ≡ place_reason program.statements e → IsRefusedText machine bytes reason
 
 -- a microprogram, its addresses and its control store
 pub record Placed : Type 0 where
-  pub program : Program
+  pub program : MalView
   pub addresses : List ℕ
   pub store : ControlStore
 
@@ -62,7 +62,7 @@ MicroAnswers machine target =
 -- text of a microprogram for this one, which is printed in canonical form
 pub data IsPrinted (machine : Machine) (bytes text : List ℕ) : Type 0 where
   OfStoreFile : (s : ControlStore) → IsSome (machine_of bytes) → IsStore s → bytes ≡ store_file s → text ≡ listing s → IsPrinted machine bytes text
-  OfText : (program : Program) → machine_of bytes ≡ None → SpellsProgram machine bytes program → text ≡ canonical_text program → IsPrinted machine bytes text
+  OfText : (program : MalView) → machine_of bytes ≡ None → SpellsProgram machine bytes program → text ≡ canonical_text program → IsPrinted machine bytes text
 
 -- it is neither, for this reason
 pub data IsUnprinted (machine : Machine) (bytes reason : List ℕ) : Type 0 where

@@ -6,7 +6,7 @@ use Rattle.mic_words.specs.declared.machine.Machine.{Machine}
 use Rattle.mic_words.specs.declared.machine.Machine.TheVariants.{Mic1, Mic2}
 use Rattle.micro_word.specs.Coding.{statement_of}
 use Rattle.micro_word.specs.ControlStore.{ControlStore}
-use Rattle.mal_parser.specs.Program.{Program}
+use Rattle.mal_parser.specs.Program.{MalView}
 use Rattle.mal_parser.specs.ProgramText.{placed_text, statement_text, text_of}
 use Rattle.store_placement.specs.Demands.{fixed_count, pair_count}
 use Rattle.store_placement.specs.First.{below}
@@ -22,21 +22,21 @@ abbrev pub word_text : ControlStore → ℕ → List ℕ
 word_text s address = hex_text 3 address ++ codes " " ++ hex_text (word_digits s.machine) (slice_index s.words address) ++ codes " "
 
 -- the statement with this number: its address, the word there, and its canonical line
-abbrev pub statement_line : Program → List ℕ → ControlStore → ℕ → List ℕ
+abbrev pub statement_line : MalView → List ℕ → ControlStore → ℕ → List ℕ
 statement_line program addresses s number = word_text s (slice_index addresses number) ++ statement_text program number
 
 -- the statements, those of them that a `.label` fixes, and the different pairs
-abbrev pub counts_line : Program → List ℕ
+abbrev pub counts_line : MalView → List ℕ
 counts_line program =
     codes "statements " ++ decimal (length program.statements) ++ codes " fixed " ++ decimal (fixed_count (demands_of program))
     ++ codes " pairs " ++ decimal (pair_count (demands_of program))
 
 -- a line for each statement in order
-abbrev pub statement_lines : Program → List ℕ → ControlStore → List (List ℕ)
+abbrev pub statement_lines : MalView → List ℕ → ControlStore → List (List ℕ)
 statement_lines program addresses s = map (statement_line program addresses s) (below (length program.statements))
 
 -- the same, then the counts
-abbrev pub placement_text : Program → List ℕ → ControlStore → List ℕ
+abbrev pub placement_text : MalView → List ℕ → ControlStore → List ℕ
 placement_text program addresses s =
     text_of (statement_lines program addresses s ++ counts_line program ∷ [])
 

@@ -3,7 +3,7 @@ use Rattle.std.proofs.Common.{◌≡◌, ℕ, List, Option, Some, None, refl}
 use Rattle.cli_outside.specs.Status as exits
 use Rattle.cli_outside.specs.Messages.{out_of_memory}
 use Rattle.cli_outside.specs.Outside.{LentView, Over, OutsideView, TellsOnErr}
-use Rattle.cli_outside.specs.Work.{Did, Ends, IsHad, IsNotHad, IsRead, IsRefusal, IsUnread, NotHad, Refused, Short, TellsRefusal, Unread, refusal_by}
+use Rattle.cli_outside.specs.Work.{Did, Ends, IsHad, IsNotHad, IsFileRead, IsRefusal, IsUnread, NotHad, Refused, Short, TellsRefusal, Unread, refusal_by}
 use Rattle.cli_outside.specs.declared.refusal.Refusal.{Refusal}
 use Rattle.cli_outside.specs.declared.refusal.Refusal.TheVariants as refusals
 
@@ -14,13 +14,13 @@ by_reason Refuses bytes None refuses = tt
 by_reason Refuses bytes (Some text) refuses = refuses text refl
 
 module _ {Refuses : List ℕ → List ℕ → Type 0} {file : List ℕ} where
-  told : {bytes : List ℕ} (refusal : Refusal) {old new : OutsideView} {status : ℕ} → IsRead file bytes old → IsRefusal Refuses bytes refusal →
+  told : {bytes : List ℕ} (refusal : Refusal) {old new : OutsideView} {status : ℕ} → IsFileRead file bytes old → IsRefusal Refuses bytes refusal →
       TellsRefusal file refusal old new status → IsNotHad Refuses file old new status
   told {bytes = bytes} (refusals.Refused reason) read refuses tells = Refused bytes reason read refuses tells
   told refusals.OutOfMemory read refuses tells = Short tells
 
   -- a file of these bytes is refused, which is told
-  pub refused : {bytes : List ℕ} (refusal : Refusal) {old new : LentView} {status : ℕ} → IsRead file bytes old.seen → IsRefusal Refuses bytes refusal →
+  pub refused : {bytes : List ℕ} (refusal : Refusal) {old new : LentView} {status : ℕ} → IsFileRead file bytes old.seen → IsRefusal Refuses bytes refusal →
       Over (TellsRefusal file refusal) old new status → Over (IsNotHad Refuses file) old new status
   refused refusal read refuses over = record { names = over.names; does = told refusal read refuses over.does }
 

@@ -13,7 +13,7 @@ abbrev pub OthersKept : Option Contents → Option Contents → List ℕ → Typ
 OthersKept old new name = MatchOption old (new ≡ None) (λ before. IsSomeAnd new (KeepsOthers before name))
 
 -- the file has these bytes, and they are few enough
-pub record IsRead (file bytes : List ℕ) (o : OutsideView) : Type 0 where
+pub record IsFileRead (file bytes : List ℕ) (o : OutsideView) : Type 0 where
   pub has : Tells o.files.contents file bytes
   pub short : length bytes ≤ most_bytes
 
@@ -28,7 +28,7 @@ pub data IsUnread (file : List ℕ) (old new : OutsideView) (status : ℕ) : Typ
 -- Nothing is had of a file: it is not read, it is refused, or memory is wanting. `Refuses bytes reason` says why a file of these bytes is refused.
 pub data IsNotHad (Refuses : List ℕ → List ℕ → Type 0) (file : List ℕ) (old new : OutsideView) (status : ℕ) : Type 0 where
   Unread : IsUnread file old new status → IsNotHad Refuses file old new status
-  Refused : (bytes reason : List ℕ) → IsRead file bytes old → Refuses bytes reason → TellsOnErr (message file reason) exits.refused old new status →
+  Refused : (bytes reason : List ℕ) → IsFileRead file bytes old → Refuses bytes reason → TellsOnErr (message file reason) exits.refused old new status →
       IsNotHad Refuses file old new status
   Short : TellsOnErr out_of_memory exits.memory old new status → IsNotHad Refuses file old new status
 
@@ -49,7 +49,7 @@ TellsRefusal file refusals.OutOfMemory = TellsOnErr out_of_memory exits.memory
 -- the file holds this: `Is bytes value` says that a file of these bytes does
 pub record IsHad {V : Type 0} (Is : List ℕ → V → Type 0) (file : List ℕ) (o : OutsideView) (value : V) : Type 0 where
   pub bytes : List ℕ
-  pub read : IsRead file bytes o
+  pub read : IsFileRead file bytes o
   pub is : Is bytes value
 
 -- How a command ends that reads a file. `Does value old new status` says what is done over what the file holds.

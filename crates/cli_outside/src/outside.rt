@@ -4,7 +4,7 @@ ghost use Rattle.std.specs.Prelude.{◌≡◌, OnOk, IfOk, IfErr};
 ghost use Rattle.cli_outside.specs.Status as exits;
 ghost use Rattle.cli_outside.specs.Messages.{message, out_of_memory};
 ghost use Rattle.cli_outside.specs.Outside.{Over, PrintsOnOut, TellsOnErr, files_of, lender_names, outside_view, sink_of, source_of};
-ghost use Rattle.cli_outside.specs.Work.{IsRead, IsUnread, TellsRefusal, WritesThenPrints};
+ghost use Rattle.cli_outside.specs.Work.{IsFileRead, IsUnread, TellsRefusal, WritesThenPrints};
 
 use crate::refusal::Refusal;
 use crate::said::{no_memory, say, say_of};
@@ -101,7 +101,7 @@ impl<'a, F: Files, S: Source, K: Sink, E: Sink> Outside<'a, F, S, K, E> {
 
     /// The file's bytes; or it is said why they are not had, and the status tells.
     pub fn read(&mut self, alloc: Global, file: &str) -> Result<Vec<u8>, Status>
-        ensures read { IfOk result (λ bytes. IsRead file.now bytes.items self.old.seen) }
+        ensures read { IfOk result (λ bytes. IsFileRead file.now bytes.items self.old.seen) }
         ensures same { OnOk result (self.new ≡ self.old) }
         ensures unread { IfErr result (λ status. Over (IsUnread file.now) self.old self.new status.0) }
     {

@@ -39,7 +39,7 @@ pub fn word(line: &mut Line, before: &str, value: u32)
     line.hex(u64::from(value), 8);
 }
 
-/// A text.
+/// A line of this text alone.
 pub fn text_line(text: &str) -> Line
     requires { length text.now ≤ 512 }
     ensures text { result ≡ text.now }

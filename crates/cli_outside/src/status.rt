@@ -1,4 +1,4 @@
-//! How the program ends.
+//! The exit statuses, each by a name.
 
 ghost use Rattle.std.specs.Prelude.{◌≡◌, if◌then◌else◌, is_ok};
 ghost use Rattle.cli_outside.specs.Status as exits;

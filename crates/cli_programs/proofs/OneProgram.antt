@@ -14,7 +14,7 @@ use Rattle.method_linker.specs.Linked as linker
 use Rattle.verifier_facts.specs.Accepted.{VerifiedView}
 use Rattle.verifier_facts.specs.Facts.{IsMainCount, IsTrueOf}
 use Rattle.cli_program_texts.specs.Refusals.{link_reason}
-use Rattle.cli_programs.specs.Program.{AsFile, AsSource, IsNoSource, IsOf, IsProgram, IsRefusedProgram, IsSource, NoImage, NoProgram, NoSource, NotAccepted, NotLinked, begins_image}
+use Rattle.cli_programs.specs.Program.{AsFile, AsSource, IsNoSource, IsOf, IsAcceptedProgram, IsRefusedProgram, IsSource, NoImage, NoProgram, NoSource, NotAccepted, NotLinked, begins_image}
 
 -- ---- main's locals
 
@@ -72,7 +72,7 @@ module _
   image_once bytes p q (AsSource begins is) (AsFile begins' fits' is') = let no : false ≡ true = sym begins ∙ begins' in absurd (cc)
   image_once bytes p q (AsSource begins is) (AsSource begins' is') = source_once bytes p q is is'
 
-  pub program_once : (map : MemoryMap) (bytes : List ℕ) (p q : VerifiedView) → IsProgram map bytes p → IsProgram map bytes q → p ≡ q
+  pub program_once : (map : MemoryMap) (bytes : List ℕ) (p q : VerifiedView) → IsAcceptedProgram map bytes p → IsAcceptedProgram map bytes q → p ≡ q
   program_once map bytes p q one other =
       let image : p.image ≡ q.image = image_once bytes p.image q.image one.is other.is in
       let locals : p.main_locals ≡ q.main_locals =
@@ -87,7 +87,7 @@ module _
   of_source bytes reason p begins refused (AsFile begins' fits is) = let no : false ≡ true = sym begins ∙ begins' in cc
   of_source bytes reason p begins refused (AsSource begins' is) = no_reason bytes reason p is refused
 
-  pub program_unrefused : (map : MemoryMap) (bytes reason : List ℕ) (p : VerifiedView) → IsProgram map bytes p → IsRefusedProgram map bytes reason → ⊥
+  pub program_unrefused : (map : MemoryMap) (bytes reason : List ℕ) (p : VerifiedView) → IsAcceptedProgram map bytes p → IsRefusedProgram map bytes reason → ⊥
   program_unrefused map bytes reason p program (NoImage e begins refused said) = of_file bytes p.image e begins refused program.is
   program_unrefused map bytes reason p program (NoProgram begins unspelled) = of_source bytes reason p.image begins unspelled program.is
   program_unrefused map bytes reason p program (NotAccepted image e of holds said) =

@@ -6,11 +6,11 @@ use Rattle.verifier_facts.specs.Accepted.{VerifiedView}
 use Rattle.cli_outside.specs.Outside.{OutsideView}
 use Rattle.cli_outside.specs.Work.{Ends, WritesThenPrints}
 use Rattle.cli_program_texts.specs.Summary.{sizes}
-use Rattle.cli_programs.specs.Program.{IsNoSource, IsProgram, IsRefusedProgram, IsSource}
+use Rattle.cli_programs.specs.Program.{IsNoSource, IsAcceptedProgram, IsRefusedProgram, IsSource}
 
 -- over the accepted program that a file holds
 abbrev pub EndsOver : MemoryMap → (VerifiedView → OutsideView → OutsideView → ℕ → Type 0) → List ℕ → OutsideView → OutsideView → ℕ → Type 0
-EndsOver map = Ends (IsRefusedProgram map) (IsProgram map)
+EndsOver map = Ends (IsRefusedProgram map) (IsAcceptedProgram map)
 
 -- the image of a source is written to the target, and then its sizes are printed
 abbrev pub Assembles : List ℕ → List ℕ → OutsideView → OutsideView → ℕ → Type 0

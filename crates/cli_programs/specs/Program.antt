@@ -41,7 +41,7 @@ pub data IsOf (bytes : List ℕ) (image : ImageView) : Type 0 where
   AsSource : begins_image bytes ≡ false → IsSource bytes image → IsOf bytes image
 
 -- the file is an image's that is accepted for this map
-pub record IsProgram (map : MemoryMap) (bytes : List ℕ) (program : VerifiedView) : Type 0 where
+pub record IsAcceptedProgram (map : MemoryMap) (bytes : List ℕ) (program : VerifiedView) : Type 0 where
   pub is : IsOf bytes program.image
   pub map_is : program.map ≡ map
   pub accepted : IsAccepted program

@@ -6,7 +6,7 @@ use Rattle.console_port.specs.Console.{StaysFlushed}
 use Rattle.ijvm_reference.specs.declared.plain.PlainEnd.TheVariants as ends
 use Rattle.ijvm_reference.specs.declared.plain.PlainReport.{PlainReport}
 use Rattle.ijvm_meaning.specs.Cost.{timing_of}
-use Rattle.ijvm_meaning.specs.Run.{Program}
+use Rattle.ijvm_meaning.specs.Run.{TimedImage}
 use Rattle.ijvm_reference.specs.Plain.{HasRun, IsCutByRead, IsCutByWrite, IsShort}
 use Rattle.verifier_facts.specs.Accepted.{VerifiedView}
 use Rattle.cli_outside.specs.Status as exits
@@ -16,7 +16,7 @@ use Rattle.cli_run_texts.specs.Ends.{clocked_end, status_of}
 use Rattle.cli_run_texts.specs.Report.{plain_head}
 
 -- an accepted program on its memory map, with this machine's costs
-abbrev pub verified_program : VerifiedView → Machine → Program
+abbrev pub verified_program : VerifiedView → Machine → TimedImage
 verified_program program machine = record { image = program.image; stack_end = program.map.stack_end; timing = timing_of machine }
 
 -- What a report says of a run between the console and `out`.

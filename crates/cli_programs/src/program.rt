@@ -5,7 +5,7 @@ ghost use Rattle.mic_base.specs.Files.{most_bytes};
 ghost use Rattle.console_port.specs.Map.{IsMap};
 ghost use Rattle.cli_outside.specs.Outside.{Over};
 ghost use Rattle.cli_outside.specs.Work.{IsHad, IsNotHad, IsRefusal};
-ghost use Rattle.cli_programs.specs.Program.{IsNoSource, IsOf, IsProgram, IsRefusalByAll, IsRefusedProgram, IsSource, begins_image};
+ghost use Rattle.cli_programs.specs.Program.{IsNoSource, IsOf, IsAcceptedProgram, IsRefusalByAll, IsRefusedProgram, IsSource, begins_image};
 
 use cli_outside::{Outside, Refusal, Status};
 use cli_program_texts::{image_reason, link_reason, source_reason, verify_reason};
@@ -68,7 +68,7 @@ fn found_image(alloc: Global, bytes: &[u8]) -> Result<Image, Refusal>
 fn accepted_program(alloc: Global, bytes: &[u8], map: MemoryMap) -> Result<VerifiedImage, Refusal>
     requires few { length bytes.now ≤ most_bytes }
     requires map { IsMap map.stack_end }
-    ensures ok { IfOk result (IsProgram map bytes.now) }
+    ensures ok { IfOk result (IsAcceptedProgram map bytes.now) }
     ensures err { IfErr result (IsRefusal (IsRefusedProgram map) bytes.now) }
 {
     let image = found_image(alloc, bytes)?;
@@ -86,7 +86,7 @@ pub fn program_in_file<F: Files, S: Source, K: Sink, E: Sink>(
     outside: &mut Outside<'_, F, S, K, E>,
 ) -> Result<VerifiedImage, Status>
     requires { IsMap map.stack_end }
-    ensures had { IfOk result (IsHad (IsProgram map) file.now outside.old.seen) }
+    ensures had { IfOk result (IsHad (IsAcceptedProgram map) file.now outside.old.seen) }
     ensures same { OnOk result (outside.new ≡ outside.old) }
     ensures not_had { IfErr result (λ status. Over (IsNotHad (IsRefusedProgram map) file.now) outside.old outside.new status.0) }
 {

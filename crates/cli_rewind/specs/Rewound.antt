@@ -4,7 +4,7 @@ use Rattle.console_port.specs.World.{World}
 use Rattle.console_port.specs.Bus.{Shows}
 use Rattle.mic_clock.specs.Meaning.{Meaning}
 use Rattle.verifier_facts.specs.Accepted.{VerifiedView}
-use Rattle.mal_parser.specs.Program.{Program}
+use Rattle.mal_parser.specs.Program.{MalView}
 use Rattle.mal_shipped.specs.declared.loaded.Loaded.{Loaded}
 use Rattle.mic_image_board.specs.Reset.{reset_run}
 use Rattle.cli_outside.specs.Status as exits
@@ -28,7 +28,7 @@ status_after steps.SinkFailed = exits.sink
 
 module _ {M State : Type 0} (state : M → State) (m : Meaning State) where
   -- a session over an accepted program at its reset, which stands there whatever its input has left and `out` holds
-  pub record IsStart (depth : ℕ) (micro : Program) (l : Loaded) (program : VerifiedView)
+  pub record IsStart (depth : ℕ) (micro : MalView) (l : Loaded) (program : VerifiedView)
       (d : RewindingView M) : Type 0 where
     pub reset : IsFirstBoard state m micro l program d.rewind.board
     pub depth_is : d.rewind.history.depth ≡ depth
@@ -36,7 +36,7 @@ module _ {M State : Type 0} (state : M → State) (m : Meaning State) where
     pub stands : (left held : Option (List ℕ)) (w : World) → Shows left held d.rewind.board.bus w →
         StandsAt state m left held d.rewind (at_reset (reset_run m l.entry program.main_locals w))
 
-  pub data IsRewound (depth : ℕ) (micro : Program) (program : VerifiedView) (input : List ℕ)
+  pub data IsRewound (depth : ℕ) (micro : MalView) (program : VerifiedView) (input : List ℕ)
       (old new : OutsideView) (status : ℕ) : Type 0 where
     -- memory was wanting before the first line
     NoRoom : TellsOnErr out_of_memory exits.memory old new status → IsRewound depth micro program input old new status

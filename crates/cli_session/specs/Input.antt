@@ -1,12 +1,12 @@
 -- The input of a program whose session has its lines from the console, and how a command ends that has that input of a file.
 use Rattle.std.specs.Prelude.{◌≡◌, ℕ, List, [], Option, Some, None}
 use Rattle.cli_outside.specs.Outside.{OutsideView}
-use Rattle.cli_outside.specs.Work.{IsRead, IsUnread}
+use Rattle.cli_outside.specs.Work.{IsFileRead, IsUnread}
 
 -- the bytes of the named file, or none where no file is named
 abbrev pub IsInput : Option (List ℕ) → OutsideView → List ℕ → Type 0
 IsInput None o input = input ≡ []
-IsInput (Some name) o input = IsRead name input o
+IsInput (Some name) o input = IsFileRead name input o
 
 -- they are not had
 abbrev pub IsNoInput : Option (List ℕ) → OutsideView → OutsideView → ℕ → Type 0

@@ -1,4 +1,4 @@
-//! Lines that sessions print.
+//! The lines that both sessions print: an end, the registers, a memory word.
 
 ghost use Rattle.std.specs.Prelude.{◌≡◌, ◌<◌};
 ghost use Rattle.cli_session.specs.Texts.{end_line, state_text, word_text};

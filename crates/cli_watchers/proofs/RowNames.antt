@@ -2,9 +2,9 @@
 use Rattle.std.proofs.Common.{◌≡◌, refl}
 use Rattle.ijvm_instr.specs.declared.instr.Instr.{Instr}
 use Rattle.ijvm_instr.specs.declared.instr.Instr.TheVariants as instrs
-use Rattle.ijvm_instr.specs.Instructions.{name_of}
+use Rattle.ijvm_instr.specs.Instructions.{mnemonic_of}
 use Rattle.cli_watchers.specs.Rows.{row_name, row_number}
 
-pub named : (i : Instr) → row_name (row_number i) ≡ name_of i
+pub named : (i : Instr) → row_name (row_number i) ≡ mnemonic_of i
 named instrs.Nop = refl
 named _ = refl

@@ -3,7 +3,7 @@ use Rattle.std.specs.Prelude.{◌≡◌, ℕ, List, [], ◌++◌, Bool, true, fa
 use Rattle.std.specs.Fmt.{decimal}
 use Rattle.mic_base.specs.Digits.{hex_text}
 use Rattle.ijvm_image.specs.Image.{ImageView}
-use Rattle.mal_parser.specs.Program.{Program}
+use Rattle.mal_parser.specs.Program.{MalView}
 use Rattle.mic_clock.specs.declared.buses.Drive.{Drive}
 use Rattle.mic_clock.specs.declared.buses.Computed.{Computed}
 use Rattle.mic_clock.specs.State.{state_line}
@@ -44,7 +44,7 @@ IsBoundaryLine image (Some at) text = (instruction : List ℕ) × IsInstruction 
 
 -- what a trace is of: a microprogram at its addresses, the image that it runs, and whether the buses are asked for
 pub record Traced : Type 0 where
-  pub program : Program
+  pub program : MalView
   pub addresses : List ℕ
   pub image : ImageView
   pub buses : Bool

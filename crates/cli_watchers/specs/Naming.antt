@@ -8,24 +8,24 @@ use Rattle.verifier_facts.specs.declared.kind.Kind.{Kind}
 use Rattle.verifier_facts.specs.declared.kind.Kind.TheVariants as kinds
 use Rattle.verifier_facts.specs.Kinds.{IsKind}
 use Rattle.mal_parser.specs.declared.statement.Statement.{Statement}
-use Rattle.mal_parser.specs.Program.{Program, label_at}
+use Rattle.mal_parser.specs.Program.{MalView, label_at}
 use Rattle.mal_parser.specs.ProgramText.{fallback_of, parts_text}
 use Rattle.store_placement.specs.Program.{IsOnlyAt}
 
 -- a statement's label, or a dash
-abbrev pub label_text : Program → ℕ → List ℕ
+abbrev pub label_text : MalView → ℕ → List ℕ
 label_text p s = unwrap_or (label_at p.statements s) (codes "-")
 
 -- what unused words hold
-abbrev pub default_by : Program → Option Statement → List ℕ
+abbrev pub default_by : MalView → Option Statement → List ℕ
 default_by p None = codes "goto 0x0fe"
 default_by p (Some s) = fallback_of p s
 
-abbrev pub default_text : Program → List ℕ
+abbrev pub default_text : MalView → List ℕ
 default_text p = default_by p p.fallback
 
 -- the label and the text of the word at an address: those of the statement that is placed there, or of what unused words hold
-pub data IsWord (p : Program) (addresses : List ℕ) (mpc : ℕ) (label parts : List ℕ) : Type 0 where
+pub data IsWord (p : MalView) (addresses : List ℕ) (mpc : ℕ) (label parts : List ℕ) : Type 0 where
   Placed : (s : ℕ) → IsOnlyAt addresses mpc s → label ≡ label_text p s → parts ≡ parts_text p s → IsWord p addresses mpc label parts
   Unused : ((s : ℕ) → s < length addresses → slice_index addresses s ≢ mpc) → label ≡ codes ".default" → parts ≡ default_text p →
       IsWord p addresses mpc label parts

@@ -5,7 +5,7 @@ use Rattle.std.specs.List.{position}
 use Rattle.std.specs.Str.{bytes_eq}
 use Rattle.ijvm_image.specs.Image.{ImageView}
 use Rattle.ijvm_instr.specs.declared.instr.Instr.{Instr}
-use Rattle.ijvm_instr.specs.Instructions.{name_of}
+use Rattle.ijvm_instr.specs.Instructions.{mnemonic_of}
 use Rattle.cli_watchers.specs.Naming.{IsReached}
 
 -- the row of what is no reached instruction
@@ -27,7 +27,7 @@ place_of text = position (λ name. bytes_eq name text) row_names
 
 -- the place of an instruction's row
 abbrev pub row_number : Instr → ℕ
-row_number i = unwrap_or (place_of (name_of i)) other
+row_number i = unwrap_or (place_of (mnemonic_of i)) other
 
 -- the name of a row
 abbrev pub row_name : ℕ → List ℕ

@@ -4,7 +4,7 @@ ghost use Rattle.std.specs.Prelude.{◌≡◌, ◌≤◌, ◌<◌, length, slice
 ghost use Rattle.std.specs.List.{position};
 ghost use Rattle.std.specs.Str.{bytes_eq};
 ghost use Rattle.ijvm_instr.specs.declared.instr.Instr.{Instr};
-ghost use Rattle.ijvm_instr.specs.Instructions.{name_of};
+ghost use Rattle.ijvm_instr.specs.Instructions.{mnemonic_of};
 ghost use Rattle.cli_watchers.specs.Rows.{AreRowsUpTo, IsRowAt, row_name, row_number};
 
 use crate::names::reached_at;
@@ -20,7 +20,7 @@ pub const OTHER: u8 = 26;
 
 /// The place of the first instruction with that name, from 0.
 fn place_in(table: &[Instr], text: &str) -> Option<usize>
-    ensures is { result ≡ position (λ i. bytes_eq (name_of i) text.now) table.now }
+    ensures is { result ≡ position (λ i. bytes_eq (mnemonic_of i) text.now) table.now }
     ensures inside { IfSome result (λ place. place < length table.now) }
 {
     table.iter().position(|instr| name(*instr) == text)
@@ -59,7 +59,7 @@ pub fn row_name(row: usize) -> &'static str
 
 /// A row has the name of its instruction.
 pub fn rows_law()
-    ensures { (i : Instr) → row_name (row_number i) ≡ name_of i }
+    ensures { (i : Instr) → row_name (row_number i) ≡ mnemonic_of i }
 {}
 
 /// The row of the instruction that begins at an address.

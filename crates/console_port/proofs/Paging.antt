@@ -7,19 +7,19 @@ use Rattle.std.proofs.lemmas.List.Sums.{sum_by-set, count_by-le-length}
 use Rattle.std.proofs.lemmas.List.Folds.{sum_by-replicate}
 use Rattle.std.proofs.lemmas.Bool.{cases_eq, cases_lt, lt-ltb}
 use Rattle.std.proofs.lemmas.Grind.{div_ceil_times}
-use Rattle.console_port.specs.Pages.{ArePaged, place, words_of, framed}
+use Rattle.console_port.specs.Pages.{ArePaged, place_in_frames, words_of, framed}
 
 pub length-words_of : (table frames : List ℕ) (size : ℕ) → length (words_of table frames size) ≡ size
 unfolding words_of
 length-words_of table frames size = length-map-range_with_len _ 0 size
 
-pub word_of_pages : (table frames : List ℕ) (size at : ℕ) → at < size → get_or (words_of table frames size) at 0 ≡ get_or frames (place table at) 0
+pub word_of_pages : (table frames : List ℕ) (size at : ℕ) → at < size → get_or (words_of table frames size) at 0 ≡ get_or frames (place_in_frames table at) 0
 unfolding words_of
 word_of_pages table frames size at h = get_or-map-range_with_len _ 0 size at at 0 h (omega arith)
 
 -- memories with the same words
 same_words : (table frames table' frames' : List ℕ) (size : ℕ) →
-    ((at : ℕ) → at < size → get_or frames' (place table' at) 0 ≡ get_or frames (place table at) 0) → words_of table' frames' size ≡ words_of table frames size
+    ((at : ℕ) → at < size → get_or frames' (place_in_frames table' at) 0 ≡ get_or frames (place_in_frames table at) 0) → words_of table' frames' size ≡ words_of table frames size
 same_words table frames table' frames' size same =
     ext_get_or 0 _ _ (length-words_of table' frames' size ∙ sym (length-words_of table frames size))
     (λ at h.
@@ -103,29 +103,29 @@ module _ (table frames : List ℕ) (free size : ℕ) (paged : ArePaged table fra
         (cases_eq (at / 1024) page))
 
   module _ (at value : ℕ) (within : at < size) (has_frame : get_or table (at / 1024) 0 ≢ 0) where
-    pub place_within : place table at < length frames
+    pub place_within : place_in_frames table at < length frames
     place_within = omega (arith, within_frame (at / 1024), frames_suffice)
 
-    pub paged_write : ArePaged table (set frames (place table at) value) free size
+    pub paged_write : ArePaged table (set frames (place_in_frames table at) value) free size
     paged_write =
         record {
           pages = paged.pages;
-          frames_made = length-set frames (place table at) value ∙ paged.frames_made;
+          frames_made = length-set frames (place_in_frames table at) value ∙ paged.frames_made;
           frames_taken = paged.frames_taken;
           whole = paged.whole;
           taken = paged.taken;
           own = paged.own;
           unmapped = λ k h.
               let w = paged.whole (at / 1024) in
-              let ne : k ≢ place table at = omega arith in
-              get_or-set_other frames (place table at) k value 0 ne ∙ paged.unmapped k h;
+              let ne : k ≢ place_in_frames table at = omega arith in
+              get_or-set_other frames (place_in_frames table at) k value 0 ne ∙ paged.unmapped k h;
           unused = λ k h.
-              let ne : k ≢ place table at = omega (arith, within_frame (at / 1024)) in
-              get_or-set_other frames (place table at) k value 0 ne ∙ paged.unused k h;
+              let ne : k ≢ place_in_frames table at = omega (arith, within_frame (at / 1024)) in
+              get_or-set_other frames (place_in_frames table at) k value 0 ne ∙ paged.unused k h;
         }
 
     -- two addresses have two places, where one is on a page with a frame
-    apart : (k : ℕ) → k ≢ at → place table k ≢ place table at
+    apart : (k : ℕ) → k ≢ at → place_in_frames table k ≢ place_in_frames table at
     apart k ne same =
         let w = paged.whole (at / 1024) in
         let v = paged.whole (k / 1024) in
@@ -133,9 +133,9 @@ module _ (table frames : List ℕ) (free size : ℕ) (paged : ArePaged table fra
         let pages : at / 1024 ≡ k / 1024 = paged.own (at / 1024) (k / 1024) has_frame starts in
         ne (omega arith)
 
-    pub words_write : words_of table (set frames (place table at) value) size ≡ set (words_of table frames size) at value
+    pub words_write : words_of table (set frames (place_in_frames table at) value) size ≡ set (words_of table frames size) at value
     words_write =
-        let frames' : List ℕ = set frames (place table at) value in
+        let frames' : List ℕ = set frames (place_in_frames table at) value in
         let words : List ℕ = words_of table frames size in
         ext_get_or 0 _ _ (length-words_of table frames' size ∙ sym (length-set words at value ∙ length-words_of table frames size))
         (λ k h.
@@ -144,10 +144,10 @@ module _ (table frames : List ℕ) (free size : ℕ) (paged : ArePaged table fra
         word_of_pages table frames' size k below ∙
         ⊎_elim
         (λ (e : k ≡ at).
-        ap (λ (n : ℕ). get_or frames' (place table n) 0) e ∙ (get_or-set_same frames (place table at) value 0 place_within ∙
+        ap (λ (n : ℕ). get_or frames' (place_in_frames table n) 0) e ∙ (get_or-set_same frames (place_in_frames table at) value 0 place_within ∙
         sym (ap (λ (n : ℕ). get_or (set words at value) n 0) e ∙ get_or-set_same words at value 0 here)))
         (λ (e : k ≢ at).
-        get_or-set_other frames (place table at) (place table k) value 0 (apart k e) ∙
+        get_or-set_other frames (place_in_frames table at) (place_in_frames table k) value 0 (apart k e) ∙
         sym (get_or-set_other words at k value 0 e ∙ word_of_pages table frames size k below))
         (cases_eq k at))
 
@@ -184,4 +184,4 @@ words_zero table n size =
     ext_get_or 0 _ _ (length-words_of table (zeros n) size ∙ sym (length-zeros size))
     (λ at h.
     let below : at < size = omega (arith, length-words_of table (zeros n) size) in
-    word_of_pages table (zeros n) size at below ∙ (zero_at n (place table at) ∙ sym (zero_at size at)))
+    word_of_pages table (zeros n) size at below ∙ (zero_at n (place_in_frames table at) ∙ sym (zero_at size at)))

@@ -4,13 +4,13 @@ use Rattle.console_port.specs.declared.map.TheConstants.{POOL}
 use Rattle.console_port.specs.World.{byte_in}
 
 -- the word that four bytes make, the most significant first
-abbrev pub word_of : ℕ → ℕ → ℕ → ℕ → ℕ
-word_of a b c d = 16777216 * a + 65536 * b + 256 * c + d
+abbrev pub big_endian_word : ℕ → ℕ → ℕ → ℕ → ℕ
+big_endian_word a b c d = 16777216 * a + 65536 * b + 256 * c + d
 
 -- word `at` of a text, with zeros behind its end
 abbrev pub text_word : List ℕ → ℕ → ℕ
 text_word text at =
-    word_of (slice_index text (4 * at)) (slice_index text (4 * at + 1)) (slice_index text (4 * at + 2)) (slice_index text (4 * at + 3))
+    big_endian_word (slice_index text (4 * at)) (slice_index text (4 * at + 1)) (slice_index text (4 * at + 2)) (slice_index text (4 * at + 3))
 
 -- An image was loaded into a memory. Behind the text its last word has zeros, and every other word stays.
 pub record IsLoaded (text pool old new : List ℕ) : Type 0 where

@@ -3,12 +3,12 @@ use Rattle.std.specs.Prelude.{◌≡◌, ◌≢◌, ℕ, ◌+◌, ◌*◌, ◌/�
 use Rattle.std.specs.List.{range_with_len, count_by}
 
 -- where the word at an address is among the frames
-abbrev pub place : List ℕ → ℕ → ℕ
-place table at = slice_index table (at / 1024) + at % 1024
+abbrev pub place_in_frames : List ℕ → ℕ → ℕ
+place_in_frames table at = slice_index table (at / 1024) + at % 1024
 
 -- the memory that they keep
 unfoldable pub words_of : List ℕ → List ℕ → ℕ → List ℕ
-words_of table frames size = map (λ at. slice_index frames (place table at)) (range_with_len 0 size)
+words_of table frames size = map (λ at. slice_index frames (place_in_frames table at)) (range_with_len 0 size)
 
 -- the number of pages that have a frame
 unfoldable pub framed : List ℕ → ℕ

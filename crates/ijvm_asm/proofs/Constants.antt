@@ -55,12 +55,12 @@ items_add (Some c ∷ items) k s u e (v, p, h, more) =
     let b = if_ok (is_declared s c.name) (errors.DuplicateName k) (ok (with_one s c)) v h in
     let g : ok (with_one s c) ≡ ok v = b.1 in
     let q : with_one s c ≡ v = cc in
-    let n = or_parts (is_some (names.place_of s.constants c.name)) (is_some (names.place_of s.methods c.name)) b.0 in
+    let n = or_parts (is_some (names.place_of_name s.constants c.name)) (is_some (names.place_of_name s.methods c.name)) b.0 in
     let r = items_add items (k + 1) (with_one s c) u e (subst (λ w. Build (k + 1) w (items_lines items) u) (sym q) more) in
     ((None-if_not_some _ n.0, None-if_not_some _ n.1, r.0), r.1 ∙ one_added s c (defined items))
 
-undeclared : (s : Source) (name : List ℕ) → names.place_of s.constants name ≡ None → names.place_of s.methods name ≡ None → is_declared s name ≡ false
-undeclared s name a b = or_from (is_some (names.place_of s.constants name)) (is_some (names.place_of s.methods name)) (ap is_some a) (ap is_some b)
+undeclared : (s : Source) (name : List ℕ) → names.place_of_name s.constants name ≡ None → names.place_of_name s.methods name ≡ None → is_declared s name ≡ false
+undeclared s name a b = or_from (is_some (names.place_of_name s.constants name)) (is_some (names.place_of_name s.methods name)) (ap is_some a) (ap is_some b)
 
 items_added : (items : List (Option Constant)) (k : ℕ) (s u : Source) → s.place ≡ places.Constants → Added s (defined items) u → Build k s (items_lines items) u
 items_added [] k s u e (n, q) = (added s s.constants s.values, e, refl, sym (q ∙ none_added s))

@@ -69,7 +69,7 @@ pub record MakesMain (k : ℕ) (s : Source) (body : Body) (u : Source) : Type 0 
 
 -- its name is that of no constant and of no method before it, its parameters are at most 65,534
 pub record MakesMethod (k : ℕ) (s : Source) (name : List ℕ) (ps : List (List ℕ)) (body : Body) (u : Source) : Type 0 where
-  pub is_new : (names.place_of s.constants name ≡ None) × (names.place_of s.methods name ≡ None)
+  pub is_new : (names.place_of_name s.constants name ≡ None) × (names.place_of_name s.methods name ≡ None)
   pub once : AreNew [] ps
   pub few : length ps ≤ most_names
   pub last : Source

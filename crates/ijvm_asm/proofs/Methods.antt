@@ -23,9 +23,9 @@ use Rattle.ijvm_asm.proofs.Mains.{open_locals, opens, opens_code}
 
 pub gathered : (ps seen qs : List (List ℕ)) → gather seen ps ≡ Some qs → AreNew seen ps × (qs ≡ seen ++ ps)
 gathered [] seen qs h = let q : seen ≡ qs = cc in (tt, sym q ∙ sym (append-nil seen))
-gathered (n ∷ ns) seen qs h = go (names.place_of seen n) refl (gathered ns (seen ++ n ∷ []) qs) h
+gathered (n ∷ ns) seen qs h = go (names.place_of_name seen n) refl (gathered ns (seen ++ n ∷ []) qs) h
   where
-    go : (o : Option ℕ) → names.place_of seen n ≡ o → (gather (seen ++ n ∷ []) ns ≡ Some qs → AreNew (seen ++ n ∷ []) ns × (qs ≡ (seen ++ n ∷ []) ++ ns)) → cond (is_some o) None (gather (seen ++ n ∷ []) ns) ≡ Some qs → AreNew seen (n ∷ ns) × (qs ≡ seen ++ n ∷ ns)
+    go : (o : Option ℕ) → names.place_of_name seen n ≡ o → (gather (seen ++ n ∷ []) ns ≡ Some qs → AreNew (seen ++ n ∷ []) ns × (qs ≡ (seen ++ n ∷ []) ++ ns)) → cond (is_some o) None (gather (seen ++ n ∷ []) ns) ≡ Some qs → AreNew seen (n ∷ ns) × (qs ≡ seen ++ n ∷ ns)
     go None e f h = let r = f h in ((e, r.0), r.1 ∙ append_assoc seen (n ∷ []) ns)
     go (Some i) e f h = absurd (cc)
 
@@ -52,7 +52,7 @@ begun_by k s n ps a l = ap (method_by k s n) (gathers ps [] a) ∙ ok_if (nat_lt
 pub method_makes : (k : ℕ) (s u : Source) (n : List ℕ) (ps : List (List ℕ)) (b : Body) → s.place ≡ places.Outside → Build k s (section_lines (Method n ps b) []) u → MakesMethod k s n ps b u
 method_makes k s u n ps b e (v, p, h, more) =
     let i = if_ok (is_declared s n) (errors.DuplicateName k) (method_by k s n (gather [] ps)) v h in
-    let a = or_parts (is_some (names.place_of s.constants n)) (is_some (names.place_of s.methods n)) i.0 in
+    let a = or_parts (is_some (names.place_of_name s.constants n)) (is_some (names.place_of_name s.methods n)) i.0 in
     let m = begins k s v n ps (gather [] ps) refl i.1 in
     let g : ok (opened k s n ps) ≡ ok v = m.2 in
     let q : opened k s n ps ≡ v = cc in
@@ -64,7 +64,7 @@ method_makes k s u n ps b e (v, p, h, more) =
     let f : ok (ended r.0) ≡ ok r.2.0 = l.1 in
     let z : ended r.0 ≡ r.2.0 = cc in
     record {
-      is_new = (None-if_not_some (names.place_of s.constants n) a.0, None-if_not_some (names.place_of s.methods n) a.1);
+      is_new = (None-if_not_some (names.place_of_name s.constants n) a.0, None-if_not_some (names.place_of_name s.methods n) a.1);
       once = m.0;
       few = m.1;
       last = r.0;
@@ -85,7 +85,7 @@ makes_method k s u n ps b e m =
     let name : w.unit.name ≡ Some n = ap (λ x. x.unit.name) d.makes.1 ∙ c.1 in
     let at : w.place ≡ places.Code = ap (λ x. x.place) d.makes.1 ∙ c.0 in
     let j = code_from (k + 1) b.locals in
-    let i = ok_if (is_declared s n) (errors.DuplicateName k) (method_by k s n (gather [] ps)) (or_from (is_some (names.place_of s.constants n)) (is_some (names.place_of s.methods n)) (ap is_some m.is_new.0) (ap is_some m.is_new.1)) in (
+    let i = ok_if (is_declared s n) (errors.DuplicateName k) (method_by k s n (gather [] ps)) (or_from (is_some (names.place_of_name s.constants n)) (is_some (names.place_of_name s.methods n)) (ap is_some m.is_new.0) (ap is_some m.is_new.1)) in (
       opened k s n ps,
       e,
       i ∙ begun_by k s n ps m.once m.few,

@@ -70,7 +70,7 @@ line_opens k s u (Defines n v) at h =
     let w : Source = record s { constants = s.constants ++ n ∷ []; values = s.values ++ v ∷ [] } in
     by w u (s.section ∷ []) (if_ok (is_declared s n) (errors.DuplicateName k) (ok w) u h).1 (placed places.Constants w at) ∙ sym (placed places.Constants s at)
 line_opens k s u (Declares n) at h =
-    let b = with_both (λ w. record s { unit = w }) (is_some (names.place_of s.unit.names n)) (nat_le most_names (length s.unit.names)) (record s.unit { names = s.unit.names ++ n ∷ [] }) (errors.DuplicateName k) (errors.TooManyNames k) u h in
+    let b = with_both (λ w. record s { unit = w }) (is_some (names.place_of_name s.unit.names n)) (nat_le most_names (length s.unit.names)) (record s.unit { names = s.unit.names ++ n ∷ [] }) (errors.DuplicateName k) (errors.TooManyNames k) u h in
     by (with_local s n) u (s.inner ∷ s.section ∷ []) b.2 (placed places.Locals (with_local s n) at) ∙ sym (placed places.Locals s at)
 line_opens k s u (Codes l i) at h =
     by (after k s l i) u (s.section ∷ []) (line_made k s u l i h).1 (placed places.Code (after k s l i) at) ∙ sym (placed places.Code s at)

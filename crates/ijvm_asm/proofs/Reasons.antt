@@ -55,7 +55,7 @@ line_names k s u (Defines n v) h =
     names_of (record s { constants = s.constants ++ n ∷ []; values = s.values ++ v ∷ [] }) u s.unit.names
     (if_ok (is_declared s n) (errors.DuplicateName k) (ok (record s { constants = s.constants ++ n ∷ []; values = s.values ++ v ∷ [] })) u h).1 refl
 line_names k s u (Declares n) h =
-    let b = with_both (λ w. record s { unit = w }) (is_some (names.place_of s.unit.names n)) (nat_le most_names (length s.unit.names)) (record s.unit { names = s.unit.names ++ n ∷ [] }) (errors.DuplicateName k) (errors.TooManyNames k) u h in
+    let b = with_both (λ w. record s { unit = w }) (is_some (names.place_of_name s.unit.names n)) (nat_le most_names (length s.unit.names)) (record s.unit { names = s.unit.names ++ n ∷ [] }) (errors.DuplicateName k) (errors.TooManyNames k) u h in
     names_of (with_local s n) u (s.unit.names ++ n ∷ []) b.2 refl
 line_names k s u (Codes l i) h = names_of (after k s l i) u s.unit.names (line_made k s u l i h).1 (names_after k s l i)
 
@@ -84,23 +84,23 @@ with_err f false g e v h = absurd (cc)
 
 code_reason : (k : ℕ) (s : Source) (l : Option (List ℕ)) (i : Option Instruction) (e : AsmError) → add_line k s (Codes l i) ≡ Err e → e ≡ errors.DuplicateName k
 code_reason k s None i e h = absurd (cc)
-code_reason k s (Some l) i e h = with_err _ (is_some (names.place_of s.unit.labels l)) (errors.DuplicateName k) e _ h
+code_reason k s (Some l) i e h = with_err _ (is_some (names.place_of_name s.unit.labels l)) (errors.DuplicateName k) e _ h
 
 module _ (xs : List Said) (s : Source) (b : Build 1 empty xs s) where
   abbrev k : ℕ
   k = 1 + length xs
 
   local_reason : (n : List ℕ) (e : AsmError) → add_line k s (Declares n) ≡ Err e → IsReason k xs (Declares n) e
-  local_reason n e h = go (names.place_of s.unit.names n) (nat_le most_names (length s.unit.names)) refl h
+  local_reason n e h = go (names.place_of_name s.unit.names n) (nat_le most_names (length s.unit.names)) refl h
     where
       same : s.unit.names ≡ open_names [] xs
       same = names_are xs 1 empty s b
 
-      go : (o : Option ℕ) (w : Bool) → names.place_of s.unit.names n ≡ o
+      go : (o : Option ℕ) (w : Bool) → names.place_of_name s.unit.names n ≡ o
           → with_unit (λ u. record s { unit = u }) (cond (is_some o) (Err (errors.DuplicateName k)) (cond w (Err (errors.TooManyNames k)) (Ok (record s.unit { names = s.unit.names ++ n ∷ [] })))) ≡ Err e
           → IsReason k xs (Declares n) e
-      go (Some i) w f h = inl (cc, subst (λ ns. IsSome (names.place_of ns n)) same (subst IsSome (sym f) refl))
-      go None true f h = inr (cc, subst (λ ns. names.place_of ns n ≡ None) same f)
+      go (Some i) w f h = inl (cc, subst (λ ns. IsSome (names.place_of_name ns n)) same (subst IsSome (sym f) refl))
+      go None true f h = inr (cc, subst (λ ns. names.place_of_name ns n ≡ None) same f)
       go None false f h = absurd (cc)
 
   method_reason : (n : List ℕ) (ps : List (List ℕ)) (e : AsmError) → s.place ≡ places.Outside → add_line k s (Heads n ps) ≡ Err e → IsReason k xs (Heads n ps) e

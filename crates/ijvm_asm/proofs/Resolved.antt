@@ -7,7 +7,7 @@ use Rattle.std.proofs.lemmas.List.{take-append-drop}
 use Rattle.std.proofs.lemmas.List.Elements.{All-cons, All-nil}
 use Rattle.std.proofs.lemmas.List.Sums.{sum_by-cons}
 use Rattle.std.proofs.lemmas.Option.{get_or_from_slice_get, slice_get_within}
-use Rattle.source_names.specs.Places.{place_of}
+use Rattle.source_names.specs.Places.{place_of_name}
 use Rattle.ijvm_program.specs.declared.line.CodeLine.{CodeLine}
 use Rattle.ijvm_program.specs.declared.line.Constant.{Constant}
 use Rattle.ijvm_program.specs.declared.line.Jump.{Jump}
@@ -30,9 +30,9 @@ use Rattle.ijvm_asm.proofs.Totals.{lines_size, main_total, total, units_total}
 
 -- ---- names
 
-place_below : (names : List (List ℕ)) (name : List ℕ) (i : ℕ) → place_of names name ≡ Some i → i < length names
+place_below : (names : List (List ℕ)) (name : List ℕ) (i : ℕ) → place_of_name names name ≡ Some i → i < length names
 place_below [] name i h = absurd (cc)
-place_below (n ∷ names) name i h = go (bytes_eq n name) (place_of names name) (place_below names name) h
+place_below (n ∷ names) name i h = go (bytes_eq n name) (place_of_name names name) (place_below names name) h
   where
     go : (b : Bool) (o : Option ℕ) → ((j : ℕ) → o ≡ Some j → j < length names) → cond b (Some 0) (option_map (λ j. j + 1) o) ≡ Some i → i < length (n ∷ names)
     go true o f h = let e : 0 ≡ i = cc in omega (arith, e)

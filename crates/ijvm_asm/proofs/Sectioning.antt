@@ -213,7 +213,7 @@ module _ (k : ℕ) (s u : Source) (xs : List Said) (left : RestOf u xs) where
       let v : DraftView = record s.unit { names = s.unit.names ++ n ∷ [] } in
       let t : Source = record s { unit = v } in
       at_place s places.Locals (Declares n ∷ xs) e (local n xs s.may_declare (is_some s.unit.name)
-      (to_place t places.Locals xs e (made t u xs (with_ok (λ w. record s { unit = w }) (is_some (names.place_of s.unit.names n)) (nat_le 65534 (length s.unit.names)) v (errors.DuplicateName k) (errors.TooManyNames k) u h) left)))
+      (to_place t places.Locals xs e (made t u xs (with_ok (λ w. record s { unit = w }) (is_some (names.place_of_name s.unit.names n)) (nat_le 65534 (length s.unit.names)) v (errors.DuplicateName k) (errors.TooManyNames k) u h) left)))
 
   by_instruction : (l : Option (List ℕ)) (i : Option Instruction) (v : DraftView) → v.name ≡ s.unit.name → s.place ≡ places.Code
       → ok (record s { unit = add_instruction k v i; may_declare = false }) ≡ ok u → RestOf s (Codes l i ∷ xs)
@@ -226,7 +226,7 @@ module _ (k : ℕ) (s u : Source) (xs : List Said) (left : RestOf u xs) where
   by_code None i e h = by_instruction None i s.unit refl e h
   by_code (Some l) i e h =
       let v : DraftView = record s.unit { labels = s.unit.labels ++ l ∷ []; label_positions = s.unit.label_positions ++ length s.unit.lines ∷ []; pending = true } in
-      by_instruction (Some l) i v refl e (with_label (λ w. record s { unit = add_instruction k w i; may_declare = false }) (is_some (names.place_of s.unit.labels l)) v (errors.DuplicateName k) u h)
+      by_instruction (Some l) i v refl e (with_label (λ w. record s { unit = add_instruction k w i; may_declare = false }) (is_some (names.place_of_name s.unit.labels l)) v (errors.DuplicateName k) u h)
 
   by_mark : (m : Mark) → s.place ≡ place_of (Dotted m) → add_line k s (Dotted m) ≡ Ok u → RestOf s (Dotted m ∷ xs)
   by_mark marks.BeginConstants e h = by_constants e h

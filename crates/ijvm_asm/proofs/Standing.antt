@@ -3,7 +3,7 @@ use Rattle.std.proofs.Common.{◌≡◌, ℕ, ◌+◌, List, [], ◌∷◌, ◌+
 use Rattle.std.specs.Prelude.{option_map, option_and_then}
 use Rattle.std.specs.List.{slice_get}
 use Rattle.std.proofs.lemmas.List.{append_assoc, append-nil}
-use Rattle.source_names.specs.Places.{place_of}
+use Rattle.source_names.specs.Places.{place_of_name}
 use Rattle.ijvm_program.specs.declared.line.CodeLine.{CodeLine}
 use Rattle.ijvm_program.specs.declared.line.Label.{Label}
 use Rattle.ijvm_program.specs.declared.line.Operation.{Operation}
@@ -29,11 +29,11 @@ module _ (constants methods : List (List ℕ)) where
   -- ---- instructions
 
   local_is : (u : DraftView) (name : List ℕ) (i : ℕ) → index_of u name ≡ Some i → IsLocal u name i
-  local_is u name i h = mapped (λ place. place + first_index u) (place_of u.names name) i h
+  local_is u name i h = mapped (λ place. place + first_index u) (place_of_name u.names name) i h
 
   pub operation_is : (u : DraftView) (i : Instruction) (o : Operation) → operation_of constants methods u i ≡ Some o → StandsFor constants methods u i o
   operation_is u (instructions.Plain instr) o h = cc
-  operation_is u (instructions.Constant name) o h = mapped (λ place. operations.Constant place) (place_of constants name) o h
+  operation_is u (instructions.Constant name) o h = mapped (λ place. operations.Constant place) (place_of_name constants name) o h
   operation_is u (instructions.Local access wide name) o h =
       let m = mapped (λ index. operations.Plain (access_instr access wide index)) (index_of u name) o h in
       (m.0, local_is u name m.0 m.1, m.2)
@@ -42,8 +42,8 @@ module _ (constants methods : List (List ℕ)) where
       (m.0, local_is u name m.0 m.1, m.2)
   operation_is u (instructions.Jump jump label) o h =
       let m = mapped (λ position. operations.To jump position) (label_of u label) o h in
-      (m.0, chained (λ place. slice_get u.label_positions place) (place_of u.labels label) m.0 m.1, m.2)
-  operation_is u (instructions.Call name) o h = mapped (λ place. operations.Call place) (place_of methods name) o h
+      (m.0, chained (λ place. slice_get u.label_positions place) (place_of_name u.labels label) m.0 m.1, m.2)
+  operation_is u (instructions.Call name) o h = mapped (λ place. operations.Call place) (place_of_name methods name) o h
 
   local_again : (u : DraftView) (name : List ℕ) (i : ℕ) → IsLocal u name i → index_of u name ≡ Some i
   local_again u name i (place, e, q) = ap (option_map (λ p. p + first_index u)) e ∙ ap Some (sym q)

@@ -6,7 +6,7 @@ use Rattle.std.proofs.lemmas.List.{length-map}
 use Rattle.std.proofs.lemmas.Bool.Decides.{nat_tests}
 use Rattle.ijvm_instr.specs.declared.instr.Instr.{Instr}
 use Rattle.ijvm_instr.specs.declared.instr.Instr.TheVariants as instrs
-use Rattle.ijvm_instr.specs.Instructions.{name_of, row_of, size_of}
+use Rattle.ijvm_instr.specs.Instructions.{mnemonic_of, row_of, size_of}
 use Rattle.ijvm_tokens.specs.Signs.{sign_text}
 use Rattle.ijvm_tokens.specs.declared.token.Token.{Token}
 use Rattle.ijvm_tokens.specs.declared.token.Token.TheVariants as tokens
@@ -72,7 +72,7 @@ least_in kind = unwrap_or (option_map kind_least kind) 0
 abbrev size_in : Option Kind → ℕ
 size_in kind = unwrap_or (option_map kind_size kind) 1
 
-mnemonic_bytes : (i : Instr) → (nat_le (least_in (kind_of i)) (length (name_of i)) ≡ true) × (size_in (kind_of i) ≡ 1)
+mnemonic_bytes : (i : Instr) → (nat_le (least_in (kind_of i)) (length (mnemonic_of i)) ≡ true) × (size_in (kind_of i) ≡ 1)
 mnemonic_bytes instrs.Nop = (refl, refl)
 mnemonic_bytes _ = (refl, refl)
 
@@ -83,9 +83,9 @@ word_bytes text kind (inl (spelled, e)) =
     let g : kind_least kind ≡ 2 = ap kind_least e in
     (omega (arith, a, g), ap kind_size e)
 word_bytes text kind (inr (i, spelled, e)) =
-    let a = same_length (name_of i) text spelled in
+    let a = same_length (mnemonic_of i) text spelled in
     let c = (mnemonic_bytes i).0 in
-    let f : least_in (kind_of i) ≤ length (name_of i) = grind (arith, nat_tests) in
+    let f : least_in (kind_of i) ≤ length (mnemonic_of i) = grind (arith, nat_tests) in
     let g : least_in (kind_of i) ≡ kind_least kind = ap least_in e in
     (omega (arith, a, f, g), sym (ap size_in e) ∙ (mnemonic_bytes i).1)
 

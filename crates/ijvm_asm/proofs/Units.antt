@@ -51,7 +51,7 @@ locals_make (None ∷ items) k s u e (v, p, h, more) =
     let q : s ≡ v = cc in
     locals_make items (k + 1) s u e (subst (λ w. Build (k + 1) w (locals_end items) u) (sym q) more)
 locals_make (Some n ∷ items) k s u e (v, p, h, more) =
-    let b = with_both (λ w. record s { unit = w }) (is_some (names.place_of s.unit.names n)) (nat_le most_names (length s.unit.names)) (record s.unit { names = s.unit.names ++ n ∷ [] }) (errors.DuplicateName k) (errors.TooManyNames k) v h in
+    let b = with_both (λ w. record s { unit = w }) (is_some (names.place_of_name s.unit.names n)) (nat_le most_names (length s.unit.names)) (record s.unit { names = s.unit.names ++ n ∷ [] }) (errors.DuplicateName k) (errors.TooManyNames k) v h in
     let g : ok (with_local s n) ≡ ok v = b.2 in
     let q : with_local s n ≡ v = cc in
     let r = locals_make items (k + 1) (with_local s n) u e (subst (λ w. Build (k + 1) w (locals_end items) u) (sym q) more) in
@@ -63,7 +63,7 @@ make_locals (None ∷ items) k s u e a = (s, e, refl, make_locals items (k + 1) 
 make_locals (Some n ∷ items) k s u e ((new, less, more), q) = (
   with_local s n,
   e,
-  both_with (λ w. record s { unit = w }) (is_some (names.place_of s.unit.names n)) (nat_le most_names (length s.unit.names)) (record s.unit { names = s.unit.names ++ n ∷ [] }) (errors.DuplicateName k) (errors.TooManyNames k) (ap is_some new) (lt-leb most_names (length s.unit.names) less),
+  both_with (λ w. record s { unit = w }) (is_some (names.place_of_name s.unit.names n)) (nat_le most_names (length s.unit.names)) (record s.unit { names = s.unit.names ++ n ∷ [] }) (errors.DuplicateName k) (errors.TooManyNames k) (ap is_some new) (lt-leb most_names (length s.unit.names) less),
   make_locals items (k + 1) (with_local s n) u e (more, q ∙ sym (ap (named s) (append_assoc s.unit.names (n ∷ []) (declared items)))),
 )
 
@@ -75,7 +75,7 @@ labelled u (Some l) = record u { labels = u.labels ++ l ∷ []; label_positions 
 
 abbrev pub IsNew : List (List ℕ) → Option (List ℕ) → Type 0
 IsNew seen None = ⊤
-IsNew seen (Some l) = names.place_of seen l ≡ None
+IsNew seen (Some l) = names.place_of_name seen l ≡ None
 
 -- the source behind code line `k`
 abbrev pub after : ℕ → Source → Option (List ℕ) → Option Instruction → Source
@@ -176,13 +176,13 @@ if_with f false v e h = refl
 pub line_made : (k : ℕ) (s v : Source) (l : Option (List ℕ)) (i : Option Instruction) → add_code k s l i ≡ Ok v → IsNew s.unit.labels l × (ok (after k s l i) ≡ ok v)
 line_made k s v None i h = (tt, h)
 line_made k s v (Some l) i h =
-    let b = with_if (λ u. record s { unit = add_instruction k u i; may_declare = false }) (is_some (names.place_of s.unit.labels l)) (labelled s.unit (Some l)) (errors.DuplicateName k) v h in
+    let b = with_if (λ u. record s { unit = add_instruction k u i; may_declare = false }) (is_some (names.place_of_name s.unit.labels l)) (labelled s.unit (Some l)) (errors.DuplicateName k) v h in
     (None-if_not_some _ b.0, b.1)
 
 made_line : (k : ℕ) (s : Source) (l : Option (List ℕ)) (i : Option Instruction) → IsNew s.unit.labels l → add_code k s l i ≡ ok (after k s l i)
 made_line k s None i n = refl
 made_line k s (Some l) i n =
-    if_with (λ u. record s { unit = add_instruction k u i; may_declare = false }) (is_some (names.place_of s.unit.labels l)) (labelled s.unit (Some l)) (errors.DuplicateName k) (ap is_some n)
+    if_with (λ u. record s { unit = add_instruction k u i; may_declare = false }) (is_some (names.place_of_name s.unit.labels l)) (labelled s.unit (Some l)) (errors.DuplicateName k) (ap is_some n)
 
 pub code_makes : (items : List (Option CodeItem)) (k : ℕ) (s u : Source) → s.place ≡ places.Code → Build k s (map code_line items) u → MakesCode k s items u
 code_makes [] k s u e m = (tt, sym m ∙ sym (behind_none k s))

@@ -20,7 +20,7 @@ use Rattle.ijvm_line.specs.Lines as spelled
 use Rattle.ijvm_line.specs.Reading.{line_from}
 use Rattle.ijvm_line.specs.Parameters.{parameters}
 use Rattle.ijvm_line.specs.Ranges.{made}
-use Rattle.source_names.specs.Places.{place_of}
+use Rattle.source_names.specs.Places.{place_of_name}
 use Rattle.ijvm_asm.specs.declared.error.AsmError.{AsmError}
 use Rattle.ijvm_asm.specs.declared.error.AsmError.TheVariants as errors
 use Rattle.ijvm_asm.specs.Drafts.{begun, DraftView}
@@ -34,14 +34,14 @@ use Rattle.ijvm_asm.specs.Source.{empty, Source}
 
 -- parameters and locals share their names, and are at most 65,534
 abbrev pub add_local : ℕ → DraftView → List ℕ → Result DraftView AsmError
-add_local k u name = if is_some (place_of u.names name) then Err (errors.DuplicateName k)
+add_local k u name = if is_some (place_of_name u.names name) then Err (errors.DuplicateName k)
     else (if nat_le most_names (length u.names) then Err (errors.TooManyNames k)
     else Ok (record u { names = u.names ++ name ∷ [] }))
 
 -- a label names the next instruction
 abbrev pub add_label : ℕ → DraftView → Option (List ℕ) → Result DraftView AsmError
 add_label k u None = Ok u
-add_label k u (Some label) = if is_some (place_of u.labels label) then Err (errors.DuplicateName k)
+add_label k u (Some label) = if is_some (place_of_name u.labels label) then Err (errors.DuplicateName k)
     else Ok (record u { labels = u.labels ++ label ∷ []; label_positions = u.label_positions ++ length u.lines ∷ []; pending = true })
 
 abbrev pub add_instruction : ℕ → DraftView → Option Instruction → DraftView
@@ -86,7 +86,7 @@ add_mark k s marks.EndLocals = Ok (record s { place = places.Code })
 
 -- constants and methods share their names
 abbrev pub is_declared : Source → List ℕ → Bool
-is_declared s name = is_some (place_of s.constants name) || is_some (place_of s.methods name)
+is_declared s name = is_some (place_of_name s.constants name) || is_some (place_of_name s.methods name)
 
 abbrev pub add_constant : ℕ → Source → List ℕ → ℕ → Result Source AsmError
 add_constant k s name value = if is_declared s name then Err (errors.DuplicateName k)
@@ -95,7 +95,7 @@ add_constant k s name value = if is_declared s name then Err (errors.DuplicateNa
 -- names behind those that were seen, unless one comes twice
 abbrev pub gather : List (List ℕ) → List (List ℕ) → Option (List (List ℕ))
 gather seen [] = Some seen
-gather seen (name ∷ names) = if is_some (place_of seen name) then None else gather (seen ++ name ∷ []) names
+gather seen (name ∷ names) = if is_some (place_of_name seen name) then None else gather (seen ++ name ∷ []) names
 
 abbrev pub method_by : ℕ → Source → List ℕ → Option (List (List ℕ)) → Result Source AsmError
 method_by k s name None = Err (errors.DuplicateName k)

@@ -32,7 +32,7 @@ defined (Some c ∷ items) = c ∷ defined items
 -- no name comes twice: each is that of no method, and of no constant before it
 abbrev pub AreConstants : List (List ℕ) → List (List ℕ) → List Constant → Type 0
 AreConstants methods seen [] = ⊤
-AreConstants methods seen (c ∷ cs) = (names.place_of seen c.name ≡ None) × (names.place_of methods c.name ≡ None)
+AreConstants methods seen (c ∷ cs) = (names.place_of_name seen c.name ≡ None) × (names.place_of_name methods c.name ≡ None)
     × AreConstants methods (seen ++ c.name ∷ []) cs
 
 -- it is the only section of constants, its names are new, and it adds them in order with their values
@@ -56,7 +56,7 @@ pub record AddsMain (k : ℕ) (d : Declarations) (body : Body) (e : Declarations
 
 -- its name is that of no constant and of no method before it, and its parameters are at most 65,534; line `k` begins it
 pub record AddsMethod (k : ℕ) (d : Declarations) (name : List ℕ) (ps : List (List ℕ)) (body : Body) (e : Declarations) : Type 0 where
-  pub new : (names.place_of d.constants name ≡ None) × (names.place_of d.methods name ≡ None)
+  pub new : (names.place_of_name d.constants name ≡ None) × (names.place_of_name d.methods name ≡ None)
   pub once : AreNew [] ps
   pub few : length ps ≤ most_names
   pub unit : DraftView

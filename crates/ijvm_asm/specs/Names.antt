@@ -11,7 +11,7 @@ use Rattle.ijvm_program.specs.Unit.{UnitView}
 use Rattle.ijvm_line.specs.declared.instruction.Instruction.{Instruction}
 use Rattle.ijvm_line.specs.declared.instruction.Instruction.TheVariants as instructions
 use Rattle.ijvm_line.specs.Ranges.{access_instr, increment_instr}
-use Rattle.source_names.specs.Places.{place_of}
+use Rattle.source_names.specs.Places.{place_of_name}
 use Rattle.ijvm_asm.specs.declared.draft.DraftLine.{DraftLine}
 use Rattle.ijvm_asm.specs.Drafts.{DraftView}
 use Rattle.ijvm_asm.specs.Making.{Declarations}
@@ -28,22 +28,22 @@ first_index u = if is_some u.name then 1 else 0
 
 -- the parameter or local of this name has this index
 abbrev pub IsLocal : DraftView → List ℕ → ℕ → Type 0
-IsLocal u name index = (place : ℕ) × (place_of u.names name ≡ Some place) × (index ≡ place + first_index u)
+IsLocal u name index = (place : ℕ) × (place_of_name u.names name ≡ Some place) × (index ≡ place + first_index u)
 
 -- the label stands before the code line at this position
 abbrev pub IsLabel : DraftView → List ℕ → ℕ → Type 0
-IsLabel u label position = (place : ℕ) × (place_of u.labels label ≡ Some place) × (slice_get u.label_positions place ≡ Some position)
+IsLabel u label position = (place : ℕ) × (place_of_name u.labels label ≡ Some place) × (slice_get u.label_positions place ≡ Some position)
 
 -- the instruction stands for the operation; the wide forms are taken where they are forced, and where index or number need them
 abbrev pub StandsFor : List (List ℕ) → List (List ℕ) → DraftView → Instruction → Operation → Type 0
 StandsFor constants methods u (instructions.Plain instr) operation = operation ≡ operations.Plain instr
-StandsFor constants methods u (instructions.Constant name) operation = (i : ℕ) × (place_of constants name ≡ Some i) × (operation ≡ operations.Constant i)
+StandsFor constants methods u (instructions.Constant name) operation = (i : ℕ) × (place_of_name constants name ≡ Some i) × (operation ≡ operations.Constant i)
 StandsFor constants methods u (instructions.Local access wide name) operation = (i : ℕ) × IsLocal u name i
     × (operation ≡ operations.Plain (access_instr access wide i))
 StandsFor constants methods u (instructions.Increment wide name by) operation = (i : ℕ) × IsLocal u name i
     × (operation ≡ operations.Plain (increment_instr wide i by))
 StandsFor constants methods u (instructions.Jump jump label) operation = (i : ℕ) × IsLabel u label i × (operation ≡ operations.To jump i)
-StandsFor constants methods u (instructions.Call name) operation = (i : ℕ) × (place_of methods name ≡ Some i) × (operation ≡ operations.Call i)
+StandsFor constants methods u (instructions.Call name) operation = (i : ℕ) × (place_of_name methods name ≡ Some i) × (operation ≡ operations.Call i)
 
 -- the instruction names what is not declared as what it asks for
 abbrev pub NamesNone : List (List ℕ) → List (List ℕ) → DraftView → Instruction → Type 0

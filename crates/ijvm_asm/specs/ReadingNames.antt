@@ -13,7 +13,7 @@ use Rattle.ijvm_line.specs.declared.place.Place.TheVariants as places
 use Rattle.ijvm_line.specs.declared.instruction.Instruction.{Instruction}
 use Rattle.ijvm_line.specs.declared.instruction.Instruction.TheVariants as instructions
 use Rattle.ijvm_line.specs.Ranges.{access_instr, increment_instr}
-use Rattle.source_names.specs.Places.{place_of}
+use Rattle.source_names.specs.Places.{place_of_name}
 use Rattle.ijvm_asm.specs.declared.draft.DraftLine.{DraftLine}
 use Rattle.ijvm_asm.specs.declared.error.AsmError.{AsmError}
 use Rattle.ijvm_asm.specs.declared.error.AsmError.TheVariants as errors
@@ -24,20 +24,20 @@ use Rattle.ijvm_asm.specs.Source.{declarations_of, Source}
 -- ---- one line
 
 abbrev pub index_of : DraftView → List ℕ → Option ℕ
-index_of u name = option_map (λ place. place + first_index u) (place_of u.names name)
+index_of u name = option_map (λ place. place + first_index u) (place_of_name u.names name)
 
 abbrev pub label_of : DraftView → List ℕ → Option ℕ
-label_of u label = option_and_then (λ place. slice_get u.label_positions place) (place_of u.labels label)
+label_of u label = option_and_then (λ place. slice_get u.label_positions place) (place_of_name u.labels label)
 
 abbrev pub operation_of : List (List ℕ) → List (List ℕ) → DraftView → Instruction → Option Operation
 operation_of constants methods u (instructions.Plain instr) = Some (operations.Plain instr)
-operation_of constants methods u (instructions.Constant name) = option_map (λ place. operations.Constant place) (place_of constants name)
+operation_of constants methods u (instructions.Constant name) = option_map (λ place. operations.Constant place) (place_of_name constants name)
 operation_of constants methods u (instructions.Local access wide name) =
     option_map (λ index. operations.Plain (access_instr access wide index)) (index_of u name)
 operation_of constants methods u (instructions.Increment wide name by) =
     option_map (λ index. operations.Plain (increment_instr wide index by)) (index_of u name)
 operation_of constants methods u (instructions.Jump jump label) = option_map (λ position. operations.To jump position) (label_of u label)
-operation_of constants methods u (instructions.Call name) = option_map (λ place. operations.Call place) (place_of methods name)
+operation_of constants methods u (instructions.Call name) = option_map (λ place. operations.Call place) (place_of_name methods name)
 
 -- ---- the lowest line that names what is not declared
 

@@ -79,8 +79,8 @@ IsReason k before (Dotted mark) e = e ≡ errors.BadLine k
 IsReason k before (Heads name ps) e = ((e ≡ errors.DuplicateName k) × ((IsFront (before ++ Heads name [] ∷ []) → ⊥) ⊎ (AreNew [] ps → ⊥)))
     ⊎ ((e ≡ errors.TooManyNames k) × IsFront (before ++ Heads name [] ∷ []) × AreNew [] ps)
 IsReason k before (Defines name value) e = e ≡ errors.DuplicateName k
-IsReason k before (Declares name) e = ((e ≡ errors.DuplicateName k) × IsSome (names.place_of (open_names [] before) name))
-    ⊎ ((e ≡ errors.TooManyNames k) × (names.place_of (open_names [] before) name ≡ None))
+IsReason k before (Declares name) e = ((e ≡ errors.DuplicateName k) × IsSome (names.place_of_name (open_names [] before) name))
+    ⊎ ((e ≡ errors.TooManyNames k) × (names.place_of_name (open_names [] before) name ≡ None))
 IsReason k before (Codes label instruction) e = e ≡ errors.DuplicateName k
 
 -- what line `k` says at its place does not fit behind these lines, for this reason

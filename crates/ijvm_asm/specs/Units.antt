@@ -12,7 +12,7 @@ use Rattle.ijvm_asm.specs.Sections.{Body, CodeItem, local_line, Locals}
 -- no name comes twice, nor is one of those that were seen
 abbrev pub AreNew : List (List ℕ) → List (List ℕ) → Type 0
 AreNew seen [] = ⊤
-AreNew seen (n ∷ ns) = (names.place_of seen n ≡ None) × AreNew (seen ++ n ∷ []) ns
+AreNew seen (n ∷ ns) = (names.place_of_name seen n ≡ None) × AreNew (seen ++ n ∷ []) ns
 
 -- ---- its locals
 
@@ -24,7 +24,7 @@ declared (Some name ∷ items) = name ∷ declared items
 -- no name comes twice, nor is one that of a parameter, and parameters and locals are at most 65,534
 abbrev pub AreLocals : List (List ℕ) → List (List ℕ) → Type 0
 AreLocals seen [] = ⊤
-AreLocals seen (n ∷ ns) = (names.place_of seen n ≡ None) × (length seen < most_names) × AreLocals (seen ++ n ∷ []) ns
+AreLocals seen (n ∷ ns) = (names.place_of_name seen n ≡ None) × (length seen < most_names) × AreLocals (seen ++ n ∷ []) ns
 
 -- ---- its code
 

@@ -1,4 +1,4 @@
-//! Reading an image file.
+//! Reads an image file: its magic number, then two blocks, each with origin and size; where its bytes are wrong, the first error.
 
 ghost use Rattle.std.specs.Prelude.{◌≡◌, ◌⊎◌, ◌+◌, ◌*◌, ◌≤◌, ◌<◌, length, IfOk, IfErr, Ok, Err, Some, None};
 ghost use Rattle.ijvm_image.specs.Image.{ImageView, IsWithinLimits};

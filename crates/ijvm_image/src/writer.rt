@@ -1,4 +1,4 @@
-//! Writing an image file.
+//! Writes an image as a file, which the reader reads back as the same image.
 
 ghost use Rattle.std.specs.Prelude.{◌≡◌, ◌+◌, ◌≤◌, ◌<◌, ◌++◌, length, OnOk, IfOk, ◌*◌};
 ghost use Rattle.std.specs.List.{flat_map};

@@ -76,8 +76,8 @@ named_row Err = (codes "ERR", record (plain 0xFE 0 0 1 0) { flow = End })
 named_row Halt = (codes "HALT", record (plain 0xFF 0 0 1 0) { flow = End })
 
 -- the mnemonic, behind WIDE where its opcode is
-abbrev pub name_of : Instr → List ℕ
-name_of i = (named_row i).0
+abbrev pub mnemonic_of : Instr → List ℕ
+mnemonic_of i = (named_row i).0
 
 abbrev pub row_of : Instr → Row
 row_of i = (named_row i).1

@@ -5,7 +5,7 @@ use Rattle.mic_base.specs.Digits.{hex_text}
 use Rattle.ijvm_instr.specs.declared.instr.Instr.{Instr}
 use Rattle.ijvm_instr.specs.declared.row.Operands.{Operands}
 use Rattle.ijvm_instr.specs.declared.row.Operands.TheVariants.{None as NoOperands, Byte, Local, LocalByte, Index, IndexHalf, Offset}
-use Rattle.ijvm_instr.specs.Instructions.{row_of, name_of, target}
+use Rattle.ijvm_instr.specs.Instructions.{row_of, mnemonic_of, target}
 
 -- a space and a number
 abbrev pub number_text : ℤ → List ℕ
@@ -22,4 +22,4 @@ operand_text at (IndexHalf k n) = number_text (pos k) ++ number_text n
 operand_text at (Offset o) = 32 ∷ hex_text 8 (target at o)
 
 abbrev pub instr_text : Instr → ℕ → List ℕ
-instr_text i at = name_of i ++ operand_text at (row_of i).operands
+instr_text i at = mnemonic_of i ++ operand_text at (row_of i).operands

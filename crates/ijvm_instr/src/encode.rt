@@ -1,4 +1,4 @@
-//! From instructions to bytes.
+//! The bytes of an instruction: its opcode, with WIDE before it where its row says so, and its operands.
 
 ghost use Rattle.std.specs.Prelude.{◌≡◌, ◌+◌, ◌≤◌, ◌++◌};
 ghost use Rattle.arrayvec.specs.ArrayVec.{array_vec_len};

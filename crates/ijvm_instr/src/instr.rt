@@ -1,4 +1,4 @@
-//! Instructions.
+//! The instructions of IJVM as values, in the order of the table.
 
 /// An instruction with its operands.
 #[derive(Clone, Copy, Debug, PartialEq, Eq)]

@@ -1,7 +1,7 @@
 //! The text of an instruction in lists and traces.
 
 ghost use Rattle.std.specs.Prelude.{◌≡◌, ◌+◌, ◌≤◌, ◌<◌, ◌++◌, length, unsigned_abs};
-ghost use Rattle.ijvm_instr.specs.Instructions.{name_of, target};
+ghost use Rattle.ijvm_instr.specs.Instructions.{mnemonic_of, target};
 ghost use Rattle.ijvm_instr.specs.Text.{number_text, operand_text, instr_text};
 
 use crate::instr::Instr;
@@ -54,7 +54,7 @@ fn print_operands(operands: Operands, at: u32, line: &mut Line)
 /// Appends an instruction's mnemonic.
 pub fn print_name(instr: Instr, line: &mut Line)
     requires { length line.old + 64 ≤ 512 }
-    ensures { line.new ≡ line.old ++ name_of instr }
+    ensures { line.new ≡ line.old ++ mnemonic_of instr }
 {
     line.text(name(instr));
 }

@@ -1,7 +1,7 @@
-//! The instruction table.
+//! The instruction table: of each instruction its name, opcode, operands, where it leads, what it needs and gives, and what it costs.
 
 ghost use Rattle.std.specs.Prelude.{◌≡◌, ◌≤◌, length, Some};
-ghost use Rattle.ijvm_instr.specs.Instructions.{plain, wide, jump, branch, call, name_of, operand_index, row_of, operand_bytes, size_of};
+ghost use Rattle.ijvm_instr.specs.Instructions.{plain, wide, jump, branch, call, mnemonic_of, operand_index, row_of, operand_bytes, size_of};
 
 use crate::instr::Instr;
 
@@ -224,7 +224,7 @@ impl Row {
 
 /// The instruction table: each instruction's mnemonic and its row.
 fn named_row(instr: Instr) -> (&'static str, Row)
-    ensures name { result.0.now ≡ name_of instr }
+    ensures name { result.0.now ≡ mnemonic_of instr }
     ensures len { length result.0.now ≤ 13 }
     ensures row { result.1 ≡ row_of instr }
 {
@@ -265,7 +265,7 @@ fn named_row(instr: Instr) -> (&'static str, Row)
 
 /// The mnemonic, behind WIDE where its opcode is.
 pub fn name(instr: Instr) -> &'static str
-    ensures is { result.now ≡ name_of instr }
+    ensures is { result.now ≡ mnemonic_of instr }
     ensures len { length result.now ≤ 13 }
 {
     named_row(instr).0

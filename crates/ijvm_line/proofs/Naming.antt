@@ -7,7 +7,7 @@ use Rattle.std.proofs.lemmas.Option.{option_and_then_some}
 use Rattle.ijvm_instr.specs.declared.instr.Instr.{Instr}
 use Rattle.ijvm_instr.specs.declared.instr.Instr.TheVariants as instrs
 use Rattle.ijvm_instr.specs.declared.instr.TheConstants.{INSTRUCTIONS}
-use Rattle.ijvm_instr.specs.Instructions.{name_of}
+use Rattle.ijvm_instr.specs.Instructions.{mnemonic_of}
 use Rattle.ijvm_line.specs.declared.mnemonic.Kind.{Kind}
 use Rattle.ijvm_line.specs.declared.mnemonic.Kind.TheVariants as kinds
 use Rattle.ijvm_line.proofs.Options.{chosen}
@@ -24,9 +24,9 @@ find_passes p (y ∷ ys) x h = elim (chosen (p y) (Some y) (find p ys) (Some x) 
 by_lower : List ℕ → Option Kind
 by_lower lower =
     if bytes_eq (str_to_ascii_lowercase (codes "WIDE")) lower then Some kinds.Wide
-    else option_and_then kind_of (find (λ i. bytes_eq (str_to_ascii_lowercase (name_of i)) lower) INSTRUCTIONS)
+    else option_and_then kind_of (find (λ i. bytes_eq (str_to_ascii_lowercase (mnemonic_of i)) lower) INSTRUCTIONS)
 
-again : (i : Instr) → by_lower (str_to_ascii_lowercase (name_of i)) ≡ kind_of i
+again : (i : Instr) → by_lower (str_to_ascii_lowercase (mnemonic_of i)) ≡ kind_of i
 unfolding by_lower
 again instrs.Nop = refl
 again _ = refl
@@ -45,7 +45,7 @@ kind_is text kind h =
       | inl w ↦ inl (spelled_by (codes "WIDE") text w.0, let e = w.1 in cc)
       | inr w ↦
           option_and_then_some kind_of (spelled_in INSTRUCTIONS text) kind w.1
-          (λ i at is. inr (i, spelled_by (name_of i) text (find_passes (λ i. str_eq_ignore_ascii_case (name_of i) text) INSTRUCTIONS i at), is))
+          (λ i at is. inr (i, spelled_by (mnemonic_of i) text (find_passes (λ i. str_eq_ignore_ascii_case (mnemonic_of i) text) INSTRUCTIONS i at), is))
     ]
 
 -- the kind of a word that is not WIDE

@@ -4,7 +4,7 @@ use Rattle.std.specs.Str.{str_eq_ignore_ascii_case, str_to_ascii_lowercase}
 use Rattle.ijvm_instr.specs.declared.instr.Instr.{Instr}
 use Rattle.ijvm_instr.specs.declared.instr.Instr.TheVariants as instrs
 use Rattle.ijvm_instr.specs.declared.instr.TheConstants.{INSTRUCTIONS}
-use Rattle.ijvm_instr.specs.Instructions.{name_of}
+use Rattle.ijvm_instr.specs.Instructions.{mnemonic_of}
 use Rattle.ijvm_program.specs.declared.line.Jump.TheVariants as jumps
 use Rattle.ijvm_line.specs.declared.mnemonic.Access.TheVariants as accesses
 use Rattle.ijvm_line.specs.declared.mnemonic.Kind.{Kind}
@@ -33,11 +33,11 @@ IsSpelled word text = str_to_ascii_lowercase word ≡ str_to_ascii_lowercase tex
 
 -- the text is a word of this kind: WIDE, or an instruction's mnemonic
 abbrev pub IsOfKind : List ℕ → Kind → Type 0
-IsOfKind text kind = (IsSpelled (codes "WIDE") text × (kind ≡ kinds.Wide)) ⊎ ((i : Instr) × IsSpelled (name_of i) text × (kind_of i ≡ Some kind))
+IsOfKind text kind = (IsSpelled (codes "WIDE") text × (kind ≡ kinds.Wide)) ⊎ ((i : Instr) × IsSpelled (mnemonic_of i) text × (kind_of i ≡ Some kind))
 
 -- the first of the instructions whose mnemonic the text is
 abbrev pub spelled_in : List Instr → List ℕ → Option Instr
-spelled_in table text = find (λ i. str_eq_ignore_ascii_case (name_of i) text) table
+spelled_in table text = find (λ i. str_eq_ignore_ascii_case (mnemonic_of i) text) table
 
 -- the kind of a word
 abbrev pub find_kind : List ℕ → Option Kind

@@ -29,9 +29,9 @@ addend_of (pos n) = if nat_lt n 32768 then Some (pos n) else None
 addend_of (negsuc n) = if nat_lt n 32768 then Some (negsuc n) else None
 
 -- -2147483648 to 4294967295, as a word: a number below zero and the one that is 4294967296 more are the same
-abbrev pub word_of : ℤ → Option ℕ
-word_of (pos n) = if nat_lt n 0x1_0000_0000 then Some n else None
-word_of (negsuc n) = if nat_lt n 0x8000_0000 then Some (0xFFFF_FFFF - n) else None
+abbrev pub word_in_range : ℤ → Option ℕ
+word_in_range (pos n) = if nat_lt n 0x1_0000_0000 then Some n else None
+word_in_range (negsuc n) = if nat_lt n 0x8000_0000 then Some (0xFFFF_FFFF - n) else None
 
 abbrev pub in_range : {A : Type 0} → Option A → Result A LineFault
 in_range (Some a) = Ok a
@@ -52,7 +52,7 @@ abbrev pub addend : Option ℤ → Result ℤ LineFault
 addend = number addend_of
 
 abbrev pub word : Option ℤ → Result ℕ LineFault
-word = number word_of
+word = number word_in_range
 
 abbrev pub made : {A B : Type 0} → (A → B) → Result A LineFault → Result B LineFault
 made f (Ok a) = Ok (f a)

@@ -1,7 +1,7 @@
 //! Instructions whose names are not yet looked up, with their numbers in range.
 
 ghost use Rattle.std.specs.Prelude.{◌≡◌};
-ghost use Rattle.ijvm_line.specs.Ranges.{access_instr, addend, addend_of, byte, byte_of, constant, increment, increment_instr, index, index_of, instruction_of, is_wide, local, push, word, word_of};
+ghost use Rattle.ijvm_line.specs.Ranges.{access_instr, addend, addend_of, byte, byte_of, constant, increment, increment_instr, index, index_of, instruction_of, is_wide, local, push, word, word_in_range};
 
 use crate::line::LineFault;
 use crate::mnemonic::Access;
@@ -103,8 +103,8 @@ fn addend_of(value: i64) -> Option<i16>
 }
 
 /// The word of a number from -2147483648 to 4294967295.
-fn word_of(value: i64) -> Option<u32>
-    ensures { result ≡ word_of value }
+fn word_in_range(value: i64) -> Option<u32>
+    ensures { result ≡ word_in_range value }
 {
     if 0 <= value && value < 0x1_0000_0000 {
         Some(value as u32)
@@ -146,7 +146,7 @@ pub(crate) fn word(value: Option<i64>) -> Result<u32, LineFault>
     ensures { result ≡ word value }
 {
     match value {
-        Some(value) => word_of(value).ok_or(LineFault::OutOfRange),
+        Some(value) => word_in_range(value).ok_or(LineFault::OutOfRange),
         None => Err(LineFault::BadNumber),
     }
 }

@@ -9,7 +9,7 @@ use Rattle.ijvm_instr.specs.Instructions.{of_bytes, instr_at}
 use Rattle.ijvm_image.specs.Image.{params, others}
 use Rattle.ijvm_meaning.specs.Frames.{lv_of, sp_of, top_of}
 use Rattle.ijvm_meaning.specs.Cost.{timing_of}
-use Rattle.ijvm_meaning.specs.Run.{Program, Finish, first_point, finish_from}
+use Rattle.ijvm_meaning.specs.Run.{TimedImage, Finish, first_point, finish_from}
 
 record Told : Type 0 where
   end : RunEnd
@@ -43,7 +43,7 @@ told_of (Some f) =
 -- on a memory map with this end of the stack
 abbrev run_on : ℕ → Machine → List ℕ → List ℕ → ℕ → List ℕ → ℕ → ℕ → Option Told
 run_on stack_end machine text pool main_locals input bound points =
-    let p : Program = record { image = record { text = text; pool = pool }; stack_end = stack_end; timing = timing_of machine } in
+    let p : TimedImage = record { image = record { text = text; pool = pool }; stack_end = stack_end; timing = timing_of machine } in
     told_of (finish_from p bound points (first_point p main_locals input))
 
 -- on the standard map

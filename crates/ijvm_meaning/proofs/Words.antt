@@ -14,8 +14,8 @@ use Rattle.ijvm_instr.specs.Instructions.{IsInstr, instr_at, word_of, target}
 use Rattle.ijvm_image.specs.declared.method.Method.{Method}
 use Rattle.ijvm_image.specs.Image.{ImageView, IsImage, method_at, params, others}
 use Rattle.ijvm_meaning.specs.Frames.{Frame, State, frames_of, base, start_of, IsWord, HasWords, AreWords}
-use Rattle.ijvm_meaning.specs.Step.{Outcome, Goes, Halts, Errs, Limits, Stuck, moved, pushed, pushed_constant, loaded, is_own, with_local, stored, increased, popped, doubled, swapped, combined, way, branched, compared, returned, onto, called, in_method, entered, called_at, taken, given_out, step, step_if_any, outcome}
-use Rattle.ijvm_meaning.specs.Run.{Program, Point, Passes, Start, More}
+use Rattle.ijvm_meaning.specs.Step.{StepOutcome, Goes, Halts, Errs, Limits, Stuck, moved, pushed, pushed_constant, loaded, is_own, with_local, stored, increased, popped, doubled, swapped, combined, way, branched, compared, returned, onto, called, in_method, entered, called_at, taken, given_out, step, step_if_any, step_outcome}
+use Rattle.ijvm_meaning.specs.Run.{TimedImage, Point, Passes, Start, More}
 
 found : {X : Type 0} (P : X → Type 0) (xs : List X) (i : ℕ) → All P xs → IfSome (slice_get xs i) P
 found P [] i h = tt
@@ -26,7 +26,7 @@ abbrev IsSet : Option ℕ → Type 0
 IsSet v = IfSome v IsWord
 
 -- the state that an outcome leads to, or leaves, has words
-abbrev pub Keeps : Outcome → Type 0
+abbrev pub Keeps : StepOutcome → Type 0
 Keeps (Goes to) = AreWords to
 Keeps Halts = Unit {0}
 Keeps Errs = Unit {0}
@@ -247,10 +247,10 @@ stepped_words image n s (Some i) good reads is h =
     let fits : length image.text ≤ 65536 = good.limits.text_fits in
     step_words image n i s fits good.words read.0 (let inside : s.at < length image.text = read.1 in omega arith) h
 
-pub goes_words : (image : ImageView) (n : ℕ) (s to : State) → IsImage image → Reads image → AreWords s → outcome image n s ≡ Goes to → AreWords to
+pub goes_words : (image : ImageView) (n : ℕ) (s to : State) → IsImage image → Reads image → AreWords s → step_outcome image n s ≡ Goes to → AreWords to
 goes_words image n s to good reads h goes = subst Keeps goes (stepped_words image n s (instr_at image.text s.at) good reads refl h)
 
-pub limits_words : (image : ImageView) (n : ℕ) (s left : State) → IsImage image → Reads image → AreWords s → outcome image n s ≡ Limits left → AreWords left
+pub limits_words : (image : ImageView) (n : ℕ) (s left : State) → IsImage image → Reads image → AreWords s → step_outcome image n s ≡ Limits left → AreWords left
 limits_words image n s left good reads h limits = subst Keeps limits (stepped_words image n s (instr_at image.text s.at) good reads refl h)
 
 pub start_words : (main_locals : ℕ) (input : List ℕ) → AreWords (start_of main_locals input)
@@ -261,7 +261,7 @@ start_words main_locals input =
       at = omega arith;
     }
 
-pub passed_words : (p : Program) (bound : ℕ) (from at : Point) → IsImage p.image → Reads p.image → AreWords from.state → Passes p bound from at → AreWords at.state
+pub passed_words : (p : TimedImage) (bound : ℕ) (from at : Point) → IsImage p.image → Reads p.image → AreWords from.state → Passes p bound from at → AreWords at.state
 passed_words p bound from at good reads h (Start a same) = subst (λ (x : Point). AreWords x.state) (sym same) h
 passed_words p bound from at good reads h (More b next to first less goes is) =
     subst (λ (x : Point). AreWords x.state) (sym is) (goes_words p.image p.stack_end b.state to good reads (passed_words p bound from b good reads h first) goes)

@@ -4,11 +4,11 @@ use Rattle.ijvm_meaning.specs.declared.run.RunEnd.{RunEnd}
 use Rattle.ijvm_meaning.specs.declared.run.RunEnd.TheVariants as ends
 use Rattle.ijvm_image.specs.Image.{ImageView}
 use Rattle.ijvm_meaning.specs.Frames.{State, start_of}
-use Rattle.ijvm_meaning.specs.Step.{Outcome, Goes, Halts, Errs, Limits, Stuck, outcome}
+use Rattle.ijvm_meaning.specs.Step.{StepOutcome, Goes, Halts, Errs, Limits, Stuck, step_outcome}
 use Rattle.ijvm_meaning.specs.Cost.{Timing, next_cost}
 
 -- what a run runs: an image, the end of its stack and what is spent on it
-pub record Program : Type 0 where
+pub record TimedImage : Type 0 where
   pub image : ImageView
   pub stack_end : ℕ
   pub timing : Timing
@@ -29,15 +29,15 @@ pub record Finish : Type 0 where
   pub cycles : ℕ
   pub instructions : ℕ
 
-abbrev pub first_point : Program → ℕ → List ℕ → Point
+abbrev pub first_point : TimedImage → ℕ → List ℕ → Point
 first_point p main_locals input = record { state = start_of main_locals input; cycles = p.timing.boot; instructions = 0 }
 
 -- the point behind a completed instruction that goes on to this state
-abbrev pub point_after : Program → Point → State → Point
+abbrev pub point_after : TimedImage → Point → State → Point
 point_after p at to = record { state = to; cycles = at.cycles + next_cost p.image p.timing at.state; instructions = at.instructions + 1 }
 
 -- the run ends here, by HALT or ERR
-abbrev pub completed : Program → Point → RunEnd → Finish
+abbrev pub completed : TimedImage → Point → RunEnd → Finish
 completed p at end =
     record {
       end = end;
@@ -52,7 +52,7 @@ abbrev pub stopped : Point → RunEnd → State → Finish
 stopped at end left = record { end = end; last = at; left = left; cycles = at.cycles; instructions = at.instructions }
 
 -- what comes of an outcome; `more` is the rest of the run
-abbrev pub after_outcome : (Point → Option Finish) → Program → Point → Outcome → Option Finish
+abbrev pub after_outcome : (Point → Option Finish) → TimedImage → Point → StepOutcome → Option Finish
 after_outcome more p at (Goes to) = more (point_after p at to)
 after_outcome more p at Halts = Some (completed p at ends.Halt)
 after_outcome more p at Errs = Some (completed p at ends.Err)
@@ -60,28 +60,28 @@ after_outcome more p at (Limits left) = Some (stopped at ends.StackLimit left)
 after_outcome more p at Stuck = None
 
 -- the bound is examined first
-abbrev pub after_test : (Point → Option Finish) → Program → Point → Bool → Option Finish
+abbrev pub after_test : (Point → Option Finish) → TimedImage → Point → Bool → Option Finish
 after_test more p at true = Some (stopped at ends.Bound at.state)
-after_test more p at false = after_outcome more p at (outcome p.image p.stack_end at.state)
+after_test more p at false = after_outcome more p at (step_outcome p.image p.stack_end at.state)
 
 -- The definition of a run's end: where it ends that goes on from this point, if it needs no more than so many points. What follows says the
 -- same of ends, boundaries and states: by the law `runs_end_once` a run has one end, at a boundary that it passes.
-abbrev pub finish_from : Program → ℕ → ℕ → Point → Option Finish
+abbrev pub finish_from : TimedImage → ℕ → ℕ → Point → Option Finish
 finish_from p bound zero at = None
 finish_from p bound (suc points) at = after_test (finish_from p bound points) p at (nat_le bound at.cycles)
 
 -- the run from this point ends so
-abbrev pub EndsBy : Program → ℕ → Point → Finish → Type 0
+abbrev pub EndsBy : TimedImage → ℕ → Point → Finish → Type 0
 EndsBy p bound at f = (points : ℕ) × (finish_from p bound points at ≡ Some f)
 
 -- the boundaries that the run from this one passes before it ends
-pub data Passes (p : Program) (bound : ℕ) (from : Point) : Point → Type 0 where
+pub data Passes (p : TimedImage) (bound : ℕ) (from : Point) : Point → Type 0 where
   Start : (at : Point) → at ≡ from → Passes p bound from at
   More : (at next : Point) (to : State) → Passes p bound from at → at.cycles < bound →
-      outcome p.image p.stack_end at.state ≡ Goes to → next ≡ point_after p at to →
+      step_outcome p.image p.stack_end at.state ≡ Goes to → next ≡ point_after p at to →
       Passes p bound from next
 
-abbrev pub after : (State → Option State) → Outcome → Option State
+abbrev pub after : (State → Option State) → StepOutcome → Option State
 after more (Goes to) = more to
 after more Halts = None
 after more Errs = None
@@ -91,4 +91,4 @@ after more Stuck = None
 -- the state after so many completed instructions, without a bound
 abbrev pub state_after : ImageView → ℕ → ℕ → State → Option State
 state_after image stack_end zero s = Some s
-state_after image stack_end (suc k) s = after (state_after image stack_end k) (outcome image stack_end s)
+state_after image stack_end (suc k) s = after (state_after image stack_end k) (step_outcome image stack_end s)

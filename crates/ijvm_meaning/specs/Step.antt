@@ -9,32 +9,32 @@ use Rattle.ijvm_instr.specs.Instructions.{word_of, target, instr_at}
 use Rattle.ijvm_image.specs.Image.{ImageView, method_at}
 use Rattle.ijvm_meaning.specs.Frames.{Frame, State, frames_of, base}
 
-pub data Outcome : Type 0 where
-  Goes : (to : State) → Outcome
-  Halts : Outcome
-  Errs : Outcome
+pub data StepOutcome : Type 0 where
+  Goes : (to : State) → StepOutcome
+  Halts : StepOutcome
+  Errs : StepOutcome
   -- the stack would reach its end; the state that is left
-  Limits : (left : State) → Outcome
+  Limits : (left : State) → StepOutcome
   -- an instruction, operand, constant, method, local or caller is missing
-  Stuck : Outcome
+  Stuck : StepOutcome
 
 -- Only a push and a call can raise SP: they go on where the new SP is below the stack's end.
-abbrev pub limited : ℕ → State → State → Outcome
+abbrev pub limited : ℕ → State → State → StepOutcome
 limited stack_end left to = if nat_le (base (frames_of to)) stack_end then Goes to else Limits left
 
 -- these operands, at this address
 abbrev pub moved : State → List ℕ → ℕ → State
 moved s operands to = record s { running = record s.running { operands = operands }; at = to }
 
-abbrev pub pushed : ℕ → State → ℕ → ℕ → Outcome
+abbrev pub pushed : ℕ → State → ℕ → ℕ → StepOutcome
 pushed stack_end s v to = limited stack_end s (moved s (v ∷ s.running.operands) to)
 
-abbrev pub pushed_constant : ℕ → State → Option ℕ → Outcome
+abbrev pub pushed_constant : ℕ → State → Option ℕ → StepOutcome
 pushed_constant stack_end s None = Stuck
 pushed_constant stack_end s (Some v) = pushed stack_end s v (s.at + 3)
 
 -- a local, if the frame has it and it is set
-abbrev pub loaded : ℕ → State → Option (Option ℕ) → ℕ → Outcome
+abbrev pub loaded : ℕ → State → Option (Option ℕ) → ℕ → StepOutcome
 loaded stack_end s None to = Stuck
 loaded stack_end s (Some None) to = Stuck
 loaded stack_end s (Some (Some v)) to = pushed stack_end s v to
@@ -49,32 +49,32 @@ abbrev pub with_local : State → ℕ → ℕ → List ℕ → ℕ → State
 with_local s k v operands to =
     record s { running = record s.running { locals = slice_set s.running.locals k (Some v); operands = operands }; at = to }
 
-abbrev pub stored : State → ℕ → List ℕ → ℕ → Outcome
+abbrev pub stored : State → ℕ → List ℕ → ℕ → StepOutcome
 stored s k [] to = Stuck
 stored s k (v ∷ rest) to =
     if is_own s.running.back k then (if nat_lt k (length s.running.locals) then Goes (with_local s k v rest to) else Stuck) else Stuck
 
 -- a local with this number added, if the frame has it and it is set
-abbrev pub increased : State → ℕ → ℤ → Option (Option ℕ) → ℕ → Outcome
+abbrev pub increased : State → ℕ → ℤ → Option (Option ℕ) → ℕ → StepOutcome
 increased s k n None to = Stuck
 increased s k n (Some None) to = Stuck
 increased s k n (Some (Some v)) to = Goes (with_local s k (plus v (word_of n)) s.running.operands to)
 
-abbrev pub popped : State → List ℕ → Outcome
+abbrev pub popped : State → List ℕ → StepOutcome
 popped s [] = Stuck
 popped s (y ∷ rest) = Goes (moved s rest (s.at + 1))
 
-abbrev pub doubled : ℕ → State → List ℕ → Outcome
+abbrev pub doubled : ℕ → State → List ℕ → StepOutcome
 doubled stack_end s [] = Stuck
 doubled stack_end s (y ∷ rest) = pushed stack_end s y (s.at + 1)
 
-abbrev pub swapped : State → List ℕ → Outcome
+abbrev pub swapped : State → List ℕ → StepOutcome
 swapped s [] = Stuck
 swapped s (y ∷ []) = Stuck
 swapped s (y ∷ x ∷ rest) = Goes (moved s (x ∷ y ∷ rest) (s.at + 1))
 
 -- the second operand and the top in the place of both
-abbrev pub combined : (ℕ → ℕ → ℕ) → State → List ℕ → Outcome
+abbrev pub combined : (ℕ → ℕ → ℕ) → State → List ℕ → StepOutcome
 combined f s [] = Stuck
 combined f s (y ∷ []) = Stuck
 combined f s (y ∷ x ∷ rest) = Goes (moved s (f x y ∷ rest) (s.at + 1))
@@ -83,16 +83,16 @@ combined f s (y ∷ x ∷ rest) = Goes (moved s (f x y ∷ rest) (s.at + 1))
 abbrev pub way : ℕ → ℤ → Bool → ℕ
 way at o taken = if taken then target at o else at + 3
 
-abbrev pub branched : (ℕ → Bool) → State → ℤ → List ℕ → Outcome
+abbrev pub branched : (ℕ → Bool) → State → ℤ → List ℕ → StepOutcome
 branched test s o [] = Stuck
 branched test s o (y ∷ rest) = Goes (moved s rest (way s.at o (test y)))
 
-abbrev pub compared : State → ℤ → List ℕ → Outcome
+abbrev pub compared : State → ℤ → List ℕ → StepOutcome
 compared s o [] = Stuck
 compared s o (y ∷ []) = Stuck
 compared s o (y ∷ x ∷ rest) = Goes (moved s rest (way s.at o (x == y)))
 
-abbrev pub returned : State → Option ℕ → List Frame → List ℕ → Outcome
+abbrev pub returned : State → Option ℕ → List Frame → List ℕ → StepOutcome
 returned s None callers operands = Stuck
 returned s (Some back) [] operands = Stuck
 returned s (Some back) (f ∷ fs) [] = Stuck
@@ -116,11 +116,11 @@ in_method s m n =
       at = m.entry + 4;
     }
 
-abbrev pub entered : ℕ → State → Method → ℕ → Outcome
+abbrev pub entered : ℕ → State → Method → ℕ → StepOutcome
 entered stack_end s m zero = Stuck
 entered stack_end s m (suc n) = if nat_lt n (length s.running.operands) then limited stack_end s (in_method s m n) else Stuck
 
-abbrev pub called_at : ℕ → State → Option Method → Outcome
+abbrev pub called_at : ℕ → State → Option Method → StepOutcome
 called_at stack_end s None = Stuck
 called_at stack_end s (Some m) = entered stack_end s m m.params
 
@@ -129,14 +129,14 @@ abbrev pub taken : State → State
 taken s = record s { untaken = drop 1 s.untaken }
 
 -- a byte is taken before the stack's end is met
-abbrev pub read_in : ℕ → State → Outcome
+abbrev pub read_in : ℕ → State → StepOutcome
 read_in stack_end s = pushed stack_end (taken s) (next_byte s.untaken) (s.at + 1)
 
-abbrev pub given_out : State → List ℕ → Outcome
+abbrev pub given_out : State → List ℕ → StepOutcome
 given_out s [] = Stuck
 given_out s (y ∷ rest) = Goes (record (moved s rest (s.at + 1)) { given = s.given ++ (y % 256) ∷ [] })
 
-abbrev pub step : ImageView → ℕ → Instr → State → Outcome
+abbrev pub step : ImageView → ℕ → Instr → State → StepOutcome
 step image stack_end Nop s = Goes (moved s s.running.operands (s.at + 1))
 step image stack_end (Bipush b) s = pushed stack_end s (word_of b) (s.at + 2)
 step image stack_end (LdcW k) s = pushed_constant stack_end s (slice_get image.pool k)
@@ -164,10 +164,10 @@ step image stack_end Out s = given_out s s.running.operands
 step image stack_end Err s = Errs
 step image stack_end Halt s = Halts
 
-abbrev pub step_if_any : ImageView → ℕ → State → Option Instr → Outcome
+abbrev pub step_if_any : ImageView → ℕ → State → Option Instr → StepOutcome
 step_if_any image stack_end s None = Stuck
 step_if_any image stack_end s (Some i) = step image stack_end i s
 
 -- what the instruction at this state's address does
-abbrev pub outcome : ImageView → ℕ → State → Outcome
-outcome image stack_end s = step_if_any image stack_end s (instr_at image.text s.at)
+abbrev pub step_outcome : ImageView → ℕ → State → StepOutcome
+step_outcome image stack_end s = step_if_any image stack_end s (instr_at image.text s.at)

@@ -1,4 +1,4 @@
-//! Whole programs.
+//! What a source comes to before it is linked: its constants, main and its methods.
 
 ghost use Rattle.std.specs.Prelude.{◌≡◌};
 ghost use Rattle.ijvm_program.specs.Program.{IsProgram};

@@ -13,16 +13,16 @@ use Rattle.ijvm_instr.specs.Instructions.{instr_at}
 use Rattle.ijvm_image.specs.Image.{ImageView, method_at}
 use Rattle.ijvm_meaning.specs.Frames.{Frame, State, base, frames_of}
 use Rattle.ijvm_instr.specs.Instructions.{word_of}
-use Rattle.ijvm_meaning.specs.Step.{Outcome, Goes, Halts, Errs, Limits, Stuck, moved, limited, pushed, pushed_constant, loaded, stored, with_local, is_own, increased, popped, doubled, swapped, combined, branched, compared, returned, in_method, entered, called_at, taken, given_out, step, step_if_any, outcome}
+use Rattle.ijvm_meaning.specs.Step.{StepOutcome, Goes, Halts, Errs, Limits, Stuck, moved, limited, pushed, pushed_constant, loaded, stored, with_local, is_own, increased, popped, doubled, swapped, combined, branched, compared, returned, in_method, entered, called_at, taken, given_out, step, step_if_any, step_outcome}
 use Rattle.ijvm_meaning.specs.Cost.{Timing, cost_at}
-use Rattle.ijvm_meaning.specs.Run.{Program, Point, Finish, point_after, after_outcome, after_test, finish_from, EndsBy}
+use Rattle.ijvm_meaning.specs.Run.{TimedImage, Point, Finish, point_after, after_outcome, after_test, finish_from, EndsBy}
 use Rattle.ijvm_reference.specs.Runs.{GoesOn, Reaches, Begins, Onward}
 
 -- the same state, where these bytes were given before
 abbrev pub behind : List ℕ → State → State
 behind g s = record s { given = g ++ s.given }
 
-abbrev lifted : List ℕ → Outcome → Outcome
+abbrev lifted : List ℕ → StepOutcome → StepOutcome
 lifted g (Goes to) = Goes (behind g to)
 lifted g Halts = Halts
 lifted g Errs = Errs
@@ -143,7 +143,7 @@ stepped_at : (image : ImageView) (n : ℕ) (g : List ℕ) (s : State) (i : Optio
 stepped_at image n g s None = refl
 stepped_at image n g s (Some i) = step_at image n i g s
 
-outcome-behind : (image : ImageView) (n : ℕ) (g : List ℕ) (s : State) → outcome image n (behind g s) ≡ lifted g (outcome image n s)
+outcome-behind : (image : ImageView) (n : ℕ) (g : List ℕ) (s : State) → step_outcome image n (behind g s) ≡ lifted g (step_outcome image n s)
 outcome-behind image n g s = stepped_at image n g s (instr_at image.text s.at)
 
 cost_same : (image : ImageView) (timing : Timing) (g : List ℕ) (s : State) (i : Option Instr) → cost_at image timing (behind g s) i ≡ cost_at image timing s i
@@ -158,11 +158,11 @@ point_behind g at = record at { state = behind g at.state }
 abbrev pub finish_behind : List ℕ → Finish → Finish
 finish_behind g f = record f { last = point_behind g f.last; left = behind g f.left }
 
-next-behind : (p : Program) (g : List ℕ) (at : Point) (to : State) → point_after p (point_behind g at) (behind g to) ≡ point_behind g (point_after p at to)
+next-behind : (p : TimedImage) (g : List ℕ) (at : Point) (to : State) → point_after p (point_behind g at) (behind g to) ≡ point_behind g (point_after p at to)
 next-behind p g at to =
     ap (λ (cost : ℕ). record { state = behind g to; cycles = at.cycles + cost; instructions = at.instructions + 1 }) (cost_same p.image p.timing g at.state (instr_at p.image.text at.state.at))
 
-after_behind : (p : Program) (g : List ℕ) (more : Point → Option Finish) → ((a : Point) → more (point_behind g a) ≡ option_map (finish_behind g) (more a)) → (at : Point) (o : Outcome) →
+after_behind : (p : TimedImage) (g : List ℕ) (more : Point → Option Finish) → ((a : Point) → more (point_behind g a) ≡ option_map (finish_behind g) (more a)) → (at : Point) (o : StepOutcome) →
     after_outcome more p (point_behind g at) (lifted g o) ≡ option_map (finish_behind g) (after_outcome more p at o)
 after_behind p g more h at (Goes to) = ap more (next-behind p g at to) ∙ h (point_after p at to)
 after_behind p g more h at Halts =
@@ -174,13 +174,13 @@ after_behind p g more h at Errs =
 after_behind p g more h at (Limits left) = refl
 after_behind p g more h at Stuck = refl
 
-test_behind : (p : Program) (g : List ℕ) (more : Point → Option Finish) → ((a : Point) → more (point_behind g a) ≡ option_map (finish_behind g) (more a)) → (at : Point) (t : Bool) →
+test_behind : (p : TimedImage) (g : List ℕ) (more : Point → Option Finish) → ((a : Point) → more (point_behind g a) ≡ option_map (finish_behind g) (more a)) → (at : Point) (t : Bool) →
     after_test more p (point_behind g at) t ≡ option_map (finish_behind g) (after_test more p at t)
 test_behind p g more h at true = refl
 test_behind p g more h at false =
-    ap (after_outcome more p (point_behind g at)) (outcome-behind p.image p.stack_end g at.state) ∙ after_behind p g more h at (outcome p.image p.stack_end at.state)
+    ap (after_outcome more p (point_behind g at)) (outcome-behind p.image p.stack_end g at.state) ∙ after_behind p g more h at (step_outcome p.image p.stack_end at.state)
 
-finish-behind : (p : Program) (bound : ℕ) (g : List ℕ) (points : ℕ) (at : Point) → finish_from p bound points (point_behind g at) ≡ option_map (finish_behind g) (finish_from p bound points at)
+finish-behind : (p : TimedImage) (bound : ℕ) (g : List ℕ) (points : ℕ) (at : Point) → finish_from p bound points (point_behind g at) ≡ option_map (finish_behind g) (finish_from p bound points at)
 finish-behind p bound g zero at = refl
 finish-behind p bound g (suc points) at = test_behind p g (finish_from p bound points) (finish-behind p bound g points) at (nat_le bound at.cycles)
 
@@ -189,23 +189,23 @@ mapped g None f e = absurd (cc)
 mapped g (Some first) f e = (first, refl, cc)
 
 -- the end of a run behind given bytes is the run's own
-pub ended_behind : (p : Program) (bound : ℕ) (g : List ℕ) (at : Point) (f : Finish) → EndsBy p bound (point_behind g at) f →
+pub ended_behind : (p : TimedImage) (bound : ℕ) (g : List ℕ) (at : Point) (f : Finish) → EndsBy p bound (point_behind g at) f →
     (first : Finish) × EndsBy p bound at first × (f ≡ finish_behind g first)
 ended_behind p bound g at f e =
     let found = mapped g (finish_from p bound e.0 at) f (sym (finish-behind p bound g e.0 at) ∙ e.1) in
     (found.0, (e.0, found.1), found.2)
 
-goes_behind : (g : List ℕ) (o : Outcome) (to : State) → lifted g o ≡ Goes to → (first : State) × (o ≡ Goes first) × (to ≡ behind g first)
+goes_behind : (g : List ℕ) (o : StepOutcome) (to : State) → lifted g o ≡ Goes to → (first : State) × (o ≡ Goes first) × (to ≡ behind g first)
 goes_behind g (Goes first) to e = (first, refl, cc)
 goes_behind g Halts to e = absurd (cc)
 goes_behind g Errs to e = absurd (cc)
 goes_behind g (Limits left) to e = absurd (cc)
 goes_behind g Stuck to e = absurd (cc)
 
-on_behind : (told : Bool) (p : Program) (bound : ℕ) (g : List ℕ) (b next : Point) (c c' : ConsoleView) → GoesOn told p bound (point_behind g b) next c c' →
+on_behind : (told : Bool) (p : TimedImage) (bound : ℕ) (g : List ℕ) (b next : Point) (c c' : ConsoleView) → GoesOn told p bound (point_behind g b) next c c' →
     (first : Point) × GoesOn told p bound b first c c' × (next ≡ point_behind g first)
 on_behind told p bound g b next c c' on =
-    let step = goes_behind g (outcome p.image p.stack_end b.state) next.state (sym (outcome-behind p.image p.stack_end g b.state) ∙ on.goes) in
+    let step = goes_behind g (step_outcome p.image p.stack_end b.state) next.state (sym (outcome-behind p.image p.stack_end g b.state) ∙ on.goes) in
     let to : Point = point_after p b step.0 in
     let is : next ≡ point_behind g to = on.counts ∙ ap (point_after p (point_behind g b)) step.2 ∙ next-behind p g b step.0 in (
       to,
@@ -214,7 +214,7 @@ on_behind told p bound g b next c c' on =
     )
 
 -- and so are the boundaries that it reaches
-pub reached_behind : (told : Bool) (p : Program) (bound : ℕ) (g : List ℕ) (from : Point) (c0 : ConsoleView) (at : Point) (c : ConsoleView) → Reaches told p bound (point_behind g from) c0 at c →
+pub reached_behind : (told : Bool) (p : TimedImage) (bound : ℕ) (g : List ℕ) (from : Point) (c0 : ConsoleView) (at : Point) (c : ConsoleView) → Reaches told p bound (point_behind g from) c0 at c →
     (first : Point) × Reaches told p bound from c0 first c × (at ≡ point_behind g first)
 reached_behind told p bound g from c0 at c (Begins a d same is) = (from, Begins from d refl is, same)
 reached_behind told p bound g from c0 at c (Onward b next d d' before on) =

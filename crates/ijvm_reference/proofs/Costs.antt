@@ -13,7 +13,7 @@ use Rattle.ijvm_instr.specs.declared.row.Row.{Row}
 use Rattle.ijvm_instr.specs.Instructions.{row_of, instr_at}
 use Rattle.ijvm_image.specs.Image.{ImageView}
 use Rattle.ijvm_meaning.specs.Frames.{State}
-use Rattle.ijvm_meaning.specs.Step.{Goes, step, step_if_any, outcome}
+use Rattle.ijvm_meaning.specs.Step.{Goes, step, step_if_any, step_outcome}
 use Rattle.ijvm_meaning.specs.Cost.{timing_of, column, cycles_of, is_taken, entry_of, cost_at, next_cost}
 
 pub index-none : (xs : List ℕ) (i : ℕ) → slice_get xs i ≡ None → slice_index xs i ≡ 0
@@ -131,7 +131,7 @@ most_at image machine None s = omega arith
 most_at image machine (Some i) s =
     most_cycles 23 (column machine (row_of i)) (is_taken i s.running.operands) (entry_of image.pool i) (of_both (at_most 23) machine (row_of i) (cheap i))
 
-pub next_cost-least : (image : ImageView) (stack_end : ℕ) (machine : Machine) (s to : State) → outcome image stack_end s ≡ Goes to → 1 ≤ next_cost image (timing_of machine) s
+pub next_cost-least : (image : ImageView) (stack_end : ℕ) (machine : Machine) (s to : State) → step_outcome image stack_end s ≡ Goes to → 1 ≤ next_cost image (timing_of machine) s
 next_cost-least image stack_end machine s to e = least_at image stack_end machine (instr_at image.text s.at) s to e
 
 pub next_cost_most : (image : ImageView) (machine : Machine) (s : State) → next_cost image (timing_of machine) s ≤ 23

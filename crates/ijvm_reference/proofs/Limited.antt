@@ -10,7 +10,7 @@ use Rattle.ijvm_instr.specs.Instructions.{instr_at}
 use Rattle.ijvm_image.specs.Image.{ImageView, method_at}
 use Rattle.ijvm_meaning.specs.Frames.{Frame, State, base, frames_of}
 use Rattle.ijvm_instr.specs.Instructions.{word_of}
-use Rattle.ijvm_meaning.specs.Step.{Goes, Limits, Stuck, moved, limited, pushed, pushed_constant, loaded, stored, with_local, is_own, increased, popped, doubled, swapped, combined, branched, compared, returned, in_method, entered, called_at, read_in, taken, given_out, step, step_if_any, outcome}
+use Rattle.ijvm_meaning.specs.Step.{Goes, Limits, Stuck, moved, limited, pushed, pushed_constant, loaded, stored, with_local, is_own, increased, popped, doubled, swapped, combined, branched, compared, returned, in_method, entered, called_at, read_in, taken, given_out, step, step_if_any, step_outcome}
 use Rattle.ijvm_meaning.specs.Safe.{SameFrames}
 
 pub same_frames : (s : State) → SameFrames s s
@@ -135,5 +135,5 @@ stepped_at : (image : ImageView) (stack_end : ℕ) (s : State) (i : Option Instr
 stepped_at image stack_end s None out e = absurd (cc)
 stepped_at image stack_end s (Some i) out e = step_at image stack_end i s out e
 
-pub limits-same : (image : ImageView) (stack_end : ℕ) (s out : State) → outcome image stack_end s ≡ Limits out → SameFrames s out
+pub limits-same : (image : ImageView) (stack_end : ℕ) (s out : State) → step_outcome image stack_end s ≡ Limits out → SameFrames s out
 limits-same image stack_end s out e = stepped_at image stack_end s (instr_at image.text s.at) out e

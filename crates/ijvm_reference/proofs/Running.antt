@@ -19,9 +19,9 @@ use Rattle.console_port.specs.Streams.{SinkGoesOn, SourceGoesOn}
 use Rattle.ijvm_reference.specs.declared.plain.Counts.{Counts}
 use Rattle.ijvm_image.specs.Image.{ImageView}
 use Rattle.ijvm_meaning.specs.Frames.{State}
-use Rattle.ijvm_meaning.specs.Step.{Outcome, Goes, Halts, Errs, Limits, outcome}
+use Rattle.ijvm_meaning.specs.Step.{StepOutcome, Goes, Halts, Errs, Limits, step_outcome}
 use Rattle.ijvm_meaning.specs.Cost.{timing_of, next_cost}
-use Rattle.ijvm_meaning.specs.Run.{Program, Point, Finish, point_after, completed, stopped, after_outcome, after_test, finish_from, EndsBy, Passes, Start, More}
+use Rattle.ijvm_meaning.specs.Run.{TimedImage, Point, Finish, point_after, completed, stopped, after_outcome, after_test, finish_from, EndsBy, Passes, Start, More}
 use Rattle.ijvm_reference.specs.Machine.{MachineView, KeepsProgram, state_of}
 use Rattle.ijvm_reference.specs.Steps.{IsLedOn, Does, IsCutOff, IsMetBy}
 use Rattle.ijvm_reference.proofs.Costs.{next_cost-least}
@@ -44,19 +44,19 @@ led_as left held c left' held' c' P Q led told = λ rest here.
     )
 
 -- the run ends at this boundary, by the outcome of its instruction
-ends_by : (p : Program) (bound : ℕ) (at : Point) (o : Outcome) (f : Finish) → at.cycles < bound → outcome p.image p.stack_end at.state ≡ o →
+ends_by : (p : TimedImage) (bound : ℕ) (at : Point) (o : StepOutcome) (f : Finish) → at.cycles < bound → step_outcome p.image p.stack_end at.state ≡ o →
     after_outcome (finish_from p bound zero) p at o ≡ Some f → EndsBy p bound at f
 ends_by p bound at o f under is then_ =
     (suc zero, ap (after_test (finish_from p bound zero) p at) (lt-leb bound at.cycles under) ∙ ap (after_outcome (finish_from p bound zero) p at) is ∙ then_)
 
 -- and that instruction is completed
-completed_ends : (o : Outcome) (end : RunEnd) (bound : ℕ) (machine : Machine) (old new : MachineView) (counts : Counts) (cost : ℕ) (u g u' g' : List ℕ) →
+completed_ends : (o : StepOutcome) (end : RunEnd) (bound : ℕ) (machine : Machine) (old new : MachineView) (counts : Counts) (cost : ℕ) (u g u' g' : List ℕ) →
     counts.cycles < bound → counts.boundary ≡ counts.cycles → cost ≡ next_cost old.image (timing_of machine) (state_of old [] []) →
-    ((p : Program) (at : Point) → after_outcome (finish_from p bound zero) p at o ≡ Some (completed p at end)) →
-    outcome old.image old.stack_end (state_of old u g) ≡ o → state_of new u' g' ≡ state_of old u g →
+    ((p : TimedImage) (at : Point) → after_outcome (finish_from p bound zero) p at o ≡ Some (completed p at end)) →
+    step_outcome old.image old.stack_end (state_of old u g) ≡ o → state_of new u' g' ≡ state_of old u g →
     EndsIn end (program_of old machine) bound (point_at old counts.cycles counts.instructions u g) (counts_after steps.Halt cost counts) new u' g'
 completed_ends o end bound machine old new counts cost u g u' g' under boundary is then_ does same =
-    let p : Program = program_of old machine in
+    let p : TimedImage = program_of old machine in
     let at : Point = point_at old counts.cycles counts.instructions u g in (
       record {
         finish = completed p at end;
@@ -73,7 +73,7 @@ completed_ends o end bound machine old new counts cost u g u' g' under boundary 
 limit_ends : (bound : ℕ) (machine : Machine) (old new : MachineView) (counts : Counts) (u g u' g' : List ℕ) → counts.cycles < bound → counts.boundary ≡ counts.cycles →
     Does steps.StackLimit old new u g u' g' → EndsIn defined.StackLimit (program_of old machine) bound (point_at old counts.cycles counts.instructions u g) counts new u' g'
 limit_ends bound machine old new counts u g u' g' under boundary does =
-    let p : Program = program_of old machine in
+    let p : TimedImage = program_of old machine in
     let at : Point = point_at old counts.cycles counts.instructions u g in
     let left : State = state_of new u' g' in (
       record {
@@ -114,7 +114,7 @@ step_led steps.StackLimit told left held c left' held' c' bound machine old new 
 pub bound_ends : (told : Bool) (c : ConsoleView) (held : Option (List ℕ)) (bound : ℕ) (machine : Machine) (m : MachineView) (cycles instructions : ℕ) (r : Counts) (u g : List ℕ) → bound ≤ cycles →
     r.boundary ≡ cycles → r.cycles ≡ cycles → r.instructions ≡ instructions → StoppedBy told c held (Ok ends.Bound) (program_of m machine) bound (point_at m cycles instructions u g) r m u g
 bound_ends told c held bound machine m cycles instructions r u g over boundary all one =
-    let p : Program = program_of m machine in
+    let p : TimedImage = program_of m machine in
     let at : Point = point_at m cycles instructions u g in (
       record {
         finish = stopped at defined.Bound at.state;
@@ -145,7 +145,7 @@ cut_here e told c held bound machine old new cycles instructions r u g same unde
       lost = lost;
     }
 
-cut_reported : (e : StepError) (told : Bool) (c : ConsoleView) (held : Option (List ℕ)) (p : Program) (bound : ℕ) (from : Point) (r : Counts) (new : MachineView) (u g : List ℕ) →
+cut_reported : (e : StepError) (told : Bool) (c : ConsoleView) (held : Option (List ℕ)) (p : TimedImage) (bound : ℕ) (from : Point) (r : Counts) (new : MachineView) (u g : List ℕ) →
     IsCut e told c held p bound from r new u g → StoppedBy told c held (cut_by e) p bound from r new u g
 cut_reported errors.ReadFault told c held p bound from r new u g cut = cut
 cut_reported errors.WriteFault told c held p bound from r new u g cut = cut
@@ -215,7 +215,7 @@ step_further steps.StackLimit left held c left' held' c' bound machine old new c
 
 -- Whole runs.
 
-finish_passes : (p : Program) (bound : ℕ) (from at : Point) (f : Finish) → Passes p bound from at → EndsBy p bound at f → EndsBy p bound from f
+finish_passes : (p : TimedImage) (bound : ℕ) (from at : Point) (f : Finish) → Passes p bound from at → EndsBy p bound at f → EndsBy p bound from f
 finish_passes p bound from at f (Start a same) e = subst (λ (x : Point). EndsBy p bound x f) same e
 finish_passes p bound from at f (More b next to first under goes is) e =
     let e0 : EndsBy p bound (point_after p b to) f = subst (λ (x : Point). EndsBy p bound x f) is e in
@@ -223,12 +223,12 @@ finish_passes p bound from at f (More b next to first under goes is) e =
     (suc e0.0, ap (after_test (finish_from p bound e0.0) p b) (lt-leb bound b.cycles under) ∙ ap (after_outcome (finish_from p bound e0.0) p b) goes ∙ e0.1)
 
 -- the boundaries that it reaches are boundaries that it passes
-pub passed : (told : Bool) (p : Program) (bound : ℕ) (from : Point) (c0 : ConsoleView) (at : Point) (c : ConsoleView) → Reaches told p bound from c0 at c → Passes p bound from at
+pub passed : (told : Bool) (p : TimedImage) (bound : ℕ) (from : Point) (c0 : ConsoleView) (at : Point) (c : ConsoleView) → Reaches told p bound from c0 at c → Passes p bound from at
 passed told p bound from c0 at c (Begins a d same is) = Start a same
 passed told p bound from c0 at c (Onward b next d d' first on) = More b next next.state (passed told p bound from c0 b d first) on.under on.goes on.counts
 
 -- and it reaches each boundary that it passes
-pub reached : (told : Bool) (p : Program) (bound : ℕ) (from : Point) (c0 : ConsoleView) (at : Point) → Passes p bound from at → (c : ConsoleView) × Reaches told p bound from c0 at c
+pub reached : (told : Bool) (p : TimedImage) (bound : ℕ) (from : Point) (c0 : ConsoleView) (at : Point) → Passes p bound from at → (c : ConsoleView) × Reaches told p bound from c0 at c
 reached told p bound from c0 at (Start a same) = (c0, Begins at c0 same refl)
 reached told p bound from c0 at (More b next to before under goes is) =
     let first = reached told p bound from c0 b before in
@@ -236,12 +236,12 @@ reached told p bound from c0 at (More b next to before under goes is) =
     let state : to ≡ next.state = sym (ap (λ (q : Point). q.state) is) in
     (kept.0, Onward b next first.0 kept.0 first.1 (record { under = under; goes = goes ∙ ap Goes state; counts = is ∙ ap (point_after p b) state; keeps = kept.1 }))
 
-reaches_on : (told : Bool) (p : Program) (bound : ℕ) (from : Point) (c0 : ConsoleView) (at : Point) (c : ConsoleView) (to : Point) (d : ConsoleView) → Reaches told p bound from c0 at c → Reaches told p bound at c to d → Reaches told p bound from c0 to d
+reaches_on : (told : Bool) (p : TimedImage) (bound : ℕ) (from : Point) (c0 : ConsoleView) (at : Point) (c : ConsoleView) (to : Point) (d : ConsoleView) → Reaches told p bound from c0 at c → Reaches told p bound at c to d → Reaches told p bound from c0 to d
 reaches_on told p bound from c0 at c to d first (Begins a b same is) =
     subst (λ (x : Point). Reaches told p bound from c0 x d) (sym same) (subst (λ (v : ConsoleView). Reaches told p bound from c0 at v) (sym is) first)
 reaches_on told p bound from c0 at c to d first (Onward b next e e' more on) = Onward b next e e' (reaches_on told p bound from c0 at c b e first more) on
 
-abbrev cut_on : (e : StepError) (told : Bool) (held : Option (List ℕ)) (p : Program) (bound : ℕ) (from at : Point) (c0 c : ConsoleView) (r : Counts) (new : MachineView) (u g : List ℕ) →
+abbrev cut_on : (e : StepError) (told : Bool) (held : Option (List ℕ)) (p : TimedImage) (bound : ℕ) (from at : Point) (c0 c : ConsoleView) (r : Counts) (new : MachineView) (u g : List ℕ) →
     Reaches told p bound from c0 at c → IsCut e told c held p bound at r new u g → IsCut e told c0 held p bound from r new u g
 cut_on e told held p bound from at c0 c r new u g first cut =
     record {
@@ -257,7 +257,7 @@ cut_on e told held p bound from at c0 c r new u g first cut =
       lost = cut.lost;
     }
 
-abbrev ends_on : (p : Program) (bound : ℕ) (from at : Point) (r : Counts) (new : MachineView) (u g : List ℕ) → Passes p bound from at → RunEndsWith p bound at r new u g → RunEndsWith p bound from r new u g
+abbrev ends_on : (p : TimedImage) (bound : ℕ) (from at : Point) (r : Counts) (new : MachineView) (u g : List ℕ) → Passes p bound from at → RunEndsWith p bound at r new u g → RunEndsWith p bound from r new u g
 ends_on p bound from at r new u g first e =
     record {
       finish = e.finish;
@@ -269,7 +269,7 @@ ends_on p bound from at r new u g first e =
       left = e.left;
     }
 
-reported_on : (end : Result PlainEnd AllocError) (told : Bool) (held : Option (List ℕ)) (p : Program) (bound : ℕ) (from at : Point) (c0 c : ConsoleView) (r : Counts) (new : MachineView) (u g : List ℕ) →
+reported_on : (end : Result PlainEnd AllocError) (told : Bool) (held : Option (List ℕ)) (p : TimedImage) (bound : ℕ) (from at : Point) (c0 c : ConsoleView) (r : Counts) (new : MachineView) (u g : List ℕ) →
     Reaches told p bound from c0 at c → StoppedBy told c held end p bound at r new u g → StoppedBy told c0 held end p bound from r new u g
 reported_on (Ok ends.ReadFault) told held p bound from at c0 c r new u g first h = cut_on errors.ReadFault told held p bound from at c0 c r new u g first h
 reported_on (Err e) told held p bound from at c0 c r new u g first h = cut_on errors.OutOfMemory told held p bound from at c0 c r new u g first h
@@ -307,7 +307,7 @@ passed_none told l h c bound machine cycles instructions m = λ rest here. (rest
 same_program : (machine : Machine) (old new : MachineView) → KeepsProgram old new → program_of new machine ≡ program_of old machine
 same_program machine old new keeps = ap₂ (λ (image : ImageView) (n : ℕ). program image n machine) keeps.image keeps.stack_end
   where
-    program : ImageView → ℕ → Machine → Program
+    program : ImageView → ℕ → Machine → TimedImage
     program image n machine = record { image = image; stack_end = n; timing = timing_of machine }
 
 pub passed_more : (told : Bool) (l0 h0 : Option (List ℕ)) (c0 : ConsoleView) (l1 h1 : Option (List ℕ)) (c1 : ConsoleView) (l2 h2 : Option (List ℕ)) (c2 : ConsoleView) (bound : ℕ) (machine : Machine)
@@ -320,7 +320,7 @@ passed_more told l0 h0 c0 l1 h1 c1 l2 h2 c2 bound machine cycles instructions cy
     (λ u g u' g'. GoesOn told (program_of new machine) bound (point_at new cycles' instructions' u g) (point_at next cycles'' instructions'' u' g') c1 c2)
     (HasPassed told bound machine cycles instructions cycles'' instructions'' c0 c2 old next) first second
     (λ u g v h w k passes on. Onward (point_at new cycles' instructions' v h) (point_at next cycles'' instructions'' w k) c1 c2 passes
-    (subst (λ (p : Program). GoesOn told p bound (point_at new cycles' instructions' v h) (point_at next cycles'' instructions'' w k) c1 c2) (same_program machine old new keeps) on))
+    (subst (λ (p : TimedImage). GoesOn told p bound (point_at new cycles' instructions' v h) (point_at next cycles'' instructions'' w k) c1 c2) (same_program machine old new keeps) on))
 
 pub passed_end : (end : Result PlainEnd AllocError) (told : Bool) (l0 h0 : Option (List ℕ)) (c0 : ConsoleView) (l1 h1 : Option (List ℕ)) (c1 : ConsoleView) (l2 h2 : Option (List ℕ)) (c2 : ConsoleView) (bound : ℕ) (machine : Machine)
     (cycles instructions cycles' instructions' : ℕ) (r : Counts) (old new next : MachineView) → KeepsProgram old new →
@@ -332,7 +332,7 @@ passed_end end told l0 h0 c0 l1 h1 c1 l2 h2 c2 bound machine cycles instructions
     (λ u g u' g'. StoppedBy told c1 h2 end (program_of new machine) bound (point_at new cycles' instructions' u g) r next u' g')
     (λ u g u' g'. StoppedBy told c0 h2 end (program_of old machine) bound (point_at old cycles instructions u g) r next u' g') first second
     (λ u g v h w k passes reported. reported_on end told h2 (program_of old machine) bound (point_at old cycles instructions u g) (point_at new cycles' instructions' v h) c0 c1 r next w k passes
-    (subst (λ (p : Program). StoppedBy told c1 h2 end p bound (point_at new cycles' instructions' v h) r next w k) (same_program machine old new keeps) reported))
+    (subst (λ (p : TimedImage). StoppedBy told c1 h2 end p bound (point_at new cycles' instructions' v h) r next w k) (same_program machine old new keeps) reported))
 
 -- what holds of a run between two turns
 pub record IsRunning (l0 h0 : Option (List ℕ)) (c0 : ConsoleView) (l1 h1 : Option (List ℕ)) (c1 : ConsoleView) (bound : ℕ) (machine : Machine) (counts0 counts1 : Counts) (old new : MachineView) : Type 0 where

@@ -8,7 +8,7 @@ use Rattle.ijvm_reference.specs.declared.frames.StepError.{StepError}
 use Rattle.ijvm_instr.specs.declared.instr.Instr.{Instr}
 use Rattle.ijvm_image.specs.Image.{ImageView}
 use Rattle.ijvm_meaning.specs.Frames.{State}
-use Rattle.ijvm_meaning.specs.Step.{Goes, outcome}
+use Rattle.ijvm_meaning.specs.Step.{Goes, step_outcome}
 use Rattle.ijvm_meaning.specs.Safe.{SameFrames, ComesTo, Here, On, NeverStuck}
 use Rattle.ijvm_reference.specs.Machine.{MachineView, KeepsProgram, state_of}
 use Rattle.ijvm_reference.specs.Steps.{IsLedOn, Does, Turns, StepFails}
@@ -27,7 +27,7 @@ comes_on image stack_end s t to first (Here v same) = comes_as image stack_end s
 comes_on image stack_end s t to first (On a b v more step same) = On a b v (comes_on image stack_end s t a first more) step same
 
 -- a run that never gets stuck does not after a step
-pub never_stuck_on : (image : ImageView) (stack_end : ℕ) (s t u v : State) → NeverStuck image stack_end s → SameFrames s t → outcome image stack_end t ≡ Goes u → SameFrames u v →
+pub never_stuck_on : (image : ImageView) (stack_end : ℕ) (s t u v : State) → NeverStuck image stack_end s → SameFrames s t → step_outcome image stack_end t ≡ Goes u → SameFrames u v →
     NeverStuck image stack_end v
 never_stuck_on image stack_end s t u v never same step more = λ to comes. never to (comes_on image stack_end s v to (On t u v (Here t same) step more) comes)
 

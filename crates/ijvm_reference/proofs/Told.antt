@@ -20,7 +20,7 @@ use Rattle.ijvm_image.specs.Image.{ImageView}
 use Rattle.ijvm_meaning.specs.Frames.{Frame, State, frames_of, base}
 use Rattle.ijvm_meaning.specs.Safe.{SameFrames}
 use Rattle.ijvm_meaning.specs.Cost.{timing_of}
-use Rattle.ijvm_meaning.specs.Run.{Program, Point, Finish, first_point, EndsBy}
+use Rattle.ijvm_meaning.specs.Run.{TimedImage, Point, Finish, first_point, EndsBy}
 use Rattle.ijvm_reference.specs.Machine.{MachineView, state_of, started}
 use Rattle.ijvm_reference.specs.Steps.{IsMetBy}
 use Rattle.ijvm_reference.specs.Kept.{fresh}
@@ -58,7 +58,7 @@ record IsEndOf (front : List ℕ) (f : Finish) (end : RunEnd) (c : Counts) (new 
   pub untaken : f.left.untaken ≡ u
   pub given : front ++ f.left.given ≡ g
 
-ends_behind : (front : List ℕ) (p : Program) (bound : ℕ) (from : Point) (end : RunEnd) (c : Counts) (new : MachineView) (u g : List ℕ) → EndsIn end p bound (point_behind front from) c new u g →
+ends_behind : (front : List ℕ) (p : TimedImage) (bound : ℕ) (from : Point) (end : RunEnd) (c : Counts) (new : MachineView) (u g : List ℕ) → EndsIn end p bound (point_behind front from) c new u g →
     (f : Finish) × EndsBy p bound from f × IsEndOf front f end c new u g
 ends_behind front p bound from end c new u g (e, same) =
     let b = ended_behind p bound front from e.finish e.ends in
@@ -78,7 +78,7 @@ ends_behind front p bound from end c new u g (e, same) =
       },
     )
 
-record IsCutOf (e : StepError) (held : Option (List ℕ)) (front : List ℕ) (p : Program) (bound : ℕ) (at : Point) (console : ConsoleView) (c : Counts) (new : MachineView) (u g : List ℕ) : Type 0 where
+record IsCutOf (e : StepError) (held : Option (List ℕ)) (front : List ℕ) (p : TimedImage) (bound : ℕ) (at : Point) (console : ConsoleView) (c : Counts) (new : MachineView) (u g : List ℕ) : Type 0 where
   pub under : at.cycles < bound
   pub met : IsMetBy e (instr_at p.image.text at.state.at) console
   pub boundary : at.cycles ≡ c.boundary
@@ -89,7 +89,7 @@ record IsCutOf (e : StepError) (held : Option (List ℕ)) (front : List ℕ) (p 
   pub given : front ++ at.state.given ≡ g
   pub lost : e ≡ errors.WriteFault → IsAllBut held console.kept g
 
-cut_behind : (e : StepError) (told : Bool) (c0 : ConsoleView) (held : Option (List ℕ)) (front : List ℕ) (p : Program) (bound : ℕ) (from : Point) (c : Counts) (new : MachineView) (u g : List ℕ) →
+cut_behind : (e : StepError) (told : Bool) (c0 : ConsoleView) (held : Option (List ℕ)) (front : List ℕ) (p : TimedImage) (bound : ℕ) (from : Point) (c : Counts) (new : MachineView) (u g : List ℕ) →
     IsCut e told c0 held p bound (point_behind front from) c new u g →
     (at : Point) × (console : ConsoleView) × Reaches told p bound from c0 at console × IsCutOf e held front p bound at console c new u g
 cut_behind e told c0 held front p bound from c new u g cut =
@@ -155,7 +155,7 @@ told_if None ended not_ended is = absurd (cc)
 told_if (Some bytes) ended not_ended is = told_bytes (Some bytes) ended bytes not_ended refl
 
 -- a run that was driven from its first boundary to this stop: what the source and the sink told before it, and what came of it
-pub record Driven (stop : Result PlainEnd AllocError) (left held left' held' : Option (List ℕ)) (c' : ConsoleView) (p : Program) (main_locals bound : ℕ) (c : Counts) (new : MachineView) : Type 0 where
+pub record Driven (stop : Result PlainEnd AllocError) (left held left' held' : Option (List ℕ)) (c' : ConsoleView) (p : TimedImage) (main_locals bound : ℕ) (c : Counts) (new : MachineView) : Type 0 where
   pub input : List ℕ
   pub told : Untaken left false input
   pub rest : List ℕ
@@ -199,14 +199,14 @@ driven stop left held left' held' c0 c' image n main_locals bound machine c0s c 
         subst (λ (k : ℕ). StoppedBy told fresh held' stop (program_of old machine) bound (point_at old 2 k u g) c new u' g') instructions b in
         subst (λ (m : MachineView). StoppedBy told fresh held' stop (program_of m machine) bound (point_at m 2 0 u g) c new u' g') is d
 
-abbrev finishes : (left held left' held' : Option (List ℕ)) (p : Program) (main_locals bound : ℕ) (input rest all : List ℕ) (end : RunEnd) (c : Counts) (new : MachineView) →
+abbrev finishes : (left held left' held' : Option (List ℕ)) (p : TimedImage) (main_locals bound : ℕ) (input rest all : List ℕ) (end : RunEnd) (c : Counts) (new : MachineView) →
     Untaken left false input → Leaves left left' rest → (f : Finish) → EndsBy p bound (first_point p main_locals input) f → f.left.untaken ≡ rest →
     Finishes p main_locals bound left held left' held'
 finishes left held left' held' p main_locals bound input rest all end c new told untaken f by is =
     record { input = input; told = told; finish = f; ends = by; untaken = subst (λ (xs : List ℕ). Leaves left left' xs) (sym is) untaken }
 
 -- the run has ended as the definition's
-has_run : (end : RunEnd) (left held left' held' : Option (List ℕ)) (p : Program) (main_locals bound : ℕ) (input rest all : List ℕ) (c : Counts) (new : MachineView) (r : PlainReport) →
+has_run : (end : RunEnd) (left held left' held' : Option (List ℕ)) (p : TimedImage) (main_locals bound : ℕ) (input rest all : List ℕ) (c : Counts) (new : MachineView) (r : PlainReport) →
     Untaken left false input → Leaves left left' rest → EndsIn end p bound (point_behind (told_of held) (first_point p main_locals input)) c new rest all → Given held' [] all →
     IsReportOf r c new → r.end ≡ reported_end end → HasRun p main_locals bound left held left' held' r
 has_run end left held left' held' p main_locals bound input rest all c new r told untaken e shown is by =
@@ -224,7 +224,7 @@ lost_last None held' kept kept' given some lost told = subst (λ o. LosesLast o 
 lost_last (Some h) held' kept kept' given some lost told = subst (λ o. LosesLast o given) (sym lost.prefix.1) (h, kept, lost.prefix.0, some, told, refl)
 
 -- the run has ended, but the last flush failed
-cut_at_end : (end : RunEnd) (left held left' held' : Option (List ℕ)) (p : Program) (main_locals bound : ℕ) (input rest all : List ℕ) (c : Counts) (new : MachineView) (r : PlainReport) →
+cut_at_end : (end : RunEnd) (left held left' held' : Option (List ℕ)) (p : TimedImage) (main_locals bound : ℕ) (input rest all : List ℕ) (c : Counts) (new : MachineView) (r : PlainReport) →
     Untaken left false input → Leaves left left' rest → EndsIn end p bound (point_behind (told_of held) (first_point p main_locals input)) c new rest all → IsShown (Ok ends.WriteFault) held' [] all →
     LosesLast held' all → Holds (told_of held) held' → IsReportOf r c new → IsCutAtEnd p main_locals bound left held left' held' r
 cut_at_end end left held left' held' p main_locals bound input rest all c new r told untaken e shown last holds is =
@@ -237,7 +237,7 @@ cut_at_end end left held left' held' p main_locals bound input rest all c new r 
     }
 
 -- whichever end it is
-pub ran : (end : PlainEnd) (left held left' held1 held' : Option (List ℕ)) (c1 : ConsoleView) (p : Program) (main_locals bound : ℕ) (c : Counts) (new : MachineView) (r : PlainReport) →
+pub ran : (end : PlainEnd) (left held left' held1 held' : Option (List ℕ)) (c1 : ConsoleView) (p : TimedImage) (main_locals bound : ℕ) (c : Counts) (new : MachineView) (r : PlainReport) →
     end ≢ ends.ReadFault → end ≢ ends.WriteFault → Driven (Ok end) left held left' held1 c1 p main_locals bound c new → ((g : List ℕ) → Given held1 c1.kept g → Given held' [] g) →
     IsReportOf r c new → r.end ≡ end → HasRun p main_locals bound left held left' held' r
 ran ends.Halt left held left' held1 held' c1 p main_locals bound c new r n m d flushed is by =
@@ -251,7 +251,7 @@ ran ends.StackLimit left held left' held1 held' c1 p main_locals bound c new r n
 ran ends.ReadFault left held left' held1 held' c1 p main_locals bound c new r n m d flushed is by = absurd (n refl)
 ran ends.WriteFault left held left' held1 held' c1 p main_locals bound c new r n m d flushed is by = absurd (m refl)
 
-pub unflushed : (end : PlainEnd) (left held left' held1 held' : Option (List ℕ)) (c1 : ConsoleView) (kept : List ℕ) (p : Program) (main_locals bound : ℕ) (c : Counts) (new : MachineView) (r : PlainReport) →
+pub unflushed : (end : PlainEnd) (left held left' held1 held' : Option (List ℕ)) (c1 : ConsoleView) (kept : List ℕ) (p : TimedImage) (main_locals bound : ℕ) (c : Counts) (new : MachineView) (r : PlainReport) →
     end ≢ ends.ReadFault → end ≢ ends.WriteFault → Driven (Ok end) left held left' held1 c1 p main_locals bound c new → c1.kept ≢ [] → IsLost held1 c1.kept held' kept → Holds (told_of held) held' →
     IsReportOf r c new → IsCutAtEnd p main_locals bound left held left' held' r
 unflushed ends.Halt left held left' held1 held' c1 kept p main_locals bound c new r n m d some lost holds is =
@@ -265,12 +265,12 @@ unflushed ends.StackLimit left held left' held1 held' c1 kept p main_locals boun
 unflushed ends.ReadFault left held left' held1 held' c1 kept p main_locals bound c new r n m d some lost holds is = absurd (n refl)
 unflushed ends.WriteFault left held left' held1 held' c1 kept p main_locals bound c new r n m d some lost holds is = absurd (m refl)
 
-abbrev stops : (left held left' held' : Option (List ℕ)) (p : Program) (main_locals bound : ℕ) (input rest : List ℕ) → Untaken left false input → Leaves left left' rest →
+abbrev stops : (left held left' held' : Option (List ℕ)) (p : TimedImage) (main_locals bound : ℕ) (input rest : List ℕ) → Untaken left false input → Leaves left left' rest →
     (at : Point) (console : ConsoleView) → Reaches (is_some left) p bound (first_point p main_locals input) fresh at console → at.state.untaken ≡ rest → Stops p main_locals bound left held left' held'
 stops left held left' held' p main_locals bound input rest told untaken at console reaches is =
     record { input = input; told = told; at = at; console = console; reaches = reaches; untaken = subst (λ (xs : List ℕ). Leaves left left' xs) (sym is) untaken }
 
-pub cut_by_read : (left held left' held1 held' : Option (List ℕ)) (c1 : ConsoleView) (p : Program) (main_locals bound : ℕ) (c : Counts) (new : MachineView) (r : PlainReport) →
+pub cut_by_read : (left held left' held1 held' : Option (List ℕ)) (c1 : ConsoleView) (p : TimedImage) (main_locals bound : ℕ) (c : Counts) (new : MachineView) (r : PlainReport) →
     Driven (Ok ends.ReadFault) left held left' held1 c1 p main_locals bound c new → ((g : List ℕ) → Given held1 c1.kept g → Given held' [] g) → IsReportOf r c new →
     IsCutByRead p main_locals bound left held left' held' r
 cut_by_read left held left' held1 held' c1 p main_locals bound c new r d flushed is =
@@ -284,7 +284,7 @@ cut_by_read left held left' held1 held' c1 p main_locals bound c new r d flushed
       given = got_all (told_of held) b.0.state.given d.all held' (flushed d.all d.shown) b.3.given;
     }
 
-pub cut_inside : (left held left' held1 held' : Option (List ℕ)) (c1 : ConsoleView) (p : Program) (main_locals bound : ℕ) (c : Counts) (new : MachineView) (r : PlainReport) →
+pub cut_inside : (left held left' held1 held' : Option (List ℕ)) (c1 : ConsoleView) (p : TimedImage) (main_locals bound : ℕ) (c : Counts) (new : MachineView) (r : PlainReport) →
     Driven (Ok ends.WriteFault) left held left' held1 c1 p main_locals bound c new → held' ≡ held1 → Holds (told_of held) held1 → IsReportOf r c new →
     IsCutInside p main_locals bound left held left' held' r
 cut_inside left held left' held1 held' c1 p main_locals bound c new r d same holds is =
@@ -298,7 +298,7 @@ cut_inside left held left' held1 held' c1 p main_locals bound c new r d same hol
       lost = subst (λ (h : Option (List ℕ)). IsAllBut h b.1.kept (told_of held ++ b.0.state.given)) (sym same) (subst (λ (xs : List ℕ). IsAllBut held1 b.1.kept xs) (sym b.3.given) (b.3.lost refl));
     }
 
-pub short : (e : AllocError) (left held left' held' : Option (List ℕ)) (c1 : ConsoleView) (p : Program) (main_locals bound : ℕ) (c : Counts) (new : MachineView) →
+pub short : (e : AllocError) (left held left' held' : Option (List ℕ)) (c1 : ConsoleView) (p : TimedImage) (main_locals bound : ℕ) (c : Counts) (new : MachineView) →
     Driven (Err e) left held left' held' c1 p main_locals bound c new → Holds (told_of held) held' → IsShort p main_locals bound left held left' held'
 short e left held left' held' c1 p main_locals bound c new d holds =
     let b = cut_behind errors.OutOfMemory (is_some left) fresh held' (told_of held) p bound (first_point p main_locals d.input) c new d.rest d.all d.stopped in
@@ -308,7 +308,7 @@ short e left held left' held' c1 p main_locals bound c new d holds =
     }
 
 -- there was no memory before the first boundary
-pub short_first : (left held : Option (List ℕ)) (p : Program) (main_locals bound : ℕ) → IsShort p main_locals bound left held left held
+pub short_first : (left held : Option (List ℕ)) (p : TimedImage) (main_locals bound : ℕ) → IsShort p main_locals bound left held left held
 short_first left held p main_locals bound =
     let input = some_untaken left false in
     record {

@@ -7,7 +7,7 @@ use Rattle.ijvm_reference.specs.declared.frames.StepError.{StepError}
 use Rattle.ijvm_reference.specs.declared.compute.Effect.{Effect}
 use Rattle.ijvm_reference.specs.declared.compute.Effect.TheVariants as effects
 use Rattle.ijvm_instr.specs.Instructions.{instr_at}
-use Rattle.ijvm_meaning.specs.Step.{outcome, step, step_if_any}
+use Rattle.ijvm_meaning.specs.Step.{step_outcome, step, step_if_any}
 use Rattle.ijvm_reference.specs.Machine.{MachineView, IsComputed, state_of, outcome_of}
 use Rattle.ijvm_reference.specs.Steps.{StepFails, Turns, step_end}
 
@@ -39,7 +39,7 @@ is_computed (WideIinc k z) h e n m = tt
 is_computed Err h e n m = e refl
 is_computed Halt h e n m = h refl
 
-pub effect-turns : (effect : Effect) (old new : MachineView) (u g u' g' : List ℕ) → outcome old.image old.stack_end (state_of old u g) ≡ outcome_of effect (state_of new u' g') →
+pub effect-turns : (effect : Effect) (old new : MachineView) (u g u' g' : List ℕ) → step_outcome old.image old.stack_end (state_of old u g) ≡ outcome_of effect (state_of new u' g') →
     Turns (step_end effect) old new u g u' g'
 effect-turns effects.Went old new u g u' g' e = e
 effect-turns effects.StackLimit old new u g u' g' e = e
@@ -51,5 +51,5 @@ failed_at i j left held c left' held' c' old new e is = subst (λ (k : Option In
 
 -- the instruction at the address, as it is decoded
 pub outcome-at : (old : MachineView) (i : Instr) (u g : List ℕ) → instr_at old.image.text old.at ≡ Some i →
-    outcome old.image old.stack_end (state_of old u g) ≡ step old.image old.stack_end i (state_of old u g)
+    step_outcome old.image old.stack_end (state_of old u g) ≡ step old.image old.stack_end i (state_of old u g)
 outcome-at old i u g e = ap (step_if_any old.image old.stack_end (state_of old u g)) e

@@ -11,7 +11,7 @@ use Rattle.ijvm_reference.specs.declared.compute.Operator.{Operator}
 use Rattle.ijvm_reference.specs.declared.compute.Operator.TheVariants as operators
 use Rattle.ijvm_reference.specs.declared.compute.Effect.{Effect}
 use Rattle.ijvm_reference.specs.declared.compute.Effect.TheVariants as effects
-use Rattle.ijvm_meaning.specs.Step.{Outcome, Goes, Limits, Stuck, is_own, in_method}
+use Rattle.ijvm_meaning.specs.Step.{StepOutcome, Goes, Limits, Stuck, is_own, in_method}
 
 pub record MachineView : Type 0 where
   pub image : ImageView
@@ -71,17 +71,17 @@ Stores true k v old new = (has_own old k ≡ true) × (new ≡ record old { loca
 Stores false k v old new = (has_own old k ≡ false) × (new ≡ old)
 
 -- what an effect is, of the state that it leaves
-abbrev pub outcome_of : Effect → State → Outcome
+abbrev pub outcome_of : Effect → State → StepOutcome
 outcome_of effects.Went s = Goes s
 outcome_of effects.StackLimit s = Limits s
 outcome_of effects.Stuck s = Stuck
 
 -- this comes of the old machine, and leaves the new one; the console's bytes stay
-abbrev pub Leads : (State → Outcome) → Effect → MachineView → MachineView → Type 0
+abbrev pub Leads : (State → StepOutcome) → Effect → MachineView → MachineView → Type 0
 Leads does effect old new = (untaken given : List ℕ) → does (state_of old untaken given) ≡ outcome_of effect (state_of new untaken given)
 
 -- the same, of an instruction that may want memory
-abbrev pub LeadsBy : Result Effect AllocError → (State → Outcome) → MachineView → MachineView → Type 0
+abbrev pub LeadsBy : Result Effect AllocError → (State → StepOutcome) → MachineView → MachineView → Type 0
 LeadsBy result does old new = IfOk result (λ effect. Leads does effect old new)
 
 abbrev pub operate : Operator → ℕ → ℕ → ℕ

@@ -16,7 +16,7 @@ use Rattle.ijvm_instr.specs.Instructions.{instr_at}
 use Rattle.ijvm_image.specs.Image.{ImageView}
 use Rattle.ijvm_meaning.specs.Frames.{base, sp_of, lv_of}
 use Rattle.ijvm_meaning.specs.Cost.{timing_of}
-use Rattle.ijvm_meaning.specs.Run.{Program, Point, Finish, first_point, EndsBy}
+use Rattle.ijvm_meaning.specs.Run.{TimedImage, Point, Finish, first_point, EndsBy}
 use Rattle.ijvm_reference.specs.Kept.{PutsKept, fresh}
 use Rattle.ijvm_reference.specs.Machine.{MachineView}
 use Rattle.ijvm_reference.specs.Runs.{Reaches, IsAllBut}
@@ -26,7 +26,7 @@ abbrev pub told_of : Option (List ℕ) → List ℕ
 told_of told = unwrap_or told []
 
 -- an image on a memory map, with a machine's cycles
-abbrev pub program : ImageView → MemoryMap → Machine → Program
+abbrev pub program : ImageView → MemoryMap → Machine → TimedImage
 program image map machine = record { image = image; stack_end = map.stack_end; timing = timing_of machine }
 
 -- an end of the definition's run, as it is reported
@@ -71,7 +71,7 @@ GotAll held held' given = IfSome held' (λ h. h ≡ told_of held ++ given)
 abbrev pub GotFront : Option (List ℕ) → Option (List ℕ) → List ℕ → Type 0
 GotFront held held' given = IfSome held' (λ h. (some more : List ℕ) × (h ≡ told_of held ++ some) × (some ++ more ≡ given))
 
-module _ (p : Program) (main_locals bound : ℕ) (left held left' held' : Option (List ℕ)) where
+module _ (p : TimedImage) (main_locals bound : ℕ) (left held left' held' : Option (List ℕ)) where
   -- the definition's run of the bytes that the source has left, where it tells them, goes to its end, and leaves what the run does not take
   pub record Finishes : Type 0 where
     pub input : List ℕ

@@ -17,13 +17,13 @@ use Rattle.ijvm_reference.specs.declared.plain.Counts.{Counts}
 use Rattle.ijvm_instr.specs.Instructions.{instr_at}
 use Rattle.ijvm_meaning.specs.Safe.{SameFrames}
 use Rattle.ijvm_reference.specs.Machine.{MachineView, state_of}
-use Rattle.ijvm_meaning.specs.Step.{Goes, outcome}
+use Rattle.ijvm_meaning.specs.Step.{Goes, step_outcome}
 use Rattle.ijvm_reference.specs.Kept.{Keeps}
 use Rattle.ijvm_reference.specs.Steps.{IsMetBy}
 use Rattle.ijvm_meaning.specs.Cost.{timing_of}
-use Rattle.ijvm_meaning.specs.Run.{Program, Point, Finish, EndsBy, point_after}
+use Rattle.ijvm_meaning.specs.Run.{TimedImage, Point, Finish, EndsBy, point_after}
 
-abbrev pub program_of : MachineView → Machine → Program
+abbrev pub program_of : MachineView → Machine → TimedImage
 program_of m machine = record { image = m.image; stack_end = m.stack_end; timing = timing_of machine }
 
 -- a boundary, with these cycles and instructions done
@@ -35,7 +35,7 @@ abbrev pub IsAllBut : Option (List ℕ) → List ℕ → List ℕ → Type 0
 IsAllBut held kept given = IfSome held (λ h. (n : ℕ) × (h ++ drop n kept ≡ given))
 
 -- the run that goes on so ends with these counts, frames and bytes
-pub record RunEndsWith (p : Program) (bound : ℕ) (from : Point) (c : Counts) (new : MachineView) (untaken given : List ℕ) : Type 0 where
+pub record RunEndsWith (p : TimedImage) (bound : ℕ) (from : Point) (c : Counts) (new : MachineView) (untaken given : List ℕ) : Type 0 where
   pub finish : Finish
   pub ends : EndsBy p bound from finish
   pub boundary : finish.last.cycles ≡ c.boundary
@@ -45,20 +45,20 @@ pub record RunEndsWith (p : Program) (bound : ℕ) (from : Point) (c : Counts) (
   pub left : finish.left ≡ state_of new untaken given
 
 -- one boundary behind another, and what the console keeps at both
-pub record GoesOn (told : Bool) (p : Program) (bound : ℕ) (at next : Point) (c c' : ConsoleView) : Type 0 where
+pub record GoesOn (told : Bool) (p : TimedImage) (bound : ℕ) (at next : Point) (c c' : ConsoleView) : Type 0 where
   pub under : at.cycles < bound
-  pub goes : outcome p.image p.stack_end at.state ≡ Goes next.state
+  pub goes : step_outcome p.image p.stack_end at.state ≡ Goes next.state
   pub counts : next ≡ point_after p at next.state
   pub keeps : Keeps told (instr_at p.image.text at.state.at) at.state.untaken c c'
 
 -- the boundaries that the run from this one passes before it ends, with what the console keeps there
-pub data Reaches (told : Bool) (p : Program) (bound : ℕ) (from : Point) (c0 : ConsoleView) : Point → ConsoleView → Type 0 where
+pub data Reaches (told : Bool) (p : TimedImage) (bound : ℕ) (from : Point) (c0 : ConsoleView) : Point → ConsoleView → Type 0 where
   Begins : (at : Point) (c : ConsoleView) → at ≡ from → c ≡ c0 → Reaches told p bound from c0 at c
   Onward : (at next : Point) (c c' : ConsoleView) → Reaches told p bound from c0 at c → GoesOn told p bound at next c c' → Reaches told p bound from c0 next c'
 
 -- The run that goes on so passes a boundary with these counts, frames and bytes, and its instruction there meets this. After a write that
 -- failed the sink holds all that was given there but the last of what the console kept.
-pub record IsCut (e : StepError) (told : Bool) (c0 : ConsoleView) (held : Option (List ℕ)) (p : Program) (bound : ℕ)
+pub record IsCut (e : StepError) (told : Bool) (c0 : ConsoleView) (held : Option (List ℕ)) (p : TimedImage) (bound : ℕ)
     (from : Point) (c : Counts) (new : MachineView) (untaken given : List ℕ) : Type 0 where
   pub at : Point
   pub console : ConsoleView
@@ -72,11 +72,12 @@ pub record IsCut (e : StepError) (told : Bool) (c0 : ConsoleView) (held : Option
   pub lost : e ≡ errors.WriteFault → IsAllBut held console.kept given
 
 -- an end of the definition's run
-abbrev pub EndsIn : RunEnd → Program → ℕ → Point → Counts → MachineView → List ℕ → List ℕ → Type 0
+abbrev pub EndsIn : RunEnd → TimedImage → ℕ → Point → Counts → MachineView → List ℕ → List ℕ → Type 0
 EndsIn end p bound from c new untaken given = (e : RunEndsWith p bound from c new untaken given) × (e.finish.end ≡ end)
 
 -- where a run stops: at an end of the definition's, or where a fault or want of memory cuts it
-abbrev pub StoppedBy : Bool → ConsoleView → Option (List ℕ) → Result PlainEnd AllocError → Program → ℕ → Point → Counts → MachineView → List ℕ → List ℕ → Type 0
+abbrev pub StoppedBy : Bool → ConsoleView → Option (List ℕ) → Result PlainEnd AllocError → TimedImage → ℕ → Point → Counts → MachineView → List ℕ →
+    List ℕ → Type 0
 StoppedBy told c0 held (Ok ends.Halt) = EndsIn defined.Halt
 StoppedBy told c0 held (Ok ends.Err) = EndsIn defined.Err
 StoppedBy told c0 held (Ok ends.Bound) = EndsIn defined.Bound

@@ -11,7 +11,7 @@ use Rattle.ijvm_reference.specs.declared.frames.StepEnd.TheVariants as ends
 use Rattle.ijvm_reference.specs.declared.frames.StepError.{StepError}
 use Rattle.ijvm_reference.specs.declared.frames.StepError.TheVariants as errors
 use Rattle.ijvm_meaning.specs.Frames.{State}
-use Rattle.ijvm_meaning.specs.Step.{Outcome, Goes, Halts, Errs, Limits, Stuck, outcome}
+use Rattle.ijvm_meaning.specs.Step.{StepOutcome, Goes, Halts, Errs, Limits, Stuck, step_outcome}
 use Rattle.ijvm_reference.specs.declared.compute.Effect.{Effect}
 use Rattle.ijvm_reference.specs.declared.compute.Effect.TheVariants as effects
 use Rattle.ijvm_reference.specs.Machine.{MachineView, state_of, outcome_of}
@@ -27,7 +27,7 @@ IsLedOn left held c left' held' c' leads =
     ((given : List ℕ) → Given held c.kept given → (more : List ℕ) × Given held' c'.kept more × leads untaken given rest more)
 
 -- what comes of an instruction over the console
-abbrev pub LedBy : (State → Outcome) → Option (List ℕ) → Option (List ℕ) → ConsoleView → Option (List ℕ) →
+abbrev pub LedBy : (State → StepOutcome) → Option (List ℕ) → Option (List ℕ) → ConsoleView → Option (List ℕ) →
     Option (List ℕ) → ConsoleView → MachineView → MachineView → Effect → Type 0
 LedBy does left held c left' held' c' old new effect =
     IsLedOn left held c left' held' c' (λ u g u' g'. does (state_of old u g) ≡ outcome_of effect (state_of new u' g'))
@@ -43,17 +43,17 @@ step_end effects.Stuck = None
 
 -- what each end of a step says
 abbrev pub Does : StepEnd → MachineView → MachineView → List ℕ → List ℕ → List ℕ → List ℕ → Type 0
-Does ends.Went old new untaken given untaken' given' = outcome old.image old.stack_end (state_of old untaken given) ≡ Goes (state_of new untaken' given')
+Does ends.Went old new untaken given untaken' given' = step_outcome old.image old.stack_end (state_of old untaken given) ≡ Goes (state_of new untaken' given')
 Does ends.Halt old new untaken given untaken' given' =
-    (outcome old.image old.stack_end (state_of old untaken given) ≡ Halts) × (state_of new untaken' given' ≡ state_of old untaken given)
+    (step_outcome old.image old.stack_end (state_of old untaken given) ≡ Halts) × (state_of new untaken' given' ≡ state_of old untaken given)
 Does ends.Err old new untaken given untaken' given' =
-    (outcome old.image old.stack_end (state_of old untaken given) ≡ Errs) × (state_of new untaken' given' ≡ state_of old untaken given)
+    (step_outcome old.image old.stack_end (state_of old untaken given) ≡ Errs) × (state_of new untaken' given' ≡ state_of old untaken given)
 Does ends.StackLimit old new untaken given untaken' given' =
-    outcome old.image old.stack_end (state_of old untaken given) ≡ Limits (state_of new untaken' given')
+    step_outcome old.image old.stack_end (state_of old untaken given) ≡ Limits (state_of new untaken' given')
 
 -- what comes of an instruction: an end of a step, or none where the machine is stuck
 abbrev pub Turns : Option StepEnd → MachineView → MachineView → List ℕ → List ℕ → List ℕ → List ℕ → Type 0
-Turns None old new untaken given untaken' given' = outcome old.image old.stack_end (state_of old untaken given) ≡ Stuck
+Turns None old new untaken given untaken' given' = step_outcome old.image old.stack_end (state_of old untaken given) ≡ Stuck
 Turns (Some end) old new untaken given untaken' given' = Does end old new untaken given untaken' given'
 
 -- after an Err: but for a write that failed the console's bytes are as they were

@@ -8,9 +8,9 @@ use Rattle.mic_clock.specs.View.{BoardView}
 use Rattle.ijvm_meaning.specs.declared.run.RunEnd.{RunEnd}
 use Rattle.ijvm_meaning.specs.declared.run.RunEnd.TheVariants as defined
 use Rattle.ijvm_meaning.specs.Frames.{State, start_of}
-use Rattle.ijvm_meaning.specs.Step.{Outcome, Goes, Halts, Errs, Limits, Stuck, outcome}
+use Rattle.ijvm_meaning.specs.Step.{StepOutcome, Goes, Halts, Errs, Limits, Stuck, step_outcome}
 use Rattle.ijvm_meaning.specs.Cost.{Timing}
-use Rattle.ijvm_meaning.specs.Run.{Program, Point, Finish, point_after, finish_from, after_test, after_outcome, completed, stopped, first_point}
+use Rattle.ijvm_meaning.specs.Run.{TimedImage, Point, Finish, point_after, finish_from, after_test, after_outcome, completed, stopped, first_point}
 use Rattle.verifier_facts.specs.Accepted.{VerifiedView}
 use Rattle.ijvm_simulation.specs.Simulates.{board_end}
 use Rattle.ijvm_simulation.specs.Verified.{program}
@@ -23,12 +23,12 @@ pub record Alike (f g : Finish) : Type 0 where
   pub left : f.left ≡ g.left
   pub instructions : f.instructions ≡ g.instructions
 
-module _ (p q : Program) (image : q.image ≡ p.image) (stack_end : q.stack_end ≡ p.stack_end) (b c : ℕ) where
+module _ (p q : TimedImage) (image : q.image ≡ p.image) (stack_end : q.stack_end ≡ p.stack_end) (b c : ℕ) where
   abbrev Later : ℕ → ℕ → Type 0
   Later n k = (at to : Point) (f g : Finish) → at.state ≡ to.state → at.instructions ≡ to.instructions →
       finish_from p b n at ≡ Some f → finish_from q c k to ≡ Some g → f.end ≢ defined.Bound → g.end ≢ defined.Bound → Alike f g
 
-  by_outcome : (n k : ℕ) → Later n k → (at to : Point) (f g : Finish) → at.state ≡ to.state → at.instructions ≡ to.instructions → (out : Outcome) →
+  by_outcome : (n k : ℕ) → Later n k → (at to : Point) (f g : Finish) → at.state ≡ to.state → at.instructions ≡ to.instructions → (out : StepOutcome) →
       after_outcome (finish_from p b n) p at out ≡ Some f → after_outcome (finish_from q c k) q to out ≡ Some g → f.end ≢ defined.Bound → g.end ≢ defined.Bound → Alike f g
   by_outcome n k later at to f g same many (Goes s) ef eg nf ng = later (point_after p at s) (point_after q to s) f g refl (ap (λ (i : ℕ). i + 1) many) ef eg nf ng
   by_outcome n k later at to f g same many Halts ef eg nf ng =
@@ -62,8 +62,8 @@ module _ (p q : Program) (image : q.image ≡ p.image) (stack_end : q.stack_end 
   by_tests n k later at to f g same many true u ef eg nf ng = absurd (nf (ap (λ (x : Finish). x.end) (sym (same_Some _ _ ef))))
   by_tests n k later at to f g same many false true ef eg nf ng = absurd (ng (ap (λ (x : Finish). x.end) (sym (same_Some _ _ eg))))
   by_tests n k later at to f g same many false false ef eg nf ng =
-      let there : outcome q.image q.stack_end to.state ≡ outcome p.image p.stack_end at.state = λ i. outcome (image i) (stack_end i) (sym same i) in
-      by_outcome n k later at to f g same many (outcome p.image p.stack_end at.state) ef
+      let there : step_outcome q.image q.stack_end to.state ≡ step_outcome p.image p.stack_end at.state = λ i. step_outcome (image i) (stack_end i) (sym same i) in
+      by_outcome n k later at to f g same many (step_outcome p.image p.stack_end at.state) ef
       (ap (after_outcome (finish_from q c k) q to) (sym there) ∙ eg) nf ng
 
   pub alike : (n k : ℕ) → Later n k

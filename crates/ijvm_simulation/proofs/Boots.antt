@@ -5,17 +5,17 @@ use Rattle.console_port.specs.World.{World}
 use Rattle.mic_clock.specs.Meaning.{Meaning}
 use Rattle.mic_clock.specs.Run.{MicroRun, turns}
 use Rattle.ijvm_meaning.specs.Frames.{State, start_of}
-use Rattle.ijvm_meaning.specs.Run.{Program, first_point}
+use Rattle.ijvm_meaning.specs.Run.{TimedImage, first_point}
 use Rattle.ijvm_simulation.specs.Stands.{Origin}
 use Rattle.ijvm_simulation.specs.Simulates.{IsBoundary}
-use Rattle.ijvm_simulation.specs.Law.{Shows, Boots, reset_moment}
+use Rattle.ijvm_simulation.specs.Law.{ShowsState, Boots, reset_moment}
 use Rattle.mic_image_board.specs.Reset.{reset_run}
 use Rattle.ijvm_simulation.proofs.Passes.{not_boundary}
 use Rattle.ijvm_simulation.proofs.Turns.{IsReady, moment_of, run_at, run_inside, pass_turns, pass_turns_inside, Shorter, shorter}
 
-module _ {S : Type 0} (m : Meaning S) (words : List ℕ) (IsAt : State → S → World → Type 0) (p : Program) (entry main_locals : ℕ) (o : Origin) (input : List ℕ)
+module _ {S : Type 0} (m : Meaning S) (words : List ℕ) (IsAt : State → S → World → Type 0) (p : TimedImage) (entry main_locals : ℕ) (o : Origin) (input : List ℕ)
     (b : Boots m words IsAt o.given p.timing (reset_moment m entry main_locals o input) (start_of main_locals input))
-    (shows : (s : State) (x : S) (w : World) → IsAt s x w → Shows m words IsAt o.given s x w) (bound : ℕ) where
+    (shows : (s : State) (x : S) (w : World) → IsAt s x w → ShowsState m words IsAt o.given s x w) (bound : ℕ) where
   abbrev pub start : MicroRun S
   start = reset_run m entry main_locals (record { words = o.words; untaken = input; given = o.given })
 
@@ -27,7 +27,7 @@ module _ {S : Type 0} (m : Meaning S) (words : List ℕ) (IsAt : State → S →
   pub booted : IsBoundary IsAt (first_point p main_locals input) (turns m words (Some bound) p.timing.boot start)
   booted =
       let v = b.moves in
-      let s : Shows m words IsAt o.given (start_of main_locals input) v.there.state v.there.world = shows _ _ _ v.stands in
+      let s : ShowsState m words IsAt o.given (start_of main_locals input) v.there.state v.there.world = shows _ _ _ v.stands in
       let e : turns m words (Some bound) (suc v.n) start ≡ run_at m start (v.n + 1) v.there =
       pass_turns m words bound v.n start v.there (v.n + 1) (omega arith) ready (omega (arith, v.short)) v.passes s.boundary in
       let many : p.timing.boot ≡ suc v.n = v.spent_is ∙ omega arith in

@@ -10,11 +10,11 @@ use Rattle.ijvm_instr.specs.Instructions.{word_of}
 use Rattle.ijvm_image.specs.declared.method.Method.{Method}
 use Rattle.ijvm_image.specs.Image.{ImageView, method_at}
 use Rattle.ijvm_meaning.specs.Frames.{Frame, State, frames_of, base}
-use Rattle.ijvm_meaning.specs.Step.{Outcome, Goes, Limits, Stuck, limited, moved, pushed_constant, loaded, is_own, with_local, stored, increased, popped, doubled, swapped, combined, way, branched, compared, returned, in_method, entered, called_at, taken, given_out, step}
+use Rattle.ijvm_meaning.specs.Step.{StepOutcome, Goes, Limits, Stuck, limited, moved, pushed_constant, loaded, is_own, with_local, stored, increased, popped, doubled, swapped, combined, way, branched, compared, returned, in_method, entered, called_at, taken, given_out, step}
 use Rattle.ijvm_simulation.specs.Outcomes.{Stores, push, Went, Overran, IsOutcome}
 
 module _ (image : ImageView) (stack_end : ℕ) (s : State) where
-  abbrev Says_of : Instr → Outcome → Type 0
+  abbrev Says_of : Instr → StepOutcome → Type 0
   Says_of i o = IsOutcome image stack_end s i o
 
   -- a push or a call: the stack has room, or has none

@@ -2,19 +2,19 @@
 use Rattle.std.proofs.Common.{◌≡◌, ◌<◌, ℕ, zero, suc, Bool, true, false, nat_le, Option, Some, refl, sym, ◌∙◌, ap, subst}
 use Rattle.std.proofs.lemmas.Bool.{lt-leb, leb-false}
 use Rattle.ijvm_meaning.specs.Frames.{State}
-use Rattle.ijvm_meaning.specs.Step.{Outcome, Goes, Halts, Errs, Limits, Stuck, outcome}
-use Rattle.ijvm_meaning.specs.Run.{Program, Point, point_after, Passes, Start, More}
+use Rattle.ijvm_meaning.specs.Step.{StepOutcome, Goes, Halts, Errs, Limits, Stuck, step_outcome}
+use Rattle.ijvm_meaning.specs.Run.{TimedImage, Point, point_after, Passes, Start, More}
 use Rattle.ijvm_simulation.specs.Simulates.{below, going_on, point_behind}
 
-module _ (p : Program) (bound : ℕ) where
+module _ (p : TimedImage) (bound : ℕ) where
   -- what is passed from the next boundary is passed from this one
-  passes_on : (from next at : Point) (to : State) → from.cycles < bound → outcome p.image p.stack_end from.state ≡ Goes to → next ≡ point_after p from to →
+  passes_on : (from next at : Point) (to : State) → from.cycles < bound → step_outcome p.image p.stack_end from.state ≡ Goes to → next ≡ point_after p from to →
       Passes p bound next at → Passes p bound from at
   passes_on from next at to under goes is (Start at' e) = More from at' to (Start from refl) under goes (e ∙ is)
   passes_on from next at to under goes is (More mid at' to2 h under2 goes2 is2) = More mid at' to2 (passes_on from next mid to under goes is h) under2 goes2 is2
 
   module _ (more : Point → Option Point) (from at : Point) (on : (next : Point) → more next ≡ Some at → Passes p bound next at) where
-    passed_by : (o : Outcome) → from.cycles < bound → outcome p.image p.stack_end from.state ≡ o → going_on more p from o ≡ Some at → Passes p bound from at
+    passed_by : (o : StepOutcome) → from.cycles < bound → step_outcome p.image p.stack_end from.state ≡ o → going_on more p from o ≡ Some at → Passes p bound from at
     passed_by (Goes to) under goes e = passes_on from (point_after p from to) at to under goes refl (on (point_after p from to) e)
     passed_by Halts under goes e = absurd (cc)
     passed_by Errs under goes e = absurd (cc)
@@ -23,22 +23,22 @@ module _ (p : Program) (bound : ℕ) where
 
     passed_under : (t : Bool) → nat_le bound from.cycles ≡ t → below more p from t ≡ Some at → Passes p bound from at
     passed_under true is e = absurd (cc)
-    passed_under false is e = passed_by (outcome p.image p.stack_end from.state) (leb-false bound from.cycles is) refl e
+    passed_under false is e = passed_by (step_outcome p.image p.stack_end from.state) (leb-false bound from.cycles is) refl e
 
   pub passed : (i : ℕ) (from at : Point) → point_behind p bound i from ≡ Some at → Passes p bound from at
   passed zero from at e = Start at (let same : from ≡ at = cc in sym same)
   passed (suc i) from at e = passed_under (point_behind p bound i) from at (λ next. passed i next at) (nat_le bound from.cycles) refl e
 
   -- one boundary more, where the run goes on from this one
-  goes_on : (i : ℕ) (from : Point) (to : State) → from.cycles < bound → outcome p.image p.stack_end from.state ≡ Goes to →
+  goes_on : (i : ℕ) (from : Point) (to : State) → from.cycles < bound → step_outcome p.image p.stack_end from.state ≡ Goes to →
       point_behind p bound (suc i) from ≡ point_behind p bound i (point_after p from to)
   goes_on i from to under goes =
       let test : nat_le bound from.cycles ≡ false = lt-leb bound from.cycles under in
-      ap (λ (t : Bool). below (point_behind p bound i) p from t) test ∙ ap (λ (o : Outcome). going_on (point_behind p bound i) p from o) goes
+      ap (λ (t : Bool). below (point_behind p bound i) p from t) test ∙ ap (λ (o : StepOutcome). going_on (point_behind p bound i) p from o) goes
 
-  module _ (at next : Point) (to : State) (under : at.cycles < bound) (goes : outcome p.image p.stack_end at.state ≡ Goes to) (is : next ≡ point_after p at to) where
+  module _ (at next : Point) (to : State) (under : at.cycles < bound) (goes : step_outcome p.image p.stack_end at.state ≡ Goes to) (is : next ≡ point_after p at to) where
     module _ (i : ℕ) (from : Point) (on : (mid : Point) → point_behind p bound i mid ≡ Some at → point_behind p bound (suc i) mid ≡ Some next) where
-      more_by : (o : Outcome) → from.cycles < bound → outcome p.image p.stack_end from.state ≡ o → going_on (point_behind p bound i) p from o ≡ Some at →
+      more_by : (o : StepOutcome) → from.cycles < bound → step_outcome p.image p.stack_end from.state ≡ o → going_on (point_behind p bound i) p from o ≡ Some at →
           point_behind p bound (suc (suc i)) from ≡ Some next
       more_by (Goes mid) less here e = goes_on (suc i) from mid less here ∙ on (point_after p from mid) e
       more_by Halts less here e = absurd (cc)
@@ -48,7 +48,7 @@ module _ (p : Program) (bound : ℕ) where
 
       more_under : (t : Bool) → nat_le bound from.cycles ≡ t → below (point_behind p bound i) p from t ≡ Some at → point_behind p bound (suc (suc i)) from ≡ Some next
       more_under true test e = absurd (cc)
-      more_under false test e = more_by (outcome p.image p.stack_end from.state) (leb-false bound from.cycles test) refl e
+      more_under false test e = more_by (step_outcome p.image p.stack_end from.state) (leb-false bound from.cycles test) refl e
 
     one_more : (i : ℕ) (from : Point) → point_behind p bound i from ≡ Some at → point_behind p bound (suc i) from ≡ Some next
     one_more zero from e =

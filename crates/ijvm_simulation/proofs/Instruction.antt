@@ -13,33 +13,33 @@ use Rattle.mic_clock.specs.Run.{MicroRun, turn, turn_by, turns, bounded, after_s
 use Rattle.ijvm_meaning.specs.declared.run.RunEnd.{RunEnd}
 use Rattle.ijvm_meaning.specs.declared.run.RunEnd.TheVariants as defined
 use Rattle.ijvm_meaning.specs.Frames.{State}
-use Rattle.ijvm_meaning.specs.Step.{Outcome, Goes, Halts, Errs, Limits, Stuck, outcome}
+use Rattle.ijvm_meaning.specs.Step.{StepOutcome, Goes, Halts, Errs, Limits, Stuck, step_outcome}
 use Rattle.ijvm_meaning.specs.Cost.{next_cost}
-use Rattle.ijvm_meaning.specs.Run.{Program, Point, Finish, point_after, finish_from, after_test, after_outcome, completed, stopped}
+use Rattle.ijvm_meaning.specs.Run.{TimedImage, Point, Finish, point_after, finish_from, after_test, after_outcome, completed, stopped}
 use Rattle.ijvm_simulation.specs.Simulates.{point_behind, below, going_on, board_end, IsBoundary, IsEnd}
 use Rattle.ijvm_simulation.specs.Passes.{Moment, pass}
-use Rattle.ijvm_simulation.specs.Law.{HasWord, Moves, Stops, StopsHere, StopsBehind, Overruns, Shows}
+use Rattle.ijvm_simulation.specs.Law.{HasWord, Moves, Stops, StopsHere, StopsBehind, Overruns, ShowsState}
 use Rattle.ijvm_simulation.proofs.Passes.{not_boundary}
 use Rattle.ijvm_simulation.proofs.Turns.{moment_of, run_inside, run_at, IsReady, ready_inside, whole_turn, turns-add, ending_turn, clocks, pass_turns, pass_turns_inside, Shorter, shorter}
 
 -- what the states of a run have in common: each is one before it that goes on, and none is stuck
-pub record Keeps (p : Program) (Fine : State → Type 0) : Type 0 where
-  pub stays : (s to : State) → Fine s → outcome p.image p.stack_end s ≡ Goes to → Fine to
-  pub unstuck : (s : State) → Fine s → outcome p.image p.stack_end s ≡ Stuck → ⊥
+pub record Keeps (p : TimedImage) (Fine : State → Type 0) : Type 0 where
+  pub stays : (s to : State) → Fine s → step_outcome p.image p.stack_end s ≡ Goes to → Fine to
+  pub unstuck : (s : State) → Fine s → step_outcome p.image p.stack_end s ≡ Stuck → ⊥
 
 -- what each instruction of a program takes, in the states that its run comes to
-pub record Law {S : Type 0} (m : Meaning S) (words : List ℕ) (IsAt : State → S → World → Type 0) (before : List ℕ) (p : Program) (Fine : State → Type 0) : Type 0 where
-  pub shows : (s : State) (x : S) (w : World) → IsAt s x w → Shows m words IsAt before s x w
-  pub goes : (s to : State) (q : Moment S) → Fine s → IsAt s q.state q.world → outcome p.image p.stack_end s ≡ Goes to →
+pub record Law {S : Type 0} (m : Meaning S) (words : List ℕ) (IsAt : State → S → World → Type 0) (before : List ℕ) (p : TimedImage) (Fine : State → Type 0) : Type 0 where
+  pub shows : (s : State) (x : S) (w : World) → IsAt s x w → ShowsState m words IsAt before s x w
+  pub goes : (s to : State) (q : Moment S) → Fine s → IsAt s q.state q.world → step_outcome p.image p.stack_end s ≡ Goes to →
       Moves m words IsAt before q (next_cost p.image p.timing s) to
-  pub halts : (s : State) (q : Moment S) → Fine s → IsAt s q.state q.world → outcome p.image p.stack_end s ≡ Halts →
+  pub halts : (s : State) (q : Moment S) → Fine s → IsAt s q.state q.world → step_outcome p.image p.stack_end s ≡ Halts →
       Stops m words IsAt before q (next_cost p.image p.timing s) 255
-  pub errs : (s : State) (q : Moment S) → Fine s → IsAt s q.state q.world → outcome p.image p.stack_end s ≡ Errs →
+  pub errs : (s : State) (q : Moment S) → Fine s → IsAt s q.state q.world → step_outcome p.image p.stack_end s ≡ Errs →
       Stops m words IsAt before q (next_cost p.image p.timing s) 254
-  pub limits : (s left : State) (q : Moment S) → Fine s → IsAt s q.state q.world → outcome p.image p.stack_end s ≡ Limits left →
+  pub limits : (s left : State) (q : Moment S) → Fine s → IsAt s q.state q.world → step_outcome p.image p.stack_end s ≡ Limits left →
       Overruns m words IsAt before q left
 
-module _ {S : Type 0} (m : Meaning S) (words : List ℕ) (IsAt : State → S → World → Type 0) (before : List ℕ) (p : Program) (Fine : State → Type 0)
+module _ {S : Type 0} (m : Meaning S) (words : List ℕ) (IsAt : State → S → World → Type 0) (before : List ℕ) (p : TimedImage) (Fine : State → Type 0)
     (law : Law m words IsAt before p Fine) (keep : Keeps p Fine) (bound : ℕ) (at : Point) (r : MicroRun S) (h : IsBoundary IsAt at r) (fine : Fine at.state) where
   ready : nat_le bound at.cycles ≡ false → HasWord m r.state → IsReady m bound r
   ready t begins =
@@ -71,10 +71,10 @@ module _ {S : Type 0} (m : Meaning S) (words : List ℕ) (IsAt : State → S →
       pass_turns_inside m words bound j r s.to (r.counts.cycles + j + 1) refl (ready t begins) (near j (omega arith)) s.passes off in
       ap (λ (x : MicroRun S). m.is_boundary x.state) e ∙ off
 
-  pub moved : (to : State) → nat_le bound at.cycles ≡ false → outcome p.image p.stack_end at.state ≡ Goes to → Moved to
+  pub moved : (to : State) → nat_le bound at.cycles ≡ false → step_outcome p.image p.stack_end at.state ≡ Goes to → Moved to
   moved to t goes =
       let v : Moves m words IsAt before (moment_of r) (next_cost p.image p.timing at.state) to = law.goes at.state to (moment_of r) fine h.stands goes in
-      let shows : Shows m words IsAt before to v.there.state v.there.world = law.shows to v.there.state v.there.world v.stands in
+      let shows : ShowsState m words IsAt before to v.there.state v.there.world = law.shows to v.there.state v.there.world v.stands in
       let c : ℕ = r.counts.cycles + v.n + 1 in
       let e : turns m words (Some bound) (suc v.n) r ≡ run_at m r c v.there =
       pass_turns m words bound v.n r v.there c refl (ready t v.begins) (near v.n v.short) v.passes shows.boundary in
@@ -101,7 +101,7 @@ module _ {S : Type 0} (m : Meaning S) (words : List ℕ) (IsAt : State → S →
     pub is : IsEnd before f (turns m words (Some bound) k r)
     pub quiet : (j : ℕ) → 0 < j → j < k → m.is_boundary (turns m words (Some bound) j r).state ≡ false
 
-  shown : Shows m words IsAt before at.state r.state r.world
+  shown : ShowsState m words IsAt before at.state r.state r.world
   shown = law.shows at.state r.state r.world h.stands
 
   -- by the bound
@@ -185,13 +185,13 @@ module _ {S : Type 0} (m : Meaning S) (words : List ℕ) (IsAt : State → S →
   stops mpc e (inr v) t ending done =
       stops_behind mpc (board_end e) (completed p at e) v t (ending v.there.state (run_inside m r (r.counts.cycles + v.n + 1) v.there).counts v.mpc_is) (completed_behind mpc e v done)
 
-  pub halts : nat_le bound at.cycles ≡ false → outcome p.image p.stack_end at.state ≡ Halts → Ended (completed p at defined.Halt)
+  pub halts : nat_le bound at.cycles ≡ false → step_outcome p.image p.stack_end at.state ≡ Halts → Ended (completed p at defined.Halt)
   halts t o = stops 255 defined.Halt (law.halts at.state (moment_of r) fine h.stands o) t ends_by refl
     where
       ends_by : (x : S) (c : Counts) → (m.registers x).mpc ≡ 255 → end_before m x c ≡ Some clocked.Halt
       ends_by x c is = let at_halt : ((m.registers x).mpc == 255) ≡ true = ap (λ (i : ℕ). i == 255) is in rw at_halt
 
-  pub errs : nat_le bound at.cycles ≡ false → outcome p.image p.stack_end at.state ≡ Errs → Ended (completed p at defined.Err)
+  pub errs : nat_le bound at.cycles ≡ false → step_outcome p.image p.stack_end at.state ≡ Errs → Ended (completed p at defined.Err)
   errs t o = stops 254 defined.Err (law.errs at.state (moment_of r) fine h.stands o) t ends_by refl
     where
       ends_by : (x : S) (c : Counts) → (m.registers x).mpc ≡ 254 → end_before m x c ≡ Some clocked.Err
@@ -201,7 +201,7 @@ module _ {S : Type 0} (m : Meaning S) (words : List ℕ) (IsAt : State → S →
           rw (not_halt, at_err)
 
   -- by the stack limit
-  pub limits : (left : State) → nat_le bound at.cycles ≡ false → outcome p.image p.stack_end at.state ≡ Limits left → Ended (stopped at defined.StackLimit left)
+  pub limits : (left : State) → nat_le bound at.cycles ≡ false → step_outcome p.image p.stack_end at.state ≡ Limits left → Ended (stopped at defined.StackLimit left)
   limits left t o =
       let v : Overruns m words IsAt before (moment_of r) left = law.limits at.state left (moment_of r) fine h.stands o in
       let q : MicroRun S = run_inside m r (r.counts.cycles + v.n + 1) v.there in
@@ -232,15 +232,15 @@ module _ {S : Type 0} (m : Meaning S) (words : List ℕ) (IsAt : State → S →
         ((i : ℕ) → point_behind p bound (suc i) at ≡ point_behind p bound i (point_after p at to)) → Moved to → Turnout
     Over : (f : Finish) → ((n : ℕ) → finish_from p bound (suc n) at ≡ Some f) → ((i : ℕ) → point_behind p bound (suc i) at ≡ None) → Ended f → Turnout
 
-  finish_is : nat_le bound at.cycles ≡ false → (n : ℕ) → {out : Outcome} → outcome p.image p.stack_end at.state ≡ out →
+  finish_is : nat_le bound at.cycles ≡ false → (n : ℕ) → {out : StepOutcome} → step_outcome p.image p.stack_end at.state ≡ out →
       finish_from p bound (suc n) at ≡ after_outcome (finish_from p bound n) p at out
   finish_is t n o = ap (after_test (finish_from p bound n) p at) t ∙ ap (after_outcome (finish_from p bound n) p at) o
 
-  point_is : nat_le bound at.cycles ≡ false → (i : ℕ) → {out : Outcome} → outcome p.image p.stack_end at.state ≡ out →
+  point_is : nat_le bound at.cycles ≡ false → (i : ℕ) → {out : StepOutcome} → step_outcome p.image p.stack_end at.state ≡ out →
       point_behind p bound (suc i) at ≡ going_on (point_behind p bound i) p at out
   point_is t i o = ap (below (point_behind p bound i) p at) t ∙ ap (going_on (point_behind p bound i) p at) o
 
-  by_outcome : nat_le bound at.cycles ≡ false → (out : Outcome) → outcome p.image p.stack_end at.state ≡ out → Turnout
+  by_outcome : nat_le bound at.cycles ≡ false → (out : StepOutcome) → step_outcome p.image p.stack_end at.state ≡ out → Turnout
   by_outcome t (Goes to) o =
       On to (keep.stays at.state to fine o) (λ n. finish_is t n o) (λ i. point_is t i o) (moved to t o)
   by_outcome t Halts o = Over (completed p at defined.Halt) (λ n. finish_is t n o) (λ i. point_is t i o) (halts t o)
@@ -251,7 +251,7 @@ module _ {S : Type 0} (m : Meaning S) (words : List ℕ) (IsAt : State → S →
   by_test : (b : Bool) → nat_le bound at.cycles ≡ b → Turnout
   by_test true t =
       Over (stopped at defined.Bound at.state) (λ n. ap (after_test (finish_from p bound n) p at) t) (λ i. ap (below (point_behind p bound i) p at) t) (bounds t)
-  by_test false t = by_outcome t (outcome p.image p.stack_end at.state) refl
+  by_test false t = by_outcome t (step_outcome p.image p.stack_end at.state) refl
 
   pub turnout : Turnout
   turnout = by_test (nat_le bound at.cycles) refl

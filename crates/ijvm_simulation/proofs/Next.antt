@@ -7,7 +7,7 @@ use Rattle.ijvm_instr.specs.declared.instr.Instr.{Instr}
 use Rattle.ijvm_instr.specs.declared.instr.Instr.TheVariants.{Nop, Bipush, LdcW, Iload, Istore, Pop, Dup, Swap, Iadd, Isub, Iand, Iinc, Ifeq, Iflt, IfIcmpeq, Goto, Ireturn, Ior, Invokevirtual, WideIload, WideIstore, WideIinc, In, Out, Err, Halt}
 use Rattle.ijvm_instr.specs.Instructions.{row_of, size_of, prefix, operand_bytes, instr_at}
 use Rattle.ijvm_meaning.specs.Frames.{State, AreWords, start_of}
-use Rattle.ijvm_meaning.specs.Step.{Outcome, Goes, Halts, Errs, Limits, outcome, step_if_any}
+use Rattle.ijvm_meaning.specs.Step.{StepOutcome, Goes, Halts, Errs, Limits, step_outcome, step_if_any}
 use Rattle.ijvm_meaning.specs.Cost.{Timing, next_cost, cost_at, cost}
 use Rattle.ijvm_meaning.specs.Safe.{Here, On}
 use Rattle.verifier_facts.specs.Sound.{Finds, KeepsSound}
@@ -60,7 +60,7 @@ module _ (a b c d e f a' b' c' d' e' f' : ℕ) where
 pub record Known (v : VerifiedView) : Type 0 where
   pub sound : KeepsSound v.image v.map.stack_end v.main_locals
   pub start_words : (input : List ℕ) → AreWords (start_of v.main_locals input)
-  pub goes_words : (s to : State) → AreWords s → outcome v.image v.map.stack_end s ≡ Goes to → AreWords to
+  pub goes_words : (s to : State) → AreWords s → step_outcome v.image v.map.stack_end s ≡ Goes to → AreWords to
 
 pub fine_start : (v : VerifiedView) → Known v → (input : List ℕ) → Fine v (start_of v.main_locals input)
 fine_start v known input = record { reached = Here _ (record { running = refl; callers = refl; at = refl }); words = known.start_words input }
@@ -100,9 +100,9 @@ module _ (v : VerifiedView) (o : Origin) (loads : Loads v o) (known : Known v) w
       (f.0, record { begins = omega (arith, some, f.1.whole); finds = f.1; reads = reads s f.0 f.1 })
 
   -- what the outcome of the next instruction says
-  said : (s : State) (i : Instr) (out : Outcome) → instr_at v.image.text s.at ≡ Some i → outcome v.image v.map.stack_end s ≡ out → IsOutcome v.image v.map.stack_end s i out
+  said : (s : State) (i : Instr) (out : StepOutcome) → instr_at v.image.text s.at ≡ Some i → step_outcome v.image v.map.stack_end s ≡ out → IsOutcome v.image v.map.stack_end s i out
   said s i out code e =
-      subst (λ (x : Outcome). IsOutcome v.image v.map.stack_end s i x) (ap (step_if_any v.image v.map.stack_end s) (sym code) ∙ e) (says v.image v.map.stack_end s i)
+      subst (λ (x : StepOutcome). IsOutcome v.image v.map.stack_end s i x) (ap (step_if_any v.image v.map.stack_end s) (sym code) ∙ e) (says v.image v.map.stack_end s i)
 
   module _ {S : Type 0} (m : Meaning S) (store : List ℕ) (IsAt : State → S → World → Type 0) (timing : Timing) (law : Law m store IsAt o.given timing v o) where
     cost_is : (s : State) (i : Instr) → instr_at v.image.text s.at ≡ Some i → cost v.image timing i s ≡ next_cost v.image timing s

@@ -10,15 +10,15 @@ use Rattle.ijvm_image.specs.Image.{ImageView}
 use Rattle.ijvm_instr.specs.declared.instr.Instr.{Instr}
 use Rattle.ijvm_instr.specs.Instructions.{instr_at}
 use Rattle.ijvm_meaning.specs.Frames.{State, start_of}
-use Rattle.ijvm_meaning.specs.Step.{Outcome, Goes, Limits, outcome, step_if_any}
+use Rattle.ijvm_meaning.specs.Step.{StepOutcome, Goes, Limits, step_outcome, step_if_any}
 use Rattle.ijvm_meaning.specs.Cost.{Timing, cost, cost_at, next_cost}
-use Rattle.ijvm_meaning.specs.Run.{Program, Point, point_after, first_point}
+use Rattle.ijvm_meaning.specs.Run.{TimedImage, Point, point_after, first_point}
 use Rattle.verifier_facts.specs.Accepted.{VerifiedView}
 use Rattle.ijvm_simulation.specs.Stands.{Origin}
 use Rattle.ijvm_simulation.specs.Outcomes.{Went, Overran, IsOutcome}
 use Rattle.ijvm_simulation.specs.Verified.{program, Loads, Fine, IsNext}
 use Rattle.ijvm_simulation.specs.Simulates.{IsBoundary}
-use Rattle.ijvm_simulation.specs.Law.{Law, Shows, Boots, reset_moment}
+use Rattle.ijvm_simulation.specs.Law.{Law, ShowsState, Boots, reset_moment}
 use Rattle.mic_image_board.specs.Reset.{reset_run}
 use Rattle.ijvm_simulation.specs.Stalls.{MovesWithStalls, OverrunsWithStalls, TakesWithStalls, HasStalled, StoppedWithin, Booted, Behind}
 use Rattle.ijvm_simulation.proofs.Cases.{says}
@@ -30,7 +30,7 @@ use Rattle.ijvm_simulation.proofs.Boots.{booted}
 
 module _ {S : Type 0} (m : Meaning S) (store : List ℕ) (IsAt : State → S → World → Type 0) (o : Origin) (v : VerifiedView) (loads : Loads v o) (known : Known v)
     (timing : Timing) (law : Law m store IsAt o.given timing v o) (stalls_of : ImageView → Instr → ℕ) (takes : TakesWithStalls m store IsAt o.given timing stalls_of v o (λ i. Unit {0})) (bound : ℕ) where
-  abbrev p : Program
+  abbrev p : TimedImage
   p = program timing v
 
   abbrev each : BoundaryLaw m store IsAt o.given p (Fine v)
@@ -44,17 +44,17 @@ module _ {S : Type 0} (m : Meaning S) (store : List ℕ) (IsAt : State → S →
 
   -- the stalls behind an instruction
   stalls_behind : (at : Point) (stalls : ℕ) (r : MicroRun S) (i : Instr) (to : State) → IsHere at stalls r → at.cycles < bound →
-      instr_at v.image.text at.state.at ≡ Some i → outcome v.image v.map.stack_end at.state ≡ Goes to →
+      instr_at v.image.text at.state.at ≡ Some i → step_outcome v.image v.map.stack_end at.state ≡ Goes to →
       (turns m store (Some bound) (next_cost v.image timing at.state) r).counts.stalls ≡ stalls + stalls_of v.image i
   stalls_behind at stalls r i to h below code goes =
       let n = next v o loads known at.state h.fine in
       let same : n.0 ≡ i = same_Some n.0 i (sym n.1.finds.code ∙ code) in
       let is : IsNext v o at.state i = subst (λ (j : Instr). IsNext v o at.state j) same n.1 in
       let went : Went v.image v.map.stack_end at.state to i =
-      subst (λ (x : Outcome). IsOutcome v.image v.map.stack_end at.state i x) (ap (step_if_any v.image v.map.stack_end at.state) (sym code) ∙ goes) (says v.image v.map.stack_end at.state i) in
+      subst (λ (x : StepOutcome). IsOutcome v.image v.map.stack_end at.state i x) (ap (step_if_any v.image v.map.stack_end at.state) (sym code) ∙ goes) (says v.image v.map.stack_end at.state i) in
       let w : MovesWithStalls m store IsAt o.given (moment_of r) (cost v.image timing i at.state) (stalls_of v.image i) to =
       takes.goes at.state to (moment_of r) i tt h.fine is h.boundary.stands went in
-      let shows : Shows m store IsAt o.given to w.moves.there.state w.moves.there.world = law.shows to w.moves.there.state w.moves.there.world w.moves.stands in
+      let shows : ShowsState m store IsAt o.given to w.moves.there.state w.moves.there.world = law.shows to w.moves.there.state w.moves.there.world w.moves.stands in
       let t : nat_le bound at.cycles ≡ false = grind (arith, nat_tests) in
       let later : nat_le bound r.counts.cycles ≡ false = ap (nat_le bound) h.boundary.cycles ∙ t in
       let last : last_cycles r.counts.boundary ≡ at.cycles = ap last_cycles h.boundary.boundary in
@@ -68,7 +68,7 @@ module _ {S : Type 0} (m : Meaning S) (store : List ℕ) (IsAt : State → S →
       ∙ (ap (λ (x : MicroRun S). x.counts.stalls) e ∙ (w.stalled ∙ ap (λ (k : ℕ). k + stalls_of v.image i) h.stalled))
 
   behind : (at : Point) (stalls : ℕ) (r : MicroRun S) (i : Instr) (to : State) → IsHere at stalls r → at.cycles < bound →
-      instr_at v.image.text at.state.at ≡ Some i → outcome v.image v.map.stack_end at.state ≡ Goes to →
+      instr_at v.image.text at.state.at ≡ Some i → step_outcome v.image v.map.stack_end at.state ≡ Goes to →
       IsHere (point_after p at to) (stalls + stalls_of v.image i) (turns m store (Some bound) (next_cost v.image timing at.state) r)
   behind at stalls r i to h below code goes =
       let t : nat_le bound at.cycles ≡ false = grind (arith, nat_tests) in
@@ -83,14 +83,14 @@ module _ {S : Type 0} (m : Meaning S) (store : List ℕ) (IsAt : State → S →
 
   -- an instruction that the stack's end cuts short
   cut_behind : (at : Point) (stalls : ℕ) (r : MicroRun S) (i : Instr) (left : State) → IsHere at stalls r → at.cycles < bound →
-      instr_at v.image.text at.state.at ≡ Some i → outcome v.image v.map.stack_end at.state ≡ Limits left →
+      instr_at v.image.text at.state.at ≡ Some i → step_outcome v.image v.map.stack_end at.state ≡ Limits left →
       (n : ℕ) × StoppedWithin (stalls + stalls_of v.image i) (turns m store (Some bound) n r)
   cut_behind at stalls r i left h below code limits =
       let n = next v o loads known at.state h.fine in
       let same : n.0 ≡ i = same_Some n.0 i (sym n.1.finds.code ∙ code) in
       let is : IsNext v o at.state i = subst (λ (j : Instr). IsNext v o at.state j) same n.1 in
       let over : Overran v.image v.map.stack_end at.state left i =
-      subst (λ (x : Outcome). IsOutcome v.image v.map.stack_end at.state i x) (ap (step_if_any v.image v.map.stack_end at.state) (sym code) ∙ limits) (says v.image v.map.stack_end at.state i) in
+      subst (λ (x : StepOutcome). IsOutcome v.image v.map.stack_end at.state i x) (ap (step_if_any v.image v.map.stack_end at.state) (sym code) ∙ limits) (says v.image v.map.stack_end at.state i) in
       let w : OverrunsWithStalls m store IsAt o.given (moment_of r) (stalls_of v.image i) left = takes.limits at.state left (moment_of r) i tt h.fine is h.boundary.stands over in
       let u = w.overruns in
       let t : nat_le bound at.cycles ≡ false = grind (arith, nat_tests) in
@@ -117,7 +117,7 @@ module _ {S : Type 0} (m : Meaning S) (store : List ℕ) (IsAt : State → S →
     first : IsHere (first_point p v.main_locals input) booting (turns m store (Some bound) timing.boot start)
     first =
         let w = boots.moves in
-        let shows : Shows m store IsAt o.given (start_of v.main_locals input) w.there.state w.there.world = law.shows (start_of v.main_locals input) w.there.state w.there.world w.stands in
+        let shows : ShowsState m store IsAt o.given (start_of v.main_locals input) w.there.state w.there.world = law.shows (start_of v.main_locals input) w.there.state w.there.world w.stands in
         let outside : m.is_boundary start.state ≡ false = off.off in
         let ready : IsReady m bound start = record { no_bound = grind (arith, nat_tests); no_halt = w.begins.no_halt; no_err = w.begins.no_err; not_ended = refl } in
         let e : turns m store (Some bound) (suc w.n) start ≡ run_at m start (w.n + 1) w.there =
@@ -143,7 +143,7 @@ module _ {S : Type 0} (m : Meaning S) (store : List ℕ) (IsAt : State → S →
     stalled_at at stalls h = (here at stalls h).stalled
 
     pub cut_at : (at : Point) (stalls : ℕ) (i : Instr) (left : State) → HasStalled booting stalls_of p bound (first_point p v.main_locals input) at stalls → at.cycles < bound →
-        instr_at v.image.text at.state.at ≡ Some i → outcome v.image v.map.stack_end at.state ≡ Limits left →
+        instr_at v.image.text at.state.at ≡ Some i → step_outcome v.image v.map.stack_end at.state ≡ Limits left →
         (n : ℕ) × StoppedWithin (stalls + stalls_of v.image i) (turns m store (Some bound) n start)
     cut_at at stalls i left h below code limits =
         let c = cut_behind at stalls (turns m store (Some bound) at.cycles start) i left (here at stalls h) below code limits in

@@ -9,12 +9,12 @@ use Rattle.mic_clock.specs.Meaning.{Meaning}
 use Rattle.mic_clock.specs.Run.{MicroRun, turns}
 use Rattle.ijvm_meaning.specs.declared.run.RunEnd.TheVariants as defined
 use Rattle.ijvm_meaning.specs.Frames.{State}
-use Rattle.ijvm_meaning.specs.Run.{Program, Point, Finish, point_after, finish_from, after_test, stopped}
+use Rattle.ijvm_meaning.specs.Run.{TimedImage, Point, Finish, point_after, finish_from, after_test, stopped}
 use Rattle.ijvm_simulation.specs.Simulates.{point_behind, board_end, IsBoundary, IsEnd, Simulates}
 use Rattle.ijvm_simulation.proofs.Turns.{turns-add, ended_stays}
 use Rattle.ijvm_simulation.proofs.Instruction.{Law, Keeps, Turnout, On, Over, turnout}
 
-module _ {S : Type 0} (m : Meaning S) (words : List ℕ) (IsAt : State → S → World → Type 0) (before : List ℕ) (p : Program) (Fine : State → Type 0)
+module _ {S : Type 0} (m : Meaning S) (words : List ℕ) (IsAt : State → S → World → Type 0) (before : List ℕ) (p : TimedImage) (Fine : State → Type 0)
     (law : Law m words IsAt before p Fine) (keep : Keeps p Fine) (bound : ℕ) where
   abbrev Here : (at : Point) (r : MicroRun S) → IsBoundary IsAt at r → Fine at.state → Type 0
   Here at r h fine = Turnout m words IsAt before p Fine law keep bound at r h fine

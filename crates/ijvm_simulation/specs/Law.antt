@@ -62,7 +62,7 @@ module _ {S : Type 0} (m : Meaning S) (words : List ℕ) (IsAt : State → S →
     pub given : there.world.given ≡ before ++ left.given
 
   -- what a machine shows at a boundary
-  pub record Shows (s : State) (x : S) (w : World) : Type 0 where
+  pub record ShowsState (s : State) (x : S) (w : World) : Type 0 where
     pub boundary : m.is_boundary x ≡ true
     pub address : m.address x ≡ s.at
     pub sp : (m.registers x).sp ≡ sp_of s
@@ -91,7 +91,7 @@ module _ {S : Type 0} (m : Meaning S) (words : List ℕ) (IsAt : State → S →
 
     -- what each instruction takes, in the states that a run comes to
     pub record Law (v : VerifiedView) (o : Origin) : Type 0 where
-      pub shows : (s : State) (x : S) (w : World) → IsAt s x w → Shows s x w
+      pub shows : (s : State) (x : S) (w : World) → IsAt s x w → ShowsState s x w
       pub takes : Takes v o (λ i. Unit {0})
       pub ends : HaltsAndErrs v o
 

@@ -8,7 +8,7 @@ use Rattle.ijvm_instr.specs.Instructions.{word_of, target}
 use Rattle.ijvm_image.specs.declared.method.Method.{Method}
 use Rattle.ijvm_image.specs.Image.{ImageView, method_at}
 use Rattle.ijvm_meaning.specs.Frames.{Frame, State, frames_of, base}
-use Rattle.ijvm_meaning.specs.Step.{Outcome, Goes, Halts, Errs, Limits, Stuck, is_own, moved, with_local, way, in_method, taken}
+use Rattle.ijvm_meaning.specs.Step.{StepOutcome, Goes, Halts, Errs, Limits, Stuck, is_own, moved, with_local, way, in_method, taken}
 
 -- there is a top operand, of which this holds, and of those below it
 pub record WithTop (operands : List ℕ) (Leads : ℕ → List ℕ → Type 0) : Type 0 where
@@ -117,7 +117,7 @@ module _ (image : ImageView) (stack_end : ℕ) (s : State) where
   Overran left i = ⊥
 
   -- what an outcome of an instruction says, where it is not stuck
-  abbrev pub IsOutcome : Instr → Outcome → Type 0
+  abbrev pub IsOutcome : Instr → StepOutcome → Type 0
   IsOutcome i (Goes to) = Went to i
   IsOutcome i (Limits left) = Overran left i
   IsOutcome i Halts = i ≡ Halt

@@ -9,23 +9,23 @@ use Rattle.mic_clock.specs.Run.{MicroRun, turns}
 use Rattle.ijvm_meaning.specs.declared.run.RunEnd.{RunEnd}
 use Rattle.ijvm_meaning.specs.declared.run.RunEnd.TheVariants as defined
 use Rattle.ijvm_meaning.specs.Frames.{State, sp_of, lv_of}
-use Rattle.ijvm_meaning.specs.Step.{Outcome, Goes, Halts, Errs, Limits, Stuck, outcome}
-use Rattle.ijvm_meaning.specs.Run.{Program, Point, Finish, point_after, EndsBy}
+use Rattle.ijvm_meaning.specs.Step.{StepOutcome, Goes, Halts, Errs, Limits, Stuck, step_outcome}
+use Rattle.ijvm_meaning.specs.Run.{TimedImage, Point, Finish, point_after, EndsBy}
 
 -- what comes after an outcome, where the run goes on; `more` is the rest of the run
-abbrev pub going_on : (Point → Option Point) → Program → Point → Outcome → Option Point
+abbrev pub going_on : (Point → Option Point) → TimedImage → Point → StepOutcome → Option Point
 going_on more p at (Goes to) = more (point_after p at to)
 going_on more p at Halts = None
 going_on more p at Errs = None
 going_on more p at (Limits left) = None
 going_on more p at Stuck = None
 
-abbrev pub below : (Point → Option Point) → Program → Point → Bool → Option Point
+abbrev pub below : (Point → Option Point) → TimedImage → Point → Bool → Option Point
 below more p at true = None
-below more p at false = going_on more p at (outcome p.image p.stack_end at.state)
+below more p at false = going_on more p at (step_outcome p.image p.stack_end at.state)
 
 -- the boundary so many instructions behind this one in the definition's run, if it comes so far
-abbrev pub point_behind : Program → ℕ → ℕ → Point → Option Point
+abbrev pub point_behind : TimedImage → ℕ → ℕ → Point → Option Point
 point_behind p bound zero at = Some at
 point_behind p bound (suc i) at = below (point_behind p bound i) p at (nat_le bound at.cycles)
 
@@ -61,7 +61,7 @@ pub record IsEnd {S : Type 0} (before : List ℕ) (f : Finish) (r : MicroRun S) 
 
 -- The clocked run over this control store from its reset is the definition's run of a program from its first boundary.
 pub record Simulates {S : Type 0} (m : Meaning S) (IsAt : State → S → World → Type 0) (words : List ℕ) (bound : ℕ)
-    (p : Program) (first : Point) (before : List ℕ) (start : MicroRun S) : Type 0 where
+    (p : TimedImage) (first : Point) (before : List ℕ) (start : MicroRun S) : Type 0 where
   -- each boundary of the definition's run is one of the clocked run, after its cycles
   pub reaches : (i : ℕ) (at : Point) → point_behind p bound i first ≡ Some at → IsBoundary IsAt at (turns m words (Some bound) at.cycles start)
   -- the clocked run has no other boundary

@@ -8,8 +8,8 @@ use Rattle.ijvm_image.specs.Image.{ImageView}
 use Rattle.ijvm_instr.specs.declared.instr.Instr.{Instr}
 use Rattle.ijvm_instr.specs.Instructions.{instr_at}
 use Rattle.ijvm_meaning.specs.Frames.{State, start_of}
-use Rattle.ijvm_meaning.specs.Step.{Goes, Limits, outcome}
-use Rattle.ijvm_meaning.specs.Run.{Program, Point, point_after, first_point}
+use Rattle.ijvm_meaning.specs.Step.{Goes, Limits, step_outcome}
+use Rattle.ijvm_meaning.specs.Run.{TimedImage, Point, point_after, first_point}
 use Rattle.ijvm_meaning.specs.Cost.{Timing, cost}
 use Rattle.verifier_facts.specs.Accepted.{VerifiedView}
 use Rattle.ijvm_simulation.specs.Stands.{Origin, IsAt}
@@ -44,10 +44,10 @@ BootsWithStalls m words IsAt entry timing stalls v o input =
     MovesWithStalls m words (IsAt o) o.given (reset_moment m entry v.main_locals o input) timing.boot stalls (start_of v.main_locals input)
 
 -- The boundaries that the definition's run passes, each with the stalls before it: those of the boot, and those of each instruction passed.
-pub data HasStalled (booting : ℕ) (stalls_of : ImageView → Instr → ℕ) (p : Program) (bound : ℕ) (first : Point) : Point → ℕ → Type 0 where
+pub data HasStalled (booting : ℕ) (stalls_of : ImageView → Instr → ℕ) (p : TimedImage) (bound : ℕ) (first : Point) : Point → ℕ → Type 0 where
   Booted : (at : Point) → at ≡ first → HasStalled booting stalls_of p bound first at booting
   Behind : (at next : Point) (stalls : ℕ) (i : Instr) (to : State) → HasStalled booting stalls_of p bound first at stalls → at.cycles < bound →
-      instr_at p.image.text at.state.at ≡ Some i → outcome p.image p.stack_end at.state ≡ Goes to → next ≡ point_after p at to →
+      instr_at p.image.text at.state.at ≡ Some i → step_outcome p.image p.stack_end at.state ≡ Goes to → next ≡ point_after p at to →
       HasStalled booting stalls_of p bound first next (stalls + stalls_of p.image i)
 
 -- the stack limit has ended the run, with no more stalls than so many
@@ -79,7 +79,7 @@ module _ {S : Type 0} (m : Meaning S) (IsReady : ℕ → List ℕ → ℕ → S 
       TakesWithStalls m store (IsAt m IsReady entry o) o.given timing stalls_of v o (λ i. Unit {0}) →
       (at : Point) (stalls : ℕ) (i : Instr) (left : State) →
       HasStalled booting stalls_of (program timing v) bound (first_point (program timing v) v.main_locals input) at stalls →
-      at.cycles < bound → instr_at v.image.text at.state.at ≡ Some i → outcome v.image v.map.stack_end at.state ≡ Limits left →
+      at.cycles < bound → instr_at v.image.text at.state.at ≡ Some i → step_outcome v.image v.map.stack_end at.state ≡ Limits left →
       (n : ℕ) × StoppedWithin (stalls + stalls_of v.image i)
       (turns m store (Some bound) n (reset_run m entry v.main_locals
       (record { words = o.words; untaken = input; given = o.given })))

@@ -5,7 +5,7 @@ use Rattle.ijvm_instr.specs.declared.instr.Instr.{Instr}
 use Rattle.ijvm_image.specs.Image.{IsImage}
 use Rattle.ijvm_meaning.specs.Frames.{State, AreWords, start_of}
 use Rattle.ijvm_meaning.specs.Cost.{Timing}
-use Rattle.ijvm_meaning.specs.Run.{Program}
+use Rattle.ijvm_meaning.specs.Run.{TimedImage}
 use Rattle.ijvm_meaning.specs.Safe.{ComesTo}
 use Rattle.verifier_facts.specs.Sound.{Finds}
 use Rattle.verifier_facts.specs.Accepted.{VerifiedView, IsAccepted}
@@ -13,7 +13,7 @@ use Rattle.ijvm_simulation.specs.Stands.{Origin}
 use Rattle.ijvm_simulation.specs.Bytes.{Reads}
 
 -- what a machine's run of it runs
-abbrev pub program : Timing → VerifiedView → Program
+abbrev pub program : Timing → VerifiedView → TimedImage
 program timing v = record { image = v.image; stack_end = v.map.stack_end; timing = timing }
 
 -- it stands in the memory that a run begins over, and main's locals are 0

@@ -5,7 +5,7 @@ ghost use Rattle.ijvm_instr.specs.declared.instr.Instr.{Instr};
 ghost use Rattle.ijvm_image.specs.Image.{ImageView};
 ghost use Rattle.ijvm_meaning.specs.Cost.{Timing};
 ghost use Rattle.verifier_facts.specs.Accepted.{VerifiedView};
-ghost use Rattle.ijvm_meaning.specs.Run.{Program, Point, Passes};
+ghost use Rattle.ijvm_meaning.specs.Run.{TimedImage, Point, Passes};
 ghost use Rattle.ijvm_simulation.specs.Simulates.{point_behind};
 ghost use Rattle.ijvm_simulation.specs.Stands.{Origin, IsAt};
 ghost use Rattle.ijvm_simulation.specs.Groups.{ByGroups};
@@ -21,8 +21,8 @@ use verifier_facts::accepted_images_keep_sound;
 
 /// The boundaries that are counted from the first one are those that the definition's run passes.
 pub fn counted_boundaries_are_passed()
-    ensures passed { (p : Program) (bound i : ℕ) (from at : Point) → point_behind p bound i from ≡ Some at → Passes p bound from at }
-    ensures counted { (p : Program) (bound : ℕ) (from at : Point) → Passes p bound from at → (i : ℕ) × (point_behind p bound i from ≡ Some at) }
+    ensures passed { (p : TimedImage) (bound i : ℕ) (from at : Point) → point_behind p bound i from ≡ Some at → Passes p bound from at }
+    ensures counted { (p : TimedImage) (bound : ℕ) (from at : Point) → Passes p bound from at → (i : ℕ) × (point_behind p bound i from ≡ Some at) }
 {}
 
 /// A run over the store that ships, from its reset over a verified image, ends as the definition's run where no fault

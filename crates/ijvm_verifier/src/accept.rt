@@ -1,4 +1,4 @@
-//! Verifying an image.
+//! Verifies an image: the searches in their order, and then the size of main's frame.
 
 ghost use Rattle.std.specs.Prelude.{◌≡◌, ◌≢◌, ◌⊎◌, ℕ, IfOk, IfErr};
 ghost use Rattle.console_port.specs.Map.{IsMap};

@@ -1,4 +1,4 @@
-//! An accepted image.
+//! An accepted image with what verifying found of it, which its type keeps.
 
 ghost use Rattle.std.specs.Prelude.{◌≡◌, ◌+◌, ◌≤◌};
 ghost use Rattle.verifier_facts.specs.Accepted.{IsAccepted};

@@ -19,7 +19,7 @@ use Rattle.mal_line.specs.declared.operation.Operation.{Operation}
 use Rattle.mal_line.specs.declared.chain.Tail.{Tail}
 use Rattle.mal_line.specs.declared.chain.Tail.TheVariants as tails
 use Rattle.mal_line.specs.Expressions.{fits, IsCoded, IsOneOf, minus, one_token, other_spellings, plus, side, source_word, spelling, spellings, tail_with}
-use Rattle.mal_line.specs.Lookup.{checked, coding_of, form_of, is_number, from_one_source, paired, shift_of, source_of, with_shift, work}
+use Rattle.mal_line.specs.Lookup.{checked, coding_of, operation_in, is_number, from_one_source, paired, shift_of, source_of, with_shift, work}
 use Rattle.mal_line.proofs.Table.{form_is, Commutes, sum, sum_inc, and_op, or_op}
 use Rattle.mal_line.proofs.Options.{bound, chosen, mapped}
 
@@ -65,28 +65,28 @@ b_is_not_h x = elim x as (λ x. may_be_b Mic1 x ≡ true → is_h x ≡ false) [
 source : BusSource → Token
 source x = tokens.Word (source_word x)
 
-form_lone : (m : Machine) (x : BusSource) → form_of m (tokens.Word (source_word x) ∷ []) ≡ Some (from_one_source m ops.A ops.B x)
+form_lone : (m : Machine) (x : BusSource) → operation_in m (tokens.Word (source_word x) ∷ []) ≡ Some (from_one_source m ops.A ops.B x)
 form_lone m x = rw (source_again x) refl
 
-form_not : (m : Machine) (x : BusSource) → form_of m (tokens.Word words.Not ∷ tokens.Word (source_word x) ∷ []) ≡ Some (from_one_source m ops.NotA ops.NotB x)
+form_not : (m : Machine) (x : BusSource) → operation_in m (tokens.Word words.Not ∷ tokens.Word (source_word x) ∷ []) ≡ Some (from_one_source m ops.NotA ops.NotB x)
 form_not m x = rw (source_again x) refl
 
-form_neg : (m : Machine) (x : BusSource) → form_of m (minus ∷ tokens.Word (source_word x) ∷ []) ≡ Some (work ops.NegA (Some x) None)
+form_neg : (m : Machine) (x : BusSource) → operation_in m (minus ∷ tokens.Word (source_word x) ∷ []) ≡ Some (work ops.NegA (Some x) None)
 form_neg m x = rw (source_again x) refl
 
-form_inc : (m : Machine) (x : BusSource) → form_of m (tokens.Word (source_word x) ∷ plus ∷ one_token ∷ []) ≡ Some (from_one_source m ops.IncA ops.IncB x)
+form_inc : (m : Machine) (x : BusSource) → operation_in m (tokens.Word (source_word x) ∷ plus ∷ one_token ∷ []) ≡ Some (from_one_source m ops.IncA ops.IncB x)
 form_inc m x = rw (source_again x) refl
 
-form_more : (m : Machine) (x : BusSource) → form_of m (one_token ∷ plus ∷ tokens.Word (source_word x) ∷ []) ≡ Some (from_one_source m ops.IncA ops.IncB x)
+form_more : (m : Machine) (x : BusSource) → operation_in m (one_token ∷ plus ∷ tokens.Word (source_word x) ∷ []) ≡ Some (from_one_source m ops.IncA ops.IncB x)
 form_more m x = rw (source_again x) refl
 
-form_dec : (m : Machine) (x : BusSource) → form_of m (tokens.Word (source_word x) ∷ minus ∷ one_token ∷ []) ≡ Some (work ops.DecB None (Some x))
+form_dec : (m : Machine) (x : BusSource) → operation_in m (tokens.Word (source_word x) ∷ minus ∷ one_token ∷ []) ≡ Some (work ops.DecB None (Some x))
 form_dec m x = rw (source_again x) refl
 
-form_sub : (m : Machine) (x y : BusSource) → form_of m (tokens.Word (source_word x) ∷ minus ∷ tokens.Word (source_word y) ∷ []) ≡ Some (work ops.Sub (Some y) (Some x))
+form_sub : (m : Machine) (x y : BusSource) → operation_in m (tokens.Word (source_word x) ∷ minus ∷ tokens.Word (source_word y) ∷ []) ≡ Some (work ops.Sub (Some y) (Some x))
 form_sub m x y = rw (source_again x, source_again y) refl
 
-form_both : (m : Machine) (op : AluOp) (x y : BusSource) → Commutes op → form_of m (spelling op (side (Some x)) (side (Some y))) ≡ Some (paired m op x y)
+form_both : (m : Machine) (op : AluOp) (x y : BusSource) → Commutes op → operation_in m (spelling op (side (Some x)) (side (Some y))) ≡ Some (paired m op x y)
 form_both m op x y sum = rw (source_again x, source_again y) refl
 form_both m op x y sum_inc = rw (source_again x, source_again y) refl
 form_both m op x y and_op = rw (source_again x, source_again y) refl
@@ -109,74 +109,74 @@ out_of_order op x y h = rw (b_is_not_h y h) refl
 -- the operation is looked up, where the machine has it and its sides fit
 Again : Machine → AluOp → Option BusSource → Option BusSource → Type 0
 Again m op a b = (body : List Token) → has_operation m op ≡ true → fits_side (row op).uses_a (may_be_a m) a ≡ true → fits_side (row op).uses_b (may_be_b m) b ≡ true
-    → IsOneOf body (spelling op (side a) (side b) ∷ other_spellings m op (side a) (side b)) → form_of m body ≡ Some (work op a b)
+    → IsOneOf body (spelling op (side a) (side b) ∷ other_spellings m op (side a) (side b)) → operation_in m body ≡ Some (work op a b)
 
 again : (m : Machine) (op : AluOp) (a b : Option BusSource) → Again m op a b
 unfolding Again
-again Mic1 ops.A (Some x) None body h f g (inl e) = ap (form_of Mic1) e ∙ (form_lone Mic1 x ∙ ap Some (on_a_side ops.A ops.B x f))
+again Mic1 ops.A (Some x) None body h f g (inl e) = ap (operation_in Mic1) e ∙ (form_lone Mic1 x ∙ ap Some (on_a_side ops.A ops.B x f))
 again Mic1 ops.A (Some x) None body h f g (inr e) = elim e [ ]
-again Mic1 ops.NotA (Some x) None body h f g (inl e) = ap (form_of Mic1) e ∙ (form_not Mic1 x ∙ ap Some (on_a_side ops.NotA ops.NotB x f))
+again Mic1 ops.NotA (Some x) None body h f g (inl e) = ap (operation_in Mic1) e ∙ (form_not Mic1 x ∙ ap Some (on_a_side ops.NotA ops.NotB x f))
 again Mic1 ops.NotA (Some x) None body h f g (inr e) = elim e [ ]
-again Mic1 ops.IncA (Some x) None body h f g (inl e) = ap (form_of Mic1) e ∙ (form_inc Mic1 x ∙ ap Some (on_a_side ops.IncA ops.IncB x f))
-again Mic1 ops.IncA (Some x) None body h f g (inr (inl e)) = ap (form_of Mic1) e ∙ (form_more Mic1 x ∙ ap Some (on_a_side ops.IncA ops.IncB x f))
+again Mic1 ops.IncA (Some x) None body h f g (inl e) = ap (operation_in Mic1) e ∙ (form_inc Mic1 x ∙ ap Some (on_a_side ops.IncA ops.IncB x f))
+again Mic1 ops.IncA (Some x) None body h f g (inr (inl e)) = ap (operation_in Mic1) e ∙ (form_more Mic1 x ∙ ap Some (on_a_side ops.IncA ops.IncB x f))
 again Mic1 ops.IncA (Some x) None body h f g (inr (inr e)) = elim e [ ]
-again Mic1 ops.B None (Some x) body h f g (inl e) = ap (form_of Mic1) e ∙ (form_lone Mic1 x ∙ ap Some (on_b_side Mic1 ops.A ops.B x g))
+again Mic1 ops.B None (Some x) body h f g (inl e) = ap (operation_in Mic1) e ∙ (form_lone Mic1 x ∙ ap Some (on_b_side Mic1 ops.A ops.B x g))
 again Mic1 ops.B None (Some x) body h f g (inr e) = elim e [ ]
-again Mic1 ops.NotB None (Some x) body h f g (inl e) = ap (form_of Mic1) e ∙ (form_not Mic1 x ∙ ap Some (on_b_side Mic1 ops.NotA ops.NotB x g))
+again Mic1 ops.NotB None (Some x) body h f g (inl e) = ap (operation_in Mic1) e ∙ (form_not Mic1 x ∙ ap Some (on_b_side Mic1 ops.NotA ops.NotB x g))
 again Mic1 ops.NotB None (Some x) body h f g (inr e) = elim e [ ]
-again Mic1 ops.IncB None (Some x) body h f g (inl e) = ap (form_of Mic1) e ∙ (form_inc Mic1 x ∙ ap Some (on_b_side Mic1 ops.IncA ops.IncB x g))
-again Mic1 ops.IncB None (Some x) body h f g (inr (inl e)) = ap (form_of Mic1) e ∙ (form_more Mic1 x ∙ ap Some (on_b_side Mic1 ops.IncA ops.IncB x g))
+again Mic1 ops.IncB None (Some x) body h f g (inl e) = ap (operation_in Mic1) e ∙ (form_inc Mic1 x ∙ ap Some (on_b_side Mic1 ops.IncA ops.IncB x g))
+again Mic1 ops.IncB None (Some x) body h f g (inr (inl e)) = ap (operation_in Mic1) e ∙ (form_more Mic1 x ∙ ap Some (on_b_side Mic1 ops.IncA ops.IncB x g))
 again Mic1 ops.IncB None (Some x) body h f g (inr (inr e)) = elim e [ ]
-again Mic1 ops.Sum (Some x) (Some y) body h f g (inl e) = ap (form_of Mic1) e ∙ (form_both Mic1 ops.Sum x y sum ∙ ap Some (in_order Mic1 ops.Sum x y f))
-again Mic1 ops.Sum (Some x) (Some y) body h f g (inr (inl e)) = ap (form_of Mic1) e ∙ (form_both Mic1 ops.Sum y x sum ∙ ap Some (out_of_order ops.Sum x y g))
+again Mic1 ops.Sum (Some x) (Some y) body h f g (inl e) = ap (operation_in Mic1) e ∙ (form_both Mic1 ops.Sum x y sum ∙ ap Some (in_order Mic1 ops.Sum x y f))
+again Mic1 ops.Sum (Some x) (Some y) body h f g (inr (inl e)) = ap (operation_in Mic1) e ∙ (form_both Mic1 ops.Sum y x sum ∙ ap Some (out_of_order ops.Sum x y g))
 again Mic1 ops.Sum (Some x) (Some y) body h f g (inr (inr e)) = elim e [ ]
-again Mic1 ops.SumInc (Some x) (Some y) body h f g (inl e) = ap (form_of Mic1) e ∙ (form_both Mic1 ops.SumInc x y sum_inc ∙ ap Some (in_order Mic1 ops.SumInc x y f))
-again Mic1 ops.SumInc (Some x) (Some y) body h f g (inr (inl e)) = ap (form_of Mic1) e ∙ (form_both Mic1 ops.SumInc y x sum_inc ∙ ap Some (out_of_order ops.SumInc x y g))
+again Mic1 ops.SumInc (Some x) (Some y) body h f g (inl e) = ap (operation_in Mic1) e ∙ (form_both Mic1 ops.SumInc x y sum_inc ∙ ap Some (in_order Mic1 ops.SumInc x y f))
+again Mic1 ops.SumInc (Some x) (Some y) body h f g (inr (inl e)) = ap (operation_in Mic1) e ∙ (form_both Mic1 ops.SumInc y x sum_inc ∙ ap Some (out_of_order ops.SumInc x y g))
 again Mic1 ops.SumInc (Some x) (Some y) body h f g (inr (inr e)) = elim e [ ]
-again Mic1 ops.And (Some x) (Some y) body h f g (inl e) = ap (form_of Mic1) e ∙ (form_both Mic1 ops.And x y and_op ∙ ap Some (in_order Mic1 ops.And x y f))
-again Mic1 ops.And (Some x) (Some y) body h f g (inr (inl e)) = ap (form_of Mic1) e ∙ (form_both Mic1 ops.And y x and_op ∙ ap Some (out_of_order ops.And x y g))
+again Mic1 ops.And (Some x) (Some y) body h f g (inl e) = ap (operation_in Mic1) e ∙ (form_both Mic1 ops.And x y and_op ∙ ap Some (in_order Mic1 ops.And x y f))
+again Mic1 ops.And (Some x) (Some y) body h f g (inr (inl e)) = ap (operation_in Mic1) e ∙ (form_both Mic1 ops.And y x and_op ∙ ap Some (out_of_order ops.And x y g))
 again Mic1 ops.And (Some x) (Some y) body h f g (inr (inr e)) = elim e [ ]
-again Mic1 ops.Or (Some x) (Some y) body h f g (inl e) = ap (form_of Mic1) e ∙ (form_both Mic1 ops.Or x y or_op ∙ ap Some (in_order Mic1 ops.Or x y f))
-again Mic1 ops.Or (Some x) (Some y) body h f g (inr (inl e)) = ap (form_of Mic1) e ∙ (form_both Mic1 ops.Or y x or_op ∙ ap Some (out_of_order ops.Or x y g))
+again Mic1 ops.Or (Some x) (Some y) body h f g (inl e) = ap (operation_in Mic1) e ∙ (form_both Mic1 ops.Or x y or_op ∙ ap Some (in_order Mic1 ops.Or x y f))
+again Mic1 ops.Or (Some x) (Some y) body h f g (inr (inl e)) = ap (operation_in Mic1) e ∙ (form_both Mic1 ops.Or y x or_op ∙ ap Some (out_of_order ops.Or x y g))
 again Mic1 ops.Or (Some x) (Some y) body h f g (inr (inr e)) = elim e [ ]
-again Mic1 ops.Sub (Some x) (Some y) body h f g (inl e) = ap (form_of Mic1) e ∙ form_sub Mic1 y x
+again Mic1 ops.Sub (Some x) (Some y) body h f g (inl e) = ap (operation_in Mic1) e ∙ form_sub Mic1 y x
 again Mic1 ops.Sub (Some x) (Some y) body h f g (inr e) = elim e [ ]
-again Mic1 ops.DecB None (Some x) body h f g (inl e) = ap (form_of Mic1) e ∙ form_dec Mic1 x
+again Mic1 ops.DecB None (Some x) body h f g (inl e) = ap (operation_in Mic1) e ∙ form_dec Mic1 x
 again Mic1 ops.DecB None (Some x) body h f g (inr e) = elim e [ ]
-again Mic1 ops.NegA (Some x) None body h f g (inl e) = ap (form_of Mic1) e ∙ form_neg Mic1 x
+again Mic1 ops.NegA (Some x) None body h f g (inl e) = ap (operation_in Mic1) e ∙ form_neg Mic1 x
 again Mic1 ops.NegA (Some x) None body h f g (inr e) = elim e [ ]
-again Mic1 ops.Zero None None body h f g (inl e) = ap (form_of Mic1) e ∙ refl
+again Mic1 ops.Zero None None body h f g (inl e) = ap (operation_in Mic1) e ∙ refl
 again Mic1 ops.Zero None None body h f g (inr e) = elim e [ ]
-again Mic1 ops.One None None body h f g (inl e) = ap (form_of Mic1) e ∙ refl
+again Mic1 ops.One None None body h f g (inl e) = ap (operation_in Mic1) e ∙ refl
 again Mic1 ops.One None None body h f g (inr e) = elim e [ ]
-again Mic1 ops.MinusOne None None body h f g (inl e) = ap (form_of Mic1) e ∙ refl
+again Mic1 ops.MinusOne None None body h f g (inl e) = ap (operation_in Mic1) e ∙ refl
 again Mic1 ops.MinusOne None None body h f g (inr e) = elim e [ ]
-again Mic2 ops.B None (Some x) body h f g (inl e) = ap (form_of Mic2) e ∙ (form_lone Mic2 x ∙ ap Some (on_b_side Mic2 ops.A ops.B x g))
+again Mic2 ops.B None (Some x) body h f g (inl e) = ap (operation_in Mic2) e ∙ (form_lone Mic2 x ∙ ap Some (on_b_side Mic2 ops.A ops.B x g))
 again Mic2 ops.B None (Some x) body h f g (inr e) = elim e [ ]
-again Mic2 ops.NotB None (Some x) body h f g (inl e) = ap (form_of Mic2) e ∙ (form_not Mic2 x ∙ ap Some (on_b_side Mic2 ops.NotA ops.NotB x g))
+again Mic2 ops.NotB None (Some x) body h f g (inl e) = ap (operation_in Mic2) e ∙ (form_not Mic2 x ∙ ap Some (on_b_side Mic2 ops.NotA ops.NotB x g))
 again Mic2 ops.NotB None (Some x) body h f g (inr e) = elim e [ ]
-again Mic2 ops.IncB None (Some x) body h f g (inl e) = ap (form_of Mic2) e ∙ (form_inc Mic2 x ∙ ap Some (on_b_side Mic2 ops.IncA ops.IncB x g))
-again Mic2 ops.IncB None (Some x) body h f g (inr (inl e)) = ap (form_of Mic2) e ∙ (form_more Mic2 x ∙ ap Some (on_b_side Mic2 ops.IncA ops.IncB x g))
+again Mic2 ops.IncB None (Some x) body h f g (inl e) = ap (operation_in Mic2) e ∙ (form_inc Mic2 x ∙ ap Some (on_b_side Mic2 ops.IncA ops.IncB x g))
+again Mic2 ops.IncB None (Some x) body h f g (inr (inl e)) = ap (operation_in Mic2) e ∙ (form_more Mic2 x ∙ ap Some (on_b_side Mic2 ops.IncA ops.IncB x g))
 again Mic2 ops.IncB None (Some x) body h f g (inr (inr e)) = elim e [ ]
-again Mic2 ops.Sum (Some x) (Some y) body h f g (inl e) = ap (form_of Mic2) e ∙ (form_both Mic2 ops.Sum x y sum ∙ ap Some (in_order Mic2 ops.Sum x y f))
+again Mic2 ops.Sum (Some x) (Some y) body h f g (inl e) = ap (operation_in Mic2) e ∙ (form_both Mic2 ops.Sum x y sum ∙ ap Some (in_order Mic2 ops.Sum x y f))
 again Mic2 ops.Sum (Some x) (Some y) body h f g (inr e) = elim e [ ]
-again Mic2 ops.SumInc (Some x) (Some y) body h f g (inl e) = ap (form_of Mic2) e ∙ (form_both Mic2 ops.SumInc x y sum_inc ∙ ap Some (in_order Mic2 ops.SumInc x y f))
+again Mic2 ops.SumInc (Some x) (Some y) body h f g (inl e) = ap (operation_in Mic2) e ∙ (form_both Mic2 ops.SumInc x y sum_inc ∙ ap Some (in_order Mic2 ops.SumInc x y f))
 again Mic2 ops.SumInc (Some x) (Some y) body h f g (inr e) = elim e [ ]
-again Mic2 ops.And (Some x) (Some y) body h f g (inl e) = ap (form_of Mic2) e ∙ (form_both Mic2 ops.And x y and_op ∙ ap Some (in_order Mic2 ops.And x y f))
+again Mic2 ops.And (Some x) (Some y) body h f g (inl e) = ap (operation_in Mic2) e ∙ (form_both Mic2 ops.And x y and_op ∙ ap Some (in_order Mic2 ops.And x y f))
 again Mic2 ops.And (Some x) (Some y) body h f g (inr e) = elim e [ ]
-again Mic2 ops.Or (Some x) (Some y) body h f g (inl e) = ap (form_of Mic2) e ∙ (form_both Mic2 ops.Or x y or_op ∙ ap Some (in_order Mic2 ops.Or x y f))
+again Mic2 ops.Or (Some x) (Some y) body h f g (inl e) = ap (operation_in Mic2) e ∙ (form_both Mic2 ops.Or x y or_op ∙ ap Some (in_order Mic2 ops.Or x y f))
 again Mic2 ops.Or (Some x) (Some y) body h f g (inr e) = elim e [ ]
-again Mic2 ops.Sub (Some x) (Some y) body h f g (inl e) = ap (form_of Mic2) e ∙ form_sub Mic2 y x
+again Mic2 ops.Sub (Some x) (Some y) body h f g (inl e) = ap (operation_in Mic2) e ∙ form_sub Mic2 y x
 again Mic2 ops.Sub (Some x) (Some y) body h f g (inr e) = elim e [ ]
-again Mic2 ops.DecB None (Some x) body h f g (inl e) = ap (form_of Mic2) e ∙ form_dec Mic2 x
+again Mic2 ops.DecB None (Some x) body h f g (inl e) = ap (operation_in Mic2) e ∙ form_dec Mic2 x
 again Mic2 ops.DecB None (Some x) body h f g (inr e) = elim e [ ]
-again Mic2 ops.NegA (Some x) None body h f g (inl e) = ap (form_of Mic2) e ∙ form_neg Mic2 x
+again Mic2 ops.NegA (Some x) None body h f g (inl e) = ap (operation_in Mic2) e ∙ form_neg Mic2 x
 again Mic2 ops.NegA (Some x) None body h f g (inr e) = elim e [ ]
-again Mic2 ops.Zero None None body h f g (inl e) = ap (form_of Mic2) e ∙ refl
+again Mic2 ops.Zero None None body h f g (inl e) = ap (operation_in Mic2) e ∙ refl
 again Mic2 ops.Zero None None body h f g (inr e) = elim e [ ]
-again Mic2 ops.One None None body h f g (inl e) = ap (form_of Mic2) e ∙ refl
+again Mic2 ops.One None None body h f g (inl e) = ap (operation_in Mic2) e ∙ refl
 again Mic2 ops.One None None body h f g (inr e) = elim e [ ]
-again Mic2 ops.MinusOne None None body h f g (inl e) = ap (form_of Mic2) e ∙ refl
+again Mic2 ops.MinusOne None None body h f g (inl e) = ap (operation_in Mic2) e ∙ refl
 again Mic2 ops.MinusOne None None body h f g (inr e) = elim e [ ]
 again m _ _ _ body h f g e = absurd (cc)
 
@@ -189,7 +189,7 @@ six_parts u v w x y z h =
     let two = and_parts (u && v) w three.0 in
     ((and_parts u v two.0).1, two.1, three.1, four.1)
 
-form_again : (m : Machine) (body : List Token) (o : Operation) → fits m o ≡ true → IsOneOf body (spellings m o) → form_of m body ≡ Some (work o.op o.a o.b)
+form_again : (m : Machine) (body : List Token) (o : Operation) → fits m o ≡ true → IsOneOf body (spellings m o) → operation_in m body ≡ Some (work o.op o.a o.b)
 unfolding Again
 form_again m body o h s =
     let p = six_parts (nat_lt 0 512) (has_operation m o.op) (fits_side (row o.op).uses_a (may_be_a m) o.a) (fits_side (row o.op).uses_b (may_be_b m) o.b) (not (is_mixed o.a o.b)) (may_fetch m false) h in
@@ -224,9 +224,9 @@ coding_again m body t o c =
 
 pub coding_is : (m : Machine) (body : List Token) (t : Tail) (o : Operation) → coding_of m body t ≡ Some o → IsCoded m body t o
 coding_is m body t o h =
-    let s = bound (with_shift (option_and_then (checked m) (form_of m body))) (shift_of t) o h in
-    let p = mapped (λ (p : Operation). record p { shift = s.0 }) (option_and_then (checked m) (form_of m body)) o s.2 in
-    let f = bound (checked m) (form_of m body) p.0 p.1 in
+    let s = bound (with_shift (option_and_then (checked m) (operation_in m body))) (shift_of t) o h in
+    let p = mapped (λ (p : Operation). record p { shift = s.0 }) (option_and_then (checked m) (operation_in m body)) o s.2 in
+    let f = bound (checked m) (operation_in m body) p.0 p.1 in
     elim (chosen (fits m f.0) (Some f.0) None (Some p.0) f.2) [
       | inl w ↦
           let e : f.0 ≡ p.0 = cc in

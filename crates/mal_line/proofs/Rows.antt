@@ -16,7 +16,7 @@ use Rattle.mal_tokens.specs.declared.token.Token.TheVariants as tokens
 use Rattle.mal_line.specs.declared.operation.Operation.{Operation}
 use Rattle.mal_line.specs.declared.chain.Tail.{Tail}
 use Rattle.mal_line.specs.Expressions.{fits, IsCoded, IsOneOf, other_spellings, side, source_word, spelling, spellings, tail_with}
-use Rattle.mal_line.specs.Table.{conjunction, difference, disjunction, Does, inverse, IsRow, minus_one, negative, next, next_before, one, plain, previous, Row, row_tokens, RowDoes, sum, sum_next, zero}
+use Rattle.mal_line.specs.Table.{conjunction, difference, disjunction, Does, inverse, IsRow, minus_one, negative, next, next_before, one, plain, previous, Spelling, row_tokens, RowDoes, sum, sum_next, zero}
 use Rattle.mal_line.proofs.Codings.{six_parts}
 
 h_is : (x : BusSource) → is_h x ≡ true → x ≡ bus.H
@@ -129,7 +129,7 @@ by_work m body o op a b w h = subst (IsSpelled m body) (sym same) h
     same : o ≡ record { op = op; a = a; b = b; shift = o.shift }
     same = λ i. record { op = w.0 i; a = w.1 i; b = w.2 i; shift = o.shift }
 
-row_is : (m : Machine) (r : Row) (x y : BusSource) (o : Operation) → RowDoes m r x y o → IsSpelled m (row_tokens r (tokens.Word (source_word x)) (tokens.Word (source_word y))) o
+row_is : (m : Machine) (r : Spelling) (x y : BusSource) (o : Operation) → RowDoes m r x y o → IsSpelled m (row_tokens r (tokens.Word (source_word x)) (tokens.Word (source_word y))) o
 unfolding IsSpelled work
 row_is Mic1 plain x y o (inl (z, w)) = by_work Mic1 (row_tokens plain (tokens.Word (source_word x)) (tokens.Word (source_word y))) o ops.A (Some bus.H) None w (refl, inl (ap (λ z. row_tokens plain (tokens.Word (source_word z)) (tokens.Word (source_word y))) z))
 row_is Mic1 plain x y o (inr (g, w)) = by_work Mic1 (row_tokens plain (tokens.Word (source_word x)) (tokens.Word (source_word y))) o ops.B None (Some x) w (fits_by Mic1 ops.B None (Some x) o.shift refl refl g refl, inl (refl))

@@ -16,7 +16,7 @@ use Rattle.mal_line.specs.declared.operation.Operation.{Operation}
 use Rattle.mal_line.specs.declared.expression.Operand.{Operand}
 use Rattle.mal_line.specs.declared.expression.Operand.TheVariants as operands
 use Rattle.mal_line.specs.Expressions.{IsOneOf, minus, one_token, plus, side, source_word, spelling, spellings, zero_token}
-use Rattle.mal_line.specs.Lookup.{added, both, form_of, is_plus, joined, from_one_source, negated, sum_and_one, on_a, operand_by, operand_of, opposite, paired, prefixed, single, source_of, taken, work}
+use Rattle.mal_line.specs.Lookup.{added, both, operation_in, is_plus, joined, from_one_source, negated, sum_and_one, on_a, operand_by, operand_of, opposite, paired, prefixed, single, source_of, taken, work}
 
 -- ---- what is looked up is spelled
 
@@ -200,7 +200,7 @@ next_is m p q operands.One t a u b v s s2 s3 = go (is_plus a) (is_plus b) (plus_
     go false y e f g = tt
 next_is m p q _ t a u b v s s2 s3 = tt
 
-form_spelled : (m : Machine) (body : List Token) → Spelled m body (form_of m body)
+form_spelled : (m : Machine) (body : List Token) → Spelled m body (operation_in m body)
 unfolding Spelled
 form_spelled m [] = tt
 form_spelled m (x ∷ []) = single_is m (operand_of x) x (stands x)
@@ -210,6 +210,6 @@ form_spelled m (x ∷ a ∷ y ∷ b ∷ []) = tt
 form_spelled m (x ∷ a ∷ y ∷ b ∷ z ∷ []) = next_is m (operand_of x) (operand_of y) (operand_of z) x a y b z (stands x) (stands y) (stands z)
 form_spelled m (x ∷ a ∷ y ∷ b ∷ z ∷ u ∷ rest) = tt
 
-pub form_is : (m : Machine) (body : List Token) (o : Operation) → form_of m body ≡ Some o → IsOneOf body (spellings m o)
+pub form_is : (m : Machine) (body : List Token) (o : Operation) → operation_in m body ≡ Some o → IsOneOf body (spellings m o)
 unfolding Spelled
 form_is m body o h = subst (Spelled m body) h (form_spelled m body)

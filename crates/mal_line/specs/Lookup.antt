@@ -117,12 +117,12 @@ sum_and_one machine x p y q operands.One = if is_plus p then (if is_plus q then 
 sum_and_one machine x p y q _ = None
 
 -- the operation that has this form, on any machine that does it
-abbrev pub form_of : Machine → List Token → Option Operation
-form_of machine (x ∷ []) = single machine (operand_of x)
-form_of machine (o ∷ x ∷ []) = prefixed machine o (operand_of x)
-form_of machine (x ∷ o ∷ y ∷ []) = joined machine (operand_of x) o (operand_of y)
-form_of machine (x ∷ p ∷ y ∷ q ∷ z ∷ []) = sum_and_one machine (operand_of x) p (operand_of y) q (operand_of z)
-form_of machine _ = None
+abbrev pub operation_in : Machine → List Token → Option Operation
+operation_in machine (x ∷ []) = single machine (operand_of x)
+operation_in machine (o ∷ x ∷ []) = prefixed machine o (operand_of x)
+operation_in machine (x ∷ o ∷ y ∷ []) = joined machine (operand_of x) o (operand_of y)
+operation_in machine (x ∷ p ∷ y ∷ q ∷ z ∷ []) = sum_and_one machine (operand_of x) p (operand_of y) q (operand_of z)
+operation_in machine _ = None
 
 abbrev pub checked : Machine → Operation → Option Operation
 checked machine o = if fits machine o then Some o else None
@@ -140,4 +140,4 @@ abbrev pub with_shift : Option Operation → Shift → Option Operation
 with_shift o s = option_map (λ o. record { op = o.op; a = o.a; b = o.b; shift = s }) o
 
 abbrev pub coding_of : Machine → List Token → Tail → Option Operation
-coding_of machine body tail = option_and_then (with_shift (option_and_then (checked machine) (form_of machine body))) (shift_of tail)
+coding_of machine body tail = option_and_then (with_shift (option_and_then (checked machine) (operation_in machine body))) (shift_of tail)

@@ -14,24 +14,24 @@ use Rattle.mal_line.specs.declared.operation.Operation.{Operation}
 use Rattle.mal_line.specs.Expressions.{minus, one_token, plus, source_word, zero_token}
 
 -- a spelling
-pub data Row : Type 0 where
-  plain : Row
-  next : Row
-  next_before : Row
-  previous : Row
-  inverse : Row
-  negative : Row
-  sum : Row
-  sum_next : Row
-  conjunction : Row
-  disjunction : Row
-  difference : Row
-  zero : Row
-  one : Row
-  minus_one : Row
+pub data Spelling : Type 0 where
+  plain : Spelling
+  next : Spelling
+  next_before : Spelling
+  previous : Spelling
+  inverse : Spelling
+  negative : Spelling
+  sum : Spelling
+  sum_next : Spelling
+  conjunction : Spelling
+  disjunction : Spelling
+  difference : Spelling
+  zero : Spelling
+  one : Spelling
+  minus_one : Spelling
 
 -- X, X+1, 1+X, X-1, NOT X, -X, X+Y, X+Y+1, X AND Y, X OR Y, X-Y, 0, 1, -1
-abbrev pub row_tokens : Row → Token → Token → List Token
+abbrev pub row_tokens : Spelling → Token → Token → List Token
 row_tokens plain x y = x ∷ []
 row_tokens next x y = x ∷ plus ∷ one_token ∷ []
 row_tokens next_before x y = one_token ∷ plus ∷ x ∷ []
@@ -66,7 +66,7 @@ OfTwo Mic1 op x y o = ((x ≡ bus.H) × OnB Mic1 y × Does o op (Some bus.H) (So
 OfTwo Mic2 op x y o = OnB Mic2 x × OnB Mic2 y × (is_mixed (Some x) (Some y) ≡ false) × Does o op (Some x) (Some y)
 
 -- what each row is on a machine
-abbrev pub RowDoes : Machine → Row → BusSource → BusSource → Operation → Type 0
+abbrev pub RowDoes : Machine → Spelling → BusSource → BusSource → Operation → Type 0
 RowDoes machine plain x y o = OfOne machine ops.A ops.B x o
 RowDoes machine next x y o = OfOne machine ops.IncA ops.IncB x o
 RowDoes machine next_before x y o = OfOne machine ops.IncA ops.IncB x o
@@ -86,7 +86,7 @@ RowDoes machine minus_one x y o = Does o ops.MinusOne None None
 
 -- the tokens are a row of the table, and the operation is the one that it has there
 pub record IsRow (machine : Machine) (body : List Token) (o : Operation) : Type 0 where
-  pub row : Row
+  pub row : Spelling
   pub x : BusSource
   pub y : BusSource
   pub spelled : body ≡ row_tokens row (tokens.Word (source_word x)) (tokens.Word (source_word y))

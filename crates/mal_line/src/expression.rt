@@ -1,7 +1,7 @@
 //! The coding of an expression, looked up by its tokens.
 ghost use Rattle.std.specs.Prelude.{◌≡◌};
 ghost use Rattle.micro_word.specs.Words.{is_h};
-ghost use Rattle.mal_line.specs.Lookup.{added, both, checked, coding_of, form_of, is_plus, joined, from_one_source, negated, sum_and_one, operand_of, opposite, paired, prefixed, shift_of, single, source_of, taken, work};
+ghost use Rattle.mal_line.specs.Lookup.{added, both, checked, coding_of, operation_in, is_plus, joined, from_one_source, negated, sum_and_one, operand_of, opposite, paired, prefixed, shift_of, single, source_of, taken, work};
 
 use crate::chain::Tail;
 use crate::operation::Operation;
@@ -212,8 +212,8 @@ fn sum_and_one(
 }
 
 /// The operation that has this form, on any machine that does it.
-fn form_of(machine: Machine, body: &[Token]) -> Option<Operation>
-    ensures { result ≡ form_of machine body.now }
+fn operation_in(machine: Machine, body: &[Token]) -> Option<Operation>
+    ensures { result ≡ operation_in machine body.now }
 {
     match body {
         [x] => single(machine, operand_of(*x)),
@@ -257,6 +257,6 @@ pub(crate) fn coding_of(machine: Machine, body: &[Token], tail: Tail) -> Option<
     ensures { result ≡ coding_of machine body.now tail }
 {
     let shift = shift_of(tail)?;
-    let operation = checked(machine, form_of(machine, body)?)?;
+    let operation = checked(machine, operation_in(machine, body)?)?;
     Some(Operation { shift, ..operation })
 }

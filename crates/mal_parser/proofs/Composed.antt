@@ -15,9 +15,9 @@ use Rattle.mal_parser.specs.declared.source.Draft.{Draft}
 use Rattle.mal_parser.specs.declared.source.Fix.{Fix}
 use Rattle.mal_parser.specs.declared.statement.Statement.{Statement}
 use Rattle.mal_parser.specs.Labels.{address_of, AreDistinct, has_label, is_among, is_label, is_labelled, labels_of}
-use Rattle.mal_parser.specs.Text.{AreAddresses, AreResolved, fallbacks, fallbacks_from, fixes, fixes_from, grammar, IsFine, IsFixedBy, IsProgramOf, Leads, SpellsProgram, statements, statements_from}
+use Rattle.mal_parser.specs.Text.{AreAddresses, AreResolved, fallbacks, fallbacks_from, fixes, fixes_from, grammar, IsFine, IsFixedBy, IsProgramOf, IsResolvedNext, SpellsProgram, statements, statements_from}
 use Rattle.mal_parser.specs.Reading.{address_at, fixed_of}
-use Rattle.mal_parser.specs.Program.{HasTargets, IsFallback, IsLabelled, IsProgram, label_at, Program}
+use Rattle.mal_parser.specs.Program.{HasTargets, IsFallback, IsLabelled, IsMalProgram, label_at, MalView}
 use Rattle.mal_parser.specs.ProgramText.{canonical_text, canonical_lines, fix_count, fix_line, on_line, on_lines, relined}
 use Rattle.mal_parser.proofs.Resolved.{same_text, text_same}
 use Rattle.mal_parser.proofs.Fixing.{fix_labels, fixed_is}
@@ -271,7 +271,7 @@ module _ (ss : List Statement) (k : ℕ) where
       go None h = absurd (cc)
       go (Some name) h = refl
 
-  leads_there : (next : Next ℕ) → HasTargets ss next → Leads (on_lines k ss) (named_next ss next) next
+  leads_there : (next : Next ℕ) → HasTargets ss next → IsResolvedNext (on_lines k ss) (named_next ss next) next
   leads_there nexts.Following h = tt
   leads_there (nexts.Goto to) h = name_here to h
   leads_there (nexts.Dispatch high) h = refl
@@ -290,7 +290,7 @@ unlabelled : (o : Option (List ℕ)) (f : Option ℕ) → o ≡ None → IfSome 
 unlabelled o None e h = refl
 unlabelled o (Some address) e h = let g = subst IsSome e h.1 in absurd (cc)
 
-module _ (p : Program) (h : IsProgram p) where
+module _ (p : MalView) (h : IsMalProgram p) where
   abbrev begin : ℕ
   begin = 1 + fix_count p + length (option_to_list p.fallback)
 

@@ -13,22 +13,22 @@ use Rattle.mal_parser.specs.declared.source.Draft.{Draft}
 use Rattle.mal_parser.specs.declared.source.Fix.{Fix}
 use Rattle.mal_parser.specs.declared.statement.Statement.{Statement}
 use Rattle.mal_parser.specs.Labels.{AreDistinct, has_label, is_labelled, labels_of}
-use Rattle.mal_parser.specs.Text.{AreResolved, fallbacks, falls, fixes, IsFine, IsProgramOf, IsResolved, Leads, statements}
-use Rattle.mal_parser.specs.Reading.{by_entry, by_falling, by_unknown, earlier, falling, first, first_falling, first_unknown, fixed_of, IsSound, knows, main1, resolved_next, number_of, resolved_program, program_with, resolved, sketch_of, target, unknown_draft, unknown_fix, unknown_in}
-use Rattle.mal_parser.specs.Program.{IsFallback, label_at, Program}
+use Rattle.mal_parser.specs.Text.{AreResolved, fallbacks, falls, fixes, IsFine, IsProgramOf, IsResolved, IsResolvedNext, statements}
+use Rattle.mal_parser.specs.Reading.{by_entry, by_falling, by_unknown, earlier, falling, first, first_falling, first_unknown, fixed_of, IsSound, knows, main1, resolved_next, number_of, resolved_program, program_with, resolved, sketch_of, target_number, unknown_draft, unknown_fix, unknown_in}
+use Rattle.mal_parser.specs.Program.{IsFallback, label_at, MalView}
 use Rattle.mal_parser.proofs.Fixing.{fixed_is, fixed_there}
 use Rattle.mal_parser.proofs.Resolved.{among_at, any_position, at_position, draft_label, found_later, known_one, label_is, labelled_at, neither, no_line, one_place, program_is, target_label}
 use Rattle.mal_parser.proofs.Adding.{label_among}
 
 -- ---- what is resolved is the meaning
 
-leads : (ds : List Draft) (fs : List Fix) (next : Next (List ℕ)) → knows ds next ≡ true → Leads (map (resolved ds fs) ds) next (resolved_next ds next)
+leads : (ds : List Draft) (fs : List Fix) (next : Next (List ℕ)) → knows ds next ≡ true → IsResolvedNext (map (resolved ds fs) ds) next (resolved_next ds next)
 leads ds fs nexts.Following h = tt
 leads ds fs (nexts.Goto label) h = target_label ds fs label h
 leads ds fs (nexts.Dispatch high) h = refl
 leads ds fs (nexts.Branch test high low) h = go (has_label ds high) (has_label ds low) refl refl h
   where
-    go : (a b : Bool) → has_label ds high ≡ a → has_label ds low ≡ b → (a && b) ≡ true → (test ≡ test) × (label_at (map (resolved ds fs) ds) (target ds high) ≡ Some high) × (label_at (map (resolved ds fs) ds) (target ds low) ≡ Some low)
+    go : (a b : Bool) → has_label ds high ≡ a → has_label ds low ≡ b → (a && b) ≡ true → (test ≡ test) × (label_at (map (resolved ds fs) ds) (target_number ds high) ≡ Some high) × (label_at (map (resolved ds fs) ds) (target_number ds low) ≡ Some low)
     go true true e f h = (refl, target_label ds fs high e, target_label ds fs low f)
     go true false e f h = absurd (cc)
     go false b e f h = absurd (cc)
@@ -67,7 +67,7 @@ module _ (m : Machine) (cs : List Content) (fine : IsFine cs) (sound : IsSound (
         whole = program_is (sketch_of m cs) entry sound u f e;
       }
 
-  pub program_means : (p : Program) → resolved_program (sketch_of m cs) ≡ Ok p → IsProgramOf m cs p
+  pub program_means : (p : MalView) → resolved_program (sketch_of m cs) ≡ Ok p → IsProgramOf m cs p
   unfolding resolved_program
   program_means p h = by_u (first_unknown (sketch_of m cs)) refl h
     where
@@ -103,14 +103,14 @@ number_at ds i label d h =
     let q = at_position (is_labelled label) ds p.0 p.1 in
     p.1 ∙ ap Some (one_place ds p.0 i q.0 a.0 label d q.1 (label_is label q.0.label q.2) a.1 a.2)
 
-target_at : (ds : List Draft) (i : ℕ) (label : List ℕ) → AreDistinct (labels_of ds) → draft_label ds i ≡ Some label → i ≡ target ds label
+target_at : (ds : List Draft) (i : ℕ) (label : List ℕ) → AreDistinct (labels_of ds) → draft_label ds i ≡ Some label → i ≡ target_number ds label
 target_at ds i label d h = sym (ap (λ o. unwrap_or o 0) (number_at ds i label d h))
 
 module _ (ds : List Draft) (fs : List Fix) (ss : List Statement) (distinct : AreDistinct (labels_of ds)) (once : AreDistinct (map (λ (f : Fix). f.label) fs)) (all : AreResolved ss fs ds ss) where
   label_here : (i : ℕ) (label : List ℕ) → label_at ss i ≡ Some label → draft_label ds i ≡ Some label
   label_here i label h = same_labels ss fs ds ss i all ∙ h
 
-  knows_it : (next : Next (List ℕ)) (t : Next ℕ) → Leads ss next t → knows ds next ≡ true
+  knows_it : (next : Next (List ℕ)) (t : Next ℕ) → IsResolvedNext ss next t → knows ds next ≡ true
   knows_it nexts.Following t l = refl
   knows_it (nexts.Goto label) (nexts.Goto to) l = has_at ds to label (label_here to label l)
   knows_it (nexts.Goto label) nexts.Following l = absurd l
@@ -125,7 +125,7 @@ module _ (ds : List Draft) (fs : List Fix) (ss : List Statement) (distinct : Are
   knows_it (nexts.Branch test high low) (nexts.Goto to) l = absurd l
   knows_it (nexts.Branch test high low) (nexts.Dispatch h) l = absurd l
 
-  leads_there : (next : Next (List ℕ)) (t : Next ℕ) → Leads ss next t → t ≡ resolved_next ds next
+  leads_there : (next : Next (List ℕ)) (t : Next ℕ) → IsResolvedNext ss next t → t ≡ resolved_next ds next
   leads_there nexts.Following nexts.Following l = refl
   leads_there nexts.Following (nexts.Goto to) l = absurd l
   leads_there nexts.Following (nexts.Dispatch h) l = absurd l
@@ -142,7 +142,7 @@ module _ (ds : List Draft) (fs : List Fix) (ss : List Statement) (distinct : Are
       let e = l.0 in
       let f = target_at ds a high distinct (label_here a high l.1) in
       let g = target_at ds b low distinct (label_here b low l.2) in
-      ap (λ x. nexts.Branch x a b) (sym e) ∙ (ap (λ n. nexts.Branch test n b) f ∙ ap (λ n. nexts.Branch test (target ds high) n) g)
+      ap (λ x. nexts.Branch x a b) (sym e) ∙ (ap (λ n. nexts.Branch test n b) f ∙ ap (λ n. nexts.Branch test (target_number ds high) n) g)
   leads_there (nexts.Branch test high low) nexts.Following l = absurd l
   leads_there (nexts.Branch test high low) (nexts.Goto to) l = absurd l
   leads_there (nexts.Branch test high low) (nexts.Dispatch h) l = absurd l
@@ -189,7 +189,7 @@ no_fix_unknown ds (f ∷ fs) h = go (has_label ds f.label) h (no_fix_unknown ds 
     go true h rec = rec h
     go false h rec = absurd (cc)
 
-falls_to : (ss : List Statement) (next : Next (List ℕ)) (t : Next ℕ) → Leads ss next t → falls next ≡ true → t ≡ nexts.Following
+falls_to : (ss : List Statement) (next : Next (List ℕ)) (t : Next ℕ) → IsResolvedNext ss next t → falls next ≡ true → t ≡ nexts.Following
 falls_to ss nexts.Following nexts.Following l f = refl
 falls_to ss nexts.Following (nexts.Goto to) l f = absurd l
 falls_to ss nexts.Following (nexts.Dispatch h) l f = absurd l
@@ -198,7 +198,7 @@ falls_to ss (nexts.Goto label) t l f = absurd (cc)
 falls_to ss (nexts.Dispatch high) t l f = absurd (cc)
 falls_to ss (nexts.Branch test high low) t l f = absurd (cc)
 
-module _ (m : Machine) (cs : List Content) (p : Program) (fine : IsFine cs) (is : IsProgramOf m cs p) where
+module _ (m : Machine) (cs : List Content) (p : MalView) (fine : IsFine cs) (is : IsProgramOf m cs p) where
   no_unknown : first_unknown (sketch_of m cs) ≡ None
   no_unknown =
       let d : unknown_draft (statements cs) (statements cs) ≡ None = ap (option_map (λ (d : Draft). d.line)) (none_unknown (statements cs) (fixes cs) p.statements fine.labels fine.fixed is.statements_are (statements cs) p.statements is.statements_are) in
@@ -261,7 +261,7 @@ module _ (m : Machine) (cs : List Content) (p : Program) (fine : IsFine cs) (is 
       (sym is.machine_is) (sym (all_there (statements cs) (fixes cs) p.statements fine.labels fine.fixed is.statements_are (statements cs) p.statements is.statements_are)) (sym fallback_there)
     where
       one : (a a2 : Machine) (b b2 : List Statement) (c c2 : Option Statement) → a ≡ a2 → b ≡ b2 → c ≡ c2
-          → ◌≡◌ {A = Program} (record { machine = a; statements = b; fallback = c; entry = p.entry }) (record { machine = a2; statements = b2; fallback = c2; entry = p.entry })
+          → ◌≡◌ {A = MalView} (record { machine = a; statements = b; fallback = c; entry = p.entry }) (record { machine = a2; statements = b2; fallback = c2; entry = p.entry })
       one a a2 b b2 c c2 g h i = rw (g, h, i) refl
 
   pub means_program : resolved_program (sketch_of m cs) ≡ Ok p

@@ -9,7 +9,7 @@ use Rattle.mal_line.specs.declared.content.Content.{Content}
 use Rattle.mal_line.specs.Lines as lines
 use Rattle.mal_parser.specs.declared.error.MalError.{MalError}
 use Rattle.mal_parser.specs.declared.error.MalError.TheVariants as errors
-use Rattle.mal_parser.specs.Program.{Program}
+use Rattle.mal_parser.specs.Program.{MalView}
 use Rattle.mal_parser.specs.Text.{grammar, is_memory, IsRefused, SpellsProgram}
 use Rattle.mal_parser.specs.Reading.{add_content, empty, FailsBy, IsSound, parser, resolved_program, ReadsLines, Sketch, sketch_of, step}
 use Rattle.mal_parser.proofs.Adding.{fine_made, made_fine}
@@ -57,11 +57,11 @@ module _ (m : Machine) (laws : IsReadAsSpelled (grammar m) parser (empty m)) (te
       let f = made_fine m r.0 t r.2 in
       subst IsSound f.1 (sound lines m (contents text) r.0 r.1 f.0)
 
-  pub is_spelled : (r : Result Program MalError) → IfOk r (λ p. resolved_program t ≡ Ok p) → IfOk r (SpellsProgram m text)
+  pub is_spelled : (r : Result MalView MalError) → IfOk r (λ p. resolved_program t ≡ Ok p) → IfOk r (SpellsProgram m text)
   is_spelled (Ok p) h = laws.spelled text t p led h
   is_spelled (Err e) h = tt
 
-  pub is_refused : (r : Result Program MalError) → IfErr r (λ e. FailsBy e (resolved_program t)) → IfErr r (λ e. is_memory e ≡ false → IsRefused m text e)
+  pub is_refused : (r : Result MalView MalError) → IfErr r (λ e. FailsBy e (resolved_program t)) → IfErr r (λ e. is_memory e ≡ false → IsRefused m text e)
   is_refused (Ok p) h = tt
   is_refused (Err e) h = λ free. laws.ended text t e led (h free)
 
@@ -72,20 +72,20 @@ memory_only errors.OutOfMemory h = refl
 memory_only _ h = absurd (cc)
 
 module _ (m : Machine) (laws : IsReadAsSpelled (grammar m) parser (empty m)) (text : List ℕ) where
-  pub answers_program : (r : Result Program MalError) (p : Program) → IfOk r (SpellsProgram m text) → IfErr r (λ e. is_memory e ≡ false → IsRefused m text e)
+  pub answers_program : (r : Result MalView MalError) (p : MalView) → IfOk r (SpellsProgram m text) → IfErr r (λ e. is_memory e ≡ false → IsRefused m text e)
       → SpellsProgram m text p → (r ≡ Ok p) ⊎ (r ≡ Err errors.OutOfMemory)
   answers_program (Ok q) p ok err s = inl (ap Ok (laws.one_program text q p ok s))
   answers_program (Err e) p ok err s = go (is_memory e) refl
     where
-      go : (b : _) → is_memory e ≡ b → (◌≡◌ {A = Result Program MalError} (Err e) (Ok p)) ⊎ (◌≡◌ {A = Result Program MalError} (Err e) (Err errors.OutOfMemory))
+      go : (b : _) → is_memory e ≡ b → (◌≡◌ {A = Result MalView MalError} (Err e) (Ok p)) ⊎ (◌≡◌ {A = Result MalView MalError} (Err e) (Err errors.OutOfMemory))
       go true h = inr (ap Err (memory_only e h))
       go false h = absurd (laws.not_both text p e s (err h))
 
-  pub answers_refusal : (r : Result Program MalError) (e : MalError) → IfOk r (SpellsProgram m text) → IfErr r (λ e. is_memory e ≡ false → IsRefused m text e)
+  pub answers_refusal : (r : Result MalView MalError) (e : MalError) → IfOk r (SpellsProgram m text) → IfErr r (λ e. is_memory e ≡ false → IsRefused m text e)
       → IsRefused m text e → (r ≡ Err e) ⊎ (r ≡ Err errors.OutOfMemory)
   answers_refusal (Ok q) e ok err s = absurd (laws.not_both text q e ok s)
   answers_refusal (Err f) e ok err s = go (is_memory f) refl
     where
-      go : (b : _) → is_memory f ≡ b → (◌≡◌ {A = Result Program MalError} (Err f) (Err e)) ⊎ (◌≡◌ {A = Result Program MalError} (Err f) (Err errors.OutOfMemory))
+      go : (b : _) → is_memory f ≡ b → (◌≡◌ {A = Result MalView MalError} (Err f) (Err e)) ⊎ (◌≡◌ {A = Result MalView MalError} (Err f) (Err errors.OutOfMemory))
       go true h = inr (ap Err (memory_only f h))
       go false h = inl (ap Err (laws.one_refusal text f e (err h) s))

@@ -12,7 +12,7 @@ use Rattle.micro_word.specs.declared.statement.Placed.{Placed}
 use Rattle.micro_word.specs.Words.{is_next, is_part, is_valid}
 use Rattle.mal_print.specs.StatementText.{FitTargets}
 use Rattle.mal_parser.specs.declared.statement.Statement.{Statement}
-use Rattle.mal_parser.specs.Program.{IsStatement, Program}
+use Rattle.mal_parser.specs.Program.{IsStatement, MalView}
 use Rattle.mal_parser.specs.ProgramText.{by_addresses, canonical_text, default_line, fix_line, labelled_line, statement_text, text_of}
 
 -- ---- targets
@@ -30,16 +30,16 @@ some_at [] s lt = absurd (omega arith)
 some_at (t ∷ ss) zero lt = (t, refl)
 some_at (t ∷ ss) (suc s) lt = some_at ss s (omega arith)
 
-pub stands_at : (p q : Program) (s : ℕ) (t : Statement) → q ≡ p → ((number : ℕ) (u : Statement) → slice_get q.statements number ≡ Some u → IsStatement q number u)
+pub stands_at : (p q : MalView) (s : ℕ) (t : Statement) → q ≡ p → ((number : ℕ) (u : Statement) → slice_get q.statements number ≡ Some u → IsStatement q number u)
     → s < length p.statements → t ≡ get_or q.statements s t → IsStatement p s t
 stands_at p q s t e h lt g =
-    let x = some_at q.statements s (subst (λ (r : Program). s < length r.statements) (sym e) lt) in
+    let x = some_at q.statements s (subst (λ (r : MalView). s < length r.statements) (sym e) lt) in
     let f : t ≡ x.0 = g ∙ get_or_from_slice_get q.statements s x.0 t x.1 in
-    subst (λ (r : Program). IsStatement r s t) e (h s t (x.1 ∙ ap Some (sym f)))
+    subst (λ (r : MalView). IsStatement r s t) e (h s t (x.1 ∙ ap Some (sym f)))
 
 -- ---- texts of one statement
 
-pub line_here : (p : Program) (s : ℕ) (t : Statement) → slice_get p.statements s ≡ Some t → statement_text p s ≡ labelled_line p t
+pub line_here : (p : MalView) (s : ℕ) (t : Statement) → slice_get p.statements s ≡ Some t → statement_text p s ≡ labelled_line p t
 line_here p s t e = rw e refl
 
 -- ---- lines one after the other
@@ -65,7 +65,7 @@ fixes_more (t ∷ ss) (suc s) lt = let k : suc s + 1 ≡ suc (s + 1) = omega ari
     go None r = r
     go (Some l) r = ap (λ ls. l ∷ ls) r
 
-lines_more : (p : Program) (ss : List Statement) (s : ℕ) (t : Statement) → slice_get ss s ≡ Some t → map (labelled_line p) (take (s + 1) ss) ≡ map (labelled_line p) (take s ss) ++ labelled_line p t ∷ []
+lines_more : (p : MalView) (ss : List Statement) (s : ℕ) (t : Statement) → slice_get ss s ≡ Some t → map (labelled_line p) (take (s + 1) ss) ≡ map (labelled_line p) (take s ss) ++ labelled_line p t ∷ []
 lines_more p [] s t e = absurd (cc)
 lines_more p (u ∷ ss) zero t e = let q : u ≡ t = cc in ap (λ v. labelled_line p v ∷ []) q
 lines_more p (u ∷ ss) (suc s) t e = let k : suc s + 1 ≡ suc (s + 1) = omega arith in rw k (ap (λ ls. labelled_line p u ∷ ls) (lines_more p ss s t e))
@@ -80,7 +80,7 @@ fix_added ss s begun old new lt e f =
     ∙ ap (λ rest. begun ++ rest) (sym (ap text_of (fixes_more ss s lt) ∙ text_append (filter_map fix_line (take s ss)) (option_to_list (option_and_then fix_line (slice_get ss s)))))))
 
 -- one more statement
-line_behind : (p : Program) (s : ℕ) (t : Statement) (begun old new : List ℕ) → slice_get p.statements s ≡ Some t
+line_behind : (p : MalView) (s : ℕ) (t : Statement) (begun old new : List ℕ) → slice_get p.statements s ≡ Some t
     → old ≡ begun ++ text_of (map (labelled_line p) (take s p.statements)) → new ≡ old ++ (labelled_line p t ++ 10 ∷ [])
     → new ≡ begun ++ text_of (map (labelled_line p) (take (s + 1) p.statements))
 line_behind p s t begun old new at e f =
@@ -88,7 +88,7 @@ line_behind p s t begun old new at e f =
     ∙ (append_assoc begun (text_of (map (labelled_line p) (take s p.statements))) (labelled_line p t ++ 10 ∷ [])
     ∙ ap (λ rest. begun ++ rest) (sym (ap text_of (lines_more p p.statements s t at) ∙ text_append (map (labelled_line p) (take s p.statements)) (labelled_line p t ∷ [])))))
 
-pub line_added : (p : Program) (s : ℕ) (begun old new fresh line : List ℕ) → s < length p.statements → fresh ≡ [] → line ≡ fresh ++ statement_text p s
+pub line_added : (p : MalView) (s : ℕ) (begun old new fresh line : List ℕ) → s < length p.statements → fresh ≡ [] → line ≡ fresh ++ statement_text p s
     → old ≡ begun ++ text_of (map (labelled_line p) (take s p.statements)) → new ≡ old ++ (line ++ 10 ∷ [])
     → new ≡ begun ++ text_of (map (labelled_line p) (take (s + 1) p.statements))
 line_added p s begun old new fresh line lt n l e f =
@@ -100,7 +100,7 @@ three_texts : (z a b c x y w : List ℕ) → x ≡ z ++ a → y ≡ x ++ b → w
 three_texts z a b c x y w e f g = rw (g, f, e) (simp append_assoc)
 
 -- all of them
-pub mal_text : (p : Program) (z x y w : List ℕ) → z ≡ [] → x ≡ z ++ text_of (filter_map fix_line p.statements)
+pub mal_text : (p : MalView) (z x y w : List ℕ) → z ≡ [] → x ≡ z ++ text_of (filter_map fix_line p.statements)
     → y ≡ x ++ text_of (option_to_list (option_map (default_line p) p.fallback)) → w ≡ y ++ text_of (map (labelled_line p) p.statements) → w ≡ canonical_text p
 mal_text p z x y w n e f g =
     three_texts z (text_of (filter_map fix_line p.statements)) (text_of (option_to_list (option_map (default_line p) p.fallback))) (text_of (map (labelled_line p) p.statements)) x y w e f g

@@ -4,7 +4,7 @@ use Rattle.std.specs.Prelude.{IfSome, IsSome, slice_get, option_map}
 use Rattle.mal_line.specs.declared.next.Next.{Next}
 use Rattle.mal_line.specs.declared.next.Next.TheVariants as nexts
 use Rattle.mal_parser.specs.declared.statement.Statement.{Statement}
-use Rattle.mal_parser.specs.Program.{HasTargets, IsFallback, IsLabelled, IsProgram, IsStatement, label_at, Program}
+use Rattle.mal_parser.specs.Program.{HasTargets, IsFallback, IsLabelled, IsMalProgram, IsStatement, label_at, MalView}
 use Rattle.mal_parser.specs.ProgramText.{on_line, on_lines}
 
 pub length_lines : (k : ℕ) (ss : List Statement) → length (on_lines k ss) ≡ length ss
@@ -32,9 +32,9 @@ module _ (k : ℕ) (ss : List Statement) where
   targets_lined (nexts.Dispatch high) h = tt
   targets_lined (nexts.Branch test high low) h = (labelled_lined high h.0, labelled_lined low h.1)
 
-module _ (p : Program) (k n : ℕ) where
+module _ (p : MalView) (k n : ℕ) where
   -- on other lines
-  abbrev pub other : Program
+  abbrev pub other : MalView
   other = record { machine = p.machine; statements = on_lines k p.statements; fallback = option_map (on_line n) p.fallback; entry = p.entry }
 
   statement_lined : (i m : ℕ) (s : Statement) → IsStatement p i s → IsStatement other i (on_line m s)
@@ -55,7 +55,7 @@ module _ (p : Program) (k n : ℕ) where
     fixed = h.fixed;
   }
 
-  pub program_lined : IsProgram p → IsProgram other
+  pub program_lined : IsMalProgram p → IsMalProgram other
   program_lined h = record {
     some = subst (λ l. 0 < l) (sym (length_lines k p.statements)) h.some;
     few = subst (λ l. l ≤ 512) (sym (length_lines k p.statements)) h.few;

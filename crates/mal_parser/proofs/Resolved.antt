@@ -18,8 +18,8 @@ use Rattle.mal_parser.specs.declared.source.Fix.{Fix}
 use Rattle.mal_parser.specs.declared.statement.Statement.{Statement}
 use Rattle.mal_parser.specs.Labels.{AreDistinct, has_label, is_among, is_label, is_labelled, labels_of}
 use Rattle.mal_parser.specs.Text.{falls}
-use Rattle.mal_parser.specs.Reading.{address_at, earlier, falling, first_falling, first_unknown, fixed_of, IsDraft, IsSound, knows, main1, resolved_next, number_of, program_with, resolved, Sketch, target, unknown_draft, unknown_fix, unknown_in}
-use Rattle.mal_parser.specs.Program.{HasTargets, IsFallback, IsLabelled, IsProgram, IsStatement, label_at}
+use Rattle.mal_parser.specs.Reading.{address_at, earlier, falling, first_falling, first_unknown, fixed_of, IsDraft, IsSound, knows, main1, resolved_next, number_of, program_with, resolved, Sketch, target_number, unknown_draft, unknown_fix, unknown_in}
+use Rattle.mal_parser.specs.Program.{HasTargets, IsFallback, IsLabelled, IsMalProgram, IsStatement, label_at}
 
 -- ---- places of lists
 
@@ -128,15 +128,15 @@ labelled_at ds i label h = go (slice_get ds i) refl h
     go (Some d) e h = (d, e, h)
 
 -- a known label is that of its target
-pub target_label : (ds : List Draft) (fs : List Fix) (label : List ℕ) → has_label ds label ≡ true → label_at (map (resolved ds fs) ds) (target ds label) ≡ Some label
+pub target_label : (ds : List Draft) (fs : List Fix) (label : List ℕ) → has_label ds label ≡ true → label_at (map (resolved ds fs) ds) (target_number ds label) ≡ Some label
 unfolding draft_label
 target_label ds fs label h =
     let p = any_position (is_labelled label) ds h in
     let q = at_position (is_labelled label) ds p.0 p.1 in
-    let e : target ds label ≡ p.0 = ap (λ o. unwrap_or o 0) p.1 in
+    let e : target_number ds label ≡ p.0 = ap (λ o. unwrap_or o 0) p.1 in
     ap (label_at (map (resolved ds fs) ds)) e ∙ (label_kept ds fs ds p.0 ∙ (ap (option_and_then (λ (d : Draft). d.label)) q.1 ∙ label_is label q.0.label q.2))
 
-is_target : (ds : List Draft) (fs : List Fix) (label : List ℕ) → has_label ds label ≡ true → IsLabelled (map (resolved ds fs) ds) (target ds label)
+is_target : (ds : List Draft) (fs : List Fix) (label : List ℕ) → has_label ds label ≡ true → IsLabelled (map (resolved ds fs) ds) (target_number ds label)
 is_target ds fs label h = let k = target_label ds fs label h in rw k refl
 
 has_targets : (ds : List Draft) (fs : List Fix) (next : Next (List ℕ)) → knows ds next ≡ true → HasTargets (map (resolved ds fs) ds) (resolved_next ds next)
@@ -246,7 +246,7 @@ module _ (s : Sketch) (entry : ℕ) (sound : IsSound s) (no_unknown : first_unkn
         fixed = ap (fixed_of s.fixes) k.1;
       }
 
-  pub program_is : IsProgram (program_with s entry)
+  pub program_is : IsMalProgram (program_with s entry)
   unfolding draft_label
   program_is =
       let q = at_position (is_labelled main1) s.statements entry has_entry in
@@ -264,7 +264,7 @@ module _ (s : Sketch) (entry : ℕ) (sound : IsSound s) (no_unknown : first_unkn
         entry = label_kept s.statements s.fixes s.statements entry ∙ (ap (option_and_then (λ (d : Draft). d.label)) q.1 ∙ label_is main1 q.0.label q.2);
       }
 
-pub program_made : (s : Sketch) (entry : ℕ) (machine : Machine) (ss : List Statement) (fallback : Option Statement) → IsProgram (program_with s entry)
+pub program_made : (s : Sketch) (entry : ℕ) (machine : Machine) (ss : List Statement) (fallback : Option Statement) → IsMalProgram (program_with s entry)
     → machine ≡ s.machine → ss ≡ map (resolved s.statements s.fixes) s.statements → fallback ≡ option_map (resolved s.statements s.fixes) s.fallback
-    → IsProgram (record { machine = machine; statements = ss; fallback = fallback; entry = entry })
+    → IsMalProgram (record { machine = machine; statements = ss; fallback = fallback; entry = entry })
 program_made s entry machine ss fallback p a b c = rw (a, b, c) p

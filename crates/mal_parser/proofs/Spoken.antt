@@ -16,7 +16,7 @@ use Rattle.mal_print.specs.Pieces.{printed}
 use Rattle.mal_print.specs.StatementText.{fallback, fix, HasLabels, labelled, statement}
 use Rattle.mal_print.specs.Lines.{IsLineOf}
 use Rattle.mal_parser.specs.declared.statement.Statement.{Statement}
-use Rattle.mal_parser.specs.Program.{HasTargets, IsFallback, IsLabelled, IsProgram, label_at, Program}
+use Rattle.mal_parser.specs.Program.{HasTargets, IsFallback, IsLabelled, IsMalProgram, label_at, MalView}
 use Rattle.mal_parser.specs.ProgramText.{by_labels, canonical_lines, default_line, fix_line, labelled_line}
 use Rattle.mal_parser.specs.Text.{grammar}
 use Rattle.mal_parser.proofs.Printed.{ArePlain, plain_append}
@@ -45,7 +45,7 @@ default_content all s = said.Fallback (parts_for all s)
 abbrev pub statement_content : List Statement → Statement → Content
 statement_content all s = said.Statement s.label (parts_for all s)
 
-abbrev pub content_of : Program → List Content
+abbrev pub content_of : MalView → List Content
 content_of p = filter_map fix_content p.statements ++ (option_to_list (option_map (default_content p.statements) p.fallback) ++ map (statement_content p.statements) p.statements)
 
 -- ---- one line
@@ -99,7 +99,7 @@ pub record LinesSpell : Type 0 where
   pub fallbacks : (m : Machine) (p : Parts) → IsTrue (is_part m p.part) → HasLabels p.next → IsLineOf m (printed (fallback m p.part (labelled p.next))) (said.Fallback p)
   pub fixes : (m : Machine) (label : List ℕ) (address : ℕ) → IsLabelText label → address < 512 → IsLineOf m (printed (fix label address)) (said.Fix label (pos address))
 
-module _ (laws : LinesSpell) (p : Program) (h : IsProgram p) where
+module _ (laws : LinesSpell) (p : MalView) (h : IsMalProgram p) where
   label_text : (i : ℕ) (label : List ℕ) → label_at p.statements i ≡ Some label → IsLabelText label
   label_text i label e = go (slice_get p.statements i) refl e
     where

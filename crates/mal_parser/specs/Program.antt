@@ -9,7 +9,7 @@ use Rattle.mal_line.specs.Targets.{EachTarget}
 use Rattle.mal_parser.specs.declared.statement.Statement.{Statement}
 
 -- what contracts see of a program
-pub record Program : Type 0 where
+pub record MalView : Type 0 where
   pub machine : Machine
   pub statements : List Statement
   pub fallback : Option Statement
@@ -27,7 +27,7 @@ abbrev pub HasTargets : List Statement → Next ℕ → Type 0
 HasTargets statements next = EachTarget (IsLabelled statements) next
 
 -- the statement with this number may stand in the program
-pub record IsStatement (program : Program) (number : ℕ) (s : Statement) : Type 0 where
+pub record IsStatement (program : MalView) (number : ℕ) (s : Statement) : Type 0 where
   pub part : IsTrue (is_part program.machine s.part)
   pub targets : HasTargets program.statements s.next
   pub followed : s.next ≡ nexts.Following → number + 1 < length program.statements
@@ -35,7 +35,7 @@ pub record IsStatement (program : Program) (number : ℕ) (s : Statement) : Type
   pub fixed : IfSome s.fixed (λ address. (address < 512) × IsSome s.label)
 
 -- what unused words hold
-pub record IsFallback (program : Program) (s : Statement) : Type 0 where
+pub record IsFallback (program : MalView) (s : Statement) : Type 0 where
   pub part : IsTrue (is_part program.machine s.part)
   pub targets : HasTargets program.statements s.next
   pub leads : s.next ≡ nexts.Following → ⊥
@@ -43,7 +43,7 @@ pub record IsFallback (program : Program) (s : Statement) : Type 0 where
   pub fixed : s.fixed ≡ None
 
 -- 1 to 512 statements with different labels, each of which may stand there, and an entry labelled Main1
-pub record IsProgram (program : Program) : Type 0 where
+pub record IsMalProgram (program : MalView) : Type 0 where
   pub some : 0 < length program.statements
   pub few : length program.statements ≤ 512
   pub statements : (number : ℕ) (s : Statement) → slice_get program.statements number ≡ Some s → IsStatement program number s

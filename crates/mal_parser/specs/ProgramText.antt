@@ -11,9 +11,9 @@ use Rattle.mal_line.specs.Targets.{by_targets}
 use Rattle.mal_print.specs.declared.target.Target.{Target}
 use Rattle.mal_print.specs.declared.target.Target.TheVariants as targets
 use Rattle.mal_print.specs.Pieces.{printed}
-use Rattle.mal_print.specs.StatementText.{fallback, fix, or_semicolon, pieces, statement}
+use Rattle.mal_print.specs.StatementText.{fallback, fix, or_semicolon, printed_tokens, statement}
 use Rattle.mal_parser.specs.declared.statement.Statement.{Statement}
-use Rattle.mal_parser.specs.Program.{label_at, Program}
+use Rattle.mal_parser.specs.Program.{label_at, MalView}
 
 -- ---- where a statement goes next
 
@@ -24,7 +24,7 @@ by_label ss to = targets.Label (unwrap_or (label_at ss to) [])
 abbrev pub by_labels : List Statement → Next ℕ → Next Target
 by_labels ss next = by_targets (by_label ss) next
 
-abbrev pub next_by_labels : Program → Statement → Next Target
+abbrev pub next_by_labels : MalView → Statement → Next Target
 next_by_labels p s = by_labels p.statements s.next
 
 -- by their addresses
@@ -36,30 +36,30 @@ by_addresses (placed.Branch test low) = nexts.Branch test (targets.Address (low 
 -- ---- the texts of one statement
 
 -- its parts, `;` where it has none
-abbrev pub parts_of : Program → Statement → List ℕ
-parts_of p s = printed (or_semicolon (pieces p.machine s.part (next_by_labels p s)))
+abbrev pub parts_of : MalView → Statement → List ℕ
+parts_of p s = printed (or_semicolon (printed_tokens p.machine s.part (next_by_labels p s)))
 
 -- its label and its parts
-abbrev pub labelled_line : Program → Statement → List ℕ
+abbrev pub labelled_line : MalView → Statement → List ℕ
 labelled_line p s = printed (statement p.machine s.label s.part (next_by_labels p s))
 
 -- the same of the statement with a number
-abbrev pub parts_text : Program → ℕ → List ℕ
+abbrev pub parts_text : MalView → ℕ → List ℕ
 parts_text p s = unwrap_or (option_map (parts_of p) (slice_get p.statements s)) []
 
-abbrev pub statement_text : Program → ℕ → List ℕ
+abbrev pub statement_text : MalView → ℕ → List ℕ
 statement_text p s = unwrap_or (option_map (labelled_line p) (slice_get p.statements s)) []
 
 -- the parts of what unused words hold
-abbrev pub fallback_of : Program → Statement → List ℕ
-fallback_of p s = printed (pieces p.machine s.part (next_by_labels p s))
+abbrev pub fallback_of : MalView → Statement → List ℕ
+fallback_of p s = printed (printed_tokens p.machine s.part (next_by_labels p s))
 
-abbrev pub fallback_text : Program → List ℕ
+abbrev pub fallback_text : MalView → List ℕ
 fallback_text p = unwrap_or (option_map (fallback_of p) p.fallback) []
 
 -- the parts of a placed statement, with targets as `0xAAA`
 abbrev pub placed_text : Machine → Placed → List ℕ
-placed_text machine p = printed (pieces machine p.part (by_addresses p.next))
+placed_text machine p = printed (printed_tokens machine p.part (by_addresses p.next))
 
 -- ---- the text of a program
 
@@ -68,10 +68,10 @@ abbrev pub fix_line : Statement → Option (List ℕ)
 fix_line s = option_and_then (λ label. option_map (λ address. printed (fix label address)) s.fixed) s.label
 
 -- `.default PARTS`
-abbrev pub default_line : Program → Statement → List ℕ
+abbrev pub default_line : MalView → Statement → List ℕ
 default_line p s = printed (fallback p.machine s.part (next_by_labels p s))
 
-abbrev pub canonical_lines : Program → List (List ℕ)
+abbrev pub canonical_lines : MalView → List (List ℕ)
 canonical_lines p = filter_map fix_line p.statements ++ (option_to_list (option_map (default_line p) p.fallback) ++ map (labelled_line p) p.statements)
 
 -- each line with a newline behind it
@@ -79,7 +79,7 @@ abbrev pub text_of : List (List ℕ) → List ℕ
 text_of [] = []
 text_of (l ∷ ls) = l ++ 10 ∷ text_of ls
 
-abbrev pub canonical_text : Program → List ℕ
+abbrev pub canonical_text : MalView → List ℕ
 canonical_text p = text_of (canonical_lines p)
 
 -- ---- line numbers
@@ -92,11 +92,11 @@ abbrev pub on_lines : ℕ → List Statement → List Statement
 on_lines k [] = []
 on_lines k (s ∷ ss) = on_line k s ∷ on_lines (k + 1) ss
 
-abbrev pub fix_count : Program → ℕ
+abbrev pub fix_count : MalView → ℕ
 fix_count p = length (filter_map fix_line p.statements)
 
 -- the program with the line numbers that its canonical text gives it
-abbrev pub relined : Program → Program
+abbrev pub relined : MalView → MalView
 relined p = record {
   machine = p.machine;
   statements = on_lines (1 + fix_count p + length (option_to_list p.fallback)) p.statements;

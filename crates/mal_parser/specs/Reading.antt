@@ -27,7 +27,7 @@ use Rattle.mal_parser.specs.declared.source.Draft.{Draft}
 use Rattle.mal_parser.specs.declared.source.Fix.{Fix}
 use Rattle.mal_parser.specs.declared.statement.Statement.{Statement}
 use Rattle.mal_parser.specs.Labels.{address_of, AreDistinct, has_fix, has_label, has_name, is_labelled, labels_of}
-use Rattle.mal_parser.specs.Program.{Program}
+use Rattle.mal_parser.specs.Program.{MalView}
 use Rattle.mal_parser.specs.Text.{fallbacks, falls, fixes, is_memory, refusals, statements}
 
 -- a line is read as what it spells, as the crates below say by their laws
@@ -138,11 +138,11 @@ first_falling s = earlier (falling (slice_get s.statements (length s.statements 
 abbrev pub number_of : List Draft → List ℕ → Option ℕ
 number_of ds label = position (is_labelled label) ds
 
-abbrev pub target : List Draft → List ℕ → ℕ
-target ds label = unwrap_or (number_of ds label) 0
+abbrev pub target_number : List Draft → List ℕ → ℕ
+target_number ds label = unwrap_or (number_of ds label) 0
 
 abbrev pub resolved_next : List Draft → Next (List ℕ) → Next ℕ
-resolved_next ds next = by_targets (target ds) next
+resolved_next ds next = by_targets (target_number ds) next
 
 abbrev pub address_at : List Fix → List ℕ → Option ℕ
 address_at fs label = option_map (λ f. f.address) (find (λ f. bytes_eq f.label label) fs)
@@ -154,7 +154,7 @@ fixed_of fs label = option_and_then (address_at fs) label
 abbrev pub resolved : List Draft → List Fix → Draft → Statement
 resolved ds fs d = record { label = d.label; line = d.line; part = d.parts.part; next = resolved_next ds d.parts.next; fixed = fixed_of fs d.label }
 
-abbrev pub program_with : Sketch → ℕ → Program
+abbrev pub program_with : Sketch → ℕ → MalView
 program_with s entry = record {
   machine = s.machine;
   statements = map (resolved s.statements s.fixes) s.statements;
@@ -165,25 +165,25 @@ program_with s entry = record {
 abbrev pub main1 : List ℕ
 main1 = codes "Main1"
 
-abbrev pub by_entry : Sketch → Option ℕ → Result Program MalError
+abbrev pub by_entry : Sketch → Option ℕ → Result MalView MalError
 by_entry s None = Err errors.NoEntry
 by_entry s (Some entry) = Ok (program_with s entry)
 
-abbrev pub by_falling : Sketch → Option ℕ → Result Program MalError
+abbrev pub by_falling : Sketch → Option ℕ → Result MalView MalError
 by_falling s (Some line) = Err (errors.LastFalls line)
 by_falling s None = by_entry s (number_of s.statements main1)
 
-abbrev pub by_unknown : Sketch → Option ℕ → Result Program MalError
+abbrev pub by_unknown : Sketch → Option ℕ → Result MalView MalError
 by_unknown s (Some line) = Err (errors.UnknownLabel line)
 by_unknown s None = by_falling s (first_falling s)
 
 -- the program, or the first refusal of the whole source
-unfoldable pub resolved_program : Sketch → Result Program MalError
+unfoldable pub resolved_program : Sketch → Result MalView MalError
 resolved_program s = by_unknown s (first_unknown s)
 
 -- ---- how a text is read
 
-abbrev pub parser : Parser Token LineFault Content Program MalError Sketch
+abbrev pub parser : Parser Token LineFault Content MalView MalError Sketch
 parser = record {
   tokens = read;
   said = λ s ts. line_from s.machine ts;

@@ -19,7 +19,7 @@ use Rattle.mal_parser.specs.declared.source.Draft.{Draft}
 use Rattle.mal_parser.specs.declared.source.Fix.{Fix}
 use Rattle.mal_parser.specs.declared.statement.Statement.{Statement}
 use Rattle.mal_parser.specs.Labels.{address_of, AreDistinct, has_fix, has_label, has_name, labels_of}
-use Rattle.mal_parser.specs.Program.{IsProgram, label_at, Program}
+use Rattle.mal_parser.specs.Program.{IsMalProgram, label_at, MalView}
 
 -- ---- what the lines say
 
@@ -69,12 +69,13 @@ pub record IsFine (cs : List Content) : Type 0 where
 -- ---- the program of what the lines say
 
 -- each name stands for the number of the statement with that label
-abbrev pub Leads : List Statement → Next (List ℕ) → Next ℕ → Type 0
-Leads ss nexts.Following nexts.Following = Unit {0}
-Leads ss (nexts.Goto label) (nexts.Goto to) = label_at ss to ≡ Some label
-Leads ss (nexts.Dispatch high) (nexts.Dispatch other) = high ≡ other
-Leads ss (nexts.Branch test high low) (nexts.Branch other to_high to_low) = (test ≡ other) × (label_at ss to_high ≡ Some high) × (label_at ss to_low ≡ Some low)
-Leads ss _ _ = ⊥
+abbrev pub IsResolvedNext : List Statement → Next (List ℕ) → Next ℕ → Type 0
+IsResolvedNext ss nexts.Following nexts.Following = Unit {0}
+IsResolvedNext ss (nexts.Goto label) (nexts.Goto to) = label_at ss to ≡ Some label
+IsResolvedNext ss (nexts.Dispatch high) (nexts.Dispatch other) = high ≡ other
+IsResolvedNext ss (nexts.Branch test high low) (nexts.Branch other to_high to_low) = (test ≡ other) × (label_at ss to_high ≡ Some high)
+    × (label_at ss to_low ≡ Some low)
+IsResolvedNext ss _ _ = ⊥
 
 -- the address that a `.label` line gives a statement with this label, where one does
 abbrev pub IsFixedBy : List Fix → Option (List ℕ) → Option ℕ → Type 0
@@ -86,7 +87,7 @@ pub record IsResolved (ss : List Statement) (fs : List Fix) (d : Draft) (s : Sta
   pub label : s.label ≡ d.label
   pub line : s.line ≡ d.line
   pub part : s.part ≡ d.parts.part
-  pub next : Leads ss d.parts.next s.next
+  pub next : IsResolvedNext ss d.parts.next s.next
   pub fixed : IsFixedBy fs d.label s.fixed
 
 abbrev pub AreResolved : List Statement → List Fix → List Draft → List Statement → Type 0
@@ -94,12 +95,12 @@ AreResolved ss fs [] [] = Unit {0}
 AreResolved ss fs (d ∷ ds) (s ∷ rest) = IsResolved ss fs d s × AreResolved ss fs ds rest
 AreResolved ss fs _ _ = ⊥
 
-pub record IsProgramOf (machine : Machine) (cs : List Content) (p : Program) : Type 0 where
+pub record IsProgramOf (machine : Machine) (cs : List Content) (p : MalView) : Type 0 where
   pub machine_is : p.machine ≡ machine
   pub statements_are : AreResolved p.statements (fixes cs) (statements cs) p.statements
   pub fallback_is : AreResolved p.statements (fixes cs) (fallbacks cs) (option_to_list p.fallback)
   pub fixes_known : list_all (λ f. has_label (statements cs) f.label) (fixes cs) ≡ true
-  pub whole : IsProgram p
+  pub whole : IsMalProgram p
 
 -- ---- refusals
 
@@ -183,7 +184,7 @@ AreRefused cs _ = ⊥
 
 -- ---- the language
 
-abbrev pub grammar : Machine → Grammar Token LineFault Content Program MalError
+abbrev pub grammar : Machine → Grammar Token LineFault Content MalView MalError
 grammar machine = record {
   lexicon = mal;
   refusals = refusals;
@@ -196,7 +197,7 @@ grammar machine = record {
 }
 
 -- a text spells a program where its lines, one by one, spell the statements, and each name stands for the number of the statement with that label
-abbrev pub SpellsProgram : Machine → List ℕ → Program → Type 0
+abbrev pub SpellsProgram : Machine → List ℕ → MalView → Type 0
 SpellsProgram machine = text.SpellsProgram (grammar machine)
 
 -- the first refusal of a text

@@ -4,7 +4,7 @@ ghost use Rattle.std.specs.Prelude.{◌≡◌, ℕ, List};
 ghost use Rattle.mic_words.specs.declared.machine.Machine.{Machine};
 ghost use Rattle.mal_parser.specs.declared.error.MalError.{MalError};
 ghost use Rattle.mal_parser.specs.ProgramText.{canonical_text, relined};
-ghost use Rattle.mal_parser.specs.Program.{IsProgram, Program};
+ghost use Rattle.mal_parser.specs.Program.{IsMalProgram, MalView};
 ghost use Rattle.mal_parser.specs.Reading.{empty, parser, ReadsLines};
 ghost use Rattle.mal_parser.specs.Text.{grammar, IsRefused, SpellsProgram};
 ghost use Rattle.source_text.specs.Parsing.{IsReadAsSpelled};
@@ -30,8 +30,8 @@ pub(crate) fn reads_texts()
 
 /// A text spells at most one program, and not also a refusal, of which it has at most one.
 pub fn reads_what_is_spelled()
-    ensures one { (machine : Machine) (text : List ℕ) (p q : Program) → SpellsProgram machine text p → SpellsProgram machine text q → p ≡ q }
-    ensures apart { (machine : Machine) (text : List ℕ) (p : Program) (e : MalError) → SpellsProgram machine text p → IsRefused machine text e → ⊥ }
+    ensures one { (machine : Machine) (text : List ℕ) (p q : MalView) → SpellsProgram machine text p → SpellsProgram machine text q → p ≡ q }
+    ensures apart { (machine : Machine) (text : List ℕ) (p : MalView) (e : MalError) → SpellsProgram machine text p → IsRefused machine text e → ⊥ }
     ensures first { (machine : Machine) (text : List ℕ) (e f : MalError) → IsRefused machine text e → IsRefused machine text f → e ≡ f }
 {
     reads_texts();
@@ -39,7 +39,7 @@ pub fn reads_what_is_spelled()
 
 /// The canonical text of a program spells that program, with the lines of that text as its line numbers.
 pub fn canonical_text_spells_its_program()
-    ensures { (p : Program) → IsProgram p → SpellsProgram p.machine (canonical_text p) (relined p) }
+    ensures { (p : MalView) → IsMalProgram p → SpellsProgram p.machine (canonical_text p) (relined p) }
 {
     lines_spell_what_is_printed();
 }

@@ -1,7 +1,7 @@
 //! From a text to its program.
 
 ghost use Rattle.std.specs.Prelude.{◌≡◌, ◌⊎◌, ◌<◌, ◌^◌, length, IfOk, IfErr, Ok, Err, false};
-ghost use Rattle.mal_parser.specs.Program.{Program};
+ghost use Rattle.mal_parser.specs.Program.{MalView};
 ghost use Rattle.mal_parser.specs.Text.{IsRefused, is_memory, SpellsProgram};
 
 use crate::error::MalError;
@@ -33,7 +33,7 @@ pub fn parse_mal(alloc: Global, machine: Machine, text: &[u8]) -> Result<MalProg
     requires { length text.now < 2 ^ 32 }
     ensures ok { IfOk result (SpellsProgram machine text.now) }
     ensures err { IfErr result (λ e. is_memory e ≡ false → IsRefused machine text.now e) }
-    ensures spelled { (p : Program) → SpellsProgram machine text.now p → (result ≡ Ok p) ⊎ (result ≡ Err MalError.OutOfMemory) }
+    ensures spelled { (p : MalView) → SpellsProgram machine text.now p → (result ≡ Ok p) ⊎ (result ≡ Err MalError.OutOfMemory) }
     ensures refused { (e : MalError) → IsRefused machine text.now e → (result ≡ Err e) ⊎ (result ≡ Err MalError.OutOfMemory) }
 {
     reads_texts();

@@ -3,7 +3,7 @@
 ghost use Rattle.std.specs.Prelude.{◌≡◌, ◌≤◌, ◌<◌, ◌+◌, ◌++◌, ◌∷◌, [], length, map, slice_get, option_map, option_and_then, option_to_list, IsSome, IsTrue, Some, IfOk, OnOk};
 ghost use Rattle.std.specs.List.{filter_map};
 ghost use Rattle.micro_word.specs.Words.{is_next, is_valid};
-ghost use Rattle.mal_parser.specs.Program.{HasTargets, IsLabelled, IsProgram};
+ghost use Rattle.mal_parser.specs.Program.{HasTargets, IsLabelled, IsMalProgram};
 ghost use Rattle.mal_parser.specs.ProgramText.{by_addresses, by_label, by_labels, canonical_text, default_line, fallback_text, fix_line, labelled_line, parts_text, placed_text, relined, statement_text, text_of};
 ghost use Rattle.mal_parser.specs.Text.{SpellsProgram};
 
@@ -154,7 +154,7 @@ fn add_default(program: &MalProgram, text: &mut Vec<u8>) -> Result<(), AllocErro
 
 fn add_statements(program: &MalProgram, text: &mut Vec<u8>) -> Result<(), AllocError>
     ensures text { OnOk result (text.new.items ≡ text.old.items ++ text_of (map (labelled_line program.now) program.now.statements)) }
-    ensures program { IsProgram program.now }
+    ensures program { IsMalProgram program.now }
 {
     for s in 0..program.len() {
         let mut line = Line::new();

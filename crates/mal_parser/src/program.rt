@@ -1,7 +1,7 @@
-//! Programs.
+//! A microprogram as it is read: statements that lead by numbers, not yet placed; its type keeps that each may stand there.
 
 ghost use Rattle.std.specs.Prelude.{◌≡◌, ◌<◌, length, slice_get, option_copied, IfSome, Some};
-ghost use Rattle.mal_parser.specs.Program.{IsFallback, IsProgram, IsStatement};
+ghost use Rattle.mal_parser.specs.Program.{IsFallback, IsMalProgram, IsStatement};
 
 use crate::statement::Statement;
 use micro_word::Machine;
@@ -17,13 +17,13 @@ pub struct MalProgram {
 }
 
 impl Model for MalProgram {
-    ghost use Rattle.mal_parser.specs.Program.{Program, IsProgram};
+    ghost use Rattle.mal_parser.specs.Program.{MalView, IsMalProgram};
 
-    ghost Value = { Program };
+    ghost Value = { MalView };
 
     ghost view = { λ p. record { machine = p.machine; statements = p.statements.items; fallback = p.fallback; entry = p.entry } };
 
-    ghost invariant = { λ p. IsProgram (record { machine = p.machine; statements = p.statements.items; fallback = p.fallback; entry = p.entry }) };
+    ghost invariant = { λ p. IsMalProgram (record { machine = p.machine; statements = p.statements.items; fallback = p.fallback; entry = p.entry }) };
 }
 
 impl MalProgram {
@@ -33,7 +33,7 @@ impl MalProgram {
         fallback: Option<Statement>,
         entry: u16,
     ) -> MalProgram
-        requires { IsProgram (record { machine = machine; statements = statements.items; fallback = fallback; entry = entry }) }
+        requires { IsMalProgram (record { machine = machine; statements = statements.items; fallback = fallback; entry = entry }) }
         ensures { result ≡ record { machine = machine; statements = statements.items; fallback = fallback; entry = entry } }
     {
         MalProgram {
@@ -53,7 +53,7 @@ impl MalProgram {
     /// The number of statements.
     pub fn len(&self) -> u16
         ensures count { result ≡ length self.now.statements }
-        ensures program { IsProgram self.now }
+        ensures program { IsMalProgram self.now }
     {
         self.statements.len() as u16
     }
@@ -92,7 +92,7 @@ impl MalProgram {
     /// The number of the statement labelled Main1.
     pub fn entry(&self) -> u16
         ensures is { result ≡ self.now.entry }
-        ensures program { IsProgram self.now }
+        ensures program { IsMalProgram self.now }
     {
         self.entry
     }

@@ -4,7 +4,7 @@ ghost use Rattle.std.specs.Prelude.{◌≡◌, ◌≤◌, ◌<◌, ◌-◌, leng
 ghost use Rattle.std.specs.List.{position};
 ghost use Rattle.mal_parser.specs.Labels.{has_label, is_labelled};
 ghost use Rattle.mal_parser.specs.Text.{falls};
-ghost use Rattle.mal_parser.specs.Reading.{address_at, earlier, FailsBy, falling, first_falling, first_unknown, fixed_of, IsSound, knows, main1, resolved_next, number_of, resolved_program, resolved, target, unknown_draft, unknown_fix, unknown_in};
+ghost use Rattle.mal_parser.specs.Reading.{address_at, earlier, FailsBy, falling, first_falling, first_unknown, fixed_of, IsSound, knows, main1, resolved_next, number_of, resolved_program, resolved, target_number, unknown_draft, unknown_fix, unknown_in};
 
 use crate::drafts::Drafts;
 use crate::error::MalError;
@@ -97,9 +97,9 @@ fn last_of(drafts: &Drafts) -> Option<Draft>
     drafts.as_slice().last().copied()
 }
 
-fn target(drafts: &Drafts, label: &Name) -> u16
+fn target_number(drafts: &Drafts, label: &Name) -> u16
     requires { length drafts.now ≤ 512 }
-    ensures { result ≡ target drafts.now label.now }
+    ensures { result ≡ target_number drafts.now label.now }
 {
     drafts.number_of(label).unwrap_or(0) as u16
 }
@@ -110,12 +110,12 @@ fn resolved_next(drafts: &Drafts, next: &Next<Name>) -> MalNext
 {
     match next {
         Next::Following => Next::Following,
-        Next::Goto(label) => Next::Goto(target(drafts, label)),
+        Next::Goto(label) => Next::Goto(target_number(drafts, label)),
         Next::Dispatch { high } => Next::Dispatch { high: *high },
         Next::Branch { test, yes, no } => Next::Branch {
             test: *test,
-            yes: target(drafts, yes),
-            no: target(drafts, no),
+            yes: target_number(drafts, yes),
+            no: target_number(drafts, no),
         },
     }
 }

@@ -209,7 +209,7 @@ impl LineLanguage for SourceReader {
     ghost use Rattle.mal_line.specs.declared.line.LineFault.{LineFault};
     ghost use Rattle.mal_line.specs.declared.content.Content.{Content};
     ghost use Rattle.mal_parser.specs.declared.error.MalError.{MalError};
-    ghost use Rattle.mal_parser.specs.Program.{Program};
+    ghost use Rattle.mal_parser.specs.Program.{MalView};
     ghost use Rattle.mal_parser.specs.Reading.{empty, parser, Sketch};
     ghost use Rattle.mal_parser.specs.Text.{grammar};
 
@@ -221,7 +221,7 @@ impl LineLanguage for SourceReader {
 
     ghost Content = { Content };
 
-    ghost Program = { Program };
+    ghost Program = { MalView };
 
     ghost Refusal = { MalError };
 

@@ -26,8 +26,8 @@ use Rattle.mal_line.specs.declared.next.Next.TheVariants as nexts
 use Rattle.mal_line.specs.Targets.{EachTarget}
 use Rattle.mal_print.specs.declared.target.Target.{Target}
 use Rattle.mal_print.specs.declared.target.Target.TheVariants as targets
-use Rattle.mal_print.specs.Pieces.{behind_space, number, Piece, sign, spaced, word}
-use Rattle.mal_print.specs.StatementText.{chain, chain_part, dest_pieces, dests_of, dispatch_part, else_part, expression, fallback, fetch_part, fix, goto_part, heads, if_part, is_absent, joined_behind, or_semicolon, memory_part, next_parts, parts, pieces, plus_one, shifted, side, statement, target, value}
+use Rattle.mal_print.specs.Pieces.{behind_space, number, PrintedToken, sign, spaced, word}
+use Rattle.mal_print.specs.StatementText.{chain, chain_part, dest_pieces, dests_of, dispatch_part, else_part, expression, fallback, fetch_part, fix, goto_part, heads, if_part, is_absent, joined_behind, or_semicolon, memory_part, next_parts, parts, printed_tokens, plus_one, shifted, side, statement, target, value}
 use Rattle.mal_print.proofs.Spelling.{apart, apart_any, apart_append, apart_spaced, apart_weak, AreLexemes, lexemes_append, lexemes_spaced}
 
 pub all_append : {A : Type 0} (p : A → Bool) (xs ys : List A) → list_all p xs ≡ true → list_all p ys ≡ true → list_all p (xs ++ ys) ≡ true
@@ -35,17 +35,17 @@ all_append p [] ys h g = g
 all_append p (x ∷ xs) ys h g = let t = and_parts (p x) (list_all p xs) h in ap (λ b. b && list_all p (xs ++ ys)) t.0 ∙ all_append p xs ys t.1 g
 
 -- pieces that may stand after a word or not, and what spells them
-pub record IsFine (after : Bool) (ps : List Piece) : Type 0 where
+pub record IsFine (after : Bool) (ps : List PrintedToken) : Type 0 where
   pub apart : apart after ps ≡ true
   pub lexemes : AreLexemes ps
 
-fine_append : (b : Bool) (ps qs : List Piece) → IsFine b ps → IsFine true qs → IsFine b (ps ++ qs)
+fine_append : (b : Bool) (ps qs : List PrintedToken) → IsFine b ps → IsFine true qs → IsFine b (ps ++ qs)
 fine_append b ps qs h g = record { apart = apart_append b ps qs h.apart g.apart; lexemes = lexemes_append ps qs h.lexemes g.lexemes }
 
-fine_any : (b : Bool) (ps : List Piece) → IsFine true ps → IsFine b ps
+fine_any : (b : Bool) (ps : List PrintedToken) → IsFine true ps → IsFine b ps
 fine_any b ps h = record { apart = apart_any b ps h.apart; lexemes = h.lexemes }
 
-fine_spaced : (ps : List Piece) → IsFine false ps → IsFine true (behind_space ps)
+fine_spaced : (ps : List PrintedToken) → IsFine false ps → IsFine true (behind_space ps)
 fine_spaced ps h = record { apart = apart_spaced ps h.apart; lexemes = lexemes_spaced ps h.lexemes }
 
 fine_none : IsFine true []
@@ -57,16 +57,16 @@ fine_side : (o : Option BusSource) → IsFine false (side o)
 fine_side None = record { apart = refl; lexemes = tt }
 fine_side (Some x) = record { apart = refl; lexemes = (refl, tt) }
 
-fine_word : (w : Word) (ps : List Piece) → IsFine true ps → IsFine false (word w ∷ ps)
+fine_word : (w : Word) (ps : List PrintedToken) → IsFine true ps → IsFine false (word w ∷ ps)
 fine_word w ps h = record { apart = h.apart; lexemes = (refl, h.lexemes) }
 
-fine_spaced_word : (w : Word) (ps : List Piece) → IsFine true ps → IsFine true (spaced (word w) ∷ ps)
+fine_spaced_word : (w : Word) (ps : List PrintedToken) → IsFine true ps → IsFine true (spaced (word w) ∷ ps)
 fine_spaced_word w ps h = record { apart = h.apart; lexemes = (refl, h.lexemes) }
 
-fine_plus : (ps : List Piece) → IsFine false ps → IsFine true (sign signs.Plus ∷ ps)
+fine_plus : (ps : List PrintedToken) → IsFine false ps → IsFine true (sign signs.Plus ∷ ps)
 fine_plus ps h = record { apart = h.apart; lexemes = (refl, h.lexemes) }
 
-fine_minus : (ps : List Piece) → IsFine false ps → IsFine true (sign signs.Minus ∷ ps)
+fine_minus : (ps : List PrintedToken) → IsFine false ps → IsFine true (sign signs.Minus ∷ ps)
 fine_minus ps h = record { apart = h.apart; lexemes = (refl, h.lexemes) }
 
 fine_one : IsFine false (number (pos 1) (codes "1") ∷ [])
@@ -105,7 +105,7 @@ fine_shift shifts.Right1 = record { apart = refl; lexemes = (refl, ((refl, refl,
 fine_value : (part : Part) → IsFine false (value part)
 fine_value part = fine_append false (expression part.op (side part.a) (side part.b)) (shifted part.shift) (fine_expression part.op part.a part.b) (fine_shift part.shift)
 
-fine_dests : (ws : List Word) (ps : List Piece) → IsFine false ps → IsFine false (dest_pieces ws ++ ps)
+fine_dests : (ws : List Word) (ps : List PrintedToken) → IsFine false ps → IsFine false (dest_pieces ws ++ ps)
 fine_dests [] ps h = h
 fine_dests (w ∷ ws) ps h =
     let r = fine_dests ws ps h in
@@ -146,7 +146,7 @@ fine_dispatch m true = record { apart = refl; lexemes = (refl, (refl, (refl, (re
 
 -- ---- all parts
 
-abbrev pub AreFine : List (List Piece) → Type 0
+abbrev pub AreFine : List (List PrintedToken) → Type 0
 AreFine [] = Unit {0}
 AreFine (p ∷ ps) = IsFine false p × AreFine ps
 
@@ -156,16 +156,16 @@ fine_next m (nexts.Goto to) h = (fine_goto to h, tt)
 fine_next m (nexts.Dispatch high) h = (fine_dispatch m high, tt)
 fine_next m (nexts.Branch test high low) h = (fine_if test high h.0, (fine_else low h.1, tt))
 
-fine_fetch : (fetch : Bool) (ps : List (List Piece)) → AreFine ps → AreFine (fetch_part fetch ++ ps)
+fine_fetch : (fetch : Bool) (ps : List (List PrintedToken)) → AreFine ps → AreFine (fetch_part fetch ++ ps)
 fine_fetch false ps h = h
 fine_fetch true ps h = (fine_word words.Fetch [] fine_none, h)
 
-fine_memory : (mem : Mem) (ps : List (List Piece)) → AreFine ps → AreFine (memory_part mem ++ ps)
+fine_memory : (mem : Mem) (ps : List (List PrintedToken)) → AreFine ps → AreFine (memory_part mem ++ ps)
 fine_memory mems.None ps h = h
 fine_memory mems.Read ps h = (fine_word words.Rd [] fine_none, h)
 fine_memory mems.Write ps h = (fine_word words.Wr [] fine_none, h)
 
-fine_chained : (part : Part) (next : Next Target) (ps : List (List Piece)) → AreFine ps → AreFine (chain_part part next ++ ps)
+fine_chained : (part : Part) (next : Next Target) (ps : List (List PrintedToken)) → AreFine ps → AreFine (chain_part part next ++ ps)
 fine_chained part next ps h = go (is_absent part)
   where
     go : (absent : Bool) → AreFine (cond absent [] (chain part next ∷ []) ++ ps)
@@ -177,34 +177,34 @@ fine_parts m part next h =
     fine_chained part next (memory_part part.mem ++ (fetch_part part.fetch ++ next_parts m next))
     (fine_memory part.mem (fetch_part part.fetch ++ next_parts m next) (fine_fetch part.fetch (next_parts m next) (fine_next m next h)))
 
-fine_others : (ps : List (List Piece)) → AreFine ps → IsFine true (joined_behind true ps)
+fine_others : (ps : List (List PrintedToken)) → AreFine ps → IsFine true (joined_behind true ps)
 fine_others [] h = fine_none
 fine_others (p ∷ ps) h =
     let r = fine_append true (behind_space p) (joined_behind true ps) (fine_spaced p h.0) (fine_others ps h.1) in
     record { apart = apart_weak (behind_space p ++ joined_behind true ps) r.apart; lexemes = (refl, r.lexemes) }
 
-fine_joined : (ps : List (List Piece)) → AreFine ps → IsFine false (joined_behind false ps)
+fine_joined : (ps : List (List PrintedToken)) → AreFine ps → IsFine false (joined_behind false ps)
 fine_joined [] h = fine_any false [] fine_none
 fine_joined (p ∷ ps) h = fine_append false p (joined_behind true ps) h.0 (fine_others ps h.1)
 
 -- the parts of a statement in canonical text
-pub fine_pieces : (m : Machine) (part : Part) (next : Next Target) → AreLabels next → IsFine false (pieces m part next)
+pub fine_pieces : (m : Machine) (part : Part) (next : Next Target) → AreLabels next → IsFine false (printed_tokens m part next)
 fine_pieces m part next h = fine_joined (parts m part next) (fine_parts m part next h)
 
-fine_lone : (ps : List Piece) → IsFine false ps → IsFine false (or_semicolon ps)
+fine_lone : (ps : List PrintedToken) → IsFine false ps → IsFine false (or_semicolon ps)
 fine_lone [] h = record { apart = refl; lexemes = (refl, tt) }
 fine_lone (p ∷ ps) h = h
 
 -- a statement in canonical text
 pub fine_statement : (m : Machine) (label : Option (List ℕ)) (part : Part) (next : Next Target) → IfSome label IsLabelText → AreLabels next → IsFine false (statement m label part next)
-fine_statement m None part next l h = fine_lone (pieces m part next) (fine_pieces m part next h)
+fine_statement m None part next l h = fine_lone (printed_tokens m part next) (fine_pieces m part next h)
 fine_statement m (Some label) part next l h =
-    let r = fine_spaced (pieces m part next) (fine_pieces m part next h) in
+    let r = fine_spaced (printed_tokens m part next) (fine_pieces m part next h) in
     record { apart = r.apart; lexemes = ((refl, l), r.lexemes) }
 
 pub fine_fallback : (m : Machine) (part : Part) (next : Next Target) → AreLabels next → IsFine false (fallback m part next)
 fine_fallback m part next h =
-    let r = fine_spaced (pieces m part next) (fine_pieces m part next h) in
+    let r = fine_spaced (printed_tokens m part next) (fine_pieces m part next h) in
     record { apart = r.apart; lexemes = (refl, r.lexemes) }
 
 -- ---- addresses

@@ -30,14 +30,14 @@ use Rattle.mal_line.specs.Expressions as table
 use Rattle.mal_line.specs.Expressions.{fits, source_word, spelling, tail_with}
 use Rattle.mal_line.specs.Chains.{dest_bits, dest_tokens, is_dest, is_expr, is_expr_word, is_filled, IsAssignment, tail_tokens}
 use Rattle.mal_print.specs.declared.target.Target.{Target}
-use Rattle.mal_print.specs.Pieces.{behind_space, number, Piece, sign, spaced, tokens_of, word}
+use Rattle.mal_print.specs.Pieces.{behind_space, number, PrintedToken, sign, spaced, tokens_of, word}
 use Rattle.mal_print.specs.StatementText.{all_dests, chain, dest_pieces, dests_of, expression, has_dest, heads, is_absent, is_nothing, is_unshifted, is_zero, plus_one, shifted, side, tested, value}
 
-pub tokens_append : (ps qs : List Piece) → tokens_of (ps ++ qs) ≡ tokens_of ps ++ tokens_of qs
+pub tokens_append : (ps qs : List PrintedToken) → tokens_of (ps ++ qs) ≡ tokens_of ps ++ tokens_of qs
 tokens_append [] qs = refl
 tokens_append (p ∷ ps) qs = ap (λ ts. p.token ∷ ts) (tokens_append ps qs)
 
-pub tokens_spaced : (ps : List Piece) → tokens_of (behind_space ps) ≡ tokens_of ps
+pub tokens_spaced : (ps : List PrintedToken) → tokens_of (behind_space ps) ≡ tokens_of ps
 tokens_spaced [] = refl
 tokens_spaced (p ∷ ps) = refl
 
@@ -103,7 +103,7 @@ heads_bits : (ws : List Word) (next : Next Target) → dest_bits 0 (heads ws nex
 heads_bits [] next = tested_bit next
 heads_bits (w ∷ ws) next = refl
 
-dests_tokens : (ws : List Word) (ps : List Piece) → tokens_of (dest_pieces ws ++ ps) ≡ dest_tokens ws ++ tokens_of ps
+dests_tokens : (ws : List Word) (ps : List PrintedToken) → tokens_of (dest_pieces ws ++ ps) ≡ dest_tokens ws ++ tokens_of ps
 dests_tokens [] ps = refl
 dests_tokens (w ∷ ws) ps = ap (λ ts. tokens.Word w ∷ tokens.Sign signs.Equals ∷ ts) (dests_tokens ws ps)
 
@@ -117,7 +117,7 @@ spaced_side_tokens : (o : Option BusSource) → tokens_of (behind_space (side o)
 spaced_side_tokens None = refl
 spaced_side_tokens (Some x) = refl
 
-between : (a : Option BusSource) (ps : List Piece) (ts : List Token) → tokens_of ps ≡ ts → tokens_of (side a ++ ps) ≡ table.side a ++ ts
+between : (a : Option BusSource) (ps : List PrintedToken) (ts : List Token) → tokens_of ps ≡ ts → tokens_of (side a ++ ps) ≡ table.side a ++ ts
 between None ps ts h = h
 between (Some x) ps ts h = ap (λ ts. tokens.Word (source_word x) ∷ ts) h
 

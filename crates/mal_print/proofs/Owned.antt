@@ -29,8 +29,8 @@ use Rattle.mal_line.specs.Expressions.{source_word, spelling, tail_with}
 use Rattle.mal_line.specs.Chains.{dest_tokens, tail_tokens}
 use Rattle.mal_line.specs.Lines.{is_foreign, is_foreign_word, names_foreign}
 use Rattle.mal_print.specs.declared.target.Target.{Target}
-use Rattle.mal_print.specs.Pieces.{behind_space, Piece, tokens_of}
-use Rattle.mal_print.specs.StatementText.{all_dests, chain, chain_part, dests_of, fetch_part, has_dest, heads, is_absent, joined_behind, labelled, or_semicolon, memory_part, next_parts, parts, pieces, tested}
+use Rattle.mal_print.specs.Pieces.{behind_space, PrintedToken, tokens_of}
+use Rattle.mal_print.specs.StatementText.{all_dests, chain, chain_part, dests_of, fetch_part, has_dest, heads, is_absent, joined_behind, labelled, or_semicolon, memory_part, next_parts, parts, printed_tokens, tested}
 use Rattle.mal_print.proofs.Chained.{chain_tokens, filtered, Fits, tokens_append, tokens_spaced}
 
 -- none of the tokens is a word of the other machine
@@ -144,7 +144,7 @@ own_chain m part next h =
 
 -- ---- all parts
 
-abbrev pub AreOwn : Machine → List (List Piece) → Type 0
+abbrev pub AreOwn : Machine → List (List PrintedToken) → Type 0
 AreOwn m [] = Unit {0}
 AreOwn m (p ∷ ps) = are_own m (tokens_of p) × AreOwn m ps
 
@@ -161,19 +161,19 @@ own_next Mic1 (nexts.Branch tests.Z high low) = (refl, (refl, tt))
 own_next Mic2 (nexts.Branch tests.N high low) = (refl, (refl, tt))
 own_next Mic2 (nexts.Branch tests.Z high low) = (refl, (refl, tt))
 
-own_fetch : (m : Machine) (fetch : Bool) (ps : List (List Piece)) → may_fetch m fetch ≡ true → AreOwn m ps → AreOwn m (fetch_part fetch ++ ps)
+own_fetch : (m : Machine) (fetch : Bool) (ps : List (List PrintedToken)) → may_fetch m fetch ≡ true → AreOwn m ps → AreOwn m (fetch_part fetch ++ ps)
 own_fetch m false ps e h = h
 own_fetch Mic1 true ps e h = (refl, h)
 own_fetch Mic2 true ps e h = absurd (cc)
 
-own_memory : (m : Machine) (mem : Mem) (ps : List (List Piece)) → AreOwn m ps → AreOwn m (memory_part mem ++ ps)
+own_memory : (m : Machine) (mem : Mem) (ps : List (List PrintedToken)) → AreOwn m ps → AreOwn m (memory_part mem ++ ps)
 own_memory m mems.None ps h = h
 own_memory Mic1 mems.Read ps h = (refl, h)
 own_memory Mic1 mems.Write ps h = (refl, h)
 own_memory Mic2 mems.Read ps h = (refl, h)
 own_memory Mic2 mems.Write ps h = (refl, h)
 
-own_chained : (m : Machine) (part : Part) (next : Next Target) (ps : List (List Piece)) → Fits m part → AreOwn m ps → AreOwn m (chain_part part next ++ ps)
+own_chained : (m : Machine) (part : Part) (next : Next Target) (ps : List (List PrintedToken)) → Fits m part → AreOwn m ps → AreOwn m (chain_part part next ++ ps)
 own_chained m part next ps f h = go (is_absent part)
   where
     go : (absent : Bool) → AreOwn m (cond absent [] (chain part next ∷ []) ++ ps)
@@ -185,19 +185,19 @@ own_parts m part next f =
     own_chained m part (labelled next) (memory_part part.mem ++ (fetch_part part.fetch ++ next_parts m (labelled next))) f
     (own_memory m part.mem (fetch_part part.fetch ++ next_parts m (labelled next)) (own_fetch m part.fetch (next_parts m (labelled next)) f.fetch (own_next m next)))
 
-own_others : (m : Machine) (ps : List (List Piece)) → AreOwn m ps → are_own m (tokens_of (joined_behind true ps))
+own_others : (m : Machine) (ps : List (List PrintedToken)) → AreOwn m ps → are_own m (tokens_of (joined_behind true ps))
 own_others m [] h = refl
 own_others m (p ∷ ps) h =
     ap (names_foreign m) (tokens_append (behind_space p) (joined_behind true ps) ∙ ap (λ ts. ts ++ tokens_of (joined_behind true ps)) (tokens_spaced p))
     ∙ own_append m (tokens_of p) (tokens_of (joined_behind true ps)) h.0 (own_others m ps h.1)
 
-own_joined : (m : Machine) (ps : List (List Piece)) → AreOwn m ps → are_own m (tokens_of (joined_behind false ps))
+own_joined : (m : Machine) (ps : List (List PrintedToken)) → AreOwn m ps → are_own m (tokens_of (joined_behind false ps))
 own_joined m [] h = refl
 own_joined m (p ∷ ps) h = ap (names_foreign m) (tokens_append p (joined_behind true ps)) ∙ own_append m (tokens_of p) (tokens_of (joined_behind true ps)) h.0 (own_others m ps h.1)
 
-pub own_pieces : (m : Machine) (part : Part) (next : Next (List ℕ)) → Fits m part → are_own m (tokens_of (pieces m part (labelled next)))
+pub own_pieces : (m : Machine) (part : Part) (next : Next (List ℕ)) → Fits m part → are_own m (tokens_of (printed_tokens m part (labelled next)))
 own_pieces m part next f = own_joined m (parts m part (labelled next)) (own_parts m part next f)
 
-pub own_lone : (m : Machine) (ps : List Piece) → are_own m (tokens_of ps) → are_own m (tokens_of (or_semicolon ps))
+pub own_lone : (m : Machine) (ps : List PrintedToken) → are_own m (tokens_of ps) → are_own m (tokens_of (or_semicolon ps))
 own_lone m [] h = refl
 own_lone m (p ∷ ps) h = h

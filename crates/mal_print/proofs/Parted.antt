@@ -27,8 +27,8 @@ use Rattle.mal_line.specs.Chains.{dest_tokens, is_expr, tail_tokens}
 use Rattle.mal_line.specs.Statements as statements
 use Rattle.mal_line.specs.Statements.{AreParts, AreTree, assign, assignments, counted, fetch_count, fetches, IsJumpLast, is_semicolon, jump, jumps_of, Kind, listed, listed_mem, memories, memory, nothing}
 use Rattle.mal_print.specs.declared.target.Target.{Target}
-use Rattle.mal_print.specs.Pieces.{behind_space, Piece, tokens_of}
-use Rattle.mal_print.specs.StatementText.{chain, chain_part, dest_pieces, dests_of, fetch_part, heads, is_absent, joined_behind, labelled, or_semicolon, memory_part, next_parts, parts, pieces, value}
+use Rattle.mal_print.specs.Pieces.{behind_space, PrintedToken, tokens_of}
+use Rattle.mal_print.specs.StatementText.{chain, chain_part, dest_pieces, dests_of, fetch_part, heads, is_absent, joined_behind, labelled, or_semicolon, memory_part, next_parts, parts, printed_tokens, value}
 use Rattle.mal_print.proofs.Apart.{all_append}
 use Rattle.mal_print.proofs.Chained.{assignment_of, chain_is, chain_tokens, Fits, spelling_expr, tokens_append, tokens_spaced}
 
@@ -64,7 +64,7 @@ whole_chain part next =
     (all_append (λ t. not (is_semicolon t)) (spelling part.op (table.side part.a) (table.side part.b)) (tail_tokens (tail_with part.shift)) (whole_expr (spelling part.op (table.side part.a) (table.side part.b)) (spelling_expr part.op part.a part.b)) (whole_tail part.shift))
 
 -- each part is whole, and has a piece
-abbrev pub AreWhole : List (List Piece) → Type 0
+abbrev pub AreWhole : List (List PrintedToken) → Type 0
 AreWhole [] = Unit {0}
 AreWhole (p ∷ ps) = (is_whole (tokens_of p) ≡ true) × ((p ≡ [] → ⊥) × AreWhole ps)
 
@@ -75,20 +75,20 @@ whole_next m (nexts.Dispatch false) = (refl, ((λ e. absurd (cc)), tt))
 whole_next m (nexts.Dispatch true) = (refl, ((λ e. absurd (cc)), tt))
 whole_next m (nexts.Branch test high low) = (refl, ((λ e. absurd (cc)), (refl, ((λ e. absurd (cc)), tt))))
 
-whole_fetch : (fetch : Bool) (ps : List (List Piece)) → AreWhole ps → AreWhole (fetch_part fetch ++ ps)
+whole_fetch : (fetch : Bool) (ps : List (List PrintedToken)) → AreWhole ps → AreWhole (fetch_part fetch ++ ps)
 whole_fetch false ps h = h
 whole_fetch true ps h = (refl, ((λ e. absurd (cc)), h))
 
-whole_memory : (mem : Mem) (ps : List (List Piece)) → AreWhole ps → AreWhole (memory_part mem ++ ps)
+whole_memory : (mem : Mem) (ps : List (List PrintedToken)) → AreWhole ps → AreWhole (memory_part mem ++ ps)
 whole_memory mems.None ps h = h
 whole_memory mems.Read ps h = (refl, ((λ e. absurd (cc)), h))
 whole_memory mems.Write ps h = (refl, ((λ e. absurd (cc)), h))
 
-chain_some : (ws : List Word) (next : Next Target) (ps : List Piece) → dest_pieces (heads ws next) ++ ps ≡ [] → ⊥
+chain_some : (ws : List Word) (next : Next Target) (ps : List PrintedToken) → dest_pieces (heads ws next) ++ ps ≡ [] → ⊥
 chain_some [] next ps e = absurd (cc)
 chain_some (w ∷ ws) next ps e = absurd (cc)
 
-whole_chained : (part : Part) (next : Next Target) (ps : List (List Piece)) → AreWhole ps → AreWhole (chain_part part next ++ ps)
+whole_chained : (part : Part) (next : Next Target) (ps : List (List PrintedToken)) → AreWhole ps → AreWhole (chain_part part next ++ ps)
 whole_chained part next ps h = go (is_absent part)
   where
     go : (absent : Bool) → AreWhole (cond absent [] (chain part next ∷ []) ++ ps)
@@ -103,7 +103,7 @@ whole_parts m part next =
 -- ---- the parts between the semicolons
 
 -- a part, and those behind it
-split_others : (ts : List Token) (ps : List (List Piece)) → is_whole ts ≡ true → AreWhole ps → statements.pieces (ts ++ tokens_of (joined_behind true ps)) ≡ ts ∷ map tokens_of ps
+split_others : (ts : List Token) (ps : List (List PrintedToken)) → is_whole ts ≡ true → AreWhole ps → statements.pieces (ts ++ tokens_of (joined_behind true ps)) ≡ ts ∷ map tokens_of ps
 split_others [] [] h g = refl
 split_others [] (p ∷ ps) h g =
     ap (λ ts. [] ∷ statements.pieces ts) (tokens_append (behind_space p) (joined_behind true ps) ∙ ap (λ ts. ts ++ tokens_of (joined_behind true ps)) (tokens_spaced p))
@@ -115,7 +115,7 @@ split_others (t ∷ ts) ps h g = let p = and_parts (not (is_semicolon t)) (is_wh
     go true e rec = absurd (cc)
     go false e rec = ap (onto_first t) rec
 
-split_parts : (p : List Piece) (ps : List (List Piece)) → AreWhole (p ∷ ps) → statements.pieces (tokens_of (joined_behind false (p ∷ ps))) ≡ tokens_of p ∷ map tokens_of ps
+split_parts : (p : List PrintedToken) (ps : List (List PrintedToken)) → AreWhole (p ∷ ps) → statements.pieces (tokens_of (joined_behind false (p ∷ ps))) ≡ tokens_of p ∷ map tokens_of ps
 split_parts p ps h = ap statements.pieces (tokens_append p (joined_behind true ps)) ∙ split_others (tokens_of p) ps h.0 h.1.1
 
 -- ---- the parts by their kinds
@@ -145,12 +145,12 @@ tallied_next Mic2 (nexts.Dispatch false) = record { kinds = jump (jumps.Dispatch
 tallied_next Mic2 (nexts.Dispatch true) = record { kinds = jump (jumps.Dispatch (Some true)) ∷ []; are = ((words.Mbr1, refl, refl), refl); assignment = refl; memory = refl; fetch = refl; next = refl; last = tt }
 tallied_next m (nexts.Branch test high low) = record { kinds = jump (jumps.Branch test high low) ∷ []; are = (refl, refl, refl); assignment = refl; memory = refl; fetch = refl; next = refl; last = tt }
 
-tallied_fetch : (m : Machine) (f : Bool) (ps : List (List Piece)) (next : Option Jump) → Tallied m (map tokens_of ps) (record { assignment = None; mem = mems.None; fetch = false; next = next })
+tallied_fetch : (m : Machine) (f : Bool) (ps : List (List PrintedToken)) (next : Option Jump) → Tallied m (map tokens_of ps) (record { assignment = None; mem = mems.None; fetch = false; next = next })
     → Tallied m (map tokens_of (fetch_part f ++ ps)) (record { assignment = None; mem = mems.None; fetch = f; next = next })
 tallied_fetch m false ps next t = t
 tallied_fetch m true ps next t = record { kinds = fetches ∷ t.kinds; are = (refl, t.are); assignment = t.assignment; memory = t.memory; fetch = ap suc t.fetch; next = t.next; last = t.last }
 
-tallied_memory : (m : Machine) (mem : Mem) (f : Bool) (ps : List (List Piece)) (next : Option Jump) → Tallied m (map tokens_of ps) (record { assignment = None; mem = mems.None; fetch = f; next = next })
+tallied_memory : (m : Machine) (mem : Mem) (f : Bool) (ps : List (List PrintedToken)) (next : Option Jump) → Tallied m (map tokens_of ps) (record { assignment = None; mem = mems.None; fetch = f; next = next })
     → Tallied m (map tokens_of (memory_part mem ++ ps)) (record { assignment = None; mem = mem; fetch = f; next = next })
 tallied_memory m mems.None f ps next t = t
 tallied_memory m mems.Read f ps next t = record { kinds = memory mems.Read ∷ t.kinds; are = (refl, t.are); assignment = t.assignment; memory = ap (λ xs. mems.Read ∷ xs) t.memory; fetch = t.fetch; next = t.next; last = t.last }
@@ -161,7 +161,7 @@ abbrev pub assigned_by : Bool → Part → Option Assignment
 assigned_by true part = None
 assigned_by false part = Some (assignment_of part)
 
-tallied_chain : (m : Machine) (part : Part) (to : Next Target) (absent : Bool) (ps : List (List Piece)) (next : Option Jump) → Fits m part → Tallied m (map tokens_of ps) (record { assignment = None; mem = part.mem; fetch = part.fetch; next = next })
+tallied_chain : (m : Machine) (part : Part) (to : Next Target) (absent : Bool) (ps : List (List PrintedToken)) (next : Option Jump) → Fits m part → Tallied m (map tokens_of ps) (record { assignment = None; mem = part.mem; fetch = part.fetch; next = next })
     → Tallied m (map tokens_of (cond absent [] (chain part to ∷ []) ++ ps)) (record { assignment = assigned_by absent part; mem = part.mem; fetch = part.fetch; next = next })
 tallied_chain m part to true ps next h t = t
 tallied_chain m part to false ps next h t = record { kinds = assign (assignment_of part) ∷ t.kinds; are = (chain_is m part to h, t.are); assignment = ap (λ xs. assignment_of part ∷ xs) t.assignment; memory = t.memory; fetch = t.fetch; next = t.next; last = t.last }
@@ -190,28 +190,28 @@ tree_empty m tree t =
     let e = no_kinds m t.kinds t.are in
     record { parts = nothing ∷ nothing ∷ []; are = (refl, (refl, refl)); assignment = subst (λ ks. assignments ks ≡ listed tree.assignment) e t.assignment; memory = subst (λ ks. memories ks ≡ listed_mem tree.mem) e t.memory; fetch = subst (λ ks. fetch_count ks ≡ counted tree.fetch) e t.fetch; next = subst (λ ks. jumps_of ks ≡ listed tree.next) e t.next; last = tt }
 
-tree_some : (m : Machine) (tree : Tree) (p : List Piece) (ps : List (List Piece)) → AreWhole (p ∷ ps) → Tallied m (map tokens_of (p ∷ ps)) tree → AreTree m (tokens_of (joined_behind false (p ∷ ps))) tree
+tree_some : (m : Machine) (tree : Tree) (p : List PrintedToken) (ps : List (List PrintedToken)) → AreWhole (p ∷ ps) → Tallied m (map tokens_of (p ∷ ps)) tree → AreTree m (tokens_of (joined_behind false (p ∷ ps))) tree
 tree_some m tree p ps w t = record { parts = t.kinds; are = subst (λ xs. AreParts m xs t.kinds) (sym (split_parts p ps w)) t.are; assignment = t.assignment; memory = t.memory; fetch = t.fetch; next = t.next; last = t.last }
 
-pub tree_is : (m : Machine) (part : Part) (next : Next (List ℕ)) → Fits m part → AreTree m (tokens_of (pieces m part (labelled next))) (tree_for part next)
+pub tree_is : (m : Machine) (part : Part) (next : Next (List ℕ)) → Fits m part → AreTree m (tokens_of (printed_tokens m part (labelled next))) (tree_for part next)
 tree_is m part next h = go (parts m part (labelled next)) (whole_parts m part next) (tallied_parts m part next h)
   where
-    go : (ps : List (List Piece)) → AreWhole ps → Tallied m (map tokens_of ps) (tree_for part next) → AreTree m (tokens_of (joined_behind false ps)) (tree_for part next)
+    go : (ps : List (List PrintedToken)) → AreWhole ps → Tallied m (map tokens_of ps) (tree_for part next) → AreTree m (tokens_of (joined_behind false ps)) (tree_for part next)
     go [] w t = tree_none m (tree_for part next) t
     go (p ∷ ps) w t = tree_some m (tree_for part next) p ps w t
 
 -- `;` stands where there is nothing
-pub or_semicolon_is : (m : Machine) (part : Part) (next : Next (List ℕ)) → Fits m part → AreTree m (tokens_of (or_semicolon (pieces m part (labelled next)))) (tree_for part next)
+pub or_semicolon_is : (m : Machine) (part : Part) (next : Next (List ℕ)) → Fits m part → AreTree m (tokens_of (or_semicolon (printed_tokens m part (labelled next)))) (tree_for part next)
 or_semicolon_is m part next h = go (parts m part (labelled next)) (whole_parts m part next) (tallied_parts m part next h)
   where
-    some : (p : List Piece) (rest : List Piece) (tree : Tree) → (p ≡ [] → ⊥) → AreTree m (tokens_of (p ++ rest)) tree → AreTree m (tokens_of (or_semicolon (p ++ rest))) tree
+    some : (p : List PrintedToken) (rest : List PrintedToken) (tree : Tree) → (p ≡ [] → ⊥) → AreTree m (tokens_of (p ++ rest)) tree → AreTree m (tokens_of (or_semicolon (p ++ rest))) tree
     some [] rest tree n a = absurd (n refl)
     some (x ∷ p) rest tree n a = a
 
-    go : (ps : List (List Piece)) → AreWhole ps → Tallied m (map tokens_of ps) (tree_for part next) → AreTree m (tokens_of (or_semicolon (joined_behind false ps))) (tree_for part next)
+    go : (ps : List (List PrintedToken)) → AreWhole ps → Tallied m (map tokens_of ps) (tree_for part next) → AreTree m (tokens_of (or_semicolon (joined_behind false ps))) (tree_for part next)
     go [] w t = tree_empty m (tree_for part next) t
     go (p ∷ ps) w t = some p (joined_behind true ps) (tree_for part next) w.1.0 (tree_some m (tree_for part next) p ps w t)
 
-pub or_semicolon_some : (ps : List Piece) → tokens_of (or_semicolon ps) ≡ [] → ⊥
+pub or_semicolon_some : (ps : List PrintedToken) → tokens_of (or_semicolon ps) ≡ [] → ⊥
 or_semicolon_some [] e = absurd (cc)
 or_semicolon_some (p ∷ ps) e = absurd (cc)

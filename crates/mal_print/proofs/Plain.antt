@@ -13,7 +13,7 @@ use Rattle.mal_tokens.specs.declared.token.Token.{Token}
 use Rattle.mal_tokens.specs.declared.token.Token.TheVariants as tokens
 use Rattle.mal_tokens.specs.Words.{sign_text, word_text}
 use Rattle.mal_tokens.specs.Tokens.{IsLexeme}
-use Rattle.mal_print.specs.Pieces.{Piece, printed}
+use Rattle.mal_print.specs.Pieces.{PrintedToken, printed}
 use Rattle.mal_print.specs.StatementText.{is_plain}
 use Rattle.mal_print.proofs.Apart.{all_append}
 use Rattle.mal_print.proofs.Spelling.{AreLexemes}
@@ -73,7 +73,7 @@ plain_lexeme (tokens.Sign s) text l = ap (list_all is_plain) l ∙ plain_sign s
 plain_lexeme (tokens.Name n) text l = ap (list_all is_plain) l.0 ∙ plain_bytes n (name_parts n l.1.0).bytes
 plain_lexeme (tokens.Number v) text l = plain_bytes text l.1
 
-pub plain_printed : (ps : List Piece) → AreLexemes ps → list_all is_plain (printed ps) ≡ true
+pub plain_printed : (ps : List PrintedToken) → AreLexemes ps → list_all is_plain (printed ps) ≡ true
 plain_printed [] l = refl
 plain_printed (p ∷ ps) l =
     all_append is_plain (cond p.spaced (32 ∷ []) []) (p.text ++ printed ps) (gap p.spaced)

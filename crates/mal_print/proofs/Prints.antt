@@ -6,10 +6,10 @@ use Rattle.micro_word.specs.declared.statement.Test.{Test}
 use Rattle.micro_word.specs.declared.statement.Part.{Part}
 use Rattle.mal_line.specs.declared.next.Next.{Next}
 use Rattle.mal_print.specs.declared.target.Target.{Target}
-use Rattle.mal_print.specs.Pieces.{Piece, printed}
-use Rattle.mal_print.specs.StatementText.{are_before, chain, chain_part, dest_pieces, dests_of, dispatch_part, divided, else_part, expression, fetch_part, goto_part, heads, if_part, is_absent, joined_behind, memory_part, next_parts, pieces, shifted, side, value}
+use Rattle.mal_print.specs.Pieces.{PrintedToken, printed}
+use Rattle.mal_print.specs.StatementText.{are_before, chain, chain_part, dest_pieces, dests_of, dispatch_part, divided, else_part, expression, fetch_part, goto_part, heads, if_part, is_absent, joined_behind, memory_part, next_parts, printed_tokens, shifted, side, value}
 
-pub printed_append : (ps qs : List Piece) → printed (ps ++ qs) ≡ printed ps ++ printed qs
+pub printed_append : (ps qs : List PrintedToken) → printed (ps ++ qs) ≡ printed ps ++ printed qs
 printed_append [] qs = refl
 printed_append (p ∷ ps) qs =
     ap (λ rest. cond p.spaced (32 ∷ []) [] ++ (p.text ++ rest)) (printed_append ps qs)
@@ -45,7 +45,7 @@ no_chain_prints part next h = ap (λ b. printed (joined_behind false (cond b [] 
 
 -- ---- all parts
 
-behind_print : (others : Bool) (xs ys : List (List Piece)) → printed (joined_behind others (xs ++ ys)) ≡ printed (joined_behind others xs) ++ printed (joined_behind (are_before others xs) ys)
+behind_print : (others : Bool) (xs ys : List (List PrintedToken)) → printed (joined_behind others (xs ++ ys)) ≡ printed (joined_behind others xs) ++ printed (joined_behind (are_before others xs) ys)
 behind_print others [] ys = refl
 behind_print others (x ∷ xs) ys =
     printed_append (divided others x) (joined_behind true (xs ++ ys))
@@ -53,12 +53,12 @@ behind_print others (x ∷ xs) ys =
     ∙ (sym (append_assoc (printed (divided others x)) (printed (joined_behind true xs)) (printed (joined_behind true ys)))
     ∙ ap (λ front. front ++ printed (joined_behind true ys)) (sym (printed_append (divided others x) (joined_behind true xs)))))
   where
-    still : (xs : List (List Piece)) → are_before true xs ≡ true
+    still : (xs : List (List PrintedToken)) → are_before true xs ≡ true
     still [] = refl
     still (x ∷ xs) = refl
 
 pub parts_print : (m : Machine) (part : Part) (next : Next Target)
-    → printed (pieces m part next) ≡ printed (joined_behind false (chain_part part next))
+    → printed (printed_tokens m part next) ≡ printed (joined_behind false (chain_part part next))
     ++ (printed (joined_behind (are_before false (chain_part part next)) (memory_part part.mem))
     ++ (printed (joined_behind (are_before (are_before false (chain_part part next)) (memory_part part.mem)) (fetch_part part.fetch))
     ++ printed (joined_behind (are_before (are_before (are_before false (chain_part part next)) (memory_part part.mem)) (fetch_part part.fetch)) (next_parts m next))))
@@ -78,5 +78,5 @@ pub parts_texts : (m : Machine) (part : Part) (next : Next Target) (z x y w v : 
     → x ≡ z ++ printed (joined_behind false (chain_part part next)) → assigned ≡ are_before false (chain_part part next)
     → y ≡ x ++ printed (joined_behind assigned (memory_part part.mem)) → accessed ≡ are_before assigned (memory_part part.mem)
     → w ≡ y ++ printed (joined_behind accessed (fetch_part part.fetch)) → fetched ≡ are_before accessed (fetch_part part.fetch)
-    → v ≡ w ++ printed (joined_behind fetched (next_parts m next)) → v ≡ z ++ printed (pieces m part next)
+    → v ≡ w ++ printed (joined_behind fetched (next_parts m next)) → v ≡ z ++ printed (printed_tokens m part next)
 parts_texts m part next z x y w v assigned accessed fetched e a f b g c h = rw (h, g, f, e, c, b, a, parts_print m part next) (simp append_assoc)

@@ -11,7 +11,7 @@ use Rattle.mal_tokens.specs.declared.sign.Sign.{Sign}
 use Rattle.mal_tokens.specs.declared.sign.Sign.TheVariants as signs
 use Rattle.mal_tokens.specs.Words.{sign_text}
 use Rattle.mal_tokens.specs.Tokens.{IsLexeme, SpellsTokens}
-use Rattle.mal_print.specs.Pieces.{behind_space, Piece, printed, tokens_of}
+use Rattle.mal_print.specs.Pieces.{behind_space, PrintedToken, printed, tokens_of}
 
 -- a token that ends, or may begin, with a letter or a digit
 abbrev pub is_wordy : Token → Bool
@@ -23,11 +23,11 @@ is_wordy (tokens.Sign signs.Default) = true
 is_wordy (tokens.Sign _) = false
 
 -- no two words meet, in what stands behind a word or not
-abbrev pub apart : Bool → List Piece → Bool
+abbrev pub apart : Bool → List PrintedToken → Bool
 apart after [] = true
 apart after (p ∷ ps) = (not (is_wordy p.token) || (p.spaced || not after)) && apart (is_wordy p.token) ps
 
-abbrev pub AreLexemes : List Piece → Type 0
+abbrev pub AreLexemes : List PrintedToken → Type 0
 AreLexemes [] = Unit {0}
 AreLexemes (p ∷ ps) = IsLexeme p.token p.text × AreLexemes ps
 
@@ -74,7 +74,7 @@ bare_ends (tokens.Sign s) text h is = ap (ends_with is_name_byte) is ∙ sign_en
 -- ---- what is printed spells its tokens
 
 -- what stands behind a word begins with no letter or digit
-begins_fine : (ps : List Piece) → apart true ps ≡ true → AreLexemes ps → begins_with is_name_byte (printed ps) ≡ false
+begins_fine : (ps : List PrintedToken) → apart true ps ≡ true → AreLexemes ps → begins_with is_name_byte (printed ps) ≡ false
 begins_fine [] h l = refl
 begins_fine (p ∷ ps) h l = go p.spaced (is_wordy p.token) refl (and_parts (not (is_wordy p.token) || (p.spaced || false)) (apart (is_wordy p.token) ps) h).0
   where
@@ -83,7 +83,7 @@ begins_fine (p ∷ ps) h l = go p.spaced (is_wordy p.token) refl (and_parts (not
     go false true e h = absurd (cc)
     go false false e h = bare_begins p.token p.text (printed ps) e l.0
 
-pub prints : (after : Bool) (ps : List Piece) → apart after ps ≡ true → AreLexemes ps → SpellsTokens (printed ps) (tokens_of ps)
+pub prints : (after : Bool) (ps : List PrintedToken) → apart after ps ≡ true → AreLexemes ps → SpellsTokens (printed ps) (tokens_of ps)
 prints after [] h l = refl
 prints after (p ∷ ps) h l = (cond p.spaced (32 ∷ []) [], p.text, printed ps, refl, blank p.spaced, l.0, ends (is_wordy p.token) refl behind, prints (is_wordy p.token) ps behind l.1)
   where
@@ -100,7 +100,7 @@ prints after (p ∷ ps) h l = (cond p.spaced (32 ∷ []) [], p.text, printed ps,
 
 -- ---- what stands behind others
 
-pub apart_weak : (ps : List Piece) → apart true ps ≡ true → apart false ps ≡ true
+pub apart_weak : (ps : List PrintedToken) → apart true ps ≡ true → apart false ps ≡ true
 apart_weak [] h = refl
 apart_weak (p ∷ ps) h = go (is_wordy p.token) p.spaced (apart (is_wordy p.token) ps) h
   where
@@ -109,17 +109,17 @@ apart_weak (p ∷ ps) h = go (is_wordy p.token) p.spaced (apart (is_wordy p.toke
     go true false a h = absurd (cc)
     go false s a h = h
 
-pub apart_any : (b : Bool) (ps : List Piece) → apart true ps ≡ true → apart b ps ≡ true
+pub apart_any : (b : Bool) (ps : List PrintedToken) → apart true ps ≡ true → apart b ps ≡ true
 apart_any true ps h = h
 apart_any false ps h = apart_weak ps h
 
-pub apart_append : (b : Bool) (ps qs : List Piece) → apart b ps ≡ true → apart true qs ≡ true → apart b (ps ++ qs) ≡ true
+pub apart_append : (b : Bool) (ps qs : List PrintedToken) → apart b ps ≡ true → apart true qs ≡ true → apart b (ps ++ qs) ≡ true
 apart_append b [] qs h g = apart_any b qs g
 apart_append b (p ∷ ps) qs h g =
     let t = and_parts (not (is_wordy p.token) || (p.spaced || not b)) (apart (is_wordy p.token) ps) h in
     and_from (not (is_wordy p.token) || (p.spaced || not b)) (apart (is_wordy p.token) (ps ++ qs)) t.0 (apart_append (is_wordy p.token) ps qs t.1 g)
 
-pub apart_spaced : (ps : List Piece) → apart false ps ≡ true → apart true (behind_space ps) ≡ true
+pub apart_spaced : (ps : List PrintedToken) → apart false ps ≡ true → apart true (behind_space ps) ≡ true
 apart_spaced [] h = refl
 apart_spaced (p ∷ ps) h = go (is_wordy p.token) p.spaced (apart (is_wordy p.token) ps) h
   where
@@ -128,10 +128,10 @@ apart_spaced (p ∷ ps) h = go (is_wordy p.token) p.spaced (apart (is_wordy p.to
     go true false a h = h
     go false s a h = h
 
-pub lexemes_append : (ps qs : List Piece) → AreLexemes ps → AreLexemes qs → AreLexemes (ps ++ qs)
+pub lexemes_append : (ps qs : List PrintedToken) → AreLexemes ps → AreLexemes qs → AreLexemes (ps ++ qs)
 lexemes_append [] qs h g = g
 lexemes_append (p ∷ ps) qs h g = (h.0, lexemes_append ps qs h.1 g)
 
-pub lexemes_spaced : (ps : List Piece) → AreLexemes ps → AreLexemes (behind_space ps)
+pub lexemes_spaced : (ps : List PrintedToken) → AreLexemes ps → AreLexemes (behind_space ps)
 lexemes_spaced [] h = h
 lexemes_spaced (p ∷ ps) h = h

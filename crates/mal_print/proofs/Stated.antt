@@ -15,7 +15,7 @@ use Rattle.mal_line.specs.declared.next.Next.{Next}
 use Rattle.mal_line.specs.declared.next.Next.TheVariants as nexts
 use Rattle.mal_line.specs.Lines.{names_foreign, next_by_jump, part_by, part_of, parts_by, parts_of, SpellsLine, with_access}
 use Rattle.mal_print.specs.Pieces.{printed, tokens_of}
-use Rattle.mal_print.specs.StatementText.{fallback, fix, HasLabels, is_absent, labelled, pieces, statement}
+use Rattle.mal_print.specs.StatementText.{fallback, fix, HasLabels, is_absent, labelled, printed_tokens, statement}
 use Rattle.mal_tokens.specs.Words.{IsLabelText}
 use Rattle.mal_print.proofs.Apart.{AreLabels, ReadsHex, fine_fallback, fine_fix, fine_statement}
 use Rattle.mal_print.proofs.Chained.{absent_bare, Fits, part_fits, tokens_spaced}
@@ -56,26 +56,26 @@ own_default Mic2 ts h = h
 statement_means : (m : Machine) (label : Option (List ℕ)) (p : Parts) → Fits m p.part → SpellsLine m (tokens_of (statement m label p.part (labelled p.next))) (contents.Statement label p)
 statement_means m None p h = record {
   form = forms.Statement None (tree_for p.part p.next);
-  has = (or_semicolon_some (pieces m p.part (labelled p.next)), or_semicolon_is m p.part p.next h);
-  own = own_lone m (pieces m p.part (labelled p.next)) (own_pieces m p.part p.next h);
+  has = (or_semicolon_some (printed_tokens m p.part (labelled p.next)), or_semicolon_is m p.part p.next h);
+  own = own_lone m (printed_tokens m p.part (labelled p.next)) (own_pieces m p.part p.next h);
   says = ap (option_map (λ p. contents.Statement None p)) (parts_again m p h);
 }
 statement_means m (Some label) p h =
-    let e = tokens_spaced (pieces m p.part (labelled p.next)) in
+    let e = tokens_spaced (printed_tokens m p.part (labelled p.next)) in
     record {
       form = forms.Statement (Some label) (tree_for p.part p.next);
-      has = (tokens_of (pieces m p.part (labelled p.next)), inl (ap (λ ts. tokens.Name label ∷ ts) e), tree_is m p.part p.next h);
-      own = ap (λ ts. names_foreign m (tokens.Name label ∷ ts)) e ∙ own_name m label (tokens_of (pieces m p.part (labelled p.next))) (own_pieces m p.part p.next h);
+      has = (tokens_of (printed_tokens m p.part (labelled p.next)), inl (ap (λ ts. tokens.Name label ∷ ts) e), tree_is m p.part p.next h);
+      own = ap (λ ts. names_foreign m (tokens.Name label ∷ ts)) e ∙ own_name m label (tokens_of (printed_tokens m p.part (labelled p.next))) (own_pieces m p.part p.next h);
       says = ap (option_map (λ p. contents.Statement (Some label) p)) (parts_again m p h);
     }
 
 fallback_means : (m : Machine) (p : Parts) → Fits m p.part → SpellsLine m (tokens_of (fallback m p.part (labelled p.next))) (contents.Fallback p)
 fallback_means m p h =
-    let e = tokens_spaced (pieces m p.part (labelled p.next)) in
+    let e = tokens_spaced (printed_tokens m p.part (labelled p.next)) in
     record {
       form = forms.Fallback (tree_for p.part p.next);
-      has = (tokens_of (pieces m p.part (labelled p.next)), ap (λ ts. tokens.Sign signs.Default ∷ ts) e, tree_is m p.part p.next h);
-      own = ap (λ ts. names_foreign m (tokens.Sign signs.Default ∷ ts)) e ∙ own_default m (tokens_of (pieces m p.part (labelled p.next))) (own_pieces m p.part p.next h);
+      has = (tokens_of (printed_tokens m p.part (labelled p.next)), ap (λ ts. tokens.Sign signs.Default ∷ ts) e, tree_is m p.part p.next h);
+      own = ap (λ ts. names_foreign m (tokens.Sign signs.Default ∷ ts)) e ∙ own_default m (tokens_of (printed_tokens m p.part (labelled p.next))) (own_pieces m p.part p.next h);
       says = ap (option_map (λ p. contents.Fallback p)) (parts_again m p h);
     }
 

@@ -6,34 +6,34 @@ use Rattle.mal_tokens.specs.declared.token.Token.{Token}
 use Rattle.mal_tokens.specs.declared.token.Token.TheVariants as tokens
 use Rattle.mal_tokens.specs.Words.{sign_text, word_text}
 
-pub record Piece : Type 0 where
+pub record PrintedToken : Type 0 where
   pub spaced : Bool
   pub token : Token
   pub text : List ℕ
 
-abbrev pub word : Word → Piece
+abbrev pub word : Word → PrintedToken
 word w = record { spaced = false; token = tokens.Word w; text = word_text w }
 
-abbrev pub sign : Sign → Piece
+abbrev pub sign : Sign → PrintedToken
 sign s = record { spaced = false; token = tokens.Sign s; text = sign_text s }
 
-abbrev pub name : List ℕ → Piece
+abbrev pub name : List ℕ → PrintedToken
 name n = record { spaced = false; token = tokens.Name n; text = n }
 
-abbrev pub number : ℤ → List ℕ → Piece
+abbrev pub number : ℤ → List ℕ → PrintedToken
 number value text = record { spaced = false; token = tokens.Number value; text = text }
 
-abbrev pub spaced : Piece → Piece
+abbrev pub spaced : PrintedToken → PrintedToken
 spaced p = record p { spaced = true }
 
 -- with a space before the first
-abbrev pub behind_space : List Piece → List Piece
+abbrev pub behind_space : List PrintedToken → List PrintedToken
 behind_space [] = []
 behind_space (p ∷ ps) = spaced p ∷ ps
 
-abbrev pub printed : List Piece → List ℕ
+abbrev pub printed : List PrintedToken → List ℕ
 printed [] = []
 printed (p ∷ ps) = (if p.spaced then 32 ∷ [] else []) ++ (p.text ++ printed ps)
 
-abbrev pub tokens_of : List Piece → List Token
-tokens_of ps = map (λ (p : Piece). p.token) ps
+abbrev pub tokens_of : List PrintedToken → List Token
+tokens_of ps = map (λ (p : PrintedToken). p.token) ps

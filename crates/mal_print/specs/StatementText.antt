@@ -26,7 +26,7 @@ use Rattle.mal_line.specs.Statements.{test_word}
 use Rattle.mal_line.specs.Targets.{by_targets, EachTarget}
 use Rattle.mal_print.specs.declared.target.Target.{Target}
 use Rattle.mal_print.specs.declared.target.Target.TheVariants as targets
-use Rattle.mal_print.specs.Pieces.{behind_space, name, number, Piece, sign, spaced, word}
+use Rattle.mal_print.specs.Pieces.{behind_space, name, number, PrintedToken, sign, spaced, word}
 
 -- ---- the assignment
 
@@ -43,19 +43,19 @@ dests_among dests ws = filter (has_dest dests) ws
 abbrev pub dests_of : ℕ → List Word
 dests_of dests = dests_among dests all_dests
 
-abbrev pub dest_pieces : List Word → List Piece
+abbrev pub dest_pieces : List Word → List PrintedToken
 dest_pieces [] = []
 dest_pieces (w ∷ ws) = word w ∷ sign signs.Equals ∷ dest_pieces ws
 
-abbrev pub side : Option BusSource → List Piece
+abbrev pub side : Option BusSource → List PrintedToken
 side None = []
 side (Some x) = word (source_word x) ∷ []
 
-abbrev pub plus_one : List Piece
+abbrev pub plus_one : List PrintedToken
 plus_one = sign signs.Plus ∷ number (pos 1) (codes "1") ∷ []
 
 -- AND, OR and NOT have a space on each side where an operand stands
-abbrev pub expression : AluOp → List Piece → List Piece → List Piece
+abbrev pub expression : AluOp → List PrintedToken → List PrintedToken → List PrintedToken
 expression ops.A a b = a
 expression ops.B a b = b
 expression ops.NotA a b = word words.Not ∷ behind_space a
@@ -73,7 +73,7 @@ expression ops.Zero a b = number (pos 0) (codes "0") ∷ []
 expression ops.One a b = number (pos 1) (codes "1") ∷ []
 expression ops.MinusOne a b = sign signs.Minus ∷ number (pos 1) (codes "1") ∷ []
 
-abbrev pub shifted : Shift → List Piece
+abbrev pub shifted : Shift → List PrintedToken
 shifted shifts.None = []
 shifted shifts.Left8 = sign signs.Left ∷ number (pos 8) (codes "8") ∷ []
 shifted shifts.Right1 = sign signs.Right ∷ number (pos 1) (codes "1") ∷ []
@@ -99,10 +99,10 @@ abbrev pub heads : List Word → Next Target → List Word
 heads [] next = tested next ∷ []
 heads (w ∷ ws) next = w ∷ ws
 
-abbrev pub value : Part → List Piece
+abbrev pub value : Part → List PrintedToken
 value part = expression part.op (side part.a) (side part.b) ++ shifted part.shift
 
-abbrev pub chain : Part → Next Target → List Piece
+abbrev pub chain : Part → Next Target → List PrintedToken
 chain part next = dest_pieces (heads (dests_of part.dests) next) ++ value part
 
 abbrev pub is_nothing : List Word → Bool
@@ -113,17 +113,17 @@ is_nothing (w ∷ ws) = false
 abbrev pub is_absent : Part → Bool
 is_absent part = is_nothing (dests_of part.dests) && is_idle part
 
-abbrev pub chain_part : Part → Next Target → List (List Piece)
+abbrev pub chain_part : Part → Next Target → List (List PrintedToken)
 chain_part part next = if is_absent part then [] else chain part next ∷ []
 
 -- ---- the other parts
 
-abbrev pub memory_part : Mem → List (List Piece)
+abbrev pub memory_part : Mem → List (List PrintedToken)
 memory_part mems.None = []
 memory_part mems.Read = (word words.Rd ∷ []) ∷ []
 memory_part mems.Write = (word words.Wr ∷ []) ∷ []
 
-abbrev pub fetch_part : Bool → List (List Piece)
+abbrev pub fetch_part : Bool → List (List PrintedToken)
 fetch_part false = []
 fetch_part true = (word words.Fetch ∷ []) ∷ []
 
@@ -136,28 +136,28 @@ abbrev pub target_text : Target → List ℕ
 target_text (targets.Label label) = label
 target_text (targets.Address address) = address_text address
 
-abbrev pub target : Target → Piece
+abbrev pub target : Target → PrintedToken
 target to = spaced (name (target_text to))
 
 abbrev pub byte_word : Machine → Word
 byte_word Mic1 = words.Mbr
 byte_word Mic2 = words.Mbr1
 
-abbrev pub goto_part : Target → List Piece
+abbrev pub goto_part : Target → List PrintedToken
 goto_part to = word words.Goto ∷ target to ∷ []
 
-abbrev pub dispatch_part : Machine → Bool → List Piece
+abbrev pub dispatch_part : Machine → Bool → List PrintedToken
 dispatch_part machine false = word words.Goto ∷ spaced (sign signs.Open) ∷ word (byte_word machine) ∷ sign signs.Close ∷ []
 dispatch_part machine true = word words.Goto ∷ spaced (sign signs.Open) ∷ word (byte_word machine)
     ∷ spaced (word words.Or) ∷ spaced (number (pos 256) (codes "0x100")) ∷ sign signs.Close ∷ []
 
-abbrev pub if_part : Test → Target → List Piece
+abbrev pub if_part : Test → Target → List PrintedToken
 if_part test to = word words.If ∷ spaced (sign signs.Open) ∷ word (test_word test) ∷ sign signs.Close ∷ spaced (word words.Goto) ∷ target to ∷ []
 
-abbrev pub else_part : Target → List Piece
+abbrev pub else_part : Target → List PrintedToken
 else_part to = word words.Else ∷ spaced (word words.Goto) ∷ target to ∷ []
 
-abbrev pub next_parts : Machine → Next Target → List (List Piece)
+abbrev pub next_parts : Machine → Next Target → List (List PrintedToken)
 next_parts machine nexts.Following = []
 next_parts machine (nexts.Goto to) = goto_part to ∷ []
 next_parts machine (nexts.Dispatch high) = dispatch_part machine high ∷ []
@@ -166,20 +166,20 @@ next_parts machine (nexts.Branch test high low) = if_part test high ∷ else_par
 -- ---- all parts
 
 -- what stands behind other parts is behind a semicolon
-abbrev pub divided : Bool → List Piece → List Piece
+abbrev pub divided : Bool → List PrintedToken → List PrintedToken
 divided false ps = ps
 divided true ps = sign signs.Semicolon ∷ behind_space ps
 
-abbrev pub joined_behind : Bool → List (List Piece) → List Piece
+abbrev pub joined_behind : Bool → List (List PrintedToken) → List PrintedToken
 joined_behind others [] = []
 joined_behind others (p ∷ ps) = divided others p ++ joined_behind true ps
 
-abbrev pub parts : Machine → Part → Next Target → List (List Piece)
+abbrev pub parts : Machine → Part → Next Target → List (List PrintedToken)
 parts machine part next = chain_part part next ++ (memory_part part.mem ++ (fetch_part part.fetch ++ next_parts machine next))
 
 -- the assignment, rd or wr, fetch, and where it goes next
-abbrev pub pieces : Machine → Part → Next Target → List Piece
-pieces machine part next = joined_behind false (parts machine part next)
+abbrev pub printed_tokens : Machine → Part → Next Target → List PrintedToken
+printed_tokens machine part next = joined_behind false (parts machine part next)
 
 -- ---- lines
 
@@ -188,21 +188,21 @@ abbrev pub labelled : Next (List ℕ) → Next Target
 labelled next = by_targets (λ label. targets.Label label) next
 
 -- `;` where there is nothing
-abbrev pub or_semicolon : List Piece → List Piece
+abbrev pub or_semicolon : List PrintedToken → List PrintedToken
 or_semicolon [] = sign signs.Semicolon ∷ []
 or_semicolon (p ∷ ps) = p ∷ ps
 
 -- a statement: its label and its parts
-abbrev pub statement : Machine → Option (List ℕ) → Part → Next Target → List Piece
-statement machine None part next = or_semicolon (pieces machine part next)
-statement machine (Some label) part next = name label ∷ behind_space (pieces machine part next)
+abbrev pub statement : Machine → Option (List ℕ) → Part → Next Target → List PrintedToken
+statement machine None part next = or_semicolon (printed_tokens machine part next)
+statement machine (Some label) part next = name label ∷ behind_space (printed_tokens machine part next)
 
 -- what unused words hold
-abbrev pub fallback : Machine → Part → Next Target → List Piece
-fallback machine part next = sign signs.Default ∷ behind_space (pieces machine part next)
+abbrev pub fallback : Machine → Part → Next Target → List PrintedToken
+fallback machine part next = sign signs.Default ∷ behind_space (printed_tokens machine part next)
 
 -- a label and its address
-abbrev pub fix : List ℕ → ℕ → List Piece
+abbrev pub fix : List ℕ → ℕ → List PrintedToken
 fix label address = sign signs.Label ∷ spaced (name label) ∷ spaced (number (pos address) (address_text address)) ∷ []
 
 -- ---- labels that may stand in a text, and texts that are one line
@@ -228,7 +228,7 @@ abbrev pub has_parts : Part → Next Target → Bool
 has_parts part next = not (is_absent part) || (is_access part.mem || (part.fetch || is_led next))
 
 -- with the parts that were there before
-abbrev pub are_before : Bool → List (List Piece) → Bool
+abbrev pub are_before : Bool → List (List PrintedToken) → Bool
 are_before others [] = others
 are_before others (p ∷ ps) = true
 

@@ -2,7 +2,7 @@
 
 ghost use Rattle.std.specs.Prelude.{◌≡◌, ◌≤◌, ◌<◌, ◌+◌, ◌++◌, length};
 ghost use Rattle.mal_print.specs.Pieces.{behind_space, printed};
-ghost use Rattle.mal_print.specs.StatementText.{fallback, FitTargets, fix, has_parts, or_semicolon, pieces, statement};
+ghost use Rattle.mal_print.specs.StatementText.{fallback, FitTargets, fix, has_parts, or_semicolon, printed_tokens, statement};
 
 use crate::assignment::is_absent;
 use crate::parts::print_parts;
@@ -25,7 +25,7 @@ fn has_parts(part: &Part, next: &Next<Target>) -> bool
 pub fn print_lone(machine: Machine, part: &Part, next: &Next<Target>, line: &mut Line)
     requires room { length line.old + 256 ≤ 512 }
     requires fit { FitTargets next.now }
-    ensures text { line.new ≡ line.old ++ printed (or_semicolon (pieces machine part.now next.now)) }
+    ensures text { line.new ≡ line.old ++ printed (or_semicolon (printed_tokens machine part.now next.now)) }
     ensures len { length line.new ≤ length line.old + 256 }
 {
     if has_parts(part, next) {
@@ -40,7 +40,7 @@ pub fn print_lone(machine: Machine, part: &Part, next: &Next<Target>, line: &mut
 fn print_behind_space(machine: Machine, part: &Part, next: &Next<Target>, line: &mut Line)
     requires room { length line.old + 257 ≤ 512 }
     requires fit { FitTargets next.now }
-    ensures text { line.new ≡ line.old ++ printed (behind_space (pieces machine part.now next.now)) }
+    ensures text { line.new ≡ line.old ++ printed (behind_space (printed_tokens machine part.now next.now)) }
     ensures len { length line.new ≤ length line.old + 257 }
 {
     if has_parts(part, next) {

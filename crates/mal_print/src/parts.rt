@@ -2,7 +2,7 @@
 
 ghost use Rattle.std.specs.Prelude.{◌≡◌, ◌≤◌, ◌<◌, ◌+◌, ◌++◌, ◌∷◌, [], length, codes, if◌then◌else◌};
 ghost use Rattle.mal_print.specs.Pieces.{printed};
-ghost use Rattle.mal_print.specs.StatementText.{are_before, byte_word, dispatch_part, else_part, fetch_part, FitsTarget, FitTargets, goto_part, if_part, joined_behind, memory_part, next_parts, pieces, target};
+ghost use Rattle.mal_print.specs.StatementText.{are_before, byte_word, dispatch_part, else_part, fetch_part, FitsTarget, FitTargets, goto_part, if_part, joined_behind, memory_part, next_parts, printed_tokens, target};
 
 use crate::assignment::print_chain;
 use crate::target::Target;
@@ -169,7 +169,7 @@ fn print_next(machine: Machine, next: &Next<Target>, others: bool, line: &mut Li
 pub fn print_parts(machine: Machine, part: &Part, next: &Next<Target>, line: &mut Line)
     requires room { length line.old + 240 ≤ 512 }
     requires fit { FitTargets next.now }
-    ensures text { line.new ≡ line.old ++ printed (pieces machine part.now next.now) }
+    ensures text { line.new ≡ line.old ++ printed (printed_tokens machine part.now next.now) }
     ensures len { length line.new ≤ length line.old + 240 }
 {
     let assigned = print_chain(part, next, line);

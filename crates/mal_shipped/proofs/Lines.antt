@@ -10,7 +10,7 @@ use Rattle.mal_parser.specs.declared.error.MalError.{MalError}
 use Rattle.mal_parser.specs.declared.error.MalError.TheVariants.{OutOfMemory}
 use Rattle.mal_parser.specs.ProgramText.{canonical_text, relined}
 use Rattle.mal_parser.specs.Text.{SpellsProgram}
-use Rattle.mal_parser.specs.Program.{IsProgram, Program}
+use Rattle.mal_parser.specs.Program.{IsMalProgram, MalView}
 use Rattle.mal_shipped.proofs.Valid.{valid}
 use Rattle.mal_shipped.proofs.Texts.{canonical}
 use Rattle.mal_shipped.specs.Listing.{listed_program, text_of, unlined, without_line, program1, rows1, program2, rows2}
@@ -27,15 +27,15 @@ unfolding program1 rows1 program2 rows2
 unlined_of Mic1 = refl
 unlined_of Mic2 = refl
 
-pub unlined_is_program : (machine : Machine) → IsProgram (unlined (relined (listed_program machine)))
-unlined_is_program machine = subst IsProgram (sym (unlined_of machine)) (valid machine)
+pub unlined_is_program : (machine : Machine) → IsMalProgram (unlined (relined (listed_program machine)))
+unlined_is_program machine = subst IsMalProgram (sym (unlined_of machine)) (valid machine)
 
 machine_of : (machine : Machine) → (listed_program machine).machine ≡ machine
 unfolding program1 program2
 machine_of Mic1 = refl
 machine_of Mic2 = refl
 
-text_spells : (machine : Machine) → ((q : Program) → IsProgram q → SpellsProgram q.machine (canonical_text q) (relined q)) →
+text_spells : (machine : Machine) → ((q : MalView) → IsMalProgram q → SpellsProgram q.machine (canonical_text q) (relined q)) →
     SpellsProgram machine (text_of machine) (relined (listed_program machine))
 text_spells machine law =
     let spells : SpellsProgram (listed_program machine).machine (canonical_text (listed_program machine)) (relined (listed_program machine)) = law (listed_program machine) (valid machine) in
@@ -44,9 +44,9 @@ text_spells machine law =
     subst (λ (text : List ℕ). SpellsProgram machine text (relined (listed_program machine))) (sym (canonical machine)) here
 
 -- what a text is read as, where it spells this program
-pub read_as : (machine : Machine) (text : List ℕ) (r : Result Program MalError) (p : Program) → r ≡ Ok p → text ≡ text_of machine →
-    ((q : Program) → IsProgram q → SpellsProgram q.machine (canonical_text q) (relined q)) →
-    ((q : Program) → SpellsProgram machine text q → (r ≡ Ok q) ⊎ (r ≡ Err OutOfMemory)) → p ≡ relined (listed_program machine)
+pub read_as : (machine : Machine) (text : List ℕ) (r : Result MalView MalError) (p : MalView) → r ≡ Ok p → text ≡ text_of machine →
+    ((q : MalView) → IsMalProgram q → SpellsProgram q.machine (canonical_text q) (relined q)) →
+    ((q : MalView) → SpellsProgram machine text q → (r ≡ Ok q) ⊎ (r ≡ Err OutOfMemory)) → p ≡ relined (listed_program machine)
 read_as machine text r p e same law spelled =
     let spells : SpellsProgram machine text (relined (listed_program machine)) = subst (λ (t : List ℕ). SpellsProgram machine t (relined (listed_program machine))) (sym same) (text_spells machine law) in
     elim (spelled (relined (listed_program machine)) spells) [ inl f ↦ cc | inr f ↦ absurd (cc) ]

@@ -12,13 +12,13 @@ use Rattle.mal_tokens.specs.Words.{is_reserved, IsLabelText}
 use Rattle.mal_line.specs.declared.next.Next.{Next}
 use Rattle.mal_line.specs.declared.next.Next.TheVariants as nexts
 use Rattle.mal_parser.specs.declared.statement.Statement.{Statement}
-use Rattle.mal_parser.specs.Program.{Program, label_at, HasTargets, IsStatement, IsProgram}
+use Rattle.mal_parser.specs.Program.{MalView, label_at, HasTargets, IsStatement, IsMalProgram}
 use Rattle.mic_words.specs.declared.machine.Machine.TheVariants.{Mic1, Mic2}
 use Rattle.mal_shipped.specs.Listing.{listed_program, program1, rows1, program2, rows2}
 
 -- ---- each statement may stand where it stands
 
-leads : Program → Next ℕ → Bool
+leads : MalView → Next ℕ → Bool
 leads p nexts.Following = true
 leads p (nexts.Goto to) = is_some (label_at p.statements to)
 leads p (nexts.Dispatch high) = true
@@ -38,15 +38,15 @@ is_fix : Option ℕ → Option (List ℕ) → Bool
 is_fix None label = true
 is_fix (Some address) label = nat_lt address 512 && is_some label
 
-stands : Program → ℕ → Statement → Bool
+stands : MalView → ℕ → Statement → Bool
 stands p number s =
     is_part p.machine s.part && (leads p s.next && (follows (length p.statements) number s.next && (is_label s.label && is_fix s.fixed s.label)))
 
-all_stand : Program → ℕ → List Statement → Bool
+all_stand : MalView → ℕ → List Statement → Bool
 all_stand p number [] = true
 all_stand p number (s ∷ ss) = stands p number s && all_stand p (number + 1) ss
 
-leads_is : (p : Program) (next : Next ℕ) → leads p next ≡ true → HasTargets p.statements next
+leads_is : (p : MalView) (next : Next ℕ) → leads p next ≡ true → HasTargets p.statements next
 unfolding leads
 leads_is p nexts.Following h = tt
 leads_is p (nexts.Goto to) h = h
@@ -70,7 +70,7 @@ unfolding is_fix
 is_fix_is None label h = tt
 is_fix_is (Some address) label h = let two = and_parts (nat_lt address 512) (is_some label) h in (ltb-true address 512 two.0, two.1)
 
-stands_is : (p : Program) (number : ℕ) (s : Statement) → stands p number s ≡ true → IsStatement p number s
+stands_is : (p : MalView) (number : ℕ) (s : Statement) → stands p number s ≡ true → IsStatement p number s
 unfolding stands
 stands_is p number s h =
     let part = and_parts (is_part p.machine s.part) _ h in
@@ -85,7 +85,7 @@ stands_is p number s h =
       fixed = is_fix_is s.fixed s.label named.1;
     }
 
-one_stands : (p : Program) (number : ℕ) (ss : List Statement) → all_stand p number ss ≡ true → (k : ℕ) (s : Statement) → slice_get ss k ≡ Some s → stands p (number + k) s ≡ true
+one_stands : (p : MalView) (number : ℕ) (ss : List Statement) → all_stand p number ss ≡ true → (k : ℕ) (s : Statement) → slice_get ss k ≡ Some s → stands p (number + k) s ≡ true
 unfolding all_stand
 one_stands p number [] h k s e = absurd (cc)
 one_stands p number (x ∷ xs) h zero s e =
@@ -138,7 +138,7 @@ apart (x ∷ xs) h (suc s) (suc t) name e f = ap suc (apart xs (and_parts _ _ h)
 
 -- ---- the programs
 
-pub valid1 : IsProgram program1
+pub valid1 : IsMalProgram program1
 unfolding program1 rows1 all_stand stands leads follows is_label is_fix are_apart is_new has
 valid1 =
     record {
@@ -150,7 +150,7 @@ valid1 =
       entry = refl;
     }
 
-pub valid2 : IsProgram program2
+pub valid2 : IsMalProgram program2
 unfolding program2 rows2 all_stand stands leads follows is_label is_fix are_apart is_new has
 valid2 =
     record {
@@ -162,6 +162,6 @@ valid2 =
       entry = refl;
     }
 
-pub valid : (machine : Machine) → IsProgram (listed_program machine)
+pub valid : (machine : Machine) → IsMalProgram (listed_program machine)
 valid Mic1 = valid1
 valid Mic2 = valid2

@@ -19,7 +19,7 @@ use Rattle.micro_word.specs.declared.statement.PlacedNext.TheVariants as to
 use Rattle.mal_line.specs.declared.next.Next.{Next}
 use Rattle.mal_line.specs.declared.next.Next.TheVariants as nexts
 use Rattle.mal_parser.specs.declared.statement.Statement.{Statement}
-use Rattle.mal_parser.specs.Program.{Program}
+use Rattle.mal_parser.specs.Program.{MalView}
 use Rattle.mal_shipped.specs.declared.mic1.TheConstants.{MIC1}
 use Rattle.mal_shipped.specs.declared.mic2.TheConstants.{MIC2}
 
@@ -27,14 +27,14 @@ abbrev pub part_of : ℕ → AluOp → Option BusSource → Option BusSource →
 part_of dests op a b shift mem fetch = record { dests = dests; op = op; a = a; b = b; shift = shift; mem = mem; fetch = fetch }
 
 -- an address, the statement of the text, and the same statement in the control store
-pub record Row : Type 0 where
+pub record ListingRow : Type 0 where
   pub address : ℕ
   pub statement : Statement
   pub placed : Placed
 
 -- address, label, the address that it is fixed at, destinations, operation, sources, shift, memory, whether it fetches,
 -- where it goes in the text, and in the store
-abbrev pub row : ℕ → List ℕ → Option ℕ → ℕ → AluOp → Option BusSource → Option BusSource → Shift → Mem → Bool → Next ℕ → PlacedNext → Row
+abbrev pub row : ℕ → List ℕ → Option ℕ → ℕ → AluOp → Option BusSource → Option BusSource → Shift → Mem → Bool → Next ℕ → PlacedNext → ListingRow
 row address label fixed dests op a b shift mem fetch next stored =
     record {
       address = address;
@@ -45,7 +45,7 @@ row address label fixed dests op a b shift mem fetch next stored =
 abbrev pub default_to : ℕ → Statement
 default_to err = record { label = None; line = 0; part = part_of 0 ops.Zero None None Unshifted Idle false; next = nexts.Goto err; fixed = None }
 
-abbrev pub table1 : List Row
+abbrev pub table1 : List ListingRow
 table1 =
     row 0x002 (codes "Main1") None 0x004 ops.IncB None (Some sources.Pc) Unshifted Idle true (nexts.Dispatch false) (to.Dispatch false) ∷
     row 0x000 (codes "nop1") (Some 0x000) 0x000 ops.Zero None None Unshifted Idle false (nexts.Goto 0) (to.Goto 0x002) ∷
@@ -187,16 +187,16 @@ table1 =
     []
 
 -- the table, which opens where a proof asks for it
-unfoldable pub rows1 : List Row
+unfoldable pub rows1 : List ListingRow
 rows1 = table1
 
-unfoldable pub program1 : Program
-program1 = record { machine = Mic1; statements = map (λ (r : Row). r.statement) rows1; fallback = Some (default_to 126); entry = 0 }
+unfoldable pub program1 : MalView
+program1 = record { machine = Mic1; statements = map (λ (r : ListingRow). r.statement) rows1; fallback = Some (default_to 126); entry = 0 }
 
 abbrev pub addresses1 : List ℕ
-addresses1 = map (λ (r : Row). r.address) rows1
+addresses1 = map (λ (r : ListingRow). r.address) rows1
 
-abbrev pub table2 : List Row
+abbrev pub table2 : List ListingRow
 table2 =
     row 0x002 (codes "Main1") None 0x000 ops.Zero None None Unshifted Idle false (nexts.Dispatch false) (to.Dispatch false) ∷
     row 0x000 (codes "nop1") (Some 0x000) 0x000 ops.Zero None None Unshifted Idle false (nexts.Dispatch false) (to.Dispatch false) ∷
@@ -301,14 +301,14 @@ table2 =
     row 0x04c (codes "wide_iinc4") None 0x002 ops.Sum (Some sources.Mdr) (Some sources.H) Unshifted Write false (nexts.Dispatch false) (to.Dispatch false) ∷
     []
 
-unfoldable pub rows2 : List Row
+unfoldable pub rows2 : List ListingRow
 rows2 = table2
 
-unfoldable pub program2 : Program
-program2 = record { machine = Mic2; statements = map (λ (r : Row). r.statement) rows2; fallback = Some (default_to 96); entry = 0 }
+unfoldable pub program2 : MalView
+program2 = record { machine = Mic2; statements = map (λ (r : ListingRow). r.statement) rows2; fallback = Some (default_to 96); entry = 0 }
 
 abbrev pub addresses2 : List ℕ
-addresses2 = map (λ (r : Row). r.address) rows2
+addresses2 = map (λ (r : ListingRow). r.address) rows2
 
 -- by machine
 
@@ -316,7 +316,7 @@ abbrev pub text_of : Machine → List ℕ
 text_of Mic1 = MIC1.now
 text_of Mic2 = MIC2.now
 
-abbrev pub listed_program : Machine → Program
+abbrev pub listed_program : Machine → MalView
 listed_program Mic1 = program1
 listed_program Mic2 = program2
 
@@ -329,5 +329,5 @@ addresses_of Mic2 = addresses2
 abbrev pub without_line : Statement → Statement
 without_line s = record s { line = 0 }
 
-abbrev pub unlined : Program → Program
+abbrev pub unlined : MalView → MalView
 unlined p = record p { statements = map without_line p.statements; fallback = option_map without_line p.fallback }

@@ -5,14 +5,14 @@ use Rattle.mic_words.specs.declared.machine.Machine.TheVariants.{Mic1, Mic2}
 use Rattle.micro_word.specs.declared.statement.Placed.{Placed}
 use Rattle.micro_word.specs.Coding.{statement_of}
 use Rattle.store_placement.specs.Program.{goto_end}
-use Rattle.mal_shipped.specs.Listing.{Row, table1, table2}
+use Rattle.mal_shipped.specs.Listing.{ListingRow, table1, table2}
 
-abbrev pub table_of : Machine → List Row
+abbrev pub table_of : Machine → List ListingRow
 table_of Mic1 = table1
 table_of Mic2 = table2
 
 -- the statement of the row with this address; every other word ends a run by an error
-abbrev pub statement_among : List Row → ℕ → Placed
+abbrev pub statement_among : List ListingRow → ℕ → Placed
 statement_among [] at = goto_end
 statement_among (r ∷ rows) at = elim (r.address == at) [ true ↦ r.placed | false ↦ statement_among rows at ]
 

@@ -2,7 +2,7 @@
 
 ghost use Rattle.std.specs.Prelude.{◌≡◌, IfOk, option_map};
 ghost use Rattle.mal_parser.specs.ProgramText.{relined};
-ghost use Rattle.mal_parser.specs.Program.{IsProgram};
+ghost use Rattle.mal_parser.specs.Program.{IsMalProgram};
 ghost use Rattle.mal_shipped.specs.Listing.{listed_program, text_of, unlined, without_line};
 
 use crate::mic1::MIC1;
@@ -42,7 +42,7 @@ fn fallback_of(program: &MalProgram) -> Option<Statement>
 /// The program with 0 for each line number.
 #[tactic(auto, using(crate::proofs::Lines::one_more))]
 fn unlined(alloc: Global, program: &MalProgram) -> Result<MalProgram, AllocError>
-    requires { IsProgram (unlined program.now) }
+    requires { IsMalProgram (unlined program.now) }
     ensures { IfOk result (λ p. p ≡ unlined program.now) }
 {
     let mut statements = Vec::new(alloc);

@@ -1,4 +1,4 @@
-//! Signs and dotted words.
+//! The signs and dotted words of the microassembly language, each with its spelling.
 
 ghost use Rattle.std.specs.Prelude.{◌≡◌};
 ghost use Rattle.mal_tokens.specs.Words.{find_sign, sign_text};

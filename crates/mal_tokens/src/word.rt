@@ -1,4 +1,4 @@
-//! Reserved words.
+//! The reserved words of the microassembly language, each with its spelling.
 
 ghost use Rattle.std.specs.Prelude.{◌≡◌};
 ghost use Rattle.mal_tokens.specs.Words.{find_word, word_text};

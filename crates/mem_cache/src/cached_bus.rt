@@ -11,7 +11,7 @@ ghost use Rattle.mem_cache.specs.Tally.{empty_tally};
 ghost use Rattle.mem_cache.specs.View.{Counts};
 
 use crate::counts::CacheCounts;
-use crate::lines::{Line, change, hold, line_of, words_of};
+use crate::lines::{CacheLine, change, hold, line_of, words_of};
 use console_port::{Bus, BusFault, byte_of};
 use mic_base::{Sink, Source};
 use std::alloc::{AllocError, Global};
@@ -26,7 +26,7 @@ pub const MOST_LINES: u16 = 4096;
 #[derive(Drop)]
 pub struct CachedBus {
     bus: Bus,
-    lines: Vec<Option<Line>>,
+    lines: Vec<Option<CacheLine>>,
     counts: CacheCounts,
 }
 
@@ -84,7 +84,7 @@ impl CachedBus {
         }
         self.counts.misses += 1;
         let words = words_of(&self.bus, block);
-        hold(&mut self.lines, Line { block, words });
+        hold(&mut self.lines, CacheLine { block, words });
         words[place]
     }
 

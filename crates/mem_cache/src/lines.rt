@@ -9,7 +9,7 @@ use std::alloc::Global;
 
 /// A block and its words.
 #[derive(Clone, Copy, Debug, PartialEq, Eq)]
-pub struct Line {
+pub struct CacheLine {
     pub block: u32,
     pub words: [u32; 4],
 }
@@ -31,7 +31,7 @@ pub(crate) fn words_of(bus: &Bus, block: u32) -> [u32; 4]
 }
 
 /// The line of a block, where it holds that block.
-pub(crate) fn line_of(lines: &Vec<Option<Line>>, block: u32) -> Option<Line>
+pub(crate) fn line_of(lines: &Vec<Option<CacheLine>>, block: u32) -> Option<CacheLine>
     requires { 0 < length lines.now.items }
     ensures line { IfSome result (λ l. (l.block ≡ block) × (slice_get lines.now.items (block % length lines.now.items) ≡ Some (Some l))) }
     ensures held { is_some result ≡ has_block (map block_in lines.now.items) block }
@@ -44,7 +44,7 @@ pub(crate) fn line_of(lines: &Vec<Option<Line>>, block: u32) -> Option<Line>
 }
 
 /// Puts a block into its line.
-pub(crate) fn hold(lines: &mut Vec<Option<Line>>, line: Line)
+pub(crate) fn hold(lines: &mut Vec<Option<CacheLine>>, line: CacheLine)
     requires { 0 < length lines.old.items }
     ensures { lines.new.items ≡ slice_set lines.old.items (line.block % length lines.old.items) (Some line) }
 {
@@ -53,7 +53,7 @@ pub(crate) fn hold(lines: &mut Vec<Option<Line>>, line: Line)
 }
 
 /// A word of memory changes: so it does in the line that holds its block, where one does.
-pub(crate) fn change(lines: &mut Vec<Option<Line>>, at: u32, value: u32)
+pub(crate) fn change(lines: &mut Vec<Option<CacheLine>>, at: u32, value: u32)
     requires { 0 < length lines.old.items }
     ensures blocks { map block_in lines.new.items ≡ map block_in lines.old.items }
     ensures lines { (words : List ℕ) → AreLines words lines.old.items → AreLines (slice_set words at value) lines.new.items }
@@ -64,7 +64,7 @@ pub(crate) fn change(lines: &mut Vec<Option<Line>>, at: u32, value: u32)
         words[(at % 4) as usize] = value;
         hold(
             lines,
-            Line {
+            CacheLine {
                 block: line.block,
                 words,
             },

@@ -1,4 +1,4 @@
-//! The constant pool.
+//! The constant pool of a linked program: its constants, then the entries of its methods.
 
 ghost use Rattle.std.specs.Prelude.{◌≡◌, ◌++◌, length, map, IfOk, OnOk};
 ghost use Rattle.std.specs.List.{range_with_len};

@@ -1,4 +1,4 @@
-//! Sizes of code.
+//! How many bytes a linked text has, and each method in it.
 
 ghost use Rattle.std.specs.Prelude.{◌≡◌, ◌<◌, ◌^◌, sum_by};
 ghost use Rattle.ijvm_program.specs.Layout.{code_size, method_size, text_size};

@@ -17,7 +17,7 @@ use Rattle.micro_word.specs.declared.statement.Placed.{Placed}
 use Rattle.mic_clock.specs.Edge.{IsEdge, LetsBytesWait}
 use Rattle.mic_clock.specs.Meaning.{Outcome, Done, refusal_in, untaken_by, given_by, ReadsConsole, WritesConsole, UsesConsole}
 use Rattle.mic_datapath.specs.Memory.{access_refusal, word_under_way, byte_under_way, written, sampled, outcome}
-use Rattle.mic1_datapath.specs.Microstep.{assigned, ports_of, result_of, settled, moved, refusal, clock, world_after}
+use Rattle.mic1_datapath.specs.Microstep.{assigned, ports_of, result_of, settled, next_micro, refusal, clock, world_after}
 use Rattle.mic_datapath.specs.Access.{HasAccessed, IsAccess, is_read, is_access, LetsBytesWait as LetsWait}
 use Rattle.mic1_datapath.specs.Mic1.{microstep, step_of_word, mic1_meaning}
 use Rattle.mic1_datapath.specs.Micro.{Micro}
@@ -57,7 +57,7 @@ abbrev step_on : ℕ → Placed → Micro → World → Outcome Micro
 step_on n s m w = outcome (refusal n s m) (clock n s m w) (world_after n s m w)
 
 abbrev moved_on : Placed → Micro → Option ℕ → Option ℕ → Micro
-moved_on s m word byte = moved s.next (result_of s.part m) (settled s.part m) word byte
+moved_on s m word byte = next_micro s.next (result_of s.part m) (settled s.part m) word byte
 
 is_done : (s : Placed) (m : Micro) (p : Asked) → IsAsked s m p → (w v : World) (n : ℕ) → length w.words ≡ n → (word byte : Option ℕ) →
     access_refusal n p.mem p.fetch p.ports ≡ None → IsAccess n p.mem p.fetch p.ports w word byte v →

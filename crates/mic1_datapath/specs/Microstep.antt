@@ -11,7 +11,7 @@ use Rattle.micro_word.specs.declared.statement.Part.{Part}
 use Rattle.micro_word.specs.declared.statement.Placed.{Placed}
 use Rattle.mic_datapath.specs.Registers.{NineRegisters, on_bus, arrived, loaded, ports_given}
 use Rattle.mic_datapath.specs.Memory.{written, sampled, word_under_way, byte_under_way, access_refusal}
-use Rattle.mic_datapath.specs.Next.{target}
+use Rattle.mic_datapath.specs.Next.{next_address}
 use Rattle.mic_datapath.specs.declared.ports.Ports.{Ports}
 use Rattle.mic1_datapath.specs.Micro.{Micro}
 
@@ -72,14 +72,14 @@ ports_of m = ports_given (registers_in m)
 -- The five together, on a memory that has its words below `stack_end`.
 
 -- the settled state m, where x is the result, with its next address and with this word and this byte under way
-abbrev pub moved : PlacedNext → ℕ → Micro → Option ℕ → Option ℕ → Micro
-moved next x m word byte = record m { mpc = target next x m.mbr; word = word; byte = byte }
+abbrev pub next_micro : PlacedNext → ℕ → Micro → Option ℕ → Option ℕ → Micro
+next_micro next x m word byte = record m { mpc = next_address next x m.mbr; word = word; byte = byte }
 
 abbrev pub clock : ℕ → Placed → Micro → World → Micro
 clock stack_end s m w =
     let p = ports_of (settled s.part m) in
     let v = written stack_end s.part.mem p w in
-    moved s.next (result_of s.part m) (settled s.part m) (word_under_way stack_end s.part.mem p v) (byte_under_way s.part.fetch p v)
+    next_micro s.next (result_of s.part m) (settled s.part m) (word_under_way stack_end s.part.mem p v) (byte_under_way s.part.fetch p v)
 
 abbrev pub world_after : ℕ → Placed → Micro → World → World
 world_after stack_end s m w =

@@ -10,7 +10,7 @@ ghost use Rattle.micro_word.specs.Lines.{AreLines};
 ghost use Rattle.micro_word.specs.Operation.{shifted};
 ghost use Rattle.mic_datapath.specs.Registers.{arrived as arrived_of};
 ghost use Rattle.mic1_datapath.specs.Mic1.{initial as initial_of};
-ghost use Rattle.mic1_datapath.specs.Microstep.{assigned, ports_of, result_of, settled, moved};
+ghost use Rattle.mic1_datapath.specs.Microstep.{assigned, ports_of, result_of, settled, next_micro};
 ghost use Rattle.mic1_datapath.specs.Latches.{AreLatches, micro_in, reads, fetches, under_way};
 
 use mic_clock::Start;
@@ -181,7 +181,7 @@ impl Latches {
         requires byte_sampled { is_some sampled.byte ≡ fetches word }
         ensures latches { AreLatches self.new }
         ensures micro { let s = statement_of Mic1 word in
-            micro_in self.new ≡ moved s.next value (settled s.part (micro_in self.old)) sampled.word sampled.byte }
+            micro_in self.new ≡ next_micro s.next value (settled s.part (micro_in self.old)) sampled.word sampled.byte }
     {
         word_law(Machine::Mic1);
         statement_law(Machine::Mic1);

@@ -19,7 +19,7 @@ use Rattle.mic1_interpreter.proofs.Words.{byte_kept, fetch_ok, next_is}
 use Rattle.ijvm_simulation.specs.Stands.{Origin, RegistersStand}
 use Rattle.ijvm_simulation.specs.Stack.{IsMapEnd}
 use Rattle.ijvm_simulation.specs.Passes.{Moment, is_inside, pass}
-use Rattle.ijvm_simulation.specs.Law.{Shows, HasWord, Moves, Overruns}
+use Rattle.ijvm_simulation.specs.Law.{ShowsState, HasWord, Moves, Overruns}
 
 -- the moment at Main1, with nothing under way
 abbrev pub at_main : Micro → World → ℕ → Moment Micro
@@ -113,7 +113,7 @@ at_text o s m w holds pc text mbr mpc entry clocked word byte =
     at_boundary o s m w holds pc (mbr ∙ byte_kept w.words o.words holds.memory.kept pc text) mpc entry clocked word byte
 
 -- what a Mic-1 shows at a boundary
-pub shows : (program : List ℕ) (o : Origin) (s : State) (m : Micro) (w : World) → Stands o s m w → Shows mic1_meaning program (Stands o) o.given s m w
+pub shows : (program : List ℕ) (o : Origin) (s : State) (m : Micro) (w : World) → Stands o s m w → ShowsState mic1_meaning program (Stands o) o.given s m w
 shows program o s m w h =
     record {
       boundary = let e : m.mpc ≡ m.entry = h.ready.mpc in let on : m.clocked ≡ true = h.ready.clocked in rw on (grind (arith, nat_tests));

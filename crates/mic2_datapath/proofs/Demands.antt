@@ -12,7 +12,7 @@ use Rattle.micro_word.specs.declared.statement.BusSource.TheVariants as sources
 use Rattle.micro_word.specs.declared.statement.PlacedNext.{PlacedNext}
 use Rattle.micro_word.specs.declared.statement.PlacedNext.TheVariants as nexts
 use Rattle.micro_word.specs.declared.statement.Test.TheVariants as tests
-use Rattle.mic_datapath.specs.Next.{target}
+use Rattle.mic_datapath.specs.Next.{next_address}
 use Rattle.micro_word.specs.declared.statement.Placed.{Placed}
 use Rattle.mic2_datapath.specs.Microstep.{advanced, demand, dispatch_bytes, unit_after, unit_samples}
 use Rattle.mic2_fetch_unit.specs.FetchUnit.{Prefetch, jump}
@@ -117,11 +117,11 @@ dispatch_takes (nexts.Branch tests.Z low) operands h = absurd (cc)
 
 -- the last of the bytes is the one behind the operand's, where one is dispatched
 pub dispatched_last : (n : PlacedNext) (value x takes operands : ℕ) (bytes : ℕ → ℕ) → jam_bits n ≡ 4 → takes ≡ operands + dispatch_bytes n → x ≡ bytes (takes - 1) →
-    target n value x ≡ target n value (bytes operands)
+    next_address n value x ≡ next_address n value (bytes operands)
 dispatched_last (nexts.Goto to) value x takes operands bytes h takes_is is = absurd (cc)
 dispatched_last (nexts.Dispatch high) value x takes operands bytes h takes_is is =
     let last : takes - 1 ≡ operands = omega (arith, takes_is) in
-    ap (λ (y : ℕ). target (nexts.Dispatch high) value y) (is ∙ ap bytes last)
+    ap (λ (y : ℕ). next_address (nexts.Dispatch high) value y) (is ∙ ap bytes last)
 dispatched_last (nexts.Branch tests.N low) value x takes operands bytes h takes_is is = absurd (cc)
 dispatched_last (nexts.Branch tests.Z low) value x takes operands bytes h takes_is is = absurd (cc)
 
@@ -132,7 +132,7 @@ pub within : (n operands more takes : ℕ) → n ≤ operands → takes ≡ oper
 within n operands more takes h is = omega arith
 
 -- a byte that is put in place of the dispatched one, where nothing is dispatched
-pub not_dispatched : (n : PlacedNext) (value x y : ℕ) → jam_bits n ≢ 4 → target n value x ≡ target n value y
+pub not_dispatched : (n : PlacedNext) (value x y : ℕ) → jam_bits n ≢ 4 → next_address n value x ≡ next_address n value y
 not_dispatched (nexts.Goto to) value x y h = refl
 not_dispatched (nexts.Dispatch high) value x y h = absurd (h refl)
 not_dispatched (nexts.Branch test low) value x y h = refl

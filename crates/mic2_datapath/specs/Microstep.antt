@@ -17,7 +17,7 @@ use Rattle.console_port.specs.World.{World, Refusal}
 use Rattle.mic_clock.specs.Meaning.{Outcome}
 use Rattle.mic_datapath.specs.Registers.{NineRegisters, on_bus, loaded, ports_given}
 use Rattle.mic_datapath.specs.Memory.{written, sampled, word_under_way, memory_refusal, first_refusal, outcome}
-use Rattle.mic_datapath.specs.Next.{target}
+use Rattle.mic_datapath.specs.Next.{next_address}
 use Rattle.mic2_fetch_unit.specs.FetchUnit.{Prefetch, edge, jump, sampled_at, edge_refusal, jump_refusal, sample_refusal}
 use Rattle.mic2_datapath.specs.Micro.{Micro}
 
@@ -97,8 +97,8 @@ is_to_instruction (nexts.Dispatch high) = not high
 is_to_instruction (nexts.Branch test low) = false
 
 -- these registers, with MPC, with this word under way and this fetch unit
-abbrev pub moved : NineRegisters → ℕ → Option ℕ → Prefetch → Bool → Micro
-moved r mpc word unit begins =
+abbrev pub next_micro : NineRegisters → ℕ → Option ℕ → Prefetch → Bool → Micro
+next_micro r mpc word unit begins =
     record {
       mar = r.mar;
       mdr = r.mdr;
@@ -119,7 +119,7 @@ abbrev pub clock : ℕ → Placed → Micro → World → Micro
 clock stack_end s m w =
     let r = settled s m in
     let v = written stack_end s.part.mem (ports_given r) w in
-    moved r (target s.next (result_of s.part m) (byte_at m.unit (operand_bytes s.part))) (word_under_way stack_end s.part.mem (ports_given r) v)
+    next_micro r (next_address s.next (result_of s.part m) (byte_at m.unit (operand_bytes s.part))) (word_under_way stack_end s.part.mem (ports_given r) v)
     (unit_after (jumps s.part) v.words r.pc (demand s) m.unit) (is_to_instruction s.next)
 
 abbrev pub world_after : ℕ → Placed → Micro → World → World

@@ -7,7 +7,7 @@ ghost use Rattle.micro_word.specs.Coding.{addr_bits, jam_bits, mem_of, shift_of,
 ghost use Rattle.micro_word.specs.Layout.{fields_of};
 ghost use Rattle.micro_word.specs.Lines.{AreLines, AreSlots};
 ghost use Rattle.micro_word.specs.Operation.{alu, shifted};
-ghost use Rattle.mic_datapath.specs.Next.{target};
+ghost use Rattle.mic_datapath.specs.Next.{next_address};
 ghost use Rattle.mic2_datapath.specs.Microstep.{demand};
 
 use mic_datapath::{next_address, operate, shift_by, side_law};
@@ -134,7 +134,7 @@ impl Control {
     /// Where it goes next, with this value out of the ALU and this byte for a dispatch.
     #[inline(always)]
     pub fn target(&self, value: u32, byte: u8) -> u16
-        ensures next { result ≡ target (statement_of Mic2 self.now.word).next value byte }
+        ensures next { result ≡ next_address (statement_of Mic2 self.now.word).next value byte }
         ensures small { result < 512 }
     {
         word_law(Machine::Mic2);

@@ -13,12 +13,12 @@ ghost use Rattle.console_port.specs.Bus.{ChangesOnly, refused_by};
 ghost use Rattle.console_port.specs.World.{World};
 ghost use Rattle.mic_datapath.specs.Access.{IsTransfer};
 ghost use Rattle.mic_datapath.specs.Memory.{memory_refusal};
-ghost use Rattle.mic_datapath.specs.Next.{target};
+ghost use Rattle.mic_datapath.specs.Next.{next_address};
 ghost use Rattle.mic_datapath.specs.Places.{registers_at};
 ghost use Rattle.mic_datapath.specs.Registers.{loaded, ports_given};
 ghost use Rattle.mic2_fetch_unit.specs.FetchUnit.{edge_refusal, sample_refusal};
 ghost use Rattle.mic2_datapath.specs.Mic2.{initial as initial_of};
-ghost use Rattle.mic2_datapath.specs.Microstep.{advanced, byte_at, demand, dispatch_bytes, is_to_instruction, jumps, moved, operand_bytes, result_of, settled, source, stalled, unit_after, unit_refusal, unit_samples};
+ghost use Rattle.mic2_datapath.specs.Microstep.{advanced, byte_at, demand, dispatch_bytes, is_to_instruction, jumps, next_micro, operand_bytes, result_of, settled, source, stalled, unit_after, unit_refusal, unit_samples};
 ghost use Rattle.mic2_datapath.specs.Latches.{AreLatches, HasFront, access_by, loaded_in, micro_in};
 
 use crate::accesses::is_there;
@@ -161,7 +161,7 @@ struct Onward {
 fn straight_on(jam: u8, addr: u16, value: u32) -> Onward
     requires addr { addr < 512 }
     requires jam { jam ≢ JMPC }
-    ensures mpc { (n : PlacedNext) (byte : ℕ) → IsTrue (is_next n) → addr ≡ addr_bits n → jam ≡ jam_bits n → result.mpc ≡ target n value byte }
+    ensures mpc { (n : PlacedNext) (byte : ℕ) → IsTrue (is_next n) → addr ≡ addr_bits n → jam ≡ jam_bits n → result.mpc ≡ next_address n value byte }
     ensures small { result.mpc < 512 }
     ensures begins { (n : PlacedNext) → jam ≡ jam_bits n → addr ≡ addr_bits n → result.begins ≡ is_to_instruction n }
 {
@@ -339,7 +339,7 @@ impl Latches {
         requires there { takes ≤ length self.now.unit.bytes }
         requires some { jam ≡ JMPC → 1 ≤ takes }
         ensures mpc { (n : PlacedNext) (operands : ℕ) → IsTrue (is_next n) → addr ≡ addr_bits n → jam ≡ jam_bits n → takes ≡ operands + dispatch_bytes n →
-            result.mpc ≡ target n value (byte_at self.now.unit operands) }
+            result.mpc ≡ next_address n value (byte_at self.now.unit operands) }
         ensures small { result.mpc < 512 }
         ensures begins { (n : PlacedNext) → jam ≡ jam_bits n → addr ≡ addr_bits n → result.begins ≡ is_to_instruction n }
     {
@@ -374,7 +374,7 @@ impl Latches {
         requires c { c ≡ shifted (statement_of Mic2 control.now.word).part.shift value }
         ensures latches { AreLatches self.new }
         ensures ok { OnOk result (let s = statement_of Mic2 control.now.word in let m = micro_in self.old in
-            micro_in self.new ≡ moved (settled s m) (target s.next value (byte_at m.unit (operand_bytes s.part))) word
+            micro_in self.new ≡ next_micro (settled s m) (next_address s.next value (byte_at m.unit (operand_bytes s.part))) word
             (unit_after (jumps s.part) bus.now.words (settled s m).pc (demand s) m.unit) (is_to_instruction s.next)) }
         ensures allowed { OnOk result (let s = statement_of Mic2 control.now.word in let m = micro_in self.old in
             sample_refusal (length bus.now.words) (unit_samples (jumps s.part) (settled s m).pc (demand s) m.unit) ≡ None) }

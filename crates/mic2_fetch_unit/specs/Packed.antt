@@ -1,4 +1,4 @@
--- The queue as a register.
+-- The queue of fetched bytes as one number, the first byte lowest, as the fetch unit keeps it.
 use Rattle.console_port.specs.World.{byte_of}
 use Rattle.std.specs.Prelude.{ℕ, zero, suc, ◌+◌, ◌*◌, ◌/◌, ◌%◌, List, [], ◌∷◌}
 

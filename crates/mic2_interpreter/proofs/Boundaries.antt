@@ -25,7 +25,7 @@ use Rattle.mic2_interpreter.proofs.Guided.{Short, standing, moment_of, settled_b
 use Rattle.ijvm_simulation.specs.Stands.{Origin, RegistersStand}
 use Rattle.ijvm_simulation.specs.Stack.{IsMapEnd}
 use Rattle.ijvm_simulation.specs.Passes.{Moment, is_inside, pass}
-use Rattle.ijvm_simulation.specs.Law.{Shows, HasWord}
+use Rattle.ijvm_simulation.specs.Law.{ShowsState, HasWord}
 
 -- so many steps, none of which stalls
 abbrev pub steps : ℕ → List Turn
@@ -162,7 +162,7 @@ at_boundary o s t least holds pc near mpc word begins queue two =
     record { holds = holds; pc = pc; near = near; mpc = mpc; word = word; begins = begins; least = least; queue = queue; two = two }
 
 -- what a Mic-2 shows at a boundary
-pub shows : (program : List ℕ) (o : Origin) (s : State) (m : Micro) (w : World) → Stands o s m w → Shows mic2_meaning program (Stands o) o.given s m w
+pub shows : (program : List ℕ) (o : Origin) (s : State) (m : Micro) (w : World) → Stands o s m w → ShowsState mic2_meaning program (Stands o) o.given s m w
 unfolding wrap
 shows program o s m w h =
     record {

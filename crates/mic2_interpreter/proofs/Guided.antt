@@ -18,10 +18,10 @@ use Rattle.mic_clock.specs.Meaning.{Outcome, Done, Refused}
 use Rattle.mic_datapath.specs.declared.ports.Ports.{Ports}
 use Rattle.mic_datapath.specs.Registers.{NineRegisters, on_bus, loaded, ports_given}
 use Rattle.mic_datapath.specs.Memory.{written, sampled, word_under_way, memory_refusal, first_refusal, outcome}
-use Rattle.mic_datapath.specs.Next.{target}
+use Rattle.mic_datapath.specs.Next.{next_address}
 use Rattle.mic2_fetch_unit.specs.FetchUnit.{Prefetch, edge, edge_refusal}
 use Rattle.mic2_datapath.specs.Micro.{Micro}
-use Rattle.mic2_datapath.specs.Microstep.{operand_bytes, dispatch_bytes, demand, is_stalled, stalled, registers_in, byte_at, fetched, source, result_of, advanced, jumps, unit_after, unit_refusal, is_to_instruction, moved, clock, world_after, step_if, microstep}
+use Rattle.mic2_datapath.specs.Microstep.{operand_bytes, dispatch_bytes, demand, is_stalled, stalled, registers_in, byte_at, fetched, source, result_of, advanced, jumps, unit_after, unit_refusal, is_to_instruction, next_micro, clock, world_after, step_if, microstep}
 use Rattle.mic_clock.specs.Run.{number_of}
 use Rattle.mic2_datapath.specs.Mic2.{mic2_meaning, step_of_word, driven, driven_by, stalled_drive}
 use Rattle.ijvm_simulation.specs.Stands.{IsMemory}
@@ -89,7 +89,7 @@ result_same queue origin part m have h =
     (source_same (byte_at (unit_at origin m.pc have)) (text_from origin m.pc) part.a m (λ k l. queue.front origin m.pc have k (omega arith)))
     (source_same (byte_at (unit_at origin m.pc have)) (text_from origin m.pc) part.b m (λ k l. queue.front origin m.pc have k (omega arith)))
 
-target_same : (n : PlacedNext) (x b c : ℕ) → (0 < dispatch_bytes n → b ≡ c) → target n x b ≡ target n x c
+target_same : (n : PlacedNext) (x b c : ℕ) → (0 < dispatch_bytes n → b ≡ c) → next_address n x b ≡ next_address n x c
 target_same (Goto to) x b c h = refl
 target_same (Dispatch high) x b c h = ap (λ (k : ℕ). if high then k + 256 else k) (h (omega arith))
 target_same (Branch test low) x b c h = refl
@@ -102,7 +102,7 @@ settled_by s x m = loaded s.part.dests (shifted s.part.shift x) m.word (record (
 abbrev pub clock_by : ℕ → Placed → ℕ → ℕ → Prefetch → Micro → World → Micro
 clock_by top s x to unit m w =
     let r = settled_by s x m in
-    moved r to (word_under_way top s.part.mem (ports_given r) (written top s.part.mem (ports_given r) w)) unit (is_to_instruction s.next)
+    next_micro r to (word_under_way top s.part.mem (ports_given r) (written top s.part.mem (ports_given r) w)) unit (is_to_instruction s.next)
 
 abbrev pub world_by : ℕ → Placed → ℕ → Micro → World → World
 world_by top s x m w = let p = ports_given (settled_by s x m) in sampled top s.part.mem p (written top s.part.mem p w)
@@ -149,7 +149,7 @@ module _ (origin : List ℕ) where
       let r = settled_by s x t.state in
       (is_enough (demand s) t.queue ≡ true)
       × (memory_refusal top s.part.mem r.mar ≡ None)
-      × (target s.next x (text_from origin t.state.pc (operand_bytes s.part)) ≡ address_behind s.next gs)
+      × (next_address s.next x (text_from origin t.state.pc (operand_bytes s.part)) ≡ address_behind s.next gs)
       × IsAbove s.part.mem r.mar
       × (t.state.pc < 0x1FF00)
       × (r.pc < 0x1FF00)
@@ -246,14 +246,14 @@ module _ (origin : List ℕ) where
         let none : refusal_by top s x (standing origin m have) ≡ None = ap₂ first_refusal c.1 unit in
         let byte : (0 < dispatch_bytes s.next → byte_at (unit_at origin m.pc have) (operand_bytes s.part) ≡ text_from origin m.pc (operand_bytes s.part)) =
         λ l. queue.front origin m.pc have (operand_bytes s.part) (omega arith) in
-        let next : target s.next x (byte_at (unit_at origin m.pc have) (operand_bytes s.part)) ≡ address_behind s.next gs = target_same s.next x _ _ byte ∙ c.2 in
+        let next : next_address s.next x (byte_at (unit_at origin m.pc have) (operand_bytes s.part)) ≡ address_behind s.next gs = target_same s.next x _ _ byte ∙ c.2 in
         let after : unit_after (jumps s.part) (written top s.part.mem (ports_given (settled_by s x m)) w).words (settled_by s x m).pc (demand s) (unit_at origin m.pc have)
         ≡ unit_at origin (settled_by s x m).pc (have_behind (jumps s.part) m.pc (demand s) have) =
         unit_is s m have x (written top s.part.mem (ports_given (settled_by s x m)) w).words (jumps s.part) refl les few
         (written-memory s.part.mem (ports_given (settled_by s x m)) w c.3 ms) c.4 c.5 in
         let stepped : (top' x' : ℕ) → Outcome Micro =
         λ top' x'. outcome (refusal_by top' s x' (standing origin m have))
-        (clock_by top' s x' (target s.next x' (byte_at (unit_at origin m.pc have) (operand_bytes s.part)))
+        (clock_by top' s x' (next_address s.next x' (byte_at (unit_at origin m.pc have) (operand_bytes s.part)))
         (unit_after (jumps s.part) (written top' s.part.mem (ports_given (settled_by s x' m)) w).words (settled_by s x' m).pc (demand s) (unit_at origin m.pc have)) m w)
         (world_by top' s x' m w) in
         ap (λ (b : Bool). step_if b (length w.words) s (standing origin m have) w) (not_stalled s m have les)

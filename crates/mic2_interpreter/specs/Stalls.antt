@@ -5,7 +5,7 @@ use Rattle.ijvm_image.specs.Image.{ImageView}
 use Rattle.ijvm_instr.specs.declared.instr.Instr.{Instr}
 use Rattle.ijvm_instr.specs.declared.instr.Instr.TheVariants.{Invokevirtual}
 use Rattle.ijvm_meaning.specs.Frames.{State}
-use Rattle.ijvm_meaning.specs.Run.{Program, Point}
+use Rattle.ijvm_meaning.specs.Run.{TimedImage, Point}
 use Rattle.ijvm_meaning.specs.Cost.{timing_of, entry_of}
 use Rattle.verifier_facts.specs.Accepted.{VerifiedView}
 use Rattle.mic2_datapath.specs.Micro.{Micro}
@@ -36,5 +36,5 @@ module _ (program : List ℕ) (o : Origin) where
   BootsWithStall v input = simulation.BootsWithStalls mic2_meaning program Stands 0x002 (timing_of Mic2) 1 v o input
 
 -- the boundaries of a run, each with the stalls before it: one of the boot, and those of the calls
-abbrev pub HasStalled : Program → ℕ → Point → Point → ℕ → Type 0
+abbrev pub HasStalled : TimedImage → ℕ → Point → Point → ℕ → Type 0
 HasStalled = simulation.HasStalled 1 stalls_of

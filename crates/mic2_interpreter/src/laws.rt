@@ -11,7 +11,7 @@ ghost use Rattle.mic_clock.specs.Run.{turns};
 ghost use Rattle.ijvm_instr.specs.declared.instr.Instr.{Instr};
 ghost use Rattle.ijvm_instr.specs.Instructions.{instr_at};
 ghost use Rattle.ijvm_meaning.specs.Frames.{State};
-ghost use Rattle.ijvm_meaning.specs.Step.{Limits, outcome};
+ghost use Rattle.ijvm_meaning.specs.Step.{Limits, step_outcome};
 ghost use Rattle.ijvm_meaning.specs.Run.{Point, first_point};
 ghost use Rattle.ijvm_simulation.specs.Verified.{Loads, program};
 ghost use Rattle.mic_image_board.specs.Reset.{reset_run};
@@ -103,7 +103,7 @@ pub fn runs_stall_at_calls()
     ensures limit { (store : List ℕ) (o : Origin) (v : VerifiedView) (input : List ℕ) (bound : ℕ) → HasShipped Mic2 store → Loads v o →
         (at : Point) (stalls : ℕ) (i : Instr) (left : State) →
         HasStalled (program (timing_of Mic2) v) bound (first_point (program (timing_of Mic2) v) v.main_locals input) at stalls →
-        at.cycles < bound → instr_at v.image.text at.state.at ≡ Some i → outcome v.image v.map.stack_end at.state ≡ Limits left →
+        at.cycles < bound → instr_at v.image.text at.state.at ≡ Some i → step_outcome v.image v.map.stack_end at.state ≡ Limits left →
         (n : ℕ) × StoppedWithin (stalls + stalls_of v.image i)
         (turns mic2_meaning store (Some bound) n (reset_run mic2_meaning 0x002 v.main_locals (record { words = o.words; untaken = input; given = o.given }))) }
 {

@@ -20,10 +20,10 @@ use Rattle.mic_datapath.specs.Places.{registers_at}
 use Rattle.mic_datapath.specs.Registers.{NineRegisters, ports_given}
 use Rattle.mic_datapath.specs.declared.ports.Ports.{Ports}
 use Rattle.mic2_fetch_unit.specs.FetchUnit.{sample_refusal}
-use Rattle.mic2_datapath.specs.Microstep.{access_refusal, advanced, demand, moved, unit_after, unit_refusal, unit_samples}
+use Rattle.mic2_datapath.specs.Microstep.{access_refusal, advanced, demand, next_micro, unit_after, unit_refusal, unit_samples}
 use Rattle.mic3_datapath.specs.declared.pipeline.Pipeline.{Pipeline as Latched}
 use Rattle.mic3_datapath.specs.Pipeline.{Pipeline, Issued, Computed}
-use Rattle.mic3_datapath.specs.Cycle.{begins, clock, computed, computed_in, cycle, cycle_with, is_held_up, is_jump_coming, issued, issued_by, issued_in, mem_in, mpc_after, refusal, retired, settled, taken, waits, word_after, world_after}
+use Rattle.mic3_datapath.specs.Cycle.{begins, clock, computed, computed_in, cycle, cycle_with, is_held_up, is_jump_coming, issued, issued_by, issued_in, mem_in, mpc_after, refusal, retired, settled, bytes_leaving, waits, word_after, world_after}
 use Rattle.mic3_datapath.specs.Mic3.{mic3_meaning, step_of_word}
 use Rattle.mic3_datapath.specs.Slots.{edged, in_result, pipeline_in, word_held}
 
@@ -37,11 +37,11 @@ pub record Asked : Type 0 where
 pub record IsAsked (i : Option Issued) (p : Pipeline) (q : Asked) : Type 0 where
   pub given : q.ports ≡ ports_given (settled i p)
   pub memory : q.mem ≡ mem_in p.result
-  pub samples : (n : ℕ) → sample_refusal n q.at ≡ unit_refusal (is_jump_coming (computed_in p.result)) n q.ports.pc (taken i) p.micro.unit
-  pub its : q.at ≡ unit_samples (is_jump_coming (computed_in p.result)) q.ports.pc (taken i) p.micro.unit
+  pub samples : (n : ℕ) → sample_refusal n q.at ≡ unit_refusal (is_jump_coming (computed_in p.result)) n q.ports.pc (bytes_leaving i) p.micro.unit
+  pub its : q.at ≡ unit_samples (is_jump_coming (computed_in p.result)) q.ports.pc (bytes_leaving i) p.micro.unit
 
 -- what is asked of the bus is asked for the word in the result slot
-pub is_asked : (l : Latched) (i : Option Issued) (t : ℕ) (ports : Ports) (mem : Mem) (jump : Bool) (at : Option ℕ) → t ≡ taken i →
+pub is_asked : (l : Latched) (i : Option Issued) (t : ℕ) (ports : Ports) (mem : Mem) (jump : Bool) (at : Option ℕ) → t ≡ bytes_leaving i →
     ports ≡ ports_given (retired (in_result l.result) l.latches.word (record (registers_at l.latches.places) { pc = advanced t (registers_at l.latches.places).pc })) →
     mem ≡ mem_in (in_result l.result) → jump ≡ is_jump_coming (computed_in (in_result l.result)) →
     ((n : ℕ) → sample_refusal n at ≡ unit_refusal jump n ports.pc t l.latches.unit) → at ≡ unit_samples jump ports.pc t l.latches.unit →
@@ -63,7 +63,7 @@ same_refusal : (i : Option Issued) (p : Pipeline) (q : Asked) → IsAsked i p q 
 same_refusal i p q h n =
     sym
     (ap (λ (r : Option Refusal). first_refusal (memory_refusal n q.mem q.ports.mar) r) (h.samples n)
-    ∙ (λ j. first_refusal (memory_refusal n (h.memory j) (h.given j).mar) (unit_refusal (is_jump_coming (computed_in p.result)) n (h.given j).pc (taken i) p.micro.unit)))
+    ∙ (λ j. first_refusal (memory_refusal n (h.memory j) (h.given j).mar) (unit_refusal (is_jump_coming (computed_in p.result)) n (h.given j).pc (bytes_leaving i) p.micro.unit)))
 
 goes_on : (s : Placed) (i : Option Issued) (p : Pipeline) → issued s p ≡ i → (n : ℕ) (w : World) → length w.words ≡ n → cycle s p w ≡ cycle_with n i p w
 goes_on s i p is n w size = ap₂ (λ (k : ℕ) (x : Option Issued). cycle_with k x p w) size is
@@ -88,7 +88,7 @@ is_done s i p q is h w v n size word words clear a shown t moves =
     ∙ (ap (λ (x : Option Refusal). outcome x (clock n i p w) (world_after n i p w)) (same_refusal i p q h n ∙ clear)
     ∙ ((λ j. Done
     (record {
-      micro = moved r (mpc_after i p) (under j) (unit_after (is_jump_coming (computed_in p.result)) (over j) r.pc (taken i) p.micro.unit) (begins p.result);
+      micro = next_micro r (mpc_after i p) (under j) (unit_after (is_jump_coming (computed_in p.result)) (over j) r.pc (bytes_leaving i) p.micro.unit) (begins p.result);
       operand = i;
       result = computed p.operand;
     })
@@ -136,7 +136,7 @@ second_clear None b h = h
 
 -- an access that is not refused leaves the unit's fetch clear
 pub samples_clear : (i : Option Issued) (p : Pipeline) (q : Asked) → IsAsked i p q → (n n' : ℕ) → n' ≡ n → refusal_on n q ≡ None →
-    sample_refusal n' (unit_samples (is_jump_coming (computed_in p.result)) q.ports.pc (taken i) p.micro.unit) ≡ None
+    sample_refusal n' (unit_samples (is_jump_coming (computed_in p.result)) q.ports.pc (bytes_leaving i) p.micro.unit) ≡ None
 samples_clear i p q h n n' size clear = (λ j. sample_refusal (size j) (sym h.its j)) ∙ second_clear (memory_refusal n q.mem q.ports.mar) (sample_refusal n q.at) clear
 
 both : (a b : Bool) → (a && b) ≡ true → a ≡ true
@@ -257,10 +257,10 @@ module _ (word : ℕ) (i : Option Issued) (p : Pipeline) (q : Asked) (is : issue
 abbrev issued_if : Bool → Placed → Pipeline → Option Issued
 issued_if b s p = if b then None else Some (issued_by s p)
 
-pub issued_there : (s : Placed) (p : Pipeline) → taken (issued s p) ≤ length p.micro.unit.bytes
+pub issued_there : (s : Placed) (p : Pipeline) → bytes_leaving (issued s p) ≤ length p.micro.unit.bytes
 issued_there s p = by_tests (is_held_up s p.micro.word (issued_in p.operand) (computed_in p.result)) (nat_lt (length p.micro.unit.bytes) (demand s)) refl
   where
-    by_tests : (a b : Bool) → nat_lt (length p.micro.unit.bytes) (demand s) ≡ b → taken (issued_if (a || b) s p) ≤ length p.micro.unit.bytes
+    by_tests : (a b : Bool) → nat_lt (length p.micro.unit.bytes) (demand s) ≡ b → bytes_leaving (issued_if (a || b) s p) ≤ length p.micro.unit.bytes
     by_tests true b e = omega arith
     by_tests false true e = omega arith
     by_tests false false e = grind (arith, nat_tests)

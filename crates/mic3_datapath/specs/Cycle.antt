@@ -16,9 +16,9 @@ use Rattle.console_port.specs.World.{World, Refusal}
 use Rattle.mic_clock.specs.Meaning.{Outcome}
 use Rattle.mic_datapath.specs.Access.{is_read}
 use Rattle.mic_datapath.specs.Memory.{written, sampled, word_under_way, memory_refusal, first_refusal, outcome}
-use Rattle.mic_datapath.specs.Next.{target}
+use Rattle.mic_datapath.specs.Next.{next_address}
 use Rattle.mic_datapath.specs.Registers.{NineRegisters, loaded, ports_given}
-use Rattle.mic2_datapath.specs.Microstep.{advanced, byte_at, demand, is_to_instruction, jumps, moved, operand_bytes, registers_in, source, unit_after, unit_refusal}
+use Rattle.mic2_datapath.specs.Microstep.{advanced, byte_at, demand, is_to_instruction, jumps, next_micro, operand_bytes, registers_in, source, unit_after, unit_refusal}
 use Rattle.mic3_datapath.specs.Pipeline.{Pipeline, Issued, Computed}
 
 -- Hazards: why the statement at MPC waits. They depend on the statements in the operand slot (o) and in the result slot (r).
@@ -112,9 +112,9 @@ issued s p = if waits s p then None else Some (issued_by s p)
 -- The edge. `to_issue` is what issues in this cycle, if anything does.
 
 -- so many bytes leave the queue
-abbrev pub taken : Option Issued → ℕ
-taken None = 0
-taken (Some i) = demand i.statement
+abbrev pub bytes_leaving : Option Issued → ℕ
+bytes_leaving None = 0
+bytes_leaving (Some i) = demand i.statement
 
 -- First the statement in the result slot retires: its destinations take its value, and an arriving word becomes MDR.
 -- Where nothing retires, an arriving word stays held.
@@ -124,7 +124,7 @@ retired (Some c) word r = loaded c.statement.part.dests c.value word r
 
 -- PC goes on by the bytes that are taken, and none are taken where it is a destination.
 abbrev pub settled : Option Issued → Pipeline → NineRegisters
-settled to_issue p = retired p.result p.micro.word (record (registers_in p.micro) { pc = advanced (taken to_issue) p.micro.pc })
+settled to_issue p = retired p.result p.micro.word (record (registers_in p.micro) { pc = advanced (bytes_leaving to_issue) p.micro.pc })
 
 -- the access of the statement that retires
 abbrev pub mem_in : Option Computed → Mem
@@ -149,15 +149,15 @@ computed (Some i) = Some (record { statement = i.statement; value = shifted i.st
 
 abbrev pub from_retired : Option Computed → ℕ → ℕ
 from_retired None mpc = mpc
-from_retired (Some c) mpc = if is_to_instruction c.statement.next then target c.statement.next 0 c.byte else mpc
+from_retired (Some c) mpc = if is_to_instruction c.statement.next then next_address c.statement.next 0 c.byte else mpc
 
 abbrev pub from_computed : Option Issued → ℕ → ℕ
 from_computed None mpc = mpc
-from_computed (Some i) mpc = if is_branch i.statement.next then target i.statement.next (result_of i) 0 else mpc
+from_computed (Some i) mpc = if is_branch i.statement.next then next_address i.statement.next (result_of i) 0 else mpc
 
 abbrev pub from_issued : Option Issued → ℕ → ℕ
 from_issued None mpc = mpc
-from_issued (Some i) mpc = if is_branch i.statement.next || is_to_instruction i.statement.next then mpc else target i.statement.next 0 i.byte
+from_issued (Some i) mpc = if is_branch i.statement.next || is_to_instruction i.statement.next then mpc else next_address i.statement.next 0 i.byte
 
 abbrev pub mpc_after : Option Issued → Pipeline → ℕ
 mpc_after to_issue p = from_issued to_issue (from_computed p.operand (from_retired p.result p.micro.mpc))
@@ -173,8 +173,8 @@ clock stack_end to_issue p w =
     let r = settled to_issue p in
     let v = written stack_end (mem_in p.result) (ports_given r) w in
     record {
-      micro = moved r (mpc_after to_issue p) (word_after stack_end p.result p.micro.word r v)
-          (unit_after (is_jump_coming (computed_in p.result)) v.words r.pc (taken to_issue) p.micro.unit) (begins p.result);
+      micro = next_micro r (mpc_after to_issue p) (word_after stack_end p.result p.micro.word r v)
+          (unit_after (is_jump_coming (computed_in p.result)) v.words r.pc (bytes_leaving to_issue) p.micro.unit) (begins p.result);
       operand = to_issue;
       result = computed p.operand;
     }
@@ -189,7 +189,7 @@ abbrev pub refusal : ℕ → Option Issued → Pipeline → Option Refusal
 refusal stack_end to_issue p =
     let r = settled to_issue p in
     first_refusal (memory_refusal stack_end (mem_in p.result) r.mar)
-    (unit_refusal (is_jump_coming (computed_in p.result)) stack_end r.pc (taken to_issue) p.micro.unit)
+    (unit_refusal (is_jump_coming (computed_in p.result)) stack_end r.pc (bytes_leaving to_issue) p.micro.unit)
 
 -- the cycle in which this issues, and the cycle of the statement at MPC
 abbrev pub cycle_with : ℕ → Option Issued → Pipeline → World → Outcome Pipeline

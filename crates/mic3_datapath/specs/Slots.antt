@@ -5,12 +5,12 @@ use Rattle.micro_word.specs.Coding.{statement_of}
 use Rattle.micro_word.specs.declared.statement.Placed.{Placed}
 use Rattle.mic_clock.specs.declared.buses.Computed.{Computed as Values}
 use Rattle.mic2_datapath.specs.Latches.{micro_in}
-use Rattle.mic2_datapath.specs.Microstep.{moved, unit_after}
+use Rattle.mic2_datapath.specs.Microstep.{next_micro, unit_after}
 use Rattle.mic3_datapath.specs.declared.slots.OperandSlot.{OperandSlot}
 use Rattle.mic3_datapath.specs.declared.slots.ResultSlot.{ResultSlot}
 use Rattle.mic3_datapath.specs.declared.pipeline.Pipeline.{Pipeline as Latched}
 use Rattle.mic3_datapath.specs.Pipeline.{Pipeline, Issued, Computed}
-use Rattle.mic3_datapath.specs.Cycle.{begins, computed, computed_in, is_jump_coming, issued, mpc_after, settled, taken}
+use Rattle.mic3_datapath.specs.Cycle.{begins, computed, computed_in, is_jump_coming, issued, mpc_after, settled, bytes_leaving}
 use Rattle.mic3_datapath.specs.Mic3.{values_of}
 
 abbrev pub in_operand : Option OperandSlot → Option Issued
@@ -34,8 +34,8 @@ abbrev pub edged : Option Issued → Pipeline → List ℕ → Option ℕ → Pi
 edged to_issue p words sampled =
     let r = settled to_issue p in
     record {
-      micro = moved r (mpc_after to_issue p) (word_held p.result p.micro.word sampled)
-          (unit_after (is_jump_coming (computed_in p.result)) words r.pc (taken to_issue) p.micro.unit) (begins p.result);
+      micro = next_micro r (mpc_after to_issue p) (word_held p.result p.micro.word sampled)
+          (unit_after (is_jump_coming (computed_in p.result)) words r.pc (bytes_leaving to_issue) p.micro.unit) (begins p.result);
       operand = to_issue;
       result = computed p.operand;
     }

@@ -1,4 +1,4 @@
-//! Why a word waits.
+//! Why a microinstruction is not issued yet: a value that it needs is under way, or a jump is.
 
 ghost use Rattle.std.specs.Prelude.{◌≡◌, ◌<◌, ◌||◌};
 ghost use Rattle.mic_words.specs.declared.machine.Machine.TheVariants.{Mic2};

@@ -10,7 +10,7 @@ ghost use Rattle.mic3_datapath.specs.Cycle.{issued};
 ghost use Rattle.mic3_datapath.specs.Slots.{HasComputed, in_operand, pipeline_in};
 
 use crate::hazards::jumps_now;
-use crate::pipeline::{Pipeline, mem_in, taken, values_of};
+use crate::pipeline::{Pipeline, bytes_leaving, mem_in, values_of};
 use crate::slots::OperandSlot;
 use console_port::{Bus, BusFault};
 use mic_base::{Sink, Source};
@@ -131,7 +131,7 @@ impl Clocked for Mic3 {
     ) -> Result<(), BusFault> {
         console_law();
         self.stage = Stage::Setup;
-        let taken = taken(self.to_issue);
+        let taken = bytes_leaving(self.to_issue);
         let mem = mem_in(self.pipeline.result);
         let jumps = jumps_now(self.pipeline.result);
         let ports = self.pipeline.ports(taken);

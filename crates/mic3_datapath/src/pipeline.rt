@@ -9,7 +9,7 @@ ghost use Rattle.mic_datapath.specs.Registers.{ports_given};
 ghost use Rattle.mic2_fetch_unit.specs.FetchUnit.{sample_refusal};
 ghost use Rattle.mic2_datapath.specs.Latches.{AreLatches};
 ghost use Rattle.mic2_datapath.specs.Microstep.{advanced, byte_at, demand, operand_bytes, unit_after, unit_samples};
-ghost use Rattle.mic3_datapath.specs.Cycle.{begins, computed, computed_in, dispatched, from_computed, from_issued, from_retired, is_jump_coming, issued, mem_in, mpc_after, retired, settled, taken, waits};
+ghost use Rattle.mic3_datapath.specs.Cycle.{begins, computed, computed_in, dispatched, from_computed, from_issued, from_retired, is_jump_coming, issued, mem_in, mpc_after, retired, settled, bytes_leaving, waits};
 ghost use Rattle.mic3_datapath.specs.Mic3.{initial as initial_of, values_of};
 ghost use Rattle.mic3_datapath.specs.Slots.{edged, in_operand, in_result, pipeline_in, word_held};
 
@@ -43,8 +43,8 @@ pub struct Pipeline {
 
 /// How many bytes leave the queue.
 #[inline(always)]
-pub fn taken(to_issue: Option<OperandSlot>) -> u8
-    ensures { result ≡ taken (in_operand to_issue) }
+pub fn bytes_leaving(to_issue: Option<OperandSlot>) -> u8
+    ensures { result ≡ bytes_leaving (in_operand to_issue) }
 {
     match to_issue {
         Some(slot) => slot.control.lines.takes,
@@ -322,16 +322,17 @@ impl Pipeline {
         bus: &Bus,
     ) -> Result<(), BusFault>
         requires latches { AreLatches self.old.latches }
-        requires there { taken (in_operand to_issue) ≤ length self.old.latches.unit.bytes }
+        requires there { bytes_leaving (in_operand to_issue) ≤ length self.old.latches.unit.bytes }
         requires values { values.now ≡ values_of (in_operand self.old.operand) }
         requires pc { pc ≡ (settled (in_operand to_issue) (pipeline_in self.old)).pc }
         ensures latches { AreLatches self.new.latches }
         ensures ok { OnOk result (pipeline_in self.new ≡ edged (in_operand to_issue) (pipeline_in self.old) bus.now.words sampled) }
         ensures err { IfErr result (λ e. refused_by (sample_refusal (length bus.now.words)
-            (unit_samples (is_jump_coming (computed_in (in_result self.old.result))) pc (taken (in_operand to_issue)) self.old.latches.unit)) ≡ Some e) }
+            (unit_samples (is_jump_coming (computed_in (in_result self.old.result))) pc (bytes_leaving (in_operand to_issue)) self.old.latches.unit))
+            ≡ Some e) }
         ensures state { OnErr result (pipeline_in self.new ≡ pipeline_in self.old) }
     {
-        let taken = taken(to_issue);
+        let taken = bytes_leaving(to_issue);
         let mpc = mpc_after(to_issue, self, values.alu.value);
         clock_unit(self.result, pc, taken, bus, &mut self.latches.unit)?;
         retire(

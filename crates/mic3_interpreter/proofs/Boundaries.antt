@@ -18,7 +18,7 @@ use Rattle.mic3_interpreter.proofs.Guided.{Short, Turn, standing, moment_of, iss
 use Rattle.ijvm_simulation.specs.Stands.{Origin, RegistersStand}
 use Rattle.ijvm_simulation.specs.Stack.{IsMapEnd}
 use Rattle.ijvm_simulation.specs.Passes.{Moment, is_inside, pass}
-use Rattle.ijvm_simulation.specs.Law.{Shows, HasWord, Moves, Overruns}
+use Rattle.ijvm_simulation.specs.Law.{ShowsState, HasWord, Moves, Overruns}
 use Rattle.verifier_facts.specs.Accepted.{VerifiedView}
 use Rattle.ijvm_instr.specs.declared.instr.Instr.{Instr}
 use Rattle.ijvm_meaning.specs.Cost.{cost}
@@ -199,7 +199,7 @@ at_boundary o s t least holds pc near mpc word begins operand result queue three
     }
 
 -- what a Mic-3 shows at a boundary
-pub shows : (program : List ℕ) (o : Origin) (s : State) (p : Pipeline) (w : World) → Stands o s p w → Shows mic3_meaning program (Stands o) o.given s p w
+pub shows : (program : List ℕ) (o : Origin) (s : State) (p : Pipeline) (w : World) → Stands o s p w → ShowsState mic3_meaning program (Stands o) o.given s p w
 unfolding wrap
 shows program o s p w h =
     record {

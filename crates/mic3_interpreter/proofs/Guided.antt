@@ -18,9 +18,9 @@ use Rattle.mic_datapath.specs.declared.ports.Ports.{Ports}
 use Rattle.mic_datapath.specs.Registers.{NineRegisters, on_bus, ports_given}
 use Rattle.mic_datapath.specs.Memory.{written, sampled, memory_refusal, first_refusal, outcome}
 use Rattle.mic2_datapath.specs.Micro.{Micro}
-use Rattle.mic2_datapath.specs.Microstep.{operand_bytes, demand, registers_in, byte_at, fetched, source, advanced, unit_after, unit_refusal, moved}
+use Rattle.mic2_datapath.specs.Microstep.{operand_bytes, demand, registers_in, byte_at, fetched, source, advanced, unit_after, unit_refusal, next_micro}
 use Rattle.mic3_datapath.specs.Pipeline.{Pipeline, Issued, Computed}
-use Rattle.mic3_datapath.specs.Cycle.{issued_in, computed_in, is_held_up, is_jump_coming, waits, dispatched, issued, issued_by, taken, retired, settled, mem_in, word_after, computed, from_retired, from_computed, from_issued, begins, clock, world_after, refusal, cycle_with, cycle}
+use Rattle.mic3_datapath.specs.Cycle.{issued_in, computed_in, is_held_up, is_jump_coming, waits, dispatched, issued, issued_by, bytes_leaving, retired, settled, mem_in, word_after, computed, from_retired, from_computed, from_issued, begins, clock, world_after, refusal, cycle_with, cycle}
 use Rattle.mic3_datapath.specs.Mic3.{mic3_meaning, step_of_word, driven, driven_by}
 use Rattle.ijvm_simulation.specs.Stands.{IsMemory}
 use Rattle.ijvm_simulation.specs.Passes.{Moment, is_inside, outcome_at, stalls_at, last, onward, pass}
@@ -139,7 +139,7 @@ have_behind false pc t have = have_after pc have t
 
 -- the registers behind an edge, where this retires
 abbrev pub settled_by : Option Computed → Option Issued → Pipeline → NineRegisters
-settled_by c i p = retired c p.micro.word (record (registers_in p.micro) { pc = advanced (taken i) p.micro.pc })
+settled_by c i p = retired c p.micro.word (record (registers_in p.micro) { pc = advanced (bytes_leaving i) p.micro.pc })
 
 -- a write is no write below the stack
 abbrev pub IsAbove : Mem → ℕ → Type 0
@@ -170,12 +170,12 @@ module _ (origin : List ℕ) where
       let r = settled i p in
       record {
         state = record {
-          micro = moved r (from_issued i (turned p.operand gs (from_retired p.result p.micro.mpc)))
+          micro = next_micro r (from_issued i (turned p.operand gs (from_retired p.result p.micro.mpc)))
               (word_after top p.result p.micro.word r (written top (mem_in p.result) (ports_given r) t.world)) p.micro.unit (begins p.result);
           operand = i;
           result = computed p.operand;
         };
-        queue = queue_after (is_jump_coming (computed_in p.result)) k (taken i) t.queue;
+        queue = queue_after (is_jump_coming (computed_in p.result)) k (bytes_leaving i) t.queue;
         world = world_after top i p t.world;
         stalls = stalls_by k t.stalls;
       }
@@ -221,28 +221,28 @@ module _ (origin : List ℕ) where
   advanced_is (suc d) pc h = omega arith
 
   -- PC behind an edge that does not load it
-  pc_on : (c : Option Computed) (i : Option Issued) (p : Pipeline) → is_jump_coming (computed_in c) ≡ false → p.micro.pc + taken i < 4294967296 →
-      (settled_by c i p).pc ≡ p.micro.pc + taken i
-  pc_on None i p e l = advanced_is (taken i) p.micro.pc l
-  pc_on (Some c) i p e l = ap (λ (b : Bool). if b then c.value else advanced (taken i) p.micro.pc) e ∙ advanced_is (taken i) p.micro.pc l
+  pc_on : (c : Option Computed) (i : Option Issued) (p : Pipeline) → is_jump_coming (computed_in c) ≡ false → p.micro.pc + bytes_leaving i < 4294967296 →
+      (settled_by c i p).pc ≡ p.micro.pc + bytes_leaving i
+  pc_on None i p e l = advanced_is (bytes_leaving i) p.micro.pc l
+  pc_on (Some c) i p e l = ap (λ (b : Bool). if b then c.value else advanced (bytes_leaving i) p.micro.pc) e ∙ advanced_is (bytes_leaving i) p.micro.pc l
 
   module _ (queue : QueueLaw) where
     unit_is : (c : Option Computed) (i : Option Issued) (p : Pipeline) (have : ℕ) (words : List ℕ) (b : Bool) → is_jump_coming (computed_in c) ≡ b →
-        taken i ≤ have → have ≤ 6 → IsMemory origin words →
+        bytes_leaving i ≤ have → have ≤ 6 → IsMemory origin words →
         p.micro.pc < 0x1FF00 → (settled_by c i p).pc < 0x1FF00 →
-        unit_after b words (settled_by c i p).pc (taken i) (unit_at origin p.micro.pc have) ≡ unit_at origin (settled_by c i p).pc
-        (have_behind b p.micro.pc (taken i) have)
+        unit_after b words (settled_by c i p).pc (bytes_leaving i) (unit_at origin p.micro.pc have) ≡ unit_at origin (settled_by c i p).pc
+        (have_behind b p.micro.pc (bytes_leaving i) have)
     unit_is c i p have words true e h few ms l l2 = queue.jump_stands origin words (settled_by c i p).pc ms.kept l2
     unit_is c i p have words false e h few ms l l2 =
-        let pc : (settled_by c i p).pc ≡ p.micro.pc + taken i = pc_on c i p e (omega arith) in
-        queue.edge_stands origin words p.micro.pc have (taken i) h few ms.kept l
-        ∙ ap (λ (k : ℕ). unit_at origin k (have_after p.micro.pc have (taken i))) (sym pc)
+        let pc : (settled_by c i p).pc ≡ p.micro.pc + bytes_leaving i = pc_on c i p e (omega arith) in
+        queue.edge_stands origin words p.micro.pc have (bytes_leaving i) h few ms.kept l
+        ∙ ap (λ (k : ℕ). unit_at origin k (have_after p.micro.pc have (bytes_leaving i))) (sym pc)
 
-    unit_allowed : (c : Option Computed) (i : Option Issued) (p : Pipeline) (have : ℕ) (b : Bool) → 0x8000 ≤ top → taken i ≤ have → have ≤ 6 →
+    unit_allowed : (c : Option Computed) (i : Option Issued) (p : Pipeline) (have : ℕ) (b : Bool) → 0x8000 ≤ top → bytes_leaving i ≤ have → have ≤ 6 →
         p.micro.pc < 0x1FF00 → (settled_by c i p).pc < 0x1FF00 →
-        unit_refusal b top (settled_by c i p).pc (taken i) (unit_at origin p.micro.pc have) ≡ None
+        unit_refusal b top (settled_by c i p).pc (bytes_leaving i) (unit_at origin p.micro.pc have) ≡ None
     unit_allowed c i p have true map h few l l2 = queue.jump_allowed top (settled_by c i p).pc map l2
-    unit_allowed c i p have false map h few l l2 = queue.edge_allowed top origin p.micro.pc have (taken i) map h few l
+    unit_allowed c i p have false map h few l l2 = queue.edge_allowed top origin p.micro.pc have (bytes_leaving i) map h few l
 
     memory_set : (words : List ℕ) (a v : ℕ) → 0x8000 ≤ a → IsMemory origin words → IsMemory origin (slice_set words a v)
     memory_set words a v le h =
@@ -307,7 +307,7 @@ module _ (origin : List ℕ) where
         none_by s t.state have (waits_by s t.state have held_up true refl l ∙ or_true held_up)
 
     taken_there : (k : Turn) (s : Placed) (gs : List ℕ) (t : Short) (have : ℕ) → IsHeld t.queue t.state.micro.pc have → IsTurn k s gs t →
-        taken (issue_of origin k s gs t.state) ≤ have
+        bytes_leaving (issue_of origin k s gs t.state) ≤ have
     taken_there Issues s gs t have held c = queue.enough (demand s) t.queue t.state.micro.pc have c.1 held
     taken_there HeldUp s gs t have held c = omega arith
     taken_there (Lacks b) s gs t have held c = omega arith
@@ -318,7 +318,7 @@ module _ (origin : List ℕ) where
         IsHeld t.queue t.state.micro.pc have → IsRight k s gs t →
         cycle s (standing origin t.state have) t.world
         ≡ Done (standing origin (stepped k s gs t).state
-        (have_behind (is_jump_coming (computed_in t.state.result)) t.state.micro.pc (taken (issue_of origin k s gs t.state)) have)) (stepped k s gs t).world
+        (have_behind (is_jump_coming (computed_in t.state.result)) t.state.micro.pc (bytes_leaving (issue_of origin k s gs t.state)) have)) (stepped k s gs t).world
     step-clear k s gs t have map ms held c =
         let p : Pipeline = t.state in
         let w : World = t.world in
@@ -326,19 +326,19 @@ module _ (origin : List ℕ) where
         let r : NineRegisters = settled i p in
         let b : Bool = is_jump_coming (computed_in p.result) in
         let few : have ≤ 6 = queue.few t.queue p.micro.pc have held in
-        let les : taken i ≤ have = taken_there k s gs t have held c.0 in
-        let unit : unit_refusal b top r.pc (taken i) (unit_at origin p.micro.pc have) ≡ None = unit_allowed p.result i p have b map les few c.4 c.5 in
+        let les : bytes_leaving i ≤ have = taken_there k s gs t have held c.0 in
+        let unit : unit_refusal b top r.pc (bytes_leaving i) (unit_at origin p.micro.pc have) ≡ None = unit_allowed p.result i p have b map les few c.4 c.5 in
         let none : refusal top i (standing origin p have) ≡ None = ap₂ first_refusal c.1 unit in
         let next : from_issued i (from_computed p.operand (from_retired p.result p.micro.mpc)) ≡ from_issued i
         (turned p.operand gs (from_retired p.result p.micro.mpc)) = ap (from_issued i) c.2 in
-        let after : unit_after b (written top (mem_in p.result) (ports_given r) w).words r.pc (taken i)
-        (unit_at origin p.micro.pc have) ≡ unit_at origin r.pc (have_behind b p.micro.pc (taken i) have) =
+        let after : unit_after b (written top (mem_in p.result) (ports_given r) w).words r.pc (bytes_leaving i)
+        (unit_at origin p.micro.pc have) ≡ unit_at origin r.pc (have_behind b p.micro.pc (bytes_leaving i) have) =
         unit_is p.result i p have (written top (mem_in p.result) (ports_given r) w).words b refl les few
         (written-memory (mem_in p.result) (ports_given r) w c.3 ms) c.4 c.5 in
         ap₂ (λ (n : ℕ) (x : Option Issued). cycle_with n x (standing origin p have) w) ms.long (issued_is k s gs t have held c.0)
         ∙ (λ j. outcome (none j)
         (record {
-          micro = moved r (next j) (word_after top p.result p.micro.word r (written top (mem_in p.result) (ports_given r) w)) (after j) (begins p.result);
+          micro = next_micro r (next j) (word_after top p.result p.micro.word r (written top (mem_in p.result) (ports_given r) w)) (after j) (begins p.result);
           operand = i;
           result = computed p.operand;
         })
@@ -346,12 +346,12 @@ module _ (origin : List ℕ) where
 
     held-stepped : (k : Turn) (s : Placed) (gs : List ℕ) (t : Short) (have : ℕ) → IsHeld t.queue t.state.micro.pc have → IsRight k s gs t →
         IsHeld (stepped k s gs t).queue (stepped k s gs t).state.micro.pc
-        (have_behind (is_jump_coming (computed_in t.state.result)) t.state.micro.pc (taken (issue_of origin k s gs t.state)) have)
+        (have_behind (is_jump_coming (computed_in t.state.result)) t.state.micro.pc (bytes_leaving (issue_of origin k s gs t.state)) have)
     held-stepped k s gs t have held c = by_jump (is_jump_coming (computed_in t.state.result)) refl
       where
         by_turn : (l : Turn) → IsTurn l s gs t →
-            IsHeld (queue_by l (taken (issue_of origin l s gs t.state)) t.queue) (t.state.micro.pc + taken (issue_of origin l s gs t.state))
-            (have_after t.state.micro.pc have (taken (issue_of origin l s gs t.state)))
+            IsHeld (queue_by l (bytes_leaving (issue_of origin l s gs t.state)) t.queue) (t.state.micro.pc + bytes_leaving (issue_of origin l s gs t.state))
+            (have_after t.state.micro.pc have (bytes_leaving (issue_of origin l s gs t.state)))
         by_turn Issues d = queue.after_edge (demand s) t.queue t.state.micro.pc have d.1 held
         by_turn HeldUp d = queue.after_edge 0 t.queue t.state.micro.pc have refl held
         by_turn (Lacks b) d =
@@ -360,16 +360,16 @@ module _ (origin : List ℕ) where
             (queue.after_wait b t.queue t.state.micro.pc (demand s) have d held)
 
         by_jump : (b : Bool) → is_jump_coming (computed_in t.state.result) ≡ b →
-            IsHeld (queue_after b k (taken (issue_of origin k s gs t.state)) t.queue) (settled (issue_of origin k s gs t.state) t.state).pc
-            (have_behind b t.state.micro.pc (taken (issue_of origin k s gs t.state)) have)
+            IsHeld (queue_after b k (bytes_leaving (issue_of origin k s gs t.state)) t.queue) (settled (issue_of origin k s gs t.state) t.state).pc
+            (have_behind b t.state.micro.pc (bytes_leaving (issue_of origin k s gs t.state)) have)
         by_jump true e = refl
         by_jump false e =
             let few : have ≤ 6 = queue.few t.queue t.state.micro.pc have held in
-            let les : taken (issue_of origin k s gs t.state) ≤ have = taken_there k s gs t have held c.0 in
-            let pc : (settled (issue_of origin k s gs t.state) t.state).pc ≡ t.state.micro.pc + taken (issue_of origin k s gs t.state) =
+            let les : bytes_leaving (issue_of origin k s gs t.state) ≤ have = taken_there k s gs t have held c.0 in
+            let pc : (settled (issue_of origin k s gs t.state) t.state).pc ≡ t.state.micro.pc + bytes_leaving (issue_of origin k s gs t.state) =
             pc_on t.state.result (issue_of origin k s gs t.state) t.state e (omega (arith, few, c.4)) in
-            subst (λ (n : ℕ). IsHeld (queue_by k (taken (issue_of origin k s gs t.state)) t.queue) n
-            (have_after t.state.micro.pc have (taken (issue_of origin k s gs t.state)))) (sym pc) (by_turn k c.0)
+            subst (λ (n : ℕ). IsHeld (queue_by k (bytes_leaving (issue_of origin k s gs t.state)) t.queue) n
+            (have_after t.state.micro.pc have (bytes_leaving (issue_of origin k s gs t.state)))) (sym pc) (by_turn k c.0)
 
     step-memory : (k : Turn) (s : Placed) (gs : List ℕ) (t : Short) → IsRight k s gs t → IsMemory origin t.world.words →
         IsMemory origin (stepped k s gs t).world.words
@@ -388,7 +388,7 @@ module _ (origin : List ℕ) where
         let i : Option Issued = issue_of origin k s gs p in
         ap₂ (λ (n : ℕ) (x : Option Issued). cycle_with n x (standing origin p have) w) ms.long (issued_is k s gs t have held c)
         ∙ ap (λ (x : Option Refusal). outcome
-        (first_refusal x (unit_refusal (is_jump_coming (computed_in p.result)) top (settled i p).pc (taken i) (unit_at origin p.micro.pc have)))
+        (first_refusal x (unit_refusal (is_jump_coming (computed_in p.result)) top (settled i p).pc (bytes_leaving i) (unit_at origin p.micro.pc have)))
         (clock top i (standing origin p have) w) (world_after top i (standing origin p have) w)) h
 
 -- a run arrives where the symbolic one does, with so many bytes in the queue
@@ -436,7 +436,7 @@ module _ (program : List ℕ) (has : Known program) (origin : List ℕ) (map : 0
       let clear : nat_lt t.state.micro.mpc 512 ≡ true = c.6 in
       let l : t.state.micro.mpc < 512 = grind (arith, nat_tests) in
       record {
-        have = have_behind (is_jump_coming (computed_in t.state.result)) t.state.micro.pc (taken (issue_of origin k s gs t.state)) have;
+        have = have_behind (is_jump_coming (computed_in t.state.result)) t.state.micro.pc (bytes_leaving (issue_of origin k s gs t.state)) have;
         done = outcome_is (moment_of origin t have) l ∙ step-clear origin has.queue k s gs t have map ms held c;
         stalls = stalls_are (moment_of origin t have) (issue_of origin k s gs t.state) l (issued_is origin has.queue k s gs t have held c.0)
             ∙ counted k s gs t.state t.stalls;

@@ -4,7 +4,7 @@ use Rattle.std.specs.Prelude.{slice_index}
 use Rattle.mic_words.specs.declared.machine.Machine.TheVariants.{Mic2}
 use Rattle.micro_word.specs.declared.statement.Placed.{Placed}
 use Rattle.micro_word.specs.Coding.{statement_of}
-use Rattle.mal_parser.specs.Program.{Program}
+use Rattle.mal_parser.specs.Program.{MalView}
 use Rattle.store_placement.specs.Demands.{Demands}
 use Rattle.store_placement.specs.Placement.{HasPlacement}
 use Rattle.store_placement.specs.Chosen.{IsChosenList}
@@ -15,9 +15,9 @@ use Rattle.mal_shipped.specs.Shipped.{HasShipped, statement_among, shipped as sh
 pub has_placement : (d : Demands) (addresses : List ℕ) → IsChosenList d addresses → HasPlacement d
 has_placement d addresses h = (slice_index addresses, h.places.places)
 
-pub of_mic2 : (p : Program) → p ≡ listed_program Mic2 → p.machine ≡ Mic2
+pub of_mic2 : (p : MalView) → p ≡ listed_program Mic2 → p.machine ≡ Mic2
 unfolding program2
-of_mic2 p e = ap (λ (q : Program). q.machine) e
+of_mic2 p e = ap (λ (q : MalView). q.machine) e
 
 -- the statement at an address, with the table in sight of a symbolic run
 abbrev pub shipped : ℕ → Placed

@@ -1,4 +1,4 @@
-//! Files as a trait.
+//! Files by their names: the trait that the system's files and files in memory have.
 
 ghost use Rattle.std.specs.Prelude.{◌≡◌, ℕ, Option};
 ghost use Rattle.mic_base.specs.Files.{Contents, HasFileCause, Reads, Writes};

@@ -1,4 +1,4 @@
-//! Lines that are printed.
+//! A line that is printed, put together without memory.
 
 ghost use Rattle.std.specs.Prelude.{List, ℕ, ◌≡◌, ◌+◌, ◌^◌, ◌<◌, ◌≤◌, ◌++◌, ◌∷◌, [], length};
 ghost use Rattle.std.specs.Char.{digit_char};

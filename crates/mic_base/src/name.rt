@@ -1,4 +1,4 @@
-//! Names in sources.
+//! A name of a source, of at most 64 bytes, without memory of its own.
 
 ghost use Rattle.std.specs.Prelude.{◌≡◌, ◌≤◌, Some, None, true, if◌then◌else◌, length, nat_eq, refl};
 ghost use Rattle.std.specs.List.{list_all};

@@ -1,4 +1,4 @@
-//! Sources as a trait.
+//! Where bytes come from: the trait that standard input and sources in memory have.
 
 ghost use Rattle.std.specs.Prelude.{ℕ, List, Option};
 ghost use Rattle.mic_base.specs.Causes.{HasCause};

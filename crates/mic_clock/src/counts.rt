@@ -1,4 +1,4 @@
-//! What a board counts.
+//! What a board counts: cycles, stalls, completed instructions, and where the last boundary was.
 
 /// Where the last instruction boundary was.
 #[derive(Clone, Copy, Debug, PartialEq, Eq)]

@@ -1,4 +1,4 @@
-//! How a run ends.
+//! How a run of a board ends, and what one cycle did.
 
 #[derive(Clone, Copy, Debug, PartialEq, Eq)]
 pub enum End {

@@ -7,10 +7,10 @@ use Rattle.mic_words.specs.Arithmetic.{is_negative}
 use Rattle.micro_word.specs.declared.statement.PlacedNext.{PlacedNext}
 use Rattle.micro_word.specs.declared.statement.PlacedNext.TheVariants as nexts
 use Rattle.micro_word.specs.declared.statement.Test.TheVariants as tests
-use Rattle.mic_datapath.specs.Next.{target}
+use Rattle.mic_datapath.specs.Next.{next_address}
 use Rattle.mic_datapath.specs.Jam.{jammed}
 
-pub by_address : (n : PlacedNext) (x byte : ℕ) → IsTrue (is_next n) → jammed (addr_bits n) (jam_bits n) (is_negative x) (x == 0) byte ≡ target n x byte
+pub by_address : (n : PlacedNext) (x byte : ℕ) → IsTrue (is_next n) → jammed (addr_bits n) (jam_bits n) (is_negative x) (x == 0) byte ≡ next_address n x byte
 by_address (nexts.Goto to) x byte h = grind (arith, nat_tests)
 by_address (nexts.Dispatch true) x byte h = refl
 by_address (nexts.Dispatch false) x byte h = refl

@@ -10,7 +10,7 @@ abbrev pub flag : Test → ℕ → Bool
 flag tests.N x = is_negative x
 flag tests.Z x = x == 0
 
-abbrev pub target : PlacedNext → ℕ → ℕ → ℕ
-target (nexts.Goto to) x byte = to
-target (nexts.Dispatch high) x byte = if high then byte + 256 else byte
-target (nexts.Branch test low) x byte = if flag test x then low + 256 else low
+abbrev pub next_address : PlacedNext → ℕ → ℕ → ℕ
+next_address (nexts.Goto to) x byte = to
+next_address (nexts.Dispatch high) x byte = if high then byte + 256 else byte
+next_address (nexts.Branch test low) x byte = if flag test x then low + 256 else low

@@ -1,4 +1,4 @@
-//! Bytes as signed words.
+//! The sign of a fetched byte, on each higher bit of its word.
 
 ghost use Rattle.std.specs.Prelude.{◌≡◌};
 ghost use Rattle.mic_words.specs.Arithmetic.{signed_byte};

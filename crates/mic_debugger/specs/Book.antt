@@ -7,7 +7,7 @@ use Rattle.ijvm_instr.specs.declared.instr.Instr.{Instr}
 use Rattle.verifier_facts.specs.Kinds.{IsKind}
 use Rattle.verifier_facts.specs.declared.kind.Kind.TheVariants.{Start}
 use Rattle.mal_parser.specs.ProgramText.{parts_text, fallback_of}
-use Rattle.mal_parser.specs.Program.{Program, label_at}
+use Rattle.mal_parser.specs.Program.{MalView, label_at}
 use Rattle.mic_debugger.specs.View.{ListingView}
 
 -- the label and the text of the statement at each address of the store, and the instruction at each byte address of the text
@@ -17,15 +17,15 @@ pub record Book : Type 0 where
   pub instruction : ℕ → List ℕ
 
 -- the label of a statement, a dash where it has none
-abbrev pub label_or_dash : Program → ℕ → List ℕ
+abbrev pub label_or_dash : MalView → ℕ → List ℕ
 label_or_dash program s = unwrap_or (label_at program.statements s) (codes "-")
 
 -- the text of an unused word
-abbrev pub unused_text : Program → List ℕ
+abbrev pub unused_text : MalView → List ℕ
 unused_text program = unwrap_or (option_map (fallback_of program) program.fallback) (codes "goto 0x0fe")
 
 -- the book of a placed program and of an image
-pub record IsBook (program : Program) (placement : List ℕ) (image : ImageView) (book : Book) : Type 0 where
+pub record IsBook (program : MalView) (placement : List ℕ) (image : ImageView) (book : Book) : Type 0 where
   pub labels : (s : ℕ) → s < length placement → book.label (slice_index placement s) ≡ label_or_dash program s
   pub texts : (s : ℕ) → s < length placement → book.text (slice_index placement s) ≡ parts_text program s
   pub unused_label : (a : ℕ) → ((s : ℕ) → s < length placement → slice_index placement s ≢ a) → book.label a ≡ codes ".default"

@@ -1,19 +1,19 @@
 -- What clauses see of a listing and of a session.
 use Rattle.std.specs.Prelude.{ℕ, List, Option}
 use Rattle.ijvm_image.specs.Image.{ImageView}
-use Rattle.mal_parser.specs.Program.{Program}
+use Rattle.mal_parser.specs.Program.{MalView}
 use Rattle.mic_clock.specs.View.{BoardView}
 use Rattle.verifier_facts.specs.Accepted.{VerifiedView}
 
 pub record ListingView : Type 0 where
-  pub program : Program
+  pub program : MalView
   pub placement : List ℕ
   pub image : ImageView
   -- the number of memory words
   pub memory : ℕ
 
 -- what is listed of a placed program and of an accepted image
-abbrev pub listing_of : Program → List ℕ → VerifiedView → ListingView
+abbrev pub listing_of : MalView → List ℕ → VerifiedView → ListingView
 listing_of program placement accepted =
     record { program = program; placement = placement; image = accepted.image; memory = accepted.map.stack_end }
 

@@ -4,7 +4,7 @@ use Rattle.micro_word.proofs.Conditions.{both, join, below, above}
 use Rattle.micro_word.proofs.Sums.{Fitting, fields-word, fields_fit, word_with-lt, word-fields}
 use Rattle.micro_word.proofs.Parts.{row_back, gates_back, shift_back, shift_bits-shift_of, mem_back, mem_bits-mem_of, fetch_bit-lt, fetch_back, fetch_bit-back, bit_may_fetch, bus_back, bus_side, side-lt, side_fits, bus_code-back, a_back, a_side, a_code-lt, side_a_fits, a_code-back, NextBack, next_back, TargetBack, target_back}
 use Rattle.micro_word.specs.Layout.{word_with, fields_of}
-use Rattle.micro_word.specs.Coding.{row, row_of, op_of, shift_bits, shift_of, mem_bits, mem_of, fetch_bit, bus_code, source_of, a_code, a_of, codes, named, word_of, statement_of}
+use Rattle.micro_word.specs.Coding.{row, operation_of_gates, op_of, shift_bits, shift_of, mem_bits, mem_of, fetch_bit, bus_code, source_of, a_code, a_of, codes, named, microword_of, statement_of}
 use Rattle.micro_word.specs.Words.{has_operation, may_be_a, may_be_b, fits_side, is_mixed, is_valid, IsCanonical, is_row, is_side, is_side_a, are_apart, is_target, is_one_at_most, are_canonical, word_end, is_canonical, decoded_as, SpellsWord}
 pub use Rattle.micro_word.specs.Words.{Valid}
 use Rattle.mic_words.specs.declared.machine.Machine.{Machine}
@@ -119,20 +119,20 @@ named-codes machine p v =
       next = (next_back p.next v.next).is_back i;
     }
 
-fields-code : (machine : Machine) (p : Placed) → Valid machine p → fields_of machine (word_of machine p) ≡ codes machine p
+fields-code : (machine : Machine) (p : Placed) → Valid machine p → fields_of machine (microword_of machine p) ≡ codes machine p
 fields-code machine p v = fields-word machine (codes machine p) (fitting machine p v)
 
-pub statement-word : (machine : Machine) (p : Placed) → IsTrue (is_valid machine p) → statement_of machine (word_of machine p) ≡ p
+pub statement-word : (machine : Machine) (p : Placed) → IsTrue (is_valid machine p) → statement_of machine (microword_of machine p) ≡ p
 unfolding statement_of
 statement-word machine p h = let v : Valid machine p = valid machine p h in ap (named machine) (fields-code machine p v) ∙ named-codes machine p v
 
 -- the word of a valid statement is canonical
-pub canonical-word : (machine : Machine) (p : Placed) → IsTrue (is_valid machine p) → IsTrue (is_canonical machine (word_of machine p))
+pub canonical-word : (machine : Machine) (p : Placed) → IsTrue (is_valid machine p) → IsTrue (is_canonical machine (microword_of machine p))
 unfolding is_canonical
 canonical-word machine p h =
     let v : Valid machine p = valid machine p h in
-    let short : word_of machine p < word_end machine = word_with-lt machine (codes machine p) (fitting machine p v) in
-    join _ _ (above (word_of machine p) (word_end machine) short)
+    let short : microword_of machine p < word_end machine = word_with-lt machine (codes machine p) (fitting machine p v) in
+    join _ _ (above (microword_of machine p) (word_end machine) short)
     (subst (λ (f : Fields). IsTrue (are_canonical machine f)) (sym (fields-code machine p v)) (canonical_codes machine p v))
 
 -- Words
@@ -149,7 +149,7 @@ apart_named Mic2 op a b h = h
 named_valid : (machine : Machine) (f : Fields) → Fitting machine f → Conditions machine f → IsTrue (is_valid machine (named machine f))
 named_valid machine f fit c =
     let op : AluOp = op_of f.gates in
-    let found = both (is_some (row_of f.gates)) (has_operation machine op) c.is_a_row in
+    let found = both (is_some (operation_of_gates f.gates)) (has_operation machine op) c.is_a_row in
     is_valid_by machine (named machine f) (record {
       dests = above f.c 512 fit.in_c;
       op = found.1;
@@ -193,14 +193,14 @@ is_the_word machine word h = let s : SpellsWord machine word (statement_of machi
 
 -- Decoding
 
-known_by : (machine : Machine) (w : ℕ) (b : Bool) → is_canonical machine w ≡ b → IfSome (if b then Some (statement_of machine w) else None) (λ p. IsTrue (is_valid machine p) × (word_of machine p ≡ w))
+known_by : (machine : Machine) (w : ℕ) (b : Bool) → is_canonical machine w ≡ b → IfSome (if b then Some (statement_of machine w) else None) (λ p. IsTrue (is_valid machine p) × (microword_of machine p ≡ w))
 known_by machine w true e = let s : SpellsWord machine w (statement_of machine w) = spells machine w e in (s.valid, s.whole)
 known_by machine w false e = tt
 
-pub known : (machine : Machine) (w : ℕ) → IfSome (decoded_as machine w) (λ p. IsTrue (is_valid machine p) × (word_of machine p ≡ w))
+pub known : (machine : Machine) (w : ℕ) → IfSome (decoded_as machine w) (λ p. IsTrue (is_valid machine p) × (microword_of machine p ≡ w))
 known machine w = known_by machine w (is_canonical machine w) refl
 
-pub back : (machine : Machine) (w : ℕ) (p : Placed) → IsTrue (is_valid machine p) → word_of machine p ≡ w → decoded_as machine w ≡ Some p
+pub back : (machine : Machine) (w : ℕ) (p : Placed) → IsTrue (is_valid machine p) → microword_of machine p ≡ w → decoded_as machine w ≡ Some p
 back machine w p h e =
     let canonical : is_canonical machine w ≡ true = subst (λ (x : ℕ). IsTrue (is_canonical machine x)) e (canonical-word machine p h) in
     let same_one : statement_of machine w ≡ p = ap (statement_of machine) (sym e) ∙ statement-word machine p h in

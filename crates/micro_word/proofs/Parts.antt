@@ -3,7 +3,7 @@ use Rattle.std.proofs.Common.{◌≡◌, ℕ, zero, suc, ◌<◌, Bool, true, fa
 use Rattle.std.proofs.lemmas.Bool.Decides.{nat_tests}
 use Rattle.micro_word.proofs.Conditions.{both, equal, below, above, found}
 use Rattle.micro_word.proofs.Sums.{fetch_end, a_end}
-use Rattle.micro_word.specs.Coding.{row, row_of, op_of, operations, shift_bits, shift_of, mem_bits, mem_of, fetch_bit, source_code, sources, is_code, bus_code, source_of, idle_code, a_code, a_of, jam_bits, addr_bits, decoded_next}
+use Rattle.micro_word.specs.Coding.{row, operation_of_gates, op_of, operations, shift_bits, shift_of, mem_bits, mem_of, fetch_bit, source_code, sources, is_code, bus_code, source_of, idle_code, a_code, a_of, jam_bits, addr_bits, decoded_next}
 use Rattle.micro_word.specs.Words.{is_h, may_be_a, may_be_b, fits_side, may_fetch, is_next, is_side, is_side_a, is_target, is_one_at_most}
 use Rattle.mic_words.specs.declared.machine.Machine.{Machine}
 use Rattle.mic_words.specs.declared.machine.Machine.TheVariants.{Mic1, Mic2}
@@ -22,7 +22,7 @@ use Rattle.micro_word.specs.declared.statement.Test.TheVariants as tests
 -- Operations
 
 pub record RowBack (op : AluOp) : Type 0 where
-  pub is_found : row_of (row op).gates ≡ Some op
+  pub is_found : operation_of_gates (row op).gates ≡ Some op
   pub fits : (row op).gates < 64
 
 pub row_back : (op : AluOp) → RowBack op
@@ -43,14 +43,14 @@ row_back ops.Zero = record { is_found = refl; fits = omega arith }
 row_back ops.One = record { is_found = refl; fits = omega arith }
 row_back ops.MinusOne = record { is_found = refl; fits = omega arith }
 
-gates_by : (gates : ℕ) (o : Option AluOp) → row_of gates ≡ o → IsTrue (is_some o) → (row (op_of gates)).gates ≡ gates
+gates_by : (gates : ℕ) (o : Option AluOp) → operation_of_gates gates ≡ o → IsTrue (is_some o) → (row (op_of gates)).gates ≡ gates
 gates_by gates None e h = cc
 gates_by gates (Some op) e h =
     let passes : IsTrue (gates == (row op).gates) = found (λ (o : AluOp). gates == (row o).gates) operations op e in
     ap (λ (o : Option AluOp). (row (unwrap_or o ops.MinusOne)).gates) e ∙ sym (equal _ _ passes)
 
-pub gates_back : (gates : ℕ) → IsTrue (is_some (row_of gates)) → (row (op_of gates)).gates ≡ gates
-gates_back gates h = gates_by gates (row_of gates) refl h
+pub gates_back : (gates : ℕ) → IsTrue (is_some (operation_of_gates gates)) → (row (op_of gates)).gates ≡ gates
+gates_back gates h = gates_by gates (operation_of_gates gates) refl h
 
 -- The shifter, the memory and the fetch
 

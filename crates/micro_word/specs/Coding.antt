@@ -15,7 +15,7 @@ use Rattle.micro_word.specs.declared.statement.PlacedNext.{PlacedNext}
 use Rattle.micro_word.specs.declared.statement.PlacedNext.TheVariants as nexts
 use Rattle.micro_word.specs.declared.statement.Part.{Part}
 use Rattle.micro_word.specs.declared.statement.Placed.{Placed}
-use Rattle.micro_word.specs.declared.operation.Row.{Row}
+use Rattle.micro_word.specs.declared.operation.OperationRow.{OperationRow}
 use Rattle.micro_word.specs.declared.layout.Fields.{Fields}
 use Rattle.micro_word.specs.Layout.{word_with, fields_of}
 
@@ -23,11 +23,11 @@ use Rattle.micro_word.specs.Layout.{word_with, fields_of}
 abbrev pub idle : Part
 idle = record { dests = 0; op = ops.Zero; a = None; b = None; shift = shifts.None; mem = mems.None; fetch = false }
 
-abbrev pub entry : ℕ → Bool → Bool → Row
+abbrev pub entry : ℕ → Bool → Bool → OperationRow
 entry gates uses_a uses_b = record { gates = gates; uses_a = uses_a; uses_b = uses_b }
 
 -- the table of operations: the gates, whether it uses side A, whether it uses side B; behind it what it gives
-abbrev pub row : AluOp → Row
+abbrev pub row : AluOp → OperationRow
 -- operation   F0 F1 ENA ENB INVA INC   uses A   uses B   gives
 row ops.A = entry 0b011000 true false  -- A
 row ops.B = entry 0b010100 false true  -- B
@@ -53,11 +53,11 @@ operations =
     ∷ ops.And ∷ ops.Or ∷ ops.Zero ∷ ops.One ∷ ops.MinusOne ∷ []
 
 -- the operation of six bits, where they are a row
-abbrev pub row_of : ℕ → Option AluOp
-row_of gates = find (λ op. gates == (row op).gates) operations
+abbrev pub operation_of_gates : ℕ → Option AluOp
+operation_of_gates gates = find (λ op. gates == (row op).gates) operations
 
 abbrev pub op_of : ℕ → AluOp
-op_of gates = unwrap_or (row_of gates) ops.MinusOne
+op_of gates = unwrap_or (operation_of_gates gates) ops.MinusOne
 
 -- SLL8 and SRA1
 abbrev pub shift_bits : Shift → ℕ
@@ -194,8 +194,8 @@ named machine f =
     }
 
 -- the word of a placed statement, a sum of fields
-abbrev pub word_of : Machine → Placed → ℕ
-word_of machine p = word_with machine (codes machine p)
+abbrev pub microword_of : Machine → Placed → ℕ
+microword_of machine p = word_with machine (codes machine p)
 
 -- the statement that a number's fields name
 unfoldable pub statement_of : Machine → ℕ → Placed

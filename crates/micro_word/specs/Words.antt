@@ -12,7 +12,7 @@ use Rattle.micro_word.specs.declared.statement.Part.{Part}
 use Rattle.micro_word.specs.declared.statement.Placed.{Placed}
 use Rattle.micro_word.specs.declared.layout.Fields.{Fields}
 use Rattle.micro_word.specs.Layout.{fields_of}
-use Rattle.micro_word.specs.Coding.{row, row_of, op_of, source_code, source_of, idle_code, codes, word_of, statement_of}
+use Rattle.micro_word.specs.Coding.{row, operation_of_gates, op_of, source_code, source_of, idle_code, codes, microword_of, statement_of}
 
 -- A, NOT A and A+1 are not used on Mic-2
 abbrev pub has_operation : Machine → AluOp → Bool
@@ -85,13 +85,13 @@ pub record Valid (machine : Machine) (p : Placed) : Type 0 where
 
 -- a number is canonical where it is the word of a valid statement
 abbrev pub IsCanonical : Machine → ℕ → Type 0
-IsCanonical machine word = (p : Placed) × IsTrue (is_valid machine p) × (word_of machine p ≡ word)
+IsCanonical machine word = (p : Placed) × IsTrue (is_valid machine p) × (microword_of machine p ≡ word)
 
 -- The same, told by the fields.
 
 -- the six bits are a row of the table, on Mic-2 none of those that it does not use
 abbrev pub is_row : Machine → ℕ → Bool
-is_row machine gates = is_some (row_of gates) && has_operation machine (op_of gates)
+is_row machine gates = is_some (operation_of_gates gates) && has_operation machine (op_of gates)
 
 -- a source's code where the operation uses the side, and the code for nothing otherwise
 abbrev pub is_side : Machine → Bool → ℕ → Bool
@@ -134,5 +134,5 @@ decoded_as machine word = if is_canonical machine word then Some (statement_of m
 -- a word spells a statement: it is the statement's word, and its fields are the statement's codes
 pub record SpellsWord (machine : Machine) (word : ℕ) (p : Placed) : Type 0 where
   pub valid : IsTrue (is_valid machine p)
-  pub whole : word_of machine p ≡ word
+  pub whole : microword_of machine p ≡ word
   pub fields : fields_of machine word ≡ codes machine p

@@ -20,7 +20,7 @@ pub use laws::{statement_law, word_law};
 pub use layout::{Fields, fields1, fields2};
 pub use lines::{Lines, NOTHING, NOWHERE, is_named};
 pub use mic_words::Machine;
-pub use operation::Row;
+pub use operation::OperationRow;
 pub use statement::{AluOp, BusSource, Mem, Part, Placed, PlacedNext, Shift, Test};
 pub use store::Store;
 pub use word::{Word1, Word2, decode1, decode2, encode1, encode2};

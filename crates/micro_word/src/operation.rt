@@ -1,22 +1,22 @@
-//! The table of operations.
+//! The ALU's operations, each with its gates and the sides that it uses.
 ghost use Rattle.std.specs.Prelude.{◌≡◌, ◌==◌, find};
-ghost use Rattle.micro_word.specs.Coding.{row, row_of, op_of};
+ghost use Rattle.micro_word.specs.Coding.{row, operation_of_gates, op_of};
 
 use crate::statement::AluOp;
 
 /// What the table says of an operation.
 #[derive(Clone, Copy, Debug, PartialEq, Eq)]
-pub struct Row {
+pub struct OperationRow {
     /// F0 F1 ENA ENB INVA INC
     pub gates: u8,
     pub uses_a: bool,
     pub uses_b: bool,
 }
 
-const fn entry(gates: u8, uses_a: bool, uses_b: bool) -> Row
+const fn entry(gates: u8, uses_a: bool, uses_b: bool) -> OperationRow
     ensures { result ≡ record { gates = gates; uses_a = uses_a; uses_b = uses_b } }
 {
-    Row {
+    OperationRow {
         gates,
         uses_a,
         uses_b,
@@ -51,7 +51,7 @@ impl AluOp {
     ];
 
     /// The table of operations: the gates, whether it uses side A, whether it uses side B; behind it what it gives.
-    pub fn row(self) -> Row
+    pub fn row(self) -> OperationRow
         ensures { result ≡ row self }
     {
         match self {
@@ -77,7 +77,7 @@ impl AluOp {
 
     /// The operation of six bits; none where they are no row of the table.
     pub(crate) fn with_gates(gates: u8) -> Option<AluOp>
-        ensures { result ≡ row_of gates }
+        ensures { result ≡ operation_of_gates gates }
     {
         first_with_gates(&AluOp::ALL, gates)
     }

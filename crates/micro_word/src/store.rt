@@ -1,6 +1,6 @@
-//! The control store.
+//! The control store, whose words are decoded once, when they are stored.
 ghost use Rattle.std.specs.Prelude.{◌≡◌, ◌<◌, IsTrue, replicate, slice_index, slice_set};
-ghost use Rattle.micro_word.specs.Coding.{word_of};
+ghost use Rattle.micro_word.specs.Coding.{microword_of};
 ghost use Rattle.micro_word.specs.Words.{is_valid, is_canonical};
 ghost use Rattle.micro_word.specs.Layout.{fields_of};
 ghost use Rattle.micro_word.specs.Lines.{AreLines};
@@ -33,7 +33,7 @@ impl Model for Store {
 
 fn word(machine: Machine, placed: &Placed) -> u64
     requires { IsTrue (is_valid machine placed.now) }
-    ensures value { result ≡ word_of machine placed.now }
+    ensures value { result ≡ microword_of machine placed.now }
     ensures canonical { IsTrue (is_canonical machine result) }
 {
     match machine {
@@ -58,7 +58,7 @@ impl Store {
     pub fn filled(machine: Machine, placed: &Placed) -> Store
         requires { IsTrue (is_valid machine placed.now) }
         ensures machine { result.machine ≡ machine }
-        ensures words { result.words ≡ replicate 512 (word_of machine placed.now) }
+        ensures words { result.words ≡ replicate 512 (microword_of machine placed.now) }
     {
         let word = word(machine, placed);
         Store {
@@ -73,7 +73,7 @@ impl Store {
         requires address { address < 512 }
         requires valid { IsTrue (is_valid self.old.machine placed.now) }
         ensures machine { self.new.machine ≡ self.old.machine }
-        ensures words { self.new.words ≡ slice_set self.old.words address (word_of self.old.machine placed.now) }
+        ensures words { self.new.words ≡ slice_set self.old.words address (microword_of self.old.machine placed.now) }
     {
         let word = word(self.machine, placed);
         self.words[address as usize] = word;

@@ -3,7 +3,7 @@ ghost use Rattle.std.specs.Prelude.{◌≡◌, nat_lt, IsTrue, Some, None, IfSom
 ghost use Rattle.mic_words.specs.declared.machine.Machine.TheVariants.{Mic1, Mic2};
 ghost use Rattle.micro_word.specs.declared.statement.Placed.{Placed};
 ghost use Rattle.micro_word.specs.Layout.{fields_of};
-ghost use Rattle.micro_word.specs.Coding.{word_of, statement_of};
+ghost use Rattle.micro_word.specs.Coding.{microword_of, statement_of};
 ghost use Rattle.micro_word.specs.Words.{is_valid, IsCanonical, is_canonical, decoded_as, word_end};
 
 use crate::layout::{Fields, fields1, fields2, word_with1, word_with2};
@@ -52,7 +52,7 @@ impl Model for Word2 {
 }
 
 fn bits_of(machine: Machine, placed: &Placed) -> u64
-    ensures { result ≡ word_of machine placed.now }
+    ensures { result ≡ microword_of machine placed.now }
 {
     let fields = Fields::of_placed(machine, placed);
     match machine {
@@ -93,8 +93,8 @@ fn decoded(machine: Machine, bits: u64) -> Option<Placed>
 
 /// The statement of a canonical word of Mic-1; none where the bits are no canonical word.
 pub fn decode1(bits: u64) -> Option<Placed>
-    ensures known { IfSome result (λ p. IsTrue (is_valid Mic1 p) × (word_of Mic1 p ≡ bits)) }
-    ensures back { (p : Placed) → IsTrue (is_valid Mic1 p) → word_of Mic1 p ≡ bits → result ≡ Some p }
+    ensures known { IfSome result (λ p. IsTrue (is_valid Mic1 p) × (microword_of Mic1 p ≡ bits)) }
+    ensures back { (p : Placed) → IsTrue (is_valid Mic1 p) → microword_of Mic1 p ≡ bits → result ≡ Some p }
     ensures none { IfNone result (¬ IsCanonical Mic1 bits) }
 {
     decoded(Machine::Mic1, bits)
@@ -102,8 +102,8 @@ pub fn decode1(bits: u64) -> Option<Placed>
 
 /// The statement of a canonical word of Mic-2; none where the bits are no canonical word.
 pub fn decode2(bits: u64) -> Option<Placed>
-    ensures known { IfSome result (λ p. IsTrue (is_valid Mic2 p) × (word_of Mic2 p ≡ bits)) }
-    ensures back { (p : Placed) → IsTrue (is_valid Mic2 p) → word_of Mic2 p ≡ bits → result ≡ Some p }
+    ensures known { IfSome result (λ p. IsTrue (is_valid Mic2 p) × (microword_of Mic2 p ≡ bits)) }
+    ensures back { (p : Placed) → IsTrue (is_valid Mic2 p) → microword_of Mic2 p ≡ bits → result ≡ Some p }
     ensures none { IfNone result (¬ IsCanonical Mic2 bits) }
 {
     decoded(Machine::Mic2, bits)
@@ -112,7 +112,7 @@ pub fn decode2(bits: u64) -> Option<Placed>
 /// The word of a statement on Mic-1.
 pub fn encode1(placed: &Placed) -> Word1
     requires { IsTrue (is_valid Mic1 placed.now) }
-    ensures { result ≡ word_of Mic1 placed.now }
+    ensures { result ≡ microword_of Mic1 placed.now }
 {
     Word1 {
         bits: bits_of(Machine::Mic1, placed),
@@ -122,7 +122,7 @@ pub fn encode1(placed: &Placed) -> Word1
 /// The word of a statement on Mic-2.
 pub fn encode2(placed: &Placed) -> Word2
     requires { IsTrue (is_valid Mic2 placed.now) }
-    ensures { result ≡ word_of Mic2 placed.now }
+    ensures { result ≡ microword_of Mic2 placed.now }
 {
     Word2 {
         bits: bits_of(Machine::Mic2, placed),

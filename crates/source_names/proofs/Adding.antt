@@ -7,7 +7,7 @@ use Rattle.std.specs.Cmp.Lexicographic.{slice_cmp, texts_ties}
 use Rattle.std.specs.BTreeMap.{BTreeMap, get, is_at}
 use Rattle.std.proofs.lemmas.Slice.Eq.{bytes_eq-Decides}
 use Rattle.std.proofs.lemmas.List.{length_push}
-use Rattle.source_names.specs.Places.{ArePlaces, place_of}
+use Rattle.source_names.specs.Places.{ArePlaces, place_of_name}
 
 -- a name that is not in a list is not its first one, and not behind it
 absent : (b : Bool) (o : Option ℕ) → cond b (Some 0) (option_map (λ i. i + 1) o) ≡ None → (b ≡ false) × (o ≡ None)
@@ -16,14 +16,14 @@ absent false None h = (refl, refl)
 absent false (Some i) h = absurd (cc)
 
 -- the place among one more
-place_push : (names : List (List ℕ)) (name q : List ℕ) → place_of names name ≡ None → place_of (names ++ name ∷ []) q ≡ cond (bytes_eq name q) (Some (length names)) (place_of names q)
+place_push : (names : List (List ℕ)) (name q : List ℕ) → place_of_name names name ≡ None → place_of_name (names ++ name ∷ []) q ≡ cond (bytes_eq name q) (Some (length names)) (place_of_name names q)
 place_push [] name q h = refl
 place_push (n ∷ names) name q h =
-    let r = absent (bytes_eq n name) (place_of names name) h in
+    let r = absent (bytes_eq n name) (place_of_name names name) h in
     ap (λ o. cond (bytes_eq n q) (Some 0) (option_map (λ i. i + 1) o)) (place_push names name q r.1) ∙ go r.0 (bytes_eq n q) (bytes_eq name q) refl refl
   where
     go : bytes_eq n name ≡ false → (x y : Bool) → bytes_eq n q ≡ x → bytes_eq name q ≡ y
-        → cond x (Some 0) (option_map (λ i. i + 1) (cond y (Some (length names)) (place_of names q))) ≡ cond y (Some (length (n ∷ names))) (cond x (Some 0) (option_map (λ i. i + 1) (place_of names q)))
+        → cond x (Some 0) (option_map (λ i. i + 1) (cond y (Some (length names)) (place_of_name names q))) ≡ cond y (Some (length (n ∷ names))) (cond x (Some 0) (option_map (λ i. i + 1) (place_of_name names q)))
     go other true true e f =
         let a : n ≡ q = (bytes_eq-Decides n q).0 e in
         let b : name ≡ q = (bytes_eq-Decides name q).0 f in
@@ -32,7 +32,7 @@ place_push (n ∷ names) name q h =
     go other false true e f = ap Some (omega arith)
     go other false false e f = refl
 
-pub places_push : (names : List (List ℕ)) (name : List ℕ) (place : ℕ) (old new : BTreeMap (List ℕ) ℕ) → place ≡ length names → ArePlaces names old → place_of names name ≡ None
+pub places_push : (names : List (List ℕ)) (name : List ℕ) (place : ℕ) (old new : BTreeMap (List ℕ) ℕ) → place ≡ length names → ArePlaces names old → place_of_name names name ≡ None
     → ((q : List ℕ) → get (slice_cmp nat_cmp) new q ≡ cond (is_at (slice_cmp nat_cmp name) q) (Some place) (get (slice_cmp nat_cmp) old q)) → ArePlaces (names ++ name ∷ []) new
 places_push names name place old new e are fresh h q =
     h q ∙ (ap (λ b. cond b (Some place) (get (slice_cmp nat_cmp) old q)) (sym (texts_ties name q))
@@ -43,9 +43,9 @@ pub few_push : (names : List (List ℕ)) (name : List ℕ) (place : ℕ) → pla
 few_push names name place e h = let l = length_push names name in omega (arith, l, e, h)
 
 -- a place is one of the list
-pub place_below : (names : List (List ℕ)) (name : List ℕ) (i : ℕ) → place_of names name ≡ Some i → i < length names
+pub place_below : (names : List (List ℕ)) (name : List ℕ) (i : ℕ) → place_of_name names name ≡ Some i → i < length names
 place_below [] name i h = absurd (cc)
-place_below (n ∷ names) name i h = go (bytes_eq n name) (place_of names name) (place_below names name) h
+place_below (n ∷ names) name i h = go (bytes_eq n name) (place_of_name names name) (place_below names name) h
   where
     go : (b : Bool) (o : Option ℕ) → ((j : ℕ) → o ≡ Some j → j < length names) → cond b (Some 0) (option_map (λ j. j + 1) o) ≡ Some i → i < length (n ∷ names)
     go true o f h = let e : 0 ≡ i = cc in omega (arith, e)

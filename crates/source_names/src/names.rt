@@ -1,7 +1,7 @@
 //! Names in order, each with its place.
 
 ghost use Rattle.std.specs.Prelude.{◌≡◌, ◌<◌, ◌++◌, ◌∷◌, [], None, OnOk, OnErr, IfSome, length};
-ghost use Rattle.source_names.specs.Places.{place_of};
+ghost use Rattle.source_names.specs.Places.{place_of_name};
 
 use mic_base::Name;
 use std::alloc::{AllocError, Global};
@@ -52,7 +52,7 @@ impl NameList {
     /// The place of a name, from 0.
     #[tactic(auto, using(crate::proofs::Adding::place_below))]
     pub fn find(&self, name: &Name) -> Option<u32>
-        ensures is { result ≡ place_of self.now name.now }
+        ensures is { result ≡ place_of_name self.now name.now }
         ensures within { IfSome result (λ place. place < length self.now) }
     {
         self.places.get(name).copied()
@@ -60,7 +60,7 @@ impl NameList {
 
     /// Puts a new name behind the others.
     pub fn add(&mut self, name: Name) -> Result<(), AllocError>
-        requires { place_of self.old name ≡ None }
+        requires { place_of_name self.old name ≡ None }
         ensures ok { OnOk result (self.new ≡ self.old ++ name ∷ []) }
         ensures err { OnErr result (self.new ≡ self.old) }
     {

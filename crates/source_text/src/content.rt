@@ -1,4 +1,4 @@
-//! Lines and comments.
+//! Cuts a text into lines, and a comment off its line.
 
 ghost use Rattle.std.specs.Prelude.{◌≡◌, ◌<◌, ◌≤◌, ◌∷◌, ◌==◌, not, length};
 ghost use Rattle.std.specs.List.{prefix_len};

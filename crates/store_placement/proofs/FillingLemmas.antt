@@ -6,42 +6,42 @@ use Rattle.std.specs.Option.{option_to_list}
 use Rattle.std.proofs.lemmas.Bool.{lt-ltb, cases_eq, and_from}
 use Rattle.std.proofs.lemmas.List.{length-map, length-set, length-replicate, get_or-replicate, get_or-set_same, get_or-set_other}
 use Rattle.std.proofs.lemmas.Option.{slice_get_within, get_or_from_slice_get}
-use Rattle.micro_word.specs.Coding.{word_of}
+use Rattle.micro_word.specs.Coding.{microword_of}
 use Rattle.micro_word.specs.Words.{is_valid, is_part, is_next}
 use Rattle.mal_line.specs.declared.next.Next.{Next}
 use Rattle.mal_line.specs.declared.next.Next.TheVariants as nexts
 use Rattle.mal_parser.specs.declared.statement.Statement.{Statement}
-use Rattle.mal_parser.specs.Program.{Program, IsProgram, HasTargets}
+use Rattle.mal_parser.specs.Program.{MalView, IsMalProgram, HasTargets}
 use Rattle.store_placement.specs.declared.pair.Pair.{Pair}
 use Rattle.store_placement.specs.Placement.{Places}
 use Rattle.store_placement.specs.Program.{demands_of, pair_of, statement_pair, placed_next, LeadsInside, placed_statement, placed_default, IsFilled}
 use Rattle.store_placement.proofs.Among.{Among, All-among, among_at, among_filter_map}
 use Rattle.store_placement.proofs.ProgramLemmas.{labelled_below, fallback_is}
 
-pub placed_count : (p : Program) (addresses : List ℕ) → Places (demands_of p) addresses → length addresses ≡ length p.statements
+pub placed_count : (p : MalView) (addresses : List ℕ) → Places (demands_of p) addresses → length addresses ≡ length p.statements
 unfolding demands_of
 placed_count p addresses places = places.count ∙ length-map p.statements (λ s. s.fixed)
 
-leads : (p : Program) (number : ℕ) (next : Next ℕ) → HasTargets p.statements next → (next ≡ nexts.Following → number + 1 < length p.statements) → LeadsInside (length p.statements) number next
+leads : (p : MalView) (number : ℕ) (next : Next ℕ) → HasTargets p.statements next → (next ≡ nexts.Following → number + 1 < length p.statements) → LeadsInside (length p.statements) number next
 leads p number nexts.Following has goes = goes refl
 leads p number (nexts.Goto to) has goes = labelled_below p.statements to has
 leads p number (nexts.Dispatch high) has goes = tt
 leads p number (nexts.Branch test high low) has goes = labelled_below p.statements low has.1
 
-pub statement_leads : (p : Program) (addresses : List ℕ) → IsProgram p → Places (demands_of p) addresses → (s : ℕ) (t : Statement) → slice_get p.statements s ≡ Some t → LeadsInside (length addresses) s t.next
+pub statement_leads : (p : MalView) (addresses : List ℕ) → IsMalProgram p → Places (demands_of p) addresses → (s : ℕ) (t : Statement) → slice_get p.statements s ≡ Some t → LeadsInside (length addresses) s t.next
 statement_leads p addresses is places s t here =
     let statement = is.statements s t here in
     let P : ℕ → Type 0 = λ n. LeadsInside n s t.next in
     subst P (sym (placed_count p addresses places)) (leads p s t.next statement.targets statement.followed)
 
-pub fallback_leads : (p : Program) (addresses : List ℕ) → IsProgram p → Places (demands_of p) addresses → (t : Statement) → p.fallback ≡ Some t → LeadsInside (length addresses) 0 t.next
+pub fallback_leads : (p : MalView) (addresses : List ℕ) → IsMalProgram p → Places (demands_of p) addresses → (t : Statement) → p.fallback ≡ Some t → LeadsInside (length addresses) 0 t.next
 fallback_leads p addresses is places t here =
     let fallback = fallback_is p is t here in
     let P : ℕ → Type 0 = λ n. LeadsInside n 0 t.next in
     subst P (sym (placed_count p addresses places)) (leads p 0 t.next fallback.targets (λ e. absurd (fallback.leads e)))
 
 -- a pair of the program's is one that the placement keeps
-kept : (p : Program) (addresses : List ℕ) → IsProgram p → Places (demands_of p) addresses → (pair : Pair) → Among pair (filter_map statement_pair p.statements ++ option_to_list (option_and_then statement_pair p.fallback)) → slice_index addresses pair.yes ≡ slice_index addresses pair.no + 256
+kept : (p : MalView) (addresses : List ℕ) → IsMalProgram p → Places (demands_of p) addresses → (pair : Pair) → Among pair (filter_map statement_pair p.statements ++ option_to_list (option_and_then statement_pair p.fallback)) → slice_index addresses pair.yes ≡ slice_index addresses pair.no + 256
 unfolding demands_of
 kept p addresses is places pair among =
     All-among (λ q. slice_index addresses q.yes ≡ slice_index addresses q.no + 256) (filter_map statement_pair p.statements ++ option_to_list (option_and_then statement_pair p.fallback)) pair places.places.keeps_pairs among
@@ -71,7 +71,7 @@ next_fits addresses number (nexts.Branch test high low) in_store inside pairs =
     let high_inside = in_store high pair.0 in
     lt-ltb (slice_index addresses low) 256 (omega (arith, pair.1))
 
-inside_all : (p : Program) (addresses : List ℕ) → Places (demands_of p) addresses → (k : ℕ) → k < length addresses → slice_index addresses k < 512
+inside_all : (p : MalView) (addresses : List ℕ) → Places (demands_of p) addresses → (k : ℕ) → k < length addresses → slice_index addresses k < 512
 unfolding demands_of
 inside_all p addresses places k inside = let count = places.count in places.places.in_store k (omega arith)
 
@@ -79,7 +79,7 @@ yes_of : Option Pair → ℕ
 yes_of None = 0
 yes_of (Some pair) = pair.yes
 
-pair_inside : (p : Program) (addresses : List ℕ) → IsProgram p → Places (demands_of p) addresses → (next : Next ℕ) → HasTargets p.statements next
+pair_inside : (p : MalView) (addresses : List ℕ) → IsMalProgram p → Places (demands_of p) addresses → (next : Next ℕ) → HasTargets p.statements next
     → ((pair : Pair) → pair_of next ≡ Some pair → Among pair (filter_map statement_pair p.statements ++ option_to_list (option_and_then statement_pair p.fallback)))
     → (pair : Pair) → pair_of next ≡ Some pair → pair.yes < length addresses × (slice_index addresses pair.yes ≡ slice_index addresses pair.no + 256)
 unfolding yes_of
@@ -92,7 +92,7 @@ pair_inside p addresses is places (nexts.Branch test high low) has among pair e 
     let same : high ≡ pair.yes = ap (λ (o : Option Pair). yes_of o) e in
     (omega arith, kept p addresses is places pair (among pair e))
 
-pub statement_valid : (p : Program) (addresses : List ℕ) → IsProgram p → Places (demands_of p) addresses → (s : ℕ) (t : Statement) → slice_get p.statements s ≡ Some t → IsTrue (is_valid p.machine (placed_statement (slice_index addresses) s t))
+pub statement_valid : (p : MalView) (addresses : List ℕ) → IsMalProgram p → Places (demands_of p) addresses → (s : ℕ) (t : Statement) → slice_get p.statements s ≡ Some t → IsTrue (is_valid p.machine (placed_statement (slice_index addresses) s t))
 statement_valid p addresses is places s t here =
     let statement = is.statements s t here in
     and_from (is_part p.machine t.part) (is_next (placed_next (slice_index addresses) s t.next)) statement.part
@@ -101,7 +101,7 @@ statement_valid p addresses is places s t here =
     among_left (filter_map statement_pair p.statements) (option_to_list (option_and_then statement_pair p.fallback)) pair
     (among_filter_map statement_pair p.statements t pair (among_from_get p.statements s t here) e))))
 
-pub fallback_valid : (p : Program) (addresses : List ℕ) → IsProgram p → Places (demands_of p) addresses → (t : Statement) → p.fallback ≡ Some t → IsTrue (is_valid p.machine (placed_statement (slice_index addresses) 0 t))
+pub fallback_valid : (p : MalView) (addresses : List ℕ) → IsMalProgram p → Places (demands_of p) addresses → (t : Statement) → p.fallback ≡ Some t → IsTrue (is_valid p.machine (placed_statement (slice_index addresses) 0 t))
 fallback_valid p addresses is places t here =
     let fallback = fallback_is p is t here in
     and_from (is_part p.machine t.part) (is_next (placed_next (slice_index addresses) 0 t.next)) fallback.part
@@ -112,19 +112,19 @@ fallback_valid p addresses is places t here =
     among_right (filter_map statement_pair p.statements) (option_to_list (option_and_then statement_pair p.fallback)) pair (subst P (sym here) listed))))
 
 -- the statements below `upto` stand at their addresses, and the default at all others
-pub record IsFilledUpTo (p : Program) (addresses words : List ℕ) (upto : ℕ) : Type 0 where
+pub record IsFilledUpTo (p : MalView) (addresses words : List ℕ) (upto : ℕ) : Type 0 where
   pub full : length words ≡ 512
-  pub done : (s : ℕ) (t : Statement) → s < upto → slice_get p.statements s ≡ Some t → slice_index words (slice_index addresses s) ≡ word_of p.machine (placed_statement (slice_index addresses) s t)
-  pub rest : (a : ℕ) → a < 512 → ((s : ℕ) → s < upto → slice_index addresses s ≢ a) → slice_index words a ≡ word_of p.machine (placed_default (slice_index addresses) p.fallback)
+  pub done : (s : ℕ) (t : Statement) → s < upto → slice_get p.statements s ≡ Some t → slice_index words (slice_index addresses s) ≡ microword_of p.machine (placed_statement (slice_index addresses) s t)
+  pub rest : (a : ℕ) → a < 512 → ((s : ℕ) → s < upto → slice_index addresses s ≢ a) → slice_index words a ≡ microword_of p.machine (placed_default (slice_index addresses) p.fallback)
 
-pub filled_none : (p : Program) (addresses words : List ℕ) (word n : ℕ) → n ≡ 512 → words ≡ replicate n word → word ≡ word_of p.machine (placed_default (slice_index addresses) p.fallback) → IsFilledUpTo p addresses words 0
+pub filled_none : (p : MalView) (addresses words : List ℕ) (word n : ℕ) → n ≡ 512 → words ≡ replicate n word → word ≡ microword_of p.machine (placed_default (slice_index addresses) p.fallback) → IsFilledUpTo p addresses words 0
 filled_none p addresses words word n size are is = record {
   full = ap length are ∙ (length-replicate n word ∙ size);
   done = λ s t less here. absurd (omega arith);
   rest = λ a inside free. ap (λ ws. slice_index ws a) are ∙ (get_or-replicate n a word 0 (omega arith) ∙ is);
 }
 
-pub filled_more : (p : Program) (addresses words : List ℕ) (s word : ℕ) (t : Statement) → Places (demands_of p) addresses → slice_get p.statements s ≡ Some t → word ≡ word_of p.machine (placed_statement (slice_index addresses) s t) → IsFilledUpTo p addresses words s → IsFilledUpTo p addresses (set words (slice_index addresses s) word) (s + 1)
+pub filled_more : (p : MalView) (addresses words : List ℕ) (s word : ℕ) (t : Statement) → Places (demands_of p) addresses → slice_get p.statements s ≡ Some t → word ≡ microword_of p.machine (placed_statement (slice_index addresses) s t) → IsFilledUpTo p addresses words s → IsFilledUpTo p addresses (set words (slice_index addresses s) word) (s + 1)
 unfolding demands_of
 filled_more p addresses words s word t places here is h =
     let count = placed_count p addresses places in
@@ -139,7 +139,7 @@ filled_more p addresses words s word t places here is h =
             let one : t ≡ u = cc in
             ap (λ j. slice_index (set words (slice_index addresses s) word) (slice_index addresses j)) same
             ∙ (get_or-set_same words (slice_index addresses s) word 0 (omega arith)
-            ∙ (is ∙ (ap (λ v. word_of p.machine (placed_statement (slice_index addresses) s v)) one ∙ ap (λ j. word_of p.machine (placed_statement (slice_index addresses) j u)) (sym same))))
+            ∙ (is ∙ (ap (λ v. microword_of p.machine (placed_statement (slice_index addresses) s v)) one ∙ ap (λ j. microword_of p.machine (placed_statement (slice_index addresses) j u)) (sym same))))
         | inr other ↦
             let below : k < length addresses = let b = slice_get_within p.statements k u here_k in omega arith in
             let apart : slice_index addresses k ≢ slice_index addresses s = λ e. other (places.places.apart k s (let c = places.count in omega arith) (let c = places.count in omega arith) e) in
@@ -154,7 +154,7 @@ element_at [] s inside = absurd (omega arith)
 element_at (x ∷ xs) zero inside = (x, refl)
 element_at (x ∷ xs) (suc s) inside = element_at xs s (omega arith)
 
-pub filled_all : (p : Program) (addresses words : List ℕ) → IsProgram p → Places (demands_of p) addresses → IsTrue (is_valid p.machine (placed_default (slice_index addresses) p.fallback)) → IsFilledUpTo p addresses words (length p.statements) → IsFilled p addresses words
+pub filled_all : (p : MalView) (addresses words : List ℕ) → IsMalProgram p → Places (demands_of p) addresses → IsTrue (is_valid p.machine (placed_default (slice_index addresses) p.fallback)) → IsFilledUpTo p addresses words (length p.statements) → IsFilled p addresses words
 filled_all p addresses words is places valid h = record {
   statements = λ s t here. record {
     valid = statement_valid p addresses is places s t here;

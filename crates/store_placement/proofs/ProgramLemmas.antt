@@ -9,7 +9,7 @@ use Rattle.std.proofs.lemmas.Option.{slice_get_within, get_or_from_slice_get}
 use Rattle.mal_line.specs.declared.next.Next.{Next}
 use Rattle.mal_line.specs.declared.next.Next.TheVariants as nexts
 use Rattle.mal_parser.specs.declared.statement.Statement.{Statement}
-use Rattle.mal_parser.specs.Program.{Program, IsProgram, IsFallback, IsLabelled, HasTargets}
+use Rattle.mal_parser.specs.Program.{MalView, IsMalProgram, IsFallback, IsLabelled, HasTargets}
 use Rattle.store_placement.specs.declared.pair.Pair.{Pair}
 use Rattle.store_placement.specs.Demands.{IsOfStatements}
 use Rattle.store_placement.specs.Program.{pair_of}
@@ -32,7 +32,7 @@ filter_map_next h xs s x is =
 if_some : {X : Type 0} (P : X → Type 0) (o : Option X) (x : X) → o ≡ Some x → IfSome o P → P x
 if_some {X} P o x is h = let Q : Option X → Type 0 = λ r. IfSome r P in subst Q is h
 
-pub fixed_inside : (p : Program) → IsProgram p → (s : ℕ) (t : Statement) → slice_get p.statements s ≡ Some t → ForSome t.fixed (λ a. a < 512)
+pub fixed_inside : (p : MalView) → IsMalProgram p → (s : ℕ) (t : Statement) → slice_get p.statements s ≡ Some t → ForSome t.fixed (λ a. a < 512)
 fixed_inside p is s t here a at = (if_some (λ b. (b < 512) × IsSome t.label) t.fixed a at (is.statements s t here).fixed).0
 
 pub labelled_below : (statements : List Statement) (n : ℕ) → IsLabelled statements n → n < length statements
@@ -51,11 +51,11 @@ targets_below statements (nexts.Branch test high low) has p is =
     let same : record { yes = high; no = low } ≡ p = cc in
     subst P same (labelled_below statements high has.0, labelled_below statements low has.1)
 
-pub targets_inside : (p : Program) → IsProgram p → (s : ℕ) (t : Statement) → slice_get p.statements s ≡ Some t → ForSome (pair_of t.next) (IsOfStatements (length p.statements))
+pub targets_inside : (p : MalView) → IsMalProgram p → (s : ℕ) (t : Statement) → slice_get p.statements s ≡ Some t → ForSome (pair_of t.next) (IsOfStatements (length p.statements))
 targets_inside p is s t here = targets_below p.statements t.next (is.statements s t here).targets
 
-pub fallback_is : (p : Program) → IsProgram p → (t : Statement) → p.fallback ≡ Some t → IsFallback p t
+pub fallback_is : (p : MalView) → IsMalProgram p → (t : Statement) → p.fallback ≡ Some t → IsFallback p t
 fallback_is p is t here = if_some (IsFallback p) p.fallback t here is.fallback
 
-pub fallback_inside : (p : Program) → IsProgram p → (t : Statement) → p.fallback ≡ Some t → ForSome (pair_of t.next) (IsOfStatements (length p.statements))
+pub fallback_inside : (p : MalView) → IsMalProgram p → (t : Statement) → p.fallback ≡ Some t → ForSome (pair_of t.next) (IsOfStatements (length p.statements))
 fallback_inside p is t here = targets_below p.statements t.next (fallback_is p is t here).targets

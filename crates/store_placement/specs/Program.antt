@@ -6,12 +6,12 @@ use Rattle.mic_words.specs.declared.machine.Machine.{Machine}
 use Rattle.micro_word.specs.declared.statement.Placed.{Placed}
 use Rattle.micro_word.specs.declared.statement.PlacedNext.{PlacedNext}
 use Rattle.micro_word.specs.declared.statement.PlacedNext.TheVariants as placed
-use Rattle.micro_word.specs.Coding.{idle, word_of}
+use Rattle.micro_word.specs.Coding.{idle, microword_of}
 use Rattle.micro_word.specs.Words.{is_valid}
 use Rattle.mal_line.specs.declared.next.Next.{Next}
 use Rattle.mal_line.specs.declared.next.Next.TheVariants as nexts
 use Rattle.mal_parser.specs.declared.statement.Statement.{Statement}
-use Rattle.mal_parser.specs.Program.{Program}
+use Rattle.mal_parser.specs.Program.{MalView}
 use Rattle.store_placement.specs.declared.pair.Pair.{Pair}
 use Rattle.store_placement.specs.Demands.{Demands}
 
@@ -26,7 +26,7 @@ abbrev pub statement_pair : Statement → Option Pair
 statement_pair s = pair_of s.next
 
 -- the fixed addresses, and the pairs of the conditionals, the one of `.default` included
-unfoldable pub demands_of : Program → Demands
+unfoldable pub demands_of : MalView → Demands
 demands_of program =
     record {
       fixed = map (λ s. s.fixed) program.statements;
@@ -62,10 +62,10 @@ placed_default address (Some s) = placed_statement address 0 s
 -- the word decodes to the statement
 pub record Decodes (machine : Machine) (word : ℕ) (p : Placed) : Type 0 where
   pub valid : IsTrue (is_valid machine p)
-  pub whole : word_of machine p ≡ word
+  pub whole : microword_of machine p ≡ word
 
 -- each statement stands at its address, and what unused words hold at every other
-pub record IsFilled (program : Program) (addresses words : List ℕ) : Type 0 where
+pub record IsFilled (program : MalView) (addresses words : List ℕ) : Type 0 where
   pub statements : (s : ℕ) (t : Statement) → slice_get program.statements s ≡ Some t →
       Decodes program.machine (slice_index words (slice_index addresses s)) (placed_statement (slice_index addresses) s t)
   pub others : (a : ℕ) → a < 512 → ((s : ℕ) → s < length program.statements → slice_index addresses s ≢ a) →

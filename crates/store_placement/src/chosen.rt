@@ -1,4 +1,4 @@
-//! The chosen placement.
+//! The placement that is chosen among all that the constraints allow: first the forced addresses, then pairs, then single statements.
 
 ghost use Rattle.std.specs.Prelude.{◌≡◌, ◌<◌, ◌↔◌, IsOk, IfOk, MatchResult};
 ghost use Rattle.store_placement.specs.declared.refusal.PlaceError.{PlaceError};

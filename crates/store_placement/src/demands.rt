@@ -2,7 +2,7 @@
 ghost use Rattle.std.specs.Prelude.{◌≡◌, ◌++◌, ◌+◌, ◌<◌, ◌≤◌, [], length, map};
 ghost use Rattle.std.specs.List.{filter_map};
 ghost use Rattle.std.specs.Option.{ForSome, option_to_list};
-ghost use Rattle.mal_parser.specs.Program.{IsProgram};
+ghost use Rattle.mal_parser.specs.Program.{IsMalProgram};
 ghost use Rattle.store_placement.specs.Demands.{IsOfStatements};
 ghost use Rattle.store_placement.specs.Program.{demands_of, pair_of, statement_pair};
 
@@ -50,7 +50,7 @@ fn add_pairs(constraints: &mut Constraints, program: &MalProgram)
     ensures fixed { constraints.new.fixed ≡ constraints.old.fixed }
     ensures pairs { constraints.new.pairs ≡ filter_map statement_pair program.now.statements }
     ensures count { length constraints.new.pairs ≤ 512 }
-    ensures program { IsProgram program.now }
+    ensures program { IsMalProgram program.now }
 {
     for s in 0..program.len() {
         add_pair(constraints, program.statement(s).next);

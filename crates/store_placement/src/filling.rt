@@ -3,7 +3,7 @@ ghost use Rattle.std.specs.Prelude.{◌≡◌, ◌≢◌, ◌<◌, ℕ, Some, le
 ghost use Rattle.mic_words.specs.declared.machine.Machine.{Machine};
 ghost use Rattle.micro_word.specs.Words.{is_valid};
 ghost use Rattle.mal_parser.specs.declared.statement.Statement.{Statement};
-ghost use Rattle.mal_parser.specs.Program.{IsProgram};
+ghost use Rattle.mal_parser.specs.Program.{IsMalProgram};
 ghost use Rattle.store_placement.specs.Placement.{Places};
 ghost use Rattle.store_placement.specs.Program.{demands_of, placed_next, LeadsInside, placed_statement, goto_end, placed_default, IsFilled, IsOnlyAt};
 
@@ -28,7 +28,7 @@ fn placed_next(placement: &Placement, number: u16, next: MalNext) -> PlacedNext
 }
 
 fn placed_statement(program: &MalProgram, placement: &Placement, s: u16) -> Placed
-    requires program { IsProgram program.now }
+    requires program { IsMalProgram program.now }
     requires placement { Places (demands_of program.now) placement.now }
     requires inside { s < length program.now.statements }
     ensures value { (t : Statement) → slice_get program.now.statements s ≡ Some t → result ≡ placed_statement (slice_index placement.now) s t }
@@ -54,7 +54,7 @@ pub(crate) fn goto_end() -> Placed
 
 /// What unused words hold.
 fn placed_default(program: &MalProgram, placement: &Placement) -> Placed
-    requires program { IsProgram program.now }
+    requires program { IsMalProgram program.now }
     requires placement { Places (demands_of program.now) placement.now }
     ensures value { result ≡ placed_default (slice_index placement.now) program.now.fallback }
     ensures valid { IsTrue (is_valid program.now.machine result) }

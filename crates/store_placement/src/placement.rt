@@ -1,4 +1,4 @@
-//! Placements.
+//! A placement: an address for each statement, no two the same, which its type keeps.
 
 ghost use Rattle.std.specs.Prelude.{◌≡◌, ◌≢◌, ◌<◌, ℕ, List, length, slice_index, IfSome, IfNone};
 

@@ -1,6 +1,6 @@
 //! The store file, written and read.
 ghost use Rattle.std.specs.Prelude.{◌≡◌, ◌+◌, ◌≤◌, ◌<◌, ◌⊎◌, false, length, IsTrue, IfOk, IfErr, MatchOption, MatchResult, Err};
-ghost use Rattle.micro_word.specs.Coding.{word_of};
+ghost use Rattle.micro_word.specs.Coding.{microword_of};
 ghost use Rattle.micro_word.specs.Words.{is_valid, is_canonical};
 ghost use Rattle.micro_word.specs.ControlStore.{ControlStore, IsStore};
 ghost use Rattle.store_placement.specs.declared.store_error.StoreError.{StoreError};
@@ -75,7 +75,7 @@ fn number_at(bytes: &[u8], k: usize) -> u64
 
 fn decode(machine: Machine, word: u64) -> Option<Placed>
     ensures { MatchOption result (is_canonical machine word ≡ false)
-        (λ p. IsTrue (is_canonical machine word) × IsTrue (is_valid machine p) × (word_of machine p ≡ word)) }
+        (λ p. IsTrue (is_canonical machine word) × IsTrue (is_valid machine p) × (microword_of machine p ≡ word)) }
 {
     word_law(machine);
     match machine {

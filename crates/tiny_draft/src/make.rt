@@ -1,4 +1,4 @@
-//! Trees from their parts.
+//! Each node of a written program's tree from its parts, with the plain tree that it stands for.
 
 ghost use Rattle.std.specs.Prelude.{◌≡◌, ◌∷◌, [], IfErr, IfOk, map, option_map};
 ghost use Rattle.tiny_draft.specs.Tree as tree;

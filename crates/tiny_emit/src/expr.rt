@@ -1,4 +1,4 @@
-//! The code of expressions.
+//! Appends the code of an expression, which leaves one word on the stack.
 
 ghost use Rattle.std.specs.Prelude.{◌≡◌, ◌+◌, ◌∷◌, ◌++◌, [], OnOk, IfOk, map};
 ghost use Rattle.ijvm_instr.specs.Instructions.{spelling};

@@ -1,4 +1,4 @@
-//! Statements and blocks.
+//! Reads the statement and the block at the front of the tokens, after the grammar of Tiny.
 
 ghost use Rattle.std.specs.Prelude.{◌≡◌, ◌++◌, ◌∷◌, [], None, MatchOption, IfOk, IfErr, false, option_map};
 ghost use Rattle.tiny_draft.specs.Tree.{else_of};

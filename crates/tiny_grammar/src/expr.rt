@@ -1,4 +1,4 @@
-//! Expressions.
+//! Reads the expression and the condition at the front of the tokens.
 
 ghost use Rattle.std.specs.Prelude.{◌≡◌, ◌+◌, [], ◌∷◌, ◌++◌, None, MatchOption, IfOk, IfErr, map};
 ghost use Rattle.tiny_draft.specs.Tree.{arguments_of};

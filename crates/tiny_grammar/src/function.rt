@@ -1,4 +1,4 @@
-//! Functions.
+//! Reads the function at the front of the tokens: its parameters and its block.
 
 ghost use Rattle.std.specs.Prelude.{◌≡◌, ◌+◌, ◌∷◌, [], ℕ, IfOk, IfErr};
 ghost use Rattle.tiny_draft.specs.View.{function_tree};

@@ -1,4 +1,4 @@
-//! Tokens from the front.
+//! Takes one token from the front, where it is what is asked for.
 
 ghost use Rattle.std.specs.Prelude.{◌≡◌, None, IfSome, IsNone, IfOk, IfErr, IsErr};
 ghost use Rattle.tiny_grammar.specs.Machine.{comparison_of, fault, is_name, is_number, is_sign, is_the_sign, operator_of};

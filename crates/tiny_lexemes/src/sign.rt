@@ -1,4 +1,4 @@
-//! Signs and reserved words.
+//! The signs and reserved words of Tiny, each with its spelling.
 
 ghost use Rattle.std.specs.Prelude.{◌≡◌};
 ghost use Rattle.tiny_lexemes.specs.Signs.{find_sign, sign_text};

@@ -1,4 +1,4 @@
-//! Names in expressions.
+//! The first wrong name of an expression: a variable that is not seen, a function that is missing, or one with another number of parameters.
 
 ghost use Rattle.std.specs.Prelude.{◌≡◌, ◌++◌, map};
 ghost use Rattle.tiny_draft.specs.Tree.{arguments_of};

@@ -1,4 +1,4 @@
-//! Names in statements.
+//! The first wrong name of a block: which names are seen at each statement, and which are declared twice.
 
 ghost use Rattle.std.specs.Prelude.{◌≡◌, ◌≤◌, ◌++◌, ◌∷◌, [], IfOk, Ok, None, length, option_map};
 ghost use Rattle.tiny_draft.specs.Tree.{else_of};

@@ -1,4 +1,4 @@
-//! A program.
+//! A program of Tiny whose names are resolved, which its type keeps.
 
 ghost use Rattle.std.specs.Prelude.{◌≡◌, map};
 ghost use Rattle.tiny_names.specs.View.{program_tree};

@@ -1,4 +1,4 @@
--- The error of each refusal.
+-- Which error of a Tiny source each refusal of the grammar and each wrong name becomes.
 use Rattle.std.specs.Prelude.{ℕ, Bool, true, false}
 use Rattle.tiny_grammar.specs.declared.refusal.Refusal.{Refusal}
 use Rattle.tiny_grammar.specs.declared.refusal.Refusal.TheVariants as refusals

@@ -5,7 +5,7 @@ use Rattle.ijvm_image.specs.Image.{ImageView}
 use Rattle.ijvm_meaning.specs.declared.run.RunEnd.TheVariants as ends
 use Rattle.ijvm_meaning.specs.Frames.{State, start_of}
 use Rattle.ijvm_meaning.specs.Cost.{Timing}
-use Rattle.ijvm_meaning.specs.Run.{Program as Runs, Point, Finish, first_point, stopped, after_test, finish_from, EndsBy, Passes, Start, More}
+use Rattle.ijvm_meaning.specs.Run.{TimedImage, Point, Finish, first_point, stopped, after_test, finish_from, EndsBy, Passes, Start, More}
 use Rattle.ijvm_meaning.specs.Safe.{IsSafe, NeverStuck, ComesTo, Here, On}
 use Rattle.tiny_tree.specs.Tree.{Program}
 use Rattle.tiny_tree.specs.Named.{IsNamed}
@@ -17,7 +17,7 @@ use Rattle.tiny_runs.proofs.Led.{whole_prefix, Led}
 use Rattle.tiny_runs.proofs.Runs.{follows}
 use Rattle.tiny_runs.proofs.Ends.{last, Tale, IsLimited, IsHalted, IsBounded, IsCut, tell, rises}
 
-passes_short : (p : Runs) (advances : Advances p.timing) (bound bound' : ℕ) (from at : Point) → Passes p bound from at → at.cycles ≤ bound' →
+passes_short : (p : TimedImage) (advances : Advances p.timing) (bound bound' : ℕ) (from at : Point) → Passes p bound from at → at.cycles ≤ bound' →
     Passes p bound' from at
 passes_short p advances bound bound' from at (Start at' is) le = Start at' is
 passes_short p advances bound bound' from at (More b next t h lt e is) le =
@@ -39,10 +39,10 @@ untaken_of (Cut given) = []
 
 module _ (program : Program) (p : Places) (image : ImageView) (stack_end main_locals : ℕ) (timing : Timing) (named : IsNamed program)
     (holds : Holds image p program) (safe : IsSafe image stack_end main_locals) (advances : Advances timing)
-    (one : (p : Runs) (bound : ℕ) (from : Point) (f g : Finish) → EndsBy p bound from f → EndsBy p bound from g → f ≡ g)
-    (passed : (p : Runs) (bound : ℕ) (from at : Point) (f : Finish) → Passes p bound from at → EndsBy p bound at f ↔ EndsBy p bound from f)
+    (one : (p : TimedImage) (bound : ℕ) (from : Point) (f g : Finish) → EndsBy p bound from f → EndsBy p bound from g → f ≡ g)
+    (passed : (p : TimedImage) (bound : ℕ) (from at : Point) (f : Finish) → Passes p bound from at → EndsBy p bound at f ↔ EndsBy p bound from f)
     (input : List ℕ) where
-  abbrev runs : Runs
+  abbrev runs : TimedImage
   runs = runs_of image stack_end timing
 
   abbrev first : Point

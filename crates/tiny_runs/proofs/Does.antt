@@ -3,12 +3,12 @@ use Rattle.std.proofs.Common.{◌≡◌, ◌≤◌, ℕ, zero, suc, ◌+◌, Lis
 use Rattle.std.specs.Prelude.{slice_get}
 use Rattle.ijvm_image.specs.Image.{ImageView}
 use Rattle.ijvm_meaning.specs.Frames.{Frame, State}
-use Rattle.ijvm_meaning.specs.Step.{Goes, Stuck, Halts as StepHalts, limited, outcome}
-use Rattle.tiny_tree.specs.Meaning.{World, Result, Gives, Halts, Cuts, and_then, in_turn, Variables, Meaning, Ended, Cut, ending}
+use Rattle.ijvm_meaning.specs.Step.{Goes, Stuck, Halts as StepHalts, limited, step_outcome}
+use Rattle.tiny_tree.specs.Meaning.{TinyWorld, Result, Gives, Halts, Cuts, and_then, in_turn, Variables, Meaning, Ended, Cut, ending}
 use Rattle.tiny_runs.proofs.Led.{output, IsPrefix, Follows, goes, pushes, stuck, cut, halts, lower}
 
 -- a state of the running frame, with this world
-abbrev pub state : Option ℕ → List Frame → List (Option ℕ) → ℕ → List ℕ → World → State
+abbrev pub state : Option ℕ → List Frame → List (Option ℕ) → ℕ → List ℕ → TinyWorld → State
 state back callers locals at ops w =
     record {
       running = record { locals = locals; operands = ops; back = back };
@@ -24,22 +24,22 @@ Agrees local locals vars = (x v : ℕ) → slice_get locals (local + x) ≡ Some
 
 -- From this state, with this world, the run does what the result says: where it gives something, the run leads to the state that `to` says,
 -- with what is known of that. `d` instructions are taken in any case.
-pub record Does (image : ImageView) (stack_end d : ℕ) {A : Type 0} (r : Result A) (w : World) (s : State)
-    (Known : A → Type 0) (to : (a : A) → Known a → World → State) : Type 0 where
-  pub by : (go : A → World → Meaning) →
-      ((a : A) (x : Known a) (u : World) → u.turns ≤ w.turns → Follows image stack_end (go a u) u.turns (to a x u)) →
+pub record Does (image : ImageView) (stack_end d : ℕ) {A : Type 0} (r : Result A) (w : TinyWorld) (s : State)
+    (Known : A → Type 0) (to : (a : A) → Known a → TinyWorld → State) : Type 0 where
+  pub by : (go : A → TinyWorld → Meaning) →
+      ((a : A) (x : Known a) (u : TinyWorld) → u.turns ≤ w.turns → Follows image stack_end (go a u) u.turns (to a x u)) →
       Follows image stack_end (ending r go) (d + w.turns) s
 
-after_then : {A B : Type 0} (r : Result A) (f : A → World → Result B) (go : B → World → Meaning) →
+after_then : {A B : Type 0} (r : Result A) (f : A → TinyWorld → Result B) (go : B → TinyWorld → Meaning) →
     ending (and_then r f) go ≡ ending r (λ a w. ending (f a w) go)
 after_then (Gives a w) f go = refl
 after_then (Halts w) f go = refl
 after_then (Cuts w) f go = refl
 
 module _ {image : ImageView} {stack_end : ℕ} where
-  pub does_then : {d : ℕ} {A B : Type 0} {r : Result A} {w : World} {s : State} {K : A → Type 0} {to : (a : A) → K a → World → State}
-      {f : A → World → Result B} {L : B → Type 0} {on : (b : B) → L b → World → State} → Does image stack_end d r w s K to →
-      ((a : A) (x : K a) (u : World) → u.turns ≤ w.turns → Does image stack_end 0 (f a u) u (to a x u) L on) →
+  pub does_then : {d : ℕ} {A B : Type 0} {r : Result A} {w : TinyWorld} {s : State} {K : A → Type 0} {to : (a : A) → K a → TinyWorld → State}
+      {f : A → TinyWorld → Result B} {L : B → Type 0} {on : (b : B) → L b → TinyWorld → State} → Does image stack_end d r w s K to →
+      ((a : A) (x : K a) (u : TinyWorld) → u.turns ≤ w.turns → Does image stack_end 0 (f a u) u (to a x u) L on) →
       Does image stack_end d (and_then r f) w s L on
   does_then {d} {A} {B} {r} {w} {s} {K} {to} {f} {L} {on} does e =
       record {
@@ -49,14 +49,14 @@ module _ {image : ImageView} {stack_end : ℕ} where
             ((e a x u le).by go (λ b y v le'. h b y v (omega (arith, le, le'))))));
       }
 
-  pub does_lower : {A : Type 0} {r : Result A} {w : World} {K : A → Type 0} {to : (a : A) → K a → World → State} {s : State} (d : ℕ) →
+  pub does_lower : {A : Type 0} {r : Result A} {w : TinyWorld} {K : A → Type 0} {to : (a : A) → K a → TinyWorld → State} {s : State} (d : ℕ) →
       Does image stack_end d r w s K to → Does image stack_end 0 r w s K to
   does_lower {A} {r} {w} {K} {to} {s} d does =
       record { by = λ go h. lower image stack_end (ending r go) (0 + w.turns) (d + w.turns) s (omega arith) (does.by go h) }
 
   -- an instruction on the way, from where the same bytes are given
-  pub does_after : {A : Type 0} {r : Result A} {w : World} {K : A → Type 0} {to : (a : A) → K a → World → State} (s t : State) →
-      outcome image stack_end s ≡ Goes t → t.given ≡ s.given → Does image stack_end 0 r w t K to → Does image stack_end 1 r w s K to
+  pub does_after : {A : Type 0} {r : Result A} {w : TinyWorld} {K : A → Type 0} {to : (a : A) → K a → TinyWorld → State} (s t : State) →
+      step_outcome image stack_end s ≡ Goes t → t.given ≡ s.given → Does image stack_end 0 r w t K to → Does image stack_end 1 r w s K to
   does_after {A} {r} {w} {K} {to} s t e same d =
       record {
         by = λ go h. let f : Follows image stack_end (ending r go) (0 + w.turns) t = d.by go h in
@@ -65,8 +65,8 @@ module _ {image : ImageView} {stack_end : ℕ} where
       }
 
   -- the same, of an instruction that may meet the stack's end
-  pub does_push : {A : Type 0} {r : Result A} {w : World} {K : A → Type 0} {to : (a : A) → K a → World → State} (s t left : State) →
-      outcome image stack_end s ≡ limited stack_end left t → t.given ≡ s.given → Does image stack_end 0 r w t K to →
+  pub does_push : {A : Type 0} {r : Result A} {w : TinyWorld} {K : A → Type 0} {to : (a : A) → K a → TinyWorld → State} (s t left : State) →
+      step_outcome image stack_end s ≡ limited stack_end left t → t.given ≡ s.given → Does image stack_end 0 r w t K to →
       Does image stack_end 1 r w s K to
   does_push {A} {r} {w} {K} {to} s t left e same d =
       record {
@@ -76,8 +76,8 @@ module _ {image : ImageView} {stack_end : ℕ} where
       }
 
   -- where the run gets stuck, something else might come
-  pub does_stuck : {A : Type 0} {r : Result A} {w : World} {K : A → Type 0} {to : (a : A) → K a → World → State} (s t : State) →
-      outcome image stack_end s ≡ Stuck → t.given ≡ s.given → Does image stack_end 0 r w t K to → Does image stack_end 1 r w s K to
+  pub does_stuck : {A : Type 0} {r : Result A} {w : TinyWorld} {K : A → Type 0} {to : (a : A) → K a → TinyWorld → State} (s t : State) →
+      step_outcome image stack_end s ≡ Stuck → t.given ≡ s.given → Does image stack_end 0 r w t K to → Does image stack_end 1 r w s K to
   does_stuck {A} {r} {w} {K} {to} s t e same d =
       record {
         by = λ go h. let f : Follows image stack_end (ending r go) (0 + w.turns) t = d.by go h in
@@ -85,7 +85,7 @@ module _ {image : ImageView} {stack_end : ℕ} where
       }
 
   -- it gives this, here
-  pub does_give : {A : Type 0} (a : A) (w u : World) (K : A → Type 0) (to : (a : A) → K a → World → State) (s : State) (x : K a) →
+  pub does_give : {A : Type 0} (a : A) (w u : TinyWorld) (K : A → Type 0) (to : (a : A) → K a → TinyWorld → State) (s : State) (x : K a) →
       u.turns ≡ w.turns → s ≡ to a x u → Does image stack_end 0 (Gives a u) w s K to
   does_give a w u K to s x same e =
       record {
@@ -95,21 +95,21 @@ module _ {image : ImageView} {stack_end : ℕ} where
       }
 
   -- nothing more goes on
-  pub does_halt : {A : Type 0} (w : World) (s : State) (K : A → Type 0) (to : (a : A) → K a → World → State) →
-      outcome image stack_end s ≡ StepHalts → s.given ≡ w.given → s.untaken ≡ w.untaken → Does image stack_end 0 (Halts w) w s K to
+  pub does_halt : {A : Type 0} (w : TinyWorld) (s : State) (K : A → Type 0) (to : (a : A) → K a → TinyWorld → State) →
+      step_outcome image stack_end s ≡ StepHalts → s.given ≡ w.given → s.untaken ≡ w.untaken → Does image stack_end 0 (Halts w) w s K to
   does_halt w s K to e given untaken =
       record {
         by = λ go h. halts image stack_end (Ended w.given w.untaken) (0 + w.turns) s e
             (ap (λ (g : List ℕ). Ended g w.untaken) (sym given) ∙ ap (λ (g : List ℕ). Ended s.given g) (sym untaken));
       }
 
-  pub does_cut : {A : Type 0} (w : World) (s : State) (K : A → Type 0) (to : (a : A) → K a → World → State) →
+  pub does_cut : {A : Type 0} (w : TinyWorld) (s : State) (K : A → Type 0) (to : (a : A) → K a → TinyWorld → State) →
       w.turns ≡ 0 → s.given ≡ w.given → Does image stack_end 0 (Cuts w) w s K to
   does_cut w s K to none given =
       record { by = λ go h. cut image stack_end (Cut w.given) (0 + w.turns) s (omega (arith, none)) (ap Cut (sym given)) }
 
   -- a turn, whose code takes an instruction
-  pub does_turn : {A : Type 0} (w : World) (s : State) (K : A → Type 0) (to : (a : A) → K a → World → State) (go : World → Result A) (t : ℕ) →
+  pub does_turn : {A : Type 0} (w : TinyWorld) (s : State) (K : A → Type 0) (to : (a : A) → K a → TinyWorld → State) (go : TinyWorld → Result A) (t : ℕ) →
       w.turns ≡ t → s.given ≡ w.given →
       ((m : ℕ) → t ≡ suc m → Does image stack_end 1 (go (record w { turns = m })) (record w { turns = m }) s K to) →
       Does image stack_end 0 (in_turn w t go) w s K to
@@ -121,9 +121,9 @@ module _ {image : ImageView} {stack_end : ℕ} where
       }
 
   -- the same result, from there on
-  pub does_more : {A : Type 0} {d : ℕ} {r : Result A} {w : World} {s : State} {K L : A → Type 0} {to : (a : A) → K a → World → State}
-      {on : (a : A) → L a → World → State} → Does image stack_end d r w s K to →
-      ((a : A) (x : K a) (u : World) → u.turns ≤ w.turns → Does image stack_end 0 (Gives a u) u (to a x u) L on) →
+  pub does_more : {A : Type 0} {d : ℕ} {r : Result A} {w : TinyWorld} {s : State} {K L : A → Type 0} {to : (a : A) → K a → TinyWorld → State}
+      {on : (a : A) → L a → TinyWorld → State} → Does image stack_end d r w s K to →
+      ((a : A) (x : K a) (u : TinyWorld) → u.turns ≤ w.turns → Does image stack_end 0 (Gives a u) u (to a x u) L on) →
       Does image stack_end d r w s L on
   does_more {A} {d} {r} {w} {s} {K} {L} {to} {on} does e =
       record {

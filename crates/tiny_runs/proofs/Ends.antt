@@ -10,9 +10,9 @@ use Rattle.ijvm_instr.specs.Instructions.{instr_at}
 use Rattle.ijvm_image.specs.Image.{ImageView}
 use Rattle.ijvm_meaning.specs.declared.run.RunEnd.TheVariants as ends
 use Rattle.ijvm_meaning.specs.Frames.{State}
-use Rattle.ijvm_meaning.specs.Step.{Outcome, Goes, Halts, Limits, step_if_any, outcome}
+use Rattle.ijvm_meaning.specs.Step.{StepOutcome, Goes, Halts, Limits, step_if_any, step_outcome}
 use Rattle.ijvm_meaning.specs.Cost.{cost_at, is_taken, entry_of, timing_of}
-use Rattle.ijvm_meaning.specs.Run.{Program as Runs, Point, Finish, point_after, completed, stopped, after_outcome, after_test, finish_from, EndsBy, Passes, Start, More}
+use Rattle.ijvm_meaning.specs.Run.{TimedImage, Point, Finish, point_after, completed, stopped, after_outcome, after_test, finish_from, EndsBy, Passes, Start, More}
 use Rattle.tiny_tree.specs.Meaning.{Meaning, Ended, Cut}
 use Rattle.tiny_runs.specs.AsMeant.{Advances}
 use Rattle.tiny_runs.proofs.Led.{output, IsPrefix, whole_prefix, Led, Finishes, Stops, Limited, Leads}
@@ -48,42 +48,42 @@ machines_advance machine image stack_end s to e = positive image stack_end machi
 -- ---- how a run with a bound goes
 
 -- the cycles of the last boundary to which this leads
-abbrev pub last : (p : Runs) {m : Meaning} {k : ℕ} {s : State} → Led p.image p.stack_end m k s → Point → ℕ
+abbrev pub last : (p : TimedImage) {m : Meaning} {k : ℕ} {s : State} → Led p.image p.stack_end m k s → Point → ℕ
 last p (Finishes k s e is) at = at.cycles
 last p (Stops s is) at = at.cycles
 last p (Limited k s left e q) at = at.cycles
 last p (Leads k j s t e le q l) at = last p l (point_after p at t)
 
-pub data Tale (p : Runs) (bound : ℕ) (at : Point) (m : Meaning) (k : ℕ) (last : ℕ) : Type 0 where
+pub data Tale (p : TimedImage) (bound : ℕ) (at : Point) (m : Meaning) (k : ℕ) (last : ℕ) : Type 0 where
   IsLimited : (f : Finish) → EndsBy p bound at f → f.end ≡ ends.StackLimit → Tale p bound at m k last
   IsHalted : (f : Finish) → EndsBy p bound at f → f.end ≡ ends.Halt → m ≡ Ended f.left.given f.left.untaken → Tale p bound at m k last
   IsBounded : (f : Finish) → EndsBy p bound at f → f.end ≡ ends.Bound → IsPrefix f.left.given (output m) → bound ≤ last →
       Tale p bound at m k last
   IsCut : (c : Point) → Passes p bound at c → m ≡ Cut c.state.given → at.cycles + k ≤ c.cycles → c.cycles < bound → Tale p bound at m k last
 
-passes_on : (p : Runs) (bound : ℕ) (at next c : Point) (t : State) → at.cycles < bound → outcome p.image p.stack_end at.state ≡ Goes t →
+passes_on : (p : TimedImage) (bound : ℕ) (at next c : Point) (t : State) → at.cycles < bound → step_outcome p.image p.stack_end at.state ≡ Goes t →
     next ≡ point_after p at t → Passes p bound next c → Passes p bound at c
 passes_on p bound at next c t lt e is (Start c' same) = More at c' t (Start at refl) lt e (same ∙ is)
 passes_on p bound at next c t lt e is (More b c' u h lt' e' is') = More b c' u (passes_on p bound at next b t lt e is h) lt' e' is'
 
-module _ (p : Runs) (advances : Advances p.timing) where
-  pub rises : (at : Point) (t : State) → outcome p.image p.stack_end at.state ≡ Goes t → at.cycles < (point_after p at t).cycles
+module _ (p : TimedImage) (advances : Advances p.timing) where
+  pub rises : (at : Point) (t : State) → step_outcome p.image p.stack_end at.state ≡ Goes t → at.cycles < (point_after p at t).cycles
   rises at t e = omega (arith, advances p.image p.stack_end at.state t e)
 
   module _ (bound : ℕ) where
     -- one instruction more in front
-    ends_on : (at : Point) (t : State) (f : Finish) → nat_le bound at.cycles ≡ false → outcome p.image p.stack_end at.state ≡ Goes t →
+    ends_on : (at : Point) (t : State) (f : Finish) → nat_le bound at.cycles ≡ false → step_outcome p.image p.stack_end at.state ≡ Goes t →
         EndsBy p bound (point_after p at t) f → EndsBy p bound at f
     ends_on at t f below e h =
         (suc h.0, ap (after_test (finish_from p bound h.0) p at) below ∙ ap (after_outcome (finish_from p bound h.0) p at) e ∙ h.1)
 
-    ends_here : (at : Point) (o : Outcome) (f : Finish) → nat_le bound at.cycles ≡ false → outcome p.image p.stack_end at.state ≡ o →
+    ends_here : (at : Point) (o : StepOutcome) (f : Finish) → nat_le bound at.cycles ≡ false → step_outcome p.image p.stack_end at.state ≡ o →
         after_outcome (finish_from p bound 0) p at o ≡ Some f → EndsBy p bound at f
     ends_here at o f below e h =
         (1, ap (after_test (finish_from p bound 0) p at) below ∙ ap (after_outcome (finish_from p bound 0) p at) e ∙ h)
 
     tell_on : (m : Meaning) (j k last : ℕ) (at : Point) (t : State) → nat_le bound at.cycles ≡ false →
-        outcome p.image p.stack_end at.state ≡ Goes t → j ≤ suc k → Tale p bound (point_after p at t) m k last → Tale p bound at m j last
+        step_outcome p.image p.stack_end at.state ≡ Goes t → j ≤ suc k → Tale p bound (point_after p at t) m k last → Tale p bound at m j last
     tell_on m j k last at t below e le (IsLimited f h is) = IsLimited f (ends_on at t f below e h) is
     tell_on m j k last at t below e le (IsHalted f h is same) = IsHalted f (ends_on at t f below e h) is same
     tell_on m j k last at t below e le (IsBounded f h is q small) = IsBounded f (ends_on at t f below e h) is q small
@@ -96,7 +96,7 @@ module _ (p : Runs) (advances : Advances p.timing) where
     last_above (Stops s is) at same = omega arith
     last_above (Limited k s left e q) at same = omega arith
     last_above (Leads k j s t e le q l) at same =
-        omega (arith, rises at t (ap (outcome p.image p.stack_end) same ∙ e), last_above l (point_after p at t) refl)
+        omega (arith, rises at t (ap (step_outcome p.image p.stack_end) same ∙ e), last_above l (point_after p at t) refl)
 
     prefix_led : {m : Meaning} {k : ℕ} {s : State} → Led p.image p.stack_end m k s → IsPrefix s.given (output m)
     prefix_led (Finishes k s e is) = subst (λ (x : Meaning). IsPrefix s.given (output x)) (sym is) (whole_prefix s.given)
@@ -116,15 +116,15 @@ module _ (p : Runs) (advances : Advances p.timing) where
     tell_by true l at same above = bounded l at same above
     tell_by {m} false (Finishes k s e is) at same below =
         IsHalted (completed p at ends.Halt)
-        (ends_here at Halts (completed p at ends.Halt) below (ap (outcome p.image p.stack_end) same ∙ e) refl) refl
+        (ends_here at Halts (completed p at ends.Halt) below (ap (step_outcome p.image p.stack_end) same ∙ e) refl) refl
         (subst (λ (x : State). m ≡ Ended x.given x.untaken) (sym same) is)
     tell_by {m} false (Stops s is) at same below =
         IsCut at (Start at refl) (subst (λ (x : State). m ≡ Cut x.given) (sym same) is) (omega arith) (leb-false bound at.cycles below)
     tell_by false (Limited k s left e q) at same below =
         IsLimited (stopped at ends.StackLimit left)
-        (ends_here at (Limits left) (stopped at ends.StackLimit left) below (ap (outcome p.image p.stack_end) same ∙ e) refl) refl
+        (ends_here at (Limits left) (stopped at ends.StackLimit left) below (ap (step_outcome p.image p.stack_end) same ∙ e) refl) refl
     tell_by {m} false (Leads k j s t e le q l) at same below =
-        tell_on m j k (last p l (point_after p at t)) at t below (ap (outcome p.image p.stack_end) same ∙ e) le
+        tell_on m j k (last p l (point_after p at t)) at t below (ap (step_outcome p.image p.stack_end) same ∙ e) le
         (tell_by (nat_le bound (point_after p at t).cycles) l (point_after p at t) refl refl)
 
     pub tell : {m : Meaning} {k : ℕ} {s : State} (l : Led p.image p.stack_end m k s) (at : Point) → at.state ≡ s → Tale p bound at m k (last p l at)

@@ -9,10 +9,10 @@ use Rattle.ijvm_instr.specs.declared.instr.Instr.{Instr}
 use Rattle.ijvm_instr.specs.declared.instr.Instr.TheVariants.{Istore, Pop, Isub, Iflt, IfIcmpeq, Goto, Ireturn, Out, Halt as HaltCode}
 use Rattle.ijvm_instr.specs.Instructions.{row_of, size_of, instr_at, target}
 use Rattle.ijvm_meaning.specs.Frames.{State}
-use Rattle.ijvm_meaning.specs.Step.{Goes, Stuck, is_own, way, outcome}
+use Rattle.ijvm_meaning.specs.Step.{Goes, Stuck, is_own, way, step_outcome}
 use Rattle.tiny_tree.specs.Tree.{Term, Expr, Cond, Equal, Different, Less, Statement, Var, Assign, Calls, If, While, Return, Put, Halt, Else, no_else, else_block, Statements, no_statements, statement, Called}
 use Rattle.tiny_tree.specs.Named.{Seen, IsNamedTerm, IsNamedExpr, IsNamedCond, IsNamedStatement, AreNamed, IsNamedElse, seen_after}
-use Rattle.tiny_tree.specs.Meaning.{World, Result, Gives, Halts, and_then, Variables, with_value, evaluate_term, evaluate, compare, evaluate_cond, Flow, GoesOn, Returns, unless_returned, either_side, repeat, execute, execute_all, execute_else, Meaning}
+use Rattle.tiny_tree.specs.Meaning.{TinyWorld, Result, Gives, Halts, and_then, Variables, with_value, evaluate_term, evaluate, compare, evaluate_cond, Flow, GoesOn, Returns, unless_returned, either_side, repeat, execute, execute_all, execute_else, Meaning}
 use Rattle.tiny_code.specs.Code.{code_size, choice, loop, term_code, expr_code, test_code, test_jump, leave_code, statement_code, statements_code, else_code, term_numbers, expr_numbers, cond_numbers, statement_numbers, statements_numbers, else_numbers}
 use Rattle.tiny_code.specs.Laid.{HasNumbers}
 use Rattle.tiny_runs.proofs.Led.{output, Follows, goes, at_code, prefix_trans}
@@ -67,10 +67,10 @@ abbrev AnyBool : Bool → Type 0
 AnyBool b = Unit {0}
 
 module _ (c : Setting) (f : Running) where
-  abbrev place : List (Option ℕ) → ℕ → List ℕ → World → State
+  abbrev place : List (Option ℕ) → ℕ → List ℕ → TinyWorld → State
   place locals at ops w = state f.back f.callers locals at ops w
 
-  there : (locals : List (Option ℕ)) (at end : ℕ) (ops : List ℕ) (w : World) → at ≡ end → place locals at ops w ≡ place locals end ops w
+  there : (locals : List (Option ℕ)) (at end : ℕ) (ops : List ℕ) (w : TinyWorld) → at ≡ end → place locals at ops w ≡ place locals end ops w
   there locals at end ops w e = ap (λ (x : ℕ). place locals x ops w) e
 
   abbrev Stands : ℕ → ℕ → List Instr → Type 0
@@ -87,42 +87,42 @@ module _ (c : Setting) (f : Running) where
   After (GoesOn vars) = (locals : List (Option ℕ)) × Agrees f.local locals vars
   After (Returns v) = (locals : List (Option ℕ)) × (at : ℕ) × (instr_at c.image.text at ≡ Some Ireturn)
 
-  abbrev pub to : ℕ → (flow : Flow) → After flow → World → State
+  abbrev pub to : ℕ → (flow : Flow) → After flow → TinyWorld → State
   to end (GoesOn vars) x u = place x.0 end [] u
   to end (Returns v) x u = place x.0 x.1 (v ∷ []) u
 
   -- from this address on the run does this, up to `end`
-  abbrev pub Works : ℕ → Result Flow → World → List (Option ℕ) → ℕ → ℕ → Type 0
+  abbrev pub Works : ℕ → Result Flow → TinyWorld → List (Option ℕ) → ℕ → ℕ → Type 0
   Works d r w locals at end = Does c.image c.stack_end d r w (place locals at [] w) After (to end)
 
   -- the code does this wherever it stands
-  abbrev pub RunsAs : List Instr → (Variables → World → Result Flow) → Type 0
-  RunsAs code r = (at end : ℕ) → Stands at end code → (vars : Variables) (locals : List (Option ℕ)) (w : World) → w.turns ≤ c.turns →
+  abbrev pub RunsAs : List Instr → (Variables → TinyWorld → Result Flow) → Type 0
+  RunsAs code r = (at end : ℕ) → Stands at end code → (vars : Variables) (locals : List (Option ℕ)) (w : TinyWorld) → w.turns ≤ c.turns →
       Agrees f.local locals vars → Works 0 (r vars w) w locals at end
 
   -- an instruction that leads on from the end
-  on_by : (b end : ℕ) (go : Flow → World → Meaning) (w : World) →
-      ((ls : List (Option ℕ)) (u : World) → outcome c.image c.stack_end (place ls b [] u) ≡ Goes (place ls end [] u)) →
-      ((flow : Flow) (x : After flow) (u : World) → u.turns ≤ w.turns → Follows c.image c.stack_end (go flow u) u.turns (to end flow x u)) →
-      (flow : Flow) (x : After flow) (u : World) → u.turns ≤ w.turns → Follows c.image c.stack_end (go flow u) u.turns (to b flow x u)
+  on_by : (b end : ℕ) (go : Flow → TinyWorld → Meaning) (w : TinyWorld) →
+      ((ls : List (Option ℕ)) (u : TinyWorld) → step_outcome c.image c.stack_end (place ls b [] u) ≡ Goes (place ls end [] u)) →
+      ((flow : Flow) (x : After flow) (u : TinyWorld) → u.turns ≤ w.turns → Follows c.image c.stack_end (go flow u) u.turns (to end flow x u)) →
+      (flow : Flow) (x : After flow) (u : TinyWorld) → u.turns ≤ w.turns → Follows c.image c.stack_end (go flow u) u.turns (to b flow x u)
   on_by b end go w e h (GoesOn vars) x u le =
       let g : Follows c.image c.stack_end (go (GoesOn vars) u) u.turns (place x.0 end [] u) = h (GoesOn vars) x u le in
       goes c.image c.stack_end (go (GoesOn vars) u) u.turns u.turns _ _ (e x.0 u) (omega arith) g.prefix g
   on_by b end go w e h (Returns v) x u le = h (Returns v) x u le
 
-  does_on : (d : ℕ) (r : Result Flow) (w : World) (locals : List (Option ℕ)) (at b end : ℕ) →
-      ((ls : List (Option ℕ)) (u : World) → outcome c.image c.stack_end (place ls b [] u) ≡ Goes (place ls end [] u)) →
+  does_on : (d : ℕ) (r : Result Flow) (w : TinyWorld) (locals : List (Option ℕ)) (at b end : ℕ) →
+      ((ls : List (Option ℕ)) (u : TinyWorld) → step_outcome c.image c.stack_end (place ls b [] u) ≡ Goes (place ls end [] u)) →
       Works d r w locals at b → Works d r w locals at end
   does_on d r w locals at b end e does = record { by = λ go h. does.by go (on_by b end go w e h) }
 
   goto_by : (at end : ℕ) (o : ℤ) → instr_at c.image.text at ≡ Some (Goto o) → target at o ≡ end →
-      (ls : List (Option ℕ)) (u : World) → outcome c.image c.stack_end (place ls at [] u) ≡ Goes (place ls end [] u)
+      (ls : List (Option ℕ)) (u : TinyWorld) → step_outcome c.image c.stack_end (place ls at [] u) ≡ Goes (place ls end [] u)
   goto_by at end o is leads ls u = at_code c.image c.stack_end (place ls at [] u) (Goto o) is ∙ ap (λ (x : ℕ). Goes (place ls x [] u)) leads
 
   -- ---- a value, and one instruction
 
-  stored_by : (own within : Bool) (x v at end : ℕ) (locals : List (Option ℕ)) (vars : Variables) (w : World) → Agrees f.local locals vars →
-      at + 2 ≡ end → outcome c.image c.stack_end (place locals at (v ∷ []) w)
+  stored_by : (own within : Bool) (x v at end : ℕ) (locals : List (Option ℕ)) (vars : Variables) (w : TinyWorld) → Agrees f.local locals vars →
+      at + 2 ≡ end → step_outcome c.image c.stack_end (place locals at (v ∷ []) w)
       ≡ (if own then (if within then Goes (place (slice_set locals (f.local + x) (Some v)) (at + 2) [] w) else Stuck) else Stuck) →
       Does c.image c.stack_end 1 (Gives (GoesOn (with_value vars x v)) w) w (place locals at (v ∷ []) w) After (to end)
   stored_by own within x v at end locals vars w agrees ends e = by own within e
@@ -134,7 +134,7 @@ module _ (c : Setting) (f : Running) where
           (slice_set locals (f.local + x) (Some v), stored_agrees f.local locals vars x v agrees) refl
           (there (slice_set locals (f.local + x) (Some v)) (at + 2) end [] w ends)
 
-      by : (own within : Bool) → outcome c.image c.stack_end (place locals at (v ∷ []) w)
+      by : (own within : Bool) → step_outcome c.image c.stack_end (place locals at (v ∷ []) w)
           ≡ (if own then (if within then Goes (place (slice_set locals (f.local + x) (Some v)) (at + 2) [] w) else Stuck) else Stuck) →
           Does c.image c.stack_end 1 (Gives (GoesOn (with_value vars x v)) w) w (place locals at (v ∷ []) w) After (to end)
       by true true e = does_after _ _ e refl last
@@ -163,7 +163,7 @@ module _ (c : Setting) (f : Running) where
       let last : Stands mid end (Out ∷ []) = back a (Out ∷ []) s in
       let stops : mid + 1 ≡ end = none (next _ _ last) in
       does_then (does_lower 1 (expr_does c f seen locals vars agrees e at mid [] w few named has (front a (Out ∷ []) s)))
-      (λ v y u le. let z : World = record u { given = u.given ++ (v % 256) ∷ [] } in
+      (λ v y u le. let z : TinyWorld = record u { given = u.given ++ (v % 256) ∷ [] } in
       record {
         by = λ go h. let g : Follows c.image c.stack_end (go (GoesOn vars) z) z.turns (place locals (mid + 1) [] z) =
             subst (λ (x : ℕ). Follows c.image c.stack_end (go (GoesOn vars) z) z.turns (place locals x [] z)) (sym stops)
@@ -199,11 +199,11 @@ module _ (c : Setting) (f : Running) where
 
   -- ---- tests
 
-  both_does : (a b : Expr) (test : ℕ → ℕ → Bool) (at mid : ℕ) (seen : Seen) (locals : List (Option ℕ)) (vars : Variables) (w : World)
-      (land : Bool → World → State) → w.turns ≤ c.turns → Agrees f.local locals vars →
+  both_does : (a b : Expr) (test : ℕ → ℕ → Bool) (at mid : ℕ) (seen : Seen) (locals : List (Option ℕ)) (vars : Variables) (w : TinyWorld)
+      (land : Bool → TinyWorld → State) → w.turns ≤ c.turns → Agrees f.local locals vars →
       IsNamedExpr c.program f.names seen a × IsNamedExpr c.program f.names seen b → Has (expr_numbers a ++ expr_numbers b) →
       Stands at mid (expr_code c.places f.local a ++ expr_code c.places f.local b) →
-      ((x y : ℕ) (u : World) → Does c.image c.stack_end 0 (Gives (test x y) u) u (place locals mid (y ∷ x ∷ []) u) AnyBool (λ h k u. land h u)) →
+      ((x y : ℕ) (u : TinyWorld) → Does c.image c.stack_end 0 (Gives (test x y) u) u (place locals mid (y ∷ x ∷ []) u) AnyBool (λ h k u. land h u)) →
       Does c.image c.stack_end 1 (compare c.calls vars a b test w) w (place locals at [] w) AnyBool (λ h k u. land h u)
   both_does a b test at mid seen locals vars w land few agrees named has s last =
       let ca : List Instr = expr_code c.places f.local a in
@@ -217,7 +217,7 @@ module _ (c : Setting) (f : Running) where
       (λ y k z le'. last x y z))
 
   -- a test whose jump, by this offset, stands at `mid`
-  condition_does : (t : Cond) (o : ℤ) (at mid : ℕ) (seen : Seen) (locals : List (Option ℕ)) (vars : Variables) (w : World) → w.turns ≤ c.turns →
+  condition_does : (t : Cond) (o : ℤ) (at mid : ℕ) (seen : Seen) (locals : List (Option ℕ)) (vars : Variables) (w : TinyWorld) → w.turns ≤ c.turns →
       Agrees f.local locals vars → IsNamedCond c.program f.names seen t → Has (cond_numbers t) →
       Stands at mid (test_code c.places f.local t) → instr_at c.image.text mid ≡ Some (test_jump c.places f.local t o) →
       Does c.image c.stack_end 1 (evaluate_cond c.calls vars t w) w (place locals at [] w) AnyBool
@@ -256,9 +256,9 @@ module _ (c : Setting) (f : Running) where
   -- ---- choices
 
   -- after a jump: the second side where it was taken, else the first side and a jump past the second
-  choice_does : (taken : Bool) (r1 r2 : Variables → World → Result Flow) (first second : List Instr) (mid end : ℕ) →
+  choice_does : (taken : Bool) (r1 r2 : Variables → TinyWorld → Result Flow) (first second : List Instr) (mid end : ℕ) →
       Stands (mid + 3) end (first ++ (Goto (pos (3 + code_size second)) ∷ second)) → RunsAs first r1 → RunsAs second r2 →
-      (vars : Variables) (locals : List (Option ℕ)) (w : World) → w.turns ≤ c.turns → Agrees f.local locals vars →
+      (vars : Variables) (locals : List (Option ℕ)) (w : TinyWorld) → w.turns ≤ c.turns → Agrees f.local locals vars →
       Works 0 (either_side taken (r2 vars w) (r1 vars w)) w locals (way mid (pos (6 + code_size first)) taken) end
   choice_does true r1 r2 first second mid end s one two vars locals w few agrees =
       let past : Instr = Goto (pos (3 + code_size second)) in
@@ -277,10 +277,10 @@ module _ (c : Setting) (f : Running) where
       (one (mid + 3) stop (front first (past ∷ second) s) vars locals w few agrees)
 
   -- the second side is the one of the test's jump
-  sides_do : (t : Cond) (seen : Seen) (first second : List Instr) (r1 r2 : Variables → World → Result Flow)
-      (r : Bool → Variables → World → Result Flow) → IsNamedCond c.program f.names seen t → Has (cond_numbers t) →
+  sides_do : (t : Cond) (seen : Seen) (first second : List Instr) (r1 r2 : Variables → TinyWorld → Result Flow)
+      (r : Bool → Variables → TinyWorld → Result Flow) → IsNamedCond c.program f.names seen t → Has (cond_numbers t) →
       size_of (row_of (test_jump c.places f.local t (pos (6 + code_size first)))) ≡ 3 →
-      ((b : Bool) (vars : Variables) (u : World) → r b vars u ≡ either_side (jumps t b) (r2 vars u) (r1 vars u)) →
+      ((b : Bool) (vars : Variables) (u : TinyWorld) → r b vars u ≡ either_side (jumps t b) (r2 vars u) (r1 vars u)) →
       RunsAs first r1 → RunsAs second r2 →
       RunsAs (choice (test_code c.places f.local t) (test_jump c.places f.local t) first second)
       (λ vars w. and_then (evaluate_cond c.calls vars t w) (λ holds w. r holds vars w))
@@ -300,7 +300,7 @@ module _ (c : Setting) (f : Running) where
   -- ---- loops
 
   -- after a test that jumps over a jump to the end
-  two_ways : (mid b size end : ℕ) (locals : List (Option ℕ)) (holds : Bool) (u : World) → instr_at c.image.text (mid + 3) ≡ Some (Goto (pos (6 + size))) →
+  two_ways : (mid b size end : ℕ) (locals : List (Option ℕ)) (holds : Bool) (u : TinyWorld) → instr_at c.image.text (mid + 3) ≡ Some (Goto (pos (6 + size))) →
       end ≤ 65536 → mid + 6 ≡ b → end ≡ b + size + 3 →
       Does c.image c.stack_end 0 (Gives holds u) u (place locals (way mid (pos 6) holds) [] u) AnyBool (λ h k u. place locals (inside b end h) [] u)
   two_ways mid b size end locals true u is small begins ends =
@@ -313,7 +313,7 @@ module _ (c : Setting) (f : Running) where
       (does_give false u u AnyBool _ _ tt refl refl))
 
   -- after a test that jumps to the end
-  one_way : (mid b size end : ℕ) (locals : List (Option ℕ)) (holds : Bool) (u : World) → end ≤ 65536 → mid + 3 ≡ b → end ≡ b + size + 3 →
+  one_way : (mid b size end : ℕ) (locals : List (Option ℕ)) (holds : Bool) (u : TinyWorld) → end ≤ 65536 → mid + 3 ≡ b → end ≡ b + size + 3 →
       Does c.image c.stack_end 0 (Gives holds u) u (place locals (way mid (pos (6 + size)) (not holds)) [] u) AnyBool
       (λ h k u. place locals (inside b end h) [] u)
   one_way mid b size end locals true u small begins ends = does_give true u u AnyBool _ _ tt refl (there locals _ _ [] u begins)
@@ -321,7 +321,7 @@ module _ (c : Setting) (f : Running) where
       let t : target mid (pos (6 + size)) ≡ mid + (6 + size) = forward mid (6 + size) (omega (arith, small, begins, ends)) in
       does_give false u u AnyBool _ _ tt refl (there locals _ _ [] u (omega (arith, t, begins, ends)))
 
-  enter_does : (t : Cond) (size at b end : ℕ) (seen : Seen) (locals : List (Option ℕ)) (vars : Variables) (w : World) → w.turns ≤ c.turns →
+  enter_does : (t : Cond) (size at b end : ℕ) (seen : Seen) (locals : List (Option ℕ)) (vars : Variables) (w : TinyWorld) → w.turns ≤ c.turns →
       Agrees f.local locals vars → IsNamedCond c.program f.names seen t → Has (cond_numbers t) →
       Stands at b (test_code c.places f.local t ++ leave_code c.places f.local t size) → end ≤ 65536 → end ≡ b + size + 3 →
       Does c.image c.stack_end 1 (evaluate_cond c.calls vars t w) w (place locals at [] w) AnyBool (λ h k u. place locals (inside b end h) [] u)
@@ -351,13 +351,13 @@ module _ (c : Setting) (f : Running) where
       does_more (condition_does (Less x y) (pos 6) at mid seen locals vars w few agrees named has (front test leave s) (here _ _ j))
       (λ holds k u le. two_ways mid b size end locals holds u (here _ _ g) small (omega (arith, begins)) ends)
 
-  repeat_does : (test : Variables → World → Result Bool) (body : Variables → World → Result Flow) (at b stop end : ℕ) →
-      ((vars : Variables) (locals : List (Option ℕ)) (w : World) → w.turns ≤ c.turns → Agrees f.local locals vars →
+  repeat_does : (test : Variables → TinyWorld → Result Bool) (body : Variables → TinyWorld → Result Flow) (at b stop end : ℕ) →
+      ((vars : Variables) (locals : List (Option ℕ)) (w : TinyWorld) → w.turns ≤ c.turns → Agrees f.local locals vars →
       Does c.image c.stack_end 1 (test vars w) w (place locals at [] w) AnyBool (λ h k u. place locals (inside b end h) [] u)) →
-      ((vars : Variables) (locals : List (Option ℕ)) (w : World) → w.turns ≤ c.turns → Agrees f.local locals vars →
+      ((vars : Variables) (locals : List (Option ℕ)) (w : TinyWorld) → w.turns ≤ c.turns → Agrees f.local locals vars →
       Works 0 (body vars w) w locals b stop) →
-      ((ls : List (Option ℕ)) (u : World) → outcome c.image c.stack_end (place ls stop [] u) ≡ Goes (place ls at [] u)) →
-      (m : ℕ) (vars : Variables) (locals : List (Option ℕ)) (w : World) → w.turns ≤ m → w.turns ≤ c.turns → Agrees f.local locals vars →
+      ((ls : List (Option ℕ)) (u : TinyWorld) → step_outcome c.image c.stack_end (place ls stop [] u) ≡ Goes (place ls at [] u)) →
+      (m : ℕ) (vars : Variables) (locals : List (Option ℕ)) (w : TinyWorld) → w.turns ≤ m → w.turns ≤ c.turns → Agrees f.local locals vars →
       Works 0 (repeat m test body vars w) w locals at end
   repeat_does test body at b stop end enter inner again zero vars locals w fuel few agrees =
       does_cut w (place locals at [] w) After (to end) (omega (arith, fuel)) refl
@@ -369,23 +369,23 @@ module _ (c : Setting) (f : Running) where
       holds u le))
     where
       flow_by : (t : ℕ) →
-          ((vars' : Variables) (ls : List (Option ℕ)) (z : World) → z.turns ≤ t → Agrees f.local ls vars' → Works 0 (repeat m test body vars' z) z ls at end) →
-          (flow : Flow) (x : After flow) (z : World) → z.turns ≤ t →
+          ((vars' : Variables) (ls : List (Option ℕ)) (z : TinyWorld) → z.turns ≤ t → Agrees f.local ls vars' → Works 0 (repeat m test body vars' z) z ls at end) →
+          (flow : Flow) (x : After flow) (z : TinyWorld) → z.turns ≤ t →
           Does c.image c.stack_end 0 (unless_returned flow z (repeat m test body)) z (to stop flow x z) After (to end)
       flow_by t more (GoesOn vars') x z le =
           does_lower 1 (does_after (place x.0 stop [] z) (place x.0 at [] z) (again x.0 z) refl (more vars' x.0 z le x.1))
       flow_by t more (Returns v) x z le = does_give (Returns v) z z After (to end) _ x refl refl
 
       turn_by : (t : ℕ) → t ≤ c.turns →
-          ((vars' : Variables) (ls : List (Option ℕ)) (z : World) → z.turns ≤ t → Agrees f.local ls vars' → Works 0 (repeat m test body vars' z) z ls at end) →
-          (holds : Bool) (u : World) → u.turns ≤ t →
+          ((vars' : Variables) (ls : List (Option ℕ)) (z : TinyWorld) → z.turns ≤ t → Agrees f.local ls vars' → Works 0 (repeat m test body vars' z) z ls at end) →
+          (holds : Bool) (u : TinyWorld) → u.turns ≤ t →
           Works 0 (either_side holds (and_then (body vars u) (λ flow w. unless_returned flow w (repeat m test body))) (Gives (GoesOn vars) u))
           u locals (inside b end holds) end
       turn_by t less more true u le =
           does_then (inner vars locals u (omega (arith, le, less)) agrees) (λ flow x z le'. flow_by t more flow x z (omega (arith, le, le')))
       turn_by t less more false u le = does_give (GoesOn vars) u u After (to end) _ (locals, agrees) refl refl
 
-  loop_does : (t : Cond) (seen : Seen) (code : List Instr) (body : Variables → World → Result Flow) → IsNamedCond c.program f.names seen t →
+  loop_does : (t : Cond) (seen : Seen) (code : List Instr) (body : Variables → TinyWorld → Result Flow) → IsNamedCond c.program f.names seen t →
       Has (cond_numbers t) → RunsAs code body →
       RunsAs (loop (test_code c.places f.local t) (leave_code c.places f.local t (code_size code)) code)
       (λ vars w. repeat c.turns (λ vars. evaluate_cond c.calls vars t) body vars w)
@@ -414,14 +414,14 @@ module _ (c : Setting) (f : Running) where
 
   -- ---- one after the other
 
-  after_by : (mid end : ℕ) (more : Variables → World → Result Flow) →
-      ((vars : Variables) (ls : List (Option ℕ)) (u : World) → u.turns ≤ c.turns → Agrees f.local ls vars → Works 0 (more vars u) u ls mid end) →
-      (flow : Flow) (x : After flow) (u : World) → u.turns ≤ c.turns →
+  after_by : (mid end : ℕ) (more : Variables → TinyWorld → Result Flow) →
+      ((vars : Variables) (ls : List (Option ℕ)) (u : TinyWorld) → u.turns ≤ c.turns → Agrees f.local ls vars → Works 0 (more vars u) u ls mid end) →
+      (flow : Flow) (x : After flow) (u : TinyWorld) → u.turns ≤ c.turns →
       Does c.image c.stack_end 0 (unless_returned flow u more) u (to mid flow x u) After (to end)
   after_by mid end more h (GoesOn vars) x u le = h vars x.0 u le x.1
   after_by mid end more h (Returns v) x u le = does_give (Returns v) u u After (to end) _ x refl refl
 
-  both_run : (a b : List Instr) (r q : Variables → World → Result Flow) → RunsAs a r → RunsAs b q →
+  both_run : (a b : List Instr) (r q : Variables → TinyWorld → Result Flow) → RunsAs a r → RunsAs b q →
       RunsAs (a ++ b) (λ vars w. and_then (r vars w) (λ flow w. unless_returned flow w q))
   both_run a b r q one two at end s vars locals w few agrees =
       does_then (one at (at + code_size a) (front a b s) vars locals w few agrees)

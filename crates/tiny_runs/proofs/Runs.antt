@@ -10,10 +10,10 @@ use Rattle.ijvm_instr.specs.Instructions.{instr_at}
 use Rattle.ijvm_image.specs.declared.method.Method.{Method}
 use Rattle.ijvm_image.specs.Image.{ImageView, params, others, method_at}
 use Rattle.ijvm_meaning.specs.Frames.{Frame, State, start_of}
-use Rattle.ijvm_meaning.specs.Step.{Stuck, limited, onto, in_method, entered, called_at, outcome}
+use Rattle.ijvm_meaning.specs.Step.{Stuck, limited, onto, in_method, entered, called_at, step_outcome}
 use Rattle.tiny_tree.specs.Tree.{Function, Program}
 use Rattle.tiny_tree.specs.Named.{IsCallable, names_count, parameters_seen, IsNamed}
-use Rattle.tiny_tree.specs.Meaning.{World, and_then, in_turn, CallResults, Flow, GoesOn, Returns, returned, first_variables, execute_body, call, Ended, at_end, meaning, start_world}
+use Rattle.tiny_tree.specs.Meaning.{TinyWorld, and_then, in_turn, CallResults, Flow, GoesOn, Returns, returned, first_variables, execute_body, call, Ended, at_end, meaning, start_world}
 use Rattle.tiny_code.specs.Code.{Places, code_size, statements_code}
 use Rattle.tiny_code.specs.Laid.{IsMethodAt, Holds}
 use Rattle.tiny_runs.proofs.Led.{Follows, stuck, halts, lower, at_code, whole_prefix}
@@ -64,9 +64,9 @@ first_agrees vs o x u h =
 module _ (image : ImageView) (stack_end : ℕ) (p : Places) (program : Program) (named : IsNamed program) (holds : Holds image p program) where
   -- what a call's instruction does
   called_here : (f begin : ℕ) (vs : List ℕ) (g : Function) (m : IsMethodAt image p begin f g) → g.parameters ≡ length vs →
-      (bk : Option ℕ) (callers : List Frame) (locals : List (Option ℕ)) (at : ℕ) (ops : List ℕ) (w : World) →
+      (bk : Option ℕ) (callers : List Frame) (locals : List (Option ℕ)) (at : ℕ) (ops : List ℕ) (w : TinyWorld) →
       instr_at image.text at ≡ Some (Invokevirtual (p.entry f)) →
-      outcome image stack_end (state bk callers locals at (onto_operands vs (0 ∷ ops)) w)
+      step_outcome image stack_end (state bk callers locals at (onto_operands vs (0 ∷ ops)) w)
       ≡ limited stack_end (state bk callers locals at (onto_operands vs (0 ∷ ops)) w)
       (state (Some (at + 3)) (record { locals = locals; operands = ops; back = bk } ∷ callers) (first_locals vs (others image.text begin)) (begin + 4) [] w)
   called_here f begin vs g m counts bk callers locals at ops w is =
@@ -166,7 +166,7 @@ module _ (image : ImageView) (stack_end : ℕ) (p : Places) (program : Program) 
     end = begin + 4 + code_size body
 
     -- where the caller goes on
-    abbrev onward : (v : ℕ) → Any v → World → State
+    abbrev onward : (v : ℕ) → Any v → TinyWorld → State
     onward v x u = state bk callers locals (at + 3) (v ∷ ops) u
 
     whole : Spans image.text (begin + 4) (begin + 4 + code_size (body ++ last)) (body ++ last)
@@ -176,7 +176,7 @@ module _ (image : ImageView) (stack_end : ℕ) (p : Places) (program : Program) 
     tail = back body last whole
 
     -- after the body the caller has the value
-    after_by : (flow : Flow) (x : After (setting n calls runs) running flow) (u : World) →
+    after_by : (flow : Flow) (x : After (setting n calls runs) running flow) (u : TinyWorld) →
         Does image stack_end 0 (returned flow u) u (to (setting n calls runs) running end flow x u) Any onward
     after_by (GoesOn vars) x u =
         let s : State = state (Some (at + 3)) waiting x.0 end [] u in
@@ -189,10 +189,10 @@ module _ (image : ImageView) (stack_end : ℕ) (p : Places) (program : Program) 
         does_lower 1 (does_after s (state bk callers locals (at + 3) (v ∷ ops) u) (at_code image stack_end s Ireturn x.2) refl
         (does_give v u u Any onward _ tt refl refl))
 
-    abbrev entered_at : World → State
+    abbrev entered_at : TinyWorld → State
     entered_at w = state (Some (at + 3)) waiting (first_locals vs (others image.text begin)) (begin + 4) [] w
 
-    body_does : (w : World) → w.turns ≤ n →
+    body_does : (w : TinyWorld) → w.turns ≤ n →
         Does image stack_end 0 (and_then (execute_body calls n (slice_get program.functions f) (first_variables vs) w) returned) w (entered_at w) Any onward
     body_does w few =
         subst
@@ -204,14 +204,14 @@ module _ (image : ImageView) (stack_end : ℕ) (p : Places) (program : Program) 
         (first_locals vs (others image.text begin)) w few (first_agrees vs (others image.text begin)))
         (λ flow x u le. after_by flow x u))
 
-    enters : (w : World) → w.turns ≤ suc n → instr_at image.text at ≡ Some (Invokevirtual (p.entry f)) →
+    enters : (w : TinyWorld) → w.turns ≤ suc n → instr_at image.text at ≡ Some (Invokevirtual (p.entry f)) →
         Does image stack_end 0
         (in_turn w w.turns (λ w. and_then (execute_body calls n (slice_get program.functions f) (first_variables vs) w) returned))
         w (state bk callers locals at (onto_operands vs (0 ∷ ops)) w) Any onward
     enters w few is =
         let s : State = state bk callers locals at (onto_operands vs (0 ∷ ops)) w in
         does_turn w s Any onward _ w.turns refl refl
-        (λ t e. let u : World = record w { turns = t } in
+        (λ t e. let u : TinyWorld = record w { turns = t } in
         does_push s (entered_at u) s (called_here f begin vs k.function m k.counts bk callers locals at ops w is) refl
         (body_does u (omega (arith, e, few))))
 
@@ -237,7 +237,7 @@ module _ (image : ImageView) (stack_end : ℕ) (p : Places) (program : Program) 
     main_running =
         record { in_main = program.main == program.main; names = names_count holds.main; local = 0; back = None; callers = [] }
 
-    ends_by : (stop halt : ℕ) → Spans image.text stop halt (HaltCode ∷ []) → (flow : Flow) (x : After all_calls main_running flow) (u : World) →
+    ends_by : (stop halt : ℕ) → Spans image.text stop halt (HaltCode ∷ []) → (flow : Flow) (x : After all_calls main_running flow) (u : TinyWorld) →
         Follows image stack_end (at_end flow u) u.turns (to all_calls main_running stop flow x u)
     ends_by stop halt final (GoesOn vars) x u =
         halts image stack_end (Ended u.given u.untaken) u.turns (state None [] x.0 stop [] u)
@@ -249,7 +249,7 @@ module _ (image : ImageView) (stack_end : ℕ) (p : Places) (program : Program) 
     -- The central lemma.
     pub follows : (main_locals : ℕ) (input : List ℕ) → Follows image stack_end (meaning program input n) n (start_of main_locals input)
     follows main_locals input =
-        let w : World = start_world input n in
+        let w : TinyWorld = start_world input n in
         let s : State = start_of main_locals input in
         let locals : List (Option ℕ) = replicate main_locals (Some 0) in
         let body : List Instr = statements_code p 0 holds.main.body in

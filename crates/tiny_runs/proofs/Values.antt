@@ -8,12 +8,12 @@ use Rattle.ijvm_instr.specs.Instructions.{row_of, size_of, instr_at}
 use Rattle.ijvm_image.specs.Image.{ImageView}
 use Rattle.console_port.specs.World.{next_byte}
 use Rattle.ijvm_meaning.specs.Frames.{Frame, State}
-use Rattle.ijvm_meaning.specs.Step.{Goes, taken, pushed, pushed_constant, loaded, step, outcome}
+use Rattle.ijvm_meaning.specs.Step.{Goes, taken, pushed, pushed_constant, loaded, step, step_outcome}
 use Rattle.tiny_tree.specs.declared.tree.Operator.{Operator}
 use Rattle.tiny_tree.specs.declared.tree.Operator.TheVariants.{Plus, Minus, And, Or}
 use Rattle.tiny_tree.specs.Tree.{Term, Number, Variable, Called, Get, Group, Expr, Sum, Steps, no_steps, step as step_on, Arguments, no_arguments, argument, Program}
 use Rattle.tiny_tree.specs.Named.{IsCallable, arguments_count, Seen, IsNamedTerm, IsNamedExpr, AreNamedSteps, AreNamedArguments}
-use Rattle.tiny_tree.specs.Meaning.{World, Result, Gives, Variables, CallResults, combine, evaluate_term, evaluate, evaluate_steps, evaluate_arguments}
+use Rattle.tiny_tree.specs.Meaning.{TinyWorld, Result, Gives, Variables, CallResults, combine, evaluate_term, evaluate, evaluate_steps, evaluate_arguments}
 use Rattle.tiny_code.specs.Code.{Places, code_size, operator_code, term_code, expr_code, steps_code, arguments_code, term_numbers, expr_numbers, steps_numbers, arguments_numbers}
 use Rattle.tiny_code.specs.Laid.{HasNumbers}
 use Rattle.tiny_runs.proofs.Led.{at_code}
@@ -34,7 +34,7 @@ AreMany m vs = length vs ≡ m
 -- a call's instruction does what the call gives, in so many turns
 pub record CallsRun (image : ImageView) (stack_end : ℕ) (p : Places) (program : Program) (n : ℕ) (calls : CallResults) : Type 0 where
   pub by : (f : ℕ) (vs : List ℕ) → IsCallable program f (length vs) →
-      (bk : Option ℕ) (callers : List Frame) (locals : List (Option ℕ)) (at : ℕ) (ops : List ℕ) (w : World) → w.turns ≤ n →
+      (bk : Option ℕ) (callers : List Frame) (locals : List (Option ℕ)) (at : ℕ) (ops : List ℕ) (w : TinyWorld) → w.turns ≤ n →
       instr_at image.text at ≡ Some (Invokevirtual (p.entry f)) →
       Does image stack_end 0 (calls f vs w) w (state bk callers locals at (onto_operands vs (0 ∷ ops)) w) Any
       (λ v x u. state bk callers locals (at + 3) (v ∷ ops) u)
@@ -65,10 +65,10 @@ operator_size And = refl
 operator_size Or = refl
 
 module _ (c : Setting) (f : Running) (seen : Seen) (locals : List (Option ℕ)) (vars : Variables) (agrees : Agrees f.local locals vars) where
-  abbrev place : ℕ → List ℕ → World → State
+  abbrev place : ℕ → List ℕ → TinyWorld → State
   place at ops w = state f.back f.callers locals at ops w
 
-  there : (at end : ℕ) (ops : List ℕ) (w : World) → at ≡ end → place at ops w ≡ place end ops w
+  there : (at end : ℕ) (ops : List ℕ) (w : TinyWorld) → at ≡ end → place at ops w ≡ place end ops w
   there at end ops w e = ap (λ (x : ℕ). place x ops w) e
 
   abbrev Stands : ℕ → ℕ → List Instr → Type 0
@@ -81,18 +81,18 @@ module _ (c : Setting) (f : Running) (seen : Seen) (locals : List (Option ℕ)) 
   HasOne m = slice_get c.image.pool (c.places.constant m) ≡ Some m
 
   -- the code up to `end` leaves the value
-  abbrev Leaves : Result ℕ → World → ℕ → ℕ → List ℕ → Type 0
+  abbrev Leaves : Result ℕ → TinyWorld → ℕ → ℕ → List ℕ → Type 0
   Leaves r w at end ops = Does c.image c.stack_end 1 r w (place at ops w) Any (λ v x u. place end (v ∷ ops) u)
 
   -- an instruction that pushes a value
-  value_by : (i : Instr) (v at end : ℕ) (ops : List ℕ) (w : World) (size : ℕ) → instr_at c.image.text at ≡ Some i →
+  value_by : (i : Instr) (v at end : ℕ) (ops : List ℕ) (w : TinyWorld) (size : ℕ) → instr_at c.image.text at ≡ Some i →
       step c.image c.stack_end i (place at ops w) ≡ pushed c.stack_end (place at ops w) v (at + size) → at + size ≡ end →
       Leaves (Gives v w) w at end ops
   value_by i v at end ops w size is e ends =
       does_push (place at ops w) (place (at + size) (v ∷ ops) w) (place at ops w) (at_code c.image c.stack_end (place at ops w) i is ∙ e) refl
       (does_give v w w Any _ _ tt refl (there (at + size) end (v ∷ ops) w ends))
 
-  number_by : (b : Bool) (m at end : ℕ) (ops : List ℕ) (w : World) → Has (if b then [] else m ∷ []) →
+  number_by : (b : Bool) (m at end : ℕ) (ops : List ℕ) (w : TinyWorld) → Has (if b then [] else m ∷ []) →
       Stands at end ((if b then Bipush (pos m) else LdcW (c.places.constant m)) ∷ []) → Leaves (Gives m w) w at end ops
   number_by true m at end ops w has s = value_by (Bipush (pos m)) m at end ops w 2 (here _ _ s) refl (none (next _ _ s))
   number_by false m at end ops w has s =
@@ -101,8 +101,8 @@ module _ (c : Setting) (f : Running) (seen : Seen) (locals : List (Option ℕ)) 
       (ap (pushed_constant c.stack_end (place at ops w)) constant) (none (next _ _ s))
 
   -- a variable: its local is set, or the run would be stuck
-  variable_by : (o : Option (Option ℕ)) (x at end : ℕ) (ops : List ℕ) (w : World) → slice_get locals (f.local + x) ≡ o →
-      outcome c.image c.stack_end (place at ops w) ≡ loaded c.stack_end (place at ops w) o (at + 2) → at + 2 ≡ end →
+  variable_by : (o : Option (Option ℕ)) (x at end : ℕ) (ops : List ℕ) (w : TinyWorld) → slice_get locals (f.local + x) ≡ o →
+      step_outcome c.image c.stack_end (place at ops w) ≡ loaded c.stack_end (place at ops w) o (at + 2) → at + 2 ≡ end →
       Leaves (Gives (vars x) w) w at end ops
   variable_by None x at end ops w is e ends =
       does_stuck (place at ops w) (place end (vars x ∷ ops) w) e refl (does_give (vars x) w w Any _ _ tt refl refl)
@@ -113,15 +113,15 @@ module _ (c : Setting) (f : Running) (seen : Seen) (locals : List (Option ℕ)) 
       (does_give (vars x) w w Any _ _ tt refl
       (there (at + 2) end (v ∷ ops) w ends ∙ ap (λ (y : ℕ). place end (y ∷ ops) w) (agrees x v is)))
 
-  operator_by : (op : Operator) (x y at : ℕ) (ops : List ℕ) (w : World) → instr_at c.image.text at ≡ Some (operator_code op) →
-      outcome c.image c.stack_end (place at (y ∷ x ∷ ops) w) ≡ Goes (place (at + 1) (combine op x y ∷ ops) w)
+  operator_by : (op : Operator) (x y at : ℕ) (ops : List ℕ) (w : TinyWorld) → instr_at c.image.text at ≡ Some (operator_code op) →
+      step_outcome c.image c.stack_end (place at (y ∷ x ∷ ops) w) ≡ Goes (place (at + 1) (combine op x y ∷ ops) w)
   operator_by Plus x y at ops w is = at_code c.image c.stack_end (place at (y ∷ x ∷ ops) w) Iadd is
   operator_by Minus x y at ops w is = at_code c.image c.stack_end (place at (y ∷ x ∷ ops) w) Isub is
   operator_by And x y at ops w is = at_code c.image c.stack_end (place at (y ∷ x ∷ ops) w) Iand is
   operator_by Or x y at ops w is = at_code c.image c.stack_end (place at (y ∷ x ∷ ops) w) Ior is
 
   -- a call, from its last instruction on
-  called_by : (g : ℕ) (vs : List ℕ) (at end : ℕ) (ops : List ℕ) (w : World) (m : ℕ) → w.turns ≤ c.turns → IsCallable c.program g m →
+  called_by : (g : ℕ) (vs : List ℕ) (at end : ℕ) (ops : List ℕ) (w : TinyWorld) (m : ℕ) → w.turns ≤ c.turns → IsCallable c.program g m →
       length vs ≡ m → Stands at end (Invokevirtual (c.places.entry g) ∷ []) →
       Does c.image c.stack_end 0 (c.calls g vs w) w (place at (onto_operands vs (0 ∷ ops)) w) Any (λ v x u. place end (v ∷ ops) u)
   called_by g vs at end ops w m few callable many s =
@@ -131,7 +131,7 @@ module _ (c : Setting) (f : Running) (seen : Seen) (locals : List (Option ℕ)) 
       (c.runs.by g vs (subst (IsCallable c.program g) (sym many) callable) f.back f.callers locals at ops w few (here _ _ s))
 
   mutual
-    pub term_does : (t : Term) (at end : ℕ) (ops : List ℕ) (w : World) → w.turns ≤ c.turns → IsNamedTerm c.program f.names seen t →
+    pub term_does : (t : Term) (at end : ℕ) (ops : List ℕ) (w : TinyWorld) → w.turns ≤ c.turns → IsNamedTerm c.program f.names seen t →
         Has (term_numbers t) → Stands at end (term_code c.places f.local t) → Leaves (evaluate_term c.calls vars t w) w at end ops
     term_does (Number m) at end ops w few named has s = number_by (nat_le m 127) m at end ops w has s
     term_does (Variable x) at end ops w few named has s =
@@ -147,13 +147,13 @@ module _ (c : Setting) (f : Running) (seen : Seen) (locals : List (Option ℕ)) 
         (λ vs many u le. called_by g vs (at + 3 + code_size inner) end ops u (arguments_count args) (omega (arith, le, few)) named.0 many
         (back inner last rest)))
     term_does Get at end ops w few named has s =
-        let u : World = record w { untaken = drop 1 w.untaken } in
+        let u : TinyWorld = record w { untaken = drop 1 w.untaken } in
         does_push (place at ops w) (place (at + 1) (next_byte w.untaken ∷ ops) u) (taken (place at ops w))
         (at_code c.image c.stack_end (place at ops w) In (here _ _ s)) refl
         (does_give (next_byte w.untaken) w u Any _ _ tt refl (there (at + 1) end (next_byte w.untaken ∷ ops) u (none (next _ _ s))))
     term_does (Group e) at end ops w few named has s = expr_does e at end ops w few named has s
 
-    pub expr_does : (e : Expr) (at end : ℕ) (ops : List ℕ) (w : World) → w.turns ≤ c.turns → IsNamedExpr c.program f.names seen e →
+    pub expr_does : (e : Expr) (at end : ℕ) (ops : List ℕ) (w : TinyWorld) → w.turns ≤ c.turns → IsNamedExpr c.program f.names seen e →
         Has (expr_numbers e) → Stands at end (expr_code c.places f.local e) → Leaves (evaluate c.calls vars e w) w at end ops
     expr_does (Sum first rest) at end ops w few named has s =
         let a : List Instr = term_code c.places f.local first in
@@ -163,7 +163,7 @@ module _ (c : Setting) (f : Running) (seen : Seen) (locals : List (Option ℕ)) 
         (λ v x u le. steps_do rest v (at + code_size a) end ops u (omega (arith, le, few)) named.1
         (all_back HasOne (term_numbers first) (steps_numbers rest) has) (back a b s))
 
-    pub steps_do : (rest : Steps) (v at end : ℕ) (ops : List ℕ) (w : World) → w.turns ≤ c.turns → AreNamedSteps c.program f.names seen rest →
+    pub steps_do : (rest : Steps) (v at end : ℕ) (ops : List ℕ) (w : TinyWorld) → w.turns ≤ c.turns → AreNamedSteps c.program f.names seen rest →
         Has (steps_numbers rest) → Stands at end (steps_code c.places f.local rest) →
         Does c.image c.stack_end 0 (evaluate_steps c.calls vars rest v w) w (place at (v ∷ ops) w) Any (λ v x u. place end (v ∷ ops) u)
     steps_do no_steps v at end ops w few named has s = does_give v w w Any _ _ tt refl (there at end (v ∷ ops) w (none s))
@@ -181,7 +181,7 @@ module _ (c : Setting) (f : Running) (seen : Seen) (locals : List (Option ℕ)) 
         (steps_do rest (combine op v y) (mid + 1) end ops u (omega (arith, le, few)) named.1
         (all_back HasOne (term_numbers t) (steps_numbers rest) has) after)))
 
-    pub arguments_do : (args : Arguments) (at end : ℕ) (ops : List ℕ) (w : World) → w.turns ≤ c.turns →
+    pub arguments_do : (args : Arguments) (at end : ℕ) (ops : List ℕ) (w : TinyWorld) → w.turns ≤ c.turns →
         AreNamedArguments c.program f.names seen args → Has (arguments_numbers args) → Stands at end (arguments_code c.places f.local args) →
         Does c.image c.stack_end 0 (evaluate_arguments c.calls vars args w) w (place at ops w) (AreMany (arguments_count args))
         (λ vs x u. place end (onto_operands vs ops) u)

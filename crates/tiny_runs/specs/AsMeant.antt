@@ -3,9 +3,9 @@ use Rattle.std.specs.Prelude.{◌≡◌, ◌≢◌, ◌≤◌, ◌⊎◌, ℕ, L
 use Rattle.ijvm_image.specs.Image.{ImageView}
 use Rattle.ijvm_meaning.specs.declared.run.RunEnd.TheVariants as ends
 use Rattle.ijvm_meaning.specs.Frames.{State}
-use Rattle.ijvm_meaning.specs.Step.{Goes, outcome}
+use Rattle.ijvm_meaning.specs.Step.{Goes, step_outcome}
 use Rattle.ijvm_meaning.specs.Cost.{Timing, next_cost}
-use Rattle.ijvm_meaning.specs.Run.{Program as Runs, Point, Finish, first_point, EndsBy, Passes}
+use Rattle.ijvm_meaning.specs.Run.{TimedImage, Point, Finish, first_point, EndsBy, Passes}
 use Rattle.tiny_tree.specs.Tree.{Program}
 use Rattle.tiny_tree.specs.Meaning.{Meaning, Ended, Cut, meaning}
 
@@ -18,10 +18,10 @@ IsPrefix a b = (c : List ℕ) × (b ≡ a ++ c)
 
 -- an instruction that goes on costs at least one cycle
 abbrev pub Advances : Timing → Type 0
-Advances timing = (image : ImageView) (stack_end : ℕ) (s to : State) → outcome image stack_end s ≡ Goes to → 1 ≤ next_cost image timing s
+Advances timing = (image : ImageView) (stack_end : ℕ) (s to : State) → step_outcome image stack_end s ≡ Goes to → 1 ≤ next_cost image timing s
 
 -- the runs of an image, with what a machine spends
-abbrev pub runs_of : ImageView → ℕ → Timing → Runs
+abbrev pub runs_of : ImageView → ℕ → Timing → TimedImage
 runs_of image stack_end timing = record { image = image; stack_end = stack_end; timing = timing }
 
 -- Of the runs with one input: `ends_by bound f` says that the run with this bound ends so, `passes bound at` that it passes this boundary.
@@ -39,7 +39,7 @@ pub record AreAsMeant (means : ℕ → Meaning) (ends_by : ℕ → Finish → Ty
       × ((f.end ≡ ends.StackLimit) ⊎ IsPrefix (output (means n)) f.left.given)
 
 -- every run of the image is as the program means, with every input and bound
-abbrev pub RunsAsMeant : Program → Runs → ℕ → Type 0
+abbrev pub RunsAsMeant : Program → TimedImage → ℕ → Type 0
 RunsAsMeant program runs main_locals = (input : List ℕ) →
     AreAsMeant (meaning program input)
     (λ bound f. EndsBy runs bound (first_point runs main_locals input) f)

@@ -2,7 +2,7 @@
 -- different names of the text, of which `main` is the first.
 use Rattle.std.specs.Prelude.{◌≡◌, ℕ, ◌+◌, List, [], ◌∷◌, ◌++◌, length, map, codes, Option, Some, None}
 use Rattle.source_text.specs.Content.{contents}
-use Rattle.source_names.specs.Places.{place_of}
+use Rattle.source_names.specs.Places.{place_of_name}
 use Rattle.tiny_draft.specs.declared.token.Kind.{Kind}
 use Rattle.tiny_draft.specs.declared.token.Kind.TheVariants as kinds
 use Rattle.tiny_draft.specs.declared.token.Token.{Token}
@@ -34,7 +34,7 @@ numbered names name None = (length names, names ++ name ∷ [])
 -- what a token is, after tokens with these names, and the names with it
 abbrev pub kind_of : List (List ℕ) → Lexeme → Kind × List (List ℕ)
 kind_of names (lexemes.Of s) = (kinds.Of s, names)
-kind_of names (lexemes.Name n) = let r = numbered names n (place_of names n) in (kinds.Name r.0, r.1)
+kind_of names (lexemes.Name n) = let r = numbered names n (place_of_name names n) in (kinds.Name r.0, r.1)
 kind_of names (lexemes.Number v) = (kinds.Number v, names)
 kind_of names lexemes.Bad = (kinds.Bad, names)
 kind_of names lexemes.Unread = (kinds.Unread, names)

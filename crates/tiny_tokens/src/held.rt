@@ -4,7 +4,7 @@ ghost use Rattle.std.specs.Prelude.{◌≡◌, [], IfOk, OnOk};
 ghost use Rattle.tiny_lexemes.specs.Reading.{token_of};
 ghost use Rattle.tiny_tokens.specs.Tokens.{kind_of, main_only, numbered};
 ghost use Rattle.tiny_tokens.specs.Reading.{add_one};
-ghost use Rattle.source_names.specs.Places.{place_of};
+ghost use Rattle.source_names.specs.Places.{place_of_name};
 
 use mic_base::Name;
 use source_names::NameList;
@@ -61,8 +61,8 @@ impl Held {
 
 /// The number of a name; a new one goes after the others.
 fn number_of(names: &mut NameList, name: Name) -> Result<u32, AllocError>
-    ensures number { IfOk result (λ n. n ≡ (numbered names.old name (place_of names.old name)).0) }
-    ensures names { OnOk result (names.new ≡ (numbered names.old name (place_of names.old name)).1) }
+    ensures number { IfOk result (λ n. n ≡ (numbered names.old name (place_of_name names.old name)).0) }
+    ensures names { OnOk result (names.new ≡ (numbered names.old name (place_of_name names.old name)).1) }
 {
     match names.find(&name) {
         Some(place) => Ok(place),

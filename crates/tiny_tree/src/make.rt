@@ -1,4 +1,4 @@
-//! Trees from their parts.
+//! Each node of a resolved program's tree from its parts, with the plain tree that it stands for.
 
 ghost use Rattle.std.specs.Prelude.{◌≡◌, IfOk, map, option_map};
 ghost use Rattle.tiny_tree.specs.Tree as tree;

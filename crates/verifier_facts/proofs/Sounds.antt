@@ -13,13 +13,13 @@ use Rattle.ijvm_image.specs.declared.method.Method.{Method}
 use Rattle.ijvm_image.specs.Image.{ImageView}
 use Rattle.ijvm_meaning.specs.Frames.{Frame, State, base, frames_of, start_of}
 use Rattle.ijvm_instr.specs.Instructions.{target, word_of}
-use Rattle.ijvm_meaning.specs.Step.{Outcome, Goes, Halts, Errs, Limits, Stuck, limited, moved, pushed, pushed_constant, loaded, is_own, with_local, stored, increased, popped, doubled, swapped, combined, way, branched, compared, returned, onto, in_method, entered, called_at, taken, given_out, step, step_if_any, outcome}
+use Rattle.ijvm_meaning.specs.Step.{StepOutcome, Goes, Halts, Errs, Limits, Stuck, limited, moved, pushed, pushed_constant, loaded, is_own, with_local, stored, increased, popped, doubled, swapped, combined, way, branched, compared, returned, onto, in_method, entered, called_at, taken, given_out, step, step_if_any, step_outcome}
 use Rattle.ijvm_meaning.specs.Run.{after, state_after}
 use Rattle.ijvm_meaning.specs.Safe.{SameFrames, ComesTo, Here, On as Onward}
 use Rattle.verifier_facts.specs.declared.error.VerifyError.TheVariants.{LinkSlot, BadLocal, UnsetLocal}
 use Rattle.verifier_facts.specs.Paths.{Arrival, arrival, need_of, GoesOn, left_unset, MayCarry, Reached, Start}
 use Rattle.verifier_facts.specs.Facts.{Names, IsMainCount, Accepts}
-use Rattle.verifier_facts.specs.Sound.{IsFrameOf, StandsAt, AreWaiting, IsSound, Finds, KeepsSound}
+use Rattle.verifier_facts.specs.Sound.{IsFrameOf, FrameStandsAt, AreWaiting, IsSound, Finds, KeepsSound}
 use Rattle.verifier_facts.proofs.Rows.{size_fits}
 use Rattle.verifier_facts.proofs.Reaches.{Stands, IsCalled, code_there, reached_inside, constant_there, method_there, operands_there, inside, goes_on, goes_in, params_above, return_in_method}
 
@@ -111,7 +111,7 @@ finds image z count s i h = record {
 }
 
 -- an outcome that is sound
-abbrev pub IsGood : ImageView → ℕ → Outcome → Type 0
+abbrev pub IsGood : ImageView → ℕ → StepOutcome → Type 0
 IsGood image count (Goes to) = IsSound image count to
 IsGood image count Halts = Unit {0}
 IsGood image count Errs = Unit {0}
@@ -129,8 +129,8 @@ good_limited image count z left to h = by_test (nat_le (base (frames_of to)) z)
 pub same_sound : (image : ImageView) (count : ℕ) (s to : State) → SameFrames s to → IsSound image count s → IsSound image count to
 same_sound image count s to same h = record {
   unit = h.unit;
-  running = subst (λ (f : Frame). StandsAt image count h.unit to.at (length f.operands) f.back f.locals) (sym same.running)
-      (subst (λ (at : ℕ). StandsAt image count h.unit at (length s.running.operands) s.running.back s.running.locals) (sym same.at) h.running);
+  running = subst (λ (f : Frame). FrameStandsAt image count h.unit to.at (length f.operands) f.back f.locals) (sym same.running)
+      (subst (λ (at : ℕ). FrameStandsAt image count h.unit at (length s.running.operands) s.running.back s.running.locals) (sym same.at) h.running);
   callers = subst (λ (f : Frame). AreWaiting image count f.back to.callers) (sym same.running)
       (subst (λ (fs : List Frame). AreWaiting image count s.running.back fs) (sym same.callers) h.callers);
 }
@@ -139,7 +139,7 @@ same_sound image count s to same h = record {
 stands_on : (image : ImageView) (z count : ℕ) (s : State) (i : Instr) (h : Steps image z count s i) (need to d : ℕ) → need_of image (row_of i).needs (row_of i).flow ≡ Some need →
     GoesOn (row_of i).flow s.at (s.at + size_of (row_of i)) to → d + need ≡ length s.running.operands + (row_of i).gives → (locals : List (Option ℕ)) → IsFrameOf image.text count h.sound.unit s.running.back locals →
     ((k : ℕ) → slice_get locals k ≡ Some None → (slice_get s.running.locals k ≡ Some None) × (left_unset (row_of i).stores (Some k) ≡ Some k)) →
-    StandsAt image count h.sound.unit to d s.running.back locals
+    FrameStandsAt image count h.sound.unit to d s.running.back locals
 stands_on image z count s i h need to d needs goes depth locals frame unset =
     let u : Option ℕ = h.sound.unit in
     record {
@@ -320,7 +320,7 @@ good_return image z count s h =
     by_back (Some to) (f ∷ fs) [] w some n = omega arith
     by_back (Some to) (f ∷ fs) (y ∷ rest) w some n = record {
       unit = w.0.0;
-      running = subst (λ (d : ℕ). StandsAt image count w.0.0 to d f.back f.locals) (omega arith) w.0.1;
+      running = subst (λ (d : ℕ). FrameStandsAt image count w.0.0 to d f.back f.locals) (omega arith) w.0.1;
       callers = w.1;
     }
 
@@ -339,7 +339,7 @@ set_onto (p ∷ ps) xs j h k lt = set_onto ps (Some p ∷ xs) (j + 1) first k (o
 
 -- a called method's frame, with a parameter for each of these operands
 stands_in : (image : ImageView) (z count : ℕ) (s : State) (k : ℕ) (h : Steps image z count s (Invokevirtual k)) (m : Method) → IsCalled image (place_of h.sound.unit s None) k m →
-    (ps : List ℕ) → m.params ≡ length ps + 1 → StandsAt image count (Some m.entry) (m.entry + 4) 0 (Some (s.at + 3)) (None ∷ onto ps (replicate m.others None))
+    (ps : List ℕ) → m.params ≡ length ps + 1 → FrameStandsAt image count (Some m.entry) (m.entry + 4) 0 (Some (s.at + 3)) (None ∷ onto ps (replicate m.others None))
 stands_in image z count s k h m is ps many = record {
   reached = into None tt;
   carried = carried;
@@ -432,13 +432,13 @@ steps_there image z count s accepts main sound =
     let w = code_there image z (place_of sound.unit s None) accepts sound.running.reached in
     (w.0, record { accepts = accepts; main = main; sound = sound; code = w.1.code })
 
-good_outcome : (image : ImageView) (z count : ℕ) (s : State) → Accepts image z → IsMainCount image count → IsSound image count s → IsGood image count (outcome image z s)
+good_outcome : (image : ImageView) (z count : ℕ) (s : State) → Accepts image z → IsMainCount image count → IsSound image count s → IsGood image count (step_outcome image z s)
 good_outcome image z count s accepts main sound =
     let w = steps_there image z count s accepts main sound in
     subst (λ (o : Option Instr). IsGood image count (step_if_any image z s o)) (sym w.1.code) (good image z count s w.0 w.1)
 
-sound_step : (image : ImageView) (z count : ℕ) → Accepts image z → IsMainCount image count → (s to : State) → IsSound image count s → outcome image z s ≡ Goes to → IsSound image count to
-sound_step image z count accepts main s to sound goes = subst (λ (o : Outcome). IsGood image count o) goes (good_outcome image z count s accepts main sound)
+sound_step : (image : ImageView) (z count : ℕ) → Accepts image z → IsMainCount image count → (s to : State) → IsSound image count s → step_outcome image z s ≡ Goes to → IsSound image count to
+sound_step image z count accepts main s to sound goes = subst (λ (o : StepOutcome). IsGood image count o) goes (good_outcome image z count s accepts main sound)
 
 sound_start : (image : ImageView) (count : ℕ) (input : List ℕ) → IsSound image count (start_of count input)
 sound_start image count input = record {
@@ -465,10 +465,10 @@ sound_at image z count accepts main s to sound (Onward t u v comes goes same) =
 sound_after : (image : ImageView) (z count : ℕ) → Accepts image z → IsMainCount image count → (k : ℕ) (s to : State) → IsSound image count s → state_after image z k s ≡ Some to → IsSound image count to
 sound_after image z count accepts main zero s to sound is = let same : s ≡ to = cc in subst (λ (t : State). IsSound image count t) same sound
 sound_after image z count accepts main (suc k) s to sound is =
-    by_outcome (λ t. sound_after image z count accepts main k t to) (outcome image z s) (good_outcome image z count s accepts main sound) is
+    by_outcome (λ t. sound_after image z count accepts main k t to) (step_outcome image z s) (good_outcome image z count s accepts main sound) is
   where
     by_outcome : ((t : State) → IsSound image count t → state_after image z k t ≡ Some to → IsSound image count to) →
-        (o : Outcome) → IsGood image count o → after (state_after image z k) o ≡ Some to → IsSound image count to
+        (o : StepOutcome) → IsGood image count o → after (state_after image z k) o ≡ Some to → IsSound image count to
     by_outcome later (Goes t) g e = later t g e
     by_outcome later Halts g e = cc
     by_outcome later Errs g e = cc
@@ -486,5 +486,5 @@ keeps_sound image z count accepts main = record {
   safe = λ to comes stuck. not_stuck to (sound_at image z count accepts main (start_of count []) to (sound_start image count []) comes) stuck;
 }
   where
-    not_stuck : (s : State) → IsSound image count s → outcome image z s ≢ Stuck
-    not_stuck s sound stuck = subst (λ (o : Outcome). IsGood image count o) stuck (good_outcome image z count s accepts main sound)
+    not_stuck : (s : State) → IsSound image count s → step_outcome image z s ≢ Stuck
+    not_stuck s sound stuck = subst (λ (o : StepOutcome). IsGood image count o) stuck (good_outcome image z count s accepts main sound)

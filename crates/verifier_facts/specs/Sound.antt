@@ -6,7 +6,7 @@ use Rattle.ijvm_instr.specs.Instructions.{row_of, size_of, instr_at}
 use Rattle.ijvm_image.specs.declared.method.Method.{Method}
 use Rattle.ijvm_image.specs.Image.{ImageView, params, others}
 use Rattle.ijvm_meaning.specs.Frames.{Frame, State, start_of}
-use Rattle.ijvm_meaning.specs.Step.{Goes, is_own, outcome}
+use Rattle.ijvm_meaning.specs.Step.{Goes, is_own, step_outcome}
 use Rattle.ijvm_meaning.specs.Run.{state_after}
 use Rattle.ijvm_meaning.specs.Safe.{ComesTo, IsSafe}
 use Rattle.verifier_facts.specs.Paths.{arrival, HasConstant, callee, need_of, GoesOn, Reached}
@@ -18,7 +18,7 @@ IsFrameOf text main_locals None back locals = (back ≡ None) × (length locals 
 IsFrameOf text main_locals (Some entry) back locals = (back ≢ None) × (length locals ≡ params text entry + others text entry)
 
 -- a frame of this unit stands, or goes on, at this address with this depth: a path comes here, and for each local that is not set a path that carries it
-pub record StandsAt (image : ImageView) (main_locals : ℕ) (unit : Option ℕ) (at depth : ℕ) (back : Option ℕ) (locals : List (Option ℕ)) : Type 0 where
+pub record FrameStandsAt (image : ImageView) (main_locals : ℕ) (unit : Option ℕ) (at depth : ℕ) (back : Option ℕ) (locals : List (Option ℕ)) : Type 0 where
   pub reached : Reached image (arrival unit at depth None)
   pub carried : (k : ℕ) → 0 < k → slice_get locals k ≡ Some None → Reached image (arrival unit at depth (Some k))
   pub frame : IsFrameOf image.text main_locals unit back locals
@@ -29,12 +29,12 @@ AreWaiting image main_locals None [] = Unit {0}
 AreWaiting image main_locals None (f ∷ fs) = ⊥
 AreWaiting image main_locals (Some at) [] = ⊥
 AreWaiting image main_locals (Some at) (f ∷ fs) =
-    ((unit : Option ℕ) × StandsAt image main_locals unit at (length f.operands + 1) f.back f.locals) × AreWaiting image main_locals f.back fs
+    ((unit : Option ℕ) × FrameStandsAt image main_locals unit at (length f.operands + 1) f.back f.locals) × AreWaiting image main_locals f.back fs
 
 pub record IsSound (image : ImageView) (main_locals : ℕ) (s : State) : Type 0 where
   -- the running unit
   pub unit : Option ℕ
-  pub running : StandsAt image main_locals unit s.at (length s.running.operands) s.running.back s.running.locals
+  pub running : FrameStandsAt image main_locals unit s.at (length s.running.operands) s.running.back s.running.locals
   pub callers : AreWaiting image main_locals s.running.back s.callers
 
 -- what an instruction finds in a state
@@ -56,7 +56,7 @@ pub record Finds (image : ImageView) (s : State) (i : Instr) : Type 0 where
 -- every run of the image, with so many locals of main, is sound, and never gets stuck
 pub record KeepsSound (image : ImageView) (stack_end main_locals : ℕ) : Type 0 where
   pub start : (input : List ℕ) → IsSound image main_locals (start_of main_locals input)
-  pub steps : (s to : State) → IsSound image main_locals s → outcome image stack_end s ≡ Goes to → IsSound image main_locals to
+  pub steps : (s to : State) → IsSound image main_locals s → step_outcome image stack_end s ≡ Goes to → IsSound image main_locals to
   pub finds : (s : State) → IsSound image main_locals s → (i : Instr) × Finds image s i
   -- so at each state that a run comes to
   pub comes_to : (input : List ℕ) (to : State) → ComesTo image stack_end (start_of main_locals input) to → IsSound image main_locals to

@@ -1,4 +1,4 @@
-//! Which calls fail.
+//! Which calls of an object in memory fail, by their numbers.
 
 ghost use Rattle.std.specs.Prelude.{◌≡◌, ◌≤◌, ◌↔◌, IsTrue, Contains};
 ghost use Rattle.mic_base.specs.Causes.{Rose};

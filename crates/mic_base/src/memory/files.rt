@@ -1,4 +1,4 @@
-//! Files in memory.
+//! Files in memory, whose calls fail where a test wants it.
 
 ghost use Rattle.std.specs.Prelude.{◌≡◌, ◌<◌, ◌⊎◌, ◌↔◌, List, ℕ, Option, Some, None, option_map, length, IfOk, OnOk, OnErr, IsErrOf, Contains, ◌≢◌};
 ghost use Rattle.mic_base.specs.Files.{file_in, HasFileCause, KeepsOthers, most_bytes, Reads, Writes};

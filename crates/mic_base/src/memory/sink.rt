@@ -1,4 +1,4 @@
-//! A sink in memory.
+//! A sink that keeps its bytes in memory, whose calls fail where a test wants it.
 
 ghost use Rattle.std.specs.Prelude.{◌≡◌, ◌≤◌, ◌<◌, ◌+◌, ◌⊎◌, ◌↔◌, [], List, ℕ, Some, vec_len, vec_capacity, length, take, IsErr, OnOk, OnErr, IfOk, Contains};
 ghost use Rattle.mic_base.specs.Causes.{HasCause};

@@ -1,4 +1,4 @@
-//! A source in memory.
+//! A source over bytes in memory, whose calls fail where a test wants it.
 
 ghost use Rattle.std.specs.Prelude.{◌≡◌, ◌≤◌, ◌↔◌, Some, drop, vec_len, IsErr, Contains};
 ghost use Rattle.mic_base.specs.Causes.{HasCause};

@@ -1,4 +1,4 @@
-//! A sink without state.
+//! A sink that takes everything and keeps nothing.
 
 ghost use Rattle.std.specs.Prelude.{IsOk, None};
 

@@ -1,4 +1,4 @@
-//! The system's files.
+//! The files of the system, read up to the greatest size.
 
 ghost use Rattle.std.specs.Prelude.{◌≡◌, None};
 

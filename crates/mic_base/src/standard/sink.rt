@@ -1,4 +1,4 @@
-//! The system's outputs.
+//! A sink over any writer, such as standard output or standard error.
 
 ghost use Rattle.std.specs.Prelude.{◌≡◌, None, OnOk};
 ghost use Rattle.std.specs.Io.KnownBytes.{Appends, Keeps};

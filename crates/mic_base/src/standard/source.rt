@@ -1,4 +1,4 @@
-//! The system's input.
+//! A source over any reader, such as standard input.
 
 ghost use Rattle.std.specs.Prelude.{◌≡◌, [], ◌∷◌, None, IfOk, IfSome};
 ghost use Rattle.std.specs.Io.KnownBytes.{Consumes};

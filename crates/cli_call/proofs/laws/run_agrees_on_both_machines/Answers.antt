@@ -12,7 +12,7 @@ use Rattle.verifier_facts.specs.Accepted.{VerifiedView}
 use Rattle.cli_outside.specs.Status as exits
 use Rattle.cli_outside.specs.Outside.{OutsideView}
 use Rattle.cli_words.specs.Words.{Run}
-use Rattle.cli_programs.specs.Program.{IsProgram, IsRefusedProgram}
+use Rattle.cli_programs.specs.Program.{IsAcceptedProgram, IsRefusedProgram}
 use Rattle.cli_call.specs.Agree.{CallsAgree, CallsEndAlike, IsQuiet}
 use Rattle.cli_call.specs.CallEnds.{CallEnds, Done, NoRoom}
 use Rattle.cli_call.proofs.Agreeing.{said}
@@ -21,8 +21,8 @@ use Rattle.cli_call.proofs.TwoCalls.{both_end}
 use Rattle.cli_call.proofs.laws.run_agrees_on_both_machines.Goals as goal
 
 module _ (boards : BoardsAgree micro_of1 mic1_meaning IsReady1 (HasShipped Mic1) 0x002 (timing_of Mic1) micro_of2 mic2_meaning IsReady2 (HasShipped Mic2) 0x002 (timing_of Mic2))
-    (one_program : (map : MemoryMap) (bytes : List ℕ) (p q : VerifiedView) → IsProgram map bytes p → IsProgram map bytes q → p ≡ q)
-    (not_both : (map : MemoryMap) (bytes reason : List ℕ) (p : VerifiedView) → IsProgram map bytes p → IsRefusedProgram map bytes reason → ⊥)
+    (one_program : (map : MemoryMap) (bytes : List ℕ) (p q : VerifiedView) → IsAcceptedProgram map bytes p → IsAcceptedProgram map bytes q → p ≡ q)
+    (not_both : (map : MemoryMap) (bytes reason : List ℕ) (p : VerifiedView) → IsAcceptedProgram map bytes p → IsRefusedProgram map bytes reason → ⊥)
     (file : List ℕ) (map : MemoryMap) (bound bound' : ℕ) (input : List ℕ) (contents : Contents) (old one other : OutsideView) (status status' : ℕ)
     (left : old.console.left ≡ Some input) (tells : old.files.contents ≡ Some contents) (quiet : IsQuiet old one status) (quiet' : IsQuiet old other status')
     (free : status ≢ exits.bound) (free' : status' ≢ exits.bound) where
@@ -31,7 +31,7 @@ module _ (boards : BoardsAgree micro_of1 mic1_meaning IsReady1 (HasShipped Mic1)
   calls_alike (NoRoom short) ends = absurd (quiet.memory (said old.err one.err _ _ status quiet.err short.says).0)
   calls_alike (Done ends) (NoRoom short) = absurd (quiet'.memory (said old.err other.err _ _ status' quiet'.err short.says).0)
   calls_alike (Done ends) (Done ends') =
-      both_end (IsRefusedProgram map) (IsProgram map) file old contents tells (one_program map) (not_both map) _ _ one other status status' _
+      both_end (IsRefusedProgram map) (IsAcceptedProgram map) file old contents tells (one_program map) (not_both map) _ _ one other status status' _
       (λ program does does'.
       end_alike micro_of1 mic1_meaning IsReady1 (HasShipped Mic1) 0x002 (timing_of Mic1) micro_of2 mic2_meaning IsReady2 (HasShipped Mic2) 0x002 (timing_of Mic2)
       program bound bound' input old one other status status' boards left does does' quiet quiet' free free') quiet quiet' ends ends'

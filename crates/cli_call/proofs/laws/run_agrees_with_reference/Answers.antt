@@ -11,24 +11,24 @@ use Rattle.mal_shipped.specs.Shipped.{HasShipped}
 use Rattle.verifier_facts.specs.Accepted.{VerifiedView}
 use Rattle.cli_outside.specs.Outside.{OutsideView}
 use Rattle.cli_words.specs.Words.{Reference, Run}
-use Rattle.cli_programs.specs.Program.{IsProgram, IsRefusedProgram}
+use Rattle.cli_programs.specs.Program.{IsAcceptedProgram, IsRefusedProgram}
 use Rattle.cli_call.specs.Agree.{Agrees, CallsAgree, IsQuiet}
 use Rattle.cli_call.specs.CallEnds.{CallEnds, Done, EndsAs, NoRoom}
 use Rattle.cli_call.proofs.Agreeing.{OneEnd, agree, said}
 use Rattle.cli_call.proofs.TwoCalls.{both_end}
 use Rattle.cli_call.proofs.laws.run_agrees_with_reference.Goals as goal
 
-module _ (one_end : OneEnd) (one_program : (map : MemoryMap) (bytes : List ℕ) (p q : VerifiedView) → IsProgram map bytes p → IsProgram map bytes q → p ≡ q)
-    (not_both : (map : MemoryMap) (bytes reason : List ℕ) (p : VerifiedView) → IsProgram map bytes p → IsRefusedProgram map bytes reason → ⊥)
+module _ (one_end : OneEnd) (one_program : (map : MemoryMap) (bytes : List ℕ) (p q : VerifiedView) → IsAcceptedProgram map bytes p → IsAcceptedProgram map bytes q → p ≡ q)
+    (not_both : (map : MemoryMap) (bytes reason : List ℕ) (p : VerifiedView) → IsAcceptedProgram map bytes p → IsRefusedProgram map bytes reason → ⊥)
     (file : List ℕ) (map : MemoryMap) (bound : ℕ) (input : List ℕ) (contents : Contents) (old ran told : OutsideView) (status status' : ℕ)
     (left : old.console.left ≡ Some input) (tells : old.files.contents ≡ Some contents) (quiet : IsQuiet old ran status) (quiet' : IsQuiet old told status') where
   both_agree : (machine : Machine) → EndsAs (Some (Run file machine bound map)) old ran status → EndsAs (Some (Reference file machine bound map)) old told status' →
       CallsAgree (Agrees old ran told status status') status status'
   both_agree Mic1 one other =
-      both_end (IsRefusedProgram map) (IsProgram map) file old contents tells (one_program map) (not_both map) _ _ ran told status status' _
+      both_end (IsRefusedProgram map) (IsAcceptedProgram map) file old contents tells (one_program map) (not_both map) _ _ ran told status status' _
       (λ program does does'. agree micro_of1 mic1_meaning IsReady1 (HasShipped Mic1) 0x002 program bound input old ran told status status' one_end left does does' quiet quiet') quiet quiet' one other
   both_agree Mic2 one other =
-      both_end (IsRefusedProgram map) (IsProgram map) file old contents tells (one_program map) (not_both map) _ _ ran told status status' _
+      both_end (IsRefusedProgram map) (IsAcceptedProgram map) file old contents tells (one_program map) (not_both map) _ _ ran told status status' _
       (λ program does does'. agree micro_of2 mic2_meaning IsReady2 (HasShipped Mic2) 0x002 program bound input old ran told status status' one_end left does does' quiet quiet') quiet quiet' one other
 
   calls_agree : (machine : Machine) → CallEnds (Some (Run file machine bound map)) old ran status → CallEnds (Some (Reference file machine bound map)) old told status' →

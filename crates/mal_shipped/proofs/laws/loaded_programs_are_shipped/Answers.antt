@@ -3,7 +3,7 @@ use Rattle.mic_words.specs.declared.machine.Machine.{Machine}
 use Rattle.mic_words.specs.declared.machine.Machine.TheVariants.{Mic1, Mic2}
 use Rattle.micro_word.specs.declared.statement.Placed.{Placed}
 use Rattle.micro_word.specs.Words.{is_valid}
-use Rattle.micro_word.specs.Coding.{word_of, statement_of}
+use Rattle.micro_word.specs.Coding.{microword_of, statement_of}
 use Rattle.store_placement.specs.Program.{IsFilled}
 use Rattle.mal_shipped.specs.Listing.{listed_program, addresses_of}
 use Rattle.mal_shipped.proofs.Words.{shipped_words, entry_at}
@@ -11,8 +11,8 @@ use Rattle.mal_shipped.proofs.laws.loaded_programs_are_shipped.Goals as goal
 
 pub returns-clause-words : goal.returns-clause-words
 returns-clause-words c = λ machine l loaded.
-    let law : (m : Machine) (q : Placed) → IsTrue (is_valid m q) → statement_of m (word_of m q) ≡ q = λ m.
-    elim m as (λ n. (q : Placed) → IsTrue (is_valid n q) → statement_of n (word_of n q) ≡ q)
+    let law : (m : Machine) (q : Placed) → IsTrue (is_valid m q) → statement_of m (microword_of m q) ≡ q = λ m.
+    elim m as (λ n. (q : Placed) → IsTrue (is_valid n q) → statement_of n (microword_of n q) ≡ q)
     [ Mic1 ↦ c.statement_law.ensures.statement | Mic2 ↦ c.statement_law-2.ensures.statement ] in
     let addresses : l.placement ≡ addresses_of machine = c.shipped_programs_are_listed.ensures.only machine l.placement loaded.chosen in
     shipped_words machine l.store.words (law machine) (subst (λ (list : List ℕ). IsFilled (listed_program machine) list l.store.words) addresses loaded.filled)

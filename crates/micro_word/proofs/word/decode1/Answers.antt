@@ -1,7 +1,7 @@
 use Rattle.std.proofs.Common.{◌≡◌, IsTrue, Option, IfSome, sym, subst, ◌∙◌}
 use Rattle.mic_words.specs.declared.machine.Machine.TheVariants.{Mic1}
 use Rattle.micro_word.specs.declared.statement.Placed.{Placed}
-use Rattle.micro_word.specs.Coding.{word_of}
+use Rattle.micro_word.specs.Coding.{microword_of}
 use Rattle.micro_word.specs.Words.{is_valid}
 use Rattle.micro_word.proofs.Coding.{known, back, none}
 use Rattle.micro_word.proofs.word.decode1.Goals as goal
@@ -9,7 +9,7 @@ use Rattle.micro_word.proofs.word.decode1.Goals as goal
 pub returns : goal.returns
 returns c =
     record {
-      known = subst (λ (r : Option Placed). IfSome r (λ p. IsTrue (is_valid Mic1 p) × (word_of Mic1 p ≡ c.args.bits))) (sym c.decoded.ensures) (known Mic1 c.args.bits);
+      known = subst (λ (r : Option Placed). IfSome r (λ p. IsTrue (is_valid Mic1 p) × (microword_of Mic1 p ≡ c.args.bits))) (sym c.decoded.ensures) (known Mic1 c.args.bits);
       back = λ p h e. c.decoded.ensures ∙ back Mic1 c.args.bits p h e;
       none = none Mic1 c.args.bits c.decoded.result c.decoded.ensures;
     }

@@ -2,7 +2,7 @@ use Rattle.std.proofs.Common.{◌≡◌, ◌∙◌, ◌+◌, ℕ, List, length, 
 use Rattle.std.specs.Prelude.{IsTrue}
 use Rattle.mic_words.specs.declared.machine.Machine.{Machine}
 use Rattle.micro_word.specs.declared.statement.Placed.{Placed}
-use Rattle.micro_word.specs.Coding.{word_of}
+use Rattle.micro_word.specs.Coding.{microword_of}
 use Rattle.micro_word.specs.Words.{is_valid}
 use Rattle.store_placement.specs.Program.{placed_statement}
 use Rattle.store_placement.proofs.FillingLemmas.{IsFilledUpTo, placed_count, filled_none, filled_more, filled_all, element_at}
@@ -15,8 +15,8 @@ pub loop-s-init : goal.loop-s-init
 loop-s-init c =
     let machine = c.filled-store.ensures.machine ∙ c.machine.ensures in (
       machine,
-      filled_none c.args.program.now c.args.placement.now c.filled-store.result.words (word_of c.machine.result c.placed_default.result) 512 refl c.filled-store.ensures.words
-          (ap (λ (m : Machine). word_of m c.placed_default.result) c.machine.ensures ∙ ap (word_of c.args.program.now.machine) c.placed_default.ensures.value),
+      filled_none c.args.program.now c.args.placement.now c.filled-store.result.words (microword_of c.machine.result c.placed_default.result) 512 refl c.filled-store.ensures.words
+          (ap (λ (m : Machine). microword_of m c.placed_default.result) c.machine.ensures ∙ ap (microword_of c.args.program.now.machine) c.placed_default.ensures.value),
     )
 
 pub loop-s-preserved : goal.loop-s-preserved
@@ -24,9 +24,9 @@ loop-s-preserved c =
     let p = c.args.program.now in
     let addresses = c.args.placement.now in
     let t = element_at p.statements c.loop-s.s (omega arith) in
-    let word = word_of c.loop-s.store.machine c.placed_statement.result in
-    let is : word ≡ word_of p.machine (placed_statement (slice_index addresses) c.loop-s.s t.0) =
-    ap (λ (m : Machine). word_of m c.placed_statement.result) c.loop-s.invariant.0 ∙ ap (word_of p.machine) (c.placed_statement.ensures.value t.0 t.1) in
+    let word = microword_of c.loop-s.store.machine c.placed_statement.result in
+    let is : word ≡ microword_of p.machine (placed_statement (slice_index addresses) c.loop-s.s t.0) =
+    ap (λ (m : Machine). microword_of m c.placed_statement.result) c.loop-s.invariant.0 ∙ ap (microword_of p.machine) (c.placed_statement.ensures.value t.0 t.1) in
     let words : c.set.new.self.words ≡ set c.loop-s.store.words (slice_index addresses c.loop-s.s) word = c.set.ensures.words ∙ ap (λ a. set c.loop-s.store.words a word) c.address.ensures in
     let P : List ℕ → Type 0 = λ ws. IsFilledUpTo p addresses ws (c.loop-s.s + 1) in (
       c.set.ensures.machine ∙ c.loop-s.invariant.0,

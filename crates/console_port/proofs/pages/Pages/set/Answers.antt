@@ -1,6 +1,6 @@
 use Rattle.std.proofs.Common.{◌≡◌, ◌≢◌, ◌<◌, ◌+◌, ◌/◌, ◌%◌, ℕ, List, arith, ◌∙◌, sym, ap, subst, length, get_or, set}
 use Rattle.std.proofs.lemmas.List.{with_items_is}
-use Rattle.console_port.specs.Pages.{ArePaged, place, words_of}
+use Rattle.console_port.specs.Pages.{ArePaged, place_in_frames, words_of}
 use Rattle.console_port.proofs.Paging.{length-words_of, frames_suffice, place_within, paged_write, words_write}
 use Rattle.console_port.proofs.pages.Pages.set.Goals as goal
 
@@ -49,7 +49,7 @@ invariant_of-self c =
     let own : get_or table (c.args.at / 1024) 0 ≢ 0 = λ e. c.frame_of-start.ensures.own (c.frame_of-start.ensures.frame ∙ e) in
     let long : length table ≡ c.self.inside.table.len = omega (arith, c.frame_of-start.auto.table, c.deref_mut.ensures.len) in
     let at : ℕ = c.frame_of-start.result + c.args.at % 1024 in
-    let there : at ≡ place table c.args.at = ap (λ (n : ℕ). n + c.args.at % 1024) c.frame_of-start.ensures.frame in
+    let there : at ≡ place_in_frames table c.args.at = ap (λ (n : ℕ). n + c.args.at % 1024) c.frame_of-start.ensures.frame in
     subst (λ t. ArePaged t (set c.self.inside.frames.items at c.args.value) c.frame_of-start.new.free c.self.inside.size) (sym (with_items_is c.self.inside.table table long))
     (subst (λ n. ArePaged table (set c.self.inside.frames.items n c.args.value) c.frame_of-start.new.free c.self.inside.size) (sym there)
     (paged_write table c.self.inside.frames.items c.frame_of-start.new.free c.self.inside.size paged c.args.at c.args.value inside own))
@@ -65,7 +65,7 @@ returns c =
     let own : get_or table (c.args.at / 1024) 0 ≢ 0 = λ e. c.frame_of-start.ensures.own (c.frame_of-start.ensures.frame ∙ e) in
     let long : length table ≡ c.self.inside.table.len = omega (arith, c.frame_of-start.auto.table, c.deref_mut.ensures.len) in
     let at : ℕ = c.frame_of-start.result + c.args.at % 1024 in
-    let there : at ≡ place table c.args.at = ap (λ (n : ℕ). n + c.args.at % 1024) c.frame_of-start.ensures.frame in
+    let there : at ≡ place_in_frames table c.args.at = ap (λ (n : ℕ). n + c.args.at % 1024) c.frame_of-start.ensures.frame in
     let words_is : words_of table c.self.inside.frames.items c.self.inside.size ≡ c.args.self.now =
     c.frame_of-start.ensures.words c.self.inside.frames.items c.self.inside.size was
     ∙ (ap (λ t. words_of t c.self.inside.frames.items c.self.inside.size) c.deref_mut.ensures.value ∙ c.self.view_is) in

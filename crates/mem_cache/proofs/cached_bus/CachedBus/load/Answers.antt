@@ -1,5 +1,5 @@
 use Rattle.std.proofs.Common.{◌≡◌, sym, subst, ◌+◌, ◌/◌, ◌<◌, false, List, length, map, rules, Option, Some}
-use Rattle.mem_cache.specs.declared.lines.Line.{Line}
+use Rattle.mem_cache.specs.declared.lines.CacheLine.{CacheLine}
 use Rattle.mem_cache.specs.Accesses.{Read}
 use Rattle.mem_cache.specs.Lines.{AreLines, HasWords, block_in}
 use Rattle.mem_cache.specs.Tally.{has_block}
@@ -22,8 +22,8 @@ returns-clause-counts c =
 pub invariant_of-self-2 : goal.invariant_of-self-2
 invariant_of-self-2 c =
     let h = c.self.inside in
-    let line : Line = record { block = c.args.at / 4; words = c.words_of-words.result } in
+    let line : CacheLine = record { block = c.args.at / 4; words = c.words_of-words.result } in
     let memory : c.args.at < length h.bus.words = search rules in
     let holds : HasWords h.bus.words (Some line) =
     (whole_block h.bus.words c.args.at c.self.invariant.whole memory, c.words_of-words.ensures.len, c.words_of-words.ensures.words) in
-    subst (λ (ls : List (Option Line)). AreLines h.bus.words ls) (sym c.hold.ensures) (held_after h.bus.words h.lines.items c.self.invariant line holds)
+    subst (λ (ls : List (Option CacheLine)). AreLines h.bus.words ls) (sym c.hold.ensures) (held_after h.bus.words h.lines.items c.self.invariant line holds)

@@ -6,7 +6,7 @@ use Rattle.micro_word.specs.Operation.{shifted}
 use Rattle.micro_word.specs.declared.layout.Fields.{Fields}
 use Rattle.mic_datapath.specs.Places.{registers_at}
 use Rattle.mic_datapath.specs.Registers.{NineRegisters, arrived, loaded}
-use Rattle.mic_datapath.specs.Next.{target}
+use Rattle.mic_datapath.specs.Next.{next_address}
 use Rattle.mic1_datapath.specs.Microstep.{result_of, registers_in}
 use Rattle.mic1_datapath.specs.Latches.{micro_in, reads, fetches, under_way}
 use Rattle.mic1_datapath.proofs.UnderWay.{kept_under_way}
@@ -37,7 +37,7 @@ returns-clause-micro c =
       opc = (kept 7 (omega arith) (omega arith) ∙ ap (λ (r : NineRegisters). r.opc) became) i;
       h = (kept 8 (omega arith) (omega arith) ∙ ap (λ (r : NineRegisters). r.h) became) i;
       mbr = mbr i;
-      mpc = (c.next_address-self.ensures.next s.next valid.next addr jam ∙ ap (λ (x : ℕ). target s.next c.args.value x) mbr) i;
+      mpc = (c.next_address-self.ensures.next s.next valid.next addr jam ∙ ap (λ (x : ℕ). next_address s.next c.args.value x) mbr) i;
       word = (ap (λ (x : ℕ). under_way (reads c.args.word) x) c.take.ensures ∙ kept_under_way c.args.sampled.word _ c.args.self.now.word c.requires.word_sampled) i;
       byte = (ap (λ (x : ℕ). under_way (fetches c.args.word) x) c.take_byte.ensures ∙ kept_under_way c.args.sampled.byte _ c.args.self.now.byte c.requires.byte_sampled) i;
       entry = c.args.self.now.entry;

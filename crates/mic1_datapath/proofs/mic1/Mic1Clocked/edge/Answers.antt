@@ -5,7 +5,7 @@ use Rattle.micro_word.specs.Coding.{statement_of, mem_of}
 use Rattle.micro_word.specs.Layout.{fields_of}
 use Rattle.micro_word.specs.declared.statement.Mem.TheVariants as mems
 use Rattle.mic_words.specs.declared.machine.Machine.TheVariants as machines
-use Rattle.mic1_datapath.specs.Microstep.{assigned, ports_of, settled, moved}
+use Rattle.mic1_datapath.specs.Microstep.{assigned, ports_of, settled, next_micro}
 use Rattle.mic1_datapath.specs.Latches.{micro_in}
 use Rattle.mic1_datapath.proofs.Inside.{led_inside, led_same}
 use Rattle.mic1_datapath.proofs.Steps.{Asked, IsAsked, edge_done, edge_fails, edge_waits, is_asked}
@@ -26,7 +26,7 @@ returns-then-is_quiet-clause-edge g c =
     (old.computed c.requires) (old.shifted_by c.requires) refl refl (sym quiet.0) (sym quiet.1) in
     edge_done old.word m asked is _ _ c.args.bus.now _ _ c.args.bus.now None None refl
     (led_same _ _ c.args.bus.now _ (λ w shows. record { its_word = refl; its_byte = refl; after = refl })) (refl, λ a other. refl) _
-    (c.advance.ensures.micro ∙ ap (λ (x : ℕ). moved s.next x (settled s.part m) None None) (old.computed c.requires))
+    (c.advance.ensures.micro ∙ ap (λ (x : ℕ). next_micro s.next x (settled s.part m) None None) (old.computed c.requires))
 
 -- it fetches a byte of the memory, and nothing else
 
@@ -45,7 +45,7 @@ returns-then-has-clause-edge g c =
     edge_done old.word m asked is _ _ c.args.bus.now _ _ c.args.bus.now _ _ (c.fetch_alone-sampled.ensures.clear ports here)
     (led_same _ _ c.args.bus.now _ (λ w shows. c.fetch_alone-sampled.ensures.access ports here w shows.words)) (refl, λ a other. refl) _
     (c.advance-then-has.ensures.micro
-    ∙ ap (λ (x : ℕ). moved s.next x (settled s.part m) c.fetch_alone-sampled.result.word c.fetch_alone-sampled.result.byte) (old.computed c.requires))
+    ∙ ap (λ (x : ℕ). next_micro s.next x (settled s.part m) c.fetch_alone-sampled.result.word c.fetch_alone-sampled.result.byte) (old.computed c.requires))
 
 -- it reads a word of the memory, and nothing else
 
@@ -64,7 +64,7 @@ returns-then-has-2-clause-edge g c =
     edge_done old.word m asked is _ _ c.args.bus.now _ _ c.args.bus.now _ _ (c.read_alone-sampled.ensures.clear ports here)
     (led_same _ _ c.args.bus.now _ (λ w shows. c.read_alone-sampled.ensures.access ports here w shows.words)) (refl, λ a other. refl) _
     (c.advance-then-has-2.ensures.micro
-    ∙ ap (λ (x : ℕ). moved s.next x (settled s.part m) c.read_alone-sampled.result.word c.read_alone-sampled.result.byte) (old.computed c.requires))
+    ∙ ap (λ (x : ℕ). next_micro s.next x (settled s.part m) c.read_alone-sampled.result.word c.read_alone-sampled.result.byte) (old.computed c.requires))
 
 -- it writes a word of the memory, and accesses nothing else
 
@@ -84,7 +84,7 @@ returns-then-has-3-clause-edge g c =
     (led_inside _ _ c.args.bus.now c.write_alone.new.bus c.write_alone.ensures.console _
     (λ w shows. c.write_alone.ensures.access ports at (sym c.mdr_port-mdr.ensures) w shows.words))
     (subst (λ (a : ℕ). ChangesOnly a c.args.bus.now.words c.write_alone.new.bus.words) (sym at) c.write_alone.ensures.others) _
-    (c.advance-then-has-3.ensures.micro ∙ ap (λ (x : ℕ). moved s.next x (settled s.part m) None None) (old.computed c.requires))
+    (c.advance-then-has-3.ensures.micro ∙ ap (λ (x : ℕ). next_micro s.next x (settled s.part m) None None) (old.computed c.requires))
 
 -- its accesses reach memory alone
 
@@ -102,7 +102,7 @@ returns-then-is_in_memory-clause-edge g c =
     edge_done old.word m asked is _ _ c.args.bus.now _ _ c.access_memory-sampled.new.bus _ _ its.clear
     (led_inside _ _ c.args.bus.now c.access_memory-sampled.new.bus its.console _ (λ w shows. its.access w shows.words)) its.others _
     (c.advance-then-is_in_memory.ensures.micro
-    ∙ ap (λ (x : ℕ). moved s.next x (settled s.part m) c.access_memory-sampled.result.word c.access_memory-sampled.result.byte) (old.computed c.requires))
+    ∙ ap (λ (x : ℕ). next_micro s.next x (settled s.part m) c.access_memory-sampled.result.word c.access_memory-sampled.result.byte) (old.computed c.requires))
 
 -- one of them may reach the console, or be refused
 
@@ -118,7 +118,7 @@ returns-in-Ok-clause-edge g c =
     (c.of_bits-mem.ensures ∙ ap mem_of c.mem.ensures) c.fetch-fetch.ensures in
     let a = c.in-Ok.ensures.access in
     edge_done old.word m asked is _ _ c.args.bus.now _ _ c.access.new.bus _ _ a.allowed a.ok a.others _
-    (c.advance-in-Ok.ensures.micro ∙ ap (λ (x : ℕ). moved s.next x (settled s.part m) c.in-Ok.sampled.word c.in-Ok.sampled.byte) (old.computed c.requires))
+    (c.advance-in-Ok.ensures.micro ∙ ap (λ (x : ℕ). next_micro s.next x (settled s.part m) c.in-Ok.sampled.word c.in-Ok.sampled.byte) (old.computed c.requires))
 
 pub returns-in-Ok-clause-waits : goal.returns-in-Ok-clause-waits
 returns-in-Ok-clause-waits g c =

@@ -12,10 +12,10 @@ returns-clause-ok c =
     let l = old.latches in
     let became : registers_at c.retire.new.places ≡ settled i (pipeline_in old) =
     c.retire.ensures.registers
-    ∙ (λ j. retired (in_result old.result) l.word (record (registers_at l.places) { pc = advanced (c.taken-taken.ensures j) (registers_at l.places).pc })) in
+    ∙ (λ j. retired (in_result old.result) l.word (record (registers_at l.places) { pc = advanced (c.bytes_leaving-taken.ensures j) (registers_at l.places).pc })) in
     let unit =
     c.in_ok-clock_unit.ensures.ok
-    ∙ (λ j. unit_after (is_jump_coming (computed_in (in_result old.result))) c.args.bus.now.words (c.requires.pc j) (c.taken-taken.ensures j) l.unit) in
+    ∙ (λ j. unit_after (is_jump_coming (computed_in (in_result old.result))) c.args.bus.now.words (c.requires.pc j) (c.bytes_leaving-taken.ensures j) l.unit) in
     λ j. record {
       micro = record {
         mar = (became j).mar;
