@@ -202,9 +202,9 @@ impl<M: Clocked> Board<M> {
         flushed
     }
 
-    // The test of the bound alone, with the flush where it ends the board.
+    /// The test of the bound alone, with the flush where it ends the board.
     #[inline(always)]
-    fn stop_at<K: Sink>(&mut self, bound: u64, sink: &mut K) -> Option<End>
+    pub fn stop_at<K: Sink>(&mut self, bound: u64, sink: &mut K) -> Option<End>
         ensures run { NoFault self.old.end self.new.end →
             ShowsAs M.state (K.held sink.old) self.old (K.held sink.new) self.new (bounded M.meaning (Some bound)) }
         ensures write { (left : Option (List ℕ)) → BoundIsCutByWrite M.state M.meaning left (K.held sink.old) self.old left (K.held sink.new) self.new bound }
