@@ -14,7 +14,6 @@ use crate::buses::{Computed, Drive};
 use crate::clocked::Clocked;
 use crate::counting::{DRIFT, count, end_before, ended_counts, fault_end};
 use crate::counts::Counts;
-use crate::cycle::clock_once;
 use crate::end::{End, Tick};
 use crate::registers::{Registers, Start};
 use crate::word::MicroWord;
@@ -114,7 +113,7 @@ impl<M: Clocked> Board<M> {
             self.end = Some(end);
             return Tick::Ended(end);
         }
-        match clock_once(&mut self.machine, &self.store, &mut self.bus, source, sink) {
+        match self.machine.clock(&self.store, &mut self.bus, source, sink) {
             Ok((drive, computed)) => {
                 self.drive.a = drive.a;
                 self.drive.b = drive.b;

@@ -6,7 +6,6 @@ pub mod buses;
 pub mod clocked;
 mod counting;
 pub mod counts;
-mod cycle;
 pub mod end;
 pub mod laws;
 pub mod registers;

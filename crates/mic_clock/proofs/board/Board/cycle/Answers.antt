@@ -32,7 +32,7 @@ returns-in-Err-clause-turn g c =
     let other = no_fault c.in-Err.fault (subst (λ (x : End). NoFault None (Some x)) c.fault_end-end.ensures plain) in
     let refused : (w : World) → Shows (g.S.Source.left c.args.source.now) (g.K.Sink.held c.args.sink.now) board.bus w →
     refusal_in (m.step (word_at m board.store.words (state board.machine)) (state board.machine) w) ≡ Some c.in-Err.fault = search rules in
-    led-refused state m _ _ _ (g.K.Sink.held c.clock_once.new.sink) board _ c.in-Err.fault not_ended no_end refused other (search rules) (search rules) (search rules) (search rules)
+    led-refused state m _ _ _ (g.K.Sink.held c.clock.new.sink) board _ c.in-Err.fault not_ended no_end refused other (search rules) (search rules) (search rules) (search rules)
 
 pub returns-after-drive-clause-turn : goal.returns-after-drive-clause-turn
 returns-after-drive-clause-turn g c =
@@ -45,7 +45,7 @@ returns-after-drive-clause-turn g c =
     let counted = counted_as_ruled m _ _ _ _ c.count.ensures.counts in
     rw (← c.self.view_is)
     (λ q. led-done state m _ _ _ _ _ _ not_ended no_end c.in-Ok.ensures.edge.ok
-    (counted ∙ ap (λ (d : Drive). counts_after m inside.counts d.stalled (state c.clock_once.new.machine)) c.in-Ok.ensures.seen.0) (search rules))
+    (counted ∙ ap (λ (d : Drive). counts_after m inside.counts d.stalled (state c.clock.new.self)) c.in-Ok.ensures.seen.0) (search rules))
 
 pub returns-after-drive-clause-waits : goal.returns-after-drive-clause-waits
 returns-after-drive-clause-waits g c = rw (← c.self.view_is) c.in-Ok.ensures.waits
