@@ -12,10 +12,11 @@ ghost use Rattle.mic_clock.specs.Board.{EndsInTime, ChangesAtMar, EndsUnwritten,
 
 use crate::buses::{Computed, Drive};
 use crate::clocked::Clocked;
-use crate::counting::{DRIFT, count, end_before, ended_counts, fault_end};
 use crate::counts::Counts;
 use crate::end::{End, Tick};
 use crate::registers::{Registers, Start};
+use crate::running::{Running, Tally, counts_in};
+use crate::turning::{turn_once, turn_to_boundary};
 use crate::word::MicroWord;
 use console_port::{Bus, BusFault};
 use mic_base::{Sink, Source};
@@ -28,32 +29,19 @@ pub struct Board<M: Clocked> {
     machine: M,
     store: Store,
     bus: Bus,
-    counts: Counts,
-    /// The cycles at which the run is adrift, if it comes to no boundary before.
-    limit: u64,
-    end: Option<End>,
-    drive: Drive,
-    computed: Computed,
+    running: Running,
+    tally: Tally,
 }
 
 impl<M: Clocked> Model for Board<M> {
-    ghost use Rattle.std.specs.Prelude.{◌≡◌};
     ghost use Rattle.mic_clock.specs.View.{BoardView};
-    ghost use Rattle.mic_clock.specs.Meaning.{AtRest};
-    ghost use Rattle.mic_clock.specs.Board.{AreCounts, IsLimit};
+    ghost use Rattle.mic_clock.specs.Parts.{board_of, AreParts};
 
     ghost Value = { BoardView M };
 
-    ghost view = { λ b. record {
-      machine = b.machine;
-      store = b.store;
-      bus = b.bus;
-      counts = b.counts;
-      end = b.end;
-      buses = record { drive = b.drive; computed = b.computed };
-    } };
+    ghost view = { λ b. board_of b.machine b.store b.bus b.running b.tally };
 
-    ghost invariant = { λ b. (M.phase b.machine ≡ AtRest) × (b.store.machine ≡ M.meaning.machine) × AreCounts b.counts b.end × IsLimit b.counts b.limit };
+    ghost invariant = { λ b. AreParts M.phase M.meaning b.machine b.store b.running b.tally };
 }
 
 impl<M: Clocked> Board<M> {
@@ -76,22 +64,13 @@ impl<M: Clocked> Board<M> {
             machine,
             store,
             bus,
-            counts: Counts {
-                cycles: 0,
-                instructions: 0,
-                stalls: 0,
-                boundary: None,
-            },
-            limit: DRIFT,
-            end: None,
-            drive: Drive::ZERO,
-            computed: Computed::ZERO,
+            running: Running::START,
+            tally: Tally::START,
         }
     }
 
     /// One turn of the run, but for the test of the bound: an end that comes before a cycle, or a cycle.
     #[inline(always)]
-    #[tactic(auto, using(crate::proofs::Rules::ends_as_ruled, crate::proofs::Rules::ended_as_ruled, crate::proofs::Rules::counted_as_ruled))]
     pub fn cycle<S: Source, K: Sink>(&mut self, source: &mut S, sink: &mut K) -> Tick
         requires { self.old.counts.cycles ≤ 2 ^ 62 + 4096 }
         ensures turn { IsTurned M.state M.meaning (S.left source.old) (K.held sink.old) self.old (S.left source.new) (K.held sink.new) self.new None }
@@ -104,43 +83,15 @@ impl<M: Clocked> Board<M> {
         ensures waits { LetsBytesWait M.meaning (word_at M.meaning self.old.store.words (M.state self.old.machine)) (M.state self.old.machine)
             (S.left source.old) (K.held sink.old) self.old.bus sink.old sink.new }
     {
-        if let Some(end) = self.end {
-            return Tick::Ended(end);
-        }
-        if let Some(end) = end_before(&self.machine, &self.counts, self.limit) {
-            let counts = ended_counts(self.counts, end);
-            self.counts = counts;
-            self.end = Some(end);
-            return Tick::Ended(end);
-        }
-        match self.machine.clock(&self.store, &mut self.bus, source, sink) {
-            Ok((drive, computed)) => {
-                self.drive.a = drive.a;
-                self.drive.b = drive.b;
-                self.drive.stalled = drive.stalled;
-                self.computed.alu.value = computed.alu.value;
-                self.computed.alu.n = computed.alu.n;
-                self.computed.alu.z = computed.alu.z;
-                self.computed.c = computed.c;
-                // Behind the stores, so that a run tests once whether it is at a boundary.
-                count(
-                    &mut self.counts,
-                    &mut self.limit,
-                    drive.stalled,
-                    &self.machine,
-                );
-                if drive.stalled {
-                    Tick::Stalled
-                } else {
-                    Tick::Clocked
-                }
-            }
-            Err(fault) => {
-                let end = fault_end(fault);
-                self.end = Some(end);
-                Tick::Ended(end)
-            }
-        }
+        turn_once(
+            &mut self.machine,
+            &self.store,
+            &mut self.bus,
+            &mut self.running,
+            &mut self.tally,
+            source,
+            sink,
+        )
     }
 
     /// Turns up to the next boundary, which answers none, or up to the end.
@@ -154,14 +105,19 @@ impl<M: Clocked> Board<M> {
         ensures goes_on { GoesOn S.left S.faults K.held K.passed K.faults source.old sink.old self.old source.new sink.new self.new }
         ensures in_time { ComesInTime M.state M.meaning self.old self.new }
     {
-        if self.end.is_some() {
-            return self.end;
+        if self.running.end.is_some() {
+            return self.running.end;
         }
-        self.cycle(source, sink);
-        'inside: while self.end.is_none() && !self.machine.at_boundary() {
-            self.cycle(source, sink);
-        }
-        self.end
+        turn_to_boundary(
+            &mut self.machine,
+            &self.store,
+            &mut self.bus,
+            &mut self.running,
+            &mut self.tally,
+            source,
+            sink,
+        );
+        self.running.end
     }
 
     // The test of the bound, and whether the board goes on.
@@ -176,10 +132,13 @@ impl<M: Clocked> Board<M> {
         ensures ended { (e : End) → self.old.end ≡ Some e → self.new ≡ self.old }
         ensures by { self.old.end ≡ None → result ≡ false → self.new.end ≡ Some End.Bound }
     {
-        if self.end.is_none() && self.counts.cycles >= bound && self.machine.at_boundary() {
-            self.end = Some(End::Bound);
+        if self.running.end.is_none()
+            && self.running.cycles >= bound
+            && self.machine.at_boundary()
+        {
+            self.running.end = Some(End::Bound);
         }
-        self.end.is_none()
+        self.running.end.is_none()
     }
 
     // Flushes the console. Where that fails, the end is a write fault.
@@ -196,7 +155,7 @@ impl<M: Clocked> Board<M> {
     {
         let flushed = self.bus.flush(sink);
         if flushed.is_err() {
-            self.end = Some(End::WriteFault);
+            self.running.end = Some(End::WriteFault);
         }
         flushed
     }
@@ -218,14 +177,14 @@ impl<M: Clocked> Board<M> {
         ensures sink { SinkGoesOn K.held K.passed (self.new.end ≡ Some End.WriteFault) sink.old sink.new }
         ensures cause { HasEndCause 0 0 (K.faults sink.old) (K.faults sink.new) self.old.end self.new.end }
     {
-        if self.end.is_some() {
-            return self.end;
+        if self.running.end.is_some() {
+            return self.running.end;
         }
         if self.goes_on(bound) {
             return None;
         }
         let _ = self.finish(sink);
-        self.end
+        self.running.end
     }
 
     /// One turn of a run: the test of the bound, and where it does not end the board, a cycle.
@@ -250,7 +209,7 @@ impl<M: Clocked> Board<M> {
             return Some(end);
         }
         self.cycle(source, sink);
-        self.end
+        self.running.end
     }
 
     // The test of the bound, and where it does not end the board, the turns of an instruction, which has no other boundary to test it at.
@@ -290,14 +249,14 @@ impl<M: Clocked> Board<M> {
         ensures kept { self.old.end ≡ None → self.new.bus.console.kept ≡ [] }
         ensures goes_on { GoesOn S.left S.faults K.held K.passed K.faults source.old sink.old self.old source.new sink.new self.new }
     {
-        if let Some(end) = self.end {
+        if let Some(end) = self.running.end {
             return end;
         }
-        'strides: while self.end.is_none() {
+        'strides: while self.running.end.is_none() {
             self.stride(bound, source, sink);
         }
         let _ = self.finish(sink);
-        self.end.unwrap()
+        self.running.end.unwrap()
     }
 
     /// Puts what the console keeps to the sink, at any time.
@@ -343,13 +302,13 @@ impl<M: Clocked> Board<M> {
     pub fn counts(&self) -> Counts
         ensures { result ≡ self.now.counts }
     {
-        self.counts
+        counts_in(&self.running, &self.tally)
     }
 
     pub fn ended(&self) -> Option<End>
         ensures { result ≡ self.now.end }
     {
-        self.end
+        self.running.end
     }
 
     pub fn bus(&self) -> &Bus
@@ -362,13 +321,13 @@ impl<M: Clocked> Board<M> {
     pub fn last_drive(&self) -> Drive
         ensures { result ≡ self.now.buses.drive }
     {
-        self.drive
+        self.tally.drive
     }
 
     /// What the ALU and the shifter gave in the last clocked cycle.
     pub fn last_computed(&self) -> Computed
         ensures { result ≡ self.now.buses.computed }
     {
-        self.computed
+        self.tally.computed
     }
 }

@@ -1,13 +1,15 @@
 //! What a turn counts, and the ends that come before a cycle.
 
-ghost use Rattle.std.specs.Prelude.{◌≡◌, ◌<◌, ◌≤◌, ◌+◌, ◌^◌, IfNone};
+ghost use Rattle.std.specs.Prelude.{◌≡◌, ◌<◌, ◌≤◌, ◌+◌, ◌^◌, Some, IfNone};
 ghost use Rattle.mic_clock.specs.Rule.{EndsBefore, CountsEnd, CountsCycle};
 ghost use Rattle.mic_clock.specs.Board.{IsLimit};
+ghost use Rattle.mic_clock.specs.Parts.{counts_of};
 ghost use Rattle.mic_clock.specs.Run.{end_by, last_cycles};
 
 use crate::clocked::Clocked;
-use crate::counts::{Boundary, Counts};
+use crate::counts::Boundary;
 use crate::end::End;
+use crate::running::{Running, Tally};
 use console_port::BusFault;
 
 const HALT: u16 = 0x0FF;
@@ -30,11 +32,12 @@ pub fn fault_end(fault: BusFault) -> End
 }
 
 /// The end that comes before a cycle, if one does.
-pub fn end_before<M: Clocked>(machine: &M, counts: &Counts, limit: u64) -> Option<End>
-    requires ordered { last_cycles counts.now.boundary ≤ counts.now.cycles }
-    requires limit { IsLimit counts.now limit }
-    ensures rule { EndsBefore (M.meaning.registers (M.state machine.now)).mpc counts.now result }
-    ensures room { IfNone result (counts.now.cycles < last_cycles counts.now.boundary + 1024) }
+#[inline(always)]
+pub fn end_before<M: Clocked>(machine: &M, running: &Running, tally: &Tally) -> Option<End>
+    requires ordered { last_cycles tally.now.boundary ≤ running.now.cycles }
+    requires limit { IsLimit (counts_of running.now tally.now) tally.now.limit }
+    ensures rule { EndsBefore (M.meaning.registers (M.state machine.now)).mpc (counts_of running.now tally.now) result }
+    ensures room { IfNone result (running.now.cycles < last_cycles tally.now.boundary + 1024) }
 {
     let mpc = machine.mpc();
     // They stand side by side, so that most cycles make one test for both.
@@ -44,48 +47,54 @@ pub fn end_before<M: Clocked>(machine: &M, counts: &Counts, limit: u64) -> Optio
         }
         return Some(End::Err);
     }
-    if limit <= counts.cycles {
+    if tally.limit <= running.cycles {
         return Some(End::Adrift);
     }
     None
 }
 
-/// The counts after an end that comes before a cycle.
-pub fn ended_counts(counts: Counts, end: End) -> Counts
-    requires { counts.instructions ≤ 2 ^ 63 }
-    ensures { CountsEnd counts end result }
+/// Ends a run before its cycle.
+#[inline(always)]
+pub fn end_here(running: &mut Running, tally: &mut Tally, end: End)
+    requires { tally.old.instructions ≤ 2 ^ 63 }
+    ensures counts { CountsEnd (counts_of running.old tally.old) end (counts_of running.new tally.new) }
+    ensures end { running.new.end ≡ Some end }
+    ensures limit { tally.new.limit ≡ tally.old.limit }
+    ensures buses { (tally.new.drive ≡ tally.old.drive) × (tally.new.computed ≡ tally.old.computed) }
 {
-    let mut counts = counts;
-    if matches!(end, End::Halt | End::Err) && counts.boundary.is_some() {
-        counts.instructions += 1;
+    if matches!(end, End::Halt | End::Err) && tally.boundary.is_some() {
+        tally.instructions += 1;
     }
-    counts
+    running.end = Some(end);
 }
 
 /// Counts a clocked cycle.
-pub fn count<M: Clocked>(counts: &mut Counts, limit: &mut u64, stalled: bool, machine: &M)
-    requires cycles { counts.old.cycles ≤ 2 ^ 63 }
-    requires instructions { counts.old.instructions ≤ 2 ^ 63 }
-    requires stalls { counts.old.stalls ≤ 2 ^ 63 }
-    requires limit { IsLimit counts.old limit.old }
-    ensures counts { CountsCycle M.meaning counts.old stalled (M.state machine.now) counts.new }
-    ensures limit { IsLimit counts.new limit.new }
+#[inline(always)]
+pub fn count<M: Clocked>(running: &mut Running, tally: &mut Tally, stalled: bool, machine: &M)
+    requires cycles { running.old.cycles ≤ 2 ^ 63 }
+    requires instructions { tally.old.instructions ≤ 2 ^ 63 }
+    requires stalls { tally.old.stalls ≤ 2 ^ 63 }
+    requires limit { IsLimit (counts_of running.old tally.old) tally.old.limit }
+    ensures counts { CountsCycle M.meaning (counts_of running.old tally.old) stalled (M.state machine.now) (counts_of running.new tally.new) }
+    ensures limit { IsLimit (counts_of running.new tally.new) tally.new.limit }
+    ensures end { running.new.end ≡ running.old.end }
+    ensures buses { (tally.new.drive ≡ tally.old.drive) × (tally.new.computed ≡ tally.old.computed) }
 {
-    counts.cycles += 1;
+    running.cycles += 1;
     if stalled {
-        counts.stalls += 1;
+        tally.stalls += 1;
     }
     if machine.at_boundary() {
-        if counts.boundary.is_some() {
-            counts.instructions += 1;
+        if tally.boundary.is_some() {
+            tally.instructions += 1;
         }
         let registers = machine.registers();
-        counts.boundary = Some(Boundary {
-            cycles: counts.cycles,
+        tally.boundary = Some(Boundary {
+            cycles: running.cycles,
             at: machine.instruction_address(),
             sp: registers.sp,
             lv: registers.lv,
         });
-        *limit = counts.cycles + DRIFT;
+        tally.limit = running.cycles + DRIFT;
     }
 }

@@ -9,7 +9,9 @@ pub mod counts;
 pub mod end;
 pub mod laws;
 pub mod registers;
+mod running;
 mod state;
+mod turning;
 pub mod word;
 
 pub use board::Board;

@@ -1,83 +1,10 @@
-use Rattle.std.proofs.Common.{◌≡◌, ◌≤◌, ◌+◌, ℕ, suc, Option, None, false, inl, refl, sym, ◌∙◌, ap, subst, rules, arith}
-use Rattle.console_port.specs.declared.fault.BusFault.TheVariants as faults
-use Rattle.micro_word.specs.ControlStore.{ControlStore}
-use Rattle.mic_clock.specs.Run.{MicroRun, IsLeg, word_at, last_cycles}
-use Rattle.mic_clock.specs.Board.{NoFault}
-use Rattle.mic_clock.proofs.InTime.{InTime, InTime-step, InLeg-step}
-use Rattle.mic_clock.proofs.GoesOn.{GoesOn-step}
-use Rattle.mic_clock.proofs.Legs.{leg-start, leg-inside}
-use Rattle.mic_clock.proofs.Reach.{IsLedTo-map, Leads-turn, Leads-read, Leads-write}
 use Rattle.mic_clock.proofs.board.Board.instruction.Goals as goal
 
-pub inside-init : goal.inside-init
-inside-init g c =
-    let state = g.M.Clocked.state in
-    let m = g.M.Clocked.meaning in
-    let first = c.args.self.now in
-    let new = c.cycle.new.self in
-    let words = first.store.words in
-    let left0 = g.S.Source.left c.args.source.now in
-    let held0 = g.K.Sink.held c.args.sink.now in
-    let left' = g.S.Source.left c.cycle.new.source in
-    let held' = g.K.Sink.held c.cycle.new.sink in
-    let Along : ℕ → MicroRun g.M.Clocked.State → Type 0 = λ n r. IsLeg m words (suc n) r in
-    let not_ended : first.end ≡ None = search rules in
-    let top : ℕ = first.counts.cycles in
-    let ordered : last_cycles first.counts.boundary ≤ first.counts.cycles = search rules in
-    let near : first.counts.cycles ≤ top + 1024 = omega arith in
-    let behind : last_cycles first.counts.boundary ≤ top = omega arith in
-    let in_time : InTime top first.counts false first.end = record { cycles = near; ordered = ordered; last = λ _. inl behind } in
-    let led = leg-start state m words left0 held0 first in
-    record {
-      run = λ q. IsLedTo-map state left0 held0 first left' new _ _ (λ r rest at. (suc at.0, at.1, at.2))
-          (Leads-turn state m words None left0 held0 first Along left0 held0 first left' held' new refl led
-          (c.cycle.ensures.turn (subst (λ (e : Option _). NoFault e new.end) (sym not_ended) q)) c.cycle.ensures.counted.buses);
-      read = λ p. Leads-read state m words None left0 held0 first Along left0 held0 first left' held' new refl led
-          not_ended (c.cycle.ensures.cut faults.ReadFault not_ended tt p) (λ r s. s.its_end ∙ not_ended);
-      write = λ p. Leads-write state m words None left0 held0 first Along left0 held0 first left' held' new refl led
-          not_ended (c.cycle.ensures.cut faults.WriteFault not_ended tt p) (λ r s. s.its_end ∙ not_ended);
-      goes_on = c.cycle.ensures.goes_on;
-      in_leg = InLeg-step m first.counts first.counts new.counts (m.drives (word_at m words (state first.machine)) (state first.machine)).stalled (state new.machine) new.end (search rules) refl (omega arith)
-          c.cycle.ensures.counted.still c.cycle.ensures.counted.room (λ q. (c.cycle.ensures.counted.clocked q).1);
-      in_time = InTime-step m top top first.counts new.counts false (m.drives (word_at m words (state first.machine)) (state first.machine)).stalled (state new.machine) first.end new.end not_ended (omega arith) in_time
-          c.cycle.ensures.counted.still c.cycle.ensures.counted.room (λ q. (c.cycle.ensures.counted.clocked q).1) (λ _ here. absurd (cc));
-    }
+pub returns-clause-run : goal.returns-clause-run
+returns-clause-run g c = rw (← c.self.view_is) c.turn_to_boundary.ensures.run
 
-pub inside-preserved : goal.inside-preserved
-inside-preserved g c =
-    let state = g.M.Clocked.state in
-    let m = g.M.Clocked.meaning in
-    let first = c.args.self.now in
-    let old = c.inside.self in
-    let new = c.cycle-in-inside.new.self in
-    let words = first.store.words in
-    let left0 = g.S.Source.left c.args.source.now in
-    let held0 = g.K.Sink.held c.args.sink.now in
-    let left = g.S.Source.left c.inside.source in
-    let held = g.K.Sink.held c.inside.sink in
-    let left' = g.S.Source.left c.cycle-in-inside.new.source in
-    let held' = g.K.Sink.held c.cycle-in-inside.new.sink in
-    let Along : ℕ → MicroRun g.M.Clocked.State → Type 0 = λ n r. IsLeg m words (suc n) r in
-    let first_not_ended : first.end ≡ None = search rules in
-    let not_ended : old.end ≡ None = search rules in
-    let no_boundary : m.is_boundary (state old.machine) ≡ false = search rules in
-    let program : old.store.words ≡ words = ap (λ (s : ControlStore). s.words) c.inside.invariant.goes_on.store in
-    let top : ℕ = first.counts.cycles in
-    let past = c.inside.invariant.in_leg.onward not_ended in
-    let later : first.counts.cycles ≤ old.counts.cycles = omega arith in
-    let led = leg-inside state m words left0 held0 first left held old not_ended no_boundary (c.inside.invariant.run (subst (λ (e : Option _). NoFault None e) (sym not_ended) tt)) in
-    record {
-      run = λ q. IsLedTo-map state left0 held0 first left' new _ _ (λ r rest at. (suc at.0, at.1, at.2))
-          (Leads-turn state m words None left0 held0 first Along left held old left' held' new program led
-          (c.cycle-in-inside.ensures.turn (subst (λ (e : Option _). NoFault e new.end) (sym not_ended) q)) c.cycle-in-inside.ensures.counted.buses);
-      read = λ p. Leads-read state m words None left0 held0 first Along left held old left' held' new program led
-          not_ended (c.cycle-in-inside.ensures.cut faults.ReadFault not_ended tt p) (λ r s. s.its_end ∙ not_ended);
-      write = λ p. Leads-write state m words None left0 held0 first Along left held old left' held' new program led
-          not_ended (c.cycle-in-inside.ensures.cut faults.WriteFault not_ended tt p) (λ r s. s.its_end ∙ not_ended);
-      goes_on = GoesOn-step _ _ _ _ _ _ _ first _ _ old _ _ new first_not_ended not_ended c.inside.invariant.goes_on c.cycle-in-inside.ensures.goes_on;
-      in_leg = InLeg-step m first.counts old.counts new.counts (m.drives (word_at m old.store.words (state old.machine)) (state old.machine)).stalled (state new.machine) new.end
-          c.inside.invariant.in_leg.within (c.inside.invariant.in_leg.same not_ended no_boundary) later
-          c.cycle-in-inside.ensures.counted.still c.cycle-in-inside.ensures.counted.room (λ q. (c.cycle-in-inside.ensures.counted.clocked q).1);
-      in_time = InTime-step m top top old.counts new.counts (m.is_boundary (state old.machine)) (m.drives (word_at m old.store.words (state old.machine)) (state old.machine)).stalled (state new.machine) old.end new.end not_ended (omega arith) c.inside.invariant.in_time
-          c.cycle-in-inside.ensures.counted.still c.cycle-in-inside.ensures.counted.room (λ q. (c.cycle-in-inside.ensures.counted.clocked q).1) (λ _ here. absurd (cc));
-    }
+pub returns-clause-read : goal.returns-clause-read
+returns-clause-read g c = rw (← c.self.view_is) c.turn_to_boundary.ensures.read
+
+pub returns-clause-write : goal.returns-clause-write
+returns-clause-write g c = rw (← c.self.view_is) c.turn_to_boundary.ensures.write

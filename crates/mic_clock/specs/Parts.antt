@@ -1,0 +1,41 @@
+-- A board in its parts, between which the turns of an instruction go on.
+use Rattle.std.specs.Prelude.{◌≡◌}
+use Rattle.console_port.specs.View.{BusView}
+use Rattle.micro_word.specs.ControlStore.{ControlStore}
+use Rattle.mic_clock.specs.declared.counts.Counts.{Counts}
+use Rattle.mic_clock.specs.declared.running.Running.{Running}
+use Rattle.mic_clock.specs.declared.running.Tally.{Tally}
+use Rattle.mic_clock.specs.Meaning.{Meaning, Phase, AtRest}
+use Rattle.mic_clock.specs.View.{BoardView}
+use Rattle.mic_clock.specs.Board.{AreCounts, IsLimit, EndsInTime, IsCountedTurn, ChangesAtMar, EndsUnwritten}
+
+-- what the parts count
+abbrev pub counts_of : Running → Tally → Counts
+counts_of running tally =
+    record { cycles = running.cycles; instructions = tally.instructions; stalls = tally.stalls; boundary = tally.boundary }
+
+-- the board that these parts are
+abbrev pub board_of : {M : Type 0} → M → ControlStore → BusView → Running → Tally → BoardView M
+board_of machine store bus running tally =
+    record {
+      machine = machine;
+      store = store;
+      bus = bus;
+      counts = counts_of running tally;
+      end = running.end;
+      buses = record { drive = tally.drive; computed = tally.computed };
+    }
+
+-- The parts of a board: the machine is at rest, the store is one of its kind, and the counts are a board's.
+pub record AreParts {M State : Type 0} (phase : M → Phase) (m : Meaning State) (machine : M) (store : ControlStore) (running : Running) (tally : Tally) : Type 0 where
+  pub rest : phase machine ≡ AtRest
+  pub store_machine : store.machine ≡ m.machine
+  pub counts : AreCounts (counts_of running tally) running.end
+  pub limit : IsLimit (counts_of running tally) tally.limit
+
+-- What a turn counts and writes, also over a source that does not tell what it has left.
+pub record ChangesByTurn {M State : Type 0} (state : M → State) (m : Meaning State) (board board' : BoardView M) : Type 0 where
+  pub before : EndsInTime state m board board'
+  pub counted : IsCountedTurn state m board board'
+  pub at_mar : ChangesAtMar state m board board'
+  pub unwritten : EndsUnwritten board board'

@@ -1,0 +1,108 @@
+//! The turns of an instruction, over the parts of a board.
+
+ghost use Rattle.std.specs.Prelude.{◌≡◌, ◌≤◌, ◌+◌, ◌^◌, None};
+ghost use Rattle.mic_clock.specs.Board.{tick_of, IsTurned, IsCutByFault, GoesOn, IsLegRun, LegIsCutByRead, LegIsCutByWrite, ComesInTime};
+ghost use Rattle.mic_clock.specs.Edge.{LetsBytesWait};
+ghost use Rattle.mic_clock.specs.Parts.{counts_of, board_of, AreParts, ChangesByTurn};
+ghost use Rattle.mic_clock.specs.Run.{word_at};
+
+use crate::clocked::Clocked;
+use crate::counting::{count, end_before, end_here, fault_end};
+use crate::end::Tick;
+use crate::running::{Running, Tally};
+use console_port::Bus;
+use mic_base::{Sink, Source};
+use micro_word::Store;
+
+/// One turn, but for the test of the bound: an end that comes before a cycle, or a cycle.
+#[inline(always)]
+#[tactic(auto, using(crate::proofs::Rules::ends_as_ruled, crate::proofs::Rules::ended_as_ruled, crate::proofs::Rules::counted_as_ruled))]
+pub fn turn_once<M: Clocked, S: Source, K: Sink>(
+    machine: &mut M,
+    store: &Store,
+    bus: &mut Bus,
+    running: &mut Running,
+    tally: &mut Tally,
+    source: &mut S,
+    sink: &mut K,
+) -> Tick
+    requires parts { AreParts M.phase M.meaning machine.old store.now running.old tally.old }
+    requires cycles { running.old.cycles ≤ 2 ^ 62 + 4096 }
+    ensures parts { AreParts M.phase M.meaning machine.new store.now running.new tally.new }
+    ensures turn { IsTurned M.state M.meaning (S.left source.old) (K.held sink.old) (board_of machine.old store.now bus.old running.old tally.old)
+        (S.left source.new) (K.held sink.new) (board_of machine.new store.now bus.new running.new tally.new) None }
+    ensures cut { IsCutByFault M.state M.meaning (S.left source.old) (K.held sink.old) (board_of machine.old store.now bus.old running.old tally.old)
+        (S.left source.new) (K.held sink.new) (board_of machine.new store.now bus.new running.new tally.new) }
+    ensures tick { result ≡ tick_of (counts_of running.old tally.old) (counts_of running.new tally.new) running.new.end }
+    ensures goes_on { GoesOn S.left S.faults K.held K.passed K.faults source.old sink.old (board_of machine.old store.now bus.old running.old tally.old)
+        source.new sink.new (board_of machine.new store.now bus.new running.new tally.new) }
+    ensures changes { ChangesByTurn M.state M.meaning (board_of machine.old store.now bus.old running.old tally.old)
+        (board_of machine.new store.now bus.new running.new tally.new) }
+    ensures waits { LetsBytesWait M.meaning (word_at M.meaning store.now.words (M.state machine.old)) (M.state machine.old)
+        (S.left source.old) (K.held sink.old) bus.old sink.old sink.new }
+{
+    if let Some(end) = running.end {
+        return Tick::Ended(end);
+    }
+    if let Some(end) = end_before(machine, running, tally) {
+        end_here(running, tally, end);
+        return Tick::Ended(end);
+    }
+    match machine.clock(store, bus, source, sink) {
+        Ok((drive, computed)) => {
+            tally.drive.a = drive.a;
+            tally.drive.b = drive.b;
+            tally.drive.stalled = drive.stalled;
+            tally.computed.alu.value = computed.alu.value;
+            tally.computed.alu.n = computed.alu.n;
+            tally.computed.alu.z = computed.alu.z;
+            tally.computed.c = computed.c;
+            // Behind the stores, so that a run tests once whether it is at a boundary.
+            count(running, tally, drive.stalled, machine);
+            if drive.stalled {
+                Tick::Stalled
+            } else {
+                Tick::Clocked
+            }
+        }
+        Err(fault) => {
+            let end = fault_end(fault);
+            running.end = Some(end);
+            Tick::Ended(end)
+        }
+    }
+}
+
+/// Turns up to the next boundary, or up to the end.
+#[inline(always)]
+pub fn turn_to_boundary<M: Clocked, S: Source, K: Sink>(
+    machine: &mut M,
+    store: &Store,
+    bus: &mut Bus,
+    running: &mut Running,
+    tally: &mut Tally,
+    source: &mut S,
+    sink: &mut K,
+)
+    requires parts { AreParts M.phase M.meaning machine.old store.now running.old tally.old }
+    requires ready { (running.old.end ≡ None) × (running.old.cycles ≤ 2 ^ 62 + 2048) }
+    ensures parts { AreParts M.phase M.meaning machine.new store.now running.new tally.new }
+    ensures run { IsLegRun M.state M.meaning (S.left source.old) (K.held sink.old) (board_of machine.old store.now bus.old running.old tally.old)
+        (S.left source.new) (K.held sink.new) (board_of machine.new store.now bus.new running.new tally.new) }
+    ensures read { LegIsCutByRead M.state M.meaning (S.left source.old) (K.held sink.old) (board_of machine.old store.now bus.old running.old tally.old)
+        (S.left source.new) (K.held sink.new) (board_of machine.new store.now bus.new running.new tally.new) }
+    ensures write { LegIsCutByWrite M.state M.meaning (S.left source.old) (K.held sink.old) (board_of machine.old store.now bus.old running.old tally.old)
+        (S.left source.new) (K.held sink.new) (board_of machine.new store.now bus.new running.new tally.new) }
+    ensures growth { running.new.cycles ≤ running.old.cycles + 1024 }
+    ensures goes_on { GoesOn S.left S.faults K.held K.passed K.faults source.old sink.old (board_of machine.old store.now bus.old running.old tally.old)
+        source.new sink.new (board_of machine.new store.now bus.new running.new tally.new) }
+    ensures in_time { ComesInTime M.state M.meaning (board_of machine.old store.now bus.old running.old tally.old)
+        (board_of machine.new store.now bus.new running.new tally.new) }
+{
+    let mut here = *running;
+    turn_once(machine, store, bus, &mut here, tally, source, sink);
+    'inside: while here.end.is_none() && !machine.at_boundary() {
+        turn_once(machine, store, bus, &mut here, tally, source, sink);
+    }
+    *running = here;
+}
