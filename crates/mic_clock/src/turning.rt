@@ -99,10 +99,14 @@ pub fn turn_to_boundary<M: Clocked, S: Source, K: Sink>(
     ensures in_time { ComesInTime M.state M.meaning (board_of machine.old store.now bus.old running.old tally.old)
         (board_of machine.new store.now bus.new running.new tally.new) }
 {
-    let mut here = *running;
+    let mut here = Running {
+        cycles: running.cycles,
+        end: None,
+    };
     turn_once(machine, store, bus, &mut here, tally, source, sink);
     'inside: while here.end.is_none() && !machine.at_boundary() {
         turn_once(machine, store, bus, &mut here, tally, source, sink);
     }
-    *running = here;
+    running.cycles = here.cycles;
+    running.end = here.end;
 }

@@ -2,8 +2,10 @@ use Rattle.std.proofs.Common.{◌≡◌, ◌≤◌, ◌+◌, ℕ, suc, Option, N
 use Rattle.console_port.specs.declared.fault.BusFault.TheVariants as faults
 use Rattle.micro_word.specs.ControlStore.{ControlStore}
 use Rattle.mic_clock.specs.Run.{MicroRun, IsLeg, word_at, last_cycles}
-use Rattle.mic_clock.specs.Board.{NoFault}
-use Rattle.mic_clock.specs.Parts.{board_of}
+use Rattle.mic_clock.specs.declared.running.Running.{Running}
+use Rattle.mic_clock.specs.View.{BoardView}
+use Rattle.mic_clock.specs.Board.{NoFault, IsTurned, IsCutByFault, GoesOn}
+use Rattle.mic_clock.specs.Parts.{board_of, ChangesByTurn}
 use Rattle.mic_clock.proofs.InTime.{InTime, InTime-step, InLeg-step}
 use Rattle.mic_clock.proofs.GoesOn.{GoesOn-step}
 use Rattle.mic_clock.proofs.Legs.{leg-start, leg-inside}
@@ -23,6 +25,15 @@ inside-init g c =
     let held' = g.K.Sink.held c.turn_once.new.sink in
     let Along : ℕ → MicroRun g.M.Clocked.State → Type 0 = λ n r. IsLeg m words (suc n) r in
     let not_ended : first.end ≡ None = search rules in
+    let cycles = c.args.running.now.cycles in
+    let at : (P : Running → Type 0) → P (record { cycles = cycles; end = None }) → P c.args.running.now =
+    λ P p. subst P (λ i. record { cycles = cycles; end = sym not_ended i }) p in
+    let from : Running → BoardView g.row.M.Denot = λ r. board_of c.args.machine.now c.args.store.now c.args.bus.now r c.args.tally.now in
+    let turned = at (λ r. IsTurned state m left0 held0 (from r) left' held' new None) c.turn_once.ensures.turn in
+    let cut = at (λ r. IsCutByFault state m left0 held0 (from r) left' held' new) c.turn_once.ensures.cut in
+    let changes = at (λ r. ChangesByTurn state m (from r) new) c.turn_once.ensures.changes in
+    let goes_on = at (λ r. GoesOn g.S.Source.left g.S.Source.faults g.K.Sink.held g.K.Sink.passed g.K.Sink.faults c.args.source.now c.args.sink.now (from r)
+    c.turn_once.new.source c.turn_once.new.sink new) c.turn_once.ensures.goes_on in
     let top : ℕ = first.counts.cycles in
     let ordered : last_cycles first.counts.boundary ≤ first.counts.cycles = search rules in
     let near : first.counts.cycles ≤ top + 1024 = omega arith in
@@ -33,16 +44,16 @@ inside-init g c =
       parts = search rules;
       run = λ q. IsLedTo-map state left0 held0 first left' new _ _ (λ r rest at. (suc at.0, at.1, at.2))
           (Leads-turn state m words None left0 held0 first Along left0 held0 first left' held' new refl led
-          (c.turn_once.ensures.turn (subst (λ (e : Option _). NoFault e new.end) (sym not_ended) q)) c.turn_once.ensures.changes.counted.buses);
+          (turned (subst (λ (e : Option _). NoFault e new.end) (sym not_ended) q)) changes.counted.buses);
       read = λ p. Leads-read state m words None left0 held0 first Along left0 held0 first left' held' new refl led
-          not_ended (c.turn_once.ensures.cut faults.ReadFault not_ended tt p) (λ r s. s.its_end ∙ not_ended);
+          not_ended (cut faults.ReadFault not_ended tt p) (λ r s. s.its_end ∙ not_ended);
       write = λ p. Leads-write state m words None left0 held0 first Along left0 held0 first left' held' new refl led
-          not_ended (c.turn_once.ensures.cut faults.WriteFault not_ended tt p) (λ r s. s.its_end ∙ not_ended);
-      goes_on = c.turn_once.ensures.goes_on;
+          not_ended (cut faults.WriteFault not_ended tt p) (λ r s. s.its_end ∙ not_ended);
+      goes_on = goes_on;
       in_leg = InLeg-step m first.counts first.counts new.counts (m.drives (word_at m words (state first.machine)) (state first.machine)).stalled (state new.machine) new.end (search rules) refl (omega arith)
-          c.turn_once.ensures.changes.counted.still c.turn_once.ensures.changes.counted.room (λ q. (c.turn_once.ensures.changes.counted.clocked q).1);
+          changes.counted.still changes.counted.room (λ q. (changes.counted.clocked q).1);
       in_time = InTime-step m top top first.counts new.counts false (m.drives (word_at m words (state first.machine)) (state first.machine)).stalled (state new.machine) first.end new.end not_ended (omega arith) in_time
-          c.turn_once.ensures.changes.counted.still c.turn_once.ensures.changes.counted.room (λ q. (c.turn_once.ensures.changes.counted.clocked q).1) (λ _ here. absurd (cc));
+          changes.counted.still changes.counted.room (λ q. (changes.counted.clocked q).1) (λ _ here. absurd (cc));
     }
 
 pub inside-preserved : goal.inside-preserved
