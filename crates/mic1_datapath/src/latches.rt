@@ -1,6 +1,6 @@
 //! What Mic-1 keeps between cycles.
 
-ghost use Rattle.std.specs.Prelude.{◌≡◌, ◌≢◌, ◌<◌, ℕ, IsTrue, is_some, slice_index, unwrap_or};
+ghost use Rattle.std.specs.Prelude.{◌≡◌, ◌≢◌, ◌<◌, ℕ, IsTrue, is_some, slice_index, unwrap_or, true, false};
 ghost use Rattle.mic_words.specs.Arithmetic.{signed_byte};
 ghost use Rattle.mic_words.specs.declared.machine.Machine.TheVariants.{Mic1};
 ghost use Rattle.micro_word.specs.Words.{is_canonical};
@@ -14,7 +14,9 @@ ghost use Rattle.mic1_datapath.specs.Microstep.{assigned, ports_of, result_of, s
 ghost use Rattle.mic1_datapath.specs.Latches.{AreLatches, micro_in, reads, fetches, under_way};
 
 use mic_clock::Start;
-use mic_datapath::{Places, Ports, Sampled, arrived, next_address, port, settle, sign_extended};
+use mic_datapath::{
+    Places, Ports, Sampled, arrive, arrived, next_address, port, settle, sign_extended,
+};
 use micro_word::{Lines, Machine, bits, statement_law, word_law};
 
 /// The word of `goto 0x000`, which reads and fetches nothing.
@@ -87,6 +89,32 @@ fn load_mbr(byte: Option<u8>, places: &mut Places)
     }
 }
 
+/// Whether a word neither reads nor fetches, so that nothing arrives behind it.
+fn brings_nothing(word: u64) -> bool
+    ensures { result ≡ true → (reads word ≡ false) × (fetches word ≡ false) }
+{
+    word / 16 % 4 == 0
+}
+
+/// What the word before brings becomes MDR, whatever the C bus put there, and MBR.
+#[inline(always)]
+fn arrive_behind(before: u64, word: u32, byte: u8, places: &mut Places)
+    ensures mdr { slice_index places.new 1 ≡ arrived_of (under_way (reads before) word) (slice_index places.old 1) }
+    ensures mbru { slice_index places.new 10 ≡ arrived_of (under_way (fetches before) byte) (slice_index places.old 10) }
+    ensures mbr { slice_index places.old 9 ≡ signed_byte (slice_index places.old 10) → slice_index places.new 9 ≡ signed_byte (slice_index places.new 10) }
+    ensures byte { slice_index places.old 10 < 256 → slice_index places.new 10 < 256 }
+    ensures others { (k : ℕ) → k ≢ 1 → k ≢ 9 → k ≢ 10 → slice_index places.new k ≡ slice_index places.old k }
+{
+    // Most words bring nothing.
+    if brings_nothing(before) {
+        return;
+    }
+    let reads = bits::mem(Machine::Mic1, before) == 1;
+    arrive(taken(reads, word), places);
+    let fetches = bits::fetch(Machine::Mic1, before);
+    load_mbr(taken_byte(fetches, byte), places);
+}
+
 impl Latches {
     /// As a reset leaves them.
     #[tactic(auto, unfolding(mic_words::specs::Arithmetic::signed_byte))]
@@ -128,13 +156,6 @@ impl Latches {
         ensures { result ≡ under_way (reads self.now.before) self.now.word }
     {
         taken(bits::mem(Machine::Mic1, self.before) == 1, self.word)
-    }
-
-    /// The byte that arrives at this edge.
-    fn arriving_byte(&self) -> Option<u8>
-        ensures { result ≡ under_way (fetches self.now.before) self.now.byte }
-    {
-        taken_byte(bits::fetch(Machine::Mic1, self.before), self.byte)
     }
 
     /// What the memory's ports are given: their registers as they become.
@@ -185,16 +206,14 @@ impl Latches {
     {
         word_law(Machine::Mic1);
         statement_law(Machine::Mic1);
-        let arriving = self.arriving();
-        let byte = self.arriving_byte();
         settle(
             bits::destinations(Machine::Mic1, word),
             lines,
             c,
-            arriving,
+            None,
             &mut self.places,
         );
-        load_mbr(byte, &mut self.places);
+        arrive_behind(self.before, self.word, self.byte, &mut self.places);
         self.mpc = next_address(
             lines.addr,
             bits::jam(Machine::Mic1, word),

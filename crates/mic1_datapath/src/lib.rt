@@ -1,6 +1,8 @@
 //! Mic-1 as a clocked machine: control lines, buses, latches, and loads that arrive a cycle later. Its four calls are one microstep, which assigns whole words.
 #![tactic(auto)]
 
+mod buses;
+mod edge;
 pub mod latches;
 pub mod laws;
 pub mod mic1;

@@ -1,29 +1,22 @@
 //! The machine: its four calls, which are the book's subcycles.
 
-ghost use Rattle.std.specs.Prelude.{◌≡◌, ◌==◌, IsTrue, refl, true, false};
+ghost use Rattle.std.specs.Prelude.{◌≡◌, refl};
 ghost use Rattle.mic_words.specs.declared.machine.Machine.TheVariants.{Mic1 as Mic1Machine};
-ghost use Rattle.micro_word.specs.Words.{is_canonical};
-ghost use Rattle.micro_word.specs.Coding.{mem_of, statement_of};
-ghost use Rattle.micro_word.specs.Layout.{fields_of};
-ghost use Rattle.micro_word.specs.Lines.{AreLines};
-ghost use Rattle.micro_word.specs.Operation.{shifted};
+ghost use Rattle.micro_word.specs.Coding.{statement_of};
 ghost use Rattle.mic_clock.specs.Meaning.{Driven, AtEdge};
 ghost use Rattle.mic_datapath.specs.Stage.{phase_of};
-ghost use Rattle.mic1_datapath.specs.Microstep.{source, result_of};
+ghost use Rattle.mic1_datapath.specs.Cycle.{HasComputed, IsDecoded};
+ghost use Rattle.mic1_datapath.specs.Microstep.{source};
 ghost use Rattle.mic1_datapath.specs.Latches.{AreLatches, micro_in};
 
+use crate::buses::{H, computed_by, driven_by};
+use crate::edge::edge;
 use crate::latches::{IDLE, Latches};
 use console_port::{Bus, BusFault};
 use mic_base::{Sink, Source};
 use mic_clock::{Clocked, Computed, Drive, Registers, Start, Tail};
-use mic_datapath::{
-    Sampled, Stage, access, access_memory, fetch_alone, is_in_memory, operate, read_alone,
-    shift_by, write_alone,
-};
-use mic1_alu::AluOut;
-use micro_word::{Lines, Machine, Mem, Store, Word1, bits, fields1, statement_law, word_law};
-
-const H: usize = 8;
+use mic_datapath::Stage;
+use micro_word::{Lines, Machine, Store, Word1, fields1};
 
 const MBRU: usize = 10;
 
@@ -42,39 +35,9 @@ pub struct Mic1 {
     /// What is on the C bus.
     c: u32,
     ghost kept: { AreLatches latches },
-    ghost canonical: { IsTrue (is_canonical Mic1Machine word) },
-    ghost decoded: { AreLines Mic1Machine (fields_of Mic1Machine word) lines },
+    ghost decoded: { IsDecoded word lines },
     ghost drove: { phase_of stage ≡ Driven → b ≡ source (statement_of Mic1Machine word).part.b (micro_in latches) },
-    ghost computed: { phase_of stage ≡ AtEdge → value ≡ result_of (statement_of Mic1Machine word).part (micro_in latches) },
-    ghost shifted_by: { phase_of stage ≡ AtEdge → c ≡ shifted (statement_of Mic1Machine word).part.shift value },
-}
-
-/// Whether a word accesses nothing.
-fn is_quiet(word: u64) -> bool
-    ensures { result ≡ true → (mem_of (fields_of Mic1Machine word).mem ≡ Mem.None) × (((fields_of Mic1Machine word).fetch == 1) ≡ false) }
-{
-    bits::mem(Machine::Mic1, word) == 0 && !bits::fetch(Machine::Mic1, word)
-}
-
-/// Whether a word fetches a byte and accesses nothing else.
-fn is_fetch_alone(word: u64) -> bool
-    ensures { result ≡ true → (mem_of (fields_of Mic1Machine word).mem ≡ Mem.None) × (((fields_of Mic1Machine word).fetch == 1) ≡ true) }
-{
-    bits::mem(Machine::Mic1, word) == 0 && bits::fetch(Machine::Mic1, word)
-}
-
-/// Whether a word reads and accesses nothing else.
-fn is_read_alone(word: u64) -> bool
-    ensures { result ≡ true → (mem_of (fields_of Mic1Machine word).mem ≡ Mem.Read) × (((fields_of Mic1Machine word).fetch == 1) ≡ false) }
-{
-    bits::mem(Machine::Mic1, word) == 1 && !bits::fetch(Machine::Mic1, word)
-}
-
-/// Whether a word writes and accesses nothing else.
-fn is_write_alone(word: u64) -> bool
-    ensures { result ≡ true → (mem_of (fields_of Mic1Machine word).mem ≡ Mem.Write) × (((fields_of Mic1Machine word).fetch == 1) ≡ false) }
-{
-    bits::mem(Machine::Mic1, word) == 2 && !bits::fetch(Machine::Mic1, word)
+    ghost computed: { phase_of stage ≡ AtEdge → HasComputed word (micro_in latches) value c },
 }
 
 impl Mic1 {
@@ -138,37 +101,19 @@ impl Clocked for Mic1 {
     }
 
     fn drive(&mut self) -> Drive {
-        word_law(Machine::Mic1);
-        statement_law(Machine::Mic1);
-        // Loaded before the stage is written, so that no store stands between.
-        let b = self.latches.places[self.lines.b as usize];
-        self.b = b;
+        let drive = driven_by(&self.latches, self.word, &self.lines);
+        self.b = drive.b;
         self.stage = Stage::Compute;
-        Drive {
-            a: self.latches.places[H],
-            b,
-            stalled: false,
-        }
+        drive
     }
 
     #[inline(always)]
     fn compute(&mut self) -> Computed {
-        word_law(Machine::Mic1);
-        statement_law(Machine::Mic1);
-        let gates = bits::gates(Machine::Mic1, self.word);
-        let value = operate(gates, &self.lines, self.latches.places[H], self.b);
-        let c = shift_by(bits::shift(Machine::Mic1, self.word), value);
-        self.value = value;
-        self.c = c;
+        let computed = computed_by(&self.latches, self.word, &self.lines, self.b);
+        self.value = computed.alu.value;
+        self.c = computed.c;
         self.stage = Stage::Edge;
-        Computed {
-            alu: AluOut {
-                value,
-                n: value >= 0x8000_0000,
-                z: value == 0,
-            },
-            c,
-        }
+        computed
     }
 
     #[inline(always)]
@@ -178,59 +123,43 @@ impl Clocked for Mic1 {
         source: &mut S,
         sink: &mut K,
     ) -> Result<(), BusFault> {
-        // Loaded before an access, behind which they would be loaded again.
-        let (word, value, c) = (self.word, self.value, self.c);
         self.stage = Stage::Setup;
-        let nothing = Sampled {
-            word: None,
-            byte: None,
-        };
-        // Most words access nothing, and most others one thing, which is in memory.
-        if is_quiet(word) {
-            self.latches.advance(word, &self.lines, value, c, nothing);
-            return Ok(());
-        }
-        let destinations = bits::destinations(Machine::Mic1, word);
-        if is_fetch_alone(word) {
-            let pc = self.latches.pc_port(destinations, c);
-            if bus.has(pc / 4) {
-                let sampled = fetch_alone(pc, bus);
-                self.latches.advance(word, &self.lines, value, c, sampled);
-                return Ok(());
-            }
-        }
-        if is_read_alone(word) {
-            let mar = self.latches.mar_port(destinations, c);
-            if bus.has(mar) {
-                let sampled = read_alone(mar, bus);
-                self.latches.advance(word, &self.lines, value, c, sampled);
-                return Ok(());
-            }
-        }
-        if is_write_alone(word) {
-            let mar = self.latches.mar_port(destinations, c);
-            if bus.has(mar) {
-                let mdr = self.latches.mdr_port(destinations, c);
-                write_alone(mar, mdr, bus);
-                self.latches.advance(word, &self.lines, value, c, nothing);
-                return Ok(());
-            }
-        }
-        let mem = Mem::of_bits(bits::mem(Machine::Mic1, word));
-        let fetch = bits::fetch(Machine::Mic1, word);
-        let ports = self.latches.ports(destinations, c);
-        if is_in_memory(mem, fetch, ports.mar, ports.pc, bus) {
-            let sampled = access_memory(mem, fetch, &ports, bus);
-            self.latches.advance(word, &self.lines, value, c, sampled);
-            return Ok(());
-        }
-        match access(mem, fetch, &ports, bus, source, sink) {
-            Ok(sampled) => {
-                self.latches.advance(word, &self.lines, value, c, sampled);
-                Ok(())
-            }
-            Err(fault) => Err(fault),
-        }
+        edge(
+            &mut self.latches,
+            self.word,
+            &self.lines,
+            self.value,
+            self.c,
+            bus,
+            source,
+            sink,
+        )
+    }
+
+    #[inline(always)]
+    fn clock<S: Source, K: Sink>(
+        &mut self,
+        store: &Store,
+        bus: &mut Bus,
+        source: &mut S,
+        sink: &mut K,
+    ) -> Result<(Drive, Computed), BusFault> {
+        let mpc = self.latches.mpc;
+        let word = store.word(mpc);
+        let lines = store.lines_at(mpc);
+        let drive = driven_by(&self.latches, word, lines);
+        let computed = computed_by(&self.latches, word, lines, drive.b);
+        edge(
+            &mut self.latches,
+            word,
+            lines,
+            computed.alu.value,
+            computed.c,
+            bus,
+            source,
+            sink,
+        )?;
+        Ok((drive, computed))
     }
 
     fn registers(&self) -> Registers {

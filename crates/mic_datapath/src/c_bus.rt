@@ -60,7 +60,7 @@ pub fn arrived(word: Option<u32>, there: u32) -> u32
 }
 
 /// A word that was read becomes MDR, whatever the C bus put there.
-fn arrive(word: Option<u32>, places: &mut Places)
+pub fn arrive(word: Option<u32>, places: &mut Places)
     ensures mdr { slice_index places.new 1 ≡ arrived word (slice_index places.old 1) }
     ensures others { (k : ℕ) → k ≢ 1 → slice_index places.new k ≡ slice_index places.old k }
 {

@@ -14,7 +14,7 @@ pub mod stage;
 
 pub use accesses::{Sampled, access, check_memory, transfer};
 pub use alu::{operate, shift_by};
-pub use c_bus::{Places, arrived, port, settle};
+pub use c_bus::{Places, arrive, arrived, port, settle};
 pub use jam::next_address;
 pub use laws::{console_law, side_law};
 pub use memory::{access_memory, fetch_alone, is_in_memory, read_alone, write_alone};

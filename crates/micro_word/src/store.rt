@@ -103,4 +103,13 @@ impl Store {
     {
         self.lines[address as usize]
     }
+
+    /// The same, where they stand.
+    #[inline]
+    pub fn lines_at(&self, address: u16) -> &Lines
+        requires { address < 512 }
+        ensures { AreLines self.now.machine (fields_of self.now.machine (slice_index self.now.words address)) result.now }
+    {
+        &self.lines[address as usize]
+    }
 }

@@ -1,4 +1,4 @@
-use Rattle.std.proofs.Common.{◌≡◌, ℕ, ◌<◌, true, subst, sym, ap, ◌∙◌, arith}
+use Rattle.std.proofs.Common.{◌≡◌, ◌≢◌, ℕ, ◌<◌, true, None, subst, sym, ap, ◌∙◌, arith}
 use Rattle.mic_words.specs.Arithmetic.{signed_byte}
 use Rattle.mic_words.specs.declared.machine.Machine.TheVariants.{Mic1}
 use Rattle.micro_word.specs.Coding.{statement_of}
@@ -20,15 +20,16 @@ returns-clause-micro c =
     let spelled = c.word_law.ensures.spells c.args.word c.requires.word in
     let valid = c.statement_law.ensures.conditions s spelled.valid in
     let v : c.args.c ≡ shifted s.part.shift (result_of s.part m) = c.requires.c ∙ ap (λ (x : ℕ). shifted s.part.shift x) c.requires.value in
-    let became : registers_at c.settle.new.places ≡ loaded s.part.dests (shifted s.part.shift (result_of s.part m)) m.word (registers_in m) =
-    c.settle.ensures.registers ∙ (λ i. loaded (c.destinations.ensures.value i) (v i) (c.arriving-arriving.ensures i) (registers_in m)) in
-    let kept = c.load_mbr.ensures.others in
-    let mbr = c.load_mbr.ensures.mbru ∙ (λ i. arrived (c.arriving_byte-byte.ensures i) (c.settle.ensures.others 10 (omega arith) (omega arith) i)) in
+    let became : registers_at c.settle.new.places ≡ loaded s.part.dests (shifted s.part.shift (result_of s.part m)) None (registers_in m) =
+    c.settle.ensures.registers ∙ (λ i. loaded (c.destinations.ensures.value i) (v i) None (registers_in m)) in
+    let arrives = c.arrive_behind.ensures in
+    let kept = λ (k : ℕ) (word : k ≢ 1) (low : k < 9). arrives.others k word (omega arith) (omega arith) in
+    let mbr = arrives.mbru ∙ ap (λ (x : ℕ). arrived m.byte x) (c.settle.ensures.others 10 (omega arith) (omega arith)) in
     let addr = c.requires.lines.addr ∙ ap (λ (f : Fields). f.addr) spelled.fields in
     let jam = c.jam.ensures.value ∙ ap (λ (f : Fields). f.jam) spelled.fields in
     λ i. record {
       mar = (kept 0 (omega arith) (omega arith) ∙ ap (λ (r : NineRegisters). r.mar) became) i;
-      mdr = (kept 1 (omega arith) (omega arith) ∙ ap (λ (r : NineRegisters). r.mdr) became) i;
+      mdr = (arrives.mdr ∙ ap (λ (r : NineRegisters). arrived m.word r.mdr) became) i;
       pc = (kept 2 (omega arith) (omega arith) ∙ ap (λ (r : NineRegisters). r.pc) became) i;
       sp = (kept 3 (omega arith) (omega arith) ∙ ap (λ (r : NineRegisters). r.sp) became) i;
       lv = (kept 4 (omega arith) (omega arith) ∙ ap (λ (r : NineRegisters). r.lv) became) i;
@@ -51,7 +52,7 @@ returns-clause-latches c =
     let mbr = was 10 (omega arith) (omega arith) in
     record {
       mpc = c.next_address-self.ensures.small;
-      mbr = c.load_mbr.ensures.byte (subst (λ (x : ℕ). x < 256) (sym mbr) old.mbr);
-      signed = c.load_mbr.ensures.mbr (was 9 (omega arith) (omega arith) ∙ old.signed ∙ ap signed_byte (sym mbr));
-      nothing = c.load_mbr.ensures.others 13 (omega arith) (omega arith) ∙ was 13 (omega arith) (omega arith) ∙ old.nothing;
+      mbr = c.arrive_behind.ensures.byte (subst (λ (x : ℕ). x < 256) (sym mbr) old.mbr);
+      signed = c.arrive_behind.ensures.mbr (was 9 (omega arith) (omega arith) ∙ old.signed ∙ ap signed_byte (sym mbr));
+      nothing = c.arrive_behind.ensures.others 13 (omega arith) (omega arith) (omega arith) ∙ was 13 (omega arith) (omega arith) ∙ old.nothing;
     }

@@ -9,41 +9,36 @@ use Rattle.mic1_datapath.specs.Microstep.{result_of}
 use Rattle.mic1_datapath.specs.Mic1.{computed}
 use Rattle.mic1_datapath.specs.Latches.{micro_in}
 use Rattle.mic1_datapath.proofs.Sources.{enabled_source}
-use Rattle.mic1_datapath.proofs.mic1.Mic1Clocked.compute.Goals as goal
+use Rattle.mic1_datapath.proofs.buses.computed_by.Goals as goal
 
 pub operate-value-requires-clause-b : goal.operate-value-requires-clause-b
 unfolding statement_of
 operate-value-requires-clause-b c =
-    let old = c.args.self.now in
-    let s = statement_of machines.Mic1 old.word in
-    let spelled = c.word_law.ensures.spells old.word old.canonical in
+    let s = statement_of machines.Mic1 c.args.word in
+    let spelled = c.word_law.ensures.spells c.args.word c.requires.decoded.canonical in
     let valid = c.statement_law.ensures.conditions s spelled.valid in
     let gates = c.gates-gates.ensures ∙ ap (λ (f : Fields). f.gates) spelled.fields in
-    let b = old.drove c.requires in
     let on = λ (bits x : ℕ). enabled (bits / 4 % 2 == 1) x in
-    (λ i. on (gates i) (b i)) ∙ (enabled_source old.latches s.part.op s.part.b valid.b ∙ sym b)
+    (λ i. on (gates i) (c.requires.b i)) ∙ (enabled_source c.args.latches.now s.part.op s.part.b valid.b ∙ sym c.requires.b)
 
-pub invariant_of-self-clause-computed : goal.invariant_of-self-clause-computed
+pub returns-clause-edge : goal.returns-clause-edge
 unfolding statement_of
-invariant_of-self-clause-computed c =
-    let old = c.args.self.now in
-    let s = statement_of machines.Mic1 old.word in
-    let spelled = c.word_law.ensures.spells old.word old.canonical in
+returns-clause-edge c =
+    let s = statement_of machines.Mic1 c.args.word in
+    let spelled = c.word_law.ensures.spells c.args.word c.requires.decoded.canonical in
     let gates = c.gates-gates.ensures ∙ ap (λ (f : Fields). f.gates) spelled.fields in
-    λ e. c.operate-value.ensures s.part.op (sym gates) ∙ ap (λ (x : ℕ). alu s.part.op (micro_in old.latches).h x) (old.drove c.requires)
-
-pub invariant_of-self-clause-shifted_by : goal.invariant_of-self-clause-shifted_by
-unfolding statement_of
-invariant_of-self-clause-shifted_by c = λ e. c.shift_by-c.ensures ∙ ap (λ (bits : ℕ). shifted (shift_of bits) c.operate-value.result) c.shift.ensures
+    record {
+      value_is = c.operate-value.ensures s.part.op (sym gates) ∙ ap (λ (x : ℕ). alu s.part.op (micro_in c.args.latches.now).h x) c.requires.b;
+      c_is = c.shift_by-c.ensures ∙ ap (λ (bits : ℕ). shifted (shift_of bits) c.operate-value.result) c.shift.ensures;
+    }
 
 pub returns-clause-value : goal.returns-clause-value
 unfolding computed statement_of
 returns-clause-value c =
-    let old = c.args.self.now in
-    let s = statement_of machines.Mic1 old.word in
-    let spelled = c.word_law.ensures.spells old.word old.canonical in
+    let s = statement_of machines.Mic1 c.args.word in
+    let spelled = c.word_law.ensures.spells c.args.word c.requires.decoded.canonical in
     let gates = c.gates-gates.ensures ∙ ap (λ (f : Fields). f.gates) spelled.fields in
-    let x : c.operate-value.result ≡ result_of s.part (micro_in old.latches) =
-    c.operate-value.ensures s.part.op (sym gates) ∙ ap (λ (x : ℕ). alu s.part.op (micro_in old.latches).h x) (old.drove c.requires) in
+    let x : c.operate-value.result ≡ result_of s.part (micro_in c.args.latches.now) =
+    c.operate-value.ensures s.part.op (sym gates) ∙ ap (λ (x : ℕ). alu s.part.op (micro_in c.args.latches.now).h x) c.requires.b in
     let shift = c.shift_by-c.ensures ∙ (λ i. shifted (shift_of (c.shift.ensures i)) (x i)) in
     λ i. record { alu = record { value = x i; n = is_negative (x i); z = x i == 0 }; c = shift i }

@@ -1,0 +1,89 @@
+use Rattle.std.proofs.Common.{ℕ, true, false, None, refl, sym, ◌∙◌, ap, subst}
+use Rattle.console_port.specs.Bus.{ChangesOnly}
+use Rattle.micro_word.specs.Coding.{statement_of}
+use Rattle.micro_word.specs.Layout.{fields_of}
+use Rattle.micro_word.specs.declared.statement.Mem.TheVariants as mems
+use Rattle.mic_words.specs.declared.machine.Machine.TheVariants as machines
+use Rattle.mic1_datapath.specs.Microstep.{assigned, ports_of, settled, next_micro}
+use Rattle.mic1_datapath.specs.Latches.{micro_in}
+use Rattle.mic1_datapath.proofs.Inside.{led_inside, led_same}
+use Rattle.mic1_datapath.proofs.Steps.{Asked, IsAsked, edge_done, is_asked}
+use Rattle.mic1_datapath.proofs.edge.edge_of_one.Goals as goal
+
+-- a word that accesses nothing
+
+pub returns-then-is_quiet-clause-edge : goal.returns-then-is_quiet-clause-edge
+returns-then-is_quiet-clause-edge c =
+    let s = statement_of machines.Mic1 c.args.word in
+    let m = micro_in c.args.latches.now in
+    let its = c.requires.computed in
+    let quiet = c.is_quiet.ensures c.if-is_quiet.true in
+    let dests = (fields_of machines.Mic1 c.args.word).c in
+    let asked : Asked = record { ports = ports_of (assigned dests c.args.c m); mem = mems.None; fetch = false } in
+    let is : IsAsked s m asked =
+    is_asked c.args.word m c.args.value c.args.c dests asked.ports mems.None false its.value_is its.c_is refl refl (sym quiet.0) (sym quiet.1) in
+    λ done left held.
+    edge_done c.args.word m asked is left held c.args.bus.now left held c.args.bus.now None None refl
+    (led_same _ _ c.args.bus.now _ (λ w shows. record { its_word = refl; its_byte = refl; after = refl })) (refl, λ a other. refl) _
+    (c.advance.ensures.micro ∙ ap (λ (x : ℕ). next_micro s.next x (settled s.part m) None None) its.value_is)
+
+-- it fetches a byte of the memory, and nothing else
+
+pub returns-then-has-clause-edge : goal.returns-then-has-clause-edge
+returns-then-has-clause-edge c =
+    let s = statement_of machines.Mic1 c.args.word in
+    let m = micro_in c.args.latches.now in
+    let its = c.requires.computed in
+    let alone = c.is_fetch_alone.ensures c.if-is_fetch_alone.true in
+    let ports = ports_of (assigned c.destinations-destinations.result c.args.c m) in
+    let asked : Asked = record { ports = ports; mem = mems.None; fetch = true } in
+    let is : IsAsked s m asked =
+    is_asked c.args.word m c.args.value c.args.c c.destinations-destinations.result ports mems.None true
+    its.value_is its.c_is c.destinations-destinations.ensures.value refl (sym alone.0) (sym alone.1) in
+    let here = sym c.pc_port-pc.ensures in
+    λ done left held.
+    edge_done c.args.word m asked is left held c.args.bus.now left held c.args.bus.now _ _ (c.fetch_alone-sampled.ensures.clear ports here)
+    (led_same _ _ c.args.bus.now _ (λ w shows. c.fetch_alone-sampled.ensures.access ports here w shows.words)) (refl, λ a other. refl) _
+    (c.advance-then-has.ensures.micro
+    ∙ ap (λ (x : ℕ). next_micro s.next x (settled s.part m) c.fetch_alone-sampled.result.word c.fetch_alone-sampled.result.byte) its.value_is)
+
+-- it reads a word of the memory, and nothing else
+
+pub returns-then-has-2-clause-edge : goal.returns-then-has-2-clause-edge
+returns-then-has-2-clause-edge c =
+    let s = statement_of machines.Mic1 c.args.word in
+    let m = micro_in c.args.latches.now in
+    let its = c.requires.computed in
+    let alone = c.is_read_alone.ensures c.if-is_read_alone.true in
+    let ports = ports_of (assigned c.destinations-destinations.result c.args.c m) in
+    let asked : Asked = record { ports = ports; mem = mems.Read; fetch = false } in
+    let is : IsAsked s m asked =
+    is_asked c.args.word m c.args.value c.args.c c.destinations-destinations.result ports mems.Read false
+    its.value_is its.c_is c.destinations-destinations.ensures.value refl (sym alone.0) (sym alone.1) in
+    let here = sym c.mar_port-mar.ensures in
+    λ done left held.
+    edge_done c.args.word m asked is left held c.args.bus.now left held c.args.bus.now _ _ (c.read_alone-sampled.ensures.clear ports here)
+    (led_same _ _ c.args.bus.now _ (λ w shows. c.read_alone-sampled.ensures.access ports here w shows.words)) (refl, λ a other. refl) _
+    (c.advance-then-has-2.ensures.micro
+    ∙ ap (λ (x : ℕ). next_micro s.next x (settled s.part m) c.read_alone-sampled.result.word c.read_alone-sampled.result.byte) its.value_is)
+
+-- it writes a word of the memory, and accesses nothing else
+
+pub returns-then-has-3-clause-edge : goal.returns-then-has-3-clause-edge
+returns-then-has-3-clause-edge c =
+    let s = statement_of machines.Mic1 c.args.word in
+    let m = micro_in c.args.latches.now in
+    let its = c.requires.computed in
+    let alone = c.is_write_alone.ensures c.if-is_write_alone.true in
+    let ports = ports_of (assigned c.destinations-destinations.result c.args.c m) in
+    let asked : Asked = record { ports = ports; mem = mems.Write; fetch = false } in
+    let is : IsAsked s m asked =
+    is_asked c.args.word m c.args.value c.args.c c.destinations-destinations.result ports mems.Write false
+    its.value_is its.c_is c.destinations-destinations.ensures.value refl (sym alone.0) (sym alone.1) in
+    let at = sym c.mar_port-mar-then-is_write_alone.ensures in
+    λ done left held.
+    edge_done c.args.word m asked is left held c.args.bus.now left held c.write_alone.new.bus None None (c.write_alone.ensures.clear ports at)
+    (led_inside _ _ c.args.bus.now c.write_alone.new.bus c.write_alone.ensures.console _
+    (λ w shows. c.write_alone.ensures.access ports at (sym c.mdr_port-mdr.ensures) w shows.words))
+    (subst (λ (a : ℕ). ChangesOnly a c.args.bus.now.words c.write_alone.new.bus.words) (sym at) c.write_alone.ensures.others) _
+    (c.advance-then-has-3.ensures.micro ∙ ap (λ (x : ℕ). next_micro s.next x (settled s.part m) None None) its.value_is)

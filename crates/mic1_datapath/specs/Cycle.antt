@@ -1,0 +1,31 @@
+-- What a cycle of Mic-1 has before its edge: a word with its control lines, and what leaves the ALU and the shifter; and an edge that reaches memory alone.
+use Rattle.std.specs.Prelude.{◌≡◌, ⊤, ℕ, IsTrue, List, Option, Ok}
+use Rattle.console_port.specs.View.{BusView}
+use Rattle.mic_clock.specs.Edge.{IsEdge}
+use Rattle.mic_words.specs.declared.machine.Machine.TheVariants as machines
+use Rattle.micro_word.specs.Coding.{statement_of}
+use Rattle.micro_word.specs.Layout.{fields_of}
+use Rattle.micro_word.specs.Lines.{AreLines}
+use Rattle.micro_word.specs.Operation.{shifted}
+use Rattle.micro_word.specs.Words.{is_canonical}
+use Rattle.micro_word.specs.declared.lines.Lines.{Lines}
+use Rattle.mic1_datapath.specs.Latches.{micro_in}
+use Rattle.mic1_datapath.specs.Mic1.{mic1_meaning}
+use Rattle.mic1_datapath.specs.Microstep.{result_of}
+use Rattle.mic1_datapath.specs.Micro.{Micro}
+use Rattle.mic1_datapath.specs.declared.latches.Latches.{Latches}
+
+-- a canonical word, with its control lines
+pub record IsDecoded (word : ℕ) (lines : Lines) : Type 0 where
+  pub canonical : IsTrue (is_canonical machines.Mic1 word)
+  pub decoded : AreLines machines.Mic1 (fields_of machines.Mic1 word) lines
+
+-- what leaves the ALU, and what is on the C bus
+pub record HasComputed (word : ℕ) (m : Micro) (value c : ℕ) : Type 0 where
+  pub value_is : value ≡ result_of (statement_of machines.Mic1 word).part m
+  pub c_is : c ≡ shifted (statement_of machines.Mic1 word).part.shift value
+
+-- an edge that is done, and is the same between any source and any sink
+abbrev pub IsEdgeInside : ℕ → Latches → BusView → Latches → BusView → Type 0
+IsEdgeInside word l bus l' bus' =
+    (left held : Option (List ℕ)) → IsEdge mic1_meaning word (micro_in l) left held bus {T = ⊤} (micro_in l') left held bus' (Ok tt)

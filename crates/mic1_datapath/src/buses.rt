@@ -1,0 +1,57 @@
+//! What is on the buses in a cycle of a word.
+
+ghost use Rattle.std.specs.Prelude.{◌≡◌};
+ghost use Rattle.mic_words.specs.declared.machine.Machine.TheVariants.{Mic1};
+ghost use Rattle.micro_word.specs.Coding.{statement_of};
+ghost use Rattle.mic1_datapath.specs.Cycle.{HasComputed, IsDecoded};
+ghost use Rattle.mic1_datapath.specs.Latches.{AreLatches, micro_in};
+ghost use Rattle.mic1_datapath.specs.Mic1.{computed, driven};
+ghost use Rattle.mic1_datapath.specs.Microstep.{source};
+
+use crate::latches::Latches;
+use mic_clock::{Computed, Drive};
+use mic_datapath::{operate, shift_by};
+use mic1_alu::AluOut;
+use micro_word::{Lines, Machine, bits, statement_law, word_law};
+
+pub const H: usize = 8;
+
+/// What drives the operand buses.
+#[inline(always)]
+pub fn driven_by(latches: &Latches, _word: u64, lines: &Lines) -> Drive
+    requires latches { AreLatches latches.now }
+    requires decoded { IsDecoded _word lines.now }
+    ensures value { result ≡ driven _word (micro_in latches.now) }
+    ensures b { result.b ≡ source (statement_of Mic1 _word).part.b (micro_in latches.now) }
+{
+    word_law(Machine::Mic1);
+    statement_law(Machine::Mic1);
+    Drive {
+        a: latches.places[H],
+        b: latches.places[lines.b as usize],
+        stalled: false,
+    }
+}
+
+/// What the ALU and the shifter give for what is on the B bus.
+#[inline(always)]
+pub fn computed_by(latches: &Latches, word: u64, lines: &Lines, b: u32) -> Computed
+    requires decoded { IsDecoded word lines.now }
+    requires b { b ≡ source (statement_of Mic1 word).part.b (micro_in latches.now) }
+    ensures value { result ≡ computed word (micro_in latches.now) }
+    ensures edge { HasComputed word (micro_in latches.now) result.alu.value result.c }
+{
+    word_law(Machine::Mic1);
+    statement_law(Machine::Mic1);
+    let gates = bits::gates(Machine::Mic1, word);
+    let value = operate(gates, lines, latches.places[H], b);
+    let c = shift_by(bits::shift(Machine::Mic1, word), value);
+    Computed {
+        alu: AluOut {
+            value,
+            n: value >= 0x8000_0000,
+            z: value == 0,
+        },
+        c,
+    }
+}

@@ -1,0 +1,196 @@
+//! The clock edge of a cycle, behind what the cycle computed.
+
+ghost use Rattle.std.specs.Prelude.{◌≡◌, ◌==◌, Err, true, false};
+ghost use Rattle.console_port.specs.Console.{HasFaultCause};
+ghost use Rattle.console_port.specs.Streams.{SinkGoesOn, SourceGoesOn};
+ghost use Rattle.mic_words.specs.declared.machine.Machine.TheVariants.{Mic1};
+ghost use Rattle.micro_word.specs.Coding.{mem_of};
+ghost use Rattle.micro_word.specs.Layout.{fields_of};
+ghost use Rattle.mic_clock.specs.Edge.{IsEdge, LetsBytesWait};
+ghost use Rattle.mic1_datapath.specs.Cycle.{HasComputed, IsDecoded, IsEdgeInside};
+ghost use Rattle.mic1_datapath.specs.Latches.{AreLatches, micro_in};
+ghost use Rattle.mic1_datapath.specs.Mic1.{mic1_meaning};
+
+use crate::latches::Latches;
+use console_port::{Bus, BusFault};
+use mic_base::{Sink, Source};
+use mic_datapath::{
+    Sampled, access, access_memory, fetch_alone, is_in_memory, read_alone, write_alone,
+};
+use micro_word::{Lines, Machine, Mem, bits};
+
+/// Whether a word accesses nothing.
+fn is_quiet(word: u64) -> bool
+    ensures { result ≡ true → (mem_of (fields_of Mic1 word).mem ≡ Mem.None) × (((fields_of Mic1 word).fetch == 1) ≡ false) }
+{
+    bits::mem(Machine::Mic1, word) == 0 && !bits::fetch(Machine::Mic1, word)
+}
+
+/// Whether a word fetches a byte and accesses nothing else.
+fn is_fetch_alone(word: u64) -> bool
+    ensures { result ≡ true → (mem_of (fields_of Mic1 word).mem ≡ Mem.None) × (((fields_of Mic1 word).fetch == 1) ≡ true) }
+{
+    bits::mem(Machine::Mic1, word) == 0 && bits::fetch(Machine::Mic1, word)
+}
+
+/// Whether a word reads and accesses nothing else.
+fn is_read_alone(word: u64) -> bool
+    ensures { result ≡ true → (mem_of (fields_of Mic1 word).mem ≡ Mem.Read) × (((fields_of Mic1 word).fetch == 1) ≡ false) }
+{
+    bits::mem(Machine::Mic1, word) == 1 && !bits::fetch(Machine::Mic1, word)
+}
+
+/// Whether a word writes and accesses nothing else.
+fn is_write_alone(word: u64) -> bool
+    ensures { result ≡ true → (mem_of (fields_of Mic1 word).mem ≡ Mem.Write) × (((fields_of Mic1 word).fetch == 1) ≡ false) }
+{
+    bits::mem(Machine::Mic1, word) == 2 && !bits::fetch(Machine::Mic1, word)
+}
+
+/// The edge of a word that accesses nothing, or one thing, which is in memory. For any other, nothing is done.
+#[inline(always)]
+fn edge_of_one(
+    latches: &mut Latches,
+    word: u64,
+    lines: &Lines,
+    value: u32,
+    c: u32,
+    bus: &mut Bus,
+) -> bool
+    requires latches { AreLatches latches.old }
+    requires decoded { IsDecoded word lines.now }
+    requires computed { HasComputed word (micro_in latches.old) value c }
+    ensures latches { AreLatches latches.new }
+    ensures edge { result ≡ true → IsEdgeInside word latches.old bus.old latches.new bus.new }
+    ensures console { bus.new.console ≡ bus.old.console }
+    ensures none { result ≡ false → (latches.new ≡ latches.old) × (bus.new ≡ bus.old) }
+{
+    let nothing = Sampled {
+        word: None,
+        byte: None,
+    };
+    if is_quiet(word) {
+        latches.advance(word, lines, value, c, nothing);
+        return true;
+    }
+    let destinations = bits::destinations(Machine::Mic1, word);
+    if is_fetch_alone(word) {
+        let pc = latches.pc_port(destinations, c);
+        if bus.has(pc / 4) {
+            let sampled = fetch_alone(pc, bus);
+            latches.advance(word, lines, value, c, sampled);
+            return true;
+        }
+    }
+    if is_read_alone(word) {
+        let mar = latches.mar_port(destinations, c);
+        if bus.has(mar) {
+            let sampled = read_alone(mar, bus);
+            latches.advance(word, lines, value, c, sampled);
+            return true;
+        }
+    }
+    if is_write_alone(word) {
+        let mar = latches.mar_port(destinations, c);
+        if bus.has(mar) {
+            let mdr = latches.mdr_port(destinations, c);
+            write_alone(mar, mdr, bus);
+            latches.advance(word, lines, value, c, nothing);
+            return true;
+        }
+    }
+    false
+}
+
+/// The edge of a word whose accesses reach memory alone. For any other, nothing is done.
+#[inline(always)]
+fn edge_inside(
+    latches: &mut Latches,
+    word: u64,
+    lines: &Lines,
+    value: u32,
+    c: u32,
+    bus: &mut Bus,
+) -> bool
+    requires latches { AreLatches latches.old }
+    requires decoded { IsDecoded word lines.now }
+    requires computed { HasComputed word (micro_in latches.old) value c }
+    ensures latches { AreLatches latches.new }
+    ensures edge { result ≡ true → IsEdgeInside word latches.old bus.old latches.new bus.new }
+    ensures console { bus.new.console ≡ bus.old.console }
+    ensures none { result ≡ false → (latches.new ≡ latches.old) × (bus.new ≡ bus.old) }
+{
+    // Most words access nothing, and most others one thing.
+    if edge_of_one(latches, word, lines, value, c, bus) {
+        return true;
+    }
+    let mem = Mem::of_bits(bits::mem(Machine::Mic1, word));
+    let fetch = bits::fetch(Machine::Mic1, word);
+    let ports = latches.ports(bits::destinations(Machine::Mic1, word), c);
+    if !is_in_memory(mem, fetch, ports.mar, ports.pc, bus) {
+        return false;
+    }
+    let sampled = access_memory(mem, fetch, &ports, bus);
+    latches.advance(word, lines, value, c, sampled);
+    true
+}
+
+/// The edge of any word. Few words access something else than memory, or are refused.
+#[cold]
+fn any_edge<S: Source, K: Sink>(
+    latches: &mut Latches,
+    word: u64,
+    lines: &Lines,
+    value: u32,
+    c: u32,
+    bus: &mut Bus,
+    source: &mut S,
+    sink: &mut K,
+) -> Result<(), BusFault>
+    requires latches { AreLatches latches.old }
+    requires decoded { IsDecoded word lines.now }
+    requires computed { HasComputed word (micro_in latches.old) value c }
+    ensures latches { AreLatches latches.new }
+    ensures edge { IsEdge mic1_meaning word (micro_in latches.old) (S.left source.old) (K.held sink.old) bus.old
+        (micro_in latches.new) (S.left source.new) (K.held sink.new) bus.new result }
+    ensures waits { LetsBytesWait mic1_meaning word (micro_in latches.old) (S.left source.old) (K.held sink.old) bus.old sink.old sink.new }
+    ensures source { SourceGoesOn S.left bus.old.console.ended source.old bus.new.console.ended source.new }
+    ensures sink { SinkGoesOn K.held K.passed (result ≡ Err BusFault.WriteFault) sink.old sink.new }
+    ensures cause { HasFaultCause (S.faults source.old) (S.faults source.new) (K.faults sink.old) (K.faults sink.new) result }
+{
+    let mem = Mem::of_bits(bits::mem(Machine::Mic1, word));
+    let fetch = bits::fetch(Machine::Mic1, word);
+    let ports = latches.ports(bits::destinations(Machine::Mic1, word), c);
+    let sampled = access(mem, fetch, &ports, bus, source, sink)?;
+    latches.advance(word, lines, value, c, sampled);
+    Ok(())
+}
+
+/// The clock edge. An Err leaves what the latches mean.
+#[inline(always)]
+pub fn edge<S: Source, K: Sink>(
+    latches: &mut Latches,
+    word: u64,
+    lines: &Lines,
+    value: u32,
+    c: u32,
+    bus: &mut Bus,
+    source: &mut S,
+    sink: &mut K,
+) -> Result<(), BusFault>
+    requires latches { AreLatches latches.old }
+    requires decoded { IsDecoded word lines.now }
+    requires computed { HasComputed word (micro_in latches.old) value c }
+    ensures latches { AreLatches latches.new }
+    ensures edge { IsEdge mic1_meaning word (micro_in latches.old) (S.left source.old) (K.held sink.old) bus.old
+        (micro_in latches.new) (S.left source.new) (K.held sink.new) bus.new result }
+    ensures waits { LetsBytesWait mic1_meaning word (micro_in latches.old) (S.left source.old) (K.held sink.old) bus.old sink.old sink.new }
+    ensures source { SourceGoesOn S.left bus.old.console.ended source.old bus.new.console.ended source.new }
+    ensures sink { SinkGoesOn K.held K.passed (result ≡ Err BusFault.WriteFault) sink.old sink.new }
+    ensures cause { HasFaultCause (S.faults source.old) (S.faults source.new) (K.faults sink.old) (K.faults sink.new) result }
+{
+    if edge_inside(latches, word, lines, value, c, bus) {
+        return Ok(());
+    }
+    any_edge(latches, word, lines, value, c, bus, source, sink)
+}
