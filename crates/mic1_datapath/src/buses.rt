@@ -2,7 +2,9 @@
 
 ghost use Rattle.std.specs.Prelude.{◌≡◌};
 ghost use Rattle.mic_words.specs.declared.machine.Machine.TheVariants.{Mic1};
-ghost use Rattle.micro_word.specs.Coding.{statement_of};
+ghost use Rattle.micro_word.specs.Coding.{shift_of, statement_of};
+ghost use Rattle.micro_word.specs.Layout.{fields_of};
+ghost use Rattle.micro_word.specs.Operation.{shifted};
 ghost use Rattle.mic1_datapath.specs.Cycle.{HasComputed, IsDecoded};
 ghost use Rattle.mic1_datapath.specs.Latches.{AreLatches, micro_in};
 ghost use Rattle.mic1_datapath.specs.Mic1.{computed, driven};
@@ -15,6 +17,22 @@ use mic1_alu::AluOut;
 use micro_word::{Lines, Machine, bits, statement_law, word_law};
 
 pub const H: usize = 8;
+
+/// The lower bit of the field SLL8 SRA1.
+const SHIFT: u64 = 0x40_0000;
+
+/// What the shifter puts on the C bus for a word.
+#[inline(always)]
+fn shift_for(word: u64, value: u32) -> u32
+    ensures { result ≡ shifted (shift_of (fields_of Mic1 word).shift) value }
+{
+    // Most words do not shift, and the word tells it faster than its field.
+    let still = word / SHIFT % 4 == 0;
+    if still {
+        return value;
+    }
+    shift_by(bits::shift(Machine::Mic1, word), value)
+}
 
 /// What drives the operand buses.
 #[inline(always)]
@@ -45,7 +63,7 @@ pub fn computed_by(latches: &Latches, word: u64, lines: &Lines, b: u32) -> Compu
     statement_law(Machine::Mic1);
     let gates = bits::gates(Machine::Mic1, word);
     let value = operate(gates, lines, latches.places[H], b);
-    let c = shift_by(bits::shift(Machine::Mic1, word), value);
+    let c = shift_for(word, value);
     Computed {
         alu: AluOut {
             value,

@@ -3,11 +3,13 @@
 ghost use Rattle.std.specs.Prelude.{◌≡◌, ◌≢◌, ◌<◌, ℕ, IsTrue, is_some, slice_index, unwrap_or, true, false};
 ghost use Rattle.mic_words.specs.Arithmetic.{signed_byte};
 ghost use Rattle.mic_words.specs.declared.machine.Machine.TheVariants.{Mic1};
-ghost use Rattle.micro_word.specs.Words.{is_canonical};
-ghost use Rattle.micro_word.specs.Coding.{statement_of};
+ghost use Rattle.micro_word.specs.declared.statement.PlacedNext.{PlacedNext};
+ghost use Rattle.micro_word.specs.Words.{is_canonical, is_next};
+ghost use Rattle.micro_word.specs.Coding.{addr_bits, jam_bits, statement_of};
 ghost use Rattle.micro_word.specs.Layout.{fields_of};
 ghost use Rattle.micro_word.specs.Lines.{AreLines};
 ghost use Rattle.micro_word.specs.Operation.{shifted};
+ghost use Rattle.mic_datapath.specs.Next.{next_address};
 ghost use Rattle.mic_datapath.specs.Registers.{arrived as arrived_of};
 ghost use Rattle.mic1_datapath.specs.Mic1.{initial as initial_of};
 ghost use Rattle.mic1_datapath.specs.Microstep.{assigned, ports_of, result_of, settled, next_micro};
@@ -115,6 +117,24 @@ fn arrive_behind(before: u64, word: u32, byte: u8, places: &mut Places)
     load_mbr(taken_byte(fetches, byte), places);
 }
 
+/// The lowest bit of the field JMPC JAMN JAMZ.
+const JAM: u64 = 0x100_0000;
+
+/// Where a word goes on, with this value out of the ALU and this byte for a dispatch.
+#[inline(always)]
+fn goes_on(word: u64, addr: u16, value: u32, byte: u8) -> u16
+    requires { addr < 512 }
+    ensures next { (n : PlacedNext) → IsTrue (is_next n) → addr ≡ addr_bits n → (fields_of Mic1 word).jam ≡ jam_bits n → result ≡ next_address n value byte }
+    ensures small { result < 512 }
+{
+    // Most words go on to Addr, and the word tells it faster than its field.
+    let plain = word / JAM % 8 == 0;
+    if plain {
+        return next_address(addr, 0, value, byte);
+    }
+    next_address(addr, bits::jam(Machine::Mic1, word), value, byte)
+}
+
 impl Latches {
     /// As a reset leaves them.
     #[tactic(auto, unfolding(mic_words::specs::Arithmetic::signed_byte))]
@@ -214,12 +234,7 @@ impl Latches {
             &mut self.places,
         );
         arrive_behind(self.before, self.word, self.byte, &mut self.places);
-        self.mpc = next_address(
-            lines.addr,
-            bits::jam(Machine::Mic1, word),
-            value,
-            self.places[MBRU] as u8,
-        );
+        self.mpc = goes_on(word, lines.addr, value, self.places[MBRU] as u8);
         take(sampled.word, &mut self.word);
         take_byte(sampled.byte, &mut self.byte);
         self.before = word;

@@ -1,5 +1,5 @@
 use Rattle.std.proofs.Common.{◌≡◌, ℕ, ◌/◌, ◌%◌, ◌==◌, sym, ap, ◌∙◌}
-use Rattle.micro_word.specs.Coding.{statement_of, shift_of}
+use Rattle.micro_word.specs.Coding.{statement_of}
 use Rattle.mic_words.specs.Arithmetic.{is_negative}
 use Rattle.micro_word.specs.Operation.{alu, shifted}
 use Rattle.micro_word.specs.declared.layout.Fields.{Fields}
@@ -29,7 +29,7 @@ returns-clause-edge c =
     let gates = c.gates-gates.ensures ∙ ap (λ (f : Fields). f.gates) spelled.fields in
     record {
       value_is = c.operate-value.ensures s.part.op (sym gates) ∙ ap (λ (x : ℕ). alu s.part.op (micro_in c.args.latches.now).h x) c.requires.b;
-      c_is = c.shift_by-c.ensures ∙ ap (λ (bits : ℕ). shifted (shift_of bits) c.operate-value.result) c.shift.ensures;
+      c_is = c.shift_for-c.ensures;
     }
 
 pub returns-clause-value : goal.returns-clause-value
@@ -40,5 +40,5 @@ returns-clause-value c =
     let gates = c.gates-gates.ensures ∙ ap (λ (f : Fields). f.gates) spelled.fields in
     let x : c.operate-value.result ≡ result_of s.part (micro_in c.args.latches.now) =
     c.operate-value.ensures s.part.op (sym gates) ∙ ap (λ (x : ℕ). alu s.part.op (micro_in c.args.latches.now).h x) c.requires.b in
-    let shift = c.shift_by-c.ensures ∙ (λ i. shifted (shift_of (c.shift.ensures i)) (x i)) in
+    let shift = c.shift_for-c.ensures ∙ ap (λ (v : ℕ). shifted s.part.shift v) x in
     λ i. record { alu = record { value = x i; n = is_negative (x i); z = x i == 0 }; c = shift i }

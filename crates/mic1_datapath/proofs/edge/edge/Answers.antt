@@ -9,8 +9,8 @@ use Rattle.mic1_datapath.proofs.edge.edge.Goals as goal
 
 -- what is tried first leaves all as it was, where it does nothing
 
-pub any_edge-requires-clause-computed : goal.any_edge-requires-clause-computed
-any_edge-requires-clause-computed g c =
+pub edge_outside-requires-clause-computed : goal.edge_outside-requires-clause-computed
+edge_outside-requires-clause-computed g c =
     let same = c.edge_inside.ensures.none c.if-edge_inside.false in
     subst (λ (l : Latches). HasComputed c.args.word (micro_in l) c.args.value c.args.c) (sym same.0) c.requires.computed
 
@@ -23,18 +23,18 @@ returns-clause-edge g c =
     let same = c.edge_inside.ensures.none c.if-edge_inside.false in
     let left = g.S.Source.left c.args.source.now in
     let held = g.K.Sink.held c.args.sink.now in
-    let left' = g.S.Source.left c.any_edge.new.source in
-    let held' = g.K.Sink.held c.any_edge.new.sink in
-    let moved = micro_in c.any_edge.new.latches in
-    subst (λ (l : Latches). IsEdge mic1_meaning c.args.word (micro_in l) left held c.args.bus.now moved left' held' c.any_edge.new.bus c.any_edge.result) same.0
-    (subst (λ (b : BusView). IsEdge mic1_meaning c.args.word (micro_in c.edge_inside.new.latches) left held b moved left' held' c.any_edge.new.bus c.any_edge.result)
-    same.1 c.any_edge.ensures.edge)
+    let left' = g.S.Source.left c.edge_outside.new.source in
+    let held' = g.K.Sink.held c.edge_outside.new.sink in
+    let moved = micro_in c.edge_outside.new.latches in
+    subst (λ (l : Latches). IsEdge mic1_meaning c.args.word (micro_in l) left held c.args.bus.now moved left' held' c.edge_outside.new.bus c.edge_outside.result) same.0
+    (subst (λ (b : BusView). IsEdge mic1_meaning c.args.word (micro_in c.edge_inside.new.latches) left held b moved left' held' c.edge_outside.new.bus c.edge_outside.result)
+    same.1 c.edge_outside.ensures.edge)
 
 pub returns-clause-waits : goal.returns-clause-waits
 returns-clause-waits g c =
     let same = c.edge_inside.ensures.none c.if-edge_inside.false in
     let left = g.S.Source.left c.args.source.now in
     let held = g.K.Sink.held c.args.sink.now in
-    subst (λ (l : Latches). LetsBytesWait mic1_meaning c.args.word (micro_in l) left held c.args.bus.now c.args.sink.now c.any_edge.new.sink) same.0
-    (subst (λ (b : BusView). LetsBytesWait mic1_meaning c.args.word (micro_in c.edge_inside.new.latches) left held b c.args.sink.now c.any_edge.new.sink)
-    same.1 c.any_edge.ensures.waits)
+    subst (λ (l : Latches). LetsBytesWait mic1_meaning c.args.word (micro_in l) left held c.args.bus.now c.args.sink.now c.edge_outside.new.sink) same.0
+    (subst (λ (b : BusView). LetsBytesWait mic1_meaning c.args.word (micro_in c.edge_inside.new.latches) left held b c.args.sink.now c.edge_outside.new.sink)
+    same.1 c.edge_outside.ensures.waits)

@@ -34,12 +34,12 @@ returns-then-has-clause-edge c =
     let s = statement_of machines.Mic1 c.args.word in
     let m = micro_in c.args.latches.now in
     let its = c.requires.computed in
-    let alone = c.is_fetch_alone.ensures c.if-is_fetch_alone.true in
-    let ports = ports_of (assigned c.destinations-destinations.result c.args.c m) in
+    let dests = c.destinations-destinations.result in
+    let ports = ports_of (assigned dests c.args.c m) in
     let asked : Asked = record { ports = ports; mem = mems.None; fetch = true } in
     let is : IsAsked s m asked =
-    is_asked c.args.word m c.args.value c.args.c c.destinations-destinations.result ports mems.None true
-    its.value_is its.c_is c.destinations-destinations.ensures.value refl (sym alone.0) (sym alone.1) in
+    is_asked c.args.word m c.args.value c.args.c dests ports mems.None true its.value_is its.c_is c.destinations-destinations.ensures.value refl
+    (sym (c.transfers_nothing.ensures c.if-transfers_nothing.true)) (sym c.if-fetch.true ∙ c.fetch-fetch.ensures) in
     let here = sym c.pc_port-pc.ensures in
     λ done left held.
     edge_done c.args.word m asked is left held c.args.bus.now left held c.args.bus.now _ _ (c.fetch_alone-sampled.ensures.clear ports here)
@@ -49,41 +49,41 @@ returns-then-has-clause-edge c =
 
 -- it reads a word of the memory, and nothing else
 
-pub returns-then-has-2-clause-edge : goal.returns-then-has-2-clause-edge
-returns-then-has-2-clause-edge c =
+pub returns-then-is_read-clause-edge : goal.returns-then-is_read-clause-edge
+returns-then-is_read-clause-edge c =
     let s = statement_of machines.Mic1 c.args.word in
     let m = micro_in c.args.latches.now in
     let its = c.requires.computed in
-    let alone = c.is_read_alone.ensures c.if-is_read_alone.true in
-    let ports = ports_of (assigned c.destinations-destinations.result c.args.c m) in
+    let dests = c.destinations-destinations.result in
+    let ports = ports_of (assigned dests c.args.c m) in
     let asked : Asked = record { ports = ports; mem = mems.Read; fetch = false } in
     let is : IsAsked s m asked =
-    is_asked c.args.word m c.args.value c.args.c c.destinations-destinations.result ports mems.Read false
-    its.value_is its.c_is c.destinations-destinations.ensures.value refl (sym alone.0) (sym alone.1) in
+    is_asked c.args.word m c.args.value c.args.c dests ports mems.Read false its.value_is its.c_is c.destinations-destinations.ensures.value refl
+    (sym (c.is_read.ensures c.if-is_read.true)) (sym c.if-fetch-2.false ∙ c.fetch-fetch.ensures) in
     let here = sym c.mar_port-mar.ensures in
     λ done left held.
     edge_done c.args.word m asked is left held c.args.bus.now left held c.args.bus.now _ _ (c.read_alone-sampled.ensures.clear ports here)
     (led_same _ _ c.args.bus.now _ (λ w shows. c.read_alone-sampled.ensures.access ports here w shows.words)) (refl, λ a other. refl) _
-    (c.advance-then-has-2.ensures.micro
+    (c.advance-then-is_read.ensures.micro
     ∙ ap (λ (x : ℕ). next_micro s.next x (settled s.part m) c.read_alone-sampled.result.word c.read_alone-sampled.result.byte) its.value_is)
 
 -- it writes a word of the memory, and accesses nothing else
 
-pub returns-then-has-3-clause-edge : goal.returns-then-has-3-clause-edge
-returns-then-has-3-clause-edge c =
+pub returns-clause-edge : goal.returns-clause-edge
+returns-clause-edge c =
     let s = statement_of machines.Mic1 c.args.word in
     let m = micro_in c.args.latches.now in
     let its = c.requires.computed in
-    let alone = c.is_write_alone.ensures c.if-is_write_alone.true in
-    let ports = ports_of (assigned c.destinations-destinations.result c.args.c m) in
+    let dests = c.destinations-destinations.result in
+    let ports = ports_of (assigned dests c.args.c m) in
     let asked : Asked = record { ports = ports; mem = mems.Write; fetch = false } in
     let is : IsAsked s m asked =
-    is_asked c.args.word m c.args.value c.args.c c.destinations-destinations.result ports mems.Write false
-    its.value_is its.c_is c.destinations-destinations.ensures.value refl (sym alone.0) (sym alone.1) in
-    let at = sym c.mar_port-mar-then-is_write_alone.ensures in
+    is_asked c.args.word m c.args.value c.args.c dests ports mems.Write false its.value_is its.c_is c.destinations-destinations.ensures.value refl
+    (sym (c.is_write.ensures c.if-not-is_write.false)) (sym c.if-fetch-2.false ∙ c.fetch-fetch.ensures) in
+    let at = sym c.mar_port-mar.ensures in
     λ done left held.
     edge_done c.args.word m asked is left held c.args.bus.now left held c.write_alone.new.bus None None (c.write_alone.ensures.clear ports at)
     (led_inside _ _ c.args.bus.now c.write_alone.new.bus c.write_alone.ensures.console _
     (λ w shows. c.write_alone.ensures.access ports at (sym c.mdr_port-mdr.ensures) w shows.words))
     (subst (λ (a : ℕ). ChangesOnly a c.args.bus.now.words c.write_alone.new.bus.words) (sym at) c.write_alone.ensures.others) _
-    (c.advance-then-has-3.ensures.micro ∙ ap (λ (x : ℕ). next_micro s.next x (settled s.part m) None None) its.value_is)
+    (c.advance-2.ensures.micro ∙ ap (λ (x : ℕ). next_micro s.next x (settled s.part m) None None) its.value_is)

@@ -26,7 +26,7 @@ returns-clause-micro c =
     let kept = λ (k : ℕ) (word : k ≢ 1) (low : k < 9). arrives.others k word (omega arith) (omega arith) in
     let mbr = arrives.mbru ∙ ap (λ (x : ℕ). arrived m.byte x) (c.settle.ensures.others 10 (omega arith) (omega arith)) in
     let addr = c.requires.lines.addr ∙ ap (λ (f : Fields). f.addr) spelled.fields in
-    let jam = c.jam.ensures.value ∙ ap (λ (f : Fields). f.jam) spelled.fields in
+    let jam = ap (λ (f : Fields). f.jam) spelled.fields in
     λ i. record {
       mar = (kept 0 (omega arith) (omega arith) ∙ ap (λ (r : NineRegisters). r.mar) became) i;
       mdr = (arrives.mdr ∙ ap (λ (r : NineRegisters). arrived m.word r.mdr) became) i;
@@ -38,7 +38,7 @@ returns-clause-micro c =
       opc = (kept 7 (omega arith) (omega arith) ∙ ap (λ (r : NineRegisters). r.opc) became) i;
       h = (kept 8 (omega arith) (omega arith) ∙ ap (λ (r : NineRegisters). r.h) became) i;
       mbr = mbr i;
-      mpc = (c.next_address-self.ensures.next s.next valid.next addr jam ∙ ap (λ (x : ℕ). next_address s.next c.args.value x) mbr) i;
+      mpc = (c.goes_on-self.ensures.next s.next valid.next addr jam ∙ ap (λ (x : ℕ). next_address s.next c.args.value x) mbr) i;
       word = (ap (λ (x : ℕ). under_way (reads c.args.word) x) c.take.ensures ∙ kept_under_way c.args.sampled.word _ c.args.self.now.word c.requires.word_sampled) i;
       byte = (ap (λ (x : ℕ). under_way (fetches c.args.word) x) c.take_byte.ensures ∙ kept_under_way c.args.sampled.byte _ c.args.self.now.byte c.requires.byte_sampled) i;
       entry = c.args.self.now.entry;
@@ -51,7 +51,7 @@ returns-clause-latches c =
     let old = c.requires.latches in
     let mbr = was 10 (omega arith) (omega arith) in
     record {
-      mpc = c.next_address-self.ensures.small;
+      mpc = c.goes_on-self.ensures.small;
       mbr = c.arrive_behind.ensures.byte (subst (λ (x : ℕ). x < 256) (sym mbr) old.mbr);
       signed = c.arrive_behind.ensures.mbr (was 9 (omega arith) (omega arith) ∙ old.signed ∙ ap signed_byte (sym mbr));
       nothing = c.arrive_behind.ensures.others 13 (omega arith) (omega arith) (omega arith) ∙ was 13 (omega arith) (omega arith) ∙ old.nothing;
