@@ -1,17 +1,18 @@
 -- What a cycle of Mic-1 has before its edge: a word with its control lines, and what leaves the ALU and the shifter; and an edge that reaches memory alone.
-use Rattle.std.specs.Prelude.{◌≡◌, ⊤, ℕ, IsTrue, List, Option, Ok}
+use Rattle.std.specs.Prelude.{◌≡◌, ⊤, ℕ, false, IsTrue, List, Option, Ok}
 use Rattle.console_port.specs.View.{BusView}
 use Rattle.mic_clock.specs.Edge.{IsEdge}
 use Rattle.mic_words.specs.declared.machine.Machine.TheVariants as machines
-use Rattle.micro_word.specs.Coding.{statement_of}
+use Rattle.micro_word.specs.Coding.{mem_of, statement_of}
 use Rattle.micro_word.specs.Layout.{fields_of}
 use Rattle.micro_word.specs.Lines.{AreLines}
 use Rattle.micro_word.specs.Operation.{shifted}
 use Rattle.micro_word.specs.Words.{is_canonical}
 use Rattle.micro_word.specs.declared.lines.Lines.{Lines}
-use Rattle.mic1_datapath.specs.Latches.{micro_in}
+use Rattle.micro_word.specs.declared.statement.Mem.TheVariants as mems
+use Rattle.mic1_datapath.specs.Latches.{fetches, micro_in}
 use Rattle.mic1_datapath.specs.Mic1.{mic1_meaning}
-use Rattle.mic1_datapath.specs.Microstep.{result_of}
+use Rattle.mic1_datapath.specs.Microstep.{next_micro, result_of, settled}
 use Rattle.mic1_datapath.specs.Micro.{Micro}
 use Rattle.mic1_datapath.specs.declared.latches.Latches.{Latches}
 
@@ -24,6 +25,14 @@ pub record IsDecoded (word : ℕ) (lines : Lines) : Type 0 where
 pub record HasComputed (word : ℕ) (m : Micro) (value c : ℕ) : Type 0 where
   pub value_is : value ≡ result_of (statement_of machines.Mic1 word).part m
   pub c_is : c ≡ shifted (statement_of machines.Mic1 word).part.shift value
+
+-- the state behind a word that has this value out of the ALU, with what its accesses sampled under way
+abbrev pub moved_on : ℕ → ℕ → Micro → Option ℕ → Option ℕ → Micro
+moved_on word value m read byte = next_micro (statement_of machines.Mic1 word).next value (settled (statement_of machines.Mic1 word).part m) read byte
+
+-- a word that accesses nothing
+abbrev pub IsQuiet : ℕ → Type 0
+IsQuiet word = (mem_of (fields_of machines.Mic1 word).mem ≡ mems.None) × (fetches word ≡ false)
 
 -- an edge that is done, and is the same between any source and any sink
 abbrev pub IsEdgeInside : ℕ → Latches → BusView → Latches → BusView → Type 0

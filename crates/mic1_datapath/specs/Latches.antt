@@ -1,5 +1,5 @@
 -- What the latches of Mic-1 mean: the microstep's state.
-use Rattle.std.specs.Prelude.{◌≡◌, ℕ, ◌<◌, ◌==◌, Bool, if◌then◌else◌, Option, Some, None, slice_index}
+use Rattle.std.specs.Prelude.{◌≡◌, ℕ, ◌<◌, ◌==◌, Bool, if◌then◌else◌, List, Option, Some, None, slice_index}
 use Rattle.mic_words.specs.Arithmetic.{signed_byte}
 use Rattle.mic_words.specs.declared.machine.Machine.TheVariants as machines
 use Rattle.micro_word.specs.Layout.{fields_of}
@@ -37,9 +37,13 @@ micro_in l =
       clocked = l.clocked;
     }
 
+-- the place of MBR with its sign shows the byte at the place without
+abbrev pub HasSignedMbr : List ℕ → Type 0
+HasSignedMbr places = slice_index places 9 ≡ signed_byte (slice_index places 10)
+
 -- what holds of all latches
 pub record AreLatches (l : Latches) : Type 0 where
   pub mpc : l.mpc < 512
   pub mbr : slice_index l.places 10 < 256
-  pub signed : slice_index l.places 9 ≡ signed_byte (slice_index l.places 10)
+  pub signed : HasSignedMbr l.places
   pub nothing : slice_index l.places NOTHING ≡ 0

@@ -1,13 +1,13 @@
 //! The clock edge of a cycle, behind what the cycle computed.
 
-ghost use Rattle.std.specs.Prelude.{◌≡◌, ◌==◌, Err, true, false};
+ghost use Rattle.std.specs.Prelude.{◌≡◌, Err, true, false};
 ghost use Rattle.console_port.specs.Console.{HasFaultCause};
 ghost use Rattle.console_port.specs.Streams.{SinkGoesOn, SourceGoesOn};
 ghost use Rattle.mic_words.specs.declared.machine.Machine.TheVariants.{Mic1};
 ghost use Rattle.micro_word.specs.Coding.{mem_of};
 ghost use Rattle.micro_word.specs.Layout.{fields_of};
 ghost use Rattle.mic_clock.specs.Edge.{IsEdge, LetsBytesWait};
-ghost use Rattle.mic1_datapath.specs.Cycle.{HasComputed, IsDecoded, IsEdgeInside};
+ghost use Rattle.mic1_datapath.specs.Cycle.{HasComputed, IsDecoded, IsEdgeInside, IsQuiet};
 ghost use Rattle.mic1_datapath.specs.Latches.{AreLatches, micro_in};
 ghost use Rattle.mic1_datapath.specs.Mic1.{mic1_meaning};
 
@@ -27,7 +27,7 @@ const NOTHING: Sampled = Sampled {
 
 /// Whether a word accesses nothing.
 fn is_quiet(word: u64) -> bool
-    ensures { result ≡ true → (mem_of (fields_of Mic1 word).mem ≡ Mem.None) × (((fields_of Mic1 word).fetch == 1) ≡ false) }
+    ensures { result ≡ true → IsQuiet word }
 {
     bits::mem(Machine::Mic1, word) == 0 && !bits::fetch(Machine::Mic1, word)
 }

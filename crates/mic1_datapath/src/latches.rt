@@ -1,19 +1,18 @@
 //! What Mic-1 keeps between cycles.
 
 ghost use Rattle.std.specs.Prelude.{◌≡◌, ◌≢◌, ◌<◌, ℕ, IsTrue, is_some, slice_index, unwrap_or, true, false};
-ghost use Rattle.mic_words.specs.Arithmetic.{signed_byte};
 ghost use Rattle.mic_words.specs.declared.machine.Machine.TheVariants.{Mic1};
-ghost use Rattle.micro_word.specs.declared.statement.PlacedNext.{PlacedNext};
-ghost use Rattle.micro_word.specs.Words.{is_canonical, is_next};
-ghost use Rattle.micro_word.specs.Coding.{addr_bits, jam_bits, statement_of};
+ghost use Rattle.micro_word.specs.Words.{is_canonical};
+ghost use Rattle.micro_word.specs.Coding.{statement_of};
 ghost use Rattle.micro_word.specs.Layout.{fields_of};
 ghost use Rattle.micro_word.specs.Lines.{AreLines};
 ghost use Rattle.micro_word.specs.Operation.{shifted};
-ghost use Rattle.mic_datapath.specs.Next.{next_address};
+ghost use Rattle.mic_datapath.specs.Next.{GoesTo};
 ghost use Rattle.mic_datapath.specs.Registers.{arrived as arrived_of};
 ghost use Rattle.mic1_datapath.specs.Mic1.{initial as initial_of};
-ghost use Rattle.mic1_datapath.specs.Microstep.{assigned, ports_of, result_of, settled, next_micro};
-ghost use Rattle.mic1_datapath.specs.Latches.{AreLatches, micro_in, reads, fetches, under_way};
+ghost use Rattle.mic1_datapath.specs.Cycle.{moved_on};
+ghost use Rattle.mic1_datapath.specs.Microstep.{assigned, ports_of, result_of};
+ghost use Rattle.mic1_datapath.specs.Latches.{AreLatches, HasSignedMbr, micro_in, reads, fetches, under_way};
 
 use mic_clock::Start;
 use mic_datapath::{
@@ -81,7 +80,7 @@ fn take_byte(sampled: Option<u8>, kept: &mut u8)
 /// A byte that arrives becomes MBR, in both its forms.
 fn load_mbr(byte: Option<u8>, places: &mut Places)
     ensures mbru { slice_index places.new 10 ≡ arrived_of byte (slice_index places.old 10) }
-    ensures mbr { slice_index places.old 9 ≡ signed_byte (slice_index places.old 10) → slice_index places.new 9 ≡ signed_byte (slice_index places.new 10) }
+    ensures mbr { HasSignedMbr places.old → HasSignedMbr places.new }
     ensures byte { slice_index places.old 10 < 256 → slice_index places.new 10 < 256 }
     ensures others { (k : ℕ) → k ≢ 9 → k ≢ 10 → slice_index places.new k ≡ slice_index places.old k }
 {
@@ -103,7 +102,7 @@ fn brings_nothing(word: u64) -> bool
 fn arrive_behind(before: u64, word: u32, byte: u8, places: &mut Places)
     ensures mdr { slice_index places.new 1 ≡ arrived_of (under_way (reads before) word) (slice_index places.old 1) }
     ensures mbru { slice_index places.new 10 ≡ arrived_of (under_way (fetches before) byte) (slice_index places.old 10) }
-    ensures mbr { slice_index places.old 9 ≡ signed_byte (slice_index places.old 10) → slice_index places.new 9 ≡ signed_byte (slice_index places.new 10) }
+    ensures mbr { HasSignedMbr places.old → HasSignedMbr places.new }
     ensures byte { slice_index places.old 10 < 256 → slice_index places.new 10 < 256 }
     ensures others { (k : ℕ) → k ≢ 1 → k ≢ 9 → k ≢ 10 → slice_index places.new k ≡ slice_index places.old k }
 {
@@ -124,7 +123,7 @@ const JAM: u64 = 0x100_0000;
 #[inline(always)]
 fn goes_on(word: u64, addr: u16, value: u32, byte: u8) -> u16
     requires { addr < 512 }
-    ensures next { (n : PlacedNext) → IsTrue (is_next n) → addr ≡ addr_bits n → (fields_of Mic1 word).jam ≡ jam_bits n → result ≡ next_address n value byte }
+    ensures next { GoesTo addr (fields_of Mic1 word).jam value byte result }
     ensures small { result < 512 }
 {
     // Most words go on to Addr, and the word tells it faster than its field.
@@ -221,8 +220,7 @@ impl Latches {
         requires word_sampled { is_some sampled.word ≡ reads word }
         requires byte_sampled { is_some sampled.byte ≡ fetches word }
         ensures latches { AreLatches self.new }
-        ensures micro { let s = statement_of Mic1 word in
-            micro_in self.new ≡ next_micro s.next value (settled s.part (micro_in self.old)) sampled.word sampled.byte }
+        ensures micro { micro_in self.new ≡ moved_on word value (micro_in self.old) sampled.word sampled.byte }
     {
         word_law(Machine::Mic1);
         statement_law(Machine::Mic1);

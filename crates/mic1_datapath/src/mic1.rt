@@ -180,7 +180,8 @@ impl Clocked for Mic1 {
     }
 
     fn at_boundary(&self) -> bool {
-        self.latches.clocked && self.latches.mpc == self.latches.entry
+        // Few cycles come to the entry, so the other test is made there alone.
+        self.latches.mpc == self.latches.entry && self.latches.clocked
     }
 
     fn instruction_address(&self) -> u32 {

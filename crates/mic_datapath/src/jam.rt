@@ -1,11 +1,8 @@
 //! The address of the next word, by the control bits.
 
-ghost use Rattle.std.specs.Prelude.{◌≡◌, ◌<◌, ◌==◌, IsTrue};
+ghost use Rattle.std.specs.Prelude.{◌≡◌, ◌<◌, ◌==◌};
 ghost use Rattle.mic_words.specs.Arithmetic.{is_negative};
-ghost use Rattle.micro_word.specs.declared.statement.PlacedNext.{PlacedNext};
-ghost use Rattle.micro_word.specs.Words.{is_next};
-ghost use Rattle.micro_word.specs.Coding.{addr_bits, jam_bits};
-ghost use Rattle.mic_datapath.specs.Next.{next_address};
+ghost use Rattle.mic_datapath.specs.Next.{GoesTo};
 ghost use Rattle.mic_datapath.specs.Jam.{low_bits, jammed};
 
 /// With JMPC the low bits are those of Addr OR the byte.
@@ -43,7 +40,7 @@ fn jammed_address(addr: u16, jam: u8, value: u32, byte: u8) -> u16
 /// Where a statement whose next address has these bits goes, with this value out of the ALU and this byte for a dispatch.
 pub fn next_address(addr: u16, jam: u8, value: u32, byte: u8) -> u16
     requires { addr < 512 }
-    ensures next { (n : PlacedNext) → IsTrue (is_next n) → addr ≡ addr_bits n → jam ≡ jam_bits n → result ≡ next_address n value byte }
+    ensures next { GoesTo addr jam value byte result }
     ensures small { result < 512 }
 {
     jammed_address(addr, jam, value, byte)
