@@ -1,4 +1,5 @@
 pub mod Inside
+pub mod Buses
 pub mod Demands
 pub mod Sources
 pub mod Steps

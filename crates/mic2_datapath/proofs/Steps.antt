@@ -1,11 +1,12 @@
 -- What is asked of the bus for a statement, with its accesses, is its microstep or its refusal.
-use Rattle.std.proofs.Common.{◌≡◌, ℕ, ◌%◌, ◌≤◌, ◌==◌, ◌&&◌, Bool, true, false, if◌then◌else◌, IsTrue, List, [], ◌∷◌, ◌++◌, drop, Option, Some, None, Result, Ok, Err, length, inl, inr, refl, sym, ap, subst, ◌∙◌}
-use Rattle.std.specs.Prelude.{⊤, IfErr, OnOk}
+use Rattle.std.proofs.Common.{◌≡◌, ℕ, ◌%◌, ◌≤◌, ◌==◌, ◌&&◌, Bool, true, false, if◌then◌else◌, IsTrue, List, [], ◌∷◌, ◌++◌, drop, Option, Some, None, Result, Ok, Err, length, inl, inr, refl, sym, ap, subst, ◌∙◌, arith}
+use Rattle.std.specs.Prelude.{⊤, IfErr, IsErrAnd, OnErr, OnOk}
 use Rattle.console_port.specs.World.{World, Refusal, StackLimit, OutOfMap, fault_of, console_at}
 use Rattle.console_port.specs.Bus.{ChangesOnly, IsLed, Shows, Stands, refused_by}
-use Rattle.console_port.specs.Console.{IsFault}
+use Rattle.console_port.specs.Console.{HasFaultCause, IsFault}
 use Rattle.console_port.specs.View.{BusView}
 use Rattle.console_port.specs.declared.fault.BusFault.{BusFault}
+use Rattle.console_port.specs.declared.fault.BusFault.TheVariants as faults
 use Rattle.mic_words.specs.declared.machine.Machine.TheVariants as machines
 use Rattle.micro_word.specs.Coding.{statement_of, mem_of}
 use Rattle.micro_word.specs.Layout.{fields_of}
@@ -193,10 +194,34 @@ refused_no_fault None e is fault = absurd (cc)
 refused_no_fault (Some (StackLimit at)) e is fault = let same : e ≡ fault_of (StackLimit at) = cc in subst IsFault same fault
 refused_no_fault (Some (OutOfMap at)) e is fault = let same : e ≡ fault_of (OutOfMap at) = cc in subst IsFault same fault
 
+-- so it has no cause in the source or the sink
+pub no_cause : (why : Option Refusal) (source sink : ℕ) (r : Result ⊤ BusFault) → IfErr r (λ e. refused_by why ≡ Some e) → HasFaultCause source source sink sink r
+no_cause why source sink r fails =
+    record {
+      source_later = omega arith;
+      sink_later = omega arith;
+      read = λ is. absurd (never faults.ReadFault is tt);
+      write = λ is. absurd (never faults.WriteFault is tt);
+      source_same = λ is. refl;
+      sink_same = λ is. refl;
+    }
+  where
+    never : (e : BusFault) → r ≡ Err e → IsFault e → ⊥
+    never e is = refused_no_fault why e (subst (λ (x : Result ⊤ BusFault). IfErr x (λ f. refused_by why ≡ Some f)) is fails)
+
 -- what is refused was not tested, as a read is not
 pub it_reads : (reads : Bool) (r : Option Refusal) (e : BusFault) → (reads ≡ false → r ≡ None) → refused_by r ≡ Some e → reads ≡ true
 it_reads true r e clear fails = refl
 it_reads false r e clear fails = let none : None ≡ Some e = sym (ap refused_by (clear refl)) ∙ fails in absurd (cc)
+
+pub on_each_err : {P : Type 0} (r : Result ⊤ BusFault) (Q : BusFault → Type 0) → IfErr r Q → ((e : BusFault) → Q e → P) → OnErr r P
+on_each_err (Ok done) Q fails f = tt
+on_each_err (Err e) Q fails f = f e fails
+
+-- the fault that a call hands on
+pub handed_on : {T : Type 0} (r : Result T BusFault) (e : BusFault) → IsErrAnd r (λ f. f ≡ e) → Err e ≡ r
+handed_on (Ok told) e h = absurd h
+handed_on (Err f) e h = λ i. Err (sym h i)
 
 -- what is not refused is done
 pub unrefused : {P : Type 0} (r : Result ⊤ BusFault) (why : Option Refusal) → IfErr r (λ e. refused_by why ≡ Some e) → why ≡ None → OnOk r P → P
@@ -290,6 +315,32 @@ module _ (word : ℕ) (m : Micro) (left held : Option (List ℕ)) (bus : BusView
   over_same b same t left' held' bus' result edge =
       subst (λ (x : BusView). IsEdge mic2_meaning word m left held x {T = ⊤} t left' held' bus' result) same edge
 
+  -- what is done may tell more
+  pub tells : {T : Type 0} (told : T) (t : Micro) (left' held' : Option (List ℕ)) (bus' : BusView) → Edges t left' held' bus' (Ok tt) →
+      IsEdge mic2_meaning word m left held bus {T = T} t left' held' bus' (Ok told)
+  tells told t left' held' bus' edge =
+      record {
+        ok = edge.ok;
+        others = edge.others;
+        refusal = λ w e shows refused. absurd (let is = edge.refusal w e shows refused in cc);
+        err = tt;
+        state = tt;
+        stands = tt;
+      }
+
+  -- and what is not done tells the fault
+  pub fails_so : {T : Type 0} (e : BusFault) (t : Micro) (left' held' : Option (List ℕ)) (bus' : BusView) → Edges t left' held' bus' (Err e) →
+      IsEdge mic2_meaning word m left held bus {T = T} t left' held' bus' (Err e)
+  fails_so e t left' held' bus' edge =
+      record {
+        ok = tt;
+        others = tt;
+        refusal = λ w f shows refused. let is = edge.refusal w f shows refused in let same : e ≡ f = cc in cc;
+        err = edge.err;
+        state = edge.state;
+        stands = edge.stands;
+      }
+
   -- what is refused leaves all
   refused_edge : (why : Option Refusal) → ((w : World) → Shows left held bus w → refusal_in (step_of_word word m w) ≡ refused_by why) →
       (bus' : BusView) → bus' ≡ bus → (t : Micro) → t ≡ m → (e : BusFault) → refused_by why ≡ Some e → Edges t left held bus' (Err e)
@@ -340,6 +391,11 @@ module _ (word : ℕ) (m : Micro) (left held : Option (List ℕ)) (bus : BusView
         refused_edge (edge_refusal (length bus.words) 0 m.unit)
         (λ w shows. stall_refusal (statement_of machines.Mic2 word) m w _ waits (size_of w shows)) bus refl t stays e fails
 
+    pub stall_edge : (t : Micro) (r : Result ⊤ BusFault) → OnOk r (t ≡ stalled bus.words m) → OnOk r (edge_refusal (length bus.words) 0 m.unit ≡ None) →
+        OnErr r (t ≡ m) → IfErr r (λ e. refused_by (edge_refusal (length bus.words) 0 m.unit) ≡ Some e) → Edges t left held bus r
+    stall_edge t (Ok done) moves clear stays fails = stall_goes clear t moves
+    stall_edge t (Err e) moves clear stays fails = stall_fails t stays e fails
+
   -- and of any other
   module _ (p : Asked) (h : IsAsked (statement_of machines.Mic2 word) m p) where
     abbrev why : Option Refusal
@@ -374,6 +430,14 @@ module _ (word : ℕ) (m : Micro) (left held : Option (List ℕ)) (bus : BusView
     unfolding step_of_word
     edge_refused bus' same t stays e fails =
         refused_edge why (λ w shows. step_refusal (statement_of machines.Mic2 word) m p h _ w (size_of w shows)) bus' same t stays e fails
+
+    -- an edge without a fault: it is done with what is sampled, or refused
+    pub edge_either : (bus' : BusView) (read : Option ℕ) (t : Micro) (r : Result ⊤ BusFault) →
+        IsLed left held bus left held bus' (λ w v. IsTransfer (length bus.words) p.mem p.ports w read v) → ChangesOnly p.ports.mar bus.words bus'.words →
+        OnOk r (why ≡ None) → OnOk r (t ≡ moved_on (statement_of machines.Mic2 word) m (result_of (statement_of machines.Mic2 word).part m) bus'.words read) →
+        OnErr r (bus' ≡ bus) → OnErr r (t ≡ m) → IfErr r (λ e. refused_by why ≡ Some e) → Edges t left held bus' r
+    edge_either bus' read t (Ok done) led others clear moves same stays fails = edge_done left held bus' read clear led others t moves
+    edge_either bus' read t (Err e) led others clear moves same stays fails = edge_refused bus' same t stays e fails
 
     module _ (law : AtConsole) where
       pub edge_fails : {T : Type 0} (Does : T → World → World → Type 0) (left' held' : Option (List ℕ)) (bus' : BusView) (e : BusFault) →

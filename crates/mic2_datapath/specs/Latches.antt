@@ -11,7 +11,7 @@ use Rattle.micro_word.specs.declared.statement.Placed.{Placed}
 use Rattle.mic_datapath.specs.Places.{registers_at}
 use Rattle.mic_datapath.specs.Registers.{NineRegisters, loaded}
 use Rattle.mic2_datapath.specs.Micro.{Micro}
-use Rattle.mic2_datapath.specs.Microstep.{is_stalled, result_of, source}
+use Rattle.mic2_datapath.specs.Microstep.{is_stalled, result_of}
 use Rattle.mic2_datapath.specs.declared.latches.Latches.{Latches}
 
 abbrev pub micro_in : Latches → Micro
@@ -43,12 +43,6 @@ pub record HasFront (operands : ℕ) (l : Latches) : Type 0 where
   pub unsigned : 1 ≤ operands → slice_index l.places 10 ≡ slice_index l.unit.bytes 0
   pub pair : 2 ≤ operands → slice_index l.places 11 ≡ signed_pair (slice_index l.unit.bytes 0) (slice_index l.unit.bytes 1)
   pub unsigned_pair : 2 ≤ operands → slice_index l.places 12 ≡ 256 * slice_index l.unit.bytes 0 + slice_index l.unit.bytes 1
-
--- behind the call that drives the operand buses: whether the cycle stalls, and what is on them where it does not
-pub record HasDriven (s : Placed) (m : Micro) (stalled : Bool) (a b : ℕ) : Type 0 where
-  pub waits : stalled ≡ is_stalled s m
-  pub a_side : stalled ≡ false → a ≡ source s.part.a m
-  pub b_side : stalled ≡ false → b ≡ source s.part.b m
 
 -- behind the call that lets ALU and shifter work: what leaves them
 pub record HasComputed (s : Placed) (m : Micro) (stalled : Bool) (value c : ℕ) : Type 0 where

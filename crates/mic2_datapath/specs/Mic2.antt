@@ -5,7 +5,7 @@ use Rattle.micro_word.specs.declared.statement.Placed.{Placed}
 use Rattle.mic_words.specs.declared.machine.Machine.TheVariants as machines
 use Rattle.micro_word.specs.Coding.{statement_of}
 use Rattle.mic_words.specs.Arithmetic.{before, is_negative}
-use Rattle.micro_word.specs.Operation.{shifted}
+use Rattle.micro_word.specs.Operation.{alu, shifted}
 use Rattle.mic_clock.specs.declared.buses.Drive.{Drive}
 use Rattle.mic_clock.specs.declared.buses.Computed.{Computed}
 use Rattle.mic_clock.specs.declared.registers.Registers.{Registers}
@@ -76,6 +76,10 @@ stalled_value = record { alu = record { value = 0; n = false; z = false }; c = 0
 
 abbrev pub value_of : Placed → ℕ → Computed
 value_of s x = record { alu = record { value = x; n = is_negative x; z = x == 0 }; c = shifted s.part.shift x }
+
+-- the same for what is on the operand buses
+abbrev pub computed_on : Placed → Drive → Computed
+computed_on s d = if d.stalled then stalled_value else value_of s (alu s.part.op d.a d.b)
 
 abbrev pub computed_by : Placed → Micro → Computed
 computed_by s m = if is_stalled s m then stalled_value else value_of s (result_of s.part m)

@@ -8,9 +8,12 @@ ghost use Rattle.micro_word.specs.Layout.{fields_of};
 ghost use Rattle.micro_word.specs.Lines.{AreLines, AreSlots};
 ghost use Rattle.micro_word.specs.Operation.{alu, shifted};
 ghost use Rattle.mic_datapath.specs.Next.{next_address};
+ghost use Rattle.mic2_datapath.specs.Mic2.{computed_on};
 ghost use Rattle.mic2_datapath.specs.Microstep.{demand};
 
+use mic_clock::{Computed, Drive};
 use mic_datapath::{next_address, operate, shift_by, side_law};
+use mic1_alu::AluOut;
 use micro_word::{Lines, Machine, Mem, Store, bits, fields2, statement_law, word_law};
 
 /// JMPC.
@@ -99,6 +102,23 @@ impl Control {
         ensures { result ≡ shifted (statement_of Mic2 self.now.word).part.shift value }
     {
         shift_for(self.word, value)
+    }
+
+    /// What leaves the ALU and the shifter for what is on the operand buses.
+    #[inline(always)]
+    pub fn compute(&self, drive: Drive) -> Computed
+        requires { (statement_of Mic2 self.now.word).part.b ≡ None → drive.b ≡ 0 }
+        ensures { result ≡ computed_on (statement_of Mic2 self.now.word) drive }
+    {
+        if drive.stalled {
+            return Computed::ZERO;
+        }
+        let value = self.operate(drive.a, drive.b);
+        let c = self.shift(value);
+        let n = value >= 0x8000_0000;
+        let z = value == 0;
+        let alu = AluOut { value, n, z };
+        Computed { alu, c }
     }
 
     /// Its destinations, a bit for each register.

@@ -4,6 +4,7 @@
 
 mod accesses;
 mod control;
+mod cycle;
 mod latches;
 mod laws;
 mod mic2;

@@ -1,21 +1,20 @@
 //! The machine: its four calls, which are the book's subcycles.
 
-ghost use Rattle.std.specs.Prelude.{◌≡◌, Err, refl};
+ghost use Rattle.std.specs.Prelude.{◌≡◌, refl};
 ghost use Rattle.mic_words.specs.declared.machine.Machine.TheVariants.{Mic2 as Mic2Machine};
 ghost use Rattle.micro_word.specs.Coding.{statement_of};
 ghost use Rattle.mic_clock.specs.Meaning.{Driven, AtEdge};
 ghost use Rattle.mic_datapath.specs.Stage.{phase_of};
-ghost use Rattle.mic2_datapath.specs.Latches.{AreLatches, HasDriven, HasComputed, micro_in};
+ghost use Rattle.mic2_datapath.specs.Latches.{AreLatches, HasComputed, micro_in};
+ghost use Rattle.mic2_datapath.specs.Mic2.{driven};
 
-use crate::accesses::access;
-use crate::control::{Control, is_quiet};
-use crate::latches::{Latches, Operands, PC};
+use crate::control::Control;
+use crate::latches::Latches;
 use console_port::{Bus, BusFault};
 use mic_base::{Sink, Source};
 use mic_clock::{Clocked, Computed, Drive, Registers, Start, Tail};
-use mic_datapath::{Stage, console_law};
-use mic1_alu::AluOut;
-use micro_word::{Machine, Mem, Store, Word2, bits, is_named};
+use mic_datapath::Stage;
+use micro_word::{Machine, Store, Word2};
 
 /// Mic-2.
 #[derive(Drop)]
@@ -23,28 +22,21 @@ pub struct Mic2 {
     stage: Stage,
     /// The word that was set up last.
     control: Control,
-    /// Whether too few bytes are there for it.
-    stalled: bool,
-    /// What is on the operand buses.
-    a: u32,
-    b: u32,
-    /// What leaves the ALU.
-    value: u32,
-    /// What is on the C bus.
-    c: u32,
+    /// What is on the operand buses for it.
+    buses: Drive,
+    /// What leaves the ALU and the shifter.
+    values: Computed,
     latches: Latches,
     ghost kept: { AreLatches latches },
-    ghost drove: { phase_of stage ≡ Driven → HasDriven (statement_of Mic2Machine control.word) (micro_in latches) stalled a b },
-    ghost computed: { phase_of stage ≡ AtEdge → HasComputed (statement_of Mic2Machine control.word) (micro_in latches) stalled value c },
+    ghost drove: { phase_of stage ≡ Driven → buses ≡ driven control.word (micro_in latches) },
+    ghost computed: { phase_of stage ≡ AtEdge →
+        HasComputed (statement_of Mic2Machine control.word) (micro_in latches) buses.stalled values.alu.value values.c },
 }
 
 impl Mic2 {
-    ghost use Rattle.console_port.specs.Console.{HasFaultCause};
-    ghost use Rattle.console_port.specs.Streams.{SinkGoesOn, SourceGoesOn};
-    ghost use Rattle.mic_clock.specs.Edge.{IsEdge, LetsBytesWait};
     ghost use Rattle.mic_clock.specs.Meaning.{AtRest};
-    ghost use Rattle.mic2_datapath.specs.Mic2.{at_zero, initial as initial_of, mic2_meaning};
-    ghost use Rattle.mic2_datapath.specs.View.{micro_of, microinstruction_of, phase};
+    ghost use Rattle.mic2_datapath.specs.Mic2.{at_zero, initial as initial_of};
+    ghost use Rattle.mic2_datapath.specs.View.{micro_of, phase};
 
     /// As a reset at entry 0 with SP 0 leaves it, where the memory's first word is 0.
     pub fn new() -> Mic2
@@ -59,56 +51,8 @@ impl Mic2 {
             }),
             stage: Stage::Setup,
             control: Control::idle(),
-            stalled: false,
-            a: 0,
-            b: 0,
-            value: 0,
-            c: 0,
-        }
-    }
-
-    /// The edge of any cycle. Few cycles stall, or access something else than memory.
-    #[cold]
-    fn any_edge<S: Source, K: Sink>(
-        &mut self,
-        bus: &mut Bus,
-        source: &mut S,
-        sink: &mut K,
-    ) -> Result<(), BusFault>
-        requires phase { phase self.old ≡ AtRest }
-        requires computed { HasComputed (statement_of Mic2Machine self.old.control.word)
-            (micro_in self.old.latches) self.old.stalled self.old.value self.old.c }
-        ensures phase { phase self.new ≡ AtRest }
-        ensures edge { IsEdge mic2_meaning (microinstruction_of self.old) (micro_of self.old) (S.left source.old) (K.held sink.old) bus.old
-            (micro_of self.new) (S.left source.new) (K.held sink.new) bus.new result }
-        ensures waits { LetsBytesWait mic2_meaning (microinstruction_of self.old) (micro_of self.old)
-            (S.left source.old) (K.held sink.old) bus.old sink.old sink.new }
-        ensures source { SourceGoesOn S.left bus.old.console.ended source.old bus.new.console.ended source.new }
-        ensures sink { SinkGoesOn K.held K.passed (result ≡ Err BusFault.WriteFault) sink.old sink.new }
-        ensures cause { HasFaultCause (S.faults source.old) (S.faults source.new) (K.faults sink.old) (K.faults sink.new) result }
-    {
-        console_law();
-        if self.stalled {
-            return match self.latches.stall(bus) {
-                Ok(()) => Ok(()),
-                Err(fault) => Err(fault),
-            };
-        }
-        let (word, value, c) = (self.control.word, self.value, self.c);
-        let takes = self.control.lines.takes;
-        let destinations = bits::destinations(Machine::Mic2, word);
-        let mem = Mem::of_bits(bits::mem(Machine::Mic2, word));
-        let ports = self.latches.ports(destinations, c, takes);
-        let at = self
-            .latches
-            .will_fetch(is_named(destinations, PC), ports.pc, takes);
-        match access(mem, at, &ports, bus, source, sink) {
-            Ok(word) => {
-                // What the fetch unit samples was tested before the access.
-                let _ = self.latches.advance(&self.control, value, c, word, bus);
-                Ok(())
-            }
-            Err(fault) => Err(fault),
+            buses: Drive::ZERO,
+            values: Computed::ZERO,
         }
     }
 }
@@ -149,53 +93,18 @@ impl Clocked for Mic2 {
 
     #[inline(always)]
     fn drive(&mut self) -> Drive {
-        let stalled = self.latches.unit.have() < self.control.lines.takes;
-        self.stalled = stalled;
-        if stalled {
-            self.stage = Stage::Compute;
-            return Drive {
-                a: 0,
-                b: 0,
-                stalled: true,
-            };
-        }
-        let Operands { a, b } = self.latches.operands(&self.control);
-        self.a = a;
-        self.b = b;
+        let buses = self.latches.drive(&self.control);
+        self.buses = buses;
         self.stage = Stage::Compute;
-        Drive {
-            a,
-            b,
-            stalled: false,
-        }
+        buses
     }
 
     #[inline(always)]
     fn compute(&mut self) -> Computed {
-        if self.stalled {
-            self.stage = Stage::Edge;
-            return Computed {
-                alu: AluOut {
-                    value: 0,
-                    n: false,
-                    z: false,
-                },
-                c: 0,
-            };
-        }
-        let value = self.control.operate(self.a, self.b);
-        let c = self.control.shift(value);
-        self.value = value;
-        self.c = c;
+        let values = self.control.compute(self.buses);
+        self.values = values;
         self.stage = Stage::Edge;
-        Computed {
-            alu: AluOut {
-                value,
-                n: value >= 0x8000_0000,
-                z: value == 0,
-            },
-            c,
-        }
+        values
     }
 
     #[inline(always)]
@@ -206,32 +115,38 @@ impl Clocked for Mic2 {
         sink: &mut K,
     ) -> Result<(), BusFault> {
         self.stage = Stage::Setup;
-        if self.stalled {
-            return match self.any_edge(bus, source, sink) {
-                Ok(()) => Ok(()),
-                Err(fault) => Err(fault),
-            };
-        }
-        // Loaded before an access, behind which they would be loaded again.
-        let (word, value, c) = (self.control.word, self.value, self.c);
-        // Most words access nothing, and most others what is in memory.
-        if is_quiet(word) {
-            return match self.latches.advance(&self.control, value, c, None, bus) {
-                Ok(()) => Ok(()),
-                Err(fault) => Err(fault),
-            };
-        }
-        let takes = self.control.lines.takes;
-        match self.latches.access_inside(word, c, takes, bus) {
-            Some(sampled) => match self.latches.advance(&self.control, value, c, sampled, bus) {
-                Ok(()) => Ok(()),
-                Err(fault) => Err(fault),
-            },
-            None => match self.any_edge(bus, source, sink) {
-                Ok(()) => Ok(()),
-                Err(fault) => Err(fault),
-            },
-        }
+        self.latches.edge(
+            &self.control,
+            self.buses.stalled,
+            self.values.alu.value,
+            self.values.c,
+            bus,
+            source,
+            sink,
+        )
+    }
+
+    #[inline(always)]
+    fn clock<S: Source, K: Sink>(
+        &mut self,
+        store: &Store,
+        bus: &mut Bus,
+        source: &mut S,
+        sink: &mut K,
+    ) -> Result<(Drive, Computed), BusFault> {
+        let control = Control::of(store, self.latches.mpc);
+        let drive = self.latches.drive(&control);
+        let computed = control.compute(drive);
+        self.latches.edge(
+            &control,
+            drive.stalled,
+            computed.alu.value,
+            computed.c,
+            bus,
+            source,
+            sink,
+        )?;
+        Ok((drive, computed))
     }
 
     #[inline(always)]

@@ -1,0 +1,60 @@
+-- What is on the buses, by the word that was set up.
+use Rattle.std.proofs.Common.{◌≡◌, ℕ, Bool, true, false, if◌then◌else◌, Option, None, refl, sym, ap, ◌∙◌}
+use Rattle.mic_words.specs.declared.machine.Machine.TheVariants as machines
+use Rattle.micro_word.specs.Coding.{statement_of}
+use Rattle.micro_word.specs.Operation.{shifted}
+use Rattle.micro_word.specs.declared.statement.BusSource.{BusSource}
+use Rattle.micro_word.specs.declared.statement.Placed.{Placed}
+use Rattle.mic_clock.specs.declared.buses.Drive.{Drive}
+use Rattle.mic_clock.specs.declared.buses.Computed.{Computed}
+use Rattle.mic2_datapath.specs.Micro.{Micro}
+use Rattle.mic2_datapath.specs.Microstep.{is_stalled, result_of, source}
+use Rattle.mic2_datapath.specs.Mic2.{computed, computed_on, driven, stalled_drive, stalled_value, value_of}
+use Rattle.mic2_datapath.specs.Latches.{HasComputed}
+
+module _ (s : Placed) (m : Micro) where
+  -- both buses, in a stall or not
+  abbrev pub drive_if : Bool → Drive
+  drive_if b = if b then stalled_drive else record { a = source s.part.a m; b = source s.part.b m; stalled = false }
+
+  abbrev value_if : Bool → Computed
+  value_if b = if b then stalled_value else value_of s (result_of s.part m)
+
+  stalls_if : (b : Bool) → (drive_if b).stalled ≡ b
+  stalls_if true = refl
+  stalls_if false = refl
+
+  none_on_b : (b : Bool) → s.part.b ≡ None → (drive_if b).b ≡ 0
+  none_on_b true none = refl
+  none_on_b false none = ap (λ (o : Option BusSource). source o m) none
+
+  computes_if : (b : Bool) → computed_on s (drive_if b) ≡ value_if b
+  computes_if true = refl
+  computes_if false = refl
+
+module _ (word : ℕ) (m : Micro) (d : Drive) (is : d ≡ driven word m) where
+  abbrev its_statement : Placed
+  its_statement = statement_of machines.Mic2 word
+
+  pub waits_there : d.stalled ≡ is_stalled its_statement m
+  unfolding driven
+  waits_there = ap (λ (x : Drive). x.stalled) is ∙ stalls_if its_statement m (is_stalled its_statement m)
+
+  pub nothing_on_b : its_statement.part.b ≡ None → d.b ≡ 0
+  unfolding driven
+  nothing_on_b none = ap (λ (x : Drive). x.b) is ∙ none_on_b its_statement m (is_stalled its_statement m) none
+
+  pub computed_there : computed_on its_statement d ≡ computed word m
+  unfolding driven computed
+  computed_there = ap (λ (x : Drive). computed_on its_statement x) is ∙ computes_if its_statement m (is_stalled its_statement m)
+
+  pub has_computed : (v : Computed) → v ≡ computed word m → HasComputed its_statement m d.stalled v.alu.value v.c
+  unfolding computed
+  has_computed v its =
+      let s = its_statement in
+      let goes : d.stalled ≡ false → v ≡ value_of s (result_of s.part m) = λ not. its ∙ ap (λ (b : Bool). value_if s m b) (sym waits_there ∙ not) in
+      record {
+        waits = waits_there;
+        alu = λ not. ap (λ (x : Computed). x.alu.value) (goes not);
+        shifter = λ not. ap (λ (x : Computed). x.c) (goes not) ∙ sym (ap (λ (x : Computed). shifted s.part.shift x.alu.value) (goes not));
+      }

@@ -1,0 +1,115 @@
+//! A cycle over the latches and what is on the buses.
+
+ghost use Rattle.std.specs.Prelude.{◌≡◌, Err};
+ghost use Rattle.mic_words.specs.declared.machine.Machine.TheVariants.{Mic2};
+ghost use Rattle.micro_word.specs.Coding.{statement_of};
+ghost use Rattle.console_port.specs.Console.{HasFaultCause};
+ghost use Rattle.console_port.specs.Streams.{SinkGoesOn, SourceGoesOn};
+ghost use Rattle.mic_clock.specs.Edge.{IsEdge, LetsBytesWait};
+ghost use Rattle.mic2_datapath.specs.Latches.{AreLatches, HasComputed, micro_in};
+ghost use Rattle.mic2_datapath.specs.Mic2.{driven, mic2_meaning};
+
+use crate::accesses::access;
+use crate::control::{Control, is_quiet};
+use crate::latches::{Latches, Operands, PC};
+use console_port::{Bus, BusFault};
+use mic_base::{Sink, Source};
+use mic_clock::Drive;
+use mic_datapath::console_law;
+use micro_word::is_named;
+
+impl Latches {
+    /// Drives the operand buses for a word, unless too few bytes are there for it.
+    #[inline(always)]
+    pub fn drive(&mut self, control: &Control) -> Drive
+        requires { AreLatches self.old }
+        ensures latches { AreLatches self.new }
+        ensures micro { micro_in self.new ≡ micro_in self.old }
+        ensures value { result ≡ driven control.now.word (micro_in self.old) }
+    {
+        let stalled = self.unit.have() < control.lines.takes;
+        if stalled {
+            return Drive {
+                a: 0,
+                b: 0,
+                stalled: true,
+            };
+        }
+        let Operands { a, b } = self.operands(control);
+        Drive {
+            a,
+            b,
+            stalled: false,
+        }
+    }
+
+    /// The edge of any cycle. Few cycles stall, or access something else than memory.
+    #[cold]
+    fn any_edge<S: Source, K: Sink>(
+        &mut self,
+        control: &Control,
+        stalled: bool,
+        value: u32,
+        c: u32,
+        bus: &mut Bus,
+        source: &mut S,
+        sink: &mut K,
+    ) -> Result<(), BusFault>
+        requires latches { AreLatches self.old }
+        requires computed { HasComputed (statement_of Mic2 control.now.word) (micro_in self.old) stalled value c }
+        ensures latches { AreLatches self.new }
+        ensures edge { IsEdge mic2_meaning control.now.word (micro_in self.old) (S.left source.old) (K.held sink.old) bus.old
+            (micro_in self.new) (S.left source.new) (K.held sink.new) bus.new result }
+        ensures waits { LetsBytesWait mic2_meaning control.now.word (micro_in self.old) (S.left source.old) (K.held sink.old) bus.old sink.old sink.new }
+        ensures source { SourceGoesOn S.left bus.old.console.ended source.old bus.new.console.ended source.new }
+        ensures sink { SinkGoesOn K.held K.passed (result ≡ Err BusFault.WriteFault) sink.old sink.new }
+        ensures cause { HasFaultCause (S.faults source.old) (S.faults source.new) (K.faults sink.old) (K.faults sink.new) result }
+    {
+        console_law();
+        if stalled {
+            return self.stall(bus);
+        }
+        let takes = control.lines.takes;
+        let destinations = control.destinations();
+        let ports = self.ports(destinations, c, takes);
+        let at = self.will_fetch(is_named(destinations, PC), ports.pc, takes);
+        let sampled = access(control.mem(), at, &ports, bus, source, sink)?;
+        // What the fetch unit samples was tested before the access.
+        let _ = self.advance(control, value, c, sampled, bus);
+        Ok(())
+    }
+
+    /// The edge of a cycle in which this left the ALU and the shifter.
+    #[inline(always)]
+    pub fn edge<S: Source, K: Sink>(
+        &mut self,
+        control: &Control,
+        stalled: bool,
+        value: u32,
+        c: u32,
+        bus: &mut Bus,
+        source: &mut S,
+        sink: &mut K,
+    ) -> Result<(), BusFault>
+        requires latches { AreLatches self.old }
+        requires computed { HasComputed (statement_of Mic2 control.now.word) (micro_in self.old) stalled value c }
+        ensures latches { AreLatches self.new }
+        ensures edge { IsEdge mic2_meaning control.now.word (micro_in self.old) (S.left source.old) (K.held sink.old) bus.old
+            (micro_in self.new) (S.left source.new) (K.held sink.new) bus.new result }
+        ensures waits { LetsBytesWait mic2_meaning control.now.word (micro_in self.old) (S.left source.old) (K.held sink.old) bus.old sink.old sink.new }
+        ensures source { SourceGoesOn S.left bus.old.console.ended source.old bus.new.console.ended source.new }
+        ensures sink { SinkGoesOn K.held K.passed (result ≡ Err BusFault.WriteFault) sink.old sink.new }
+        ensures cause { HasFaultCause (S.faults source.old) (S.faults source.new) (K.faults sink.old) (K.faults sink.new) result }
+    {
+        if !stalled {
+            // Most words access nothing, and most others what is in memory.
+            if is_quiet(control.word) {
+                return self.advance(control, value, c, None, bus);
+            }
+            if let Some(sampled) = self.access_inside(control.word, c, control.lines.takes, bus) {
+                return self.advance(control, value, c, sampled, bus);
+            }
+        }
+        self.any_edge(control, stalled, value, c, bus, source, sink)
+    }
+}
