@@ -1,6 +1,6 @@
 -- What is asked of the bus for the statement that retires, with its access, is the cycle or its refusal.
 use Rattle.std.proofs.Common.{arith, ◌≡◌, ℕ, ◌%◌, ◌≤◌, ◌==◌, ◌&&◌, Bool, true, false, if◌then◌else◌, IsTrue, List, [], ◌∷◌, ◌++◌, drop, Option, Some, None, Result, Ok, Err, length, inl, inr, refl, sym, ap, ap₂, subst, ◌∙◌}
-use Rattle.std.specs.Prelude.{⊤, IfErr, OnOk, nat_lt, ◌||◌}
+use Rattle.std.specs.Prelude.{⊤, IfErr, IsErrAnd, OnOk, nat_lt, ◌||◌}
 use Rattle.std.proofs.lemmas.Bool.Decides.{nat_tests}
 use Rattle.console_port.specs.World.{World, Refusal, StackLimit, OutOfMap, fault_of, console_at}
 use Rattle.console_port.specs.Bus.{ChangesOnly, IsLed, Shows, refused_by}
@@ -124,6 +124,11 @@ not_refused (Some why) result e is fault answers = absurd (no_fault why (subst I
     no_fault : (r : Refusal) → IsFault (fault_of r) → ⊥
     no_fault (StackLimit at) f = f
     no_fault (OutOfMap at) f = f
+
+-- the fault that a call hands on
+pub handed_on : {T : Type 0} (r : Result T BusFault) (e : BusFault) → IsErrAnd r (λ f. f ≡ e) → Err e ≡ r
+handed_on (Ok told) e h = absurd h
+handed_on (Err f) e h = λ i. Err (sym h i)
 
 -- what is not refused is done
 pub unrefused : {P : Type 0} (r : Result ⊤ BusFault) (why : Option Refusal) → IfErr r (λ e. refused_by why ≡ Some e) → why ≡ None → OnOk r P → P

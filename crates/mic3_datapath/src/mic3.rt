@@ -136,16 +136,12 @@ impl Clocked for Mic3 {
         let jumps = jumps_now(self.pipeline.result);
         let ports = self.pipeline.ports(taken);
         let at = self.pipeline.latches.will_fetch(jumps, ports.pc, taken);
-        match access(mem, at, &ports, bus, source, sink) {
-            Ok(sampled) => {
-                // What the fetch unit samples was tested before the access.
-                let _ = self
-                    .pipeline
-                    .advance(self.to_issue, &self.values, ports.pc, sampled, bus);
-                Ok(())
-            }
-            Err(fault) => Err(fault),
-        }
+        let sampled = access(mem, at, &ports, bus, source, sink)?;
+        // What the fetch unit samples was tested before the access.
+        let _ = self
+            .pipeline
+            .advance(self.to_issue, &self.values, ports.pc, sampled, bus);
+        Ok(())
     }
 
     #[inline(always)]
