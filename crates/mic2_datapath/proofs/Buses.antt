@@ -2,14 +2,14 @@
 use Rattle.std.proofs.Common.{◌≡◌, ℕ, Bool, true, false, if◌then◌else◌, Option, None, refl, sym, ap, ◌∙◌}
 use Rattle.mic_words.specs.declared.machine.Machine.TheVariants as machines
 use Rattle.micro_word.specs.Coding.{statement_of}
-use Rattle.micro_word.specs.Operation.{shifted}
+use Rattle.micro_word.specs.Operation.{alu, shifted}
 use Rattle.micro_word.specs.declared.statement.BusSource.{BusSource}
 use Rattle.micro_word.specs.declared.statement.Placed.{Placed}
 use Rattle.mic_clock.specs.declared.buses.Drive.{Drive}
 use Rattle.mic_clock.specs.declared.buses.Computed.{Computed}
 use Rattle.mic2_datapath.specs.Micro.{Micro}
 use Rattle.mic2_datapath.specs.Microstep.{is_stalled, result_of, source}
-use Rattle.mic2_datapath.specs.Mic2.{computed, computed_on, driven, stalled_drive, stalled_value, value_of}
+use Rattle.mic2_datapath.specs.Mic2.{computed, computed_on, driven, flagged, stalled_drive, stalled_value, value_of}
 use Rattle.mic2_datapath.specs.Latches.{HasComputed}
 
 module _ (s : Placed) (m : Micro) where
@@ -31,6 +31,16 @@ module _ (s : Placed) (m : Micro) where
   computes_if : (b : Bool) → computed_on s (drive_if b) ≡ value_if b
   computes_if true = refl
   computes_if false = refl
+
+-- what leaves the ALU and the shifter where nothing stalls
+pub flagged_on : (s : Placed) (d : Drive) → d.stalled ≡ false → (value c : ℕ) → value ≡ alu s.part.op d.a d.b → c ≡ shifted s.part.shift value → flagged value c ≡ computed_on s d
+flagged_on s d not value c value_is c_is =
+    (λ i. flagged (value_is i) ((c_is ∙ ap (λ (x : ℕ). shifted s.part.shift x) value_is) i))
+    ∙ sym (ap (λ (b : Bool). if b then stalled_value else value_of s (alu s.part.op d.a d.b)) not)
+
+-- and where it does
+pub nothing_on : (s : Placed) (d : Drive) → d.stalled ≡ true → stalled_value ≡ computed_on s d
+nothing_on s d is = sym (ap (λ (b : Bool). if b then stalled_value else value_of s (alu s.part.op d.a d.b)) is)
 
 module _ (word : ℕ) (m : Micro) (d : Drive) (is : d ≡ driven word m) where
   abbrev its_statement : Placed

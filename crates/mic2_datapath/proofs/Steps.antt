@@ -471,3 +471,27 @@ module _ (word : ℕ) (m : Micro) (left held : Option (List ℕ)) (bus : BusView
             | inl same ↦ inl same
             | inr asks ↦ inr (asks.some, λ w shows. reads_console law word m p h _ w (size_of w shows) asks.clear asks.behind asks.reads)
           ]
+
+-- an edge of a cycle is one of the same word and state
+
+pub edge_for : {T : Type 0} (word word' : ℕ) (m m' : Micro) → word' ≡ word → m' ≡ m →
+    (left held : Option (List ℕ)) (bus : BusView) (t : Micro) (left' held' : Option (List ℕ)) (bus' : BusView) (r : Result T BusFault) →
+    IsEdge mic2_meaning word' m' left held bus {T = T} t left' held' bus' r → IsEdge mic2_meaning word m left held bus {T = T} t left' held' bus' r
+edge_for {T} word word' m m' same stays left held bus t left' held' bus' r edge =
+    subst (λ (w : ℕ). IsEdge mic2_meaning w m left held bus {T = T} t left' held' bus' r) same
+    (subst (λ (n : Micro). IsEdge mic2_meaning word' n left held bus {T = T} t left' held' bus' r) stays edge)
+
+pub waits_for : {K : Type 0} (word word' : ℕ) (m m' : Micro) → word' ≡ word → m' ≡ m → (left held : Option (List ℕ)) (bus : BusView) (sink sink' : K) →
+    LetsBytesWait mic2_meaning word' m' left held bus sink sink' → LetsBytesWait mic2_meaning word m left held bus sink sink'
+waits_for word word' m m' same stays left held bus sink sink' lets =
+    subst (λ (w : ℕ). LetsBytesWait mic2_meaning w m left held bus sink sink') same
+    (subst (λ (n : Micro). LetsBytesWait mic2_meaning word' n left held bus sink sink') stays lets)
+
+-- the fault of an edge is what its cycle tells
+pub fails_for : {T : Type 0} (word word' : ℕ) (m m' : Micro) → word' ≡ word → m' ≡ m →
+    (left held : Option (List ℕ)) (bus : BusView) (t : Micro) (left' held' : Option (List ℕ)) (bus' : BusView) (e : BusFault) (r : Result T BusFault) →
+    IsErrAnd r (λ f. f ≡ e) → IsEdge mic2_meaning word' m' left held bus {T = ⊤} t left' held' bus' (Err e) →
+    IsEdge mic2_meaning word m left held bus {T = T} t left' held' bus' r
+fails_for {T} word word' m m' same stays left held bus t left' held' bus' e r hands edge =
+    subst (λ (x : Result T BusFault). IsEdge mic2_meaning word m left held bus {T = T} t left' held' bus' x) (handed_on r e hands)
+    (fails_so word m left held bus {T = T} e t left' held' bus' (edge_for word word' m m' same stays left held bus t left' held' bus' (Err e) edge))

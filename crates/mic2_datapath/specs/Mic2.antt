@@ -74,8 +74,11 @@ driven word m = driven_by (statement_of machines.Mic2 word) m
 abbrev pub stalled_value : Computed
 stalled_value = record { alu = record { value = 0; n = false; z = false }; c = 0 }
 
+abbrev pub flagged : ℕ → ℕ → Computed
+flagged x c = record { alu = record { value = x; n = is_negative x; z = x == 0 }; c = c }
+
 abbrev pub value_of : Placed → ℕ → Computed
-value_of s x = record { alu = record { value = x; n = is_negative x; z = x == 0 }; c = shifted s.part.shift x }
+value_of s x = flagged x (shifted s.part.shift x)
 
 -- the same for what is on the operand buses
 abbrev pub computed_on : Placed → Drive → Computed

@@ -8,7 +8,7 @@ ghost use Rattle.micro_word.specs.Layout.{fields_of};
 ghost use Rattle.micro_word.specs.Lines.{AreLines, AreSlots};
 ghost use Rattle.micro_word.specs.Operation.{alu, shifted};
 ghost use Rattle.mic_datapath.specs.Next.{next_address};
-ghost use Rattle.mic2_datapath.specs.Mic2.{computed_on};
+ghost use Rattle.mic2_datapath.specs.Mic2.{computed_on, flagged};
 ghost use Rattle.mic2_datapath.specs.Microstep.{demand};
 
 use mic_clock::{Computed, Drive};
@@ -46,6 +46,17 @@ pub fn shift_for(word: u64, value: u32) -> u32
         return value;
     }
     shift_by(bits::shift(Machine::Mic2, word), value)
+}
+
+/// The result with N and Z, and the shifted result.
+#[inline(always)]
+pub fn values_of(value: u32, c: u32) -> Computed
+    ensures { result ≡ flagged value c }
+{
+    let n = value >= 0x8000_0000;
+    let z = value == 0;
+    let alu = AluOut { value, n, z };
+    Computed { alu, c }
 }
 
 /// Whether a word accesses nothing.
@@ -114,11 +125,7 @@ impl Control {
             return Computed::ZERO;
         }
         let value = self.operate(drive.a, drive.b);
-        let c = self.shift(value);
-        let n = value >= 0x8000_0000;
-        let z = value == 0;
-        let alu = AluOut { value, n, z };
-        Computed { alu, c }
+        values_of(value, self.shift(value))
     }
 
     /// Its destinations, a bit for each register.

@@ -79,6 +79,32 @@ impl Latches {
         Ok(())
     }
 
+    /// The same. The place of its answer is made here, and not in each cycle.
+    #[inline(always)]
+    fn rare_edge<S: Source, K: Sink>(
+        &mut self,
+        control: &Control,
+        stalled: bool,
+        value: u32,
+        c: u32,
+        bus: &mut Bus,
+        source: &mut S,
+        sink: &mut K,
+    ) -> Result<(), BusFault>
+        requires latches { AreLatches self.old }
+        requires computed { HasComputed (statement_of Mic2 control.now.word) (micro_in self.old) stalled value c }
+        ensures latches { AreLatches self.new }
+        ensures edge { IsEdge mic2_meaning control.now.word (micro_in self.old) (S.left source.old) (K.held sink.old) bus.old
+            (micro_in self.new) (S.left source.new) (K.held sink.new) bus.new result }
+        ensures waits { LetsBytesWait mic2_meaning control.now.word (micro_in self.old) (S.left source.old) (K.held sink.old) bus.old sink.old sink.new }
+        ensures source { SourceGoesOn S.left bus.old.console.ended source.old bus.new.console.ended source.new }
+        ensures sink { SinkGoesOn K.held K.passed (result ≡ Err BusFault.WriteFault) sink.old sink.new }
+        ensures cause { HasFaultCause (S.faults source.old) (S.faults source.new) (K.faults sink.old) (K.faults sink.new) result }
+    {
+        self.any_edge(control, stalled, value, c, bus, source, sink)?;
+        Ok(())
+    }
+
     /// The edge of a cycle in which this left the ALU and the shifter.
     #[inline(always)]
     pub fn edge<S: Source, K: Sink>(
@@ -110,6 +136,6 @@ impl Latches {
                 return self.advance(control, value, c, sampled, bus);
             }
         }
-        self.any_edge(control, stalled, value, c, bus, source, sink)
+        self.rare_edge(control, stalled, value, c, bus, source, sink)
     }
 }

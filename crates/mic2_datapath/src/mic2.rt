@@ -8,7 +8,7 @@ ghost use Rattle.mic_datapath.specs.Stage.{phase_of};
 ghost use Rattle.mic2_datapath.specs.Latches.{AreLatches, HasComputed, micro_in};
 ghost use Rattle.mic2_datapath.specs.Mic2.{driven};
 
-use crate::control::Control;
+use crate::control::{Control, values_of};
 use crate::latches::Latches;
 use console_port::{Bus, BusFault};
 use mic_base::{Sink, Source};
@@ -136,17 +136,16 @@ impl Clocked for Mic2 {
     ) -> Result<(Drive, Computed), BusFault> {
         let control = Control::of(store, self.latches.mpc);
         let drive = self.latches.drive(&control);
-        let computed = control.compute(drive);
-        self.latches.edge(
-            &control,
-            drive.stalled,
-            computed.alu.value,
-            computed.c,
-            bus,
-            source,
-            sink,
-        )?;
-        Ok((drive, computed))
+        if drive.stalled {
+            self.latches.edge(&control, true, 0, 0, bus, source, sink)?;
+            return Ok((drive, Computed::ZERO));
+        }
+        let value = control.operate(drive.a, drive.b);
+        let c = control.shift(value);
+        self.latches
+            .edge(&control, false, value, c, bus, source, sink)?;
+        // N and Z behind the edge, so that nothing keeps them over it.
+        Ok((drive, values_of(value, c)))
     }
 
     #[inline(always)]

@@ -83,5 +83,5 @@ returns-clause-waits g c =
     elim c.if-not-stalled.branch [ then-not-stalled+else-is_quiet+in_default w ↦ search rules | else-not-stalled w ↦ w.bus-is ] in
     subst
     (λ (b : BusView).
-    LetsBytesWait mic2_meaning control.word (micro_in c.args.self.now) (g.S.Source.left c.args.source.now) (g.K.Sink.held c.args.sink.now) b c.args.sink.now c.any_edge.new.sink)
-    same c.any_edge.ensures.waits
+    LetsBytesWait mic2_meaning control.word (micro_in c.args.self.now) (g.S.Source.left c.args.source.now) (g.K.Sink.held c.args.sink.now) b c.args.sink.now c.rare_edge.new.sink)
+    same c.rare_edge.ensures.waits
