@@ -1,5 +1,5 @@
 -- Words in pages: a table says where the frame of each page begins among the frames, and the first frame, which no page owns, stays 0.
-use Rattle.std.specs.Prelude.{◌≡◌, ◌≢◌, ℕ, ◌+◌, ◌*◌, ◌/◌, ◌%◌, ◌<◌, ◌≤◌, nat_lt, List, length, map, slice_index}
+use Rattle.std.specs.Prelude.{◌≡◌, ◌≢◌, ℕ, ◌+◌, ◌*◌, ◌/◌, ◌%◌, ◌<◌, ◌≤◌, nat_lt, List, length, map, replicate, slice_index}
 use Rattle.std.specs.List.{range_with_len, count_by}
 
 -- where the word at an address is among the frames
@@ -14,13 +14,19 @@ words_of table frames size = map (λ at. slice_index frames (place_in_frames tab
 unfoldable pub framed : List ℕ → ℕ
 framed table = count_by (λ start. nat_lt 0 start) table
 
--- Each page that has a frame has one of its own, those from `free` on are free, and there is one for each page.
-pub record ArePaged (table frames : List ℕ) (free size : ℕ) : Type 0 where
+-- Each page that has a frame has one of its own, and no other frames were made.
+pub record ArePaged (table frames : List ℕ) (size : ℕ) : Type 0 where
   pub pages : size ≤ 1024 * length table
-  pub frames_made : length frames ≡ 1024 * (length table + 1)
-  pub frames_taken : free ≡ 1024 * (framed table + 1)
+  pub frames_made : length frames ≡ 1024 * (framed table + 1)
   pub whole : (page : ℕ) → slice_index table page % 1024 ≡ 0
-  pub taken : (page : ℕ) → slice_index table page < free
+  pub taken : (page : ℕ) → slice_index table page < length frames
   pub own : (page other : ℕ) → slice_index table page ≢ 0 → slice_index table page ≡ slice_index table other → page ≡ other
   pub unmapped : (at : ℕ) → at < 1024 → slice_index frames at ≡ 0
-  pub unused : (at : ℕ) → free ≤ at → slice_index frames at ≡ 0
+
+-- a frame that was not written
+unfoldable pub empty_frame : List ℕ
+empty_frame = replicate 1024 0
+
+-- so many words have room for the first frame and one for each page
+abbrev pub HasRoom : List ℕ → ℕ → Type 0
+HasRoom table room = 1024 * (length table + 1) ≤ room

@@ -77,15 +77,31 @@ impl Console {
         ensures ok { OnOk result ((given : List ℕ) → Given (K.held sink.old) self.old.kept given → Given (K.held sink.new) self.new.kept (given ++ byte ∷ [])) }
         ensures lost { OnErr result (IsLost (K.held sink.old) self.old.kept (K.held sink.new) self.new.kept) }
         ensures fault { IfErr result (λ e. e ≡ BusFault.WriteFault) }
-
         ensures roomy { length self.old.kept < most_kept → IsOk result × (self.new.kept ≡ self.old.kept ++ byte ∷ []) × (sink.new ≡ sink.old) }
         ensures full { length self.old.kept ≡ most_kept → OnOk result (self.new.kept ≡ byte ∷ []) }
         ensures sink { SinkGoesOn K.held K.passed (result ≡ Err BusFault.WriteFault) sink.old sink.new }
         ensures cause { HasFaultCause 0 0 (K.faults sink.old) (K.faults sink.new) result }
     {
         if self.buffer.is_full() {
-            self.flush(sink)?;
+            return self.give_to_full(byte, sink);
         }
+        self.buffer.push(byte);
+        Ok(())
+    }
+
+    /// Puts the kept bytes to the sink, and then keeps the byte: apart, because few calls of `give` need it.
+    #[cold]
+    #[inline(never)]
+    fn give_to_full<K: Sink>(&mut self, byte: u8, sink: &mut K) -> Result<(), BusFault>
+        ensures ended { self.new.ended ≡ self.old.ended }
+        ensures ok { OnOk result ((given : List ℕ) → Given (K.held sink.old) self.old.kept given → Given (K.held sink.new) self.new.kept (given ++ byte ∷ [])) }
+        ensures kept { OnOk result (self.new.kept ≡ byte ∷ []) }
+        ensures lost { OnErr result (IsLost (K.held sink.old) self.old.kept (K.held sink.new) self.new.kept) }
+        ensures fault { IfErr result (λ e. e ≡ BusFault.WriteFault) }
+        ensures sink { SinkGoesOn K.held K.passed (result ≡ Err BusFault.WriteFault) sink.old sink.new }
+        ensures cause { HasFaultCause 0 0 (K.faults sink.old) (K.faults sink.new) result }
+    {
+        self.flush(sink)?;
         self.buffer.push(byte);
         Ok(())
     }

@@ -1,7 +1,8 @@
 //! The memory's words, kept in pages: a page gets a frame of its own when it is first written.
 
-ghost use Rattle.std.specs.Prelude.{◌≡◌, ◌≢◌, ◌/◌, ◌<◌, ◌^◌, ℕ, List, IfOk, IsTrue, ◌↔◌, length, replicate, slice_get, slice_index, slice_set};
-ghost use Rattle.console_port.specs.Pages.{ArePaged, words_of};
+ghost use Rattle.std.specs.Prelude.{◌≡◌, ◌≢◌, ◌+◌, ◌++◌, ◌<◌, ◌≤◌, ℕ, IfOk, IsTrue, ◌↔◌, length, replicate, slice_get, slice_index, slice_set};
+ghost use Rattle.std.specs.Vec.{vec_capacity};
+ghost use Rattle.console_port.specs.Pages.{ArePaged, empty_frame, HasRoom, words_of};
 
 use std::alloc::{AllocError, Global};
 use std::marker::Model;
@@ -9,26 +10,26 @@ use std::marker::Model;
 /// The words of a page.
 pub const PAGE: usize = 1024;
 
-/// A memory of words. There is a frame for each page, and before them one that stays 0, which every page without a frame reads.
+/// A memory of words. The first frame stays 0, and every page without a frame of its own reads it.
 #[derive(Drop)]
 pub struct Pages {
     size: usize,
     /// Where the frame of each page begins.
     table: Vec<usize>,
+    /// The frames made so far, with room for one for each page.
     frames: Vec<u32>,
-    /// Where the next free frame begins.
-    free: usize,
 }
 
 impl Model for Pages {
     ghost use Rattle.std.specs.Prelude.{ℕ, List};
-    ghost use Rattle.console_port.specs.Pages.{ArePaged, words_of};
+    ghost use Rattle.std.specs.Vec.{vec_capacity};
+    ghost use Rattle.console_port.specs.Pages.{ArePaged, HasRoom, words_of};
 
     ghost Value = { List ℕ };
 
     ghost view = { λ p. words_of p.table.items p.frames.items p.size };
 
-    ghost invariant = { λ p. ArePaged p.table.items p.frames.items p.free p.size };
+    ghost invariant = { λ p. ArePaged p.table.items p.frames.items p.size × HasRoom p.table.items (vec_capacity p.frames) };
 }
 
 impl Pages {
@@ -38,11 +39,12 @@ impl Pages {
     {
         let size = size as usize;
         let pages = size.div_ceil(PAGE);
+        let mut frames = Vec::with_capacity(alloc, PAGE * (pages + 1))?;
+        frames.resize(PAGE, 0)?;
         Ok(Pages {
             size,
             table: vec![in alloc; 0; pages]?,
-            frames: vec![in alloc; 0; PAGE * (pages + 1)]?,
-            free: PAGE,
+            frames,
         })
     }
 
@@ -79,25 +81,40 @@ impl Pages {
         ensures { self.new ≡ slice_set self.old at value }
     {
         let at = at as usize;
-        let start = frame_of(&mut self.table, &mut self.free, at / PAGE);
+        let start = frame_of(&mut self.table, &mut self.frames, at / PAGE);
         self.frames[start + at % PAGE] = value;
     }
 }
 
-/// Where the frame of a page begins. A page without one gets the next free frame.
-fn frame_of(table: &mut [usize], free: &mut usize, page: usize) -> usize
+/// Where the frame of a page begins. A page without one gets one.
+fn frame_of(table: &mut [usize], frames: &mut Vec<u32>, page: usize) -> usize
     requires page { page < length table.old }
-    requires free { 0 < free.old }
-    requires room { free.old < 2 ^ 63 }
+    requires room { HasRoom table.old (vec_capacity frames.old) }
+    requires paged { (size : ℕ) × ArePaged table.old frames.old.items size }
     ensures frame { result ≡ slice_index table.new page }
     ensures own { result ≢ 0 }
-    ensures paged { (frames : List ℕ) (size : ℕ) → ArePaged table.old frames free.old size → ArePaged table.new frames free.new size }
-    ensures words { (frames : List ℕ) (size : ℕ) → ArePaged table.old frames free.old size →
-        words_of table.new frames size ≡ words_of table.old frames size }
+    ensures capacity { vec_capacity frames.old ≤ vec_capacity frames.new }
+    ensures paged { (size : ℕ) → ArePaged table.old frames.old.items size → ArePaged table.new frames.new.items size }
+    ensures words { (size : ℕ) → ArePaged table.old frames.old.items size →
+        words_of table.new frames.new.items size ≡ words_of table.old frames.old.items size }
 {
     if table[page] == 0 {
-        table[page] = *free;
-        *free += PAGE;
+        add_frame(table, frames, page);
     }
     table[page]
+}
+
+/// Makes a frame for the page.
+#[cold]
+#[inline(never)]
+fn add_frame(table: &mut [usize], frames: &mut Vec<u32>, page: usize)
+    requires page { page < length table.old }
+    requires room { length frames.old.items + 1024 ≤ vec_capacity frames.old }
+    ensures table { table.new ≡ slice_set table.old page (length frames.old.items) }
+    ensures frames { frames.new.items ≡ frames.old.items ++ empty_frame }
+    ensures capacity { vec_capacity frames.old ≤ vec_capacity frames.new }
+{
+    let start = frames.len();
+    table[page] = start;
+    frames.resize(start + PAGE, 0).unwrap();
 }
