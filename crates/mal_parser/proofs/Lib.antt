@@ -1,7 +1,7 @@
 pub mod Options
-pub mod Naming
 pub mod Numbers
 pub mod Resolved
+pub mod Addresses
 pub mod Fixing
 pub mod Saying
 pub mod Adding

@@ -54,7 +54,7 @@ unnumbered ds (Some own) q fresh is =
     go None h = refl
     go (Some n) h = absurd (cc)
 
-last_number : (b : Bool) (o : Option ℕ) (n : ℕ) → (b ≡ true → o ≡ None) → cond b (Some n) o ≡ option_or o (cond b (Some n) None)
+pub last_number : (b : Bool) (o : Option ℕ) (n : ℕ) → (b ≡ true → o ≡ None) → cond b (Some n) o ≡ option_or o (cond b (Some n) None)
 last_number true None n h = refl
 last_number true (Some k) n h = absurd (let e = h refl in cc)
 last_number false None n h = refl

@@ -5,7 +5,6 @@ use Rattle.std.specs.Str.{bytes_eq}
 use Rattle.std.specs.Ordering.{nat_cmp}
 use Rattle.std.specs.Cmp.Lexicographic.{slice_cmp}
 use Rattle.std.specs.BTreeMap.{BTreeMap, get}
-use Rattle.std.specs.BTreeSet.{BTreeSet, contains}
 use Rattle.mal_parser.specs.declared.source.Draft.{Draft}
 use Rattle.mal_parser.specs.declared.source.Fix.{Fix}
 
@@ -43,10 +42,6 @@ labels_of = filter_map (λ d. d.label)
 abbrev pub address_of : ℤ → Option ℕ
 address_of (pos n) = if nat_lt n 512 then Some n else None
 address_of (negsuc n) = None
-
--- the set has the labels of the lines
-abbrev pub AreLabels : List Fix → BTreeSet (List ℕ) → Type 0
-AreLabels fs set = (label : List ℕ) → contains (slice_cmp nat_cmp) set label ≡ has_fix fs label
 
 -- the map has the number of the statement with each label
 abbrev pub AreNumbers : List Draft → BTreeMap (List ℕ) ℕ → Type 0

@@ -3,6 +3,7 @@
 
 mod drafts;
 mod error;
+mod fixes;
 mod laws;
 mod parse;
 mod print;

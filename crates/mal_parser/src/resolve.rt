@@ -4,12 +4,13 @@ ghost use Rattle.std.specs.Prelude.{◌≡◌, ◌≤◌, ◌<◌, ◌-◌, leng
 ghost use Rattle.std.specs.List.{position};
 ghost use Rattle.mal_parser.specs.Labels.{has_label, is_labelled};
 ghost use Rattle.mal_parser.specs.Text.{falls};
-ghost use Rattle.mal_parser.specs.Reading.{address_at, earlier, FailsBy, falling, first_falling, first_unknown, fixed_of, IsSound, knows, main1, resolved_next, number_of, resolved_program, resolved, target_number, unknown_draft, unknown_fix, unknown_in};
+ghost use Rattle.mal_parser.specs.Reading.{earlier, FailsBy, falling, first_falling, first_unknown, fixed_of, IsSound, knows, main1, resolved_next, number_of, resolved_program, resolved, target_number, unknown_draft, unknown_fix, unknown_in};
 
 use crate::drafts::Drafts;
 use crate::error::MalError;
+use crate::fixes::Fixes;
 use crate::program::MalProgram;
-use crate::source::{Draft, Fix, SourceReader};
+use crate::source::{Draft, SourceReader};
 use crate::statement::{MalNext, Statement};
 use mal_line::Next;
 use mic_base::Name;
@@ -35,10 +36,11 @@ fn unknown_draft(drafts: &Drafts) -> Option<u32>
         .map(|draft| draft.line)
 }
 
-fn unknown_fix(drafts: &Drafts, fixes: &[Fix]) -> Option<u32>
+fn unknown_fix(drafts: &Drafts, fixes: &Fixes) -> Option<u32>
     ensures { result ≡ unknown_fix drafts.now fixes.now }
 {
     fixes
+        .as_slice()
         .iter()
         .find(|fix| !drafts.has_label(&fix.label))
         .map(|fix| fix.line)
@@ -120,25 +122,16 @@ fn resolved_next(drafts: &Drafts, next: &Next<Name>) -> MalNext
     }
 }
 
-fn address_at(fixes: &[Fix], label: &Name) -> Option<u16>
-    ensures { result ≡ address_at fixes.now label.now }
-{
-    fixes
-        .iter()
-        .find(|fix| fix.label == *label)
-        .map(|fix| fix.address)
-}
-
-fn fixed_of(fixes: &[Fix], label: &Option<Name>) -> Option<u16>
+fn fixed_of(fixes: &Fixes, label: &Option<Name>) -> Option<u16>
     ensures { result ≡ fixed_of fixes.now label.now }
 {
     match label {
-        Some(label) => address_at(fixes, label),
+        Some(label) => fixes.address_at(label),
         None => None,
     }
 }
 
-fn resolved(drafts: &Drafts, fixes: &[Fix], draft: &Draft) -> Statement
+fn resolved(drafts: &Drafts, fixes: &Fixes, draft: &Draft) -> Statement
     requires { length drafts.now ≤ 512 }
     ensures { result ≡ resolved drafts.now fixes.now draft.now }
 {
@@ -156,7 +149,7 @@ fn all_resolved(reader: &SourceReader) -> Result<Vec<Statement>, AllocError>
     ensures { IfOk result (λ v. v.items ≡ map (resolved reader.now.statements reader.now.fixes) reader.now.statements) }
 {
     let drafts = &reader.statements;
-    let fixes = reader.fixes.as_slice();
+    let fixes = &reader.fixes;
     drafts
         .as_slice()
         .iter()

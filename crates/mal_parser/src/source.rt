@@ -7,6 +7,7 @@ ghost use Rattle.mal_parser.specs.Text.{at_line};
 
 use crate::drafts::Drafts;
 use crate::error::MalError;
+use crate::fixes::Fixes;
 use crate::laws::{reads_lines, reads_texts};
 use mal_line::{Content, LineFault, Parts, line_from};
 use mal_tokens::{Token, tokens_of};
@@ -14,7 +15,6 @@ use mic_base::Name;
 use micro_word::Machine;
 use source_text::{LineLanguage, Reader, TokenError};
 use std::alloc::Global;
-use std::collections::BTreeSet;
 use std::marker::Model;
 
 /// A statement whose targets are still labels.
@@ -49,21 +49,16 @@ pub(crate) struct SourceReader {
     pub(crate) alloc: Global,
     pub(crate) machine: Machine,
     pub(crate) statements: Drafts,
-    pub(crate) fixes: Vec<Fix>,
-    /// The labels of `fixes`.
-    fixed: BTreeSet<Name>,
+    pub(crate) fixes: Fixes,
     pub(crate) fallback: Option<Draft>,
 }
 
 impl Model for SourceReader {
     ghost use Rattle.mal_parser.specs.Reading.{Sketch};
-    ghost use Rattle.mal_parser.specs.Labels.{AreLabels};
 
     ghost Value = { Sketch };
 
-    ghost view = { λ r. record { machine = r.machine; statements = r.statements; fixes = r.fixes.items; fallback = r.fallback } };
-
-    ghost invariant = { λ r. AreLabels r.fixes.items r.fixed };
+    ghost view = { λ r. record { machine = r.machine; statements = r.statements; fixes = r.fixes; fallback = r.fallback } };
 }
 
 impl SourceReader {
@@ -77,8 +72,7 @@ impl SourceReader {
             alloc,
             machine,
             statements: Drafts::new(alloc),
-            fixes: Vec::new(alloc),
-            fixed: BTreeSet::new(alloc),
+            fixes: Fixes::new(alloc),
             fallback: None,
         }
     }
@@ -91,8 +85,7 @@ impl SourceReader {
         let Some(address) = address_of(address) else {
             return Err(MalError::BadFix(line));
         };
-        self.fixes.reserve(1).map_err(|_| MalError::OutOfMemory)?;
-        if !self.fixed.insert(label)? {
+        if self.fixes.has_label(&label) {
             return Err(MalError::BadFix(line));
         }
         self.fixes
@@ -101,7 +94,7 @@ impl SourceReader {
                 line,
                 address,
             })
-            .unwrap();
+            .map_err(|_| MalError::OutOfMemory)?;
         Ok(())
     }
 
