@@ -1,9 +1,10 @@
 -- What is spelled as a token is read as that token, and what is read as one is spelled so.
-use Rattle.std.proofs.Common.{◌≡◌, ℕ, zero, suc, ◌+◌, ◌<◌, Bool, true, false, inl, inr, subst, List, [], ◌∷◌, ◌++◌, Option, Some, None, drop, take, length, refl, sym, ap, arith}
+use Rattle.std.proofs.Common.{◌≡◌, ℕ, zero, suc, ◌+◌, ◌<◌, ◌≤◌, Bool, true, false, inl, inr, subst, List, [], ◌∷◌, ◌++◌, Option, Some, None, drop, take, length, refl, sym, ap, arith}
 use Rattle.std.specs.Prelude.{Ok, Err, Result, ◌⊎◌, ℤ, not, ◌==◌, ◌||◌, ◌&&◌, codes, find, cond, nat_le, is_some}
 use Rattle.std.proofs.lemmas.Slice.Eq.{bytes_eq-Decides}
 use Rattle.std.specs.List.{list_all}
 use Rattle.std.specs.Str.{bytes_eq}
+use Rattle.std.proofs.lemmas.Bool.Decides.{nat_tests}
 use Rattle.std.proofs.lemmas.Bool.{and_parts, not-true, and_right, eqb-true}
 use Rattle.mic_base.specs.Name.{begins_digit, is_name, is_name_byte}
 use Rattle.mic_base.specs.Number.{number_of}
@@ -147,6 +148,47 @@ found_word text w h = sym ((bytes_eq-Decides (word_text w) text).0 (find_passes 
 found_sign : (text : List ℕ) (s : Sign) → find_sign text ≡ Some s → text ≡ sign_text s
 found_sign text s h = sym ((bytes_eq-Decides (sign_text s) text).0 (find_passes (λ s. bytes_eq (sign_text s) text) all_signs s h))
 
+-- a reserved word has five bytes at most
+word_short : (w : Word) → nat_le (length (word_text w)) 5 ≡ true
+word_short w = elim w as (λ w. nat_le (length (word_text w)) 5 ≡ true) [
+  | words.Mar ↦ refl
+  | words.Mdr ↦ refl
+  | words.Pc ↦ refl
+  | words.Sp ↦ refl
+  | words.Lv ↦ refl
+  | words.Cpp ↦ refl
+  | words.Tos ↦ refl
+  | words.Opc ↦ refl
+  | words.H ↦ refl
+  | words.Mbr ↦ refl
+  | words.Mbru ↦ refl
+  | words.Mbr1 ↦ refl
+  | words.Mbr1u ↦ refl
+  | words.Mbr2 ↦ refl
+  | words.Mbr2u ↦ refl
+  | words.N ↦ refl
+  | words.Z ↦ refl
+  | words.And ↦ refl
+  | words.Or ↦ refl
+  | words.Not ↦ refl
+  | words.Rd ↦ refl
+  | words.Wr ↦ refl
+  | words.Fetch ↦ refl
+  | words.Goto ↦ refl
+  | words.If ↦ refl
+  | words.Else ↦ refl
+]
+
+pub no_long_word : (text : List ℕ) → 5 < length text → find_word text ≡ None
+no_long_word text h = go (find_word text) refl
+  where
+    go : (r : Option Word) → find_word text ≡ r → r ≡ None
+    go None e = refl
+    go (Some w) e =
+        let same : length text ≡ length (word_text w) = ap length (found_word text w e) in
+        let short : length (word_text w) ≤ 5 = grind (arith, nat_tests, word_short w) in
+        absurd (omega arith)
+
 -- no sign begins with a byte of a name
 no_sign : (text : List ℕ) → begins_with is_name_byte text ≡ true → find_sign text ≡ None
 no_sign text h = go (find_sign text) refl
@@ -154,6 +196,9 @@ no_sign text h = go (find_sign text) refl
     go : (r : Option Sign) → find_sign text ≡ r → r ≡ None
     go None e = refl
     go (Some s) e = let f : text ≡ sign_text s = found_sign text s e in absurd (let k = sign_dark s in cc)
+
+pub name_no_sign : (text : List ℕ) → begins_with is_name_byte text ≡ true → sign_or text (find_sign text) ≡ word_or_name text (find_word text)
+name_no_sign text h = ap (sign_or text) (no_sign text h)
 
 -- what a name is
 record IsNamed (text : List ℕ) : Type 0 where

@@ -1,11 +1,12 @@
 //! Tokens, and how the first of a line is read.
 
 ghost use Rattle.std.specs.Prelude.{◌≡◌, ◌+◌, ◌<◌, ◌↔◌, Some, IfOk, IsErrOf, List, ℕ};
-ghost use Rattle.mic_base.specs.Name.{begins_digit};
+ghost use Rattle.mic_base.specs.Name.{begins_digit, is_name_byte};
 ghost use Rattle.mic_base.specs.Number.{number_of};
-ghost use Rattle.mal_tokens.specs.Words.{find_word};
+ghost use Rattle.source_text.specs.Runs.{begins_with};
+ghost use Rattle.mal_tokens.specs.Words.{find_sign, find_word};
 ghost use Rattle.mal_tokens.specs.declared.token.Token.{Token};
-ghost use Rattle.mal_tokens.specs.Reading.{begins, number_token, read, word_or_name};
+ghost use Rattle.mal_tokens.specs.Reading.{begins, number_token, read, sign_or, word_or_name};
 ghost use Rattle.mal_tokens.specs.Tokens.{SpellsTokens};
 
 use crate::sign::Sign;
@@ -51,10 +52,7 @@ impl Language for Mal {
         if begins_digit(text) {
             return number_token(text);
         }
-        match Sign::find(text) {
-            Some(sign) => Some(Token::Sign(sign)),
-            None => word_or_name(text),
-        }
+        sign_or_name(text)
     }
 }
 
@@ -76,6 +74,15 @@ fn begins_digit(text: &[u8]) -> bool
     }
 }
 
+fn begins_name(text: &[u8]) -> bool
+    ensures { result ≡ begins_with is_name_byte text.now }
+{
+    match text {
+        [] => false,
+        [first, ..] => is_name_byte(*first),
+    }
+}
+
 fn number_token(text: &[u8]) -> Option<Token>
     ensures { result ≡ number_token (number_of text.now) }
 {
@@ -94,6 +101,19 @@ fn word_or_name(text: &[u8]) -> Option<Token>
             Some(name) => Some(Token::Name(name)),
             None => None,
         },
+    }
+}
+
+/// No sign begins as a name does.
+fn sign_or_name(text: &[u8]) -> Option<Token>
+    ensures { result ≡ sign_or text.now (find_sign text.now) }
+{
+    if begins_name(text) {
+        return word_or_name(text);
+    }
+    match Sign::find(text) {
+        Some(sign) => Some(Token::Sign(sign)),
+        None => word_or_name(text),
     }
 }
 

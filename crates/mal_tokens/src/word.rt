@@ -34,6 +34,9 @@ pub enum Word {
     Else,
 }
 
+/// The length of the longest one.
+const LONGEST: usize = 5;
+
 const WORDS: [Word; 26] = [
     Word::Mar,
     Word::Mdr,
@@ -101,6 +104,9 @@ impl Word {
     pub fn find(text: &[u8]) -> Option<Word>
         ensures { result ≡ find_word text.now }
     {
+        if text.len() > LONGEST {
+            return None;
+        }
         WORDS
             .iter()
             .copied()
