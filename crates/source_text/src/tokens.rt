@@ -6,6 +6,9 @@ ghost use Rattle.source_text.specs.Tokens.{Spells, is_blank};
 
 use std::alloc::{AllocFailed, Global};
 
+/// Most lines have at most so many tokens.
+const ROOM: usize = 12;
+
 /// Why a line has no tokens.
 #[derive(Clone, Copy, Debug, PartialEq, Eq)]
 pub enum TokenError {
@@ -43,7 +46,7 @@ pub fn tokens_of<L: Language>(alloc: Global, line: &[u8]) -> Result<Vec<L::Token
     ensures ok { IfOk result (λ tokens. Spells L.lexicon line.now tokens.items) }
     ensures bad { IsErrOf result TokenError.BadToken → (tokens : List L.Token) → Spells L.lexicon line.now tokens → ⊥ }
 {
-    let mut tokens = Vec::new(alloc);
+    let mut tokens = Vec::with_capacity(alloc, ROOM).map_err(|_| TokenError::OutOfMemory)?;
     let mut rest = line;
     while let Some((first, after)) = rest.split_first() {
         if is_blank(*first) {
