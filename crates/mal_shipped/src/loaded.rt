@@ -25,10 +25,9 @@ pub fn load_micro(program: &MalProgram) -> Result<Loaded, PlaceError>
     ensures err { (e : PlaceError) → (result ≡ Err e) ↔ Refuses (demands_of program.now) e }
 {
     let placement = place(&constraints_of(program))?;
-    let store = fill(program, &placement);
     let entry = placement.address(program.entry());
     Ok(Loaded {
-        store,
+        store: fill(program, &placement),
         placement,
         entry,
     })
