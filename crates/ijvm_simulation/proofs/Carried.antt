@@ -2,7 +2,6 @@
 use Rattle.std.proofs.Common.{◌≡◌, ℕ, zero, suc, ◌+◌, ◌≤◌, List, length, replicate, refl, arith, ◌∙◌, inr}
 use Rattle.std.specs.Prelude.{slice_index}
 use Rattle.std.proofs.lemmas.List.{length-replicate}
-use Rattle.console_port.specs.World.{World}
 use Rattle.console_port.specs.Loading.{IsLoaded}
 use Rattle.mic_clock.specs.Meaning.{Meaning}
 use Rattle.ijvm_image.specs.Image.{IsImage}
@@ -12,7 +11,8 @@ use Rattle.ijvm_meaning.specs.Run.{first_point}
 use Rattle.verifier_facts.specs.Accepted.{VerifiedView, IsAccepted}
 use Rattle.ijvm_simulation.specs.Stands.{Origin, IsAt}
 use Rattle.ijvm_simulation.specs.Verified.{program, Loads, Fine}
-use Rattle.ijvm_simulation.specs.Law.{Law, Boots, reset_moment, OnDone, Grows}
+use Rattle.ijvm_simulation.specs.Promises.{KeepsLaw, BootsToMain, KeepsGiven}
+use Rattle.ijvm_simulation.specs.Law.{Law, Boots, reset_moment}
 use Rattle.ijvm_simulation.specs.Simulates.{Simulates}
 use Rattle.mic_image_board.specs.Reset.{reset_run}
 use Rattle.ijvm_simulation.proofs.Instruction.{Law as BoundaryLaw}
@@ -22,10 +22,9 @@ use Rattle.ijvm_simulation.proofs.Whole.{simulates}
 
 -- what a machine promises
 pub record Promises {S : Type 0} (m : Meaning S) (IsReady : ℕ → List ℕ → ℕ → S → Type 0) (IsShipped : List ℕ → Type 0) (entry : ℕ) (timing : Timing) : Type 0 where
-  pub law : (store : List ℕ) (o : Origin) (v : VerifiedView) → IsShipped store → Loads v o → Law m store (IsAt m IsReady entry o) o.given timing v o
-  pub boots : (store : List ℕ) (o : Origin) (v : VerifiedView) (input : List ℕ) → IsShipped store → Loads v o →
-      Boots m store (IsAt m IsReady entry o) o.given timing (reset_moment m entry v.main_locals o input) (start_of v.main_locals input)
-  pub grows : (word : ℕ) (s : S) (w : World) → OnDone (λ (u : World). Grows w.given u.given) (m.step word s w)
+  pub law : KeepsLaw m IsReady IsShipped entry timing
+  pub boots : BootsToMain m IsReady IsShipped entry timing
+  pub grows : KeepsGiven m
 
 zero_word : (n k : ℕ) → slice_index (replicate n 0) k ≡ 0
 zero_word zero k = refl

@@ -2,6 +2,9 @@
 use Rattle.std.specs.Prelude.{◌≡◌, ◌≢◌, ℕ, List, Option, Some, IfSome}
 use Rattle.mic_clock.specs.View.{BoardView}
 use Rattle.mic_clock.specs.declared.end.End.TheVariants as clocked
+use Rattle.verifier_facts.specs.Accepted.{VerifiedView}
+use Rattle.ijvm_simulation.specs.Interpretation.{Interpretation}
+use Rattle.ijvm_simulation.specs.Headline.{HasRun}
 
 -- two boards have ended alike, and their sinks hold the same
 pub record EndAlike {M N : Type 0} (held held' : Option (List ℕ)) (board : BoardView M) (board' : BoardView N) : Type 0 where
@@ -12,3 +15,11 @@ pub record EndAlike {M N : Type 0} (held held' : Option (List ℕ)) (board : Boa
 -- neither has met its bound
 abbrev pub MeetNoBound : {M N : Type 0} → BoardView M → BoardView N → Type 0
 MeetNoBound board board' = (board.end ≢ Some clocked.Bound) × (board'.end ≢ Some clocked.Bound)
+
+-- runs of one image over one told input, on both machines, end alike, where neither meets its bound
+abbrev pub RunsAgree : {M N S T : Type 0} → Interpretation M S → Interpretation N T → Type 0
+RunsAgree {M} {N} i j =
+    (v : VerifiedView) (bound bound' : ℕ) (input : List ℕ) (before left held left' held' : Option (List ℕ)) (board : BoardView M) (board' : BoardView N) →
+    HasRun i.state i.meaning i.IsReady i.IsShipped i.entry i.timing v bound (Some input) before left held board →
+    HasRun j.state j.meaning j.IsReady j.IsShipped j.entry j.timing v bound' (Some input) before left' held' board' →
+    MeetNoBound board board' → EndAlike held held' board board'

@@ -8,8 +8,11 @@ pub mod Bytes
 pub mod Outcomes
 pub mod Verified
 pub mod Law
+pub mod Interpretation
 pub mod Headline
+pub mod Answers
 pub mod Agreement
 pub mod Starts
 pub mod Stalls
+pub mod Promises
 pub mod Words

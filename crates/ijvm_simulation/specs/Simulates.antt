@@ -29,6 +29,10 @@ abbrev pub point_behind : TimedImage → ℕ → ℕ → Point → Option Point
 point_behind p bound zero at = Some at
 point_behind p bound (suc i) at = below (point_behind p bound i) p at (nat_le bound at.cycles)
 
+-- this boundary is some number of instructions behind that one
+abbrev pub IsCounted : TimedImage → ℕ → Point → Point → Type 0
+IsCounted p bound from at = (i : ℕ) × (point_behind p bound i from ≡ Some at)
+
 -- a boundary of the definition as the clock counts it
 abbrev pub boundary_of : Point → Boundary
 boundary_of at = record { cycles = at.cycles; at = at.state.at; sp = sp_of at.state; lv = lv_of at.state }

@@ -12,6 +12,7 @@ use Rattle.ijvm_meaning.specs.Step.{Goes, Limits, step_outcome}
 use Rattle.ijvm_meaning.specs.Run.{TimedImage, Point, point_after, first_point}
 use Rattle.ijvm_meaning.specs.Cost.{Timing, cost}
 use Rattle.verifier_facts.specs.Accepted.{VerifiedView}
+use Rattle.ijvm_simulation.specs.Interpretation.{Interpretation}
 use Rattle.ijvm_simulation.specs.Stands.{Origin, IsAt}
 use Rattle.ijvm_simulation.specs.Passes.{Moment}
 use Rattle.ijvm_simulation.specs.Outcomes.{Went, Overran}
@@ -55,31 +56,54 @@ pub record StoppedWithin {S : Type 0} (stalls : ℕ) (r : MicroRun S) : Type 0 w
   pub end : r.end ≡ Some clocked.StackLimit
   pub stalled : r.counts.stalls ≤ stalls
 
--- A machine: its meaning, when its next instruction is ready, its store that ships, where that begins, and what is spent.
-module _ {S : Type 0} (m : Meaning S) (IsReady : ℕ → List ℕ → ℕ → S → Type 0) (IsShipped : List ℕ → Type 0) (entry : ℕ) (timing : Timing) where
-  -- Stalls add up: where its boot and each instruction stall as often as is said, the clock has counted at each
-  -- boundary of a run the stalls of the boot and of the instructions passed, and no other.
-  abbrev pub StallsAddUp : Type 0
-  StallsAddUp =
-      (booting : ℕ) (stalls_of : ImageView → Instr → ℕ) (store : List ℕ) (o : Origin) (v : VerifiedView)
-      (input : List ℕ) (bound : ℕ) → IsShipped store → Loads v o →
-      BootsWithStalls m store (IsAt m IsReady entry) entry timing booting v o input →
-      TakesWithStalls m store (IsAt m IsReady entry o) o.given timing stalls_of v o (λ i. Unit {0}) →
+-- a machine's meaning, where its store begins, and what is spent; and the stalls of its boot and of each instruction
+module _ {S : Type 0} (m : Meaning S) (entry : ℕ) (timing : Timing) (booting : ℕ) (stalls_of : ImageView → Instr → ℕ) where
+  -- at each boundary of a run the clock has counted the stalls of the boot and of the instructions passed, and no other
+  abbrev pub CountsStalls : List ℕ → Origin → VerifiedView → List ℕ → ℕ → Type 0
+  CountsStalls store o v input bound =
       (at : Point) (stalls : ℕ) → HasStalled booting stalls_of (program timing v) bound (first_point (program timing v) v.main_locals input) at stalls →
       (turns m store (Some bound) at.cycles
       (reset_run m entry v.main_locals
       (record { words = o.words; untaken = input; given = o.given }))).counts.stalls ≡ stalls
 
-  -- Where the stack's end then cuts an instruction short, its cycles have stalled no more often than the whole instruction does.
-  abbrev pub CutShort : Type 0
-  CutShort =
-      (booting : ℕ) (stalls_of : ImageView → Instr → ℕ) (store : List ℕ) (o : Origin) (v : VerifiedView)
-      (input : List ℕ) (bound : ℕ) → IsShipped store → Loads v o →
-      BootsWithStalls m store (IsAt m IsReady entry) entry timing booting v o input →
-      TakesWithStalls m store (IsAt m IsReady entry o) o.given timing stalls_of v o (λ i. Unit {0}) →
+  -- where the stack's end then cuts an instruction short, its cycles have stalled no more often than the whole instruction does
+  abbrev pub CutsShort : List ℕ → Origin → VerifiedView → List ℕ → ℕ → Type 0
+  CutsShort store o v input bound =
       (at : Point) (stalls : ℕ) (i : Instr) (left : State) →
       HasStalled booting stalls_of (program timing v) bound (first_point (program timing v) v.main_locals input) at stalls →
       at.cycles < bound → instr_at v.image.text at.state.at ≡ Some i → step_outcome v.image v.map.stack_end at.state ≡ Limits left →
       (n : ℕ) × StoppedWithin (stalls + stalls_of v.image i)
       (turns m store (Some bound) n (reset_run m entry v.main_locals
       (record { words = o.words; untaken = input; given = o.given })))
+
+-- so over the store that ships and every verified image
+
+abbrev pub RunsStall : {M S : Type 0} → Interpretation M S → ℕ → (ImageView → Instr → ℕ) → Type 0
+RunsStall i booting stalls_of =
+    (store : List ℕ) (o : Origin) (v : VerifiedView) (input : List ℕ) (bound : ℕ) → i.IsShipped store → Loads v o →
+    CountsStalls i.meaning i.entry i.timing booting stalls_of store o v input bound
+
+abbrev pub LimitsStall : {M S : Type 0} → Interpretation M S → ℕ → (ImageView → Instr → ℕ) → Type 0
+LimitsStall i booting stalls_of =
+    (store : List ℕ) (o : Origin) (v : VerifiedView) (input : List ℕ) (bound : ℕ) → i.IsShipped store → Loads v o →
+    CutsShort i.meaning i.entry i.timing booting stalls_of store o v input bound
+
+-- A machine: its meaning, when its next instruction is ready, its store that ships, where that begins, and what is spent.
+module _ {S : Type 0} (m : Meaning S) (IsReady : ℕ → List ℕ → ℕ → S → Type 0) (IsShipped : List ℕ → Type 0) (entry : ℕ) (timing : Timing) where
+  -- Stalls add up, where its boot and each instruction stall as often as is said.
+  abbrev pub StallsAddUp : Type 0
+  StallsAddUp =
+      (booting : ℕ) (stalls_of : ImageView → Instr → ℕ) (store : List ℕ) (o : Origin) (v : VerifiedView)
+      (input : List ℕ) (bound : ℕ) → IsShipped store → Loads v o →
+      BootsWithStalls m store (IsAt m IsReady entry) entry timing booting v o input →
+      TakesWithStalls m store (IsAt m IsReady entry o) o.given timing stalls_of v o (λ i. Unit {0}) →
+      CountsStalls m entry timing booting stalls_of store o v input bound
+
+  -- So they do where the stack's end cuts an instruction short.
+  abbrev pub CutShort : Type 0
+  CutShort =
+      (booting : ℕ) (stalls_of : ImageView → Instr → ℕ) (store : List ℕ) (o : Origin) (v : VerifiedView)
+      (input : List ℕ) (bound : ℕ) → IsShipped store → Loads v o →
+      BootsWithStalls m store (IsAt m IsReady entry) entry timing booting v o input →
+      TakesWithStalls m store (IsAt m IsReady entry o) o.given timing stalls_of v o (λ i. Unit {0}) →
+      CutsShort m entry timing booting stalls_of store o v input bound

@@ -1,13 +1,8 @@
 //! What is asked of a machine that interprets IJVM.
 
 ghost use Rattle.std.specs.Prelude.{◌≡◌, ◌<◌, ℕ, List, IfOk};
-ghost use Rattle.console_port.specs.World.{World};
 ghost use Rattle.ijvm_meaning.specs.Cost.{Timing};
-ghost use Rattle.ijvm_meaning.specs.Frames.{start_of};
-ghost use Rattle.verifier_facts.specs.Accepted.{VerifiedView};
-ghost use Rattle.ijvm_simulation.specs.Stands.{Origin, IsAt};
-ghost use Rattle.ijvm_simulation.specs.Verified.{Loads};
-ghost use Rattle.ijvm_simulation.specs.Law.{Law, Boots, reset_moment, OnDone, Grows};
+ghost use Rattle.ijvm_simulation.specs.Promises.{KeepsLaw, BootsToMain, KeepsGiven};
 
 use mic_clock::Clocked;
 use micro_word::Store;
@@ -40,10 +35,7 @@ pub trait Interpreter {
 
     /// What each instruction takes over a verified image, how a run boots, and that what is given stays.
     fn law()
-        ensures law { (store : List ℕ) (o : Origin) (v : VerifiedView) → IsShipped store → Loads v o →
-            Law Self.Machine.meaning store (IsAt Self.Machine.meaning Self.Machine.IsReady entry o) o.given timing v o }
-        ensures boots { (store : List ℕ) (o : Origin) (v : VerifiedView) (input : List ℕ) → IsShipped store → Loads v o →
-            Boots Self.Machine.meaning store (IsAt Self.Machine.meaning Self.Machine.IsReady entry o) o.given timing
-            (reset_moment Self.Machine.meaning entry v.main_locals o input) (start_of v.main_locals input) }
-        ensures grows { (word : ℕ) (s : Self.Machine.State) (w : World) → OnDone (λ v. Grows w.given v.given) (Self.Machine.meaning.step word s w) };
+        ensures law { KeepsLaw Self.Machine.meaning Self.Machine.IsReady IsShipped entry timing }
+        ensures boots { BootsToMain Self.Machine.meaning Self.Machine.IsReady IsShipped entry timing }
+        ensures grows { KeepsGiven Self.Machine.meaning };
 }

@@ -1,18 +1,12 @@
 //! What holds of every interpreter, and of every run of one, whoever clocks it.
 
-ghost use Rattle.std.specs.Prelude.{◌≡◌, ℕ, List, Some};
-ghost use Rattle.ijvm_instr.specs.declared.instr.Instr.{Instr};
-ghost use Rattle.ijvm_image.specs.Image.{ImageView};
-ghost use Rattle.ijvm_meaning.specs.Cost.{Timing};
-ghost use Rattle.verifier_facts.specs.Accepted.{VerifiedView};
+ghost use Rattle.std.specs.Prelude.{ℕ};
 ghost use Rattle.ijvm_meaning.specs.Run.{TimedImage, Point, Passes};
-ghost use Rattle.ijvm_simulation.specs.Simulates.{point_behind};
-ghost use Rattle.ijvm_simulation.specs.Stands.{Origin, IsAt};
-ghost use Rattle.ijvm_simulation.specs.Groups.{ByGroups};
-ghost use Rattle.ijvm_simulation.specs.Law.{Takes};
+ghost use Rattle.ijvm_simulation.specs.Simulates.{IsCounted};
+ghost use Rattle.ijvm_simulation.specs.Promises.{TakesByGroups, StallsByGroups};
 ghost use Rattle.ijvm_simulation.specs.Starts.{EndsAsDefined};
 ghost use Rattle.ijvm_simulation.specs.Stack.{StackLaw};
-ghost use Rattle.ijvm_simulation.specs.Stalls.{StallsAddUp, CutShort, TakesWithStalls};
+ghost use Rattle.ijvm_simulation.specs.Stalls.{StallsAddUp, CutShort};
 
 use crate::interpreter::Interpreter;
 use ijvm_meaning::runs_keep_words;
@@ -21,8 +15,8 @@ use verifier_facts::accepted_images_keep_sound;
 
 /// The boundaries that are counted from the first one are those that the definition's run passes.
 pub fn counted_boundaries_are_passed()
-    ensures passed { (p : TimedImage) (bound i : ℕ) (from at : Point) → point_behind p bound i from ≡ Some at → Passes p bound from at }
-    ensures counted { (p : TimedImage) (bound : ℕ) (from at : Point) → Passes p bound from at → (i : ℕ) × (point_behind p bound i from ≡ Some at) }
+    ensures passed { (p : TimedImage) (bound : ℕ) (from at : Point) → IsCounted p bound from at → Passes p bound from at }
+    ensures counted { (p : TimedImage) (bound : ℕ) (from at : Point) → Passes p bound from at → IsCounted p bound from at }
 {}
 
 /// A run over the store that ships, from its reset over a verified image, ends as the definition's run where no fault
@@ -54,8 +48,6 @@ pub fn stack_law()
 
 /// What is shown of each group of instructions holds of every instruction.
 pub fn groups_are_all<C: Clocked>()
-    ensures takes { (store : List ℕ) (entry : ℕ) (timing : Timing) (v : VerifiedView) (o : Origin) →
-        ByGroups (Takes C.meaning store (IsAt C.meaning C.IsReady entry o) o.given timing v o) }
-    ensures stalls { (store : List ℕ) (entry : ℕ) (timing : Timing) (stalls_of : ImageView → Instr → ℕ) (v : VerifiedView) (o : Origin) →
-        ByGroups (TakesWithStalls C.meaning store (IsAt C.meaning C.IsReady entry o) o.given timing stalls_of v o) }
+    ensures takes { TakesByGroups C.meaning C.IsReady }
+    ensures stalls { StallsByGroups C.meaning C.IsReady }
 {}

@@ -1,10 +1,10 @@
 //! The run of a verified image on a machine, from its reset to its end.
 
-ghost use Rattle.std.specs.Prelude.{◌≡◌, ◌≤◌, ◌^◌, Some, None, IfOk, OnErr, IsSome};
+ghost use Rattle.std.specs.Prelude.{◌≡◌, ◌≤◌, ◌^◌, Some, IfOk, OnErr, IsSome};
 ghost use Rattle.console_port.specs.Streams.{SinkGoesOn};
-ghost use Rattle.mic_clock.specs.Board.{NoFault, HasEndCause};
 ghost use Rattle.mic_image_board.specs.Reset.{IsAtReset};
-ghost use Rattle.ijvm_simulation.specs.Headline.{HasRun, IsCutByRead, IsCutByWrite};
+ghost use Rattle.ijvm_simulation.specs.Interpretation.{interpretation};
+ghost use Rattle.ijvm_simulation.specs.Answers.{RunsAsDefined, IsCutWhereReadFails, IsCutWhereWriteFails, EndsByCause};
 
 use crate::interpreter::Interpreter;
 use ijvm_meaning::runs_keep_words;
@@ -41,17 +41,14 @@ where
     I::Machine: Drop,
     requires { bound ≤ 2 ^ 62 }
     ensures ended { IfOk result (λ board. IsSome board.end) }
-    ensures run { IfOk result (λ board. NoFault None board.end →
-        HasRun I.Machine.state I.Machine.meaning I.Machine.IsReady I.IsShipped I.entry I.timing image.now bound
-        (S.left source.old) (K.held sink.old) (S.left source.new) (K.held sink.new) board) }
-    ensures read { IfOk result (λ board. board.end ≡ Some End.ReadFault →
-        IsCutByRead I.Machine.state I.Machine.meaning I.Machine.IsReady I.IsShipped I.entry I.timing image.now bound
-        (S.left source.old) (K.held sink.old) (S.left source.new) (K.held sink.new) board) }
-    ensures write { IfOk result (λ board. board.end ≡ Some End.WriteFault →
-        IsCutByWrite I.Machine.state I.Machine.meaning I.Machine.IsReady I.IsShipped I.entry I.timing image.now bound
-        (S.left source.old) (K.held sink.old) (S.left source.new) (K.held sink.new) board) }
+    ensures run { RunsAsDefined (interpretation I.Machine.state I.Machine.meaning I.Machine.IsReady I.IsShipped I.entry I.timing)
+        image.now bound S.left K.held source.old sink.old source.new sink.new result }
+    ensures read { IsCutWhereReadFails (interpretation I.Machine.state I.Machine.meaning I.Machine.IsReady I.IsShipped I.entry I.timing)
+        image.now bound S.left K.held source.old sink.old source.new sink.new result }
+    ensures write { IsCutWhereWriteFails (interpretation I.Machine.state I.Machine.meaning I.Machine.IsReady I.IsShipped I.entry I.timing)
+        image.now bound S.left K.held source.old sink.old source.new sink.new result }
     ensures sink { IfOk result (λ board. SinkGoesOn K.held K.passed (board.end ≡ Some End.WriteFault) sink.old sink.new) }
-    ensures cause { IfOk result (λ board. HasEndCause (S.faults source.old) (S.faults source.new) (K.faults sink.old) (K.faults sink.new) None board.end) }
+    ensures cause { EndsByCause S.faults K.faults source.old sink.old source.new sink.new result }
     ensures none { OnErr result ((source.new ≡ source.old) × (sink.new ≡ sink.old)) }
 {
     let mut board = shipped_board::<I>(alloc, image)?;

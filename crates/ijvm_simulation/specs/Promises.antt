@@ -1,0 +1,54 @@
+-- What a machine promises of the store that ships for it, over every verified image that stands in the memory.
+use Rattle.std.specs.Prelude.{ℕ, List}
+use Rattle.console_port.specs.World.{World}
+use Rattle.mic_clock.specs.Meaning.{Meaning}
+use Rattle.ijvm_image.specs.Image.{ImageView}
+use Rattle.ijvm_instr.specs.declared.instr.Instr.{Instr}
+use Rattle.ijvm_meaning.specs.Cost.{Timing}
+use Rattle.ijvm_meaning.specs.Frames.{start_of}
+use Rattle.verifier_facts.specs.Accepted.{VerifiedView}
+use Rattle.ijvm_simulation.specs.Groups.{ByGroups}
+use Rattle.ijvm_simulation.specs.Interpretation.{Interpretation}
+use Rattle.ijvm_simulation.specs.Law.{Law, Boots, Takes, HaltsAndErrs, OnDone, Grows, reset_moment}
+use Rattle.ijvm_simulation.specs.Stalls.{TakesWithStalls}
+use Rattle.ijvm_simulation.specs.Stands.{Origin, IsAt}
+use Rattle.ijvm_simulation.specs.Verified.{Loads}
+
+-- A machine: its meaning, when its next instruction is ready, its store that ships, where that begins, and what is spent.
+module _ {S : Type 0} (m : Meaning S) (IsReady : ℕ → List ℕ → ℕ → S → Type 0) (IsShipped : List ℕ → Type 0) (entry : ℕ) (timing : Timing) where
+  -- each instruction takes what it is said to
+  abbrev pub KeepsLaw : Type 0
+  KeepsLaw = (store : List ℕ) (o : Origin) (v : VerifiedView) → IsShipped store → Loads v o → Law m store (IsAt m IsReady entry o) o.given timing v o
+
+  -- a reset comes to the first boundary
+  abbrev pub BootsToMain : Type 0
+  BootsToMain =
+      (store : List ℕ) (o : Origin) (v : VerifiedView) (input : List ℕ) → IsShipped store → Loads v o →
+      Boots m store (IsAt m IsReady entry o) o.given timing (reset_moment m entry v.main_locals o input) (start_of v.main_locals input)
+
+-- what the instructions of a group take
+abbrev pub GroupTakes : {M S : Type 0} → Interpretation M S → (Instr → Type 0) → Type 0
+GroupTakes i Has =
+    (store : List ℕ) (o : Origin) (v : VerifiedView) → i.IsShipped store → Loads v o →
+    Takes i.meaning store (IsAt i.meaning i.IsReady i.entry o) o.given i.timing v o Has
+
+-- where HALT and ERR lead
+abbrev pub EndsAtHaltAndErr : {M S : Type 0} → Interpretation M S → Type 0
+EndsAtHaltAndErr i =
+    (store : List ℕ) (o : Origin) (v : VerifiedView) → i.IsShipped store → Loads v o →
+    HaltsAndErrs i.meaning store (IsAt i.meaning i.IsReady i.entry o) o.given i.timing v o
+
+-- no step takes back what was given
+abbrev pub KeepsGiven : {S : Type 0} → Meaning S → Type 0
+KeepsGiven {S} m = (word : ℕ) (s : S) (w : World) → OnDone (λ v. Grows w.given v.given) (m.step word s w)
+
+-- What is shown of each group of instructions holds of every instruction, without stalls and with them.
+
+abbrev pub TakesByGroups : {S : Type 0} → Meaning S → (ℕ → List ℕ → ℕ → S → Type 0) → Type 0
+TakesByGroups m IsReady =
+    (store : List ℕ) (entry : ℕ) (timing : Timing) (v : VerifiedView) (o : Origin) → ByGroups (Takes m store (IsAt m IsReady entry o) o.given timing v o)
+
+abbrev pub StallsByGroups : {S : Type 0} → Meaning S → (ℕ → List ℕ → ℕ → S → Type 0) → Type 0
+StallsByGroups m IsReady =
+    (store : List ℕ) (entry : ℕ) (timing : Timing) (stalls_of : ImageView → Instr → ℕ) (v : VerifiedView) (o : Origin) →
+    ByGroups (TakesWithStalls m store (IsAt m IsReady entry o) o.given timing stalls_of v o)
