@@ -1,63 +1,49 @@
 //! What each group of instructions takes of Mic-1.
 
-ghost use Rattle.std.specs.Prelude.{ℕ, List};
-ghost use Rattle.mic_words.specs.declared.machine.Machine.TheVariants.{Mic1};
-ghost use Rattle.ijvm_meaning.specs.Cost.{timing_of};
-ghost use Rattle.mic1_datapath.specs.Mic1.{mic1_meaning};
-ghost use Rattle.verifier_facts.specs.Accepted.{VerifiedView};
-ghost use Rattle.mal_shipped.specs.Shipped.{HasShipped};
-ghost use Rattle.ijvm_simulation.specs.Stands.{Origin};
-ghost use Rattle.ijvm_simulation.specs.Verified.{Loads};
-ghost use Rattle.ijvm_simulation.specs.Law.{Takes, HaltsAndErrs};
-ghost use Rattle.mic1_interpreter.specs.Stands.{Stands};
+ghost use Rattle.ijvm_simulation.specs.Promises.{GroupTakes, EndsAtHaltAndErr};
 ghost use Rattle.ijvm_simulation.specs.Groups.{IsOfOperands, IsOfLocals, IsOfConsole, IsJump, IsCall};
+ghost use Rattle.mic1_interpreter.specs.Interpretation.{mic1};
 
 use ijvm_simulation::stack_law;
 
 /// The instructions on the operands alone.
 pub(crate) fn operands_law()
-    ensures { (store : List ℕ) (o : Origin) (v : VerifiedView) → HasShipped Mic1 store → Loads v o →
-        Takes mic1_meaning store (Stands o) o.given (timing_of Mic1) v o IsOfOperands }
+    ensures { GroupTakes mic1 IsOfOperands }
 {
     stack_law();
 }
 
 /// IN and OUT.
 pub(crate) fn consoles_law()
-    ensures { (store : List ℕ) (o : Origin) (v : VerifiedView) → HasShipped Mic1 store → Loads v o →
-        Takes mic1_meaning store (Stands o) o.given (timing_of Mic1) v o IsOfConsole }
+    ensures { GroupTakes mic1 IsOfConsole }
 {
     stack_law();
 }
 
 /// The jumps and branches.
 pub(crate) fn jumps_law()
-    ensures { (store : List ℕ) (o : Origin) (v : VerifiedView) → HasShipped Mic1 store → Loads v o →
-        Takes mic1_meaning store (Stands o) o.given (timing_of Mic1) v o IsJump }
+    ensures { GroupTakes mic1 IsJump }
 {
     stack_law();
 }
 
 /// The instructions that name a local or a constant.
 pub(crate) fn locals_law()
-    ensures { (store : List ℕ) (o : Origin) (v : VerifiedView) → HasShipped Mic1 store → Loads v o →
-        Takes mic1_meaning store (Stands o) o.given (timing_of Mic1) v o IsOfLocals }
+    ensures { GroupTakes mic1 IsOfLocals }
 {
     stack_law();
 }
 
 /// Calls and returns.
 pub(crate) fn calls_law()
-    ensures { (store : List ℕ) (o : Origin) (v : VerifiedView) → HasShipped Mic1 store → Loads v o →
-        Takes mic1_meaning store (Stands o) o.given (timing_of Mic1) v o IsCall }
+    ensures { GroupTakes mic1 IsCall }
 {
     stack_law();
 }
 
 /// HALT and ERR.
 pub(crate) fn ends_law()
-    ensures { (store : List ℕ) (o : Origin) (v : VerifiedView) → HasShipped Mic1 store → Loads v o →
-        HaltsAndErrs mic1_meaning store (Stands o) o.given (timing_of Mic1) v o }
+    ensures { EndsAtHaltAndErr mic1 }
 {
     stack_law();
 }
