@@ -1,5 +1,5 @@
 -- A run between two boards with the cycles that it shows, and what a watcher makes of them.
-use Rattle.std.specs.Prelude.{◌≡◌, ◌≤◌, ◌+◌, ◌^◌, ℕ, List, [], ◌∷◌, ◌++◌, Option, Some, None, Result, Ok, Err}
+use Rattle.std.specs.Prelude.{◌≡◌, ◌≤◌, ◌+◌, ◌^◌, ℕ, Bool, is_some, List, [], ◌∷◌, ◌++◌, Option, Some, None, Result, Ok, Err}
 use Rattle.mic_base.specs.Streams.{Puts}
 use Rattle.mic_clock.specs.declared.end.End.{End}
 use Rattle.mic_clock.specs.declared.end.End.TheVariants as ends
@@ -9,6 +9,14 @@ use Rattle.mic_clock.specs.View.{BoardView}
 use Rattle.mic_clock.specs.Board.{ShowsRun, IsLedTo, IsCutAt, IsCutByRead, Leads, NoFault}
 use Rattle.mic_watched.specs.declared.cycle.Cycle.{Cycle}
 use Rattle.mic_watched.specs.Cycles.{cycles_of}
+
+-- a watcher that keeps this has nothing to do with cycles that reach a boundary, or with those that do not
+abbrev pub Ignores : {Kept : Type 0} → (Kept → Cycle → Kept) → (Kept → Cycle → List ℕ → Type 0) → Kept → Bool → Type 0
+Ignores keeps Prints k boundary = (cycle : Cycle) → is_some cycle.boundary ≡ boundary → (keeps k cycle ≡ k) × Prints k cycle []
+
+-- one of these texts is put
+abbrev pub PutsSome : {E : Type 0} → (List ℕ → Type 0) → Option (List ℕ) → Result Unit E → Option (List ℕ) → Type 0
+PutsSome Prints old result new = (text : List ℕ) × Prints text × Puts old text result new
 
 -- A board that can be run: it has not ended, and clocked no cycle too many.
 pub record CanRun {M : Type 0} (board : BoardView M) : Type 0 where

@@ -1,9 +1,9 @@
 //! What sees the cycles of a run.
 
-ghost use Rattle.std.specs.Prelude.{◌≡◌, ◌<◌, ℕ, List, [], false, is_some};
+ghost use Rattle.std.specs.Prelude.{◌≡◌, ◌<◌, ℕ, List, false};
 ghost use Rattle.mic_base.specs.Causes.{HasCause};
-ghost use Rattle.mic_base.specs.Streams.{Puts};
 ghost use Rattle.mic_watched.specs.declared.cycle.Cycle.{Cycle};
+ghost use Rattle.mic_watched.specs.Watched.{Ignores, PutsSome};
 
 use crate::cycle::Cycle;
 use mic_base::{Sink, SinkFailed};
@@ -22,8 +22,7 @@ pub trait Watcher {
 
     /// Whether it has anything to do with cycles that reach a boundary, or with those that do not.
     fn wants(&self, boundary: bool) -> bool
-        ensures { result ≡ false → (cycle : Cycle) → is_some cycle.boundary ≡ boundary →
-            (keeps (kept self.now) cycle ≡ kept self.now) × Prints (kept self.now) cycle [] }
+        ensures { result ≡ false → Ignores keeps Prints (kept self.now) boundary }
     {
         true
     }
@@ -32,6 +31,6 @@ pub trait Watcher {
         requires word { cycle.now.mpc < 512 }
         requires next { cycle.now.registers.mpc < 512 }
         ensures keeps { kept self.new ≡ keeps (kept self.old) cycle.now }
-        ensures says { (text : List ℕ) × Prints (kept self.old) cycle.now text × Puts (E.held err.old) text result (E.held err.new) }
+        ensures says { PutsSome (Prints (kept self.old) cycle.now) (E.held err.old) result (E.held err.new) }
         ensures cause { HasCause (E.faults err.old) (E.faults err.new) result };
 }
