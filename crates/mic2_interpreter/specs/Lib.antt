@@ -1,2 +1,3 @@
 pub mod Stands
 pub mod Stalls
+pub mod Interpretation

@@ -5,7 +5,6 @@ use Rattle.ijvm_image.specs.Image.{ImageView}
 use Rattle.ijvm_instr.specs.declared.instr.Instr.{Instr}
 use Rattle.ijvm_instr.specs.declared.instr.Instr.TheVariants.{Invokevirtual}
 use Rattle.ijvm_meaning.specs.Frames.{State}
-use Rattle.ijvm_meaning.specs.Run.{TimedImage, Point}
 use Rattle.ijvm_meaning.specs.Cost.{timing_of, entry_of}
 use Rattle.verifier_facts.specs.Accepted.{VerifiedView}
 use Rattle.mic2_datapath.specs.Micro.{Micro}
@@ -13,6 +12,8 @@ use Rattle.mic2_datapath.specs.Mic2.{mic2_meaning}
 use Rattle.ijvm_simulation.specs.Stands.{Origin}
 use Rattle.ijvm_simulation.specs.Passes.{Moment}
 use Rattle.ijvm_simulation.specs.Stalls as simulation
+use Rattle.ijvm_simulation.specs.Verified.{Loads}
+use Rattle.mal_shipped.specs.Shipped.{HasShipped}
 use Rattle.mic2_interpreter.specs.Stands.{Stands}
 
 -- The stalls of an instruction: one of a call, or two where the method's entry is the last byte of a word.
@@ -35,6 +36,13 @@ module _ (program : List ℕ) (o : Origin) where
   abbrev pub BootsWithStall : VerifiedView → List ℕ → Type 0
   BootsWithStall v input = simulation.BootsWithStalls mic2_meaning program Stands 0x002 (timing_of Mic2) 1 v o input
 
--- the boundaries of a run, each with the stalls before it: one of the boot, and those of the calls
-abbrev pub HasStalled : TimedImage → ℕ → Point → Point → ℕ → Type 0
-HasStalled = simulation.HasStalled 1 stalls_of
+-- Over the store that ships and every verified image that stands in the memory:
+
+-- what the instructions of a group take, with the stalls of each
+abbrev pub GroupStalls : (Instr → Type 0) → Type 0
+GroupStalls Has = (store : List ℕ) (o : Origin) (v : VerifiedView) → HasShipped Mic2 store → Loads v o → TakesWithStalls store o v Has
+
+-- a reset comes to the first boundary with one stall
+abbrev pub BootStallsOnce : Type 0
+BootStallsOnce =
+    (store : List ℕ) (o : Origin) (v : VerifiedView) (input : List ℕ) → HasShipped Mic2 store → Loads v o → BootsWithStall store o v input

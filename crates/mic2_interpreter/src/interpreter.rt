@@ -1,14 +1,9 @@
 //! Mic-2 as an interpreter of IJVM.
 
-ghost use Rattle.std.specs.Prelude.{◌≡◌, ◌≤◌, ◌^◌, Some, None, IfOk, OnErr, IsSome};
-ghost use Rattle.mic_words.specs.declared.machine.Machine.TheVariants as machines;
+ghost use Rattle.std.specs.Prelude.{◌≡◌, ◌≤◌, ◌^◌, Some, IfOk, OnErr, IsSome};
 ghost use Rattle.console_port.specs.Streams.{SinkGoesOn};
-ghost use Rattle.mic_clock.specs.Board.{NoFault, HasEndCause};
-ghost use Rattle.mic2_datapath.specs.Mic2.{mic2_meaning, IsReady};
-ghost use Rattle.mic2_datapath.specs.View.{micro_of};
-ghost use Rattle.ijvm_meaning.specs.Cost.{timing_of};
-ghost use Rattle.mal_shipped.specs.Shipped.{HasShipped};
-ghost use Rattle.ijvm_simulation.specs.Headline.{HasRun, IsCutByRead, IsCutByWrite};
+ghost use Rattle.ijvm_simulation.specs.Answers.{RunsAsDefined, IsCutWhereReadFails, IsCutWhereWriteFails, EndsByCause};
+ghost use Rattle.mic2_interpreter.specs.Interpretation.{mic2};
 
 use crate::laws::{ends_law, stalls_law};
 use ijvm_simulation::{Interpreter, run_image, stack_law};
@@ -78,17 +73,11 @@ pub fn run_image2<S: Source, K: Sink>(
 ) -> Result<Board<Mic2>, AllocError>
     requires { bound ≤ 2 ^ 62 }
     ensures ended { IfOk result (λ board. IsSome board.end) }
-    ensures run { IfOk result (λ board. NoFault None board.end →
-        HasRun micro_of mic2_meaning IsReady (HasShipped machines.Mic2) 0x002 (timing_of machines.Mic2) image.now bound
-        (S.left source.old) (K.held sink.old) (S.left source.new) (K.held sink.new) board) }
-    ensures read { IfOk result (λ board. board.end ≡ Some End.ReadFault →
-        IsCutByRead micro_of mic2_meaning IsReady (HasShipped machines.Mic2) 0x002 (timing_of machines.Mic2) image.now bound
-        (S.left source.old) (K.held sink.old) (S.left source.new) (K.held sink.new) board) }
-    ensures write { IfOk result (λ board. board.end ≡ Some End.WriteFault →
-        IsCutByWrite micro_of mic2_meaning IsReady (HasShipped machines.Mic2) 0x002 (timing_of machines.Mic2) image.now bound
-        (S.left source.old) (K.held sink.old) (S.left source.new) (K.held sink.new) board) }
+    ensures run { RunsAsDefined mic2 image.now bound S.left K.held source.old sink.old source.new sink.new result }
+    ensures read { IsCutWhereReadFails mic2 image.now bound S.left K.held source.old sink.old source.new sink.new result }
+    ensures write { IsCutWhereWriteFails mic2 image.now bound S.left K.held source.old sink.old source.new sink.new result }
     ensures sink { IfOk result (λ board. SinkGoesOn K.held K.passed (board.end ≡ Some End.WriteFault) sink.old sink.new) }
-    ensures cause { IfOk result (λ board. HasEndCause (S.faults source.old) (S.faults source.new) (K.faults sink.old) (K.faults sink.new) None board.end) }
+    ensures cause { EndsByCause S.faults K.faults source.old sink.old source.new sink.new result }
     ensures none { OnErr result ((source.new ≡ source.old) × (sink.new ≡ sink.old)) }
 {
     run_image::<Mic2Interpreter, S, K>(alloc, image, bound, source, sink)
