@@ -1,14 +1,9 @@
 //! Mic-3 as an interpreter of IJVM.
 
-ghost use Rattle.std.specs.Prelude.{◌≡◌, ◌≤◌, ◌^◌, Some, None, IfOk, OnErr, IsSome};
-ghost use Rattle.mic_words.specs.declared.machine.Machine.TheVariants as machines;
+ghost use Rattle.std.specs.Prelude.{◌≡◌, ◌≤◌, ◌^◌, Some, IfOk, OnErr, IsSome};
 ghost use Rattle.console_port.specs.Streams.{SinkGoesOn};
-ghost use Rattle.mic_clock.specs.Board.{NoFault, HasEndCause};
-ghost use Rattle.mic3_datapath.specs.Mic3.{mic3_meaning, IsReady};
-ghost use Rattle.mic3_datapath.specs.View.{pipeline_of};
-ghost use Rattle.mic3_interpreter.specs.Timing.{mic3_timing};
-ghost use Rattle.mal_shipped.specs.Shipped.{HasShipped};
-ghost use Rattle.ijvm_simulation.specs.Headline.{HasRun, IsCutByRead, IsCutByWrite};
+ghost use Rattle.ijvm_simulation.specs.Answers.{RunsAsDefined, IsCutWhereReadFails, IsCutWhereWriteFails, EndsByCause};
+ghost use Rattle.mic3_interpreter.specs.Interpretation.{mic3};
 
 use crate::laws::{calls_law, consoles_law, ends_law, jumps_law, locals_law, operands_law};
 use ijvm_simulation::{Interpreter, groups_are_all, run_image, stack_law};
@@ -83,17 +78,11 @@ pub fn run_image3<S: Source, K: Sink>(
 ) -> Result<Board<Mic3>, AllocError>
     requires { bound ≤ 2 ^ 62 }
     ensures ended { IfOk result (λ board. IsSome board.end) }
-    ensures run { IfOk result (λ board. NoFault None board.end →
-        HasRun pipeline_of mic3_meaning IsReady (HasShipped machines.Mic2) 0x002 mic3_timing image.now bound
-        (S.left source.old) (K.held sink.old) (S.left source.new) (K.held sink.new) board) }
-    ensures read { IfOk result (λ board. board.end ≡ Some End.ReadFault →
-        IsCutByRead pipeline_of mic3_meaning IsReady (HasShipped machines.Mic2) 0x002 mic3_timing image.now bound
-        (S.left source.old) (K.held sink.old) (S.left source.new) (K.held sink.new) board) }
-    ensures write { IfOk result (λ board. board.end ≡ Some End.WriteFault →
-        IsCutByWrite pipeline_of mic3_meaning IsReady (HasShipped machines.Mic2) 0x002 mic3_timing image.now bound
-        (S.left source.old) (K.held sink.old) (S.left source.new) (K.held sink.new) board) }
+    ensures run { RunsAsDefined mic3 image.now bound S.left K.held source.old sink.old source.new sink.new result }
+    ensures read { IsCutWhereReadFails mic3 image.now bound S.left K.held source.old sink.old source.new sink.new result }
+    ensures write { IsCutWhereWriteFails mic3 image.now bound S.left K.held source.old sink.old source.new sink.new result }
     ensures sink { IfOk result (λ board. SinkGoesOn K.held K.passed (board.end ≡ Some End.WriteFault) sink.old sink.new) }
-    ensures cause { IfOk result (λ board. HasEndCause (S.faults source.old) (S.faults source.new) (K.faults sink.old) (K.faults sink.new) None board.end) }
+    ensures cause { EndsByCause S.faults K.faults source.old sink.old source.new sink.new result }
     ensures none { OnErr result ((source.new ≡ source.old) × (sink.new ≡ sink.old)) }
 {
     run_image::<Mic3Interpreter, S, K>(alloc, image, bound, source, sink)
