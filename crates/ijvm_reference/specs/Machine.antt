@@ -1,17 +1,18 @@
 -- The plain machine: frames over an image. The console's bytes are not in it.
-use Rattle.std.specs.Prelude.{◌≡◌, ◌≤◌, ◌<◌, ℕ, ◌&&◌, Bool, true, false, nat_lt, List, [], ◌∷◌, length, ◌-◌, slice_set, Option, Some, None, Result, IfOk, bit_and, bit_or}
+use Rattle.std.specs.Prelude.{◌≡◌, ◌≤◌, ◌<◌, ℕ, ◌&&◌, Bool, true, false, nat_lt, List, [], ◌∷◌, length, ◌+◌, ◌-◌, ℤ, slice_get, slice_set, Option, Some, None, Result, IfOk, bit_and, bit_or}
 use Rattle.std.specs.declared.alloc.AllocError.{AllocError}
 use Rattle.ijvm_instr.specs.declared.instr.Instr.{Instr}
 use Rattle.ijvm_instr.specs.declared.instr.Instr.TheVariants.{In, Out, Err, Halt}
 use Rattle.ijvm_image.specs.declared.method.Method.{Method}
-use Rattle.ijvm_image.specs.Image.{ImageView}
+use Rattle.ijvm_instr.specs.Instructions.{instr_at}
+use Rattle.ijvm_image.specs.Image.{ImageView, method_at}
 use Rattle.ijvm_meaning.specs.Frames.{Frame, State, start_of, base, IsWord}
 use Rattle.mic_words.specs.Arithmetic.{plus, minus}
 use Rattle.ijvm_reference.specs.declared.compute.Operator.{Operator}
 use Rattle.ijvm_reference.specs.declared.compute.Operator.TheVariants as operators
 use Rattle.ijvm_reference.specs.declared.compute.Effect.{Effect}
 use Rattle.ijvm_reference.specs.declared.compute.Effect.TheVariants as effects
-use Rattle.ijvm_meaning.specs.Step.{StepOutcome, Goes, Limits, Stuck, is_own, in_method}
+use Rattle.ijvm_meaning.specs.Step.{StepOutcome, Goes, Limits, Stuck, is_own, in_method, pushed_constant, loaded, increased, called_at}
 
 pub record MachineView : Type 0 where
   pub image : ImageView
@@ -56,6 +57,18 @@ in_caller m back value f fs = record m { running = record f { operands = value �
 abbrev pub with_operands : MachineView → List ℕ → MachineView
 with_operands m operands = record m { running = record m.running { operands = operands } }
 
+-- the machine with another value of a local
+abbrev pub with_local : MachineView → ℕ → ℕ → MachineView
+with_local m k v = record m { running = record m.running { locals = slice_set m.running.locals k (Some v) } }
+
+-- the machine has returned a value to its nearest caller, at this address
+abbrev pub Returns : ℕ → ℕ → MachineView → MachineView → Type 0
+Returns back value old new = (f : Frame) (fs : List Frame) → old.callers ≡ f ∷ fs → new ≡ in_caller old back value f fs
+
+-- the instruction that comes next
+abbrev pub next_instr : MachineView → Option Instr
+next_instr m = instr_at m.image.text m.at
+
 -- a local that an instruction may store to
 abbrev pub has_own : Frame → ℕ → Bool
 has_own f k = is_own f.back k && nat_lt k (length f.locals)
@@ -83,6 +96,20 @@ Leads does effect old new = (untaken given : List ℕ) → does (state_of old un
 -- the same, of an instruction that may want memory
 abbrev pub LeadsBy : Result Effect AllocError → (State → StepOutcome) → MachineView → MachineView → Type 0
 LeadsBy result does old new = IfOk result (λ effect. Leads does effect old new)
+
+-- What an instruction on a constant, a local or a method of the machine does, by its index.
+
+abbrev pub constant_pushed : MachineView → ℕ → State → StepOutcome
+constant_pushed m index s = pushed_constant m.stack_end s (slice_get m.image.pool index)
+
+abbrev pub local_loaded : MachineView → ℕ → ℕ → State → StepOutcome
+local_loaded m index size s = loaded m.stack_end s (slice_get m.running.locals index) (s.at + size)
+
+abbrev pub local_increased : ℕ → ℤ → ℕ → State → StepOutcome
+local_increased index by size s = increased s index by (slice_get s.running.locals index) (s.at + size)
+
+abbrev pub method_called : MachineView → ℕ → State → StepOutcome
+method_called m index s = called_at m.stack_end s (method_at m.image.text (slice_get m.image.pool index))
 
 abbrev pub operate : Operator → ℕ → ℕ → ℕ
 operate operators.Add second top = plus second top

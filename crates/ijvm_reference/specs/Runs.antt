@@ -21,7 +21,7 @@ use Rattle.ijvm_meaning.specs.Step.{Goes, step_outcome}
 use Rattle.ijvm_reference.specs.Kept.{Keeps}
 use Rattle.ijvm_reference.specs.Steps.{IsMetBy}
 use Rattle.ijvm_meaning.specs.Cost.{timing_of}
-use Rattle.ijvm_meaning.specs.Run.{TimedImage, Point, Finish, EndsBy, point_after}
+use Rattle.ijvm_meaning.specs.Run.{TimedImage, Point, Finish, EndsBy, Passes, point_after}
 
 abbrev pub program_of : MachineView → Machine → TimedImage
 program_of m machine = record { image = m.image; stack_end = m.stack_end; timing = timing_of machine }
@@ -166,3 +166,19 @@ pub record HasRunCause (source source' sink sink' : ℕ) (stop : Option (Result 
   pub write : stop ≡ Some (Ok ends.WriteFault) → Rose sink sink'
   pub source_same : stop ≢ Some (Ok ends.ReadFault) → source' ≡ source
   pub sink_same : stop ≢ Some (Ok ends.WriteFault) → sink' ≡ sink
+
+abbrev pub EndsByCause : {S K : Type 0} → (S → ℕ) → (K → ℕ) → S → K → S → K → Option (Result PlainEnd AllocError) → Type 0
+EndsByCause source_faults sink_faults source sink source' sink' stop =
+    HasRunCause (source_faults source) (source_faults source') (sink_faults sink) (sink_faults sink') stop
+
+-- The boundaries at which a run is followed are those that the definition's run passes, whatever the console keeps at first.
+
+abbrev pub ReachedArePassed : Type 0
+ReachedArePassed =
+    (told : Bool) (p : TimedImage) (bound : ℕ) (from : Point) (first : ConsoleView) (at : Point) (console : ConsoleView) →
+    Reaches told p bound from first at console → Passes p bound from at
+
+abbrev pub PassedAreReached : Type 0
+PassedAreReached =
+    (told : Bool) (p : TimedImage) (bound : ℕ) (from : Point) (first : ConsoleView) (at : Point) →
+    Passes p bound from at → (console : ConsoleView) × Reaches told p bound from first at console

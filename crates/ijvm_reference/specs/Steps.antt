@@ -1,17 +1,17 @@
 -- A step of frames over a console, a source and a sink is the definition's `outcome`, where what these have left and hold are the state's
 -- untaken and given bytes.
-use Rattle.std.specs.Prelude.{◌≡◌, ◌≢◌, ℕ, ◌≤◌, List, [], ◌++◌, false, Option, Some, None, Result, Err, IsErrOf}
+use Rattle.std.specs.Prelude.{◌≡◌, ◌≢◌, ℕ, ◌≤◌, List, [], ◌++◌, false, Option, Some, None, Result, Err, IsSome, IfOk, IfErr, IsErrOf}
 use Rattle.mic_base.specs.Causes.{Rose}
 use Rattle.console_port.specs.View.{ConsoleView}
 use Rattle.console_port.specs.Console.{Untaken, Given, IsLost}
 use Rattle.ijvm_instr.specs.declared.instr.Instr.{Instr}
-use Rattle.ijvm_instr.specs.declared.instr.Instr.TheVariants.{In}
+use Rattle.ijvm_instr.specs.declared.instr.Instr.TheVariants.{In, Out}
 use Rattle.ijvm_reference.specs.declared.frames.StepEnd.{StepEnd}
 use Rattle.ijvm_reference.specs.declared.frames.StepEnd.TheVariants as ends
 use Rattle.ijvm_reference.specs.declared.frames.StepError.{StepError}
 use Rattle.ijvm_reference.specs.declared.frames.StepError.TheVariants as errors
 use Rattle.ijvm_meaning.specs.Frames.{State}
-use Rattle.ijvm_meaning.specs.Step.{StepOutcome, Goes, Halts, Errs, Limits, Stuck, step_outcome}
+use Rattle.ijvm_meaning.specs.Step.{StepOutcome, Goes, Halts, Errs, Limits, Stuck, given_out, step_outcome}
 use Rattle.ijvm_reference.specs.declared.compute.Effect.{Effect}
 use Rattle.ijvm_reference.specs.declared.compute.Effect.TheVariants as effects
 use Rattle.ijvm_reference.specs.Machine.{MachineView, state_of, outcome_of}
@@ -56,6 +56,10 @@ abbrev pub Turns : Option StepEnd → MachineView → MachineView → List ℕ �
 Turns None old new untaken given untaken' given' = step_outcome old.image old.stack_end (state_of old untaken given) ≡ Stuck
 Turns (Some end) old new untaken given untaken' given' = Does end old new untaken given untaken' given'
 
+-- where an instruction was done, and the machine was not stuck
+abbrev pub IfTurned : {E : Type 0} → Result (Option StepEnd) E → Type 0 → Type 0
+IfTurned result Holds = IfOk result (λ end. IsSome end → Holds)
+
 -- after an Err: but for a write that failed the console's bytes are as they were
 pub record IsCutOff (left held : Option (List ℕ)) (c : ConsoleView) (left' held' : Option (List ℕ)) (c' : ConsoleView) (e : StepError) : Type 0 where
   pub untaken : left' ≡ left
@@ -85,3 +89,23 @@ pub record HasStepCause {T : Type 0} (source source' sink sink' : ℕ) (result :
   pub write : IsErrOf result errors.WriteFault → Rose sink sink'
   pub source_same : result ≢ Err errors.ReadFault → source' ≡ source
   pub sink_same : result ≢ Err errors.WriteFault → sink' ≡ sink
+
+-- The same over a source and a sink, or over a sink alone, whatever a source may have left.
+
+abbrev pub CutsOff : {S K T : Type 0} → (S → Option (List ℕ)) → (K → Option (List ℕ)) → S → K → ConsoleView → S → K → ConsoleView → Result T StepError → Type 0
+CutsOff left held source sink c source' sink' c' result = IfErr result (IsCutOff (left source) (held sink) c (left source') (held sink') c')
+
+abbrev pub CutsOffSink : {K T : Type 0} → (K → Option (List ℕ)) → K → ConsoleView → K → ConsoleView → Result T StepError → Type 0
+CutsOffSink held sink c sink' c' result = (left : Option (List ℕ)) → IfErr result (IsCutOff left (held sink) c left (held sink') c')
+
+abbrev pub GivesOut : {K : Type 0} → (K → Option (List ℕ)) → K → ConsoleView → MachineView → K → ConsoleView → MachineView → Result Effect StepError → Type 0
+GivesOut held sink c old sink' c' new result =
+    (left : Option (List ℕ)) → IfOk result (LedBy (λ s. given_out s old.running.operands) left (held sink) c left (held sink') c' old new)
+
+abbrev pub FailsToGive : {K : Type 0} → (K → Option (List ℕ)) → K → ConsoleView → MachineView → K → ConsoleView → MachineView → Result Effect StepError → Type 0
+FailsToGive held sink c old sink' c' new result =
+    (left : Option (List ℕ)) → IfErr result (StepFails (Some Out) left (held sink) c left (held sink') c' old new)
+
+abbrev pub FailsByCause : {S K T : Type 0} → (S → ℕ) → (K → ℕ) → S → K → S → K → Result T StepError → Type 0
+FailsByCause source_faults sink_faults source sink source' sink' result =
+    HasStepCause (source_faults source) (source_faults source') (sink_faults sink) (sink_faults sink') result

@@ -1,11 +1,10 @@
 //! The instructions that neither need the console nor end the run.
 
-ghost use Rattle.std.specs.Prelude.{◌≡◌, ◌==◌, ◌+◌, ◌<◌, ◌^◌, slice_get, OnErr};
+ghost use Rattle.std.specs.Prelude.{◌≡◌, ◌==◌, ◌+◌, ◌<◌, ◌^◌, OnErr};
 ghost use Rattle.ijvm_instr.specs.Instructions.{target};
-ghost use Rattle.ijvm_meaning.specs.Step.{Goes, moved, step, pushed, pushed_constant, loaded, stored, increased, popped, doubled, swapped, combined, way, branched, compared, called_at, returned};
-ghost use Rattle.ijvm_image.specs.Image.{method_at};
+ghost use Rattle.ijvm_meaning.specs.Step.{Goes, moved, step, pushed, stored, popped, doubled, swapped, combined, way, branched, compared, returned};
 ghost use Rattle.mic_words.specs.Arithmetic.{is_negative};
-ghost use Rattle.ijvm_reference.specs.Machine.{Leads, LeadsBy, KeepsProgram, operate, IsComputed};
+ghost use Rattle.ijvm_reference.specs.Machine.{Leads, LeadsBy, KeepsProgram, constant_pushed, local_increased, local_loaded, method_called, operate, IsComputed};
 
 use crate::machine::PlainMachine;
 use ijvm_instr::{Instr, target_of};
@@ -78,7 +77,7 @@ pub fn push(machine: &mut PlainMachine, value: u32, size: u32) -> Result<Effect,
 
 pub fn push_constant(machine: &mut PlainMachine, index: u16) -> Result<Effect, AllocError>
     requires { machine.old.at + 3 < 2 ^ 32 }
-    ensures ok { LeadsBy result (λ s. pushed_constant machine.old.stack_end s (slice_get machine.old.image.pool index)) machine.old machine.new }
+    ensures ok { LeadsBy result (constant_pushed machine.old index) machine.old machine.new }
     ensures err { OnErr result (machine.new ≡ machine.old) }
     ensures program { KeepsProgram machine.old machine.new }
 {
@@ -91,7 +90,7 @@ pub fn push_constant(machine: &mut PlainMachine, index: u16) -> Result<Effect, A
 /// Pushes a local.
 pub fn load(machine: &mut PlainMachine, index: u16, size: u32) -> Result<Effect, AllocError>
     requires { machine.old.at + size < 2 ^ 32 }
-    ensures ok { LeadsBy result (λ s. loaded machine.old.stack_end s (slice_get machine.old.running.locals index) (s.at + size)) machine.old machine.new }
+    ensures ok { LeadsBy result (local_loaded machine.old index size) machine.old machine.new }
     ensures err { OnErr result (machine.new ≡ machine.old) }
     ensures program { KeepsProgram machine.old machine.new }
 {
@@ -121,7 +120,7 @@ pub fn store(machine: &mut PlainMachine, index: u16, size: u32) -> Effect
 #[tactic(auto, unfolding(mic_words::specs::Arithmetic::wrap))]
 pub fn increase(machine: &mut PlainMachine, index: u16, by: i16, size: u32) -> Effect
     requires { machine.old.at + size < 2 ^ 32 }
-    ensures leads { Leads (λ s. increased s index by (slice_get s.running.locals index) (s.at + size)) result machine.old machine.new }
+    ensures leads { Leads (local_increased index by size) result machine.old machine.new }
     ensures program { KeepsProgram machine.old machine.new }
 {
     let Some(value) = machine.local(index) else {
@@ -246,8 +245,7 @@ pub fn branch_if_equal(machine: &mut PlainMachine, offset: i16) -> Effect
 /// Calls a method with the last operands.
 pub fn call(machine: &mut PlainMachine, index: u16) -> Result<Effect, AllocError>
     requires { machine.old.at + 3 < 2 ^ 32 }
-    ensures ok { LeadsBy result (λ s. called_at machine.old.stack_end s
-        (method_at machine.old.image.text (slice_get machine.old.image.pool index))) machine.old machine.new }
+    ensures ok { LeadsBy result (method_called machine.old index) machine.old machine.new }
     ensures err { OnErr result (machine.new ≡ machine.old) }
     ensures program { KeepsProgram machine.old machine.new }
 {

@@ -91,7 +91,7 @@ fn method_locals(
     others: u16,
 ) -> Result<Vec<Option<u32>>, AllocError>
     requires { params ≤ length operands.now }
-    ensures { IfOk result (λ locals. locals.items ≡ None ∷ onto (take params (reverse operands.now)) (replicate others None)) }
+    ensures { IfOk result (λ made. made.items ≡ None ∷ onto (take params (reverse operands.now)) (replicate others None)) }
 {
     let from = operands.len() - params as usize;
     let mut locals = Vec::with_capacity(alloc, 1 + params as usize + others as usize)?;

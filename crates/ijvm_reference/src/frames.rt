@@ -1,14 +1,13 @@
 //! The plain machine, which computes the definition's run step by step.
 
-ghost use Rattle.std.specs.Prelude.{◌≡◌, ◌+◌, ◌≤◌, [], ◌∷◌, Err, IsSome, IfOk, OnOk, IfErr};
+ghost use Rattle.std.specs.Prelude.{◌≡◌, ◌+◌, ◌≤◌, [], ◌∷◌, Err, IfOk, OnOk, IfErr};
 ghost use Rattle.console_port.specs.Streams.{SinkGoesOn, SourceGoesOn};
-ghost use Rattle.ijvm_instr.specs.Instructions.{instr_at};
 ghost use Rattle.ijvm_meaning.specs.Cost.{timing_of, next_cost};
 ghost use Rattle.ijvm_meaning.specs.Frames.{base, top_of};
 ghost use Rattle.ijvm_meaning.specs.Safe.{NeverStuck, IsSafe};
-ghost use Rattle.ijvm_reference.specs.Machine.{MachineView, KeepsProgram, state_of, started};
+ghost use Rattle.ijvm_reference.specs.Machine.{MachineView, KeepsProgram, next_instr, state_of, started};
 ghost use Rattle.ijvm_reference.specs.Kept.{HasKept};
-ghost use Rattle.ijvm_reference.specs.Steps.{IsLedOn, step_end, Does, Turns, StepFails, HasStepCause};
+ghost use Rattle.ijvm_reference.specs.Steps.{IfTurned, IsLedOn, step_end, Does, Turns, StepFails, FailsByCause};
 
 use crate::compute::{Effect, compute};
 use crate::cost::cost_of;
@@ -73,12 +72,12 @@ pub fn turn<S: Source, K: Sink>(
 ) -> Result<Option<StepEnd>, StepError>
     ensures ok { IfOk result (λ end. IsLedOn (S.left source.old) (K.held sink.old) console.old (S.left source.new) (K.held sink.new) console.new
         (Turns end machine.old machine.new)) }
-    ensures err { IfErr result (StepFails (instr_at machine.old.image.text machine.old.at) (S.left source.old) (K.held sink.old) console.old
+    ensures err { IfErr result (StepFails (next_instr machine.old) (S.left source.old) (K.held sink.old) console.old
         (S.left source.new) (K.held sink.new) console.new machine.old machine.new) }
-    ensures kept { IfOk result (λ end. IsSome end → HasKept (S.left source.old) (instr_at machine.old.image.text machine.old.at) console.old console.new) }
+    ensures kept { IfTurned result (HasKept (S.left source.old) (next_instr machine.old) console.old console.new) }
     ensures source { SourceGoesOn S.left console.old.ended source.old console.new.ended source.new }
     ensures sink { SinkGoesOn K.held K.passed (result ≡ Err StepError.WriteFault) sink.old sink.new }
-    ensures cause { HasStepCause (S.faults source.old) (S.faults source.new) (K.faults sink.old) (K.faults sink.new) result }
+    ensures cause { FailsByCause S.faults K.faults source.old sink.old source.new sink.new result }
     ensures program { KeepsProgram machine.old machine.new }
 {
     let Some(instr) = machine.next() else {
@@ -143,12 +142,12 @@ impl Frames {
         ensures ok { IfOk result (λ end. IsLedOn (S.left source.old) (K.held sink.old) console.old (S.left source.new) (K.held sink.new) console.new
             (Does end self.old self.new)) }
         ensures program { KeepsProgram self.old self.new }
-        ensures err { IfErr result (StepFails (instr_at self.old.image.text self.old.at) (S.left source.old) (K.held sink.old) console.old
+        ensures err { IfErr result (StepFails (next_instr self.old) (S.left source.old) (K.held sink.old) console.old
             (S.left source.new) (K.held sink.new) console.new self.old self.new) }
-        ensures kept { OnOk result (HasKept (S.left source.old) (instr_at self.old.image.text self.old.at) console.old console.new) }
+        ensures kept { OnOk result (HasKept (S.left source.old) (next_instr self.old) console.old console.new) }
         ensures source { SourceGoesOn S.left console.old.ended source.old console.new.ended source.new }
         ensures sink { SinkGoesOn K.held K.passed (result ≡ Err StepError.WriteFault) sink.old sink.new }
-        ensures cause { HasStepCause (S.faults source.old) (S.faults source.new) (K.faults sink.old) (K.faults sink.new) result }
+        ensures cause { FailsByCause S.faults K.faults source.old sink.old source.new sink.new result }
     {
         match turn(&mut self.machine, console, source, sink) {
             Ok(Some(end)) => Ok(end),

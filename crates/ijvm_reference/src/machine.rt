@@ -1,12 +1,12 @@
 //! The plain machine without its console.
 
-ghost use Rattle.std.specs.Prelude.{◌≡◌, ◌≢◌, ◌↔◌, ◌+◌, ◌<◌, ◌≤◌, ◌^◌, [], ◌∷◌, List, nat_le, reverse, slice_get, slice_set, drop, Some, None, IfOk, OnOk, OnErr, IfSome, IsTrue, length, vec_len, vec_capacity};
+ghost use Rattle.std.specs.Prelude.{◌≡◌, ◌≢◌, ◌↔◌, ◌+◌, ◌<◌, ◌≤◌, ◌^◌, [], ◌∷◌, nat_le, reverse, slice_get, drop, Some, None, IfOk, OnOk, OnErr, IfSome, IsTrue, length, vec_len, vec_capacity};
 ghost use Rattle.std.specs.Option.{option_flatten};
 ghost use Rattle.ijvm_instr.specs.Instructions.{instr_at};
 ghost use Rattle.ijvm_image.specs.Image.{method_at};
 ghost use Rattle.ijvm_meaning.specs.Cost.{are_equal};
-ghost use Rattle.ijvm_meaning.specs.Frames.{Frame, base, top_of};
-ghost use Rattle.ijvm_reference.specs.Machine.{MachineView, ArePlaced, started, with_operands, in_call, in_caller, KeepsProgram, Pops, Stores, Swaps};
+ghost use Rattle.ijvm_meaning.specs.Frames.{base, top_of};
+ghost use Rattle.ijvm_reference.specs.Machine.{MachineView, ArePlaced, started, with_operands, in_call, with_local, KeepsProgram, Pops, Returns, Stores, Swaps};
 
 use crate::frame::Frame;
 use ijvm_image::{Image, Method};
@@ -181,7 +181,7 @@ impl PlainMachine {
     #[tactic(auto, using(crate::proofs::Placed::placed_set))]
     pub fn set_local(&mut self, index: u16, value: u32)
         requires { index < length self.old.running.locals }
-        ensures { self.new ≡ record self.old { running = record self.old.running { locals = slice_set self.old.running.locals index (Some value) } } }
+        ensures { self.new ≡ with_local self.old index value }
     {
         self.running.set_local(index, value);
     }
@@ -263,7 +263,7 @@ impl PlainMachine {
     pub fn leave(&mut self, back: u32, value: u32) -> Result<(), AllocError>
         requires caller { self.old.callers ≢ [] }
         requires method { self.old.running.back ≢ None }
-        ensures ok { OnOk result ((f : Frame) (fs : List Frame) → self.old.callers ≡ f ∷ fs → self.new ≡ in_caller self.old back value f fs) }
+        ensures ok { OnOk result (Returns back value self.old self.new) }
         ensures program { KeepsProgram self.old self.new }
         ensures err { OnErr result (self.new ≡ self.old) }
     {

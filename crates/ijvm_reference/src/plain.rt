@@ -4,7 +4,7 @@ ghost use Rattle.std.specs.Prelude.{◌≡◌, ◌≤◌, ◌<◌, ◌+◌, ◌^
 ghost use Rattle.console_port.specs.Streams.{SinkGoesOn, SourceGoesOn};
 ghost use Rattle.ijvm_reference.specs.Machine.{KeepsProgram};
 ghost use Rattle.ijvm_meaning.specs.Safe.{IsSafe};
-ghost use Rattle.ijvm_reference.specs.Runs.{IsDriven, IsAtBoundary, ComesFurther, IsEmptied, HasRunCause, counts_after, stop_by, cut_by};
+ghost use Rattle.ijvm_reference.specs.Runs.{IsDriven, IsAtBoundary, ComesFurther, IsEmptied, EndsByCause, counts_after, stop_by, cut_by};
 ghost use Rattle.ijvm_reference.specs.Plain.{program, end_of, IsReportOf, IsRunReport, IsShort};
 
 use crate::frames::{Frames, StepEnd, StepError};
@@ -112,7 +112,7 @@ fn pass<S: Source, K: Sink>(
     ensures emptied { IsEmptied result console.new }
     ensures source { SourceGoesOn S.left console.old.ended source.old console.new.ended source.new }
     ensures sink { SinkGoesOn K.held K.passed (result ≡ Some (Ok PlainEnd.WriteFault)) sink.old sink.new }
-    ensures cause { HasRunCause (S.faults source.old) (S.faults source.new) (K.faults sink.old) (K.faults sink.new) result }
+    ensures cause { EndsByCause S.faults K.faults source.old sink.old source.new sink.new result }
 {
     if counts.cycles >= bound {
         return Some(Ok(PlainEnd::Bound));
@@ -142,7 +142,7 @@ fn drive<S: Source, K: Sink>(
     ensures emptied { IsEmptied (Some result) console.new }
     ensures source { SourceGoesOn S.left console.old.ended source.old console.new.ended source.new }
     ensures sink { SinkGoesOn K.held K.passed (result ≡ Ok PlainEnd.WriteFault) sink.old sink.new }
-    ensures cause { HasRunCause (S.faults source.old) (S.faults source.new) (K.faults sink.old) (K.faults sink.new) (Some result) }
+    ensures cause { EndsByCause S.faults K.faults source.old sink.old source.new sink.new (Some result) }
 {
     'run: loop {
         match pass(frames, machine, bound, counts, console, source, sink) {
@@ -186,7 +186,7 @@ pub fn run_plain<S: Source, K: Sink>(
     ensures short { OnErr result (IsShort (program image.now map machine) main_locals bound
         (S.left source.old) (K.held sink.old) (S.left source.new) (K.held sink.new)) }
     ensures sink { SinkGoesOn K.held K.passed (end_of result ≡ Ok PlainEnd.WriteFault) sink.old sink.new }
-    ensures cause { HasRunCause (S.faults source.old) (S.faults source.new) (K.faults sink.old) (K.faults sink.new) (Some (end_of result)) }
+    ensures cause { EndsByCause S.faults K.faults source.old sink.old source.new sink.new (Some (end_of result)) }
 {
     let mut frames = Frames::new(alloc, image, main_locals, map)?;
     let mut console = Console::new();

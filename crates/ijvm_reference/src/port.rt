@@ -1,13 +1,13 @@
 //! IN and OUT, which need the console.
 
-ghost use Rattle.std.specs.Prelude.{◌≡◌, ◌≢◌, ◌+◌, ◌<◌, ◌^◌, ◌∷◌, [], ℕ, List, drop, IfOk, OnOk, IfErr, Option, Some, Err};
+ghost use Rattle.std.specs.Prelude.{◌≡◌, ◌≢◌, ◌+◌, ◌<◌, ◌^◌, ◌∷◌, [], ℕ, List, drop, IfOk, OnOk, IfErr, Some, Err};
 ghost use Rattle.console_port.specs.Console.{Untaken, Given, IsFault};
 ghost use Rattle.console_port.specs.Streams.{SinkGoesOn, SourceGoesOn};
 ghost use Rattle.console_port.specs.World.{next_byte};
-ghost use Rattle.ijvm_meaning.specs.Step.{read_in, given_out};
+ghost use Rattle.ijvm_meaning.specs.Step.{read_in};
 ghost use Rattle.ijvm_reference.specs.Machine.{KeepsProgram, state_of, outcome_of};
 ghost use Rattle.ijvm_reference.specs.Kept.{HasRead, WritesOut};
-ghost use Rattle.ijvm_reference.specs.Steps.{IsLedOn, LedBy, Gives, IsCutOff, IsMetBy, StepFails, HasStepCause};
+ghost use Rattle.ijvm_reference.specs.Steps.{IsLedOn, CutsOff, CutsOffSink, FailsByCause, FailsToGive, Gives, GivesOut, HasStepCause, IsMetBy, StepFails};
 
 use crate::compute::Effect;
 use crate::frames::StepError;
@@ -39,12 +39,12 @@ fn take_byte<S: Source, K: Sink>(
         (untaken : List ℕ) × Untaken (S.left source.old) console.old.ended untaken × (byte ≡ next_byte untaken) × (drop 1 untaken ≡ rest)) }
     ensures given { OnOk result ((given : List ℕ) →
         Given (K.held sink.old) console.old.kept given → Given (K.held sink.new) console.new.kept given) }
-    ensures err { IfErr result (IsCutOff (S.left source.old) (K.held sink.old) console.old (S.left source.new) (K.held sink.new) console.new) }
+    ensures err { CutsOff S.left K.held source.old sink.old console.old source.new sink.new console.new result }
     ensures kept { OnOk result (HasRead (S.left source.old) console.old console.new) }
     ensures met { IfErr result (λ e. IsMetBy e (Some Instr.In) console.old) }
     ensures source { SourceGoesOn S.left console.old.ended source.old console.new.ended source.new }
     ensures sink { SinkGoesOn K.held K.passed (result ≡ Err StepError.WriteFault) sink.old sink.new }
-    ensures cause { HasStepCause (S.faults source.old) (S.faults source.new) (K.faults sink.old) (K.faults sink.new) result }
+    ensures cause { FailsByCause S.faults K.faults source.old sink.old source.new sink.new result }
 {
     match console.take(source, sink) {
         Ok(byte) => Ok(byte),
@@ -56,7 +56,7 @@ fn take_byte<S: Source, K: Sink>(
 fn give_byte<K: Sink>(console: &mut Console, byte: u8, sink: &mut K) -> Result<(), StepError>
     ensures ended { console.new.ended ≡ console.old.ended }
     ensures ok { OnOk result (Gives (byte ∷ []) (K.held sink.old) console.old.kept (K.held sink.new) console.new.kept) }
-    ensures err { (left : Option (List ℕ)) → IfErr result (IsCutOff left (K.held sink.old) console.old left (K.held sink.new) console.new) }
+    ensures err { CutsOffSink K.held sink.old console.old sink.new console.new result }
     ensures kept { OnOk result (WritesOut console.old console.new) }
     ensures met { IfErr result (λ e. IsMetBy e (Some Instr.Out) console.old) }
     ensures sink { SinkGoesOn K.held K.passed (result ≡ Err StepError.WriteFault) sink.old sink.new }
@@ -85,7 +85,7 @@ pub fn read_in<S: Source, K: Sink>(
     ensures kept { OnOk result (HasRead (S.left source.old) console.old console.new) }
     ensures source { SourceGoesOn S.left console.old.ended source.old console.new.ended source.new }
     ensures sink { SinkGoesOn K.held K.passed (result ≡ Err StepError.WriteFault) sink.old sink.new }
-    ensures cause { HasStepCause (S.faults source.old) (S.faults source.new) (K.faults sink.old) (K.faults sink.new) result }
+    ensures cause { FailsByCause S.faults K.faults source.old sink.old source.new sink.new result }
 {
     if !machine.has_room(1) {
         take_byte(console, source, sink)?;
@@ -113,10 +113,8 @@ pub fn write_out<K: Sink>(
     sink: &mut K,
 ) -> Result<Effect, StepError>
     requires { machine.old.at + 1 < 2 ^ 32 }
-    ensures ok { (left : Option (List ℕ)) → IfOk result (LedBy (λ s. given_out s machine.old.running.operands)
-        left (K.held sink.old) console.old left (K.held sink.new) console.new machine.old machine.new) }
-    ensures err { (left : Option (List ℕ)) → IfErr result (StepFails (Some Instr.Out) left (K.held sink.old) console.old
-        left (K.held sink.new) console.new machine.old machine.new) }
+    ensures ok { GivesOut K.held sink.old console.old machine.old sink.new console.new machine.new result }
+    ensures err { FailsToGive K.held sink.old console.old machine.old sink.new console.new machine.new result }
     ensures program { KeepsProgram machine.old machine.new }
     ensures kept { IfOk result (λ e. e ≢ Effect.Stuck → WritesOut console.old console.new) }
     ensures ended { console.new.ended ≡ console.old.ended }
