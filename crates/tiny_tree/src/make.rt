@@ -2,7 +2,7 @@
 
 ghost use Rattle.std.specs.Prelude.{◌≡◌, IfOk, map, option_map};
 ghost use Rattle.tiny_tree.specs.Tree as tree;
-ghost use Rattle.tiny_tree.specs.Tree.{arguments_of, else_of, statements_of, steps_of};
+ghost use Rattle.tiny_tree.specs.Tree.{If, arguments_of, else_of, statements_of, steps_of};
 ghost use Rattle.tiny_tree.specs.View.{block_tree, cond_tree, expr_tree, function_tree, statement_tree, step_tree, term_tree};
 
 use crate::items::Items;
@@ -102,14 +102,14 @@ impl Statement {
         }
     }
 
-    pub fn choice(line: u32, cond: Cond, taken: Block, otherwise: Option<Block>) -> Statement
-        ensures { statement_tree result ≡ tree.If line (cond_tree cond) (block_tree taken) (else_of (option_map block_tree otherwise)) }
+    pub fn choice(line: u32, cond: Cond, taken: Block, other: Option<Block>) -> Statement
+        ensures { statement_tree result ≡ If line (cond_tree cond) (block_tree taken) (else_of (option_map block_tree other)) }
     {
         Statement::If {
             line,
             cond,
             taken,
-            otherwise,
+            otherwise: other,
         }
     }
 
