@@ -1,8 +1,9 @@
 //! Each node of a written program's tree from its parts, with the plain tree that it stands for.
 
-ghost use Rattle.std.specs.Prelude.{◌≡◌, ◌∷◌, [], IfErr, IfOk, map, option_map};
+ghost use Rattle.std.specs.Prelude.{◌≡◌, ◌∷◌, [], IfErr, IfOk, map};
 ghost use Rattle.tiny_draft.specs.Tree as tree;
-ghost use Rattle.tiny_draft.specs.Tree.{arguments_of, else_of, statements_of, steps_of};
+ghost use Rattle.tiny_draft.specs.Tree.{arguments_of, statements_of, steps_of};
+ghost use Rattle.tiny_draft.specs.Branches.{else_tree};
 ghost use Rattle.tiny_draft.specs.View.{block_tree, cond_tree, expr_tree, function_tree, statement_tree, step_tree, term_tree};
 
 use crate::tree::{
@@ -150,8 +151,7 @@ impl Statement {
         taken: Block,
         otherwise: Option<Block>,
     ) -> Result<Statement, AllocError>
-        ensures { IfOk result (λ s.
-            statement_tree s ≡ tree.If line (cond_tree cond) (block_tree taken) (else_of (option_map block_tree otherwise))) }
+        ensures { IfOk result (λ s. statement_tree s ≡ tree.If line (cond_tree cond) (block_tree taken) (else_tree otherwise)) }
     {
         let cond = Box::new(alloc, cond)?;
         let branches = Box::new(alloc, Branches { taken, otherwise })?;
