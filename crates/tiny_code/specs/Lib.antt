@@ -1,3 +1,4 @@
 pub mod Code
 pub mod Laid
+pub mod Laws
 pub mod Image

@@ -1,22 +1,21 @@
 //! What holds of every program, and of every image in which one is laid out.
 
-ghost use Rattle.std.specs.Prelude.{◌≡◌, ◌≢◌, ◌≤◌, ◌+◌, ◌++◌, ℕ, List, All, Some, length, slice_get};
-ghost use Rattle.std.specs.List.{Contains, flat_map};
+ghost use Rattle.std.specs.Prelude.{ℕ, List, All};
+ghost use Rattle.std.specs.List.{Contains};
 ghost use Rattle.ijvm_image.specs.Image.{ImageView};
 ghost use Rattle.ijvm_instr.specs.declared.instr.Instr.{Instr};
-ghost use Rattle.ijvm_instr.specs.Instructions.{IsInstr, spelling};
+ghost use Rattle.ijvm_instr.specs.Instructions.{IsInstr};
 ghost use Rattle.tiny_tree.specs.Tree.{Function, Program};
-ghost use Rattle.tiny_code.specs.Code.{Places, code_size, methods};
-ghost use Rattle.tiny_code.specs.Laid.{CodeAt, Holds, IsLaidOut};
+ghost use Rattle.tiny_code.specs.Code.{Places, methods};
+ghost use Rattle.tiny_code.specs.Laid.{Holds, IsLaidOut};
+ghost use Rattle.tiny_code.specs.Laws.{IsOther, StandsBetween};
 
 use ijvm_instr::read_instructions_are_whole;
 
 /// The methods of a program are its functions but main.
 pub fn methods_are_the_others()
-    ensures complete { (program : Program) (f : ℕ) (g : Function) → slice_get program.functions f ≡ Some g → f ≢ program.main →
-        Contains (methods program) (f, g) }
-    ensures sound { (program : Program) (f : ℕ) (g : Function) → Contains (methods program) (f, g) →
-        (slice_get program.functions f ≡ Some g) × (f ≢ program.main) }
+    ensures complete { (p : Program) (f : ℕ) (g : Function) → IsOther p f g → Contains (methods p) (f, g) }
+    ensures sound { (p : Program) (f : ℕ) (g : Function) → Contains (methods p) (f, g) → IsOther p f g }
 {}
 
 /// An image in which a program is laid out has all that a run of it takes.
@@ -26,8 +25,7 @@ pub fn laid_out_programs_hold()
 
 /// Code that is written in a text stands there.
 pub fn written_code_stands()
-    ensures { (code : List Instr) (before after : List ℕ) → All IsInstr code → length before + code_size code ≤ 65536 →
-        CodeAt (before ++ (flat_map spelling code ++ after)) (length before) code }
+    ensures { (code : List Instr) (before after : List ℕ) → All IsInstr code → StandsBetween before after code }
 {
     read_instructions_are_whole();
 }

@@ -2,4 +2,4 @@ use Rattle.tiny_code.proofs.Methods.{complete, sound}
 use Rattle.tiny_code.proofs.laws.methods_are_the_others.Goals as goal
 
 pub returns : goal.returns
-returns c = record { complete = complete; sound = sound }
+returns c = record { complete = λ program f g other. complete program f g other.0 other.1; sound = sound }
