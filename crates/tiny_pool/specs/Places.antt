@@ -1,10 +1,11 @@
 -- What a table has of a program: the places in the pool, and the numbers.
-use Rattle.std.specs.Prelude.{◌≡◌, ℕ, ◌+◌, if◌then◌else◌, nat_lt, List, length}
+use Rattle.std.specs.Prelude.{◌≡◌, ℕ, ◌+◌, if◌then◌else◌, nat_lt, List, length, slice_get, Some}
 use Rattle.std.specs.Ordering.{nat_cmp}
 use Rattle.std.specs.BTreeMap.{get}
 use Rattle.tiny_pool.specs.declared.table.Table.{Table}
-use Rattle.tiny_tree.specs.Tree.{Program}
+use Rattle.tiny_tree.specs.Tree.{Function, Program}
 use Rattle.tiny_code.specs.Code.{Places, numbers, places_of}
+use Rattle.tiny_code.specs.Image.{pool_of}
 use Rattle.tiny_pool.specs.Seen.{or_else}
 
 -- a number that the pool has not has the place behind the pool
@@ -28,3 +29,8 @@ pub record IsTableOf (table : Table) (program : Program) : Type 0 where
   pub places_are : places_in table ≡ places_of program
   pub numbers_are : numbers_in table ≡ numbers program
   pub words : words_in table ≡ length program.functions + length (numbers program)
+
+-- so many words has the pool of the program whose table this is
+abbrev pub IsPoolLength : Table → ℕ → Type 0
+IsPoolLength table words = (program : Program) (main : Function) → IsTableOf table program →
+    slice_get program.functions program.main ≡ Some main → words ≡ length (pool_of program main)

@@ -1,10 +1,11 @@
 //! The numbers of a program, in the order of the text.
 
-ghost use Rattle.std.specs.Prelude.{◌++◌, map, option_map, OnOk};
+ghost use Rattle.std.specs.Prelude.{map, OnOk};
 ghost use Rattle.std.specs.List.{flat_map};
-ghost use Rattle.tiny_tree.specs.Tree.{arguments_of, else_of, steps_of};
+ghost use Rattle.tiny_tree.specs.Tree.{steps_of};
 ghost use Rattle.tiny_tree.specs.View.{block_tree, cond_tree, expr_tree, function_tree, statement_tree, step_tree, term_tree};
-ghost use Rattle.tiny_code.specs.Code.{arguments_numbers, cond_numbers, else_numbers, expr_numbers, function_numbers, statement_numbers, statements_numbers, steps_numbers, term_numbers};
+ghost use Rattle.tiny_code.specs.Code.{cond_numbers, expr_numbers, function_numbers, statement_numbers, statements_numbers, steps_numbers, term_numbers};
+ghost use Rattle.tiny_pool.specs.Numbers.{numbers_of_arguments, numbers_of_else, numbers_of_sides};
 ghost use Rattle.tiny_pool.specs.Seen.{Adds};
 
 use crate::constants::Constants;
@@ -46,8 +47,7 @@ fn add_steps(constants: &mut Constants, steps: &[Step]) -> Result<(), AllocError
 
 #[cycle(expr)]
 fn add_arguments(constants: &mut Constants, arguments: &[Expr]) -> Result<(), AllocError>
-    ensures { OnOk result
-        (Adds constants.old constants.new (arguments_numbers (arguments_of (map expr_tree arguments.now)))) }
+    ensures { OnOk result (Adds constants.old constants.new (numbers_of_arguments arguments.now)) }
 {
     for argument in arguments {
         add_expr(constants, argument)?;
@@ -56,8 +56,7 @@ fn add_arguments(constants: &mut Constants, arguments: &[Expr]) -> Result<(), Al
 }
 
 fn add_sides(constants: &mut Constants, left: &Expr, right: &Expr) -> Result<(), AllocError>
-    ensures { OnOk result
-        (Adds constants.old constants.new (expr_numbers (expr_tree left.now) ++ expr_numbers (expr_tree right.now))) }
+    ensures { OnOk result (Adds constants.old constants.new (numbers_of_sides left.now right.now)) }
 {
     add_expr(constants, left)?;
     add_expr(constants, right)
@@ -109,8 +108,7 @@ fn add_statement(constants: &mut Constants, statement: &Statement) -> Result<(),
 
 #[cycle(block)]
 fn add_otherwise(constants: &mut Constants, otherwise: &Option<Block>) -> Result<(), AllocError>
-    ensures { OnOk result
-        (Adds constants.old constants.new (else_numbers (else_of (option_map block_tree otherwise.now)))) }
+    ensures { OnOk result (Adds constants.old constants.new (numbers_of_else otherwise.now)) }
 {
     match otherwise {
         None => Ok(()),

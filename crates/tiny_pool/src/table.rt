@@ -1,13 +1,10 @@
 //! Where the pool has what instructions name.
 
-ghost use Rattle.std.specs.Prelude.{◌≡◌, IfOk, Some, length, map, slice_get};
+ghost use Rattle.std.specs.Prelude.{◌≡◌, IfOk, map};
 ghost use Rattle.ijvm_instr.specs.declared.instr.Instr.TheVariants.{Invokevirtual};
-ghost use Rattle.tiny_tree.specs.Tree as tree;
-ghost use Rattle.tiny_tree.specs.Tree.{Program};
 ghost use Rattle.tiny_tree.specs.View.{function_tree};
 ghost use Rattle.tiny_code.specs.Code.{number_code};
-ghost use Rattle.tiny_code.specs.Image.{pool_of};
-ghost use Rattle.tiny_pool.specs.Places.{IsTableOf, numbers_in, places_in};
+ghost use Rattle.tiny_pool.specs.Places.{IsPoolLength, IsTableOf, numbers_in, places_in};
 
 use crate::constants::Constants;
 use crate::numbers::add_functions;
@@ -44,8 +41,7 @@ impl Table {
 
     /// How many words the pool has.
     pub fn pool_length(&self) -> u32
-        ensures { (program : Program) (main : tree.Function) → IsTableOf self.now program →
-            slice_get program.functions program.main ≡ Some main → result ≡ length (pool_of program main) }
+        ensures { IsPoolLength self.now result }
     {
         self.constants.end
     }
