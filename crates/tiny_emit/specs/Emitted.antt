@@ -1,17 +1,32 @@
 -- What is emitted of a program.
-use Rattle.std.specs.Prelude.{◌≡◌, ℕ, List, ◌++◌, length, map, None}
+use Rattle.std.specs.Prelude.{◌≡◌, ℕ, ◌+◌, List, ◌++◌, length, map, slice_get, Some, None}
 use Rattle.std.specs.List.{flat_map}
 use Rattle.tiny_tree.specs.declared.tree.Function as declared
 use Rattle.tiny_tree.specs.Tree.{Function, Program}
-use Rattle.tiny_tree.specs.View.{function_tree}
+use Rattle.tiny_tree.specs.Named.{vars_of}
+use Rattle.tiny_tree.specs.View.{block_tree, function_tree}
+use Rattle.ijvm_instr.specs.Instructions.{two_bytes}
 use Rattle.tiny_code.specs.Code.{Places, begins, code_size, main_code, methods, places_of}
-use Rattle.tiny_code.specs.Image.{first_far, jumps, method_jumps, methods_bytes, text_of}
+use Rattle.tiny_code.specs.Image.{first_far, jumps, method_bytes, method_jumps, methods_bytes, statements_jumps, text_of}
+use Rattle.tiny_emit.specs.declared.part.Part.{Part}
 use Rattle.tiny_emit.specs.declared.program.Emitted.{Emitted}
 use Rattle.tiny_emit.specs.declared.program.Methods.{Methods}
 use Rattle.tiny_emit.specs.Adds.{Adds, far_of}
+use Rattle.tiny_emit.specs.Appended.{AddsCode}
 
 abbrev pub program_of : List declared.Function → ℕ → Program
 program_of functions main = record { functions = map function_tree functions; main = main }
+
+-- a method's header: how many words it takes with its link word, and how many variables it has
+abbrev pub header_of : declared.Function → List ℕ
+header_of f = two_bytes (f.parameters + 1) ++ two_bytes (vars_of (block_tree f.body))
+
+abbrev pub AddsMain : Places → Part → Part → Function → Type 0
+AddsMain p old new g = AddsCode old new (main_code p g) (statements_jumps p 0 g.body)
+
+-- a method with its header, whose code does not tell the position of its function
+abbrev pub AddsMethod : Places → Part → Part → Function → Type 0
+AddsMethod p old new g = Adds old new (method_bytes p (0, g)) (method_jumps p (0, g))
 
 -- these methods, each with its header, stand after the old text, and where each begins after the old list
 pub record AddsMethods (p : Places) (old new : Methods) (ms : List (ℕ × Function)) : Type 0 where
@@ -25,3 +40,7 @@ pub record IsEmitted (program : Program) (main : Function) (e : Emitted) : Type 
       ≡ begins (places_of program) (code_size (main_code (places_of program) main)) (methods program)
   pub far : far_of e.far ≡ first_far (jumps program main)
   pub text : first_far (jumps program main) ≡ None → e.text.items ≡ text_of program main
+
+-- this is emitted of the program, whatever its main is
+abbrev pub IsEmittedFrom : Program → Emitted → Type 0
+IsEmittedFrom program e = (main : Function) → slice_get program.functions program.main ≡ Some main → IsEmitted program main e

@@ -1,14 +1,7 @@
 //! The code of statements and blocks.
 
-ghost use Rattle.std.specs.Prelude.{◌≡◌, ◌+◌, ◌∷◌, ◌++◌, [], IfOk, OnOk, map};
-ghost use Rattle.ijvm_instr.specs.declared.instr.Instr.TheVariants.{Pop};
-ghost use Rattle.tiny_code.specs.Code.{expr_code, statement_code, statements_code, term_code};
-ghost use Rattle.tiny_code.specs.Image.{statement_jumps, statements_jumps};
-ghost use Rattle.tiny_emit.specs.Adds.{Adds, IsPart};
-ghost use Rattle.tiny_emit.specs.Bytes.{code_bytes};
-ghost use Rattle.tiny_pool.specs.Places.{places_in};
-ghost use Rattle.tiny_tree.specs.Tree.{Called, arguments_of, statements_of};
-ghost use Rattle.tiny_tree.specs.View.{block_tree, expr_tree, statement_tree};
+ghost use Rattle.std.specs.Prelude.{◌∷◌, ◌++◌, [], IfOk, OnOk};
+ghost use Rattle.tiny_emit.specs.Appended.{AddsBlock, AddsCode, AddsStatement, AddsStatements, IsBlock, IsElse, Puts, code_of_call_alone, code_of_expr, code_of_store};
 
 use crate::choice::{add_if, add_while};
 use crate::expr::{local_of, put, put_call, put_expr};
@@ -25,8 +18,7 @@ fn put_value(
     value: &Expr,
     instr: Instr,
 ) -> Result<(), AllocError>
-    ensures { OnOk result (bytes.new.items ≡ bytes.old.items
-        ++ code_bytes (expr_code (places_in table.now) local (expr_tree value.now) ++ instr ∷ [])) }
+    ensures { OnOk result (Puts bytes.old bytes.new (code_of_expr table.now local value.now ++ instr ∷ [])) }
 {
     put_expr(bytes, table, local, value)?;
     put(bytes, instr)
@@ -39,9 +31,7 @@ fn put_call_alone(
     function: u32,
     arguments: &[Expr],
 ) -> Result<(), AllocError>
-    ensures { OnOk result (bytes.new.items ≡ bytes.old.items
-        ++ code_bytes (term_code (places_in table.now) local
-        (Called function (arguments_of (map expr_tree arguments.now))) ++ Pop ∷ [])) }
+    ensures { OnOk result (Puts bytes.old bytes.new (code_of_call_alone table.now local function arguments.now)) }
 {
     put_call(bytes, table, local, function, arguments)?;
     put(bytes, Instr::Pop)
@@ -55,8 +45,7 @@ fn add_value(
     value: &Expr,
     instr: Instr,
 ) -> Result<(), AllocError>
-    ensures { OnOk result (Adds part.old part.new
-        (code_bytes (expr_code (places_in table.now) local (expr_tree value.now) ++ instr ∷ [])) []) }
+    ensures { OnOk result (AddsCode part.old part.new (code_of_expr table.now local value.now ++ instr ∷ []) []) }
 {
     put_value(&mut part.bytes, table, local, value, instr)
 }
@@ -69,11 +58,23 @@ fn add_call(
     function: u32,
     arguments: &[Expr],
 ) -> Result<(), AllocError>
-    ensures { OnOk result (Adds part.old part.new
-        (code_bytes (term_code (places_in table.now) local
-        (Called function (arguments_of (map expr_tree arguments.now))) ++ Pop ∷ [])) []) }
+    ensures { OnOk result (AddsCode part.old part.new (code_of_call_alone table.now local function arguments.now) []) }
 {
     put_call_alone(&mut part.bytes, table, local, function, arguments)
+}
+
+/// Appends a value that goes into a variable.
+fn add_store(
+    part: &mut Part,
+    table: &Table,
+    local: u8,
+    place: u32,
+    value: &Expr,
+) -> Result<(), AllocError>
+    ensures { OnOk result (AddsCode part.old part.new (code_of_store table.now local place value.now) []) }
+{
+    let instr = Instr::Istore(local_of(local, place)?);
+    add_value(part, table, local, value, instr)
 }
 
 #[cycle(block)]
@@ -84,19 +85,11 @@ fn add_statement(
     local: u8,
     statement: &Statement,
 ) -> Result<(), AllocError>
-    ensures { OnOk result (Adds part.old part.new
-        (code_bytes (statement_code (places_in table.now) local (statement_tree statement.now)))
-        (statement_jumps (places_in table.now) local (statement_tree statement.now))) }
+    ensures { OnOk result (AddsStatement table.now local part.old part.new statement.now) }
 {
     match statement {
-        Statement::Var { place, value } => {
-            let instr = Instr::Istore(local_of(local, *place)?);
-            add_value(part, table, local, value, instr)
-        }
-        Statement::Assign { place, value } => {
-            let instr = Instr::Istore(local_of(local, *place)?);
-            add_value(part, table, local, value, instr)
-        }
+        Statement::Var { place, value } => add_store(part, table, local, *place, value),
+        Statement::Assign { place, value } => add_store(part, table, local, *place, value),
         Statement::Call {
             function,
             arguments,
@@ -105,20 +98,10 @@ fn add_statement(
             line,
             cond,
             taken,
-            otherwise: None,
+            otherwise,
         } => {
             let first = part_of(alloc, table, local, taken)?;
-            let second = Part::new(alloc);
-            add_if(part, table, local, *line, cond, &first, &second)
-        }
-        Statement::If {
-            line,
-            cond,
-            taken,
-            otherwise: Some(other),
-        } => {
-            let first = part_of(alloc, table, local, taken)?;
-            let second = part_of(alloc, table, local, other)?;
+            let second = part_of_else(alloc, table, local, otherwise)?;
             add_if(part, table, local, *line, cond, &first, &second)
         }
         Statement::While { line, cond, body } => {
@@ -134,13 +117,27 @@ fn add_statement(
 /// The code of a block, from its beginning.
 #[cycle(block)]
 fn part_of(alloc: Global, table: &Table, local: u8, block: &Block) -> Result<Part, AllocError>
-    ensures { IfOk result (λ part. IsPart part
-        (code_bytes (statements_code (places_in table.now) local (block_tree block.now)))
-        (statements_jumps (places_in table.now) local (block_tree block.now))) }
+    ensures { IfOk result (λ part. IsBlock table.now local part block.now) }
 {
     let mut part = Part::new(alloc);
     add_block(&mut part, alloc, table, local, block)?;
     Ok(part)
+}
+
+/// The code of the block after `else`, none if there is none.
+#[cycle(block)]
+fn part_of_else(
+    alloc: Global,
+    table: &Table,
+    local: u8,
+    otherwise: &Option<Block>,
+) -> Result<Part, AllocError>
+    ensures { IfOk result (λ part. IsElse table.now local part otherwise.now) }
+{
+    match otherwise {
+        None => Ok(Part::new(alloc)),
+        Some(block) => part_of(alloc, table, local, block),
+    }
 }
 
 #[cycle(block)]
@@ -151,9 +148,7 @@ pub(crate) fn add_block(
     local: u8,
     block: &Block,
 ) -> Result<(), AllocError>
-    ensures { OnOk result (Adds part.old part.new
-        (code_bytes (statements_code (places_in table.now) local (block_tree block.now)))
-        (statements_jumps (places_in table.now) local (block_tree block.now))) }
+    ensures { OnOk result (AddsBlock table.now local part.old part.new block.now) }
 {
     add_statements(part, alloc, table, local, block.statements.items())
 }
@@ -166,9 +161,7 @@ fn add_statements(
     local: u8,
     statements: &[Statement],
 ) -> Result<(), AllocError>
-    ensures { OnOk result (Adds part.old part.new
-        (code_bytes (statements_code (places_in table.now) local (statements_of (map statement_tree statements.now))))
-        (statements_jumps (places_in table.now) local (statements_of (map statement_tree statements.now)))) }
+    ensures { OnOk result (AddsStatements table.now local part.old part.new statements.now) }
 {
     for statement in statements {
         add_statement(part, alloc, table, local, statement)?;

@@ -1,15 +1,10 @@
 //! The code of tests, and of what is chosen by them.
 
-ghost use Rattle.std.specs.Prelude.{◌≡◌, ◌<◌, ◌^◌, ◌∷◌, ◌++◌, [], ℕ, List, OnOk};
-ghost use Rattle.ijvm_instr.specs.declared.instr.Instr.{Instr};
-ghost use Rattle.ijvm_instr.specs.declared.instr.Instr.TheVariants.{Isub};
-ghost use Rattle.tiny_code.specs.Code.{Places, choice, code_size, expr_code, if_code, leave_code, loop, test_code};
-ghost use Rattle.tiny_code.specs.Image as image;
-ghost use Rattle.tiny_code.specs.Image.{choice_jumps, if_jumps, leave_jumps, while_jumps};
-ghost use Rattle.tiny_emit.specs.Adds.{Adds, IsPart, jump_code, way_of};
-ghost use Rattle.tiny_emit.specs.Bytes.{code_bytes};
-ghost use Rattle.tiny_pool.specs.Places.{places_in};
-ghost use Rattle.tiny_tree.specs.View.{cond_tree, expr_tree};
+ghost use Rattle.std.specs.Prelude.{◌≡◌, ◌<◌, ◌^◌, [], ℕ, OnOk};
+ghost use Rattle.tiny_code.specs.Code.{Places};
+ghost use Rattle.tiny_emit.specs.Adds.{way_of};
+ghost use Rattle.tiny_emit.specs.Appended.{AddsChoice, AddsCode, AddsIf, AddsLeave, AddsWhile, Puts, code_of_difference, code_of_sides, code_of_test};
+ghost use Rattle.tiny_tree.specs.View.{cond_tree};
 
 use crate::expr::{put, put_expr};
 use crate::part::{Part, Way};
@@ -25,9 +20,7 @@ fn put_sides(
     left: &Expr,
     right: &Expr,
 ) -> Result<(), AllocError>
-    ensures { OnOk result (bytes.new.items ≡ bytes.old.items
-        ++ code_bytes (expr_code (places_in table.now) local (expr_tree left.now)
-        ++ expr_code (places_in table.now) local (expr_tree right.now))) }
+    ensures { OnOk result (Puts bytes.old bytes.new (code_of_sides table.now local left.now right.now)) }
 {
     put_expr(bytes, table, local, left)?;
     put_expr(bytes, table, local, right)
@@ -40,9 +33,7 @@ fn put_difference(
     left: &Expr,
     right: &Expr,
 ) -> Result<(), AllocError>
-    ensures { OnOk result (bytes.new.items ≡ bytes.old.items
-        ++ code_bytes (expr_code (places_in table.now) local (expr_tree left.now)
-        ++ (expr_code (places_in table.now) local (expr_tree right.now) ++ Isub ∷ []))) }
+    ensures { OnOk result (Puts bytes.old bytes.new (code_of_difference table.now local left.now right.now)) }
 {
     put_expr(bytes, table, local, left)?;
     put_expr(bytes, table, local, right)?;
@@ -50,8 +41,7 @@ fn put_difference(
 }
 
 fn put_test(bytes: &mut Vec<u8>, table: &Table, local: u8, cond: &Cond) -> Result<(), AllocError>
-    ensures { OnOk result (bytes.new.items
-        ≡ bytes.old.items ++ code_bytes (test_code (places_in table.now) local (cond_tree cond.now))) }
+    ensures { OnOk result (Puts bytes.old bytes.new (code_of_test table.now local cond.now)) }
 {
     match cond {
         Cond::Equal { left, right } => put_sides(bytes, table, local, left, right),
@@ -61,8 +51,7 @@ fn put_test(bytes: &mut Vec<u8>, table: &Table, local: u8, cond: &Cond) -> Resul
 }
 
 fn add_test(part: &mut Part, table: &Table, local: u8, cond: &Cond) -> Result<(), AllocError>
-    ensures { OnOk result (Adds part.old part.new
-        (code_bytes (test_code (places_in table.now) local (cond_tree cond.now))) []) }
+    ensures { OnOk result (AddsCode part.old part.new (code_of_test table.now local cond.now) []) }
 {
     put_test(&mut part.bytes, table, local, cond)
 }
@@ -88,12 +77,7 @@ fn add_choice(
     first: &Part,
     second: &Part,
 ) -> Result<(), AllocError>
-    ensures { (a b : List Instr) (i j : List image.Jump) →
-        IsPart first.now (code_bytes a) i → IsPart second.now (code_bytes b) j →
-        OnOk result (Adds part.old part.new
-        (code_bytes (choice (test_code (places_in table.now) local (cond_tree cond.now))
-        (jump_code (way_of (cond_tree cond.now))) a b))
-        (choice_jumps line i j (code_size a) (code_size b))) }
+    ensures { OnOk result (AddsChoice table.now local part.old part.new line cond.now first.now second.now) }
 {
     add_test(part, table, local, cond)?;
     part.add_forward_jump(way_of(cond), line, 6 + first.size()?)?;
@@ -112,10 +96,7 @@ pub(crate) fn add_if(
     taken: &Part,
     other: &Part,
 ) -> Result<(), AllocError>
-    ensures { (a b : List Instr) (i j : List image.Jump) →
-        IsPart taken.now (code_bytes a) i → IsPart other.now (code_bytes b) j →
-        OnOk result (Adds part.old part.new (code_bytes (if_code (places_in table.now) local (cond_tree cond.now) a b))
-        (if_jumps line (cond_tree cond.now) i j (code_size a) (code_size b))) }
+    ensures { OnOk result (AddsIf table.now local part.old part.new line cond.now taken.now other.now) }
 {
     match cond {
         Cond::Different { .. } => add_choice(part, table, local, line, cond, taken, other),
@@ -127,9 +108,7 @@ pub(crate) fn add_if(
 /// What leads out of a loop with a body of this size, or into it.
 fn add_leave(part: &mut Part, line: u32, cond: &Cond, size: u32) -> Result<(), AllocError>
     requires { size < 2 ^ 30 }
-    ensures { (p : Places) (local : ℕ) → OnOk result (Adds part.old part.new
-        (code_bytes (leave_code p local (cond_tree cond.now) size))
-        (leave_jumps line (cond_tree cond.now) size)) }
+    ensures { (p : Places) (local : ℕ) → OnOk result (AddsLeave p local part.old part.new line cond.now size) }
 {
     match cond {
         Cond::Different { .. } => part.add_forward_jump(Way::IfEqual, line, 6 + size),
@@ -153,11 +132,7 @@ pub(crate) fn add_while(
     cond: &Cond,
     body: &Part,
 ) -> Result<(), AllocError>
-    ensures { (a : List Instr) (i : List image.Jump) → IsPart body.now (code_bytes a) i →
-        OnOk result (Adds part.old part.new
-        (code_bytes (loop (test_code (places_in table.now) local (cond_tree cond.now))
-        (leave_code (places_in table.now) local (cond_tree cond.now) (code_size a)) a))
-        (while_jumps (places_in table.now) local line (cond_tree cond.now) i (code_size a))) }
+    ensures { OnOk result (AddsWhile table.now local part.old part.new line cond.now body.now) }
 {
     let begin = part.size()?;
     add_test(part, table, local, cond)?;

@@ -1,12 +1,9 @@
 //! Appends the code of an expression, which leaves one word on the stack.
 
-ghost use Rattle.std.specs.Prelude.{◌≡◌, ◌+◌, ◌∷◌, ◌++◌, [], OnOk, IfOk, map};
+ghost use Rattle.std.specs.Prelude.{◌≡◌, ◌+◌, ◌∷◌, ◌++◌, [], OnOk, IfOk};
 ghost use Rattle.ijvm_instr.specs.Instructions.{spelling};
-ghost use Rattle.tiny_emit.specs.Bytes.{code_bytes};
-ghost use Rattle.tiny_pool.specs.Places.{places_in};
-ghost use Rattle.tiny_code.specs.Code.{arguments_code, expr_code, number_code, operator_code, steps_code, term_code};
-ghost use Rattle.tiny_tree.specs.Tree.{Called, arguments_of, steps_of};
-ghost use Rattle.tiny_tree.specs.View.{expr_tree, step_tree, term_tree};
+ghost use Rattle.tiny_code.specs.Code.{operator_code};
+ghost use Rattle.tiny_emit.specs.Appended.{Puts, code_of_arguments, code_of_call, code_of_expr, code_of_steps, code_of_term};
 
 use ijvm_instr::{Instr, encode_instr};
 use std::alloc::AllocError;
@@ -22,7 +19,7 @@ fn push(bytes: &mut Vec<u8>, instr: Instr) -> Result<(), AllocError>
 
 /// Appends the bytes of an instruction.
 pub(crate) fn put(bytes: &mut Vec<u8>, instr: Instr) -> Result<(), AllocError>
-    ensures { OnOk result (bytes.new.items ≡ bytes.old.items ++ code_bytes (instr ∷ [])) }
+    ensures { OnOk result (Puts bytes.old bytes.new (instr ∷ [])) }
 {
     push(bytes, instr)
 }
@@ -55,8 +52,7 @@ pub(crate) fn put_term(
     local: u8,
     term: &Term,
 ) -> Result<(), AllocError>
-    ensures { OnOk result (bytes.new.items
-        ≡ bytes.old.items ++ code_bytes (term_code (places_in table.now) local (term_tree term.now))) }
+    ensures { OnOk result (Puts bytes.old bytes.new (code_of_term table.now local term.now)) }
 {
     match term {
         Term::Number(number) => {
@@ -84,9 +80,7 @@ pub(crate) fn put_call(
     function: u32,
     arguments: &[Expr],
 ) -> Result<(), AllocError>
-    ensures { OnOk result (bytes.new.items ≡ bytes.old.items
-        ++ code_bytes (term_code (places_in table.now) local
-        (Called function (arguments_of (map expr_tree arguments.now))))) }
+    ensures { OnOk result (Puts bytes.old bytes.new (code_of_call table.now local function arguments.now)) }
 {
     let call = table.call(function)?;
     put(bytes, Instr::LdcW(0))?;
@@ -101,8 +95,7 @@ pub(crate) fn put_expr(
     local: u8,
     expr: &Expr,
 ) -> Result<(), AllocError>
-    ensures { OnOk result (bytes.new.items
-        ≡ bytes.old.items ++ code_bytes (expr_code (places_in table.now) local (expr_tree expr.now))) }
+    ensures { OnOk result (Puts bytes.old bytes.new (code_of_expr table.now local expr.now)) }
 {
     put_term(bytes, table, local, &expr.first)?;
     put_steps(bytes, table, local, expr.rest.items())
@@ -115,9 +108,7 @@ fn put_steps(
     local: u8,
     steps: &[Step],
 ) -> Result<(), AllocError>
-    ensures { OnOk result (bytes.new.items
-        ≡ bytes.old.items
-        ++ code_bytes (steps_code (places_in table.now) local (steps_of (map step_tree steps.now)))) }
+    ensures { OnOk result (Puts bytes.old bytes.new (code_of_steps table.now local steps.now)) }
 {
     for step in steps {
         put_term(bytes, table, local, &step.term)?;
@@ -133,9 +124,7 @@ fn put_arguments(
     local: u8,
     arguments: &[Expr],
 ) -> Result<(), AllocError>
-    ensures { OnOk result (bytes.new.items
-        ≡ bytes.old.items
-        ++ code_bytes (arguments_code (places_in table.now) local (arguments_of (map expr_tree arguments.now)))) }
+    ensures { OnOk result (Puts bytes.old bytes.new (code_of_arguments table.now local arguments.now)) }
 {
     for argument in arguments {
         put_expr(bytes, table, local, argument)?;

@@ -1,12 +1,11 @@
 //! A text as it grows, and the first jump in it that is too far.
 
-ghost use Rattle.std.specs.Prelude.{◌≡◌, ◌<◌, ◌≤◌, ◌^◌, ◌∷◌, [], ℕ, pos, neg_ℤ, false, List, None, length, IfOk, OnOk};
+ghost use Rattle.std.specs.Prelude.{◌≡◌, ◌<◌, ◌≤◌, ◌^◌, ◌∷◌, [], pos, neg_ℤ, false, None, length, IfOk, OnOk};
 ghost use Rattle.std.specs.Option.{option_or};
-ghost use Rattle.ijvm_instr.specs.declared.instr.Instr.TheVariants.{Goto};
-ghost use Rattle.tiny_code.specs.Image as image;
 ghost use Rattle.tiny_code.specs.Image.{first_far, is_far};
-ghost use Rattle.tiny_emit.specs.Adds.{Adds, IsPart, far_of, jump_code};
-ghost use Rattle.tiny_emit.specs.Bytes.{code_bytes};
+ghost use Rattle.tiny_emit.specs.declared.part.Way.TheVariants.{Always};
+ghost use Rattle.tiny_emit.specs.Adds.{far_of, jump_code};
+ghost use Rattle.tiny_emit.specs.Appended.{AddsCode, AddsJump, AddsPart, IsCode};
 
 use crate::expr::put;
 use ijvm_instr::Instr;
@@ -61,7 +60,7 @@ impl Part {
     pub(crate) fn new(alloc: Global) -> Part
         ensures empty { result.bytes.items ≡ [] }
         ensures near { result.far ≡ None }
-        ensures nothing { IsPart result (code_bytes []) [] }
+        ensures nothing { IsCode result [] [] }
     {
         Part {
             bytes: Vec::new(alloc),
@@ -83,7 +82,7 @@ impl Part {
 
     /// Appends an instruction that is no jump.
     pub(crate) fn add(&mut self, instr: Instr) -> Result<(), AllocError>
-        ensures { OnOk result (Adds self.old self.new (code_bytes (instr ∷ [])) []) }
+        ensures { OnOk result (AddsCode self.old self.new (instr ∷ []) []) }
     {
         put(&mut self.bytes, instr)
     }
@@ -99,8 +98,7 @@ impl Part {
     }
 
     fn add_jump(&mut self, way: Way, line: u32, distance: i32) -> Result<(), AllocError>
-        ensures { OnOk result (Adds self.old self.new (code_bytes (jump_code way distance ∷ []))
-            ((line, distance) ∷ [])) }
+        ensures { OnOk result (AddsJump self.old self.new way line distance) }
     {
         self.keep_if_far(line, distance);
         put(&mut self.bytes, jump_by(way, offset_of(distance)))
@@ -114,8 +112,7 @@ impl Part {
         distance: u32,
     ) -> Result<(), AllocError>
         requires { distance < 2 ^ 31 }
-        ensures { OnOk result (Adds self.old self.new (code_bytes (jump_code way (pos distance) ∷ []))
-            ((line, pos distance) ∷ [])) }
+        ensures { OnOk result (AddsJump self.old self.new way line (pos distance)) }
     {
         self.add_jump(way, line, distance as i32)
     }
@@ -123,16 +120,14 @@ impl Part {
     /// Appends a jump to what came earlier.
     pub(crate) fn add_backward_jump(&mut self, line: u32, distance: u32) -> Result<(), AllocError>
         requires { distance < 2 ^ 31 }
-        ensures { OnOk result (Adds self.old self.new (code_bytes (Goto (neg_ℤ (pos distance)) ∷ []))
-            ((line, neg_ℤ (pos distance)) ∷ [])) }
+        ensures { OnOk result (AddsJump self.old self.new Always line (neg_ℤ (pos distance))) }
     {
         self.add_jump(Way::Always, line, -(distance as i32))
     }
 
     /// Appends another part.
     pub(crate) fn add_part(&mut self, other: &Part) -> Result<(), AllocError>
-        ensures adds { (bytes : List ℕ) (js : List image.Jump) → IsPart other.now bytes js →
-            OnOk result (Adds self.old self.new bytes js) }
+        ensures adds { OnOk result (AddsPart self.old self.new other.now) }
         ensures grows { OnOk result (length self.old.bytes.items ≤ length self.new.bytes.items) }
     {
         self.bytes.extend_from_slice(other.bytes.as_slice())?;

@@ -1,16 +1,12 @@
 //! The code of a program.
 
-ghost use Rattle.std.specs.Prelude.{◌≡◌, ◌<◌, ◌+◌, ◌∷◌, ◌++◌, [], IfOk, OnOk, Some, length, slice_get};
+ghost use Rattle.std.specs.Prelude.{◌≡◌, ◌<◌, ◌+◌, ◌∷◌, ◌++◌, [], IfOk, OnOk, length};
 ghost use Rattle.ijvm_instr.specs.Instructions.{two_bytes};
-ghost use Rattle.tiny_code.specs.Code.{main_code, methods, places_of};
-ghost use Rattle.tiny_code.specs.Image.{method_bytes, method_jumps, statements_jumps};
+ghost use Rattle.tiny_code.specs.Code.{methods, places_of};
 ghost use Rattle.tiny_emit.specs.Adds.{Adds};
-ghost use Rattle.tiny_emit.specs.Bytes.{code_bytes};
-ghost use Rattle.tiny_emit.specs.Emitted.{AddsMethods, IsEmitted, program_of};
+ghost use Rattle.tiny_emit.specs.Emitted.{AddsMain, AddsMethod, AddsMethods, IsEmittedFrom, header_of, program_of};
 ghost use Rattle.tiny_pool.specs.Places.{places_in};
-ghost use Rattle.tiny_tree.specs.Named.{vars_of};
-ghost use Rattle.tiny_tree.specs.Tree as tree;
-ghost use Rattle.tiny_tree.specs.View.{block_tree, function_tree};
+ghost use Rattle.tiny_tree.specs.View.{function_tree};
 
 use crate::block::add_block;
 use crate::part::{Jump, Part};
@@ -55,8 +51,7 @@ fn put_header(bytes: &mut Vec<u8>, parameters: u32, vars: u32) -> Result<(), All
 }
 
 fn add_header(part: &mut Part, function: &Function) -> Result<(), AllocError>
-    ensures { OnOk result (Adds part.old part.new
-        (two_bytes (function.now.parameters + 1) ++ two_bytes (vars_of (block_tree function.now.body))) []) }
+    ensures { OnOk result (Adds part.old part.new (header_of function.now) []) }
 {
     let vars = vars_of(&function.body)?;
     put_header(&mut part.bytes, function.parameters, vars)
@@ -69,9 +64,7 @@ fn add_main(
     table: &Table,
     function: &Function,
 ) -> Result<(), AllocError>
-    ensures { OnOk result (Adds part.old part.new
-        (code_bytes (main_code (places_in table.now) (function_tree function.now)))
-        (statements_jumps (places_in table.now) 0 (block_tree function.now.body))) }
+    ensures { OnOk result (AddsMain (places_in table.now) part.old part.new (function_tree function.now)) }
 {
     add_block(part, alloc, table, 0, &function.body)?;
     part.add(Instr::Halt)
@@ -84,8 +77,7 @@ fn add_method(
     table: &Table,
     function: &Function,
 ) -> Result<(), AllocError>
-    ensures { OnOk result (Adds part.old part.new (method_bytes (places_in table.now) (0, function_tree function.now))
-        (method_jumps (places_in table.now) (0, function_tree function.now))) }
+    ensures { OnOk result (AddsMethod (places_in table.now) part.old part.new (function_tree function.now)) }
 {
     add_header(part, function)?;
     add_block(part, alloc, table, 1, &function.body)?;
@@ -130,9 +122,7 @@ pub fn emit(
 ) -> Result<Emitted, AllocError>
     requires known { main < length functions.now }
     requires placed { places_in table.now ≡ places_of (program_of functions.now main) }
-    ensures { IfOk result (λ e. (g : tree.Function) →
-        slice_get (program_of functions.now main).functions main ≡ Some g →
-        IsEmitted (program_of functions.now main) g e) }
+    ensures { IfOk result (λ e. IsEmittedFrom (program_of functions.now main) e) }
 {
     let mut part = Part::new(alloc);
     add_main(&mut part, alloc, table, &functions[main as usize])?;

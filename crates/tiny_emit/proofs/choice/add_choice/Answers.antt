@@ -7,10 +7,10 @@ use Rattle.tiny_emit.proofs.Sides.{choice_added}
 use Rattle.tiny_emit.proofs.choice.add_choice.Goals as goal
 
 pub returns : goal.returns
-returns c a b i j first second =
+returns c =
     on_ok c.add_part-2.result _ _
-    (λ last. choice_added _ _ _ _ _ _ (test_code (places_in c.args.table.now) c.args.local (cond_tree c.args.cond.now))
+    (λ last a b i j first second. choice_added _ _ _ _ _ _ (test_code (places_in c.args.table.now) c.args.local (cond_tree c.args.cond.now))
     c.way_of.result (way_of (cond_tree c.args.cond.now)) c.way_of.ensures c.args.line c.in_ok-size.field-0 c.in_ok-size-2.field-0 a b i j
     c.args.first.now c.args.second.now first second c.in_ok-size.ensures.is c.in_ok-size-2.ensures.is
-    c.in_ok-add_test.ensures c.in_ok-add_forward_jump.ensures (c.in_ok-add_part.ensures.adds _ _ first) c.in_ok-add_forward_jump-2.ensures last)
-    (c.add_part-2.ensures.adds _ _ second)
+    c.in_ok-add_test.ensures c.in_ok-add_forward_jump.ensures (c.in_ok-add_part.ensures.adds _ _ first) c.in_ok-add_forward_jump-2.ensures (last _ _ second))
+    c.add_part-2.ensures.adds

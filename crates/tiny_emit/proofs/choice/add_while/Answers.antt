@@ -11,14 +11,14 @@ overflow_sub-end c =
     omega (arith, c.in_ok-begin.ensures.is, c.in_ok-end.ensures.is, c.in_ok-add_test.ensures.size, left.size, c.in_ok-add_part.ensures.grows)
 
 pub returns : goal.returns
-returns c a i body =
+returns c =
     let left = c.in_ok-add_leave.ensures (places_in c.args.table.now) c.args.local in
-    let inner = c.in_ok-add_part.ensures.adds _ _ body in
+    let added = c.in_ok-add_part.ensures.adds in
     on_ok c.add_backward_jump.result _ _
-    (λ last. loop_added c.args.part.now _ _ _ _ (places_in c.args.table.now) c.args.local c.args.line c.in_ok-begin.begin c.in_ok-size.field-0
+    (λ last a i body. loop_added c.args.part.now _ _ _ _ (places_in c.args.table.now) c.args.local c.args.line c.in_ok-begin.begin c.in_ok-size.field-0
     (c.in_ok-end.end - c.in_ok-begin.begin) (cond_tree c.args.cond.now) a i c.args.body.now body c.in_ok-size.ensures.is
     (gone_back c.args.part.now _ _ _ c.args.part.now (places_in c.args.table.now) c.args.local c.args.line c.in_ok-begin.begin c.in_ok-size.field-0
     c.in_ok-begin.begin (cond_tree c.args.cond.now) a i c.in_ok-begin.begin c.in_ok-end.end c.args.body.now body c.in_ok-size.ensures.is
-    c.in_ok-begin.ensures.is c.in_ok-end.ensures.is c.in_ok-add_test.ensures left inner)
-    c.in_ok-add_test.ensures left inner last)
+    c.in_ok-begin.ensures.is c.in_ok-end.ensures.is c.in_ok-add_test.ensures left (added _ _ body))
+    c.in_ok-add_test.ensures left (added _ _ body) last)
     c.add_backward_jump.ensures
