@@ -1,5 +1,5 @@
 -- Names: which of them stand in a list, what a program's functions are called, and what statements declare.
-use Rattle.std.specs.Prelude.{ℕ, ◌+◌, ◌==◌, Bool, List, [], ◌∷◌, ◌++◌, length, Option, Some, None, if◌then◌else◌}
+use Rattle.std.specs.Prelude.{◌≡◌, ℕ, ◌+◌, ◌==◌, Bool, List, [], ◌∷◌, ◌++◌, length, Option, Some, None, if◌then◌else◌}
 use Rattle.std.specs.List.{list_any, slice_index_or}
 use Rattle.tiny_draft.specs.declared.tree.Word.{Word}
 use Rattle.tiny_draft.specs.Tree.{Function, Statement, Var, Assign, Calls, If, While, Return, Put, Halt, Else, no_else, else_block, Statements, no_statements, statement}
@@ -29,6 +29,10 @@ called fs name = called_from 0 fs name
 -- what a table has at the number of a name
 abbrev pub lookup : List (Option Signature) → ℕ → Option Signature
 lookup table name = slice_index_or table name None
+
+-- the new table has this signature at the number of this name, and otherwise what the old one has
+abbrev pub PutsAt : List (Option Signature) → List (Option Signature) → ℕ → Signature → Type 0
+PutsAt old new name signature = (other : ℕ) → lookup new other ≡ (if name == other then Some signature else lookup old other)
 
 -- ---- variables
 

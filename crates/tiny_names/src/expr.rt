@@ -1,10 +1,10 @@
 //! The first wrong name of an expression: a variable that is not seen, a function that is missing, or one with another number of parameters.
 
-ghost use Rattle.std.specs.Prelude.{◌≡◌, ◌++◌, map};
-ghost use Rattle.tiny_draft.specs.Tree.{arguments_of};
-ghost use Rattle.tiny_draft.specs.View.{at, cond_tree, expr_tree, sum_tree, term_tree};
-ghost use Rattle.tiny_names.specs.Faults.{argument_faults, call_faults, cond_faults, count, expr_faults, first, term_faults, use_faults};
-ghost use Rattle.tiny_names.specs.Names.{has, lookup};
+ghost use Rattle.std.specs.Prelude.{◌≡◌};
+ghost use Rattle.tiny_draft.specs.View.{at};
+ghost use Rattle.tiny_names.specs.Faults.{first, use_faults};
+ghost use Rattle.tiny_names.specs.FirstFaults.{argument_fault, call_fault, cond_fault, expr_fault, name_fault, sum_fault, term_fault};
+ghost use Rattle.tiny_names.specs.Names.{has};
 
 use crate::fault::Fault;
 use crate::functions::{Signature, called};
@@ -38,7 +38,7 @@ fn name_fault(
     line: u32,
     arguments: &[Expr],
 ) -> Option<Fault>
-    ensures { result ≡ first (call_faults (lookup functions.now) (at name line) (count (arguments_of (map expr_tree arguments.now)))) }
+    ensures { result ≡ name_fault functions.now name line arguments.now }
 {
     match called(functions, name) {
         None => Some(Fault::UnknownName(line)),
@@ -54,7 +54,7 @@ fn name_fault(
 
 #[cycle(faults)]
 fn term_fault(functions: &[Option<Signature>], seen: &[u32], term: &Term) -> Option<Fault>
-    ensures { result ≡ first (term_faults (lookup functions.now) seen.now (term_tree term.now)) }
+    ensures { result ≡ term_fault functions.now seen.now term.now }
 {
     match term {
         Term::Number(_) | Term::Get => None,
@@ -76,7 +76,7 @@ pub(crate) fn expr_fault(
     seen: &[u32],
     expr: &Expr,
 ) -> Option<Fault>
-    ensures { result ≡ first (expr_faults (lookup functions.now) seen.now (expr_tree expr.now)) }
+    ensures { result ≡ expr_fault functions.now seen.now expr.now }
 {
     match expr {
         Expr::Alone(term) => term_fault(functions, seen, term),
@@ -86,7 +86,7 @@ pub(crate) fn expr_fault(
 
 #[cycle(faults)]
 fn sum_fault(functions: &[Option<Signature>], seen: &[u32], sum: &Sum) -> Option<Fault>
-    ensures { result ≡ first (expr_faults (lookup functions.now) seen.now (sum_tree sum.now)) }
+    ensures { result ≡ sum_fault functions.now seen.now sum.now }
 {
     if let Some(fault) = term_fault(functions, seen, &sum.first) {
         return Some(fault);
@@ -105,7 +105,7 @@ fn argument_fault(
     seen: &[u32],
     arguments: &[Expr],
 ) -> Option<Fault>
-    ensures { result ≡ first (argument_faults (lookup functions.now) seen.now (arguments_of (map expr_tree arguments.now))) }
+    ensures { result ≡ argument_fault functions.now seen.now arguments.now }
 {
     for argument in arguments {
         if let Some(fault) = expr_fault(functions, seen, argument) {
@@ -123,8 +123,7 @@ pub(crate) fn call_fault(
     line: u32,
     arguments: &[Expr],
 ) -> Option<Fault>
-    ensures { result ≡ first (call_faults (lookup functions.now) (at name line) (count (arguments_of (map expr_tree arguments.now)))
-        ++ argument_faults (lookup functions.now) seen.now (arguments_of (map expr_tree arguments.now))) }
+    ensures { result ≡ call_fault functions.now seen.now name line arguments.now }
 {
     if let Some(fault) = name_fault(functions, name, line, arguments) {
         return Some(fault);
@@ -137,7 +136,7 @@ pub(crate) fn cond_fault(
     seen: &[u32],
     cond: &Cond,
 ) -> Option<Fault>
-    ensures { result ≡ first (cond_faults (lookup functions.now) seen.now (cond_tree cond.now)) }
+    ensures { result ≡ cond_fault functions.now seen.now cond.now }
 {
     if let Some(fault) = expr_fault(functions, seen, &cond.left) {
         return Some(fault);

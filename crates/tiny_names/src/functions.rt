@@ -1,8 +1,8 @@
 //! What the functions of a program are called.
 
-ghost use Rattle.std.specs.Prelude.{◌≡◌, ◌==◌, ℕ, IfOk, OnOk, Some, if◌then◌else◌, map};
+ghost use Rattle.std.specs.Prelude.{◌≡◌, ℕ, IfOk, OnOk, map};
 ghost use Rattle.tiny_draft.specs.View.{function_tree};
-ghost use Rattle.tiny_names.specs.Names.{called, lookup};
+ghost use Rattle.tiny_names.specs.Names.{PutsAt, called, lookup};
 
 use std::alloc::{AllocError, Global};
 use tiny_draft::Function;
@@ -57,8 +57,7 @@ fn put(
     name: u32,
     signature: Signature,
 ) -> Result<(), AllocError>
-    ensures { OnOk result ((other : ℕ) →
-        lookup table.new.items other ≡ (if name == other then Some signature else lookup table.old.items other)) }
+    ensures { OnOk result (PutsAt table.old.items table.new.items name signature) }
 {
     let at = name as usize;
     while table.len() <= at {

@@ -1,19 +1,19 @@
 //! Trees in which names are positions.
 
 ghost use Rattle.std.specs.Prelude.{◌≡◌, ◌==◌, ◌<◌, ◌≤◌, IfOk, IfSome, length, map, option_map, position};
-ghost use Rattle.tiny_draft.specs.Tree as draft;
-ghost use Rattle.tiny_draft.specs.View as draft_view;
 ghost use Rattle.tiny_tree.specs.Tree.{arguments_of, else_of, steps_of};
 ghost use Rattle.tiny_tree.specs.View.{block_tree, cond_tree, expr_tree, statement_tree, step_tree, term_tree};
 ghost use Rattle.tiny_names.specs.Names.{lookup};
-ghost use Rattle.tiny_names.specs.Resolved.{arguments, cond, expr, function_place, otherwise, place_in, statement, statements, steps, term};
+ghost use Rattle.tiny_names.specs.Resolved.{function_place, place_in};
+ghost use Rattle.tiny_names.specs.ResolvedParts.{resolved_arguments, resolved_block, resolved_call, resolved_cond, resolved_else, resolved_expr, resolved_if, resolved_statement, resolved_steps, resolved_sum, resolved_term, resolved_while};
 
 use crate::functions::{Signature, called};
 use std::alloc::{AllocError, Global};
 use std::slice::from_ref;
 use tiny_draft::{
-    Block as WrittenBlock, Comparison, Cond as WrittenCond, Expr as WrittenExpr,
-    Statement as WrittenStatement, Step as WrittenStep, Sum as WrittenSum, Term as WrittenTerm,
+    Block as WrittenBlock, Branches as WrittenBranches, Comparison, Cond as WrittenCond,
+    Expr as WrittenExpr, Statement as WrittenStatement, Step as WrittenStep, Sum as WrittenSum,
+    Term as WrittenTerm,
 };
 use tiny_tree::{Block, Cond, Expr, Items, Statement, Step, Term};
 
@@ -51,7 +51,7 @@ fn term(
     written: &WrittenTerm,
 ) -> Result<Term, AllocError>
     requires { length names.now ≤ 255 }
-    ensures { IfOk result (λ t. term_tree t ≡ term (lookup functions.now) names.now (draft_view.term_tree written.now)) }
+    ensures { IfOk result (λ t. term_tree t ≡ resolved_term functions.now names.now written.now) }
 {
     match written {
         WrittenTerm::Number(value) => Ok(Term::number(*value)),
@@ -77,7 +77,7 @@ fn expr(
     written: &WrittenExpr,
 ) -> Result<Expr, AllocError>
     requires { length names.now ≤ 255 }
-    ensures { IfOk result (λ e. expr_tree e ≡ expr (lookup functions.now) names.now (draft_view.expr_tree written.now)) }
+    ensures { IfOk result (λ e. expr_tree e ≡ resolved_expr functions.now names.now written.now) }
 {
     match written {
         WrittenExpr::Alone(only) => {
@@ -99,7 +99,7 @@ fn sum(
     written: &WrittenSum,
 ) -> Result<Expr, AllocError>
     requires { length names.now ≤ 255 }
-    ensures { IfOk result (λ e. expr_tree e ≡ expr (lookup functions.now) names.now (draft_view.sum_tree written.now)) }
+    ensures { IfOk result (λ e. expr_tree e ≡ resolved_sum functions.now names.now written.now) }
 {
     let first = term(alloc, functions, names, &written.first)?;
     let rest = steps(alloc, functions, names, written.rest.items())?;
@@ -114,8 +114,7 @@ fn steps(
     written: &[WrittenStep],
 ) -> Result<Items<Step>, AllocError>
     requires { length names.now ≤ 255 }
-    ensures { IfOk result (λ ss.
-        steps_of (map step_tree ss) ≡ steps (lookup functions.now) names.now (draft.steps_of (map draft_view.step_tree written.now))) }
+    ensures { IfOk result (λ ss. steps_of (map step_tree ss) ≡ resolved_steps functions.now names.now written.now) }
 {
     let mut found = Items::with_capacity(alloc, written.len())?;
     for step in written {
@@ -133,8 +132,7 @@ fn arguments(
     written: &[WrittenExpr],
 ) -> Result<Items<Expr>, AllocError>
     requires { length names.now ≤ 255 }
-    ensures { IfOk result (λ es.
-        arguments_of (map expr_tree es) ≡ arguments (lookup functions.now) names.now (draft.arguments_of (map draft_view.expr_tree written.now))) }
+    ensures { IfOk result (λ es. arguments_of (map expr_tree es) ≡ resolved_arguments functions.now names.now written.now) }
 {
     let mut passed = Items::with_capacity(alloc, written.len())?;
     for argument in written {
@@ -151,7 +149,7 @@ fn cond(
     written: &WrittenCond,
 ) -> Result<Cond, AllocError>
     requires { length names.now ≤ 255 }
-    ensures { IfOk result (λ c. cond_tree c ≡ cond (lookup functions.now) names.now (draft_view.cond_tree written.now)) }
+    ensures { IfOk result (λ c. cond_tree c ≡ resolved_cond functions.now names.now written.now) }
 {
     let left = expr(alloc, functions, names, &written.left)?;
     let right = expr(alloc, functions, names, &written.right)?;
@@ -162,6 +160,56 @@ fn cond(
     }
 }
 
+/// A call that is a statement.
+fn call(
+    alloc: Global,
+    functions: &[Option<Signature>],
+    names: &[u32],
+    name: u32,
+    written: &[WrittenExpr],
+) -> Result<Statement, AllocError>
+    requires { length names.now ≤ 255 }
+    ensures { IfOk result (λ s. statement_tree s ≡ resolved_call functions.now names.now name written.now) }
+{
+    let passed = arguments(alloc, functions, names, written)?;
+    Ok(Statement::call(function_place(functions, name), passed))
+}
+
+#[cycle(blocks)]
+fn choice(
+    alloc: Global,
+    functions: &[Option<Signature>],
+    names: &[u32],
+    line: u32,
+    test: &WrittenCond,
+    branches: &WrittenBranches,
+) -> Result<Statement, AllocError>
+    requires { length names.now ≤ 255 }
+    ensures { IfOk result (λ s. statement_tree s ≡ resolved_if functions.now names.now line test.now branches.now) }
+{
+    let decided = cond(alloc, functions, names, test)?;
+    let first = block(alloc, functions, names, &branches.taken)?;
+    let second = otherwise(alloc, functions, names, &branches.otherwise)?;
+    Ok(Statement::choice(line, decided, first, second))
+}
+
+#[cycle(blocks)]
+fn repeat(
+    alloc: Global,
+    functions: &[Option<Signature>],
+    names: &[u32],
+    line: u32,
+    test: &WrittenCond,
+    body: &WrittenBlock,
+) -> Result<Statement, AllocError>
+    requires { length names.now ≤ 255 }
+    ensures { IfOk result (λ s. statement_tree s ≡ resolved_while functions.now names.now line test.now body.now) }
+{
+    let decided = cond(alloc, functions, names, test)?;
+    let repeated = block(alloc, functions, names, body)?;
+    Ok(Statement::repeat(line, decided, repeated))
+}
+
 #[cycle(blocks)]
 fn statement(
     alloc: Global,
@@ -170,68 +218,41 @@ fn statement(
     written: &WrittenStatement,
 ) -> Result<Statement, AllocError>
     requires { length names.now ≤ 255 }
-    ensures { IfOk result (λ s. statement_tree s ≡ statement (lookup functions.now) names.now (draft_view.statement_tree written.now)) }
+    ensures { IfOk result (λ s. statement_tree s ≡ resolved_statement functions.now names.now written.now) }
 {
     match written {
-        WrittenStatement::Var {
-            name,
-            line: _,
-            value,
-        } => {
-            let given = expr(alloc, functions, names, value)?;
-            Ok(Statement::var(place_in(names, *name), given))
+        WrittenStatement::Var { name, value, .. } => {
+            Ok(Statement::var(
+                place_in(names, *name),
+                expr(alloc, functions, names, value)?,
+            ))
         }
-        WrittenStatement::Assign {
-            name,
-            line: _,
-            value,
-        } => {
-            let given = expr(alloc, functions, names, value)?;
-            Ok(Statement::assign(place_in(names, *name), given))
+        WrittenStatement::Assign { name, value, .. } => {
+            Ok(Statement::assign(
+                place_in(names, *name),
+                expr(alloc, functions, names, value)?,
+            ))
         }
         WrittenStatement::Call {
             name,
-            line: _,
-            arguments: given,
-        } => {
-            let passed = arguments(alloc, functions, names, given.items())?;
-            Ok(Statement::call(function_place(functions, *name), passed))
-        }
-        WrittenStatement::CallWithOne {
-            name,
-            line: _,
-            argument,
-        } => {
-            let passed = arguments(alloc, functions, names, from_ref(argument))?;
-            Ok(Statement::call(function_place(functions, *name), passed))
+            arguments,
+            ..
+        } => call(alloc, functions, names, *name, arguments.items()),
+        WrittenStatement::CallWithOne { name, argument, .. } => {
+            call(alloc, functions, names, *name, from_ref(argument))
         }
         WrittenStatement::If {
             line,
-            cond: test,
+            cond,
             branches,
-        } => {
-            let decided = cond(alloc, functions, names, test)?;
-            let first = block(alloc, functions, names, &branches.taken)?;
-            let second = otherwise(alloc, functions, names, &branches.otherwise)?;
-            Ok(Statement::choice(*line, decided, first, second))
+        } => choice(alloc, functions, names, *line, cond, branches),
+        WrittenStatement::While { line, cond, body } => {
+            repeat(alloc, functions, names, *line, cond, body)
         }
-        WrittenStatement::While {
-            line,
-            cond: test,
-            body,
-        } => {
-            let decided = cond(alloc, functions, names, test)?;
-            let repeated = block(alloc, functions, names, body)?;
-            Ok(Statement::repeat(*line, decided, repeated))
+        WrittenStatement::Return { value, .. } => {
+            Ok(Statement::give_back(expr(alloc, functions, names, value)?))
         }
-        WrittenStatement::Return { line: _, value } => {
-            let given = expr(alloc, functions, names, value)?;
-            Ok(Statement::give_back(given))
-        }
-        WrittenStatement::Put(value) => {
-            let given = expr(alloc, functions, names, value)?;
-            Ok(Statement::put(given))
-        }
+        WrittenStatement::Put(value) => Ok(Statement::put(expr(alloc, functions, names, value)?)),
         WrittenStatement::Halt => Ok(Statement::halt()),
     }
 }
@@ -244,8 +265,7 @@ fn otherwise(
     written: &Option<WrittenBlock>,
 ) -> Result<Option<Block>, AllocError>
     requires { length names.now ≤ 255 }
-    ensures { IfOk result (λ other. else_of (option_map block_tree other)
-        ≡ otherwise (lookup functions.now) names.now (draft.else_of (option_map draft_view.block_tree written.now))) }
+    ensures { IfOk result (λ b. else_of (option_map block_tree b) ≡ resolved_else functions.now names.now written.now) }
 {
     match written {
         None => Ok(None),
@@ -264,7 +284,7 @@ pub(crate) fn block(
     written: &WrittenBlock,
 ) -> Result<Block, AllocError>
     requires { length names.now ≤ 255 }
-    ensures { IfOk result (λ b. block_tree b ≡ statements (lookup functions.now) names.now (draft_view.block_tree written.now)) }
+    ensures { IfOk result (λ b. block_tree b ≡ resolved_block functions.now names.now written.now) }
 {
     let written_statements = written.statements.items();
     let mut found = Items::with_capacity(alloc, written_statements.len())?;

@@ -1,11 +1,13 @@
 //! The names of a whole program.
 
-ghost use Rattle.std.specs.Prelude.{◌≡◌, ◌≤◌, ◌++◌, ◌∷◌, [], IfOk, IfErr, OnOk, Ok, None, length, map};
+ghost use Rattle.std.specs.Prelude.{◌≡◌, ◌≤◌, ◌++◌, [], IfOk, IfErr, OnOk, Ok, None, length, map};
 ghost use Rattle.tiny_draft.specs.View as draft_view;
 ghost use Rattle.tiny_tree.specs.View.{function_tree};
-ghost use Rattle.tiny_names.specs.Faults.{all_faults, body_faults, first, function_faults, own_faults, parameter_faults};
-ghost use Rattle.tiny_names.specs.Names.{lookup, name_of};
-ghost use Rattle.tiny_names.specs.Resolved.{function_names, function_of, resolved};
+ghost use Rattle.tiny_names.specs.Faults.{all_faults, first, parameter_faults};
+ghost use Rattle.tiny_names.specs.FirstFaults.{faults_of, inner_fault, own_fault};
+ghost use Rattle.tiny_names.specs.Names.{name_of};
+ghost use Rattle.tiny_names.specs.Resolved.{function_names, resolved};
+ghost use Rattle.tiny_names.specs.ResolvedParts.{resolved_function};
 ghost use Rattle.tiny_names.specs.View.{program_tree};
 ghost use Rattle.tiny_names.specs.Unresolved.{IsFirst};
 
@@ -25,7 +27,7 @@ fn own_fault(
     place: usize,
     function: &WrittenFunction,
 ) -> Option<Fault>
-    ensures { result ≡ first (own_faults (lookup functions.now function.now.name.name) place (draft_view.function_tree function.now)) }
+    ensures { result ≡ own_fault functions.now place function.now }
 {
     let line = function.name.line;
     match called(functions, function.name.name) {
@@ -65,8 +67,7 @@ fn inner_fault(
     function: &WrittenFunction,
 ) -> Result<Option<Fault>, AllocError>
     requires { declared.old.items ≡ [] }
-    ensures fault { IfOk result (λ f. f ≡ first (parameter_faults [] function.now.parameters
-        ++ body_faults (lookup functions.now) (draft_view.function_tree function.now))) }
+    ensures fault { IfOk result (λ f. f ≡ inner_fault functions.now function.now) }
     ensures declared { result ≡ Ok None → declared.new.items ≡ function_names (draft_view.function_tree function.now) }
     ensures few { length declared.new.items ≤ 255 }
 {
@@ -88,9 +89,9 @@ fn resolved_function(
     place: usize,
     function: &WrittenFunction,
 ) -> Result<Function, Unresolved>
-    ensures ok { IfOk result (λ f. function_tree f ≡ function_of (lookup functions.now) (draft_view.function_tree function.now)) }
-    ensures fits { OnOk result (first (function_faults (lookup functions.now) place (draft_view.function_tree function.now)) ≡ None) }
-    ensures err { IfErr result (λ e. IsFirst e (function_faults (lookup functions.now) place (draft_view.function_tree function.now))) }
+    ensures ok { IfOk result (λ f. function_tree f ≡ resolved_function functions.now function.now) }
+    ensures fits { OnOk result (first (faults_of functions.now place function.now) ≡ None) }
+    ensures err { IfErr result (λ e. IsFirst e (faults_of functions.now place function.now)) }
 {
     if let Some(fault) = own_fault(functions, place, function) {
         return Err(Unresolved::Fault(fault));

@@ -1,17 +1,17 @@
 //! The first wrong name of a block: which names are seen at each statement, and which are declared twice.
 
-ghost use Rattle.std.specs.Prelude.{◌≡◌, ◌≤◌, ◌++◌, ◌∷◌, [], IfOk, Ok, None, length, option_map};
-ghost use Rattle.tiny_draft.specs.Tree.{else_of};
+ghost use Rattle.std.specs.Prelude.{◌≡◌, ◌≤◌, ◌++◌, ◌∷◌, [], IfOk, Ok, None, length};
 ghost use Rattle.tiny_draft.specs.View.{at, block_tree, statement_tree};
-ghost use Rattle.tiny_names.specs.Faults.{block_faults, declare_faults, else_faults, first, return_faults, statement_faults};
-ghost use Rattle.tiny_names.specs.Names.{all_names, else_names, lookup, names, shows};
+ghost use Rattle.tiny_names.specs.Faults.{declare_faults, first};
+ghost use Rattle.tiny_names.specs.FirstFaults.{assign_fault, block_fault, else_fault, if_fault, names_of_branches, names_of_else, return_fault, statement_fault, var_fault, while_fault};
+ghost use Rattle.tiny_names.specs.Names.{all_names, names, shows};
 
 use crate::expr::{call_fault, cond_fault, expr_fault, has, use_fault};
 use crate::fault::Fault;
 use crate::functions::Signature;
 use std::alloc::AllocError;
 use std::slice::from_ref;
-use tiny_draft::{Block, Statement};
+use tiny_draft::{Block, Branches, Cond, Expr, Statement};
 
 /// How many names a function may declare.
 const MOST: usize = 255;
@@ -37,13 +37,60 @@ pub(crate) fn declare(
     Ok(None)
 }
 
-fn return_fault(in_main: bool, line: u32) -> Option<Fault>
-    ensures { result ≡ first (return_faults in_main line) }
+/// A variable is not seen in the value that it begins with.
+fn var_fault(
+    functions: &[Option<Signature>],
+    declared: &mut Vec<u32>,
+    seen: &mut Vec<u32>,
+    name: u32,
+    line: u32,
+    value: &Expr,
+) -> Result<Option<Fault>, AllocError>
+    requires { length declared.old.items ≤ 255 }
+    ensures fault { IfOk result (λ f. f ≡ var_fault functions.now declared.old seen.old name line value.now) }
+    ensures declared { result ≡ Ok None → declared.new.items ≡ declared.old.items ++ name ∷ [] }
+    ensures seen { result ≡ Ok None → seen.new.items ≡ seen.old.items ++ name ∷ [] }
+    ensures few { length declared.new.items ≤ 255 }
+{
+    if let Some(fault) = declare(declared, name, line)? {
+        return Ok(Some(fault));
+    }
+    if let Some(fault) = expr_fault(functions, seen, value) {
+        return Ok(Some(fault));
+    }
+    seen.push(name)?;
+    Ok(None)
+}
+
+fn assign_fault(
+    functions: &[Option<Signature>],
+    seen: &[u32],
+    name: u32,
+    line: u32,
+    value: &Expr,
+) -> Option<Fault>
+    ensures { result ≡ assign_fault functions.now seen.now name line value.now }
+{
+    if let Some(fault) = use_fault(seen, name, line) {
+        return Some(fault);
+    }
+    expr_fault(functions, seen, value)
+}
+
+/// A `return` in `main` is wrong whatever it returns.
+fn return_fault(
+    functions: &[Option<Signature>],
+    in_main: bool,
+    seen: &[u32],
+    line: u32,
+    value: &Expr,
+) -> Option<Fault>
+    ensures { result ≡ return_fault functions.now in_main seen.now line value.now }
 {
     if in_main {
         Some(Fault::ReturnInMain(line))
     } else {
-        None
+        expr_fault(functions, seen, value)
     }
 }
 
@@ -56,28 +103,17 @@ fn statement_fault(
     statement: &Statement,
 ) -> Result<Option<Fault>, AllocError>
     requires { length declared.old.items ≤ 255 }
-    ensures fault { IfOk result (λ f.
-        f ≡ first (statement_faults (lookup functions.now) in_main declared.old.items seen.old.items (statement_tree statement.now))) }
+    ensures fault { IfOk result (λ f. f ≡ statement_fault functions.now in_main declared.old seen.old statement.now) }
     ensures declared { result ≡ Ok None → declared.new.items ≡ declared.old.items ++ names (statement_tree statement.now) }
     ensures seen { result ≡ Ok None → seen.new.items ≡ seen.old.items ++ shows (statement_tree statement.now) }
     ensures few { length declared.new.items ≤ 255 }
 {
     match statement {
         Statement::Var { name, line, value } => {
-            if let Some(fault) = declare(declared, *name, *line)? {
-                return Ok(Some(fault));
-            }
-            if let Some(fault) = expr_fault(functions, seen, value) {
-                return Ok(Some(fault));
-            }
-            seen.push(*name)?;
-            Ok(None)
+            var_fault(functions, declared, seen, *name, *line, value)
         }
         Statement::Assign { name, line, value } => {
-            if let Some(fault) = use_fault(seen, *name, *line) {
-                return Ok(Some(fault));
-            }
-            Ok(expr_fault(functions, seen, value))
+            Ok(assign_fault(functions, seen, *name, *line, value))
         }
         Statement::Call {
             name,
@@ -89,38 +125,63 @@ fn statement_fault(
             line,
             argument,
         } => Ok(call_fault(functions, seen, *name, *line, from_ref(argument))),
-        Statement::If {
-            line: _,
-            cond,
-            branches,
-        } => {
-            if let Some(fault) = cond_fault(functions, seen, cond) {
-                return Ok(Some(fault));
-            }
-            if let Some(fault) = block_fault(functions, in_main, declared, seen, &branches.taken)? {
-                return Ok(Some(fault));
-            }
-            else_fault(functions, in_main, declared, seen, &branches.otherwise)
+        Statement::If { cond, branches, .. } => {
+            if_fault(functions, in_main, declared, seen, cond, branches)
         }
-        Statement::While {
-            line: _,
-            cond,
-            body,
-        } => {
-            if let Some(fault) = cond_fault(functions, seen, cond) {
-                return Ok(Some(fault));
-            }
-            block_fault(functions, in_main, declared, seen, body)
+        Statement::While { cond, body, .. } => {
+            while_fault(functions, in_main, declared, seen, cond, body)
         }
         Statement::Return { line, value } => {
-            if let Some(fault) = return_fault(in_main, *line) {
-                return Ok(Some(fault));
-            }
-            Ok(expr_fault(functions, seen, value))
+            Ok(return_fault(functions, in_main, seen, *line, value))
         }
         Statement::Put(value) => Ok(expr_fault(functions, seen, value)),
         Statement::Halt => Ok(None),
     }
+}
+
+#[cycle(scope)]
+fn if_fault(
+    functions: &[Option<Signature>],
+    in_main: bool,
+    declared: &mut Vec<u32>,
+    seen: &mut Vec<u32>,
+    cond: &Cond,
+    branches: &Branches,
+) -> Result<Option<Fault>, AllocError>
+    requires { length declared.old.items ≤ 255 }
+    ensures fault { IfOk result (λ f. f ≡ if_fault functions.now in_main declared.old seen.old cond.now branches.now) }
+    ensures declared { result ≡ Ok None → declared.new.items ≡ declared.old.items ++ names_of_branches branches.now }
+    ensures seen { result ≡ Ok None → seen.new.items ≡ seen.old.items }
+    ensures few { length declared.new.items ≤ 255 }
+{
+    if let Some(fault) = cond_fault(functions, seen, cond) {
+        return Ok(Some(fault));
+    }
+    if let Some(fault) = block_fault(functions, in_main, declared, seen, &branches.taken)? {
+        return Ok(Some(fault));
+    }
+    else_fault(functions, in_main, declared, seen, &branches.otherwise)
+}
+
+#[cycle(scope)]
+fn while_fault(
+    functions: &[Option<Signature>],
+    in_main: bool,
+    declared: &mut Vec<u32>,
+    seen: &mut Vec<u32>,
+    cond: &Cond,
+    body: &Block,
+) -> Result<Option<Fault>, AllocError>
+    requires { length declared.old.items ≤ 255 }
+    ensures fault { IfOk result (λ f. f ≡ while_fault functions.now in_main declared.old seen.old cond.now body.now) }
+    ensures declared { result ≡ Ok None → declared.new.items ≡ declared.old.items ++ all_names (block_tree body.now) }
+    ensures seen { result ≡ Ok None → seen.new.items ≡ seen.old.items }
+    ensures few { length declared.new.items ≤ 255 }
+{
+    if let Some(fault) = cond_fault(functions, seen, cond) {
+        return Ok(Some(fault));
+    }
+    block_fault(functions, in_main, declared, seen, body)
 }
 
 #[cycle(scope)]
@@ -132,10 +193,8 @@ fn else_fault(
     otherwise: &Option<Block>,
 ) -> Result<Option<Fault>, AllocError>
     requires { length declared.old.items ≤ 255 }
-    ensures fault { IfOk result (λ f. f ≡ first (else_faults (lookup functions.now) in_main declared.old.items seen.old.items
-        (else_of (option_map block_tree otherwise.now)))) }
-    ensures declared { result ≡ Ok None →
-        declared.new.items ≡ declared.old.items ++ else_names (else_of (option_map block_tree otherwise.now)) }
+    ensures fault { IfOk result (λ f. f ≡ else_fault functions.now in_main declared.old seen.old otherwise.now) }
+    ensures declared { result ≡ Ok None → declared.new.items ≡ declared.old.items ++ names_of_else otherwise.now }
     ensures seen { result ≡ Ok None → seen.new.items ≡ seen.old.items }
     ensures few { length declared.new.items ≤ 255 }
 {
@@ -155,8 +214,7 @@ pub(crate) fn block_fault(
     block: &Block,
 ) -> Result<Option<Fault>, AllocError>
     requires { length declared.old.items ≤ 255 }
-    ensures fault { IfOk result (λ f.
-        f ≡ first (block_faults (lookup functions.now) in_main declared.old.items seen.old.items (block_tree block.now))) }
+    ensures fault { IfOk result (λ f. f ≡ block_fault functions.now in_main declared.old seen.old block.now) }
     ensures declared { result ≡ Ok None → declared.new.items ≡ declared.old.items ++ all_names (block_tree block.now) }
     ensures seen { result ≡ Ok None → seen.new.items ≡ seen.old.items }
     ensures few { length declared.new.items ≤ 255 }
