@@ -1,8 +1,9 @@
 -- What an outcome behind a test says of the test.
 use Rattle.std.proofs.Common.{◌≡◌, Bool, true, false, refl, ap, sym, cond}
 use Rattle.std.specs.Prelude.{Result, Ok, Err}
+use Rattle.source_text.specs.Walk.{FailsBy}
 use Rattle.ijvm_asm.specs.declared.error.AsmError.{AsmError}
-use Rattle.ijvm_asm.specs.Drafts.{FailsBy, is_memory, RefusesBy}
+use Rattle.ijvm_asm.specs.Drafts.{is_memory, RefusesBy}
 
 abbrev pub ok : {A : Type 0} → A → Result A AsmError
 ok a = Ok a
@@ -15,6 +16,6 @@ pub ok_if : {A : Type 0} (b : Bool) (e : AsmError) (r : Result A AsmError) → b
 ok_if true e r h = absurd (cc)
 ok_if false e r h = refl
 
-pub refuses_fails : {A : Type 0} (e : AsmError) (r : Result A AsmError) → RefusesBy e r → FailsBy e r
+pub refuses_fails : {A : Type 0} (e : AsmError) (r : Result A AsmError) → RefusesBy e r → FailsBy is_memory e r
 refuses_fails e (Ok a) h = λ m. absurd (let k : is_memory e ≡ true = ap is_memory h in cc)
 refuses_fails e (Err f) h = λ m. ap Err (sym h)

@@ -16,8 +16,7 @@ use Rattle.ijvm_line.specs.declared.place.Mark.TheVariants as marks
 use Rattle.ijvm_line.specs.declared.content.Content.{Content}
 use Rattle.ijvm_line.specs.declared.line.LineFault.{LineFault}
 use Rattle.ijvm_line.specs.declared.instruction.Instruction.{Instruction}
-use Rattle.ijvm_line.specs.Lines as spelled
-use Rattle.ijvm_line.specs.Reading.{line_from}
+use Rattle.ijvm_line.specs.Reading.{line_from, LinesReadAsSpelled, LinesRefusedAsFaulty}
 use Rattle.ijvm_line.specs.Parameters.{parameters}
 use Rattle.ijvm_line.specs.Ranges.{made}
 use Rattle.source_names.specs.Places.{place_of_name}
@@ -126,6 +125,10 @@ add_line k s (Defines name value) = add_constant k s name value
 add_line k s (Declares name) = on_local k s name
 add_line k s (Codes label instruction) = add_code k s label instruction
 
+-- what line `k` adds, whose tokens have this content
+abbrev pub add_content : ℕ → Source → List Token → Content → Result Source AsmError
+add_content k s ts content = add_line k s (said_at s.place (parameters ts) content)
+
 -- what tokens say at the place of the next line
 abbrev pub said_next : Source → List Token → Result Said LineFault
 said_next s ts = made (said_at s.place (parameters ts)) (line_from s.place ts)
@@ -152,5 +155,5 @@ IsRead s = (text : List ℕ) × (length text < 2 ^ 32) × Leads step 1 empty (co
 -- a line is read as what it spells, as the crates below say by their laws
 pub record ReadsLines : Type 0 where
   pub tokens_read : (line : List ℕ) (ts : List Token) → (read line ≡ Some ts) ↔ tokens.SpellsTokens line ts
-  pub said : (place : Place) (ts : List Token) (content : Content) → (line_from place ts ≡ Ok content) ↔ spelled.SpellsLine place ts content
-  pub refused : (place : Place) (ts : List Token) (fault : LineFault) → (line_from place ts ≡ Err fault) ↔ spelled.IsRefused place ts fault
+  pub said : LinesReadAsSpelled
+  pub refused : LinesRefusedAsFaulty

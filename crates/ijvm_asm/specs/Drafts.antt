@@ -38,11 +38,3 @@ is_memory _ = false
 abbrev pub RefusesBy : {A : Type 0} → AsmError → Result A AsmError → Type 0
 RefusesBy e (Ok a) = e ≡ errors.OutOfMemory
 RefusesBy e (Err f) = e ≡ f
-
--- a refusal is the one that is there, unless memory ran out
-abbrev pub FailsBy : {A : Type 0} → AsmError → Result A AsmError → Type 0
-FailsBy e outcome = is_memory e ≡ false → outcome ≡ Err e
-
--- a refusal leaves what was there, unless memory ran out
-abbrev pub StaysBy : {A : Type 0} → AsmError → A → A → Type 0
-StaysBy e old new = is_memory e ≡ false → new ≡ old

@@ -1,9 +1,10 @@
 //! Main or a method, as its lines so far make it.
 
 ghost use Rattle.std.specs.Prelude.{◌≡◌, ◌≤◌, length, Ok, Err, OnOk, IfErr};
+ghost use Rattle.source_text.specs.Walk.{FailsBy, StaysBy};
 ghost use Rattle.ijvm_program.specs.Program.{most_names};
 ghost use Rattle.ijvm_asm.specs.declared.error.AsmError.{AsmError};
-ghost use Rattle.ijvm_asm.specs.Drafts.{begun, FailsBy, StaysBy};
+ghost use Rattle.ijvm_asm.specs.Drafts.{begun, is_memory};
 
 use crate::error::AsmError;
 use ijvm_line::Instruction;
@@ -81,8 +82,8 @@ impl Draft {
     /// Declares a local on this line.
     pub(crate) fn add_local(&mut self, line: u32, name: Name) -> Result<(), AsmError>
         ensures ok { OnOk result (add_local line self.old name ≡ Ok self.new) }
-        ensures err { IfErr result (λ e. FailsBy e (add_local line self.old name)) }
-        ensures left { IfErr result (λ e. StaysBy e self.old self.new) }
+        ensures err { IfErr result (λ e. FailsBy is_memory e (add_local line self.old name)) }
+        ensures left { IfErr result (λ e. StaysBy is_memory e self.old self.new) }
         ensures refused { (e : AsmError) → add_local line self.old name ≡ Err e → result ≡ Err e }
     {
         if self.names.find(&name).is_some() {
@@ -98,8 +99,8 @@ impl Draft {
     /// Declares a label on this line.
     pub(crate) fn add_label(&mut self, line: u32, label: Option<Name>) -> Result<(), AsmError>
         ensures ok { OnOk result (add_label line self.old label ≡ Ok self.new) }
-        ensures err { IfErr result (λ e. FailsBy e (add_label line self.old label)) }
-        ensures left { IfErr result (λ e. StaysBy e self.old self.new) }
+        ensures err { IfErr result (λ e. FailsBy is_memory e (add_label line self.old label)) }
+        ensures left { IfErr result (λ e. StaysBy is_memory e self.old self.new) }
         ensures refused { (e : AsmError) → add_label line self.old label ≡ Err e → result ≡ Err e }
     {
         let Some(label) = label else {

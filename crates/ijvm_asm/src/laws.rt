@@ -1,12 +1,10 @@
 //! A text says one thing.
 
-ghost use Rattle.std.specs.Prelude.{◌≡◌, ℕ, List};
-ghost use Rattle.ijvm_program.specs.Program.{ProgramView};
-ghost use Rattle.ijvm_asm.specs.declared.error.AsmError.{AsmError};
 ghost use Rattle.source_text.specs.Parsing.{IsReadAsSpelled};
+ghost use Rattle.source_text.specs.Text.{AtMostOneProgram, AtMostOneRefusal, NeverBoth};
 ghost use Rattle.ijvm_asm.specs.Adding.{parser, ReadsLines};
 ghost use Rattle.ijvm_asm.specs.Source.{empty};
-ghost use Rattle.ijvm_asm.specs.Text.{grammar, IsRefused, SpellsProgram};
+ghost use Rattle.ijvm_asm.specs.Text.{grammar};
 
 use crate::source::SourceReader;
 
@@ -28,9 +26,9 @@ pub(crate) fn reads_texts()
 
 /// A text spells at most one program, or else has at most one first refusal, and never both.
 pub fn a_text_says_one_thing()
-    ensures one_program { (text : List ℕ) (p q : ProgramView) → SpellsProgram text p → SpellsProgram text q → p ≡ q }
-    ensures one_refusal { (text : List ℕ) (e f : AsmError) → IsRefused text e → IsRefused text f → e ≡ f }
-    ensures not_both { (text : List ℕ) (p : ProgramView) (e : AsmError) → SpellsProgram text p → IsRefused text e → ⊥ }
+    ensures one_program { AtMostOneProgram grammar }
+    ensures one_refusal { AtMostOneRefusal grammar }
+    ensures not_both { NeverBoth grammar }
 {
     reads_texts();
 }

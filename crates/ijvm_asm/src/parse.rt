@@ -21,8 +21,6 @@ pub fn parse_source(alloc: Global, text: &[u8]) -> Result<Program, AsmError>
 {
     reads_texts();
     let mut reader = SourceReader::new(alloc);
-    match read_lines(&mut reader, text) {
-        Ok(()) => whole_program(&reader),
-        Err(refusal) => Err(refusal),
-    }
+    read_lines(&mut reader, text)?;
+    whole_program(&reader)
 }

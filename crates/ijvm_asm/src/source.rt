@@ -1,7 +1,8 @@
 //! The reader of a source, line by line.
 
 ghost use Rattle.std.specs.Prelude.{◌≡◌, Ok, OnOk, IfOk, IfErr, None, []};
-ghost use Rattle.ijvm_asm.specs.Drafts.{begun, FailsBy, StaysBy};
+ghost use Rattle.source_text.specs.Walk.{FailsBy, StaysBy};
+ghost use Rattle.ijvm_asm.specs.Drafts.{begun, is_memory};
 ghost use Rattle.ijvm_asm.specs.Adding.{gather};
 ghost use Rattle.ijvm_asm.specs.Refusals.{at_line};
 
@@ -91,11 +92,9 @@ fn at_line(fault: LineFault, line: u32) -> AsmError
 }
 
 impl SourceReader {
-    ghost use Rattle.ijvm_asm.specs.Adding.{add_code, add_constant, add_line, add_mark, add_method, add_tokens, begin_constants, begin_locals, begin_main, end_main, end_method, is_declared, on_local};
-    ghost use Rattle.ijvm_asm.specs.Said.{said_at};
+    ghost use Rattle.ijvm_asm.specs.Adding.{add_code, add_constant, add_content, add_mark, add_method, add_tokens, begin_constants, begin_locals, begin_main, end_main, end_method, is_declared, on_local};
     ghost use Rattle.ijvm_asm.specs.Source.{empty};
     ghost use Rattle.ijvm_line.specs.Reading.{line_from};
-    ghost use Rattle.ijvm_line.specs.Parameters.{parameters};
 
     pub(crate) fn new(alloc: Global) -> SourceReader
         ensures { result ≡ empty }
@@ -126,8 +125,8 @@ impl SourceReader {
 
     fn add_constant(&mut self, line: u32, name: Name, value: u32) -> Result<(), AsmError>
         ensures ok { OnOk result (add_constant line self.old name value ≡ Ok self.new) }
-        ensures err { IfErr result (λ e. FailsBy e (add_constant line self.old name value)) }
-        ensures left { IfErr result (λ e. StaysBy e self.old self.new) }
+        ensures err { IfErr result (λ e. FailsBy is_memory e (add_constant line self.old name value)) }
+        ensures left { IfErr result (λ e. StaysBy is_memory e self.old self.new) }
     {
         if self.is_declared(&name) {
             return Err(AsmError::DuplicateName(line));
@@ -139,13 +138,11 @@ impl SourceReader {
 
     fn add_local(&mut self, line: u32, name: Name) -> Result<(), AsmError>
         ensures ok { OnOk result (on_local line self.old name ≡ Ok self.new) }
-        ensures err { IfErr result (λ e. FailsBy e (on_local line self.old name)) }
-        ensures left { IfErr result (λ e. StaysBy e self.old self.new) }
+        ensures err { IfErr result (λ e. FailsBy is_memory e (on_local line self.old name)) }
+        ensures left { IfErr result (λ e. StaysBy is_memory e self.old self.new) }
     {
-        match self.unit.add_local(line, name) {
-            Ok(()) => Ok(()),
-            Err(refusal) => Err(refusal),
-        }
+        self.unit.add_local(line, name)?;
+        Ok(())
     }
 
     fn add_code(
@@ -155,33 +152,24 @@ impl SourceReader {
         instruction: Option<Instruction>,
     ) -> Result<(), AsmError>
         ensures ok { OnOk result (add_code line self.old label instruction ≡ Ok self.new) }
-        ensures err { IfErr result (λ e. FailsBy e (add_code line self.old label instruction)) }
-        ensures left { IfErr result (λ e. StaysBy e self.old self.new) }
+        ensures err { IfErr result (λ e. FailsBy is_memory e (add_code line self.old label instruction)) }
+        ensures left { IfErr result (λ e. StaysBy is_memory e self.old self.new) }
     {
-        match self.unit.add_label(line, label) {
-            Ok(()) => {}
-            Err(refusal) => return Err(refusal),
-        }
-        match self.unit.add_instruction(line, instruction) {
-            Ok(()) => {}
-            Err(_) => return Err(AsmError::OutOfMemory),
-        }
+        self.unit.add_label(line, label)?;
+        self.unit.add_instruction(line, instruction)?;
         self.may_declare = false;
         Ok(())
     }
 
     fn add_method(&mut self, line: u32, name: Name, parameters: &[Name]) -> Result<(), AsmError>
         ensures ok { OnOk result (add_method line self.old name parameters.now ≡ Ok self.new) }
-        ensures err { IfErr result (λ e. FailsBy e (add_method line self.old name parameters.now)) }
-        ensures left { IfErr result (λ e. StaysBy e self.old self.new) }
+        ensures err { IfErr result (λ e. FailsBy is_memory e (add_method line self.old name parameters.now)) }
+        ensures left { IfErr result (λ e. StaysBy is_memory e self.old self.new) }
     {
         if self.is_declared(&name) {
             return Err(AsmError::DuplicateName(line));
         }
-        let Ok(gathered) = gather(self.alloc, parameters) else {
-            return Err(AsmError::OutOfMemory);
-        };
-        let Some(names) = gathered else {
+        let Some(names) = gather(self.alloc, parameters)? else {
             return Err(AsmError::DuplicateName(line));
         };
         if names.len() > MOST {
@@ -197,8 +185,8 @@ impl SourceReader {
 
     fn begin_constants(&mut self, line: u32) -> Result<(), AsmError>
         ensures ok { OnOk result (begin_constants line self.old ≡ Ok self.new) }
-        ensures err { IfErr result (λ e. FailsBy e (begin_constants line self.old)) }
-        ensures left { IfErr result (λ e. StaysBy e self.old self.new) }
+        ensures err { IfErr result (λ e. FailsBy is_memory e (begin_constants line self.old)) }
+        ensures left { IfErr result (λ e. StaysBy is_memory e self.old self.new) }
     {
         if self.seen_constants {
             return Err(AsmError::BadLine(line));
@@ -211,8 +199,8 @@ impl SourceReader {
 
     fn begin_main(&mut self, line: u32) -> Result<(), AsmError>
         ensures ok { OnOk result (begin_main line self.old ≡ Ok self.new) }
-        ensures err { IfErr result (λ e. FailsBy e (begin_main line self.old)) }
-        ensures left { IfErr result (λ e. StaysBy e self.old self.new) }
+        ensures err { IfErr result (λ e. FailsBy is_memory e (begin_main line self.old)) }
+        ensures left { IfErr result (λ e. StaysBy is_memory e self.old self.new) }
     {
         if self.seen_main {
             return Err(AsmError::BadLine(line));
@@ -227,8 +215,8 @@ impl SourceReader {
 
     fn begin_locals(&mut self, line: u32) -> Result<(), AsmError>
         ensures ok { OnOk result (begin_locals line self.old ≡ Ok self.new) }
-        ensures err { IfErr result (λ e. FailsBy e (begin_locals line self.old)) }
-        ensures left { IfErr result (λ e. StaysBy e self.old self.new) }
+        ensures err { IfErr result (λ e. FailsBy is_memory e (begin_locals line self.old)) }
+        ensures left { IfErr result (λ e. StaysBy is_memory e self.old self.new) }
     {
         if !self.may_declare {
             return Err(AsmError::BadLine(line));
@@ -251,8 +239,8 @@ impl SourceReader {
 
     fn end_main(&mut self, line: u32) -> Result<(), AsmError>
         ensures ok { OnOk result (end_main line self.old ≡ Ok self.new) }
-        ensures err { IfErr result (λ e. FailsBy e (end_main line self.old)) }
-        ensures left { IfErr result (λ e. StaysBy e self.old self.new) }
+        ensures err { IfErr result (λ e. FailsBy is_memory e (end_main line self.old)) }
+        ensures left { IfErr result (λ e. StaysBy is_memory e self.old self.new) }
     {
         if self.unit.name.is_some() || self.unit.pending {
             return Err(AsmError::BadLine(line));
@@ -264,8 +252,8 @@ impl SourceReader {
 
     fn end_method(&mut self, line: u32) -> Result<(), AsmError>
         ensures ok { OnOk result (end_method line self.old ≡ Ok self.new) }
-        ensures err { IfErr result (λ e. FailsBy e (end_method line self.old)) }
-        ensures left { IfErr result (λ e. StaysBy e self.old self.new) }
+        ensures err { IfErr result (λ e. FailsBy is_memory e (end_method line self.old)) }
+        ensures left { IfErr result (λ e. StaysBy is_memory e self.old self.new) }
     {
         if self.unit.name.is_none() || self.unit.pending {
             return Err(AsmError::BadLine(line));
@@ -277,8 +265,8 @@ impl SourceReader {
 
     fn add_mark(&mut self, line: u32, mark: Mark) -> Result<(), AsmError>
         ensures ok { OnOk result (add_mark line self.old mark ≡ Ok self.new) }
-        ensures err { IfErr result (λ e. FailsBy e (add_mark line self.old mark)) }
-        ensures left { IfErr result (λ e. StaysBy e self.old self.new) }
+        ensures err { IfErr result (λ e. FailsBy is_memory e (add_mark line self.old mark)) }
+        ensures left { IfErr result (λ e. StaysBy is_memory e self.old self.new) }
     {
         match mark {
             Mark::BeginConstants => self.begin_constants(line),
@@ -298,17 +286,15 @@ impl SourceReader {
     }
 
     fn add(&mut self, number: u32, tokens: &[Token], content: Content) -> Result<(), AsmError>
-        ensures ok { OnOk result (add_line number self.old (said_at self.old.place (parameters tokens.now) content) ≡ Ok self.new) }
-        ensures err { IfErr result (λ e. FailsBy e (add_line number self.old (said_at self.old.place (parameters tokens.now) content))) }
-        ensures left { IfErr result (λ e. StaysBy e self.old self.new) }
+        ensures ok { OnOk result (add_content number self.old tokens.now content ≡ Ok self.new) }
+        ensures err { IfErr result (λ e. FailsBy is_memory e (add_content number self.old tokens.now content)) }
+        ensures left { IfErr result (λ e. StaysBy is_memory e self.old self.new) }
     {
         match content {
             Content::Nothing => Ok(()),
             Content::Mark(mark) => self.add_mark(number, mark),
             Content::Method(name) => {
-                let Ok(parameters) = parameters_of(self.alloc, tokens) else {
-                    return Err(AsmError::OutOfMemory);
-                };
+                let parameters = parameters_of(self.alloc, tokens)?;
                 self.add_method(number, name, &parameters)
             }
             Content::Constant(name, value) => self.add_constant(number, name, value),
@@ -319,8 +305,8 @@ impl SourceReader {
 
     fn read(&mut self, number: u32, tokens: &[Token]) -> Result<(), AsmError>
         ensures ok { OnOk result (add_tokens number self.old tokens.now ≡ Ok self.new) }
-        ensures err { IfErr result (λ e. FailsBy e (add_tokens number self.old tokens.now)) }
-        ensures left { IfErr result (λ e. StaysBy e self.old self.new) }
+        ensures err { IfErr result (λ e. FailsBy is_memory e (add_tokens number self.old tokens.now)) }
+        ensures left { IfErr result (λ e. StaysBy is_memory e self.old self.new) }
     {
         match line_from(self.place, tokens) {
             Ok(content) => self.add(number, tokens, content),
@@ -332,7 +318,6 @@ impl SourceReader {
 impl Reader for SourceReader {
     type Refusal = AsmError;
 
-    ghost use Rattle.ijvm_asm.specs.Drafts.{is_memory};
     ghost use Rattle.ijvm_asm.specs.Source.{Source};
     ghost use Rattle.ijvm_asm.specs.Adding.{step};
 

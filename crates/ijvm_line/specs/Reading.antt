@@ -1,6 +1,6 @@
 -- How a line is read: the form that its tokens have at its place, and what that says. Computes what tokens spell, or are refused for (`Lines`),
 -- by their forms (`Forms`), instructions (`Statements`), dotted words (`Places`) and lists (`Parameters`).
-use Rattle.std.specs.Prelude.{ℕ, ◌&&◌, Bool, true, false, List, [], ◌∷◌, Option, Some, None, Result, Err, option_map, option_and_then, if◌then◌else◌}
+use Rattle.std.specs.Prelude.{ℕ, ◌&&◌, Bool, true, false, List, [], ◌∷◌, Option, Some, None, Result, Err, option_map, option_and_then, if◌then◌else◌, Ok, ◌≡◌, ◌↔◌}
 use Rattle.ijvm_instr.specs.declared.instr.Instr.{Instr}
 use Rattle.ijvm_program.specs.declared.line.Jump.{Jump}
 use Rattle.ijvm_tokens.specs.declared.sign.Sign.{Sign}
@@ -24,7 +24,7 @@ use Rattle.ijvm_line.specs.declared.content.Content.{Content}
 use Rattle.ijvm_line.specs.declared.line.LineFault.{LineFault}
 use Rattle.ijvm_line.specs.declared.line.LineFault.TheVariants as faults
 use Rattle.ijvm_line.specs.Mnemonics.{find_kind}
-use Rattle.ijvm_line.specs.Lines.{content_of}
+use Rattle.ijvm_line.specs.Lines.{content_of, IsRefused, SpellsLine}
 
 -- ---- a list of parameters
 
@@ -179,3 +179,11 @@ said_by (Some form) = content_of form
 
 unfoldable pub line_from : Place → List Token → Result Content LineFault
 line_from place ts = said_by (form_of place ts)
+
+-- what is read from a line is what it spells at its place
+abbrev pub LinesReadAsSpelled : Type 0
+LinesReadAsSpelled = (place : Place) (ts : List Token) (content : Content) → (line_from place ts ≡ Ok content) ↔ SpellsLine place ts content
+
+-- a line is refused by the first refusal that it has
+abbrev pub LinesRefusedAsFaulty : Type 0
+LinesRefusedAsFaulty = (place : Place) (ts : List Token) (fault : LineFault) → (line_from place ts ≡ Err fault) ↔ IsRefused place ts fault

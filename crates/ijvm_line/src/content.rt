@@ -24,10 +24,7 @@ pub enum Content {
 fn constant_content(name: Name, value: Option<i64>) -> Result<Content, LineFault>
     ensures { result ≡ constant_content name value }
 {
-    match word(value) {
-        Ok(word) => Ok(Content::Constant(name, word)),
-        Err(fault) => Err(fault),
-    }
+    Ok(Content::Constant(name, word(value)?))
 }
 
 fn code_content(label: Option<Name>, statement: Option<Statement>) -> Result<Content, LineFault>
@@ -36,10 +33,7 @@ fn code_content(label: Option<Name>, statement: Option<Statement>) -> Result<Con
     let Some(statement) = statement else {
         return Ok(Content::Code(label, None));
     };
-    match instruction_of(statement) {
-        Ok(instruction) => Ok(Content::Code(label, Some(instruction))),
-        Err(fault) => Err(fault),
-    }
+    Ok(Content::Code(label, Some(instruction_of(statement)?)))
 }
 
 /// What a line of this form says, or the refusal of its first number with one.

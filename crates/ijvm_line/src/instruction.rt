@@ -154,10 +154,7 @@ pub(crate) fn word(value: Option<i64>) -> Result<u32, LineFault>
 fn push(value: Option<i64>) -> Result<Instruction, LineFault>
     ensures { result ≡ push value }
 {
-    match byte(value) {
-        Ok(byte) => Ok(Instruction::Plain(Instr::Bipush(byte))),
-        Err(fault) => Err(fault),
-    }
+    Ok(Instruction::Plain(Instr::Bipush(byte(value)?)))
 }
 
 fn constant(operand: Operand) -> Result<Instruction, LineFault>
@@ -165,10 +162,7 @@ fn constant(operand: Operand) -> Result<Instruction, LineFault>
 {
     match operand {
         Operand::Name(name) => Ok(Instruction::Constant(name)),
-        Operand::Number(value) => match index(value) {
-            Ok(index) => Ok(Instruction::Plain(Instr::LdcW(index))),
-            Err(fault) => Err(fault),
-        },
+        Operand::Number(value) => Ok(Instruction::Plain(Instr::LdcW(index(value)?))),
     }
 }
 
@@ -181,10 +175,10 @@ fn local(access: Access, wide: bool, operand: Operand) -> Result<Instruction, Li
             wide,
             local,
         }),
-        Operand::Number(value) => match index(value) {
-            Ok(index) => Ok(Instruction::Plain(access_instr(access, wide, index))),
-            Err(fault) => Err(fault),
-        },
+        Operand::Number(value) => {
+            let local = index(value)?;
+            Ok(Instruction::Plain(access_instr(access, wide, local)))
+        }
     }
 }
 
@@ -193,16 +187,14 @@ fn increment(wide: bool, operand: Operand, by: Option<i64>) -> Result<Instructio
     ensures { result ≡ increment wide operand by }
 {
     match operand {
-        Operand::Name(local) => match addend(by) {
-            Ok(by) => Ok(Instruction::Increment { wide, local, by }),
-            Err(fault) => Err(fault),
-        },
+        Operand::Name(local) => {
+            let by = addend(by)?;
+            Ok(Instruction::Increment { wide, local, by })
+        }
         Operand::Number(value) => {
             let local = index(value)?;
-            match addend(by) {
-                Ok(by) => Ok(Instruction::Plain(increment_instr(wide, local, by))),
-                Err(fault) => Err(fault),
-            }
+            let by = addend(by)?;
+            Ok(Instruction::Plain(increment_instr(wide, local, by)))
         }
     }
 }

@@ -1,5 +1,5 @@
 -- The reading of a line, token by token. It computes what `Lines` states: `line_from` answers what a line spells, or the first refusal that it has.
-use Rattle.std.specs.Prelude.{ℕ, Bool, true, false, List, [], ◌∷◌, Option, Some, None, Result, Ok, Err, if◌then◌else◌, ◌==◌, length, take, drop, bit_or, is_some, option_map, option_and_then}
+use Rattle.std.specs.Prelude.{ℕ, Bool, true, false, List, [], ◌∷◌, Option, Some, None, Result, Ok, Err, if◌then◌else◌, ◌==◌, length, take, drop, bit_or, is_some, option_map, option_and_then, ◌≡◌, ◌↔◌}
 use Rattle.std.specs.List.{prefix_len}
 use Rattle.mic_words.specs.declared.machine.Machine.{Machine}
 use Rattle.micro_word.specs.declared.statement.Mem.{Mem}
@@ -28,7 +28,7 @@ use Rattle.mal_line.specs.declared.line.Form.{Form}
 use Rattle.mal_line.specs.declared.line.Form.TheVariants as forms
 use Rattle.mal_line.specs.declared.line.LineFault.{LineFault}
 use Rattle.mal_line.specs.declared.line.LineFault.TheVariants as faults
-use Rattle.mal_line.specs.Lines.{content_of, names_foreign}
+use Rattle.mal_line.specs.Lines.{content_of, names_foreign, IsRefused, SpellsLine}
 use Rattle.mal_line.specs.Lookup.{coding_of, is_number}
 use Rattle.mal_line.specs.Chains.{bit, is_dest, is_expr}
 use Rattle.mal_line.specs.Statements.{is_byte_word, pieces}
@@ -241,3 +241,11 @@ said_by machine ts (Some form) = if names_foreign machine ts then Err faults.Wro
 
 unfoldable pub line_from : Machine → List Token → Result Content LineFault
 line_from machine ts = said_by machine ts (form_of machine ts)
+
+-- what is read from a line is what it spells on the machine
+abbrev pub LinesReadAsSpelled : Type 0
+LinesReadAsSpelled = (machine : Machine) (ts : List Token) (content : Content) → (line_from machine ts ≡ Ok content) ↔ SpellsLine machine ts content
+
+-- a line is refused by the first refusal that it has
+abbrev pub LinesRefusedAsFaulty : Type 0
+LinesRefusedAsFaulty = (machine : Machine) (ts : List Token) (fault : LineFault) → (line_from machine ts ≡ Err fault) ↔ IsRefused machine ts fault

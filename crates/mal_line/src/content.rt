@@ -45,10 +45,7 @@ fn target_of(jump: Jump) -> Option<Next<Name>>
 {
     match jump {
         Jump::Goto(label) => Some(Next::Goto(label)),
-        Jump::Dispatch(offset) => match offset {
-            Some(high) => Some(Next::Dispatch { high }),
-            None => None,
-        },
+        Jump::Dispatch(high) => Some(Next::Dispatch { high: high? }),
         Jump::Branch(test, yes, no) => Some(Next::Branch { test, yes, no }),
     }
 }

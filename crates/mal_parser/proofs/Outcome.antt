@@ -4,14 +4,14 @@ use Rattle.std.specs.Prelude.{Result, Ok, Err, IfOk, IfErr, ◌⊎◌}
 use Rattle.mic_words.specs.declared.machine.Machine.{Machine}
 use Rattle.source_text.specs.Content.{contents}
 use Rattle.source_text.specs.Parsing.{Agrees, IsReadAsSpelled, Makes}
-use Rattle.source_text.specs.Walk.{Leads}
+use Rattle.source_text.specs.Walk.{FailsBy, Leads}
 use Rattle.mal_line.specs.declared.content.Content.{Content}
 use Rattle.mal_line.specs.Lines as lines
 use Rattle.mal_parser.specs.declared.error.MalError.{MalError}
 use Rattle.mal_parser.specs.declared.error.MalError.TheVariants as errors
 use Rattle.mal_parser.specs.Program.{MalView}
 use Rattle.mal_parser.specs.Text.{grammar, is_memory, IsRefused, SpellsProgram}
-use Rattle.mal_parser.specs.Reading.{add_content, empty, FailsBy, IsSound, parser, resolved_program, ReadsLines, Sketch, sketch_of, step}
+use Rattle.mal_parser.specs.Reading.{add_content, empty, IsSound, parser, resolved_program, ReadsLines, Sketch, sketch_of, step}
 use Rattle.mal_parser.proofs.Adding.{fine_made, made_fine}
 use Rattle.mal_parser.proofs.Ending.{ends_refused, refused_ends}
 use Rattle.mal_parser.proofs.Meaning.{means_program, program_means}
@@ -61,7 +61,7 @@ module _ (m : Machine) (laws : IsReadAsSpelled (grammar m) parser (empty m)) (te
   is_spelled (Ok p) h = laws.spelled text t p led h
   is_spelled (Err e) h = tt
 
-  pub is_refused : (r : Result MalView MalError) → IfErr r (λ e. FailsBy e (resolved_program t)) → IfErr r (λ e. is_memory e ≡ false → IsRefused m text e)
+  pub is_refused : (r : Result MalView MalError) → IfErr r (λ e. FailsBy is_memory e (resolved_program t)) → IfErr r (λ e. is_memory e ≡ false → IsRefused m text e)
   is_refused (Ok p) h = tt
   is_refused (Err e) h = λ free. laws.ended text t e led (h free)
 

@@ -22,7 +22,7 @@ use Rattle.mal_line.specs.declared.next.Next.{Next}
 use Rattle.mal_line.specs.declared.next.Next.TheVariants as nexts
 use Rattle.mal_line.specs.Lines as lines
 use Rattle.mal_line.specs.Lines.{HasPart}
-use Rattle.mal_line.specs.Reading.{line_from}
+use Rattle.mal_line.specs.Reading.{line_from, LinesReadAsSpelled, LinesRefusedAsFaulty}
 use Rattle.mal_line.specs.Targets.{by_targets}
 use Rattle.mal_parser.specs.declared.error.MalError.{MalError}
 use Rattle.mal_parser.specs.declared.error.MalError.TheVariants as errors
@@ -31,13 +31,13 @@ use Rattle.mal_parser.specs.declared.source.Fix.{Fix}
 use Rattle.mal_parser.specs.declared.statement.Statement.{Statement}
 use Rattle.mal_parser.specs.Labels.{address_of, AreDistinct, has_fix, has_label, has_name, is_labelled, labels_of}
 use Rattle.mal_parser.specs.Program.{MalView}
-use Rattle.mal_parser.specs.Text.{fallbacks, falls, fixes, is_memory, refusals, statements}
+use Rattle.mal_parser.specs.Text.{fallbacks, falls, fixes, refusals, statements}
 
 -- a line is read as what it spells, as the crates below say by their laws
 pub record ReadsLines : Type 0 where
   pub tokens_read : (line : List ℕ) (ts : List Token) → (read line ≡ Some ts) ↔ tokens.SpellsTokens line ts
-  pub said : (machine : Machine) (ts : List Token) (content : Content) → (line_from machine ts ≡ Ok content) ↔ lines.SpellsLine machine ts content
-  pub refused : (machine : Machine) (ts : List Token) (fault : LineFault) → (line_from machine ts ≡ Err fault) ↔ lines.IsRefused machine ts fault
+  pub said : LinesReadAsSpelled
+  pub refused : LinesRefusedAsFaulty
   pub stands : (machine : Machine) (ts : List Token) (content : Content) → lines.SpellsLine machine ts content → HasPart machine content
 
 -- ---- computes what the lines say together, or which line is refused
@@ -71,10 +71,6 @@ add_content k s contents.Nothing = Ok s
 add_content k s (contents.Fix label number) = add_fix k s label (address_of number)
 add_content k s (contents.Fallback parts) = add_fallback k s parts
 add_content k s (contents.Statement label parts) = add_statement k s label parts
-
--- a refusal is the one that is there, unless memory ran out
-abbrev pub FailsBy : {A : Type 0} → MalError → Result A MalError → Type 0
-FailsBy e outcome = is_memory e ≡ false → outcome ≡ Err e
 
 -- what lines that say this leave
 abbrev pub first : {A : Type 0} → List A → Option A

@@ -1,5 +1,5 @@
 -- Which program a text spells, and which refusal a text has.
-use Rattle.std.specs.Prelude.{◌≡◌, ◌⊎◌, ◌+◌, ◌≤◌, ◌<◌, ℕ, Bool, true, false, not, ◌&&◌, List, [], ◌∷◌, ◌++◌, Option, Some, None, IsSome, length, map, slice_get, option_map, option_to_list, codes}
+use Rattle.std.specs.Prelude.{◌≡◌, ◌⊎◌, ◌+◌, ◌≤◌, ◌<◌, ℕ, Bool, true, false, not, ◌&&◌, List, [], ◌∷◌, ◌++◌, Option, Some, None, IsSome, length, map, slice_get, option_map, option_to_list, codes, Result, Err}
 use Rattle.std.specs.List.{cons_option, list_all, list_any}
 use Rattle.mic_words.specs.declared.machine.Machine.{Machine}
 use Rattle.source_text.specs.Text as text
@@ -208,3 +208,7 @@ IsRefused machine = text.IsRefused (grammar machine)
 abbrev pub is_memory : MalError → Bool
 is_memory errors.OutOfMemory = true
 is_memory _ = false
+
+-- this is the answer, unless memory ran out
+abbrev pub Answers : {A : Type 0} → Result A MalError → Result A MalError → Type 0
+Answers result answer = (result ≡ answer) ⊎ (result ≡ Err errors.OutOfMemory)

@@ -1,13 +1,12 @@
 //! What holds of every text, and of every program that is printed.
 
-ghost use Rattle.std.specs.Prelude.{◌≡◌, ℕ, List};
 ghost use Rattle.mic_words.specs.declared.machine.Machine.{Machine};
-ghost use Rattle.mal_parser.specs.declared.error.MalError.{MalError};
 ghost use Rattle.mal_parser.specs.ProgramText.{canonical_text, relined};
 ghost use Rattle.mal_parser.specs.Program.{IsMalProgram, MalView};
 ghost use Rattle.mal_parser.specs.Reading.{empty, parser, ReadsLines};
-ghost use Rattle.mal_parser.specs.Text.{grammar, IsRefused, SpellsProgram};
+ghost use Rattle.mal_parser.specs.Text.{grammar, SpellsProgram};
 ghost use Rattle.source_text.specs.Parsing.{IsReadAsSpelled};
+ghost use Rattle.source_text.specs.Text.{AtMostOneProgram, AtMostOneRefusal, NeverBoth};
 
 use crate::source::SourceReader;
 use mal_print::lines_spell_what_is_printed;
@@ -30,9 +29,9 @@ pub(crate) fn reads_texts()
 
 /// A text spells at most one program, and not also a refusal, of which it has at most one.
 pub fn reads_what_is_spelled()
-    ensures one { (machine : Machine) (text : List ℕ) (p q : MalView) → SpellsProgram machine text p → SpellsProgram machine text q → p ≡ q }
-    ensures apart { (machine : Machine) (text : List ℕ) (p : MalView) (e : MalError) → SpellsProgram machine text p → IsRefused machine text e → ⊥ }
-    ensures first { (machine : Machine) (text : List ℕ) (e f : MalError) → IsRefused machine text e → IsRefused machine text f → e ≡ f }
+    ensures one { (machine : Machine) → AtMostOneProgram (grammar machine) }
+    ensures apart { (machine : Machine) → NeverBoth (grammar machine) }
+    ensures first { (machine : Machine) → AtMostOneRefusal (grammar machine) }
 {
     reads_texts();
 }

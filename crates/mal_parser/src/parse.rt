@@ -2,7 +2,7 @@
 
 ghost use Rattle.std.specs.Prelude.{◌≡◌, ◌⊎◌, ◌<◌, ◌^◌, length, IfOk, IfErr, Ok, Err, false};
 ghost use Rattle.mal_parser.specs.Program.{MalView};
-ghost use Rattle.mal_parser.specs.Text.{IsRefused, is_memory, SpellsProgram};
+ghost use Rattle.mal_parser.specs.Text.{Answers, IsRefused, is_memory, SpellsProgram};
 
 use crate::error::MalError;
 use crate::laws::{reads_lines, reads_texts};
@@ -21,10 +21,8 @@ fn read(alloc: Global, machine: Machine, text: &[u8]) -> Result<MalProgram, MalE
     reads_lines();
     reads_texts();
     let mut reader = SourceReader::new(alloc, machine);
-    match read_lines(&mut reader, text) {
-        Ok(()) => resolved_program(&reader),
-        Err(refusal) => Err(refusal),
-    }
+    read_lines(&mut reader, text)?;
+    resolved_program(&reader)
 }
 
 /// The program that the text spells, or the first refusal of the text: that of the first line with one, and where no
@@ -33,8 +31,8 @@ pub fn parse_mal(alloc: Global, machine: Machine, text: &[u8]) -> Result<MalProg
     requires { length text.now < 2 ^ 32 }
     ensures ok { IfOk result (SpellsProgram machine text.now) }
     ensures err { IfErr result (λ e. is_memory e ≡ false → IsRefused machine text.now e) }
-    ensures spelled { (p : MalView) → SpellsProgram machine text.now p → (result ≡ Ok p) ⊎ (result ≡ Err MalError.OutOfMemory) }
-    ensures refused { (e : MalError) → IsRefused machine text.now e → (result ≡ Err e) ⊎ (result ≡ Err MalError.OutOfMemory) }
+    ensures spelled { (p : MalView) → SpellsProgram machine text.now p → Answers result (Ok p) }
+    ensures refused { (e : MalError) → IsRefused machine text.now e → Answers result (Err e) }
 {
     reads_texts();
     read(alloc, machine, text)

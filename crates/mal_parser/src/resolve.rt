@@ -2,9 +2,10 @@
 
 ghost use Rattle.std.specs.Prelude.{◌≡◌, ◌≤◌, ◌<◌, ◌-◌, length, option_map, map, slice_get, find, min, IfOk, IfErr, Ok, Some};
 ghost use Rattle.std.specs.List.{position};
+ghost use Rattle.source_text.specs.Walk.{FailsBy};
 ghost use Rattle.mal_parser.specs.Labels.{has_label, is_labelled};
-ghost use Rattle.mal_parser.specs.Text.{falls};
-ghost use Rattle.mal_parser.specs.Reading.{earlier, FailsBy, falling, first_falling, first_unknown, fixed_of, IsSound, knows, main1, resolved_next, number_of, resolved_program, resolved, target_number, unknown_draft, unknown_fix, unknown_in};
+ghost use Rattle.mal_parser.specs.Text.{falls, is_memory};
+ghost use Rattle.mal_parser.specs.Reading.{earlier, falling, first_falling, first_unknown, fixed_of, IsSound, knows, main1, resolved_next, number_of, resolved_program, resolved, target_number, unknown_draft, unknown_fix, unknown_in};
 
 use crate::drafts::Drafts;
 use crate::error::MalError;
@@ -195,7 +196,7 @@ fn main1() -> Name
 pub(crate) fn resolved_program(reader: &SourceReader) -> Result<MalProgram, MalError>
     requires { IsSound reader.now }
     ensures ok { IfOk result (λ p. resolved_program reader.now ≡ Ok p) }
-    ensures err { IfErr result (λ e. FailsBy e (resolved_program reader.now)) }
+    ensures err { IfErr result (λ e. FailsBy is_memory e (resolved_program reader.now)) }
 {
     if let Some(line) = first_unknown(reader) {
         return Err(MalError::UnknownLabel(line));

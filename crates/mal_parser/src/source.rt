@@ -1,9 +1,10 @@
 //! The lines of a source, kept as drafts.
 
 ghost use Rattle.std.specs.Prelude.{◌≡◌, ◌<◌, false, Ok, Err, OnOk, OnErr, IfErr, is_some};
+ghost use Rattle.source_text.specs.Walk.{FailsBy};
 ghost use Rattle.mal_parser.specs.declared.error.MalError.TheVariants.{OutOfMemory};
 ghost use Rattle.mal_parser.specs.Labels.{address_of};
-ghost use Rattle.mal_parser.specs.Text.{at_line};
+ghost use Rattle.mal_parser.specs.Text.{at_line, is_memory};
 
 use crate::drafts::Drafts;
 use crate::error::MalError;
@@ -62,7 +63,7 @@ impl Model for SourceReader {
 }
 
 impl SourceReader {
-    ghost use Rattle.mal_parser.specs.Reading.{add_content, add_fallback, add_fix, add_statement, add_tokens, empty, FailsBy};
+    ghost use Rattle.mal_parser.specs.Reading.{add_content, add_fallback, add_fix, add_statement, add_tokens, empty};
     ghost use Rattle.mal_line.specs.declared.content.Content.{Content};
 
     pub fn new(alloc: Global, machine: Machine) -> SourceReader
@@ -79,7 +80,7 @@ impl SourceReader {
 
     fn add_fix(&mut self, line: u32, label: Name, address: i64) -> Result<(), MalError>
         ensures ok { OnOk result (add_fix line self.old label (address_of address) ≡ Ok self.new) }
-        ensures err { IfErr result (λ e. FailsBy e (add_fix line self.old label (address_of address))) }
+        ensures err { IfErr result (λ e. FailsBy is_memory e (add_fix line self.old label (address_of address))) }
         ensures left { OnErr result (self.new ≡ self.old) }
     {
         let Some(address) = address_of(address) else {
@@ -100,7 +101,7 @@ impl SourceReader {
 
     fn add_fallback(&mut self, line: u32, parts: Parts) -> Result<(), MalError>
         ensures ok { OnOk result (add_fallback line self.old parts ≡ Ok self.new) }
-        ensures err { IfErr result (λ e. FailsBy e (add_fallback line self.old parts)) }
+        ensures err { IfErr result (λ e. FailsBy is_memory e (add_fallback line self.old parts)) }
         ensures left { OnErr result (self.new ≡ self.old) }
     {
         if self.fallback.is_some() {
@@ -121,7 +122,7 @@ impl SourceReader {
         parts: Parts,
     ) -> Result<(), MalError>
         ensures ok { OnOk result (add_statement line self.old label parts ≡ Ok self.new) }
-        ensures err { IfErr result (λ e. FailsBy e (add_statement line self.old label parts)) }
+        ensures err { IfErr result (λ e. FailsBy is_memory e (add_statement line self.old label parts)) }
         ensures left { OnErr result (self.new ≡ self.old) }
     {
         if self.statements.has_name(&label) {
@@ -138,7 +139,7 @@ impl SourceReader {
 
     fn add(&mut self, line: u32, content: Content) -> Result<(), MalError>
         ensures ok { OnOk result (add_content line self.old content ≡ Ok self.new) }
-        ensures err { IfErr result (λ e. FailsBy e (add_content line self.old content)) }
+        ensures err { IfErr result (λ e. FailsBy is_memory e (add_content line self.old content)) }
         ensures left { OnErr result (self.new ≡ self.old) }
     {
         match content {
@@ -151,7 +152,7 @@ impl SourceReader {
 
     fn read(&mut self, number: u32, tokens: &[Token]) -> Result<(), MalError>
         ensures ok { OnOk result (add_tokens number self.old tokens.now ≡ Ok self.new) }
-        ensures err { IfErr result (λ e. FailsBy e (add_tokens number self.old tokens.now)) }
+        ensures err { IfErr result (λ e. FailsBy is_memory e (add_tokens number self.old tokens.now)) }
         ensures left { OnErr result (self.new ≡ self.old) }
     {
         match line_from(self.machine, tokens) {
@@ -174,7 +175,6 @@ fn at_line(fault: LineFault, line: u32) -> MalError
 impl Reader for SourceReader {
     type Refusal = MalError;
 
-    ghost use Rattle.mal_parser.specs.Text.{is_memory};
     ghost use Rattle.mal_parser.specs.Reading.{Sketch, step};
 
     ghost State = { Sketch };

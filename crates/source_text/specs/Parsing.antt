@@ -3,7 +3,7 @@
 use Rattle.std.specs.Prelude.{◌≡◌, ◌↔◌, ℕ, ◌+◌, List, [], ◌∷◌, length, Option, Some, None, Result, Ok, Err}
 use Rattle.source_text.specs.Content.{contents}
 use Rattle.source_text.specs.Tokens.{Spells}
-use Rattle.source_text.specs.Text.{Grammar, IsRefused, LineRefusals, SayAll, SpellsProgram}
+use Rattle.source_text.specs.Text.{Grammar, IsRefused, LineRefusals, SayAll, SpellsProgram, AtMostOneProgram, AtMostOneRefusal, NeverBoth}
 use Rattle.source_text.specs.Walk.{Leads, StopsAt}
 
 pub record Parser (T F C P E S : Type 0) : Type 1 where
@@ -49,9 +49,9 @@ pub record Agrees {T F C P E S : Type 0} (G : Grammar T F C P E) (X : Parser T F
 
 -- a text says one thing, and what is read from it is what it says
 pub record IsReadAsSpelled {T F C P E S : Type 0} (G : Grammar T F C P E) (X : Parser T F C P E S) (start : S) : Type 0 where
-  pub one_program : (text : List ℕ) (p q : P) → SpellsProgram G text p → SpellsProgram G text q → p ≡ q
-  pub one_refusal : (text : List ℕ) (e f : E) → IsRefused G text e → IsRefused G text f → e ≡ f
-  pub not_both : (text : List ℕ) (p : P) (e : E) → SpellsProgram G text p → IsRefused G text e → ⊥
+  pub one_program : AtMostOneProgram G
+  pub one_refusal : AtMostOneRefusal G
+  pub not_both : NeverBoth G
   -- a line is read as the tokens that it spells, and refused where it spells none
   pub read : (line : List ℕ) (ts : List T) → Spells G.lexicon line ts → X.tokens line ≡ Some ts
   pub unspelled : (k : ℕ) (s : S) (line : List ℕ) → ((ts : List T) → Spells G.lexicon line ts → ⊥) →

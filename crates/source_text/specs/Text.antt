@@ -79,3 +79,17 @@ module _ {T F C P E : Type 0} (G : Grammar T F C P E) where
   -- the first refusal of a text
   abbrev pub IsRefused : List ℕ → E → Type 0
   IsRefused text e = IsRefusedAtLine text e ⊎ IsRefusedAtEnd text e
+
+  -- ---- what a text says is one thing
+
+  -- a text spells at most one program
+  abbrev pub AtMostOneProgram : Type 0
+  AtMostOneProgram = (text : List ℕ) (p q : P) → SpellsProgram text p → SpellsProgram text q → p ≡ q
+
+  -- it has at most one first refusal
+  abbrev pub AtMostOneRefusal : Type 0
+  AtMostOneRefusal = (text : List ℕ) (e f : E) → IsRefused text e → IsRefused text f → e ≡ f
+
+  -- and never both
+  abbrev pub NeverBoth : Type 0
+  NeverBoth = (text : List ℕ) (p : P) (e : E) → SpellsProgram text p → IsRefused text e → ⊥

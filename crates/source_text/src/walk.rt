@@ -1,8 +1,8 @@
 //! The lines of a source, one after the other.
 
-ghost use Rattle.std.specs.Prelude.{◌≡◌, ◌<◌, ◌^◌, length, false, Ok, Err, OnOk, IfErr};
+ghost use Rattle.std.specs.Prelude.{◌≡◌, ◌<◌, ◌^◌, length, Ok, OnOk, IfErr};
 ghost use Rattle.source_text.specs.Content.{contents};
-ghost use Rattle.source_text.specs.Walk.{Leads, StopsAt};
+ghost use Rattle.source_text.specs.Walk.{FailsBy, Leads, StaysBy, StopsBy};
 
 use crate::content::{first_line, without_comment};
 
@@ -27,25 +27,22 @@ pub trait Reader {
     /// memory may leave anything.
     fn line(&mut self, number: u32, line: &[u8]) -> Result<(), Self::Refusal>
         ensures ok { OnOk result (step number (state self.old) line.now ≡ Ok (state self.new)) }
-        ensures err { IfErr result (λ e. is_memory e ≡ false → step number (state self.old) line.now ≡ Err e) }
-        ensures left { IfErr result (λ e. is_memory e ≡ false → state self.new ≡ state self.old) };
+        ensures err { IfErr result (λ e. FailsBy is_memory e (step number (state self.old) line.now)) }
+        ensures left { IfErr result (λ e. StaysBy is_memory e (state self.old) (state self.new)) };
 }
 
 /// Reads the lines of a text, up to the first refusal, which leaves what the lines before it left.
 pub fn read_lines<R: Reader>(reader: &mut R, text: &[u8]) -> Result<(), R::Refusal>
     requires { length text.now < 2 ^ 32 }
     ensures ok { OnOk result (Leads R.step 1 (R.state reader.old) (contents text.now) (R.state reader.new)) }
-    ensures err { IfErr result (λ e. R.is_memory e ≡ false → StopsAt R.step 1 (R.state reader.old) (contents text.now) e (R.state reader.new)) }
+    ensures err { IfErr result (λ e. StopsBy R.is_memory R.step (R.state reader.old) text.now e (R.state reader.new)) }
 {
     let mut rest = text;
     let mut number = 0;
     while !rest.is_empty() {
         number += 1;
         let (line, after) = first_line(rest);
-        match reader.line(number, without_comment(line)) {
-            Ok(()) => {}
-            Err(refusal) => return Err(refusal),
-        }
+        reader.line(number, without_comment(line))?;
         rest = after;
     }
     Ok(())

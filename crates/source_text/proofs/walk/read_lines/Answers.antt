@@ -1,9 +1,9 @@
-use Rattle.std.proofs.Common.{◌≡◌, ◌∷◌, List, ℕ, [], true, refl, ap, ◌∙◌, sym, subst, arith, length, map}
+use Rattle.std.proofs.Common.{◌≡◌, ◌∷◌, List, ℕ, [], true, refl, ap, ◌∙◌, sym, subst, arith, rules, length, map}
 use Rattle.std.specs.Prelude.{◌==◌}
 use Rattle.std.specs.Str.Lines.{lines}
 use Rattle.std.proofs.lemmas.Bool.Decides.{nat_tests}
 use Rattle.source_text.specs.Content.{contents, without_comment}
-use Rattle.source_text.specs.Walk.{StopsAt}
+use Rattle.source_text.specs.Walk.{StopsAt, StopsBy}
 use Rattle.source_text.proofs.Walking.{before_all, before_more, before_none, before_stop}
 use Rattle.source_text.proofs.walk.read_lines.Goals as goal
 
@@ -17,12 +17,15 @@ contents_none (b ∷ rest) h = absurd (grind (arith, nat_tests))
 pub loop-rest-init : goal.loop-rest-init
 loop-rest-init g c = (omega arith, before_none g.R.Reader.step (g.R.Reader.state c.args.reader.now) (contents c.args.text.now))
 
-pub returns-in-Err-clause-err : goal.returns-in-Err-clause-err
-returns-in-Err-clause-err g c = λ free.
+pub returns-in_err-line-clause-err : goal.returns-in_err-line-clause-err
+returns-in_err-line-clause-err g c =
+    let refusal = c.in_err-line.field-0.0 in
     let e : contents c.loop-rest.rest.now ≡ c.without_comment.result.now ∷ contents c.first_line.result.1.now = contents_more c.loop-rest.rest.now c.first_line.result.0.now c.first_line.result.1.now c.without_comment.result.now c.first_line.ensures.value c.without_comment.ensures in
-    subst (StopsAt g.R.Reader.step 1 (g.R.Reader.state c.args.reader.now) (contents c.args.text.now) c.in-Err.refusal) (sym (c.in-Err.ensures.left free))
-    (before_stop g.R.Reader.step (g.R.Reader.state c.args.reader.now) (g.R.Reader.state c.loop-rest.reader) (contents c.args.text.now) (contents c.loop-rest.rest.now) (contents c.first_line.result.1.now) c.loop-rest.number c.without_comment.result.now c.in-Err.refusal
-    e (c.in-Err.ensures.err free) c.loop-rest.invariant.1)
+    let stops : StopsBy g.R.Reader.is_memory g.R.Reader.step (g.R.Reader.state c.args.reader.now) c.args.text.now refusal (g.R.Reader.state c.line.new.self) = λ free.
+    subst (StopsAt g.R.Reader.step 1 (g.R.Reader.state c.args.reader.now) (contents c.args.text.now) refusal) (sym (c.in_err-line.ensures.left free))
+    (before_stop g.R.Reader.step (g.R.Reader.state c.args.reader.now) (g.R.Reader.state c.loop-rest.reader) (contents c.args.text.now) (contents c.loop-rest.rest.now) (contents c.first_line.result.1.now) c.loop-rest.number c.without_comment.result.now refusal
+    e (c.in_err-line.ensures.err free) c.loop-rest.invariant.1) in
+    search (rules, stops)
 
 pub loop-rest-preserved : goal.loop-rest-preserved
 loop-rest-preserved g c =
@@ -31,7 +34,7 @@ loop-rest-preserved g c =
     let i = c.loop-rest.invariant.0 in (
       omega (arith, less, i),
       before_more g.R.Reader.step (g.R.Reader.state c.args.reader.now) (g.R.Reader.state c.loop-rest.reader) (g.R.Reader.state c.line.new.self) (contents c.args.text.now) (contents c.loop-rest.rest.now) (contents c.first_line.result.1.now) c.loop-rest.number c.without_comment.result.now
-          e c.in-Ok.ensures.ok c.loop-rest.invariant.1,
+          e c.in_ok-line.ensures.ok c.loop-rest.invariant.1,
     )
 
 pub returns-clause-ok : goal.returns-clause-ok
