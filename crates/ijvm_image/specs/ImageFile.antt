@@ -1,11 +1,11 @@
 -- The image file: a magic word, then the pool's block and the text's block in either order. A block is its origin, its size in bytes
 -- and its bytes. A word has its most significant byte first.
-use Rattle.std.specs.Prelude.{◌≡◌, ◌⊎◌, ◌&&◌, ◌||◌, not, ℕ, ◌+◌, ◌*◌, ◌/◌, ◌%◌, Bool, if◌then◌else◌, nat_lt, nat_le, ◌==◌, List, [], ◌∷◌, ◌++◌, length, slice_index, Option, Some, None}
+use Rattle.std.specs.Prelude.{◌≡◌, ◌⊎◌, ◌&&◌, ◌||◌, not, ℕ, ◌+◌, ◌*◌, ◌/◌, ◌%◌, Bool, if◌then◌else◌, nat_lt, nat_le, ◌==◌, List, [], ◌∷◌, ◌++◌, length, slice_index, Option, Some, None, Result, Ok, Err}
 use Rattle.std.specs.List.{flat_map}
 use Rattle.ijvm_image.specs.declared.image.ImageError.{ImageError}
 use Rattle.ijvm_image.specs.declared.image.ImageError.TheVariants as errors
 use Rattle.ijvm_instr.specs.Instructions.{two_bytes}
-use Rattle.ijvm_image.specs.Image.{ImageView}
+use Rattle.ijvm_image.specs.Image.{ImageView, IsWithinLimits}
 
 abbrev pub magic : ℕ
 magic = 0x1DEADFAD
@@ -89,3 +89,18 @@ first_refusal (row ∷ rows) = if row.0 then Some row.1 else first_refusal rows
 -- the file is refused so
 abbrev pub IsRefused : List ℕ → ImageError → Type 0
 IsRefused file e = first_refusal (refusals file) ≡ Some e
+
+-- ---- a file says one thing
+
+-- the file is that of at most one image within the limits
+abbrev pub IsOfOneImage : List ℕ → Type 0
+IsOfOneImage file = (p q : ImageView) → IsWithinLimits p.text p.pool → IsWithinLimits q.text q.pool → IsFileOf file p → IsFileOf file q → p ≡ q
+
+-- the file of such an image is not refused
+abbrev pub IsNeverBoth : List ℕ → Type 0
+IsNeverBoth file = (p : ImageView) (e : ImageError) → IsWithinLimits p.text p.pool → IsFileOf file p → IsRefused file e → ⊥
+
+-- the answer is the image within the limits of which this is the file, unless memory ran out
+abbrev pub ReadsImage : List ℕ → Result ImageView ImageError → Type 0
+ReadsImage file answer = (image : ImageView) → IsWithinLimits image.text image.pool → IsFileOf file image →
+    (answer ≡ Ok image) ⊎ (answer ≡ Err errors.OutOfMemory)

@@ -2,7 +2,7 @@
 
 ghost use Rattle.std.specs.Prelude.{◌≡◌, ◌⊎◌, ◌+◌, ◌*◌, ◌≤◌, ◌<◌, length, IfOk, IfErr, Ok, Err, Some, None};
 ghost use Rattle.ijvm_image.specs.Image.{ImageView, IsWithinLimits};
-ghost use Rattle.ijvm_image.specs.ImageFile.{half_at, word_at, is_origin, is_size, IsFileOf, IsRefused};
+ghost use Rattle.ijvm_image.specs.ImageFile.{half_at, word_at, is_origin, is_size, IsFileOf, IsRefused, ReadsImage};
 ghost use Rattle.ijvm_image.specs.Reading.{field, block_from, block_at, words_at, image_of, image_read, IsWithin};
 ghost use Rattle.ijvm_image.specs.declared.image.ImageError.TheVariants.{OutOfMemory};
 
@@ -141,7 +141,7 @@ fn read_file(alloc: Global, bytes: &[u8]) -> Result<Image, ImageError>
 /// Reads an image file, whose blocks stand in either order.
 pub fn read_image(alloc: Global, bytes: &[u8]) -> Result<Image, ImageError>
     ensures ok { IfOk result (λ image. IsFileOf bytes.now image) }
-    ensures reads { (image : ImageView) → IsWithinLimits image.text image.pool → IsFileOf bytes.now image → (result ≡ Ok image) ⊎ (result ≡ Err OutOfMemory) }
+    ensures reads { ReadsImage bytes.now result }
     ensures err { IfErr result (λ e. (e ≡ OutOfMemory) ⊎ IsRefused bytes.now e) }
 {
     read_file(alloc, bytes)

@@ -10,3 +10,6 @@ pub record UnitView : Type 0 where
   pub locals : List (List ℕ)
   pub lines : List CodeLine
   pub labels : List Label
+
+abbrev pub unit_of : Option (List ℕ) → List (List ℕ) → List (List ℕ) → List CodeLine → List Label → UnitView
+unit_of name parameters locals lines labels = record { name = name; parameters = parameters; locals = locals; lines = lines; labels = labels }

@@ -1,6 +1,7 @@
 //! The units of a program.
 
 ghost use Rattle.std.specs.Prelude.{◌≡◌, option_copied};
+ghost use Rattle.ijvm_program.specs.Unit.{unit_of};
 
 use crate::line::{CodeLine, Label};
 use mic_base::Name;
@@ -33,7 +34,7 @@ impl Unit {
         lines: Vec<CodeLine>,
         labels: Vec<Label>,
     ) -> Unit
-        ensures { result ≡ record { name = name; parameters = parameters.items; locals = locals.items; lines = lines.items; labels = labels.items } }
+        ensures { result ≡ unit_of name parameters.items locals.items lines.items labels.items }
     {
         Unit {
             name,

@@ -14,7 +14,7 @@ use Rattle.mal_line.specs.declared.next.Next.TheVariants as nexts
 use Rattle.mal_line.specs.Targets.{by_targets}
 use Rattle.mal_print.specs.Pieces.{printed}
 use Rattle.mal_print.specs.StatementText.{fallback, fix, HasLabels, labelled, statement}
-use Rattle.mal_print.specs.Lines.{IsLineOf}
+use Rattle.mal_print.specs.Lines.{IsLineOf, FallbacksAreReadBack, FixesAreReadBack, StatementsAreReadBack}
 use Rattle.mal_parser.specs.declared.statement.Statement.{Statement}
 use Rattle.mal_parser.specs.Program.{HasTargets, IsFallback, IsLabelled, IsMalProgram, label_at, MalView}
 use Rattle.mal_parser.specs.ProgramText.{by_labels, canonical_lines, default_line, fix_line, labelled_line}
@@ -95,9 +95,9 @@ each_at P (x ∷ xs) h = (h zero x refl, each_at P xs (λ i y e. h (suc i) y e))
 
 -- a canonical line spells what it was printed from, as its printer says by a law
 pub record LinesSpell : Type 0 where
-  pub statements : (m : Machine) (label : Option (List ℕ)) (p : Parts) → IsTrue (is_part m p.part) → IfSome label IsLabelText → HasLabels p.next → IsLineOf m (printed (statement m label p.part (labelled p.next))) (said.Statement label p)
-  pub fallbacks : (m : Machine) (p : Parts) → IsTrue (is_part m p.part) → HasLabels p.next → IsLineOf m (printed (fallback m p.part (labelled p.next))) (said.Fallback p)
-  pub fixes : (m : Machine) (label : List ℕ) (address : ℕ) → IsLabelText label → address < 512 → IsLineOf m (printed (fix label address)) (said.Fix label (pos address))
+  pub statements : StatementsAreReadBack
+  pub fallbacks : FallbacksAreReadBack
+  pub fixes : FixesAreReadBack
 
 module _ (laws : LinesSpell) (p : MalView) (h : IsMalProgram p) where
   label_text : (i : ℕ) (label : List ℕ) → label_at p.statements i ≡ Some label → IsLabelText label

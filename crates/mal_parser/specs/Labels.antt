@@ -50,3 +50,7 @@ AreNumbers ds map = (label : List ℕ) → get (slice_cmp nat_cmp) map label ≡
 -- the number kept for a label, where one more has this number
 abbrev pub with_number : Option (List ℕ) → ℕ → List ℕ → Option ℕ → Option ℕ
 with_number own number label kept = if is_label label own then Some number else kept
+
+-- the label, where there is one, has this number now, and the others have theirs
+abbrev pub IsNumbered : Option (List ℕ) → ℕ → BTreeMap (List ℕ) ℕ → BTreeMap (List ℕ) ℕ → Type 0
+IsNumbered own number old new = (label : List ℕ) → get (slice_cmp nat_cmp) new label ≡ with_number own number label (get (slice_cmp nat_cmp) old label)

@@ -15,6 +15,9 @@ pub record MalView : Type 0 where
   pub fallback : Option Statement
   pub entry : ℕ
 
+abbrev pub program_of : Machine → List Statement → Option Statement → ℕ → MalView
+program_of machine statements fallback entry = record { machine = machine; statements = statements; fallback = fallback; entry = entry }
+
 -- the label of the statement with this number
 abbrev pub label_at : List Statement → ℕ → Option (List ℕ)
 label_at statements s = option_and_then (λ t. t.label) (slice_get statements s)

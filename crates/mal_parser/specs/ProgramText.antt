@@ -71,8 +71,22 @@ fix_line s = option_and_then (λ label. option_map (λ address. printed (fix lab
 abbrev pub default_line : MalView → Statement → List ℕ
 default_line p s = printed (fallback p.machine s.part (next_by_labels p s))
 
+-- the `.label` line of the statement with this number, where it has one
+abbrev pub fix_lines_at : MalView → ℕ → List (List ℕ)
+fix_lines_at p s = option_to_list (option_and_then fix_line (slice_get p.statements s))
+
+abbrev pub fix_lines : MalView → List (List ℕ)
+fix_lines p = filter_map fix_line p.statements
+
+-- the `.default` line, where there is one
+abbrev pub default_lines : MalView → List (List ℕ)
+default_lines p = option_to_list (option_map (default_line p) p.fallback)
+
+abbrev pub statement_lines : MalView → List (List ℕ)
+statement_lines p = map (labelled_line p) p.statements
+
 abbrev pub canonical_lines : MalView → List (List ℕ)
-canonical_lines p = filter_map fix_line p.statements ++ (option_to_list (option_map (default_line p) p.fallback) ++ map (labelled_line p) p.statements)
+canonical_lines p = fix_lines p ++ (default_lines p ++ statement_lines p)
 
 -- each line with a newline behind it
 abbrev pub text_of : List (List ℕ) → List ℕ

@@ -4,7 +4,7 @@ ghost use Rattle.std.specs.Prelude.{◌≡◌, ◌++◌, ◌∷◌, [], ℕ, Lis
 ghost use Rattle.std.specs.Ordering.{nat_cmp};
 ghost use Rattle.std.specs.Cmp.Lexicographic.{slice_cmp};
 ghost use Rattle.std.specs.BTreeMap.{get, IsUnchanged};
-ghost use Rattle.mal_parser.specs.Labels.{has_label, has_name, with_number};
+ghost use Rattle.mal_parser.specs.Labels.{has_label, has_name, IsNumbered};
 ghost use Rattle.mal_parser.specs.Reading.{number_of};
 
 use crate::source::Draft;
@@ -40,7 +40,7 @@ fn add_number(
     label: &Option<Name>,
     number: usize,
 ) -> Result<(), AllocError>
-    ensures ok { OnOk result ((q : List ℕ) → get (slice_cmp nat_cmp) numbers.new q ≡ with_number label.now number q (get (slice_cmp nat_cmp) numbers.old q)) }
+    ensures ok { OnOk result (IsNumbered label.now number numbers.old numbers.new) }
     ensures left { OnErr result (IsUnchanged numbers.old numbers.new) }
 {
     if let Some(label) = label {

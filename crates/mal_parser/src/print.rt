@@ -1,10 +1,9 @@
 //! From a program to its canonical text.
 
-ghost use Rattle.std.specs.Prelude.{◌≡◌, ◌≤◌, ◌<◌, ◌+◌, ◌++◌, ◌∷◌, [], length, map, slice_get, option_map, option_and_then, option_to_list, IsSome, IsTrue, Some, IfOk, OnOk};
-ghost use Rattle.std.specs.List.{filter_map};
+ghost use Rattle.std.specs.Prelude.{◌≡◌, ◌≤◌, ◌<◌, ◌+◌, ◌++◌, ◌∷◌, [], length, slice_get, option_map, IsSome, IsTrue, Some, IfOk, OnOk};
 ghost use Rattle.micro_word.specs.Words.{is_next, is_valid};
 ghost use Rattle.mal_parser.specs.Program.{HasTargets, IsLabelled, IsMalProgram};
-ghost use Rattle.mal_parser.specs.ProgramText.{by_addresses, by_label, by_labels, canonical_text, default_line, fallback_text, fix_line, labelled_line, parts_text, placed_text, relined, statement_text, text_of};
+ghost use Rattle.mal_parser.specs.ProgramText.{by_addresses, by_label, by_labels, canonical_text, fallback_text, parts_text, placed_text, relined, statement_text, text_of, default_lines, fix_lines, fix_lines_at, statement_lines};
 ghost use Rattle.mal_parser.specs.Text.{SpellsProgram};
 
 use crate::laws::canonical_text_spells_its_program;
@@ -117,7 +116,7 @@ fn end_line(line: &Line, text: &mut Vec<u8>) -> Result<(), AllocError>
 
 fn add_fix(program: &MalProgram, s: u16, text: &mut Vec<u8>) -> Result<(), AllocError>
     requires { s < length program.now.statements }
-    ensures { OnOk result (text.new.items ≡ text.old.items ++ text_of (option_to_list (option_and_then fix_line (slice_get program.now.statements s)))) }
+    ensures { OnOk result (text.new.items ≡ text.old.items ++ text_of (fix_lines_at program.now s)) }
 {
     let statement = program.held(s);
     let Some(address) = statement.fixed else {
@@ -132,7 +131,7 @@ fn add_fix(program: &MalProgram, s: u16, text: &mut Vec<u8>) -> Result<(), Alloc
 }
 
 fn add_fixes(program: &MalProgram, text: &mut Vec<u8>) -> Result<(), AllocError>
-    ensures { OnOk result (text.new.items ≡ text.old.items ++ text_of (filter_map fix_line program.now.statements)) }
+    ensures { OnOk result (text.new.items ≡ text.old.items ++ text_of (fix_lines program.now)) }
 {
     for s in 0..program.len() {
         add_fix(program, s, text)?;
@@ -141,7 +140,7 @@ fn add_fixes(program: &MalProgram, text: &mut Vec<u8>) -> Result<(), AllocError>
 }
 
 fn add_default(program: &MalProgram, text: &mut Vec<u8>) -> Result<(), AllocError>
-    ensures { OnOk result (text.new.items ≡ text.old.items ++ text_of (option_to_list (option_map (default_line program.now) program.now.fallback))) }
+    ensures { OnOk result (text.new.items ≡ text.old.items ++ text_of (default_lines program.now)) }
 {
     if let Some(statement) = program.held_fallback() {
         let next = by_labels(program, statement.next);
@@ -153,7 +152,7 @@ fn add_default(program: &MalProgram, text: &mut Vec<u8>) -> Result<(), AllocErro
 }
 
 fn add_statements(program: &MalProgram, text: &mut Vec<u8>) -> Result<(), AllocError>
-    ensures text { OnOk result (text.new.items ≡ text.old.items ++ text_of (map (labelled_line program.now) program.now.statements)) }
+    ensures text { OnOk result (text.new.items ≡ text.old.items ++ text_of (statement_lines program.now)) }
     ensures program { IsMalProgram program.now }
 {
     for s in 0..program.len() {

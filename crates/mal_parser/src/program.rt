@@ -1,7 +1,7 @@
 //! A microprogram as it is read: statements that lead by numbers, not yet placed; its type keeps that each may stand there.
 
 ghost use Rattle.std.specs.Prelude.{◌≡◌, ◌<◌, length, slice_get, option_copied, IfSome, Some};
-ghost use Rattle.mal_parser.specs.Program.{IsFallback, IsMalProgram, IsStatement};
+ghost use Rattle.mal_parser.specs.Program.{IsFallback, IsMalProgram, IsStatement, program_of};
 
 use crate::statement::Statement;
 use micro_word::Machine;
@@ -33,8 +33,8 @@ impl MalProgram {
         fallback: Option<Statement>,
         entry: u16,
     ) -> MalProgram
-        requires { IsMalProgram (record { machine = machine; statements = statements.items; fallback = fallback; entry = entry }) }
-        ensures { result ≡ record { machine = machine; statements = statements.items; fallback = fallback; entry = entry } }
+        requires { IsMalProgram (program_of machine statements.items fallback entry) }
+        ensures { result ≡ program_of machine statements.items fallback entry }
     {
         MalProgram {
             machine,
