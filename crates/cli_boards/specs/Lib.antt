@@ -5,3 +5,4 @@ pub mod Traced
 pub mod Profiled
 pub mod OwnRun
 pub mod Cached
+pub mod Commands

@@ -10,6 +10,10 @@ use Rattle.cli_outside.specs.Work.{IsHad, IsNotHad}
 use Rattle.mal_shipped.specs.Listing.{listed_program}
 use Rattle.cli_micro.specs.Answers.{IsRefusedText}
 
+-- nothing is had of a file that should have one
+abbrev pub HasNoMicroprogram : Machine → List ℕ → OutsideView → OutsideView → ℕ → Type 0
+HasNoMicroprogram machine = IsNotHad (IsRefusedText machine)
+
 -- where a file is named it is that file's, and else the one that ships for the machine
 abbrev pub IsChosenMicroprogram : Machine → Option (List ℕ) → OutsideView → MalView → Type 0
 IsChosenMicroprogram machine None o micro = micro ≡ listed_program machine
@@ -18,4 +22,4 @@ IsChosenMicroprogram machine (Some name) o micro = IsHad (SpellsProgram machine)
 -- nothing is had of the file, or memory is wanting for the one that ships
 abbrev pub NoneChosen : Machine → Option (List ℕ) → OutsideView → OutsideView → ℕ → Type 0
 NoneChosen machine None = TellsOnErr out_of_memory exits.memory
-NoneChosen machine (Some name) = IsNotHad (IsRefusedText machine) name
+NoneChosen machine (Some name) = HasNoMicroprogram machine name

@@ -5,9 +5,10 @@ use Rattle.console_port.specs.declared.map.MemoryMap.{MemoryMap}
 use Rattle.verifier_facts.specs.Accepted.{VerifiedView}
 use Rattle.mal_parser.specs.Program.{MalView}
 use Rattle.cli_outside.specs.Outside.{OutsideView}
-use Rattle.cli_outside.specs.Work.{IsHad, IsNotHad}
-use Rattle.cli_programs.specs.Program.{IsAcceptedProgram, IsRefusedProgram}
+use Rattle.cli_outside.specs.Work.{IsHad}
+use Rattle.cli_programs.specs.Program.{HasNoProgram, IsAcceptedProgram}
 use Rattle.cli_boards.specs.Own.{IsChosenMicroprogram, NoneChosen}
+use Rattle.cli_boards.specs.declared.preparing.Prepared.{Prepared}
 
 module _ (machine : Machine) (map : MemoryMap) where
   -- both are had
@@ -15,9 +16,12 @@ module _ (machine : Machine) (map : MemoryMap) where
     pub had : IsHad (IsAcceptedProgram map) file o program
     pub chosen : IsChosenMicroprogram machine own o micro
 
+  abbrev pub HasPrepared : List ℕ → Option (List ℕ) → OutsideView → Prepared → Type 0
+  HasPrepared file own o prepared = IsPrepared file own o prepared.micro.program prepared.program
+
   -- one is not, and it is told why: the program's file is looked at first, then the microprogram's
   pub data IsUnprepared (file : List ℕ) (own : Option (List ℕ)) (old new : OutsideView) (status : ℕ) : Type 0 where
-    NoProgram : IsNotHad (IsRefusedProgram map) file old new status → IsUnprepared file own old new status
+    NoProgram : HasNoProgram map file old new status → IsUnprepared file own old new status
     NoMicroprogram : (program : VerifiedView) → IsHad (IsAcceptedProgram map) file old program → NoneChosen machine own old new status →
         IsUnprepared file own old new status
 

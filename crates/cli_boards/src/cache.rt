@@ -1,9 +1,9 @@
 //! The run of an accepted program with a cache beside it.
 
 ghost use Rattle.std.specs.Prelude.{◌≡◌, ◌≤◌, ◌<◌, ◌%◌, ◌^◌, IfOk, length};
-ghost use Rattle.cli_outside.specs.Outside.{Over};
 ghost use Rattle.cli_watchers.specs.Cached.{kept_in, start_kept};
 ghost use Rattle.cli_boards.specs.Cached.{IsCached};
+ghost use Rattle.cli_boards.specs.Runs.{OverPrepared};
 
 use crate::microprogram::Microprogram;
 use crate::preparing::Prepared;
@@ -62,7 +62,7 @@ pub fn cache_program<M: Clocked + Drop, F: Files, S: Source, K: Sink, E: Sink>(
     requires machine { prepared.micro.program.machine ≡ M.meaning.machine }
     requires lines { (0 < lines) × (lines ≤ 4096) }
     requires bound { bound ≤ 2 ^ 61 }
-    ensures { Over (IsCached M.state M.meaning lines bound prepared.micro.program prepared.program) outside.old outside.new result.0 }
+    ensures { OverPrepared (IsCached M.state M.meaning lines bound) prepared outside.old outside.new result.0 }
 {
     let Prepared { program, micro } = prepared;
     let Microprogram { loaded, .. } = micro;

@@ -1,11 +1,10 @@
 //! Which microprogram a command clocks: a person's own file, or the one that ships.
 
-ghost use Rattle.std.specs.Prelude.{◌≡◌, IfOk, IfErr, OnOk, option_map};
+ghost use Rattle.std.specs.Prelude.{◌≡◌, IfOk, OnOk};
 ghost use Rattle.mal_parser.specs.Text.{SpellsProgram};
-ghost use Rattle.cli_outside.specs.Outside.{Over};
-ghost use Rattle.cli_outside.specs.Work.{IsHad, IsNotHad};
-ghost use Rattle.cli_micro.specs.Answers.{IsRefusedText};
-ghost use Rattle.cli_boards.specs.Own.{IsChosenMicroprogram, NoneChosen};
+ghost use Rattle.cli_outside.specs.Outside.{name_in};
+ghost use Rattle.cli_outside.specs.Work.{IsHad, OverIfErr};
+ghost use Rattle.cli_boards.specs.Own.{HasNoMicroprogram, IsChosenMicroprogram, NoneChosen};
 
 use crate::microprogram::{Microprogram, placed_microprogram, shipped_microprogram};
 use cli_outside::{Outside, Status};
@@ -23,12 +22,9 @@ fn own_microprogram<F: Files, S: Source, K: Sink, E: Sink>(
     ensures had { IfOk result (λ micro. IsHad (SpellsProgram machine) name.now outside.old.seen micro.program) }
     ensures machine { IfOk result (λ micro. micro.program.machine ≡ machine) }
     ensures same { OnOk result (outside.new ≡ outside.old) }
-    ensures not_had { IfErr result (λ status. Over (IsNotHad (IsRefusedText machine) name.now) outside.old outside.new status.0) }
+    ensures not_had { OverIfErr (HasNoMicroprogram machine name.now) outside.old outside.new result }
 {
-    let bytes = match outside.read(alloc, name) {
-        Ok(bytes) => bytes,
-        Err(status) => return Err(status),
-    };
+    let bytes = outside.read(alloc, name)?;
     match placed_microprogram(alloc, machine, &bytes) {
         Ok(micro) => Ok(micro),
         Err(refusal) => Err(outside.refuse(name, refusal)),
@@ -42,10 +38,10 @@ pub(crate) fn chosen_microprogram<F: Files, S: Source, K: Sink, E: Sink>(
     own: Option<&str>,
     outside: &mut Outside<'_, F, S, K, E>,
 ) -> Result<Microprogram, Status>
-    ensures chosen { IfOk result (λ micro. IsChosenMicroprogram machine (option_map (λ name. name.now) own.entry) outside.old.seen micro.program) }
+    ensures chosen { IfOk result (λ m. IsChosenMicroprogram machine (name_in own.entry) outside.old.seen m.program) }
     ensures machine { IfOk result (λ micro. micro.program.machine ≡ machine) }
     ensures same { OnOk result (outside.new ≡ outside.old) }
-    ensures none { IfErr result (λ status. Over (NoneChosen machine (option_map (λ name. name.now) own.entry)) outside.old outside.new status.0) }
+    ensures none { OverIfErr (NoneChosen machine (name_in own.entry)) outside.old outside.new result }
 {
     match own {
         Some(name) => own_microprogram(alloc, machine, name, outside),

@@ -1,13 +1,8 @@
 //! The commands, from the files that they read to their status.
 
-ghost use Rattle.std.specs.Prelude.{◌≤◌, ◌<◌, ◌^◌, None, option_map};
+ghost use Rattle.std.specs.Prelude.{◌≤◌, ◌<◌, ◌^◌};
 ghost use Rattle.console_port.specs.Map.{IsMap};
-ghost use Rattle.cli_outside.specs.Outside.{Over};
-ghost use Rattle.cli_boards.specs.Cached.{IsCached};
-ghost use Rattle.cli_boards.specs.OwnRun.{IsOwnRun};
-ghost use Rattle.cli_boards.specs.Prepared.{EndsPrepared};
-ghost use Rattle.cli_boards.specs.Profiled.{IsProfiled};
-ghost use Rattle.cli_boards.specs.Traced.{IsTraced};
+ghost use Rattle.cli_boards.specs.Commands.{CachesOver, ProfilesOver, RunsOver, TracesOver};
 
 use crate::cache::cache_program;
 use crate::preparing::prepare;
@@ -33,8 +28,7 @@ pub fn trace_file<M: Clocked + Drop, F: Files, S: Source, K: Sink, E: Sink>(
 ) -> Status
     requires bound { bound ≤ 2 ^ 62 }
     requires map { IsMap map.stack_end }
-    ensures { Over (EndsPrepared M.meaning.machine map (IsTraced M.state M.meaning bound buses) file.now (option_map (λ name. name.now) own.entry))
-        outside.old outside.new result.0 }
+    ensures { TracesOver M.state M.meaning map bound buses file.now own.entry outside.old outside.new result.0 }
 {
     match prepare(alloc, machine.machine(), file, own, map, outside) {
         Ok(prepared) => trace_program(alloc, machine, prepared, bound, buses, outside),
@@ -54,8 +48,7 @@ pub fn profile_file<M: Clocked + Drop, F: Files, S: Source, K: Sink, E: Sink>(
 ) -> Status
     requires bound { bound ≤ 2 ^ 62 }
     requires map { IsMap map.stack_end }
-    ensures { Over (EndsPrepared M.meaning.machine map (IsProfiled M.state M.meaning bound) file.now (option_map (λ name. name.now) own.entry))
-        outside.old outside.new result.0 }
+    ensures { ProfilesOver M.state M.meaning map bound file.now own.entry outside.old outside.new result.0 }
 {
     match prepare(alloc, machine.machine(), file, own, map, outside) {
         Ok(prepared) => profile_program(alloc, machine, prepared, bound, outside),
@@ -76,7 +69,7 @@ pub fn cache_file<M: Clocked + Drop, F: Files, S: Source, K: Sink, E: Sink>(
     requires lines { (0 < lines) × (lines ≤ 4096) }
     requires bound { bound ≤ 2 ^ 61 }
     requires map { IsMap map.stack_end }
-    ensures { Over (EndsPrepared M.meaning.machine map (IsCached M.state M.meaning lines bound) file.now None) outside.old outside.new result.0 }
+    ensures { CachesOver M.state M.meaning map bound lines file.now outside.old outside.new result.0 }
 {
     match prepare(alloc, machine.machine(), file, None, map, outside) {
         Ok(prepared) => cache_program(alloc, machine, prepared, lines, bound, outside),
@@ -96,8 +89,7 @@ pub fn run_own_file<M: Clocked + Drop, F: Files, S: Source, K: Sink, E: Sink>(
 ) -> Status
     requires bound { bound ≤ 2 ^ 62 }
     requires map { IsMap map.stack_end }
-    ensures { Over (EndsPrepared M.meaning.machine map (IsOwnRun M.state M.meaning bound) file.now (option_map (λ name. name.now) own.entry))
-        outside.old outside.new result.0 }
+    ensures { RunsOver M.state M.meaning map bound file.now own.entry outside.old outside.new result.0 }
 {
     match prepare(alloc, machine.machine(), file, own, map, outside) {
         Ok(prepared) => run_program(alloc, machine, prepared, bound, outside),

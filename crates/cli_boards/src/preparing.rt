@@ -1,9 +1,10 @@
 //! What a command clocks, from the files that it reads.
 
-ghost use Rattle.std.specs.Prelude.{◌≡◌, IfOk, IfErr, OnOk, option_map};
+ghost use Rattle.std.specs.Prelude.{◌≡◌, IfOk, OnOk};
 ghost use Rattle.console_port.specs.Map.{IsMap};
-ghost use Rattle.cli_outside.specs.Outside.{Over};
-ghost use Rattle.cli_boards.specs.Prepared.{IsPrepared, IsUnprepared};
+ghost use Rattle.cli_outside.specs.Outside.{name_in};
+ghost use Rattle.cli_outside.specs.Work.{OverIfErr};
+ghost use Rattle.cli_boards.specs.Prepared.{HasPrepared, IsUnprepared};
 
 use crate::choice::chosen_microprogram;
 use crate::microprogram::Microprogram;
@@ -32,19 +33,12 @@ pub fn prepare<F: Files, S: Source, K: Sink, E: Sink>(
     outside: &mut Outside<'_, F, S, K, E>,
 ) -> Result<Prepared, Status>
     requires { IsMap map.stack_end }
-    ensures prepared { IfOk result (λ p. IsPrepared machine map file.now (option_map (λ name. name.now) own.entry) outside.old.seen
-        p.micro.program p.program) }
+    ensures prepared { IfOk result (HasPrepared machine map file.now (name_in own.entry) outside.old.seen) }
     ensures machine { IfOk result (λ p. p.micro.program.machine ≡ machine) }
     ensures same { OnOk result (outside.new ≡ outside.old) }
-    ensures unprepared { IfErr result (λ status. Over (IsUnprepared machine map file.now (option_map (λ name. name.now) own.entry))
-        outside.old outside.new status.0) }
+    ensures unprepared { OverIfErr (IsUnprepared machine map file.now (name_in own.entry)) outside.old outside.new result }
 {
-    let program = match program_in_file(alloc, file, map, outside) {
-        Ok(program) => program,
-        Err(status) => return Err(status),
-    };
-    match chosen_microprogram(alloc, machine, own, outside) {
-        Ok(micro) => Ok(Prepared { program, micro }),
-        Err(status) => Err(status),
-    }
+    let program = program_in_file(alloc, file, map, outside)?;
+    let micro = chosen_microprogram(alloc, machine, own, outside)?;
+    Ok(Prepared { program, micro })
 }

@@ -1,8 +1,8 @@
 //! The profile of an accepted program's run.
 
 ghost use Rattle.std.specs.Prelude.{◌≡◌, ◌≤◌, ◌^◌};
-ghost use Rattle.cli_outside.specs.Outside.{Over};
 ghost use Rattle.cli_boards.specs.Profiled.{IsProfiled};
+ghost use Rattle.cli_boards.specs.Runs.{OverPrepared};
 
 use crate::microprogram::Microprogram;
 use crate::preparing::Prepared;
@@ -26,7 +26,7 @@ pub fn profile_program<M: Clocked + Drop, F: Files, S: Source, K: Sink, E: Sink>
 ) -> Status
     requires machine { prepared.micro.program.machine ≡ M.meaning.machine }
     requires bound { bound ≤ 2 ^ 62 }
-    ensures { Over (IsProfiled M.state M.meaning bound prepared.micro.program prepared.program) outside.old outside.new result.0 }
+    ensures { OverPrepared (IsProfiled M.state M.meaning bound) prepared outside.old outside.new result.0 }
 {
     let Prepared { program, micro } = prepared;
     let Microprogram { loaded, .. } = micro;

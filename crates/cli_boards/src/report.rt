@@ -1,11 +1,6 @@
 //! The report of a run that a command clocked.
 
-ghost use Rattle.std.specs.Prelude.{◌++◌, ℕ, List};
-ghost use Rattle.mic_base.specs.Causes.{HasCause};
-ghost use Rattle.mic_base.specs.Streams.{Puts};
-ghost use Rattle.cli_outside.specs.Outside.{Says, SinkState, sink_of};
-ghost use Rattle.cli_run_texts.specs.Ends.{status_of};
-ghost use Rattle.cli_boards.specs.Runs.{report_on};
+ghost use Rattle.cli_boards.specs.Runs.{ReportsBehind, SaysBehind};
 
 use cli_outside::{Status, say};
 use cli_run_texts::{clocked_report, status_of};
@@ -19,8 +14,7 @@ pub(crate) fn say_behind<E: Sink>(
     code: Status,
     err: &mut E,
 ) -> Status
-    ensures { (old : SinkState) (before : List ℕ) → Puts old.held before said (E.held err.old) → HasCause old.faults (E.faults err.old) said →
-        Says old (sink_of E.held E.passed E.faults err.new) (before ++ text.now) code.0 result.0 }
+    ensures { SaysBehind E.held E.passed E.faults said err.old err.new text.now code.0 result.0 }
 {
     match said {
         Ok(()) => say(err, text, code),
@@ -35,8 +29,7 @@ pub(crate) fn report_behind<M: Clocked, E: Sink>(
     board: &Board<M>,
     err: &mut E,
 ) -> Status
-    ensures { (old : SinkState) (text : List ℕ) → Puts old.held text said (E.held err.old) → HasCause old.faults (E.faults err.old) said →
-        Says old (sink_of E.held E.passed E.faults err.new) (text ++ report_on M.state M.meaning end board.now) (status_of end) result.0 }
+    ensures { ReportsBehind M.state M.meaning E.held E.passed E.faults said end board.now err.old err.new result.0 }
 {
     match said {
         Ok(()) => {

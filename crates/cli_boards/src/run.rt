@@ -1,8 +1,8 @@
 //! The run of an accepted program by a microprogram.
 
 ghost use Rattle.std.specs.Prelude.{◌≡◌, ◌≤◌, ◌^◌};
-ghost use Rattle.cli_outside.specs.Outside.{Over};
 ghost use Rattle.cli_boards.specs.OwnRun.{IsOwnRun};
+ghost use Rattle.cli_boards.specs.Runs.{OverPrepared};
 
 use crate::microprogram::Microprogram;
 use crate::preparing::Prepared;
@@ -24,7 +24,7 @@ pub fn run_program<M: Clocked + Drop, F: Files, S: Source, K: Sink, E: Sink>(
 ) -> Status
     requires machine { prepared.micro.program.machine ≡ M.meaning.machine }
     requires bound { bound ≤ 2 ^ 62 }
-    ensures { Over (IsOwnRun M.state M.meaning bound prepared.micro.program prepared.program) outside.old outside.new result.0 }
+    ensures { OverPrepared (IsOwnRun M.state M.meaning bound) prepared outside.old outside.new result.0 }
 {
     let Prepared { program, micro } = prepared;
     let Microprogram { loaded, .. } = micro;

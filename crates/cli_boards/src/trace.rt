@@ -1,8 +1,8 @@
 //! The trace of an accepted program's run.
 
 ghost use Rattle.std.specs.Prelude.{◌≡◌, ◌≤◌, ◌^◌};
-ghost use Rattle.cli_outside.specs.Outside.{Over};
 ghost use Rattle.cli_boards.specs.Traced.{IsTraced};
+ghost use Rattle.cli_boards.specs.Runs.{OverPrepared};
 
 use crate::microprogram::Microprogram;
 use crate::preparing::Prepared;
@@ -27,7 +27,7 @@ pub fn trace_program<M: Clocked + Drop, F: Files, S: Source, K: Sink, E: Sink>(
 ) -> Status
     requires machine { prepared.micro.program.machine ≡ M.meaning.machine }
     requires bound { bound ≤ 2 ^ 62 }
-    ensures { Over (IsTraced M.state M.meaning bound buses prepared.micro.program prepared.program) outside.old outside.new result.0 }
+    ensures { OverPrepared (IsTraced M.state M.meaning bound buses) prepared outside.old outside.new result.0 }
 {
     let Prepared { program, micro } = prepared;
     let Microprogram {

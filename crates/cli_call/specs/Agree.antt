@@ -2,6 +2,10 @@
 -- of their reports. That `run` agrees on two machines: the same output, status, end and number of instructions.
 use Rattle.std.specs.Prelude.{◌≡◌, ◌≢◌, ◌⊎◌, ℕ, List, ◌++◌, Some, codes}
 use Rattle.mic_base.specs.Causes.{Rose}
+use Rattle.mic_base.specs.Files.{Contents}
+use Rattle.mic_words.specs.declared.machine.Machine.{Machine}
+use Rattle.mic_words.specs.declared.machine.Machine.TheVariants.{Mic1, Mic2}
+use Rattle.console_port.specs.declared.map.MemoryMap.{MemoryMap}
 use Rattle.mic_clock.specs.declared.counts.Counts.{Counts}
 use Rattle.mic_clock.specs.declared.end.End.{End}
 use Rattle.mic_clock.specs.declared.registers.Registers.{Registers}
@@ -10,6 +14,8 @@ use Rattle.cli_outside.specs.Status as exits
 use Rattle.cli_outside.specs.Outside.{Got, OutsideView}
 use Rattle.mic_clock.specs.State.{state_line}
 use Rattle.cli_run_texts.specs.Report.{plain_head, report as report_of}
+use Rattle.cli_words.specs.Words.{Reference, Run}
+use Rattle.cli_call.specs.CallEnds.{CallEnds}
 
 -- a call met no fault of its files and its streams, and was not out of memory
 pub record IsQuiet (old new : OutsideView) (status : ℕ) : Type 0 where
@@ -47,3 +53,20 @@ pub record CallsEndAlike (old one other : OutsideView) (status status' : ℕ) : 
 pub data CallsAgree (Agree : Type 0) (status status' : ℕ) : Type 0 where
   NoneHad : status ≡ status' → (status ≡ exits.refused) ⊎ (status ≡ exits.too_long) → CallsAgree Agree status status'
   BothRan : Agree → CallsAgree Agree status status'
+
+-- Both commands over one file, console and map: where no fault comes and neither is out of memory they agree.
+abbrev pub RunIsAsReference : Machine → List ℕ → MemoryMap → ℕ → Type 0
+RunIsAsReference machine file map bound =
+    (input : List ℕ) (contents : Contents) (old ran told : OutsideView) (status status' : ℕ) →
+    old.console.left ≡ Some input → old.files.contents ≡ Some contents →
+    CallEnds (Some (Run file machine bound map)) old ran status → CallEnds (Some (Reference file machine bound map)) old told status' →
+    IsQuiet old ran status → IsQuiet old told status' → CallsAgree (Agrees old ran told status status') status status'
+
+-- `run` on both machines: where besides neither meets its bound they end alike.
+abbrev pub RunsEndAlike : List ℕ → MemoryMap → ℕ → ℕ → Type 0
+RunsEndAlike file map bound bound' =
+    (input : List ℕ) (contents : Contents) (old one other : OutsideView) (status status' : ℕ) →
+    old.console.left ≡ Some input → old.files.contents ≡ Some contents →
+    CallEnds (Some (Run file Mic1 bound map)) old one status → CallEnds (Some (Run file Mic2 bound' map)) old other status' →
+    IsQuiet old one status → IsQuiet old other status' → status ≢ exits.bound → status' ≢ exits.bound →
+    CallsAgree (CallsEndAlike old one other status status') status status'

@@ -6,6 +6,7 @@ use Rattle.cli_words.specs.Words.{Asked, Assemble, ListOf, Verify, Run, RunPipel
 use Rattle.cli_outside.specs.Status as exits
 use Rattle.cli_outside.specs.Outside.{OutsideView}
 use Rattle.cli_outside.specs.Work.{IsFileRead}
+use Rattle.cli_call.specs.CallEnds.{CallEnds}
 
 -- the words have this file read
 abbrev pub HasFileRead : Option Asked → List ℕ → Type 0
@@ -96,3 +97,7 @@ pub data IsAnswer (asks : Option Asked) (old new : OutsideView) (status : ℕ) :
   -- 75: before the first cycle of a run, and before anything was printed; or later, by the definition's run
   NoMemory : IsUntouched old new → status ≡ exits.memory → IsAnswer asks old new status
   ShortOfMemory : IsReference asks → status ≡ exits.memory → IsAnswer asks old new status
+
+-- a call that ends so ends with one of these answers
+abbrev pub HasItsCause : Option Asked → OutsideView → OutsideView → ℕ → Type 0
+HasItsCause asks old new status = CallEnds asks old new status → IsAnswer asks old new status

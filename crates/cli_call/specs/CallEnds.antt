@@ -17,7 +17,7 @@ use Rattle.mal_shipped.specs.Shipped.{HasShipped}
 use Rattle.cli_words.specs.Words.{Asked, Assemble, ListOf, Verify, Run, RunPipeline, RunOwn, Trace, Profile, Debug, Reference, Micro, PrintMicro, Soak, Cache, Rewind, Compile, Tiny}
 use Rattle.cli_outside.specs.Status as exits
 use Rattle.cli_outside.specs.Messages.{out_of_memory}
-use Rattle.cli_outside.specs.Outside.{OutsideView, PrintsOnOut, TellsOnErr}
+use Rattle.cli_outside.specs.Outside.{LentView, Over, OutsideView, PrintsOnOut, TellsOnErr}
 use Rattle.cli_outside.specs.Work.{PrintsTextOf}
 use Rattle.cli_program_texts.specs.Listing.{Lists}
 use Rattle.cli_program_texts.specs.Summary.{Summarizes}
@@ -83,6 +83,10 @@ EndsAs (Some (Cache file lines bound map)) = EndsPrepared Mic1 map (IsCached mic
 EndsAs (Some (Rewind file machine input depth map)) = EndsOnMachine machine (Rewind file machine input depth map)
 EndsAs (Some (Compile tiny image)) = Compiles image tiny
 EndsAs (Some (Tiny tiny machine bound)) = EndsOnMachine machine (Tiny tiny machine bound)
+
+-- what is asked for is done to an outside that is lent
+abbrev pub DoesAsked : Asked → LentView → LentView → ℕ → Type 0
+DoesAsked asked = Over (EndsAs (Some asked))
 
 -- memory is wanting before anything is done, or the call ends as its words ask
 pub data CallEnds (asks : Option Asked) (old new : OutsideView) (status : ℕ) : Type 0 where

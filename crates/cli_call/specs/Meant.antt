@@ -1,11 +1,14 @@
 -- That `tiny` does what the program of its text means: what its calls come to, in the words of that meaning.
-use Rattle.std.specs.Prelude.{◌≡◌, ◌⊎◌, ℕ, List, ◌++◌, Some, IfSome}
-use Rattle.mic_base.specs.Files.{Contents, file_in}
+use Rattle.std.specs.Prelude.{◌≡◌, ◌≤◌, ◌⊎◌, ℕ, List, ◌++◌, Some, IfSome, length}
+use Rattle.mic_base.specs.Files.{Contents, file_in, most_bytes}
 use Rattle.mic_words.specs.declared.machine.Machine.{Machine}
 use Rattle.ijvm_simulation.specs.Headline.{told_of}
 use Rattle.tiny_tree.specs.Tree.{Program}
 use Rattle.tiny_tree.specs.Meaning.{Ended, meaning}
 use Rattle.tiny_runs.specs.AsMeant.{IsPrefix, output}
+use Rattle.tiny_parser.specs.Texts.{Spells}
+use Rattle.tiny_compiler.specs.Compiled.{IsCompiled}
+use Rattle.verifier_facts.specs.Accepted.{VerifiedView}
 use Rattle.cli_outside.specs.Status as exits
 use Rattle.cli_outside.specs.Outside.{OutsideView}
 use Rattle.cli_words.specs.Words.{Tiny}
@@ -57,3 +60,9 @@ pub record CallsAreAsMeant (text : List ℕ) (program : Program) (input : List �
   -- and each output of the program is come to with some bound
   pub reaches : (n : ℕ) → SomeBound (IsTinyCall text input machine)
       (λ old new status. (given : List ℕ) × IsPrefix (output (meaning program input n)) given × HasGot old new given)
+
+-- whatever program a text spells and whatever image it compiles to, on each machine
+abbrev pub TinyIsAsMeant : List ℕ → List ℕ → Type 0
+TinyIsAsMeant text input =
+    (program : Program) (v : VerifiedView) (machine : Machine) → length text ≤ most_bytes → Spells text program → IsCompiled text v →
+    CallsAreAsMeant text program input machine

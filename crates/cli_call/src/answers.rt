@@ -4,7 +4,7 @@ ghost use Rattle.std.specs.Prelude.{ℕ, Option, map, string_bytes};
 ghost use Rattle.cli_words.specs.Words.{Asked, request_of};
 ghost use Rattle.cli_outside.specs.Outside.{OutsideView, files_of, outside_view, sink_of, source_of};
 ghost use Rattle.cli_call.specs.CallEnds.{CallEnds};
-ghost use Rattle.cli_call.specs.Answers.{IsAnswer};
+ghost use Rattle.cli_call.specs.Answers.{HasItsCause, IsAnswer};
 
 use crate::top_call::answer_words;
 use cli_outside::{Outside, Status, close};
@@ -16,7 +16,7 @@ use std::alloc::Global;
 
 /// Each status that a call ends with has its cause, and no other comes.
 pub fn each_answer_has_its_cause()
-    ensures { (asks : Option Asked) (old new : OutsideView) (status : ℕ) → CallEnds asks old new status → IsAnswer asks old new status }
+    ensures { (asks : Option Asked) (old new : OutsideView) (status : ℕ) → HasItsCause asks old new status }
 {
     loaded_programs_are_shipped();
     shipped_runs_end_as_defined::<Mic1Interpreter>();

@@ -1,10 +1,9 @@
 //! `mic cache`: a program runs on Mic-1 with a data cache.
 
-ghost use Rattle.std.specs.Prelude.{◌≤◌, Some};
+ghost use Rattle.std.specs.Prelude.{◌≤◌};
 ghost use Rattle.console_port.specs.Map.{IsMap};
 ghost use Rattle.cli_words.specs.Words.{Cache, IsLineCount, most_cycles};
-ghost use Rattle.cli_outside.specs.Outside.{Over};
-ghost use Rattle.cli_call.specs.CallEnds.{EndsAs};
+ghost use Rattle.cli_call.specs.CallEnds.{DoesAsked};
 
 use cli_boards::cache_file;
 use cli_outside::{Outside, Status};
@@ -26,7 +25,7 @@ pub(crate) fn run_cached<F: Files, S: Source, K: Sink, E: Sink>(
     requires lines { IsLineCount lines }
     requires bound { bound ≤ most_cycles }
     requires map { IsMap map.stack_end }
-    ensures { Over (EndsAs (Some (Cache file.now lines bound map))) outside.old outside.new result.0 }
+    ensures { DoesAsked (Cache file.now lines bound map) outside.old outside.new result.0 }
 {
     cache_file(
         alloc,

@@ -1,10 +1,10 @@
 //! A program that is run, on the machine and in the mode that are named.
 
-ghost use Rattle.std.specs.Prelude.{◌≤◌, ◌^◌, Some};
+ghost use Rattle.std.specs.Prelude.{◌≤◌, ◌^◌};
 ghost use Rattle.console_port.specs.Map.{IsMap};
 ghost use Rattle.cli_words.specs.Words.{asked_run};
 ghost use Rattle.cli_outside.specs.Outside.{Over};
-ghost use Rattle.cli_call.specs.CallEnds.{EndsAs, EndsOn};
+ghost use Rattle.cli_call.specs.CallEnds.{DoesAsked, EndsOn};
 
 use crate::run::run_file;
 use cli_boards::{profile_file, run_own_file, trace_file};
@@ -27,7 +27,7 @@ pub(crate) fn run_job<F: Files, S: Source, K: Sink, E: Sink>(
 ) -> Status
     requires bound { job.bound ≤ 2 ^ 62 }
     requires map { IsMap job.map.stack_end }
-    ensures { Over (EndsAs (Some (asked_run job.entry mode.entry))) outside.old outside.new result.0 }
+    ensures { DoesAsked (asked_run job.entry mode.entry) outside.old outside.new result.0 }
 {
     match job.machine {
         Machine::Mic1 => run_on::<Mic1Interpreter, F, S, K, E>(alloc, job, mode, outside),

@@ -1,23 +1,13 @@
 //! What holds between two commands.
 
-ghost use Rattle.std.specs.Prelude.{◌≡◌, ◌≢◌, ◌≤◌, ℕ, List, Some, length};
-ghost use Rattle.mic_base.specs.Files.{Contents, most_bytes};
+ghost use Rattle.std.specs.Prelude.{ℕ, List};
 ghost use Rattle.mic_words.specs.declared.machine.Machine.{Machine};
-ghost use Rattle.mic_words.specs.declared.machine.Machine.TheVariants.{Mic1, Mic2};
 ghost use Rattle.console_port.specs.declared.map.MemoryMap.{MemoryMap};
 ghost use Rattle.mic1_datapath.specs.Mic1.{mic1_meaning};
 ghost use Rattle.mic2_datapath.specs.Mic2.{mic2_meaning};
-ghost use Rattle.verifier_facts.specs.Accepted.{VerifiedView};
-ghost use Rattle.tiny_tree.specs.Tree.{Program};
-ghost use Rattle.tiny_parser.specs.Texts.{Spells};
-ghost use Rattle.tiny_compiler.specs.Compiled.{IsCompiled};
 ghost use Rattle.cli_session.specs.Giving.{OnlyGives};
-ghost use Rattle.cli_outside.specs.Status as exits;
-ghost use Rattle.cli_outside.specs.Outside.{OutsideView};
-ghost use Rattle.cli_words.specs.Words.{Reference, Run};
-ghost use Rattle.cli_call.specs.CallEnds.{CallEnds};
-ghost use Rattle.cli_call.specs.Agree.{Agrees, CallsAgree, CallsEndAlike, IsQuiet};
-ghost use Rattle.cli_call.specs.Meant.{CallsAreAsMeant};
+ghost use Rattle.cli_call.specs.Agree.{RunIsAsReference, RunsEndAlike};
+ghost use Rattle.cli_call.specs.Meant.{TinyIsAsMeant};
 
 use cli_programs::a_file_has_one_program;
 use ijvm_meaning::runs_end_once;
@@ -28,11 +18,7 @@ use tiny_compiler::{compiled_programs_run_as_meant, texts_compile_to_one_program
 /// Two calls over one file, `run` and `reference`, on the same machine and map, with the same bound and input, agree
 /// where no fault comes and neither is out of memory.
 pub fn run_agrees_with_reference()
-    ensures { (machine : Machine) (file : List ℕ) (map : MemoryMap) (bound : ℕ) (input : List ℕ)
-        (contents : Contents) (old ran told : OutsideView) (status status' : ℕ) →
-        old.console.left ≡ Some input → old.files.contents ≡ Some contents →
-        CallEnds (Some (Run file machine bound map)) old ran status → CallEnds (Some (Reference file machine bound map)) old told status' →
-        IsQuiet old ran status → IsQuiet old told status' → CallsAgree (Agrees old ran told status status') status status' }
+    ensures { (machine : Machine) (file : List ℕ) (map : MemoryMap) (bound : ℕ) → RunIsAsReference machine file map bound }
 {
     runs_end_once();
     a_file_has_one_program();
@@ -41,11 +27,7 @@ pub fn run_agrees_with_reference()
 /// Two calls of `run` over one file, on Mic-1 and on Mic-2, with the same map and input, give the same output and the
 /// same end where no fault comes, neither is out of memory and neither meets its bound.
 pub fn run_agrees_on_both_machines()
-    ensures { (file : List ℕ) (map : MemoryMap) (bound bound' : ℕ) (input : List ℕ) (contents : Contents) (old one other : OutsideView) (status status' : ℕ) →
-        old.console.left ≡ Some input → old.files.contents ≡ Some contents →
-        CallEnds (Some (Run file Mic1 bound map)) old one status → CallEnds (Some (Run file Mic2 bound' map)) old other status' →
-        IsQuiet old one status → IsQuiet old other status' → status ≢ exits.bound → status' ≢ exits.bound →
-        CallsAgree (CallsEndAlike old one other status status') status status' }
+    ensures { (file : List ℕ) (map : MemoryMap) (bound bound' : ℕ) → RunsEndAlike file map bound bound' }
 {
     interpreters_agree::<Mic1Interpreter, Mic2Interpreter>();
     a_file_has_one_program();
@@ -53,8 +35,7 @@ pub fn run_agrees_on_both_machines()
 
 /// Calls of `tiny` over a file whose text compiles do what its program means, where no fault comes and none is out of memory.
 pub fn tiny_does_what_is_meant()
-    ensures { (text input : List ℕ) (program : Program) (v : VerifiedView) (machine : Machine) → length text ≤ most_bytes →
-        Spells text program → IsCompiled text v → CallsAreAsMeant text program input machine }
+    ensures { (text input : List ℕ) → TinyIsAsMeant text input }
 {
     compiled_programs_run_as_meant();
     texts_compile_to_one_program();

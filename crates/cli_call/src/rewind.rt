@@ -1,10 +1,9 @@
 //! `rewind`, on the machine that is named.
 
-ghost use Rattle.std.specs.Prelude.{Some, option_map};
 ghost use Rattle.console_port.specs.Map.{IsMap};
 ghost use Rattle.cli_words.specs.Words.{IsDepth, Rewind};
-ghost use Rattle.cli_outside.specs.Outside.{Over};
-ghost use Rattle.cli_call.specs.CallEnds.{EndsAs};
+ghost use Rattle.cli_outside.specs.Outside.{name_in};
+ghost use Rattle.cli_call.specs.CallEnds.{DoesAsked};
 
 use cli_outside::{Outside, Status};
 use cli_rewind::rewind_file;
@@ -27,7 +26,7 @@ pub(crate) fn rewind_on<F: Files, S: Source, K: Sink, E: Sink>(
 ) -> Status
     requires depth { IsDepth depth }
     requires map { IsMap map.stack_end }
-    ensures { Over (EndsAs (Some (Rewind file.now machine (option_map (λ name. name.now) input.entry) depth map))) outside.old outside.new result.0 }
+    ensures { DoesAsked (Rewind file.now machine (name_in input.entry) depth map) outside.old outside.new result.0 }
 {
     match machine {
         Machine::Mic1 => {

@@ -1,9 +1,8 @@
 //! `soak`, on the machine that is named.
 
-ghost use Rattle.std.specs.Prelude.{◌≤◌, Some};
+ghost use Rattle.std.specs.Prelude.{◌≤◌};
 ghost use Rattle.cli_words.specs.Words.{Soak};
-ghost use Rattle.cli_outside.specs.Outside.{Over};
-ghost use Rattle.cli_call.specs.CallEnds.{EndsAs};
+ghost use Rattle.cli_call.specs.CallEnds.{DoesAsked};
 
 use cli_outside::{Outside, Status};
 use cli_soak::soak;
@@ -21,7 +20,7 @@ pub(crate) fn soak_on<F: Files, S: Source, K: Sink, E: Sink>(
     outside: &mut Outside<'_, F, S, K, E>,
 ) -> Status
     requires { size ≤ 9000 }
-    ensures { Over (EndsAs (Some (Soak seed size machine))) outside.old outside.new result.0 }
+    ensures { DoesAsked (Soak seed size machine) outside.old outside.new result.0 }
 {
     match machine {
         Machine::Mic1 => soak::<Mic1Interpreter, F, S, K, E>(alloc, seed, size, outside),

@@ -1,10 +1,10 @@
 //! `tiny`: the program of a Tiny text, clocked on the machine that is named with the microprogram that ships for it.
 
-ghost use Rattle.std.specs.Prelude.{◌≤◌, ◌^◌, Some};
+ghost use Rattle.std.specs.Prelude.{◌≤◌, ◌^◌};
 ghost use Rattle.cli_words.specs.Words.{Tiny, most_cycles};
 ghost use Rattle.cli_outside.specs.Outside.{Over};
 ghost use Rattle.cli_tiny.specs.Answers.{EndsOverTiny};
-ghost use Rattle.cli_call.specs.CallEnds.{EndsAs};
+ghost use Rattle.cli_call.specs.CallEnds.{DoesAsked};
 ghost use Rattle.cli_call.specs.ClockedEnd.{ClockedEnd};
 
 use crate::run::run_program;
@@ -25,7 +25,7 @@ pub(crate) fn tiny_on<F: Files, S: Source, K: Sink, E: Sink>(
     outside: &mut Outside<'_, F, S, K, E>,
 ) -> Status
     requires { bound ≤ most_cycles }
-    ensures { Over (EndsAs (Some (Tiny tiny.now machine bound))) outside.old outside.new result.0 }
+    ensures { DoesAsked (Tiny tiny.now machine bound) outside.old outside.new result.0 }
 {
     match machine {
         Machine::Mic1 => run_tiny::<Mic1Interpreter, F, S, K, E>(alloc, tiny, bound, outside),

@@ -43,7 +43,7 @@ fn answer_request<F: Files, S: Source, K: Sink, E: Sink>(
     outside: &mut Outside<'_, F, S, K, E>,
 ) -> Status
     requires { HasLimits request }
-    ensures { Over (EndsAs (Some (asked request.entry))) outside.old outside.new result.0 }
+    ensures { DoesAsked (asked request.entry) outside.old outside.new result.0 }
 {
     match request {
         Request::Assemble { source, image } => assemble_file(alloc, source, image, outside),

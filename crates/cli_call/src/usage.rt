@@ -2,7 +2,7 @@
 
 ghost use Rattle.cli_call.specs.Usage.{usage_text};
 ghost use Rattle.cli_outside.specs.Status as exits;
-ghost use Rattle.cli_outside.specs.Outside.{Says, sink_of};
+ghost use Rattle.cli_outside.specs.Outside.{SaysTo};
 
 use cli_outside::{Status, say};
 use mic_base::Sink;
@@ -26,7 +26,7 @@ const USAGE: &[u8] = b"usage: mic assemble SOURCE IMAGE
 
 /// Says how `mic` is called.
 pub fn misused<E: Sink>(err: &mut E) -> Status
-    ensures { Says (sink_of E.held E.passed E.faults err.old) (sink_of E.held E.passed E.faults err.new) usage_text exits.usage result.0 }
+    ensures { SaysTo E.held E.passed E.faults err.old err.new usage_text exits.usage result.0 }
 {
     say(err, USAGE, Status::USAGE)
 }

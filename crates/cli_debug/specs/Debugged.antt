@@ -1,7 +1,10 @@
 -- How debugging an accepted program ends: what the lines of the console print, and the report; or less, where a fault stopped it.
-use Rattle.std.specs.Prelude.{◌≡◌, ℕ, List, [], None, IfSome}
+use Rattle.std.specs.Prelude.{◌≡◌, ℕ, List, [], Option, None, IfSome}
+use Rattle.std.specs.Borrow.{Bor}
 use Rattle.mic_base.specs.Causes.{Rose}
+use Rattle.console_port.specs.declared.map.MemoryMap.{MemoryMap}
 use Rattle.mic_clock.specs.Meaning.{Meaning}
+use Rattle.mic_clock.specs.View.{BoardView}
 use Rattle.verifier_facts.specs.Accepted.{VerifiedView}
 use Rattle.mal_parser.specs.Program.{MalView}
 use Rattle.mal_shipped.specs.declared.loaded.Loaded.{Loaded}
@@ -9,18 +12,25 @@ use Rattle.mic_debugger.specs.Obeys.{session_at}
 use Rattle.mic_debugger.specs.View.{SessionView, listing_of}
 use Rattle.cli_outside.specs.Status as exits
 use Rattle.cli_outside.specs.Messages.{out_of_memory}
-use Rattle.cli_outside.specs.Outside.{OutsideView, TellsOnErr}
+use Rattle.cli_outside.specs.Outside.{LentView, Over, OutsideView, TellsOnErr, name_in}
 use Rattle.cli_run_texts.specs.Report.{left_report}
+use Rattle.cli_boards.specs.Prepared.{EndsPrepared}
 use Rattle.cli_boards.specs.Runs.{IsFirstBoard}
+use Rattle.cli_boards.specs.declared.preparing.Prepared.{Prepared}
+use Rattle.cli_session.specs.Input.{EndsWithInput}
 use Rattle.cli_session.specs.Lines.{IsCutIn, IsNext, IsReadOut, most_lines}
 use Rattle.cli_session.specs.Meaning.{Gone, IsCutShort, Place, place}
 use Rattle.cli_debug.specs.Stand.{is_quit}
 use Rattle.cli_debug.specs.Debugging.{DebuggingView, debugging, debugging_view}
 
 module _ {M State : Type 0} (state : M → State) (m : Meaning State) where
-  -- the report of where a session's board stands
+  -- the report of where a board stands that is left
+  abbrev pub left_report_on : BoardView M → List ℕ
+  left_report_on board = left_report board.end board.counts (m.registers (state board.machine))
+
+  -- that of a session's board
   abbrev pub report_in : SessionView M → List ℕ
-  report_in v = left_report v.board.end v.board.counts (m.registers (state v.board.machine))
+  report_in v = left_report_on v.board
 
   -- a session over an accepted program at its reset, before its first line
   pub record IsStart (bound : ℕ) (micro : MalView) (l : Loaded) (program : VerifiedView) (v : SessionView M) : Type 0 where
@@ -49,3 +59,11 @@ module _ {M State : Type 0} (state : M → State) (m : Meaning State) where
         IfSome old.console.left (λ bytes. IsNext (is_quit program.map.stack_end) most_lines bytes lines line) →
         IsCutShort (debugging state m) line mid new → new.console.faults ≡ old.console.faults → status ≡ exits.sink →
         IsDebugged bound micro program input old new status
+
+  -- an outside that is lent comes to this: of a program and a microprogram that are prepared, and from the files that have both and the input
+  abbrev pub DebugsPrepared : ℕ → Prepared → List ℕ → LentView → LentView → ℕ → Type 0
+  DebugsPrepared bound prepared input = Over (IsDebugged bound prepared.micro.program prepared.program input)
+
+  abbrev pub DebugsOver : MemoryMap → ℕ → List ℕ → Option (Bor (List ℕ)) → Option (Bor (List ℕ)) → LentView → LentView → ℕ → Type 0
+  DebugsOver map bound file own input =
+      Over (EndsPrepared m.machine map (λ micro program. EndsWithInput (IsDebugged bound micro program) (name_in input)) file (name_in own))

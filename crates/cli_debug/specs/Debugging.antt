@@ -1,10 +1,13 @@
 -- What the lines of a debugging session mean.
-use Rattle.std.specs.Prelude.{◌≡◌, ℕ, List, Some}
+use Rattle.std.specs.Prelude.{◌≡◌, ℕ, List, [], ◌∷◌, Some}
+use Rattle.mic_base.specs.Plain.{plain_left}
+use Rattle.mic_base.specs.declared.plain.source.PlainSource.{PlainSource}
 use Rattle.mic_clock.specs.Meaning.{Meaning}
 use Rattle.mic_debugger.specs.Book.{IsBookOf}
 use Rattle.mic_debugger.specs.Stand.{Does, Rules, Stand, StandsAt, rules_of}
 use Rattle.mic_debugger.specs.View.{SessionView}
-use Rattle.cli_session.specs.Meaning.{SessionMeaning}
+use Rattle.cli_outside.specs.Outside.{LentView}
+use Rattle.cli_session.specs.Meaning.{Gone, IsCutShort, Place, SessionMeaning, place}
 use Rattle.cli_debug.specs.Stand.{IsBrokenOff, is_quit}
 
 -- a session, and what its input has left
@@ -26,3 +29,16 @@ debugging state m =
       Does = Does m;
       IsBrokenOff = IsBrokenOff m;
     }
+
+-- a session, its input, and an outside that is lent, as a place
+abbrev pub place_at : {M : Type 0} → SessionView M → PlainSource → LentView → Place (DebuggingView M)
+place_at session input outside = place (debugging_view session (plain_left input)) outside.seen
+
+module _ {M State : Type 0} (state : M → State) (m : Meaning State) (line : List ℕ) where
+  -- the line was done whole, or `out` or `err` failed in it
+  abbrev pub HasGone : SessionView M → PlainSource → LentView → SessionView M → PlainSource → LentView → Type 0
+  HasGone session input outside session' input' outside' =
+      Gone (debugging state m) (line ∷ []) (place_at session input outside) (place_at session' input' outside')
+
+  abbrev pub IsCutAt : SessionView M → PlainSource → LentView → LentView → Type 0
+  IsCutAt session input old new = IsCutShort (debugging state m) line (place_at session input old) new.seen

@@ -1,11 +1,8 @@
 //! The command, from the files that it reads to its status.
 
-ghost use Rattle.std.specs.Prelude.{◌≤◌, ◌^◌, option_map};
+ghost use Rattle.std.specs.Prelude.{◌≤◌, ◌^◌};
 ghost use Rattle.console_port.specs.Map.{IsMap};
-ghost use Rattle.cli_outside.specs.Outside.{Over};
-ghost use Rattle.cli_boards.specs.Prepared.{EndsPrepared};
-ghost use Rattle.cli_debug.specs.Debugged.{IsDebugged};
-ghost use Rattle.cli_session.specs.Input.{EndsWithInput};
+ghost use Rattle.cli_debug.specs.Debugged.{DebugsOver};
 
 use crate::debug::debug_program;
 use cli_boards::prepare;
@@ -29,9 +26,7 @@ pub fn debug_file<M: Clocked + Drop, F: Files, S: Source, K: Sink, E: Sink>(
 ) -> Status
     requires bound { bound ≤ 2 ^ 62 }
     requires map { IsMap map.stack_end }
-    ensures { Over (EndsPrepared M.meaning.machine map
-        (λ micro program. EndsWithInput (IsDebugged M.state M.meaning bound micro program) (option_map (λ name. name.now) input.entry))
-        file.now (option_map (λ name. name.now) own.entry)) outside.old outside.new result.0 }
+    ensures { DebugsOver M.state M.meaning map bound file.now own.entry input.entry outside.old outside.new result.0 }
 {
     let prepared = match prepare(alloc, machine.machine(), file, own, map, outside) {
         Ok(prepared) => prepared,

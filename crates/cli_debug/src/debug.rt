@@ -2,8 +2,7 @@
 
 ghost use Rattle.std.specs.Prelude.{◌≡◌, ◌≤◌, ◌^◌, IfOk};
 ghost use Rattle.cli_outside.specs.Outside.{Over, TellsOnErr};
-ghost use Rattle.cli_run_texts.specs.Report.{left_report};
-ghost use Rattle.cli_debug.specs.Debugged.{IsDebugged, IsStart};
+ghost use Rattle.cli_debug.specs.Debugged.{DebugsPrepared, IsStart, left_report_on};
 
 use crate::debugging::Debugging;
 use cli_boards::{Microprogram, Prepared};
@@ -54,7 +53,7 @@ pub fn debug_program<M: Clocked + Drop, F: Files, S: Source, K: Sink, E: Sink>(
 ) -> Status
     requires machine { prepared.micro.program.machine ≡ M.meaning.machine }
     requires bound { bound ≤ 2 ^ 62 }
-    ensures { Over (IsDebugged M.state M.meaning bound prepared.micro.program prepared.program input.items) outside.old outside.new result.0 }
+    ensures { DebugsPrepared M.state M.meaning bound prepared input.items outside.old outside.new result.0 }
 {
     let session = match begun(alloc, machine, prepared, bound) {
         Ok(session) => session,
@@ -75,8 +74,7 @@ fn report<M: Clocked, F: Files, S: Source, K: Sink, E: Sink>(
     outside: &mut Outside<'_, F, S, K, E>,
     status: Status,
 ) -> Status
-    ensures { Over (TellsOnErr (left_report board.now.end board.now.counts (M.meaning.registers (M.state board.now.machine))) status.0)
-        outside.old outside.new result.0 }
+    ensures { Over (TellsOnErr (left_report_on M.state M.meaning board.now) status.0) outside.old outside.new result.0 }
 {
     let line = left_report(board.ended(), &board.counts(), &board.registers());
     outside.tell(line.bytes(), status)

@@ -1,9 +1,7 @@
 //! What does the lines of a debugger.
 
-ghost use Rattle.std.specs.Prelude.{◌≡◌, ◌∷◌, [], IfOk, OnOk, OnErr};
-ghost use Rattle.mic_base.specs.Plain.{plain_left};
-ghost use Rattle.cli_session.specs.Meaning.{Gone, IsCutShort, place};
-ghost use Rattle.cli_debug.specs.Debugging.{debugging, debugging_view};
+ghost use Rattle.std.specs.Prelude.{◌≡◌, IfOk, OnOk, OnErr};
+ghost use Rattle.cli_debug.specs.Debugging.{HasGone, IsCutAt};
 ghost use Rattle.cli_debug.specs.Stand.{is_quit, is_quit_reply};
 
 use cli_outside::Outside;
@@ -36,11 +34,8 @@ fn answer_line<M: Clocked, F: Files, S: Source, K: Sink, E: Sink>(
     outside: &mut Outside<'_, F, S, K, E>,
 ) -> Result<Reply, SessionFault>
     ensures quits { IfOk result (λ reply. is_quit_reply reply ≡ is_quit session.old.listing.memory line.now) }
-    ensures done { OnOk result (Gone (debugging M.state M.meaning) (line.now ∷ [])
-        (place (debugging_view session.old (plain_left input.old)) outside.old.seen)
-        (place (debugging_view session.new (plain_left input.new)) outside.new.seen)) }
-    ensures broken { OnErr result (IsCutShort (debugging M.state M.meaning) line.now
-        (place (debugging_view session.old (plain_left input.old)) outside.old.seen) outside.new.seen) }
+    ensures done { OnOk result (HasGone M.state M.meaning line.now session.old input.old outside.old session.new input.new outside.new) }
+    ensures broken { OnErr result (IsCutAt M.state M.meaning line.now session.old input.old outside.old outside.new) }
     ensures console { outside.new.seen.console ≡ outside.old.seen.console }
     ensures names { outside.new.names ≡ outside.old.names }
 {

@@ -29,12 +29,15 @@ mal_reason mal.OutOfMemory = None
 abbrev pub line_at : List Statement → ℕ → ℕ
 line_at statements s = unwrap_or (option_map (λ t. t.line) (slice_get statements s)) 0
 
+-- of two statements on these lines
+abbrev pub of_two_lines : ℕ → ℕ → List ℕ
+of_two_lines first second = of_file (codes "lines " ++ decimal first ++ codes " and " ++ decimal second ++ codes " are forced to one address")
+
 -- a program that has no placement
 abbrev pub place_reason : List Statement → PlaceError → List ℕ
 place_reason statements (place.PairClash s) = of_line (line_at statements s) (codes "stands in two pairs")
 place_reason statements (place.FixedWrongHalf s) = of_line (line_at statements s) (codes "fixed in the wrong half")
-place_reason statements (place.FixedClash s t) =
-    of_file (codes "lines " ++ decimal (line_at statements s) ++ codes " and " ++ decimal (line_at statements t) ++ codes " are forced to one address")
+place_reason statements (place.FixedClash s t) = of_two_lines (line_at statements s) (line_at statements t)
 place_reason statements place.NoRoom = of_file (codes "no room for the pairs")
 
 -- bytes that are no store file; want of memory is no refusal

@@ -35,6 +35,9 @@ counts_line program =
 abbrev pub statement_lines : MalView → List ℕ → ControlStore → List (List ℕ)
 statement_lines program addresses s = map (statement_line program addresses s) (below (length program.statements))
 
+abbrev pub statements_text : MalView → List ℕ → ControlStore → List ℕ
+statements_text program addresses s = text_of (statement_lines program addresses s)
+
 -- the same, then the counts
 abbrev pub placement_text : MalView → List ℕ → ControlStore → List ℕ
 placement_text program addresses s =

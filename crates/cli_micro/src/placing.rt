@@ -1,12 +1,11 @@
 //! A microprogram is placed: its control store, and what is printed of it.
 
 ghost use Rattle.std.specs.Prelude.{◌≡◌, ◌<◌, ◌^◌, ◌++◌, length, IfOk, IfErr, OnOk};
-ghost use Rattle.mal_parser.specs.ProgramText.{text_of};
 ghost use Rattle.store_placement.specs.Placement.{Places};
 ghost use Rattle.store_placement.specs.Program.{demands_of};
 ghost use Rattle.cli_outside.specs.Work.{IsRefusal};
 ghost use Rattle.cli_micro.specs.Answers.{IsMade, IsRefusedText};
-ghost use Rattle.cli_micro.specs.Texts.{counts_line, placement_text, statement_line, statement_lines};
+ghost use Rattle.cli_micro.specs.Texts.{counts_line, placement_text, statement_line, statements_text};
 
 use crate::lines::{add_line, store_law, word_text};
 use crate::reasons::{mal_reason, number, place_reason};
@@ -58,7 +57,7 @@ fn add_statements(
     store: &Store,
 ) -> Result<(), AllocError>
     requires { Places (demands_of program.now) placement.now }
-    ensures { OnOk result (text.new.items ≡ text.old.items ++ text_of (statement_lines program.now placement.now store.now)) }
+    ensures { OnOk result (text.new.items ≡ text.old.items ++ statements_text program.now placement.now store.now) }
 {
     for s in 0..program.len() {
         add_line(text, &statement_line(program, placement, store, s))?;

@@ -4,7 +4,7 @@ ghost use Rattle.std.specs.Prelude.{◌≡◌, ◌≤◌, ◌<◌, ◌+◌, ◌+
 ghost use Rattle.std.specs.Fmt.{decimal};
 ghost use Rattle.mic_base.specs.Digits.{hex_text};
 ghost use Rattle.cli_outside.specs.Messages.{of_file, of_line};
-ghost use Rattle.cli_micro.specs.Reasons.{line_at, mal_reason, place_reason, store_reason, NamesPlaces, NamesStatements};
+ghost use Rattle.cli_micro.specs.Reasons.{line_at, mal_reason, of_two_lines, place_reason, store_reason, NamesPlaces, NamesStatements};
 
 use mal_parser::{MalError, MalProgram};
 use mic_base::Line;
@@ -70,7 +70,7 @@ fn line_at(program: &MalProgram, s: u16) -> u32
 }
 
 fn of_two_lines(first: u32, second: u32) -> Line
-    ensures { result ≡ of_file (codes "lines " ++ decimal first ++ codes " and " ++ decimal second ++ codes " are forced to one address") }
+    ensures { result ≡ of_two_lines first second }
 {
     let mut line = of_file("lines ");
     number(&mut line, first);

@@ -1,10 +1,10 @@
 -- What a call of `mic` sees of the outside and does to it: files, the console, and the two sinks `out` and `err`.
-use Rattle.std.specs.Prelude.{◌≡◌, ℕ, List, ◌++◌, take, Option}
+use Rattle.std.specs.Prelude.{◌≡◌, ℕ, List, ◌++◌, take, Option, Result}
 use Rattle.std.specs.Option.{option_map}
-use Rattle.std.specs.Borrow.{GName}
+use Rattle.std.specs.Borrow.{Bor, GName, MutBor}
 use Rattle.mic_base.specs.Causes.{Rose}
 use Rattle.mic_base.specs.Files.{Contents}
-use Rattle.mic_base.specs.Streams.{IsFlushed}
+use Rattle.mic_base.specs.Streams.{IsFlushed, Puts}
 use Rattle.cli_outside.specs.Status as exits
 
 -- what a sink holds and what of it it has passed on, where it tells it, and how often it has failed
@@ -43,6 +43,10 @@ source_of left faults s = source_state (left s) (faults s)
 abbrev pub files_of : {F : Type 0} → (F → Option Contents) → (F → ℕ) → F → FilesState
 files_of contents faults f = files_state (contents f) (faults f)
 
+-- the name behind a reference, where one is given
+abbrev pub name_in : Option (Bor (List ℕ)) → Option (List ℕ)
+name_in = option_map (λ name. name.now)
+
 -- all that a call of `mic` sees of the outside
 pub record OutsideView : Type 0 where
   pub files : FilesState
@@ -66,6 +70,10 @@ pub record LenderNames : Type 0 where
 
 abbrev pub lender_names : GName → GName → GName → GName → LenderNames
 lender_names files console out err = record { files = files; console = console; out = out; err = err }
+
+-- those of four references
+abbrev pub names_of : {F S K E : Type 0} → MutBor F → MutBor S → MutBor K → MutBor E → LenderNames
+names_of files console out err = lender_names files.ghost_name console.ghost_name out.ghost_name err.ghost_name
 
 -- what is seen of an outside whose parts are lent, and which references lend them
 pub record LentView : Type 0 where
@@ -93,6 +101,18 @@ GotInPart old text new = (n : ℕ) × (new ≡ option_map (λ held. held ++ take
 pub data Says (old new : SinkState) (text : List ℕ) (code status : ℕ) : Type 0 where
   Said : status ≡ code → Got old.held text new.held → IsFlushed new.held new.passed → new.faults ≡ old.faults → Says old new text code status
   Unsaid : status ≡ exits.sink → GotInPart old.held text new.held → Rose old.faults new.faults → Says old new text code status
+
+-- so does a sink, by what it tells of itself
+abbrev pub SaysTo : {K : Type 0} → (K → Option (List ℕ)) → (K → Option (List ℕ)) → (K → ℕ) → K → K → List ℕ → ℕ → ℕ → Type 0
+SaysTo held passed faults old new = Says (sink_of held passed faults old) (sink_of held passed faults new)
+
+-- A call behind another that has put a text: it puts this piece behind the text, or leaves the text as it was put.
+
+abbrev pub PutsBehind : {E : Type 0} → Result Unit E → Option (List ℕ) → List ℕ → Result Unit E → Option (List ℕ) → Type 0
+PutsBehind said old piece result new = (first : Option (List ℕ)) (text : List ℕ) → Puts first text said old → Puts first (text ++ piece) result new
+
+abbrev pub StaysPut : {E : Type 0} → Result Unit E → Option (List ℕ) → Result Unit E → Option (List ℕ) → Type 0
+StaysPut said old result new = (first : Option (List ℕ)) (text : List ℕ) → Puts first text said old → Puts first text result new
 
 -- The text is put to `out`, or to `err`, and nothing else is done.
 

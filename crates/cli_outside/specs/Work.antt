@@ -1,12 +1,17 @@
 -- How a command ends that reads one file: nothing is had of the file, or this is done over what it holds.
-use Rattle.std.specs.Prelude.{◌≡◌, ◌<◌, ◌≤◌, ℕ, List, length, Option, None, Some, MatchOption, IsSomeAnd}
+use Rattle.std.specs.Prelude.{◌≡◌, ◌<◌, ◌≤◌, ℕ, List, length, Option, None, Some, MatchOption, IsSomeAnd, Result, IfErr}
 use Rattle.mic_base.specs.Causes.{Rose}
 use Rattle.mic_base.specs.Files.{Contents, KeepsOthers, Tells, most_bytes}
 use Rattle.cli_outside.specs.Status as exits
-use Rattle.cli_outside.specs.Outside.{OutsideView, PrintsOnOut, TellsOnErr, with_files}
+use Rattle.cli_outside.specs.Outside.{LentView, Over, OutsideView, PrintsOnOut, TellsOnErr, with_files}
 use Rattle.cli_outside.specs.Messages.{cannot_read, cannot_write, message, out_of_memory, too_many_bytes}
 use Rattle.cli_outside.specs.declared.refusal.Refusal.{Refusal}
+use Rattle.cli_outside.specs.declared.status.Status.{Status}
 use Rattle.cli_outside.specs.declared.refusal.Refusal.TheVariants as refusals
+
+-- where a call answers a status in place of a value, this was done to the outside
+abbrev pub OverIfErr : {T : Type 0} → (OutsideView → OutsideView → ℕ → Type 0) → LentView → LentView → Result T Status → Type 0
+OverIfErr Does old new result = IfErr result (λ status. Over Does old new status.0)
 
 -- every file but this one is as it was
 abbrev pub OthersKept : Option Contents → Option Contents → List ℕ → Type 0

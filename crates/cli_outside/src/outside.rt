@@ -1,10 +1,10 @@
 //! The outside of one call of the program, as one value.
 
-ghost use Rattle.std.specs.Prelude.{◌≡◌, OnOk, IfOk, IfErr};
+ghost use Rattle.std.specs.Prelude.{◌≡◌, OnOk, IfOk};
 ghost use Rattle.cli_outside.specs.Status as exits;
 ghost use Rattle.cli_outside.specs.Messages.{message, out_of_memory};
-ghost use Rattle.cli_outside.specs.Outside.{Over, PrintsOnOut, TellsOnErr, files_of, lender_names, outside_view, sink_of, source_of};
-ghost use Rattle.cli_outside.specs.Work.{IsFileRead, IsUnread, TellsRefusal, WritesThenPrints};
+ghost use Rattle.cli_outside.specs.Outside.{Over, PrintsOnOut, TellsOnErr, files_of, names_of, sink_of, source_of};
+ghost use Rattle.cli_outside.specs.Work.{IsFileRead, IsUnread, OverIfErr, TellsRefusal, WritesThenPrints};
 
 use crate::refusal::Refusal;
 use crate::said::{no_memory, say, say_of};
@@ -34,9 +34,11 @@ impl<'a, F: Files, S: Source, K: Sink, E: Sink> Model for Outside<'a, F, S, K, E
 
 impl<'a, F: Files, S: Source, K: Sink, E: Sink> Outside<'a, F, S, K, E> {
     pub fn new(files: &'a mut F, console: &'a mut S, out: &'a mut K, err: &'a mut E) -> Self
-        ensures names { result.names ≡ lender_names files.entry.ghost_name console.entry.ghost_name out.entry.ghost_name err.entry.ghost_name }
-        ensures seen { result.seen ≡ outside_view (files_of F.contents F.faults files.entry.now) (source_of S.left S.faults console.entry.now)
-            (sink_of K.held K.passed K.faults out.entry.now) (sink_of E.held E.passed E.faults err.entry.now) }
+        ensures names { result.names ≡ names_of files.entry console.entry out.entry err.entry }
+        ensures files { result.seen.files ≡ files_of F.contents F.faults files.entry.now }
+        ensures console { result.seen.console ≡ source_of S.left S.faults console.entry.now }
+        ensures out { result.seen.out ≡ sink_of K.held K.passed K.faults out.entry.now }
+        ensures err { result.seen.err ≡ sink_of E.held E.passed E.faults err.entry.now }
     {
         Outside {
             files,
@@ -48,9 +50,11 @@ impl<'a, F: Files, S: Source, K: Sink, E: Sink> Outside<'a, F, S, K, E> {
 
     /// The parts, which `close` gives back.
     pub fn into_parts(self) -> (&'a mut F, &'a mut S, &'a mut K, &'a mut E)
-        ensures names { self.entry.names ≡ lender_names result.0.ghost_name result.1.ghost_name result.2.ghost_name result.3.ghost_name }
-        ensures seen { self.entry.seen ≡ outside_view (files_of F.contents F.faults result.0.now) (source_of S.left S.faults result.1.now)
-            (sink_of K.held K.passed K.faults result.2.now) (sink_of E.held E.passed E.faults result.3.now) }
+        ensures names { self.entry.names ≡ names_of result.0 result.1 result.2 result.3 }
+        ensures files { self.entry.seen.files ≡ files_of F.contents F.faults result.0.now }
+        ensures console { self.entry.seen.console ≡ source_of S.left S.faults result.1.now }
+        ensures out { self.entry.seen.out ≡ sink_of K.held K.passed K.faults result.2.now }
+        ensures err { self.entry.seen.err ≡ sink_of E.held E.passed E.faults result.3.now }
     {
         let Outside {
             files,
@@ -103,7 +107,7 @@ impl<'a, F: Files, S: Source, K: Sink, E: Sink> Outside<'a, F, S, K, E> {
     pub fn read(&mut self, alloc: Global, file: &str) -> Result<Vec<u8>, Status>
         ensures read { IfOk result (λ bytes. IsFileRead file.now bytes.items self.old.seen) }
         ensures same { OnOk result (self.new ≡ self.old) }
-        ensures unread { IfErr result (λ status. Over (IsUnread file.now) self.old self.new status.0) }
+        ensures unread { OverIfErr (IsUnread file.now) self.old self.new result }
     {
         match self.files.read_file(alloc, file) {
             Ok(bytes) => Ok(bytes),

@@ -1,11 +1,11 @@
 //! Texts that are put to a sink.
 
-ghost use Rattle.std.specs.Prelude.{◌≡◌, ◌++◌, ℕ, List, Option, OnOk};
+ghost use Rattle.std.specs.Prelude.{◌≡◌, ℕ, List, OnOk};
 ghost use Rattle.mic_base.specs.Causes.{HasCause};
-ghost use Rattle.mic_base.specs.Streams.{Holds, IsFlushed, Puts};
+ghost use Rattle.mic_base.specs.Streams.{Holds, IsFlushed};
 ghost use Rattle.cli_outside.specs.Status as exits;
 ghost use Rattle.cli_outside.specs.Messages.{message, out_of_memory};
-ghost use Rattle.cli_outside.specs.Outside.{Says, sink_of};
+ghost use Rattle.cli_outside.specs.Outside.{PutsBehind, SaysTo, StaysPut};
 
 use crate::status::Status;
 use mic_base::{Sink, SinkFailed};
@@ -18,33 +18,28 @@ pub fn put_after<E: Sink>(
     err: &mut E,
     piece: &[u8],
 ) -> Result<(), SinkFailed>
-    ensures puts { (old : Option (List ℕ)) (text : List ℕ) →
-        Puts old text said (E.held err.old) → Puts old (text ++ piece.now) result (E.held err.new) }
+    ensures puts { PutsBehind said (E.held err.old) piece.now result (E.held err.new) }
     ensures keeps { (front : List ℕ) → Holds front (E.held err.old) → Holds front (E.held err.new) }
     ensures passed { E.passed err.new ≡ E.passed err.old }
     ensures cause { (before : ℕ) → HasCause before (E.faults err.old) said → HasCause before (E.faults err.new) result }
 {
-    match said {
-        Ok(()) => err.put(piece),
-        Err(failed) => Err(failed),
-    }
+    said?;
+    err.put(piece)
 }
 
 /// Passes on what was put, unless that failed.
 fn flush_after<E: Sink>(said: Result<(), SinkFailed>, err: &mut E) -> Result<(), SinkFailed>
-    ensures puts { (old : Option (List ℕ)) (text : List ℕ) → Puts old text said (E.held err.old) → Puts old text result (E.held err.new) }
+    ensures puts { StaysPut said (E.held err.old) result (E.held err.new) }
     ensures flushed { OnOk result (IsFlushed (E.held err.new) (E.passed err.new)) }
     ensures cause { (before : ℕ) → HasCause before (E.faults err.old) said → HasCause before (E.faults err.new) result }
 {
-    match said {
-        Ok(()) => err.flush(),
-        Err(failed) => Err(failed),
-    }
+    said?;
+    err.flush()
 }
 
 /// Puts a text to a sink, passes it on, and answers the text's status, or a failed sink's where that failed.
 pub fn say<E: Sink>(err: &mut E, text: &[u8], status: Status) -> Status
-    ensures { Says (sink_of E.held E.passed E.faults err.old) (sink_of E.held E.passed E.faults err.new) text.now status.0 result.0 }
+    ensures { SaysTo E.held E.passed E.faults err.old err.new text.now status.0 result.0 }
 {
     let put = err.put(text);
     let passed = flush_after(put, err);
@@ -53,7 +48,7 @@ pub fn say<E: Sink>(err: &mut E, text: &[u8], status: Status) -> Status
 
 /// Puts the line that says this of a file, and passes it on.
 pub fn say_of<E: Sink>(err: &mut E, file: &str, reason: &[u8], status: Status) -> Status
-    ensures { Says (sink_of E.held E.passed E.faults err.old) (sink_of E.held E.passed E.faults err.new) (message file.now reason.now) status.0 result.0 }
+    ensures { SaysTo E.held E.passed E.faults err.old err.new (message file.now reason.now) status.0 result.0 }
 {
     let said = err.put(b"mic: ");
     let said = put_after(said, err, file.as_bytes());
@@ -65,7 +60,7 @@ pub fn say_of<E: Sink>(err: &mut E, file: &str, reason: &[u8], status: Status) -
 
 /// Says that memory is wanting.
 pub fn no_memory<E: Sink>(err: &mut E) -> Status
-    ensures { Says (sink_of E.held E.passed E.faults err.old) (sink_of E.held E.passed E.faults err.new) out_of_memory exits.memory result.0 }
+    ensures { SaysTo E.held E.passed E.faults err.old err.new out_of_memory exits.memory result.0 }
 {
     say(err, OUT_OF_MEMORY, Status::MEMORY)
 }

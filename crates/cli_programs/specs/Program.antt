@@ -16,7 +16,8 @@ use Rattle.verifier_facts.specs.Accepted.{IsAccepted, VerifiedView}
 use Rattle.verifier_facts.specs.Facts.{IsTrueOf}
 use Rattle.cli_program_texts.specs.Refusals.{image_reason, link_reason, source_reason, verify_reason}
 use Rattle.cli_outside.specs.declared.refusal.Refusal.{Refusal}
-use Rattle.cli_outside.specs.Work.{IsRefusal}
+use Rattle.cli_outside.specs.Outside.{OutsideView}
+use Rattle.cli_outside.specs.Work.{IsNotHad, IsRefusal}
 
 -- A file is an image file by its first byte. Every other file is a source.
 abbrev pub begins_image : List ℕ → Bool
@@ -52,6 +53,18 @@ pub data IsRefusedProgram (map : MemoryMap) (bytes reason : List ℕ) : Type 0 w
   NoProgram : begins_image bytes ≡ false → IsNoSource bytes reason → IsRefusedProgram map bytes reason
   NotAccepted : (image : ImageView) (e : VerifyError) → IsOf bytes image → IsTrueOf image map.stack_end e → verify_reason e ≡ Some reason →
       IsRefusedProgram map bytes reason
+
+-- at most one program is accepted of these bytes
+abbrev pub HasOneProgram : MemoryMap → List ℕ → Type 0
+HasOneProgram map bytes = (p q : VerifiedView) → IsAcceptedProgram map bytes p → IsAcceptedProgram map bytes q → p ≡ q
+
+-- bytes of which one is accepted are refused for no reason
+abbrev pub IsNotBoth : MemoryMap → List ℕ → Type 0
+IsNotBoth map bytes = (reason : List ℕ) (p : VerifiedView) → IsAcceptedProgram map bytes p → IsRefusedProgram map bytes reason → ⊥
+
+-- nothing is had of a file that should have a program
+abbrev pub HasNoProgram : MemoryMap → List ℕ → OutsideView → OutsideView → ℕ → Type 0
+HasNoProgram map = IsNotHad (IsRefusedProgram map)
 
 -- what it means that no image is had from these bytes: no map has an accepted program then
 abbrev pub IsRefusalByAll : List ℕ → Refusal → Type 0

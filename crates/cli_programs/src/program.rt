@@ -3,9 +3,8 @@
 ghost use Rattle.std.specs.Prelude.{◌≡◌, ◌≤◌, true, length, IfOk, IfErr, OnOk};
 ghost use Rattle.mic_base.specs.Files.{most_bytes};
 ghost use Rattle.console_port.specs.Map.{IsMap};
-ghost use Rattle.cli_outside.specs.Outside.{Over};
-ghost use Rattle.cli_outside.specs.Work.{IsHad, IsNotHad, IsRefusal};
-ghost use Rattle.cli_programs.specs.Program.{IsNoSource, IsOf, IsAcceptedProgram, IsRefusalByAll, IsRefusedProgram, IsSource, begins_image};
+ghost use Rattle.cli_outside.specs.Work.{IsHad, IsRefusal, OverIfErr};
+ghost use Rattle.cli_programs.specs.Program.{HasNoProgram, IsNoSource, IsOf, IsAcceptedProgram, IsRefusalByAll, IsRefusedProgram, IsSource, begins_image};
 
 use cli_outside::{Outside, Refusal, Status};
 use cli_program_texts::{image_reason, link_reason, source_reason, verify_reason};
@@ -88,12 +87,9 @@ pub fn program_in_file<F: Files, S: Source, K: Sink, E: Sink>(
     requires { IsMap map.stack_end }
     ensures had { IfOk result (IsHad (IsAcceptedProgram map) file.now outside.old.seen) }
     ensures same { OnOk result (outside.new ≡ outside.old) }
-    ensures not_had { IfErr result (λ status. Over (IsNotHad (IsRefusedProgram map) file.now) outside.old outside.new status.0) }
+    ensures not_had { OverIfErr (HasNoProgram map file.now) outside.old outside.new result }
 {
-    let bytes = match outside.read(alloc, file) {
-        Ok(bytes) => bytes,
-        Err(status) => return Err(status),
-    };
+    let bytes = outside.read(alloc, file)?;
     match accepted_program(alloc, &bytes, map) {
         Ok(program) => Ok(program),
         Err(refusal) => Err(outside.refuse(file, refusal)),

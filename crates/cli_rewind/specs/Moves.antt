@@ -1,5 +1,5 @@
 -- How a call moves a rewind and its cursor, between what its input has left and what `out` holds.
-use Rattle.std.specs.Prelude.{◌≡◌, ◌≢◌, ◌≤◌, ◌⊎◌, ◌+◌, ◌^◌, ℕ, List, [], Option, Some, Result}
+use Rattle.std.specs.Prelude.{◌≡◌, ◌≢◌, ◌≤◌, ◌⊎◌, ◌+◌, ◌^◌, ℕ, List, [], Bool, nat_le, Option, Some, Result}
 use Rattle.console_port.specs.Console.{StaysFlushed}
 use Rattle.mic_base.specs.Causes.{Rose}
 use Rattle.mic_base.specs.Plain.{plain_left}
@@ -14,7 +14,8 @@ use Rattle.cli_session.specs.Meaning.{IsFrontOf}
 use Rattle.cli_session.specs.declared.reading.Command.{Command}
 use Rattle.cli_session.specs.declared.reading.CommandError.{CommandError}
 use Rattle.cli_rewind.specs.declared.table.Verb.{Verb}
-use Rattle.cli_rewind.specs.Stand.{Follows, GoesForward, IsCutForward, IsCutIn, Stand, StandsAt, run_at}
+use Rattle.cli_rewind.specs.declared.table.Verb.TheVariants as verbs
+use Rattle.cli_rewind.specs.Stand.{Follows, GoesForward, IsCutForward, IsCutIn, Obeys, Stand, StandsAt, back, kept, run_at}
 
 pub record Scene (M : Type 0) : Type 0 where
   pub rewind : RewindView M
@@ -48,6 +49,18 @@ module _ {M State : Type 0} (state : M → State) (m : Meaning State) where
     pub cuts : (s : Stand State) → IsShown old s → Cuts s new.out.held
     pub keeps : (front : List ℕ) → Holds front old.out.held → Holds front new.out.held
     pub rose : Rose old.out.faults new.out.faults
+
+  -- each stand that was shown is followed by the one so many cycles back, whatever the input has left and `out` holds
+  abbrev pub GoesBack : ℕ → RewindView M → RewindView M → Bool → Type 0
+  GoesBack times old new all =
+      (left held : Option (List ℕ)) (s : Stand State) → StandsAt state m left held old s →
+      StandsAt state m left held new (back old.history.depth times s) × (all ≡ nat_le times (kept old.history.depth s))
+
+  -- so the line `back` is obeyed, which prints this text
+  abbrev pub ObeysBack : ℕ → RewindView M → List ℕ → RewindView M → Type 0
+  ObeysBack times old text new =
+      (left held : Option (List ℕ)) (s : Stand State) → StandsAt state m left held old s →
+      (s' : Stand State) × Obeys m old.board.store.words old.history.depth verbs.Back times s text s' × StandsAt state m left held new s'
 
 -- ---- a call between the program's input and `out`
 
@@ -106,3 +119,12 @@ module _ {M State : Type 0} (state : M → State) (m : Meaning State) where
     pub got : GotInPart err.held text err'.held
     pub keeps : (front : List ℕ) → Holds front err.held → Holds front err'.held
     pub rose : Rose out.faults out'.faults ⊎ Rose err.faults err'.faults
+
+-- the same of a sink, by what it tells of itself
+
+module _ {M State K : Type 0} (state : M → State) (m : Meaning State) (held passed : K → Option (List ℕ)) (faults : K → ℕ) where
+  abbrev pub PassesOn : RewindView M → K → RewindView M → K → Type 0
+  PassesOn old out new out' = IsPassedOn state m old new (sink_of held passed faults out) (sink_of held passed faults out')
+
+  abbrev pub LeavesFront : RewindView M → K → K → Type 0
+  LeavesFront old out out' = IsFront state m old (sink_of held passed faults out) (sink_of held passed faults out')

@@ -1,9 +1,12 @@
 -- What the lines of a rewinding session mean.
-use Rattle.std.specs.Prelude.{◌≡◌, ◌≢◌, ◌≤◌, ◌+◌, ◌*◌, ◌^◌, ℕ, List, Some}
+use Rattle.std.specs.Prelude.{◌≡◌, ◌≢◌, ◌≤◌, ◌+◌, ◌*◌, ◌^◌, ℕ, suc, List, Some}
+use Rattle.mic_base.specs.Plain.{plain_left}
+use Rattle.mic_base.specs.declared.plain.source.PlainSource.{PlainSource}
 use Rattle.mic_clock.specs.declared.end.End.TheVariants as ends
 use Rattle.mic_clock.specs.Meaning.{Meaning}
 use Rattle.mic_rewind.specs.Rewind.{RewindView}
-use Rattle.cli_session.specs.Meaning.{SessionMeaning}
+use Rattle.cli_outside.specs.Outside.{LentView}
+use Rattle.cli_session.specs.Meaning.{IsCutShort, SessionMeaning, place}
 use Rattle.cli_rewind.specs.Commands.{is_quit}
 use Rattle.cli_rewind.specs.Stand.{Does, IsBrokenOff, Stand, StandsAt}
 
@@ -15,6 +18,10 @@ pub record RewindingView (M : Type 0) : Type 0 where
 
 abbrev pub rewinding_view : {M : Type 0} → RewindView M → ℕ → List ℕ → RewindingView M
 rewinding_view rewind memory input = record { rewind = rewind; memory = memory; input = input }
+
+-- by the input itself
+abbrev pub rewinding_at : {M : Type 0} → RewindView M → ℕ → PlainSource → RewindingView M
+rewinding_at rewind memory input = rewinding_view rewind memory (plain_left input)
 
 -- the words of the control store, the number of memory words, and the most cycles that are kept
 pub record RewindingRules : Type 0 where
@@ -30,6 +37,11 @@ pub record Lasts {M : Type 0} (n : ℕ) (d : RewindingView M) : Type 0 where
   pub cycles : d.rewind.board.counts.cycles + n * 2 ^ 32 ≤ 2 ^ 62
   pub well : d.rewind.board.end ≢ Some ends.WriteFault
 
+-- of the lines that may still be done, one is done
+abbrev pub LastsOneLess : {M : Type 0} → ℕ → RewindView M → PlainSource → RewindView M → PlainSource → Type 0
+LastsOneLess memory rewind input rewind' input' =
+    (n : ℕ) → Lasts (suc n) (rewinding_at rewind memory input) → Lasts n (rewinding_at rewind' memory input')
+
 abbrev pub rewinding : {M State : Type 0} → (M → State) → Meaning State →
     SessionMeaning (RewindingView M) RewindingRules (Stand State)
 rewinding state m =
@@ -42,3 +54,7 @@ rewinding state m =
       Does = λ rules. Does m rules.words rules.depth rules.memory;
       IsBrokenOff = λ rules. IsBrokenOff m rules.words rules.depth rules.memory;
     }
+
+-- `out` or `err` failed in a line
+abbrev pub IsCutAt : {M State : Type 0} → (M → State) → Meaning State → List ℕ → ℕ → RewindView M → PlainSource → LentView → LentView → Type 0
+IsCutAt state m line memory rewind input old new = IsCutShort (rewinding state m) line (place (rewinding_at rewind memory input) old.seen) new.seen

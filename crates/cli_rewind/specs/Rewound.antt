@@ -1,7 +1,9 @@
 -- How rewinding an accepted program ends: what the lines of the console print; or less, where a fault stopped it.
-use Rattle.std.specs.Prelude.{◌≡◌, ℕ, List, Option}
+use Rattle.std.specs.Prelude.{◌≡◌, ℕ, List, Option, None}
+use Rattle.std.specs.Borrow.{Bor}
 use Rattle.console_port.specs.World.{World}
 use Rattle.console_port.specs.Bus.{Shows}
+use Rattle.console_port.specs.declared.map.MemoryMap.{MemoryMap}
 use Rattle.mic_clock.specs.Meaning.{Meaning}
 use Rattle.verifier_facts.specs.Accepted.{VerifiedView}
 use Rattle.mal_parser.specs.Program.{MalView}
@@ -9,8 +11,11 @@ use Rattle.mal_shipped.specs.declared.loaded.Loaded.{Loaded}
 use Rattle.mic_image_board.specs.Reset.{reset_run}
 use Rattle.cli_outside.specs.Status as exits
 use Rattle.cli_outside.specs.Messages.{out_of_memory}
-use Rattle.cli_outside.specs.Outside.{OutsideView, TellsOnErr}
+use Rattle.cli_outside.specs.Outside.{LentView, Over, OutsideView, TellsOnErr, name_in}
+use Rattle.cli_boards.specs.Prepared.{EndsPrepared}
 use Rattle.cli_boards.specs.Runs.{IsFirstBoard}
+use Rattle.cli_boards.specs.declared.preparing.Prepared.{Prepared}
+use Rattle.cli_session.specs.Input.{EndsWithInput}
 use Rattle.cli_session.specs.declared.lines.Step.{Step}
 use Rattle.cli_session.specs.declared.lines.Step.TheVariants as steps
 use Rattle.cli_session.specs.Lines.{most_lines}
@@ -45,3 +50,15 @@ module _ {M State : Type 0} (state : M → State) (m : Meaning State) where
         first.input ≡ input →
         Goes (rewinding state m) most_lines 0 (place first old) (place last new) step → status ≡ status_after step →
         IsRewound depth micro program input old new status
+
+  -- of a program and a microprogram that are prepared
+  abbrev pub IsStartOf : ℕ → Prepared → RewindingView M → Type 0
+  IsStartOf depth prepared = IsStart depth prepared.micro.program prepared.micro.loaded prepared.program
+
+  -- an outside that is lent comes to this: of what is prepared, and from the files that have the program and its input
+  abbrev pub RewindsPrepared : ℕ → Prepared → List ℕ → LentView → LentView → ℕ → Type 0
+  RewindsPrepared depth prepared input = Over (IsRewound depth prepared.micro.program prepared.program input)
+
+  abbrev pub RewindsOver : MemoryMap → ℕ → List ℕ → Option (Bor (List ℕ)) → LentView → LentView → ℕ → Type 0
+  RewindsOver map depth file input =
+      Over (EndsPrepared m.machine map (λ micro program. EndsWithInput (IsRewound depth micro program) (name_in input)) file None)

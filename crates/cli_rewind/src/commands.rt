@@ -1,11 +1,8 @@
 //! The command, from the files that it reads to its status.
 
-ghost use Rattle.std.specs.Prelude.{◌≤◌, ◌<◌, None, option_map};
+ghost use Rattle.std.specs.Prelude.{◌≤◌, ◌<◌};
 ghost use Rattle.console_port.specs.Map.{IsMap};
-ghost use Rattle.cli_outside.specs.Outside.{Over};
-ghost use Rattle.cli_boards.specs.Prepared.{EndsPrepared};
-ghost use Rattle.cli_session.specs.Input.{EndsWithInput};
-ghost use Rattle.cli_rewind.specs.Rewound.{IsRewound};
+ghost use Rattle.cli_rewind.specs.Rewound.{RewindsOver};
 
 use crate::rewind::rewind_program;
 use cli_boards::prepare;
@@ -29,10 +26,7 @@ pub fn rewind_file<M: Clocked + Drop, F: Files, S: Source, K: Sink, E: Sink>(
 ) -> Status
     requires depth { (0 < depth) × (depth ≤ 65536) }
     requires map { IsMap map.stack_end }
-    ensures { Over (EndsPrepared M.meaning.machine map
-        (λ micro program. EndsWithInput (IsRewound M.state M.meaning depth micro program)
-        (option_map (λ name. name.now) input.entry))
-        file.now None) outside.old outside.new result.0 }
+    ensures { RewindsOver M.state M.meaning map depth file.now input.entry outside.old outside.new result.0 }
 {
     let prepared = match prepare(alloc, machine.machine(), file, None, map, outside) {
         Ok(prepared) => prepared,

@@ -1,10 +1,9 @@
 //! The cursor's moves, over as many cycles as a line asks for.
 
-ghost use Rattle.std.specs.Prelude.{◌≡◌, ◌≢◌, ◌≤◌, ◌+◌, ◌^◌, List, ℕ, Option, Some, OnErr, IfOk, nat_le, true, false};
+ghost use Rattle.std.specs.Prelude.{◌≡◌, ◌≢◌, ◌≤◌, ◌+◌, ◌^◌, Option, Some, OnErr, IfOk, true, false};
 ghost use Rattle.mic_clock.specs.Board.{tick_of};
 ghost use Rattle.mic_clock.specs.declared.counts.Counts.{Counts};
-ghost use Rattle.cli_rewind.specs.Stand.{Stand, StandsAt, back, kept};
-ghost use Rattle.cli_rewind.specs.Moves.{WasCutForward, WentForward};
+ghost use Rattle.cli_rewind.specs.Moves.{GoesBack, WasCutForward, WentForward};
 
 use mic_base::{PlainSource, Sink, SinkFailed};
 use mic_clock::{Clocked, End, Tick};
@@ -70,10 +69,7 @@ pub(crate) fn go_forward<M: Clocked, K: Sink>(
 
 /// Goes back by so many cycles, or by all that are kept; answers whether these were as many.
 pub(crate) fn go_back<M: Clocked>(rewind: &mut Rewind<M>, times: u32) -> bool
-    ensures goes { (left held : Option (List ℕ)) (s : Stand M.State) →
-        StandsAt M.state M.meaning left held rewind.old s →
-        StandsAt M.state M.meaning left held rewind.new (back rewind.old.history.depth times s)
-        × (result ≡ nat_le times (kept rewind.old.history.depth s)) }
+    ensures goes { GoesBack M.state M.meaning times rewind.old rewind.new result }
     ensures board { rewind.new.board ≡ rewind.old.board }
     ensures depth { rewind.new.history.depth ≡ rewind.old.history.depth }
 {

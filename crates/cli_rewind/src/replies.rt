@@ -1,10 +1,10 @@
 //! What a line does, and its answer.
 
-ghost use Rattle.std.specs.Prelude.{◌≡◌, ◌≢◌, ◌≤◌, ◌+◌, ◌^◌, ℕ, List, Option, Some, Ok, OnErr, IfOk};
+ghost use Rattle.std.specs.Prelude.{◌≡◌, ◌≢◌, ◌≤◌, ◌+◌, ◌^◌, Some, Ok, OnErr, IfOk};
 ghost use Rattle.cli_session.specs.Texts.{state_text, word_line};
 ghost use Rattle.cli_rewind.specs.Lines.{back_text};
-ghost use Rattle.cli_rewind.specs.Stand.{Obeys, Stand, StandsAt, as_read};
-ghost use Rattle.cli_rewind.specs.Moves.{WasCutBy, WentBy};
+ghost use Rattle.cli_rewind.specs.Stand.{as_read};
+ghost use Rattle.cli_rewind.specs.Moves.{ObeysBack, WasCutBy, WentBy};
 
 use crate::moves::{go_back, go_forward};
 use crate::table::Verb;
@@ -48,10 +48,7 @@ fn regs<M: Clocked>(rewind: &Rewind<M>) -> Line
 
 /// Goes back, and says where that came to.
 fn back<M: Clocked>(rewind: &mut Rewind<M>, times: u32) -> Line
-    ensures leads { (left held : Option (List ℕ)) (s : Stand M.State) →
-        StandsAt M.state M.meaning left held rewind.old s → (s' : Stand M.State)
-        × Obeys M.meaning rewind.old.board.store.words rewind.old.history.depth Verb.Back times s result s'
-        × StandsAt M.state M.meaning left held rewind.new s' }
+    ensures leads { ObeysBack M.state M.meaning times rewind.old result rewind.new }
     ensures board { rewind.new.board ≡ rewind.old.board }
     ensures depth { rewind.new.history.depth ≡ rewind.old.history.depth }
 {

@@ -2,9 +2,8 @@
 
 ghost use Rattle.std.specs.Prelude.{◌≡◌, ◌≤◌, ◌<◌, IfOk};
 ghost use Rattle.mic_base.specs.Plain.{plain_left};
-ghost use Rattle.cli_outside.specs.Outside.{Over};
-ghost use Rattle.cli_rewind.specs.Rewinding.{rewinding_view};
-ghost use Rattle.cli_rewind.specs.Rewound.{IsRewound, IsStart, status_after};
+ghost use Rattle.cli_rewind.specs.Rewinding.{rewinding_at};
+ghost use Rattle.cli_rewind.specs.Rewound.{IsStartOf, RewindsPrepared, status_after};
 
 use crate::rewinding::Rewinding;
 use cli_boards::{Microprogram, Prepared};
@@ -27,8 +26,7 @@ fn begun<M: Clocked + Drop>(
 ) -> Result<Rewinding<M>, AllocError>
     requires machine { prepared.micro.program.machine ≡ M.meaning.machine }
     requires depth { (0 < depth) × (depth ≤ 65536) }
-    ensures start { IfOk result (λ d. IsStart M.state M.meaning depth
-        prepared.micro.program prepared.micro.loaded prepared.program (rewinding_view d.rewind d.words (plain_left d.input))) }
+    ensures start { IfOk result (λ d. IsStartOf M.state M.meaning depth prepared (rewinding_at d.rewind d.words d.input)) }
     ensures input { IfOk result (λ d. plain_left d.input ≡ input.items) }
 {
     let Prepared { program, micro } = prepared;
@@ -66,8 +64,7 @@ pub fn rewind_program<M: Clocked + Drop, F: Files, S: Source, K: Sink, E: Sink>(
 ) -> Status
     requires machine { prepared.micro.program.machine ≡ M.meaning.machine }
     requires depth { (0 < depth) × (depth ≤ 65536) }
-    ensures { Over (IsRewound M.state M.meaning depth prepared.micro.program prepared.program input.items)
-        outside.old outside.new result.0 }
+    ensures { RewindsPrepared M.state M.meaning depth prepared input.items outside.old outside.new result.0 }
 {
     let mut rewinding = match begun(alloc, machine, prepared, depth, input) {
         Ok(rewinding) => rewinding,

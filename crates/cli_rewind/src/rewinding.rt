@@ -1,11 +1,10 @@
 //! What does the lines of a rewinding session.
 
 ghost use Rattle.std.specs.Prelude.{◌≡◌, ◌∷◌, ℕ, suc, [], IfOk, OnOk, OnErr};
-ghost use Rattle.mic_base.specs.Plain.{plain_left};
 ghost use Rattle.cli_outside.specs.Outside.{FilesState, SourceState, outside_view, sink_of};
 ghost use Rattle.cli_session.specs.Meaning.{Gone, IsCutShort, place};
 ghost use Rattle.cli_rewind.specs.Commands.{is_quit};
-ghost use Rattle.cli_rewind.specs.Rewinding.{Lasts, rewinding, rewinding_view};
+ghost use Rattle.cli_rewind.specs.Rewinding.{IsCutAt, Lasts, LastsOneLess, rewinding, rewinding_at};
 
 use crate::replies::follow;
 use crate::table::{is_quit, read_command};
@@ -33,21 +32,20 @@ fn do_line<M: Clocked, K: Sink, E: Sink>(
     out: &mut K,
     err: &mut E,
 ) -> Result<bool, SinkFailed>
-    requires { (n : ℕ) × Lasts (suc n) (rewinding_view rewind.old words (plain_left input.old)) }
-    ensures lasts { OnOk result ((n : ℕ) → Lasts (suc n) (rewinding_view rewind.old words (plain_left input.old)) →
-        Lasts n (rewinding_view rewind.new words (plain_left input.new))) }
+    requires { (n : ℕ) × Lasts (suc n) (rewinding_at rewind.old words input.old) }
+    ensures lasts { OnOk result (LastsOneLess words rewind.old input.old rewind.new input.new) }
     ensures quits { IfOk result (λ quits. quits ≡ is_quit words line.now) }
     ensures done { OnOk result ((files : FilesState) (console : SourceState) →
         Gone (rewinding M.state M.meaning) (line.now ∷ [])
-        (place (rewinding_view rewind.old words (plain_left input.old))
+        (place (rewinding_at rewind.old words input.old)
         (outside_view files console (sink_of K.held K.passed K.faults out.old)
         (sink_of E.held E.passed E.faults err.old)))
-        (place (rewinding_view rewind.new words (plain_left input.new))
+        (place (rewinding_at rewind.new words input.new)
         (outside_view files console (sink_of K.held K.passed K.faults out.new)
         (sink_of E.held E.passed E.faults err.new)))) }
     ensures broken { OnErr result ((files : FilesState) (console : SourceState) →
         IsCutShort (rewinding M.state M.meaning) line.now
-        (place (rewinding_view rewind.old words (plain_left input.old))
+        (place (rewinding_at rewind.old words input.old)
         (outside_view files console (sink_of K.held K.passed K.faults out.old)
         (sink_of E.held E.passed E.faults err.old)))
         (outside_view files console (sink_of K.held K.passed K.faults out.new)
@@ -67,15 +65,13 @@ fn answer_line<M: Clocked, F: Files, S: Source, K: Sink, E: Sink>(
     input: &mut PlainSource,
     outside: &mut Outside<'_, F, S, K, E>,
 ) -> Result<bool, SinkFailed>
-    requires { (n : ℕ) × Lasts (suc n) (rewinding_view rewind.old words (plain_left input.old)) }
-    ensures lasts { OnOk result ((n : ℕ) → Lasts (suc n) (rewinding_view rewind.old words (plain_left input.old)) →
-        Lasts n (rewinding_view rewind.new words (plain_left input.new))) }
+    requires { (n : ℕ) × Lasts (suc n) (rewinding_at rewind.old words input.old) }
+    ensures lasts { OnOk result (LastsOneLess words rewind.old input.old rewind.new input.new) }
     ensures quits { IfOk result (λ quits. quits ≡ is_quit words line.now) }
     ensures done { OnOk result (Gone (rewinding M.state M.meaning) (line.now ∷ [])
-        (place (rewinding_view rewind.old words (plain_left input.old)) outside.old.seen)
-        (place (rewinding_view rewind.new words (plain_left input.new)) outside.new.seen)) }
-    ensures broken { OnErr result (IsCutShort (rewinding M.state M.meaning) line.now
-        (place (rewinding_view rewind.old words (plain_left input.old)) outside.old.seen) outside.new.seen) }
+        (place (rewinding_at rewind.old words input.old) outside.old.seen)
+        (place (rewinding_at rewind.new words input.new) outside.new.seen)) }
+    ensures broken { OnErr result (IsCutAt M.state M.meaning line.now words rewind.old input.old outside.old outside.new) }
     ensures console { outside.new.seen.console ≡ outside.old.seen.console }
     ensures names { outside.new.names ≡ outside.old.names }
 {

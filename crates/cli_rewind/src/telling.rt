@@ -3,7 +3,7 @@
 ghost use Rattle.std.specs.Prelude.{OnOk, OnErr};
 ghost use Rattle.mic_base.specs.Causes.{Rose};
 ghost use Rattle.cli_outside.specs.Outside.{sink_of};
-ghost use Rattle.cli_rewind.specs.Moves.{IsFront, IsPassedOn, IsTold, IsToldInPart};
+ghost use Rattle.cli_rewind.specs.Moves.{IsTold, IsToldInPart, LeavesFront, PassesOn};
 
 use mic_base::{Sink, SinkFailed};
 use mic_clock::Clocked;
@@ -11,10 +11,8 @@ use mic_rewind::Rewind;
 
 /// Puts to `out` what waits for it.
 fn pass_on<M: Clocked, K: Sink>(rewind: &mut Rewind<M>, out: &mut K) -> Result<(), SinkFailed>
-    ensures ok { OnOk result (IsPassedOn M.state M.meaning rewind.old rewind.new
-        (sink_of K.held K.passed K.faults out.old) (sink_of K.held K.passed K.faults out.new)) }
-    ensures err { OnErr result (IsFront M.state M.meaning rewind.old
-        (sink_of K.held K.passed K.faults out.old) (sink_of K.held K.passed K.faults out.new)) }
+    ensures ok { OnOk result (PassesOn M.state M.meaning K.held K.passed K.faults rewind.old out.old rewind.new out.new) }
+    ensures err { OnErr result (LeavesFront M.state M.meaning K.held K.passed K.faults rewind.old out.old out.new) }
     ensures rose { OnErr result (Rose (K.faults out.old) (K.faults out.new)) }
 {
     match rewind.flush(out) {

@@ -1,12 +1,13 @@
 -- How a session goes on line by line, between the console and the two sinks.
 use Rattle.std.specs.Prelude.{◌≡◌, ℕ, Bool, true, false, List, Some, IfSome}
 use Rattle.mic_base.specs.Causes.{Rose}
+use Rattle.cli_outside.specs.Outside.{LentView}
 use Rattle.cli_session.specs.declared.line.Read.{Read}
 use Rattle.cli_session.specs.declared.line.Read.TheVariants as reads
 use Rattle.cli_session.specs.declared.lines.Step.{Step}
 use Rattle.cli_session.specs.declared.lines.Step.TheVariants as steps
 use Rattle.cli_session.specs.Lines.{IsCutIn, IsNext, IsReadOn, IsReadOut}
-use Rattle.cli_session.specs.Meaning.{Gone, IsCutShort, Place, SessionMeaning}
+use Rattle.cli_session.specs.Meaning.{Gone, IsCutShort, Place, SessionMeaning, place}
 
 abbrev pub step_of : Read → Step
 step_of reads.Line = steps.On
@@ -35,3 +36,7 @@ module _ {Seen Rules Stand : Type 0} (m : SessionMeaning Seen Rules Stand) where
         new.seen.console.faults ≡ old.seen.console.faults →
         IfSome old.seen.console.left (λ bytes. IsNext (m.quits old.session) most bytes lines line) →
         IsCutShort m line mid new.seen → Goes most more old new steps.SinkFailed
+
+  -- the same of a session and an outside that is lent, by what is seen of both
+  abbrev pub GoesOver : {D : Type 0} → (D → Seen) → ℕ → ℕ → D → LentView → D → LentView → Step → Type 0
+  GoesOver seen most more session outside session' outside' = Goes most more (place (seen session) outside.seen) (place (seen session') outside'.seen)

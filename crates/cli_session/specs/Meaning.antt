@@ -1,9 +1,9 @@
 -- What the lines of a session do: where they lead it, one after the other, and what a failing sink leaves.
-use Rattle.std.specs.Prelude.{◌≡◌, ◌⊎◌, ℕ, Bool, List, [], ◌∷◌, ◌++◌, Option, IfSome}
+use Rattle.std.specs.Prelude.{◌≡◌, ◌⊎◌, ℕ, suc, Bool, List, [], ◌∷◌, ◌++◌, Option, IfSome}
 use Rattle.mic_base.specs.Causes.{Rose}
 use Rattle.mic_base.specs.Streams.{Holds}
 use Rattle.console_port.specs.Console.{StaysFlushed}
-use Rattle.cli_outside.specs.Outside.{Got, OutsideView}
+use Rattle.cli_outside.specs.Outside.{Got, LentView, OutsideView}
 
 -- what a sink that tells it holds is a front of these bytes
 abbrev pub IsFrontOf : Option (List ℕ) → List ℕ → Type 0
@@ -35,6 +35,10 @@ abbrev pub place : {Seen : Type 0} → Seen → OutsideView → Place Seen
 place session seen = record { session = session; seen = seen }
 
 module _ {Seen Rules Stand : Type 0} (m : SessionMeaning Seen Rules Stand) where
+  -- of the lines that may still be done, one is done
+  abbrev pub LastsOneLess : Seen → Seen → Type 0
+  LastsOneLess old new = (n : ℕ) → m.Lasts (suc n) old → m.Lasts n new
+
   -- lines one after the other
   abbrev pub DoesAll : Rules → List (List ℕ) → Stand → List ℕ → Stand → Type 0
   DoesAll rules [] s text s' = (text ≡ []) × (s' ≡ s)
@@ -74,3 +78,12 @@ module _ {Seen Rules Stand : Type 0} (m : SessionMeaning Seen Rules Stand) where
     pub keeps_err : (front : List ℕ) → Holds front old.seen.err.held → Holds front new.err.held
     pub files : new.files ≡ old.seen.files
     pub rose : Rose old.seen.out.faults new.out.faults ⊎ Rose old.seen.err.faults new.err.faults
+
+  -- ---- a session and an outside that is lent, by what is seen of both
+
+  module _ {D : Type 0} (seen : D → Seen) where
+    abbrev pub GoneOver : List (List ℕ) → D → LentView → D → LentView → Type 0
+    GoneOver lines session outside session' outside' = Gone lines (place (seen session) outside.seen) (place (seen session') outside'.seen)
+
+    abbrev pub IsCutOver : List ℕ → D → LentView → LentView → Type 0
+    IsCutOver line session outside outside' = IsCutShort line (place (seen session) outside.seen) outside'.seen

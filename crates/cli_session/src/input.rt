@@ -1,7 +1,8 @@
 //! The input of the program that a session is about.
 
-ghost use Rattle.std.specs.Prelude.{◌≡◌, IfOk, IfErr, OnOk, option_map};
-ghost use Rattle.cli_outside.specs.Outside.{Over};
+ghost use Rattle.std.specs.Prelude.{◌≡◌, IfOk, OnOk};
+ghost use Rattle.cli_outside.specs.Outside.{name_in};
+ghost use Rattle.cli_outside.specs.Work.{OverIfErr};
 ghost use Rattle.cli_session.specs.Input.{IsInput, IsNoInput};
 
 use cli_outside::{Outside, Status};
@@ -14,9 +15,9 @@ pub fn chosen_input<F: Files, S: Source, K: Sink, E: Sink>(
     name: Option<&str>,
     outside: &mut Outside<'_, F, S, K, E>,
 ) -> Result<Vec<u8>, Status>
-    ensures ok { IfOk result (λ bytes. IsInput (option_map (λ name. name.now) name.entry) outside.old.seen bytes.items) }
+    ensures ok { IfOk result (λ bytes. IsInput (name_in name.entry) outside.old.seen bytes.items) }
     ensures same { OnOk result (outside.new ≡ outside.old) }
-    ensures err { IfErr result (λ status. Over (IsNoInput (option_map (λ name. name.now) name.entry)) outside.old outside.new status.0) }
+    ensures err { OverIfErr (IsNoInput (name_in name.entry)) outside.old outside.new result }
 {
     match name {
         Some(name) => outside.read(alloc, name),

@@ -31,16 +31,13 @@ pub(crate) fn read_line<S: Source>(
 {
     line.clear();
     'bytes: while line.len() < LINE_BYTES {
-        match console.get() {
-            Ok(Some(byte)) => {
-                if byte == b'\n' {
-                    return Ok(Read::Line);
-                }
-                line.push(byte);
-            }
-            Ok(None) => return Ok(cut(line.is_empty())),
-            Err(failed) => return Err(failed),
+        let Some(byte) = console.get()? else {
+            return Ok(cut(line.is_empty()));
+        };
+        if byte == b'\n' {
+            return Ok(Read::Line);
         }
+        line.push(byte);
     }
     Ok(Read::Line)
 }

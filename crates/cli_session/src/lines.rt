@@ -2,8 +2,8 @@
 
 ghost use Rattle.std.specs.Prelude.{◌≡◌, ℕ, suc, []};
 ghost use Rattle.cli_session.specs.Lines.{most_lines};
-ghost use Rattle.cli_session.specs.Meaning.{place};
-ghost use Rattle.cli_session.specs.Goes.{Goes, step_behind};
+ghost use Rattle.cli_session.specs.Meaning.{LastsOneLess};
+ghost use Rattle.cli_session.specs.Goes.{GoesOver, step_behind};
 
 use crate::line::{Read, read_line};
 use crate::session::LineSession;
@@ -43,8 +43,8 @@ fn do_line<L: LineSession, F: Files, S: Source, K: Sink, E: Sink>(
 ) -> Step
     requires lasts { (n : ℕ) × L.meaning.Lasts (suc n) (L.seen session.old) }
     requires waits { L.meaning.waiting (L.seen session.old) ≡ [] }
-    ensures lasts { result ≡ Step.On → (n : ℕ) → L.meaning.Lasts (suc n) (L.seen session.old) → L.meaning.Lasts n (L.seen session.new) }
-    ensures goes { (n : ℕ) → Goes L.meaning (suc n) n (place (L.seen session.old) outside.old.seen) (place (L.seen session.new) outside.new.seen) result }
+    ensures lasts { result ≡ Step.On → LastsOneLess L.meaning (L.seen session.old) (L.seen session.new) }
+    ensures goes { (n : ℕ) → GoesOver L.meaning L.seen (suc n) n session.old outside.old session.new outside.new result }
     ensures names { outside.new.names ≡ outside.old.names }
 {
     let mut line = ArrayVec::new();
@@ -68,7 +68,7 @@ pub fn do_lines<L: LineSession, F: Files, S: Source, K: Sink, E: Sink>(
 ) -> Step
     requires lasts { L.meaning.Lasts most_lines (L.seen session.old) }
     requires waits { L.meaning.waiting (L.seen session.old) ≡ [] }
-    ensures goes { Goes L.meaning most_lines 0 (place (L.seen session.old) outside.old.seen) (place (L.seen session.new) outside.new.seen) result }
+    ensures goes { GoesOver L.meaning L.seen most_lines 0 session.old outside.old session.new outside.new result }
     ensures names { outside.new.names ≡ outside.old.names }
 {
     let mut step = Step::On;

@@ -1,7 +1,7 @@
 //! What does the lines of a session.
 
 ghost use Rattle.std.specs.Prelude.{◌≡◌, ◌∷◌, ℕ, suc, [], List, IfOk, OnOk, OnErr};
-ghost use Rattle.cli_session.specs.Meaning.{Gone, IsCutShort, place};
+ghost use Rattle.cli_session.specs.Meaning.{GoneOver, IsCutOver, LastsOneLess};
 
 use cli_outside::Outside;
 use mic_base::{Files, Sink, SinkFailed, Source};
@@ -31,10 +31,10 @@ pub trait LineSession {
         outside: &mut Outside<'_, F, S, K, E>,
     ) -> Result<bool, SinkFailed>
         requires { (n : ℕ) × meaning.Lasts (suc n) (seen self.old) }
-        ensures lasts { OnOk result ((n : ℕ) → meaning.Lasts (suc n) (seen self.old) → meaning.Lasts n (seen self.new)) }
+        ensures lasts { OnOk result (LastsOneLess meaning (seen self.old) (seen self.new)) }
         ensures quits { IfOk result (λ quits. quits ≡ meaning.quits (seen self.old) line.now) }
-        ensures done { OnOk result (Gone meaning (line.now ∷ []) (place (seen self.old) outside.old.seen) (place (seen self.new) outside.new.seen)) }
-        ensures broken { OnErr result (IsCutShort meaning line.now (place (seen self.old) outside.old.seen) outside.new.seen) }
+        ensures done { OnOk result (GoneOver meaning seen (line.now ∷ []) self.old outside.old self.new outside.new) }
+        ensures broken { OnErr result (IsCutOver meaning seen line.now self.old outside.old outside.new) }
         ensures console { outside.new.seen.console ≡ outside.old.seen.console }
         ensures names { outside.new.names ≡ outside.old.names };
 }

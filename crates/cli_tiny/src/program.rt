@@ -2,8 +2,7 @@
 
 ghost use Rattle.std.specs.Prelude.{◌≡◌, ◌≤◌, length, IfOk, IfErr, OnOk};
 ghost use Rattle.mic_base.specs.Files.{most_bytes};
-ghost use Rattle.cli_outside.specs.Outside.{Over};
-ghost use Rattle.cli_outside.specs.Work.{IsHad, IsNotHad, IsRefusal};
+ghost use Rattle.cli_outside.specs.Work.{IsHad, IsNotHad, IsRefusal, OverIfErr};
 ghost use Rattle.tiny_compiler.specs.Compiled.{IsCompiled};
 ghost use Rattle.cli_tiny.specs.Refusals.{IsRefusedTiny};
 
@@ -34,12 +33,9 @@ pub fn program_in_tiny<F: Files, S: Source, K: Sink, E: Sink>(
 ) -> Result<VerifiedImage, Status>
     ensures had { IfOk result (IsHad IsCompiled tiny.now outside.old.seen) }
     ensures same { OnOk result (outside.new ≡ outside.old) }
-    ensures not_had { IfErr result (λ status. Over (IsNotHad IsRefusedTiny tiny.now) outside.old outside.new status.0) }
+    ensures not_had { OverIfErr (IsNotHad IsRefusedTiny tiny.now) outside.old outside.new result }
 {
-    let text = match outside.read(alloc, tiny) {
-        Ok(text) => text,
-        Err(status) => return Err(status),
-    };
+    let text = outside.read(alloc, tiny)?;
     match compiled(alloc, &text) {
         Ok(program) => Ok(program),
         Err(refusal) => Err(outside.refuse(tiny, refusal)),

@@ -10,6 +10,7 @@ use Rattle.mic_watched.specs.declared.cycle.Cycle.{Cycle}
 use Rattle.mic_watched.specs.Watched.{kept_of}
 use Rattle.mem_cache.specs.declared.counts.CacheCounts.{CacheCounts}
 use Rattle.mem_cache.specs.Accesses.{Access, Read, Write, Fetch, hits_of, misses_of}
+use Rattle.mem_cache.specs.View.{CacheView}
 use Rattle.mem_cache.specs.Tally.{Tally, counted, empty_tally}
 use Rattle.cli_watchers.specs.declared.cache.CacheWatcher.{CacheWatcher}
 use Rattle.cli_watchers.specs.declared.cache.WordAccess.{WordAccess}
@@ -72,6 +73,10 @@ has_room counts = nat_lt counts.hits 0x7FFF_FFFF_FFFF_FFFF && nat_lt counts.miss
 abbrev pub all_counted : ℕ → List Access → Tally → Tally
 all_counted size [] t = t
 all_counted size (access ∷ accesses) t = all_counted size accesses (counted size access t)
+
+-- a cache has counted these accesses
+abbrev pub CountsAll : List Access → CacheView → CacheView → Type 0
+CountsAll accesses old new = new.tally ≡ all_counted (length old.bus.words) accesses old.tally
 
 -- after a cycle
 abbrev pub kept_after : CacheKept → Cycle → CacheKept

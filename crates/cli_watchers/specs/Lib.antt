@@ -4,3 +4,4 @@ pub mod Rows
 pub mod Profile
 pub mod Counted
 pub mod Cached
+pub mod Counting

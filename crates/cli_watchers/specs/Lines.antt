@@ -1,7 +1,8 @@
 -- The lines that a trace prints of a clocked cycle.
-use Rattle.std.specs.Prelude.{◌≡◌, ℕ, List, [], ◌++◌, Bool, true, false, not, ◌&&◌, if◌then◌else◌, Option, Some, None, codes}
+use Rattle.std.specs.Prelude.{◌≡◌, ℕ, List, [], ◌++◌, Bool, true, false, not, ◌&&◌, if◌then◌else◌, Option, Some, None, Result, codes}
 use Rattle.std.specs.Fmt.{decimal}
 use Rattle.mic_base.specs.Digits.{hex_text}
+use Rattle.mic_base.specs.Streams.{Puts}
 use Rattle.ijvm_image.specs.Image.{ImageView}
 use Rattle.mal_parser.specs.Program.{MalView}
 use Rattle.mic_clock.specs.declared.buses.Drive.{Drive}
@@ -41,6 +42,16 @@ reached_line at instruction = codes "at " ++ hex_text 8 at ++ codes " " ++ instr
 abbrev pub IsBoundaryLine : ImageView → Option ℕ → List ℕ → Type 0
 IsBoundaryLine image None text = text ≡ []
 IsBoundaryLine image (Some at) text = (instruction : List ℕ) × IsInstruction image at instruction × (text ≡ reached_line at instruction)
+
+-- a call behind another that has put a text puts one of these texts behind it
+abbrev pub PutsOneBehind : {E : Type 0} → (List ℕ → Type 0) → Result Unit E → Option (List ℕ) → Result Unit E → Option (List ℕ) → Type 0
+PutsOneBehind IsOne said old result new =
+    (first : Option (List ℕ)) (text : List ℕ) → Puts first text said old → (one : List ℕ) × IsOne one × Puts first (text ++ one) result new
+
+-- a word's label and parts make this text
+abbrev pub ShowsWord : MalView → List ℕ → ℕ → (List ℕ → List ℕ → List ℕ) → List ℕ → Type 0
+ShowsWord program addresses mpc text_of text =
+    (label parts : List ℕ) × IsWord program addresses mpc label parts × (text ≡ text_of label parts)
 
 -- what a trace is of: a microprogram at its addresses, the image that it runs, and whether the buses are asked for
 pub record Traced : Type 0 where

@@ -35,6 +35,11 @@ abbrev pub labelled_text : Bool → List ℕ → List ℕ → List ℕ
 labelled_text true label parts = label ++ codes " stall"
 labelled_text false label parts = label ++ codes " " ++ parts
 
+-- a line gets the word at an address so
+abbrev pub AddsWord : MalView → List ℕ → ℕ → Bool → List ℕ → List ℕ → Type 0
+AddsWord p addresses mpc stalled old new =
+    (label parts : List ℕ) × IsWord p addresses mpc label parts × (new ≡ old ++ labelled_text stalled label parts)
+
 -- the reached instruction that begins at an address
 abbrev pub IsReached : ImageView → ℕ → Option Instr → Type 0
 IsReached image at (Some i) = IsKind image at kinds.Start × (instr_at image.text at ≡ Some i)

@@ -2,8 +2,8 @@
 
 ghost use Rattle.std.specs.Prelude.{◌≡◌, ◌≤◌, ◌<◌, ◌+◌, ◌^◌, IfOk, length, map, true};
 ghost use Rattle.mem_cache.specs.Accesses.{Access};
-ghost use Rattle.mem_cache.specs.Tally.{counted};
-ghost use Rattle.cli_watchers.specs.Cached.{access_at, access_in, accesses_by, all_counted, at_mar, at_pc, cache_line, has_room};
+ghost use Rattle.mem_cache.specs.View.{Counts};
+ghost use Rattle.cli_watchers.specs.Cached.{CountsAll, access_at, access_in, accesses_by, at_mar, at_pc, cache_line, has_room};
 
 use cli_outside::number;
 use mem_cache::{CacheCounts, CachedBus};
@@ -70,7 +70,7 @@ fn has_room(counts: CacheCounts) -> bool
 fn read(cache: &mut CachedBus, at: u32)
     requires { (cache.old.tally.counts.hits < 2 ^ 63) × (cache.old.tally.counts.misses < 2 ^ 63) }
     ensures bus { cache.new.bus ≡ cache.old.bus }
-    ensures counted { cache.new.tally ≡ counted (length cache.old.bus.words) (Access.Read at) cache.old.tally }
+    ensures counted { Counts (Access.Read at) cache.old cache.new }
 {
     if cache.has(at) {
         cache.load(at);
@@ -82,7 +82,7 @@ fn read(cache: &mut CachedBus, at: u32)
 fn fetch(cache: &mut CachedBus, byte: u32)
     requires { (cache.old.tally.counts.hits < 2 ^ 63) × (cache.old.tally.counts.misses < 2 ^ 63) }
     ensures bus { cache.new.bus ≡ cache.old.bus }
-    ensures counted { cache.new.tally ≡ counted (length cache.old.bus.words) (Access.Fetch byte) cache.old.tally }
+    ensures counted { Counts (Access.Fetch byte) cache.old cache.new }
 {
     if cache.has(byte / 4) {
         cache.load(byte / 4);
@@ -92,7 +92,7 @@ fn fetch(cache: &mut CachedBus, byte: u32)
 /// Repeats a write of a memory word.
 fn write(cache: &mut CachedBus, at: u32, value: u32)
     ensures size { length cache.new.bus.words ≡ length cache.old.bus.words }
-    ensures counted { cache.new.tally ≡ counted (length cache.old.bus.words) (Access.Write at) cache.old.tally }
+    ensures counted { Counts (Access.Write at) cache.old cache.new }
 {
     if cache.has(at) {
         let _done = cache.write_word(at, value, &mut PlainSink::new());
@@ -103,7 +103,7 @@ fn write(cache: &mut CachedBus, at: u32, value: u32)
 fn repeat_at_mar(cache: &mut CachedBus, mem: Mem, mar: u32, mdr: u32)
     requires { (cache.old.tally.counts.hits < 2 ^ 63) × (cache.old.tally.counts.misses < 2 ^ 63) }
     ensures size { length cache.new.bus.words ≡ length cache.old.bus.words }
-    ensures counted { cache.new.tally ≡ all_counted (length cache.old.bus.words) (at_mar mem mar) cache.old.tally }
+    ensures counted { CountsAll (at_mar mem mar) cache.old cache.new }
 {
     match mem {
         Mem::None => {}
@@ -116,7 +116,7 @@ fn repeat_at_mar(cache: &mut CachedBus, mem: Mem, mar: u32, mdr: u32)
 fn repeat_at_pc(cache: &mut CachedBus, is_fetched: bool, pc: u32)
     requires { (cache.old.tally.counts.hits < 2 ^ 63) × (cache.old.tally.counts.misses < 2 ^ 63) }
     ensures size { length cache.new.bus.words ≡ length cache.old.bus.words }
-    ensures counted { cache.new.tally ≡ all_counted (length cache.old.bus.words) (at_pc is_fetched pc) cache.old.tally }
+    ensures counted { CountsAll (at_pc is_fetched pc) cache.old cache.new }
 {
     if is_fetched {
         fetch(cache, pc);
@@ -127,7 +127,7 @@ fn repeat_at_pc(cache: &mut CachedBus, is_fetched: bool, pc: u32)
 fn repeat(cache: &mut CachedBus, access: WordAccess, registers: &Registers)
     requires { has_room cache.old.tally.counts ≡ true }
     ensures size { length cache.new.bus.words ≡ length cache.old.bus.words }
-    ensures counted { cache.new.tally ≡ all_counted (length cache.old.bus.words) (accesses_by access registers.now) cache.old.tally }
+    ensures counted { CountsAll (accesses_by access registers.now) cache.old cache.new }
 {
     repeat_at_mar(cache, access.mem, registers.mar, registers.mdr);
     repeat_at_pc(cache, access.fetch, registers.pc);

@@ -1,10 +1,9 @@
 //! The lines of a cycle.
 
-ghost use Rattle.std.specs.Prelude.{◌≡◌, ◌≤◌, ◌<◌, ◌+◌, ◌++◌, ℕ, List, length};
+ghost use Rattle.std.specs.Prelude.{◌≡◌, ◌≤◌, ◌<◌, ◌+◌, ◌++◌, length};
 ghost use Rattle.store_placement.specs.Placement.{Places};
 ghost use Rattle.store_placement.specs.Program.{demands_of};
-ghost use Rattle.cli_watchers.specs.Naming.{IsWord};
-ghost use Rattle.cli_watchers.specs.Lines.{bus_line, cycle_line, flag_text, state_lines};
+ghost use Rattle.cli_watchers.specs.Lines.{ShowsWord, bus_line, cycle_line, flag_text, state_lines};
 
 use crate::names::print_word;
 use cli_outside::{numbered, word};
@@ -18,7 +17,7 @@ use store_placement::Placement;
 pub fn cycle_line(program: &MalProgram, placement: &Placement, cycle: &Cycle) -> Line
     requires placed { Places (demands_of program.now) placement.now }
     requires mpc { cycle.now.mpc < 512 }
-    ensures { (label parts : List ℕ) × IsWord program.now placement.now cycle.now.mpc label parts × (result ≡ cycle_line cycle.now label parts) }
+    ensures { ShowsWord program.now placement.now cycle.now.mpc (cycle_line cycle.now) result }
 {
     let mut line = numbered("", cycle.counts.cycles);
     line.text(" ");

@@ -1,10 +1,10 @@
 //! A word of a placed microprogram by its label and its text, and an instruction of an image by its text.
 
-ghost use Rattle.std.specs.Prelude.{◌≡◌, ◌≤◌, ◌<◌, ◌+◌, ◌++◌, ℕ, List, codes, length};
+ghost use Rattle.std.specs.Prelude.{◌≡◌, ◌≤◌, ◌<◌, ◌+◌, ◌++◌, codes, length};
 ghost use Rattle.mal_parser.specs.ProgramText.{parts_text};
 ghost use Rattle.store_placement.specs.Placement.{Places};
 ghost use Rattle.store_placement.specs.Program.{demands_of};
-ghost use Rattle.cli_watchers.specs.Naming.{IsInstruction, IsReached, IsWord, default_text, label_text, labelled_text};
+ghost use Rattle.cli_watchers.specs.Naming.{AddsWord, IsInstruction, IsReached, default_text, label_text, labelled_text};
 
 use ijvm_instr::{Instr, decode_at, print_instr};
 use ijvm_verifier::{Kind, VerifiedImage};
@@ -80,7 +80,7 @@ pub fn print_word(
 )
     requires placed { Places (demands_of program.now) placement.now }
     requires room { length line.old + 321 ≤ 512 }
-    ensures text { (label parts : List ℕ) × IsWord program.now placement.now mpc label parts × (line.new ≡ line.old ++ labelled_text stalled label parts) }
+    ensures text { AddsWord program.now placement.now mpc stalled line.old line.new }
     ensures len { length line.new ≤ length line.old + 321 }
 {
     match statement_at(program, placement, mpc) {

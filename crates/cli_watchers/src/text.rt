@@ -1,8 +1,9 @@
 //! What is printed of a profile.
 
-ghost use Rattle.std.specs.Prelude.{◌≡◌, ◌≤◌, ◌+◌, ◌++◌, ℕ, List, Option, length};
+ghost use Rattle.std.specs.Prelude.{◌≡◌, ◌≤◌, ℕ, length};
 ghost use Rattle.mic_base.specs.Causes.{HasCause};
 ghost use Rattle.mic_base.specs.Streams.{Puts};
+ghost use Rattle.cli_outside.specs.Outside.{PutsBehind};
 ghost use Rattle.cli_watchers.specs.Profile.{count_line, profile_in, profile_text, row_line, rows_text, tallies_at};
 
 use crate::profiler::{Profiler, RowCount, complete};
@@ -43,8 +44,7 @@ fn put_rows<E: Sink>(
     err: &mut E,
     tallies: &[RowCount],
 ) -> Result<(), SinkFailed>
-    ensures puts { (old : Option (List ℕ)) (text : List ℕ) →
-        Puts old text before (E.held err.old) → Puts old (text ++ rows_text 0 tallies.now) result (E.held err.new) }
+    ensures puts { PutsBehind before (E.held err.old) (rows_text 0 tallies.now) result (E.held err.new) }
     ensures cause { (count : ℕ) → HasCause count (E.faults err.old) before → HasCause count (E.faults err.new) result }
 {
     let mut said = before;

@@ -1,11 +1,10 @@
 //! The trace of a run: the lines of each cycle, put to `err` as it is clocked.
 
-ghost use Rattle.std.specs.Prelude.{◌++◌, ℕ, List, Option};
+ghost use Rattle.std.specs.Prelude.{ℕ};
 ghost use Rattle.mic_base.specs.Causes.{HasCause};
-ghost use Rattle.mic_base.specs.Streams.{Puts};
 ghost use Rattle.store_placement.specs.Placement.{Places};
 ghost use Rattle.store_placement.specs.Program.{demands_of};
-ghost use Rattle.cli_watchers.specs.Lines.{AreLinesOf, IsBoundaryLine, Traced};
+ghost use Rattle.cli_watchers.specs.Lines.{AreLinesOf, IsBoundaryLine, PutsOneBehind, Traced};
 
 use crate::lines::{cycle_line, state_lines};
 use crate::names::instruction_text;
@@ -34,8 +33,7 @@ fn put_boundary<E: Sink>(
     image: &VerifiedImage,
     boundary: Option<u32>,
 ) -> Result<(), SinkFailed>
-    ensures puts { (old : Option (List ℕ)) (text : List ℕ) → Puts old text said (E.held err.old) →
-        (reached : List ℕ) × IsBoundaryLine image.now.image boundary reached × Puts old (text ++ reached) result (E.held err.new) }
+    ensures puts { PutsOneBehind (IsBoundaryLine image.now.image boundary) said (E.held err.old) result (E.held err.new) }
     ensures cause { (before : ℕ) → HasCause before (E.faults err.old) said → HasCause before (E.faults err.new) result }
 {
     match boundary {

@@ -1,7 +1,8 @@
 -- What is written in a command line: its pieces, one after the other, and what each gives.
 use Rattle.std.specs.Prelude.{◌≡◌, ◌==◌, Bool, true, false, List, [], ◌∷◌, ◌++◌, Some, None}
 use Rattle.std.specs.List.{flat_map, list_any}
-use Rattle.cli_words.specs.Reading.{Entry, Form, Text, is_in, is_value, look, plain}
+use Rattle.cli_words.specs.Reading.{Entry, Form, Text, is_in, is_value, look, plain, reads}
+use Rattle.cli_words.specs.Given.{IsGiven}
 
 pub data Piece : Type 0 where
   -- a plain word, for this name of the row
@@ -67,3 +68,11 @@ pub record IsSpelledBy (AreIts : List Piece → Type 0) (names : List Text) (wor
 
 abbrev pub IsSpelled : Form → List Text → List Entry → Type 0
 IsSpelled f = IsSpelledBy (IsLine f) f.plain
+
+-- words that give this have it written in them
+abbrev pub IsWritten : Form → List Text → List Entry → Type 0
+IsWritten f words given = reads f words ≡ Some given → IsSpelled f words given
+
+-- words in which this is written, each name once and none missing, give it
+abbrev pub IsTaken : Form → List Text → List Entry → Type 0
+IsTaken f words given = IsSpelled f words given → IsGiven f given → reads f words ≡ Some given

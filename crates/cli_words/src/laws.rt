@@ -3,7 +3,7 @@
 ghost use Rattle.std.specs.Prelude.{◌≡◌, List, Some};
 ghost use Rattle.cli_words.specs.Reading.{Entry, Form, Text, reads};
 ghost use Rattle.cli_words.specs.Given.{IsGiven};
-ghost use Rattle.cli_words.specs.Spelled.{IsSpelled};
+ghost use Rattle.cli_words.specs.Spelled.{IsTaken, IsWritten};
 ghost use Rattle.cli_words.specs.Table.{form_for};
 ghost use Rattle.cli_words.specs.declared.table.CommandName.{CommandName};
 
@@ -15,7 +15,6 @@ pub fn each_name_is_given_once()
 /// What a command's words give is written in them: options with their values, flags, and plain words in the order of its row.
 /// Words in which that is written are taken, where each name is given once.
 pub fn what_is_given_is_written()
-    ensures written { (f : Form) (words : List Text) (given : List Entry) → reads f words ≡ Some given → IsSpelled f words given }
-    ensures read { (command : CommandName) (words : List Text) (given : List Entry) →
-        IsSpelled (form_for command) words given → IsGiven (form_for command) given → reads (form_for command) words ≡ Some given }
+    ensures written { (f : Form) (words : List Text) (given : List Entry) → IsWritten f words given }
+    ensures read { (name : CommandName) (words : List Text) (given : List Entry) → IsTaken (form_for name) words given }
 {}

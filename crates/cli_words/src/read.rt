@@ -1,11 +1,9 @@
 //! What the words of a command line ask for.
 
-ghost use Rattle.std.specs.Prelude.{◌≡◌, IfOk, IfSome, List, is_some, map, string_bytes};
+ghost use Rattle.std.specs.Prelude.{◌≡◌, IfOk, IfSome, is_some, map, string_bytes};
 ghost use Rattle.std.specs.Option.{option_map};
-ghost use Rattle.cli_words.specs.Reading.{Entry};
-ghost use Rattle.cli_words.specs.Table.{form_for};
-ghost use Rattle.cli_words.specs.Taking.{HoldsGiven};
-ghost use Rattle.cli_words.specs.Words.{AnswersAs, HasJobLimits, HasLimits, asked, asked_of, assemble_of, cache_of, compile_of, debug_of, job_asked, job_in, list_of, micro_of, print_micro_of, profile_of, reference_of, request_of, rewind_of, run_of, run_own_of, run_pipeline_of, soak_of, tiny_of, trace_of, verify_of};
+ghost use Rattle.cli_words.specs.Asking.{IsAskedBy};
+ghost use Rattle.cli_words.specs.Words.{AnswersAs, HasJobLimits, HasLimits, asked_of, assemble_of, cache_of, compile_of, debug_of, job_asked, job_in, list_of, micro_of, print_micro_of, profile_of, reference_of, request_of, rewind_of, run_of, run_own_of, run_pipeline_of, soak_of, tiny_of, trace_of, verify_of};
 
 use crate::error::WordsError;
 use crate::options::{
@@ -19,7 +17,7 @@ use std::alloc::Global;
 
 fn assemble<'a>(matches: &ArgMatches<'a>) -> Option<Request<'a>>
     ensures limits { IfSome result HasLimits }
-    ensures asks { (g : List Entry) → HoldsGiven (form_for CommandName.Assemble) g matches.now → option_map asked result ≡ assemble_of g }
+    ensures asks { IsAskedBy CommandName.Assemble assemble_of matches.now result }
 {
     let source = matches.get_str("SOURCE")?;
     let image = matches.get_str("IMAGE")?;
@@ -28,7 +26,7 @@ fn assemble<'a>(matches: &ArgMatches<'a>) -> Option<Request<'a>>
 
 fn list<'a>(matches: &ArgMatches<'a>) -> Option<Request<'a>>
     ensures limits { IfSome result HasLimits }
-    ensures asks { (g : List Entry) → HoldsGiven (form_for CommandName.List) g matches.now → option_map asked result ≡ list_of g }
+    ensures asks { IsAskedBy CommandName.List list_of matches.now result }
 {
     let file = matches.get_str("FILE")?;
     let map = map_in(matches.get_str("map"))?;
@@ -37,7 +35,7 @@ fn list<'a>(matches: &ArgMatches<'a>) -> Option<Request<'a>>
 
 fn verify<'a>(matches: &ArgMatches<'a>) -> Option<Request<'a>>
     ensures limits { IfSome result HasLimits }
-    ensures asks { (g : List Entry) → HoldsGiven (form_for CommandName.Verify) g matches.now → option_map asked result ≡ verify_of g }
+    ensures asks { IsAskedBy CommandName.Verify verify_of matches.now result }
 {
     let file = matches.get_str("FILE")?;
     let map = map_in(matches.get_str("map"))?;
@@ -63,7 +61,7 @@ fn job_in<'a>(matches: &ArgMatches<'a>) -> Option<Job<'a>>
 
 fn run<'a>(matches: &ArgMatches<'a>) -> Option<Request<'a>>
     ensures limits { IfSome result HasLimits }
-    ensures asks { (g : List Entry) → HoldsGiven (form_for CommandName.Run) g matches.now → option_map asked result ≡ run_of g }
+    ensures asks { IsAskedBy CommandName.Run run_of matches.now result }
 {
     let job = job_in(matches)?;
     let mode = Mode::Shipped;
@@ -72,7 +70,7 @@ fn run<'a>(matches: &ArgMatches<'a>) -> Option<Request<'a>>
 
 fn run_own<'a>(matches: &ArgMatches<'a>) -> Option<Request<'a>>
     ensures limits { IfSome result HasLimits }
-    ensures asks { (g : List Entry) → HoldsGiven (form_for CommandName.Run) g matches.now → option_map asked result ≡ run_own_of g }
+    ensures asks { IsAskedBy CommandName.Run run_own_of matches.now result }
 {
     let job = job_in(matches)?;
     let micro = matches.get_str("micro")?;
@@ -82,7 +80,7 @@ fn run_own<'a>(matches: &ArgMatches<'a>) -> Option<Request<'a>>
 
 fn run_pipeline<'a>(matches: &ArgMatches<'a>) -> Option<Request<'a>>
     ensures limits { IfSome result HasLimits }
-    ensures asks { (g : List Entry) → HoldsGiven (form_for CommandName.Run) g matches.now → option_map asked result ≡ run_pipeline_of g }
+    ensures asks { IsAskedBy CommandName.Run run_pipeline_of matches.now result }
 {
     let file = matches.get_str("FILE")?;
     let bound = bound_in(matches.get_str("bound"))?;
@@ -92,7 +90,7 @@ fn run_pipeline<'a>(matches: &ArgMatches<'a>) -> Option<Request<'a>>
 
 fn trace<'a>(matches: &ArgMatches<'a>) -> Option<Request<'a>>
     ensures limits { IfSome result HasLimits }
-    ensures asks { (g : List Entry) → HoldsGiven (form_for CommandName.Trace) g matches.now → option_map asked result ≡ trace_of g }
+    ensures asks { IsAskedBy CommandName.Trace trace_of matches.now result }
 {
     let job = job_in(matches)?;
     let micro = matches.get_str("micro");
@@ -103,7 +101,7 @@ fn trace<'a>(matches: &ArgMatches<'a>) -> Option<Request<'a>>
 
 fn profile<'a>(matches: &ArgMatches<'a>) -> Option<Request<'a>>
     ensures limits { IfSome result HasLimits }
-    ensures asks { (g : List Entry) → HoldsGiven (form_for CommandName.Profile) g matches.now → option_map asked result ≡ profile_of g }
+    ensures asks { IsAskedBy CommandName.Profile profile_of matches.now result }
 {
     let job = job_in(matches)?;
     let micro = matches.get_str("micro");
@@ -113,7 +111,7 @@ fn profile<'a>(matches: &ArgMatches<'a>) -> Option<Request<'a>>
 
 fn debug<'a>(matches: &ArgMatches<'a>) -> Option<Request<'a>>
     ensures limits { IfSome result HasLimits }
-    ensures asks { (g : List Entry) → HoldsGiven (form_for CommandName.Debug) g matches.now → option_map asked result ≡ debug_of g }
+    ensures asks { IsAskedBy CommandName.Debug debug_of matches.now result }
 {
     let job = job_in(matches)?;
     let micro = matches.get_str("micro");
@@ -124,7 +122,7 @@ fn debug<'a>(matches: &ArgMatches<'a>) -> Option<Request<'a>>
 
 fn reference<'a>(matches: &ArgMatches<'a>) -> Option<Request<'a>>
     ensures limits { IfSome result HasLimits }
-    ensures asks { (g : List Entry) → HoldsGiven (form_for CommandName.Reference) g matches.now → option_map asked result ≡ reference_of g }
+    ensures asks { IsAskedBy CommandName.Reference reference_of matches.now result }
 {
     let job = job_in(matches)?;
     let mode = Mode::Reference;
@@ -133,7 +131,7 @@ fn reference<'a>(matches: &ArgMatches<'a>) -> Option<Request<'a>>
 
 fn micro<'a>(matches: &ArgMatches<'a>) -> Option<Request<'a>>
     ensures limits { IfSome result HasLimits }
-    ensures asks { (g : List Entry) → HoldsGiven (form_for CommandName.Micro) g matches.now → option_map asked result ≡ micro_of g }
+    ensures asks { IsAskedBy CommandName.Micro micro_of matches.now result }
 {
     let mal = matches.get_str("MAL")?;
     let store = matches.get_str("STORE")?;
@@ -147,7 +145,7 @@ fn micro<'a>(matches: &ArgMatches<'a>) -> Option<Request<'a>>
 
 fn print_micro<'a>(matches: &ArgMatches<'a>) -> Option<Request<'a>>
     ensures limits { IfSome result HasLimits }
-    ensures asks { (g : List Entry) → HoldsGiven (form_for CommandName.PrintMicro) g matches.now → option_map asked result ≡ print_micro_of g }
+    ensures asks { IsAskedBy CommandName.PrintMicro print_micro_of matches.now result }
 {
     let file = matches.get_str("FILE");
     let machine = machine_in(matches.get_str("machine"))?;
@@ -156,7 +154,7 @@ fn print_micro<'a>(matches: &ArgMatches<'a>) -> Option<Request<'a>>
 
 fn soak<'a>(matches: &ArgMatches<'a>) -> Option<Request<'a>>
     ensures limits { IfSome result HasLimits }
-    ensures asks { (g : List Entry) → HoldsGiven (form_for CommandName.Soak) g matches.now → option_map asked result ≡ soak_of g }
+    ensures asks { IsAskedBy CommandName.Soak soak_of matches.now result }
 {
     let seed = seed_in(matches.get_str("SEED")?)?;
     let size = size_in(matches.get_str("SIZE")?)?;
@@ -170,7 +168,7 @@ fn soak<'a>(matches: &ArgMatches<'a>) -> Option<Request<'a>>
 
 fn cache<'a>(matches: &ArgMatches<'a>) -> Option<Request<'a>>
     ensures limits { IfSome result HasLimits }
-    ensures asks { (g : List Entry) → HoldsGiven (form_for CommandName.Cache) g matches.now → option_map asked result ≡ cache_of g }
+    ensures asks { IsAskedBy CommandName.Cache cache_of matches.now result }
 {
     let file = matches.get_str("FILE")?;
     let lines = lines_in(matches.get_str("LINES")?)?;
@@ -186,7 +184,7 @@ fn cache<'a>(matches: &ArgMatches<'a>) -> Option<Request<'a>>
 
 fn rewind<'a>(matches: &ArgMatches<'a>) -> Option<Request<'a>>
     ensures limits { IfSome result HasLimits }
-    ensures asks { (g : List Entry) → HoldsGiven (form_for CommandName.Rewind) g matches.now → option_map asked result ≡ rewind_of g }
+    ensures asks { IsAskedBy CommandName.Rewind rewind_of matches.now result }
 {
     let file = matches.get_str("FILE")?;
     let machine = machine_in(matches.get_str("machine"))?;
@@ -204,7 +202,7 @@ fn rewind<'a>(matches: &ArgMatches<'a>) -> Option<Request<'a>>
 
 fn compile<'a>(matches: &ArgMatches<'a>) -> Option<Request<'a>>
     ensures limits { IfSome result HasLimits }
-    ensures asks { (g : List Entry) → HoldsGiven (form_for CommandName.Compile) g matches.now → option_map asked result ≡ compile_of g }
+    ensures asks { IsAskedBy CommandName.Compile compile_of matches.now result }
 {
     let tiny = matches.get_str("TINY")?;
     let image = matches.get_str("IMAGE")?;
@@ -213,7 +211,7 @@ fn compile<'a>(matches: &ArgMatches<'a>) -> Option<Request<'a>>
 
 fn tiny<'a>(matches: &ArgMatches<'a>) -> Option<Request<'a>>
     ensures limits { IfSome result HasLimits }
-    ensures asks { (g : List Entry) → HoldsGiven (form_for CommandName.Tiny) g matches.now → option_map asked result ≡ tiny_of g }
+    ensures asks { IsAskedBy CommandName.Tiny tiny_of matches.now result }
 {
     let tiny = matches.get_str("TINY")?;
     let machine = machine_in(matches.get_str("machine"))?;
@@ -228,7 +226,7 @@ fn tiny<'a>(matches: &ArgMatches<'a>) -> Option<Request<'a>>
 /// What a command asks for, or nothing where a value is none of its option's.
 fn request_in<'a>(command: CommandName, matches: &ArgMatches<'a>) -> Option<Request<'a>>
     ensures limits { IfSome result HasLimits }
-    ensures asks { (g : List Entry) → HoldsGiven (form_for command) g matches.now → option_map asked result ≡ asked_of command g }
+    ensures asks { IsAskedBy command (asked_of command) matches.now result }
 {
     match command {
         CommandName::Assemble => assemble(matches),
