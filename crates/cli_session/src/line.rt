@@ -31,13 +31,15 @@ pub(crate) fn read_line<S: Source>(
 {
     line.clear();
     'bytes: while line.len() < LINE_BYTES {
-        let Some(byte) = console.get()? else {
-            return Ok(cut(line.is_empty()));
-        };
-        if byte == b'\n' {
-            return Ok(Read::Line);
+        match console.get()? {
+            Some(byte) => {
+                if byte == b'\n' {
+                    return Ok(Read::Line);
+                }
+                line.push(byte);
+            }
+            None => return Ok(cut(line.is_empty())),
         }
-        line.push(byte);
     }
     Ok(Read::Line)
 }
