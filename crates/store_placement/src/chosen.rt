@@ -52,8 +52,6 @@ pub fn place(constraints: &Constraints) -> Result<Placement, PlaceError>
     ensures within { AreWithin constraints.now.fixed constraints.now.pairs }
     ensures err { (e : PlaceError) → (result ≡ Err e) ↔ Refuses constraints.now e }
 {
-    match addresses_for(&constraints.fixed, &constraints.pairs) {
-        Ok(addresses) => Ok(Placement::of(addresses)),
-        Err(e) => Err(e),
-    }
+    let addresses = addresses_for(&constraints.fixed, &constraints.pairs)?;
+    Ok(Placement::of(addresses))
 }

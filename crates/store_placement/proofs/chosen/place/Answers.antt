@@ -1,4 +1,5 @@
 use Rattle.std.proofs.Common.{◌≡◌, ℕ, Option, Err, List, slice_index, subst, ap, ◌∙◌}
+use Rattle.std.proofs.lemmas.Result.{err_from_is_err_and}
 use Rattle.store_placement.specs.declared.pair.Pair.{Pair}
 use Rattle.store_placement.specs.declared.refusal.PlaceError.{PlaceError}
 use Rattle.store_placement.specs.Chosen.{IsChosenList}
@@ -19,38 +20,42 @@ within : (d : Demands) (fixed : List (Option ℕ)) (pairs : List Pair) → AreWi
 unfolding made
 within d fixed pairs h is = let W : Demands → Type 0 = λ e. AreWithin e.fixed e.pairs in subst W is h
 
-pub returns-in-Ok-clause-err : goal.returns-in-Ok-clause-err
+pub returns-clause-err : goal.returns-clause-err
 unfolding made
-returns-in-Ok-clause-err c =
+returns-clause-err c =
     let d = c.args.constraints.now in
     let inside = c.constraints.inside in
     let f : c.deref.result.now ≡ inside.fixed.items = cc in
     let p : c.deref-2.result.now ≡ inside.pairs.items = cc in
     let same = same_demands d inside.fixed.items c.deref.result.now inside.pairs.items c.deref-2.result.now f p c.constraints.view_is in
-    let P : Demands → Type 0 = λ e. IsChosenList e c.in-Ok.addresses.items in
-    let chosen : IsChosenList d c.in-Ok.addresses.items = subst P same c.in-Ok.ensures in
-    λ e. (λ is. cc, λ is. absurd (refused d (within d inside.fixed.items inside.pairs.items c.constraints.invariant c.constraints.view_is) e is (slice_index c.in-Ok.addresses.items, chosen.places.places)))
+    let P : Demands → Type 0 = λ e. IsChosenList e c.in_ok-addresses.addresses.items in
+    let chosen : IsChosenList d c.in_ok-addresses.addresses.items = subst P same c.in_ok-addresses.ensures in
+    λ e. (λ is. cc, λ is. absurd (refused d (within d inside.fixed.items inside.pairs.items c.constraints.invariant c.constraints.view_is) e is (slice_index c.in_ok-addresses.addresses.items, chosen.places.places)))
 
-pub returns-in-Err-clause-ok : goal.returns-in-Err-clause-ok
+pub returns-in_err-addresses-clause-ok : goal.returns-in_err-addresses-clause-ok
 unfolding made
-returns-in-Err-clause-ok c =
+returns-in_err-addresses-clause-ok c =
     let d = c.args.constraints.now in
     let inside = c.constraints.inside in
     let f : c.deref.result.now ≡ inside.fixed.items = cc in
     let p : c.deref-2.result.now ≡ inside.pairs.items = cc in
     let same = same_demands d inside.fixed.items c.deref.result.now inside.pairs.items c.deref-2.result.now f p c.constraints.view_is in
-    let P : Demands → Type 0 = λ e. Refuses e c.in-Err.e in
-    (λ is. cc, λ has. absurd (refused d (within d inside.fixed.items inside.pairs.items c.constraints.invariant c.constraints.view_is) c.in-Err.e (subst P same c.in-Err.ensures) has))
+    let P : Demands → Type 0 = λ e. Refuses e c.in_err-addresses.field-0.0 in
+    let left = err_from_is_err_and c.from_residual.result c.from_residual.ensures.1 in
+    let failed : c.from_residual.result ≡ Err c.in_err-addresses.field-0.0 = left.1 ∙ ap Err left.2 in
+    rw failed (λ is. cc, λ has. absurd (refused d (within d inside.fixed.items inside.pairs.items c.constraints.invariant c.constraints.view_is) c.in_err-addresses.field-0.0 (subst P same c.in_err-addresses.ensures) has))
 
-pub returns-in-Err-clause-err : goal.returns-in-Err-clause-err
+pub returns-in_err-addresses-clause-err : goal.returns-in_err-addresses-clause-err
 unfolding made
-returns-in-Err-clause-err c =
+returns-in_err-addresses-clause-err c =
     let d = c.args.constraints.now in
     let inside = c.constraints.inside in
     let f : c.deref.result.now ≡ inside.fixed.items = cc in
     let p : c.deref-2.result.now ≡ inside.pairs.items = cc in
     let same = same_demands d inside.fixed.items c.deref.result.now inside.pairs.items c.deref-2.result.now f p c.constraints.view_is in
-    let P : Demands → Type 0 = λ e. Refuses e c.in-Err.e in
-    let here : Refuses d c.in-Err.e = subst P same c.in-Err.ensures in
+    let P : Demands → Type 0 = λ e. Refuses e c.in_err-addresses.field-0.0 in
+    let here : Refuses d c.in_err-addresses.field-0.0 = subst P same c.in_err-addresses.ensures in
     let Q : PlaceError → Type 0 = λ e. Refuses d e in
-    λ e. (λ is. let equal : c.in-Err.e ≡ e = cc in subst Q equal here, λ is. ap Err (one_refusal d c.in-Err.e e here is))
+    let left = err_from_is_err_and c.from_residual.result c.from_residual.ensures.1 in
+    let failed : c.from_residual.result ≡ Err c.in_err-addresses.field-0.0 = left.1 ∙ ap Err left.2 in
+    rw failed (λ e. (λ is. let equal : c.in_err-addresses.field-0.0 ≡ e = cc in subst Q equal here, λ is. ap Err (one_refusal d c.in_err-addresses.field-0.0 e here is)))
