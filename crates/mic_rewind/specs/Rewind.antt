@@ -1,6 +1,9 @@
 -- What clauses see of a rewind, and how its calls change that.
-use Rattle.std.specs.Prelude.{◌≡◌, ◌<◌, ℕ, List, [], ◌∷◌, Option, None, IsSome}
-use Rattle.mic_clock.specs.Board.{IsTurned, IsCutByFault, tick_of}
+use Rattle.std.specs.Prelude.{◌≡◌, ◌<◌, ℕ, List, [], ◌∷◌, Option, None, IsSome, Result, IfErr}
+use Rattle.console_port.specs.declared.fault.BusFault.{BusFault}
+use Rattle.console_port.specs.Bus.{Stands}
+use Rattle.console_port.specs.View.{BusView}
+use Rattle.mic_clock.specs.Board.{ShowsRun, IsTurned, IsCutByFault, tick_of}
 use Rattle.mic_clock.specs.Meaning.{Meaning}
 use Rattle.mic_clock.specs.Run.{MicroRun}
 use Rattle.mic_clock.specs.View.{BoardView}
@@ -12,6 +15,14 @@ use Rattle.mic_rewind.specs.View.{HistoryView, GoesBack, appended}
 pub record RewindView (M : Type 0) : Type 0 where
   pub board : BoardView M
   pub history : HistoryView
+
+-- a flush leaves the memory, and whether the end of input was met
+abbrev pub KeepsMemoryAndInput : BusView → BusView → Type 0
+KeepsMemoryAndInput bus bus' = (bus'.words ≡ bus.words) × (bus'.console.ended ≡ bus.console.ended)
+
+-- where it fails, the bus stands for what it stood for, whatever the source may have left
+abbrev pub StandsOnErr : {K : Type 0} → (K → Option (List ℕ)) → K → BusView → K → BusView → Result Unit BusFault → Type 0
+StandsOnErr held sink bus sink' bus' result = (left : Option (List ℕ)) → IfErr result (Stands left (held sink) bus left (held sink') bus')
 
 -- the last of some states behind one
 abbrev pub last_of : Snapshot → List Snapshot → Snapshot
@@ -49,6 +60,11 @@ module _ {M State : Type 0} (state : M → State) (m : Meaning State) where
   -- where a run stands between two turns
   abbrev pub snapshot_of : MicroRun State → Snapshot
   snapshot_of r = record { moment = record { registers = m.registers r.state; counts = r.counts }; words = r.world.words }
+
+  -- the state that is kept of a board is that of each run that the board shows
+  abbrev pub KeepsStatesOfRuns : Type 0
+  KeepsStatesOfRuns =
+      (left held : Option (List ℕ)) (board : BoardView M) (r : MicroRun State) → ShowsRun state left held board r → state_of board ≡ snapshot_of r
 
   -- A board that was clocked appends the state where it stands now; one that ended keeps what there was.
   pub record Keeps (old new : RewindView M) : Type 0 where

@@ -42,6 +42,10 @@ abbrev pub stored : ℕ → Option ℕ → List ℕ → List ℕ
 stored at None words = words
 stored at (Some word) words = slice_set words at word
 
+-- this moment, behind a cycle that left this word at MAR
+abbrev pub snapshot_after : Moment → Option ℕ → List ℕ → Snapshot
+snapshot_after after word words = record { moment = after; words = stored after.registers.mar word words }
+
 -- the words before a cycle, by those after it
 abbrev pub undone : Option WrittenWord → List ℕ → List ℕ
 undone None words = words

@@ -24,9 +24,17 @@ pub record GoesBack (old new : HistoryView) : Type 0 where
   pub after : new.after ≡ old.here ∷ old.after
   pub depth : new.depth ≡ old.depth
 
+-- the history of one state, in which this many cycles may be kept
+abbrev pub history_of : Snapshot → ℕ → HistoryView
+history_of s depth = record { before = []; here = s; after = []; depth = depth }
+
 -- the cursor was at the newest state, and goes on to a new one; the oldest beyond the depth is dropped
 abbrev pub appended : HistoryView → Snapshot → HistoryView
 appended h s = record { before = keep_last h.depth (h.before ++ h.here ∷ []); here = s; after = []; depth = h.depth }
+
+-- the cursor was at the newest state, and went on to this one
+abbrev pub WentOn : HistoryView → Snapshot → HistoryView → Type 0
+WentOn old s new = (0 < old.depth) × (old.after ≡ []) × (new ≡ appended old s)
 
 -- How it is kept: the cycles up to the cursor, with so many of them after it.
 abbrev pub past : Buffer Cycle → ℕ → List Cycle

@@ -2,8 +2,8 @@
 
 ghost use Rattle.std.specs.Prelude.{◌≡◌, ◌≤◌, ◌<◌, [], ◌∷◌, length, slice_get, true, false, None, IfOk};
 ghost use Rattle.mic_clock.specs.Board.{tick_of};
-ghost use Rattle.mic_rewind.specs.States.{begin_after, stored};
-ghost use Rattle.mic_rewind.specs.View.{GoesBack, appended};
+ghost use Rattle.mic_rewind.specs.States.{begin_after, snapshot_after};
+ghost use Rattle.mic_rewind.specs.View.{GoesBack, appended, history_of};
 
 use crate::kept_cycle::KeptCycle;
 use crate::memory::{redo, take_over, undo};
@@ -55,7 +55,7 @@ impl History {
         depth: u32,
     ) -> Result<History, AllocError>
         requires { (0 < depth) × (depth ≤ 65536) }
-        ensures { IfOk result (λ h. h ≡ record { before = []; here = record { moment = here; words = memory.items }; after = []; depth = depth }) }
+        ensures { IfOk result (λ h. h ≡ history_of (record { moment = here; words = memory.items }) depth) }
     {
         Ok(History {
             first: here,
@@ -103,7 +103,7 @@ impl History {
     pub fn append(&mut self, after: Moment, tick: Tick, word: Option<u32>)
         requires newest { self.old.after ≡ [] }
         requires tick { tick ≡ tick_of self.old.here.moment.counts after.counts None }
-        ensures { self.new ≡ appended self.old (record { moment = after; words = stored after.registers.mar word self.old.here.words }) }
+        ensures { self.new ≡ appended self.old (snapshot_after after word self.old.here.words) }
     {
         let written = take_over(&mut self.memory, after.registers.mar, word);
         let dropped = self.cycles.push_back(KeptCycle {

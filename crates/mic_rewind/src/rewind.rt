@@ -1,12 +1,11 @@
 //! A board with a cursor at it, or some cycles before it.
 
-ghost use Rattle.std.specs.Prelude.{◌≡◌, ◌≢◌, ◌≤◌, ◌<◌, ◌+◌, ◌^◌, ℕ, List, [], Option, Err, IfOk, IfErr, OnOk, true, false, length, slice_get};
-ghost use Rattle.console_port.specs.Bus.{Stands};
+ghost use Rattle.std.specs.Prelude.{◌≡◌, ◌≢◌, ◌≤◌, ◌<◌, ◌+◌, ◌^◌, [], Err, IfOk, IfErr, OnOk, true, false, length, slice_get};
 ghost use Rattle.console_port.specs.Console.{HasFaultCause};
 ghost use Rattle.console_port.specs.Streams.{SinkGoesOn};
 ghost use Rattle.mic_clock.specs.Board.{GoesOn, ShowsAs};
-ghost use Rattle.mic_rewind.specs.View.{GoesBack};
-ghost use Rattle.mic_rewind.specs.Rewind.{ClocksOn, MovesOn, moment_of, state_of};
+ghost use Rattle.mic_rewind.specs.View.{GoesBack, history_of};
+ghost use Rattle.mic_rewind.specs.Rewind.{ClocksOn, KeepsMemoryAndInput, MovesOn, StandsOnErr, moment_of, state_of};
 
 use crate::history::History;
 use crate::moment::Moment;
@@ -70,7 +69,7 @@ impl<M: Clocked> Rewind<M> {
         requires memory { length board.bus.words ≡ image.now.map.stack_end }
         requires depth { (0 < depth) × (depth ≤ 65536) }
         ensures board { IfOk result (λ r. r.board ≡ board) }
-        ensures history { IfOk result (λ r. r.history ≡ record { before = []; here = state_of M.state M.meaning board; after = []; depth = depth }) }
+        ensures history { IfOk result (λ r. r.history ≡ history_of (state_of M.state M.meaning board) depth) }
     {
         let memory = words_of(alloc, &board, image.map().stack_end)?;
         let history = History::new(alloc, moment_of(&board), memory, depth)?;
@@ -110,10 +109,9 @@ impl<M: Clocked> Rewind<M> {
     pub fn flush<K: Sink>(&mut self, sink: &mut K) -> Result<(), BusFault>
         ensures history { self.new.history ≡ self.old.history }
         ensures board { self.new.board ≡ record self.old.board { bus = self.new.board.bus } }
-        ensures others { (self.new.board.bus.words ≡ self.old.board.bus.words)
-            × (self.new.board.bus.console.ended ≡ self.old.board.bus.console.ended) }
+        ensures others { KeepsMemoryAndInput self.old.board.bus self.new.board.bus }
         ensures ok { OnOk result (ShowsAs M.state (K.held sink.old) self.old.board (K.held sink.new) self.new.board (λ r. r)) }
-        ensures err { (left : Option (List ℕ)) → IfErr result (Stands left (K.held sink.old) self.old.board.bus left (K.held sink.new) self.new.board.bus) }
+        ensures err { StandsOnErr K.held sink.old self.old.board.bus sink.new self.new.board.bus result }
         ensures fault { IfErr result (λ e. e ≡ BusFault.WriteFault) }
         ensures kept { self.new.board.bus.console.kept ≡ [] }
         ensures sink { SinkGoesOn K.held K.passed (result ≡ Err BusFault.WriteFault) sink.old sink.new }
