@@ -37,3 +37,11 @@ pub record IsBook (program : MalView) (placement : List ℕ) (image : ImageView)
 -- the book of what a session lists
 abbrev pub IsBookOf : ListingView → Book → Type 0
 IsBookOf l book = IsBook l.program l.placement l.image book
+
+-- this holds by each book of a listing
+abbrev pub ByBook : ListingView → (Book → Type 0) → Type 0
+ByBook l Holds = (book : Book) → IsBookOf l book → Holds book
+
+-- a reached instruction begins at a byte address
+abbrev pub BeginsAt : ImageView → ℕ → Instr → Type 0
+BeginsAt image at i = IsKind image at Start × (instr_at image.text at ≡ Some i)

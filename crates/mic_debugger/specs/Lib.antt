@@ -6,6 +6,7 @@ pub mod Clocking
 pub mod Outcome
 pub mod Session
 pub mod Plans
+pub mod Shown
 pub mod InTime
 pub mod Stand
 pub mod Obeys

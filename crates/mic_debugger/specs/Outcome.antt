@@ -27,19 +27,23 @@ pub record KeepFronts (out_old out_new err_old err_new : Option (List ℕ)) : Ty
   pub out : (front : List ℕ) → Holds front out_old → Holds front out_new
   pub err : (front : List ℕ) → Holds front err_old → Holds front err_new
 
--- no sink failed, and `out` has passed on all that it holds, where it had before
+-- No sink failed, and `out` has passed on all that it holds, where it had before
 pub record NoSinkFailed (old new : Streams) : Type 0 where
   pub flushed : StaysFlushed old.out.held old.out.passed new.out.held new.out.passed
   pub out : new.out.faults ≡ old.out.faults
   pub err : new.err.faults ≡ old.err.faults
 
+-- the count of one of two sinks rose
+abbrev pub EitherRose : ℕ → ℕ → ℕ → ℕ → Type 0
+EitherRose out out' err err' = Rose out out' ⊎ Rose err err'
+
 abbrev pub SinkFailed : Streams → Streams → Type 0
-SinkFailed old new = Rose old.out.faults new.out.faults ⊎ Rose old.err.faults new.err.faults
+SinkFailed old new = EitherRose old.out.faults new.out.faults old.err.faults new.err.faults
 
 -- a call fails only where the count of one of its two sinks rose, and every other answer leaves both
 pub record HasSinkCause {T E : Type 0} (out out' err err' : ℕ) (result : Result T E) : Type 0 where
   pub quiet : OnOk result ((out' ≡ out) × (err' ≡ err))
-  pub rose : OnErr result (Rose out out' ⊎ Rose err err')
+  pub rose : OnErr result (EitherRose out out' err err')
 
 module _ {M State : Type 0} (state : M → State) (listing : ListingView) (old new : Streams) (board board' : BoardView M) where
   -- By its book, `err` got a text, and each run that the first board shows is led on so.

@@ -1,7 +1,8 @@
 -- Where a session leads a board, and what it prints.
-use Rattle.std.specs.Prelude.{◌≡◌, ◌≢◌, ◌⊎◌, ℕ, ◌+◌, ◌<◌, Bool, List, ◌++◌, Option, Some, Result, OnOk, OnErr, IfOk}
+use Rattle.std.specs.Prelude.{◌≡◌, ◌≢◌, ◌⊎◌, ℕ, ◌+◌, ◌<◌, Bool, true, List, ◌++◌, Option, Some, None, Result, OnOk, OnErr, IfOk}
 use Rattle.mic_base.specs.Causes.{HasCause, Rose}
-use Rattle.mic_base.specs.Streams.{Holds}
+use Rattle.mic_base.specs.Streams.{Holds, Puts}
+use Rattle.mic_clock.specs.declared.counts.Counts.{Counts}
 use Rattle.mic_clock.specs.declared.end.End.{End}
 use Rattle.mic_clock.specs.Meaning.{Meaning}
 use Rattle.mic_clock.specs.Run.{MicroRun, number_of, word_at, turns}
@@ -11,9 +12,9 @@ use Rattle.mic_clock.specs.declared.end.End.TheVariants as ends
 use Rattle.cli_outside.specs.Outside.{Got, GotInPart}
 use Rattle.cli_session.specs.Meaning.{IsFrontOf}
 use Rattle.mic_debugger.specs.declared.until.Until.{Until}
-use Rattle.mic_debugger.specs.Book.{Book, IsBookOf}
+use Rattle.mic_debugger.specs.Book.{Book, ByBook, IsBookOf}
 use Rattle.cli_session.specs.Texts.{end_line}
-use Rattle.mic_debugger.specs.Clocking.{turn_text, counted_turn, after, printed, passed, IsGoing, IsTold}
+use Rattle.mic_debugger.specs.Clocking.{first_piece, second_piece, turn_text, counted_turn, after, printed, passed, IsGoing, IsTold}
 use Rattle.mic_debugger.specs.View.{ListingView}
 
 -- a failing source ends a board, and only that raises its count
@@ -26,6 +27,26 @@ abbrev pub text_between : {M State : Type 0} → (M → State) → Meaning State
 text_between state m book breaks u board board' =
     turn_text book breaks u (m.registers (state board.machine)).mpc (m.drives (word_at m board.store.words (state board.machine)) (state board.machine)).stalled
     board'.counts (m.registers (state board'.machine)) board'.bus.words board'.end
+
+-- The pieces that are printed of a turn that is waited for, and all that is put of a turn, by the book of a listing.
+
+abbrev pub IsFirstPiece : ListingView → List ℕ → Until → ℕ → Bool → Counts → List ℕ → Type 0
+IsFirstPiece listing breaks u mpc stalled c piece = ByBook listing (λ book. piece ≡ first_piece book breaks u mpc stalled c)
+
+abbrev pub IsSecondPiece : {M State : Type 0} → (M → State) → Meaning State → ListingView → List ℕ → Until → BoardView M → List ℕ → Type 0
+IsSecondPiece state m listing breaks u board piece = ByBook listing (λ book. piece ≡ second_piece book breaks u (m.registers (state board.machine)))
+
+abbrev pub PutsTurn : {M State E X : Type 0} → (M → State) → Meaning State → (E → Option (List ℕ)) → ListingView → List ℕ → Until →
+    ℕ → BoardView M → E → E → Result Unit X → Type 0
+PutsTurn state m held listing breaks u mpc board err err' result =
+    ByBook listing (λ book.
+    Puts (held err) (turn_text book breaks u mpc board.buses.drive.stalled board.counts (m.registers (state board.machine)) board.bus.words board.end)
+    result (held err'))
+
+-- a turn from a boundary that does not end the board begins below the bound
+abbrev pub IsClockedBelow : {M State : Type 0} → (M → State) → Meaning State → ℕ → BoardView M → BoardView M → Type 0
+IsClockedBelow state m bound board board' =
+    board'.end ≡ None → m.is_boundary (state board.machine) ≡ true → board.counts.cycles < bound
 
 -- A turn from one board to the next is printed: `err` gets its text, or a front of it where it fails, and nothing where a failing
 -- `out` ended the board. The answer says whether the turn is one that is waited for.

@@ -3,14 +3,13 @@
 ghost use Rattle.std.specs.Prelude.{◌≡◌, ◌⊎◌, ◌<◌, ◌≤◌, ◌+◌, ◌^◌, ◌==◌, ◌-◌, ℕ, List, Option, Some, None, OnOk, OnErr, IsSome, false, true};
 ghost use Rattle.std.specs.List.{list_any};
 ghost use Rattle.mic_base.specs.Causes.{HasCause};
-ghost use Rattle.mic_base.specs.Streams.{Holds, Puts};
+ghost use Rattle.mic_base.specs.Streams.{Holds};
 ghost use Rattle.mic_clock.specs.Run.{number_of};
 ghost use Rattle.mic_clock.specs.Board.{GoesOn, IsCountedTurn, IsTurned, RunIsCutByRead, TurnIsCut};
-ghost use Rattle.mic_debugger.specs.Book.{Book, IsBookOf};
 ghost use Rattle.mic_debugger.specs.InTime.{InTime};
 ghost use Rattle.cli_session.specs.Texts.{end_line};
-ghost use Rattle.mic_debugger.specs.Clocking.{comes, first_piece, has_break, has_changed, is_at_boundary, second_piece, turn_text};
-ghost use Rattle.mic_debugger.specs.Session.{HasReadCause, IsPrinted};
+ghost use Rattle.mic_debugger.specs.Clocking.{comes, has_break, has_changed, is_at_boundary};
+ghost use Rattle.mic_debugger.specs.Session.{HasReadCause, IsClockedBelow, IsFirstPiece, IsPrinted, IsSecondPiece, PutsTurn};
 ghost use Rattle.mic_debugger.specs.Obeys.{IsCarriedOut, IsPlanBroken, session_at};
 ghost use Rattle.mic_debugger.specs.Outcome.{KeepFronts, streams};
 ghost use Rattle.mic_debugger.specs.declared.plan.Plan.TheVariants as plans;
@@ -87,8 +86,7 @@ impl Clocking<'_> {
     /// The first piece of what is printed of a turn that is waited for.
     fn first_piece(&self, mpc: u16, stalled: bool, counts: &Counts) -> Line
         requires { mpc < 512 }
-        ensures { (book : Book) → IsBookOf self.now.listing.now book →
-            result ≡ first_piece book self.now.breaks.now self.now.until mpc stalled counts.now }
+        ensures { IsFirstPiece self.now.listing.now self.now.breaks.now self.now.until mpc stalled counts.now result }
     {
         let mut line = Line::new();
         match self.until {
@@ -108,8 +106,7 @@ impl Clocking<'_> {
 
     /// The second piece.
     fn second_piece<M: Clocked>(&self, board: &Board<M>) -> Line
-        ensures { (book : Book) → IsBookOf self.now.listing.now book →
-            result ≡ second_piece book self.now.breaks.now self.now.until (M.meaning.registers (M.state board.now.machine)) }
+        ensures { IsSecondPiece M.state M.meaning self.now.listing.now self.now.breaks.now self.now.until board.now result }
     {
         let mpc = board.mpc();
         match self.until {
@@ -126,9 +123,8 @@ impl Clocking<'_> {
         err: &mut E,
     ) -> Result<(), SinkFailed>
         requires { mpc < 512 }
-        ensures puts { (book : Book) → IsBookOf self.now.listing.now book →
-            Puts (E.held err.old) (turn_text book self.now.breaks.now self.now.until mpc board.now.buses.drive.stalled board.now.counts
-            (M.meaning.registers (M.state board.now.machine)) board.now.bus.words board.now.end) result (E.held err.new) }
+        ensures puts { PutsTurn M.state M.meaning E.held self.now.listing.now self.now.breaks.now self.now.until
+            mpc board.now err.old err.new result }
         ensures keeps { (front : List ℕ) → Holds front (E.held err.old) → Holds front (E.held err.new) }
         ensures passed { E.passed err.new ≡ E.passed err.old }
         ensures cause { HasCause (E.faults err.old) (E.faults err.new) result }
@@ -162,7 +158,7 @@ impl Clocking<'_> {
         ensures write { TurnIsCut M.state M.meaning self.now.bound (S.left input.old) (K.held out.old) board.old (S.left input.new)
             (K.held out.new) board.new }
         ensures goes_on { GoesOn S.left S.faults K.held K.passed K.faults input.old out.old board.old input.new out.new board.new }
-        ensures below { board.new.end ≡ None → M.meaning.is_boundary (M.state board.old.machine) ≡ true → board.old.counts.cycles < self.now.bound }
+        ensures below { IsClockedBelow M.state M.meaning self.now.bound board.old board.new }
         ensures counted { IsCountedTurn M.state M.meaning board.old board.new }
         ensures printed { IsPrinted M.state M.meaning E.held E.faults self.now.listing.now self.now.breaks.now self.now.until
             board.old board.new err.old err.new result }

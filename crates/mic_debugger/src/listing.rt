@@ -3,10 +3,9 @@
 ghost use Rattle.std.specs.Prelude.{◌≡◌, ◌<◌, ◌≤◌, ◌+◌, ◌++◌, length, Some, None, codes};
 ghost use Rattle.store_placement.specs.Placement.{Places};
 ghost use Rattle.store_placement.specs.Program.{demands_of};
-ghost use Rattle.ijvm_instr.specs.Instructions.{instr_at};
 ghost use Rattle.verifier_facts.specs.Kinds.{IsKind};
 ghost use Rattle.mic_base.specs.Digits.{hex_text};
-ghost use Rattle.mic_debugger.specs.Book.{Book, IsBookOf, unused_text};
+ghost use Rattle.mic_debugger.specs.Book.{BeginsAt, ByBook, unused_text};
 ghost use Rattle.mic_debugger.specs.Lines.{clocked_line, cycle_text, place_line, place_text, next_line};
 ghost use Rattle.mic_debugger.specs.View.{listing_of};
 
@@ -41,7 +40,7 @@ impl Model for Listing {
 
 /// The instruction that begins at a byte address, where a reached one does.
 fn reached(program: &VerifiedImage, at: u32) -> Option<Instr>
-    ensures some { (i : Instr) → result ≡ Some i → IsKind program.now.image at Kind.Start × (instr_at program.now.image.text at ≡ Some i) }
+    ensures some { (i : Instr) → result ≡ Some i → BeginsAt program.now.image at i }
     ensures none { result ≡ None → IsKind program.now.image at Kind.Start → ⊥ }
 {
     let image = program.image();
@@ -74,7 +73,7 @@ impl Listing {
     /// Appends the label of the statement at an address of the store.
     fn label(&self, mpc: u16, line: &mut Line)
         requires { length line.old + 64 ≤ 512 }
-        ensures text { (book : Book) → IsBookOf self.now book → line.new ≡ line.old ++ book.label mpc }
+        ensures text { ByBook self.now (λ book. line.new ≡ line.old ++ book.label mpc) }
         ensures len { length line.new ≤ length line.old + 64 }
     {
         match statement_at(&self.program, &self.placement, mpc) {
@@ -89,7 +88,7 @@ impl Listing {
     /// Appends the text of the statement at an address of the store.
     fn text(&self, mpc: u16, line: &mut Line)
         requires { length line.old + 256 ≤ 512 }
-        ensures text { (book : Book) → IsBookOf self.now book → line.new ≡ line.old ++ book.text mpc }
+        ensures text { ByBook self.now (λ book. line.new ≡ line.old ++ book.text mpc) }
         ensures len { length line.new ≤ length line.old + 256 }
     {
         match statement_at(&self.program, &self.placement, mpc) {
@@ -114,7 +113,7 @@ impl Listing {
     /// Appends the text of a cycle's statement, `stall` where it was one.
     fn cycle_text(&self, mpc: u16, stalled: bool, line: &mut Line)
         requires { length line.old + 256 ≤ 512 }
-        ensures text { (book : Book) → IsBookOf self.now book → line.new ≡ line.old ++ cycle_text book mpc stalled }
+        ensures text { ByBook self.now (λ book. line.new ≡ line.old ++ cycle_text book mpc stalled) }
         ensures len { length line.new ≤ length line.old + 256 }
     {
         if stalled {
@@ -128,7 +127,7 @@ impl Listing {
     #[tactic(auto, unfolding(crate::specs::Lines::clocked_line))]
     pub fn clocked_line(&self, cycles: u64, mpc: u16, stalled: bool) -> Line
         requires { mpc < 512 }
-        ensures { (book : Book) → IsBookOf self.now book → result ≡ clocked_line book cycles mpc stalled }
+        ensures { ByBook self.now (λ book. result ≡ clocked_line book cycles mpc stalled) }
     {
         let mut line = Line::new();
         number(&mut line, "", cycles);
@@ -145,7 +144,7 @@ impl Listing {
     /// Appends the last boundary's address and instruction.
     fn place(&self, boundary: Option<Boundary>, line: &mut Line)
         requires { length line.old ≤ 256 }
-        ensures { (book : Book) → IsBookOf self.now book → line.new ≡ line.old ++ place_text book boundary }
+        ensures { ByBook self.now (λ book. line.new ≡ line.old ++ place_text book boundary) }
     {
         match boundary {
             None => line.text("- -"),
@@ -156,8 +155,7 @@ impl Listing {
     /// Appends a byte address and the instruction there.
     fn instruction(&self, at: u32, line: &mut Line)
         requires { length line.old ≤ 256 }
-        ensures { (book : Book) → IsBookOf self.now book →
-            line.new ≡ line.old ++ (hex_text 8 at ++ codes " " ++ book.instruction at) }
+        ensures { ByBook self.now (λ book. line.new ≡ line.old ++ (hex_text 8 at ++ codes " " ++ book.instruction at)) }
     {
         line.hex(u64::from(at), 8);
         line.text(" ");
@@ -171,7 +169,7 @@ impl Listing {
     #[tactic(auto, unfolding(crate::specs::Lines::place_line))]
     pub fn place_line(&self, counts: &Counts, line: &mut Line)
         requires { length line.old ≤ 64 }
-        ensures { (book : Book) → IsBookOf self.now book → line.new ≡ line.old ++ place_line book counts.now }
+        ensures { ByBook self.now (λ book. line.new ≡ line.old ++ place_line book counts.now) }
     {
         number(line, "cycle ", counts.cycles);
         line.text(" at ");
@@ -182,7 +180,7 @@ impl Listing {
     #[tactic(auto, unfolding(crate::specs::Lines::next_line))]
     pub fn next_line(&self, mpc: u16) -> Line
         requires { mpc < 512 }
-        ensures { (book : Book) → IsBookOf self.now book → result ≡ next_line book mpc }
+        ensures { ByBook self.now (λ book. result ≡ next_line book mpc) }
     {
         let mut line = Line::new();
         line.text(" mpc ");

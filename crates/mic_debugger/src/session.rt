@@ -7,15 +7,13 @@ ghost use Rattle.store_placement.specs.Placement.{Places};
 ghost use Rattle.store_placement.specs.Program.{demands_of, IsFilled};
 ghost use Rattle.console_port.specs.Streams.{SinkGoesOn};
 ghost use Rattle.mic_clock.specs.Board.{AreCounts, ShowsAs};
-ghost use Rattle.mic_clock.specs.State.{state_line};
 ghost use Rattle.mic_debugger.specs.Outcome.{HasSinkCause, KeepFronts, streams};
-ghost use Rattle.mic_debugger.specs.Book.{Book, IsBookOf};
 ghost use Rattle.mic_debugger.specs.Commands.{command_of};
-ghost use Rattle.mic_debugger.specs.Lines.{stack_text, where_line};
+ghost use Rattle.mic_debugger.specs.Shown.{KeepsMemoryAndInput, PutsShown, registers_text, stack_of};
 ghost use Rattle.mic_debugger.specs.Obeys.{IsLineBroken, IsCarriedOut, IsPlanBroken, KeepsRules, Obeys, plan_in, session_at};
 ghost use Rattle.mic_debugger.specs.Session.{HasReadCause, HoldsFront};
 ghost use Rattle.mic_debugger.specs.View.{listing_of};
-ghost use Rattle.mic_debugger.specs.Plans.{breaks_after, clocking, plan_by, plan_of, reply_of, reply_text, shown_text, watched_after, watched_now};
+ghost use Rattle.mic_debugger.specs.Plans.{breaks_after, clocking, plan_by, plan_of, reply_of, reply_text, watched_after, watched_now};
 
 use crate::breakpoints::Breakpoints;
 use crate::clocking::Clocking;
@@ -167,7 +165,7 @@ impl<M: Clocked> Session<M> {
 
     /// Puts the registers.
     fn put_registers<E: Sink>(&self, err: &mut E) -> Result<(), SinkFailed>
-        ensures puts { Puts (E.held err.old) (state_line (M.meaning.registers (M.state self.now.board.machine)) ++ codes "\n") result (E.held err.new) }
+        ensures puts { Puts (E.held err.old) (registers_text M.state M.meaning self.now.board) result (E.held err.new) }
         ensures keeps { (front : List ℕ) → Holds front (E.held err.old) → Holds front (E.held err.new) }
         ensures cause { HasCause (E.faults err.old) (E.faults err.new) result }
     {
@@ -179,8 +177,7 @@ impl<M: Clocked> Session<M> {
 
     /// Puts where the run stands.
     fn put_where<E: Sink>(&self, err: &mut E) -> Result<(), SinkFailed>
-        ensures puts { (book : Book) → IsBookOf self.now.listing book →
-            Puts (E.held err.old) (where_line book self.now.board.counts (M.meaning.registers (M.state self.now.board.machine)).mpc) result (E.held err.new) }
+        ensures puts { PutsShown M.state M.meaning E.held self.now err.old err.new result Shown.Where }
         ensures keeps { (front : List ℕ) → Holds front (E.held err.old) → Holds front (E.held err.new) }
         ensures cause { HasCause (E.faults err.old) (E.faults err.new) result }
     {
@@ -193,10 +190,7 @@ impl<M: Clocked> Session<M> {
     /// Puts the memory words from LV up to SP, at most the 64 highest of them.
     #[tactic(auto, unfolding(crate::specs::Lines::stack_text))]
     fn put_stack<E: Sink>(&self, err: &mut E) -> Result<(), SinkFailed>
-        ensures puts { Puts (E.held err.old)
-            (stack_text self.now.board.bus.words self.now.listing.memory
-            (M.meaning.registers (M.state self.now.board.machine)).lv
-            (M.meaning.registers (M.state self.now.board.machine)).sp) result (E.held err.new) }
+        ensures puts { Puts (E.held err.old) (stack_of M.state M.meaning self.now) result (E.held err.new) }
         ensures keeps { (front : List ℕ) → Holds front (E.held err.old) → Holds front (E.held err.new) }
         ensures cause { HasCause (E.faults err.old) (E.faults err.new) result }
     {
@@ -208,10 +202,7 @@ impl<M: Clocked> Session<M> {
 
     /// Puts what is shown where nothing is clocked.
     fn show<E: Sink>(&self, shown: Shown, err: &mut E) -> Result<(), SinkFailed>
-        ensures puts { (book : Book) → IsBookOf self.now.listing book → Puts (E.held err.old)
-            (shown_text book self.now.listing.memory
-            (M.meaning.registers (M.state self.now.board.machine)) self.now.board.counts self.now.board.bus.words shown)
-            result (E.held err.new) }
+        ensures puts { PutsShown M.state M.meaning E.held self.now err.old err.new result shown }
         ensures keeps { (front : List ℕ) → Holds front (E.held err.old) → Holds front (E.held err.new) }
         ensures cause { HasCause (E.faults err.old) (E.faults err.new) result }
     {
@@ -266,7 +257,7 @@ impl<M: Clocked> Session<M> {
         ensures front { OnErr result (HoldsFront M.state (K.held out.old) self.old.board (K.held out.new)) }
         ensures kept { self.new.board.bus.console.kept ≡ [] }
         ensures same { self.new ≡ record self.old { board = record self.old.board { bus = self.new.board.bus } } }
-        ensures others { (self.new.board.bus.words ≡ self.old.board.bus.words) × (self.new.board.bus.console.ended ≡ self.old.board.bus.console.ended) }
+        ensures others { KeepsMemoryAndInput self.old.board.bus self.new.board.bus }
         ensures out { SinkGoesOn K.held K.passed (IsErr result) out.old out.new }
         ensures held { E.held err.new ≡ E.held err.old }
         ensures passed { OnOk result (IsFlushed (E.held err.new) (E.passed err.new)) }
