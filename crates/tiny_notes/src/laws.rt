@@ -1,21 +1,18 @@
 //! What holds of every image in which a program is laid out.
 
-ghost use Rattle.std.specs.Prelude.{ℕ};
-ghost use Rattle.console_port.specs.Map.{IsMap};
 ghost use Rattle.ijvm_image.specs.Image.{ImageView};
 ghost use Rattle.tiny_code.specs.Code.{Places};
 ghost use Rattle.tiny_code.specs.Laid.{IsLaidOut};
 ghost use Rattle.tiny_tree.specs.Named.{IsNamed};
 ghost use Rattle.tiny_tree.specs.Tree.{Program};
-ghost use Rattle.verifier_facts.specs.Facts.{Accepts};
+ghost use Rattle.tiny_notes.specs.Accepted.{AlwaysAccepts};
 
 use tiny_code::{laid_out_programs_hold, methods_are_the_others};
 use verifier_notes::listed_images_are_accepted;
 
 /// It is accepted, for either memory map, where the program's names are known.
 pub fn laid_out_programs_are_accepted()
-    ensures { (image : ImageView) (p : Places) (program : Program) (end : ℕ)
-        → IsNamed program → IsLaidOut image p program → IsMap end → Accepts image end }
+    ensures { (image : ImageView) (p : Places) (t : Program) → IsNamed t → IsLaidOut image p t → AlwaysAccepts image }
 {
     laid_out_programs_hold();
     methods_are_the_others();

@@ -1,1 +1,2 @@
 pub mod AsMeant
+pub mod Performs

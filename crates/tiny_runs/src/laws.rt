@@ -1,24 +1,21 @@
 //! What holds of the runs of every image in which a Tiny program is laid out.
 
-ghost use Rattle.std.specs.Prelude.{ℕ};
 ghost use Rattle.ijvm_image.specs.Image.{ImageView};
 ghost use Rattle.mic_words.specs.declared.machine.Machine.{Machine};
-ghost use Rattle.ijvm_meaning.specs.Cost.{Timing, timing_of};
-ghost use Rattle.ijvm_meaning.specs.Safe.{IsSafe};
+ghost use Rattle.ijvm_meaning.specs.Cost.{timing_of};
 ghost use Rattle.tiny_tree.specs.Tree.{Program};
 ghost use Rattle.tiny_tree.specs.Named.{IsNamed};
 ghost use Rattle.tiny_code.specs.Code.{Places};
 ghost use Rattle.tiny_code.specs.Laid.{IsLaidOut};
-ghost use Rattle.tiny_runs.specs.AsMeant.{Advances, RunsAsMeant, runs_of};
+ghost use Rattle.tiny_runs.specs.AsMeant.{Advances};
+ghost use Rattle.tiny_runs.specs.Performs.{Performs};
 
 use ijvm_meaning::runs_end_once;
 use tiny_code::laid_out_programs_hold;
 
 /// An image in which a program is laid out, and whose runs never get stuck, does what the program means.
 pub fn images_run_as_meant()
-    ensures as_meant { (program : Program) (p : Places) (image : ImageView) (stack_end main_locals : ℕ) (timing : Timing) →
-        IsNamed program → IsLaidOut image p program → IsSafe image stack_end main_locals → Advances timing →
-        RunsAsMeant program (runs_of image stack_end timing) main_locals }
+    ensures as_meant { (t : Program) (p : Places) (image : ImageView) → IsNamed t → IsLaidOut image p t → Performs image t }
     ensures machines { (machine : Machine) → Advances (timing_of machine) }
 {
     laid_out_programs_hold();

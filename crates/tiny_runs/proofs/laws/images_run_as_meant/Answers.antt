@@ -5,7 +5,7 @@ use Rattle.tiny_runs.proofs.laws.images_run_as_meant.Goals as goal
 pub returns : goal.returns
 returns c =
     record {
-      as_meant = λ program p image stack_end main_locals timing named laid safe advances input.
+      as_meant = λ program p image named laid stack_end main_locals timing safe advances input.
           let holds = c.laid_out_programs_hold.ensures image p program laid in
           let one = c.runs_end_once.ensures.one in
           let passed = c.runs_end_once.ensures.passed in
