@@ -8,6 +8,9 @@ use Rattle.tiny_tree.specs.Tree.{Program}
 use Rattle.tiny_parser.specs.Texts.{IsRefused, Spells}
 use Rattle.tiny_parser.specs.declared.error.TinyError.{TinyError}
 use Rattle.tiny_code.specs.Image.{IsCodeOf}
+use Rattle.mic_words.specs.declared.machine.Machine.{Machine}
+use Rattle.ijvm_meaning.specs.Cost.{timing_of}
+use Rattle.tiny_runs.specs.AsMeant.{RunsAsMeant, runs_of}
 use Rattle.tiny_compiler.specs.Image.{IsTooLarge}
 
 -- the image of the code of the text's program, in which names fit
@@ -29,3 +32,8 @@ pub record IsCompiled (text : List ℕ) (v : VerifiedView) : Type 0 where
 pub data HasNoCode (text : List ℕ) (e : TinyError) : Type 0 where
   NoProgram : IsRefused text e → HasNoCode text e
   TooLarge : (program : Program) → Spells text program → IsTooLarge program e → HasNoCode text e
+
+-- where the text spells the program and is compiled to this image, the image's runs on the machine are as the program means
+abbrev pub RunsAsSpelled : List ℕ → Program → VerifiedView → Machine → Type 0
+RunsAsSpelled text program v machine = Spells text program → IsCompiled text v →
+    RunsAsMeant program (runs_of v.image v.map.stack_end (timing_of machine)) v.main_locals

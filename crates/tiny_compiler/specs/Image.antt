@@ -3,6 +3,8 @@ use Rattle.std.specs.Prelude.{◌≡◌, ◌<◌, ◌≤◌, length, slice_get, 
 use Rattle.tiny_tree.specs.Tree.{Function, Program}
 use Rattle.tiny_parser.specs.declared.error.TinyError.{TinyError}
 use Rattle.tiny_parser.specs.declared.error.TinyError.TheVariants.{JumpTooFar, PoolTooLong, TextTooLong}
+use Rattle.tiny_emit.specs.declared.program.Emitted.{Emitted}
+use Rattle.tiny_emit.specs.Emitted.{IsEmitted}
 use Rattle.tiny_code.specs.Image.{first_far, jumps, pool_of, text_of}
 
 -- the first limit that the code exceeds, and by what
@@ -16,3 +18,8 @@ ExceedsBy program main e = ⊥
 
 abbrev pub IsTooLarge : Program → TinyError → Type 0
 IsTooLarge program e = (main : Function) × (slice_get program.functions program.main ≡ Some main) × ExceedsBy program main e
+
+-- what is emitted of a program whose pool is within its limit exceeds another one, by this
+abbrev pub EmittedExceedsBy : Emitted → TinyError → Type 0
+EmittedExceedsBy emitted e = (program : Program) (main : Function) → IsEmitted program main emitted →
+    length (pool_of program main) ≤ 16384 → ExceedsBy program main e

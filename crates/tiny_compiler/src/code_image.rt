@@ -2,12 +2,10 @@
 
 ghost use Rattle.std.specs.Prelude.{◌≡◌, ◌≤◌, IfErr, IfOk, None, OnOk, false, length};
 ghost use Rattle.tiny_tree.specs.Named.{IsNamed};
-ghost use Rattle.tiny_tree.specs.Tree as tree;
-ghost use Rattle.tiny_tree.specs.Tree.{Program};
-ghost use Rattle.tiny_code.specs.Image.{IsCodeOf, pool_of};
-ghost use Rattle.tiny_emit.specs.Emitted.{IsEmitted, program_of};
+ghost use Rattle.tiny_code.specs.Image.{IsCodeOf};
+ghost use Rattle.tiny_emit.specs.Emitted.{program_of};
 ghost use Rattle.tiny_parser.specs.Errors.{is_memory};
-ghost use Rattle.tiny_compiler.specs.Image.{ExceedsBy, IsTooLarge};
+ghost use Rattle.tiny_compiler.specs.Image.{EmittedExceedsBy, IsTooLarge};
 
 use ijvm_image::Image;
 use std::alloc::Global;
@@ -24,8 +22,7 @@ const MOST_BYTES: usize = 65536;
 /// The limits of an emitted program, in their order.
 fn within_limits(emitted: &Emitted) -> Result<(), TinyError>
     ensures ok { OnOk result ((length emitted.now.text.items ≤ 65536) × (emitted.now.far ≡ None)) }
-    ensures err { IfErr result (λ e. is_memory e ≡ false → (program : Program) (main : tree.Function) →
-        IsEmitted program main emitted.now → length (pool_of program main) ≤ 16384 → ExceedsBy program main e) }
+    ensures err { IfErr result (λ e. is_memory e ≡ false → EmittedExceedsBy emitted.now e) }
 {
     if emitted.text.len() > MOST_BYTES {
         return match u32::try_from(emitted.text.len()) {

@@ -17,10 +17,8 @@ fn text_image(alloc: Global, text: &[u8]) -> Result<Image, TinyError>
     ensures ok { IfOk result (IsImageOf text.now) }
     ensures err { IfErr result (λ e. is_memory e ≡ false → HasNoCode text.now e) }
 {
-    match parse_tiny(alloc, text) {
-        Ok(program) => code_image(alloc, program.functions(), program.main()),
-        Err(error) => Err(error),
-    }
+    let program = parse_tiny(alloc, text)?;
+    code_image(alloc, program.functions(), program.main())
 }
 
 /// The verified image of the code of a text's program, or why the text has none.
@@ -29,11 +27,9 @@ pub fn compile(alloc: Global, text: &[u8]) -> Result<VerifiedImage, TinyError>
     ensures ok { IfOk result (IsCompiled text.now) }
     ensures err { IfErr result (λ e. is_memory e ≡ false → HasNoCode text.now e) }
 {
-    match text_image(alloc, text) {
-        Ok(image) => match verified(alloc, image) {
-            Ok(program) => Ok(program),
-            Err(_) => Err(TinyError::OutOfMemory),
-        },
-        Err(error) => Err(error),
+    let image = text_image(alloc, text)?;
+    match verified(alloc, image) {
+        Ok(program) => Ok(program),
+        Err(_) => Err(TinyError::OutOfMemory),
     }
 }

@@ -6,15 +6,12 @@ ghost use Rattle.ijvm_image.specs.Image.{ImageView};
 ghost use Rattle.console_port.specs.Map.{IsMap};
 ghost use Rattle.verifier_facts.specs.Accepted.{VerifiedView};
 ghost use Rattle.verifier_facts.specs.Facts.{Accepts};
-ghost use Rattle.ijvm_meaning.specs.Cost.{timing_of};
 ghost use Rattle.tiny_code.specs.Code.{places_of};
 ghost use Rattle.tiny_code.specs.Laid.{IsLaidOut};
 ghost use Rattle.tiny_tree.specs.Named.{IsNamed};
 ghost use Rattle.tiny_tree.specs.Tree.{Program};
-ghost use Rattle.tiny_parser.specs.Texts.{Spells};
 ghost use Rattle.tiny_parser.specs.declared.error.TinyError.{TinyError};
-ghost use Rattle.tiny_runs.specs.AsMeant.{RunsAsMeant, runs_of};
-ghost use Rattle.tiny_compiler.specs.Compiled.{HasNoCode, IsCompiled};
+ghost use Rattle.tiny_compiler.specs.Compiled.{HasNoCode, IsCompiled, RunsAsSpelled};
 ghost use Rattle.tiny_code.specs.Image.{IsCodeOf, IsCoded};
 
 use tiny_code::{methods_are_the_others, written_code_stands};
@@ -24,7 +21,7 @@ use tiny_runs::images_run_as_meant;
 
 /// A law: in the image of its code a program is laid out.
 pub fn coded_programs_are_laid_out()
-    ensures { (program : Program) (image : ImageView) → IsNamed program → IsCodeOf program image → IsLaidOut image (places_of program) program }
+    ensures { (p : Program) (image : ImageView) → IsNamed p → IsCodeOf p image → IsLaidOut image (places_of p) p }
 {
     methods_are_the_others();
     written_code_stands();
@@ -40,8 +37,7 @@ pub fn coded_programs_are_accepted()
 
 /// A law: on either machine the runs of a compiled text are as its program means.
 pub fn compiled_programs_run_as_meant()
-    ensures { (text : List ℕ) (program : Program) (v : VerifiedView) (machine : Machine) → Spells text program → IsCompiled text v →
-        RunsAsMeant program (runs_of v.image v.map.stack_end (timing_of machine)) v.main_locals }
+    ensures { (text : List ℕ) (p : Program) (v : VerifiedView) (machine : Machine) → RunsAsSpelled text p v machine }
 {
     texts_have_one_reading();
     programs_are_named();

@@ -38,11 +38,9 @@ pub fn parse_tiny(alloc: Global, text: &[u8]) -> Result<TinyProgram, TinyError>
     ensures named { IfOk result (λ p. IsNamed (program_tree p)) }
     ensures err { IfErr result (λ e. is_memory e ≡ false → IsRefused text.now e) }
 {
+    let program = resolved(alloc, text)?;
     programs_are_named();
-    match resolved(alloc, text) {
-        Ok(program) => Ok(program),
-        Err(error) => Err(error),
-    }
+    Ok(program)
 }
 
 fn resolved(alloc: Global, text: &[u8]) -> Result<TinyProgram, TinyError>
@@ -50,11 +48,9 @@ fn resolved(alloc: Global, text: &[u8]) -> Result<TinyProgram, TinyError>
     ensures ok { IfOk result (λ p. Spells text.now (program_tree p)) }
     ensures err { IfErr result (λ e. is_memory e ≡ false → IsRefused text.now e) }
 {
-    match written(alloc, text) {
-        Ok(functions) => match resolve(alloc, functions) {
-            Ok(program) => Ok(program),
-            Err(unresolved) => Err(names_error(unresolved)),
-        },
-        Err(error) => Err(error),
+    let functions = written(alloc, text)?;
+    match resolve(alloc, functions) {
+        Ok(program) => Ok(program),
+        Err(unresolved) => Err(names_error(unresolved)),
     }
 }
