@@ -1,9 +1,10 @@
 -- What the search of a graph for locals that are not set keeps.
-use Rattle.std.specs.Prelude.{◌≡◌, ◌≢◌, ℕ, zero, suc, ◌+◌, ◌-◌, ◌/◌, ◌%◌, ◌^◌, ◌<◌, ◌≤◌, ◌⊎◌, if◌then◌else◌, ◌==◌, List, [], ◌∷◌, length, slice_get, Contains, Some}
+use Rattle.std.specs.Prelude.{◌≡◌, ◌≢◌, ℕ, zero, suc, ◌+◌, ◌-◌, ◌/◌, ◌%◌, ◌^◌, ◌<◌, ◌≤◌, ◌⊎◌, if◌then◌else◌, ◌==◌, List, [], ◌∷◌, length, slice_get, Contains, Some, Option, Result, IfOk, IfNone}
 use Rattle.std.specs.Int.{bit_at}
 use Rattle.verifier_locals.specs.declared.graph.Node.{Node}
 use Rattle.verifier_locals.specs.declared.local_set.LocalSet.{LocalSet}
 use Rattle.verifier_locals.specs.declared.trace.Mark.{Mark}
+use Rattle.verifier_locals.specs.declared.trace.Trace.{Trace}
 use Rattle.verifier_locals.specs.LocalSet.{Has, IsIn}
 use Rattle.verifier_locals.specs.Graph.{LeadsTo, Carries}
 
@@ -98,3 +99,21 @@ pub record ReadsUnset (graph : List Node) (group start : ℕ) (locals : LocalSet
 abbrev pub ReadsNone : List Node → ℕ → ℕ → LocalSet → Type 0
 ReadsNone graph group start locals = (at k : ℕ) (node : Node) → IsIn group locals k → Carries graph start k at →
     slice_get graph at ≡ Some node → node.reads ≢ Some k
+
+-- ---- a trace, with its marks and what waits
+
+-- what is marked stays, and what is new is waiting
+abbrev pub IsMarkedMore : ℕ → Trace → Trace → Type 0
+IsMarkedMore search old new = MarksMore search old.marks.items new.marks.items old.todo.items new.todo.items
+
+-- all locals of the set are held at the addresses of this kind
+abbrev pub HoldsAll : (ℕ → Type 0) → LocalSet → ℕ → List Mark → Type 0
+HoldsAll IsThere locals search new = (at place : ℕ) → IsThere at → Has locals place → IsHeld search new at place
+
+-- the place in its group of the local that is named
+abbrev pub IsPlaceOf : Option ℕ → ℕ → ℕ → Type 0
+IsPlaceOf named group place = (place < 64) × ((k : ℕ) × (named ≡ Some k) × (k / 64 ≡ group) × (place ≡ k % 64))
+
+-- where no read was found, this holds
+abbrev pub IfNoRead : {A E : Type 0} → Result (Option A) E → Type 0 → Type 0
+IfNoRead result fact = IfOk result (λ read. IfNone read fact)

@@ -5,7 +5,7 @@ ghost use Rattle.verifier_locals.specs.declared.graph.Node.{Node};
 ghost use Rattle.verifier_locals.specs.declared.trace.Mark.{Mark};
 ghost use Rattle.verifier_locals.specs.LocalSet.{Has, IsIn};
 ghost use Rattle.verifier_locals.specs.Graph.{LeadsTo, IsInside};
-ghost use Rattle.verifier_locals.specs.Trace.{HoldsMore, AllPass, OnlyPass, ReadsMarked, IsHeld, MarksMore, IsReady, ReadsUnset, ReadsNone, held_at};
+ghost use Rattle.verifier_locals.specs.Trace.{HoldsMore, AllPass, OnlyPass, ReadsMarked, IsHeld, IsReady, ReadsUnset, ReadsNone, held_at, HoldsAll, IfNoRead, IsMarkedMore, IsPlaceOf};
 
 use crate::graph::Node;
 use crate::local_set::LocalSet;
@@ -27,7 +27,7 @@ pub struct Trace {
 
 /// The place of a local in its group, if it is of this group.
 fn place_in(named: Option<u16>, group: u32) -> Option<u32>
-    ensures some { IfSome result (λ place. (place < 64) × ((k : ℕ) × (named ≡ Some k) × (k / 64 ≡ group) × (place ≡ k % 64))) }
+    ensures some { IfSome result (IsPlaceOf named group) }
     ensures none { IfNone result ((k : ℕ) → named ≡ Some k → k / 64 ≢ group) }
 {
     let local = u32::from(named?);
@@ -90,7 +90,7 @@ impl Trace {
     /// The search comes to the address with these locals.
     fn mark(&mut self, search: u32, at: u32, locals: LocalSet) -> Result<(), AllocError>
         requires { at < length self.old.marks.items }
-        ensures more { OnOk result (MarksMore search self.old.marks.items self.new.marks.items self.old.todo.items self.new.todo.items) }
+        ensures more { OnOk result (IsMarkedMore search self.old self.new) }
         ensures here { OnOk result ((place : ℕ) → Has locals place → IsHeld search self.new.marks.items at place) }
         ensures only { OnOk result (HoldsMore (λ to. to ≡ at) locals search self.old.marks.items self.new.marks.items) }
     {
@@ -114,8 +114,8 @@ impl Trace {
         locals: LocalSet,
     ) -> Result<(), AllocError>
         requires { IfSome way (λ at. at < length self.old.marks.items) }
-        ensures more { OnOk result (MarksMore search self.old.marks.items self.new.marks.items self.old.todo.items self.new.todo.items) }
-        ensures here { OnOk result ((to place : ℕ) → way ≡ Some to → Has locals place → IsHeld search self.new.marks.items to place) }
+        ensures more { OnOk result (IsMarkedMore search self.old self.new) }
+        ensures here { OnOk result (HoldsAll (λ to. way ≡ Some to) locals search self.new.marks.items) }
         ensures only { OnOk result (HoldsMore (λ to. way ≡ Some to) locals search self.old.marks.items self.new.marks.items) }
     {
         match way {
@@ -127,8 +127,8 @@ impl Trace {
     /// The search goes on with these locals wherever the node leads.
     fn mark_ways(&mut self, search: u32, node: Node, locals: LocalSet) -> Result<(), AllocError>
         requires { (to : ℕ) → LeadsTo node to → to < length self.old.marks.items }
-        ensures more { OnOk result (MarksMore search self.old.marks.items self.new.marks.items self.old.todo.items self.new.todo.items) }
-        ensures here { OnOk result ((to place : ℕ) → LeadsTo node to → Has locals place → IsHeld search self.new.marks.items to place) }
+        ensures more { OnOk result (IsMarkedMore search self.old self.new) }
+        ensures here { OnOk result (HoldsAll (LeadsTo node) locals search self.new.marks.items) }
         ensures only { OnOk result (HoldsMore (LeadsTo node) locals search self.old.marks.items self.new.marks.items) }
     {
         self.mark_way(search, node.next, locals)?;
@@ -148,9 +148,9 @@ impl Trace {
         requires long { length self.old.marks.items ≡ length graph.now }
         requires inside { IsInside graph.now }
         requires at { at < length graph.now }
-        ensures more { IfOk result (λ read. IfNone read (MarksMore search self.old.marks.items self.new.marks.items self.old.todo.items self.new.todo.items)) }
-        ensures done { IfOk result (λ read. IfNone read (AllPass graph.now search group at self.old.marks.items self.new.marks.items)) }
-        ensures ways { IfOk result (λ read. IfNone read (OnlyPass graph.now search group at self.old.marks.items self.new.marks.items)) }
+        ensures more { IfNoRead result (IsMarkedMore search self.old self.new) }
+        ensures done { IfNoRead result (AllPass graph.now search group at self.old.marks.items self.new.marks.items) }
+        ensures ways { IfNoRead result (OnlyPass graph.now search group at self.old.marks.items self.new.marks.items) }
         ensures read { IfOk result (λ read. IfSome read (ReadsMarked graph.now search group at self.old.marks.items)) }
     {
         let node = graph[at as usize];
@@ -174,8 +174,8 @@ impl Trace {
         requires ready { IsReady search (length graph.now) self.old.marks.items self.old.todo.items }
         requires inside { IsInside graph.now }
         requires start { start < length graph.now }
-        ensures ready { IfOk result (λ read. IfNone read (IsReady (search + 1) (length graph.now) self.new.marks.items self.new.todo.items)) }
-        ensures none { IfOk result (λ read. IfNone read (ReadsNone graph.now group start locals)) }
+        ensures ready { IfNoRead result (IsReady (search + 1) (length graph.now) self.new.marks.items self.new.todo.items) }
+        ensures none { IfNoRead result (ReadsNone graph.now group start locals) }
         ensures some { IfOk result (λ read. IfSome read (λ r. ReadsUnset graph.now group start locals r.0 r.1)) }
     {
         self.mark(search, start, locals)?;

@@ -22,6 +22,10 @@ kept_at k at = arrival k.unit at k.depth None
 abbrev pub kept_of : Option ℕ → ℕ → Kept
 kept_of unit depth = record { unit = unit; depth = depth }
 
+-- the method has this local, which is not local 0
+abbrev pub HasLocal : ImageView → ℕ → ℕ → Type 0
+HasLocal image entry k = (0 < k) × (k < params image.text entry + others image.text entry)
+
 -- nothing is wrong at this arrival, if it carries nothing
 pub record IsChecked (image : ImageView) (a : Arrival) (r : Row) (need : ℕ) : Type 0 where
   pub has_row : HasRow image.text a.at r
@@ -34,7 +38,7 @@ pub record IsChecked (image : ImageView) (a : Arrival) (r : Row) (need : ℕ) : 
   pub next : HasNext r.flow → a.at + size_of r < length image.text
   pub jump : (o : ℤ) → HasJump r.flow o → target a.at o < length image.text
   pub header : (e : ℕ) → a.unit ≡ Some e → params image.text e ≢ 0
-  pub locals : (e k : ℕ) → a.unit ≡ Some e → Names r k → (0 < k) × (k < params image.text e + others image.text e)
+  pub locals : (e k : ℕ) → a.unit ≡ Some e → Names r k → HasLocal image e k
   pub returns : a.unit ≡ None → r.flow ≢ Return
 
 -- how many addresses nothing has reached yet
@@ -47,9 +51,17 @@ empties (Some k ∷ seen) = empties seen
 abbrev pub IsKept : List (Option Kept) → Arrival → Type 0
 IsKept seen b = slice_get seen b.at ≡ Some (Some (kept_of b.unit b.depth))
 
+-- the method's start is kept, with nothing on its stack
+abbrev pub IsBegun : List (Option Kept) → ℕ → Type 0
+IsBegun seen entry = IsKept seen (arrival (Some entry) (entry + 4) 0 None)
+
+-- each waiting address is kept
+abbrev pub AreKept : List (Option Kept) → List ℕ → Type 0
+AreKept seen todo = (at : ℕ) → Contains todo at → (k : Kept) × (slice_get seen at ≡ Some (Some k))
+
 -- the last waiting address is taken, and it is kept so
-abbrev pub IsTaken : List (Option Kept) → List ℕ → List ℕ → Kept → ℕ → Type 0
-IsTaken seen todo rest here at = (todo ≡ rest ++ at ∷ []) × (slice_get seen at ≡ Some (Some here))
+abbrev pub IsTaken : List (Option Kept) → List ℕ → List ℕ → Kept × ℕ → Type 0
+IsTaken seen todo rest taken = (todo ≡ rest ++ taken.1 ∷ []) × (slice_get seen taken.1 ≡ Some (Some taken.0))
 
 -- everything that follows from a kept address is kept, whatever it carries
 abbrev pub AllFollow : ImageView → List (Option Kept) → Kept → ℕ → Type 0
@@ -64,7 +76,7 @@ pub record IsSearch (image : ImageView) (seen : List (Option Kept)) (todo : List
   pub long : length seen ≡ length image.text
   pub reached : (at : ℕ) (k : Kept) → slice_get seen at ≡ Some (Some k) → Reached image (kept_at k at)
   pub low : (at : ℕ) (k : Kept) → slice_get seen at ≡ Some (Some k) → k.depth + 2 * empties seen ≤ 2 * length image.text
-  pub waiting : (at : ℕ) → Contains todo at → (k : Kept) × (slice_get seen at ≡ Some (Some k))
+  pub waiting : AreKept seen todo
 
 -- what is kept stays, and what is new is waiting
 pub record Grows (seen new : List (Option Kept)) (todo later : List ℕ) : Type 0 where
@@ -86,7 +98,7 @@ pub record IsClosed (image : ImageView) (seen : List (Option Kept)) : Type 0 whe
   pub reached : (at : ℕ) (k : Kept) → slice_get seen at ≡ Some (Some k) → Reached image (kept_at k at)
   pub all : (a : Arrival) → Reached image a → IsKept seen a
   -- each reached method from its start on
-  pub starts : (entry : ℕ) → IsReachedMethod image entry → IsKept seen (arrival (Some entry) (entry + 4) 0 None)
+  pub starts : (entry : ℕ) → IsReachedMethod image entry → IsBegun seen entry
   pub checked : (at : ℕ) (k : Kept) → slice_get seen at ≡ Some (Some k) → (r : Row) × (need : ℕ) × IsChecked image (kept_at k at) r need
 
 -- the facts that this search decides: all but those of carried locals, of bytes in two instructions, and of main's frame

@@ -6,7 +6,7 @@ ghost use Rattle.ijvm_image.specs.Image.{params, others};
 ghost use Rattle.ijvm_instr.specs.Instructions.{target};
 ghost use Rattle.verifier_facts.specs.Paths.{HasRow, IsWhole, HasConstant, HasNext, HasJump, need_of};
 ghost use Rattle.verifier_facts.specs.Facts.{Names, IsWrongAt};
-ghost use Rattle.verifier_reach.specs.Search.{kept_at, IsChecked};
+ghost use Rattle.verifier_reach.specs.Search.{kept_at, IsChecked, HasLocal};
 
 use crate::code::{constant_at, decode, others_of, params_of, text_len};
 use crate::kept::Kept;
@@ -172,7 +172,7 @@ fn check_local(
 fn check_reads(image: &Image, here: Kept, at: u32, row: Row, entry: u32) -> Result<(), VerifyError>
     requires row { HasRow image.now.text at row }
     requires unit { here.unit ≡ Some entry }
-    ensures ok { OnOk result ((k : ℕ) → row.reads ≡ Some k → (0 < k) × (k < params image.now.text entry + others image.now.text entry)) }
+    ensures ok { OnOk result ((k : ℕ) → row.reads ≡ Some k → HasLocal image.now entry k) }
     ensures err { IfErr result (λ e. IsWrongAt image.now (kept_at here at) e) }
 {
     match row.reads {
@@ -184,7 +184,7 @@ fn check_reads(image: &Image, here: Kept, at: u32, row: Row, entry: u32) -> Resu
 fn check_stores(image: &Image, here: Kept, at: u32, row: Row, entry: u32) -> Result<(), VerifyError>
     requires row { HasRow image.now.text at row }
     requires unit { here.unit ≡ Some entry }
-    ensures ok { OnOk result ((k : ℕ) → row.stores ≡ Some k → (0 < k) × (k < params image.now.text entry + others image.now.text entry)) }
+    ensures ok { OnOk result ((k : ℕ) → row.stores ≡ Some k → HasLocal image.now entry k) }
     ensures err { IfErr result (λ e. IsWrongAt image.now (kept_at here at) e) }
 {
     match row.stores {
@@ -196,7 +196,7 @@ fn check_stores(image: &Image, here: Kept, at: u32, row: Row, entry: u32) -> Res
 fn check_unit(image: &Image, here: Kept, at: u32, row: Row) -> Result<(), VerifyError>
     requires row { HasRow image.now.text at row }
     ensures header { OnOk result ((e : ℕ) → here.unit ≡ Some e → params image.now.text e ≢ 0) }
-    ensures locals { OnOk result ((e k : ℕ) → here.unit ≡ Some e → Names row k → (0 < k) × (k < params image.now.text e + others image.now.text e)) }
+    ensures locals { OnOk result ((e k : ℕ) → here.unit ≡ Some e → Names row k → HasLocal image.now e k) }
     ensures returns { OnOk result (here.unit ≡ None → row.flow ≢ Flow.Return) }
     ensures err { IfErr result (λ e. IsWrongAt image.now (kept_at here at) e) }
 {

@@ -4,7 +4,7 @@ ghost use Rattle.std.specs.Prelude.{◌≡◌, ◌+◌, ◌*◌, ◌<◌, ◌≤
 ghost use Rattle.verifier_facts.specs.declared.error.VerifyError.{VerifyError};
 ghost use Rattle.verifier_facts.specs.Paths.{arrival, Reached};
 ghost use Rattle.verifier_facts.specs.Facts.{IsTrueOf};
-ghost use Rattle.verifier_reach.specs.Search.{kept_at, States, IsChecked, IsKept, IsTaken, IsDone, AllFollow, IsSearch, Grows, IsRunning, IsClosed, IsDecided, empties};
+ghost use Rattle.verifier_reach.specs.Search.{kept_at, States, IsChecked, IsKept, IsTaken, IsDone, AllFollow, IsSearch, Grows, IsRunning, IsClosed, IsDecided, empties, AreKept, IsBegun};
 
 use crate::checks::{Found, check_at};
 use crate::code::{constant_at, decode, text_len};
@@ -97,7 +97,7 @@ impl Search {
         requires checked { IsChecked image.now (kept_at here at) found.row found.need }
         ensures search { OnOk result (IsSearch image.now self.new.seen.items self.new.todo.items) }
         ensures grows { OnOk result (Grows self.old.seen.items self.new.seen.items self.old.todo.items self.new.todo.items) }
-        ensures entry { OnOk result ((e : ℕ) → slice_get image.now.pool index ≡ Some e → IsKept self.new.seen.items (arrival (Some e) (e + 4) 0 None)) }
+        ensures entry { OnOk result ((e : ℕ) → slice_get image.now.pool index ≡ Some e → IsBegun self.new.seen.items e) }
         ensures err { IfErr result (λ e. States image.now e) }
     {
         match constant_at(image, index) {
@@ -161,17 +161,15 @@ impl Search {
         ensures done { OnOk result (IsDone image.now self.new.seen.items here at) }
         ensures err { IfErr result (λ e. States image.now e) }
     {
-        match check_at(image, here, at) {
-            Ok(found) => self.spread(image, here, at, found),
-            Err(error) => Err(error),
-        }
+        let found = check_at(image, here, at)?;
+        self.spread(image, here, at, found)
     }
 
     /// The next waiting address, if there is one.
     fn next(&mut self) -> Option<(Kept, u32)>
-        requires { (at : ℕ) → Contains self.old.todo.items at → (k : Kept) × (slice_get self.old.seen.items at ≡ Some (Some k)) }
+        requires { AreKept self.old.seen.items self.old.todo.items }
         ensures seen { self.new.seen.items ≡ self.old.seen.items }
-        ensures some { IfSome result (λ next. IsTaken self.old.seen.items self.old.todo.items self.new.todo.items next.0 next.1) }
+        ensures some { IfSome result (IsTaken self.old.seen.items self.old.todo.items self.new.todo.items) }
         ensures none { IfNone result (self.old.todo.items ≡ []) }
     {
         match self.todo.pop() {
