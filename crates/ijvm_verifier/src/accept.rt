@@ -58,13 +58,9 @@ pub fn verify(alloc: Global, image: Image, map: MemoryMap) -> Result<VerifiedIma
     ensures large { map ≡ MemoryMap.LARGE → IfErr result (λ e. (count : ℕ) → e ≢ VerifyError.MainFrame count) }
 {
     accepted_images_keep_sound();
-    match survey_of(alloc, &image) {
-        Err(error) => Err(error),
-        Ok(found) => {
-            if map.stack_end < FRAME + found.main_locals {
-                return Err(VerifyError::MainFrame(found.main_locals));
-            }
-            Ok(VerifiedImage::new(image, found.main_locals, map, found.methods, found.kinds))
-        }
+    let found = survey_of(alloc, &image)?;
+    if map.stack_end < FRAME + found.main_locals {
+        return Err(VerifyError::MainFrame(found.main_locals));
     }
+    Ok(VerifiedImage::new(image, found.main_locals, map, found.methods, found.kinds))
 }

@@ -1,13 +1,24 @@
-use Rattle.std.proofs.Common.{◌+◌, arith}
+use Rattle.std.proofs.Common.{◌≡◌, ◌≢◌, ℕ, ◌+◌, arith}
+use Rattle.std.proofs.lemmas.Result.{err_from_is_err_and}
+use Rattle.verifier_facts.specs.declared.error.VerifyError.TheVariants.{MainFrame}
 use Rattle.ijvm_verifier.proofs.Counts.{verified, no_frame}
 use Rattle.ijvm_verifier.proofs.accept.verify.Goals as goal
 
 pub new-requires : goal.new-requires
 new-requires c =
-    verified c.args.image c.in-Ok.found.main_locals c.args.map c.in-Ok.found.methods c.in-Ok.found.kinds.items c.in-Ok.ensures.ok (c.accepted_images_keep_sound.ensures c.args.image) c.requires (omega arith)
+    verified c.args.image c.in_ok-found.found.main_locals c.args.map c.in_ok-found.found.methods c.in_ok-found.found.kinds.items c.in_ok-found.ensures.ok (c.accepted_images_keep_sound.ensures c.args.image) c.requires (omega arith)
 
-pub returns-in-Err-clause-refused : goal.returns-in-Err-clause-refused
-returns-in-Err-clause-refused c = c.in-Err.ensures.err c.args.map.stack_end
+pub returns-in_err-found-clause-refused : goal.returns-in_err-found-clause-refused
+returns-in_err-found-clause-refused c =
+    let refused = c.in_err-found.ensures.err c.args.map.stack_end in
+    let answer = err_from_is_err_and c.from_residual.result c.from_residual.ensures.1 in
+    let same : answer.0 ≡ c.in_err-found.field-0.0 = answer.2 in
+    rw answer.1 (rw same refused)
 
-pub returns-in-Err-clause-large : goal.returns-in-Err-clause-large
-returns-in-Err-clause-large c = λ large count is. no_frame c.args.image c.in-Err.error count is (c.in-Err.ensures.err (0x8000 + count))
+pub returns-in_err-found-clause-large : goal.returns-in_err-found-clause-large
+returns-in_err-found-clause-large c = λ large.
+    let error = c.in_err-found.field-0.0 in
+    let none : (count : ℕ) → error ≢ MainFrame count = λ count is. no_frame c.args.image error count is (c.in_err-found.ensures.err (0x8000 + count)) in
+    let answer = err_from_is_err_and c.from_residual.result c.from_residual.ensures.1 in
+    let same : answer.0 ≡ error = answer.2 in
+    rw answer.1 (rw same none)
