@@ -64,8 +64,12 @@ distances program = code_distances 0 program.main.lines ++ flat_map (method_dist
 abbrev pub pool_size : ProgramView → ℕ
 pool_size program = length program.constants + length program.methods
 
+-- the addresses of the methods, in order
+abbrev pub entries : ProgramView → List ℕ
+entries program = map (entry_of program.main program.methods) (range_with_len 0 (length program.methods))
+
 unfoldable pub pool : ProgramView → List ℕ
-pool program = map (λ c. c.value) program.constants ++ map (entry_of program.main program.methods) (range_with_len 0 (length program.methods))
+pool program = map (λ c. c.value) program.constants ++ entries program
 
 -- ---- limits
 
@@ -76,6 +80,10 @@ is_far z = int_lt z (negsuc 32767) || int_lt (pos 32767) z
 -- the first line that jumps too far
 abbrev pub first_far : List (ℕ × ℤ) → Option (ℕ × ℤ)
 first_far lines = find (λ line. is_far line.1) lines
+
+-- these bytes are the program's text, and no line of it jumps too far
+abbrev pub IsTextOf : ProgramView → List ℕ → Type 0
+IsTextOf program bytes = (bytes ≡ text program) × (first_far (distances program) ≡ None)
 
 -- the program is in the limits, and this is its image
 pub record IsLinked (program : ProgramView) (image : ImageView) : Type 0 where

@@ -4,7 +4,8 @@ use Rattle.std.specs.List.{range_with_len, flat_map}
 use Rattle.ijvm_program.specs.declared.line.CodeLine.{CodeLine}
 use Rattle.ijvm_program.specs.declared.line.Operation.{Operation}
 use Rattle.ijvm_program.specs.declared.line.Operation.TheVariants.{Plain, Constant, Call, To}
-use Rattle.ijvm_program.specs.Layout.{line_address}
+use Rattle.ijvm_instr.specs.Instructions.{spelling}
+use Rattle.ijvm_program.specs.Layout.{instr_of, line_address}
 use Rattle.ijvm_program.specs.Unit.{UnitView}
 use Rattle.method_linker.specs.declared.error.LinkError.{LinkError}
 use Rattle.method_linker.specs.declared.error.LinkError.TheVariants.{PoolTooLong, TextTooLong, JumpTooFar, OutOfMemory}
@@ -42,6 +43,14 @@ IsStopped lines OutOfMemory = Unit {0}
 -- these bytes, of lines with these distances, were appended
 abbrev pub IsPushed : List ℕ → List ℕ → List ℕ → List (ℕ × ℤ) → Result (Unit {0}) LinkError → Type 0
 IsPushed old new bytes lines result = MatchResult result (λ _. (new ≡ old ++ bytes) × (first_far lines ≡ None)) (IsStopped lines)
+
+-- the instruction of a line that jumps so far was appended
+abbrev pub IsLinePushed : List ℕ → List ℕ → ℕ → ℤ → CodeLine → Result (Unit {0}) LinkError → Type 0
+IsLinePushed old new first far line result = IsPushed old new (spelling (instr_of first far line.operation)) ((line.line, far) ∷ []) result
+
+-- the bytes of all these were appended, of lines with their distances
+abbrev pub ArePushed : {X : Type 0} → List ℕ → List ℕ → (X → List ℕ) → (X → List (ℕ × ℤ)) → List X → Result (Unit {0}) LinkError → Type 0
+ArePushed old new bytes lines xs result = IsPushed old new (flat_map bytes xs) (flat_map lines xs) result
 
 abbrev pub method_code : ℕ → UnitView → List ℕ
 method_code first method = header method ++ code_bytes first 0 method.lines

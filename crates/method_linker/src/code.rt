@@ -4,7 +4,7 @@ ghost use Rattle.std.specs.Prelude.{◌≡◌, ◌≤◌, ◌∷◌, [], length,
 ghost use Rattle.ijvm_instr.specs.Instructions.{spelling};
 ghost use Rattle.ijvm_program.specs.Layout.{code_size, instr_of};
 ghost use Rattle.method_linker.specs.Linked.{code_bytes, code_distances, is_far};
-ghost use Rattle.method_linker.specs.Steps.{line_places, HasIndex, IsLinkable, IsPushed};
+ghost use Rattle.method_linker.specs.Steps.{line_places, HasIndex, IsLinkable, IsPushed, IsLinePushed};
 
 use crate::error::LinkError;
 use crate::instruction::{distance, instr_of, is_far};
@@ -34,7 +34,7 @@ fn push_line(
     distance: i32,
 ) -> Result<(), LinkError>
     requires { HasIndex first line.now.operation }
-    ensures pushed { IsPushed text.old.items text.new.items (spelling (instr_of first distance line.now.operation)) ((line.now.line, distance) ∷ []) result }
+    ensures pushed { IsLinePushed text.old.items text.new.items first distance line.now result }
     ensures far { is_far distance ≡ true → result ≡ Err (LinkError.JumpTooFar line.now.line distance) }
 {
     if is_far(distance) {

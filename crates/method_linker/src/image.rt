@@ -2,7 +2,7 @@
 
 ghost use Rattle.std.specs.Prelude.{◌≡◌, ◌≤◌, None, MatchResult, IfOk, IfErr};
 ghost use Rattle.ijvm_program.specs.Layout.{text_size};
-ghost use Rattle.method_linker.specs.Linked.{text, distances, first_far, pool_size, IsLinked, IsRefused};
+ghost use Rattle.method_linker.specs.Linked.{text, distances, first_far, pool_size, IsLinked, IsRefused, IsTextOf};
 ghost use Rattle.method_linker.specs.Steps.{IsStopped};
 
 use crate::code::push_code;
@@ -24,7 +24,7 @@ const MOST_BYTES: u32 = 65_536;
 fn text_of(alloc: Global, program: &Program) -> Result<Vec<u8>, LinkError>
     requires pool { pool_size program.now ≤ 16384 }
     requires text { text_size program.now.main program.now.methods ≤ 65536 }
-    ensures { MatchResult result (λ bytes. (bytes.items ≡ text program.now) × (first_far (distances program.now) ≡ None)) (IsStopped (distances program.now)) }
+    ensures { MatchResult result (λ bytes. IsTextOf program.now bytes.items) (IsStopped (distances program.now)) }
 {
     let first = program.constants().len() as u32;
     let mut text = Vec::new(alloc);

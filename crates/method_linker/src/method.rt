@@ -5,7 +5,7 @@ ghost use Rattle.std.specs.List.{flat_map};
 ghost use Rattle.ijvm_instr.specs.Instructions.{two_bytes};
 ghost use Rattle.ijvm_program.specs.Layout.{code_size, method_size};
 ghost use Rattle.method_linker.specs.Linked.{header};
-ghost use Rattle.method_linker.specs.Steps.{IsLinkableUnit, IsPushed, method_code, method_jumps};
+ghost use Rattle.method_linker.specs.Steps.{IsLinkableUnit, IsPushed, method_code, method_jumps, ArePushed};
 
 use crate::code::push_code;
 use crate::error::LinkError;
@@ -54,7 +54,7 @@ pub fn push_methods(
 ) -> Result<(), LinkError>
     requires few { sum_by method_size methods.now ≤ 65536 }
     requires linkable { All (IsLinkableUnit first) methods.now }
-    ensures { IsPushed text.old.items text.new.items (flat_map (method_code first) methods.now) (flat_map method_jumps methods.now) result }
+    ensures { ArePushed text.old.items text.new.items (method_code first) method_jumps methods.now result }
 {
     for method in methods {
         push_method(alloc, text, method, first)?;

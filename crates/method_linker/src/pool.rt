@@ -3,7 +3,7 @@
 ghost use Rattle.std.specs.Prelude.{◌≡◌, ◌++◌, length, map, IfOk, OnOk};
 ghost use Rattle.std.specs.List.{range_with_len};
 ghost use Rattle.ijvm_program.specs.Layout.{entry_of};
-ghost use Rattle.method_linker.specs.Linked.{pool, pool_size};
+ghost use Rattle.method_linker.specs.Linked.{pool, pool_size, entries};
 
 use crate::size::{code_size, method_size};
 use ijvm_program::Program;
@@ -18,8 +18,7 @@ pub fn pool_size(program: &Program) -> u32
 
 /// Appends the entries of the methods.
 fn push_entries(pool: &mut Vec<u32>, program: &Program) -> Result<(), AllocError>
-    ensures { OnOk result (pool.new.items ≡ pool.old.items
-        ++ map (entry_of program.now.main program.now.methods) (range_with_len 0 (length program.now.methods))) }
+    ensures { OnOk result (pool.new.items ≡ pool.old.items ++ entries program.now) }
 {
     let methods = program.methods();
     let mut entry = code_size(program.main().lines());

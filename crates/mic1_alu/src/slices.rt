@@ -4,7 +4,7 @@ ghost use Rattle.std.specs.Prelude.{◌≡◌, ◌<◌, ◌*◌, ◌&&◌, ℕ, 
 ghost use Rattle.std.specs.Int.{bit_at};
 ghost use Rattle.mic1_alu.specs.Gates.{combined};
 ghost use Rattle.mic1_alu.specs.Slices.{slice_bit, slice_carry, carry_to};
-ghost use Rattle.mic1_alu.specs.Rounds.{AreHandedOn};
+ghost use Rattle.mic1_alu.specs.Rounds.{HandsOn};
 
 use crate::wires::Wires;
 
@@ -55,7 +55,7 @@ struct Handed {
 /// The same of stretches twice as long.
 fn twice(handed: Handed, reach: u32) -> Handed
     requires { reach < 32 }
-    ensures { (carry : ℕ → ℕ) → AreHandedOn reach handed.made handed.passed carry → AreHandedOn (reach * 2) result.made result.passed carry }
+    ensures { (carry : ℕ → ℕ) → HandsOn reach handed carry → HandsOn (reach * 2) result carry }
 {
     let more = handed.passed & (handed.made << reach);
     Handed {
@@ -66,7 +66,7 @@ fn twice(handed: Handed, reach: u32) -> Handed
 
 /// What each slice hands on in the end.
 fn settle(one: Handed) -> u32
-    ensures { (carry : ℕ → ℕ) → AreHandedOn 1 one.made one.passed carry → (i : ℕ) → i < 32 → bit_at result i ≡ carry i }
+    ensures { (carry : ℕ → ℕ) → HandsOn 1 one carry → (i : ℕ) → i < 32 → bit_at result i ≡ carry i }
 {
     let more = one.passed & (one.made << 1);
     // In most sums no slice hands on a carry that comes to it.
