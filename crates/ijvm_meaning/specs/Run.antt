@@ -1,9 +1,9 @@
 -- The definition's run: from boundary to boundary, an instruction each, until it ends.
-use Rattle.std.specs.Prelude.{◌≡◌, ◌<◌, ℕ, zero, suc, ◌+◌, Bool, true, false, nat_le, List, Option, Some, None}
+use Rattle.std.specs.Prelude.{◌≡◌, ◌<◌, ℕ, zero, suc, ◌+◌, Bool, true, false, nat_le, List, Option, Some, None, ◌↔◌}
 use Rattle.ijvm_meaning.specs.declared.run.RunEnd.{RunEnd}
 use Rattle.ijvm_meaning.specs.declared.run.RunEnd.TheVariants as ends
 use Rattle.ijvm_image.specs.Image.{ImageView}
-use Rattle.ijvm_meaning.specs.Frames.{State, start_of}
+use Rattle.ijvm_meaning.specs.Frames.{State, start_of, AreWords}
 use Rattle.ijvm_meaning.specs.Step.{StepOutcome, Goes, Halts, Errs, Limits, Stuck, step_outcome}
 use Rattle.ijvm_meaning.specs.Cost.{Timing, next_cost}
 
@@ -92,3 +92,33 @@ after more Stuck = None
 abbrev pub state_after : ImageView → ℕ → ℕ → State → Option State
 state_after image stack_end zero s = Some s
 state_after image stack_end (suc k) s = after (state_after image stack_end k) (step_outcome image stack_end s)
+
+-- ---- what holds of every run
+
+-- the run from this point has at most one end
+abbrev pub EndsOnce : TimedImage → ℕ → Point → Type 0
+EndsOnce p bound from = (f g : Finish) → EndsBy p bound from f → EndsBy p bound from g → f ≡ g
+
+-- it passes the boundary at which it ends
+abbrev pub PassesItsEnd : TimedImage → ℕ → Point → Type 0
+PassesItsEnd p bound from = (f : Finish) → EndsBy p bound from f → Passes p bound from f.last
+
+-- from a boundary that it passes, the run ends as it does
+abbrev pub EndsAlike : TimedImage → ℕ → Point → Point → Type 0
+EndsAlike p bound from at = (f : Finish) → Passes p bound from at → EndsBy p bound at f ↔ EndsBy p bound from f
+
+-- some number of completed instructions leads from the one boundary's state to the other's
+abbrev pub StepsLead : TimedImage → Point → Point → Type 0
+StepsLead p from at = (k : ℕ) × (state_after p.image p.stack_end k from.state ≡ Some at.state)
+
+-- an instruction that goes on leaves words
+abbrev pub GoesOnInWords : ImageView → ℕ → State → State → Type 0
+GoesOnInWords image stack_end s to = AreWords s → step_outcome image stack_end s ≡ Goes to → AreWords to
+
+-- one that meets the stack's end leaves words
+abbrev pub EndsInWords : ImageView → ℕ → State → State → Type 0
+EndsInWords image stack_end s left = AreWords s → step_outcome image stack_end s ≡ Limits left → AreWords left
+
+-- so does each boundary that the run passes
+abbrev pub PassesInWords : TimedImage → ℕ → ℕ → Type 0
+PassesInWords p bound main_locals = (input : List ℕ) (at : Point) → Passes p bound (first_point p main_locals input) at → AreWords at.state

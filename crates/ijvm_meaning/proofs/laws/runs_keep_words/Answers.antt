@@ -17,6 +17,6 @@ returns c =
       start = start_words;
       goes = λ image n s to good h is. goes_words image n s to good (reads image good) h is;
       limits = λ image n s left good h is. limits_words image n s left good (reads image good) h is;
-      passes = λ p bound main_locals input at good passed.
+      passes = λ p bound main_locals good input at passed.
           passed_words p bound (first_point p main_locals input) at good (reads p.image good) (start_words main_locals input) passed;
     }
