@@ -195,3 +195,15 @@ whole many at (Some i) = if nat_le (at + size_of (row_of i)) many then Some i el
 -- the whole instruction at this byte address of a text
 unfoldable pub instr_at : List ℕ → ℕ → Option Instr
 instr_at text at = whole (length text) at (begun_at text at)
+
+-- this instruction is read at this byte address of a text
+abbrev pub IsReadAt : List ℕ → ℕ → Instr → Type 0
+IsReadAt text at i = instr_at text at ≡ Some i
+
+-- its bytes are read as it wherever they stand
+abbrev pub IsReadBack : Instr → List ℕ → List ℕ → Type 0
+IsReadBack i before after = IsReadAt (before ++ (spelling i ++ after)) (length before) i
+
+-- each instruction that is spelled at the front of these bytes is read with its length
+abbrev pub ReadsFront : List ℕ → Option (Instr × ℕ) → Type 0
+ReadsFront bytes read = (i : Instr) (front rest : List ℕ) → IsInstr i → SpellsInstr front i → bytes ≡ front ++ rest → read ≡ Some (i, length front)

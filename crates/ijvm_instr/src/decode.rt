@@ -1,9 +1,8 @@
 //! From bytes to instructions, row by row of the table.
 
-ghost use Rattle.std.specs.Prelude.{◌≡◌, ◌+◌, ◌*◌, ◌≤◌, ◌<◌, ◌++◌, ℕ, List, length, take, slice_index, Some, IfSome};
+ghost use Rattle.std.specs.Prelude.{◌≡◌, ◌+◌, ◌*◌, ◌≤◌, ◌<◌, length, take, slice_index, IfSome};
 ghost use Rattle.std.specs.Option.{option_map};
-ghost use Rattle.ijvm_instr.specs.declared.instr.Instr.{Instr};
-ghost use Rattle.ijvm_instr.specs.Instructions.{of_bytes, instr_at, row_of, size_of, SpellsInstr, IsInstr};
+ghost use Rattle.ijvm_instr.specs.Instructions.{of_bytes, instr_at, ReadsFront, row_of, size_of, SpellsInstr};
 
 use crate::instr::Instr;
 
@@ -89,7 +88,7 @@ pub fn decode_instr(bytes: &[u8]) -> Option<(Instr, u8)>
     ensures spelled { IfSome result (λ r. SpellsInstr (take r.1 bytes.now) r.0 × (r.1 ≤ length bytes.now)) }
 
     // So it is none exactly where no whole instruction stands in front.
-    ensures decodes { (i : Instr) (front rest : List ℕ) → IsInstr i → SpellsInstr front i → bytes.now ≡ front ++ rest → result ≡ Some (i, length front) }
+    ensures decodes { ReadsFront bytes.now result }
 {
     let instr = decode_at(bytes, 0)?;
     Some((instr, instr.row().size() as u8))

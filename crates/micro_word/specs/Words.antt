@@ -128,6 +128,10 @@ word_end Mic2 = 2 ^ 39
 unfoldable pub is_canonical : Machine → ℕ → Bool
 is_canonical machine word = nat_lt word (word_end machine) && are_canonical machine (fields_of machine word)
 
+-- the word of the statement is canonical
+abbrev pub HasCanonicalWord : Machine → Placed → Type 0
+HasCanonicalWord machine p = IsTrue (is_canonical machine (microword_of machine p))
+
 abbrev pub decoded_as : Machine → ℕ → Option Placed
 decoded_as machine word = if is_canonical machine word then Some (statement_of machine word) else None
 

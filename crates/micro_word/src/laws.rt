@@ -2,19 +2,19 @@
 ghost use Rattle.std.specs.Prelude.{◌≡◌, ◌↔◌, ℕ, IsTrue};
 ghost use Rattle.micro_word.specs.declared.statement.Placed.{Placed};
 ghost use Rattle.micro_word.specs.Coding.{microword_of, statement_of};
-ghost use Rattle.micro_word.specs.Words.{is_valid, is_canonical, IsCanonical, SpellsWord, Valid};
+ghost use Rattle.micro_word.specs.Words.{HasCanonicalWord, is_valid, is_canonical, IsCanonical, SpellsWord, Valid};
 
 use mic_words::Machine;
 
 /// A valid statement meets each condition, its word is canonical, and the word's fields name that statement.
 pub fn statement_law(_machine: Machine)
     ensures conditions { (p : Placed) → IsTrue (is_valid _machine p) → Valid _machine p }
-    ensures canonical { (p : Placed) → IsTrue (is_valid _machine p) → IsTrue (is_canonical _machine (microword_of _machine p)) }
+    ensures canonical { (p : Placed) → IsTrue (is_valid _machine p) → HasCanonicalWord _machine p }
     ensures statement { (p : Placed) → IsTrue (is_valid _machine p) → statement_of _machine (microword_of _machine p) ≡ p }
 {}
 
 /// The test for a canonical number tells the words of valid statements, and each is spelled by its fields.
 pub fn word_law(_machine: Machine)
-    ensures canonical { (word : ℕ) → IsTrue (is_canonical _machine word) ↔ IsCanonical _machine word }
-    ensures spells { (word : ℕ) → IsTrue (is_canonical _machine word) → SpellsWord _machine word (statement_of _machine word) }
+    ensures canonical { (w : ℕ) → IsTrue (is_canonical _machine w) ↔ IsCanonical _machine w }
+    ensures spells { (w : ℕ) → IsTrue (is_canonical _machine w) → SpellsWord _machine w (statement_of _machine w) }
 {}
