@@ -1,9 +1,9 @@
 //! What each command is asked by its words.
 
-ghost use Rattle.std.specs.Prelude.{Some, map, string_bytes};
+ghost use Rattle.std.specs.Prelude.{map, string_bytes};
 ghost use Rattle.cli_words.specs.Words.{HasLimits, asked, request_of};
 ghost use Rattle.cli_outside.specs.Outside.{Over};
-ghost use Rattle.cli_call.specs.CallEnds.{CallEnds, EndsAs};
+ghost use Rattle.cli_call.specs.CallEnds.{CallEnds, DoesAsked};
 
 use crate::cache::run_cached;
 use crate::job::run_job;
