@@ -19,7 +19,7 @@ use Rattle.mal_tokens.specs.declared.sign.Sign.{Sign}
 use Rattle.mal_tokens.specs.declared.sign.Sign.TheVariants as signs
 use Rattle.mal_tokens.specs.declared.token.Token.{Token}
 use Rattle.mal_tokens.specs.declared.token.Token.TheVariants as tokens
-use Rattle.mal_tokens.specs.Words.{word_text, sign_text, find_word, find_sign, all_words, all_signs, is_reserved}
+use Rattle.mal_tokens.specs.Words.{word_text, sign_text, begins_small, find_among, find_word, find_sign, all_words, all_signs, is_reserved}
 use Rattle.mal_tokens.specs.Tokens.{IsLexeme, EndsLexeme, mal}
 use Rattle.mal_tokens.specs.Reading.{begins, extent, lexer, number_token, sign_or, token_of, word_or_name}
 
@@ -147,6 +147,44 @@ found_word text w h = sym ((bytes_eq-Decides (word_text w) text).0 (find_passes 
 
 found_sign : (text : List ℕ) (s : Sign) → find_sign text ≡ Some s → text ≡ sign_text s
 found_sign text s h = sym ((bytes_eq-Decides (sign_text s) text).0 (find_passes (λ s. bytes_eq (sign_text s) text) all_signs s h))
+
+-- none of the words is spelled so, where all of them pass a test that the text does not
+none_among : (t : List ℕ → Bool) (text : List ℕ) → t text ≡ false → (ws : List Word) → list_all (λ w. t (word_text w)) ws ≡ true → find_among ws text ≡ None
+none_among t text h [] all = refl
+none_among t text h (w ∷ ws) all = go (bytes_eq (word_text w) text) refl (none_among t text h ws (and_parts (t (word_text w)) (list_all (λ w. t (word_text w)) ws) all).1)
+  where
+    go : (b : Bool) → bytes_eq (word_text w) text ≡ b → find_among ws text ≡ None → cond b (Some w) (find_among ws text) ≡ None
+    go false e rec = rec
+    go true e rec =
+        let same : word_text w ≡ text = (bytes_eq-Decides (word_text w) text).0 e in
+        let passes : t (word_text w) ≡ true = (and_parts (t (word_text w)) (list_all (λ w. t (word_text w)) ws) all).0 in
+        let k : t (word_text w) ≡ t text = ap t same in
+        absurd (cc)
+
+behind_front : (text : List ℕ) (front behind : List Word) → find_among front text ≡ None → find_among (front ++ behind) text ≡ find_among behind text
+behind_front text [] behind h = refl
+behind_front text (w ∷ ws) behind h = go (bytes_eq (word_text w) text) h (behind_front text ws behind)
+  where
+    go : (b : Bool) → cond b (Some w) (find_among ws text) ≡ None → (find_among ws text ≡ None → find_among (ws ++ behind) text ≡ find_among behind text)
+        → cond b (Some w) (find_among (ws ++ behind) text) ≡ find_among behind text
+    go true h rec = absurd (cc)
+    go false h rec = rec h
+
+in_front : (text : List ℕ) (front behind : List Word) → find_among behind text ≡ None → find_among (front ++ behind) text ≡ find_among front text
+in_front text [] behind h = h
+in_front text (w ∷ ws) behind h = ap (cond (bytes_eq (word_text w) text) (Some w)) (in_front text ws behind h)
+
+abbrev pub capital_words : List Word
+capital_words = words.Mar ∷ words.Mdr ∷ words.Pc ∷ words.Sp ∷ words.Lv ∷ words.Cpp ∷ words.Tos ∷ words.Opc ∷ words.H ∷ words.Mbr ∷ words.Mbru ∷ words.Mbr1 ∷ words.Mbr1u ∷ words.Mbr2 ∷ words.Mbr2u ∷ words.N ∷ words.Z ∷ words.And ∷ words.Or ∷ words.Not ∷ []
+
+abbrev pub small_words : List Word
+small_words = words.Rd ∷ words.Wr ∷ words.Fetch ∷ words.Goto ∷ words.If ∷ words.Else ∷ []
+
+pub found_small : (text : List ℕ) → begins_small text ≡ true → find_among small_words text ≡ find_word text
+found_small text h = sym (behind_front text capital_words small_words (none_among (λ x. not (begins_small x)) text (ap not h) capital_words refl))
+
+pub found_capital : (text : List ℕ) → begins_small text ≡ false → find_among capital_words text ≡ find_word text
+found_capital text h = sym (in_front text capital_words small_words (none_among begins_small text h small_words refl))
 
 -- a reserved word has five bytes at most
 word_short : (w : Word) → nat_le (length (word_text w)) 5 ≡ true

@@ -1,7 +1,7 @@
 //! The reserved words of the microassembly language, each with its spelling.
 
 ghost use Rattle.std.specs.Prelude.{◌≡◌};
-ghost use Rattle.mal_tokens.specs.Words.{find_word, word_text};
+ghost use Rattle.mal_tokens.specs.Words.{begins_small, find_among, find_word, word_text};
 
 /// A reserved word of the microassembly language, which is no label.
 #[derive(Clone, Copy, Debug, PartialEq, Eq)]
@@ -37,7 +37,8 @@ pub enum Word {
 /// The length of the longest one.
 const LONGEST: usize = 5;
 
-const WORDS: [Word; 26] = [
+/// Those that begin with a capital.
+const CAPITAL: [Word; 20] = [
     Word::Mar,
     Word::Mdr,
     Word::Pc,
@@ -58,6 +59,9 @@ const WORDS: [Word; 26] = [
     Word::And,
     Word::Or,
     Word::Not,
+];
+
+const SMALL: [Word; 6] = [
     Word::Rd,
     Word::Wr,
     Word::Fetch,
@@ -107,9 +111,27 @@ impl Word {
         if text.len() > LONGEST {
             return None;
         }
-        WORDS
-            .iter()
-            .copied()
-            .find(|word| word.text().as_bytes() == text)
+        if begins_small(text) {
+            return find_among(&SMALL, text);
+        }
+        find_among(&CAPITAL, text)
     }
+}
+
+fn begins_small(text: &[u8]) -> bool
+    ensures { result ≡ begins_small text.now }
+{
+    match text {
+        [] => false,
+        [first, ..] => b'a' <= *first,
+    }
+}
+
+fn find_among(words: &[Word], text: &[u8]) -> Option<Word>
+    ensures { result ≡ find_among words.now text.now }
+{
+    words
+        .iter()
+        .copied()
+        .find(|word| word.text().as_bytes() == text)
 }
