@@ -3,3 +3,4 @@ pub mod Grammar
 pub mod Refusals
 pub mod Machine
 pub mod Reads
+pub mod Parts

@@ -1,13 +1,13 @@
 //! Reads the statement and the block at the front of the tokens, after the grammar of Tiny.
 
-ghost use Rattle.std.specs.Prelude.{◌≡◌, ◌++◌, ◌∷◌, [], None, MatchOption, IfOk, IfErr, false, option_map};
-ghost use Rattle.tiny_draft.specs.Tree.{else_of};
-ghost use Rattle.tiny_draft.specs.View.{block_tree, expr_tree, statement_tree};
-ghost use Rattle.tiny_draft.specs.declared.token.Sign.TheVariants.{Assign, If, While};
-ghost use Rattle.tiny_grammar.specs.Grammar.{end, sign, spell_block, spell_else, spell_expr, spell_statement};
-ghost use Rattle.tiny_grammar.specs.Machine.{ABlock, AfterName, AStatement, MaybeElse, Want, is_sign, value};
-ghost use Rattle.tiny_grammar.specs.Reads.{HoldsNoBlock, Reads, ReadsAll, Says, Stops, StopsBy, is_memory};
-ghost use Rattle.tiny_grammar.specs.Tokens.{first_kind};
+ghost use Rattle.std.specs.Prelude.{◌∷◌, [], MatchOption, IfOk, IfErr};
+ghost use Rattle.tiny_draft.specs.Branches.{else_tree};
+ghost use Rattle.tiny_draft.specs.View.{block_tree};
+ghost use Rattle.tiny_draft.specs.declared.token.Sign.TheVariants.{If, While};
+ghost use Rattle.tiny_grammar.specs.Grammar.{spell_block, spell_else};
+ghost use Rattle.tiny_grammar.specs.Machine.{ABlock, AfterName, AStatement, MaybeElse};
+ghost use Rattle.tiny_grammar.specs.Parts.{Lacks, ReadsStatement, assigned, spell_assigned};
+ghost use Rattle.tiny_grammar.specs.Reads.{HoldsNoBlock, Reads, ReadsAll, Says, StopsBy};
 
 use crate::expr::{arguments, cond, value};
 use crate::refusal::Refusal;
@@ -18,9 +18,8 @@ use tiny_tree::Items;
 
 /// The value that is assigned, with the sign before it.
 fn assigned(alloc: Global, levels: u32, tokens: &[Token]) -> Result<(Expr, &[Token]), Refusal>
-    ensures ok { IfOk result (λ p.
-        ReadsAll levels (Want Assign ∷ value) tokens.now (sign Assign ∷ (spell_expr (expr_tree p.0) ++ end)) p.1.now) }
-    ensures err { IfErr result (λ e. StopsBy levels (Want Assign ∷ value) tokens.now e) }
+    ensures ok { IfOk result (λ p. ReadsAll levels assigned tokens.now (spell_assigned p.0) p.1.now) }
+    ensures err { IfErr result (λ e. StopsBy levels assigned tokens.now e) }
 {
     let after = expect(tokens, Sign::Assign)?;
     let (given, rest) = value(alloc, levels, after)?;
@@ -51,9 +50,8 @@ fn named(
 
 /// The statement at the front, which holds no block.
 fn simple(alloc: Global, levels: u32, tokens: &[Token]) -> Result<(Statement, &[Token]), Refusal>
-    ensures ok { IfOk result (λ p. Reads levels AStatement tokens.now (spell_statement (statement_tree p.0)) p.1.now) }
-    ensures err { IfErr result (λ e.
-        is_memory e ≡ false → HoldsNoBlock tokens.now → Stops levels (AStatement ∷ []) tokens.now e) }
+    ensures ok { IfOk result (λ p. ReadsStatement levels tokens.now p.0 p.1.now) }
+    ensures err { IfErr result (λ e. HoldsNoBlock tokens.now → StopsBy levels (AStatement ∷ []) tokens.now e) }
 {
     if let Some(after_put) = after_sign(tokens, Sign::Put) {
         let (shown, put_end) = value(alloc, levels, after_put)?;
@@ -81,7 +79,7 @@ fn simple(alloc: Global, levels: u32, tokens: &[Token]) -> Result<(Statement, &[
 /// The statement at the front.
 #[cycle(block)]
 fn statement(alloc: Global, levels: u32, tokens: &[Token]) -> Result<(Statement, &[Token]), Refusal>
-    ensures ok { IfOk result (λ p. Reads levels AStatement tokens.now (spell_statement (statement_tree p.0)) p.1.now) }
+    ensures ok { IfOk result (λ p. ReadsStatement levels tokens.now p.0 p.1.now) }
     ensures err { IfErr result (λ e. StopsBy levels (AStatement ∷ []) tokens.now e) }
 {
     if let Some(looped) = repeated(alloc, levels, tokens)? {
@@ -101,8 +99,7 @@ fn repeated(
     levels: u32,
     tokens: &[Token],
 ) -> Result<Option<(Statement, &[Token])>, Refusal>
-    ensures ok { IfOk result (λ found. MatchOption found (is_sign While (first_kind tokens.now) ≡ None)
-        (λ p. Reads levels AStatement tokens.now (spell_statement (statement_tree p.0)) p.1.now)) }
+    ensures ok { IfOk result (λ f. MatchOption f (Lacks While tokens.now) (λ p. ReadsStatement levels tokens.now p.0 p.1.now)) }
     ensures err { IfErr result (λ e. StopsBy levels (AStatement ∷ []) tokens.now e) }
 {
     let Some(inside) = after_sign(tokens, Sign::While) else {
@@ -122,8 +119,7 @@ fn choice(
     levels: u32,
     tokens: &[Token],
 ) -> Result<Option<(Statement, &[Token])>, Refusal>
-    ensures ok { IfOk result (λ found. MatchOption found (is_sign If (first_kind tokens.now) ≡ None)
-        (λ p. Reads levels AStatement tokens.now (spell_statement (statement_tree p.0)) p.1.now)) }
+    ensures ok { IfOk result (λ f. MatchOption f (Lacks If tokens.now) (λ p. ReadsStatement levels tokens.now p.0 p.1.now)) }
     ensures err { IfErr result (λ e. StopsBy levels (AStatement ∷ []) tokens.now e) }
 {
     let Some(inside) = after_sign(tokens, Sign::If) else {
@@ -144,8 +140,7 @@ fn otherwise(
     levels: u32,
     tokens: &[Token],
 ) -> Result<(Option<Block>, &[Token]), Refusal>
-    ensures ok { IfOk result (λ p.
-        Reads levels MaybeElse tokens.now (spell_else (else_of (option_map block_tree p.0))) p.1.now) }
+    ensures ok { IfOk result (λ p. Reads levels MaybeElse tokens.now (spell_else (else_tree p.0)) p.1.now) }
     ensures err { IfErr result (λ e. StopsBy levels (MaybeElse ∷ []) tokens.now e) }
 {
     let Some(inside) = after_sign(tokens, Sign::Else) else {

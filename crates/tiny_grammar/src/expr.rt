@@ -1,13 +1,12 @@
 //! Reads the expression and the condition at the front of the tokens.
 
-ghost use Rattle.std.specs.Prelude.{◌≡◌, ◌+◌, [], ◌∷◌, ◌++◌, None, MatchOption, IfOk, IfErr, map};
-ghost use Rattle.tiny_draft.specs.Tree.{arguments_of};
-ghost use Rattle.tiny_draft.specs.View.{cond_tree, expr_tree, term_tree};
+ghost use Rattle.std.specs.Prelude.{[], ◌∷◌, ◌++◌, MatchOption, IfOk, IfErr};
+ghost use Rattle.tiny_draft.specs.View.{cond_tree, expr_tree};
 ghost use Rattle.tiny_draft.specs.declared.token.Sign.TheVariants.{Open};
-ghost use Rattle.tiny_grammar.specs.Grammar.{end, sign, spell_arguments, spell_cond, spell_expr, spell_term};
-ghost use Rattle.tiny_grammar.specs.Machine.{ACond, AnExpr, Arguments, ATerm, MaybeCall, is_sign, value};
-ghost use Rattle.tiny_grammar.specs.Reads.{Moves, Reads, ReadsAll, Skips, StopsBy};
-ghost use Rattle.tiny_grammar.specs.Tokens.{first_kind};
+ghost use Rattle.tiny_grammar.specs.Grammar.{end, spell_cond, spell_expr};
+ghost use Rattle.tiny_grammar.specs.Machine.{ACond, AnExpr, Arguments, ATerm, MaybeCall, value};
+ghost use Rattle.tiny_grammar.specs.Parts.{Lacks, ReadsArguments, ReadsCall, ReadsTerm};
+ghost use Rattle.tiny_grammar.specs.Reads.{Reads, ReadsAll, Skips, StopsBy};
 
 use crate::refusal::{Refusal, refused};
 use crate::token::{after_sign, comparison, expect, first_line, name, number, operator};
@@ -18,7 +17,7 @@ use tiny_tree::Items;
 /// The term at the front.
 #[cycle(expr)]
 fn term(alloc: Global, levels: u32, tokens: &[Token]) -> Result<(Term, &[Token]), Refusal>
-    ensures ok { IfOk result (λ p. Reads levels ATerm tokens.now (spell_term (term_tree p.0)) p.1.now) }
+    ensures ok { IfOk result (λ p. ReadsTerm levels tokens.now p.0 p.1.now) }
     ensures err { IfErr result (λ e. StopsBy levels (ATerm ∷ []) tokens.now e) }
 {
     if let Some(found) = group(alloc, levels, tokens)? {
@@ -43,8 +42,7 @@ fn term(alloc: Global, levels: u32, tokens: &[Token]) -> Result<(Term, &[Token])
 /// The expression in parentheses, where an opening one comes first.
 #[cycle(expr)]
 fn group(alloc: Global, levels: u32, tokens: &[Token]) -> Result<Option<(Term, &[Token])>, Refusal>
-    ensures ok { IfOk result (λ found. MatchOption found (is_sign Open (first_kind tokens.now) ≡ None)
-        (λ p. Reads levels ATerm tokens.now (spell_term (term_tree p.0)) p.1.now)) }
+    ensures ok { IfOk result (λ f. MatchOption f (Lacks Open tokens.now) (λ p. ReadsTerm levels tokens.now p.0 p.1.now)) }
     ensures err { IfErr result (λ e. StopsBy levels (ATerm ∷ []) tokens.now e) }
 {
     let Some(inside) = after_sign(tokens, Sign::Open) else {
@@ -66,9 +64,7 @@ fn call(
     levels: u32,
     tokens: &[Token],
 ) -> Result<Option<(Items<Expr>, &[Token])>, Refusal>
-    ensures ok { IfOk result (λ found. MatchOption found (Skips levels MaybeCall tokens.now)
-        (λ p.
-        Reads levels MaybeCall tokens.now (sign Open ∷ spell_arguments (arguments_of (map expr_tree p.0))) p.1.now)) }
+    ensures ok { IfOk result (λ f. MatchOption f (Skips levels MaybeCall tokens.now) (λ p. ReadsCall levels tokens.now p.0 p.1.now)) }
     ensures err { IfErr result (λ e. StopsBy levels (MaybeCall ∷ []) tokens.now e) }
 {
     let Some(rest) = after_sign(tokens, Sign::Open) else {
@@ -88,9 +84,7 @@ pub(crate) fn arguments(
     levels: u32,
     tokens: &[Token],
 ) -> Result<(Items<Expr>, &[Token]), Refusal>
-    ensures ok { IfOk result (λ p.
-        Moves levels (Arguments ∷ []) tokens.now (spell_arguments (arguments_of (map expr_tree p.0)))
-        (levels + 1) [] p.1.now) }
+    ensures ok { IfOk result (λ p. ReadsArguments levels tokens.now p.0 p.1.now) }
     ensures err { IfErr result (λ e. StopsBy levels (Arguments ∷ []) tokens.now e) }
 {
     let mut found = Items::new(alloc);

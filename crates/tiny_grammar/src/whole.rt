@@ -6,6 +6,7 @@ ghost use Rattle.tiny_draft.specs.View.{function_tree};
 ghost use Rattle.tiny_draft.specs.declared.token.Token.{Token};
 ghost use Rattle.tiny_grammar.specs.declared.refusal.Refusal.{Refusal};
 ghost use Rattle.tiny_grammar.specs.Grammar.{SpellsProgram};
+ghost use Rattle.tiny_grammar.specs.Parts.{AreProgram};
 ghost use Rattle.tiny_grammar.specs.Reads.{is_memory};
 ghost use Rattle.tiny_grammar.specs.Refusals.{IsRefused, IsShallow};
 
@@ -40,8 +41,6 @@ pub fn parse(alloc: Global, tokens: &[Token]) -> Result<Items<Function>, Refusal
 pub fn tokens_have_one_reading()
     ensures one_program { (ts : List Token) (p q : List tree.Function) →
         SpellsProgram ts p → SpellsProgram ts q → p ≡ q }
-    ensures not_both { (levels : ℕ) (ts : List Token) (p : List tree.Function) (e : Refusal) →
-        SpellsProgram ts p → IsShallow levels ts → IsRefused levels ts e → ⊥ }
-    ensures one_refusal { (levels : ℕ) (ts : List Token) (d e : Refusal) →
-        IsRefused levels ts d → IsRefused levels ts e → d ≡ e }
+    ensures not_both { (levels : ℕ) (ts : List Token) (e : Refusal) → AreProgram levels ts → IsRefused levels ts e → ⊥ }
+    ensures one_refusal { (n : ℕ) (ts : List Token) (d e : Refusal) → IsRefused n ts d → IsRefused n ts e → d ≡ e }
 {}

@@ -12,7 +12,7 @@ use Rattle.tiny_tree.specs.Tree.{Program}
 use Rattle.tiny_grammar.specs.declared.refusal.Refusal.{Refusal}
 use Rattle.tiny_grammar.specs.Grammar.{SpellsProgram}
 use Rattle.tiny_grammar.specs.Refusals as grammar
-use Rattle.tiny_grammar.specs.Refusals.{IsShallow}
+use Rattle.tiny_grammar.specs.Parts.{AreProgram}
 use Rattle.tiny_names.specs.declared.fault.Fault.{Fault}
 use Rattle.tiny_names.specs.Faults.{all_faults, first}
 use Rattle.tiny_names.specs.Resolved.{resolved}
@@ -47,10 +47,9 @@ module _ (lexemes_law : (line : List ℕ) (lexemes : List Lexeme) → (read line
     no_first [] f x y = cc
     no_first (g ∷ faults) f x y = cc
 
-    module _ (not_both : (levels : ℕ) (ts : List Token) (p : List draft.Function) (e : Refusal) →
-        SpellsProgram ts p → IsShallow levels ts → grammar.IsRefused levels ts e → ⊥) where
+    module _ (not_both : (levels : ℕ) (ts : List Token) (e : Refusal) → AreProgram levels ts → grammar.IsRefused levels ts e → ⊥) where
       not_unwritten : (text : List ℕ) (a : List draft.Function) (e : TinyError) → IsWritten text a → IsUnwritten text e → ⊥
-      not_unwritten text a e x y = not_both 64 x.tokens a y.refusal x.spells x.shallow
+      not_unwritten text a e x y = not_both 64 x.tokens y.refusal (a, x.spells, x.shallow)
           (subst (λ (ts : List Token). grammar.IsRefused 64 ts y.refusal) (tokens_are text y.tokens x.tokens y.has x.has) y.refused)
 
       pub not_refused : (text : List ℕ) (p : Program) (e : TinyError) → Spells text p → IsRefused text e → ⊥

@@ -111,4 +111,4 @@ statement-returns-in_err-plain-clause-err t c =
     let no_while = rw c.in_default.is at c.in_ok-looped.ensures.ok in
     let no_if = rw c.in_default-2.is at c.in_ok-chosen.ensures.ok in
     let p = err_from_is_err_and c.from_residual-in_err-plain.result c.from_residual-in_err-plain.ensures.1 in
-    rw (p.1, p.2) (λ m. c.in_err-plain.ensures.err m (record { no_while = no_while; no_if = no_if }))
+    rw (p.1, p.2) (λ m. c.in_err-plain.ensures.err (record { no_while = no_while; no_if = no_if }) m)

@@ -7,7 +7,7 @@ pub returns-clause-one_program : goal.returns-clause-one_program
 returns-clause-one_program c = λ ts p q a b. one_program p q (sym a ∙ b)
 
 pub returns-clause-not_both : goal.returns-clause-not_both
-returns-clause-not_both c = λ levels ts p e s h r. not_both levels ts p e s h r
+returns-clause-not_both c = λ levels ts e is r. not_both levels ts is.0 e is.1 is.2 r
 
 pub returns-clause-one_refusal : goal.returns-clause-one_refusal
 returns-clause-one_refusal c = λ levels ts d e p q. one_refusal levels ts d e p q
