@@ -24,6 +24,10 @@ most_bytes = 1_048_576
 abbrev pub Tells : Option Contents → List ℕ → List ℕ → Type 0
 Tells told name bytes = IfSome told (λ contents. file_in contents name ≡ Some bytes)
 
+-- every file is as it was
+abbrev pub KeepsAll : Contents → Contents → Type 0
+KeepsAll old new = (name : List ℕ) → file_in new name ≡ file_in old name
+
 -- every file but the one of this name is as it was
 abbrev pub KeepsOthers : Contents → List ℕ → Contents → Type 0
 KeepsOthers old name new = (other : List ℕ) → other ≢ name → file_in new other ≡ file_in old other

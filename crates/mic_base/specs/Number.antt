@@ -1,9 +1,9 @@
 -- How a text is read as a number: decimal digits, or `0x` with hexadecimal digits, either behind a `-`, of a
 -- magnitude of at most 4,294,967,295; or one printable byte in single quotes.
-use Rattle.std.specs.Prelude.{ℕ, ℤ, pos, neg_ℤ, ◌+◌, ◌-◌, ◌==◌, ◌&&◌, Bool, false, not, List, [], ◌∷◌, length, drop, nat_le, nat_lt, if◌then◌else◌, Option, Some, None, Result, Ok, Err}
+use Rattle.std.specs.Prelude.{ℕ, ℤ, pos, neg_ℤ, ◌+◌, ◌-◌, ◌==◌, ◌&&◌, Bool, false, not, List, [], ◌∷◌, length, drop, nat_le, nat_lt, if◌then◌else◌, Option, Some, None, Result, Ok, Err, ◌≡◌, ◌++◌, codes}
 use Rattle.std.specs.Char.{is_digit}
 use Rattle.std.specs.List.{position}
-use Rattle.mic_base.specs.Digits.{value_of}
+use Rattle.mic_base.specs.Digits.{value_of, hex_text}
 use Rattle.mic_base.specs.declared.number.NumberError.{NumberError}
 use Rattle.mic_base.specs.declared.number.NumberError.TheVariants.{Empty, BadDigit, TooLarge}
 
@@ -59,3 +59,7 @@ quoted_or None text = unquoted text
 
 unfoldable pub number_of : List ℕ → Result ℤ NumberError
 number_of text = quoted_or (quoted text) text
+
+-- behind `0x`, the value in so many hexadecimal digits is read as that value
+abbrev pub IsReadBack : ℕ → ℕ → Type 0
+IsReadBack digits value = number_of (codes "0x" ++ hex_text digits value) ≡ Ok (pos value)

@@ -4,7 +4,7 @@ ghost use Rattle.std.specs.Prelude.{◌≡◌, ◌++◌, ◌+◌, codes, pos, �
 ghost use Rattle.std.specs.Char.{digit_value, is_digit};
 ghost use Rattle.std.specs.List.{list_all, position};
 ghost use Rattle.mic_base.specs.Digits.{hex_text, value_of};
-ghost use Rattle.mic_base.specs.Number.{base_of, begins_hex, begins_minus, digits_of, digits_read, number_of, quoted, sized, unsigned_of};
+ghost use Rattle.mic_base.specs.Number.{base_of, begins_hex, begins_minus, digits_of, digits_read, number_of, quoted, sized, unsigned_of, IsReadBack};
 
 use thiserror::Error;
 
@@ -46,8 +46,7 @@ impl Number {
 
 /// A law: behind `0x`, what `Line::hex` appends is read as its value.
 pub fn hex_is_read_back()
-    ensures { (digits value : ℕ) → 1 ≤ digits → value < 16 ^ digits → value < 2 ^ 32 →
-        number_of (codes "0x" ++ hex_text digits value) ≡ Ok (pos value) }
+    ensures { (digits value : ℕ) → 1 ≤ digits → value < 16 ^ digits → value < 2 ^ 32 → IsReadBack digits value }
 {}
 
 fn quoted(text: &[u8]) -> Option<u8>

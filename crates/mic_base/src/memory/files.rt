@@ -1,7 +1,7 @@
 //! Files in memory, whose calls fail where a test wants it.
 
-ghost use Rattle.std.specs.Prelude.{◌≡◌, ◌<◌, ◌⊎◌, ◌↔◌, List, ℕ, Option, Some, None, option_map, length, IfOk, OnOk, OnErr, IsErrOf, Contains, ◌≢◌};
-ghost use Rattle.mic_base.specs.Files.{file_in, HasFileCause, KeepsOthers, most_bytes, Reads, Writes};
+ghost use Rattle.std.specs.Prelude.{◌≡◌, ◌<◌, ◌↔◌, List, ℕ, Option, Some, option_map, length, IfOk, OnOk, OnErr, IsErrOf, Contains, ◌≢◌};
+ghost use Rattle.mic_base.specs.Files.{file_in, HasFileCause, KeepsAll, KeepsOthers, most_bytes, Reads, Writes};
 ghost use Rattle.mic_base.specs.Numbering.{next_number};
 
 use super::calls::Calls;
@@ -38,7 +38,7 @@ impl MemFiles {
     pub fn add(&mut self, name: &str, bytes: &[u8]) -> Result<(), AllocError>
         ensures added { OnOk result (file_in (files_contents self.new) name.now ≡ Some bytes.now) }
         ensures others { KeepsOthers (files_contents self.old) name.now (files_contents self.new) }
-        ensures err { OnErr result ((name : List ℕ) → file_in (files_contents self.new) name ≡ file_in (files_contents self.old) name) }
+        ensures err { OnErr result (KeepsAll (files_contents self.old) (files_contents self.new)) }
         ensures uncounted { IsUncounted self.old self.new }
     {
         let name = String::from_str(self.alloc, name)?;
@@ -59,7 +59,7 @@ impl MemFiles {
 }
 
 impl Files for MemFiles {
-    ghost use Rattle.mic_base.specs.Memory.{files_contents, files_failing, files_faults, files_number};
+    ghost use Rattle.mic_base.specs.Memory.{FailsToRead, files_contents, files_failing, files_faults, files_number};
 
     ghost contents = { λ s. Some (files_contents s) };
 
@@ -70,9 +70,7 @@ impl Files for MemFiles {
         ensures reads { Reads (Some (files_contents self.old)) name.now result }
         ensures cause { HasFileCause (files_faults self.old) (files_faults self.new) result }
 
-        ensures failing { IsErrOf result FileError.Failed ↔
-            (Contains (files_failing self.old) (files_number self.old)
-            ⊎ (file_in (files_contents self.old) name.now ≡ None)) }
+        ensures failing { IsErrOf result FileError.Failed ↔ FailsToRead self.old name.now }
         ensures number { files_number self.new ≡ next_number (files_number self.old) }
         ensures kept { files_failing self.new ≡ files_failing self.old }
     {
@@ -94,7 +92,7 @@ impl Files for MemFiles {
         ensures cause { HasFileCause (files_faults self.old) (files_faults self.new) result }
 
         ensures failing { IsErrOf result FileError.Failed ↔ Contains (files_failing self.old) (files_number self.old) }
-        ensures err { OnErr result ((name : List ℕ) → file_in (files_contents self.new) name ≡ file_in (files_contents self.old) name) }
+        ensures err { OnErr result (KeepsAll (files_contents self.old) (files_contents self.new)) }
         ensures number { files_number self.new ≡ next_number (files_number self.old) }
         ensures kept { files_failing self.new ≡ files_failing self.old }
     {

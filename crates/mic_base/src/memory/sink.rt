@@ -3,7 +3,7 @@
 ghost use Rattle.std.specs.Prelude.{◌≡◌, ◌≤◌, ◌<◌, ◌+◌, ◌⊎◌, ◌↔◌, [], List, ℕ, Some, vec_len, vec_capacity, length, take, IsErr, OnOk, OnErr, IfOk, Contains};
 ghost use Rattle.mic_base.specs.Causes.{HasCause};
 ghost use Rattle.mic_base.specs.Numbering.{next_number};
-ghost use Rattle.mic_base.specs.Streams.{Puts, Holds};
+ghost use Rattle.mic_base.specs.Streams.{KeepsFront, Puts};
 
 use super::calls::Calls;
 use crate::sink::{Sink, SinkFailed};
@@ -58,7 +58,7 @@ impl MemSink {
 }
 
 impl Sink for MemSink {
-    ghost use Rattle.mic_base.specs.Memory.{IsSameSink, sink_bytes, sink_failing, sink_faults, sink_number, sink_passed, sink_room};
+    ghost use Rattle.mic_base.specs.Memory.{FailsToPut, IsSameSink, sink_bytes, sink_failing, sink_faults, sink_number, sink_passed, sink_room};
 
     ghost held = { λ s. Some s.bytes.items };
 
@@ -68,13 +68,11 @@ impl Sink for MemSink {
 
     fn put(&mut self, piece: &[u8]) -> Result<(), SinkFailed>
         ensures puts { Puts (Some (sink_bytes self.old)) piece.now result (Some (sink_bytes self.new)) }
-        ensures keeps { (front : List ℕ) → Holds front (Some (sink_bytes self.old)) → Holds front (Some (sink_bytes self.new)) }
+        ensures keeps { KeepsFront (Some (sink_bytes self.old)) (Some (sink_bytes self.new)) }
         ensures passed { sink_passed self.new ≡ sink_passed self.old }
         ensures cause { HasCause (sink_faults self.old) (sink_faults self.new) result }
 
-        ensures failing { IsErr result ↔
-            (Contains (sink_failing self.old) (sink_number self.old)
-            ⊎ (sink_room self.old < length (sink_bytes self.old) + length piece.now)) }
+        ensures failing { IsErr result ↔ FailsToPut self.old piece.now }
         ensures nothing { OnErr result (sink_bytes self.new ≡ sink_bytes self.old) }
         ensures number { sink_number self.new ≡ next_number (sink_number self.old) }
         ensures same { IsSameSink self.old self.new }
@@ -90,7 +88,7 @@ impl Sink for MemSink {
     fn flush(&mut self) -> Result<(), SinkFailed>
         ensures held { sink_bytes self.new ≡ sink_bytes self.old }
         ensures passed { OnOk result (sink_passed self.new ≡ sink_bytes self.new) }
-        ensures keeps { (front : List ℕ) → Holds front (Some (sink_passed self.old)) → Holds front (Some (sink_passed self.new)) }
+        ensures keeps { KeepsFront (Some (sink_passed self.old)) (Some (sink_passed self.new)) }
         ensures cause { HasCause (sink_faults self.old) (sink_faults self.new) result }
 
         ensures failing { IsErr result ↔ Contains (sink_failing self.old) (sink_number self.old) }

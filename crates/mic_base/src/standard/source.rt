@@ -1,7 +1,6 @@
 //! A source over any reader, such as standard input.
 
-ghost use Rattle.std.specs.Prelude.{◌≡◌, [], ◌∷◌, None, IfOk, IfSome};
-ghost use Rattle.std.specs.Io.KnownBytes.{Consumes};
+ghost use Rattle.std.specs.Prelude.{◌≡◌, None};
 ghost use Rattle.mic_base.specs.Causes.{HasCause};
 ghost use Rattle.mic_base.specs.Streams.{Takes};
 
@@ -28,7 +27,7 @@ impl<R> StdSource<R> {
 }
 
 impl<R: Read> Source for StdSource<R> {
-    ghost use Rattle.mic_base.specs.Standard.{reader_faults, reader_of};
+    ghost use Rattle.mic_base.specs.Standard.{reader_faults, reader_of, ReadsNext};
 
     ghost left = { λ s. None };
 
@@ -39,7 +38,7 @@ impl<R: Read> Source for StdSource<R> {
         ensures cause { HasCause (reader_faults self.old) (reader_faults self.new) result }
 
         // A byte is the reader's next one, where that is known.
-        ensures read { IfOk result (λ next. IfSome next (λ byte. Consumes (R.remaining (reader_of self.old)) (R.remaining (reader_of self.new)) (byte ∷ []))) }
+        ensures read { ReadsNext (R.remaining (reader_of self.old)) result (R.remaining (reader_of self.new)) }
     {
         let mut byte = [0];
         let answer = self.reader.read_exact(&mut byte);
