@@ -1,7 +1,6 @@
 //! Reads an image file: its magic number, then two blocks, each with origin and size; where its bytes are wrong, the first error.
 
 ghost use Rattle.std.specs.Prelude.{◌≡◌, ◌⊎◌, ◌+◌, ◌*◌, ◌≤◌, ◌<◌, length, IfOk, IfErr, Ok, Err, Some, None};
-ghost use Rattle.ijvm_image.specs.Image.{ImageView, IsWithinLimits};
 ghost use Rattle.ijvm_image.specs.ImageFile.{half_at, word_at, is_origin, is_size, IsFileOf, IsRefused, ReadsImage};
 ghost use Rattle.ijvm_image.specs.Reading.{field, block_from, block_at, words_at, image_of, image_read, IsWithin};
 ghost use Rattle.ijvm_image.specs.declared.image.ImageError.TheVariants.{OutOfMemory};

@@ -1,7 +1,6 @@
 //! The code of a unit.
 
-ghost use Rattle.std.specs.Prelude.{◌≡◌, ◌≤◌, ◌∷◌, [], length, All, IfOk, Err, true};
-ghost use Rattle.ijvm_instr.specs.Instructions.{spelling};
+ghost use Rattle.std.specs.Prelude.{◌≡◌, ◌≤◌, length, All, IfOk, Err, true};
 ghost use Rattle.ijvm_program.specs.Layout.{code_size, instr_of};
 ghost use Rattle.method_linker.specs.Linked.{code_bytes, code_distances, is_far};
 ghost use Rattle.method_linker.specs.Steps.{line_places, HasIndex, IsLinkable, IsPushed, IsLinePushed};

@@ -1,8 +1,8 @@
 //! The image of a program.
 
-ghost use Rattle.std.specs.Prelude.{◌≡◌, ◌≤◌, None, MatchResult, IfOk, IfErr};
+ghost use Rattle.std.specs.Prelude.{◌≤◌, MatchResult, IfOk, IfErr};
 ghost use Rattle.ijvm_program.specs.Layout.{text_size};
-ghost use Rattle.method_linker.specs.Linked.{text, distances, first_far, pool_size, IsLinked, IsRefused, IsTextOf};
+ghost use Rattle.method_linker.specs.Linked.{text, distances, pool_size, IsLinked, IsRefused, IsTextOf};
 ghost use Rattle.method_linker.specs.Steps.{IsStopped};
 
 use crate::code::push_code;

@@ -1,7 +1,6 @@
 //! Methods: a header and code.
 
 ghost use Rattle.std.specs.Prelude.{◌≡◌, ◌≤◌, ◌<◌, ◌+◌, ◌++◌, length, All, OnOk, sum_by};
-ghost use Rattle.std.specs.List.{flat_map};
 ghost use Rattle.ijvm_instr.specs.Instructions.{two_bytes};
 ghost use Rattle.ijvm_program.specs.Layout.{code_size, method_size};
 ghost use Rattle.method_linker.specs.Linked.{header};

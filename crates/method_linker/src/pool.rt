@@ -1,8 +1,6 @@
 //! The constant pool of a linked program: its constants, then the entries of its methods.
 
-ghost use Rattle.std.specs.Prelude.{◌≡◌, ◌++◌, length, map, IfOk, OnOk};
-ghost use Rattle.std.specs.List.{range_with_len};
-ghost use Rattle.ijvm_program.specs.Layout.{entry_of};
+ghost use Rattle.std.specs.Prelude.{◌≡◌, ◌++◌, IfOk, OnOk};
 ghost use Rattle.method_linker.specs.Linked.{pool, pool_size, entries};
 
 use crate::size::{code_size, method_size};

@@ -1,9 +1,9 @@
 //! Numbers in words and in sources.
 
-ghost use Rattle.std.specs.Prelude.{◌≡◌, ◌++◌, ◌+◌, codes, pos, ◌^◌, ◌<◌, ◌≤◌, ℕ, length, min, not, true};
+ghost use Rattle.std.specs.Prelude.{◌≡◌, ◌+◌, ◌^◌, ◌<◌, ◌≤◌, ℕ, length, min, not, true};
 ghost use Rattle.std.specs.Char.{digit_value, is_digit};
 ghost use Rattle.std.specs.List.{list_all, position};
-ghost use Rattle.mic_base.specs.Digits.{hex_text, value_of};
+ghost use Rattle.mic_base.specs.Digits.{value_of};
 ghost use Rattle.mic_base.specs.Number.{base_of, begins_hex, begins_minus, digits_of, digits_read, number_of, quoted, sized, unsigned_of, IsReadBack};
 
 use thiserror::Error;

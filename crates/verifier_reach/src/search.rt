@@ -1,10 +1,10 @@
 //! The search for the reached addresses, with their units and depths.
 
-ghost use Rattle.std.specs.Prelude.{◌≡◌, ◌+◌, ◌*◌, ◌<◌, ◌≤◌, ℕ, [], length, slice_get, Contains, replicate, Some, None, IfOk, IfErr, OnOk, IfSome, IfNone};
+ghost use Rattle.std.specs.Prelude.{◌≡◌, ◌+◌, ◌*◌, ◌<◌, ◌≤◌, ℕ, [], length, slice_get, replicate, Some, None, IfOk, IfErr, OnOk, IfSome, IfNone};
 ghost use Rattle.verifier_facts.specs.declared.error.VerifyError.{VerifyError};
-ghost use Rattle.verifier_facts.specs.Paths.{arrival, Reached};
+ghost use Rattle.verifier_facts.specs.Paths.{Reached};
 ghost use Rattle.verifier_facts.specs.Facts.{IsTrueOf};
-ghost use Rattle.verifier_reach.specs.Search.{kept_at, States, IsChecked, IsKept, IsTaken, IsDone, AllFollow, IsSearch, Grows, IsRunning, IsClosed, IsDecided, empties, AreKept, IsBegun};
+ghost use Rattle.verifier_reach.specs.Search.{kept_at, States, IsChecked, IsTaken, IsDone, AllFollow, IsSearch, Grows, IsRunning, IsClosed, IsDecided, empties, AreKept, IsBegun};
 
 use crate::checks::{Found, check_at};
 use crate::code::{constant_at, decode, text_len};

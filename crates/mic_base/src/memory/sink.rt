@@ -1,6 +1,6 @@
 //! A sink that keeps its bytes in memory, whose calls fail where a test wants it.
 
-ghost use Rattle.std.specs.Prelude.{◌≡◌, ◌≤◌, ◌<◌, ◌+◌, ◌⊎◌, ◌↔◌, [], List, ℕ, Some, vec_len, vec_capacity, length, take, IsErr, OnOk, OnErr, IfOk, Contains};
+ghost use Rattle.std.specs.Prelude.{◌≡◌, ◌≤◌, ◌<◌, ◌↔◌, [], Some, vec_len, vec_capacity, take, IsErr, OnOk, OnErr, IfOk, Contains};
 ghost use Rattle.mic_base.specs.Causes.{HasCause};
 ghost use Rattle.mic_base.specs.Numbering.{next_number};
 ghost use Rattle.mic_base.specs.Streams.{KeepsFront, Puts};
