@@ -1,6 +1,6 @@
 -- What the lines of a canonical text say.
 use Rattle.std.proofs.Common.{◌≡◌, ℕ, zero, suc, ◌<◌, true, List, [], ◌∷◌, ◌++◌, Option, Some, None, refl, ap, subst}
-use Rattle.std.specs.Prelude.{IfSome, IsSome, IsTrue, pos, map, slice_get, unwrap_or, option_map, option_and_then, option_to_list}
+use Rattle.std.specs.Prelude.{IfSome, IsSome, pos, map, slice_get, unwrap_or, option_map, option_and_then, option_to_list}
 use Rattle.std.specs.List.{cons_option, filter_map}
 use Rattle.source_text.specs.Text.{SayAll}
 use Rattle.mic_words.specs.declared.machine.Machine.{Machine}

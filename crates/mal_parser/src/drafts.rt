@@ -1,9 +1,7 @@
 //! The statements of a source, found by their labels.
 
-ghost use Rattle.std.specs.Prelude.{◌≡◌, ◌++◌, ◌∷◌, [], ℕ, List, false, if◌then◌else◌, length, OnOk, OnErr};
-ghost use Rattle.std.specs.Ordering.{nat_cmp};
-ghost use Rattle.std.specs.Cmp.Lexicographic.{slice_cmp};
-ghost use Rattle.std.specs.BTreeMap.{get, IsUnchanged};
+ghost use Rattle.std.specs.Prelude.{◌≡◌, ◌++◌, ◌∷◌, [], List, false, if◌then◌else◌, length, OnOk, OnErr};
+ghost use Rattle.std.specs.BTreeMap.{IsUnchanged};
 ghost use Rattle.mal_parser.specs.Labels.{has_label, has_name, IsNumbered};
 ghost use Rattle.mal_parser.specs.Reading.{number_of};
 

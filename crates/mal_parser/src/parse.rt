@@ -1,6 +1,6 @@
 //! From a text to its program.
 
-ghost use Rattle.std.specs.Prelude.{◌≡◌, ◌⊎◌, ◌<◌, ◌^◌, length, IfOk, IfErr, Ok, Err, false};
+ghost use Rattle.std.specs.Prelude.{◌≡◌, ◌<◌, ◌^◌, length, IfOk, IfErr, Ok, Err, false};
 ghost use Rattle.mal_parser.specs.Program.{MalView};
 ghost use Rattle.mal_parser.specs.Text.{Answers, IsRefused, is_memory, SpellsProgram};
 

@@ -1,6 +1,6 @@
 //! The lines of a source, kept as drafts.
 
-ghost use Rattle.std.specs.Prelude.{◌≡◌, ◌<◌, false, Ok, Err, OnOk, OnErr, IfErr, is_some};
+ghost use Rattle.std.specs.Prelude.{◌≡◌, ◌<◌, Ok, Err, OnOk, OnErr, IfErr, is_some};
 ghost use Rattle.source_text.specs.Walk.{FailsBy};
 ghost use Rattle.mal_parser.specs.declared.error.MalError.TheVariants.{OutOfMemory};
 ghost use Rattle.mal_parser.specs.Labels.{address_of};
