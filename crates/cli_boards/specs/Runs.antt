@@ -66,5 +66,6 @@ module _ {M State : Type 0} (state : M → State) (m : Meaning State) where
   -- the cycles of each such run are clocked one after the other from the first, and are as many as the board counts
   abbrev pub RunsAreClocked : Type 0
   RunsAreClocked =
-      (bound : ℕ) (micro : MalView) (l : Loaded) (program : VerifiedView) (cycles : List Cycle) (last : BoardView M) (end : Option End) (old new : OutsideView) →
+      (bound : ℕ) (micro : MalView) (l : Loaded) (program : VerifiedView) (cycles : List Cycle)
+      (last : BoardView M) (end : Option End) (old new : OutsideView) →
       RunsThrough bound micro l program cycles last end old new → AreClockedAfter 0 cycles × (length cycles ≡ last.counts.cycles)
