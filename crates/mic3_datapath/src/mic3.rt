@@ -145,6 +145,22 @@ impl Clocked for Mic3 {
     }
 
     #[inline(always)]
+    // As the trait has it, where inlining is no hint that is kept.
+    #[inline(always)]
+    fn clock<S: Source, K: Sink>(
+        &mut self,
+        store: &Store,
+        bus: &mut Bus,
+        source: &mut S,
+        sink: &mut K,
+    ) -> Result<(Drive, Computed), BusFault> {
+        self.setup(store);
+        let drive = self.drive();
+        let computed = self.compute();
+        self.edge(bus, source, sink)?;
+        Ok((drive, computed))
+    }
+
     fn registers(&self) -> Registers {
         let places = self.pipeline.latches.places;
         Registers {
