@@ -9,7 +9,6 @@ use Rattle.ijvm_program.specs.Program.{most_names, ProgramView}
 use Rattle.ijvm_tokens.specs.declared.token.Token.{Token}
 use Rattle.ijvm_tokens.specs.Reading.{read}
 use Rattle.ijvm_tokens.specs.Tokens as tokens
-use Rattle.ijvm_line.specs.declared.place.Place.{Place}
 use Rattle.ijvm_line.specs.declared.place.Place.TheVariants as places
 use Rattle.ijvm_line.specs.declared.place.Mark.{Mark}
 use Rattle.ijvm_line.specs.declared.place.Mark.TheVariants as marks

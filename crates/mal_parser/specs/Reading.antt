@@ -1,5 +1,5 @@
 -- Computes which program a text spells, or its first refusal (`SpellsProgram` and `IsRefused` of `Text`): its lines one after the other, then its labels.
-use Rattle.std.specs.Prelude.{◌≡◌, ◌<◌, ◌≤◌, ◌↔◌, ℕ, ◌-◌, ◌&&◌, Bool, true, false, not, List, [], ◌∷◌, ◌++◌, Option, Some, None, Result, Ok, Err, if◌then◌else◌, nat_le, min, length, map, find, slice_get, is_some, option_map, option_and_then, unwrap_or, codes, All, IsTrue, IfSome, ⊤}
+use Rattle.std.specs.Prelude.{◌≡◌, ◌<◌, ◌≤◌, ◌↔◌, ℕ, ◌-◌, ◌&&◌, Bool, true, not, List, [], ◌∷◌, ◌++◌, Option, Some, None, Result, Ok, Err, if◌then◌else◌, nat_le, min, length, map, find, slice_get, is_some, option_map, option_and_then, unwrap_or, codes, All, IsTrue, IfSome, ⊤}
 use Rattle.std.specs.List.{position}
 use Rattle.std.specs.Str.{bytes_eq}
 use Rattle.std.specs.Ordering.{nat_cmp}

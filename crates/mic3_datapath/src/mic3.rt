@@ -144,8 +144,7 @@ impl Clocked for Mic3 {
         Ok(())
     }
 
-    #[inline(always)]
-    // As the trait has it, where inlining is no hint that is kept.
+    // As the trait has it, but inlined, as the trait's own is not.
     #[inline(always)]
     fn clock<S: Source, K: Sink>(
         &mut self,
@@ -161,6 +160,7 @@ impl Clocked for Mic3 {
         Ok((drive, computed))
     }
 
+    #[inline(always)]
     fn registers(&self) -> Registers {
         let places = self.pipeline.latches.places;
         Registers {
