@@ -1,4 +1,4 @@
--- Tokens written one behind the other, some with a space before them.
+-- Tokens written one after the other, some with a space before them.
 use Rattle.std.specs.Prelude.{ℕ, ℤ, Bool, true, false, List, [], ◌∷◌, ◌++◌, map, if◌then◌else◌}
 use Rattle.mal_tokens.specs.declared.word.Word.{Word}
 use Rattle.mal_tokens.specs.declared.sign.Sign.{Sign}
