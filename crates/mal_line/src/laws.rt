@@ -12,7 +12,7 @@ ghost use Rattle.mal_line.specs.declared.content.Content.{Content};
 ghost use Rattle.mal_line.specs.Lines.{HasPart, SpellsLine};
 ghost use Rattle.mal_line.specs.Reading.{LinesReadAsSpelled, LinesRefusedAsFaulty};
 
-/// A line is read as what it spells, or refused by its first refusal: so it spells at most one thing, and what it spells
+/// A line is read as what it spells or refused by its first refusal: so it spells at most one thing, and what it spells
 /// is never refused. A statement that is spelled stands in a word of the machine.
 pub fn reads_what_is_spelled()
     ensures spelled { LinesReadAsSpelled }

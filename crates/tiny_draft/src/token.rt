@@ -35,9 +35,9 @@ pub enum Kind {
     Name(u32),
     Number(u32),
     Of(Sign),
-    /// It begins no token.
+    /// Bytes that are no token.
     Bad,
-    /// A number that does not read.
+    /// A number that cannot be read.
     Unread,
 }
 
