@@ -71,7 +71,7 @@ shipped_machine machine p e = ap (λ (q : MalView). q.machine) e ∙ of_machine 
     of_machine Mic1 = refl
     of_machine Mic2 = refl
 
--- nothing was said of any cycle
+-- nothing was printed of any cycle
 pub silent_says : (p : Profile) (cs : List Cycle) (text : List ℕ) → PrintsOf profile_after Silent p cs text → text ≡ []
 silent_says p [] text h = h
 silent_says p (c ∷ cs) text h = h.4 ∙ (λ i. h.2 i ++ silent_says (profile_after p c) cs h.1 h.3 i)

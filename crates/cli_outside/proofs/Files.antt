@@ -19,7 +19,7 @@ pub too_long : (told : Option Contents) (name : List ℕ) → IfSome told (λ co
 too_long None name h = let list : (bytes : List ℕ) × (length bytes ≡ 1048577) = list_of 1048577 in (list.0, tt, omega (arith, list.1))
 too_long (Some contents) name h = in_file (file_in contents name) h
 
--- A call that answered another error did not fail.
+-- A call that returned another error did not fail.
 
 pub long_is_no_failure : {T : Type 0} (result : Result T FileError) → result ≡ Err errors.TooLong → result ≢ Err errors.Failed
 long_is_no_failure result is failed = cc

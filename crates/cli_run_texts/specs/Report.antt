@@ -16,7 +16,7 @@ boundary_line None = codes "boundary none\n"
 boundary_line (Some b) =
     codes "boundary " ++ decimal b.cycles ++ codes " at " ++ hex_text 8 b.at ++ codes " sp " ++ hex_text 8 b.sp ++ codes " lv " ++ hex_text 8 b.lv ++ codes "\n"
 
--- what stands behind the name of the end: the counts, and the last boundary
+-- what follows the name of the end: the counts, and the last boundary
 abbrev pub counts_text : ℕ → ℕ → Option Boundary → List ℕ
 counts_text cycles instructions boundary =
     codes "\ncycles " ++ decimal cycles ++ codes " instructions " ++ decimal instructions ++ codes "\n"

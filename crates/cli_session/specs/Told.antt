@@ -3,13 +3,13 @@ use Rattle.std.specs.Prelude.{◌≡◌, ◌<◌, ℕ, zero, suc, ◌-◌, ◌==
 use Rattle.cli_session.specs.declared.line.Read.{Read}
 use Rattle.cli_session.specs.declared.line.Read.TheVariants as reads
 
--- the first line of some bytes, of at most so many
+-- the first line of some bytes, of at most this many
 abbrev pub line_in : ℕ → List ℕ → List ℕ
 line_in zero bytes = []
 line_in (suc n) [] = []
 line_in (suc n) (b ∷ bytes) = if b == 10 then [] else b ∷ line_in n bytes
 
--- what stands behind it, and behind the newline that ended it
+-- what follows that line, and the newline that ended it
 abbrev pub behind_line : ℕ → List ℕ → List ℕ
 behind_line zero bytes = bytes
 behind_line (suc n) [] = []
@@ -21,7 +21,7 @@ pub record IsFirstLine (told line : List ℕ) (left : Option (List ℕ)) : Type 
   pub line_is : line ≡ line_in 256 told
   pub rest : left ≡ Some (behind_line 256 told)
 
--- a failing console cuts a line behind these bytes of it
+-- a failing console cuts a line after these bytes of it
 pub record IsCutLine (told line : List ℕ) (left : Option (List ℕ)) : Type 0 where
   pub rest : List ℕ
   pub left_is : left ≡ Some rest

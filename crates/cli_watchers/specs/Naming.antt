@@ -35,7 +35,7 @@ abbrev pub labelled_text : Bool → List ℕ → List ℕ → List ℕ
 labelled_text true label parts = label ++ codes " stall"
 labelled_text false label parts = label ++ codes " " ++ parts
 
--- a line gets the word at an address so
+-- a line gets the label and the text of the word at an address
 abbrev pub AddsWord : MalView → List ℕ → ℕ → Bool → List ℕ → List ℕ → Type 0
 AddsWord p addresses mpc stalled old new =
     (label parts : List ℕ) × IsWord p addresses mpc label parts × (new ≡ old ++ labelled_text stalled label parts)

@@ -1,4 +1,4 @@
--- What clap does after its walk, and the agreement of its answer with the reading of the words.
+-- What clap does after its walk, and the agreement of its result with the reading of the words.
 use Rattle.std.proofs.Common.{◌≡◌, ℕ, ◌+◌, ◌≤◌, ◌∙◌, ap, refl, Bool, true, false, not, List, [], ◌∷◌, ◌++◌, length, Option, Some, None, inl, inr, ◌⊎◌, ◌||◌, ◌&&◌, IsUtf8}
 use Rattle.std.specs.Prelude.{if◌then◌else◌, codes, fold, option_map}
 use Rattle.std.specs.List.{All, list_all, list_any}
