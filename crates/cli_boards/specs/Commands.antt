@@ -1,4 +1,4 @@
--- How the commands over a board end, from the files that they read: an outside that is lent comes to this.
+-- How the commands over a board end, from the files that they read: what is done to an outside that is lent.
 use Rattle.std.specs.Prelude.{ℕ, Bool, List, Option, None}
 use Rattle.std.specs.Borrow.{Bor}
 use Rattle.console_port.specs.declared.map.MemoryMap.{MemoryMap}

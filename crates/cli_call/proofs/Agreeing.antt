@@ -95,7 +95,7 @@ pub said : (old new : SinkState) (text : List ℕ) (code status : ℕ) → (Rose
 said old new text code status none (Said is got flushed same) = (is, got)
 said old new text code status none (Unsaid is got rose) = absurd (none rose)
 
--- what a source tells is what a run of it takes
+-- what a source is known to have left is what a run of it takes
 pub told_input : (left : Option (List ℕ)) (input taken : List ℕ) → left ≡ Some input → Untaken left false taken → taken ≡ input
 told_input left input taken e told = subst (λ (l : Option (List ℕ)). Untaken l false taken) e told
 

@@ -98,6 +98,6 @@ pub data IsAnswer (asks : Option Asked) (old new : OutsideView) (status : ℕ) :
   NoMemory : IsUntouched old new → status ≡ exits.memory → IsAnswer asks old new status
   ShortOfMemory : IsReference asks → status ≡ exits.memory → IsAnswer asks old new status
 
--- a call that ends so ends with one of these answers
+-- a call that ends in this way ends with one of these answers
 abbrev pub HasItsCause : Option Asked → OutsideView → OutsideView → ℕ → Type 0
 HasItsCause asks old new status = CallEnds asks old new status → IsAnswer asks old new status

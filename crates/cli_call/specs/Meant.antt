@@ -26,7 +26,7 @@ pub record IsTinyCall (text input : List ℕ) (machine : Machine) (bound : ℕ)
   pub ends : CallEnds (Some (Tiny file machine bound)) old new status
   pub quiet : IsQuiet old new status
 
--- `out` has got this, where it tells what it holds
+-- `out` has got this, where what it holds is known
 abbrev pub HasGot : OutsideView → OutsideView → List ℕ → Type 0
 HasGot old new given = IfSome new.out.held (λ held. held ≡ told_of old.out.held ++ given)
 

@@ -1,4 +1,4 @@
--- The text that answers a faulty command line, byte by byte.
+-- The text that is printed for a faulty command line, byte by byte.
 use Rattle.std.specs.Prelude.{ℕ, List, ◌++◌, codes}
 
 -- the text that is printed where the command line is faulty

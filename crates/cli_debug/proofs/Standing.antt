@@ -35,7 +35,7 @@ use Rattle.cli_debug.specs.Debugging.{debugging, debugging_view}
 pub no_rise : Rose 0 0 → ⊥
 no_rise rose = absurd (omega (arith, rose))
 
--- what a source that tells may have untaken is one list
+-- only one list may be untaken of a source whose rest is known
 abbrev untaken_of : List ℕ → Bool → List ℕ
 untaken_of left true = []
 untaken_of left false = left

@@ -47,7 +47,7 @@ module _ {M State : Type 0} (state : M → State) (m : Meaning State) where
         IsReadOut (is_quit program.map.stack_end) most_lines bytes lines new.console.left) →
         new.console.faults ≡ old.console.faults →
         TellsOnErr (report_in last.session.session) exits.done last.seen new status → IsDebugged bound micro program input old new status
-    -- the console failed: the same was reported after the whole lines before that
+    -- the console failed: the place where the session stands was reported after the whole lines before that
     Cut : (l : Loaded) (first : SessionView M) (lines : List (List ℕ)) (last : Place (DebuggingView M)) →
         IsStart bound micro l program first → Gone (debugging state m) lines (place (debugging_view first input) old) last →
         IfSome old.console.left (λ bytes. IsCutIn (is_quit program.map.stack_end) most_lines bytes lines new.console.left) →
@@ -60,7 +60,7 @@ module _ {M State : Type 0} (state : M → State) (m : Meaning State) where
         IsCutShort (debugging state m) line mid new → new.console.faults ≡ old.console.faults → status ≡ exits.sink →
         IsDebugged bound micro program input old new status
 
-  -- an outside that is lent comes to this: of a program and a microprogram that are prepared, and from the files that have both and the input
+  -- what is done to an outside that is lent: of a program and a microprogram that are prepared, and from the files that hold these and the input
   abbrev pub DebugsPrepared : ℕ → Prepared → List ℕ → LentView → LentView → ℕ → Type 0
   DebugsPrepared bound prepared input = Over (IsDebugged bound prepared.micro.program prepared.program input)
 

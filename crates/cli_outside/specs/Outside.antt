@@ -32,7 +32,7 @@ source_state left faults = record { left = left; faults = faults }
 abbrev pub files_state : Option Contents → ℕ → FilesState
 files_state contents faults = record { contents = contents; faults = faults }
 
--- The state of an object, by what it tells of itself.
+-- The state of an object, by what it shows of itself.
 
 abbrev pub sink_of : {K : Type 0} → (K → Option (List ℕ)) → (K → Option (List ℕ)) → (K → ℕ) → K → SinkState
 sink_of held passed faults k = sink_state (held k) (passed k) (faults k)
@@ -102,7 +102,7 @@ pub data Says (old new : SinkState) (text : List ℕ) (code status : ℕ) : Type
   Said : status ≡ code → Got old.held text new.held → IsFlushed new.held new.passed → new.faults ≡ old.faults → Says old new text code status
   Unsaid : status ≡ exits.sink → GotInPart old.held text new.held → Rose old.faults new.faults → Says old new text code status
 
--- a sink gets a text so, by what it tells of itself
+-- a sink gets a text so, by what it shows of itself
 abbrev pub SaysTo : {K : Type 0} → (K → Option (List ℕ)) → (K → Option (List ℕ)) → (K → ℕ) → K → K → List ℕ → ℕ → ℕ → Type 0
 SaysTo held passed faults old new = Says (sink_of held passed faults old) (sink_of held passed faults new)
 

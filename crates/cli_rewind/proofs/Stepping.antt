@@ -38,7 +38,7 @@ no_fault None (Some (ends.OutOfMap at)) read write = tt
 no_fault None (Some ends.Adrift) read write = tt
 no_fault (Some e) new read write = tt
 
--- what a source that tells may have untaken is one list
+-- only one list may be untaken of a source whose rest is known
 abbrev untaken_of : List ℕ → Bool → List ℕ
 untaken_of left true = []
 untaken_of left false = left

@@ -120,7 +120,7 @@ module _ {M State : Type 0} (state : M → State) (m : Meaning State) where
     pub keeps : (front : List ℕ) → Holds front err.held → Holds front err'.held
     pub rose : Rose out.faults out'.faults ⊎ Rose err.faults err'.faults
 
--- these relations for a sink, by what it tells of itself
+-- these relations for a sink, by what it shows of itself
 
 module _ {M State K : Type 0} (state : M → State) (m : Meaning State) (held passed : K → Option (List ℕ)) (faults : K → ℕ) where
   abbrev pub PassesOn : RewindView M → K → RewindView M → K → Type 0

@@ -55,7 +55,7 @@ module _ {M State : Type 0} (state : M → State) (m : Meaning State) where
   abbrev pub IsStartOf : ℕ → Prepared → RewindingView M → Type 0
   IsStartOf depth prepared = IsStart depth prepared.micro.program prepared.micro.loaded prepared.program
 
-  -- an outside that is lent comes to this: of what is prepared, and from the files that have the program and its input
+  -- what is done to an outside that is lent: of what is prepared, and from the files that hold the program and its input
   abbrev pub RewindsPrepared : ℕ → Prepared → List ℕ → LentView → LentView → ℕ → Type 0
   RewindsPrepared depth prepared input = Over (IsRewound depth prepared.micro.program prepared.program input)
 

@@ -63,7 +63,7 @@ module _ {State : Type 0} (m : Meaning State) (words : List ℕ) where
 
   -- ---- what a rewind keeps at a stand
 
-  -- the run that a board shows: one that has ended made a turn more than its cycles
+  -- the run that a board shows: one that has ended made one more turn than its cycles
   abbrev pub shown_run : Stand State → Option End → MicroRun State
   shown_run s None = run_at s.start s.clocked
   shown_run s (Some end) = run_at s.start (suc s.clocked)

@@ -15,7 +15,7 @@ pub record CommandForm (V : Type 0) : Type 0 where
 abbrev pub command_form : {V : Type 0} → V → Literal → Argument → CommandForm V
 command_form verb word argument = record { verb = verb; word = codes word; argument = argument }
 
--- what a row says
+-- the command, the word and the argument of a row
 abbrev pub form_of : {V : Type 0} → CommandRow V → CommandForm V
 form_of row = record { verb = row.verb; word = row.word.now; argument = row.argument }
 

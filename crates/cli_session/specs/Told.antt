@@ -1,4 +1,4 @@
--- The lines that a console tells. A newline ends a line; so do its 256th byte, and the end.
+-- The lines of a console's bytes. A newline ends a line; so do its 256th byte, and the end of the bytes.
 use Rattle.std.specs.Prelude.{◌≡◌, ◌<◌, ℕ, zero, suc, ◌-◌, ◌==◌, if◌then◌else◌, List, [], ◌∷◌, ◌++◌, length, Result, Ok, Err, Option, Some, IfSome}
 use Rattle.cli_session.specs.declared.line.Read.{Read}
 use Rattle.cli_session.specs.declared.line.Read.TheVariants as reads
@@ -35,6 +35,6 @@ ReadsLineOf told line (Ok reads.Last) left = IsFirstLine told line left × (behi
 ReadsLineOf told line (Ok reads.Nothing) left = (told ≡ []) × (left ≡ Some [])
 ReadsLineOf told line (Err e) left = IsCutLine told line left
 
--- what came of reading a line, where the console tells its bytes
+-- what came of reading a line, where the console's bytes are known
 abbrev pub ReadsLine : {E : Type 0} → Option (List ℕ) → List ℕ → Result Read E → Option (List ℕ) → Type 0
 ReadsLine old line result new = IfSome old (λ told. ReadsLineOf told line result new)

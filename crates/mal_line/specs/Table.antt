@@ -60,7 +60,8 @@ abbrev pub OfOne : Machine → AluOp → AluOp → BusSource → Operation → T
 OfOne Mic1 op_a op_b x o = ((x ≡ bus.H) × Does o op_a (Some bus.H) None) ⊎ (OnB Mic1 x × Does o op_b None (Some x))
 OfOne Mic2 op_a op_b x o = OnB Mic2 x × Does o op_b None (Some x)
 
--- of X and Y: on Mic-1 one of them is H and the other is not; on Mic-2 X is on side A, Y on side B, and no one-byte operand is with a two-byte one
+-- of X and Y: on Mic-1 one of them is H and the other is not; on Mic-2 X is on side A and Y on side B, and a one-byte source
+-- of the queue does not stand with a two-byte one
 abbrev pub OfTwo : Machine → AluOp → BusSource → BusSource → Operation → Type 0
 OfTwo Mic1 op x y o = ((x ≡ bus.H) × OnB Mic1 y × Does o op (Some bus.H) (Some y)) ⊎ ((y ≡ bus.H) × OnB Mic1 x × Does o op (Some bus.H) (Some x))
 OfTwo Mic2 op x y o = OnB Mic2 x × OnB Mic2 y × (is_mixed (Some x) (Some y) ≡ false) × Does o op (Some x) (Some y)

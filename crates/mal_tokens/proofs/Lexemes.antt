@@ -186,7 +186,7 @@ found_small text h = sym (behind_front text capital_words small_words (none_amon
 pub found_capital : (text : List ℕ) → begins_small text ≡ false → find_among capital_words text ≡ find_word text
 found_capital text h = sym (in_front text capital_words small_words (none_among begins_small text h small_words refl))
 
--- a reserved word has five bytes at most
+-- a reserved word has at most five bytes
 word_short : (w : Word) → nat_le (length (word_text w)) 5 ≡ true
 word_short w = elim w as (λ w. nat_le (length (word_text w)) 5 ≡ true) [
   | words.Mar ↦ refl
