@@ -81,7 +81,7 @@ pub nothing_put : (old new : Option (List ℕ)) (text : List ℕ) → text ≡ [
 nothing_put None new text none put = put
 nothing_put (Some held) new text none put = put ∙ ap (λ (t : List ℕ). Some (held ++ t)) none ∙ ap Some (append-nil held)
 
--- nor is one that failed where there was nothing to get
+-- a sink that got a part of an empty text got nothing
 pub nothing_put_of : (old new : Option (List ℕ)) (text : List ℕ) → text ≡ [] → GotInPart old text new → Got old [] new
 nothing_put_of old new text none h =
     h.1 ∙ ap (λ (t : List ℕ). option_map (λ (held : List ℕ). held ++ t) old) (ap (take h.0) none ∙ take-nil h.0)

@@ -85,14 +85,14 @@ IsStray (ends.OutOfMap at) = Unit {0}
 IsStray ends.Adrift = Unit {0}
 IsStray end = ⊥
 
--- the definition's run does not
+-- the definition's run does not end so
 not_stray : (d : RunEnd) → IsStray (board_end d) → ⊥
 not_stray defined.Halt h = h
 not_stray defined.Err h = h
 not_stray defined.Bound h = h
 not_stray defined.StackLimit h = h
 
--- nor does a fault
+-- such an end is no fault
 not_fault : (end : End) → IsStray end → NoFault None (Some end)
 not_fault (ends.OutOfMap at) h = tt
 not_fault ends.Adrift h = tt

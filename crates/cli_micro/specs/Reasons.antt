@@ -29,7 +29,7 @@ mal_reason mal.OutOfMemory = None
 abbrev pub line_at : List Statement → ℕ → ℕ
 line_at statements s = unwrap_or (option_map (λ t. t.line) (slice_get statements s)) 0
 
--- of two statements on these lines
+-- the message of two statements on these lines
 abbrev pub of_two_lines : ℕ → ℕ → List ℕ
 of_two_lines first second = of_file (codes "lines " ++ decimal first ++ codes " and " ++ decimal second ++ codes " are forced to one address")
 

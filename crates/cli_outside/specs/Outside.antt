@@ -71,7 +71,7 @@ pub record LenderNames : Type 0 where
 abbrev pub lender_names : GName → GName → GName → GName → LenderNames
 lender_names files console out err = record { files = files; console = console; out = out; err = err }
 
--- those of four references
+-- the names of four references
 abbrev pub names_of : {F S K E : Type 0} → MutBor F → MutBor S → MutBor K → MutBor E → LenderNames
 names_of files console out err = lender_names files.ghost_name console.ghost_name out.ghost_name err.ghost_name
 

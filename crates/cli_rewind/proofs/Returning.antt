@@ -66,7 +66,7 @@ module _ {M State : Type 0} (state : M → State) (m : Meaning State) (left held
   pub none_kept : v.history.before ≡ [] → kept v.history.depth s ≡ 0
   none_kept none = states_none m words s.start first (kept v.history.depth s) (ap (λ (h : HistoryView). h.before) (sym here.history) ∙ none)
 
--- none is kept before the last one that was gone back over
+-- no cycle is kept before the last one that was gone back over
 pub back_ended : {State : Type 0} (depth n : ℕ) (s : Stand State) → n ≤ kept depth s → kept depth (back depth n s) ≡ 0 → n ≡ kept depth s
 back_ended depth n s le none = omega (arith, le, none)
 

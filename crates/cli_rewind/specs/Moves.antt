@@ -69,7 +69,7 @@ module _ {M State K : Type 0} (state : M → State) (m : Meaning State) (held pa
   scene_at rewind input out = scene rewind (plain_left input) (sink_of held passed faults out)
 
   module _ (n : ℕ) (old : RewindView M) (input : PlainSource) (out : K) (new : RewindView M) (input' : PlainSource) (out' : K) where
-    -- it went forward by n cycles, or to this end
+    -- the session went forward by n cycles, or to this end
     abbrev pub WentForward : Option End → Type 0
     WentForward end = Went state m n (scene_at old input out) (scene_at new input' out') (GoesForward m old.board.store.words n end)
 
@@ -78,7 +78,7 @@ module _ {M State K : Type 0} (state : M → State) (m : Meaning State) (held pa
 
   module _ (read : Result (Option (Command Verb)) CommandError)
       (old : RewindView M) (input : PlainSource) (out : K) (new : RewindView M) (input' : PlainSource) (out' : K) where
-    -- it did what was read of a line, and returned this text
+    -- the session did what was read of a line, and returned this text
     abbrev pub WentBy : List ℕ → Type 0
     WentBy text =
         Went state m (2 ^ 32) (scene_at old input out) (scene_at new input' out') (λ s s'. Follows m old.board.store.words old.history.depth read s text s')

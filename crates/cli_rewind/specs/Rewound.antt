@@ -51,7 +51,7 @@ module _ {M State : Type 0} (state : M → State) (m : Meaning State) where
         Goes (rewinding state m) most_lines 0 (place first old) (place last new) step → status ≡ status_after step →
         IsRewound depth micro program input old new status
 
-  -- of a program and a microprogram that are prepared
+  -- the start of a session over a program and a microprogram that are prepared
   abbrev pub IsStartOf : ℕ → Prepared → RewindingView M → Type 0
   IsStartOf depth prepared = IsStart depth prepared.micro.program prepared.micro.loaded prepared.program
 

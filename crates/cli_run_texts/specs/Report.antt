@@ -31,7 +31,7 @@ abbrev pub cycles_of : End → ℕ → Option Boundary → ℕ
 cycles_of ends.StackLimit cycles (Some b) = b.cycles
 cycles_of end cycles boundary = cycles
 
--- those lines of a clocked run, and of a run of the plain machine
+-- the first three lines of a clocked run, and of a run of the plain machine
 
 abbrev pub clocked_head : End → Counts → List ℕ
 clocked_head end c = head end (cycles_of end c.cycles c.boundary) c.instructions c.boundary

@@ -18,7 +18,7 @@ pub const MOST_LINES: u32 = 65_536;
 #[derive(Clone, Copy, Debug, PartialEq, Eq)]
 pub enum Step {
     On,
-    /// It was left, or the lines are at their end.
+    /// The session was left, or its lines are at their end.
     Over,
     ConsoleFailed,
     SinkFailed,

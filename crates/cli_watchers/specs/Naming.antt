@@ -49,7 +49,7 @@ abbrev pub text_of : Option Instr → ℕ → List ℕ
 text_of (Some i) at = instr_text i at
 text_of None at = codes "?"
 
--- its text, or `?` where none begins there
+-- the text of the reached instruction at an address, or `?` where none begins there
 pub record IsInstruction (image : ImageView) (at : ℕ) (text : List ℕ) : Type 0 where
   pub instr : Option Instr
   pub reached : IsReached image at instr

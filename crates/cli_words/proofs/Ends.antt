@@ -176,7 +176,7 @@ known_from c (n ∷ ns) h = (h n (rw (own_text n) refl), known_from c ns (λ m e
         go true = refl
         go false = e
 
--- of the walk's end
+-- what clap holds at the walk's end
 abbrev walk_end : Form → List Text → Held
 walk_end f words = (walk (rules_for f) [] nothing_held words).held
 

@@ -35,11 +35,11 @@ by_addresses (placed.Branch test low) = nexts.Branch test (targets.Address (low 
 
 -- ---- the texts of one statement
 
--- its parts, `;` where it has none
+-- the parts of a statement, `;` where it has none
 abbrev pub parts_of : MalView → Statement → List ℕ
 parts_of p s = printed (or_semicolon (printed_tokens p.machine s.part (next_by_labels p s)))
 
--- its label and its parts
+-- the label and the parts of a statement
 abbrev pub labelled_line : MalView → Statement → List ℕ
 labelled_line p s = printed (statement p.machine s.label s.part (next_by_labels p s))
 

@@ -26,7 +26,7 @@ number value text = record { spaced = false; token = tokens.Number value; text =
 abbrev pub spaced : PrintedToken → PrintedToken
 spaced p = record p { spaced = true }
 
--- with a space before the first
+-- the tokens with a space before the first
 abbrev pub behind_space : List PrintedToken → List PrintedToken
 behind_space [] = []
 behind_space (p ∷ ps) = spaced p ∷ ps

@@ -183,7 +183,7 @@ printed_tokens machine part next = joined_behind false (parts machine part next)
 
 -- ---- lines
 
--- by its labels
+-- where a statement goes next, with labels as targets
 abbrev pub labelled : Next (List ℕ) → Next Target
 labelled next = by_targets (λ label. targets.Label label) next
 

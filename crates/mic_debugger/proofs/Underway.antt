@@ -123,7 +123,7 @@ module _ {M State : Type 0} (state : M → State) (m : Meaning State) (book : Bo
               ),
         )
 
-  -- it is done where the board has ended or nothing more is waited for
+  -- the command is done where the board has ended or nothing more is waited for
   pub clocked_of : (left0 held0 : Option (List ℕ)) (board0 : BoardView M) (left held : Option (List ℕ)) (board : BoardView M) (text : List ℕ) (w : ℕ) →
       IsSome board.end ⊎ (w ≡ 0) →
       IsLedTo state left0 held0 board0 left board (λ r rest. (n : ℕ) × IsUnderway state m book words breaks bound u times left held board rest text w n r) →

@@ -5,9 +5,9 @@ use Rattle.source_text.specs.Tokens.{Lexicon, Spells}
 
 -- the refusals of a line on its own
 pub record LineRefusals (F E : Type 0) : Type 0 where
-  -- of line `k`, which spells no tokens
+  -- the refusal of line `k`, which spells no tokens
   pub bad_token : ℕ → E
-  -- of line `k`, whose tokens have this fault
+  -- the refusal of line `k`, whose tokens have this fault
   pub at_line : ℕ → F → E
 
 -- a language: its tokens, the faults of a line, what a line says, programs and refusals

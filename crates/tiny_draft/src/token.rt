@@ -31,7 +31,7 @@ pub enum Sign {
 /// What a token is.
 #[derive(Clone, Copy)]
 pub enum Kind {
-    /// By its number among the names of the text.
+    /// A name, by its number among the names of the text.
     Name(u32),
     Number(u32),
     Of(Sign),

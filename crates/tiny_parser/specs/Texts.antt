@@ -33,7 +33,7 @@ pub record Spells (text : List ℕ) (p : Program) : Type 0 where
   pub fits : all_faults written ≡ []
   pub is : p ≡ resolved written
 
--- one of its tokens, or its end, is refused
+-- one of the text's tokens, or its end, is refused
 pub record IsUnwritten (text : List ℕ) (e : TinyError) : Type 0 where
   pub tokens : List Token
   pub has : HasTokens text tokens

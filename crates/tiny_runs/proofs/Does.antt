@@ -84,7 +84,7 @@ module _ {image : ImageView} {stack_end : ℕ} where
             stuck image stack_end (ending r go) (1 + w.turns) s e (subst (λ (g : List ℕ). IsPrefix g (output (ending r go))) same f.prefix);
       }
 
-  -- it gives this, here
+  -- a value is given, and the run is where that leads
   pub does_give : {A : Type 0} (a : A) (w u : TinyWorld) (K : A → Type 0) (to : (a : A) → K a → TinyWorld → State) (s : State) (x : K a) →
       u.turns ≡ w.turns → s ≡ to a x u → Does image stack_end 0 (Gives a u) w s K to
   does_give a w u K to s x same e =
