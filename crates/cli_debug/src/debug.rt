@@ -68,7 +68,7 @@ pub fn debug_program<M: Clocked + Drop, F: Files, S: Source, K: Sink, E: Sink>(
     }
 }
 
-/// Reports where the run of a board that a session left stands.
+/// Prints the report of a board that a session left.
 fn report<M: Clocked, F: Files, S: Source, K: Sink, E: Sink>(
     board: &Board<M>,
     outside: &mut Outside<'_, F, S, K, E>,

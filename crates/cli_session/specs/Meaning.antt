@@ -15,7 +15,7 @@ pub record SessionMeaning (Seen Rules Stand : Type 0) : Type 1 where
   pub quits : Seen → List ℕ → Bool
   -- the rules that it goes by, which no line changes
   pub GoesBy : Seen → Rules → Type 0
-  -- where it stands, by what `out` holds
+  -- where a session stands, by what `out` holds
   pub StandsAt : Option (List ℕ) → Seen → Stand → Type 0
   -- this many lines may still be done
   pub Lasts : ℕ → Seen → Type 0

@@ -38,7 +38,7 @@ state_lines buses c =
 abbrev pub reached_line : ℕ → List ℕ → List ℕ
 reached_line at instruction = codes "at " ++ hex_text 8 at ++ codes " " ++ instruction ++ codes "\n"
 
--- where a boundary was reached
+-- the line of the boundary that a cycle reached, or nothing where it reached none
 abbrev pub IsBoundaryLine : ImageView → Option ℕ → List ℕ → Type 0
 IsBoundaryLine image None text = text ≡ []
 IsBoundaryLine image (Some at) text = (instruction : List ℕ) × IsInstruction image at instruction × (text ≡ reached_line at instruction)

@@ -204,7 +204,7 @@ SpellsProgram machine = text.SpellsProgram (grammar machine)
 abbrev pub IsRefused : Machine → List ℕ → MalError → Type 0
 IsRefused machine = text.IsRefused (grammar machine)
 
--- memory ran out, which may happen at any time
+-- the refusal is out of memory, which may happen at any time
 abbrev pub is_memory : MalError → Bool
 is_memory errors.OutOfMemory = true
 is_memory _ = false

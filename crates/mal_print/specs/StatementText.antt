@@ -90,7 +90,7 @@ is_unshifted _ = false
 abbrev pub is_idle : Part → Bool
 is_idle part = is_zero part.op && is_unshifted part.shift
 
--- what a value is assigned to that no register takes: N where the statement tests N, and Z otherwise
+-- the destination of a value that no register takes: N where the statement tests N, and Z otherwise
 abbrev pub tested : Next Target → Word
 tested (nexts.Branch tests.N high low) = words.N
 tested _ = words.Z

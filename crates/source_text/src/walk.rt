@@ -20,7 +20,7 @@ pub trait Reader {
 
     ghost step: { Step State Self.Refusal };
 
-    /// Whether memory ran out, which may happen at any line.
+    /// Whether the refusal is out of memory, which may happen at any line.
     ghost is_memory: { Self.Refusal → Bool };
 
     /// Reads a line, given without its comment. A refused line leaves the state of the lines before it; running out of
