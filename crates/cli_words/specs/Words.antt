@@ -324,7 +324,7 @@ abbrev pub request_of : List Text → Option Asked
 request_of [] = None
 request_of (command ∷ words) = asked_by (name_for command) words
 
--- the result is the request of what the words ask for, or an error where they ask for nothing
+-- the result is the request of what the words ask for, or a usage error where they ask for nothing
 abbrev pub AnswersAs : Option Asked → Result Request WordsError → Type 0
 AnswersAs asks (Ok request) = asks ≡ Some (asked request)
 AnswersAs asks (Err error.Usage) = asks ≡ None

@@ -77,6 +77,7 @@ abbrev pub first : {A : Type 0} → List A → Option A
 first [] = None
 first (x ∷ xs) = Some x
 
+-- what lines that say this leave
 abbrev pub sketch_of : Machine → List Content → Sketch
 sketch_of machine cs = record { machine = machine; statements = statements cs; fixes = fixes cs; fallback = first (fallbacks cs) }
 
